@@ -1,0 +1,8 @@
+-- What a job asks for.
+use Rattle.std.specs.Prelude.{ℕ}
+use Rattle.cb_cli.specs.declared.jobs.Operation.{Operation}
+use Rattle.cb_cli.specs.declared.jobs.Operation.TheVariants.{Multiply}
+
+-- how many files an operation reads
+abbrev pub file_count_of : Operation → ℕ
+file_count_of Multiply = 2

@@ -1,0 +1,22 @@
+//! The command line of `cbgrid`, as a library: from words and texts to bytes and a status.
+//!
+//! A run goes through four steps, each a call of its own:
+//! 1. `read_job` reads the words of a command line, and answers a `Job`, a help text or a usage text.
+//! 2. The caller reads the files that the job names, in the job's order.
+//! 3. `execute` reads the texts, computes the answer and writes its text to a `Sink`. The whole text
+//!    is made before its first byte goes out, so every fault but a failed write leaves the sink as it
+//!    was, and after a failed write a beginning of the text has gone out.
+//! 4. `status` and `fault_line` tell what the program ends with, and the line that it prints.
+//!
+//! The semiring is chosen while the program runs: `SemiringName` is the one table of names, and the
+//! contract of `execute` speaks of the semiring that the job names.
+#![tactic(auto)]
+
+pub mod faults;
+pub mod jobs;
+pub mod runs;
+pub mod semirings;
+pub mod sinks;
+#[cfg(test)]
+mod tests;
+pub mod words;

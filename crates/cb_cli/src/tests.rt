@@ -1,0 +1,4 @@
+//! Worked examples: whole runs from texts to bytes, sinks that fail, and command lines.
+mod lines;
+mod products;
+mod sinks;

@@ -1,0 +1,138 @@
+//! Command lines, and the lines of faults.
+use crate::faults::{fault_line, unreadable_line};
+use crate::jobs::{Job, Operation, UsageFault};
+use crate::runs::{JobFault, ScriptFault, status};
+use crate::semirings::SemiringName;
+use crate::words::read_job;
+use cb_market::{Kind, ReadFault};
+use std::alloc::{AllocError, Global};
+use std::test::Fail;
+
+/// The words of a line.
+pub fn words(alloc: Global, line: &str) -> Result<Vec<String>, AllocError> {
+    let mut words = Vec::new(alloc);
+    for word in line.split_whitespace() {
+        words.push(String::from_str(alloc, word)?)?;
+    }
+    Ok(words)
+}
+
+fn job(alloc: Global, line: &str) -> Result<Job, UsageFault> {
+    let words = words(alloc, line)?;
+    read_job(alloc, words.as_slice())
+}
+
+#[test]
+fn reads_a_product(rt: HostRuntime) -> Result<(), Fail> {
+    let job = job(rt.alloc(), "cbgrid multiply left.mtx right.mtx")?;
+    assert!(rt; job.operation == Operation::Multiply);
+    assert!(rt; job.semiring == SemiringName::PlusTimes);
+    assert_eq!(rt; job.files().len(), 2);
+    assert!(rt; job.files()[0].as_str() == "left.mtx");
+    assert!(rt; job.files()[1].as_str() == "right.mtx");
+    Ok(())
+}
+
+#[test]
+fn reads_each_semiring(rt: HostRuntime) -> Result<(), Fail> {
+    let wanted = [
+        (
+            "cbgrid multiply a b --semiring plus-times",
+            SemiringName::PlusTimes,
+        ),
+        (
+            "cbgrid multiply --semiring min-plus a b",
+            SemiringName::MinPlus,
+        ),
+        ("cbgrid multiply a --semiring=or-and b", SemiringName::OrAnd),
+        (
+            "cbgrid multiply a b --semiring max-min",
+            SemiringName::MaxMin,
+        ),
+    ];
+    for (line, semiring) in wanted {
+        assert!(rt; job(rt.alloc(), line)?.semiring == semiring);
+    }
+    Ok(())
+}
+
+#[test]
+fn refuses_what_is_not_offered(rt: HostRuntime) {
+    let lines = [
+        "cbgrid",
+        "cbgrid power a b",
+        "cbgrid multiply",
+        "cbgrid multiply a",
+        "cbgrid multiply a b c",
+        "cbgrid multiply a b --semiring",
+        "cbgrid multiply a b --semiring plus",
+        "cbgrid multiply a b --semiring min-plus --semiring min-plus",
+        "cbgrid --semiring min-plus multiply a b",
+        "cbgrid multiply a b --colour",
+        "cbgrid multiply a b -h",
+        "cbgrid -h",
+        "cbgrid help",
+    ];
+    for line in lines {
+        assert!(rt;
+            matches!(job(rt.alloc(), line), Err(UsageFault::Usage(_))),
+            "{line}"
+        );
+    }
+}
+
+#[test]
+fn offers_help(rt: HostRuntime) {
+    for line in [
+        "cbgrid --help",
+        "cbgrid multiply --help",
+        "cbgrid multiply a --help",
+    ] {
+        assert!(rt;
+            matches!(job(rt.alloc(), line), Err(UsageFault::Help(_))),
+            "{line}"
+        );
+    }
+}
+
+#[test]
+fn ends_with_a_status_and_prints_a_line(rt: HostRuntime) -> Result<(), Fail> {
+    let alloc = rt.alloc();
+    let names = words(alloc, "a.mtx b.mtx")?;
+    let fault = |which, line, kind| JobFault::Read {
+        which,
+        fault: ReadFault { line, kind },
+    };
+    let wanted = [
+        (
+            fault(1, 7, Kind::BadNumber),
+            4,
+            "cbgrid: b.mtx:7: not a whole number\n",
+        ),
+        (
+            fault(0, 3, Kind::Memory),
+            6,
+            "cbgrid: a.mtx:3: out of memory\n",
+        ),
+        (
+            JobFault::Script(ScriptFault::Shapes),
+            5,
+            "cbgrid: shapes don't agree\n",
+        ),
+        (
+            JobFault::Script(ScriptFault::Memory),
+            6,
+            "cbgrid: out of memory\n",
+        ),
+        (JobFault::Memory, 6, "cbgrid: out of memory\n"),
+        (JobFault::Output, 7, "cbgrid: can't write\n"),
+    ];
+    for (fault, number, line) in wanted {
+        assert_eq!(rt; status(&fault), number);
+        let told = fault_line(alloc, names.as_slice(), &fault)?;
+        assert!(rt; told.as_slice() == line.as_bytes(), "{line}");
+    }
+    let told = unreadable_line(alloc, "a.mtx")?;
+    assert!(rt; told.as_slice() == b"cbgrid: a.mtx: can't be read\n".as_slice());
+    Ok(())
+}

@@ -1,0 +1,270 @@
+//! Products of two texts, by `execute`.
+ghost use Rattle.std.specs.Prelude.{◌≡◌, false};
+
+use crate::jobs::Job;
+use crate::runs::{JobFault, ScriptFault, execute};
+use crate::sinks::{Sink, WriterSink};
+use crate::tests::lines::words;
+use crate::words::read_job;
+use cb_market::{Kind, ReadFault};
+use std::test::Fail;
+
+const HEADER: &str = "%%MatrixMarket matrix coordinate integer general\n";
+
+pub const FIRST: &str =
+    "%%MatrixMarket matrix coordinate integer general\n2 2 3\n1 1 1\n1 2 2\n2 2 3\n";
+
+pub const SECOND: &str = "%%MatrixMarket matrix coordinate integer general\n2 2 2\n1 2 1\n2 1 4\n";
+
+pub const PRODUCT: &str =
+    "%%MatrixMarket matrix coordinate integer general\n2 2 3\n1 1 8\n2 1 12\n1 2 1\n";
+
+const PATTERN: &str = "%%MatrixMarket matrix coordinate pattern symmetric\n3 3 2\n2 1\n3 3\n";
+
+/// The job of `cbgrid COMMAND a b`, with `command` from the command's word on.
+fn job_of(rt: &HostRuntime, command: &str) -> Result<Job, JobFault> {
+    let alloc = rt.alloc();
+    let Ok(line) = format!(in alloc; "cbgrid {command} a b") else {
+        return Err(JobFault::Memory);
+    };
+    let Ok(words) = words(alloc, line.as_str()) else {
+        return Err(JobFault::Memory);
+    };
+    let Ok(job) = read_job(alloc, words.as_slice()) else {
+        return Err(JobFault::Memory);
+    };
+    Ok(job)
+}
+
+/// Runs a command over two texts. What the test itself can't make is `Memory`.
+pub fn run_into<K: Sink>(
+    rt: &HostRuntime,
+    command: &str,
+    texts: &[&str],
+    out: &mut K,
+) -> Result<(), JobFault>
+    requires { K.has_failed out.old ≡ false }
+{
+    let alloc = rt.alloc();
+    let job = job_of(rt, command)?;
+    let mut bytes = Vec::new(alloc);
+    for text in texts {
+        let Ok(text) = Vec::from_slice(alloc, text.as_bytes()) else {
+            return Err(JobFault::Memory);
+        };
+        if bytes.push(text).is_err() {
+            return Err(JobFault::Memory);
+        }
+    }
+    if bytes.len() != job.files().len() {
+        return Err(JobFault::Memory);
+    }
+    execute(alloc, &job, bytes.as_slice(), out)
+}
+
+/// The bytes that a command writes of two texts.
+fn answer(rt: &HostRuntime, command: &str, first: &str, second: &str) -> Result<Vec<u8>, JobFault> {
+    let mut out = WriterSink::new(Vec::new(rt.alloc()));
+    run_into(rt, command, &[first, second], &mut out)?;
+    Ok(out.into_inner())
+}
+
+/// Whether a command writes the header of integers and these lines.
+fn writes(rt: &HostRuntime, command: &str, first: &str, second: &str, lines: &str) -> bool {
+    let Ok(wanted) = format!(in rt.alloc(); "{HEADER}{lines}") else {
+        return false;
+    };
+    match answer(rt, command, first, second) {
+        Ok(bytes) => bytes.as_slice() == wanted.as_bytes(),
+        Err(_) => false,
+    }
+}
+
+#[test]
+fn multiplies_two_by_two(rt: HostRuntime) -> Result<(), Fail> {
+    let bytes = answer(&rt, "multiply", FIRST, SECOND)?;
+    assert!(rt; bytes.as_slice() == PRODUCT.as_bytes());
+    Ok(())
+}
+
+/// A command over two files of integers, each given by its lines after the header.
+struct Row {
+    name: &'static str,
+    command: &'static str,
+    first: &'static str,
+    second: &'static str,
+    answer: &'static str,
+}
+
+const ROWS: [Row; 12] = [
+    Row {
+        name: "empty",
+        command: "multiply",
+        first: "0 0 0\n",
+        second: "0 0 0\n",
+        answer: "0 0 0\n",
+    },
+    Row {
+        name: "huge and sparse",
+        command: "multiply",
+        first: "2147483647 2147483647 1\n1 2147483647 7\n",
+        second: "2147483647 2147483647 1\n2147483647 5 3\n",
+        answer: "2147483647 2147483647 1\n1 5 21\n",
+    },
+    Row {
+        name: "wraps to zero",
+        command: "multiply",
+        first: "1 1 1\n1 1 4294967296\n",
+        second: "1 1 1\n1 1 4294967296\n",
+        answer: "1 1 0\n",
+    },
+    Row {
+        name: "a sum that cancels",
+        command: "multiply",
+        first: "1 2 2\n1 1 1\n1 2 -1\n",
+        second: "2 1 2\n1 1 1\n2 1 1\n",
+        answer: "1 1 0\n",
+    },
+    Row {
+        name: "above the top of min-plus",
+        command: "multiply --semiring min-plus",
+        first: "1 1 1\n1 1 18446744073709551614\n",
+        second: "1 1 1\n1 1 1\n",
+        answer: "1 1 0\n",
+    },
+    Row {
+        name: "below the top of min-plus",
+        command: "multiply --semiring min-plus",
+        first: "1 1 1\n1 1 18446744073709551614\n",
+        second: "1 1 1\n1 1 0\n",
+        answer: "1 1 1\n1 1 18446744073709551614\n",
+    },
+    Row {
+        name: "a zero of a file in min-plus",
+        command: "multiply --semiring min-plus",
+        first: "1 1 1\n1 1 0\n",
+        second: "1 1 1\n1 1 0\n",
+        answer: "1 1 1\n1 1 0\n",
+    },
+    Row {
+        name: "a zero of a file in plus-times",
+        command: "multiply",
+        first: "1 1 1\n1 1 0\n",
+        second: "1 1 1\n1 1 0\n",
+        answer: "1 1 0\n",
+    },
+    Row {
+        name: "two by two in max-min",
+        command: "multiply --semiring max-min",
+        first: "2 2 3\n1 1 1\n1 2 2\n2 2 3\n",
+        second: "2 2 2\n1 2 1\n2 1 4\n",
+        answer: "2 2 3\n1 1 2\n2 1 3\n1 2 1\n",
+    },
+    Row {
+        name: "the one of max-min",
+        command: "multiply --semiring max-min",
+        first: "1 1 1\n1 1 18446744073709551615\n",
+        second: "1 1 1\n1 1 5\n",
+        answer: "1 1 1\n1 1 5\n",
+    },
+    Row {
+        name: "no rows",
+        command: "multiply",
+        first: "0 3 0\n",
+        second: "3 2 1\n1 1 5\n",
+        answer: "0 2 0\n",
+    },
+    Row {
+        name: "no inner places",
+        command: "multiply",
+        first: "3 0 0\n",
+        second: "0 2 0\n",
+        answer: "3 2 0\n",
+    },
+];
+
+#[test]
+fn multiplies_the_worked_examples(rt: HostRuntime) -> Result<(), Fail> {
+    let alloc = rt.alloc();
+    for row in &ROWS {
+        let first = format!(in alloc; "{HEADER}{}", row.first)?;
+        let second = format!(in alloc; "{HEADER}{}", row.second)?;
+        let is_right = writes(
+            &rt,
+            row.command,
+            first.as_str(),
+            second.as_str(),
+            row.answer,
+        );
+        assert!(rt; is_right, "{}", row.name);
+    }
+    Ok(())
+}
+
+#[test]
+fn squares_an_untidy_file(rt: HostRuntime) -> Result<(), Fail> {
+    let text =
+        "%%MatrixMarket MATRIX Coordinate INTEGER General\r\n%\r\n\r\n3 3 3\r\n1 3 +5\r\n\t2 1 007\r\n3 2 -1";
+    let lines = "3 3 3\n3 1 18446744073709551609\n1 2 18446744073709551611\n2 3 35\n";
+    assert!(rt; writes(&rt, "multiply", text, text, lines));
+    Ok(())
+}
+
+#[test]
+fn squares_a_symmetric_pattern(rt: HostRuntime) -> Result<(), Fail> {
+    let bytes = answer(&rt, "multiply --semiring or-and", PATTERN, PATTERN)?;
+    let wanted = "%%MatrixMarket matrix coordinate pattern general\n3 3 3\n1 1\n2 2\n3 3\n";
+    assert!(rt; bytes.as_slice() == wanted.as_bytes());
+    Ok(())
+}
+
+#[test]
+fn squares_a_skew_symmetric_file(rt: HostRuntime) -> Result<(), Fail> {
+    let text = "%%MatrixMarket matrix coordinate integer skew-symmetric\n2 2 1\n2 1 3\n";
+    let lines = "2 2 2\n1 1 18446744073709551607\n2 2 18446744073709551607\n";
+    assert!(rt; writes(&rt, "multiply", text, text, lines));
+    let wanted = Err(JobFault::Read {
+        which: 0,
+        fault: ReadFault {
+            line: 1,
+            kind: Kind::Unsupported,
+        },
+    });
+    let mut out = WriterSink::new(Vec::new(rt.alloc()));
+    let fault = run_into(&rt, "multiply --semiring min-plus", &[text, text], &mut out);
+    assert!(rt; fault == wanted);
+    Ok(())
+}
+
+#[test]
+fn refuses_shapes_that_do_not_agree(rt: HostRuntime) -> Result<(), Fail> {
+    let text = "%%MatrixMarket matrix coordinate integer general\n2 3 0\n";
+    let other = "%%MatrixMarket matrix coordinate integer general\n2 2 0\n";
+    let mut out = WriterSink::new(Vec::new(rt.alloc()));
+    let fault = run_into(&rt, "multiply", &[text, other], &mut out);
+    assert!(rt; fault == Err(JobFault::Script(ScriptFault::Shapes)));
+    assert!(rt; out.into_inner().is_empty());
+    Ok(())
+}
+
+#[test]
+fn tells_the_first_text_that_is_no_matrix(rt: HostRuntime) -> Result<(), Fail> {
+    let bad = "%%MatrixMarket matrix coordinate integer general\n2 2 1\n1 1 x\n";
+    let worse = "no header\n";
+    let wanted = [
+        (bad, worse, 0, 3, Kind::BadNumber),
+        (FIRST, worse, 1, 1, Kind::BadHeader),
+        (worse, bad, 0, 1, Kind::BadHeader),
+    ];
+    for (first, second, which, line, kind) in wanted {
+        let mut out = WriterSink::new(Vec::new(rt.alloc()));
+        let fault = run_into(&rt, "multiply", &[first, second], &mut out);
+        let read = JobFault::Read {
+            which,
+            fault: ReadFault { line, kind },
+        };
+        assert!(rt; fault == Err(read));
+        assert!(rt; out.into_inner().is_empty());
+    }
+    Ok(())
+}

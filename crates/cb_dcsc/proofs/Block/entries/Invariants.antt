@@ -1,0 +1,9 @@
+use Rattle.std.proofs.Common.{◌≡◌}
+use Rattle.std.specs.Prelude.{slice_index}
+use Rattle.cb_dcsc.specs.Compressed.{pieces}
+use Rattle.cb_dcsc.specs.Columns.{in_column, columns_with_entries}
+use Rattle.cb_dcsc.proofs.Block.entries.Given as goal
+
+abbrev pub invariant-loop-n : goal.invariant-loop-n
+invariant-loop-n g l =
+    l.entries.items ≡ pieces (λ k. in_column (slice_index (columns_with_entries l.self.entries) k) l.self.entries) l.n

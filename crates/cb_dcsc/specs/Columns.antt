@@ -1,0 +1,34 @@
+-- A block's columns, as its entries have them.
+use Rattle.std.specs.Prelude.{ℕ, ◌==◌, cond, List, [], ◌∷◌, ◌++◌, filter, map}
+use Rattle.cb_matrix.specs.declared.Entry.{Entry}
+use Rattle.cb_matrix.specs.Sparse.{Sparse}
+
+-- the entries in column j
+abbrev pub in_column : ℕ → List Entry → List Entry
+in_column j es = filter (λ e. e.column == j) es
+
+abbrev pub rows_of : List Entry → List ℕ
+rows_of es = map (λ e. e.row) es
+
+abbrev pub values_of : List Entry → List ℕ
+values_of es = map (λ e. e.value) es
+
+-- c in front, unless it is there
+abbrev pub with_front : ℕ → List ℕ → List ℕ
+with_front c [] = c ∷ []
+with_front c (d ∷ ds) = cond (c == d) (d ∷ ds) (c ∷ d ∷ ds)
+
+-- the columns that have entries, of entries in order
+unfoldable pub columns_with_entries : List Entry → List ℕ
+columns_with_entries [] = []
+columns_with_entries (e ∷ es) = with_front e.column (columns_with_entries es)
+
+-- the value at row i of a column given by its rows and values, or else z
+unfoldable pub row_value : ℕ → List ℕ → List ℕ → ℕ → ℕ
+row_value z [] vs i = z
+row_value z (r ∷ rs) [] i = z
+row_value z (r ∷ rs) (v ∷ vs) i = cond (r == i) v (row_value z rs vs i)
+
+-- one entry more
+abbrev pub with_entry : Sparse → Entry → Sparse
+with_entry m e = record { shape = m.shape; entries = m.entries ++ e ∷ [] }

@@ -1,0 +1,49 @@
+-- Doubly compressed columns: the columns that have entries, where each starts, and the rows and values of all.
+use Rattle.std.specs.Prelude.{◌≡◌, ℕ, zero, suc, ◌+◌, ◌<◌, List, [], ◌∷◌, ◌++◌, length, slice_index, slice_range, AllPairs}
+use Rattle.cb_semirings.specs.Arithmetic.{Arithmetic}
+use Rattle.cb_matrix.specs.declared.Entry.{Entry}
+use Rattle.cb_matrix.specs.Sparse.{Extent, Sparse, IsMatrix}
+
+-- the entries of one column, by their rows and values
+unfoldable pub entries_in : ℕ → List ℕ → List ℕ → List Entry
+entries_in j [] vs = []
+entries_in j (i ∷ is) [] = []
+entries_in j (i ∷ is) (v ∷ vs) = record { row = i; column = j; value = v } ∷ entries_in j is vs
+
+-- the n-th part of a list, from its start to the next
+abbrev pub part : List ℕ → List ℕ → ℕ → List ℕ
+part starts xs n = slice_range xs (slice_index starts n) (slice_index starts (n + 1))
+
+-- the entries of the n-th column that has some
+abbrev pub piece : List ℕ → List ℕ → List ℕ → List ℕ → ℕ → List Entry
+piece columns starts rows values n = entries_in (slice_index columns n) (part starts rows n) (part starts values n)
+
+-- those of the first n columns that have some
+unfoldable pub pieces : (ℕ → List Entry) → ℕ → List Entry
+pieces f zero = []
+pieces f (suc n) = pieces f n ++ f n
+
+abbrev pub all_entries : List ℕ → List ℕ → List ℕ → List ℕ → List Entry
+all_entries columns starts rows values = pieces (piece columns starts rows values) (length columns)
+
+-- the starts, from the first, which is 0
+abbrev pub opened : List ℕ → List ℕ
+opened [] = 0 ∷ []
+opened (a ∷ rest) = a ∷ rest
+
+-- Each column that is named has entries, and the parts follow one another. Without entries all four lists are empty.
+pub record AreColumns (columns starts rows values : List ℕ) : Type 0 where
+  pub ascending : AllPairs (λ c d. c < d) columns
+  pub no_starts : length columns ≡ 0 → length starts ≡ 0
+  pub one_more_start : 0 < length columns → length starts ≡ length columns + 1
+  pub first : slice_index starts 0 ≡ 0
+  pub rising : (n : ℕ) → n < length columns → slice_index starts n < slice_index starts (n + 1)
+  pub last : slice_index starts (length columns) ≡ length rows
+  pub same_length : length values ≡ length rows
+
+abbrev pub block_of : Extent → List ℕ → List ℕ → List ℕ → List ℕ → Sparse
+block_of shape columns starts rows values = record { shape = shape; entries = all_entries columns starts rows values }
+
+pub record IsBlock (s : Arithmetic) (shape : Extent) (columns starts rows values : List ℕ) : Type 0 where
+  pub lists : AreColumns columns starts rows values
+  pub matrix : IsMatrix s (block_of shape columns starts rows values)

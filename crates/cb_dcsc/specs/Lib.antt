@@ -1,0 +1,3 @@
+pub mod Compressed
+pub mod Columns
+pub mod Faults

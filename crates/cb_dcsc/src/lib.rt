@@ -1,0 +1,386 @@
+//! Sparse blocks in doubly compressed columns.
+//!
+//! A block is a matrix that costs what its entries cost. Nothing in it is as long as a row or a column of its
+//! shape, so a block of 2,147,483,647 by 2,147,483,647 with three entries holds three entries.
+//!
+//! It has four lists: the columns that have entries, ascending (JC); where the entries of each of these
+//! columns start, and where the last of them end (CP); and the row (IR) and the value (NUM) of every entry,
+//! by column and then by row. A block without entries has four empty lists. This is the layout of Buluç and
+//! Gilbert, Parallel Sparse Matrix-Matrix Multiplication and Indexing (SIAM J. Sci. Comput. 2012, section 3),
+//! without their AUX index: a column is found by binary search in JC.
+//!
+//! The lists are private. Callers see a block as a shape and its stored entries, the same record that a matrix
+//! of `cb_matrix` is, and walk it by its columns, each lent as two slices.
+#![tactic(auto)]
+
+ghost use Rattle.std.specs.Prelude.{◌≡◌, ◌≢◌, ◌↔◌, ℕ, ◌<◌, ◌≤◌, ◌+◌, ◌-◌, IsTrue, List, [], ◌∷◌, ◌++◌, length, All, AllPairs, Contains, IfOk, IsErrOf, OnOk, OnErr, Some, slice_index, slice_index_or, slice_range};
+ghost use Rattle.cb_semirings.specs.Arithmetic.{IsValue};
+ghost use Rattle.cb_dcsc.specs.Compressed.{opened, entries_in};
+
+mod faults;
+
+use cb_matrix::{Entry, Shape};
+use cb_semirings::Semiring;
+pub use faults::BlockFault;
+use std::alloc::{AllocError, Global};
+use std::marker::{Model, PhantomData};
+
+/// A sparse matrix, by the columns that have entries.
+#[derive(Debug, Drop)]
+pub struct Block<S: Semiring> {
+    shape: Shape,
+    /// JC: the columns that have entries.
+    columns: Vec<u32>,
+    /// CP: where the entries of each column start, and where the last ones end.
+    starts: Vec<usize>,
+    /// IR: the row of each entry.
+    rows: Vec<u32>,
+    /// NUM: the value of each entry.
+    values: Vec<u64>,
+    semiring: PhantomData<S>,
+}
+
+impl<S: Semiring> Model for Block<S> {
+    ghost use Rattle.cb_matrix.specs.Sparse.{Sparse};
+    ghost use Rattle.cb_dcsc.specs.Compressed.{block_of, IsBlock};
+
+    ghost Value = { Sparse };
+
+    ghost view = { λ a. block_of a.shape a.columns.items a.starts.items a.rows.items a.values.items };
+
+    ghost invariant = { λ a. IsBlock S.arithmetic a.shape a.columns.items a.starts.items a.rows.items a.values.items };
+}
+
+impl<S: Semiring> Block<S> {
+    ghost use Rattle.cb_matrix.specs.Sparse.{Sparse, IsMatrix, at, IsInside, IsBefore};
+    ghost use Rattle.cb_matrix.specs.Values.{empty_matrix};
+    ghost use Rattle.std.specs.Prelude.{None};
+    ghost use Rattle.cb_dcsc.specs.declared.faults.BlockFault.TheVariants.{Place, Order, Zero};
+    ghost use Rattle.cb_dcsc.specs.Faults.{first_fault};
+    ghost use Rattle.cb_dcsc.specs.Columns.{in_column, rows_of, values_of, columns_with_entries, with_entry};
+
+    /// The block without entries.
+    pub fn empty(alloc: Global, shape: Shape) -> Self
+        ensures value { result ≡ empty_matrix shape }
+        ensures matrix { IsMatrix S.arithmetic result }
+    {
+        Block {
+            shape,
+            columns: Vec::new(alloc),
+            starts: Vec::new(alloc),
+            rows: Vec::new(alloc),
+            values: Vec::new(alloc),
+            semiring: PhantomData,
+        }
+    }
+
+    /// How many rows and columns there are. Every block keeps its stored entries inside its shape, ascending by
+    /// column and then row, and other than zero: this call says so too.
+    pub fn shape(&self) -> Shape
+        ensures shape { result ≡ self.now.shape }
+        ensures matrix { IsMatrix S.arithmetic self.now }
+    {
+        self.shape
+    }
+
+    /// How many entries are stored.
+    pub fn len(&self) -> usize
+        ensures { result ≡ length self.now.entries }
+    {
+        self.rows.len()
+    }
+
+    /// How many columns have entries.
+    pub fn columns(&self) -> usize
+        ensures { result ≡ length (columns_with_entries self.now.entries) }
+    {
+        self.columns.len()
+    }
+
+    /// The number of the nth column that has entries.
+    pub fn column_number(&self, n: usize) -> u32
+        requires { n < length (columns_with_entries self.now.entries) }
+        ensures { result ≡ slice_index (columns_with_entries self.now.entries) n }
+    {
+        self.columns[n]
+    }
+
+    /// The columns that have entries, ascending.
+    pub fn column_numbers(&self) -> &[u32]
+        ensures numbers { result.now ≡ columns_with_entries self.now.entries }
+        ensures ascending { AllPairs (λ c d. c < d) result.now }
+        ensures inside { All (λ c. c < self.now.shape.cols) result.now }
+        ensures all { All (λ e. Contains result.now e.column) self.now.entries }
+    {
+        &self.columns
+    }
+
+    /// The rows of all entries, by column and then by row.
+    pub fn rows(&self) -> &[u32]
+        ensures { result.now ≡ rows_of self.now.entries }
+    {
+        &self.rows
+    }
+
+    /// The values of all entries, by column and then by row.
+    pub fn values(&self) -> &[u64]
+        ensures { result.now ≡ values_of self.now.entries }
+    {
+        &self.values
+    }
+
+    /// Where the entries of the nth column that has entries stand among all.
+    pub fn nth_range(&self, n: usize) -> (usize, usize)
+        requires { n < length (columns_with_entries self.now.entries) }
+        ensures some { result.0 < result.1 }
+        ensures within { result.1 ≤ length self.now.entries }
+        ensures entries { slice_range self.now.entries result.0 result.1 ≡ in_column (slice_index (columns_with_entries self.now.entries) n) self.now.entries }
+    {
+        bounds(&self.starts, n)
+    }
+
+    /// Where the entries of a column stand among all, by a binary search.
+    pub fn range(&self, column: u32) -> (usize, usize)
+        ensures order { result.0 ≤ result.1 }
+        ensures within { result.1 ≤ length self.now.entries }
+        ensures entries { slice_range self.now.entries result.0 result.1 ≡ in_column column self.now.entries }
+    {
+        match self.columns.binary_search(&column) {
+            Ok(n) => (self.starts[n], self.starts[n + 1]),
+            Err(_) => (0, 0),
+        }
+    }
+
+    /// The rows and values of a column, the rows ascending, by a binary search. Both are empty where the column
+    /// has no entries, also past the shape.
+    pub fn column(&self, column: u32) -> (&[u32], &[u64])
+        ensures rows { result.0.now ≡ rows_of (in_column column self.now.entries) }
+        ensures values { result.1.now ≡ values_of (in_column column self.now.entries) }
+        ensures ascending { AllPairs (λ i j. i < j) result.0.now }
+        ensures are_values { All (IsValue S.arithmetic) result.1.now }
+    {
+        match self.columns.binary_search(&column) {
+            Ok(n) => self.nth_column(n),
+            Err(_) => (&[], &[]),
+        }
+    }
+
+    /// The rows and values of the nth column that has entries.
+    pub fn nth_column(&self, n: usize) -> (&[u32], &[u64])
+        requires { n < length (columns_with_entries self.now.entries) }
+        ensures rows { result.0.now ≡ rows_of (in_column (slice_index (columns_with_entries self.now.entries) n) self.now.entries) }
+        ensures values { result.1.now ≡ values_of (in_column (slice_index (columns_with_entries self.now.entries) n) self.now.entries) }
+        ensures ascending { AllPairs (λ i j. i < j) result.0.now }
+        ensures are_values { All (IsValue S.arithmetic) result.1.now }
+    {
+        (
+            part(&self.starts, &self.rows, n),
+            part(&self.starts, &self.values, n),
+        )
+    }
+
+    /// The value at a place, by two binary searches.
+    pub fn get(&self, row: u32, column: u32) -> u64
+        ensures value { result ≡ at S.arithmetic self.now row column }
+        ensures is_value { IsValue S.arithmetic result }
+    {
+        let (rows, values) = self.column(column);
+        match rows.binary_search(&row) {
+            Ok(n) => values[n],
+            Err(_) => S::zero(),
+        }
+    }
+
+    /// A stored entry, by column and then by row. Its column is found by a binary search: to walk all entries,
+    /// take the columns one after another.
+    pub fn entry_at(&self, index: usize) -> Entry
+        requires { index < length self.now.entries }
+        ensures { result ≡ slice_index_or self.now.entries index result }
+    {
+        let n = part_of(&self.starts, index);
+        Entry {
+            row: self.rows[index],
+            column: self.columns[n],
+            value: self.values[index],
+        }
+    }
+
+    /// All stored entries, by column and then by row.
+    pub fn entries(&self) -> Result<Vec<Entry>, AllocError>
+        ensures { IfOk result (λ v. v.items ≡ self.now.entries) }
+    {
+        let mut entries = Vec::new(*self.rows.allocator());
+        entries.reserve(self.len())?;
+        for n in 0..self.columns() {
+            let (rows, values) = self.nth_column(n);
+            append_column(&mut entries, self.column_number(n), rows, values)?;
+        }
+        Ok(entries)
+    }
+
+    /// The block of these entries, which stand by column and then by row, none of them zero. Answers the fault
+    /// of the first entry that has one: outside the shape, then not after the entry before it, then zero.
+    pub fn from_sorted(alloc: Global, shape: Shape, entries: &[Entry]) -> Result<Self, BlockFault>
+        requires { All (λ e. IsValue S.arithmetic e.value) entries.now }
+        ensures ok { IfOk result (λ m. m ≡ record { shape = shape; entries = entries.now }) }
+        ensures place { (n : ℕ) → IsErrOf result (BlockFault.Place n) ↔ (first_fault S.arithmetic shape entries.now ≡ Some (Place n)) }
+        ensures order { (n : ℕ) → IsErrOf result (BlockFault.Order n) ↔ (first_fault S.arithmetic shape entries.now ≡ Some (Order n)) }
+        ensures zero { (n : ℕ) → IsErrOf result (BlockFault.Zero n) ↔ (first_fault S.arithmetic shape entries.now ≡ Some (Zero n)) }
+    {
+        if let Some(fault) = faults::first_fault::<S>(shape, entries) {
+            return Err(fault);
+        }
+        Ok(Self::from_faultless(alloc, shape, entries)?)
+    }
+
+    /// The block of entries without a fault.
+    fn from_faultless(alloc: Global, shape: Shape, entries: &[Entry]) -> Result<Self, AllocError>
+        requires values { All (λ e. IsValue S.arithmetic e.value) entries.now }
+        requires faultless { first_fault S.arithmetic shape entries.now ≡ None }
+        ensures { IfOk result (λ m. m ≡ record { shape = shape; entries = entries.now }) }
+    {
+        let mut block = Block::empty(alloc, shape);
+        block.reserve(entries.len())?;
+        for entry in entries {
+            block.push(*entry)?;
+        }
+        Ok(block)
+    }
+
+    /// A copy of its own.
+    pub fn try_clone(&self) -> Result<Self, AllocError>
+        ensures { IfOk result (λ copy. copy ≡ self.now) }
+    {
+        Ok(Block {
+            shape: self.shape,
+            columns: self.columns.clone()?,
+            starts: self.starts.clone()?,
+            rows: self.rows.clone()?,
+            values: self.values.clone()?,
+            semiring: PhantomData,
+        })
+    }
+
+    /// Takes room for this many entries more, so that storing them moves none.
+    pub fn reserve(&mut self, entries: usize) -> Result<(), AllocError>
+        ensures same { self.new ≡ self.old }
+    {
+        self.rows.reserve(entries)?;
+        self.values.reserve(entries)?;
+        Ok(())
+    }
+
+    /// Stores one entry more, after all the others. On refusal the block is as it was.
+    pub fn push(&mut self, entry: Entry) -> Result<(), AllocError>
+        requires inside { IsInside self.old.shape entry }
+        requires order { All (λ e. IsBefore e entry) self.old.entries }
+        requires value { IsValue S.arithmetic entry.value }
+        requires not_zero { entry.value ≢ S.arithmetic.zero }
+        ensures ok { OnOk result (self.new ≡ with_entry self.old entry) }
+        ensures err { OnErr result (self.new ≡ self.old) }
+        ensures matrix { IsMatrix S.arithmetic self.new }
+    {
+        self.rows.reserve(1)?;
+        self.values.reserve(1)?;
+        let len = self.rows.len();
+        if ends_with(&self.columns, entry.column) {
+            let last = self.starts.len() - 1;
+            self.starts[last] = len + 1;
+            self.rows.push_reserved(entry.row);
+            self.values.push_reserved(entry.value);
+            return Ok(());
+        }
+        start_column(&mut self.columns, &mut self.starts, entry.column, len + 1)?;
+        self.rows.push_reserved(entry.row);
+        self.values.push_reserved(entry.value);
+        Ok(())
+    }
+}
+
+/// Where the nth part starts, and where it ends.
+fn bounds(starts: &[usize], n: usize) -> (usize, usize)
+    requires { n + 1 < length starts.now }
+    ensures start { result.0 ≡ slice_index starts.now n }
+    ensures end { result.1 ≡ slice_index starts.now (n + 1) }
+{
+    (starts[n], starts[n + 1])
+}
+
+/// The part that an index is in: the last start that isn't past it.
+fn part_of(starts: &[usize], index: usize) -> usize
+    requires some { 0 < length starts.now }
+    requires first { slice_index starts.now 0 ≤ index }
+    requires ascending { AllPairs (λ a b. a < b) starts.now }
+    ensures within { result < length starts.now }
+    ensures here { slice_index starts.now result ≤ index }
+    ensures next { result + 1 < length starts.now → index < slice_index starts.now (result + 1) }
+{
+    match starts.binary_search(&index) {
+        Ok(n) => n,
+        Err(n) => n - 1,
+    }
+}
+
+/// The nth part of a list, from its start to the next.
+fn part<'a, T: Copy>(starts: &[usize], items: &'a [T], n: usize) -> &'a [T]
+    requires place { n + 1 < length starts.now }
+    requires rising { slice_index starts.now n ≤ slice_index starts.now (n + 1) }
+    requires within { slice_index starts.now (n + 1) ≤ length items.now }
+    ensures { result.now ≡ slice_range items.now (slice_index starts.now n) (slice_index starts.now (n + 1)) }
+{
+    let start = starts[n];
+    let end = starts[n + 1];
+    &items[start..end]
+}
+
+/// Adds the entries of one column.
+fn append_column(
+    entries: &mut Vec<Entry>,
+    column: u32,
+    rows: &[u32],
+    values: &[u64],
+) -> Result<(), AllocError>
+    requires { length values.now ≡ length rows.now }
+    ensures { OnOk result (entries.new.items ≡ entries.old.items ++ entries_in column rows.now values.now) }
+{
+    for n in 0..rows.len() {
+        entries.push(Entry {
+            row: rows[n],
+            column,
+            value: values[n],
+        })?;
+    }
+    Ok(())
+}
+
+/// Whether the last of some numbers is this one.
+fn ends_with(numbers: &[u32], number: u32) -> bool
+    ensures { IsTrue result ↔ ((0 < length numbers.now) × (slice_index numbers.now (length numbers.now - 1) ≡ number)) }
+{
+    match numbers.last() {
+        Some(last) => *last == number,
+        None => false,
+    }
+}
+
+/// Names one column more, and where its part ends.
+fn start_column(
+    columns: &mut Vec<u32>,
+    starts: &mut Vec<usize>,
+    column: u32,
+    end: usize,
+) -> Result<(), AllocError>
+    ensures columns { OnOk result (columns.new.items ≡ columns.old.items ++ column ∷ []) }
+    ensures starts { OnOk result (starts.new.items ≡ opened starts.old.items ++ end ∷ []) }
+    ensures columns_stay { OnErr result (columns.new.items ≡ columns.old.items) }
+    ensures starts_stay { OnErr result (starts.new.items ≡ starts.old.items) }
+{
+    columns.reserve(1)?;
+    starts.reserve(2)?;
+    if starts.is_empty() {
+        starts.push_reserved(0);
+    }
+    columns.push_reserved(column);
+    starts.push_reserved(end);
+    Ok(())
+}

@@ -1,0 +1,29 @@
+-- What rules make of two zeros, and of values.
+use Rattle.std.specs.Prelude.{◌≡◌, ℕ, Bool, true, false, cond, not, ◌==◌, refl}
+use Rattle.cb_semirings.specs.Arithmetic.{Arithmetic, IsValue, IsSemiring}
+use Rattle.cb_elementwise.specs.declared.rules.Test.{Test}
+use Rattle.cb_elementwise.specs.Passing.{passes, unless_passes}
+
+-- the first value where the second is other than z, and z elsewhere
+abbrev pub where_stored : ℕ → ℕ → ℕ → ℕ
+where_stored z x y = cond (not (y == z)) x z
+
+same_twice : (b : Bool) (z : ℕ) → cond b z z ≡ z
+same_twice true z = refl
+same_twice false z = refl
+
+either : (s : Arithmetic) (b : Bool) (x y : ℕ) → IsValue s x → IsValue s y → IsValue s (cond b x y)
+either s true x y h k = h
+either s false x y h k = k
+
+pub where_stored-zero : (z : ℕ) → where_stored z z z ≡ z
+where_stored-zero z = same_twice (not (z == z)) z
+
+pub where_stored-value : (s : Arithmetic) → IsSemiring s → (x y : ℕ) → IsValue s x → IsValue s (where_stored s.zero x y)
+where_stored-value s laws x y h = either s (not (y == s.zero)) x s.zero h laws.zero_value
+
+pub unless_passes-zero : (z : ℕ) (test : Test) → unless_passes z test z ≡ z
+unless_passes-zero z test = same_twice (passes test z) z
+
+pub unless_passes-value : (s : Arithmetic) → IsSemiring s → (test : Test) (x : ℕ) → IsValue s x → IsValue s (unless_passes s.zero test x)
+unless_passes-value s laws test x h = either s (passes test x) s.zero x laws.zero_value h

@@ -1,0 +1,107 @@
+//! What a place of the result has, from what two blocks have there.
+ghost use Rattle.std.specs.Prelude.{◌≡◌, ℕ, cond, ◌==◌, not};
+ghost use Rattle.cb_semirings.specs.Arithmetic.{IsValue};
+ghost use Rattle.cb_elementwise.specs.Passing.{passes, unless_passes};
+ghost use Rattle.cb_elementwise.specs.Laws.{unless_passes-zero, unless_passes-value, where_stored, where_stored-zero, where_stored-value};
+
+use cb_semirings::Semiring;
+
+/// A value from two values of a semiring, and zero from two zeros.
+pub(crate) trait Rule<S: Semiring> {
+    /// The value.
+    ghost combined: { Self → ℕ → ℕ → ℕ };
+
+    fn combine(&self, left: u64, right: u64) -> u64
+        requires left_is_value { IsValue S.arithmetic left }
+        requires right_is_value { IsValue S.arithmetic right }
+        ensures { result ≡ combined self.now left right };
+
+    ghost zeros: { (rule : Self) → combined rule S.arithmetic.zero S.arithmetic.zero ≡ S.arithmetic.zero };
+
+    ghost values: { (rule : Self) (x y : ℕ) → IsValue S.arithmetic x → IsValue S.arithmetic y → IsValue S.arithmetic (combined rule x y) };
+}
+
+/// The sum.
+#[derive(Drop)]
+pub(crate) struct Adding;
+
+impl<S: Semiring> Rule<S> for Adding {
+    ghost combined = { λ rule x y. S.arithmetic.add x y };
+
+    ghost zeros = { λ rule. S.is_semiring.zero_add S.arithmetic.zero S.is_semiring.zero_value };
+
+    ghost values = { λ rule x y h k. S.is_semiring.add_value x y h k };
+
+    fn combine(&self, left: u64, right: u64) -> u64 {
+        S::add(left, right)
+    }
+}
+
+/// The product.
+#[derive(Drop)]
+pub(crate) struct Multiplying;
+
+impl<S: Semiring> Rule<S> for Multiplying {
+    ghost combined = { λ rule x y. S.arithmetic.mul x y };
+
+    ghost zeros = { λ rule. S.is_semiring.zero_mul S.arithmetic.zero S.is_semiring.zero_value };
+
+    ghost values = { λ rule x y h k. S.is_semiring.mul_value x y h k };
+
+    fn combine(&self, left: u64, right: u64) -> u64 {
+        S::mul(left, right)
+    }
+}
+
+/// The first value, where the second is other than zero.
+#[derive(Drop)]
+pub(crate) struct Masking;
+
+impl<S: Semiring> Rule<S> for Masking {
+    ghost combined = { λ rule x y. where_stored S.arithmetic.zero x y };
+
+    ghost zeros = { λ rule. where_stored-zero S.arithmetic.zero };
+
+    ghost values = { λ rule x y h k. where_stored-value S.arithmetic S.is_semiring x y h };
+
+    fn combine(&self, left: u64, right: u64) -> u64 {
+        if right == S::zero() { S::zero() } else { left }
+    }
+}
+
+/// Which entries of a block to drop, by their value as a whole number.
+#[derive(Clone, Copy, Debug, PartialEq, Eq)]
+pub enum Test {
+    /// Those below this number.
+    Below(u64),
+    /// Those above this number.
+    Above(u64),
+    /// Those that are this number.
+    Equal(u64),
+}
+
+impl Test {
+    /// Whether a value passes the test.
+    fn passes(&self, value: u64) -> bool
+        ensures { result ≡ passes self.now value }
+    {
+        match self {
+            Test::Below(number) => value < *number,
+            Test::Above(number) => value > *number,
+            Test::Equal(number) => value == *number,
+        }
+    }
+}
+
+/// The first value, unless it passes the test.
+impl<S: Semiring> Rule<S> for Test {
+    ghost combined = { λ rule x y. unless_passes S.arithmetic.zero rule x };
+
+    ghost zeros = { λ rule. unless_passes-zero S.arithmetic.zero rule };
+
+    ghost values = { λ rule x y h k. unless_passes-value S.arithmetic S.is_semiring rule x h };
+
+    fn combine(&self, left: u64, _right: u64) -> u64 {
+        if self.passes(left) { S::zero() } else { left }
+    }
+}

@@ -1,0 +1,13 @@
+use Rattle.std.proofs.Common.{◌≡◌, ℕ, ◌+◌, ◌/◌, ◌%◌, ◌++◌, [], ◌∷◌, ap, sym, ◌∙◌, arith}
+use Rattle.std.proofs.lemmas.List.FromFn.{map-range_with_len_more}
+use Rattle.cb_matrix.specs.Values.{empty_matrix}
+use Rattle.cb_layout.specs.Vectors.{piece_shape}
+use Rattle.cb_layout.proofs.Grid.empty_pieces.Goals as goal
+
+pub loop-rank-preserved : goal.loop-rank-preserved
+loop-rank-preserved g c =
+    let q = c.args.self.now.side in
+    let r = c.loop-rank.rank in
+    c.in_ok-push.ensures.items
+    ∙ (λ t. c.loop-rank.invariant t ++ (c.empty.ensures.value ∙ ap empty_matrix c.input_shape-piece.ensures) t ∷ [])
+    ∙ sym (map-range_with_len_more (λ n. empty_matrix (piece_shape q c.args.shape (n % q) (n / q))) 0 r r (omega arith))

@@ -1,0 +1,67 @@
+use Rattle.std.proofs.Common.{◌≡◌, ℕ, ◌+◌, ◌*◌, ◌/◌, ◌%◌, ◌<◌, ◌≤◌, List, length, get_or, ap, sym, subst, ◌∙◌, arith}
+use Rattle.std.specs.Prelude.{All, IfOk}
+use Rattle.std.proofs.lemmas.List.{get_or_read}
+use Rattle.std.proofs.lemmas.List.Elements.{All-weaker}
+use Rattle.cb_matrix.specs.Sparse.{Sparse}
+use Rattle.cb_matrix.specs.Values.{empty_matrix}
+use Rattle.cb_layout.specs.Blocks.{block_at}
+use Rattle.cb_layout.specs.Vectors.{piece_start}
+use Rattle.cb_layout.proofs.Spread.{piece_fits, piece_more, pieces_all, some_side}
+use Rattle.cb_layout.proofs.Grid.gather_result.Goals as goal
+
+pub append_column-requires-clause-fits : goal.append_column-requires-clause-fits
+append_column-requires-clause-fits g c =
+    let s = g.S.Semiring.arithmetic in
+    let q = c.args.self.now.side in
+    let bs = c.args.blocks.now in
+    let shape = c.args.shape in
+    let r = c.loop-rank.rank in
+    let test = c.loop-rank-test.true in
+    let ranks = c.ranks-rank-end.ensures.value in
+    let known : r < q * q = omega arith in
+    let pos : 0 < q = some_side q r known in
+    let none : Sparse = empty_matrix (record { rows = 0; cols = 0 }) in
+    let rank : c.from.result ≡ r = c.from.ensures in
+    let below : c.from.result < length bs = let k = c.requires.count in omega arith in
+    let read : c.index-blocks-from.result ≡ block_at bs r = get_or_read bs c.from.result c.index-blocks-from.result below c.index-blocks-from.is none ∙ ap (block_at bs) rank in
+    let start : c.result_start-start.result ≡ piece_start q shape.rows (r / q) (r % q) = c.result_start-start.ensures.value ∙ ap (λ d. piece_start q d (r / q) (r % q)) c.rows.ensures.value in
+    let rows = rw read at c.rows-in-loop-rank.ensures in
+    let height = c.rows.ensures.value in
+    let limit = c.rows.ensures.limit in
+    subst (λ xs. All (λ x. c.result_start-start.result + x < 4294967296) xs) (sym rows)
+    (All-weaker (λ x. piece_start q shape.rows (r / q) (r % q) + x < shape.rows) (λ x. c.result_start-start.result + x < 4294967296) (λ x h. omega arith) _ (piece_fits s q pos shape c.requires.column bs c.requires.count c.requires.shapes c.stored.ensures r known))
+
+pub loop-rank-preserved : goal.loop-rank-preserved
+loop-rank-preserved g c =
+    let s = g.S.Semiring.arithmetic in
+    let q = c.args.self.now.side in
+    let bs = c.args.blocks.now in
+    let shape = c.args.shape in
+    let r = c.loop-rank.rank in
+    let test = c.loop-rank-test.true in
+    let ranks = c.ranks-rank-end.ensures.value in
+    let known : r < q * q = omega arith in
+    let pos : 0 < q = some_side q r known in
+    let none : Sparse = empty_matrix (record { rows = 0; cols = 0 }) in
+    let rank : c.from.result ≡ r = c.from.ensures in
+    let below : c.from.result < length bs = let k = c.requires.count in omega arith in
+    let read : c.index-blocks-from.result ≡ block_at bs r = get_or_read bs c.from.result c.index-blocks-from.result below c.index-blocks-from.is none ∙ ap (block_at bs) rank in
+    let start : c.result_start-start.result ≡ piece_start q shape.rows (r / q) (r % q) = c.result_start-start.ensures.value ∙ ap (λ d. piece_start q d (r / q) (r % q)) c.rows.ensures.value in
+    let rows = rw read at c.rows-in-loop-rank.ensures in
+    let values = rw read at c.values.ensures in
+    piece_more s q pos shape c.requires.column bs c.requires.count c.requires.shapes c.stored.ensures r known c.loop-rank.entries.items c.append_column.new.entries.items c.result_start-start.result start (rw (rows, values) at c.in_ok-append_column.ensures) c.loop-rank.invariant
+
+pub returns : goal.returns
+returns g c =
+    let s = g.S.Semiring.arithmetic in
+    let q = c.args.self.now.side in
+    let bs = c.args.blocks.now in
+    let shape = c.args.shape in
+    let ranks = c.ranks-rank-end.ensures.value in
+    let some = c.ranks-rank-end.ensures.some in
+    let last = c.loop-rank-test.false in
+    let within = c.loop-rank.auto.rank-end in
+    let end : c.loop-rank.rank ≡ q * q = omega arith in
+    let known : 0 < q * q = omega arith in
+    let pos : 0 < q = some_side q 0 known in
+    subst (λ x. IfOk c.collect.result (λ m. m ≡ x)) (pieces_all s q pos shape c.requires.column bs c.requires.count c.requires.shapes c.stored.ensures g.met.S.Semiring.is_semiring c.loop-rank.entries.items c.loop-rank.rank end c.loop-rank.invariant) c.collect.ensures

@@ -1,0 +1,82 @@
+use Rattle.std.proofs.Common.{◌≡◌, ℕ, ◌+◌, ◌*◌, ◌<◌, ◌≤◌, List, length, take, ap, sym, ◌∙◌, arith}
+use Rattle.cb_matrix.specs.declared.Entry.{Entry}
+use Rattle.cb_layout.specs.Blocks.{block_at}
+use Rattle.cb_layout.proofs.Scattered.{IsScattered, scattered_none, scattered_more, scattered_all, rank_there, inside_there, order_there}
+use Rattle.cb_layout.specs.Tiles.{input_tiles}
+use Rattle.cb_layout.proofs.Spread.{input_tiling, piece_is, glued_pieces_cut}
+use Rattle.cb_layout.proofs.Grid.scatter_input.Goals as goal
+
+pub loop-entry-init : goal.loop-entry-init
+loop-entry-init g c =
+    let same = c.shape-shape.ensures.shape in
+    scattered_none (input_tiles c.args.self.now.side c.args.vector.now.shape) c.in_ok-blocks.blocks.items (rw same at c.in_ok-blocks.ensures)
+
+pub deliver-requires-clause-rank : goal.deliver-requires-clause-rank
+deliver-requires-clause-rank g c =
+    let q = c.args.self.now.side in
+    let m = c.args.vector.now in
+    let is = c.shape-shape.ensures.matrix in
+    let x : Entry = record { row = 0; column = 0; value = 0 } in
+    let rank = rw (c.shape-shape.ensures.shape, c.entries-entry-items.ensures) at c.in_piece-rank.ensures.rank in
+    let within = rw c.entries-entry-items.ensures at c.loop-entry-test.true in
+    rw rank (rank_there m.shape (input_tiles q m.shape) (input_tiling q m.shape (rw c.side-side.ensures.value at c.side-side.ensures.some)) m.entries is.inside is.ascending c.loop-entry.entry-index x within c.loop-entry.blocks.items c.loop-entry.invariant)
+
+pub deliver-requires-clause-inside : goal.deliver-requires-clause-inside
+deliver-requires-clause-inside g c =
+    let q = c.args.self.now.side in
+    let m = c.args.vector.now in
+    let is = c.shape-shape.ensures.matrix in
+    let x : Entry = record { row = 0; column = 0; value = 0 } in
+    let rank = rw (c.shape-shape.ensures.shape, c.entries-entry-items.ensures) at c.in_piece-rank.ensures.rank in
+    let local = rw (c.shape-shape.ensures.shape, c.entries-entry-items.ensures) at c.in_piece-rank.ensures.entry in
+    let within = rw c.entries-entry-items.ensures at c.loop-entry-test.true in
+    rw (rank, local) (inside_there m.shape (input_tiles q m.shape) (input_tiling q m.shape (rw c.side-side.ensures.value at c.side-side.ensures.some)) m.entries is.inside is.ascending c.loop-entry.entry-index x within c.loop-entry.blocks.items c.loop-entry.invariant)
+
+pub deliver-requires-clause-order : goal.deliver-requires-clause-order
+deliver-requires-clause-order g c =
+    let q = c.args.self.now.side in
+    let m = c.args.vector.now in
+    let is = c.shape-shape.ensures.matrix in
+    let x : Entry = record { row = 0; column = 0; value = 0 } in
+    let rank = rw (c.shape-shape.ensures.shape, c.entries-entry-items.ensures) at c.in_piece-rank.ensures.rank in
+    let local = rw (c.shape-shape.ensures.shape, c.entries-entry-items.ensures) at c.in_piece-rank.ensures.entry in
+    let within = rw c.entries-entry-items.ensures at c.loop-entry-test.true in
+    rw (rank, local) (order_there m.shape (input_tiles q m.shape) (input_tiling q m.shape (rw c.side-side.ensures.value at c.side-side.ensures.some)) m.entries is.inside is.ascending c.loop-entry.entry-index x within c.loop-entry.blocks.items c.loop-entry.invariant)
+
+pub loop-entry-preserved : goal.loop-entry-preserved
+loop-entry-preserved g c =
+    let q = c.args.self.now.side in
+    let m = c.args.vector.now in
+    let is = c.shape-shape.ensures.matrix in
+    let x : Entry = record { row = 0; column = 0; value = 0 } in
+    let rank = rw (c.shape-shape.ensures.shape, c.entries-entry-items.ensures) at c.in_piece-rank.ensures.rank in
+    let local = rw (c.shape-shape.ensures.shape, c.entries-entry-items.ensures) at c.in_piece-rank.ensures.entry in
+    let within = rw c.entries-entry-items.ensures at c.loop-entry-test.true in
+    scattered_more m.shape (input_tiles q m.shape) (input_tiling q m.shape (rw c.side-side.ensures.value at c.side-side.ensures.some)) m.entries is.inside is.ascending c.loop-entry.entry-index x within c.loop-entry.blocks.items c.loop-entry.invariant _ (rw (rank, local) at c.in_ok-deliver.ensures)
+
+pub returns-clause-pieces : goal.returns-clause-pieces
+returns-clause-pieces g c i j l k =
+    let q = c.args.self.now.side in
+    let m = c.args.vector.now in
+    let past = rw c.entries-entry-items.ensures at c.loop-entry-test.false in
+    let all = scattered_all (input_tiles q m.shape) m.entries c.loop-entry.entry-index c.loop-entry.blocks.items past c.loop-entry.invariant in
+    (piece_is g.S.Semiring.arithmetic g.met.S.Semiring.is_semiring q (rw c.side-side.ensures.value at c.side-side.ensures.some) m c.shape-shape.ensures.matrix c.loop-entry.blocks.items all i j l k).0
+
+pub returns-clause-matrices : goal.returns-clause-matrices
+returns-clause-matrices g c i j l k =
+    let q = c.args.self.now.side in
+    let m = c.args.vector.now in
+    let past = rw c.entries-entry-items.ensures at c.loop-entry-test.false in
+    let all = scattered_all (input_tiles q m.shape) m.entries c.loop-entry.entry-index c.loop-entry.blocks.items past c.loop-entry.invariant in
+    (piece_is g.S.Semiring.arithmetic g.met.S.Semiring.is_semiring q (rw c.side-side.ensures.value at c.side-side.ensures.some) m c.shape-shape.ensures.matrix c.loop-entry.blocks.items all i j l k).1
+
+pub returns-clause-law : goal.returns-clause-law
+returns-clause-law g c =
+    let s = g.S.Semiring.arithmetic in
+    let laws = g.met.S.Semiring.is_semiring in
+    let q = c.args.self.now.side in
+    let m = c.args.vector.now in
+    let is = c.shape-shape.ensures.matrix in
+    let past = rw c.entries-entry-items.ensures at c.loop-entry-test.false in
+    let all = scattered_all (input_tiles q m.shape) m.entries c.loop-entry.entry-index c.loop-entry.blocks.items past c.loop-entry.invariant in
+    glued_pieces_cut s laws q (rw c.side-side.ensures.value at c.side-side.ensures.some) m is (λ j t. block_at c.loop-entry.blocks.items (t * q + j)) (λ j t l k. (piece_is s laws q (rw c.side-side.ensures.value at c.side-side.ensures.some) m is c.loop-entry.blocks.items all t j k l).0)

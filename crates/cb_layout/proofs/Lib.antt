@@ -1,0 +1,9 @@
+pub mod Worked
+pub mod Parts
+pub mod Tiles
+pub mod Scattered
+pub mod Cuts
+pub mod Gathered
+pub mod Fronts
+pub mod Merged
+pub mod Spread

@@ -1,0 +1,95 @@
+-- A matrix in as many lists of entries as there are tiles.
+use Rattle.std.proofs.Common.{◌≡◌, ◌≢◌, ℕ, ◌+◌, ◌*◌, ◌/◌, ◌%◌, ◌<◌, ◌≤◌, List, [], ◌∷◌, ◌++◌, length, length-take, map, take, min, get_or, set, refl, sym, ap, subst, ⊎_elim, ◌∙◌, arith}
+use Rattle.std.specs.Prelude.{All, AllPairs}
+use Rattle.std.specs.List.{range_with_len}
+use Rattle.std.proofs.lemmas.Bool.{cases_eq}
+use Rattle.std.proofs.lemmas.List.{take_more, take_all, get_or-take, get_or_default, get_or-set_same, get_or-set_other, length-set}
+use Rattle.std.proofs.lemmas.List.FromFn.{length-map-range_with_len, get_or-map-range_with_len}
+use Rattle.std.proofs.lemmas.List.Elements.{All-take}
+use Rattle.cb_semirings.specs.Arithmetic.{Arithmetic, IsValue, IsSemiring}
+use Rattle.cb_matrix.specs.declared.Entry.{Entry}
+use Rattle.cb_matrix.specs.Sparse.{Extent, Sparse, IsMatrix, at, IsBefore, IsInside}
+use Rattle.cb_matrix.specs.Values.{matrix_of, empty_matrix}
+use Rattle.cb_matrix.proofs.Made.{at-matrix_of}
+use Rattle.cb_matrix.proofs.Equal.{matrix_is}
+use Rattle.cb_dcsc.specs.Columns.{with_entry}
+use Rattle.cb_layout.specs.Blocks.{block_at}
+use Rattle.cb_layout.specs.Tiles.{Tiles}
+use Rattle.cb_layout.proofs.Tiles.{IsTiling, owner_of, moved, entries_of, tile_of, entries_of-none, entries_of-own, entries_of-other, moved_inside, tile_before, tile_matrix, tile_value}
+
+-- each block has the entries of its tile
+pub record IsScattered (t : Tiles) (es : List Entry) (blocks : List Sparse) : Type 0 where
+  pub count : length blocks ≡ t.count
+  pub tiles : (r : ℕ) → r < t.count → block_at blocks r ≡ tile_of t es r
+
+pub scattered_none : (t : Tiles) (blocks : List Sparse) → blocks ≡ map (λ r. empty_matrix (t.size r)) (range_with_len 0 t.count) → IsScattered t [] blocks
+scattered_none t blocks h = record {
+  count = ap length h ∙ length-map-range_with_len (λ r. empty_matrix (t.size r)) 0 t.count;
+  tiles = λ r l.
+      ap (λ bs. block_at bs r) h
+      ∙ get_or-map-range_with_len (λ r. empty_matrix (t.size r)) 0 t.count r r (empty_matrix (record { rows = 0; cols = 0 })) l (omega arith)
+      ∙ ap (λ es. record { shape = t.size r; entries = es }) (sym (entries_of-none t r));
+}
+
+module _ (shape : Extent) (t : Tiles) (is : IsTiling shape t) (all : List Entry) (inside : All (IsInside shape) all) (ascending : AllPairs IsBefore all) (k : ℕ) (x : Entry) (l : k < length all) (blocks : List Sparse) (so_far : IsScattered t (take k all) blocks) where
+  abbrev e : Entry
+  e = get_or all k x
+
+  here : IsInside shape e
+  here = inside k x l
+
+  before : All (λ d. IsBefore d e) (take k all)
+  before i d m =
+      let long : length (take k all) ≡ min k (length all) = length-take k all in
+      let n : i < k = omega arith in
+      let same : get_or (take k all) i d ≡ get_or all i x = get_or-take k all i d n ∙ get_or_default all i d x (omega arith) in
+      subst (λ y. IsBefore y e) (sym same) (ascending i k x n l)
+
+  pub rank_there : owner_of t e < length blocks
+  rank_there = let c = so_far.count in let o = is.owned e.row e.column here.0 here.1 in rw c o
+
+  abbrev block : Sparse
+  block = block_at blocks (owner_of t e)
+
+  block_is : block ≡ tile_of t (take k all) (owner_of t e)
+  block_is = so_far.tiles (owner_of t e) (is.owned e.row e.column here.0 here.1)
+
+  pub inside_there : IsInside block.shape (moved t e)
+  inside_there = subst (λ (m : Sparse). IsInside m.shape (moved t e)) (sym block_is) (moved_inside shape t is (owner_of t e) e here refl)
+
+  pub order_there : All (λ d. IsBefore d (moved t e)) block.entries
+  order_there = subst (λ (m : Sparse). All (λ d. IsBefore d (moved t e)) m.entries) (sym block_is) (tile_before shape t is (owner_of t e) (take k all) e (All-take (IsInside shape) k all inside) before here refl)
+
+  pub scattered_more : (new : List Sparse) → new ≡ set blocks (owner_of t e) (with_entry block (moved t e)) → IsScattered t (take (k + 1) all) new
+  scattered_more new h = record {
+    count = ap length h ∙ length-set blocks (owner_of t e) (with_entry block (moved t e)) ∙ so_far.count;
+    tiles = λ r m.
+        let none : Sparse = empty_matrix (record { rows = 0; cols = 0 }) in
+        let one : Sparse = with_entry block (moved t e) in
+        let own : block_at (set blocks (owner_of t e) one) (owner_of t e) ≡ tile_of t (take k all ++ e ∷ []) (owner_of t e) =
+        get_or-set_same blocks (owner_of t e) one none rank_there
+        ∙ ap (λ (b : Sparse). with_entry b (moved t e)) block_is
+        ∙ ap (λ es. record { shape = t.size (owner_of t e); entries = es }) (sym (entries_of-own t (owner_of t e) (take k all) e refl)) in
+        ap (λ bs. block_at bs r) h
+        ∙ ⊎_elim
+        (λ (o : owner_of t e ≡ r). subst (λ n. block_at (set blocks (owner_of t e) one) n ≡ tile_of t (take k all ++ e ∷ []) n) o own)
+        (λ (o : owner_of t e ≢ r).
+        get_or-set_other blocks (owner_of t e) r one none (λ p. o (sym p))
+        ∙ so_far.tiles r m
+        ∙ ap (λ es. record { shape = t.size r; entries = es }) (sym (entries_of-other t r (take k all) e o)))
+        (cases_eq (owner_of t e) r)
+        ∙ ap (λ es. tile_of t es r) (sym (take_more all k x l));
+  }
+
+-- all entries taken
+pub scattered_all : (t : Tiles) (all : List Entry) (k : ℕ) (blocks : List Sparse) → length all ≤ k → IsScattered t (take k all) blocks → IsScattered t all blocks
+scattered_all t all k blocks l h = subst (λ es. IsScattered t es blocks) (take_all k all l) h
+
+-- each block has the values of its tile
+pub tile_is : (s : Arithmetic) → IsSemiring s → (m : Sparse) (t : Tiles) → IsTiling m.shape t → IsMatrix s m → (blocks : List Sparse) → IsScattered t m.entries blocks → (r : ℕ) → r < t.count
+    → (block_at blocks r ≡ matrix_of s (t.size r) (λ x y. at s m (t.top r + x) (t.left r + y))) × IsMatrix s (block_at blocks r)
+tile_is s laws m t is matrix blocks h r l =
+    let own = tile_matrix m.shape t is s m r refl matrix in (
+      h.tiles r l ∙ matrix_is s laws (tile_of t m.entries r) (t.size r) (λ x y. at s m (t.top r + x) (t.left r + y)) own refl (λ x y p q. tile_value m.shape t is s.zero r x y m.entries l p q matrix.inside),
+      subst (λ b. IsMatrix s b) (sym (h.tiles r l)) own,
+    )

@@ -1,0 +1,120 @@
+//! A matrix cut into one block for each rank.
+ghost use Rattle.std.specs.Prelude.{◌≡◌, ◌≢◌, ℕ, ◌<◌, ◌≤◌, ◌+◌, ◌*◌, ◌/◌, ◌%◌, List, map, length, All, IfOk, OnOk, slice_set};
+ghost use Rattle.std.specs.List.{range_with_len};
+ghost use Rattle.cb_semirings.specs.Arithmetic.{IsValue};
+ghost use Rattle.cb_matrix.specs.Sparse.{IsMatrix, IsInside, IsBefore};
+ghost use Rattle.cb_matrix.specs.Values.{empty_matrix};
+ghost use Rattle.cb_dcsc.specs.Columns.{with_entry};
+ghost use Rattle.cb_layout.specs.Parts.{part_length, part_shape};
+ghost use Rattle.cb_layout.specs.Blocks.{block_of, block_at, part_with, place_in_part, glued};
+
+use crate::Grid;
+use cb_dcsc::Block;
+use cb_matrix::{Entry, Matrix, Shape};
+use cb_semirings::Semiring;
+use std::alloc::{AllocError, Global};
+
+impl Grid {
+    /// The block of each rank, in the order of their numbers: what the matrix has in its row part and column
+    /// part, with places counted from the block's corner. Glued together they are the matrix again. The cost is
+    /// that of the stored entries, and of one block for each rank.
+    pub fn scatter<S: Semiring>(
+        &self,
+        alloc: Global,
+        matrix: &Matrix<S>,
+    ) -> Result<Vec<Block<S>>, AllocError>
+        ensures count { IfOk result (λ v. length v.items ≡ self.now.side * self.now.side) }
+        ensures blocks { IfOk result (λ v. (i j : ℕ) → i < self.now.side → j < self.now.side → block_at v.items (i * self.now.side + j) ≡ block_of S.arithmetic self.now.side matrix.now i j) }
+        ensures matrices { IfOk result (λ v. (i j : ℕ) → i < self.now.side → j < self.now.side → IsMatrix S.arithmetic (block_at v.items (i * self.now.side + j))) }
+        ensures law { IfOk result (λ v. glued S.arithmetic self.now.side matrix.now.shape (λ i j. block_at v.items (i * self.now.side + j)) ≡ matrix.now) }
+    {
+        let _side = self.side();
+        let shape = matrix.shape();
+        let mut blocks = self.empty_blocks(alloc, shape)?;
+        for entry in matrix.entries() {
+            let (rank, local) = self.in_block(shape, *entry);
+            deliver(&mut blocks, rank, local)?;
+        }
+        Ok(blocks)
+    }
+
+    /// A block without entries for each rank.
+    fn empty_blocks<S: Semiring>(
+        &self,
+        alloc: Global,
+        shape: Shape,
+    ) -> Result<Vec<Block<S>>, AllocError>
+        ensures { IfOk result (λ v. v.items ≡ map (λ r. empty_matrix (part_shape self.now.side shape (r / self.now.side) (r % self.now.side))) (range_with_len 0 (self.now.side * self.now.side))) }
+    {
+        let mut blocks = Vec::new(alloc);
+        for rank in 0..self.ranks() {
+            let part = self.block_shape(shape, rank);
+            blocks.push(Block::empty(alloc, part))?;
+        }
+        Ok(blocks)
+    }
+
+    /// The shape of a rank's block.
+    fn block_shape(&self, shape: Shape, rank: u16) -> Shape
+        requires { rank < self.now.side * self.now.side }
+        ensures { result ≡ part_shape self.now.side shape (rank / self.now.side) (rank % self.now.side) }
+    {
+        let side = self.side();
+        let rows = self.part_length(shape.rows(), u32::from(rank) / side);
+        let cols = self.part_length(shape.cols(), u32::from(rank) % side);
+        Shape::new(rows, cols).unwrap()
+    }
+
+    /// How many places part i of a dimension has.
+    pub(crate) fn part_length(&self, d: u32, i: u32) -> u32
+        requires { i < self.now.side }
+        ensures value { result ≡ part_length self.now.side d i }
+        ensures limit { result ≤ d }
+    {
+        let (start, end) = self.range(d, i);
+        end - start
+    }
+
+    /// The rank that keeps an entry, and the entry with its place in that rank's block.
+    fn in_block(&self, shape: Shape, entry: Entry) -> (usize, Entry)
+        requires { IsInside shape entry }
+        ensures rank { result.0 ≡ part_with self.now.side shape.rows entry.row * self.now.side + part_with self.now.side shape.cols entry.column }
+        ensures entry { result.1 ≡ record { row = place_in_part self.now.side shape.rows entry.row; column = place_in_part self.now.side shape.cols entry.column; value = entry.value } }
+    {
+        let (i, row) = self.in_part(shape.rows(), entry.row);
+        let (j, column) = self.in_part(shape.cols(), entry.column);
+        let local = Entry {
+            row,
+            column,
+            value: entry.value,
+        };
+        (usize::from(self.rank(i, j)), local)
+    }
+
+    /// The part of a dimension that a place is in, and its place there.
+    pub(crate) fn in_part(&self, d: u32, place: u32) -> (u32, u32)
+        requires { place < d }
+        ensures part { result.0 ≡ part_with self.now.side d place }
+        ensures place { result.1 ≡ place_in_part self.now.side d place }
+        ensures within { result.0 < self.now.side }
+    {
+        let length = d.div_ceil(self.side());
+        (place / length, place % length)
+    }
+}
+
+/// Stores one entry more in one of the blocks, after all the others.
+pub(crate) fn deliver<S: Semiring>(
+    blocks: &mut Vec<Block<S>>,
+    rank: usize,
+    entry: Entry,
+) -> Result<(), AllocError>
+    requires rank { rank < length blocks.old.items }
+    requires inside { IsInside (block_at blocks.old.items rank).shape entry }
+    requires order { All (λ e. IsBefore e entry) (block_at blocks.old.items rank).entries }
+    requires value { IsValue S.arithmetic entry.value }
+    requires not_zero { entry.value ≢ S.arithmetic.zero }
+    ensures { OnOk result (blocks.new.items ≡ slice_set blocks.old.items rank (with_entry (block_at blocks.old.items rank) entry)) }
+{
+    blocks[rank].push(entry)
+}

@@ -1,0 +1,122 @@
+//! Vectors spread over all ranks. A vector is a matrix of one column.
+ghost use Rattle.std.specs.Prelude.{◌≡◌, ℕ, ◌<◌, ◌≤◌, ◌+◌, ◌*◌, ◌/◌, ◌%◌, List, map, length, IfOk, OnOk};
+ghost use Rattle.std.specs.List.{range_with_len};
+ghost use Rattle.cb_matrix.specs.Sparse.{IsMatrix, IsInside};
+ghost use Rattle.cb_matrix.specs.Values.{empty_matrix};
+ghost use Rattle.cb_layout.specs.Parts.{part_length};
+ghost use Rattle.cb_layout.specs.Blocks.{block_at, part_with};
+ghost use Rattle.cb_layout.specs.Vectors.{piece_start, piece_shape, piece_of, piece_with, place_in_piece, glued_pieces};
+ghost use Rattle.cb_layout.specs.Tiles.{result_tiles, IsGathered, before_rank};
+
+use crate::Grid;
+use crate::gather::{append_column, collect, stored};
+use crate::scatter::deliver;
+use cb_dcsc::Block;
+use cb_matrix::{Entry, Matrix, Shape};
+use cb_semirings::Semiring;
+use std::alloc::{AllocError, Global};
+
+impl Grid {
+    /// The piece of each rank of an input vector, in the order of their numbers: rank (t, j) keeps piece t of
+    /// part j, with rows counted from the piece's first. The cost is that of the stored entries, and of one block
+    /// for each rank.
+    pub fn scatter_input<S: Semiring>(
+        &self,
+        alloc: Global,
+        vector: &Matrix<S>,
+    ) -> Result<Vec<Block<S>>, AllocError>
+        requires { vector.now.shape.cols ≡ 1 }
+        ensures count { IfOk result (λ v. length v.items ≡ self.now.side * self.now.side) }
+        ensures pieces { IfOk result (λ v. (t j : ℕ) → t < self.now.side → j < self.now.side → block_at v.items (t * self.now.side + j) ≡ piece_of S.arithmetic self.now.side vector.now j t) }
+        ensures matrices { IfOk result (λ v. (t j : ℕ) → t < self.now.side → j < self.now.side → IsMatrix S.arithmetic (block_at v.items (t * self.now.side + j))) }
+        ensures law { IfOk result (λ v. glued_pieces S.arithmetic self.now.side vector.now.shape (λ j t. block_at v.items (t * self.now.side + j)) ≡ vector.now) }
+    {
+        let _side = self.side();
+        let shape = vector.shape();
+        let mut blocks = self.empty_pieces(alloc, shape)?;
+        for entry in vector.entries() {
+            let (rank, local) = self.in_piece(shape, *entry);
+            deliver(&mut blocks, rank, local)?;
+        }
+        Ok(blocks)
+    }
+
+    /// A block without entries for each rank's piece of an input vector.
+    fn empty_pieces<S: Semiring>(
+        &self,
+        alloc: Global,
+        shape: Shape,
+    ) -> Result<Vec<Block<S>>, AllocError>
+        ensures { IfOk result (λ v. v.items ≡ map (λ r. empty_matrix (piece_shape self.now.side shape (r % self.now.side) (r / self.now.side))) (range_with_len 0 (self.now.side * self.now.side))) }
+    {
+        let mut blocks = Vec::new(alloc);
+        for rank in 0..self.ranks() {
+            let piece = self.input_shape(shape, rank);
+            blocks.push(Block::empty(alloc, piece))?;
+        }
+        Ok(blocks)
+    }
+
+    /// The shape of a rank's piece of an input vector.
+    fn input_shape(&self, shape: Shape, rank: u16) -> Shape
+        requires { rank < self.now.side * self.now.side }
+        ensures { result ≡ piece_shape self.now.side shape (rank % self.now.side) (rank / self.now.side) }
+    {
+        let side = self.side();
+        let part = self.part_length(shape.rows(), u32::from(rank) % side);
+        let rows = self.part_length(part, u32::from(rank) / side);
+        Shape::new(rows, shape.cols()).unwrap()
+    }
+
+    /// The rank that keeps an entry of an input vector, and the entry with its place in that rank's piece.
+    fn in_piece(&self, shape: Shape, entry: Entry) -> (usize, Entry)
+        requires { IsInside shape entry }
+        ensures rank { result.0 ≡ piece_with self.now.side shape.rows entry.row * self.now.side + part_with self.now.side shape.rows entry.row }
+        ensures entry { result.1 ≡ record { row = place_in_piece self.now.side shape.rows entry.row; column = entry.column; value = entry.value } }
+    {
+        let (j, place) = self.in_part(shape.rows(), entry.row);
+        let (t, row) = self.in_part(self.part_length(shape.rows(), j), place);
+        let local = Entry {
+            row,
+            column: entry.column,
+            value: entry.value,
+        };
+        (usize::from(self.rank(t, j)), local)
+    }
+
+    /// The vector of a shape from the piece of each rank of a result, in the order of their numbers: rank (i, t)
+    /// keeps piece t of part i, so the pieces follow one another. The cost is that of the stored entries.
+    pub fn gather_result<S: Semiring>(
+        &self,
+        alloc: Global,
+        blocks: &[Block<S>],
+        shape: Shape,
+    ) -> Result<Matrix<S>, AllocError>
+        requires column { shape.cols ≡ 1 }
+        requires count { length blocks.now ≡ self.now.side * self.now.side }
+        requires shapes { (i t : ℕ) → i < self.now.side → t < self.now.side → (block_at blocks.now (i * self.now.side + t)).shape ≡ piece_shape self.now.side shape i t }
+        ensures { IfOk result (λ m. m ≡ glued_pieces S.arithmetic self.now.side shape (λ i t. block_at blocks.now (i * self.now.side + t))) }
+    {
+        let mut entries = Vec::new(alloc);
+        entries.reserve(stored(blocks))?;
+        for rank in 0..self.ranks() {
+            let block = &blocks[usize::from(rank)];
+            let start = self.result_start(shape.rows(), rank);
+            append_column(&mut entries, start, 0, block.rows(), block.values())?;
+        }
+        collect(shape, entries)
+    }
+
+    /// The first row of a rank's piece of a result.
+    fn result_start(&self, rows: u32, rank: u16) -> u32
+        requires { rank < self.now.side * self.now.side }
+        ensures value { result ≡ piece_start self.now.side rows (rank / self.now.side) (rank % self.now.side) }
+        ensures limit { result ≤ rows }
+    {
+        let side = self.side();
+        let i = u32::from(rank) / side;
+        let (part, _) = self.range(rows, i);
+        let (piece, _) = self.range(self.part_length(rows, i), u32::from(rank) % side);
+        part + piece
+    }
+}

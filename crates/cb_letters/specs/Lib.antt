@@ -1,0 +1,5 @@
+pub mod Letters
+pub mod Standing
+pub mod Posted
+pub mod Lane
+pub mod Events

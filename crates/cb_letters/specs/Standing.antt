@@ -1,0 +1,42 @@
+-- How a lane stands, as the rank that posts on it can tell: what may be posted, but for the room.
+use Rattle.std.specs.Prelude.{ℕ, ◌≡◌, ◌+◌, ◌-◌, ◌^◌, ◌==◌, Bool, if◌then◌else◌, Option, Some, None}
+use Rattle.cb_letters.specs.declared.Body.{Body}
+use Rattle.cb_letters.specs.declared.Letter.{Letter}
+use Rattle.cb_letters.specs.declared.Tag.{Tag}
+use Rattle.cb_letters.specs.declared.PostRefusal.{PostRefusal}
+use Rattle.cb_letters.specs.declared.PostRefusal.TheVariants.{Stranger, Closed, Spent, Full}
+use Rattle.cb_letters.specs.Letters.{is_close}
+
+-- who posts on the lane; whether there is no such lane, since the other rank is the sender or no rank; whether a close mark was posted; how many letters were posted, the mark among them
+pub record Standing : Type 0 where
+  pub sender : ℕ
+  pub is_stranger : Bool
+  pub is_closed : Bool
+  pub posted : ℕ
+
+-- a lane can number this many letters: the number that is the last of its type isn't given out
+abbrev pub last_number : ℕ
+last_number = 2 ^ 64 - 1
+
+-- why nothing more can be posted, whatever the room
+abbrev pub standing_refusal : Standing → Option PostRefusal
+standing_refusal s =
+    if s.is_stranger then Some Stranger
+    else (if s.is_closed then Some Closed
+    else (if s.posted == last_number then Some Spent else None))
+
+-- a post may be refused for this reason: as full only where nothing else refuses it, and for another reason only where that is the first to hold
+abbrev pub MayRefuse : Standing → Type 0 → PostRefusal → Type 0
+MayRefuse s may_be_full Full = (standing_refusal s ≡ None) × may_be_full
+MayRefuse s may_be_full Stranger = standing_refusal s ≡ Some Stranger
+MayRefuse s may_be_full Closed = standing_refusal s ≡ Some Closed
+MayRefuse s may_be_full Spent = standing_refusal s ≡ Some Spent
+
+module _ {P : Type 0} where
+  -- the letter that is posted next, with its number
+  abbrev pub next_letter : Standing → ℕ → Tag → Body P → Letter P
+  next_letter s to tag body = record { from = s.sender; to = to; number = s.posted; tag = tag; body = body }
+
+  -- how the lane stands once this letter is posted
+  abbrev pub stands_after : Letter P → Standing → Standing
+  stands_after x s = record s { is_closed = is_close x.body; posted = s.posted + 1 }

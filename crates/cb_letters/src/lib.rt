@@ -1,0 +1,81 @@
+//! What goes through a lane, and the words in which every crate speaks of lanes.
+//!
+//! There is one lane for each two different ranks and each direction: a bounded queue of letters from
+//! a sender to an addressee. A letter carries a sheet, or the word that a sheet was lost, and a tag of
+//! its sender's choice. Each lane numbers its letters from 0 on. The last letter of a lane is its close
+//! mark: it has a place and a number as every letter has, its tag is 0, and nothing is posted after it.
+//! A post is refused to a stranger, on a closed lane, on a lane whose numbers are spent, and on a full
+//! one, and is looked at in this order. A take answers the oldest letter, the end of a lane once its
+//! close mark is reached and ever after, or that nothing is there.
+//!
+//! `specs/` says what a lane is and what its calls answer (`Lane`), what two ends that don't share
+//! a lane's queue know of it (`Posted`), what stands against a post (`Standing`), and which lists of posts and takes are legal
+//! (`Events`). [`Ports`] are the ends of one rank's lanes, whatever they are made of.
+#![tactic(auto)]
+
+mod ends;
+
+ghost use Rattle.std.specs.Prelude.{◌≡◌};
+ghost use Rattle.cb_letters.specs.Letters.{is_close};
+
+pub use ends::Ports;
+
+/// What a letter is about, chosen by its sender. A close mark has tag 0.
+#[derive(Clone, Copy, Debug, PartialEq, Eq, Drop)]
+pub struct Tag(pub u32);
+
+/// What a letter carries.
+#[derive(Debug, PartialEq, Eq, Drop)]
+pub enum Body<P> {
+    /// A load of the sender's.
+    Sheet(P),
+    /// There was no memory for the sheet: the rank at which it was lost first.
+    Lost(u16),
+    /// The mark that ends the lane.
+    Close,
+}
+
+/// A letter on the lane from one rank to another, with its number on that lane.
+#[derive(Debug, PartialEq, Eq, Drop)]
+pub struct Letter<P> {
+    pub from: u16,
+    pub to: u16,
+    pub number: u64,
+    pub tag: Tag,
+    pub body: Body<P>,
+}
+
+/// The answer to a take.
+#[derive(Debug, PartialEq, Eq, Drop)]
+pub enum Taken<P> {
+    /// The oldest letter of the lane, which isn't its close mark.
+    Letter(Letter<P>),
+    /// The close mark was taken, now or before.
+    End,
+    /// No letter is there, and the close mark wasn't taken.
+    Empty,
+    /// There is no such lane: the sender is the rank itself, or no rank.
+    Stranger,
+}
+
+/// Why a post or a close was refused, in the order in which the reasons are looked at.
+#[derive(Clone, Copy, Debug, PartialEq, Eq, Drop)]
+pub enum PostRefusal {
+    /// There is no such lane: the other rank is the rank itself, or no rank.
+    Stranger,
+    /// The close mark was posted.
+    Closed,
+    /// All numbers of the lane were given out, up to 2^64-2.
+    Spent,
+    /// The lane has no free place.
+    Full,
+}
+
+impl<P> Body<P> {
+    /// Whether this is the mark that ends a lane.
+    pub fn is_close(&self) -> bool
+        ensures { result ≡ is_close self.now }
+    {
+        matches!(self, Body::Close)
+    }
+}

@@ -1,0 +1,4 @@
+pub mod Inboxes
+pub mod Runs
+pub mod Balance
+pub mod Legality

@@ -1,0 +1,72 @@
+//! Calls of a mailbox as values, and a whole list of them.
+ghost use Rattle.std.specs.Prelude.{◌≡◌, All, IfOk, OnOk, IfErr};
+ghost use Rattle.cb_mailbox.specs.Run.{IsPostable, answer, after, answers_to, after_all, events, IsBalanced, IsNew};
+ghost use Rattle.cb_letters.specs.Events.{AreLegal};
+
+use crate::Mailbox;
+use cb_letters::{Body, PostRefusal, Tag, Taken};
+use std::alloc::{AllocError, Global};
+
+/// A call of a mailbox, with the sender whose lane it is about.
+#[derive(Debug, PartialEq, Eq, Drop)]
+pub enum Call<P> {
+    Post { from: u16, tag: Tag, body: Body<P> },
+    Take { from: u16 },
+    Close { from: u16 },
+}
+
+/// What a call of a mailbox answered.
+#[derive(Debug, PartialEq, Eq, Drop)]
+pub enum Answer<P> {
+    /// A post or a close was accepted: the number of its letter.
+    Posted(u64),
+    /// A post, with its body, or a close was refused.
+    Refused(PostRefusal, Option<Body<P>>),
+    Took(Taken<P>),
+}
+
+impl<P: Drop> Mailbox<P> {
+    /// Makes the calls one after the other, and answers what each answered, in order. Memory is taken
+    /// for all answers before the first call; where it is refused the calls come back and none was made.
+    #[tactic(auto, using(crate::proofs::Runs::runs, crate::proofs::Balance::balance))]
+    pub fn run(
+        &mut self,
+        alloc: Global,
+        calls: Vec<Call<P>>,
+    ) -> Result<Vec<Answer<P>>, (Vec<Call<P>>, AllocError)>
+        requires { All IsPostable calls.items }
+        ensures answers { IfOk result (λ answers. answers.items ≡ answers_to self.old calls.items) }
+        ensures after { OnOk result (self.new ≡ after_all self.old calls.items) }
+        ensures lanes { OnOk result (IsBalanced self.old self.new (events self.old calls.items)) }
+        ensures legal { OnOk result (IsNew self.old → AreLegal (events self.old calls.items)) }
+        ensures err { IfErr result (λ e. (e.0 ≡ calls) × (self.new ≡ self.old)) }
+    {
+        let mut answers = match Vec::with_capacity(alloc, calls.len()) {
+            Ok(answers) => answers,
+            Err(refused) => return Err((calls, refused)),
+        };
+        for call in calls {
+            let answer = self.call(call);
+            answers.push_reserved(answer);
+        }
+        Ok(answers)
+    }
+
+    fn call(&mut self, call: Call<P>) -> Answer<P>
+        requires { IsPostable call }
+        ensures answer { result ≡ answer self.old call }
+        ensures after { self.new ≡ after self.old call }
+    {
+        match call {
+            Call::Post { from, tag, body } => match self.post(from, tag, body) {
+                Ok(number) => Answer::Posted(number),
+                Err((refusal, body)) => Answer::Refused(refusal, Some(body)),
+            },
+            Call::Take { from } => Answer::Took(self.take(from)),
+            Call::Close { from } => match self.close(from) {
+                Ok(number) => Answer::Posted(number),
+                Err(refusal) => Answer::Refused(refusal, None),
+            },
+        }
+    }
+}

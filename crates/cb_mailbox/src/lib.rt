@@ -1,0 +1,160 @@
+//! A rank's mailbox in one place: a bounded queue of letters for each other rank that posts to it.
+//!
+//! `open` takes the memory of all queues. From then on a call costs the same however many letters have
+//! gone through, and no call but `run` takes memory.
+//!
+//! - `post` and `close` append at the sender's queue and answer the number on that lane: 0, 1, 2 and so
+//!   on, the close mark among them. They are refused to a stranger (the rank itself, or no rank), after
+//!   a close, when the numbers are spent, and when the queue is full, in this order. A refused call
+//!   changes nothing and hands its body back.
+//! - `take` answers the oldest letter of one sender. At the close mark it answers `End`, and ever after.
+//! - `run` makes a list of calls. Room for all answers is taken first, so a refused `run` did nothing.
+//!
+//! Every call answers and changes as one lane per sender does (`cb_letters`' `Lane`). Over any list of
+//! calls what was queued and accepted is, lane by lane, what was taken and is queued; and on a new
+//! mailbox the accepted posts and takes are legal (`cb_letters`' `Events`).
+#![tactic(auto)]
+
+mod calls;
+mod queue;
+#[cfg(test)]
+mod tests;
+
+ghost use Rattle.std.specs.Prelude.{ℕ, ◌≡◌, ◌<◌, length, Some, None, IfOk, IfErr, OnErr, IsTrue, true, false, ◌↔◌, if◌then◌else◌};
+ghost use Rattle.cb_letters.specs.Letters.{is_close, mark_tag};
+ghost use Rattle.cb_letters.specs.Lane.{new_lane, posted, append, IsDrained, HasRoom, IsAddressed, take_answer, after_take};
+ghost use Rattle.cb_letters.specs.declared.Letter.{Letter};
+ghost use Rattle.cb_mailbox.specs.Inbox.{is_stranger, lane_from, with_lane, post_refusal, next_letter};
+
+pub use calls::{Answer, Call};
+use cb_letters::{Body, PostRefusal, Tag, Taken};
+use queue::Queue;
+use std::alloc::{AllocError, Global};
+use std::marker::Model;
+
+/// The letters on their way to one rank, in a queue for each sender.
+#[derive(Drop)]
+pub struct Mailbox<P> {
+    me: u16,
+    lanes: Vec<Queue<P>>,
+}
+
+impl<P> Model for Mailbox<P> {
+    ghost use Rattle.std.specs.Prelude.{◌<◌, ◌^◌, length};
+    ghost use Rattle.cb_mailbox.specs.Inbox.{Inbox, HasLanes};
+
+    ghost Value = { Inbox P };
+
+    ghost view = { λ m. record { me = m.me; lanes = m.lanes.items } };
+
+    ghost invariant = { λ m. (m.me < length m.lanes.items) × (length m.lanes.items < 2 ^ 16) × HasLanes (record { me = m.me; lanes = m.lanes.items }) };
+}
+
+impl<P: Drop> Mailbox<P> {
+    /// The mailbox of rank `me` among `ranks`. Its queues have `capacity` places each, taken here at
+    /// once; the one from itself, which nobody posts to, has none.
+    #[tactic(auto, using(crate::proofs::Inboxes::lanes))]
+    pub fn open(
+        alloc: Global,
+        me: u16,
+        ranks: u16,
+        capacity: usize,
+    ) -> Result<Mailbox<P>, AllocError>
+        requires { me < ranks }
+        ensures ranks { IfOk result (λ m. (m.me ≡ me) × (length m.lanes ≡ ranks)) }
+        ensures new { IfOk result (λ m. (from : ℕ) → lane_from m from ≡ new_lane (if is_stranger m from then 0 else capacity)) }
+    {
+        let mut lanes = Vec::new(alloc);
+        for from in 0..ranks {
+            let places = if from == me { 0 } else { capacity };
+            lanes.push(Queue::new(alloc, places)?)?;
+        }
+        Ok(Mailbox { me, lanes })
+    }
+
+    /// Posts a letter of the sender `from`, and answers its number on that lane.
+    pub fn post(
+        &mut self,
+        from: u16,
+        tag: Tag,
+        body: Body<P>,
+    ) -> Result<u64, (PostRefusal, Body<P>)>
+        requires { is_close body ≡ false }
+        ensures accepted { IfOk result (λ number. (post_refusal self.old from ≡ None) × (number ≡ posted (lane_from self.old from)) × (self.new ≡ with_lane self.old from (append (lane_from self.old from) (next_letter self.old from tag body)))) }
+        ensures refused { IfErr result (λ e. (post_refusal self.old from ≡ Some e.0) × (e.1 ≡ body)) }
+        ensures unchanged { OnErr result (self.new ≡ self.old) }
+    {
+        if self.is_stranger(from) {
+            return Err((PostRefusal::Stranger, body));
+        }
+        let me = self.me;
+        self.lanes[from as usize].post(from, me, tag, body)
+    }
+
+    /// Posts the mark that ends the lane of the sender `from`, and answers its number.
+    pub fn close(&mut self, from: u16) -> Result<u64, PostRefusal>
+        ensures accepted { IfOk result (λ number. (post_refusal self.old from ≡ None) × (number ≡ posted (lane_from self.old from)) × (self.new ≡ with_lane self.old from (append (lane_from self.old from) (next_letter self.old from mark_tag Body.Close)))) }
+        ensures refused { IfErr result (λ e. post_refusal self.old from ≡ Some e) }
+        ensures unchanged { OnErr result (self.new ≡ self.old) }
+    {
+        if self.is_stranger(from) {
+            return Err(PostRefusal::Stranger);
+        }
+        let me = self.me;
+        match self.lanes[from as usize].post(from, me, Tag(0), Body::Close) {
+            Ok(number) => Ok(number),
+            Err((refusal, _mark)) => Err(refusal),
+        }
+    }
+
+    /// Takes the oldest letter of the sender `from`. The close mark is answered by `End`, and so is
+    /// every later take.
+    pub fn take(&mut self, from: u16) -> Taken<P>
+        ensures stranger { is_stranger self.old from ≡ true → (result ≡ Taken.Stranger) × (self.new ≡ self.old) }
+        ensures letter { (x : Letter P) → result ≡ Taken.Letter x → IsAddressed from self.old.me (lane_from self.old from).taken x }
+        ensures answer { is_stranger self.old from ≡ false → (result ≡ take_answer (lane_from self.old from)) × (self.new ≡ with_lane self.old from (after_take (lane_from self.old from))) }
+    {
+        if self.is_stranger(from) {
+            return Taken::Stranger;
+        }
+        self.lanes[from as usize].take()
+    }
+
+    /// Whether the lane of the sender `from` is closed and all its letters were taken.
+    pub fn drained(&self, from: u16) -> bool
+        requires { is_stranger self.now from ≡ false }
+        ensures { IsTrue result ↔ IsDrained (lane_from self.now from) }
+    {
+        self.lanes[from as usize].is_drained()
+    }
+
+    /// Whether the queue of the sender `from` has a free place.
+    pub fn room(&self, from: u16) -> bool
+        requires { is_stranger self.now from ≡ false }
+        ensures { IsTrue result ↔ HasRoom (lane_from self.now from) }
+    {
+        self.lanes[from as usize].has_room()
+    }
+
+    /// How many letters the sender `from` posted, its close mark among them.
+    pub fn posted(&self, from: u16) -> u64
+        requires { is_stranger self.now from ≡ false }
+        ensures { result ≡ posted (lane_from self.now from) }
+    {
+        self.lanes[from as usize].posted()
+    }
+
+    /// How many letters of the sender `from` were taken, its close mark among them.
+    pub fn taken(&self, from: u16) -> u64
+        requires { is_stranger self.now from ≡ false }
+        ensures { result ≡ (lane_from self.now from).taken }
+    {
+        self.lanes[from as usize].taken()
+    }
+
+    fn is_stranger(&self, from: u16) -> bool
+        ensures { result ≡ is_stranger self.now from }
+    {
+        from == self.me || from as usize >= self.lanes.len()
+    }
+}

@@ -1,0 +1,153 @@
+//! The worked examples of a mailbox, by their answers.
+ghost use Rattle.cb_mailbox.specs.Run.{IsPostable};
+
+use crate::{Answer, Call, Mailbox};
+use cb_letters::{Body, Letter, PostRefusal, Tag, Taken};
+use std::alloc::AllocError;
+use std::test::Fail;
+
+fn post(from: u16, sheet: u64) -> Call<u64>
+    ensures { IsPostable result }
+{
+    Call::Post {
+        from,
+        tag: Tag(7),
+        body: Body::Sheet(sheet),
+    }
+}
+
+fn took(from: u16, to: u16, number: u64, sheet: u64) -> Answer<u64> {
+    Answer::Took(Taken::Letter(Letter {
+        from,
+        to,
+        number,
+        tag: Tag(7),
+        body: Body::Sheet(sheet),
+    }))
+}
+
+fn refused(refusal: PostRefusal, sheet: u64) -> Answer<u64> {
+    Answer::Refused(refusal, Some(Body::Sheet(sheet)))
+}
+
+#[test]
+fn one_sender_fills_its_queue_and_closes(rt: HostRuntime) -> Result<(), Fail> {
+    let mut mailbox = Mailbox::open(rt.alloc(), 0, 2, 2)?;
+    let calls = vec![in rt.alloc();
+        post(1, 10),
+        post(1, 11),
+        post(1, 12),
+        Call::Take { from: 1 },
+        post(1, 13),
+        Call::Close { from: 1 },
+        Call::Take { from: 1 },
+        Call::Close { from: 1 },
+        post(1, 14),
+        Call::Take { from: 1 },
+        Call::Take { from: 1 },
+        Call::Take { from: 1 },
+    ]?;
+    let answers = mailbox
+        .run(rt.alloc(), calls)
+        .map_err(|(_, refused)| refused)?;
+    let expected = vec![in rt.alloc();
+        Answer::Posted(0),
+        Answer::Posted(1),
+        refused(PostRefusal::Full, 12),
+        took(1, 0, 0, 10),
+        Answer::Posted(2),
+        Answer::Refused(PostRefusal::Full, None),
+        took(1, 0, 1, 11),
+        Answer::Posted(3),
+        refused(PostRefusal::Closed, 14),
+        took(1, 0, 2, 13),
+        Answer::Took(Taken::End),
+        Answer::Took(Taken::End),
+    ]?;
+    assert_eq!(rt; answers, expected);
+    Ok(())
+}
+
+#[test]
+fn two_senders_have_a_queue_each(rt: HostRuntime) -> Result<(), Fail> {
+    let mut mailbox = Mailbox::open(rt.alloc(), 2, 3, 2)?;
+    let calls = vec![in rt.alloc();
+        post(0, 10),
+        post(1, 11),
+        post(0, 12),
+        Call::Take { from: 1 },
+        Call::Take { from: 0 },
+        Call::Take { from: 0 },
+        Call::Take { from: 0 },
+        Call::Take { from: 9 },
+        Call::Take { from: 2 },
+    ]?;
+    let answers = mailbox
+        .run(rt.alloc(), calls)
+        .map_err(|(_, refused)| refused)?;
+    let expected = vec![in rt.alloc();
+        Answer::Posted(0),
+        Answer::Posted(0),
+        Answer::Posted(1),
+        took(1, 2, 0, 11),
+        took(0, 2, 0, 10),
+        took(0, 2, 1, 12),
+        Answer::Took(Taken::Empty),
+        Answer::Took(Taken::Stranger),
+        Answer::Took(Taken::Stranger),
+    ]?;
+    assert_eq!(rt; answers, expected);
+    Ok(())
+}
+
+#[test]
+fn counts_and_room_follow_the_calls(rt: HostRuntime) -> Result<(), Fail> {
+    let mut mailbox = Mailbox::open(rt.alloc(), 0, 2, 1)?;
+    assert!(rt; mailbox.room(1) && !mailbox.drained(1));
+    assert_eq!(rt; mailbox.post(1, Tag(7), Body::Lost(1)), Ok(0));
+    assert!(rt; !mailbox.room(1));
+    assert_eq!(rt; mailbox.close(1), Err(PostRefusal::Full));
+    assert_eq!(rt;
+        mailbox.post(0, Tag(7), Body::Sheet(5)),
+        Err((PostRefusal::Stranger, Body::Sheet(5)))
+    );
+    assert!(rt; matches!(mailbox.take(1), Taken::Letter(_)));
+    assert_eq!(rt; mailbox.close(1), Ok(1));
+    assert_eq!(rt;
+        (mailbox.posted(1), mailbox.taken(1), mailbox.drained(1)),
+        (2, 1, false)
+    );
+    assert_eq!(rt; mailbox.take(1), Taken::End);
+    assert_eq!(rt;
+        (mailbox.posted(1), mailbox.taken(1), mailbox.drained(1)),
+        (2, 2, true)
+    );
+    Ok(())
+}
+
+/// Passes whichever single growth is refused (`rt try --test --fail-alloc N`, for each N in turn): a
+/// refused `open` answers so, and a refused `run` hands back calls that can be run again.
+#[test]
+fn a_refused_run_can_be_made_again(rt: HostRuntime) -> Result<(), Fail> {
+    let Ok(mut mailbox) = Mailbox::open(rt.alloc(), 0, 3, 2) else {
+        return Ok(());
+    };
+    let Ok(calls) = vec![in rt.alloc(); post(1, 10), post(2, 20), Call::Take { from: 2 }] else {
+        return Ok(());
+    };
+    let answers = match mailbox.run(rt.alloc(), calls) {
+        Ok(answers) => answers,
+        Err((calls, AllocError)) => {
+            assert_eq!(rt; (mailbox.posted(1), mailbox.posted(2)), (0, 0));
+            mailbox
+                .run(rt.alloc(), calls)
+                .map_err(|(_, refused)| refused)?
+        }
+    };
+    let Ok(expected) = vec![in rt.alloc(); Answer::Posted(0), Answer::Posted(0), took(2, 0, 0, 20)]
+    else {
+        return Ok(());
+    };
+    assert_eq!(rt; answers, expected);
+    Ok(())
+}

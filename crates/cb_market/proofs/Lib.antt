@@ -1,0 +1,10 @@
+pub mod Numbers
+pub mod Cursor
+pub mod Fronts
+pub mod Written
+pub mod Faulted
+pub mod Bodies
+pub mod Law
+pub mod Decimals
+pub mod Again
+pub mod Whole

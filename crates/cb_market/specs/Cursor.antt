@@ -1,0 +1,66 @@
+-- A text from a place within it on: what is left of a line, and the text after it.
+use Rattle.std.specs.Prelude.{ℕ, ◌^◌, Bool, true, cond, ◌&&◌, ◌||◌, ◌==◌, nat_lt, List, [], ◌∷◌, Option, Some, None}
+use Rattle.cb_market.specs.declared.words.Number.{Number}
+use Rattle.cb_market.specs.declared.words.Number.TheVariants.{NotWhole, TooLarge, Whole}
+use Rattle.cb_market.specs.Lines.{is_digit, is_blank, is_value_word, magnitude}
+
+-- whether a line ends here: at the end of the text or a line feed, or at a carriage return before either
+abbrev pub is_line_end : List ℕ → Bool
+is_line_end [] = true
+is_line_end (c ∷ []) = (c == 10) || (c == 13)
+is_line_end (c ∷ d ∷ rest) = (c == 10) || ((c == 13) && (d == 10))
+
+-- what is left of a line
+abbrev pub line_at : List ℕ → List ℕ
+line_at [] = []
+line_at (c ∷ rest) = cond (is_line_end (c ∷ rest)) [] (c ∷ line_at rest)
+
+-- the text after a line
+abbrev pub after_line : List ℕ → List ℕ
+after_line [] = []
+after_line (c ∷ rest) = cond (c == 10) rest (after_line rest)
+
+-- whether a word ends here
+abbrev pub is_word_end : List ℕ → Bool
+is_word_end [] = true
+is_word_end (c ∷ rest) = is_blank c || is_line_end (c ∷ rest)
+
+-- the digits at the front, and what comes after them
+abbrev pub front_digits : List ℕ → List ℕ
+front_digits [] = []
+front_digits (c ∷ rest) = cond (is_digit c) (c ∷ front_digits rest) []
+
+abbrev pub after_digits : List ℕ → List ℕ
+after_digits [] = []
+after_digits (c ∷ rest) = cond (is_digit c) (after_digits rest) (c ∷ rest)
+
+-- the bytes of a word at the front, and what comes after them
+abbrev pub front_word : List ℕ → List ℕ
+front_word [] = []
+front_word (c ∷ rest) = cond (is_word_end (c ∷ rest)) [] (c ∷ front_word rest)
+
+abbrev pub after_word : List ℕ → List ℕ
+after_word [] = []
+after_word (c ∷ rest) = cond (is_word_end (c ∷ rest)) (c ∷ rest) (after_word rest)
+
+abbrev pub after_blanks : List ℕ → List ℕ
+after_blanks [] = []
+after_blanks (c ∷ rest) = cond (is_blank c) (after_blanks rest) (c ∷ rest)
+
+-- a number that fits 64 bits
+abbrev pub if_small : ℕ → Option ℕ
+if_small n = cond (nat_lt n (2 ^ 64)) (Some n) None
+
+-- a number of digits alone
+abbrev pub whole_number : Option ℕ → Number
+whole_number (Some n) = Whole n
+whole_number None = TooLarge
+
+-- the number that a word writes
+abbrev pub number_of : List ℕ → Number
+number_of word = cond (is_value_word word) (whole_number (if_small (magnitude word))) NotWhole
+
+-- what comes after a sign
+abbrev pub after_sign : List ℕ → List ℕ
+after_sign [] = []
+after_sign (c ∷ rest) = cond ((c == 43) || (c == 45)) rest (c ∷ rest)

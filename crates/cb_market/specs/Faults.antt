@@ -1,0 +1,65 @@
+-- The first fault of a text, and the matrix of a text without one.
+use Rattle.std.specs.Prelude.{◌≡◌, ℕ, zero, suc, ◌+◌, ◌<◌, ◌⊎◌, List, [], ◌∷◌, length, flat_map, Some, None, Option, IfSome}
+use Rattle.cb_semirings.specs.Arithmetic.{Arithmetic}
+use Rattle.cb_matrix.specs.declared.Entry.{Entry}
+use Rattle.cb_matrix.specs.Sparse.{Sparse, Extent}
+use Rattle.cb_matrix.specs.Values.{collected, empty_matrix}
+use Rattle.cb_market.specs.declared.Kind.{Kind}
+use Rattle.cb_market.specs.declared.Kind.TheVariants.{BadHeader, BadSize, ExtraEntry, MissingEntries, Memory}
+use Rattle.cb_market.specs.declared.ReadFault.{ReadFault}
+use Rattle.cb_market.specs.declared.header.Header.{Header}
+use Rattle.cb_market.specs.Lines.{lines, words, kept_lines, begins_blank}
+use Rattle.cb_market.specs.Checks.{header_fault, header_of, size_fault, size_of, entry_fault, entry_of, given_by}
+
+-- a line's fault, or else a later one
+abbrev pub at_line : ℕ → Option Kind → Option ReadFault → Option ReadFault
+at_line n (Some kind) later = Some (record { line = n; kind = kind })
+at_line n None later = later
+
+-- of the entries: `left` are still wanted, and the text has `n - 1` lines
+unfoldable pub entries_fault : Arithmetic → Header → Extent → ℕ → ℕ → List (ℕ × List (List ℕ)) → Option ReadFault
+entries_fault s header shape n zero [] = None
+entries_fault s header shape n (suc left) [] = Some (record { line = n; kind = MissingEntries })
+entries_fault s header shape n zero (line ∷ lines) = Some (record { line = line.0; kind = ExtraEntry })
+entries_fault s header shape n (suc left) (line ∷ lines) = at_line line.0 (entry_fault s header shape line.1) (entries_fault s header shape n left lines)
+
+-- of the size line and the entries: the lines that aren't skipped, of a text of `n - 1` lines
+abbrev pub body_fault : Arithmetic → Header → ℕ → List (ℕ × List (List ℕ)) → Option ReadFault
+body_fault s header n [] = Some (record { line = n; kind = BadSize })
+body_fault s header n (line ∷ lines) =
+    let size = size_of line.1 in
+    at_line line.0 (size_fault header line.1) (entries_fault s header size.shape n size.count lines)
+
+-- of all lines
+abbrev pub lines_fault : Arithmetic → ℕ → List (List ℕ) → Option ReadFault
+lines_fault s n [] = Some (record { line = 1; kind = BadHeader })
+lines_fault s n (line ∷ lines) = at_line 1 (header_fault s (begins_blank line) (words line)) (body_fault s (header_of (words line)) n (kept_lines 2 lines))
+
+-- the first fault of a text
+unfoldable pub first_fault : Arithmetic → List ℕ → Option ReadFault
+first_fault s text = lines_fault s (length (lines text) + 1) (lines text)
+
+-- what the entries give, in order
+abbrev pub given : Arithmetic → Header → List (ℕ × List (List ℕ)) → List Entry
+given s header lines = flat_map (λ l. given_by s header.symmetry (entry_of s header l.1)) lines
+
+-- the sums of what is given, in the shape that the size line announces
+abbrev pub body_matrix : Arithmetic → Header → List (ℕ × List (List ℕ)) → Sparse
+body_matrix s header [] = empty_matrix (record { rows = 0; cols = 0 })
+body_matrix s header (line ∷ lines) = collected s (size_of line.1).shape (given s header lines)
+
+abbrev pub lines_matrix : Arithmetic → List (List ℕ) → Sparse
+lines_matrix s [] = empty_matrix (record { rows = 0; cols = 0 })
+lines_matrix s (line ∷ lines) = body_matrix s (header_of (words line)) (kept_lines 2 lines)
+
+-- the matrix of a text
+unfoldable pub matrix_in : Arithmetic → List ℕ → Sparse
+matrix_in s text = lines_matrix s (lines text)
+
+-- an answer that is the first fault, or want of memory at a line with no fault before it or at it
+abbrev pub IsAnswer : Option ReadFault → ReadFault → Type 0
+IsAnswer first f = (first ≡ Some f) ⊎ ((f.kind ≡ Memory) × IfSome first (λ g. f.line < g.line))
+
+-- an answer at a line: its fault, or want of memory where it has none
+abbrev pub IsLineAnswer : ℕ → Option Kind → ReadFault → Type 0
+IsLineAnswer n fault f = (f.line ≡ n) × ((fault ≡ Some f.kind) ⊎ ((fault ≡ None) × (f.kind ≡ Memory)))

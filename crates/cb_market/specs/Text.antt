@@ -1,0 +1,36 @@
+-- The text of a matrix.
+use Rattle.std.specs.Prelude.{ℕ, ◌+◌, Bool, true, false, List, [], ◌∷◌, ◌++◌, flat_map, length, codes, decimal}
+use Rattle.cb_semirings.specs.Arithmetic.{Arithmetic}
+use Rattle.cb_matrix.specs.declared.Entry.{Entry}
+use Rattle.cb_matrix.specs.Sparse.{Sparse}
+
+-- numbers in decimal, with a space between each two and a line feed at the end
+abbrev pub number_line : List ℕ → List ℕ
+number_line [] = 10 ∷ []
+number_line (n ∷ []) = decimal n ++ 10 ∷ []
+number_line (n ∷ m ∷ numbers) = decimal n ++ 32 ∷ number_line (m ∷ numbers)
+
+-- the line of an entry: its place, counted from 1, and its value if values are written
+abbrev pub entry_line : Bool → Entry → List ℕ
+entry_line true e = number_line ((e.row + 1) ∷ (e.column + 1) ∷ [])
+entry_line false e = number_line ((e.row + 1) ∷ (e.column + 1) ∷ e.value ∷ [])
+
+-- the header of a text without values, or with them
+abbrev pub header_line : Bool → List ℕ
+header_line true = codes "%%MatrixMarket matrix coordinate pattern general" ++ 10 ∷ []
+header_line false = codes "%%MatrixMarket matrix coordinate integer general" ++ 10 ∷ []
+
+abbrev pub size_line : Sparse → List ℕ
+size_line m = number_line (m.shape.rows ∷ m.shape.cols ∷ length m.entries ∷ [])
+
+-- the header, the size and the entries, a line each
+unfoldable pub text_of : Arithmetic → Sparse → List ℕ
+text_of s m = header_line s.writes_pattern ++ size_line m ++ flat_map (entry_line s.writes_pattern) m.entries
+
+-- the line of a vertex: its number, counted from 1, and its value
+abbrev pub vertex_line : Entry → List ℕ
+vertex_line e = number_line ((e.row + 1) ∷ e.value ∷ [])
+
+-- a line for each entry of a vector
+unfoldable pub vertex_text_of : Sparse → List ℕ
+vertex_text_of m = flat_map vertex_line m.entries

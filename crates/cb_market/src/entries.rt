@@ -1,0 +1,276 @@
+//! The entries of a text.
+ghost use Rattle.std.specs.Prelude.{◌≡◌, ◌+◌, ◌-◌, ◌*◌, ◌/◌, ◌^◌, ◌<◌, ◌≤◌, ◌++◌, IsTrue, IfOk, IfErr, OnOk, [], ◌∷◌, length, Some, None};
+ghost use Rattle.cb_semirings.specs.Arithmetic.{IsValue};
+ghost use Rattle.cb_market.specs.declared.header.Field.TheVariants.{Integer, Pattern};
+ghost use Rattle.cb_market.specs.Lines.{is_number, number, words, lines, kept_from};
+ghost use Rattle.cb_market.specs.Cursor.{line_at, after_line};
+ghost use Rattle.cb_market.specs.Checks.{is_above, is_on_diagonal, place_fault, entry_fault, entry_of, mirrored, negative_of, given_by};
+ghost use Rattle.cb_market.specs.Faults.{entries_fault, given, IsAnswer, IsLineAnswer};
+
+use crate::header::{Field, Header, Symmetry};
+use crate::scanner::Scanner;
+use crate::size::Size;
+use crate::words::Word;
+use crate::{Kind, ReadFault};
+use cb_matrix::{Entry, Shape};
+use cb_semirings::Semiring;
+use std::alloc::{AllocError, Global};
+
+/// Whether a place is above the diagonal, where entries stand for those above it.
+fn is_above(symmetry: Symmetry, row: u32, column: u32) -> bool
+    ensures { result ≡ is_above symmetry row column }
+{
+    match symmetry {
+        Symmetry::General => false,
+        Symmetry::Symmetric => row < column,
+        Symmetry::SkewSymmetric => row < column,
+    }
+}
+
+/// Whether a place is on the diagonal, where that is zero.
+fn is_on_diagonal(symmetry: Symmetry, row: u32, column: u32) -> bool
+    ensures { result ≡ is_on_diagonal symmetry row column }
+{
+    match symmetry {
+        Symmetry::General => false,
+        Symmetry::Symmetric => false,
+        Symmetry::SkewSymmetric => row == column,
+    }
+}
+
+/// The place of an entry, by words that are numbers.
+fn place_of(
+    symmetry: Symmetry,
+    shape: Shape,
+    row: &Word<'_>,
+    column: &Word<'_>,
+) -> Result<(u32, u32), Kind>
+    requires row { IsTrue (is_number row.now.bytes.now) }
+    requires column { IsTrue (is_number column.now.bytes.now) }
+    ensures ok { IfOk result (λ p. (place_fault symmetry shape (number row.now.bytes.now) (number column.now.bytes.now) ≡ None) × (p.0 ≡ number row.now.bytes.now - 1) × (p.1 ≡ number column.now.bytes.now - 1)) }
+    ensures fault { IfErr result (λ k. place_fault symmetry shape (number row.now.bytes.now) (number column.now.bytes.now) ≡ Some k) }
+{
+    let Some(row) = row.place(shape.rows()) else {
+        return Err(Kind::IndexRange);
+    };
+    let Some(column) = column.place(shape.cols()) else {
+        return Err(Kind::IndexRange);
+    };
+    if is_above(symmetry, row, column) {
+        return Err(Kind::AboveDiagonal);
+    }
+    if is_on_diagonal(symmetry, row, column) {
+        return Err(Kind::OnDiagonal);
+    }
+    Ok((row, column))
+}
+
+/// The entry that three words write.
+fn integer_entry<S: Semiring>(
+    symmetry: Symmetry,
+    shape: Shape,
+    row: &Word<'_>,
+    column: &Word<'_>,
+    value: &Word<'_>,
+) -> Result<Entry, Kind>
+    ensures ok { IfOk result (λ e. (entry_fault S.arithmetic (record { field = Integer; symmetry = symmetry }) shape (row.now.bytes.now ∷ column.now.bytes.now ∷ value.now.bytes.now ∷ []) ≡ None) × (e ≡ entry_of S.arithmetic (record { field = Integer; symmetry = symmetry }) (row.now.bytes.now ∷ column.now.bytes.now ∷ value.now.bytes.now ∷ []))) }
+    ensures fault { IfErr result (λ k. entry_fault S.arithmetic (record { field = Integer; symmetry = symmetry }) shape (row.now.bytes.now ∷ column.now.bytes.now ∷ value.now.bytes.now ∷ []) ≡ Some k) }
+{
+    if !(row.is_number() && column.is_number() && value.is_value()) {
+        return Err(Kind::BadNumber);
+    }
+    let (row, column) = place_of(symmetry, shape, row, column)?;
+    let Some(value) = value.value::<S>() else {
+        return Err(Kind::ValueRange);
+    };
+    Ok(Entry { row, column, value })
+}
+
+/// The entry that two words write.
+fn pattern_entry<S: Semiring>(
+    symmetry: Symmetry,
+    shape: Shape,
+    row: &Word<'_>,
+    column: &Word<'_>,
+) -> Result<Entry, Kind>
+    ensures ok { IfOk result (λ e. (entry_fault S.arithmetic (record { field = Pattern; symmetry = symmetry }) shape (row.now.bytes.now ∷ column.now.bytes.now ∷ []) ≡ None) × (e ≡ entry_of S.arithmetic (record { field = Pattern; symmetry = symmetry }) (row.now.bytes.now ∷ column.now.bytes.now ∷ []))) }
+    ensures fault { IfErr result (λ k. entry_fault S.arithmetic (record { field = Pattern; symmetry = symmetry }) shape (row.now.bytes.now ∷ column.now.bytes.now ∷ []) ≡ Some k) }
+{
+    if !(row.is_number() && column.is_number()) {
+        return Err(Kind::BadNumber);
+    }
+    let (row, column) = place_of(symmetry, shape, row, column)?;
+    Ok(Entry {
+        row,
+        column,
+        value: S::pattern(),
+    })
+}
+
+/// The entry at the mirrored place.
+fn mirrored(value: u64, entry: Entry) -> Entry
+    ensures { result ≡ mirrored value entry }
+{
+    Entry {
+        row: entry.column,
+        column: entry.row,
+        value,
+    }
+}
+
+/// The value that added to this one gives zero.
+fn negative_of<S: Semiring>(value: u64) -> u64
+    requires { IsValue S.arithmetic value }
+    ensures { result ≡ negative_of S.arithmetic value }
+{
+    S::negative(value).unwrap_or(S::zero())
+}
+
+/// Adds what an entry gives.
+fn give<S: Semiring>(
+    entries: &mut Vec<Entry>,
+    symmetry: Symmetry,
+    entry: Entry,
+) -> Result<(), AllocError>
+    requires { IsValue S.arithmetic entry.value }
+    ensures { OnOk result (entries.new.items ≡ entries.old.items ++ given_by S.arithmetic symmetry entry) }
+{
+    entries.push(entry)?;
+    match symmetry {
+        Symmetry::General => {}
+        Symmetry::Symmetric => {
+            if entry.row != entry.column {
+                entries.push(mirrored(entry.value, entry))?;
+            }
+        }
+        Symmetry::SkewSymmetric => {
+            entries.push(mirrored(negative_of::<S>(entry.value), entry))?;
+        }
+    }
+    Ok(())
+}
+
+/// How many entries to make room for: no more than are announced, and no more than the bytes that
+/// follow can write. A short text that announces many takes no room for them.
+fn room(header: Header, count: u32, bytes: usize) -> usize
+    ensures announced { result ≤ 2 * count }
+    ensures written { result ≤ 2 * (bytes / 4 + 1) }
+{
+    let shortest_line = match header.field {
+        Field::Integer => 6,
+        Field::Pattern => 4,
+    };
+    let lines = (bytes / shortest_line + 1).min(count as usize);
+    match header.symmetry {
+        Symmetry::General => lines,
+        Symmetry::Symmetric => 2 * lines,
+        Symmetry::SkewSymmetric => 2 * lines,
+    }
+}
+
+/// A list without entries, with room for those that the bytes that follow write.
+pub fn room_for_entries(
+    alloc: Global,
+    header: Header,
+    count: u32,
+    bytes: usize,
+) -> Result<Vec<Entry>, AllocError>
+    ensures { IfOk result (λ v. v.items ≡ []) }
+{
+    Vec::with_capacity(alloc, room(header, count, bytes))
+}
+
+impl<'a> Scanner<'a> {
+    /// The entry of a line, whose first word is given.
+    fn entry<S: Semiring>(
+        &mut self,
+        header: Header,
+        shape: Shape,
+        first: &Word<'_>,
+    ) -> Result<Entry, Kind>
+        ensures ok { IfOk result (λ e. (entry_fault S.arithmetic header shape (first.now.bytes.now ∷ words (line_at self.old.rest.now)) ≡ None) × (e ≡ entry_of S.arithmetic header (first.now.bytes.now ∷ words (line_at self.old.rest.now)))) }
+        ensures fault { IfErr result (λ k. entry_fault S.arithmetic header shape (first.now.bytes.now ∷ words (line_at self.old.rest.now)) ≡ Some k) }
+        ensures after { after_line self.new.rest.now ≡ after_line self.old.rest.now }
+        ensures line { self.new.line ≡ self.old.line }
+    {
+        let Some(second) = self.word() else {
+            return Err(Kind::BadLine);
+        };
+        match header.field {
+            Field::Integer => {
+                let Some(third) = self.word() else {
+                    return Err(Kind::BadLine);
+                };
+                if self.word().is_some() {
+                    return Err(Kind::BadLine);
+                }
+                integer_entry::<S>(header.symmetry, shape, first, &second, &third)
+            }
+            Field::Pattern => {
+                if self.word().is_some() {
+                    return Err(Kind::BadLine);
+                }
+                pattern_entry::<S>(header.symmetry, shape, first, &second)
+            }
+        }
+    }
+
+    /// Adds what the entry of a line gives.
+    fn entry_line<S: Semiring>(
+        &mut self,
+        entries: &mut Vec<Entry>,
+        header: Header,
+        shape: Shape,
+        first: &Word<'_>,
+    ) -> Result<(), ReadFault>
+        ensures none { OnOk result (entry_fault S.arithmetic header shape (first.now.bytes.now ∷ words (line_at self.old.rest.now)) ≡ None) }
+        ensures given { OnOk result (entries.new.items ≡ entries.old.items ++ given_by S.arithmetic header.symmetry (entry_of S.arithmetic header (first.now.bytes.now ∷ words (line_at self.old.rest.now)))) }
+        ensures fault { IfErr result (IsLineAnswer self.old.line (entry_fault S.arithmetic header shape (first.now.bytes.now ∷ words (line_at self.old.rest.now)))) }
+        ensures after { after_line self.new.rest.now ≡ after_line self.old.rest.now }
+        ensures line { self.new.line ≡ self.old.line }
+    {
+        let line = self.line;
+        match self.entry::<S>(header, shape, first) {
+            Ok(entry) => match give::<S>(entries, header.symmetry, entry) {
+                Ok(()) => Ok(()),
+                Err(_) => Err(ReadFault {
+                    line,
+                    kind: Kind::Memory,
+                }),
+            },
+            Err(kind) => Err(ReadFault { line, kind }),
+        }
+    }
+
+    /// The entries of a text, from the line after its size on, added to a list.
+    pub fn entries<S: Semiring>(
+        &mut self,
+        room: Vec<Entry>,
+        header: Header,
+        size: Size,
+    ) -> Result<Vec<Entry>, ReadFault>
+        requires { self.old.line + length (lines self.old.rest.now) < 2 ^ 64 }
+        ensures none { IfOk result (λ v. entries_fault S.arithmetic header size.shape (self.old.line + length (lines self.old.rest.now)) size.count (kept_from self.old.line self.old.rest.now) ≡ None) }
+        ensures given { IfOk result (λ v. v.items ≡ room.items ++ given S.arithmetic header (kept_from self.old.line self.old.rest.now)) }
+        ensures line { IfOk result (λ v. self.new.line ≡ self.old.line + length (lines self.old.rest.now)) }
+        ensures fault { IfErr result (IsAnswer (entries_fault S.arithmetic header size.shape (self.old.line + length (lines self.old.rest.now)) size.count (kept_from self.old.line self.old.rest.now))) }
+    {
+        let mut entries = room;
+        let mut left = size.count;
+        loop {
+            let Some(first) = self.kept_line() else {
+                break;
+            };
+            if left == 0 {
+                return Err(self.fault(Kind::ExtraEntry));
+            }
+            self.entry_line::<S>(&mut entries, header, size.shape, &first)?;
+            left -= 1;
+            self.next_line();
+        }
+        if left != 0 {
+            return Err(self.fault(Kind::MissingEntries));
+        }
+        Ok(entries)
+    }
+}

@@ -1,0 +1,144 @@
+//! The first line of a text.
+ghost use Rattle.std.specs.Prelude.{◌≡◌, IfOk, IfErr, IfSome, IfNone, [], ◌∷◌, Some, None, true, false};
+ghost use Rattle.cb_semirings.specs.Arithmetic.{has_negatives};
+ghost use Rattle.cb_market.specs.Lines.{words, begins_blank};
+ghost use Rattle.cb_market.specs.Cursor.{line_at, after_line};
+ghost use Rattle.cb_market.specs.Checks.{field_in, symmetry_in, is_supported, is_read, header_fault, header_of};
+
+use crate::Kind;
+use crate::scanner::{Scanner, is_word_end};
+use crate::words::Word;
+use cb_semirings::Semiring;
+
+/// Whether entries have values.
+#[derive(Clone, Copy, Debug, PartialEq, Eq)]
+pub enum Field {
+    Integer,
+    Pattern,
+}
+
+/// Whether an entry stands for the mirrored place too.
+#[derive(Clone, Copy, Debug, PartialEq, Eq)]
+pub enum Symmetry {
+    General,
+    Symmetric,
+    /// With the negative of its value.
+    SkewSymmetric,
+}
+
+/// What the first line says.
+#[derive(Clone, Copy, Debug, PartialEq, Eq)]
+pub struct Header {
+    pub field: Field,
+    pub symmetry: Symmetry,
+}
+
+/// The field that a word names.
+fn field_of(word: &Word<'_>) -> Option<Field>
+    ensures { result ≡ field_in word.now.bytes.now }
+{
+    if word.is_name(b"integer") {
+        Some(Field::Integer)
+    } else if word.is_name(b"pattern") {
+        Some(Field::Pattern)
+    } else {
+        None
+    }
+}
+
+/// The symmetry that a word names.
+fn symmetry_of(word: &Word<'_>) -> Option<Symmetry>
+    ensures { result ≡ symmetry_in word.now.bytes.now }
+{
+    if word.is_name(b"general") {
+        Some(Symmetry::General)
+    } else if word.is_name(b"symmetric") {
+        Some(Symmetry::Symmetric)
+    } else if word.is_name(b"skew-symmetric") {
+        Some(Symmetry::SkewSymmetric)
+    } else {
+        None
+    }
+}
+
+/// Whether values have negatives.
+fn has_negatives<S: Semiring>() -> bool
+    ensures { result ≡ has_negatives S.arithmetic }
+{
+    S::negative(S::zero()).is_some()
+}
+
+/// Whether the semiring can have such a matrix.
+fn is_supported<S: Semiring>(field: Field, symmetry: Symmetry) -> bool
+    ensures { result ≡ is_supported S.arithmetic field symmetry }
+{
+    match symmetry {
+        Symmetry::General => true,
+        Symmetry::Symmetric => true,
+        Symmetry::SkewSymmetric => match field {
+            Field::Integer => has_negatives::<S>(),
+            Field::Pattern => false,
+        },
+    }
+}
+
+/// The header that the four words after the first are, if it is one that is read.
+fn header_of<S: Semiring>(
+    object: &Word<'_>,
+    format: &Word<'_>,
+    field: &Word<'_>,
+    symmetry: &Word<'_>,
+) -> Option<Header>
+    ensures none { IfNone result (is_read S.arithmetic ([] ∷ object.now.bytes.now ∷ format.now.bytes.now ∷ field.now.bytes.now ∷ symmetry.now.bytes.now ∷ []) ≡ false) }
+    ensures some { IfSome result (λ h. (is_read S.arithmetic ([] ∷ object.now.bytes.now ∷ format.now.bytes.now ∷ field.now.bytes.now ∷ symmetry.now.bytes.now ∷ []) ≡ true) × (h ≡ header_of ([] ∷ object.now.bytes.now ∷ format.now.bytes.now ∷ field.now.bytes.now ∷ symmetry.now.bytes.now ∷ []))) }
+{
+    if !(object.is_name(b"matrix") && format.is_name(b"coordinate")) {
+        return None;
+    }
+    let Some(field) = field_of(field) else {
+        return None;
+    };
+    let Some(symmetry) = symmetry_of(symmetry) else {
+        return None;
+    };
+    if !is_supported::<S>(field, symmetry) {
+        return None;
+    }
+    Some(Header { field, symmetry })
+}
+
+impl<'a> Scanner<'a> {
+    /// The header of a text, whose first line this is.
+    pub fn header<S: Semiring>(&mut self) -> Result<Header, Kind>
+        ensures ok { IfOk result (λ h. (header_fault S.arithmetic (begins_blank (line_at self.old.rest.now)) (words (line_at self.old.rest.now)) ≡ None) × (h ≡ header_of (words (line_at self.old.rest.now)))) }
+        ensures fault { IfErr result (λ k. header_fault S.arithmetic (begins_blank (line_at self.old.rest.now)) (words (line_at self.old.rest.now)) ≡ Some k) }
+        ensures after { after_line self.new.rest.now ≡ after_line self.old.rest.now }
+        ensures line { self.new.line ≡ self.old.line }
+    {
+        if is_word_end(self.rest) {
+            return Err(Kind::BadHeader);
+        }
+        let Some(banner) = self.word() else {
+            return Err(Kind::BadHeader);
+        };
+        let Some(object) = self.word() else {
+            return Err(Kind::BadHeader);
+        };
+        let Some(format) = self.word() else {
+            return Err(Kind::BadHeader);
+        };
+        let Some(field) = self.word() else {
+            return Err(Kind::BadHeader);
+        };
+        let Some(symmetry) = self.word() else {
+            return Err(Kind::BadHeader);
+        };
+        if self.word().is_some() || !banner.is_exactly(b"%%MatrixMarket") {
+            return Err(Kind::BadHeader);
+        }
+        let Some(header) = header_of::<S>(&object, &format, &field, &symmetry) else {
+            return Err(Kind::Unsupported);
+        };
+        Ok(header)
+    }
+}

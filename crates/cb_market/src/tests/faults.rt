@@ -1,0 +1,215 @@
+//! The first faults of texts.
+use crate::Kind::*;
+use crate::{Kind, ReadFault, read};
+use cb_semirings::{MaxMin, MinPlus, OrAnd, PlusTimes, Semiring};
+use std::alloc::Global;
+use std::fmt::InlineText;
+
+/// The first fault of a text, or none.
+fn fault<S: Semiring>(alloc: Global, text: &[u8]) -> Option<(u64, Kind)> {
+    match read::<S>(alloc, text) {
+        Ok(_) => None,
+        Err(fault) => Some((fault.line, fault.kind)),
+    }
+}
+
+#[test]
+fn of_the_header_and_the_size(rt: HostRuntime) {
+    let rows: [(&[u8], u64, Kind); 12] = [
+        (b"", 1, BadHeader),
+        (
+            b"%%matrixmarket matrix coordinate integer general\n",
+            1,
+            BadHeader,
+        ),
+        (
+            b" %%MatrixMarket matrix coordinate integer general\n1 1 0\n",
+            1,
+            BadHeader,
+        ),
+        (b"%%MatrixMarket matrix coordinate integer\n", 1, BadHeader),
+        (
+            b"%%MatrixMarket matrix coordinate real general\n1 1 0\n",
+            1,
+            Unsupported,
+        ),
+        (
+            b"%%MatrixMarket matrix array integer general\n1 1\n",
+            1,
+            Unsupported,
+        ),
+        (
+            b"%%MatrixMarket matrix coordinate pattern skew-symmetric\n1 1 0\n",
+            1,
+            Unsupported,
+        ),
+        (
+            b"%%MatrixMarket matrix coordinate integer general\n",
+            2,
+            BadSize,
+        ),
+        (
+            b"%%MatrixMarket matrix coordinate integer general\n2 2\n",
+            2,
+            BadSize,
+        ),
+        (
+            b"%%MatrixMarket matrix coordinate integer general\n2147483648 1 0\n",
+            2,
+            TooLarge,
+        ),
+        (
+            b"%%MatrixMarket matrix coordinate integer symmetric\n2 3 0\n",
+            2,
+            NotSquare,
+        ),
+        (
+            b"%%MatrixMarket matrix coordinate integer skew-symmetric\n2 3 0\n",
+            2,
+            NotSquare,
+        ),
+    ];
+    for (index, row) in rows.iter().enumerate() {
+        let found = fault::<PlusTimes>(rt.alloc(), row.0);
+        assert_eq!(&rt; found, Some((row.1, row.2)), "row {index}");
+    }
+}
+
+#[test]
+fn of_entries(rt: HostRuntime) {
+    let rows: [(&[u8], u64, Kind); 11] = [
+        (
+            b"%%MatrixMarket matrix coordinate integer general\n2 2 1\n1 1 5 6\n",
+            3,
+            BadLine,
+        ),
+        (
+            b"%%MatrixMarket matrix coordinate integer general\n2 2 1\n+1 1 5\n",
+            3,
+            BadNumber,
+        ),
+        (
+            b"%%MatrixMarket matrix coordinate integer general\n2 2 1\n1 1 x\n",
+            3,
+            BadNumber,
+        ),
+        (
+            b"%%MatrixMarket matrix coordinate integer general\n2 2 1\n0 1 5\n",
+            3,
+            IndexRange,
+        ),
+        (
+            b"%%MatrixMarket matrix coordinate integer general\n2 2 1\n1 99999999999999999999 5\n",
+            3,
+            IndexRange,
+        ),
+        (
+            b"%%MatrixMarket matrix coordinate integer general\n1 1 1\n1 1 18446744073709551616\n",
+            3,
+            ValueRange,
+        ),
+        (
+            b"%%MatrixMarket matrix coordinate integer general\n2 2 2\n1 1 12",
+            4,
+            MissingEntries,
+        ),
+        (
+            b"%%MatrixMarket matrix coordinate integer general\n1 1 2\n1 1 1\n1 1 2\n1 1 3\n",
+            5,
+            ExtraEntry,
+        ),
+        (
+            b"%%MatrixMarket matrix coordinate integer skew-symmetric\n2 2 1\n1 1 x\n",
+            3,
+            BadNumber,
+        ),
+        (
+            b"%%MatrixMarket matrix coordinate integer skew-symmetric\n2 2 1\n1 1 0\n",
+            3,
+            OnDiagonal,
+        ),
+        (
+            b"%%MatrixMarket matrix coordinate integer skew-symmetric\n2 2 1\n1 2 5\n",
+            3,
+            AboveDiagonal,
+        ),
+    ];
+    for (index, row) in rows.iter().enumerate() {
+        let found = fault::<PlusTimes>(rt.alloc(), row.0);
+        assert_eq!(&rt; found, Some((row.1, row.2)), "row {index}");
+    }
+}
+
+#[test]
+fn of_other_semirings(rt: HostRuntime) {
+    let alloc = rt.alloc();
+    let minus = b"%%MatrixMarket matrix coordinate integer general\n1 1 1\n1 1 -1\n";
+    assert_eq!(&rt; fault::<MinPlus>(alloc, minus), Some((3, ValueRange)));
+    assert_eq!(&rt; fault::<MaxMin>(alloc, minus), Some((3, ValueRange)));
+    let top =
+        b"%%MatrixMarket matrix coordinate integer general\n1 1 1\n1 1 18446744073709551615\n";
+    assert_eq!(&rt; fault::<MinPlus>(alloc, top), Some((3, ValueRange)));
+    assert_eq!(&rt; fault::<MaxMin>(alloc, top), None);
+    let above = b"%%MatrixMarket matrix coordinate pattern symmetric\n3 3 1\n2 3\n";
+    assert_eq!(&rt; fault::<OrAnd>(alloc, above), Some((3, AboveDiagonal)));
+    let skew = b"%%MatrixMarket matrix coordinate integer skew-symmetric\n2 2 1\n2 1 3\n";
+    assert_eq!(&rt; fault::<MinPlus>(alloc, skew), Some((1, Unsupported)));
+    assert_eq!(&rt; fault::<OrAnd>(alloc, skew), Some((1, Unsupported)));
+    assert_eq!(&rt; fault::<MaxMin>(alloc, skew), Some((1, Unsupported)));
+}
+
+/// Each beginning of a text is read or refused.
+#[test]
+fn of_every_prefix(rt: HostRuntime) {
+    let text = b"%%MatrixMarket matrix coordinate integer general\n1 1 1\n1 1 12\n";
+    assert_eq!(&rt; text.len(), 62);
+    for length in 0..=text.len() {
+        let wanted = match length {
+            0..=41 => Err((1, BadHeader)),
+            42..=47 => Err((1, Unsupported)),
+            48..=53 => Err((2, BadSize)),
+            54..=55 => Err((3, MissingEntries)),
+            56..=59 => Err((3, BadLine)),
+            60 => Ok(1),
+            _ => Ok(12),
+        };
+        let found = match read::<PlusTimes>(rt.alloc(), &text[..length]) {
+            Ok(matrix) => {
+                assert!(&rt; matrix.rows() == 1 && matrix.cols() == 1);
+                Ok(matrix.get(0, 0))
+            }
+            Err(fault) => Err((fault.line, fault.kind)),
+        };
+        assert_eq!(&rt; found, wanted, "the first {length} bytes");
+    }
+}
+
+#[test]
+fn in_words(rt: HostRuntime) {
+    let rows: [(Kind, &str); 14] = [
+        (BadHeader, "not a Matrix Market header"),
+        (Unsupported, "header not supported"),
+        (BadSize, "bad size line"),
+        (TooLarge, "number too large"),
+        (NotSquare, "matrix not square"),
+        (BadLine, "wrong number of words"),
+        (BadNumber, "not a whole number"),
+        (IndexRange, "index out of range"),
+        (AboveDiagonal, "entry above the diagonal"),
+        (ValueRange, "value out of range"),
+        (ExtraEntry, "more entries than announced"),
+        (MissingEntries, "fewer entries than announced"),
+        (Memory, "out of memory"),
+        (OnDiagonal, "entry on the diagonal"),
+    ];
+    for row in rows {
+        let shown: InlineText<64> = InlineText::of(row.0);
+        assert_eq!(&rt; shown.as_str(), row.1);
+    }
+    let fault = ReadFault {
+        line: 3,
+        kind: BadNumber,
+    };
+    let shown: InlineText<64> = InlineText::of(fault);
+    assert_eq!(&rt; shown.as_str(), "line 3: not a whole number");
+}

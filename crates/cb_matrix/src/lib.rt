@@ -1,0 +1,241 @@
+//! Sparse matrices over a semiring: a shape, and the entries that are stored.
+//!
+//! A place without a stored entry has the semiring's zero. The stored entries are inside the shape,
+//! other than zero, and ascend by column and then by row, so no two share a place, and two matrices
+//! of one shape with the same value at each place are the same. Every call works on stored entries
+//! alone: a matrix of side 2,147,483,647 with one entry costs what one entry costs.
+//!
+//! In contracts a matrix is its shape and its list of stored entries (`specs/Sparse.antt`). What a
+//! call makes is said place by place (`specs/Values.antt`, `specs/Operations.antt`): `matrix_of`
+//! turns a function of row and column into the matrix that has its values.
+//!
+//! A matrix is built from entries in any order, whose values at one place are added up. Its product
+//! with another is worked out here entry by entry, as a reference for faster kernels.
+#![tactic(auto)]
+
+ghost use Rattle.std.specs.Prelude.{◌≡◌, ◌↔◌, IsTrue, ◌<◌, ◌≤◌, [], length, IfOk, IfSome, IsSome, slice_index_or};
+ghost use Rattle.cb_semirings.specs.Arithmetic.{IsValue};
+
+use cb_semirings::Semiring;
+use std::alloc::{AllocError, Global};
+use std::marker::{Model, PhantomData};
+
+/// The most rows, and the most columns, that a matrix may have: 2^31 - 1.
+pub const LIMIT: u32 = 2_147_483_647;
+
+/// A value at a place. Rows and columns count from 0.
+#[derive(Clone, Copy, Debug, PartialEq, Eq)]
+pub struct Entry {
+    pub row: u32,
+    pub column: u32,
+    pub value: u64,
+}
+
+/// How many rows and how many columns, each at most `LIMIT`.
+#[derive(Clone, Copy, Debug, PartialEq, Eq)]
+pub struct Shape {
+    rows: u32,
+    cols: u32,
+}
+
+impl Model for Shape {
+    ghost use Rattle.std.specs.Prelude.{◌≤◌};
+    ghost use Rattle.cb_matrix.specs.Sparse.{Extent};
+
+    ghost Value = { Extent };
+
+    ghost view = { λ a. record { rows = a.rows; cols = a.cols } };
+
+    ghost invariant = { λ a. (a.rows ≤ 2147483647) × (a.cols ≤ 2147483647) };
+
+    ghost inverse = { λ d. record { rows = d.rows; cols = d.cols } };
+}
+
+impl Shape {
+    /// The shape of so many rows and columns, or None where one of the two is past the limit.
+    pub fn new(rows: u32, cols: u32) -> Option<Shape>
+        ensures some { IsSome result ↔ ((rows ≤ 2147483647) × (cols ≤ 2147483647)) }
+        ensures value { IfSome result (λ s. (s.rows ≡ rows) × (s.cols ≡ cols)) }
+    {
+        if rows <= LIMIT && cols <= LIMIT {
+            Some(Shape { rows, cols })
+        } else {
+            None
+        }
+    }
+
+    /// How many rows there are.
+    pub fn rows(&self) -> u32
+        ensures value { result ≡ self.now.rows }
+        ensures limit { result ≤ 2147483647 }
+    {
+        self.rows
+    }
+
+    /// How many columns there are.
+    pub fn cols(&self) -> u32
+        ensures value { result ≡ self.now.cols }
+        ensures limit { result ≤ 2147483647 }
+    {
+        self.cols
+    }
+}
+
+/// A matrix, by its entries other than the zero of `S`.
+#[derive(Debug, Drop)]
+pub struct Matrix<S: Semiring> {
+    shape: Shape,
+    entries: Vec<Entry>,
+    semiring: PhantomData<S>,
+}
+
+impl<S: Semiring> Model for Matrix<S> {
+    ghost use Rattle.cb_matrix.specs.Sparse.{Sparse, IsMatrix};
+
+    ghost Value = { Sparse };
+
+    ghost view = { λ a. record { shape = a.shape; entries = a.entries.items } };
+
+    ghost invariant = { λ a. IsMatrix S.arithmetic (record { shape = a.shape; entries = a.entries.items }) };
+}
+
+impl<S: Semiring> Matrix<S> {
+    ghost use Rattle.cb_matrix.specs.Sparse.{Sparse, IsMatrix, at};
+    ghost use Rattle.cb_matrix.specs.Values.{empty_matrix};
+
+    /// The matrix without entries. It takes no memory.
+    pub fn empty(alloc: Global, shape: Shape) -> Self
+        ensures { result ≡ empty_matrix shape }
+    {
+        let entries = Vec::new(alloc);
+        Matrix {
+            shape,
+            entries,
+            semiring: PhantomData,
+        }
+    }
+
+    /// How many rows and columns there are. Every matrix keeps its stored entries inside its shape,
+    /// ascending by column and then row, and other than zero: this call says so too.
+    pub fn shape(&self) -> Shape
+        ensures shape { result ≡ self.now.shape }
+        ensures matrix { IsMatrix S.arithmetic self.now }
+    {
+        let _entries = &self.entries;
+        self.shape
+    }
+
+    /// How many rows there are.
+    pub fn rows(&self) -> u32
+        ensures { result ≡ self.now.shape.rows }
+    {
+        self.shape.rows()
+    }
+
+    /// How many columns there are.
+    pub fn cols(&self) -> u32
+        ensures { result ≡ self.now.shape.cols }
+    {
+        self.shape.cols()
+    }
+
+    /// How many entries are stored.
+    pub fn len(&self) -> usize
+        ensures { result ≡ length self.now.entries }
+    {
+        self.entries.len()
+    }
+
+    /// Whether no entry is stored.
+    pub fn is_empty(&self) -> bool
+        ensures { IsTrue result ↔ (self.now.entries ≡ []) }
+    {
+        self.entries.is_empty()
+    }
+
+    /// The value at a place inside the shape: that of the entry stored there, or zero. It takes
+    /// O(log n) comparisons for n stored entries.
+    pub fn get(&self, row: u32, column: u32) -> u64
+        requires row_inside { row < self.now.shape.rows }
+        requires column_inside { column < self.now.shape.cols }
+        ensures value { result ≡ at S.arithmetic self.now row column }
+        ensures is_value { IsValue S.arithmetic result }
+    {
+        let place = (column, row);
+        match self
+            .entries
+            .binary_search_by_key(&place, |entry| (entry.column, entry.row))
+        {
+            Ok(found) => self.entries[found].value,
+            Err(_) => S::zero(),
+        }
+    }
+
+    /// The stored entries, by column and then by row.
+    pub fn entries(&self) -> &[Entry]
+        ensures { result.now ≡ self.now.entries }
+    {
+        self.entries.as_slice()
+    }
+
+    /// The stored entry of a number below `len`, counted by column and then by row.
+    pub fn entry_at(&self, index: usize) -> Entry
+        requires { index < length self.now.entries }
+        ensures { result ≡ slice_index_or self.now.entries index result }
+    {
+        self.entries[index]
+    }
+
+    /// A copy, or an error where there is no memory for its entries.
+    pub fn try_clone(&self) -> Result<Self, AllocError>
+        ensures { IfOk result (λ copy. copy ≡ self.now) }
+    {
+        Ok(Matrix {
+            shape: self.shape,
+            entries: self.entries.clone()?,
+            semiring: PhantomData,
+        })
+    }
+}
+
+/// Why entries make no matrix. A place outside is looked for before memory is asked for.
+#[derive(Clone, Copy, Debug, PartialEq, Eq)]
+pub enum EntryFault {
+    /// The number of the first entry whose place is outside the shape.
+    Place(usize),
+    /// There was no memory.
+    Memory,
+}
+
+impl From<AllocError> for EntryFault {
+    ghost use Rattle.cb_matrix.specs.declared.EntryFault.TheVariants.{Memory};
+
+    ghost from_gives = { λ _ fault. fault ≡ Memory };
+
+    fn from(_error: AllocError) -> EntryFault {
+        EntryFault::Memory
+    }
+}
+
+/// Why two matrices have no product. Their shapes are looked at before memory is asked for.
+#[derive(Clone, Copy, Debug, PartialEq, Eq)]
+pub enum ProductFault {
+    /// The first has not as many columns as the second has rows.
+    Shapes,
+    /// There was no memory.
+    Memory,
+}
+
+impl From<AllocError> for ProductFault {
+    ghost use Rattle.cb_matrix.specs.declared.ProductFault.TheVariants.{Memory};
+
+    ghost from_gives = { λ _ fault. fault ≡ Memory };
+
+    fn from(_error: AllocError) -> ProductFault {
+        ProductFault::Memory
+    }
+}
+
+mod collect;
+#[cfg(test)]
+mod tests;

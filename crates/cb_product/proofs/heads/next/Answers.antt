@@ -1,0 +1,56 @@
+use Rattle.std.proofs.Common.{rules, ◌≡◌, ◌≢◌, ℕ, ◌<◌, ◌≤◌, ◌+◌, List, [], ◌∷◌, ◌++◌, length, sym, ap, refl, subst, ◌∙◌, arith, get_or}
+use Rattle.std.proofs.lemmas.List.Sorted.{IsPermutation-trans}
+use Rattle.cb_product.specs.declared.heads.Head.{Head}
+use Rattle.cb_product.specs.Heads.{Gives}
+use Rattle.cb_product.proofs.Stepped.{gives_on, gives_last, least_on, least_last, least_row}
+use Rattle.cb_product.proofs.heads.next.Goals as goal
+
+pub returns-then-at-head-clause-gives : goal.returns-then-at-head-clause-gives
+returns-then-at-head-clause-gives g c =
+    let s = g.S.Semiring.arithmetic in
+    let laws = g.met.S.Semiring.is_semiring in
+    let h = c.deref-head.result.now in
+    let taken = rw (← c.deref-head.ensures) at c.in-Some.ensures.permutation in
+    let put = c.drop-top.ensures.permutation (search rules) in
+    let t = gives_on s laws c.args.rows.now c.args.values.now c.requires.lengths c.requires.values _ _ _ h _ refl c.requires.heads taken c.if-at-head.true _ refl put in
+    rw c.mul-value.ensures (search rules)
+
+pub returns-then-at-head-clause-least : goal.returns-then-at-head-clause-least
+returns-then-at-head-clause-least g c =
+    let s = g.S.Semiring.arithmetic in
+    let laws = g.met.S.Semiring.is_semiring in
+    let h = c.deref-head.result.now in
+    let taken = rw (← c.deref-head.ensures) at c.in-Some.ensures.permutation in
+    let greatest = rw (← c.deref-head.ensures) at (c.in-Some.ensures.greatest c.requires.order) in
+    let put = c.drop-top.ensures.permutation (search rules) in
+    let t = least_on s laws c.args.rows.now c.args.values.now c.requires.lengths c.requires.values _ _ _ h _ refl c.requires.heads taken c.if-at-head.true _ refl put (least_row h _ greatest) in
+    search rules
+
+pub returns-else-at-head-clause-gives : goal.returns-else-at-head-clause-gives
+returns-else-at-head-clause-gives g c =
+    let s = g.S.Semiring.arithmetic in
+    let laws = g.met.S.Semiring.is_semiring in
+    let h = c.deref-head.result.now in
+    let taken = rw (← c.deref-head.ensures) at c.in-Some.ensures.permutation in
+    let t = gives_last s laws c.args.rows.now c.args.values.now c.requires.lengths c.requires.values _ _ _ h _ refl c.requires.heads taken c.if-at-head.false c.pop.ensures.permutation in
+    rw c.mul-value.ensures (search rules)
+
+pub returns-else-at-head-clause-least : goal.returns-else-at-head-clause-least
+returns-else-at-head-clause-least g c =
+    let s = g.S.Semiring.arithmetic in
+    let laws = g.met.S.Semiring.is_semiring in
+    let h = c.deref-head.result.now in
+    let taken = rw (← c.deref-head.ensures) at c.in-Some.ensures.permutation in
+    let greatest = rw (← c.deref-head.ensures) at (c.in-Some.ensures.greatest c.requires.order) in
+    let t = least_last s laws c.args.rows.now c.args.values.now c.requires.lengths c.requires.values _ _ _ h _ refl c.requires.heads taken c.if-at-head.false c.pop.ensures.permutation (least_row h _ greatest) in
+    search rules
+
+pub returns-then-at-head-clause-least_before : goal.returns-then-at-head-clause-least_before
+returns-then-at-head-clause-least_before g c =
+    let greatest = rw (← c.deref-head.ensures) at (c.in-Some.ensures.greatest c.requires.order) in
+    least_row c.deref-head.result.now _ greatest
+
+pub returns-else-at-head-clause-least_before : goal.returns-else-at-head-clause-least_before
+returns-else-at-head-clause-least_before g c =
+    let greatest = rw (← c.deref-head.ensures) at (c.in-Some.ensures.greatest c.requires.order) in
+    least_row c.deref-head.result.now _ greatest

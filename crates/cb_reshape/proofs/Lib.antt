@@ -1,0 +1,5 @@
+mod Exchanged
+mod Searched
+mod Taken
+mod Columned
+mod Valued

@@ -1,0 +1,29 @@
+-- A part of some entries, moved by a step.
+use Rattle.std.specs.Prelude.{ℕ, ◌+◌, ◌-◌, ◌≤◌, Bool, ◌&&◌, nat_le, nat_lt, List, map, filter}
+use Rattle.cb_matrix.specs.declared.Entry.{Entry}
+use Rattle.cb_matrix.specs.Sparse.{Extent}
+use Rattle.cb_reshape.specs.declared.parts.Part.{Part}
+
+-- whether a number is in a range, whose end is not in it
+abbrev pub is_within : ℕ × ℕ → ℕ → Bool
+is_within range n = nat_le range.0 n && nat_lt n range.1
+
+-- whether an entry is in the rows and columns of the part
+abbrev pub is_in : Part → Entry → Bool
+is_in part e = is_within part.rows e.row && is_within part.cols e.column
+
+-- the entry, moved so that the first row and the first column of the part go to its corner
+abbrev pub moved_entry : Part → Entry → Entry
+moved_entry part e = record { row = e.row - part.rows.0 + part.corner.0; column = e.column - part.cols.0 + part.corner.1; value = e.value }
+
+-- the entries of the part, moved
+abbrev pub moved_entries : Part → List Entry → List Entry
+moved_entries part es = map (moved_entry part) (filter (is_in part) es)
+
+-- the part begins before it ends, and where it goes it is inside the shape, which keeps the limit
+pub record Fits (shape : Extent) (part : Part) : Type 0 where
+  pub rows : part.rows.0 ≤ part.rows.1
+  pub cols : part.cols.0 ≤ part.cols.1
+  pub last_row : part.corner.0 + (part.rows.1 - part.rows.0) ≤ shape.rows
+  pub last_column : part.corner.1 + (part.cols.1 - part.cols.0) ≤ shape.cols
+  pub limits : (shape.rows ≤ 2147483647) × (shape.cols ≤ 2147483647)

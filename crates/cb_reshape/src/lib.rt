@@ -1,0 +1,106 @@
+//! Blocks in another shape: transposed, cut out of, and placed in a larger one.
+//!
+//! None of these changes a value: each entry goes to another place or is left out. To cut and to place keep the
+//! order of the entries, by column and then by row, so that one walk over the columns does both (`parts`): it
+//! takes the entries in some rows and columns and moves them by a step. The columns and the rows to take are found
+//! by binary search, so that what is left out is not read. To transpose turns that order into another, and sorts
+//! (`turns`): a list as long as a dimension, which a counting sort would need, is more than a block may cost.
+//!
+//! The operations are those of Buluç and Gilbert, The Combinatorial BLAS (Int. J. High Perform. Comput. Appl.
+//! 2011, section 4), by which a matrix is spread over a grid of processes and put together again.
+#![tactic(auto)]
+
+ghost use Rattle.std.specs.Prelude.{◌≡◌, ◌≢◌, ℕ, ◌<◌, ◌≤◌, ◌+◌, ◌-◌, List, [], ◌∷◌, ◌++◌, length, All, AllPairs, IfOk, OnOk};
+ghost use Rattle.cb_matrix.specs.Operations.{transposed, cut, placed};
+
+mod parts;
+mod turns;
+
+use crate::parts::{Part, moved};
+use crate::turns::{append, in_order, turn};
+use cb_dcsc::Block;
+use cb_matrix::Shape;
+use cb_semirings::Semiring;
+use std::alloc::{AllocError, Global};
+
+/// The block with rows and columns exchanged.
+///
+/// Costs a sort of the entries.
+pub fn transpose<S: Semiring>(alloc: Global, block: &Block<S>) -> Result<Block<S>, AllocError>
+    ensures { IfOk result (λ turned. turned ≡ transposed S.arithmetic block.now) }
+{
+    let shape = block.shape();
+    let mut entries = block.entries()?;
+    turn(&mut entries);
+    let entries = in_order(entries)?;
+    let mut out = Block::empty(alloc, shape_of(shape.cols(), shape.rows()));
+    append(&mut out, &entries)?;
+    Ok(out)
+}
+
+/// The part of a block in some rows and columns, each from the first number up to the second, which is not in it.
+/// Its first row and its first column are row 0 and column 0 of the result.
+///
+/// Costs a few instructions for each entry of the part and two binary searches for each of its columns that has
+/// entries, and two more for the columns themselves.
+pub fn cut<S: Semiring>(
+    alloc: Global,
+    block: &Block<S>,
+    rows: (u32, u32),
+    cols: (u32, u32),
+) -> Result<Block<S>, AllocError>
+    requires rows { rows.0 ≤ rows.1 }
+    requires cols { cols.0 ≤ cols.1 }
+    requires rows_inside { rows.1 ≤ block.now.shape.rows }
+    requires cols_inside { cols.1 ≤ block.now.shape.cols }
+    ensures { IfOk result (λ part. part ≡ cut S.arithmetic rows cols block.now) }
+{
+    let shape = shape_within(block.shape(), rows.1 - rows.0, cols.1 - cols.0);
+    let part = Part {
+        rows,
+        cols,
+        corner: (0, 0),
+    };
+    moved(alloc, shape, block, part, 0)
+}
+
+/// The block inside a larger shape, its row 0 and column 0 at the corner, which is a row and a column. The places
+/// around it are without entries.
+///
+/// Costs a few instructions for each entry, and two binary searches for each column that has entries.
+pub fn place<S: Semiring>(
+    alloc: Global,
+    block: &Block<S>,
+    shape: Shape,
+    corner: (u32, u32),
+) -> Result<Block<S>, AllocError>
+    requires rows { corner.0 + block.now.shape.rows ≤ shape.rows }
+    requires cols { corner.1 + block.now.shape.cols ≤ shape.cols }
+    ensures { IfOk result (λ whole. whole ≡ placed S.arithmetic shape corner block.now) }
+{
+    let inner = block.shape();
+    let part = Part {
+        rows: (0, inner.rows()),
+        cols: (0, inner.cols()),
+        corner,
+    };
+    moved(alloc, shape, block, part, block.len())
+}
+
+/// The shape with so many rows and columns.
+fn shape_of(rows: u32, cols: u32) -> Shape
+    requires rows { rows ≤ 2147483647 }
+    requires cols { cols ≤ 2147483647 }
+    ensures { result ≡ record { rows = rows; cols = cols } }
+{
+    Shape::new(rows, cols).unwrap()
+}
+
+/// The shape with so many rows and columns, no more than another has.
+fn shape_within(whole: Shape, rows: u32, cols: u32) -> Shape
+    requires rows { rows ≤ whole.rows }
+    requires cols { cols ≤ whole.cols }
+    ensures { result ≡ record { rows = rows; cols = cols } }
+{
+    shape_of(rows.min(whole.rows()), cols.min(whole.cols()))
+}

@@ -1,0 +1,158 @@
+-- The laws of each semiring.
+use Rattle.std.specs.Prelude.{◌≡◌, ◌≢◌, ℕ, ◌+◌, ◌-◌, ◌*◌, ◌%◌, ◌^◌, ◌<◌, Bool, true, false, cond, Some, IfSome, ◌==◌}
+use Rattle.std.proofs.Common.{refl, sym, ap, ◌∙◌, arith, add_assoc, lit<}
+use Rattle.std.proofs.lemmas.Bool.Decides.{nat_tests}
+use Rattle.std.proofs.Math.Nat.{mod-lt, mod-eq_of_lt, add-mod-mod, mod-add-mod, add_comm, mul_assoc, mul-add, add-mul}
+use Rattle.std.proofs.lemmas.Nat.{mul-mod_first, mul-mod_second}
+use Rattle.cb_semirings.specs.Arithmetic.{IsSemiring, ReadsNumbers, HasNegatives}
+use Rattle.cb_semirings.specs.Tables.{plus_times, min_plus, or_and, max_min}
+
+wraps : (n : ℕ) → n % 2 ^ 64 < 2 ^ 64
+wraps n = mod-lt n (lit< tt)
+
+pub plus_times_is_semiring : IsSemiring plus_times
+plus_times_is_semiring = record {
+  value_fits = λ x h. h;
+  zero_value = lit< tt;
+  one_value = lit< tt;
+  add_value = λ x y _ _. wraps (x + y);
+  mul_value = λ x y _ _. wraps (x * y);
+  add_comm = λ x y _ _. ap (λ n. n % 2 ^ 64) (add_comm x y);
+  add_assoc = λ x y z _ _ _. mod-add-mod (x + y) (2 ^ 64) z ∙ ap (λ n. n % 2 ^ 64) (add_assoc x y z) ∙ sym (add-mod-mod x (y + z) (2 ^ 64));
+  zero_add = λ x h. omega arith;
+  mul_assoc = λ x y z _ _ _. mul-mod_first (x * y) z (2 ^ 64) ∙ ap (λ n. n % 2 ^ 64) (mul_assoc x y z) ∙ sym (mul-mod_second x (y * z) (2 ^ 64));
+  one_mul = λ x h. omega arith;
+  mul_one = λ x h. omega arith;
+  mul_add = λ x y z _ _ _. mul-mod_second x (y + z) (2 ^ 64) ∙ ap (λ n. n % 2 ^ 64) (mul-add x y z) ∙ sym (mod-add-mod (x * y) (2 ^ 64) ((x * z) % 2 ^ 64) ∙ add-mod-mod (x * y) (x * z) (2 ^ 64));
+  add_mul = λ x y z _ _ _. mul-mod_first (x + y) z (2 ^ 64) ∙ ap (λ n. n % 2 ^ 64) (add-mul x y z) ∙ sym (mod-add-mod (x * z) (2 ^ 64) ((y * z) % 2 ^ 64) ∙ add-mod-mod (x * z) (y * z) (2 ^ 64));
+  zero_mul = λ x _. omega arith;
+  mul_zero = λ x _. omega arith;
+}
+
+accept_plus : (negative : Bool) (m : ℕ) → cond negative ((2 ^ 64 - m) % 2 ^ 64) (m % 2 ^ 64) < 2 ^ 64
+accept_plus true m = wraps _
+accept_plus false m = wraps _
+
+pub plus_times_reads_numbers : ReadsNumbers plus_times
+plus_times_reads_numbers = record {
+  pattern_value = lit< tt;
+  accept_value = λ negative m _. accept_plus negative m;
+  accept_same = λ x h _. ap Some (mod-eq_of_lt h);
+  only_pattern = λ e. cc;
+}
+
+pub min_plus_is_semiring : IsSemiring min_plus
+min_plus_is_semiring = record {
+  value_fits = λ x h. h;
+  zero_value = lit< tt;
+  one_value = lit< tt;
+  add_value = λ x y h k. omega arith;
+  mul_value = λ x y h k. omega arith;
+  add_comm = λ x y h k. omega arith;
+  add_assoc = λ x y z h k l. omega arith;
+  zero_add = λ x h. omega arith;
+  mul_assoc = λ x y z h k l. omega arith;
+  one_mul = λ x h. omega arith;
+  mul_one = λ x h. omega arith;
+  mul_add = λ x y z h k l. omega arith;
+  add_mul = λ x y z h k l. omega arith;
+  zero_mul = λ x h. omega arith;
+  mul_zero = λ x h. omega arith;
+}
+
+accept_least : (negative : Bool) (m : ℕ) → IfSome (min_plus.accept negative m) (λ x. x < 2 ^ 64)
+accept_least true m = grind (arith, nat_tests)
+accept_least false m = grind (arith, nat_tests)
+
+accept_least_same : (m : ℕ) → m < 2 ^ 64 → m ≢ 2 ^ 64 - 1 → min_plus.accept false m ≡ Some m
+accept_least_same m h n = grind (arith, nat_tests)
+
+pub min_plus_reads_numbers : ReadsNumbers min_plus
+min_plus_reads_numbers = record {
+  pattern_value = lit< tt;
+  accept_value = λ negative m _. accept_least negative m;
+  accept_same = λ x h n. accept_least_same x h n;
+  only_pattern = λ e. cc;
+}
+
+pub or_and_is_semiring : IsSemiring or_and
+or_and_is_semiring = record {
+  value_fits = λ x h. omega arith;
+  zero_value = lit< tt;
+  one_value = lit< tt;
+  add_value = λ x y h k. omega arith;
+  mul_value = λ x y h k. omega arith;
+  add_comm = λ x y h k. omega arith;
+  add_assoc = λ x y z h k l. omega arith;
+  zero_add = λ x h. omega arith;
+  mul_assoc = λ x y z h k l. omega arith;
+  one_mul = λ x h. omega arith;
+  mul_one = λ x h. omega arith;
+  mul_add = λ x y z h k l. omega arith;
+  add_mul = λ x y z h k l. omega arith;
+  zero_mul = λ x h. omega arith;
+  mul_zero = λ x h. omega arith;
+}
+
+accept_or : (m : ℕ) → cond (m == 0) 0 1 < 2
+accept_or m = grind (arith, nat_tests)
+
+accept_or_same : (m : ℕ) → m < 2 → m ≢ 0 → cond (m == 0) 0 1 ≡ m
+accept_or_same m h n = grind (arith, nat_tests)
+
+pub or_and_reads_numbers : ReadsNumbers or_and
+or_and_reads_numbers = record {
+  pattern_value = lit< tt;
+  accept_value = λ negative m _. accept_or m;
+  accept_same = λ x h n. ap Some (accept_or_same x h n);
+  only_pattern = λ _ x h n. omega arith;
+}
+
+opposite : (x : ℕ) → x < 2 ^ 64 → (x + (2 ^ 64 - x) % 2 ^ 64) % 2 ^ 64 ≡ 0
+opposite x h = omega arith
+
+pub plus_times_has_negatives : HasNegatives plus_times
+plus_times_has_negatives = record {
+  negative_adds = λ x h. (wraps (2 ^ 64 - x), opposite x h);
+  all_or_none = λ x h. refl;
+}
+
+pub min_plus_has_negatives : HasNegatives min_plus
+min_plus_has_negatives = record { negative_adds = λ x h. tt; all_or_none = λ x h. refl }
+
+pub or_and_has_negatives : HasNegatives or_and
+or_and_has_negatives = record { negative_adds = λ x h. tt; all_or_none = λ x h. refl }
+
+pub max_min_is_semiring : IsSemiring max_min
+max_min_is_semiring = record {
+  value_fits = λ x h. h;
+  zero_value = lit< tt;
+  one_value = lit< tt;
+  add_value = λ x y h k. omega arith;
+  mul_value = λ x y h k. omega arith;
+  add_comm = λ x y h k. omega arith;
+  add_assoc = λ x y z h k l. omega arith;
+  zero_add = λ x h. omega arith;
+  mul_assoc = λ x y z h k l. omega arith;
+  one_mul = λ x h. omega arith;
+  mul_one = λ x h. omega arith;
+  mul_add = λ x y z h k l. omega arith;
+  add_mul = λ x y z h k l. omega arith;
+  zero_mul = λ x h. omega arith;
+  mul_zero = λ x h. omega arith;
+}
+
+accept_capacity : (negative : Bool) (m : ℕ) → m < 2 ^ 64 → IfSome (max_min.accept negative m) (λ x. x < 2 ^ 64)
+accept_capacity true m h = grind (arith, nat_tests)
+accept_capacity false m h = h
+
+pub max_min_reads_numbers : ReadsNumbers max_min
+max_min_reads_numbers = record {
+  pattern_value = lit< tt;
+  accept_value = λ negative m h. accept_capacity negative m h;
+  accept_same = λ x h _. refl;
+  only_pattern = λ e. cc;
+}
+
+pub max_min_has_negatives : HasNegatives max_min
+max_min_has_negatives = record { negative_adds = λ x h. tt; all_or_none = λ x h. refl }

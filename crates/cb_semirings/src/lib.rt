@@ -1,0 +1,89 @@
+//! Semirings over whole numbers, as sparse linear algebra uses them for graphs.
+//!
+//! A semiring is a set of values with a sum and a product. The sum commutes and associates, and
+//! `zero` is neutral for it; the product associates, `one` is neutral for it, it distributes over
+//! the sum, and a product with `zero` is `zero`. So a place of a matrix without an entry can stand
+//! for `zero`, and the order in which products are added doesn't matter.
+//!
+//! The values are the whole numbers below a bound, at most 2^64. The operations of each type are
+//! one record of `specs/Tables.antt`, its laws are proved in `specs/Laws.antt`, and every crate
+//! above speaks of that record alone. A semiring also says how the numbers of a file become values,
+//! and how values are written.
+//!
+//! The names follow Kepner and Gilbert, Graph Algorithms in the Language of Linear Algebra
+//! (SIAM 2011), section 2.2.
+#![tactic(auto)]
+
+ghost use Rattle.std.specs.Prelude.{◌≡◌, ◌↔◌, IsTrue};
+
+mod max_min;
+mod min_plus;
+mod or_and;
+mod plus_times;
+#[cfg(test)]
+mod tests;
+
+pub use max_min::MaxMin;
+pub use min_plus::MinPlus;
+pub use or_and::OrAnd;
+pub use plus_times::PlusTimes;
+
+/// A set of whole numbers with a sum and a product, which keep the laws of a semiring. No call takes
+/// memory, and each costs a few instructions.
+pub trait Semiring: Drop {
+    ghost use Rattle.cb_semirings.specs.Arithmetic.{Arithmetic, IsValue, IsSemiring, ReadsNumbers, HasNegatives};
+
+    /// The operations.
+    ghost arithmetic: { Arithmetic };
+
+    /// Whether a number is a value.
+    fn is_value(number: u64) -> bool
+        ensures { IsTrue result ↔ IsValue arithmetic number };
+
+    /// The value of a place without an entry: neutral for the sum.
+    fn zero() -> u64
+        ensures { result ≡ arithmetic.zero };
+
+    /// The value that is neutral for the product.
+    fn one() -> u64
+        ensures { result ≡ arithmetic.one };
+
+    /// The sum of two values.
+    fn add(left: u64, right: u64) -> u64
+        requires left_is_value { IsValue arithmetic left }
+        requires right_is_value { IsValue arithmetic right }
+        ensures { result ≡ arithmetic.add left right };
+
+    /// The product of two values.
+    fn mul(left: u64, right: u64) -> u64
+        requires left_is_value { IsValue arithmetic left }
+        requires right_is_value { IsValue arithmetic right }
+        ensures { result ≡ arithmetic.mul left right };
+
+    /// The value that added to this one gives zero, in a semiring that has negatives.
+    fn negative(value: u64) -> Option<u64>
+        requires { IsValue arithmetic value }
+        ensures { result ≡ arithmetic.negative value };
+
+    /// The value of an entry that a file names without a value.
+    fn pattern() -> u64
+        ensures { result ≡ arithmetic.pattern };
+
+    /// The value that a number of a file stands for, by its sign and its magnitude; None where the
+    /// number is out of the semiring's range.
+    fn accept(negative: bool, magnitude: u64) -> Option<u64>
+        ensures { result ≡ arithmetic.accept negative magnitude };
+
+    /// Whether entries are written without their values.
+    fn writes_pattern() -> bool
+        ensures { result ≡ arithmetic.writes_pattern };
+
+    /// The laws of a semiring.
+    ghost is_semiring: { IsSemiring arithmetic };
+
+    /// What the numbers of a file stand for.
+    ghost reads_numbers: { ReadsNumbers arithmetic };
+
+    /// What negatives are.
+    ghost has_negatives: { HasNegatives arithmetic };
+}

@@ -1,0 +1,60 @@
+//! The greatest, and the least: widest walks.
+use crate::Semiring;
+
+/// The numbers below 2^64: the sum is the greatest of two, the product the least. Capacities of the
+/// widest walks combine like this.
+#[derive(Clone, Copy, Debug, PartialEq, Eq)]
+pub struct MaxMin;
+
+impl Semiring for MaxMin {
+    ghost use Rattle.cb_semirings.specs.Tables.{max_min};
+    ghost use Rattle.cb_semirings.specs.Laws.{max_min_is_semiring, max_min_reads_numbers, max_min_has_negatives};
+
+    ghost arithmetic = { max_min };
+
+    ghost is_semiring = { max_min_is_semiring };
+
+    ghost reads_numbers = { max_min_reads_numbers };
+
+    ghost has_negatives = { max_min_has_negatives };
+
+    fn is_value(_number: u64) -> bool {
+        true
+    }
+
+    fn zero() -> u64 {
+        0
+    }
+
+    fn one() -> u64 {
+        u64::MAX
+    }
+
+    fn add(left: u64, right: u64) -> u64 {
+        left.max(right)
+    }
+
+    fn mul(left: u64, right: u64) -> u64 {
+        left.min(right)
+    }
+
+    fn negative(_value: u64) -> Option<u64> {
+        None
+    }
+
+    fn pattern() -> u64 {
+        1
+    }
+
+    fn accept(negative: bool, magnitude: u64) -> Option<u64> {
+        if negative && magnitude != 0 {
+            None
+        } else {
+            Some(magnitude)
+        }
+    }
+
+    fn writes_pattern() -> bool {
+        false
+    }
+}

@@ -1,0 +1,62 @@
+//! The least, and the sum: shortest walks.
+use crate::Semiring;
+
+/// The numbers below 2^64: the sum is the least of two, the product is their sum, which stops at
+/// 2^64 - 1. That number is infinity, the semiring's zero. Weights of shortest walks add like this.
+#[derive(Clone, Copy, Debug, PartialEq, Eq)]
+pub struct MinPlus;
+
+impl Semiring for MinPlus {
+    ghost use Rattle.cb_semirings.specs.Tables.{min_plus};
+    ghost use Rattle.cb_semirings.specs.Laws.{min_plus_is_semiring, min_plus_reads_numbers, min_plus_has_negatives};
+
+    ghost arithmetic = { min_plus };
+
+    ghost is_semiring = { min_plus_is_semiring };
+
+    ghost reads_numbers = { min_plus_reads_numbers };
+
+    ghost has_negatives = { min_plus_has_negatives };
+
+    fn is_value(_number: u64) -> bool {
+        true
+    }
+
+    fn zero() -> u64 {
+        u64::MAX
+    }
+
+    fn one() -> u64 {
+        0
+    }
+
+    fn add(left: u64, right: u64) -> u64 {
+        left.min(right)
+    }
+
+    fn mul(left: u64, right: u64) -> u64 {
+        left.saturating_add(right)
+    }
+
+    fn negative(_value: u64) -> Option<u64> {
+        None
+    }
+
+    fn pattern() -> u64 {
+        1
+    }
+
+    fn accept(negative: bool, magnitude: u64) -> Option<u64> {
+        if magnitude == 0 {
+            Some(0)
+        } else if negative || magnitude == u64::MAX {
+            None
+        } else {
+            Some(magnitude)
+        }
+    }
+
+    fn writes_pattern() -> bool {
+        false
+    }
+}

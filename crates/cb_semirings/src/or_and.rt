@@ -1,0 +1,56 @@
+//! Or, and: which walks there are.
+use crate::Semiring;
+
+/// 0 and 1: whether one of two holds, and whether both do. Every number of a file but 0 stands for 1,
+/// and entries are written without values.
+#[derive(Clone, Copy, Debug, PartialEq, Eq)]
+pub struct OrAnd;
+
+impl Semiring for OrAnd {
+    ghost use Rattle.cb_semirings.specs.Tables.{or_and};
+    ghost use Rattle.cb_semirings.specs.Laws.{or_and_is_semiring, or_and_reads_numbers, or_and_has_negatives};
+
+    ghost arithmetic = { or_and };
+
+    ghost is_semiring = { or_and_is_semiring };
+
+    ghost reads_numbers = { or_and_reads_numbers };
+
+    ghost has_negatives = { or_and_has_negatives };
+
+    fn is_value(number: u64) -> bool {
+        number < 2
+    }
+
+    fn zero() -> u64 {
+        0
+    }
+
+    fn one() -> u64 {
+        1
+    }
+
+    fn add(left: u64, right: u64) -> u64 {
+        left.max(right)
+    }
+
+    fn mul(left: u64, right: u64) -> u64 {
+        left.min(right)
+    }
+
+    fn negative(_value: u64) -> Option<u64> {
+        None
+    }
+
+    fn pattern() -> u64 {
+        1
+    }
+
+    fn accept(_negative: bool, magnitude: u64) -> Option<u64> {
+        Some(if magnitude == 0 { 0 } else { 1 })
+    }
+
+    fn writes_pattern() -> bool {
+        true
+    }
+}
