@@ -384,3 +384,6 @@ fn start_column(
     starts.push_reserved(end);
     Ok(())
 }
+
+#[cfg(test)]
+mod tests;

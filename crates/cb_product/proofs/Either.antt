@@ -1,16 +1,16 @@
 -- The step of a merge with a column of the accumulator beside the heads.
-use Rattle.std.proofs.Common.{◌≡◌, ◌≢◌, ℕ, zero, suc, ◌+◌, ◌-◌, ◌<◌, ◌≤◌, true, false, cond, Option, Some, None, List, [], ◌∷◌, ◌++◌, length, drop, get_or, sym, refl, ap, ◌∙◌, ⊎_elim, arith, subst}
+use Rattle.std.proofs.Common.{◌≡◌, ℕ, ◌+◌, ◌<◌, ◌≤◌, true, false, cond, Option, Some, None, List, [], ◌∷◌, length, drop, get_or, sym, ap, ◌∙◌, ⊎_elim, arith, subst}
 use Rattle.std.specs.Prelude.{All, AllPairs, ◌==◌, IfSome, IfNone}
 use Rattle.std.proofs.lemmas.Bool.{cases_eq, cases_lt, eq-eqb, ne_eqb}
 use Rattle.std.proofs.lemmas.List.{drop_more, drop_all}
-use Rattle.std.proofs.lemmas.List.Elements.{All-head, All-tail, All-cons, All-nil, All-drop, All-weaker, All-get_or}
+use Rattle.std.proofs.lemmas.List.Elements.{All-head, All-cons, All-nil, All-drop, All-weaker, All-get_or}
 use Rattle.cb_semirings.specs.Arithmetic.{Arithmetic, IsValue, IsSemiring}
 use Rattle.cb_matrix.proofs.Totals.{add_zero}
 use Rattle.cb_matrix.proofs.Places.{AllPairs-head}
 use Rattle.cb_matrix.proofs.Combine.{AllPairs-drop}
 use Rattle.cb_dcsc.specs.Columns.{row_value}
 use Rattle.cb_product.specs.declared.heads.Head.{Head}
-use Rattle.cb_product.specs.Heads.{heads_value, entries_left, IsHead, one_value, own_value, Gives, GivesEither}
+use Rattle.cb_product.specs.Heads.{heads_value, IsHead, one_value, own_value, Gives, GivesEither}
 use Rattle.cb_product.proofs.Stepped.{heads_value-value, row_value-value, row_value-above}
 use Rattle.cb_matrix.proofs.Permuted.{swap_two}
 use Rattle.cb_product.proofs.Merged.{no_heads}

@@ -1,17 +1,13 @@
 -- Heads for the columns that one column of the right block names.
-use Rattle.std.proofs.Common.{◌≡◌, ◌≢◌, ℕ, zero, suc, ◌+◌, ◌-◌, ◌<◌, ◌≤◌, true, false, cond, List, [], ◌∷◌, ◌++◌, length, map, filter, take, drop, get_or, sym, refl, ap, ◌∙◌, ⊎_elim, arith, subst}
-use Rattle.std.specs.Prelude.{All, AllPairs, IsPermutation, ◌==◌, ◌&&◌, slice_range}
-use Rattle.std.proofs.lemmas.Bool.{cases_Bool, cases_eq, eq-eqb, ne_eqb, eqb-true, cond-true, cond-false}
+use Rattle.std.proofs.Common.{◌≡◌, ℕ, ◌+◌, ◌-◌, ◌<◌, ◌≤◌, List, [], ◌∷◌, length, map, take, drop, get_or, sym, ap, ◌∙◌, arith}
+use Rattle.std.specs.Prelude.{All, IsPermutation, slice_range}
 use Rattle.std.proofs.lemmas.List.{take-map, drop-map, drop_more, drop_all, length-map}
-use Rattle.std.proofs.lemmas.List.Elements.{All-head, All-tail, All-cons, All-nil, All-map, All-filter, All-weaker, All-get_or, All-drop}
-use Rattle.std.proofs.lemmas.List.Sorted.{All-permutation}
+use Rattle.std.proofs.lemmas.List.Elements.{All-head, All-tail, All-cons, All-map, All-get_or, All-drop}
 use Rattle.cb_semirings.specs.Arithmetic.{Arithmetic, IsValue, IsSemiring}
 use Rattle.cb_matrix.specs.declared.Entry.{Entry}
-use Rattle.cb_matrix.specs.Sparse.{Sparse, IsMatrix, is_at, at, value_at, IsBefore}
+use Rattle.cb_matrix.specs.Sparse.{Sparse, IsMatrix, at}
 use Rattle.cb_matrix.specs.Values.{total}
 use Rattle.cb_matrix.proofs.Totals.{add_zero}
-use Rattle.cb_matrix.proofs.Places.{AllPairs-head, AllPairs-tail}
-use Rattle.cb_matrix.proofs.Made.{AllPairs-nil, AllPairs-cons}
 use Rattle.cb_matrix.proofs.Product.{value_at-value}
 use Rattle.cb_dcsc.specs.Columns.{in_column, rows_of, values_of}
 use Rattle.cb_product.specs.declared.heads.Head.{Head}

@@ -1,21 +1,21 @@
 -- The product, column by column.
-use Rattle.std.proofs.Common.{◌≡◌, ◌≢◌, ℕ, zero, suc, ◌+◌, ◌-◌, ◌<◌, ◌≤◌, true, false, cond, inl, inr, Result, Ok, Err, List, [], ◌∷◌, ◌++◌, length, map, filter, get_or, sym, refl, ap, ◌∙◌, ⊎_elim, arith, subst}
-use Rattle.std.specs.Prelude.{IfOk, All, AllPairs, Contains, ◌==◌, ◌&&◌}
+use Rattle.std.proofs.Common.{◌≡◌, ◌≢◌, ℕ, ◌+◌, ◌<◌, ◌≤◌, true, false, cond, inl, inr, Result, Ok, Err, List, [], ◌∷◌, length, map, get_or, sym, refl, ap, ◌∙◌, ⊎_elim, arith, subst}
+use Rattle.std.specs.Prelude.{IfOk, All, AllPairs, Contains, ◌==◌}
 use Rattle.std.specs.List.{range_with_len}
-use Rattle.std.proofs.lemmas.Bool.{cases_Bool, cases_eq, cases_lt, eq-eqb, ne_eqb, eqb-true, eqb-false}
+use Rattle.std.proofs.lemmas.Bool.{cases_Bool, cases_eq, cases_lt, eqb-true, eqb-false}
 use Rattle.std.proofs.lemmas.List.{get_or_default, get_or_past}
-use Rattle.std.proofs.lemmas.List.Elements.{All-head, All-tail, All-cons, All-nil, All-map, All-filter, All-weaker, All-get_or}
+use Rattle.std.proofs.lemmas.List.Elements.{All-head, All-tail, All-nil, All-weaker, All-get_or}
 use Rattle.cb_semirings.specs.Arithmetic.{Arithmetic, IsValue, IsSemiring}
 use Rattle.cb_matrix.specs.declared.Entry.{Entry}
 use Rattle.cb_matrix.specs.Sparse.{Sparse, Extent, IsMatrix, is_at, at, value_at, IsBefore, IsInside}
 use Rattle.cb_matrix.specs.Values.{total, product, product_shape, empty_matrix}
 use Rattle.cb_matrix.proofs.Places.{AllPairs-head, AllPairs-tail, is_at-parts, is_at-own, value_at-before, IsPlaceBefore}
-use Rattle.cb_matrix.proofs.Made.{AllPairs-nil, AllPairs-cons, NoneAt, value_at-none, at-matrix_of}
+use Rattle.cb_matrix.proofs.Made.{NoneAt, value_at-none, at-matrix_of}
 use Rattle.cb_matrix.proofs.Equal.{matrix_is}
 use Rattle.cb_matrix.proofs.Totals.{add_zero, total_value}
 use Rattle.cb_matrix.proofs.Product.{value_at-value, same_matrix_of}
 use Rattle.cb_matrix.proofs.Totals.{total-add, total-single, total-zero, total-same, each_value}
-use Rattle.cb_dcsc.specs.Columns.{in_column, rows_of, values_of, with_front, columns_with_entries}
+use Rattle.cb_dcsc.specs.Columns.{in_column, rows_of, values_of}
 use Rattle.cb_dcsc.proofs.Pieces.{in_column-none}
 use Rattle.cb_dcsc.specs.Columns.{row_value}
 use Rattle.cb_dcsc.proofs.Lookup.{column_value}

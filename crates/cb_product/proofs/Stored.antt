@@ -1,6 +1,6 @@
 -- The sums of a column, stored row after row.
-use Rattle.std.proofs.Common.{◌≡◌, ◌≢◌, ℕ, ◌+◌, ◌-◌, ◌<◌, ◌≤◌, true, false, cond, inl, inr, ⊎_elim, List, [], ◌∷◌, ◌++◌, length, map, take, drop, get_or, sym, refl, ap, ◌∙◌, arith, subst}
-use Rattle.std.specs.Prelude.{All, AllPairs, ◌==◌, ◌⊎◌, slice_range}
+use Rattle.std.proofs.Common.{◌≡◌, ◌≢◌, ℕ, ◌+◌, ◌-◌, ◌<◌, ◌≤◌, true, false, inl, inr, ⊎_elim, List, [], ◌∷◌, ◌++◌, length, drop, get_or, sym, refl, ap, ◌∙◌, arith}
+use Rattle.std.specs.Prelude.{All, AllPairs, ◌⊎◌, slice_range}
 use Rattle.std.proofs.lemmas.Bool.{cases_Bool, cases_eq, cases_lt}
 use Rattle.std.proofs.lemmas.List.{get_or_past, take_all}
 use Rattle.std.proofs.lemmas.List.Elements.{All-append, All-weaker, All-head, All-tail, All-take, All-drop, All-get_or}
@@ -10,7 +10,7 @@ use Rattle.cb_matrix.specs.Sparse.{Sparse, IsMatrix, is_at, at, value_at, IsBefo
 use Rattle.cb_matrix.specs.Values.{total}
 use Rattle.cb_matrix.specs.Combined.{stored}
 use Rattle.cb_matrix.proofs.Places.{is_at-own, is_at-parts}
-use Rattle.cb_matrix.proofs.Made.{NoneAt, value_at-none, value_at-append_left, value_at-append_right}
+use Rattle.cb_matrix.proofs.Made.{value_at-none, value_at-append_left, value_at-append_right}
 use Rattle.cb_matrix.proofs.Combine.{stored_last, stored_all, value_at-one, none_before, one_none}
 use Rattle.cb_dcsc.specs.Columns.{row_value}
 use Rattle.cb_dcsc.proofs.Lookup.{row_value-absent}

@@ -4,7 +4,7 @@ use Rattle.std.specs.List.{range_with_len}
 use Rattle.cb_matrix.specs.Values.{total}
 use Rattle.cb_semirings.specs.Arithmetic.{Arithmetic, IsValue}
 use Rattle.cb_matrix.specs.declared.Entry.{Entry}
-use Rattle.cb_matrix.specs.Sparse.{Sparse, Extent, IsMatrix, IsInside, IsBefore, at, value_at}
+use Rattle.cb_matrix.specs.Sparse.{Sparse, IsMatrix, IsInside, IsBefore, at, value_at}
 use Rattle.cb_matrix.specs.Combined.{stored}
 
 -- `new` has f in column j, and what `old` has elsewhere

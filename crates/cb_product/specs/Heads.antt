@@ -1,5 +1,5 @@
 -- Columns on their way through a merge, as parts of one list of rows and values.
-use Rattle.std.specs.Prelude.{◌≡◌, ℕ, ◌+◌, ◌-◌, ◌<◌, ◌≤◌, ◌==◌, cond, List, [], ◌∷◌, ◌++◌, length, map, drop, All, AllPairs, slice_range, slice_index}
+use Rattle.std.specs.Prelude.{◌≡◌, ℕ, ◌+◌, ◌-◌, ◌<◌, ◌≤◌, ◌==◌, cond, List, [], ◌∷◌, length, map, drop, All, AllPairs, slice_range, slice_index}
 use Rattle.std.specs.List.{sum_by}
 use Rattle.std.specs.Ordering.{nat_cmp, on, flip_args}
 use Rattle.std.specs.declared.cmp.Ordering.{Ordering}

@@ -171,3 +171,6 @@ fn add_column<S: Semiring>(
     )?;
     Ok(())
 }
+
+#[cfg(test)]
+mod tests;

@@ -1,10 +1,9 @@
-use Rattle.std.proofs.Common.{rules, ◌≡◌, ℕ, ◌<◌, List, length, sym, ap, refl, subst, ◌∙◌, arith, get_or}
+use Rattle.std.proofs.Common.{◌≡◌, ◌<◌, sym, ap, refl, subst, ◌∙◌}
 use Rattle.std.specs.Prelude.{All}
 use Rattle.std.proofs.lemmas.List.{get_or_default}
-use Rattle.cb_matrix.specs.Sparse.{Sparse, Extent}
+use Rattle.cb_matrix.specs.Sparse.{Extent}
 use Rattle.cb_dcsc.proofs.Lookup.{rows_inside}
 use Rattle.std.proofs.lemmas.List.Elements.{All-nil}
-use Rattle.cb_product.specs.Heads.{column_sum, heads_value, own_value}
 use Rattle.cb_product.proofs.Produced.{producing_start, producing_more, producing_all, own_column}
 use Rattle.cb_product.proofs.accumulate.Goals as goal
 

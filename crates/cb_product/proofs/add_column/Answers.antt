@@ -1,4 +1,4 @@
-use Rattle.std.proofs.Common.{◌≡◌, ℕ, ◌<◌, length, sym, refl, subst, ◌∙◌}
+use Rattle.std.proofs.Common.{◌<◌, sym, subst}
 use Rattle.std.specs.Prelude.{All}
 use Rattle.cb_dcsc.proofs.Lookup.{all_rows_inside, all_values}
 use Rattle.cb_product.proofs.add_column.Goals as goal

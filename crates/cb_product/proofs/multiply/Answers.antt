@@ -1,5 +1,4 @@
-use Rattle.std.proofs.Common.{◌≡◌, sym, ap, ◌∙◌}
-use Rattle.cb_matrix.specs.Sparse.{Extent}
+use Rattle.std.proofs.Common.{◌≡◌, ap, ◌∙◌}
 use Rattle.cb_matrix.specs.Values.{empty_matrix, product_shape}
 use Rattle.cb_product.proofs.Produced.{multiplied}
 use Rattle.cb_product.proofs.multiply.Goals as goal

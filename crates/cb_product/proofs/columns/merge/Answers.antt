@@ -1,5 +1,4 @@
-use Rattle.std.proofs.Common.{rules, ◌≡◌, ◌≢◌, ℕ, ◌<◌, ◌≤◌, ◌+◌, List, [], ◌∷◌, ◌++◌, length, sym, ap, refl, subst, ◌∙◌, arith, get_or, heap_items}
-use Rattle.cb_product.specs.Heads.{GivesEither, heads_value, own_value}
+use Rattle.std.proofs.Common.{◌<◌, arith}
 use Rattle.cb_product.proofs.Either.{rest_value, nothing}
 use Rattle.cb_product.proofs.Merged.{merging_start, merging_same, merging_next, merging_end, merging_none}
 use Rattle.cb_product.proofs.columns.merge.Goals as goal

@@ -1,5 +1,3 @@
-use Rattle.std.proofs.Common.{rules, ◌≡◌, ◌≢◌, ℕ, ◌<◌, ◌≤◌, ◌+◌, List, [], length, sym, ap, refl, subst, ◌∙◌, arith, heap_items}
-use Rattle.cb_product.specs.Heads.{GivesEither}
 use Rattle.cb_product.proofs.Either.{gives_own, given_by_heads, no_rows_left}
 use Rattle.cb_product.proofs.columns.next_of.Goals as goal
 

@@ -1,5 +1,5 @@
-use Rattle.std.proofs.Common.{◌≡◌, ℕ, ◌<◌, ◌++◌, ap, ◌∙◌, subst}
-use Rattle.std.specs.Prelude.{◌==◌, IsPermutation}
+use Rattle.std.proofs.Common.{◌<◌}
+use Rattle.std.specs.Prelude.{◌==◌}
 use Rattle.std.proofs.lemmas.List.Filters.{dedup_is}
 use Rattle.cb_product.proofs.Union.{union_ascends, union_left, union_right, union_all, moved_from}
 use Rattle.cb_product.proofs.columns.union.Goals as goal

@@ -1,7 +1,4 @@
-use Rattle.std.proofs.Common.{rules, ◌≡◌, ◌≢◌, ℕ, ◌<◌, ◌≤◌, ◌+◌, List, [], ◌∷◌, ◌++◌, length, sym, ap, refl, subst, ◌∙◌, arith, get_or}
-use Rattle.std.proofs.lemmas.List.Sorted.{IsPermutation-trans}
-use Rattle.cb_product.specs.declared.heads.Head.{Head}
-use Rattle.cb_product.specs.Heads.{Gives}
+use Rattle.std.proofs.Common.{rules, refl}
 use Rattle.cb_product.proofs.Stepped.{gives_on, gives_last, least_on, least_last, least_row}
 use Rattle.cb_product.proofs.heads.next.Goals as goal
 

@@ -1,4 +1,4 @@
-use Rattle.std.proofs.Common.{rules, ◌≡◌, ◌≢◌, ℕ, ◌<◌, ◌≤◌, ◌+◌, List, length, sym, ap, refl, subst, ◌∙◌, ⊎_elim, arith, get_or}
+use Rattle.std.proofs.Common.{◌<◌, sym, refl, subst, ◌∙◌}
 use Rattle.cb_product.proofs.Summed.{next_head, all_heads}
 use Rattle.cb_product.proofs.sums.add_heads.Goals as goal
 

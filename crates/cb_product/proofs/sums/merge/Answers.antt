@@ -1,4 +1,4 @@
-use Rattle.std.proofs.Common.{◌≡◌, ℕ, ◌<◌, length, sym, refl, subst, ◌∙◌, heap_items}
+use Rattle.std.proofs.Common.{◌<◌, sym, refl, subst, ◌∙◌, heap_items}
 use Rattle.std.specs.Prelude.{All}
 use Rattle.cb_dcsc.proofs.Lookup.{all_rows_inside, all_values}
 use Rattle.cb_product.proofs.Stored.{adds_as, sums_are}

@@ -1,0 +1,112 @@
+//! Worked examples, with ample memory and with each allocation refused in turn.
+use crate::{Block, BlockFault};
+use cb_matrix::{Entry, LIMIT, Shape};
+use cb_semirings::{MinPlus, PlusTimes};
+use std::test::Fail;
+
+const fn entry(row: u32, column: u32, value: u64) -> Entry {
+    Entry { row, column, value }
+}
+
+fn shape(rows: u32, cols: u32) -> Result<Shape, Fail> {
+    Ok(Shape::new(rows, cols).ok_or("past the limit")?)
+}
+
+fn spread() -> [Entry; 3] {
+    [entry(0, 3, 5), entry(2, 3, 6), entry(1, 900, 7)]
+}
+
+#[test]
+fn the_lists_hold_the_columns_that_have_entries(rt: HostRuntime) -> Result<(), Fail> {
+    let block = Block::<PlusTimes>::from_sorted(rt.alloc(), shape(4, 1000)?, &spread())?;
+    assert_eq!(rt; block.columns.as_slice(), [3, 900].as_slice());
+    assert_eq!(rt; block.starts.as_slice(), [0, 2, 3].as_slice());
+    assert_eq!(rt; block.rows.as_slice(), [0, 2, 1].as_slice());
+    assert_eq!(rt; block.values.as_slice(), [5, 6, 7].as_slice());
+    Ok(())
+}
+
+#[test]
+fn a_block_without_entries_has_empty_lists(rt: HostRuntime) -> Result<(), Fail> {
+    for side in [0, 3, LIMIT] {
+        let block = Block::<PlusTimes>::from_sorted(rt.alloc(), shape(side, side)?, &[])?;
+        assert!(rt; block.columns.is_empty() && block.starts.is_empty());
+        assert!(rt; block.rows.is_empty() && block.values.is_empty());
+        assert_eq!(rt; block.shape(), shape(side, side)?);
+    }
+    Ok(())
+}
+
+#[test]
+fn the_first_fault_is_named(rt: HostRuntime) -> Result<(), Fail> {
+    let side = shape(4, 1000)?;
+    let swapped = [entry(2, 3, 6), entry(0, 3, 5), entry(1, 900, 7)];
+    let outside = [entry(0, 3, 5), entry(4, 3, 6), entry(1, 900, 0)];
+    let zero = [entry(0, 3, 5), entry(2, 3, 6), entry(1, 900, 0)];
+    let twice = [entry(0, 3, 5), entry(0, 3, 0)];
+    for (entries, fault) in [
+        (swapped.as_slice(), BlockFault::Order(1)),
+        (outside.as_slice(), BlockFault::Place(1)),
+        (zero.as_slice(), BlockFault::Zero(2)),
+        (twice.as_slice(), BlockFault::Order(1)),
+    ] {
+        let block = Block::<PlusTimes>::from_sorted(rt.alloc(), side, entries);
+        assert_eq!(rt; block.err(), Some(fault));
+    }
+    Ok(())
+}
+
+#[test]
+fn a_block_is_walked_by_columns_and_looked_up_by_places(rt: HostRuntime) -> Result<(), Fail> {
+    let block = Block::<MinPlus>::from_sorted(rt.alloc(), shape(4, 1000)?, &spread())?;
+    assert_eq!(rt; (block.len(), block.columns()), (3, 2));
+    assert_eq!(rt; (block.column_number(0), block.column_number(1)), (3, 900));
+    assert_eq!(rt; block.column_numbers(), [3, 900].as_slice());
+    assert_eq!(rt; block.nth_column(0).0, [0, 2].as_slice());
+    assert_eq!(rt; block.column(3).1, [5, 6].as_slice());
+    assert_eq!(rt; block.column(900).0, [1].as_slice());
+    assert!(rt; block.column(4).0.is_empty() && block.column(4).1.is_empty());
+    assert_eq!(rt; (block.nth_range(1), block.range(3)), ((2, 3), (0, 2)));
+    assert_eq!(rt; (block.rows().len(), block.values().len()), (3, 3));
+    assert_eq!(rt; (block.get(2, 3), block.get(1, 3)), (6, u64::MAX));
+    for n in 0..3 {
+        assert_eq!(rt; block.entry_at(n), spread()[n]);
+    }
+    Ok(())
+}
+
+#[test]
+fn the_largest_sides_cost_what_the_entries_cost(rt: HostRuntime) -> Result<(), Fail> {
+    let last = entry(LIMIT - 1, LIMIT - 1, 9);
+    let corners = [entry(0, 0, 1), last];
+    let block = Block::<PlusTimes>::from_sorted(rt.alloc(), shape(LIMIT, LIMIT)?, &corners)?;
+    assert!(rt; block.shape().rows() == LIMIT);
+    assert_eq!(rt; block.get(LIMIT - 1, LIMIT - 1), 9);
+    assert_eq!(rt; block.entry_at(1), last);
+    Ok(())
+}
+
+/// Each call that takes memory, one after another. Where memory is refused a call says so and nothing else
+/// (`rt try --test --fail-alloc N`, for each N in turn).
+#[test]
+fn refused_memory_is_said(rt: HostRuntime) -> Result<(), Fail> {
+    let alloc = rt.alloc();
+    let side = shape(4, 1000)?;
+    let block = match Block::<PlusTimes>::from_sorted(alloc, side, &spread()) {
+        Ok(block) => block,
+        Err(fault) => {
+            assert_eq!(rt; fault, BlockFault::Memory);
+            return Ok(());
+        }
+    };
+    let Ok(mut copy) = block.try_clone() else {
+        return Ok(());
+    };
+    let _ = copy.reserve(100);
+    assert_eq!(rt; (copy.len(), copy.get(1, 900)), (3, 7));
+    let Ok(entries) = block.entries() else {
+        return Ok(());
+    };
+    assert_eq!(rt; entries.as_slice(), spread().as_slice());
+    Ok(())
+}
