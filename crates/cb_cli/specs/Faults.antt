@@ -1,8 +1,7 @@
 -- The line that a fault prints.
 use Rattle.std.specs.Prelude.{◌++◌, [], ℕ, List, codes, decimal, String, string_bytes, unwrap_or, option_map, slice_get}
 use Rattle.cb_market.specs.Kinds.{kind_text}
-use Rattle.cb_cli.specs.declared.runs.ScriptFault.{ScriptFault}
-use Rattle.cb_cli.specs.declared.runs.ScriptFault.TheVariants as script_is
+use Rattle.cb_scripts.specs.declared.ScriptFault.TheVariants as script_is
 use Rattle.cb_cli.specs.declared.runs.JobFault.{JobFault}
 use Rattle.cb_cli.specs.declared.runs.JobFault.TheVariants.{Read, Script, Memory, Output}
 

@@ -1,8 +1,9 @@
 -- What a job asks for.
 use Rattle.std.specs.Prelude.{ℕ}
 use Rattle.cb_cli.specs.declared.jobs.Operation.{Operation}
-use Rattle.cb_cli.specs.declared.jobs.Operation.TheVariants.{Multiply}
+use Rattle.cb_cli.specs.declared.jobs.Operation.TheVariants.{Multiply, MultiplyMasked}
 
 -- how many files an operation reads
 abbrev pub file_count_of : Operation → ℕ
 file_count_of Multiply = 2
+file_count_of MultiplyMasked = 3

@@ -2,7 +2,8 @@
 ghost use Rattle.std.specs.Prelude.{◌≡◌, IfOk};
 ghost use Rattle.cb_cli.specs.Faults.{line_of, name_at, read_line_of, unreadable_line_of};
 
-use crate::runs::{JobFault, ScriptFault};
+use crate::runs::JobFault;
+use cb_scripts::ScriptFault;
 use std::alloc::{AllocError, Global};
 
 /// The name at a place, or nothing.

@@ -3,6 +3,8 @@ ghost use Rattle.std.specs.Prelude.{◌≡◌, vec_len};
 ghost use Rattle.cb_cli.specs.Jobs.{file_count_of};
 
 use crate::semirings::SemiringName;
+use cb_layout::Grid;
+use cb_scripts::Engine;
 use std::alloc::{AllocError, AllocFailed};
 use thiserror::Error;
 
@@ -11,6 +13,8 @@ use thiserror::Error;
 pub enum Operation {
     /// The product of the first file's matrix by the second's.
     Multiply,
+    /// The same, kept where the third file's matrix has entries.
+    MultiplyMasked,
 }
 
 /// A command line that was read.
@@ -18,6 +22,9 @@ pub enum Operation {
 pub struct Job {
     pub operation: Operation,
     pub semiring: SemiringName,
+    /// The ranks that compute it.
+    pub grid: Grid,
+    pub engine: Engine,
     /// The names of the files, in the order in which they are read.
     pub files: Vec<String>,
     pub ghost file_count: { vec_len files ≡ file_count_of operation },

@@ -1,42 +1,19 @@
 //! Runs a job.
-ghost use Rattle.std.specs.Prelude.{◌≡◌, ◌≢◌, ◌↔◌, ℕ, List, length, vec_len, true, false, OnOk, IfOk, IfErr, IsErrOf};
+ghost use Rattle.std.specs.Prelude.{◌≡◌, ◌≢◌, ◌↔◌, ℕ, ◌≤◌, List, length, vec_len, true, false, OnOk, IfOk, IfErr, IsErrOf};
 ghost use Rattle.std.specs.Io.KnownBytes.{Appends, Keeps};
 ghost use Rattle.cb_cli.specs.Sinks.{AppendsPrefix};
 ghost use Rattle.cb_market.specs.Reads.{Reads};
-ghost use Rattle.cb_cli.specs.Answers.{IsProductText, IsProductFault, IsReadFault, IsAnswer, IsFault, bytes_of, status_of};
+ghost use Rattle.cb_cli.specs.Answers.{IsProductText, IsProductFault, IsMaskedText, IsMaskedFault, IsReadFault, IsAnswerOver, IsFaultOver, IsAnswer, IsFault, bytes_of, status_of};
 
 use crate::jobs::{Job, Operation};
 use crate::semirings::SemiringName;
 use crate::sinks::{Sink, put_all};
 use cb_market::{Kind, ReadFault, read, text};
-use cb_matrix::{Matrix, ProductFault};
+use cb_matrix::Matrix;
+use cb_scripts::{ScriptFault, multiply, multiply_masked};
 use cb_semirings::{MaxMin, MinPlus, OrAnd, PlusTimes, Semiring};
 use std::alloc::{AllocError, Global};
 use thiserror::Error;
-
-/// Why an operation has no answer, in the order in which the reasons are looked for.
-#[derive(Clone, Copy, Debug, PartialEq, Eq, Error)]
-pub enum ScriptFault {
-    /// The columns of the first matrix are not as many as the rows of the second.
-    #[error("shapes don't agree")]
-    Shapes,
-    /// Memory was refused to the operation.
-    #[error("out of memory")]
-    Memory,
-}
-
-impl From<ProductFault> for ScriptFault {
-    ghost use Rattle.cb_cli.specs.Answers.{script_fault_of};
-
-    ghost from_gives = { λ e fault. fault ≡ script_fault_of e };
-
-    fn from(error: ProductFault) -> ScriptFault {
-        match error {
-            ProductFault::Shapes => ScriptFault::Shapes,
-            ProductFault::Memory => ScriptFault::Memory,
-        }
-    }
-}
 
 /// Why a job has no answer, in the order in which the reasons are looked for.
 #[derive(Clone, Copy, Debug, PartialEq, Eq, Error)]
@@ -68,6 +45,7 @@ fn read_text<S: Semiring>(alloc: Global, which: usize, text: &[u8]) -> Result<Ma
 /// The text of the product of two texts.
 fn product_text<S: Semiring>(
     alloc: Global,
+    job: &Job,
     first: &[u8],
     second: &[u8],
 ) -> Result<Vec<u8>, JobFault>
@@ -77,12 +55,53 @@ fn product_text<S: Semiring>(
 {
     let left = read_text::<S>(alloc, 0, first)?;
     let right = read_text::<S>(alloc, 1, second)?;
-    match Matrix::plain_product(alloc, &left, &right) {
-        Err(fault) => Err(JobFault::Script(ScriptFault::from(fault))),
+    match multiply(alloc, job.engine, &job.grid, &left, &right) {
+        Err(fault) => Err(JobFault::Script(fault)),
         Ok(product) => match text(alloc, &product) {
             Ok(text) => Ok(text),
             Err(_) => Err(JobFault::Memory),
         },
+    }
+}
+
+/// The text of the product of two texts, kept where a third one's matrix has entries.
+fn masked_text<S: Semiring>(
+    alloc: Global,
+    job: &Job,
+    first: &[u8],
+    second: &[u8],
+    third: &[u8],
+) -> Result<Vec<u8>, JobFault>
+    ensures ok { IfOk result (λ v. IsMaskedText S.arithmetic first.now second.now third.now v.items) }
+    ensures fault { IfErr result (IsMaskedFault S.arithmetic first.now second.now third.now) }
+    ensures unwritten { IfErr result (λ f. f ≢ JobFault.Output) }
+{
+    let left = read_text::<S>(alloc, 0, first)?;
+    let right = read_text::<S>(alloc, 1, second)?;
+    let mask = read_text::<S>(alloc, 2, third)?;
+    match multiply_masked(alloc, job.engine, &job.grid, &left, &right, &mask) {
+        Err(fault) => Err(JobFault::Script(fault)),
+        Ok(kept) => match text(alloc, &kept) {
+            Ok(text) => Ok(text),
+            Err(_) => Err(JobFault::Memory),
+        },
+    }
+}
+
+/// The text of the answer of a job over a semiring.
+fn answer_over<S: Semiring>(
+    alloc: Global,
+    job: &Job,
+    texts: &[Vec<u8>],
+) -> Result<Vec<u8>, JobFault>
+    requires { length texts.now ≡ vec_len job.now.files }
+    ensures ok { IfOk result (λ v. IsAnswerOver job.now.operation S.arithmetic (bytes_of texts.now) v.items) }
+    ensures fault { IfErr result (IsFaultOver job.now.operation S.arithmetic (bytes_of texts.now)) }
+    ensures unwritten { IfErr result (λ f. f ≢ JobFault.Output) }
+{
+    match job.operation {
+        Operation::Multiply => product_text::<S>(alloc, job, &texts[0], &texts[1]),
+        Operation::MultiplyMasked => masked_text::<S>(alloc, job, &texts[0], &texts[1], &texts[2]),
     }
 }
 
@@ -93,14 +112,11 @@ fn answer_text(alloc: Global, job: &Job, texts: &[Vec<u8>]) -> Result<Vec<u8>, J
     ensures fault { IfErr result (IsFault job.now.operation job.now.semiring (bytes_of texts.now)) }
     ensures unwritten { IfErr result (λ f. f ≢ JobFault.Output) }
 {
-    let (first, second) = match job.operation {
-        Operation::Multiply => (texts[0].as_slice(), texts[1].as_slice()),
-    };
     match job.semiring {
-        SemiringName::PlusTimes => product_text::<PlusTimes>(alloc, first, second),
-        SemiringName::MinPlus => product_text::<MinPlus>(alloc, first, second),
-        SemiringName::OrAnd => product_text::<OrAnd>(alloc, first, second),
-        SemiringName::MaxMin => product_text::<MaxMin>(alloc, first, second),
+        SemiringName::PlusTimes => answer_over::<PlusTimes>(alloc, job, texts),
+        SemiringName::MinPlus => answer_over::<MinPlus>(alloc, job, texts),
+        SemiringName::OrAnd => answer_over::<OrAnd>(alloc, job, texts),
+        SemiringName::MaxMin => answer_over::<MaxMin>(alloc, job, texts),
     }
 }
 

@@ -1,14 +1,18 @@
 //! Reads a command line. Words are `clap`'s to judge: an unknown command or option, a missing file,
 //! one too many, an option given twice, a value that isn't offered are each a usage text.
-ghost use Rattle.std.specs.Prelude.{◌≢◌, String, ◌≡◌, IfOk, IfSome, vec_len};
+ghost use Rattle.std.specs.Prelude.{◌≢◌, String, ◌≡◌, IfOk, vec_len, if◌then◌else◌, is_some};
 ghost use Rattle.clap.specs.Words.{kind_of};
 ghost use Rattle.cb_cli.specs.Jobs.{file_count_of};
 
 use crate::jobs::{Job, Operation, UsageFault};
 use crate::semirings::{NAMES, SemiringName};
+use cb_layout::Grid;
+use cb_scripts::Engine;
 use clap::error::ErrorKind;
-use clap::{Arg, ArgAction, ArgMatches, Command};
+use clap::{Arg, ArgAction, ArgMatches, Command, value_parser};
 use std::alloc::{AllocError, Global};
+
+static ENGINES: [&str; 1] = ["plain"];
 
 fn help_option<'a>(alloc: Global) -> Arg<'a> {
     Arg::new(alloc, "help")
@@ -33,6 +37,31 @@ fn semiring_option<'a>(alloc: Global) -> Arg<'a> {
         .help("What adds and multiplies values")
 }
 
+fn grid_option<'a>(alloc: Global) -> Arg<'a> {
+    Arg::new(alloc, "grid")
+        .long("grid")
+        .value_name("N")
+        .value_parser(value_parser!(u32).range(1..=6))
+        .default_value("2")
+        .help("The side of the grid of ranks, 1 to 6")
+}
+
+fn engine_option<'a>(alloc: Global) -> Arg<'a> {
+    Arg::new(alloc, "engine")
+        .long("engine")
+        .value_name("ENGINE")
+        .value_parser(ENGINES.as_slice())
+        .default_value("plain")
+        .help("What runs the plan of the ranks")
+}
+
+fn mask_option<'a>(alloc: Global) -> Arg<'a> {
+    Arg::new(alloc, "mask")
+        .long("mask")
+        .value_name("FILE")
+        .help("Keep the entries at the places where this matrix has one")
+}
+
 fn command<'a>(
     alloc: Global,
     name: &'a str,
@@ -45,7 +74,11 @@ fn command<'a>(
     for name in files {
         command = command.arg(file(alloc, name))?;
     }
-    command.arg(semiring_option(alloc))?.arg(help_option(alloc))
+    command
+        .arg(semiring_option(alloc))?
+        .arg(grid_option(alloc))?
+        .arg(engine_option(alloc))?
+        .arg(help_option(alloc))
 }
 
 fn cbgrid<'a>(alloc: Global) -> Result<Command<'a>, AllocError> {
@@ -60,7 +93,8 @@ fn cbgrid<'a>(alloc: Global) -> Result<Command<'a>, AllocError> {
             "multiply",
             "Write the product of two matrices",
             &["A", "B"],
-        )?)
+        )?
+        .arg(mask_option(alloc))?)
 }
 
 fn usage(alloc: Global, text: &str) -> UsageFault {
@@ -90,48 +124,71 @@ fn fault_of(alloc: Global, error: &clap::Error) -> UsageFault
     }
 }
 
-/// The files of an operation, in the order in which they are read.
+/// The names of files, in the order in which they are read.
 fn file_names(
     alloc: Global,
-    found: &ArgMatches<'_>,
-    operation: Operation,
-) -> Result<Option<Vec<String>>, AllocError>
-    ensures { IfOk result (λ o. IfSome o (λ v. vec_len v ≡ file_count_of operation)) }
+    first: &str,
+    second: &str,
+    mask: Option<&str>,
+) -> Result<Vec<String>, AllocError>
+    ensures { IfOk result (λ v. vec_len v ≡ (if is_some mask.entry then 3 else 2)) }
 {
-    let mut files = Vec::new(alloc);
-    let (first, second) = match operation {
-        Operation::Multiply => ("A", "B"),
-    };
-    let (Some(first), Some(second)) = (found.get_str(first), found.get_str(second)) else {
-        return Ok(None);
-    };
+    let mut files = Vec::with_capacity(alloc, 3)?;
     files.push(String::from_str(alloc, first)?)?;
     files.push(String::from_str(alloc, second)?)?;
-    Ok(Some(files))
+    if let Some(mask) = mask {
+        files.push(String::from_str(alloc, mask)?)?;
+    }
+    Ok(files)
 }
 
-fn job_of(alloc: Global, matches: &ArgMatches<'_>) -> Result<Option<Job>, AllocError> {
-    let Some((name, found)) = matches.subcommand() else {
+fn engine_of(found: &ArgMatches<'_>) -> Option<Engine> {
+    match found.get_str("engine")? {
+        "plain" => Some(Engine::Plain),
+        _ => None,
+    }
+}
+
+fn grid_of(found: &ArgMatches<'_>) -> Option<Grid> {
+    Grid::new(found.get_one::<u32>("grid")?).ok()
+}
+
+fn semiring_of(found: &ArgMatches<'_>) -> Option<SemiringName> {
+    SemiringName::named(found.get_str("semiring")?)
+}
+
+/// The product that `multiply` asks for.
+fn product_of(alloc: Global, found: &ArgMatches<'_>) -> Result<Option<Job>, AllocError> {
+    let (Some(first), Some(second)) = (found.get_str("A"), found.get_str("B")) else {
         return Ok(None);
     };
-    let operation = match name {
-        "multiply" => Operation::Multiply,
-        _ => return Ok(None),
-    };
-    let Some(semiring) = found.get_str("semiring") else {
+    let (Some(semiring), Some(grid), Some(engine)) = (
+        semiring_of(found),
+        grid_of(found),
+        engine_of(found),
+    ) else {
         return Ok(None);
     };
-    let Some(semiring) = SemiringName::named(semiring) else {
-        return Ok(None);
+    let mask = found.get_str("mask");
+    let operation = match mask {
+        None => Operation::Multiply,
+        Some(_) => Operation::MultiplyMasked,
     };
-    let Some(files) = file_names(alloc, found, operation)? else {
-        return Ok(None);
-    };
+    let files = file_names(alloc, first, second, mask)?;
     Ok(Some(Job {
         operation,
         semiring,
+        grid,
+        engine,
         files,
     }))
+}
+
+fn job_of(alloc: Global, matches: &ArgMatches<'_>) -> Result<Option<Job>, AllocError> {
+    match matches.subcommand() {
+        Some(("multiply", found)) => product_of(alloc, found),
+        _ => Ok(None),
+    }
 }
 
 /// Reads the words of a command line, of which the first is the program's name. A job names as many

@@ -1,4 +1,6 @@
 //! Worked examples, with ample memory and with each allocation refused in turn.
+ghost use Rattle.std.specs.Prelude.{◌≡◌, IfOk};
+
 use crate::{Block, BlockFault};
 use cb_matrix::{Entry, LIMIT, Shape};
 use cb_semirings::{MinPlus, PlusTimes};
@@ -8,7 +10,9 @@ const fn entry(row: u32, column: u32, value: u64) -> Entry {
     Entry { row, column, value }
 }
 
-fn shape(rows: u32, cols: u32) -> Result<Shape, Fail> {
+fn shape(rows: u32, cols: u32) -> Result<Shape, Fail>
+    ensures { IfOk result (λ s. s ≡ record { rows = rows; cols = cols }) }
+{
     Ok(Shape::new(rows, cols).ok_or("past the limit")?)
 }
 
@@ -108,5 +112,21 @@ fn refused_memory_is_said(rt: HostRuntime) -> Result<(), Fail> {
         return Ok(());
     };
     assert_eq!(rt; entries.as_slice(), spread().as_slice());
+    Ok(())
+}
+
+/// The same for the call that a block grows by: where it is refused, the block is as it was.
+#[test]
+fn a_refused_push_stores_nothing(rt: HostRuntime) -> Result<(), Fail> {
+    let side = shape(4, 1000)?;
+    let mut block = Block::<PlusTimes>::empty(rt.alloc(), side);
+    let first = Entry {
+        row: 2,
+        column: 3,
+        value: 6,
+    };
+    let pushed = block.push(first);
+    let held = if pushed.is_ok() { (1, 1, 6) } else { (0, 0, 0) };
+    assert_eq!(rt; (block.len(), block.columns(), block.get(2, 3)), held);
     Ok(())
 }

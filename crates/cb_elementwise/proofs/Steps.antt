@@ -1,16 +1,15 @@
 -- A cursor's steps.
-use Rattle.std.proofs.Common.{◌≡◌, ◌≢◌, ℕ, zero, suc, ◌+◌, ◌-◌, ◌<◌, ◌≤◌, true, false, cond, Some, None, List, [], ◌∷◌, ◌++◌, length, take, drop, get_or, sym, refl, ap, ◌∙◌, ⊎_elim, arith, subst, length-append, length-drop, length-take}
+use Rattle.std.proofs.Common.{◌≡◌, ◌≢◌, ℕ, suc, ◌+◌, ◌-◌, ◌<◌, ◌≤◌, true, false, cond, Some, None, List, [], ◌∷◌, ◌++◌, length, take, drop, get_or, sym, refl, ap, ◌∙◌, ⊎_elim, arith, subst, length-append, length-drop}
 use Rattle.std.specs.Prelude.{All, ◌==◌, slice_range, unwrap_or}
 use Rattle.std.proofs.lemmas.Bool.{cases_lt, cond-true, cond-false, eq-eqb, ne_eqb, eqb-true, eqb-false}
 use Rattle.std.proofs.lemmas.List.{take-append-drop, drop-drop, get_or-take, get_or-drop, get_or-map, drop_more, drop_all, nil_from_length, length-take-le}
 use Rattle.std.proofs.lemmas.List.Elements.{All-nil, All-cons, All-head, All-get_or, All-from_get_or, All-weaker, filter-append, filter_passes}
 use Rattle.cb_matrix.specs.declared.Entry.{Entry}
-use Rattle.cb_matrix.specs.Sparse.{is_at}
 use Rattle.cb_matrix.proofs.Places.{is_at-own}
 use Rattle.cb_dcsc.specs.Columns.{in_column, rows_of, values_of, with_front, columns_with_entries}
 use Rattle.cb_dcsc.proofs.Pieces.{in_column-all}
 use Rattle.cb_elementwise.specs.declared.cursors.Cursor.{Cursor}
-use Rattle.cb_elementwise.specs.Walks.{first_of, past, value_here, IsEnd, Stands}
+use Rattle.cb_elementwise.specs.Walks.{first_of, past, IsEnd, Stands}
 
 -- ---- the end of a column
 none_in : (c : ℕ) (es : List Entry) → in_column c es ≡ [] → All (λ e. e.column ≢ c) es

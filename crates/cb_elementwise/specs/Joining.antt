@@ -2,7 +2,7 @@
 use Rattle.std.specs.Prelude.{◌≡◌, ℕ, ◌⊎◌, List, ◌++◌, All, AllPairs}
 use Rattle.cb_semirings.specs.Arithmetic.{Arithmetic, IsValue}
 use Rattle.cb_matrix.specs.declared.Entry.{Entry}
-use Rattle.cb_matrix.specs.Sparse.{Sparse, Extent, IsMatrix, at, value_at, IsBefore, IsInside}
+use Rattle.cb_matrix.specs.Sparse.{Sparse, Extent, IsMatrix, value_at, IsBefore, IsInside}
 use Rattle.cb_matrix.specs.Combined.{stored}
 
 -- an entry more, unless its value is zero

@@ -1,17 +1,15 @@
 -- The blocks of a grid are tiles, and glued together they are the matrix.
-use Rattle.std.proofs.Common.{◌≡◌, ℕ, ◌+◌, ◌*◌, ◌/◌, ◌%◌, ◌<◌, List, refl, sym, ap, subst, ◌∙◌, arith}
+use Rattle.std.proofs.Common.{◌≡◌, ℕ, ◌+◌, ◌*◌, ◌/◌, ◌%◌, ◌<◌, List, refl, sym, ap, subst, ◌∙◌}
 use Rattle.cb_semirings.specs.Arithmetic.{Arithmetic, IsSemiring}
 use Rattle.cb_matrix.specs.Sparse.{Extent, Sparse, IsMatrix, at}
-use Rattle.cb_matrix.specs.Values.{matrix_of}
 use Rattle.cb_matrix.proofs.Made.{at-matrix_of}
 use Rattle.cb_matrix.proofs.Equal.{matrix_is}
 use Rattle.cb_layout.specs.Parts.{part_start, part_length, part_shape}
 use Rattle.cb_layout.specs.Blocks.{block_of, block_at, part_with, place_in_part, glued}
-use Rattle.cb_layout.proofs.Parts.{row_of_rank, column_of_rank, rank_below, rank_of, row_below, part_below, start_there, place_below, own_below, own_part}
-use Rattle.cb_layout.specs.Tiles.{Tiles, block_tiles}
+use Rattle.cb_layout.proofs.Parts.{row_of_rank, column_of_rank, rank_below, rank_of, part_below, start_there, place_below, own_below, own_part}
+use Rattle.cb_layout.specs.Tiles.{block_tiles}
 use Rattle.cb_layout.proofs.Tiles.{IsTiling}
 use Rattle.cb_layout.proofs.Scattered.{IsScattered, tile_is}
-use Rattle.std.proofs.lemmas.Nat.{mod_below}
 
 pub block_tiling : (q : ℕ) (shape : Extent) → 0 < q → IsTiling shape (block_tiles q shape)
 block_tiling q shape pos =

@@ -1,9 +1,9 @@
 -- How far the columns of each block are merged.
-use Rattle.std.proofs.Common.{◌≡◌, ◌≢◌, ℕ, zero, suc, ◌+◌, ◌-◌, ◌*◌, ◌/◌, ◌%◌, ◌^◌, ◌<◌, ◌≤◌, true, false, cond, List, [], ◌∷◌, ◌++◌, length, map, take, filter, get_or, set, refl, sym, ap, subst, ⊎_elim, ◌∙◌, arith, append-nil, append_assoc}
-use Rattle.std.specs.Prelude.{All, AllPairs, ◌==◌, nat_lt, flat_map}
-use Rattle.std.proofs.lemmas.Bool.{cases_eq, cases_lt, eqb-true, eqb-false}
+use Rattle.std.proofs.Common.{◌≡◌, ◌≢◌, ℕ, zero, suc, ◌+◌, ◌-◌, ◌*◌, ◌^◌, ◌<◌, ◌≤◌, true, false, cond, List, [], ◌∷◌, ◌++◌, length, get_or, set, refl, sym, ap, subst, ⊎_elim, ◌∙◌, arith, append-nil}
+use Rattle.std.specs.Prelude.{All, AllPairs, ◌==◌, flat_map}
+use Rattle.std.proofs.lemmas.Bool.{cases_lt, eqb-true, eqb-false}
 use Rattle.std.proofs.lemmas.Bool.Decides.{nat_tests}
-use Rattle.std.proofs.lemmas.List.{take_more, take_all, get_or-set_same, get_or-set_other}
+use Rattle.std.proofs.lemmas.List.{get_or-set_same, get_or-set_other}
 use Rattle.std.proofs.lemmas.List.Elements.{All-nil, All-cons, All-head, All-tail, All-weaker}
 use Rattle.cb_matrix.specs.declared.Entry.{Entry}
 use Rattle.cb_matrix.specs.Sparse.{Sparse, IsBefore}
@@ -11,8 +11,6 @@ use Rattle.cb_matrix.proofs.Places.{AllPairs-head, AllPairs-tail}
 use Rattle.cb_matrix.proofs.Made.{AllPairs-nil, AllPairs-cons}
 use Rattle.cb_dcsc.specs.Columns.{in_column, columns_with_entries, with_front}
 use Rattle.cb_layout.specs.Blocks.{block_at}
-use Rattle.cb_layout.specs.Tiles.{first_columns, before_column, up_to}
-use Rattle.cb_layout.proofs.Parts.{row_of_rank, column_of_rank, rank_of, row_below}
 
 -- the columns that have entries in the block of row i of the grid
 abbrev pub columns_in : ℕ → List Sparse → ℕ → ℕ → List ℕ

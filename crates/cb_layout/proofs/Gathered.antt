@@ -1,10 +1,10 @@
 -- Entries of tiles, with their places in the whole shape.
 use Rattle.std.proofs.Common.{◌≡◌, ◌≢◌, ℕ, zero, suc, ◌+◌, ◌<◌, true, false, cond, List, [], ◌∷◌, ◌++◌, length, map, get_or, filter, refl, sym, ap, subst, ⊎_elim, ◌∙◌, arith, append-nil}
-use Rattle.std.specs.Prelude.{All, AllPairs, ◌==◌}
+use Rattle.std.specs.Prelude.{All, AllPairs}
 use Rattle.std.specs.List.{range_with_len}
-use Rattle.std.proofs.lemmas.Bool.{cases_eq, cond-false, eqb-true, eqb-false, false_from_ne_true}
+use Rattle.std.proofs.lemmas.Bool.{cases_eq, false_from_ne_true}
 use Rattle.std.proofs.lemmas.Bool.Decides.{nat_tests}
-use Rattle.std.proofs.lemmas.List.Elements.{All-nil, All-cons, All-head, All-tail, All-append, All-weaker}
+use Rattle.std.proofs.lemmas.List.Elements.{All-nil, All-cons, All-head, All-tail, All-append}
 use Rattle.cb_semirings.specs.Arithmetic.{Arithmetic, IsValue, IsSemiring}
 use Rattle.cb_matrix.specs.declared.Entry.{Entry}
 use Rattle.cb_matrix.specs.Sparse.{Extent, Sparse, IsMatrix, is_at, at, value_at, IsBefore, IsInside}
@@ -13,7 +13,6 @@ use Rattle.cb_matrix.proofs.Places.{is_at-parts, AllPairs-head, AllPairs-tail}
 use Rattle.cb_matrix.proofs.Totals.{values_at-append, total-one}
 use Rattle.cb_matrix.proofs.Product.{same_matrix_of}
 use Rattle.cb_dcsc.specs.Columns.{rows_of, values_of}
-use Rattle.cb_layout.specs.Blocks.{block_at}
 use Rattle.cb_layout.specs.Tiles.{Tiles, IsGathered}
 use Rattle.cb_layout.proofs.Tiles.{IsTiling}
 

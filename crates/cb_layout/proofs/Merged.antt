@@ -1,10 +1,10 @@
 -- One column more of one block, among the entries of a grid's column.
-use Rattle.std.proofs.Common.{◌≡◌, ◌≢◌, ℕ, zero, suc, ◌+◌, ◌*◌, ◌/◌, ◌%◌, ◌^◌, ◌<◌, ◌≤◌, true, false, cond, List, [], ◌∷◌, ◌++◌, length, map, take, get_or, set, refl, sym, ap, subst, ⊎_elim, ◌∙◌, arith, append-nil, append_assoc}
-use Rattle.std.specs.Prelude.{All, AllPairs, ◌==◌, nat_lt, flat_map}
+use Rattle.std.proofs.Common.{◌≡◌, ◌≢◌, ℕ, ◌+◌, ◌*◌, ◌/◌, ◌%◌, ◌<◌, ◌≤◌, true, false, cond, List, [], ◌∷◌, ◌++◌, length, map, take, get_or, set, refl, sym, ap, subst, ⊎_elim, ◌∙◌, arith, append-nil, append_assoc}
+use Rattle.std.specs.Prelude.{All, ◌==◌, nat_lt, flat_map}
 use Rattle.std.specs.List.{range_with_len}
-use Rattle.std.proofs.lemmas.Bool.{cases_eq, cases_lt, eqb-true, eqb-false}
+use Rattle.std.proofs.lemmas.Bool.{cases_eq, eqb-true}
 use Rattle.std.proofs.lemmas.Bool.Decides.{nat_tests}
-use Rattle.std.proofs.lemmas.List.{take_more, take_all, get_or-set_same, get_or-set_other, length-map}
+use Rattle.std.proofs.lemmas.List.{take_more, take_all, get_or-set_same, get_or-set_other}
 use Rattle.std.proofs.lemmas.List.Elements.{All-filter, All-map, All-weaker, All-nil, All-cons}
 use Rattle.cb_semirings.specs.Arithmetic.{Arithmetic, IsValue, IsSemiring}
 use Rattle.cb_matrix.specs.declared.Entry.{Entry}
@@ -14,10 +14,10 @@ use Rattle.std.proofs.lemmas.Nat.{mod_below}
 use Rattle.cb_dcsc.specs.Columns.{in_column, columns_with_entries, rows_of, values_of}
 use Rattle.cb_layout.specs.Parts.{part_start, part_length, part_shape}
 use Rattle.cb_layout.specs.Blocks.{block_at, glued}
-use Rattle.cb_layout.specs.Tiles.{Tiles, block_tiles, IsGathered, first_columns, before_column, up_to}
+use Rattle.cb_layout.specs.Tiles.{block_tiles, IsGathered, first_columns, before_column, up_to}
 use Rattle.cb_layout.proofs.Parts.{row_of_rank, column_of_rank, rank_below, rank_of, row_below, own_below}
 use Rattle.cb_layout.proofs.Cuts.{block_tiling}
-use Rattle.cb_layout.proofs.Gathered.{placed_entry, placed_column, gathered_none, gathered_more, gathered_same, gathered_all}
+use Rattle.cb_layout.proofs.Gathered.{placed_column, gathered_none, gathered_more, gathered_same, gathered_all}
 use Rattle.cb_layout.proofs.Fronts.{columns_in, IsDone, columns_all, columns_whole}
 
 flat_more : (f : ℕ → List Entry) (xs ys : List ℕ) → flat_map f (xs ++ ys) ≡ flat_map f xs ++ flat_map f ys

@@ -1,21 +1,20 @@
 -- A matrix in as many lists of entries as there are tiles.
-use Rattle.std.proofs.Common.{◌≡◌, ◌≢◌, ℕ, ◌+◌, ◌*◌, ◌/◌, ◌%◌, ◌<◌, ◌≤◌, List, [], ◌∷◌, ◌++◌, length, length-take, map, take, min, get_or, set, refl, sym, ap, subst, ⊎_elim, ◌∙◌, arith}
+use Rattle.std.proofs.Common.{◌≡◌, ◌≢◌, ℕ, ◌+◌, ◌<◌, ◌≤◌, List, [], ◌∷◌, ◌++◌, length, length-take, map, take, min, get_or, set, refl, sym, ap, subst, ⊎_elim, ◌∙◌, arith}
 use Rattle.std.specs.Prelude.{All, AllPairs}
 use Rattle.std.specs.List.{range_with_len}
 use Rattle.std.proofs.lemmas.Bool.{cases_eq}
 use Rattle.std.proofs.lemmas.List.{take_more, take_all, get_or-take, get_or_default, get_or-set_same, get_or-set_other, length-set}
 use Rattle.std.proofs.lemmas.List.FromFn.{length-map-range_with_len, get_or-map-range_with_len}
 use Rattle.std.proofs.lemmas.List.Elements.{All-take}
-use Rattle.cb_semirings.specs.Arithmetic.{Arithmetic, IsValue, IsSemiring}
+use Rattle.cb_semirings.specs.Arithmetic.{Arithmetic, IsSemiring}
 use Rattle.cb_matrix.specs.declared.Entry.{Entry}
 use Rattle.cb_matrix.specs.Sparse.{Extent, Sparse, IsMatrix, at, IsBefore, IsInside}
 use Rattle.cb_matrix.specs.Values.{matrix_of, empty_matrix}
-use Rattle.cb_matrix.proofs.Made.{at-matrix_of}
 use Rattle.cb_matrix.proofs.Equal.{matrix_is}
 use Rattle.cb_dcsc.specs.Columns.{with_entry}
 use Rattle.cb_layout.specs.Blocks.{block_at}
 use Rattle.cb_layout.specs.Tiles.{Tiles}
-use Rattle.cb_layout.proofs.Tiles.{IsTiling, owner_of, moved, entries_of, tile_of, entries_of-none, entries_of-own, entries_of-other, moved_inside, tile_before, tile_matrix, tile_value}
+use Rattle.cb_layout.proofs.Tiles.{IsTiling, owner_of, moved, tile_of, entries_of-none, entries_of-own, entries_of-other, moved_inside, tile_before, tile_matrix, tile_value}
 
 -- each block has the entries of its tile
 pub record IsScattered (t : Tiles) (es : List Entry) (blocks : List Sparse) : Type 0 where

@@ -1,10 +1,10 @@
 -- The pieces of vectors are tiles.
-use Rattle.std.proofs.Common.{◌≡◌, ℕ, zero, suc, ◌+◌, ◌-◌, ◌*◌, ◌/◌, ◌%◌, ◌<◌, ◌≤◌, true, false, cond, List, [], ◌∷◌, ◌++◌, length, map, get_or, refl, sym, ap, subst, ⊎_elim, ◌∙◌, arith}
-use Rattle.std.specs.Prelude.{All, nat_lt, ◌≢◌}
+use Rattle.std.proofs.Common.{◌≡◌, ℕ, zero, suc, ◌+◌, ◌-◌, ◌*◌, ◌/◌, ◌%◌, ◌<◌, true, false, List, [], ◌++◌, length, map, get_or, refl, sym, ap, subst, ◌∙◌, arith}
+use Rattle.std.specs.Prelude.{All, nat_lt}
 use Rattle.std.specs.List.{range_with_len}
 use Rattle.std.proofs.lemmas.Bool.Decides.{nat_tests}
 use Rattle.std.proofs.lemmas.List.Elements.{All-map, All-weaker}
-use Rattle.cb_semirings.specs.Arithmetic.{Arithmetic, IsValue, IsSemiring}
+use Rattle.cb_semirings.specs.Arithmetic.{Arithmetic, IsSemiring}
 use Rattle.cb_matrix.specs.declared.Entry.{Entry}
 use Rattle.cb_matrix.specs.Sparse.{Extent, Sparse, IsMatrix, IsInside, at}
 use Rattle.cb_matrix.specs.Values.{matrix_of, collected}
@@ -14,7 +14,7 @@ use Rattle.cb_dcsc.specs.Columns.{rows_of, values_of}
 use Rattle.cb_layout.specs.Parts.{part_start, part_length}
 use Rattle.cb_layout.specs.Blocks.{block_at, part_with, place_in_part}
 use Rattle.cb_layout.specs.Vectors.{piece_start, piece_shape, piece_of, piece_with, place_in_piece, glued_pieces}
-use Rattle.cb_layout.specs.Tiles.{Tiles, input_tiles, result_tiles, IsGathered, before_rank}
+use Rattle.cb_layout.specs.Tiles.{input_tiles, result_tiles, IsGathered, before_rank}
 use Rattle.cb_layout.proofs.Parts.{row_of_rank, column_of_rank, rank_below, rank_of, row_below, part_below, start_there, place_below, own_below, own_part}
 use Rattle.cb_layout.proofs.Tiles.{IsTiling}
 use Rattle.cb_layout.proofs.Scattered.{IsScattered, tile_is}

@@ -1,5 +1,5 @@
 -- What the definitions give in a few cases.
-use Rattle.std.proofs.Common.{◌≡◌, ℕ, [], ◌∷◌, refl}
+use Rattle.std.proofs.Common.{◌≡◌, [], ◌∷◌, refl}
 use Rattle.cb_layout.specs.Parts.{part, row_group, column_group}
 use Rattle.cb_layout.specs.Blocks.{part_with, place_in_part}
 use Rattle.cb_layout.specs.Vectors.{piece}

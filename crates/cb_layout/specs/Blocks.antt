@@ -1,11 +1,11 @@
 -- A matrix cut into blocks over a grid, and glued together again.
-use Rattle.std.specs.Prelude.{ℕ, ◌+◌, ◌*◌, ◌/◌, ◌%◌, List, slice_index_or}
+use Rattle.std.specs.Prelude.{ℕ, ◌/◌, ◌%◌, List, slice_index_or}
 use Rattle.std.specs.Int.{div_ceil}
 use Rattle.cb_semirings.specs.Arithmetic.{Arithmetic}
 use Rattle.cb_matrix.specs.Sparse.{Extent, Sparse, at}
 use Rattle.cb_matrix.specs.Values.{matrix_of, empty_matrix}
 use Rattle.cb_matrix.specs.Operations.{cut}
-use Rattle.cb_layout.specs.Parts.{part, part_start, part_length}
+use Rattle.cb_layout.specs.Parts.{part}
 
 -- the block of rank (i, j): what is in row part i and column part j
 abbrev pub block_of : Arithmetic → ℕ → Sparse → ℕ → ℕ → Sparse

@@ -1,5 +1,5 @@
 -- A vector, which is a matrix of one column, spread over all ranks: each part is cut again into q pieces.
-use Rattle.std.specs.Prelude.{ℕ, ◌+◌, List}
+use Rattle.std.specs.Prelude.{ℕ, ◌+◌}
 use Rattle.cb_semirings.specs.Arithmetic.{Arithmetic}
 use Rattle.cb_matrix.specs.Sparse.{Extent, Sparse, at}
 use Rattle.cb_matrix.specs.Values.{matrix_of}

@@ -30,7 +30,8 @@ impl Grid {
     {
         let _side = self.side();
         let shape = matrix.shape();
-        let mut blocks = self.empty_blocks(alloc, shape)?;
+        let each = matrix.len() / usize::from(self.ranks());
+        let mut blocks = self.empty_blocks(alloc, shape, each)?;
         for entry in matrix.entries() {
             let (rank, local) = self.in_block(shape, *entry);
             deliver(&mut blocks, rank, local)?;
@@ -38,18 +39,19 @@ impl Grid {
         Ok(blocks)
     }
 
-    /// A block without entries for each rank.
+    /// A block without entries for each rank, with room for so many.
     fn empty_blocks<S: Semiring>(
         &self,
         alloc: Global,
         shape: Shape,
+        each: usize,
     ) -> Result<Vec<Block<S>>, AllocError>
         ensures { IfOk result (λ v. v.items ≡ map (λ r. empty_matrix (part_shape self.now.side shape (r / self.now.side) (r % self.now.side))) (range_with_len 0 (self.now.side * self.now.side))) }
     {
         let mut blocks = Vec::new(alloc);
         for rank in 0..self.ranks() {
             let part = self.block_shape(shape, rank);
-            blocks.push(Block::empty(alloc, part))?;
+            blocks.push(roomy(alloc, part, each)?)?;
         }
         Ok(blocks)
     }
@@ -101,6 +103,15 @@ impl Grid {
         let length = d.div_ceil(self.side());
         (place / length, place % length)
     }
+}
+
+/// A block without entries, with room for so many.
+fn roomy<S: Semiring>(alloc: Global, shape: Shape, entries: usize) -> Result<Block<S>, AllocError>
+    ensures { IfOk result (λ block. block ≡ empty_matrix shape) }
+{
+    let mut block = Block::empty(alloc, shape);
+    block.reserve(entries)?;
+    Ok(block)
 }
 
 /// Stores one entry more in one of the blocks, after all the others.

@@ -27,7 +27,7 @@ module _ (s : Arithmetic) (laws : IsSemiring s) (a : Sparse) (is : IsMatrix s a)
   abbrev vs : List ℕ
   vs = values_of a.entries
 
-  lengths : length vs ≡ length ks
+  pub lengths : length vs ≡ length ks
   lengths = length-map a.entries (λ (e : Entry). e.value) ∙ sym (length-map a.entries (λ (e : Entry). e.row))
 
   all_values : All (IsValue s) vs

@@ -6,3 +6,4 @@ pub mod Produced
 pub mod Union
 pub mod Summed
 pub mod Stored
+pub mod Scaled

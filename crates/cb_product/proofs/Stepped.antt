@@ -18,7 +18,7 @@ use Rattle.cb_dcsc.specs.Columns.{row_value}
 use Rattle.cb_product.specs.Heads.{head_value, heads_value, entries_left, IsHead, one_value, Gives, by_row}
 use Rattle.cb_matrix.proofs.Permuted.{sum-permutation, sum_value}
 
-range_first : (xs : List ℕ) (a b d : ℕ) → a < b → b ≤ length xs → slice_range xs a b ≡ get_or xs a d ∷ slice_range xs (a + 1) b
+pub range_first : (xs : List ℕ) (a b d : ℕ) → a < b → b ≤ length xs → slice_range xs a b ≡ get_or xs a d ∷ slice_range xs (a + 1) b
 range_first xs a b d l m =
     let n : b - a ≡ suc (b - (a + 1)) = omega arith in
     ap (λ k. take k (drop a xs)) n ∙ ap (take (suc (b - (a + 1)))) (drop_more xs a d (omega arith))

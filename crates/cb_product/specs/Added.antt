@@ -52,3 +52,11 @@ pub record Storing (s : Arithmetic) (j : ℕ) (f : ℕ → ℕ) (old : Sparse) (
   pub before : All (λ e. (e.column < j) ⊎ ((e.column ≡ j) × (e.row < row))) out.entries
   pub here : (i : ℕ) → i < row → at s out i j ≡ f i
   pub elsewhere : (i k : ℕ) → k ≢ j → at s out i k ≡ at s old i k
+
+-- what column j of `out` has, and what `rest` has still to give, make f; elsewhere it has what `old` has
+pub record Scaling (s : Arithmetic) (j : ℕ) (f : ℕ → ℕ) (old : Sparse) (rest : ℕ → ℕ) (out : Sparse) : Type 0 where
+  pub shape : out.shape ≡ old.shape
+  pub matrix : IsMatrix s out
+  pub up_to : All (λ e. e.column ≤ j) out.entries
+  pub sums : (i : ℕ) → s.add (at s out i j) (rest i) ≡ f i
+  pub elsewhere : (i k : ℕ) → k ≢ j → at s out i k ≡ at s old i k

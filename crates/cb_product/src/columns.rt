@@ -3,7 +3,7 @@ ghost use Rattle.std.specs.Prelude.{◌≡◌, ◌≢◌, ℕ, ◌<◌, ◌≤�
 ghost use Rattle.std.specs.BinaryHeap.{IsHeap, heap_items};
 ghost use Rattle.cb_semirings.specs.Arithmetic.{IsValue};
 ghost use Rattle.cb_matrix.specs.Sparse.{IsMatrix, IsInside, IsBefore};
-ghost use Rattle.cb_product.specs.Heads.{IsHead, GivesEither, by_row, heads_value, own_value};
+ghost use Rattle.cb_product.specs.Heads.{IsHead, IsPart, GivesEither, by_row, head_value, heads_value, own_value};
 ghost use Rattle.cb_product.specs.Added.{AddsColumn, with_stored};
 
 use crate::heads::{Head, next};
@@ -120,6 +120,35 @@ pub(crate) fn merge<S: Semiring>(
         }
     }
     keep(out, current)?;
+    Ok(())
+}
+
+/// Appends one column, scaled: nothing is added to it, so its rows are in order, and only the products that come
+/// to zero are left out.
+pub(crate) fn scaled<S: Semiring>(
+    out: &mut Block<S>,
+    column: u32,
+    rows: &[u32],
+    values: &[u64],
+    head: Head,
+) -> Result<(), AllocError>
+    requires lengths { length values.now ≡ length rows.now }
+    requires values { All (IsValue S.arithmetic) values.now }
+    requires head { IsPart S.arithmetic rows.now head }
+    requires matrix { IsMatrix S.arithmetic out.old }
+    requires column { column < out.old.shape.cols }
+    requires rows { All (λ i. i < out.old.shape.rows) rows.now }
+    requires before { All (λ e. e.column < column) out.old.entries }
+    ensures adds { OnOk result (AddsColumn S.arithmetic column (λ i. head_value S.arithmetic rows.now values.now i head) out.old out.new) }
+{
+    for at in head.at..head.end {
+        let entry = Entry {
+            row: rows[at],
+            column,
+            value: S::mul(values[at], head.scale),
+        };
+        keep(out, entry)?;
+    }
     Ok(())
 }
 

@@ -2,9 +2,9 @@
 //!
 //! Column j of a product is a sum of columns of the left block: the entries (k, j) of the right block name
 //! them, and scale them. Their rows ascend, so a heap over their heads gives the products of the column by
-//! ascending row; equal rows are added, and a sum that is zero isn't stored. Nothing is as long as a dimension
-//! of the shapes, so blocks of 2,147,483,647 rows and columns cost what their entries cost. With an
-//! accumulator, its own column is merged in beside the heads.
+//! ascending row; equal rows are added, and a sum that is zero isn't stored. A single column is copied as it is
+//! scaled, without the heap. Nothing is as long as a dimension of the shapes, so blocks of 2,147,483,647 rows and
+//! columns cost what their entries cost. With an accumulator, its own column is merged in beside the heads.
 //!
 //! The method is that of Buluç and Gilbert, Parallel Sparse Matrix-Matrix Multiplication and Indexing (SIAM J.
 //! Sci. Comput. 2012, section 4.2): time (products) times log (columns merged), plus the entries read and
@@ -126,8 +126,9 @@ fn accumulate<S: Semiring>(
 }
 
 /// Appends a column: at each row, the sum of what the accumulator's column and the heads have there, where it is
-/// not zero. Where the heads have a product for every fourth row, they are added in an array with a place for
-/// each row, so that no order has to be kept; else, as in a hypersparse block, they are merged by the heap.
+/// not zero. A single head, with nothing to add to, is copied as it is scaled. Where the heads have a product for
+/// every sixteenth row, they are added in an array with a place for each row, so that no order has to be kept; else,
+/// as in a hypersparse block, they are merged by the heap.
 fn add_column<S: Semiring>(
     out: &mut Block<S>,
     column: u32,
@@ -154,8 +155,14 @@ fn add_column<S: Semiring>(
     ensures zeros_again { OnOk result (All (λ x. x ≡ S.arithmetic.zero) sums.new.items) }
     ensures adds { OnOk result (AddsColumn S.arithmetic column (λ i. S.arithmetic.add (own_value S.arithmetic own_rows.now own_values.now 0 i) (heads_value S.arithmetic (rows_of left.now.entries) (values_of left.now.entries) i (heap_items heads.old))) out.old out.new) }
 {
+    if own_rows.is_empty() && heads.len() == 1 {
+        let head = heads.as_slice()[0];
+        heads.clear();
+        columns::scaled(out, column, left.rows(), left.values(), head)?;
+        return Ok(());
+    }
     let rows = left.shape().rows();
-    if heads::products_left(heads) >= rows as usize / 4 {
+    if heads::products_left(heads) >= rows as usize / 16 {
         sums::make_room::<S>(sums, rows as usize)?;
         sums::merge(out, column, heads, sums, left, own_rows, own_values)?;
         return Ok(());

@@ -140,6 +140,22 @@ fn three_columns_meet_in_one_row(rt: HostRuntime) -> Result<(), Fail> {
     Ok(())
 }
 
+/// A column that names one column is copied as it is scaled, and 2 times 2^63 is zero.
+#[test]
+fn one_named_column_is_a_scaled_copy(rt: HostRuntime) -> Result<(), Fail> {
+    let alloc = rt.alloc();
+    let given = [entry(0, 0, 1 << 63), entry(2, 0, 3), entry(1, 1, 9)];
+    let a = block(alloc, 3, 2, &given)?;
+    let b = block(alloc, 2, 2, &[entry(0, 0, 2), entry(1, 1, 5)])?;
+    assert!(rt; a.shape().cols() == b.shape().rows());
+    let product = multiply(alloc, &a, &b)?;
+    assert_eq!(rt;
+        product.entries()?.as_slice(),
+        [entry(2, 0, 6), entry(1, 1, 45)].as_slice()
+    );
+    Ok(())
+}
+
 #[test]
 fn a_tall_accumulator_is_merged_in(rt: HostRuntime) -> Result<(), Fail> {
     let alloc = rt.alloc();
@@ -211,6 +227,34 @@ fn a_refused_product_hands_the_accumulator_back(rt: HostRuntime) -> Result<(), F
             assert_eq!(rt; same.column_numbers(), [1].as_slice());
             assert_eq!(rt; same.rows(), [0, 1].as_slice());
             assert_eq!(rt; same.values(), [u64::MAX, 5].as_slice());
+        }
+    }
+    Ok(())
+}
+
+/// The same where the columns are merged by the heap, as 2,147,483,647 rows have two products.
+#[test]
+fn a_refused_tall_product_hands_the_accumulator_back(rt: HostRuntime) -> Result<(), Fail> {
+    let alloc = rt.alloc();
+    let given = [entry(5, 0, 2), entry(9, 0, 3), entry(9, 1, 4)];
+    let Ok(a) = Block::<PlusTimes>::from_sorted(alloc, shape(LIMIT, 2)?, &given) else {
+        return Ok(());
+    };
+    let both = [entry(0, 0, 10), entry(1, 0, 100)];
+    let Ok(b) = Block::<PlusTimes>::from_sorted(alloc, shape(2, 1)?, &both) else {
+        return Ok(());
+    };
+    let own = [entry(5, 0, 1)];
+    let Ok(start) = Block::<PlusTimes>::from_sorted(alloc, shape(LIMIT, 1)?, &own) else {
+        return Ok(());
+    };
+    assert!(rt; a.shape().cols() == b.shape().rows());
+    assert!(rt; start.shape() == shape(a.shape().rows(), b.shape().cols())?);
+    match multiply_into(alloc, &a, &b, start) {
+        Ok(sum) => assert_eq!(rt; sum.values(), [21, 430].as_slice()),
+        Err((same, _)) => {
+            assert_eq!(rt; same.rows(), [5].as_slice());
+            assert_eq!(rt; same.values(), [1].as_slice());
         }
     }
     Ok(())

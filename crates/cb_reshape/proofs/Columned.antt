@@ -1,8 +1,8 @@
 -- All entries, column by column.
-use Rattle.std.proofs.Common.{◌≡◌, ◌≢◌, ℕ, zero, suc, ◌+◌, ◌-◌, ◌<◌, ◌≤◌, true, false, cond, List, [], ◌∷◌, ◌++◌, length, map, filter, take, drop, get_or, sym, refl, ap, ◌∙◌, ⊎_elim, arith, subst, length-take, length-drop}
+use Rattle.std.proofs.Common.{◌≡◌, ◌≢◌, ℕ, ◌+◌, ◌-◌, ◌<◌, ◌≤◌, true, false, cond, List, [], ◌∷◌, ◌++◌, length, take, drop, get_or, sym, refl, ap, ◌∙◌, ⊎_elim, arith, subst, length-drop}
 use Rattle.std.specs.Prelude.{All, AllPairs, ◌==◌}
 use Rattle.std.specs.List.{flat_map}
-use Rattle.std.proofs.lemmas.Bool.{cond-true, cond-false, eq-eqb, ne_eqb, eqb-true, eqb-false}
+use Rattle.std.proofs.lemmas.Bool.{cond-true, eq-eqb, ne_eqb, eqb-true, eqb-false}
 use Rattle.std.proofs.lemmas.List.{append-nil, take_more, take-append-drop, get_or-take, get_or-drop, length-take-le}
 use Rattle.std.proofs.lemmas.List.Concat.{flat_map-append}
 use Rattle.std.proofs.lemmas.List.Elements.{All-nil, All-cons, All-head, All-tail, All-append, All-map, All-filter, All-from_get_or, All-weaker, filter_passes}
@@ -17,8 +17,8 @@ use Rattle.cb_dcsc.proofs.Pieces.{in_column-none, entries_in-column}
 use Rattle.cb_dcsc.proofs.Numbers.{columns_all, entries_all}
 use Rattle.cb_reshape.specs.declared.parts.Part.{Part}
 use Rattle.cb_reshape.specs.Turning.{with_entries}
-use Rattle.cb_reshape.specs.Moving.{Fits, is_in, moved_entry, moved_entries}
-use Rattle.cb_reshape.proofs.Taken.{IsIn, moved_none, moved_append, moved_all, column_below, column_past}
+use Rattle.cb_reshape.specs.Moving.{Fits, is_in, moved_entries}
+use Rattle.cb_reshape.proofs.Taken.{moved_none, moved_append, moved_all, column_below, column_past}
 
 -- ---- the columns that have entries
 later : (c d : ℕ) (ds : List ℕ) → c < d → AllPairs (λ i j. i < j) (d ∷ ds) → All (λ x. c < x) (d ∷ ds)

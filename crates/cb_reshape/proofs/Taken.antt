@@ -1,19 +1,18 @@
 -- The part of one column, moved.
-use Rattle.std.proofs.Common.{◌≡◌, ◌≢◌, ℕ, zero, suc, ◌+◌, ◌-◌, ◌<◌, ◌≤◌, true, false, cond, inl, inr, List, [], ◌∷◌, ◌++◌, length, map, filter, take, drop, get_or, sym, refl, ap, ◌∙◌, ⊎_elim, arith, subst, length-append, length-drop, length-take, append_assoc}
-use Rattle.std.specs.Prelude.{Bool, All, AllPairs, ◌==◌, ◌&&◌, nat_le, nat_lt}
+use Rattle.std.proofs.Common.{◌≡◌, ℕ, zero, suc, ◌+◌, ◌-◌, ◌<◌, ◌≤◌, true, false, inl, inr, List, [], ◌∷◌, ◌++◌, length, map, filter, take, drop, get_or, sym, refl, ap, ◌∙◌, ⊎_elim, arith, subst, length-drop, append_assoc}
+use Rattle.std.specs.Prelude.{All, AllPairs}
 use Rattle.std.proofs.lemmas.Bool.{cases_Bool}
 use Rattle.std.proofs.lemmas.Bool.Decides.{nat_tests}
 use Rattle.std.proofs.lemmas.List.{append-nil, map-append, take_more, take-append-drop, get_or-take, get_or-drop, length-take-le}
-use Rattle.std.proofs.lemmas.List.Elements.{All-nil, All-cons, All-head, All-tail, All-append, All-map, All-filter, All-from_get_or, All-weaker, filter-append, filter_passes, filter_more}
-use Rattle.cb_semirings.specs.Arithmetic.{Arithmetic, IsValue}
+use Rattle.std.proofs.lemmas.List.Elements.{All-head, All-tail, All-append, All-map, All-filter, All-from_get_or, All-weaker, filter-append, filter_passes}
 use Rattle.cb_matrix.specs.declared.Entry.{Entry}
-use Rattle.cb_matrix.specs.Sparse.{Sparse, Extent, IsMatrix, is_at, at, value_at, IsBefore, IsInside}
+use Rattle.cb_matrix.specs.Sparse.{Sparse, IsBefore}
 use Rattle.cb_dcsc.specs.Compressed.{entries_in}
 use Rattle.cb_dcsc.specs.Columns.{with_entry}
 use Rattle.cb_dcsc.proofs.Pieces.{length-entries_in}
 use Rattle.cb_reshape.specs.declared.parts.Part.{Part}
 use Rattle.cb_reshape.specs.Turning.{with_entries}
-use Rattle.cb_reshape.specs.Moving.{is_within, is_in, moved_entry, moved_entries, Fits}
+use Rattle.cb_reshape.specs.Moving.{is_in, moved_entry, moved_entries}
 
 -- ---- what is in the part
 pub is_in-true : (part : Part) (e : Entry) → part.rows.0 ≤ e.row → e.row < part.rows.1 → part.cols.0 ≤ e.column → e.column < part.cols.1 → is_in part e ≡ true

@@ -1,10 +1,9 @@
 -- The values of a part that was moved.
-use Rattle.std.proofs.Common.{◌≡◌, ◌≢◌, ℕ, zero, suc, ◌+◌, ◌-◌, ◌<◌, ◌≤◌, true, false, cond, List, [], ◌∷◌, sym, refl, ap, ◌∙◌, ⊎_elim, arith, subst}
-use Rattle.std.specs.Prelude.{Bool, All, ◌==◌, ◌&&◌, nat_le, nat_lt, Result, Ok, Err, IfOk}
+use Rattle.std.proofs.Common.{◌≡◌, ◌≢◌, ℕ, ◌+◌, ◌-◌, ◌<◌, ◌≤◌, true, false, cond, List, [], ◌∷◌, sym, refl, ap, ◌∙◌, ⊎_elim, arith}
+use Rattle.std.specs.Prelude.{◌==◌, ◌&&◌, Result, Ok, Err, IfOk}
 use Rattle.std.proofs.lemmas.Bool.{cases_Bool, cases_eq, cond-true, cond-false, eq-eqb, ne_eqb}
 use Rattle.std.proofs.lemmas.Bool.Decides.{nat_tests}
-use Rattle.std.proofs.lemmas.List.Elements.{All-weaker}
-use Rattle.cb_semirings.specs.Arithmetic.{Arithmetic, IsValue, IsSemiring}
+use Rattle.cb_semirings.specs.Arithmetic.{Arithmetic, IsSemiring}
 use Rattle.cb_matrix.specs.declared.Entry.{Entry}
 use Rattle.cb_matrix.specs.Sparse.{Sparse, Extent, IsMatrix, is_at, at, value_at}
 use Rattle.cb_matrix.specs.Operations.{cut, placed, is_covered}
@@ -12,8 +11,8 @@ use Rattle.cb_matrix.proofs.Places.{is_at-parts}
 use Rattle.cb_matrix.proofs.Made.{value_at-none}
 use Rattle.cb_matrix.proofs.Equal.{matrix_is}
 use Rattle.cb_reshape.specs.declared.parts.Part.{Part}
-use Rattle.cb_reshape.specs.Moving.{is_in, moved_entry, moved_entries, Fits}
-use Rattle.cb_reshape.proofs.Taken.{IsIn, is_in-true, is_in-parts, moved_all}
+use Rattle.cb_reshape.specs.Moving.{is_in, moved_entry, moved_entries}
+use Rattle.cb_reshape.proofs.Taken.{is_in-true, is_in-parts, moved_all}
 
 -- a number moved up is the same as another one moved down
 same_step : (low corner r i : ℕ) → low ≤ r → corner ≤ i → ((r - low + corner) == i) ≡ (r == (i - corner + low))

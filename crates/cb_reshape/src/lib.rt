@@ -14,6 +14,8 @@ ghost use Rattle.std.specs.Prelude.{◌≡◌, ◌≢◌, ℕ, ◌<◌, ◌≤�
 ghost use Rattle.cb_matrix.specs.Operations.{transposed, cut, placed};
 
 mod parts;
+#[cfg(test)]
+mod tests;
 mod turns;
 
 use crate::parts::{Part, moved};

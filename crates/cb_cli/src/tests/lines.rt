@@ -1,10 +1,11 @@
 //! Command lines, and the lines of faults.
 use crate::faults::{fault_line, unreadable_line};
 use crate::jobs::{Job, Operation, UsageFault};
-use crate::runs::{JobFault, ScriptFault, status};
+use crate::runs::{JobFault, status};
 use crate::semirings::SemiringName;
 use crate::words::read_job;
 use cb_market::{Kind, ReadFault};
+use cb_scripts::{Engine, ScriptFault};
 use std::alloc::{AllocError, Global};
 use std::test::Fail;
 
@@ -27,9 +28,22 @@ fn reads_a_product(rt: HostRuntime) -> Result<(), Fail> {
     let job = job(rt.alloc(), "cbgrid multiply left.mtx right.mtx")?;
     assert!(rt; job.operation == Operation::Multiply);
     assert!(rt; job.semiring == SemiringName::PlusTimes);
+    assert_eq!(rt; job.grid.side(), 2);
     assert_eq!(rt; job.files().len(), 2);
     assert!(rt; job.files()[0].as_str() == "left.mtx");
     assert!(rt; job.files()[1].as_str() == "right.mtx");
+    Ok(())
+}
+
+#[test]
+fn reads_the_options_of_a_product(rt: HostRuntime) -> Result<(), Fail> {
+    let line = "cbgrid multiply --mask kept.mtx a.mtx --grid 6 b.mtx --engine plain";
+    let job = job(rt.alloc(), line)?;
+    assert!(rt; job.operation == Operation::MultiplyMasked);
+    assert!(rt; job.engine == Engine::Plain);
+    assert_eq!(rt; job.grid.side(), 6);
+    assert_eq!(rt; job.files().len(), 3);
+    assert!(rt; job.files()[2].as_str() == "kept.mtx");
     Ok(())
 }
 
@@ -68,6 +82,13 @@ fn refuses_what_is_not_offered(rt: HostRuntime) {
         "cbgrid multiply a b --semiring plus",
         "cbgrid multiply a b --semiring min-plus --semiring min-plus",
         "cbgrid --semiring min-plus multiply a b",
+        "cbgrid multiply a b --grid 0",
+        "cbgrid multiply a b --grid 7",
+        "cbgrid multiply a b --grid two",
+        "cbgrid multiply a b --engine",
+        "cbgrid multiply a b --engine steam",
+        "cbgrid multiply a b --mask",
+        "cbgrid multiply a b --mask m --mask m",
         "cbgrid multiply a b --colour",
         "cbgrid multiply a b -h",
         "cbgrid -h",

@@ -2,11 +2,12 @@
 ghost use Rattle.std.specs.Prelude.{◌≡◌, false};
 
 use crate::jobs::Job;
-use crate::runs::{JobFault, ScriptFault, execute};
+use crate::runs::{JobFault, execute};
 use crate::sinks::{Sink, WriterSink};
 use crate::tests::lines::words;
 use crate::words::read_job;
 use cb_market::{Kind, ReadFault};
+use cb_scripts::ScriptFault;
 use std::test::Fail;
 
 const HEADER: &str = "%%MatrixMarket matrix coordinate integer general\n";
@@ -62,28 +63,40 @@ pub fn run_into<K: Sink>(
     execute(alloc, &job, bytes.as_slice(), out)
 }
 
-/// The bytes that a command writes of two texts.
-fn answer(rt: &HostRuntime, command: &str, first: &str, second: &str) -> Result<Vec<u8>, JobFault> {
+/// The bytes that a command writes of some texts.
+fn answer(rt: &HostRuntime, command: &str, texts: &[&str]) -> Result<Vec<u8>, JobFault> {
     let mut out = WriterSink::new(Vec::new(rt.alloc()));
-    run_into(rt, command, &[first, second], &mut out)?;
+    run_into(rt, command, texts, &mut out)?;
     Ok(out.into_inner())
 }
 
-/// Whether a command writes the header of integers and these lines.
+/// Whether a command writes just these bytes of some texts, on the grid of each side.
+fn writes_on_each_grid(rt: &HostRuntime, command: &str, texts: &[&str], wanted: &[u8]) -> bool {
+    for side in 1..=6 {
+        let Ok(command) = format!(in rt.alloc(); "{command} --grid {side}") else {
+            return false;
+        };
+        match answer(rt, command.as_str(), texts) {
+            Ok(bytes) if bytes.as_slice() == wanted => {}
+            _ => return false,
+        }
+    }
+    true
+}
+
+/// Whether a command writes the header of integers and these lines, on the grid of each side.
 fn writes(rt: &HostRuntime, command: &str, first: &str, second: &str, lines: &str) -> bool {
-    let Ok(wanted) = format!(in rt.alloc(); "{HEADER}{lines}") else {
-        return false;
-    };
-    match answer(rt, command, first, second) {
-        Ok(bytes) => bytes.as_slice() == wanted.as_bytes(),
+    match format!(in rt.alloc(); "{HEADER}{lines}") {
+        Ok(wanted) => writes_on_each_grid(rt, command, &[first, second], wanted.as_bytes()),
         Err(_) => false,
     }
 }
 
 #[test]
 fn multiplies_two_by_two(rt: HostRuntime) -> Result<(), Fail> {
-    let bytes = answer(&rt, "multiply", FIRST, SECOND)?;
-    assert!(rt; bytes.as_slice() == PRODUCT.as_bytes());
+    let texts = [FIRST, SECOND];
+    assert!(rt; answer(&rt, "multiply", &texts)?.as_slice() == PRODUCT.as_bytes());
+    assert!(rt; writes_on_each_grid(&rt, "multiply --engine plain", &texts, PRODUCT.as_bytes()));
     Ok(())
 }
 
@@ -211,10 +224,34 @@ fn squares_an_untidy_file(rt: HostRuntime) -> Result<(), Fail> {
 }
 
 #[test]
-fn squares_a_symmetric_pattern(rt: HostRuntime) -> Result<(), Fail> {
-    let bytes = answer(&rt, "multiply --semiring or-and", PATTERN, PATTERN)?;
+fn squares_a_symmetric_pattern(rt: HostRuntime) {
     let wanted = "%%MatrixMarket matrix coordinate pattern general\n3 3 3\n1 1\n2 2\n3 3\n";
-    assert!(rt; bytes.as_slice() == wanted.as_bytes());
+    let texts = [PATTERN, PATTERN];
+    assert!(rt; writes_on_each_grid(&rt, "multiply --semiring or-and", &texts, wanted.as_bytes()));
+}
+
+#[test]
+fn keeps_what_a_mask_has(rt: HostRuntime) -> Result<(), Fail> {
+    let alloc = rt.alloc();
+    for (mask, wanted) in [
+        ("2 2 2\n1 1 9\n2 2 9\n", "2 2 1\n1 1 8\n"),
+        ("2 2 0\n", "2 2 0\n"),
+    ] {
+        let mask = format!(in alloc; "{HEADER}{mask}")?;
+        let wanted = format!(in alloc; "{HEADER}{wanted}")?;
+        let texts = [FIRST, SECOND, mask.as_str()];
+        assert!(rt; writes_on_each_grid(&rt, "multiply --mask m", &texts, wanted.as_bytes()));
+    }
+    Ok(())
+}
+
+#[test]
+fn refuses_a_mask_of_another_shape(rt: HostRuntime) -> Result<(), Fail> {
+    let mask = "%%MatrixMarket matrix coordinate integer general\n1 1 1\n1 1 1\n";
+    let mut out = WriterSink::new(Vec::new(rt.alloc()));
+    let fault = run_into(&rt, "multiply --mask m", &[FIRST, SECOND, mask], &mut out);
+    assert!(rt; fault == Err(JobFault::Script(ScriptFault::Shapes)));
+    assert!(rt; out.into_inner().is_empty());
     Ok(())
 }
 

@@ -1,6 +1,4 @@
-use Rattle.std.proofs.Common.{◌≡◌, Result, refl}
-use Rattle.cb_matrix.specs.Sparse.{IsMatrix}
-use Rattle.cb_matrix.specs.Operations.{cut}
+use Rattle.std.proofs.Common.{refl}
 use Rattle.cb_reshape.proofs.Valued.{cut_is, both}
 use Rattle.cb_reshape.proofs.cut.Goals as goal
 

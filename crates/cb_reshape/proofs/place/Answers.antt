@@ -1,4 +1,3 @@
-use Rattle.std.proofs.Common.{◌≡◌, Result, refl}
 use Rattle.cb_reshape.proofs.Valued.{placed_is, both, whole_part}
 use Rattle.cb_reshape.proofs.place.Goals as goal
 

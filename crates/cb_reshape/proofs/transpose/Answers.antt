@@ -2,7 +2,7 @@ use Rattle.std.proofs.Common.{◌≡◌, ap, ◌∙◌, sym, subst, arith}
 use Rattle.std.specs.Prelude.{All, AllPairs}
 use Rattle.cb_semirings.specs.Arithmetic.{IsValue}
 use Rattle.cb_matrix.specs.declared.Entry.{Entry}
-use Rattle.cb_matrix.specs.Sparse.{Extent, Sparse, IsBefore, IsInside}
+use Rattle.cb_matrix.specs.Sparse.{Sparse, IsBefore, IsInside}
 use Rattle.cb_reshape.specs.Turning.{with_entries}
 use Rattle.cb_reshape.proofs.Exchanged.{written, turned_shape, turned_ascends, turned_inside, turned_values, turned_not_zero, turned_all}
 use Rattle.cb_reshape.proofs.transpose.Goals as goal

@@ -1,6 +1,5 @@
-use Rattle.std.proofs.Common.{ap, ◌∙◌, arith, subst, sym, ◌+◌, ◌<◌, length}
+use Rattle.std.proofs.Common.{ap, ◌∙◌, arith, subst, sym, length}
 use Rattle.cb_semirings.specs.Arithmetic.{IsValue}
-use Rattle.cb_matrix.specs.Sparse.{IsInside}
 use Rattle.cb_elementwise.proofs.Merged.{told_next, joining_begin, joining_on, joining_end, before_it, inside_it, left_value, right_value, its_value, is_next, fewer}
 use Rattle.cb_elementwise.proofs.joins.joined.Goals as goal
 

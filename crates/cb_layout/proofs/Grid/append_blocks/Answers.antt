@@ -1,10 +1,10 @@
-use Rattle.std.proofs.Common.{◌≡◌, ℕ, ◌+◌, ◌*◌, ◌<◌, ◌≤◌, List, length, get_or, ap, sym, subst, ◌∙◌, arith}
+use Rattle.std.proofs.Common.{◌≡◌, ◌+◌, ◌*◌, ◌<◌, length, get_or, ap, sym, subst, ◌∙◌, arith}
 use Rattle.std.specs.Prelude.{All}
 use Rattle.std.proofs.lemmas.List.{get_or_read, length-set}
 use Rattle.std.proofs.lemmas.List.Elements.{All-weaker}
 use Rattle.cb_matrix.specs.Sparse.{Sparse}
 use Rattle.cb_matrix.specs.Values.{empty_matrix}
-use Rattle.cb_dcsc.specs.Columns.{in_column, columns_with_entries, rows_of, values_of}
+use Rattle.cb_dcsc.specs.Columns.{columns_with_entries}
 use Rattle.cb_layout.specs.Parts.{part_start}
 use Rattle.cb_layout.specs.Blocks.{block_at}
 use Rattle.cb_layout.proofs.Parts.{rank_below}

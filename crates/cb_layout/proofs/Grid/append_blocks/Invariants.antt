@@ -1,4 +1,4 @@
-use Rattle.std.proofs.Common.{◌≡◌, ℕ, length}
+use Rattle.std.proofs.Common.{◌≡◌, length}
 use Rattle.cb_layout.specs.Tiles.{block_tiles, IsGathered, up_to}
 use Rattle.cb_layout.proofs.Fronts.{columns_left}
 use Rattle.cb_layout.proofs.Grid.append_blocks.Given as goal

@@ -1,4 +1,4 @@
-use Rattle.std.proofs.Common.{◌≡◌, ℕ, ◌+◌, ◌/◌, ◌%◌, ◌++◌, [], ◌∷◌, ap, sym, ◌∙◌, arith}
+use Rattle.std.proofs.Common.{◌/◌, ◌%◌, ◌++◌, [], ◌∷◌, ap, sym, ◌∙◌, arith}
 use Rattle.std.proofs.lemmas.List.FromFn.{map-range_with_len_more}
 use Rattle.cb_matrix.specs.Values.{empty_matrix}
 use Rattle.cb_layout.specs.Parts.{part_shape}
@@ -9,5 +9,5 @@ loop-rank-preserved g c =
     let q = c.args.self.now.side in
     let r = c.loop-rank.rank in
     c.in_ok-push.ensures.items
-    ∙ (λ t. c.loop-rank.invariant t ++ (c.empty.ensures.value ∙ ap empty_matrix c.block_shape-part.ensures) t ∷ [])
+    ∙ (λ t. c.loop-rank.invariant t ++ (c.in_ok-roomy.ensures ∙ ap empty_matrix c.block_shape-part.ensures) t ∷ [])
     ∙ sym (map-range_with_len_more (λ n. empty_matrix (part_shape q c.args.shape (n / q) (n % q))) 0 r r (omega arith))

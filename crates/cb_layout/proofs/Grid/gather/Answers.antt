@@ -1,4 +1,4 @@
-use Rattle.std.proofs.Common.{◌≡◌, ℕ, ◌+◌, ◌*◌, ◌<◌, ◌≤◌, subst, sym, ap, ◌∙◌, arith}
+use Rattle.std.proofs.Common.{◌≡◌, ◌<◌, subst, arith}
 use Rattle.std.specs.Prelude.{IfOk}
 use Rattle.cb_layout.specs.Tiles.{block_tiles, IsGathered, before_column}
 use Rattle.cb_layout.proofs.Merged.{glued_all}

@@ -1,4 +1,4 @@
-use Rattle.std.proofs.Common.{◌≡◌, ℕ, ◌<◌, sym, ap, subst, ◌∙◌, arith}
+use Rattle.std.proofs.Common.{◌≡◌, ◌<◌, ap, ◌∙◌, arith}
 use Rattle.cb_layout.specs.Parts.{part_length}
 use Rattle.cb_layout.specs.Blocks.{part_with, place_in_part}
 use Rattle.cb_layout.proofs.Parts.{place_below}

@@ -1,4 +1,4 @@
-use Rattle.std.proofs.Common.{ℕ, ◌+◌, ◌*◌, ◌<◌, ◌≤◌, length, get_or}
+use Rattle.std.proofs.Common.{ℕ, ◌<◌}
 use Rattle.std.specs.Prelude.{IfSome, IfNone}
 use Rattle.cb_layout.proofs.Fronts.{IsReady, IsDone}
 use Rattle.cb_layout.proofs.Grid.least_next.Given as goal

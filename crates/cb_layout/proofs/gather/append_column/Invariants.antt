@@ -1,4 +1,4 @@
-use Rattle.std.proofs.Common.{◌≡◌, ℕ, ◌+◌, ◌++◌, map, get_or}
+use Rattle.std.proofs.Common.{◌≡◌, ◌+◌, ◌++◌, map, get_or}
 use Rattle.std.specs.List.{range_with_len}
 use Rattle.cb_matrix.specs.declared.Entry.{Entry}
 use Rattle.cb_layout.proofs.gather.append_column.Given as goal

@@ -1,4 +1,4 @@
-use Rattle.std.proofs.Common.{◌≡◌, ℕ, ◌<◌, ◌≤◌, true, false, not, nat_lt, cond, Some, None, Err, List, length, get_or, sym, ap, ⊎_elim, ◌∙◌, arith, refl}
+use Rattle.std.proofs.Common.{◌≡◌, ℕ, ◌<◌, ◌≤◌, true, false, not, nat_lt, cond, Some, None, Err, List, length, get_or, ap, ⊎_elim, ◌∙◌, arith}
 use Rattle.std.specs.Prelude.{All, position}
 use Rattle.std.specs.List.{position_or_len}
 use Rattle.std.proofs.lemmas.Bool.{cases_lt}
@@ -6,7 +6,6 @@ use Rattle.std.proofs.lemmas.Bool.Decides.{nat_tests}
 use Rattle.std.proofs.lemmas.List.Sums.{prefix_len_stops}
 use Rattle.cb_matrix.specs.declared.Entry.{Entry}
 use Rattle.cb_matrix.specs.Sparse.{Extent, is_outside, IsInside}
-use Rattle.cb_layout.proofs.Merged.{next_column}
 use Rattle.cb_layout.proofs.gather.collect.Goals as goal
 
 is_in : (shape : Extent) (e : Entry) → IsInside shape e → not (is_outside shape e) ≡ true

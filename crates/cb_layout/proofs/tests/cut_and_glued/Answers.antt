@@ -1,4 +1,4 @@
-use Rattle.std.proofs.Common.{◌≡◌, ℕ, ◌+◌, ◌*◌, ap, sym, ◌∙◌}
+use Rattle.std.proofs.Common.{◌+◌, ◌*◌, ap, sym, ◌∙◌}
 use Rattle.cb_matrix.specs.Sparse.{Sparse}
 use Rattle.cb_layout.specs.Parts.{part_shape}
 use Rattle.cb_layout.specs.Blocks.{block_at}

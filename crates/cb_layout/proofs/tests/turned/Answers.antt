@@ -1,8 +1,8 @@
-use Rattle.std.proofs.Common.{◌≡◌, ℕ, ◌+◌, ◌-◌, ◌*◌, ◌<◌, ap, sym, subst, ◌∙◌, arith}
+use Rattle.std.proofs.Common.{◌≡◌, ℕ, ◌+◌, ◌-◌, ◌*◌, ◌<◌, ap, sym, ◌∙◌, arith}
 use Rattle.cb_matrix.specs.Sparse.{Sparse, Extent}
 use Rattle.cb_layout.specs.Parts.{part_length}
 use Rattle.cb_layout.specs.Blocks.{block_at}
-use Rattle.cb_layout.specs.Vectors.{piece_start, piece_shape, piece_of}
+use Rattle.cb_layout.specs.Vectors.{piece_start, piece_shape}
 use Rattle.cb_layout.proofs.tests.turned.Goals as goal
 
 -- on side 2 each piece of four has one row

@@ -1,5 +1,4 @@
-use Rattle.std.proofs.Common.{◌≡◌, ◌<◌, ◌≤◌, ◌+◌, ◌-◌, ap, ◌∙◌, sym, subst, arith, get_or, length}
-use Rattle.cb_dcsc.specs.Compressed.{entries_in}
+use Rattle.std.proofs.Common.{◌<◌, ◌+◌, ◌-◌, ap, ◌∙◌, arith, get_or, length}
 use Rattle.cb_reshape.specs.Turning.{with_entries}
 use Rattle.cb_reshape.proofs.Taken.{taken_none, taken_more, taken_all, taken_before, old_before, stored_more, stored_none}
 use Rattle.cb_reshape.proofs.parts.append_column.Goals as goal

@@ -1,6 +1,5 @@
-use Rattle.std.proofs.Common.{rules, ap, ◌∙◌, filter}
+use Rattle.std.proofs.Common.{rules}
 use Rattle.std.proofs.lemmas.List.Sorted.{answers_always}
-use Rattle.cb_matrix.specs.Sparse.{is_at}
 use Rattle.cb_matrix.proofs.Order.{place, in_order, same_places}
 use Rattle.cb_reshape.proofs.turns.in_order.Goals as goal
 

@@ -1,4 +1,4 @@
-use Rattle.std.proofs.Common.{arith, rules}
+use Rattle.std.proofs.Common.{rules}
 use Rattle.cb_elementwise.proofs.Steps.{before_end, next_same, next_column}
 use Rattle.cb_elementwise.proofs.cursors.Cursor.next.Goals as goal
 

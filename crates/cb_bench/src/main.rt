@@ -1,0 +1,75 @@
+//! Measures a kernel on random matrices over plus-times.
+//!
+//! `cb_bench KERNEL SIDE ENTRIES` makes two square matrices of this side with this many random places each (a
+//! place that comes twice is one entry), and runs the kernel on them: `multiply`, `multiply-into` (the product,
+//! added to the first matrix), `add`, `transpose`, `scatter` (the first matrix over the grid of side `--grid`,
+//! and gathered again), or `read` (the text of the first matrix). What was counted stands on standard output,
+//! and is the same in every run. The processor time, and the steps a second, stand on standard error: a step of a
+//! product is one product of two entries, and a step of the others is one entry that is read.
+#![tactic(auto)]
+
+ghost use Rattle.std.specs.Prelude.{◌≡◌, ◌<◌, ◌≤◌, All, IfOk, IfSome};
+
+mod kernels;
+mod loads;
+mod words;
+
+use crate::kernels::{Counts, measure};
+use crate::words::{Bench, BenchFault, read_words};
+use std::alloc::{AllocError, Global};
+use std::process::ExitCode;
+use std::rt::Env;
+use std::time::{CpuClock, Duration};
+use std::{env, io};
+
+/// The words of the command line, the program's name first.
+fn words_of(rt: &(impl Env + AllocGlobal)) -> io::Result<Vec<String>> {
+    let alloc = rt.alloc();
+    Ok(env::args(rt)?.collect(alloc)?)
+}
+
+/// How many were done in a second.
+fn rate(count: u64, took: Duration) -> u128 {
+    u128::from(count) * 1_000_000 / took.as_micros().max(1)
+}
+
+/// Prints what was counted, and how long it took.
+fn tell<R: Print + Eprint>(rt: &R, bench: &Bench, counts: &Counts) -> io::Result<()> {
+    let name = bench.kernel.name();
+    let (given, steps, made) = (counts.given, counts.steps, counts.made);
+    println!(rt; "{name}: {given} entries, {steps} steps, {made} entries made")?;
+    let (micros, rate) = (counts.took.as_micros(), rate(steps, counts.took));
+    eprintln!(rt; "{micros} us, {rate} steps a second")
+}
+
+/// Measures, and answers the status that the program ends with.
+fn run<R: Print + Eprint + CpuClock + AllocGlobal>(rt: &R, bench: &Bench) -> u8 {
+    match measure(rt, bench) {
+        Ok(counts) => match tell(rt, bench, &counts) {
+            Ok(()) => 0,
+            Err(_) => 7,
+        },
+        Err(_) => {
+            let _ = rt.eprint("cb_bench: out of memory\n");
+            6
+        }
+    }
+}
+
+fn main(rt: HostRuntime) -> ExitCode {
+    let Ok(words) = words_of(&rt) else {
+        return ExitCode::from(2);
+    };
+    match read_words(rt.alloc(), words.as_slice()) {
+        Ok(bench) => ExitCode::from(run(&rt, &bench)),
+        Err(BenchFault::Help(text)) => {
+            let _ = rt.print(text.as_str());
+            ExitCode::from(0)
+        }
+        Err(BenchFault::Usage(text)) => {
+            let _ = rt.eprint(text.as_str());
+            ExitCode::from(2)
+        }
+        Err(BenchFault::Memory) => ExitCode::from(6),
+    }
+}

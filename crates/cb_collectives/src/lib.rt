@@ -1,0 +1,23 @@
+//! Collectives: acts that concern all members of a list of ranks.
+//!
+//! Each call appends the acts of one collective to a plan. It takes room for all of them before it appends the
+//! first, so a refused call leaves the plan as it was; its cost is in proportion to the acts that it appends.
+//! `specs/Collectives` has the list of acts of each collective, and what these acts do to the slots of the ranks,
+//! over blocks of any kind.
+#![tactic(auto)]
+
+mod broadcasts;
+mod closings;
+mod exchanges;
+mod gathers;
+mod reductions;
+mod steps;
+
+pub use broadcasts::broadcast;
+pub use closings::shut_all;
+pub use exchanges::all_to_all;
+pub use gathers::gather;
+pub use reductions::reduce;
+
+#[cfg(test)]
+mod tests;

@@ -1,0 +1,97 @@
+//! The sum of what all members have, at one of them.
+ghost use Rattle.std.specs.Prelude.{◌≡◌, ◌≢◌, ◌<◌, ◌≤◌, ◌+◌, ℕ, true, List, [], ◌∷◌, ◌++◌, length, if◌then◌else◌, is_ok, IsOk, IfErr, Err};
+ghost use Rattle.std.specs.List.{flat_map};
+ghost use Rattle.cb_matrix.specs.Sparse.{Sparse};
+ghost use Rattle.cb_semirings.specs.Arithmetic.{Arithmetic, IsSemiring};
+ghost use Rattle.cb_plan.specs.Algebras.{matrices};
+ghost use Rattle.cb_plan.specs.Meaning.{Algebra, State, meaning};
+ghost use Rattle.cb_collectives.specs.Appends.{IsTooLong, IsRefusal, too_long, HasRoom, Appended};
+ghost use Rattle.cb_collectives.specs.Collectives.{is_member, AreDistinct, added_from, reduce_acts, IsReduced, sum_of_members, HasBlocks, AddsUp};
+
+use crate::steps::{append, work};
+use cb_letters::Tag;
+use cb_plan::{Act, Op, Plan, PlanFault};
+
+/// Slot `into` of the root becomes the sum of the `slot` of all members: the root's own first, and then the
+/// others in list order. Slot `scratch` of the root is left with anything. Over a semiring, each place of the sum
+/// has the sum of the members' values there. Appends 2n - 1 acts for n members.
+#[tactic(auto, using(crate::proofs::Summing::reduce_sums, crate::proofs::Totals::members_add_up, crate::proofs::Counts::count_reduce))]
+pub fn reduce(
+    plan: &mut Plan,
+    members: &[u16],
+    root: u16,
+    tag: Tag,
+    slot: u16,
+    into: u16,
+    scratch: u16,
+) -> Result<(), PlanFault>
+    requires root { is_member members.now root ≡ true }
+    requires distinct { AreDistinct members.now }
+    requires slot_into { slot ≢ into }
+    requires slot_scratch { slot ≢ scratch }
+    requires into_scratch { into ≢ scratch }
+    ensures ranks { plan.new.ranks ≡ plan.old.ranks }
+    ensures acts { plan.new.acts ≡ (if is_ok result then plan.old.acts ++ reduce_acts members.now root tag slot into scratch else plan.old.acts) }
+    ensures long { IsTooLong plan.old (reduce_acts members.now root tag slot into scratch) → result ≡ Err (too_long plan.old) }
+    ensures faults { IfErr result (IsRefusal plan.old (reduce_acts members.now root tag slot into scratch)) }
+    ensures means { (ops : Algebra Sparse) → (state : State Sparse) → IsReduced ops members.now root slot into scratch state (meaning ops (reduce_acts members.now root tag slot into scratch) state) }
+    ensures sums { (s : Arithmetic) → IsSemiring s → (state : State Sparse) (block : ℕ → Sparse) → HasBlocks s members.now slot block state → AddsUp s members.now root block (sum_of_members (matrices s) members.now root slot state) }
+{
+    plan.make_room(members.len() + (members.len() - 1))?;
+    work(plan, root, Op::Copy { a: slot, into })?;
+    add_members(plan, members, root, tag, slot, into, scratch)
+}
+
+/// The slots of the members other than the root are added to the root's. There is room for these acts.
+fn add_members(
+    plan: &mut Plan,
+    members: &[u16],
+    root: u16,
+    tag: Tag,
+    slot: u16,
+    into: u16,
+    scratch: u16,
+) -> Result<(), PlanFault>
+    requires room { HasRoom plan.now (flat_map (added_from root tag slot into scratch) members.now) }
+    ensures granted { IsOk result }
+    ensures appended { Appended (flat_map (added_from root tag slot into scratch) members.now) plan.old plan.new }
+{
+    for member in members {
+        add_member(plan, *member, root, tag, slot, into, scratch)?;
+    }
+    Ok(())
+}
+
+/// The slot of a member other than the root goes to `scratch` of the root, who adds it to `into`. There is room
+/// for these acts.
+fn add_member(
+    plan: &mut Plan,
+    member: u16,
+    root: u16,
+    tag: Tag,
+    slot: u16,
+    into: u16,
+    scratch: u16,
+) -> Result<(), PlanFault>
+    requires room { HasRoom plan.now (added_from root tag slot into scratch member) }
+    ensures granted { IsOk result }
+    ensures appended { Appended (added_from root tag slot into scratch member) plan.old plan.new }
+{
+    if member == root {
+        return Ok(());
+    }
+    let sent = Act::Move {
+        from: member,
+        to: root,
+        tag,
+        slot,
+        into: scratch,
+    };
+    append(plan, sent)?;
+    let sum = Op::Add {
+        a: into,
+        b: scratch,
+        into,
+    };
+    work(plan, root, sum)
+}

@@ -1,0 +1,14 @@
+-- Meaning: what acts do, over blocks of any kind. Algebras: on matrices, and on shapes alone.
+-- Plans: what contracts see of a plan. Checks: the first fault of a plan. Programs: the halves of each rank.
+-- Letters: what a plan posts on each lane. Tables: rows of equal length. Stores: the slots of the ranks.
+-- Running: a plan that runs. Rows: worked plans.
+pub mod Meaning
+pub mod Algebras
+pub mod Plans
+pub mod Tables
+pub mod Checks
+pub mod Programs
+pub mod Letters
+pub mod Stores
+pub mod Running
+pub mod Rows

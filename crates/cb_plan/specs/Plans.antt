@@ -1,0 +1,28 @@
+-- What contracts see of a plan, and of one that was checked.
+use Rattle.std.specs.Prelude.{◌≡◌, ◌≢◌, ℕ, ◌<◌, ◌≤◌, ◌⊎◌, List, length, All, AllPairs, None}
+use Rattle.cb_plan.specs.declared.acts.Act.{Act}
+use Rattle.cb_plan.specs.declared.acts.Start.{Start}
+use Rattle.cb_plan.specs.Checks.{plan_fault}
+
+pub record PlanView : Type 0 where
+  pub ranks : ℕ
+  pub acts : List Act
+  -- so many acts have room without more memory
+  pub room : ℕ
+
+pub record CheckedView : Type 0 where
+  pub ranks : ℕ
+  -- what stands in the slots before the first act
+  pub starts : List Start
+  pub acts : List Act
+
+-- two starts name two slots
+abbrev pub IsElsewhere : Start → Start → Type 0
+IsElsewhere a b = (a.rank ≢ b.rank) ⊎ (a.slot ≢ b.slot)
+
+-- the plan has no fault, and the starts name slots that exist, each once
+pub record IsChecked (p : CheckedView) : Type 0 where
+  pub no_fault : plan_fault p.ranks p.starts p.acts ≡ None
+  pub few : length p.acts ≤ 4294967295
+  pub exist : All (λ s. (s.rank < p.ranks) × (s.slot < 256)) p.starts
+  pub once : AllPairs IsElsewhere p.starts

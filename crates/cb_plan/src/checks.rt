@@ -1,0 +1,111 @@
+//! The check of a plan: the meaning of its acts, on shapes alone.
+ghost use Rattle.std.specs.Prelude.{◌≡◌, ◌<◌, ◌≤◌, ◌⊎◌, ℕ, length, All, AllPairs, IfOk, IfErr, Option, Some, None};
+ghost use Rattle.cb_plan.specs.Checks.{plan_fault};
+ghost use Rattle.cb_plan.specs.Plans.{CheckedView, IsChecked, IsElsewhere};
+ghost use Rattle.cb_plan.specs.declared.plans.PlanFaultKind.TheVariants.{Memory};
+
+use crate::acts::{Act, Op, Start};
+use crate::outlines::Outline;
+use crate::plans::{Plan, PlanFault, PlanFaultKind};
+use std::alloc::{AllocError, Global};
+use std::marker::Model;
+
+/// A plan that has no fault, with what stands in the slots before its first act.
+#[derive(Drop)]
+pub struct CheckedPlan {
+    plan: Plan,
+    starts: Vec<Start>,
+}
+
+impl Model for CheckedPlan {
+    ghost Value = { CheckedView };
+
+    ghost view = { λ p. record { ranks = p.plan.ranks; starts = p.starts.items; acts = p.plan.acts } };
+
+    ghost invariant = { λ p. IsChecked (record { ranks = p.plan.ranks; starts = p.starts.items; acts = p.plan.acts }) };
+}
+
+impl CheckedPlan {
+    /// Checks a plan: the answer is the fault of the first act that has one, and there the first in the order of
+    /// [`PlanFaultKind`]. A refused plan comes back as it was. What the starts name exists, and each slot is
+    /// named once.
+    ///
+    /// Each act costs the same. Beside a copy of the starts the check takes room for 256 shapes a rank, and for
+    /// each lane.
+    pub fn check(
+        alloc: Global,
+        plan: Plan,
+        starts: &[Start],
+    ) -> Result<CheckedPlan, (Plan, PlanFault)>
+        requires exist { All (λ s. (s.rank < plan.ranks) × (s.slot < 256)) starts.now }
+        requires once { AllPairs IsElsewhere starts.now }
+        ensures ok { IfOk result (λ checked. checked ≡ record { ranks = plan.ranks; starts = starts.now; acts = plan.acts }) }
+        ensures no_fault { IfOk result (λ checked. plan_fault plan.ranks starts.now plan.acts ≡ None) }
+        ensures back { IfErr result (λ e. e.0 ≡ plan) }
+        ensures fault { IfErr result (λ e. (e.1 ≡ record { act = 0; kind = Memory }) ⊎ (plan_fault plan.ranks starts.now plan.acts ≡ Some e.1)) }
+    {
+        match first_fault(alloc, plan.ranks(), starts, plan.acts()) {
+            Ok(None) => {}
+            Ok(Some(fault)) => return Err((plan, fault)),
+            Err(error) => return Err((plan, PlanFault::from(error))),
+        }
+        match Vec::from_slice(alloc, starts) {
+            Ok(starts) => Ok(CheckedPlan { plan, starts }),
+            Err(_) => Err((plan, PlanFault::from(AllocError))),
+        }
+    }
+
+    /// How many ranks it is for.
+    pub fn ranks(&self) -> u16
+        ensures ranks { result ≡ self.now.ranks }
+        ensures checked { IsChecked self.now }
+    {
+        self.plan.ranks()
+    }
+
+    /// What stands in the slots before the first act.
+    pub fn starts(&self) -> &[Start]
+        ensures starts { result.now ≡ self.now.starts }
+        ensures checked { IsChecked self.now }
+    {
+        &self.starts
+    }
+
+    /// The acts, in order.
+    pub fn acts(&self) -> &[Act]
+        ensures acts { result.now ≡ self.now.acts }
+        ensures checked { IsChecked self.now }
+    {
+        self.plan.acts()
+    }
+}
+
+/// The first fault of a plan, if it has one.
+fn first_fault(
+    alloc: Global,
+    ranks: u16,
+    starts: &[Start],
+    acts: &[Act],
+) -> Result<Option<PlanFault>, AllocError>
+    requires starts { All (λ s. (s.rank < ranks) × (s.slot < 256)) starts.now }
+    requires few { length acts.now ≤ 4294967295 }
+    ensures { IfOk result (λ fault. fault ≡ plan_fault ranks starts.now acts.now) }
+{
+    let mut outline = Outline::started(alloc, ranks, starts)?;
+    let mut number = 0;
+    for act in acts {
+        if let Some(kind) = outline.fault_of(act) {
+            return Ok(Some(PlanFault { act: number, kind }));
+        }
+        outline.pass(act);
+        number += 1;
+    }
+    if outline.is_all_shut() {
+        Ok(None)
+    } else {
+        Ok(Some(PlanFault {
+            act: number,
+            kind: PlanFaultKind::NotShut,
+        }))
+    }
+}

@@ -1,0 +1,172 @@
+//! Plans, which grow act by act, and what may be wrong with one.
+ghost use Rattle.std.specs.Prelude.{◌≡◌, ◌<◌, ◌≤◌, ◌+◌, List, [], ◌∷◌, ◌++◌, length, vec_capacity, if◌then◌else◌, is_ok, IsOk, IfErr, OnOk, IsErrOf, ◌↔◌, ◌⊎◌, Err};
+ghost use Rattle.cb_plan.specs.Plans.{PlanView};
+
+use crate::acts::{Act, Op, Start};
+use std::alloc::{AllocError, Global};
+use std::marker::Model;
+
+/// How many acts a plan may have.
+pub const MOST_ACTS: usize = 4_294_967_295;
+
+/// What may be wrong with a plan, in the order in which it is looked for at an act.
+#[derive(Clone, Copy, Debug, PartialEq, Eq)]
+pub enum PlanFaultKind {
+    /// A rank is not below the plan's number of ranks.
+    NoRank,
+    /// An act goes from a rank to itself.
+    SelfMove,
+    /// A slot is 256 or more.
+    NoSlot,
+    /// A slot that is read is empty there.
+    EmptySlot,
+    /// The shapes aren't those that the operation asks for.
+    Shape,
+    /// The lane was shut before.
+    AfterShut,
+    /// Some lane isn't shut at the end.
+    NotShut,
+    /// The plan has as many acts as a plan may have.
+    TooLong,
+    /// There is no memory.
+    Memory,
+}
+
+/// What is wrong with a plan, and at which act, counted from 0. NotShut and TooLong have the plan's length for
+/// their act, Memory has 0.
+#[derive(Clone, Copy, Debug, PartialEq, Eq)]
+pub struct PlanFault {
+    pub act: u32,
+    pub kind: PlanFaultKind,
+}
+
+impl From<AllocError> for PlanFault {
+    ghost use Rattle.cb_plan.specs.declared.plans.PlanFaultKind.TheVariants.{Memory};
+
+    fn from(_error: AllocError) -> PlanFault
+        ensures { result ≡ record { act = 0; kind = Memory } }
+    {
+        PlanFault {
+            act: 0,
+            kind: PlanFaultKind::Memory,
+        }
+    }
+}
+
+/// A plan, what stands in the slots before it, and the slot that has each rank's part of the answer after it.
+#[derive(Drop)]
+pub struct Planned {
+    pub plan: Plan,
+    pub starts: Vec<Start>,
+    pub result: u16,
+}
+
+/// The acts of all ranks, in one order: at most 4,294,967,295.
+#[derive(Drop)]
+pub struct Plan {
+    ranks: u16,
+    acts: Vec<Act>,
+}
+
+impl Model for Plan {
+    ghost Value = { PlanView };
+
+    ghost view = { λ p. record { ranks = p.ranks; acts = p.acts.items; room = vec_capacity p.acts } };
+
+    ghost invariant = { λ p. length p.acts.items ≤ 4294967295 };
+}
+
+impl Plan {
+    ghost use Rattle.cb_plan.specs.declared.plans.PlanFaultKind.TheVariants.{TooLong, Memory};
+
+    /// The plan without acts, for so many ranks. It takes no memory.
+    pub fn new(alloc: Global, ranks: u16) -> Plan
+        ensures ranks { result.ranks ≡ ranks }
+        ensures acts { result.acts ≡ [] }
+    {
+        Plan {
+            ranks,
+            acts: Vec::new(alloc),
+        }
+    }
+
+    /// How many ranks it is for.
+    pub fn ranks(&self) -> u16
+        ensures { result ≡ self.now.ranks }
+    {
+        self.ranks
+    }
+
+    /// How many acts there are.
+    pub fn len(&self) -> usize
+        ensures value { result ≡ length self.now.acts }
+        ensures limit { result ≤ 4294967295 }
+    {
+        self.acts.len()
+    }
+
+    /// The acts, in order.
+    pub fn acts(&self) -> &[Act]
+        ensures { result.now ≡ self.now.acts }
+    {
+        &self.acts
+    }
+
+    /// Makes room, so that the next `count` pushes take no memory.
+    pub fn reserve(&mut self, count: usize) -> Result<(), AllocError>
+        ensures ranks { self.new.ranks ≡ self.old.ranks }
+        ensures acts { self.new.acts ≡ self.old.acts }
+        ensures room { OnOk result (length self.new.acts + count ≤ self.new.room) }
+    {
+        self.acts.reserve(count)?;
+        Ok(())
+    }
+
+    /// Appends an act. Refused are TooLong, then Memory; the plan is then as it was.
+    pub fn push(&mut self, act: Act) -> Result<(), PlanFault>
+        ensures ranks { self.new.ranks ≡ self.old.ranks }
+        ensures acts { self.new.acts ≡ (if is_ok result then self.old.acts ++ act ∷ [] else self.old.acts) }
+        ensures room { self.old.room ≤ self.new.room }
+        ensures granted { length self.old.acts < 4294967295 → length self.old.acts < self.old.room → IsOk result }
+        ensures long { length self.old.acts ≡ 4294967295 → result ≡ Err (record { act = 4294967295; kind = TooLong }) }
+        ensures faults { IfErr result (λ e. (e ≡ record { act = 4294967295; kind = TooLong }) ⊎ (e ≡ record { act = 0; kind = Memory })) }
+    {
+        let _none: Option<Op> = None;
+        if self.acts.len() == MOST_ACTS {
+            return Err(self.too_long());
+        }
+        if self.acts.reserve(1).is_err() {
+            return Err(PlanFault::from(AllocError));
+        }
+        self.acts.push_reserved(act);
+        Ok(())
+    }
+
+    /// That the plan can't have more acts.
+    fn too_long(&self) -> PlanFault
+        ensures { result ≡ record { act = length self.now.acts; kind = TooLong } }
+    {
+        PlanFault {
+            act: self.acts.len() as u32,
+            kind: PlanFaultKind::TooLong,
+        }
+    }
+
+    /// Makes room for `count` acts more, so that the next pushes can't be refused. TooLong is answered before
+    /// memory is asked for.
+    pub fn make_room(&mut self, count: usize) -> Result<(), PlanFault>
+        ensures ranks { self.new.ranks ≡ self.old.ranks }
+        ensures acts { self.new.acts ≡ self.old.acts }
+        ensures room { OnOk result ((length self.new.acts + count ≤ self.new.room) × (length self.new.acts + count ≤ 4294967295)) }
+        ensures long { 4294967295 < length self.old.acts + count → result ≡ Err (record { act = length self.old.acts; kind = TooLong }) }
+        ensures faults { IfErr result (λ e. ((4294967295 < length self.old.acts + count) × (e ≡ record { act = length self.old.acts; kind = TooLong })) ⊎ (e ≡ record { act = 0; kind = Memory })) }
+    {
+        if count > MOST_ACTS - self.len() {
+            return Err(self.too_long());
+        }
+        if self.reserve(count).is_err() {
+            return Err(PlanFault::from(AllocError));
+        }
+        Ok(())
+    }
+}

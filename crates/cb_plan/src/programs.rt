@@ -1,0 +1,94 @@
+//! The program of a rank: what it does of each act of a checked plan.
+ghost use Rattle.std.specs.Prelude.{◌≡◌, ◌<◌, length, IfOk, OnOk, ◌++◌, None};
+ghost use Rattle.cb_plan.specs.Checks.{IsSound, slots_in, lanes_in};
+ghost use Rattle.cb_plan.specs.Programs.{halves_of, half_list, project};
+
+use crate::acts::{Act, Half, Op};
+use crate::checks::CheckedPlan;
+use crate::outlines::Outline;
+use std::alloc::{AllocError, Global};
+
+impl CheckedPlan {
+    /// The program of a rank: its half of each act that has one, in the plan's order. The shape of a sheet that
+    /// is taken is the one that the check gives it.
+    ///
+    /// Costs the same for each act, beside the room that the check takes.
+    pub fn project(&self, alloc: Global, rank: u16) -> Result<Vec<Half>, AllocError>
+        requires { rank < self.now.ranks }
+        ensures { IfOk result (λ halves. halves.items ≡ project self.now.starts self.now.acts rank) }
+    {
+        let mut outline = Outline::started(alloc, self.ranks(), self.starts())?;
+        let mut halves = Vec::new(alloc);
+        for act in self.acts() {
+            append_half(&mut halves, outline.half_of(act, rank))?;
+            outline.pass(act);
+        }
+        Ok(halves)
+    }
+}
+
+/// Appends a half, if there is one.
+fn append_half(halves: &mut Vec<Half>, half: Option<Half>) -> Result<(), AllocError>
+    ensures { OnOk result (halves.new.items ≡ halves.old.items ++ half_list half) }
+{
+    let _none: Option<Op> = None;
+    if let Some(half) = half {
+        halves.push(half)?;
+    }
+    Ok(())
+}
+
+impl Outline {
+    /// What a rank does of an act that has no fault here.
+    fn half_of(&self, act: &Act, rank: u16) -> Option<Half>
+        requires { IsSound self.now.ranks (slots_in self.now.slots) (lanes_in self.now.shut) act.now }
+        ensures { half_list result ≡ halves_of (slots_in self.now.slots) act.now rank }
+    {
+        let _none: Option<Op> = None;
+        match act {
+            Act::Move {
+                from,
+                to,
+                tag,
+                slot,
+                into,
+            } => {
+                if *from == rank {
+                    Some(Half::Post {
+                        to: *to,
+                        tag: *tag,
+                        slot: *slot,
+                    })
+                } else if *to == rank {
+                    match self.slot(*from, *slot) {
+                        Some(shape) => Some(Half::Take {
+                            from: *from,
+                            tag: *tag,
+                            into: *into,
+                            shape,
+                        }),
+                        None => None,
+                    }
+                } else {
+                    None
+                }
+            }
+            Act::Work { rank: at, op } => {
+                if *at == rank {
+                    Some(Half::Work(*op))
+                } else {
+                    None
+                }
+            }
+            Act::Shut { from, to } => {
+                if *from == rank {
+                    Some(Half::Shut { to: *to })
+                } else if *to == rank {
+                    Some(Half::End { from: *from })
+                } else {
+                    None
+                }
+            }
+        }
+    }
+}

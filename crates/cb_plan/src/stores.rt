@@ -1,0 +1,164 @@
+//! The slots of a rank.
+ghost use Rattle.std.specs.Prelude.{◌≡◌, ◌<◌, ◌≤◌, ℕ, true, List, Some, length, get_or, replicate, slice_set, IfOk, IsSome, count_by, not};
+ghost use Rattle.cb_matrix.specs.Sparse.{Sparse};
+ghost use Rattle.cb_plan.specs.declared.stores.Slot.{Slot as SlotOf};
+ghost use Rattle.cb_plan.specs.declared.stores.Slot.TheVariants.{Empty, Sheet, Lost};
+ghost use Rattle.cb_plan.specs.Stores.{is_filled, sheets_in};
+
+use cb_dcsc::Block;
+use cb_semirings::Semiring;
+use std::alloc::{AllocError, Global};
+use std::marker::Model;
+use std::mem;
+
+/// How many slots a rank has.
+pub(crate) const SLOTS: u16 = 256;
+
+/// A slot of a rank, for blocks of any kind.
+#[derive(Debug, Drop)]
+pub enum Slot<B> {
+    /// Nothing is there.
+    Empty,
+    /// A block.
+    Sheet(B),
+    /// What was to be there is lost: the rank at which memory was refused.
+    Lost(u16),
+}
+
+impl<B> Slot<B> {
+    /// Whether nothing is there.
+    pub fn is_empty(&self) -> bool
+        ensures { result ≡ not (is_filled self.now) }
+    {
+        matches!(self, Slot::Empty)
+    }
+}
+
+/// The 256 slots of a rank.
+#[derive(Debug, Drop)]
+pub struct RankStore<S: Semiring> {
+    slots: Vec<Slot<Block<S>>>,
+}
+
+impl<S: Semiring> Model for RankStore<S> {
+    ghost Value = { List (SlotOf Sparse) };
+
+    ghost view = { λ store. store.slots.items };
+
+    ghost invariant = { λ store. length store.slots.items ≡ 256 };
+}
+
+impl<S: Semiring> RankStore<S> {
+    /// A store whose slots are all empty.
+    pub fn new(alloc: Global) -> Result<Self, AllocError>
+        ensures { IfOk result (λ store. store ≡ replicate 256 Empty) }
+    {
+        let mut slots = Vec::with_capacity(alloc, SLOTS as usize)?;
+        for _ in 0..SLOTS {
+            slots.push(Slot::Empty)?;
+        }
+        Ok(RankStore { slots })
+    }
+
+    /// What is in a slot.
+    pub fn slot(&self, n: u16) -> &Slot<Block<S>>
+        requires { n < 256 }
+        ensures value { result.now ≡ get_or self.now n Empty }
+        ensures size { length self.now ≡ 256 }
+    {
+        &self.slots[n as usize]
+    }
+
+    /// Puts anything into a slot.
+    pub(crate) fn set(&mut self, n: u16, slot: Slot<Block<S>>)
+        requires { n < 256 }
+        ensures value { self.new ≡ slice_set self.old n slot }
+        ensures size { length self.old ≡ 256 }
+    {
+        self.slots[n as usize] = slot;
+    }
+
+    /// Puts a block into a slot.
+    pub fn put(&mut self, n: u16, block: Block<S>)
+        requires { n < 256 }
+        ensures value { self.new ≡ slice_set self.old n (Sheet block) }
+        ensures size { length self.old ≡ 256 }
+    {
+        self.set(n, Slot::Sheet(block));
+    }
+
+    /// Marks a slot as lost at a rank.
+    pub fn put_lost(&mut self, n: u16, origin: u16)
+        requires { n < 256 }
+        ensures value { self.new ≡ slice_set self.old n (Lost origin) }
+        ensures size { length self.old ≡ 256 }
+    {
+        self.set(n, Slot::Lost(origin));
+    }
+
+    /// Leaves a slot empty.
+    pub fn clear(&mut self, n: u16)
+        requires { n < 256 }
+        ensures value { self.new ≡ slice_set self.old n Empty }
+        ensures size { length self.old ≡ 256 }
+    {
+        self.set(n, Slot::Empty);
+    }
+
+    /// What is in a slot, which is left empty.
+    pub fn take(&mut self, n: u16) -> Slot<Block<S>>
+        requires { n < 256 }
+        ensures value { result ≡ get_or self.old n Empty }
+        ensures left { self.new ≡ slice_set self.old n Empty }
+        ensures size { length self.old ≡ 256 }
+    {
+        mem::replace(&mut self.slots[n as usize], Slot::Empty)
+    }
+
+    /// A copy of a slot.
+    pub fn try_copy(&self, n: u16) -> Result<Slot<Block<S>>, AllocError>
+        requires { n < 256 }
+        ensures { IfOk result (λ slot. slot ≡ get_or self.now n Empty) }
+    {
+        match self.slot(n) {
+            Slot::Empty => Ok(Slot::Empty),
+            Slot::Sheet(block) => Ok(Slot::Sheet(block.try_clone()?)),
+            Slot::Lost(origin) => Ok(Slot::Lost(*origin)),
+        }
+    }
+
+    /// The block in a slot.
+    pub fn sheet(&self, n: u16) -> &Block<S>
+        requires slot { n < 256 }
+        requires sheet { IsSome (sheets_in self.now n) }
+        ensures { sheets_in self.now n ≡ Some result.now }
+    {
+        match self.slot(n) {
+            Slot::Sheet(block) => block,
+            _ => unreachable!(),
+        }
+    }
+
+    /// How many slots aren't empty.
+    pub fn filled(&self) -> usize
+        ensures value { result ≡ count_by is_filled self.now }
+        ensures limit { result ≤ 256 }
+        ensures size { length self.now ≡ 256 }
+    {
+        count_filled(&self.slots)
+    }
+}
+
+/// How many of some slots aren't empty.
+fn count_filled<B>(slots: &[Slot<B>]) -> usize
+    ensures value { result ≡ count_by is_filled slots.now }
+    ensures limit { result ≤ length slots.now }
+{
+    let mut count = 0;
+    for slot in slots {
+        if !slot.is_empty() {
+            count += 1;
+        }
+    }
+    count
+}

@@ -1,0 +1,26 @@
+use Rattle.std.proofs.Common.{◌∙◌}
+use Rattle.cb_scripts.proofs.Multiplied.{two_exist, two_once, two_fit, product_shaped, product_gathered}
+use Rattle.cb_scripts.proofs.multiply.Goals as goal
+
+pub run-requires-clause-exist : goal.run-requires-clause-exist
+run-requires-clause-exist g c =
+    rw (c.in-Ok.ensures.ranks, c.in-Ok.ensures.starts) (two_exist c.args.grid.now.side c.shape.result c.shape-2.result)
+
+pub run-requires-clause-once : goal.run-requires-clause-once
+run-requires-clause-once g c =
+    rw c.in-Ok.ensures.starts (two_once c.args.grid.now.side c.shape.result c.shape-2.result)
+
+pub run-requires-clause-fits : goal.run-requires-clause-fits
+run-requires-clause-fits g c =
+    rw (c.in-Ok.ensures.ranks, c.in-Ok.ensures.starts, c.shape.ensures.shape, c.shape-2.ensures.shape) (two_fit g.S.Semiring.arithmetic c.args.grid.now.side c.args.left.now c.args.right.now c.in_ok-stores.stores.items c.in_ok-stores.ensures)
+
+pub run-requires-clause-shapes : goal.run-requires-clause-shapes
+run-requires-clause-shapes g c =
+    let plan = rw (c.shape.ensures.shape, c.shape-2.ensures.shape) at c.in-Ok.ensures.product in
+    rw (c.product_shape-shape.ensures, c.in-Ok.ensures.slot) (product_shaped g.S.Semiring.arithmetic c.args.grid.now.side c.args.left.now c.args.right.now c.in_ok-stores.stores.items c.in_ok-stores.ensures g.met.S.Semiring.is_semiring c.shape.ensures.matrix c.shape-2.ensures.matrix c.in-Ok.planned.plan.acts plan)
+
+pub returns-clause-ok : goal.returns-clause-ok
+returns-clause-ok g c =
+    let plan = rw (c.shape.ensures.shape, c.shape-2.ensures.shape) at c.in-Ok.ensures.product in
+    let glue = rw (c.product_shape-shape.ensures, c.in-Ok.ensures.slot) at c.in_ok-run.ensures in
+    glue ∙ product_gathered g.S.Semiring.arithmetic c.args.grid.now.side c.args.left.now c.args.right.now c.in_ok-stores.stores.items c.in_ok-stores.ensures g.met.S.Semiring.is_semiring c.shape.ensures.matrix c.shape-2.ensures.matrix c.in-Ok.planned.plan.acts plan

@@ -1,0 +1,13 @@
+use Rattle.std.proofs.Common.{◌*◌}
+use Rattle.cb_layout.specs.Blocks.{block_at}
+use Rattle.cb_scripts.specs.Filling.{block_of_rank}
+use Rattle.cb_scripts.proofs.Filling.{filled_with, of_ranks}
+use Rattle.cb_scripts.proofs.stores.distribute.Goals as goal
+
+pub returns : goal.returns
+returns g c =
+    let s = g.S.Semiring.arithmetic in
+    let q = c.args.grid.now.side in
+    let m = c.args.matrix.now in
+    let blocks = c.in_ok-blocks.blocks.items in
+    filled_with (q * q) c.args.slot (block_at blocks) (block_of_rank s q m) c.args.stores.now.items c.fill.new.stores.items (of_ranks s q m blocks c.in_ok-blocks.ensures.blocks) (rw c.requires.table.rows at c.fill.ensures)

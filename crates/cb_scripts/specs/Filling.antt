@@ -1,0 +1,23 @@
+-- One slot of every rank gets a block.
+use Rattle.std.specs.Prelude.{◌≡◌, ◌<◌, ℕ, ◌*◌, ◌/◌, ◌%◌, ◌==◌, if◌then◌else◌, List}
+use Rattle.cb_semirings.specs.Arithmetic.{Arithmetic}
+use Rattle.cb_matrix.specs.Sparse.{Sparse}
+use Rattle.cb_layout.specs.Blocks.{block_of}
+use Rattle.cb_plan.specs.declared.stores.Slot.{Slot}
+use Rattle.cb_plan.specs.declared.stores.Slot.TheVariants as slot_is
+use Rattle.cb_plan.specs.Tables.{cell, IsTable}
+
+-- slot n of each rank has its block, and the other slots have what they had
+pub record Filled (ranks n : ℕ) (blocks : ℕ → Sparse) (old new : List (List (Slot Sparse))) : Type 0 where
+  pub table : IsTable ranks 256 new
+  pub cells : (r k : ℕ) → r < ranks → cell slot_is.Empty new r k ≡ (if n == k then slot_is.Sheet (blocks r) else cell slot_is.Empty old r k)
+
+-- the block of a matrix that a rank keeps
+abbrev pub block_of_rank : Arithmetic → ℕ → Sparse → ℕ → Sparse
+block_of_rank s q m r = block_of s q m (r / q) (r % q)
+
+-- on a grid of some ranks, their stores have the blocks of two matrices in slots 0 and 1, and nothing else
+pub record HasOperands (s : Arithmetic) (q : ℕ) (a b : Sparse) (stores : List (List (Slot Sparse))) : Type 0 where
+  pub some : 0 < q
+  pub table : IsTable (q * q) 256 stores
+  pub cells : (r k : ℕ) → r < q * q → cell slot_is.Empty stores r k ≡ (if 1 == k then slot_is.Sheet (block_of_rank s q b r) else (if 0 == k then slot_is.Sheet (block_of_rank s q a r) else slot_is.Empty))

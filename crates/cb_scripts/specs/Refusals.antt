@@ -1,0 +1,16 @@
+-- Why a script has no answer: shapes that don't agree, or, where they do, want of memory.
+use Rattle.std.specs.Prelude.{◌≡◌, ◌≢◌, ◌⊎◌}
+use Rattle.cb_matrix.specs.Sparse.{Sparse}
+use Rattle.cb_matrix.specs.Values.{product_shape}
+use Rattle.cb_scripts.specs.declared.ScriptFault.{ScriptFault}
+use Rattle.cb_scripts.specs.declared.ScriptFault.TheVariants.{Shapes, Memory}
+
+-- why a has no product by b
+abbrev pub IsProductRefusal : Sparse → Sparse → ScriptFault → Type 0
+IsProductRefusal a b Shapes = a.shape.cols ≢ b.shape.rows
+IsProductRefusal a b Memory = a.shape.cols ≡ b.shape.rows
+
+-- why there is none under the mask m
+abbrev pub IsMaskedRefusal : Sparse → Sparse → Sparse → ScriptFault → Type 0
+IsMaskedRefusal a b m Shapes = (a.shape.cols ≢ b.shape.rows) ⊎ (m.shape ≢ product_shape a b)
+IsMaskedRefusal a b m Memory = (a.shape.cols ≡ b.shape.rows) × (m.shape ≡ product_shape a b)

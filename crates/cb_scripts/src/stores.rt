@@ -1,0 +1,78 @@
+//! The slots of the ranks: filled with blocks before a plan, and read after it.
+ghost use Rattle.std.specs.Prelude.{◌≡◌, ◌<◌, ◌*◌, ℕ, length, replicate, Some, IfOk, OnOk, IsSome};
+ghost use Rattle.cb_layout.specs.Blocks.{block_at};
+ghost use Rattle.cb_plan.specs.declared.stores.Slot.TheVariants.{Empty};
+ghost use Rattle.cb_plan.specs.Stores.{state_of};
+ghost use Rattle.cb_plan.specs.Tables.{IsTable};
+ghost use Rattle.cb_scripts.specs.Filling.{Filled, block_of_rank};
+
+use cb_dcsc::Block;
+use cb_layout::Grid;
+use cb_matrix::Matrix;
+use cb_plan::{RankStore, Slot};
+use cb_semirings::Semiring;
+use std::alloc::{AllocError, Global};
+
+/// A store of empty slots for each rank.
+pub fn blank<S: Semiring>(alloc: Global, ranks: u16) -> Result<Vec<RankStore<S>>, AllocError>
+    ensures { IfOk result (λ v. v.items ≡ replicate ranks (replicate 256 Empty)) }
+{
+    let mut stores = Vec::new(alloc);
+    for _ in 0..ranks {
+        stores.push(RankStore::new(alloc)?)?;
+    }
+    Ok(stores)
+}
+
+/// Cuts a matrix over the grid, and puts the blocks into a slot of their ranks.
+pub fn distribute<S: Semiring>(
+    alloc: Global,
+    grid: &Grid,
+    stores: &mut Vec<RankStore<S>>,
+    slot: u16,
+    matrix: &Matrix<S>,
+) -> Result<(), AllocError>
+    requires slot { slot < 256 }
+    requires table { IsTable (grid.now.side * grid.now.side) 256 stores.old.items }
+    ensures { OnOk result (Filled (grid.now.side * grid.now.side) slot (block_of_rank S.arithmetic grid.now.side matrix.now) stores.old.items stores.new.items) }
+{
+    let blocks = grid.scatter(alloc, matrix)?;
+    fill(stores, slot, blocks);
+    Ok(())
+}
+
+/// Moves one block into a slot of each rank.
+fn fill<S: Semiring>(stores: &mut Vec<RankStore<S>>, slot: u16, blocks: Vec<Block<S>>)
+    requires slot { slot < 256 }
+    requires count { length blocks.items ≡ length stores.old.items }
+    requires table { IsTable (length stores.old.items) 256 stores.old.items }
+    ensures { Filled (length stores.old.items) slot (block_at blocks.items) stores.old.items stores.new.items }
+{
+    let mut blocks = blocks;
+    while let Some(block) = blocks.pop() {
+        let rank = blocks.len();
+        stores[rank].put(slot, block);
+    }
+}
+
+/// Moves the blocks out of a slot of the ranks.
+pub fn drain<S: Semiring>(
+    alloc: Global,
+    stores: Vec<RankStore<S>>,
+    slot: u16,
+) -> Result<Vec<Block<S>>, AllocError>
+    requires slot { slot < 256 }
+    requires sheets { (r : ℕ) → r < length stores.items → IsSome (state_of stores.items r slot) }
+    ensures count { IfOk result (λ v. length v.items ≡ length stores.items) }
+    ensures blocks { IfOk result (λ v. (r : ℕ) → r < length stores.items → state_of stores.items r slot ≡ Some (block_at v.items r)) }
+{
+    let mut stores = stores;
+    let mut blocks = Vec::new(alloc);
+    for rank in 0..stores.len() {
+        let Slot::Sheet(block) = stores[rank].take(slot) else {
+            unreachable!()
+        };
+        blocks.push(block)?;
+    }
+    Ok(blocks)
+}

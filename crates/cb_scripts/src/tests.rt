@@ -1,0 +1,173 @@
+//! Worked products on grids of several sides, with ample memory and with each allocation refused in turn.
+ghost use Rattle.std.specs.Prelude.{◌↔◌, IsTrue, All};
+ghost use Rattle.cb_semirings.specs.Arithmetic.{IsValue};
+
+use crate::{Engine, ScriptFault, multiply, multiply_masked};
+use cb_layout::Grid;
+use cb_matrix::{Entry, LIMIT, Matrix, Shape};
+use cb_semirings::{MaxMin, PlusTimes, Semiring};
+use std::alloc::Global;
+use std::test::Fail;
+
+const SIDES: [u32; 4] = [1, 2, 3, 6];
+
+const fn entry(row: u32, column: u32, value: u64) -> Entry {
+    Entry { row, column, value }
+}
+
+fn grid(side: u32) -> Result<Grid, Fail> {
+    Ok(Grid::new(side).map_err(|_| "a side")?)
+}
+
+/// Whether each entry's value is one of the semiring.
+fn are_values<S: Semiring>(entries: &[Entry]) -> bool
+    ensures { IsTrue result ↔ All (λ e. IsValue S.arithmetic e.value) entries.now }
+{
+    entries.iter().all(|entry| S::is_value(entry.value))
+}
+
+/// The matrix of so many rows and columns with these entries, where they make one and there is memory.
+fn matrix<S: Semiring>(
+    alloc: Global,
+    rows: u32,
+    cols: u32,
+    entries: &[Entry],
+) -> Option<Matrix<S>> {
+    if !are_values::<S>(entries) {
+        return None;
+    }
+    let shape = Shape::new(rows, cols)?;
+    Matrix::from_entries(alloc, shape, entries).ok()
+}
+
+/// Two matrices of two by two.
+fn operands<S: Semiring>(alloc: Global) -> Option<(Matrix<S>, Matrix<S>)> {
+    let left = [entry(0, 0, 1), entry(0, 1, 2), entry(1, 1, 3)];
+    let right = [entry(0, 1, 1), entry(1, 0, 4)];
+    Some((matrix(alloc, 2, 2, &left)?, matrix(alloc, 2, 2, &right)?))
+}
+
+/// Whether the product of two matrices has just these entries on each grid.
+fn makes<S: Semiring>(
+    alloc: Global,
+    left: &Matrix<S>,
+    right: &Matrix<S>,
+    wanted: &[Entry],
+) -> Result<bool, Fail> {
+    for side in SIDES {
+        let product = multiply(alloc, Engine::Plain, &grid(side)?, left, right)?;
+        if product.entries() != wanted {
+            return Ok(false);
+        }
+    }
+    Ok(true)
+}
+
+/// Whether the product under a mask has just these entries on each grid.
+fn makes_masked(
+    alloc: Global,
+    left: &Matrix<PlusTimes>,
+    right: &Matrix<PlusTimes>,
+    mask: &Matrix<PlusTimes>,
+    wanted: &[Entry],
+) -> Result<bool, Fail> {
+    for side in SIDES {
+        let product = multiply_masked(alloc, Engine::Plain, &grid(side)?, left, right, mask)?;
+        if product.entries() != wanted {
+            return Ok(false);
+        }
+    }
+    Ok(true)
+}
+
+#[test]
+fn multiplies_two_by_two(rt: HostRuntime) -> Result<(), Fail> {
+    let (left, right) = operands::<PlusTimes>(rt.alloc()).ok_or("memory")?;
+    let wanted = [entry(0, 0, 8), entry(1, 0, 12), entry(0, 1, 1)];
+    assert!(rt; makes(rt.alloc(), &left, &right, &wanted)?);
+    Ok(())
+}
+
+#[test]
+fn multiplies_in_max_min(rt: HostRuntime) -> Result<(), Fail> {
+    let (left, right) = operands::<MaxMin>(rt.alloc()).ok_or("memory")?;
+    let wanted = [entry(0, 0, 2), entry(1, 0, 3), entry(0, 1, 1)];
+    assert!(rt; makes(rt.alloc(), &left, &right, &wanted)?);
+    Ok(())
+}
+
+#[test]
+fn squares_a_skew_matrix(rt: HostRuntime) -> Result<(), Fail> {
+    let given = [entry(1, 0, 3), entry(0, 1, u64::MAX - 2)];
+    let skew = matrix::<PlusTimes>(rt.alloc(), 2, 2, &given).ok_or("memory")?;
+    let minus_nine = u64::MAX - 8;
+    let wanted = [entry(0, 0, minus_nine), entry(1, 1, minus_nine)];
+    assert!(rt; makes(rt.alloc(), &skew, &skew, &wanted)?);
+    Ok(())
+}
+
+#[test]
+fn the_largest_sides_cost_what_the_entries_cost(rt: HostRuntime) -> Result<(), Fail> {
+    let last = LIMIT - 1;
+    let left = matrix::<PlusTimes>(rt.alloc(), LIMIT, LIMIT, &[entry(0, last, 7)]).ok_or("memory")?;
+    let right = matrix::<PlusTimes>(rt.alloc(), LIMIT, LIMIT, &[entry(last, 4, 3)]).ok_or(
+        "memory",
+    )?;
+    assert!(rt; makes(rt.alloc(), &left, &right, &[entry(0, 4, 21)])?);
+    Ok(())
+}
+
+#[test]
+fn keeps_what_a_mask_covers(rt: HostRuntime) -> Result<(), Fail> {
+    let (left, right) = operands::<PlusTimes>(rt.alloc()).ok_or("memory")?;
+    let mask = matrix(rt.alloc(), 2, 2, &[entry(0, 0, 9), entry(1, 1, 9)]).ok_or("memory")?;
+    assert!(rt; makes_masked(rt.alloc(), &left, &right, &mask, &[entry(0, 0, 8)])?);
+    let nothing = matrix(rt.alloc(), 2, 2, &[]).ok_or("memory")?;
+    assert!(rt; makes_masked(rt.alloc(), &left, &right, &nothing, &[])?);
+    Ok(())
+}
+
+#[test]
+fn refuses_shapes(rt: HostRuntime) -> Result<(), Fail> {
+    let (left, right) = operands::<PlusTimes>(rt.alloc()).ok_or("memory")?;
+    let small = matrix(rt.alloc(), 1, 1, &[]).ok_or("memory")?;
+    let grid = grid(2)?;
+    let answer = multiply(rt.alloc(), Engine::Plain, &grid, &left, &small);
+    assert!(rt; matches!(answer, Err(ScriptFault::Shapes)));
+    let answer = multiply_masked(rt.alloc(), Engine::Plain, &grid, &left, &right, &small);
+    assert!(rt; matches!(answer, Err(ScriptFault::Shapes)));
+    Ok(())
+}
+
+/// It passes whichever single allocation is refused (`rt try --test --fail-alloc N`, for each N in turn): the
+/// call says so, or its answer is the right one.
+#[test]
+fn refused_memory_is_said(rt: HostRuntime) -> Result<(), Fail> {
+    let alloc = rt.alloc();
+    let Some((left, right)) = operands::<PlusTimes>(alloc) else {
+        return Ok(());
+    };
+    let wanted = [entry(0, 0, 8), entry(1, 0, 12), entry(0, 1, 1)];
+    match multiply(alloc, Engine::Plain, &grid(2)?, &left, &right) {
+        Ok(product) => assert_eq!(rt; product.entries(), wanted.as_slice()),
+        Err(fault) => assert_eq!(rt; fault, ScriptFault::Memory),
+    }
+    Ok(())
+}
+
+/// The same of a product under a mask.
+#[test]
+fn refused_memory_is_said_under_a_mask(rt: HostRuntime) -> Result<(), Fail> {
+    let alloc = rt.alloc();
+    let Some((left, right)) = operands::<PlusTimes>(alloc) else {
+        return Ok(());
+    };
+    let Some(mask) = matrix(alloc, 2, 2, &[entry(0, 0, 9), entry(1, 1, 9)]) else {
+        return Ok(());
+    };
+    match multiply_masked(alloc, Engine::Plain, &grid(2)?, &left, &right, &mask) {
+        Ok(product) => assert_eq!(rt; product.entries(), [entry(0, 0, 8)].as_slice()),
+        Err(fault) => assert_eq!(rt; fault, ScriptFault::Memory),
+    }
+    Ok(())
+}

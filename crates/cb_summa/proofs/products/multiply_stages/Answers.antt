@@ -1,0 +1,13 @@
+use Rattle.std.proofs.Common.{arith}
+use Rattle.cb_summa.specs.Summa.{stage}
+use Rattle.cb_summa.proofs.Growing.{within_next, grew_next}
+use Rattle.cb_summa.proofs.products.multiply_stages.Goals as goal
+
+pub multiply_stage-requires-clause-limit : goal.multiply_stage-requires-clause-limit
+multiply_stage-requires-clause-limit c =
+    let l = c.loop-k-test.true in
+    let m = c.side-k-end.ensures.value in
+    within_next (stage c.args.grid.now.side) c.loop-k.k c.args.plan.now c.loop-k.plan c.args.grid.now.side (omega arith) c.requires c.loop-k.invariant
+
+pub loop-k-preserved : goal.loop-k-preserved
+loop-k-preserved c = grew_next (stage c.args.grid.now.side) c.loop-k.k c.args.plan.now c.loop-k.plan _ c.loop-k.invariant c.in_ok-multiply_stage.ensures.acts

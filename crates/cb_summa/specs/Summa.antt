@@ -1,0 +1,127 @@
+-- The plan of the product by stages.
+use Rattle.std.specs.Prelude.{◌≡◌, ◌<◌, Some, ℕ, suc, zero, ◌+◌, ◌*◌, ◌/◌, ◌%◌, ◌==◌, if◌then◌else◌, List, [], ◌∷◌, ◌++◌, map, flat_map}
+use Rattle.std.specs.List.{range_with_len}
+use Rattle.cb_matrix.specs.Sparse.{Extent, Sparse, IsMatrix}
+use Rattle.cb_plan.specs.declared.acts.Op.{Op}
+use Rattle.cb_plan.specs.declared.acts.Op.TheVariants as op_is
+use Rattle.cb_plan.specs.declared.acts.Act.{Act}
+use Rattle.cb_plan.specs.declared.acts.Act.TheVariants as act_is
+use Rattle.cb_plan.specs.declared.acts.Start.{Start}
+use Rattle.cb_letters.specs.declared.Tag.{Tag}
+use Rattle.cb_plan.specs.Meaning.{Algebra, State, meaning}
+use Rattle.cb_plan.specs.Algebras.{matrices}
+use Rattle.cb_semirings.specs.Arithmetic.{Arithmetic, IsSemiring}
+use Rattle.cb_matrix.specs.Values.{product}
+use Rattle.cb_matrix.specs.Operations.{masked}
+use Rattle.cb_layout.specs.Parts.{row_group, column_group, part_shape}
+use Rattle.cb_layout.specs.Blocks.{block_of}
+use Rattle.cb_collectives.specs.Collectives.{broadcast_acts, shut_acts}
+
+-- a letter's tag, by its number
+abbrev pub tagged : ℕ → Tag
+tagged n = record { 0 = n }
+
+-- the slots that a stage's blocks come into: two stages in a row have different ones
+abbrev pub left_slot : ℕ → ℕ
+left_slot k = 3 + 2 * (k % 2)
+
+abbrev pub right_slot : ℕ → ℕ
+right_slot k = 4 + 2 * (k % 2)
+
+-- in stage k, the block of the first matrix in row i and column k goes along its row
+abbrev pub row_broadcast : ℕ → ℕ → ℕ → List Act
+row_broadcast q k i = broadcast_acts (row_group q i) (i * q + k) (tagged (2 * k)) 0 (left_slot k)
+
+-- and that of the second in row k and column j along its column
+abbrev pub column_broadcast : ℕ → ℕ → ℕ → List Act
+column_broadcast q k j = broadcast_acts (column_group q j) (k * q + j) (tagged (2 * k + 1)) 1 (right_slot k)
+
+-- the blocks of stage k come to all ranks
+abbrev pub broadcasts : ℕ → ℕ → List Act
+broadcasts q k = flat_map (row_broadcast q k) (range_with_len 0 q) ++ flat_map (column_broadcast q k) (range_with_len 0 q)
+
+-- each rank does an operation
+abbrev pub each_rank : ℕ → (ℕ → Op) → List Act
+each_rank q op = map (λ r. act_is.Work r (op r)) (range_with_len 0 (q * q))
+
+-- the product of the two blocks of stage k is added to slot 2
+abbrev pub product_op : ℕ → ℕ → Op
+product_op k r = op_is.MulAdd (left_slot k) (right_slot k) 2
+
+-- the blocks of the stage after stage k come, if there is one
+abbrev pub next_broadcasts : ℕ → ℕ → List Act
+next_broadcasts q k = if k + 1 == q then [] else broadcasts q (k + 1)
+
+-- stage k, while the blocks of the next one come
+abbrev pub stage : ℕ → ℕ → List Act
+stage q k = next_broadcasts q k ++ each_rank q (product_op k)
+
+-- the shape of the product
+abbrev pub result_shape : Extent → Extent → Extent
+result_shape a b = record { rows = a.rows; cols = b.cols }
+
+-- slot 2 of a rank is its part of a product that has no entries yet
+abbrev pub zero_op : ℕ → Extent → ℕ → Op
+zero_op q shape r = op_is.Zero 2 (part_shape q shape (r / q) (r % q))
+
+-- slot 2 of a rank keeps what the mask in its slot 7 covers
+abbrev pub mask_op : ℕ → Op
+mask_op r = op_is.Mask 2 7 2
+
+-- slot 2 of each rank gets the part of the product: nothing at first, and then the product of each stage more,
+-- while the blocks of the next one come
+abbrev pub product_acts : ℕ → Extent → Extent → List Act
+product_acts q a b =
+    each_rank q (zero_op q (result_shape a b))
+    ++ (broadcasts q 0 ++ flat_map (stage q) (range_with_len 0 q))
+
+abbrev pub summa_acts : ℕ → Extent → Extent → List Act
+summa_acts q a b = product_acts q a b ++ shut_acts (q * q)
+
+-- the same, and each rank keeps what the mask in its slot 7 covers
+abbrev pub summa_masked_acts : ℕ → Extent → Extent → List Act
+summa_masked_acts q a b = product_acts q a b ++ (each_rank q mask_op ++ shut_acts (q * q))
+
+-- a slot of a rank has its part of a matrix of this shape
+abbrev pub part_start_at : ℕ → ℕ → ℕ → Extent → Start
+part_start_at q slot r shape = record { rank = r; slot = slot; shape = part_shape q shape (r / q) (r % q) }
+
+-- before the first act each rank has its parts of the two matrices in slots 0 and 1
+abbrev pub summa_starts : ℕ → Extent → Extent → List Start
+summa_starts q a b = flat_map (λ r. part_start_at q 0 r a ∷ part_start_at q 1 r b ∷ []) (range_with_len 0 (q * q))
+
+-- and its part of the mask in slot 7
+abbrev pub summa_masked_starts : ℕ → Extent → Extent → List Start
+summa_masked_starts q a b =
+    flat_map (λ r. part_start_at q 0 r a ∷ part_start_at q 1 r b ∷ part_start_at q 7 r (result_shape a b) ∷ []) (range_with_len 0 (q * q))
+
+-- what stages 0 to k-1 add up to
+abbrev pub stages_sum : {M : Type 0} → Algebra M → (ℕ → M) → (ℕ → M) → M → ℕ → M
+stages_sum ops left right acc zero = acc
+stages_sum ops left right acc (suc k) = ops.mul_add (left k) (right k) (stages_sum ops left right acc k)
+
+-- slot n of each rank (i, j) has part (i, j) of a matrix
+abbrev pub HasParts : Arithmetic → ℕ → Sparse → ℕ → State Sparse → Type 0
+HasParts s q m n state = (i j : ℕ) → i < q → j < q → state (i * q + j) n ≡ Some (block_of s q m i j)
+
+-- where slots 0 and 1 have the parts of two matrices, slot 2 has in the end the parts of their product
+abbrev pub MakesProduct : List Act → ℕ → Arithmetic → Sparse → Sparse → Type 0
+MakesProduct acts q s a b =
+    (state : State Sparse) → HasParts s q a 0 state → HasParts s q b 1 state → HasParts s q (product s a b) 2 (meaning (matrices s) acts state)
+
+-- where slot 7 has those of a mask too, slot 2 has in the end the parts of the masked product
+abbrev pub MakesMaskedProduct : List Act → ℕ → Arithmetic → Sparse → Sparse → Sparse → Type 0
+MakesMaskedProduct acts q s a b m =
+    (state : State Sparse) → HasParts s q a 0 state → HasParts s q b 1 state → HasParts s q m 7 state →
+    HasParts s q (masked s (product s a b) m) 2 (meaning (matrices s) acts state)
+
+-- in every semiring the acts make the product of any two matrices of these shapes
+abbrev pub IsProductPlan : List Act → ℕ → Extent → Extent → Type 0
+IsProductPlan acts q left right =
+    (s : Arithmetic) → IsSemiring s → (a b : Sparse) → IsMatrix s a → IsMatrix s b → a.shape ≡ left → b.shape ≡ right → MakesProduct acts q s a b
+
+-- and the product under any mask of its shape
+abbrev pub IsMaskedPlan : List Act → ℕ → Extent → Extent → Type 0
+IsMaskedPlan acts q left right =
+    (s : Arithmetic) → IsSemiring s → (a b m : Sparse) → IsMatrix s a → IsMatrix s b → IsMatrix s m →
+    a.shape ≡ left → b.shape ≡ right → m.shape ≡ result_shape left right → MakesMaskedProduct acts q s a b m

@@ -1,0 +1,166 @@
+//! The acts that make the product: blocks are broadcast, and each rank adds the products of those that it gets.
+ghost use Rattle.std.specs.Prelude.{◌≡◌, ◌<◌, ◌≤◌, ◌+◌, ◌*◌, ◌/◌, ◌%◌, ◌==◌, ℕ, List, [], ◌++◌, map, flat_map, if◌then◌else◌, OnOk, IfErr};
+ghost use Rattle.std.specs.List.{range_with_len};
+ghost use Rattle.cb_summa.specs.Summa.{left_slot, right_slot, row_broadcast, column_broadcast, broadcasts, next_broadcasts, each_rank, stage, zero_op, result_shape, product_acts};
+ghost use Rattle.cb_summa.specs.Growth.{IsWithinLimit, Grew, no_memory};
+
+use crate::operands::{LEFT, RESULT, RIGHT, block_shape, result_shape};
+use cb_collectives::broadcast;
+use cb_layout::Grid;
+use cb_letters::Tag;
+use cb_matrix::Shape;
+use cb_plan::{Act, Op, Plan, PlanFault};
+use std::alloc::Global;
+
+/// Slot 2 of each rank gets its block of the product. The blocks of each stage but the first come before the
+/// products of the stage before it.
+pub fn multiply(
+    plan: &mut Plan,
+    alloc: Global,
+    grid: &Grid,
+    a: Shape,
+    b: Shape,
+) -> Result<(), PlanFault>
+    requires { IsWithinLimit plan.now (product_acts grid.now.side a b) }
+    ensures acts { OnOk result (Grew (product_acts grid.now.side a b) plan.old plan.new) }
+    ensures fault { IfErr result (λ e. e ≡ no_memory) }
+{
+    let _side = grid.side();
+    zero_results(plan, grid, result_shape(a, b))?;
+    broadcast_blocks(plan, alloc, grid, 0)?;
+    multiply_stages(plan, alloc, grid)
+}
+
+/// Slot 2 of each rank is a block of its shape without entries.
+fn zero_results(plan: &mut Plan, grid: &Grid, shape: Shape) -> Result<(), PlanFault>
+    requires { IsWithinLimit plan.now (each_rank grid.now.side (zero_op grid.now.side shape)) }
+    ensures acts { OnOk result (Grew (each_rank grid.now.side (zero_op grid.now.side shape)) plan.old plan.new) }
+    ensures fault { IfErr result (λ e. e ≡ no_memory) }
+{
+    plan.make_room(usize::from(grid.ranks()))?;
+    for rank in 0..grid.ranks() {
+        let op = Op::Zero {
+            into: RESULT,
+            shape: block_shape(grid, shape, rank),
+        };
+        plan.push(Act::Work { rank, op })?;
+    }
+    Ok(())
+}
+
+/// All stages, one after the other.
+fn multiply_stages(plan: &mut Plan, alloc: Global, grid: &Grid) -> Result<(), PlanFault>
+    requires { IsWithinLimit plan.now (flat_map (stage grid.now.side) (range_with_len 0 grid.now.side)) }
+    ensures acts { OnOk result (Grew (flat_map (stage grid.now.side) (range_with_len 0 grid.now.side)) plan.old plan.new) }
+    ensures fault { IfErr result (λ e. e ≡ no_memory) }
+{
+    for k in 0..grid.side() {
+        multiply_stage(plan, alloc, grid, k)?;
+    }
+    Ok(())
+}
+
+/// The blocks of the next stage come, if there is one, and each rank adds the product of its blocks of stage k.
+fn multiply_stage(plan: &mut Plan, alloc: Global, grid: &Grid, k: u32) -> Result<(), PlanFault>
+    requires stage { k < grid.now.side }
+    requires limit { IsWithinLimit plan.now (stage grid.now.side k) }
+    ensures acts { OnOk result (Grew (stage grid.now.side k) plan.old plan.new) }
+    ensures fault { IfErr result (λ e. e ≡ no_memory) }
+{
+    broadcast_next(plan, alloc, grid, k)?;
+    let product = Op::MulAdd {
+        a: left_slot(k),
+        b: right_slot(k),
+        acc: RESULT,
+    };
+    work_everywhere(plan, grid, &product)
+}
+
+/// The blocks of the stage after stage k come, if there is one.
+fn broadcast_next(plan: &mut Plan, alloc: Global, grid: &Grid, k: u32) -> Result<(), PlanFault>
+    requires stage { k < grid.now.side }
+    requires limit { IsWithinLimit plan.now (next_broadcasts grid.now.side k) }
+    ensures acts { OnOk result (Grew (next_broadcasts grid.now.side k) plan.old plan.new) }
+    ensures fault { IfErr result (λ e. e ≡ no_memory) }
+{
+    let side = grid.side();
+    if k + 1 == side {
+        return Ok(());
+    }
+    broadcast_blocks(plan, alloc, grid, k + 1)
+}
+
+/// The blocks of stage k come to all ranks.
+fn broadcast_blocks(plan: &mut Plan, alloc: Global, grid: &Grid, k: u32) -> Result<(), PlanFault>
+    requires stage { k < grid.now.side }
+    requires limit { IsWithinLimit plan.now (broadcasts grid.now.side k) }
+    ensures acts { OnOk result (Grew (broadcasts grid.now.side k) plan.old plan.new) }
+    ensures fault { IfErr result (λ e. e ≡ no_memory) }
+{
+    broadcast_rows(plan, alloc, grid, k)?;
+    broadcast_columns(plan, alloc, grid, k)
+}
+
+/// The blocks of the first matrix in column k go along their rows.
+fn broadcast_rows(plan: &mut Plan, alloc: Global, grid: &Grid, k: u32) -> Result<(), PlanFault>
+    requires stage { k < grid.now.side }
+    requires limit { IsWithinLimit plan.now (flat_map (row_broadcast grid.now.side k) (range_with_len 0 grid.now.side)) }
+    ensures acts { OnOk result (Grew (flat_map (row_broadcast grid.now.side k) (range_with_len 0 grid.now.side)) plan.old plan.new) }
+    ensures fault { IfErr result (λ e. e ≡ no_memory) }
+{
+    for i in 0..grid.side() {
+        let group = grid.row_group(alloc, i);
+        let root = grid.rank(i, k);
+        broadcast(plan, group.as_slice(), root, Tag(2 * k), LEFT, left_slot(k))?;
+    }
+    Ok(())
+}
+
+/// The blocks of the second matrix in row k go along their columns.
+fn broadcast_columns(plan: &mut Plan, alloc: Global, grid: &Grid, k: u32) -> Result<(), PlanFault>
+    requires stage { k < grid.now.side }
+    requires limit { IsWithinLimit plan.now (flat_map (column_broadcast grid.now.side k) (range_with_len 0 grid.now.side)) }
+    ensures acts { OnOk result (Grew (flat_map (column_broadcast grid.now.side k) (range_with_len 0 grid.now.side)) plan.old plan.new) }
+    ensures fault { IfErr result (λ e. e ≡ no_memory) }
+{
+    for j in 0..grid.side() {
+        let group = grid.column_group(alloc, j);
+        let root = grid.rank(k, j);
+        broadcast(
+            plan,
+            group.as_slice(),
+            root,
+            Tag(2 * k + 1),
+            RIGHT,
+            right_slot(k),
+        )?;
+    }
+    Ok(())
+}
+
+/// Every rank does an operation.
+pub fn work_everywhere(plan: &mut Plan, grid: &Grid, op: &Op) -> Result<(), PlanFault>
+    requires { IsWithinLimit plan.now (each_rank grid.now.side (λ _. op.now)) }
+    ensures acts { OnOk result (Grew (each_rank grid.now.side (λ _. op.now)) plan.old plan.new) }
+    ensures fault { IfErr result (λ e. e ≡ no_memory) }
+{
+    plan.make_room(usize::from(grid.ranks()))?;
+    for rank in 0..grid.ranks() {
+        plan.push(Act::Work { rank, op: *op })?;
+    }
+    Ok(())
+}
+
+/// The slot into which a block of the first matrix comes in stage k.
+fn left_slot(k: u32) -> u16
+    ensures { result ≡ left_slot k }
+{
+    (3 + 2 * (k % 2)) as u16
+}
+
+/// The slot into which a block of the second matrix comes in stage k.
+fn right_slot(k: u32) -> u16
+    ensures { result ≡ right_slot k }
+{
+    (4 + 2 * (k % 2)) as u16
+}

@@ -1,0 +1,108 @@
+//! Worked plans.
+ghost use Rattle.std.specs.Prelude.{◌≡◌, IfOk};
+
+use crate::{summa, summa_masked};
+use cb_layout::Grid;
+use cb_matrix::Shape;
+use cb_plan::{Act, Op, Planned};
+use std::alloc::Global;
+use std::test::Fail;
+
+/// The shape of so many rows and columns.
+fn shape(rows: u32, cols: u32) -> Result<Shape, Fail>
+    ensures { IfOk result (λ shape. (shape.rows ≡ rows) × (shape.cols ≡ cols)) }
+{
+    match Shape::new(rows, cols) {
+        Some(shape) => Ok(shape),
+        None => Err("a shape".into()),
+    }
+}
+
+/// The plan of the product of two matrices of 2 by 2 on a grid of a side.
+fn two_by_two(alloc: Global, side: u32) -> Result<Planned, Fail> {
+    let grid = Grid::new(side).map_err(|_| "a side")?;
+    let shape = shape(2, 2)?;
+    Ok(summa(alloc, &grid, shape, shape).map_err(|_| "a plan")?)
+}
+
+/// How many moves a plan has, and how many lanes it shuts: each is a letter.
+fn letters(planned: &Planned) -> usize {
+    planned
+        .plan
+        .acts()
+        .iter()
+        .filter(|act| !matches!(act, Act::Work { .. }))
+        .count()
+}
+
+#[test]
+fn acts_on_grids(rt: HostRuntime) -> Result<(), Fail> {
+    for (side, count) in [(2, 40), (4, 448), (5, 1000), (6, 1944)] {
+        let planned = two_by_two(rt.alloc(), side)?;
+        assert_eq!(rt; planned.plan.len(), count);
+        assert!(rt; planned.result == 2);
+    }
+    Ok(())
+}
+
+#[test]
+fn letters_on_grids(rt: HostRuntime) -> Result<(), Fail> {
+    for (side, count) in [(2, 20), (4, 336), (5, 800), (6, 1620)] {
+        let planned = two_by_two(rt.alloc(), side)?;
+        assert_eq!(rt; letters(&planned), count);
+    }
+    Ok(())
+}
+
+#[test]
+fn acts_under_a_mask(rt: HostRuntime) -> Result<(), Fail> {
+    let grid = Grid::new(2).map_err(|_| "a side")?;
+    let shape = shape(2, 2)?;
+    let planned = summa_masked(rt.alloc(), &grid, shape, shape).map_err(|_| "a plan")?;
+    let mut masks = 0usize;
+    for act in planned.plan.acts() {
+        if matches!(
+            act,
+            Act::Work {
+                op: Op::Mask {
+                    a: 2,
+                    m: 7,
+                    into: 2
+                },
+                ..
+            }
+        ) {
+            masks = masks.saturating_add(1);
+        }
+    }
+    assert_eq!(rt; planned.plan.len(), 44);
+    assert_eq!(rt; masks, 4);
+    Ok(())
+}
+
+#[test]
+fn starts_by_ranks(rt: HostRuntime) -> Result<(), Fail> {
+    let grid = Grid::new(2).map_err(|_| "a side")?;
+    let (a, b) = (shape(3, 5)?, shape(5, 4)?);
+    let planned = summa_masked(rt.alloc(), &grid, a, b).map_err(|_| "a plan")?;
+    let expected: [(u16, u16, u32, u32); 12] = [
+        (0, 0, 2, 3),
+        (0, 1, 3, 2),
+        (0, 7, 2, 2),
+        (1, 0, 2, 2),
+        (1, 1, 3, 2),
+        (1, 7, 2, 2),
+        (2, 0, 1, 3),
+        (2, 1, 2, 2),
+        (2, 7, 1, 2),
+        (3, 0, 1, 2),
+        (3, 1, 2, 2),
+        (3, 7, 1, 2),
+    ];
+    assert_eq!(rt; planned.starts.len(), expected.len());
+    for (start, (rank, slot, rows, cols)) in planned.starts.iter().zip(expected) {
+        assert!(rt; (start.rank, start.slot) == (rank, slot));
+        assert!(rt; (start.shape.rows(), start.shape.cols()) == (rows, cols));
+    }
+    Ok(())
+}
