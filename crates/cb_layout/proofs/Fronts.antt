@@ -1,9 +1,9 @@
 -- How far the columns of each block are merged.
-use Rattle.std.proofs.Common.{◌≡◌, ◌≢◌, ℕ, zero, suc, ◌+◌, ◌-◌, ◌*◌, ◌^◌, ◌<◌, ◌≤◌, true, false, cond, List, [], ◌∷◌, ◌++◌, length, get_or, set, refl, sym, ap, subst, ⊎_elim, ◌∙◌, arith, append-nil}
+use Rattle.std.proofs.Common.{◌≡◌, ◌≢◌, ℕ, zero, suc, ◌+◌, ◌-◌, ◌*◌, ◌<◌, ◌≤◌, true, false, cond, List, [], ◌∷◌, ◌++◌, length, get_or, set, refl, sym, ap, subst, ⊎_elim, ◌∙◌, arith, append-nil}
 use Rattle.std.specs.Prelude.{All, AllPairs, ◌==◌, flat_map}
-use Rattle.std.proofs.lemmas.Bool.{cases_lt, eqb-true, eqb-false}
+use Rattle.std.proofs.lemmas.Bool.{cases_lt, cases_eq, eqb-true, eqb-false}
 use Rattle.std.proofs.lemmas.Bool.Decides.{nat_tests}
-use Rattle.std.proofs.lemmas.List.{get_or-set_same, get_or-set_other}
+use Rattle.std.proofs.lemmas.List.{get_or_past, get_or_default, get_or-set_same, get_or-set_other}
 use Rattle.std.proofs.lemmas.List.Elements.{All-nil, All-cons, All-head, All-tail, All-weaker}
 use Rattle.cb_matrix.specs.declared.Entry.{Entry}
 use Rattle.cb_matrix.specs.Sparse.{Sparse, IsBefore}
@@ -16,15 +16,64 @@ use Rattle.cb_layout.specs.Blocks.{block_at}
 abbrev pub columns_in : ℕ → List Sparse → ℕ → ℕ → List ℕ
 columns_in q blocks j i = columns_with_entries (block_at blocks (i * q + j)).entries
 
--- a row of the grid whose block has a next column
-pub record IsReady (q : ℕ) (blocks : List Sparse) (j : ℕ) (next : List ℕ) (i : ℕ) : Type 0 where
-  pub row : i < q
-  pub some : get_or next i 0 < length (columns_in q blocks j i)
-  pub fits : get_or next i 0 + 1 < 2 ^ 64
-
 -- a row of the grid whose block has none
 abbrev pub IsDone : ℕ → List Sparse → ℕ → List ℕ → ℕ → Type 0
 IsDone q blocks j next i = length (columns_in q blocks j i) ≤ get_or next i 0
+
+-- for each row of the grid its block's next column, where it has one, and else a number past all columns
+pub record IsAhead (q : ℕ) (blocks : List Sparse) (j : ℕ) (next columns : List ℕ) : Type 0 where
+  pub rows : (k : ℕ) → k < q → get_or columns k 0 ≡ get_or (columns_in q blocks j k) (get_or next k 0) 4294967295
+  pub others : (k : ℕ) → q ≤ k → k < 6 → get_or columns k 0 ≡ 4294967295
+
+-- a row that has a column has a block with a next column, which is that one
+pub ahead_row : (q : ℕ) (blocks : List Sparse) (j : ℕ) (next columns : List ℕ) → IsAhead q blocks j next columns → (i : ℕ) → i < 6 → get_or columns i 0 < 4294967295 → i < q
+ahead_row q blocks j next columns h i l some =
+    ⊎_elim
+    (λ (k : i < q). k)
+    (λ (k : q ≤ i). let e = h.others i k l in absurd (omega arith))
+    (cases_lt i q)
+
+pub ahead_some : (q : ℕ) (blocks : List Sparse) (j : ℕ) (next columns : List ℕ) → IsAhead q blocks j next columns → (i : ℕ) → i < q → get_or columns i 0 < 4294967295 → get_or next i 0 < length (columns_in q blocks j i)
+ahead_some q blocks j next columns h i row some =
+    ⊎_elim
+    (λ (k : get_or next i 0 < length (columns_in q blocks j i)). k)
+    (λ (k : length (columns_in q blocks j i) ≤ get_or next i 0).
+    let e = h.rows i row ∙ get_or_past (columns_in q blocks j i) (get_or next i 0) 4294967295 k in
+    absurd (omega arith))
+    (cases_lt (get_or next i 0) (length (columns_in q blocks j i)))
+
+pub ahead_column : (q : ℕ) (blocks : List Sparse) (j : ℕ) (next columns : List ℕ) → IsAhead q blocks j next columns → (i : ℕ) → i < q → get_or columns i 0 < 4294967295 → get_or columns i 0 ≡ get_or (columns_in q blocks j i) (get_or next i 0) 0
+ahead_column q blocks j next columns h i row some =
+    h.rows i row ∙ get_or_default (columns_in q blocks j i) (get_or next i 0) 4294967295 0 (ahead_some q blocks j next columns h i row some)
+
+-- where a row has none, its block's columns are done
+pub ahead_done : (q : ℕ) (blocks : List Sparse) (j : ℕ) (next columns : List ℕ) → IsAhead q blocks j next columns → (i : ℕ) → i < q → All (λ c. c < 4294967295) (columns_in q blocks j i) → get_or columns i 0 ≡ 4294967295 → IsDone q blocks j next i
+ahead_done q blocks j next columns h i row inside none =
+    ⊎_elim
+    (λ (k : get_or next i 0 < length (columns_in q blocks j i)).
+    let l : get_or (columns_in q blocks j i) (get_or next i 0) 4294967295 < 4294967295 = inside (get_or next i 0) 4294967295 k in
+    let e = h.rows i row in
+    absurd (omega arith))
+    (λ (k : length (columns_in q blocks j i) ≤ get_or next i 0). k)
+    (cases_lt (get_or next i 0) (length (columns_in q blocks j i)))
+
+-- one column of one block more
+pub ahead_more : (q : ℕ) (blocks : List Sparse) (j : ℕ) (next columns : List ℕ) → IsAhead q blocks j next columns → (i n c : ℕ) → i < length next → i < length columns → c ≡ get_or (columns_in q blocks j i) n 4294967295
+    → i < q → IsAhead q blocks j (set next i n) (set columns i c)
+ahead_more q blocks j next columns h i n c l m e row = record {
+  rows = λ k b.
+      ⊎_elim
+      (λ (p : k ≡ i).
+      let now : get_or (set columns i c) k 0 ≡ c = ap (λ x. get_or (set columns i c) x 0) p ∙ get_or-set_same columns i c 0 m in
+      let at : get_or (set next i n) k 0 ≡ n = ap (λ x. get_or (set next i n) x 0) p ∙ get_or-set_same next i n 0 l in
+      now ∙ e ∙ (λ t. get_or (columns_in q blocks j (sym p t)) (sym at t) 4294967295))
+      (λ (p : k ≢ i).
+      let now : get_or (set columns i c) k 0 ≡ get_or columns k 0 = get_or-set_other columns i k c 0 p in
+      let at : get_or (set next i n) k 0 ≡ get_or next k 0 = get_or-set_other next i k n 0 p in
+      now ∙ h.rows k b ∙ ap (λ x. get_or (columns_in q blocks j k) x 4294967295) (sym at))
+      (cases_eq k i);
+  others = λ k b s. get_or-set_other columns i k c 0 (omega arith) ∙ h.others k b s;
+}
 
 -- ---- how many columns are left in the first n rows of the grid
 pub columns_left : ℕ → List Sparse → ℕ → List ℕ → ℕ → ℕ

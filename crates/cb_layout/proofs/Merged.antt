@@ -116,6 +116,15 @@ module _ (s : Arithmetic) (q : ℕ) (pos : 0 < q) (shape : Extent) (blocks : Lis
         ∙ (λ t. map (λ e. let d : Entry = record { row = (p ∙ ap (part_start q shape.rows) (sym row_is)) t + e.row; column = part_start q shape.cols (sym column_is t) + e.column; value = e.value } in d) col)))
         so_far
 
+  -- no column of a block is past the shape's
+  pub columns_limit : (limit : ℕ) → shape.cols ≤ limit → (i : ℕ) → i < q → All (λ c. c < limit) (columns_in q blocks j i)
+  columns_limit limit l i row =
+      let rank = rank_below q i j row column in
+      let es : List Entry = (block_at blocks (i * q + j)).entries in
+      let inside : All (IsInside (part_shape q shape i j)) es = subst (λ size. All (IsInside size) es) (shapes i j row column) (matrices (i * q + j) (rw count rank)).inside in
+      columns_all (λ c. c < limit) es
+      (All-weaker (IsInside (part_shape q shape i j)) (λ e. e.column < limit) (λ e k. let own = own_below q shape.cols pos j e.column k.1 in omega arith) es inside)
+
   -- at the start no column is merged
   pub merged_none : (out : List Entry) → ((i : ℕ) → get_or next i 0 ≡ 0) → IsGathered s shape (block_tiles q shape) (before_column q blocks j) out → IsGathered s shape (block_tiles q shape) (up_to q blocks j next) out
   merged_none out zeros h =

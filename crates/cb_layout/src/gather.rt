@@ -1,26 +1,27 @@
 //! Blocks glued together into one matrix.
-ghost use Rattle.std.specs.Prelude.{◌≡◌, ℕ, ◌<◌, ◌≤◌, ◌+◌, ◌*◌, ◌^◌, List, ◌++◌, [], map, length, All, IfOk, IfSome, IfNone, OnOk, Some, ◌⊎◌, slice_index};
+ghost use Rattle.std.specs.Prelude.{◌≡◌, ℕ, ◌<◌, ◌≤◌, ◌+◌, ◌*◌, ◌^◌, List, ◌++◌, [], map, length, All, IfOk, IfSome, IfNone, OnOk, Some, ◌⊎◌, slice_index, slice_index_or};
 ghost use Rattle.std.specs.List.{range_with_len};
-ghost use Rattle.cb_semirings.specs.Arithmetic.{IsValue};
 ghost use Rattle.cb_matrix.specs.declared.Entry.{Entry};
-ghost use Rattle.cb_matrix.specs.Sparse.{IsMatrix, IsInside};
-ghost use Rattle.cb_matrix.specs.Values.{collected};
+ghost use Rattle.cb_matrix.specs.Sparse.{IsMatrix};
 ghost use Rattle.cb_dcsc.specs.Columns.{columns_with_entries};
-ghost use Rattle.cb_layout.specs.Parts.{part_shape};
+ghost use Rattle.cb_layout.specs.Parts.{part_start, part_shape};
 ghost use Rattle.cb_layout.specs.Blocks.{block_at, glued};
 ghost use Rattle.cb_layout.specs.Tiles.{block_tiles, IsGathered, before_column};
 
 use crate::Grid;
 use cb_dcsc::Block;
-use cb_matrix::{Entry, EntryFault, Matrix, Shape};
+use cb_matrix::{Entry, Matrix, Shape};
 use cb_semirings::Semiring;
 use std::alloc::{AllocError, Global};
+
+/// Stands for the column of a block without a next one: a shape's columns end before it.
+const NO_COLUMN: u32 = u32::MAX;
 
 impl Grid {
     /// The matrix of a shape from the block of each rank, in the order of their numbers: at each place it has
     /// the value of the block that the place is in. The columns of the blocks are merged, so the entries are made
-    /// in the matrix's order; for each stored column of a block the blocks beside it are looked at once, which
-    /// are as many as the grid's side. The cost is that of the stored entries, and never of the shape.
+    /// in the matrix's order; for each stored column of a block the least of six numbers is found, which are the
+    /// next columns of the blocks beside it. The cost is that of the stored entries, and never of the shape.
     pub fn gather<S: Semiring>(
         &self,
         alloc: Global,
@@ -36,10 +37,11 @@ impl Grid {
         for j in 0..self.side() {
             self.append_blocks(&mut entries, blocks, shape, j)?;
         }
-        collect(shape, entries)
+        Matrix::collect(shape, entries)
     }
 
-    /// Adds the entries of the blocks in column j of the grid, by column and then by row.
+    /// Adds the entries of the blocks in column j of the grid, by column and then by row. The column after the
+    /// least is found before the least's entries are added: the processor does both at once.
     fn append_blocks<S: Semiring>(
         &self,
         entries: &mut Vec<Entry>,
@@ -54,51 +56,105 @@ impl Grid {
         requires so_far { IsGathered S.arithmetic shape (block_tiles self.now.side shape) (before_column self.now.side blocks.now j) entries.old.items }
         ensures { OnOk result (IsGathered S.arithmetic shape (block_tiles self.now.side shape) (before_column self.now.side blocks.now (j + 1)) entries.new.items) }
     {
+        let _side = self.side();
         let (left, _) = self.range(shape.cols(), j);
+        let tops = self.tops(shape.rows());
         let mut next = [0usize; 6];
-        while let Some(i) = self.least_next(blocks, j, &next) {
-            let block = &blocks[usize::from(self.rank(i, j))];
-            let (top, _) = self.range(shape.rows(), i);
+        let numbers = self.numbers(blocks, j);
+        let mut columns = first_columns(&numbers);
+        let mut first = least(&columns);
+        while let Some((i, column)) = first {
             let n = next[i as usize];
-            let (rows, values) = block.nth_column(n);
-            append_column(entries, top, left + block.column_number(n), rows, values)?;
-            next[i as usize] = n + 1;
+            let (following, following_column) = after(numbers[i as usize], n);
+            next[i as usize] = following;
+            columns[i as usize] = following_column;
+            first = least(&columns);
+            let (rows, values) = blocks[usize::from(self.rank(i, j))].nth_column(n);
+            append_column(entries, tops[i as usize], left + column, rows, values)?;
         }
         Ok(())
     }
 
-    /// The row of the grid whose block in column j has the least next column, the first of these rows where there
-    /// are several, if a block has a next column: the one after as many as `next` says.
-    fn least_next<S: Semiring>(&self, blocks: &[Block<S>], j: u32, next: &[usize; 6]) -> Option<u32>
+    /// The first row of each row part.
+    fn tops(&self, rows: u32) -> [u32; 6]
+        ensures { (i : ℕ) → i < self.now.side → slice_index result i ≡ part_start self.now.side rows i }
+    {
+        let mut tops = [0; 6];
+        for part in 0..self.side() {
+            let (top, _) = self.range(rows, part);
+            tops[part as usize] = top;
+        }
+        tops
+    }
+
+    /// The columns with entries of each block in column j of the grid, by its row.
+    fn numbers<'a, S: Semiring>(&self, blocks: &'a [Block<S>], j: u32) -> [&'a [u32]; 6]
         requires column { j < self.now.side }
         requires count { length blocks.now ≡ self.now.side * self.now.side }
-        ensures row { IfSome result (λ i. i < self.now.side) }
-        ensures limit { IfSome result (λ i. i < 6) }
-        ensures some { IfSome result (λ i. slice_index next.now i < length (columns_with_entries (block_at blocks.now (i * self.now.side + j)).entries)) }
-        ensures none { IfNone result ((i : ℕ) → i < self.now.side → length (columns_with_entries (block_at blocks.now (i * self.now.side + j)).entries) ≤ slice_index next.now i) }
-        ensures fits { IfSome result (λ i. slice_index next.now i + 1 < 2 ^ 64) }
+        ensures rows { (i : ℕ) → i < self.now.side → slice_index_or (map (λ columns. columns.now) result) i [] ≡ columns_with_entries (block_at blocks.now (i * self.now.side + j)).entries }
+        ensures others { (i : ℕ) → self.now.side ≤ i → slice_index_or (map (λ columns. columns.now) result) i [] ≡ [] }
     {
-        let mut least: Option<(u32, u32)> = None;
+        let mut numbers: [&[u32]; 6] = [&[]; 6];
         for i in 0..self.side() {
             let block = &blocks[usize::from(self.rank(i, j))];
-            let n = next[i as usize];
-            if n < block.columns() {
-                least = Some(lesser(least, (i, block.column_number(n))));
-            }
+            numbers[i as usize] = block.column_numbers();
         }
-        let (row, _) = least?;
-        Some(row)
+        numbers
     }
 }
 
-/// Of two rows with their columns the one with the lesser column, and the first where they are equal.
-fn lesser(first: Option<(u32, u32)>, second: (u32, u32)) -> (u32, u32)
-    ensures { (first ≡ Some result) ⊎ (result ≡ second) }
+/// The first of the columns of each row.
+fn first_columns(numbers: &[&[u32]; 6]) -> [u32; 6]
+    ensures { (i : ℕ) → i < 6 → slice_index result i ≡ slice_index_or (slice_index_or (map (λ columns. columns.now) numbers.now) i []) 0 NO_COLUMN }
 {
-    match first {
-        Some(row) => { if row.1 <= second.1 { row } else { second } }
-        None => second,
+    let mut columns = [NO_COLUMN; 6];
+    for i in 0..6 {
+        columns[i] = nth_or_none(numbers[i], 0);
     }
+    columns
+}
+
+/// The nth of the columns that have entries, or that there is none.
+fn nth_or_none(columns: &[u32], n: usize) -> u32
+    ensures { result ≡ slice_index_or columns.now n NO_COLUMN }
+{
+    columns.get(n).copied().unwrap_or(NO_COLUMN)
+}
+
+/// The number after n, and the column of this number, or that there is none.
+fn after(columns: &[u32], n: usize) -> (usize, u32)
+    requires { n < length columns.now }
+    ensures number { result.0 ≡ n + 1 }
+    ensures column { result.1 ≡ slice_index_or columns.now (n + 1) NO_COLUMN }
+{
+    (n + 1, nth_or_none(columns, n + 1))
+}
+
+/// The first row of the grid that has the least column, and that column, unless there is none.
+fn least(columns: &[u32; 6]) -> Option<(u32, u32)>
+    ensures row { IfSome result (λ t. t.0 < 6) }
+    ensures column { IfSome result (λ t. t.1 ≡ slice_index columns.now t.0) }
+    ensures some { IfSome result (λ t. t.1 < NO_COLUMN) }
+    ensures least { IfSome result (λ t. (i : ℕ) → i < 6 → t.1 ≤ slice_index columns.now i) }
+    ensures none { IfNone result ((i : ℕ) → i < 6 → slice_index columns.now i ≡ NO_COLUMN) }
+{
+    let upper = lesser((0, columns[0]), (1, columns[1]));
+    let middle = lesser((2, columns[2]), (3, columns[3]));
+    let lower = lesser((4, columns[4]), (5, columns[5]));
+    let (row, column) = lesser(lesser(upper, middle), lower);
+    if column == NO_COLUMN {
+        return None;
+    }
+    Some((row, column))
+}
+
+/// Of two rows with their columns the one with the lesser column, and the first where they are equal.
+fn lesser(first: (u32, u32), second: (u32, u32)) -> (u32, u32)
+    ensures either { (result ≡ first) ⊎ (result ≡ second) }
+    ensures first { result.1 ≤ first.1 }
+    ensures second { result.1 ≤ second.1 }
+{
+    if first.1 <= second.1 { first } else { second }
 }
 
 /// How many entries are stored in all blocks.
@@ -133,20 +189,4 @@ pub(crate) fn append_column(
         })?;
     }
     Ok(())
-}
-
-/// The matrix of entries that stand in order, which costs a pass over them.
-pub(crate) fn collect<S: Semiring>(
-    shape: Shape,
-    entries: Vec<Entry>,
-) -> Result<Matrix<S>, AllocError>
-    requires inside { All (IsInside shape) entries.items }
-    requires values { All (λ e. IsValue S.arithmetic e.value) entries.items }
-    ensures { IfOk result (λ m. m ≡ collected S.arithmetic shape entries.items) }
-{
-    match Matrix::from_vec(shape, entries) {
-        Ok(matrix) => Ok(matrix),
-        Err(EntryFault::Memory) => Err(AllocError),
-        Err(EntryFault::Place(_)) => unreachable!(),
-    }
 }

@@ -31,7 +31,9 @@ impl Grid {
         let _side = self.side();
         let shape = matrix.shape();
         let each = matrix.len() / usize::from(self.ranks());
-        let mut blocks = self.empty_blocks(alloc, shape, each)?;
+        // Entries that are spread evenly give some blocks a little more than their share.
+        let room = each.saturating_add(each / 16);
+        let mut blocks = self.empty_blocks(alloc, shape, room)?;
         for entry in matrix.entries() {
             let (rank, local) = self.in_block(shape, *entry);
             deliver(&mut blocks, rank, local)?;
@@ -56,8 +58,8 @@ impl Grid {
         Ok(blocks)
     }
 
-    /// The shape of a rank's block.
-    fn block_shape(&self, shape: Shape, rank: u16) -> Shape
+    /// The shape of a rank's block. In constant time.
+    pub fn block_shape(&self, shape: Shape, rank: u16) -> Shape
         requires { rank < self.now.side * self.now.side }
         ensures { result ≡ part_shape self.now.side shape (rank / self.now.side) (rank % self.now.side) }
     {
@@ -67,8 +69,8 @@ impl Grid {
         Shape::new(rows, cols).unwrap()
     }
 
-    /// How many places part i of a dimension has.
-    pub(crate) fn part_length(&self, d: u32, i: u32) -> u32
+    /// How many places part i of a dimension of d places has. In constant time.
+    pub fn part_length(&self, d: u32, i: u32) -> u32
         requires { i < self.now.side }
         ensures value { result ≡ part_length self.now.side d i }
         ensures limit { result ≤ d }

@@ -88,6 +88,22 @@ fn ranges_of_dimensions(rt: HostRuntime) -> Result<(), Fail> {
 }
 
 #[test]
+fn lengths_of_parts_and_shapes_of_blocks(rt: HostRuntime) -> Result<(), Fail> {
+    let grid = Grid::new(3).map_err(|_| "a side")?;
+    for (part, wanted) in [(0, 4), (1, 4), (2, 2)] {
+        assert!(rt; part < grid.side());
+        assert_eq!(rt; grid.part_length(10, part), wanted, "part {part}");
+    }
+    let shape = Shape::new(10, 5).ok_or("past the limit")?;
+    for (rank, rows, cols) in [(0, 4, 2), (5, 4, 1), (7, 2, 2), (8, 2, 1)] {
+        assert!(rt; rank < grid.ranks());
+        let block = grid.block_shape(shape, rank);
+        assert_eq!(rt; (block.rows(), block.cols()), (rows, cols), "rank {rank}");
+    }
+    Ok(())
+}
+
+#[test]
 fn a_matrix_of_two_by_two_on_four_ranks(rt: HostRuntime) -> Result<(), Fail> {
     let alloc = rt.alloc();
     let grid = Grid::new(2).map_err(|_| "a side")?;

@@ -9,7 +9,7 @@ ghost use Rattle.cb_layout.specs.Vectors.{piece_start, piece_shape, piece_of, pi
 ghost use Rattle.cb_layout.specs.Tiles.{result_tiles, IsGathered, before_rank};
 
 use crate::Grid;
-use crate::gather::{append_column, collect, stored};
+use crate::gather::{append_column, stored};
 use crate::scatter::deliver;
 use cb_dcsc::Block;
 use cb_matrix::{Entry, Matrix, Shape};
@@ -104,7 +104,7 @@ impl Grid {
             let start = self.result_start(shape.rows(), rank);
             append_column(&mut entries, start, 0, block.rows(), block.values())?;
         }
-        collect(shape, entries)
+        Matrix::collect(shape, entries)
     }
 
     /// The first row of a rank's piece of a result.

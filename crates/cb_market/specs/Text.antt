@@ -3,6 +3,8 @@ use Rattle.std.specs.Prelude.{ℕ, ◌+◌, Bool, true, false, List, [], ◌∷�
 use Rattle.cb_semirings.specs.Arithmetic.{Arithmetic}
 use Rattle.cb_matrix.specs.declared.Entry.{Entry}
 use Rattle.cb_matrix.specs.Sparse.{Sparse}
+use Rattle.cb_market.specs.declared.writing.Line.{Line}
+use Rattle.cb_market.specs.declared.writing.Line.TheVariants.{Place, PlaceAndValue, RowAndValue}
 
 -- numbers in decimal, with a space between each two and a line feed at the end
 abbrev pub number_line : List ℕ → List ℕ
@@ -34,3 +36,9 @@ vertex_line e = number_line ((e.row + 1) ∷ e.value ∷ [])
 -- a line for each entry of a vector
 unfoldable pub vertex_text_of : Sparse → List ℕ
 vertex_text_of m = flat_map vertex_line m.entries
+
+-- the line of an entry, by which of its numbers are written
+abbrev pub line_of : Line → Entry → List ℕ
+line_of Place = entry_line true
+line_of PlaceAndValue = entry_line false
+line_of RowAndValue = vertex_line

@@ -89,6 +89,7 @@ pub struct ReadFault {
 
 mod entries;
 mod header;
+mod pages;
 mod reading;
 mod scanner;
 mod size;

@@ -1,8 +1,6 @@
 //! Reading a text.
-ghost use Rattle.std.specs.Prelude.{◌≡◌, ◌+◌, ◌^◌, ◌<◌, IfOk, IfErr, IsTrue, All, length, None};
+ghost use Rattle.std.specs.Prelude.{◌≡◌, ◌+◌, ◌^◌, ◌<◌, IfOk, IfErr, IsTrue, length, None};
 ghost use Rattle.cb_market.specs.Lines.{lines, kept_from};
-ghost use Rattle.cb_semirings.specs.Arithmetic.{IsValue};
-ghost use Rattle.cb_matrix.specs.Sparse.{IsInside};
 ghost use Rattle.cb_matrix.specs.Values.{collected};
 ghost use Rattle.cb_market.specs.Checks.{is_shape};
 ghost use Rattle.cb_market.specs.Cursor.{after_line};
@@ -14,9 +12,9 @@ use crate::header::Header;
 use crate::scanner::Scanner;
 use crate::size::Size;
 use crate::{Kind, ReadFault};
-use cb_matrix::{Entry, EntryFault, Matrix, Shape};
+use cb_matrix::Matrix;
 use cb_semirings::Semiring;
-use std::alloc::{AllocError, Global};
+use std::alloc::Global;
 
 impl<'a> Scanner<'a> {
     /// The size and the entries of a text, from its second line on.
@@ -52,23 +50,10 @@ impl<'a> Scanner<'a> {
         };
         self.next_line();
         let entries = self.entries::<S>(room, header, size)?;
-        let Ok(matrix) = matrix_of(shape, entries) else {
+        let Ok(matrix) = Matrix::collect(shape, entries) else {
             return Err(self.fault(Kind::Memory));
         };
         Ok(matrix)
-    }
-}
-
-/// The matrix that has at each place the sum of the values given there.
-fn matrix_of<S: Semiring>(shape: Shape, entries: Vec<Entry>) -> Result<Matrix<S>, AllocError>
-    requires inside { All (IsInside shape) entries.items }
-    requires values { All (λ e. IsValue S.arithmetic e.value) entries.items }
-    ensures { IfOk result (λ m. m ≡ collected S.arithmetic shape entries.items) }
-{
-    match Matrix::from_vec(shape, entries) {
-        Ok(matrix) => Ok(matrix),
-        Err(EntryFault::Memory) => Err(AllocError),
-        Err(EntryFault::Place(_)) => unreachable!(),
     }
 }
 

@@ -1,47 +1,109 @@
-//! Writing a text.
-ghost use Rattle.std.specs.Prelude.{◌≡◌, ◌+◌, ◌≤◌, ◌++◌, IfOk, OnOk, [], ◌∷◌, length, decimal};
+//! Writing a text. The lines of some entries are made on a page, the last one first, and then appended.
+ghost use Rattle.std.specs.Prelude.{◌≡◌, ◌+◌, ◌≤◌, ◌++◌, IfOk, OnOk, [], ◌∷◌, length, decimal, flat_map};
 ghost use Rattle.cb_market.specs.Reads.{Reads};
-ghost use Rattle.cb_market.specs.Text.{text_of, entry_line, header_line, vertex_line, vertex_text_of};
+ghost use Rattle.cb_market.specs.Text.{text_of, entry_line, header_line, number_line, vertex_text_of, line_of};
 
-use cb_matrix::{Entry, Matrix};
+use crate::pages::Page;
+use cb_matrix::{Entry, Matrix, Shape};
 use cb_semirings::{MinPlus, Semiring};
 use itoa::Buffer;
 use std::alloc::{AllocError, Global};
 
-/// The bytes that a line of an entry is likely to need. Room is taken for as many at first.
-const LINE: usize = 12;
+/// How many lines go to a text at once. A page has room for as many: three numbers of at most 20 digits
+/// each, and a byte after each.
+const LINES: usize = 256;
 
-/// An empty text, with room for a header and as many lines.
-fn text_of_lines(alloc: Global, lines: usize) -> Result<Vec<u8>, AllocError>
-    ensures { IfOk result (λ text. text.items ≡ []) }
-{
-    Vec::with_capacity(alloc, lines.saturating_mul(LINE).saturating_add(80))
+/// Which numbers of an entry its line has. Rows and columns are counted from 1.
+#[derive(Clone, Copy)]
+enum Line {
+    /// The row and the column.
+    Place,
+    /// The row, the column and the value.
+    PlaceAndValue,
+    /// The row and the value.
+    RowAndValue,
 }
 
-/// A number and a byte after it.
-fn put(text: &mut Vec<u8>, number: u64, end: u8) -> Result<(), AllocError>
-    ensures { OnOk result (text.new.items ≡ text.old.items ++ (decimal number ++ end ∷ [])) }
-{
-    let mut buffer = Buffer::new();
-    text.extend_from_slice(buffer.format(number).as_bytes())?;
-    text.push(end)?;
-    Ok(())
-}
-
-/// The line of an entry.
-fn put_entry(text: &mut Vec<u8>, is_pattern: bool, entry: Entry) -> Result<(), AllocError>
-    ensures { OnOk result (text.new.items ≡ text.old.items ++ entry_line is_pattern entry) }
-{
-    put(text, entry.row as u64 + 1, b' ')?;
-    if is_pattern {
-        put(text, entry.column as u64 + 1, b'\n')
-    } else {
-        put(text, entry.column as u64 + 1, b' ')?;
-        put(text, entry.value, b'\n')
+impl Line {
+    /// The line of a matrix's entry, whose value is not written in a pattern.
+    fn of_entry(is_pattern: bool) -> Line
+        ensures { line_of result ≡ entry_line is_pattern }
+    {
+        if is_pattern {
+            Line::Place
+        } else {
+            Line::PlaceAndValue
+        }
     }
 }
 
-/// The header of a text.
+/// How many digits a number has.
+fn digits(number: u32) -> usize
+    ensures value { result ≡ length (decimal number) }
+    ensures limit { result ≤ 40 }
+{
+    Buffer::new().format(number).len()
+}
+
+/// An empty text, with room for a header, and for as many entries of two-digit values in the last row
+/// and column.
+fn text_of_lines(alloc: Global, shape: Shape, lines: usize) -> Result<Vec<u8>, AllocError>
+    ensures { IfOk result (λ text. text.items ≡ []) }
+{
+    let line = digits(shape.rows()) + digits(shape.cols()) + 5;
+    Vec::with_capacity(alloc, lines.saturating_mul(line).saturating_add(80))
+}
+
+/// Puts the line of an entry in front of the lines of a page.
+fn put_line(page: &mut Page, line: Line, entry: Entry)
+    requires room { length page.old + 63 ≤ 16128 }
+    ensures written { page.new ≡ line_of line entry ++ page.old }
+    ensures length { length page.new ≤ length page.old + 63 }
+{
+    match line {
+        Line::Place => page.put(entry.column as u64 + 1, b'\n'),
+        Line::PlaceAndValue => {
+            page.put(entry.value, b'\n');
+            page.put(entry.column as u64 + 1, b' ');
+        }
+        Line::RowAndValue => page.put(entry.value, b'\n'),
+    }
+    page.put(entry.row as u64 + 1, b' ');
+}
+
+/// Appends the lines of at most 256 entries, which are made in the page from the last to the first.
+fn put_page(
+    text: &mut Vec<u8>,
+    page: &mut Page,
+    line: Line,
+    entries: &[Entry],
+) -> Result<(), AllocError>
+    requires { length entries.now ≤ 256 }
+    ensures { OnOk result (text.new.items ≡ text.old.items ++ flat_map (line_of line) entries.now) }
+{
+    page.clear();
+    for index in (0..entries.len()).rev() {
+        put_line(page, line, entries[index]);
+    }
+    text.extend_from_slice(page.written())
+}
+
+/// Appends the lines of entries.
+fn put_lines(
+    text: &mut Vec<u8>,
+    page: &mut Page,
+    line: Line,
+    entries: &[Entry],
+) -> Result<(), AllocError>
+    ensures { OnOk result (text.new.items ≡ text.old.items ++ flat_map (line_of line) entries.now) }
+{
+    for some in entries.chunks(LINES) {
+        put_page(text, page, line, some)?;
+    }
+    Ok(())
+}
+
+/// Appends the header of a text.
 fn put_header(text: &mut Vec<u8>, is_pattern: bool) -> Result<(), AllocError>
     ensures { OnOk result (text.new.items ≡ text.old.items ++ header_line is_pattern) }
 {
@@ -52,12 +114,20 @@ fn put_header(text: &mut Vec<u8>, is_pattern: bool) -> Result<(), AllocError>
     }
 }
 
-/// The line of a vertex.
-fn put_vertex(text: &mut Vec<u8>, vertex: Entry) -> Result<(), AllocError>
-    ensures { OnOk result (text.new.items ≡ text.old.items ++ vertex_line vertex) }
+/// Appends the size line: how many rows, columns and entries there are.
+fn put_size(
+    text: &mut Vec<u8>,
+    page: &mut Page,
+    shape: Shape,
+    entries: usize,
+) -> Result<(), AllocError>
+    ensures { OnOk result (text.new.items ≡ text.old.items ++ number_line (shape.rows ∷ shape.cols ∷ entries ∷ [])) }
 {
-    put(text, vertex.row as u64 + 1, b' ')?;
-    put(text, vertex.value, b'\n')
+    page.clear();
+    page.put(entries as u64, b'\n');
+    page.put(shape.cols() as u64, b' ');
+    page.put(shape.rows() as u64, b' ');
+    text.extend_from_slice(page.written())
 }
 
 /// The text of a matrix: a header, a size line, and a line for each entry by column and then by row.
@@ -68,14 +138,12 @@ pub fn text<S: Semiring>(alloc: Global, matrix: &Matrix<S>) -> Result<Vec<u8>, A
 {
     let shape = matrix.shape();
     let is_pattern = S::writes_pattern();
-    let mut text = text_of_lines(alloc, matrix.len())?;
+    let mut text = text_of_lines(alloc, shape, matrix.len())?;
     put_header(&mut text, is_pattern)?;
-    put(&mut text, shape.rows() as u64, b' ')?;
-    put(&mut text, shape.cols() as u64, b' ')?;
-    put(&mut text, matrix.len() as u64, b'\n')?;
-    for index in 0..matrix.len() {
-        put_entry(&mut text, is_pattern, matrix.entry_at(index))?;
-    }
+    let mut page = Page::new();
+    put_size(&mut text, &mut page, shape, matrix.len())?;
+    let line = Line::of_entry(is_pattern);
+    put_lines(&mut text, &mut page, line, matrix.entries())?;
     Ok(text)
 }
 
@@ -85,9 +153,8 @@ pub fn vertex_text(alloc: Global, vector: &Matrix<MinPlus>) -> Result<Vec<u8>, A
     requires { vector.now.shape.cols ≡ 1 }
     ensures { IfOk result (λ bytes. bytes.items ≡ vertex_text_of vector.now) }
 {
-    let mut text = text_of_lines(alloc, vector.len())?;
-    for index in 0..vector.len() {
-        put_vertex(&mut text, vector.entry_at(index))?;
-    }
+    let mut text = text_of_lines(alloc, vector.shape(), vector.len())?;
+    let mut page = Page::new();
+    put_lines(&mut text, &mut page, Line::RowAndValue, vector.entries())?;
     Ok(text)
 }

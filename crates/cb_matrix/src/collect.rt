@@ -89,9 +89,12 @@ impl Shape {
 }
 
 impl<S: Semiring> Matrix<S> {
-    /// The matrix that has at each place the sum of the values given there, in the memory of the
-    /// list that is given up.
-    fn collect(shape: Shape, entries: Vec<Entry>) -> Result<Self, AllocError>
+    /// The matrix that has at each place the sum of the values given there, from entries that are known
+    /// to be inside the shape. They may come in any order, and sums that are zero aren't stored.
+    ///
+    /// The list is given up, and sorted and added up in place: it takes O(n log n) for n entries and the
+    /// buffer of a stable sort, or O(n) and no memory where they ascend by column and then row.
+    pub fn collect(shape: Shape, entries: Vec<Entry>) -> Result<Self, AllocError>
         requires inside { All (IsInside shape) entries.items }
         requires values { All (λ e. IsValue S.arithmetic e.value) entries.items }
         ensures { IfOk result (λ m. m ≡ collected S.arithmetic shape entries.items) }
@@ -123,8 +126,7 @@ impl<S: Semiring> Matrix<S> {
         Ok(Self::collect(shape, entries)?)
     }
 
-    /// The same from a list that is given up, which is sorted and added up in place. Where the entries
-    /// ascend by column and then row it takes no memory.
+    /// The same from a list that is given up, as `collect` does it, for entries that may be outside.
     pub fn from_vec(shape: Shape, entries: Vec<Entry>) -> Result<Self, EntryFault>
         requires { All (λ e. IsValue S.arithmetic e.value) entries.items }
         ensures ok { IfOk result (λ m. m ≡ collected S.arithmetic shape entries.items) }

@@ -31,6 +31,7 @@ impl CheckedPlan {
 fn append_half(halves: &mut Vec<Half>, half: Option<Half>) -> Result<(), AllocError>
     ensures { OnOk result (halves.new.items ≡ halves.old.items ++ half_list half) }
 {
+    // The borrow check knows a type that a half holds only where the body names it.
     let _none: Option<Op> = None;
     if let Some(half) = half {
         halves.push(half)?;
@@ -44,51 +45,33 @@ impl Outline {
         requires { IsSound self.now.ranks (slots_in self.now.slots) (lanes_in self.now.shut) act.now }
         ensures { half_list result ≡ halves_of (slots_in self.now.slots) act.now rank }
     {
-        let _none: Option<Op> = None;
-        match act {
+        match *act {
+            Act::Move {
+                from,
+                to,
+                tag,
+                slot,
+                ..
+            } if from == rank => Some(Half::Post { to, tag, slot }),
             Act::Move {
                 from,
                 to,
                 tag,
                 slot,
                 into,
-            } => {
-                if *from == rank {
-                    Some(Half::Post {
-                        to: *to,
-                        tag: *tag,
-                        slot: *slot,
-                    })
-                } else if *to == rank {
-                    match self.slot(*from, *slot) {
-                        Some(shape) => Some(Half::Take {
-                            from: *from,
-                            tag: *tag,
-                            into: *into,
-                            shape,
-                        }),
-                        None => None,
-                    }
-                } else {
-                    None
-                }
+            } if to == rank => {
+                let shape = self.slot(from, slot)?;
+                Some(Half::Take {
+                    from,
+                    tag,
+                    into,
+                    shape,
+                })
             }
-            Act::Work { rank: at, op } => {
-                if *at == rank {
-                    Some(Half::Work(*op))
-                } else {
-                    None
-                }
-            }
-            Act::Shut { from, to } => {
-                if *from == rank {
-                    Some(Half::Shut { to: *to })
-                } else if *to == rank {
-                    Some(Half::End { from: *from })
-                } else {
-                    None
-                }
-            }
+            Act::Work { rank: at, op } if at == rank => Some(Half::Work(op)),
+            Act::Shut { from, to } if from == rank => Some(Half::Shut { to }),
+            Act::Shut { from, to } if to == rank => Some(Half::End { from }),
+            _ => None,
         }
     }
 }

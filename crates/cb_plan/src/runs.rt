@@ -6,7 +6,7 @@ ghost use Rattle.cb_plan.specs.Checks.{Lanes, IsSound};
 ghost use Rattle.cb_plan.specs.Stores.{state_of, shapes_of, NoneLost, Fits};
 ghost use Rattle.cb_plan.specs.Tables.{IsTable};
 
-use crate::acts::{Act, Op};
+use crate::acts::Act;
 use crate::checks::CheckedPlan;
 use crate::stores::RankStore;
 use cb_semirings::Semiring;
@@ -46,7 +46,6 @@ fn run_act<S: Semiring>(
     ensures none_lost { OnOk result (NoneLost stores.new.items) }
     ensures act { OnOk result (state_of stores.new.items ≡ act (matrices S.arithmetic) next.now (state_of stores.old.items)) }
 {
-    let _none: Option<Op> = None;
     match next {
         Act::Move {
             from,

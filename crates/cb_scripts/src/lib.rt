@@ -4,7 +4,7 @@
 //! blocks of the answer. The answer is the same on every grid.
 #![tactic(auto)]
 
-ghost use Rattle.std.specs.Prelude.{◌≡◌, IfOk, IfErr};
+ghost use Rattle.std.specs.Prelude.{◌≡◌, ◌⊎◌, [], IfOk, IfErr};
 ghost use Rattle.cb_matrix.specs.Values.{product, product_shape};
 ghost use Rattle.cb_matrix.specs.Operations.{masked};
 ghost use Rattle.cb_scripts.specs.declared.ScriptFault.TheVariants.{Memory};
@@ -63,6 +63,7 @@ impl From<AllocError> for ScriptFault {
 /// The product of two matrices, by Sparse SUMMA over the grid.
 ///
 /// The first has as many columns as the second has rows, else the answer is `Shapes`, before memory is asked for.
+/// Where one of the two has no entries no plan is made, and the answer costs nothing.
 pub fn multiply<S: Semiring>(
     alloc: Global,
     engine: Engine,
@@ -77,12 +78,41 @@ pub fn multiply<S: Semiring>(
     if left.cols() != right.rows() {
         return Err(ScriptFault::Shapes);
     }
+    if left.is_empty() || right.is_empty() {
+        return Ok(nothing(alloc, left, right));
+    }
+    Ok(multiply_over(alloc, engine, grid, left, right)?)
+}
+
+/// The product of two matrices of which one has no entries: it has none either.
+fn nothing<S: Semiring>(alloc: Global, left: &Matrix<S>, right: &Matrix<S>) -> Matrix<S>
+    requires { (left.now.entries ≡ []) ⊎ (right.now.entries ≡ []) }
+    ensures { result ≡ product S.arithmetic left.now right.now }
+{
+    let _shapes = (left.shape(), right.shape());
+    let empty = Matrix::empty(alloc, product_shape(left, right));
+    let _shape = empty.shape();
+    empty
+}
+
+/// The product of two matrices, of which the first has as many columns as the second has rows, by a plan over
+/// the grid.
+fn multiply_over<S: Semiring>(
+    alloc: Global,
+    engine: Engine,
+    grid: &Grid,
+    left: &Matrix<S>,
+    right: &Matrix<S>,
+) -> Result<Matrix<S>, AllocError>
+    requires { left.now.shape.cols ≡ right.now.shape.rows }
+    ensures { IfOk result (λ m. m ≡ product S.arithmetic left.now right.now) }
+{
     let Ok(planned) = summa(alloc, grid, left.shape(), right.shape()) else {
-        return Err(ScriptFault::Memory);
+        return Err(AllocError);
     };
     let stores = operands(alloc, grid, left, right)?;
     let shape = product_shape(left, right);
-    Ok(run(alloc, engine, grid, planned, stores, shape)?)
+    run(alloc, engine, grid, planned, stores, shape)
 }
 
 /// The product of two matrices, kept where a mask has entries, by Sparse SUMMA over the grid.

@@ -1,6 +1,5 @@
 //! The slots of each rank, and what stands in them before the first act.
-ghost use Rattle.std.specs.Prelude.{◌≡◌, ◌<◌, ◌≤◌, ◌*◌, ◌/◌, ◌%◌, ℕ, [], ◌∷◌, ◌++◌, IfOk, OnOk};
-ghost use Rattle.cb_layout.specs.Parts.{part_length, part_shape};
+ghost use Rattle.std.specs.Prelude.{◌≡◌, ◌<◌, ◌*◌, IfOk};
 ghost use Rattle.cb_summa.specs.Summa.{part_start_at, result_shape, summa_starts, summa_masked_starts};
 
 use cb_layout::Grid;
@@ -59,29 +58,8 @@ fn start(grid: &Grid, slot: u16, rank: u16, shape: Shape) -> Start
     Start {
         rank,
         slot,
-        shape: block_shape(grid, shape, rank),
+        shape: grid.block_shape(shape, rank),
     }
-}
-
-/// The shape of a rank's block.
-pub fn block_shape(grid: &Grid, shape: Shape, rank: u16) -> Shape
-    requires { rank < grid.now.side * grid.now.side }
-    ensures { result ≡ part_shape grid.now.side shape (rank / grid.now.side) (rank % grid.now.side) }
-{
-    let side = grid.side();
-    let rows = part_length(grid, shape.rows(), u32::from(rank) / side);
-    let cols = part_length(grid, shape.cols(), u32::from(rank) % side);
-    Shape::new(rows, cols).unwrap()
-}
-
-/// How many places part i of a dimension has.
-fn part_length(grid: &Grid, d: u32, i: u32) -> u32
-    requires { i < grid.now.side }
-    ensures value { result ≡ part_length grid.now.side d i }
-    ensures limit { result ≤ d }
-{
-    let (start, end) = grid.range(d, i);
-    end - start
 }
 
 /// The shape of the product of matrices of two shapes.

@@ -4,7 +4,7 @@ ghost use Rattle.std.specs.List.{range_with_len};
 ghost use Rattle.cb_summa.specs.Summa.{left_slot, right_slot, row_broadcast, column_broadcast, broadcasts, next_broadcasts, each_rank, stage, zero_op, result_shape, product_acts};
 ghost use Rattle.cb_summa.specs.Growth.{IsWithinLimit, Grew, no_memory};
 
-use crate::operands::{LEFT, RESULT, RIGHT, block_shape, result_shape};
+use crate::operands::{LEFT, RESULT, RIGHT, result_shape};
 use cb_collectives::broadcast;
 use cb_layout::Grid;
 use cb_letters::Tag;
@@ -41,7 +41,7 @@ fn zero_results(plan: &mut Plan, grid: &Grid, shape: Shape) -> Result<(), PlanFa
     for rank in 0..grid.ranks() {
         let op = Op::Zero {
             into: RESULT,
-            shape: block_shape(grid, shape, rank),
+            shape: grid.block_shape(shape, rank),
         };
         plan.push(Act::Work { rank, op })?;
     }

@@ -54,6 +54,39 @@ fn letters_on_grids(rt: HostRuntime) -> Result<(), Fail> {
     Ok(())
 }
 
+/// The moves of the plan of a product on a grid of side 2: from, to, tag, slot and into.
+const MOVES: [(u16, u16, u32, u16, u16); 8] = [
+    (0, 1, 0, 0, 3),
+    (2, 3, 0, 0, 3),
+    (0, 2, 1, 1, 4),
+    (1, 3, 1, 1, 4),
+    (1, 0, 2, 0, 5),
+    (3, 2, 2, 0, 5),
+    (2, 0, 3, 1, 6),
+    (3, 1, 3, 1, 6),
+];
+
+#[test]
+fn moves_on_a_grid_of_side_2(rt: HostRuntime) -> Result<(), Fail> {
+    let planned = two_by_two(rt.alloc(), 2)?;
+    let mut wanted = MOVES.iter();
+    for act in planned.plan.acts() {
+        if let Act::Move {
+            from,
+            to,
+            tag,
+            slot,
+            into,
+        } = act
+        {
+            let found = (*from, *to, tag.0, *slot, *into);
+            assert!(rt; wanted.next() == Some(&found));
+        }
+    }
+    assert!(rt; wanted.next().is_none());
+    Ok(())
+}
+
 #[test]
 fn acts_under_a_mask(rt: HostRuntime) -> Result<(), Fail> {
     let grid = Grid::new(2).map_err(|_| "a side")?;

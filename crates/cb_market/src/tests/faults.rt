@@ -13,128 +13,132 @@ fn fault<S: Semiring>(alloc: Global, text: &[u8]) -> Option<(u64, Kind)> {
     }
 }
 
+/// Texts whose header or size line has a fault, and the line and the kind of it.
+const HEADERS_AND_SIZES: [(&[u8], u64, Kind); 12] = [
+    (b"", 1, BadHeader),
+    (
+        b"%%matrixmarket matrix coordinate integer general\n",
+        1,
+        BadHeader,
+    ),
+    (
+        b" %%MatrixMarket matrix coordinate integer general\n1 1 0\n",
+        1,
+        BadHeader,
+    ),
+    (b"%%MatrixMarket matrix coordinate integer\n", 1, BadHeader),
+    (
+        b"%%MatrixMarket matrix coordinate real general\n1 1 0\n",
+        1,
+        Unsupported,
+    ),
+    (
+        b"%%MatrixMarket matrix array integer general\n1 1\n",
+        1,
+        Unsupported,
+    ),
+    (
+        b"%%MatrixMarket matrix coordinate pattern skew-symmetric\n1 1 0\n",
+        1,
+        Unsupported,
+    ),
+    (
+        b"%%MatrixMarket matrix coordinate integer general\n",
+        2,
+        BadSize,
+    ),
+    (
+        b"%%MatrixMarket matrix coordinate integer general\n2 2\n",
+        2,
+        BadSize,
+    ),
+    (
+        b"%%MatrixMarket matrix coordinate integer general\n2147483648 1 0\n",
+        2,
+        TooLarge,
+    ),
+    (
+        b"%%MatrixMarket matrix coordinate integer symmetric\n2 3 0\n",
+        2,
+        NotSquare,
+    ),
+    (
+        b"%%MatrixMarket matrix coordinate integer skew-symmetric\n2 3 0\n",
+        2,
+        NotSquare,
+    ),
+];
+
 #[test]
 fn of_the_header_and_the_size(rt: HostRuntime) {
-    let rows: [(&[u8], u64, Kind); 12] = [
-        (b"", 1, BadHeader),
-        (
-            b"%%matrixmarket matrix coordinate integer general\n",
-            1,
-            BadHeader,
-        ),
-        (
-            b" %%MatrixMarket matrix coordinate integer general\n1 1 0\n",
-            1,
-            BadHeader,
-        ),
-        (b"%%MatrixMarket matrix coordinate integer\n", 1, BadHeader),
-        (
-            b"%%MatrixMarket matrix coordinate real general\n1 1 0\n",
-            1,
-            Unsupported,
-        ),
-        (
-            b"%%MatrixMarket matrix array integer general\n1 1\n",
-            1,
-            Unsupported,
-        ),
-        (
-            b"%%MatrixMarket matrix coordinate pattern skew-symmetric\n1 1 0\n",
-            1,
-            Unsupported,
-        ),
-        (
-            b"%%MatrixMarket matrix coordinate integer general\n",
-            2,
-            BadSize,
-        ),
-        (
-            b"%%MatrixMarket matrix coordinate integer general\n2 2\n",
-            2,
-            BadSize,
-        ),
-        (
-            b"%%MatrixMarket matrix coordinate integer general\n2147483648 1 0\n",
-            2,
-            TooLarge,
-        ),
-        (
-            b"%%MatrixMarket matrix coordinate integer symmetric\n2 3 0\n",
-            2,
-            NotSquare,
-        ),
-        (
-            b"%%MatrixMarket matrix coordinate integer skew-symmetric\n2 3 0\n",
-            2,
-            NotSquare,
-        ),
-    ];
-    for (index, row) in rows.iter().enumerate() {
+    for (index, row) in HEADERS_AND_SIZES.iter().enumerate() {
         let found = fault::<PlusTimes>(rt.alloc(), row.0);
         assert_eq!(&rt; found, Some((row.1, row.2)), "row {index}");
     }
 }
 
+/// Texts whose lines of entries have a fault, and the line and the kind of it.
+const ENTRIES: [(&[u8], u64, Kind); 11] = [
+    (
+        b"%%MatrixMarket matrix coordinate integer general\n2 2 1\n1 1 5 6\n",
+        3,
+        BadLine,
+    ),
+    (
+        b"%%MatrixMarket matrix coordinate integer general\n2 2 1\n+1 1 5\n",
+        3,
+        BadNumber,
+    ),
+    (
+        b"%%MatrixMarket matrix coordinate integer general\n2 2 1\n1 1 x\n",
+        3,
+        BadNumber,
+    ),
+    (
+        b"%%MatrixMarket matrix coordinate integer general\n2 2 1\n0 1 5\n",
+        3,
+        IndexRange,
+    ),
+    (
+        b"%%MatrixMarket matrix coordinate integer general\n2 2 1\n1 99999999999999999999 5\n",
+        3,
+        IndexRange,
+    ),
+    (
+        b"%%MatrixMarket matrix coordinate integer general\n1 1 1\n1 1 18446744073709551616\n",
+        3,
+        ValueRange,
+    ),
+    (
+        b"%%MatrixMarket matrix coordinate integer general\n2 2 2\n1 1 12",
+        4,
+        MissingEntries,
+    ),
+    (
+        b"%%MatrixMarket matrix coordinate integer general\n1 1 2\n1 1 1\n1 1 2\n1 1 3\n",
+        5,
+        ExtraEntry,
+    ),
+    (
+        b"%%MatrixMarket matrix coordinate integer skew-symmetric\n2 2 1\n1 1 x\n",
+        3,
+        BadNumber,
+    ),
+    (
+        b"%%MatrixMarket matrix coordinate integer skew-symmetric\n2 2 1\n1 1 0\n",
+        3,
+        OnDiagonal,
+    ),
+    (
+        b"%%MatrixMarket matrix coordinate integer skew-symmetric\n2 2 1\n1 2 5\n",
+        3,
+        AboveDiagonal,
+    ),
+];
+
 #[test]
 fn of_entries(rt: HostRuntime) {
-    let rows: [(&[u8], u64, Kind); 11] = [
-        (
-            b"%%MatrixMarket matrix coordinate integer general\n2 2 1\n1 1 5 6\n",
-            3,
-            BadLine,
-        ),
-        (
-            b"%%MatrixMarket matrix coordinate integer general\n2 2 1\n+1 1 5\n",
-            3,
-            BadNumber,
-        ),
-        (
-            b"%%MatrixMarket matrix coordinate integer general\n2 2 1\n1 1 x\n",
-            3,
-            BadNumber,
-        ),
-        (
-            b"%%MatrixMarket matrix coordinate integer general\n2 2 1\n0 1 5\n",
-            3,
-            IndexRange,
-        ),
-        (
-            b"%%MatrixMarket matrix coordinate integer general\n2 2 1\n1 99999999999999999999 5\n",
-            3,
-            IndexRange,
-        ),
-        (
-            b"%%MatrixMarket matrix coordinate integer general\n1 1 1\n1 1 18446744073709551616\n",
-            3,
-            ValueRange,
-        ),
-        (
-            b"%%MatrixMarket matrix coordinate integer general\n2 2 2\n1 1 12",
-            4,
-            MissingEntries,
-        ),
-        (
-            b"%%MatrixMarket matrix coordinate integer general\n1 1 2\n1 1 1\n1 1 2\n1 1 3\n",
-            5,
-            ExtraEntry,
-        ),
-        (
-            b"%%MatrixMarket matrix coordinate integer skew-symmetric\n2 2 1\n1 1 x\n",
-            3,
-            BadNumber,
-        ),
-        (
-            b"%%MatrixMarket matrix coordinate integer skew-symmetric\n2 2 1\n1 1 0\n",
-            3,
-            OnDiagonal,
-        ),
-        (
-            b"%%MatrixMarket matrix coordinate integer skew-symmetric\n2 2 1\n1 2 5\n",
-            3,
-            AboveDiagonal,
-        ),
-    ];
-    for (index, row) in rows.iter().enumerate() {
+    for (index, row) in ENTRIES.iter().enumerate() {
         let found = fault::<PlusTimes>(rt.alloc(), row.0);
         assert_eq!(&rt; found, Some((row.1, row.2)), "row {index}");
     }

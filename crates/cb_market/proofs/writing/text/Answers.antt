@@ -1,20 +1,16 @@
-use Rattle.std.proofs.Common.{rules, arith, ◌∙◌, ap, ◌≡◌, ◌++◌, [], ◌∷◌, length, take, List}
-use Rattle.std.specs.Prelude.{flat_map}
-use Rattle.std.proofs.lemmas.List.{take_all}
-use Rattle.cb_matrix.specs.declared.Entry.{Entry}
+use Rattle.std.proofs.Common.{rules, ◌≡◌}
 use Rattle.cb_market.proofs.Whole.{written}
-use Rattle.cb_market.specs.Text.{text_of, header_line, number_line, entry_line}
+use Rattle.cb_market.specs.Text.{text_of}
 use Rattle.cb_market.proofs.writing.text.Goals as goal
 
-pub returns : goal.returns
+pub returns-clause-text : goal.returns-clause-text
 unfolding text_of
-returns g c =
+returns-clause-text g c = search rules
+
+pub returns-clause-law : goal.returns-clause-law
+unfolding text_of
+returns-clause-law g c =
     let s = g.S.Semiring.arithmetic in
-    let p = s.writes_pattern in
     let m = c.args.matrix.now in
-    let all : take c.loop-index.index m.entries ≡ m.entries = take_all c.loop-index.index m.entries (omega arith) in
-    let e = c.loop-index.invariant ∙ ap (λ (es : List Entry). header_line p ++ number_line (m.shape.rows ∷ m.shape.cols ∷ length m.entries ∷ []) ++ flat_map (entry_line p) es) all in
-    record {
-      text = e;
-      law = λ n. written s g.met.S.Semiring.is_semiring g.met.S.Semiring.reads_numbers m c.loop-index.text.items c.shape-shape.ensures.matrix (search rules) (search rules) n e;
-    }
+    let e : c.put_lines.new.text.items ≡ text_of s m = search rules in
+    λ n. written s g.met.S.Semiring.is_semiring g.met.S.Semiring.reads_numbers m c.put_lines.new.text.items c.shape-shape.ensures.matrix (search rules) (search rules) n e

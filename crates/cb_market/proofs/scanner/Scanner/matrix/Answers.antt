@@ -12,15 +12,15 @@ pub returns-in_default-clause-fault : goal.returns-in_default-clause-fault
 returns-in_default-clause-fault g c =
     no_room g.S.Semiring.arithmetic c.args.header c.args.size.shape (c.args.self.now.line + 1 + length (lines (after_line c.args.self.now.rest.now))) c.args.self.now.line c.args.size.count (kept_from (c.args.self.now.line + 1) (after_line c.args.self.now.rest.now)) c.fault.result (kept_numbers (c.args.self.now.line + 1) (after_line c.args.self.now.rest.now)) (omega arith) (search rules)
 
-pub matrix_of-requires-clause-inside : goal.matrix_of-requires-clause-inside
-matrix_of-requires-clause-inside g c =
+pub collect-requires-clause-inside : goal.collect-requires-clause-inside
+collect-requires-clause-inside g c =
     let s = g.S.Semiring.arithmetic in
     let kept = kept_from c.next_line.new.self.line c.next_line.new.self.rest.now in
     added (IsInside c.args.size.shape) c.in_ok-entries.entries.items c.in-Ok.room.items (given s c.args.header kept) c.in_ok-entries.ensures.given c.in-Ok.ensures
     (entries_inside s c.args.header c.args.size.shape (c.next_line.new.self.line + length (lines c.next_line.new.self.rest.now)) c.args.size.count kept c.requires.shape c.in_ok-entries.ensures.none)
 
-pub matrix_of-requires-clause-values : goal.matrix_of-requires-clause-values
-matrix_of-requires-clause-values g c =
+pub collect-requires-clause-values : goal.collect-requires-clause-values
+collect-requires-clause-values g c =
     let s = g.S.Semiring.arithmetic in
     let kept = kept_from c.next_line.new.self.line c.next_line.new.self.rest.now in
     added (λ e. IsValue s e.value) c.in_ok-entries.entries.items c.in-Ok.room.items (given s c.args.header kept) c.in_ok-entries.ensures.given c.in-Ok.ensures

@@ -1,6 +1,5 @@
-use Rattle.std.proofs.Common.{◌∙◌}
 use Rattle.cb_scripts.proofs.Multiplied.{two_exist, two_once, two_fit, product_shaped, product_gathered}
-use Rattle.cb_scripts.proofs.multiply.Goals as goal
+use Rattle.cb_scripts.proofs.multiply_over.Goals as goal
 
 pub run-requires-clause-exist : goal.run-requires-clause-exist
 run-requires-clause-exist g c =
@@ -19,8 +18,8 @@ run-requires-clause-shapes g c =
     let plan = rw (c.shape.ensures.shape, c.shape-2.ensures.shape) at c.in-Ok.ensures.product in
     rw (c.product_shape-shape.ensures, c.in-Ok.ensures.slot) (product_shaped g.S.Semiring.arithmetic c.args.grid.now.side c.args.left.now c.args.right.now c.in_ok-stores.stores.items c.in_ok-stores.ensures g.met.S.Semiring.is_semiring c.shape.ensures.matrix c.shape-2.ensures.matrix c.in-Ok.planned.plan.acts plan)
 
-pub returns-clause-ok : goal.returns-clause-ok
-returns-clause-ok g c =
+pub returns : goal.returns
+returns g c =
     let plan = rw (c.shape.ensures.shape, c.shape-2.ensures.shape) at c.in-Ok.ensures.product in
-    let glue = rw (c.product_shape-shape.ensures, c.in-Ok.ensures.slot) at c.in_ok-run.ensures in
-    glue ∙ product_gathered g.S.Semiring.arithmetic c.args.grid.now.side c.args.left.now c.args.right.now c.in_ok-stores.stores.items c.in_ok-stores.ensures g.met.S.Semiring.is_semiring c.shape.ensures.matrix c.shape-2.ensures.matrix c.in-Ok.planned.plan.acts plan
+    let glue = rw (c.product_shape-shape.ensures, c.in-Ok.ensures.slot) at c.run.ensures in
+    rw (product_gathered g.S.Semiring.arithmetic c.args.grid.now.side c.args.left.now c.args.right.now c.in_ok-stores.stores.items c.in_ok-stores.ensures g.met.S.Semiring.is_semiring c.shape.ensures.matrix c.shape-2.ensures.matrix c.in-Ok.planned.plan.acts plan) at glue
