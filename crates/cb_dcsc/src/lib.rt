@@ -261,10 +261,16 @@ impl<S: Semiring> Block<S> {
         })
     }
 
-    /// Takes room for this many entries more, so that storing them moves none.
+    /// Takes room for this many entries more, and for as many columns as they can stand in, so that storing
+    /// them moves none.
     pub fn reserve(&mut self, entries: usize) -> Result<(), AllocError>
         ensures same { self.new ≡ self.old }
     {
+        let columns = entries.min(self.shape.cols() as usize);
+        if columns > 0 {
+            self.columns.reserve(columns)?;
+            self.starts.reserve(columns + 1)?;
+        }
         self.rows.reserve(entries)?;
         self.values.reserve(entries)?;
         Ok(())
