@@ -3,6 +3,7 @@ ghost use Rattle.std.specs.Prelude.{◌≡◌, ◌≢◌, ℕ, ◌<◌, ◌≤�
 ghost use Rattle.std.specs.BinaryHeap.{IsHeap, heap_items};
 ghost use Rattle.cb_semirings.specs.Arithmetic.{IsValue};
 ghost use Rattle.cb_matrix.specs.Sparse.{IsMatrix, IsInside, IsBefore};
+ghost use Rattle.cb_dcsc.specs.Columns.{in_column, rows_of, values_of};
 ghost use Rattle.cb_product.specs.Heads.{IsHead, IsPart, GivesEither, by_row, head_value, heads_value, own_value};
 ghost use Rattle.cb_product.specs.Added.{AddsColumn, with_stored};
 
@@ -150,6 +151,26 @@ pub(crate) fn scaled<S: Semiring>(
         keep(out, entry)?;
     }
     Ok(())
+}
+
+/// The rows and values of a column, which is the next of those that have entries, or is looked for: who goes
+/// through all columns of a block in order searches for none.
+pub(crate) fn of_next<'a, S: Semiring>(
+    block: &'a Block<S>,
+    next: &mut usize,
+    column: u32,
+) -> (&'a [u32], &'a [u64])
+    ensures rows { result.0.now ≡ rows_of (in_column column block.now.entries) }
+    ensures values { result.1.now ≡ values_of (in_column column block.now.entries) }
+    ensures ascending { AllPairs (λ i j. i < j) result.0.now }
+    ensures are_values { All (IsValue S.arithmetic) result.1.now }
+{
+    let n = *next;
+    if n < block.columns() && block.column_number(n) == column {
+        *next = n + 1;
+        return block.nth_column(n);
+    }
+    block.column(column)
 }
 
 /// The columns of either list, ascending, each once.

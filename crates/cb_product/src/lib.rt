@@ -21,7 +21,7 @@ ghost use Rattle.cb_dcsc.specs.Columns.{rows_of, values_of};
 ghost use Rattle.cb_product.specs.Heads.{IsHead, by_row, heads_value, own_value};
 ghost use Rattle.cb_product.specs.Added.{AddsColumn, StandIn};
 
-use crate::heads::Head;
+use crate::heads::{Head, Places};
 use cb_dcsc::Block;
 use cb_matrix::Shape;
 use cb_semirings::Semiring;
@@ -114,10 +114,13 @@ fn accumulate<S: Semiring>(
     let mut out = Block::empty(alloc, accumulator.shape());
     let mut heads = BinaryHeap::new(alloc);
     let mut sums = Vec::new(alloc);
+    let places = Places::of(alloc, left)?;
+    let mut next = 0;
+    let mut own_next = 0;
     for column in columns {
-        let (rows, values) = right.column(*column);
-        heads::gather(&mut heads, left, rows, values)?;
-        let (own_rows, own_values) = accumulator.column(*column);
+        let (rows, values) = columns::of_next(right, &mut next, *column);
+        heads::gather(&mut heads, left, &places, rows, values)?;
+        let (own_rows, own_values) = columns::of_next(accumulator, &mut own_next, *column);
         add_column(
             &mut out, *column, &mut heads, &mut sums, left, own_rows, own_values,
         )?;

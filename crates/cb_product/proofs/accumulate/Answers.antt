@@ -21,7 +21,7 @@ loop-column-init g c =
 pub add_column-requires-clause-own_rows : goal.add_column-requires-clause-own_rows
 add_column-requires-clause-own_rows g c =
     let shape = ap (λ (e : Extent). e.rows) (sym c.loop-column.invariant.producing.shape) in
-    subst (λ n. All (λ i. i < n) c.column-in-loop-column.result.0.now) shape (rows_inside g.S.Semiring.arithmetic c.args.accumulator.now _ _ c.shape.ensures.matrix c.column-in-loop-column.ensures.rows)
+    subst (λ n. All (λ i. i < n) c.of_next-in-loop-column.result.0.now) shape (rows_inside g.S.Semiring.arithmetic c.args.accumulator.now _ _ c.shape.ensures.matrix c.of_next-in-loop-column.ensures.rows)
 
 pub add_column-requires-clause-rows : goal.add_column-requires-clause-rows
 add_column-requires-clause-rows g c = ap (λ (e : Extent). e.rows) (c.loop-column.invariant.producing.shape ∙ c.requires.shape)
@@ -36,9 +36,9 @@ loop-column-preserved g c =
     let s = g.S.Semiring.arithmetic in
     let laws = g.met.S.Semiring.is_semiring in
     let r = c.requires in
-    let sums = rw (c.column.ensures.rows, c.column.ensures.values) at c.in_ok-gather.ensures.sums in
+    let sums = rw (c.of_next.ensures.rows, c.of_next.ensures.values) at c.in_ok-gather.ensures.sums in
     let adds = c.in_ok-add_column.ensures.adds in
-    let own = own_column s c.args.accumulator.now _ _ _ c.column-in-loop-column.ensures.rows c.column-in-loop-column.ensures.values in
+    let own = own_column s c.args.accumulator.now _ _ _ c.of_next-in-loop-column.ensures.rows c.of_next-in-loop-column.ensures.values in
     record {
       producing = producing_more s laws c.args.accumulator.now c.args.left.now c.args.right.now c.shape.ensures.matrix c.shape-left_shape.ensures.matrix c.shape-right_shape.ensures.matrix r.agree c.args.columns.now r.ascending r.within r.accumulator_columns r.right_columns _ _ c.loop-column.column-index _ _ c.loop-column-test.true refl c.loop-column.invariant.producing adds (λ i. λ t. s.add (own i t) (sums i t));
       order = c.in_ok-add_column.ensures.order;
