@@ -4,3 +4,4 @@ pub mod Lookup
 pub mod Pushed
 pub mod Faultless
 pub mod Numbers
+pub mod WholeColumn

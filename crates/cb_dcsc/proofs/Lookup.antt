@@ -44,7 +44,7 @@ column_ascends k (e ∷ es) h =
       | false ↦ λ _. rest
     ] refl
 
-row_value-found : (z : ℕ) (rs vs : List ℕ) (n i : ℕ) → length vs ≡ length rs → AllPairs (λ a b. a < b) rs → n < length rs → get_or rs n 0 ≡ i → row_value z rs vs i ≡ get_or vs n 0
+pub row_value-found : (z : ℕ) (rs vs : List ℕ) (n i : ℕ) → length vs ≡ length rs → AllPairs (λ a b. a < b) rs → n < length rs → get_or rs n 0 ≡ i → row_value z rs vs i ≡ get_or vs n 0
 unfolding row_value
 row_value-found z [] vs n i e up l h = absurd (omega arith)
 row_value-found z (r ∷ rs) [] n i e up l h = absurd (omega arith)

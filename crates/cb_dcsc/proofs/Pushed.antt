@@ -30,7 +30,7 @@ range-push xs x a b c l e f =
 no_range : (xs : List ℕ) (a : ℕ) → slice_range xs a a ≡ []
 no_range xs a = let z : a - a ≡ 0 = omega arith in ap (λ n. take n (drop a xs)) z
 
-All-back : {X : Type 0} (P : X → Type 0) (xs ys : List X) → All P (xs ++ ys) → All P ys
+pub All-back : {X : Type 0} (P : X → Type 0) (xs ys : List X) → All P (xs ++ ys) → All P ys
 All-back P [] ys h = h
 All-back P (x ∷ xs) ys h = All-back P xs ys (All-tail P x (xs ++ ys) h)
 
@@ -232,7 +232,7 @@ same_starts [] zero = refl
 same_starts [] (suc k) = refl
 same_starts (a ∷ rest) k = refl
 
-length-opened : (starts : List ℕ) (n : ℕ) → (n ≡ 0 → length starts ≡ 0) → (0 < n → length starts ≡ n + 1) → length (opened starts) ≡ n + 1
+pub length-opened : (starts : List ℕ) (n : ℕ) → (n ≡ 0 → length starts ≡ 0) → (0 < n → length starts ≡ n + 1) → length (opened starts) ≡ n + 1
 length-opened [] zero h k = refl
 length-opened [] (suc n) h k = let e = k (omega arith) in absurd (omega arith)
 length-opened (a ∷ rest) zero h k = let e = h refl in absurd (omega arith)

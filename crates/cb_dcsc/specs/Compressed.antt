@@ -47,3 +47,7 @@ block_of shape columns starts rows values = record { shape = shape; entries = al
 pub record IsBlock (s : Arithmetic) (shape : Extent) (columns starts rows values : List ℕ) : Type 0 where
   pub lists : AreColumns columns starts rows values
   pub matrix : IsMatrix s (block_of shape columns starts rows values)
+
+-- a column more, by its rows and values
+abbrev pub with_column : Sparse → ℕ → List ℕ → List ℕ → Sparse
+with_column m j is vs = record { shape = m.shape; entries = m.entries ++ entries_in j is vs }

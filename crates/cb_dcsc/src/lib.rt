@@ -15,7 +15,7 @@
 
 ghost use Rattle.std.specs.Prelude.{◌≡◌, ◌≢◌, ◌↔◌, ℕ, ◌<◌, ◌≤◌, ◌+◌, ◌-◌, IsTrue, List, [], ◌∷◌, ◌++◌, length, All, AllPairs, Contains, IfOk, IsErrOf, OnOk, OnErr, Some, slice_index, slice_index_or, slice_range};
 ghost use Rattle.cb_semirings.specs.Arithmetic.{IsValue};
-ghost use Rattle.cb_dcsc.specs.Compressed.{opened, entries_in};
+ghost use Rattle.cb_dcsc.specs.Compressed.{opened, entries_in, with_column};
 
 mod faults;
 
@@ -299,6 +299,38 @@ impl<S: Semiring> Block<S> {
         start_column(&mut self.columns, &mut self.starts, entry.column, len + 1)?;
         self.rows.push_reserved(entry.row);
         self.values.push_reserved(entry.value);
+        Ok(())
+    }
+
+    /// Stores a whole column after all the others, by its rows, which ascend, and the value at each. A column
+    /// without rows is not stored. On refusal the block is as it was.
+    pub fn push_column(
+        &mut self,
+        column: u32,
+        rows: &[u32],
+        values: &[u64],
+    ) -> Result<(), AllocError>
+        requires lengths { length values.now ≡ length rows.now }
+        requires ascending { AllPairs (λ i j. i < j) rows.now }
+        requires rows { All (λ i. i < self.old.shape.rows) rows.now }
+        requires column { column < self.old.shape.cols }
+        requires before { All (λ e. e.column < column) self.old.entries }
+        requires values { All (IsValue S.arithmetic) values.now }
+        requires not_zero { All (λ v. v ≢ S.arithmetic.zero) values.now }
+        ensures ok { OnOk result (self.new ≡ with_column self.old column rows.now values.now) }
+        ensures err { OnErr result (self.new ≡ self.old) }
+        ensures matrix { IsMatrix S.arithmetic self.new }
+    {
+        let len = self.rows.len();
+        if rows.is_empty() {
+            return Ok(());
+        }
+        self.rows.reserve(rows.len())?;
+        self.values.reserve(rows.len())?;
+        let end = len + rows.len();
+        start_column(&mut self.columns, &mut self.starts, column, end)?;
+        self.rows.extend_from_slice(rows)?;
+        self.values.extend_from_slice(values)?;
         Ok(())
     }
 }

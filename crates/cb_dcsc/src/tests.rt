@@ -90,6 +90,20 @@ fn the_largest_sides_cost_what_the_entries_cost(rt: HostRuntime) -> Result<(), F
     Ok(())
 }
 
+/// A column comes after all the others; one without rows isn't stored.
+#[test]
+fn a_column_is_stored_whole(rt: HostRuntime) -> Result<(), Fail> {
+    let mut block = Block::<PlusTimes>::empty(rt.alloc(), shape(4, 1000)?);
+    block.push_column(3, &[1], &[6])?;
+    block.push_column(5, &[], &[])?;
+    block.push_column(900, &[0, 2], &[7, 8])?;
+    assert_eq!(rt; block.column_numbers(), [3, 900].as_slice());
+    assert_eq!(rt; block.rows(), [1, 0, 2].as_slice());
+    assert_eq!(rt; block.values(), [6, 7, 8].as_slice());
+    assert_eq!(rt; block.get(2, 900), 8);
+    Ok(())
+}
+
 /// Each call that takes memory, one after another. Where memory is refused a call says so and nothing else
 /// (`rt try --test --fail-alloc N`, for each N in turn).
 #[test]
@@ -127,6 +141,16 @@ fn a_refused_push_stores_nothing(rt: HostRuntime) -> Result<(), Fail> {
     };
     let pushed = block.push(first);
     let held = if pushed.is_ok() { (1, 1, 6) } else { (0, 0, 0) };
+    assert_eq!(rt; (block.len(), block.columns(), block.get(2, 3)), held);
+    Ok(())
+}
+
+/// The same for a whole column.
+#[test]
+fn a_refused_column_stores_nothing(rt: HostRuntime) -> Result<(), Fail> {
+    let mut block = Block::<PlusTimes>::empty(rt.alloc(), shape(4, 1000)?);
+    let pushed = block.push_column(3, &[1, 2], &[6, 7]);
+    let held = if pushed.is_ok() { (2, 1, 7) } else { (0, 0, 0) };
     assert_eq!(rt; (block.len(), block.columns(), block.get(2, 3)), held);
     Ok(())
 }

@@ -62,16 +62,6 @@ fn combine<S: Semiring>(entries: &mut [Entry]) -> usize
 }
 
 impl Shape {
-    /// These rows, and another shape's columns.
-    fn with_columns_of(&self, other: &Shape) -> Shape
-        ensures { result ≡ record { rows = self.now.rows; cols = other.now.cols } }
-    {
-        Shape {
-            rows: self.rows,
-            cols: other.cols,
-        }
-    }
-
     /// Whether an entry's place is outside.
     fn is_outside(&self, entry: &Entry) -> bool
         ensures { result ≡ is_outside self.now entry.now }
@@ -154,7 +144,7 @@ impl<S: Semiring> Matrix<S> {
             return Err(ProductFault::Shapes);
         }
         let products = left.products(alloc, right)?;
-        Ok(Self::collect(left.shape.with_columns_of(&right.shape), products)?)
+        Ok(Self::collect(left.shape.with_columns_of(right.shape), products)?)
     }
 
     /// The products of each two entries that meet, which make the product.

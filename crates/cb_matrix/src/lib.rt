@@ -79,6 +79,16 @@ impl Shape {
     {
         self.cols
     }
+
+    /// These rows, and another shape's columns: the shape of the product of two matrices of these shapes.
+    pub fn with_columns_of(&self, other: Shape) -> Shape
+        ensures { result ≡ record { rows = self.now.rows; cols = other.cols } }
+    {
+        Shape {
+            rows: self.rows,
+            cols: other.cols,
+        }
+    }
 }
 
 /// A matrix, by its entries other than the zero of `S`.

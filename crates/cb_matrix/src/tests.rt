@@ -144,6 +144,8 @@ fn shapes_that_do_not_meet_have_no_product(rt: HostRuntime) -> Result<(), Fail> 
     let wide = Matrix::<PlusTimes>::empty(rt.alloc(), shape(2, 3)?);
     let product = Matrix::plain_product(rt.alloc(), &wide, &wide);
     assert_eq!(rt; product.err(), Some(ProductFault::Shapes));
+    let inner = shape(3, 5)?;
+    assert_eq!(rt; wide.shape().with_columns_of(inner), shape(2, 5)?);
     Ok(())
 }
 

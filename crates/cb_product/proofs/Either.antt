@@ -6,6 +6,7 @@ use Rattle.std.proofs.lemmas.List.{drop_more, drop_all}
 use Rattle.std.proofs.lemmas.List.Elements.{All-head, All-cons, All-nil, All-drop, All-weaker, All-get_or}
 use Rattle.cb_semirings.specs.Arithmetic.{Arithmetic, IsValue, IsSemiring}
 use Rattle.cb_matrix.proofs.Totals.{add_zero}
+use Rattle.cb_matrix.specs.Values.{total}
 use Rattle.cb_matrix.proofs.Places.{AllPairs-head}
 use Rattle.cb_matrix.proofs.Combine.{AllPairs-drop}
 use Rattle.cb_dcsc.specs.Columns.{row_value}
@@ -13,7 +14,6 @@ use Rattle.cb_product.specs.declared.heads.Head.{Head}
 use Rattle.cb_product.specs.Heads.{heads_value, IsHead, one_value, own_value, Gives, GivesEither}
 use Rattle.cb_product.proofs.Stepped.{heads_value-value, row_value-value, row_value-above}
 use Rattle.cb_matrix.proofs.Permuted.{swap_two}
-use Rattle.cb_product.proofs.Merged.{no_heads}
 
 -- what is left at an entry is not before it
 pub rest_after : (rows : List ℕ) (n d : ℕ) → AllPairs (λ i j. i < j) rows → n < length rows → All (λ i. get_or rows n d < i) (drop (n + 1) rows)
@@ -34,11 +34,15 @@ nothing_left rows n h = ⊎_elim
     (λ (l : length rows ≤ n). l)
     (cases_lt n (length rows))
 
+no_heads : (s : Arithmetic) (rows values : List ℕ) (hs : List Head) (i : ℕ) → hs ≡ [] → heads_value s rows values i hs ≡ s.zero
+unfolding total
+no_heads s rows values hs i e = ap (heads_value s rows values i) e
+
 module _ (s : Arithmetic) (laws : IsSemiring s) (rows values own_rows own_values : List ℕ) (same : length values ≡ length rows) (all_values : All (IsValue s) values) (own_same : length own_values ≡ length own_rows) (own_all : All (IsValue s) own_values) where
   pub own_value-value : (n i : ℕ) → IsValue s (own_value s own_rows own_values n i)
   own_value-value n i = row_value-value s laws (drop n own_rows) (drop n own_values) i (All-drop (IsValue s) n own_values own_all)
 
-  one_value-value : (t : ℕ × ℕ) (i : ℕ) → IsValue s t.1 → IsValue s (one_value s.zero t i)
+  pub one_value-value : (t : ℕ × ℕ) (i : ℕ) → IsValue s t.1 → IsValue s (one_value s.zero t i)
   one_value-value t i v = elim (t.0 == i) as (λ b. IsValue s (cond b t.1 s.zero)) [ true ↦ v | false ↦ laws.zero_value ]
 
   own_end : (n i : ℕ) → length own_rows ≤ n → own_value s own_rows own_values n i ≡ s.zero

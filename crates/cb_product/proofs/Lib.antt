@@ -1,9 +1,11 @@
 pub mod Stepped
-pub mod Merged
 pub mod Either
 pub mod Gathered
 pub mod Produced
 pub mod Union
 pub mod Summed
+pub mod Past
+pub mod Single
+pub mod Made
 pub mod Stored
-pub mod Scaled
+pub mod Marked

@@ -22,7 +22,7 @@ use Rattle.cb_dcsc.proofs.Lookup.{column_value}
 use Rattle.cb_product.specs.Heads.{column_sum, own_value}
 use Rattle.cb_product.specs.Added.{AddsColumn, Producing, StandIn, accumulated}
 use Rattle.cb_matrix.specs.Operations.{sum_of}
-use Rattle.cb_product.proofs.Merged.{none_of_column}
+use Rattle.cb_product.proofs.Made.{none_of_column}
 
 -- ---- the sum over all inner places is that over the entries of the column
 module _ (s : Arithmetic) (laws : IsSemiring s) (a : Sparse) (is : IsMatrix s a) (i j n : ℕ) where

@@ -1,11 +1,11 @@
 -- One column more of a product.
-use Rattle.std.specs.Prelude.{◌⊎◌, ◌≡◌, ◌≢◌, ℕ, ◌≤◌, ◌<◌, List, [], ◌∷◌, ◌++◌, All, Contains, map, slice_index_or}
+use Rattle.std.specs.Prelude.{◌≡◌, ◌≢◌, ℕ, ◌≤◌, ◌<◌, ◌==◌, cond, List, [], ◌∷◌, length, All, AllPairs, Contains, map, slice_index_or}
 use Rattle.std.specs.List.{range_with_len}
 use Rattle.cb_matrix.specs.Values.{total}
 use Rattle.cb_semirings.specs.Arithmetic.{Arithmetic, IsValue}
 use Rattle.cb_matrix.specs.declared.Entry.{Entry}
-use Rattle.cb_matrix.specs.Sparse.{Sparse, IsMatrix, IsInside, IsBefore, at, value_at}
-use Rattle.cb_matrix.specs.Combined.{stored}
+use Rattle.cb_matrix.specs.Sparse.{Sparse, IsMatrix, at}
+use Rattle.cb_dcsc.specs.Columns.{row_value}
 
 -- `new` has f in column j, and what `old` has elsewhere
 pub record AddsColumn (s : Arithmetic) (j : ℕ) (f : ℕ → ℕ) (old new : Sparse) : Type 0 where
@@ -15,20 +15,22 @@ pub record AddsColumn (s : Arithmetic) (j : ℕ) (f : ℕ → ℕ) (old new : Sp
   pub elsewhere : (i k : ℕ) → k ≢ j → at s new i k ≡ at s old i k
   pub up_to : All (λ e. e.column ≤ j) new.entries
 
--- `current` is the next entry after those of `kept`; with what the rest gives they make f in column j
-pub record Merging (s : Arithmetic) (j : ℕ) (f : ℕ → ℕ) (old kept : Sparse) (current : Entry) (rest : ℕ → ℕ) : Type 0 where
-  pub shape : kept.shape ≡ old.shape
-  pub matrix : IsMatrix s kept
-  pub before : All (λ e. IsBefore e current) kept.entries
-  pub column : current.column ≡ j
-  pub inside : IsInside kept.shape current
-  pub value : IsValue s current.value
-  pub sums : (i : ℕ) → s.add (value_at s.zero (kept.entries ++ current ∷ []) i j) (rest i) ≡ f i
-  pub elsewhere : (i k : ℕ) → k ≢ j → value_at s.zero (kept.entries ++ current ∷ []) i k ≡ at s old i k
+-- x, unless the value v is zero
+abbrev pub kept : ℕ → ℕ → ℕ → List ℕ
+kept z v x = cond (v == z) [] (x ∷ [])
 
--- an entry more, unless it is zero
-abbrev pub with_stored : Arithmetic → Sparse → Entry → Sparse
-with_stored s m e = record { shape = m.shape; entries = m.entries ++ stored s.zero e }
+-- a column by its rows and values, none of them zero: it has f i at row i
+pub record IsColumn (s : Arithmetic) (f : ℕ → ℕ) (rows values : List ℕ) : Type 0 where
+  pub same_length : length values ≡ length rows
+  pub ascending : AllPairs (λ i j. i < j) rows
+  pub are_values : All (IsValue s) values
+  pub not_zero : All (λ v. v ≢ s.zero) values
+  pub here : (i : ℕ) → row_value s.zero rows values i ≡ f i
+
+-- a column that has f when what `rest` has still to give is added
+pub record Making (s : Arithmetic) (f : ℕ → ℕ) (rows values : List ℕ) (rest : ℕ → ℕ) : Type 0 where
+  pub column : IsColumn s (row_value s.zero rows values) rows values
+  pub sums : (i : ℕ) → s.add (row_value s.zero rows values i) (rest i) ≡ f i
 
 -- each entry stands in one of these columns
 abbrev pub StandIn : List ℕ → List Entry → Type 0
@@ -44,19 +46,3 @@ pub record Producing (s : Arithmetic) (acc a b : Sparse) (columns : List ℕ) (n
   pub matrix : IsMatrix s out
   pub before : All (λ e. e.column < slice_index_or columns n b.shape.cols) out.entries
   pub done : (i j : ℕ) → j < slice_index_or columns n b.shape.cols → at s out i j ≡ accumulated s acc a b i j
-
--- the rows below `row` of column j have been stored on top of `old`, with the values f
-pub record Storing (s : Arithmetic) (j : ℕ) (f : ℕ → ℕ) (old : Sparse) (row : ℕ) (out : Sparse) : Type 0 where
-  pub shape : out.shape ≡ old.shape
-  pub matrix : IsMatrix s out
-  pub before : All (λ e. (e.column < j) ⊎ ((e.column ≡ j) × (e.row < row))) out.entries
-  pub here : (i : ℕ) → i < row → at s out i j ≡ f i
-  pub elsewhere : (i k : ℕ) → k ≢ j → at s out i k ≡ at s old i k
-
--- what column j of `out` has, and what `rest` has still to give, make f; elsewhere it has what `old` has
-pub record Scaling (s : Arithmetic) (j : ℕ) (f : ℕ → ℕ) (old : Sparse) (rest : ℕ → ℕ) (out : Sparse) : Type 0 where
-  pub shape : out.shape ≡ old.shape
-  pub matrix : IsMatrix s out
-  pub up_to : All (λ e. e.column ≤ j) out.entries
-  pub sums : (i : ℕ) → s.add (at s out i j) (rest i) ≡ f i
-  pub elsewhere : (i k : ℕ) → k ≢ j → at s out i k ≡ at s old i k

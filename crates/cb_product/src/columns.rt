@@ -1,32 +1,54 @@
-//! One column of a product, from the heads and the accumulator's column that make it.
-ghost use Rattle.std.specs.Prelude.{◌≡◌, ◌≢◌, ℕ, ◌<◌, ◌≤◌, IsTrue, false, List, [], ◌∷◌, length, drop, All, AllPairs, Contains, IfOk, IfSome, IfNone, OnOk, slice_index};
+//! One column of a product, made from the heads and the accumulator's column.
+ghost use Rattle.std.specs.Prelude.{◌≡◌, ℕ, ◌<◌, ◌≤◌, ◌++◌, IsTrue, false, List, [], ◌∷◌, length, drop, All, AllPairs, Contains, IfOk, IfSome, IfNone, OnOk, slice_index};
 ghost use Rattle.std.specs.BinaryHeap.{IsHeap, heap_items};
 ghost use Rattle.cb_semirings.specs.Arithmetic.{IsValue};
-ghost use Rattle.cb_matrix.specs.Sparse.{IsMatrix, IsInside, IsBefore};
 ghost use Rattle.cb_dcsc.specs.Columns.{in_column, rows_of, values_of};
 ghost use Rattle.cb_product.specs.Heads.{IsHead, IsPart, GivesEither, by_row, head_value, heads_value, own_value};
-ghost use Rattle.cb_product.specs.Added.{AddsColumn, with_stored};
+ghost use Rattle.cb_product.specs.Added.{IsColumn, kept};
 
 use crate::heads::{Head, next};
 use cb_dcsc::Block;
-use cb_matrix::Entry;
 use cb_semirings::Semiring;
 use std::alloc::{AllocError, Global};
 use std::collections::BinaryHeap;
 
-/// Stores an entry after all the others, unless its value is zero.
-pub(crate) fn keep<S: Semiring>(out: &mut Block<S>, entry: Entry) -> Result<(), AllocError>
-    requires matrix { IsMatrix S.arithmetic out.old }
-    requires inside { IsInside out.old.shape entry }
-    requires order { All (λ e. IsBefore e entry) out.old.entries }
-    requires value { IsValue S.arithmetic entry.value }
-    ensures ok { OnOk result (out.new ≡ with_stored S.arithmetic out.old entry) }
-    ensures matrix { IsMatrix S.arithmetic out.new }
-{
-    if entry.value == S::zero() {
-        return Ok(());
+/// A column while it is made: the rows of its entries, and their values.
+#[derive(Drop)]
+pub(crate) struct Column {
+    pub rows: Vec<u32>,
+    pub values: Vec<u64>,
+}
+
+impl Column {
+    /// The column without entries.
+    pub fn new(alloc: Global) -> Self {
+        Column {
+            rows: Vec::new(alloc),
+            values: Vec::new(alloc),
+        }
     }
-    out.push(entry)
+
+    /// Forgets all entries. The room stays.
+    pub fn clear(&mut self)
+        ensures rows { self.new.rows.items ≡ [] }
+        ensures values { self.new.values.items ≡ [] }
+    {
+        self.rows.clear();
+        self.values.clear();
+    }
+
+    /// Stores an entry after all the others, unless its value is zero.
+    pub fn keep<S: Semiring>(&mut self, row: u32, value: u64) -> Result<(), AllocError>
+        ensures rows { OnOk result (self.new.rows.items ≡ self.old.rows.items ++ kept S.arithmetic.zero value row) }
+        ensures values { OnOk result (self.new.values.items ≡ self.old.values.items ++ kept S.arithmetic.zero value value) }
+    {
+        if value == S::zero() {
+            return Ok(());
+        }
+        self.rows.push(row)?;
+        self.values.push(value)?;
+        Ok(())
+    }
 }
 
 /// Whether the accumulator's column, from `at` on, has the next row: no head is at an earlier one.
@@ -77,11 +99,9 @@ fn next_of<S: Semiring>(
     next::<S>(heads, rows, values)
 }
 
-/// Appends a column: at each row, the sum of what the accumulator's column and the heads have there, where it
-/// is not zero.
+/// Makes a column: at each row, the sum of what the accumulator's column and the heads have there.
 pub(crate) fn merge<S: Semiring>(
-    out: &mut Block<S>,
-    column: u32,
+    made: &mut Column,
     heads: &mut BinaryHeap<Head>,
     rows: &[u32],
     values: &[u64],
@@ -95,40 +115,34 @@ pub(crate) fn merge<S: Semiring>(
     requires own_lengths { length own_values.now ≡ length own_rows.now }
     requires own_values { All (IsValue S.arithmetic) own_values.now }
     requires own_order { AllPairs (λ i j. i < j) own_rows.now }
-    requires matrix { IsMatrix S.arithmetic out.old }
-    requires column { column < out.old.shape.cols }
-    requires rows { All (λ i. i < out.old.shape.rows) rows.now }
-    requires own_rows { All (λ i. i < out.old.shape.rows) own_rows.now }
-    requires before { All (λ e. e.column < column) out.old.entries }
     ensures empty { OnOk result (heap_items heads.new ≡ []) }
     ensures order { IsHeap by_row (heap_items heads.new) }
-    ensures adds { OnOk result (AddsColumn S.arithmetic column (λ i. S.arithmetic.add (own_value S.arithmetic own_rows.now own_values.now 0 i) (heads_value S.arithmetic rows.now values.now i (heap_items heads.old))) out.old out.new) }
+    ensures column { OnOk result (IsColumn S.arithmetic (λ i. S.arithmetic.add (own_value S.arithmetic own_rows.now own_values.now 0 i) (heads_value S.arithmetic rows.now values.now i (heap_items heads.old))) made.new.rows.items made.new.values.items) }
 {
+    made.clear();
     let mut at = 0;
     let first = next_of::<S>(heads, rows, values, own_rows, own_values, &mut at);
-    let Some((row, value)) = first else {
+    let Some((mut row, mut sum)) = first else {
         return Ok(());
     };
-    let mut current = Entry { row, column, value };
-    while let Some((row, value)) = next_of::<S>(
+    while let Some((next, value)) = next_of::<S>(
         heads, rows, values, own_rows, own_values, &mut at,
     ) {
-        if row == current.row {
-            current.value = S::add(current.value, value);
+        if next == row {
+            sum = S::add(sum, value);
         } else {
-            keep(out, current)?;
-            current = Entry { row, column, value };
+            made.keep::<S>(row, sum)?;
+            row = next;
+            sum = value;
         }
     }
-    keep(out, current)?;
-    Ok(())
+    made.keep::<S>(row, sum)
 }
 
-/// Appends one column, scaled: nothing is added to it, so its rows are in order, and only the products that come
-/// to zero are left out.
+/// Makes a column that is another one, scaled: nothing is added to it, so its rows are in order, and only the
+/// products that come to zero are left out.
 pub(crate) fn scaled<S: Semiring>(
-    out: &mut Block<S>,
-    column: u32,
+    made: &mut Column,
     rows: &[u32],
     values: &[u64],
     head: Head,
@@ -136,19 +150,11 @@ pub(crate) fn scaled<S: Semiring>(
     requires lengths { length values.now ≡ length rows.now }
     requires values { All (IsValue S.arithmetic) values.now }
     requires head { IsPart S.arithmetic rows.now head }
-    requires matrix { IsMatrix S.arithmetic out.old }
-    requires column { column < out.old.shape.cols }
-    requires rows { All (λ i. i < out.old.shape.rows) rows.now }
-    requires before { All (λ e. e.column < column) out.old.entries }
-    ensures adds { OnOk result (AddsColumn S.arithmetic column (λ i. head_value S.arithmetic rows.now values.now i head) out.old out.new) }
+    ensures column { OnOk result (IsColumn S.arithmetic (λ i. head_value S.arithmetic rows.now values.now i head) made.new.rows.items made.new.values.items) }
 {
+    made.clear();
     for at in head.at..head.end {
-        let entry = Entry {
-            row: rows[at],
-            column,
-            value: S::mul(values[at], head.scale),
-        };
-        keep(out, entry)?;
+        made.keep::<S>(rows[at], S::mul(values[at], head.scale))?;
     }
     Ok(())
 }

@@ -1,14 +1,15 @@
 //! Columns of the left block on their way through a merge.
-ghost use Rattle.std.specs.Prelude.{◌≡◌, ◌≢◌, ◌↔◌, ◌==◌, ℕ, ◌<◌, ◌≤◌, ◌+◌, List, [], ◌∷◌, length, All, IfSome, IfNone, OnOk, slice_range};
+ghost use Rattle.std.specs.Prelude.{◌≡◌, ◌≢◌, ◌↔◌, ◌==◌, ℕ, ◌<◌, ◌≤◌, ◌+◌, List, [], ◌∷◌, length, All, IfSome, IfNone, OnOk};
 ghost use Rattle.std.proofs.Common.{rules};
 ghost use Rattle.std.specs.Cmp.{partial_order_from_own_ties};
 ghost use Rattle.std.specs.Cmp.Rules.{comparing};
 ghost use Rattle.std.specs.Ordering.{nat_cmp, on, flip_args, as_partial_cmp};
 ghost use Rattle.std.specs.BinaryHeap.{IsHeap, heap_items};
 
+use crate::finder::Finder;
 use cb_dcsc::Block;
 use cb_semirings::Semiring;
-use std::alloc::{AllocError, Global};
+use std::alloc::AllocError;
 use std::cmp::Ordering;
 use std::collections::BinaryHeap;
 use std::collections::binary_heap::PeekMut;
@@ -63,7 +64,7 @@ impl Ord for Head {
 ghost use Rattle.cb_product.specs.Heads.{IsHead, Gives, by_row, heads_value, column_sum};
 ghost use Rattle.cb_semirings.specs.Arithmetic.{IsValue};
 ghost use Rattle.cb_matrix.specs.Sparse.{IsMatrix};
-ghost use Rattle.cb_dcsc.specs.Columns.{in_column, rows_of, values_of};
+ghost use Rattle.cb_dcsc.specs.Columns.{rows_of, values_of};
 
 /// The next row that has an entry, and its scaled value.
 pub(crate) fn next<S: Semiring>(
@@ -101,49 +102,11 @@ pub(crate) fn next<S: Semiring>(
     Some((head.row, value))
 }
 
-/// Where the columns of a block stand among those that have entries. Most are found at one look, where a table of
-/// them is in proportion to their number; a hypersparse block has no table.
-#[derive(Drop)]
-pub(crate) struct Places {
-    nth: Vec<usize>,
-}
-
-impl Places {
-    /// The places of a block's columns.
-    pub fn of<S: Semiring>(alloc: Global, block: &Block<S>) -> Result<Places, AllocError> {
-        let mut nth = Vec::new(alloc);
-        let cols = block.shape().cols() as usize;
-        if cols / 4 <= block.columns() {
-            nth.resize(cols, 0)?;
-            for n in 0..block.columns() {
-                if let Some(place) = nth.get_mut(block.column_number(n) as usize) {
-                    *place = n;
-                }
-            }
-        }
-        Ok(Places { nth })
-    }
-
-    /// Where the entries of a column of this block stand among all. A place that is another column's is found out,
-    /// and the column is searched for.
-    fn range<S: Semiring>(&self, block: &Block<S>, column: u32) -> (usize, usize)
-        ensures order { result.0 ≤ result.1 }
-        ensures within { result.1 ≤ length block.now.entries }
-        ensures entries { slice_range block.now.entries result.0 result.1 ≡ in_column column block.now.entries }
-    {
-        let n = self.nth.get(column as usize).copied().unwrap_or(0);
-        if n < block.columns() && block.column_number(n) == column {
-            return block.nth_range(n);
-        }
-        block.range(column)
-    }
-}
-
 /// A head for each entry of a column of the right block, at the column of the left block that it names.
 pub(crate) fn gather<S: Semiring>(
     heads: &mut BinaryHeap<Head>,
     left: &Block<S>,
-    places: &Places,
+    finder: &Finder,
     rows: &[u32],
     values: &[u64],
 ) -> Result<(), AllocError>
@@ -158,7 +121,7 @@ pub(crate) fn gather<S: Semiring>(
 {
     let all_rows = left.rows();
     for n in 0..rows.len() {
-        let (at, end) = places.range(left, rows[n]);
+        let (at, end) = finder.range(left, rows[n]);
         if at < end {
             heads.push(Head {
                 row: all_rows[at],

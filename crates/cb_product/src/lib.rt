@@ -3,8 +3,11 @@
 //! Column j of a product is a sum of columns of the left block: the entries (k, j) of the right block name
 //! them, and scale them. Their rows ascend, so a heap over their heads gives the products of the column by
 //! ascending row; equal rows are added, and a sum that is zero isn't stored. A single column is copied as it is
-//! scaled, without the heap. Nothing is as long as a dimension of the shapes, so blocks of 2,147,483,647 rows and
-//! columns cost what their entries cost. With an accumulator, its own column is merged in beside the heads.
+//! scaled, without the heap. Where a column has many products for its rows, they are added in an array instead.
+//! With an accumulator, its own column is merged in beside the heads.
+//!
+//! Nothing is longer than a few times the products or the entries that it serves, so blocks of 2,147,483,647 rows
+//! and columns cost what their entries cost, and of the left block only the named columns cost anything.
 //!
 //! The method is that of Buluç and Gilbert, Parallel Sparse Matrix-Matrix Multiplication and Indexing (SIAM J.
 //! Sci. Comput. 2012, section 4.2): time (products) times log (columns merged), plus the entries read and
@@ -19,17 +22,21 @@ ghost use Rattle.cb_semirings.specs.Arithmetic.{IsValue};
 ghost use Rattle.cb_matrix.specs.Sparse.{IsMatrix};
 ghost use Rattle.cb_dcsc.specs.Columns.{rows_of, values_of};
 ghost use Rattle.cb_product.specs.Heads.{IsHead, by_row, heads_value, own_value};
-ghost use Rattle.cb_product.specs.Added.{AddsColumn, StandIn};
+ghost use Rattle.cb_product.specs.Added.{IsColumn, StandIn};
 
-use crate::heads::{Head, Places};
+use crate::columns::Column;
+use crate::finder::Finder;
+use crate::heads::Head;
+use crate::sums::Sums;
 use cb_dcsc::Block;
-use cb_matrix::Shape;
 use cb_semirings::Semiring;
 use std::alloc::{AllocError, Global};
 use std::collections::BinaryHeap;
 
 mod columns;
+mod finder;
 mod heads;
+mod marks;
 mod sums;
 
 /// The product of two blocks.
@@ -43,7 +50,7 @@ pub fn multiply<S: Semiring>(
     requires { left.now.shape.cols ≡ right.now.shape.rows }
     ensures { IfOk result (λ m. m ≡ product S.arithmetic left.now right.now) }
 {
-    let nothing = Block::empty(alloc, shape_of_product(left.shape(), right.shape()));
+    let nothing = Block::empty(alloc, left.shape().with_columns_of(right.shape()));
     accumulate(alloc, left, right, &nothing, right.column_numbers())
 }
 
@@ -83,16 +90,6 @@ fn added<S: Semiring>(
     accumulate(alloc, left, right, accumulator, &columns)
 }
 
-/// The shape of a product: the rows of the left, and the columns of the right.
-fn shape_of_product(left: Shape, right: Shape) -> Shape
-    ensures { result ≡ record { rows = left.rows; cols = right.cols } }
-{
-    match Shape::new(left.rows(), right.cols()) {
-        Some(shape) => shape,
-        None => left,
-    }
-}
-
 /// An accumulator plus the product of two blocks, both of whose entries stand in these columns.
 fn accumulate<S: Semiring>(
     alloc: Global,
@@ -112,31 +109,31 @@ fn accumulate<S: Semiring>(
     let left_shape = left.shape();
     let right_shape = right.shape();
     let mut out = Block::empty(alloc, accumulator.shape());
+    out.reserve(accumulator.len().saturating_mul(2).max(right.len()))?;
     let mut heads = BinaryHeap::new(alloc);
-    let mut sums = Vec::new(alloc);
-    let places = Places::of(alloc, left)?;
+    let mut sums = Sums::new(alloc);
+    let mut made = Column::new(alloc);
+    let finder = Finder::new(alloc, left, right.len())?;
     let mut next = 0;
     let mut own_next = 0;
     for column in columns {
         let (rows, values) = columns::of_next(right, &mut next, *column);
-        heads::gather(&mut heads, left, &places, rows, values)?;
+        heads::gather(&mut heads, left, &finder, rows, values)?;
         let (own_rows, own_values) = columns::of_next(accumulator, &mut own_next, *column);
-        add_column(
-            &mut out, *column, &mut heads, &mut sums, left, own_rows, own_values,
-        )?;
+        make_column(&mut made, &mut heads, &mut sums, left, own_rows, own_values)?;
+        out.push_column(*column, &made.rows, &made.values)?;
     }
     Ok(out)
 }
 
-/// Appends a column: at each row, the sum of what the accumulator's column and the heads have there, where it is
-/// not zero. A single head, with nothing to add to, is copied as it is scaled. Where the heads have a product for
-/// every sixteenth row, they are added in an array with a place for each row, so that no order has to be kept; else,
-/// as in a hypersparse block, they are merged by the heap.
-fn add_column<S: Semiring>(
-    out: &mut Block<S>,
-    column: u32,
+/// Makes a column: at each row, the sum of what the accumulator's column and the heads have there. A single head, with
+/// nothing to add to, is copied as it is scaled. Where there is something to add for every 64 rows, it is added in an
+/// array with a place for each row, so that no order has to be kept; else, as in a hypersparse block, it is merged by
+/// the heap.
+fn make_column<S: Semiring>(
+    made: &mut Column,
     heads: &mut BinaryHeap<Head>,
-    sums: &mut Vec<u64>,
+    sums: &mut Sums,
     left: &Block<S>,
     own_rows: &[u32],
     own_values: &[u64],
@@ -147,39 +144,32 @@ fn add_column<S: Semiring>(
     requires own_lengths { length own_values.now ≡ length own_rows.now }
     requires own_values { All (IsValue S.arithmetic) own_values.now }
     requires own_order { AllPairs (λ i j. i < j) own_rows.now }
-    requires matrix { IsMatrix S.arithmetic out.old }
-    requires column { column < out.old.shape.cols }
-    requires rows { out.old.shape.rows ≡ left.now.shape.rows }
-    requires own_rows { All (λ i. i < out.old.shape.rows) own_rows.now }
-    requires before { All (λ e. e.column < column) out.old.entries }
-    requires zeros { All (λ x. x ≡ S.arithmetic.zero) sums.old.items }
+    requires own_rows { All (λ i. i < left.now.shape.rows) own_rows.now }
+    requires zeros { All (λ x. x ≡ S.arithmetic.zero) sums.old.sums.items }
+    requires unmarked { All (λ word. word ≡ 0) sums.old.marks.items }
     ensures empty { OnOk result (heap_items heads.new ≡ []) }
-    ensures order { IsHeap by_row (heap_items heads.new) }
-    ensures zeros_again { OnOk result (All (λ x. x ≡ S.arithmetic.zero) sums.new.items) }
-    ensures adds { OnOk result (AddsColumn S.arithmetic column (λ i. S.arithmetic.add (own_value S.arithmetic own_rows.now own_values.now 0 i) (heads_value S.arithmetic (rows_of left.now.entries) (values_of left.now.entries) i (heap_items heads.old))) out.old out.new) }
+    ensures order { OnOk result (IsHeap by_row (heap_items heads.new)) }
+    ensures zeros_again { OnOk result (All (λ x. x ≡ S.arithmetic.zero) sums.new.sums.items) }
+    ensures unmarked_again { OnOk result (All (λ word. word ≡ 0) sums.new.marks.items) }
+    ensures column { OnOk result (IsColumn S.arithmetic (λ i. S.arithmetic.add (own_value S.arithmetic own_rows.now own_values.now 0 i) (heads_value S.arithmetic (rows_of left.now.entries) (values_of left.now.entries) i (heap_items heads.old))) made.new.rows.items made.new.values.items) }
 {
+    let rows = left.shape().rows() as usize;
     if own_rows.is_empty() && heads.len() == 1 {
         let head = heads.as_slice()[0];
         heads.clear();
-        columns::scaled(out, column, left.rows(), left.values(), head)?;
-        return Ok(());
+        return columns::scaled::<S>(made, left.rows(), left.values(), head);
     }
-    let rows = left.shape().rows();
-    if heads::products_left(heads) >= rows as usize / 16 {
-        sums::make_room::<S>(sums, rows as usize)?;
-        sums::merge(out, column, heads, sums, left, own_rows, own_values)?;
-        return Ok(());
+    if heads::products_left(heads).saturating_add(own_rows.len()) >= rows / 64 {
+        return sums::merge(made, heads, sums, left, own_rows, own_values);
     }
-    columns::merge(
-        out,
-        column,
+    columns::merge::<S>(
+        made,
         heads,
         left.rows(),
         left.values(),
         own_rows,
         own_values,
-    )?;
-    Ok(())
+    )
 }
 
 #[cfg(test)]

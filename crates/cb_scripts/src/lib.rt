@@ -17,7 +17,7 @@ mod stores;
 mod tests;
 
 use cb_layout::Grid;
-use cb_matrix::{Matrix, Shape};
+use cb_matrix::Matrix;
 use cb_plan::RankStore;
 use cb_semirings::Semiring;
 use cb_summa::{summa, summa_masked};
@@ -89,8 +89,7 @@ fn nothing<S: Semiring>(alloc: Global, left: &Matrix<S>, right: &Matrix<S>) -> M
     requires { (left.now.entries ≡ []) ⊎ (right.now.entries ≡ []) }
     ensures { result ≡ product S.arithmetic left.now right.now }
 {
-    let _shapes = (left.shape(), right.shape());
-    let empty = Matrix::empty(alloc, product_shape(left, right));
+    let empty = Matrix::empty(alloc, left.shape().with_columns_of(right.shape()));
     let _shape = empty.shape();
     empty
 }
@@ -107,12 +106,12 @@ fn multiply_over<S: Semiring>(
     requires { left.now.shape.cols ≡ right.now.shape.rows }
     ensures { IfOk result (λ m. m ≡ product S.arithmetic left.now right.now) }
 {
-    let Ok(planned) = summa(alloc, grid, left.shape(), right.shape()) else {
+    let (a, b) = (left.shape(), right.shape());
+    let Ok(planned) = summa(alloc, grid, a, b) else {
         return Err(AllocError);
     };
     let stores = operands(alloc, grid, left, right)?;
-    let shape = product_shape(left, right);
-    run(alloc, engine, grid, planned, stores, shape)
+    run(alloc, engine, grid, planned, stores, a.with_columns_of(b))
 }
 
 /// The product of two matrices, kept where a mask has entries, by Sparse SUMMA over the grid.
@@ -131,11 +130,12 @@ pub fn multiply_masked<S: Semiring>(
     ensures agree { IfOk result (λ m. (left.now.shape.cols ≡ right.now.shape.rows) × (mask.now.shape ≡ product_shape left.now right.now)) }
     ensures fault { IfErr result (IsMaskedRefusal left.now right.now mask.now) }
 {
-    let shape = product_shape(left, right);
-    if left.cols() != right.rows() || mask.shape() != shape {
+    let (a, b) = (left.shape(), right.shape());
+    let shape = a.with_columns_of(b);
+    if a.cols() != b.rows() || mask.shape() != shape {
         return Err(ScriptFault::Shapes);
     }
-    let Ok(planned) = summa_masked(alloc, grid, left.shape(), right.shape()) else {
+    let Ok(planned) = summa_masked(alloc, grid, a, b) else {
         return Err(ScriptFault::Memory);
     };
     let mut stores = operands(alloc, grid, left, right)?;
@@ -156,11 +156,4 @@ fn operands<S: Semiring>(
     distribute(alloc, grid, &mut stores, LEFT, left)?;
     distribute(alloc, grid, &mut stores, RIGHT, right)?;
     Ok(stores)
-}
-
-/// The rows of the first matrix, and the columns of the second.
-fn product_shape<S: Semiring>(left: &Matrix<S>, right: &Matrix<S>) -> Shape
-    ensures { result ≡ product_shape left.now right.now }
-{
-    Shape::new(left.shape().rows(), right.shape().cols()).unwrap()
 }

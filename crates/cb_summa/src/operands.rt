@@ -40,7 +40,7 @@ pub fn masked_starts(
 ) -> Result<Vec<Start>, AllocError>
     ensures { IfOk result (λ v. v.items ≡ summa_masked_starts grid.now.side a b) }
 {
-    let shape = result_shape(a, b);
+    let shape = a.with_columns_of(b);
     let mut starts = Vec::new(alloc);
     for rank in 0..grid.ranks() {
         starts.push(start(grid, LEFT, rank, a))?;
@@ -60,11 +60,4 @@ fn start(grid: &Grid, slot: u16, rank: u16, shape: Shape) -> Start
         slot,
         shape: grid.block_shape(shape, rank),
     }
-}
-
-/// The shape of the product of matrices of two shapes.
-pub fn result_shape(a: Shape, b: Shape) -> Shape
-    ensures { result ≡ result_shape a b }
-{
-    Shape::new(a.rows(), b.cols()).unwrap()
 }

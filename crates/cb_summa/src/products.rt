@@ -4,7 +4,7 @@ ghost use Rattle.std.specs.List.{range_with_len};
 ghost use Rattle.cb_summa.specs.Summa.{left_slot, right_slot, row_broadcast, column_broadcast, broadcasts, next_broadcasts, each_rank, stage, zero_op, result_shape, product_acts};
 ghost use Rattle.cb_summa.specs.Growth.{IsWithinLimit, Grew, no_memory};
 
-use crate::operands::{LEFT, RESULT, RIGHT, result_shape};
+use crate::operands::{LEFT, RESULT, RIGHT};
 use cb_collectives::broadcast;
 use cb_layout::Grid;
 use cb_letters::Tag;
@@ -26,7 +26,7 @@ pub fn multiply(
     ensures fault { IfErr result (λ e. e ≡ no_memory) }
 {
     let _side = grid.side();
-    zero_results(plan, grid, result_shape(a, b))?;
+    zero_results(plan, grid, a.with_columns_of(b))?;
     broadcast_blocks(plan, alloc, grid, 0)?;
     multiply_stages(plan, alloc, grid)
 }

@@ -11,5 +11,6 @@ invariant-loop-column g l =
       producing : Producing g.S.Semiring.arithmetic l.accumulator l.left l.right l.columns l.column-index l.out;
       order : IsHeap by_row (heap_items l.heads);
       empty : heap_items l.heads ≡ [];
-      zeros : All (λ x. x ≡ g.S.Semiring.arithmetic.zero) l.sums.items;
+      zeros : All (λ x. x ≡ g.S.Semiring.arithmetic.zero) l.sums.sums.items;
+      unmarked : All (λ word. word ≡ 0) l.sums.marks.items;
     }

@@ -5,5 +5,5 @@ use Rattle.cb_product.proofs.multiply.Goals as goal
 
 pub returns : goal.returns
 returns g c =
-    let shape : c.shape_of_product.result ≡ product_shape c.args.left.now c.args.right.now = c.shape_of_product.ensures ∙ (λ t. record { rows = (c.shape.ensures.shape t).rows; cols = (c.shape-2.ensures.shape t).cols }) in
+    let shape : c.with_columns_of.result ≡ product_shape c.args.left.now c.args.right.now = c.with_columns_of.ensures ∙ (λ t. record { rows = (c.shape.ensures.shape t).rows; cols = (c.shape-2.ensures.shape t).cols }) in
     multiplied g.S.Semiring.arithmetic g.met.S.Semiring.is_semiring _ c.args.left.now c.args.right.now c.accumulate.result c.shape.ensures.matrix c.shape-2.ensures.matrix (c.empty-nothing.ensures.value ∙ ap empty_matrix shape) c.accumulate.ensures

@@ -3,7 +3,7 @@ use Rattle.cb_product.proofs.Summed.{next_head, all_heads}
 use Rattle.cb_product.proofs.sums.add_heads.Goals as goal
 
 pub loop-head-init : goal.loop-head-init
-loop-head-init g c = record { long = refl; values = c.requires.sums; sums = λ i l. refl }
+loop-head-init g c = record { long = refl; values = c.requires.sums; marks_long = refl; marked = c.requires.marked; sums = λ i l. refl }
 
 pub loop-head-preserved : goal.loop-head-preserved
 loop-head-preserved g c =
@@ -15,6 +15,8 @@ loop-head-preserved g c =
     record {
       long = long ∙ inv.long;
       values = c.add_head.ensures.values;
+      marks_long = c.add_head.ensures.marks_length ∙ inv.marks_long;
+      marked = c.add_head.ensures.marked;
       sums = λ i li. next_head s laws c.args.rows.now c.args.values.now r.lengths r.values c.args.heads.now c.loop-head.head-index _ c.loop-head.sums _ _ c.loop-head-test.true r.heads inv.values long c.add_head.ensures.sums inv.sums i (subst (λ k. i < k) long li);
     }
 

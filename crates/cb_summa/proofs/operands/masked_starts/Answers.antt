@@ -14,7 +14,7 @@ loop-rank-preserved c =
     let now = c.loop-rank.starts.items in
     extended (λ r. part_start_at q 0 r c.args.a ∷ part_start_at q 1 r c.args.b ∷ part_start_at q 7 r (result_shape c.args.a c.args.b) ∷ []) r [] now _ c.loop-rank.invariant
     (c.in_ok-push-3.ensures.items
-    ∙ ap (λ (x : Start). c.push-in-loop-rank.new.self.items ++ x ∷ []) (c.start-in-loop-rank-2.ensures ∙ ap (part_start_at q 7 r) c.result_shape-shape.ensures)
+    ∙ ap (λ (x : Start). c.push-in-loop-rank.new.self.items ++ x ∷ []) (c.start-in-loop-rank-2.ensures ∙ ap (part_start_at q 7 r) c.with_columns_of-shape.ensures)
     ∙ ap (λ xs. xs ++ three ∷ []) (c.in_ok-push-2.ensures.items
     ∙ ap (λ (x : Start). c.push.new.self.items ++ x ∷ []) c.start-in-loop-rank.ensures
     ∙ ap (λ xs. xs ++ two ∷ []) (c.in_ok-push.ensures.items ∙ ap (λ (x : Start). now ++ x ∷ []) c.start.ensures)

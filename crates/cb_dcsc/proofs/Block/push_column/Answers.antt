@@ -1,0 +1,41 @@
+use Rattle.std.proofs.Common.{◌==◌, ◌++◌, sym, ap, ◌∙◌, arith}
+use Rattle.std.proofs.lemmas.Bool.{false≢true, eqb-true}
+use Rattle.cb_dcsc.proofs.WholeColumn.{column_pushed, no_column}
+use Rattle.cb_dcsc.proofs.Block.push_column.Goals as goal
+
+pub returns-then-is_empty-clause-ok : goal.returns-then-is_empty-clause-ok
+returns-then-is_empty-clause-ok g c =
+    no_column _ c.args.column _ _ (eqb-true _ 0 (sym c.is_empty.ensures ∙ c.if-is_empty.true))
+
+pub invariant_of-self-2 : goal.invariant_of-self-2
+invariant_of-self-2 g c =
+    let v = c.self.inside in
+    let r = c.requires in
+    let there = v.rows.ok.0 in
+    let count = c.len-len.ensures in
+    (column_pushed g.S.Semiring.arithmetic v.shape _ _ _ _ c.self.invariant _ c.self.view_is c.args.column r.before c.args.rows.now c.args.values.now _ _ _ _ _ (λ z. false≢true (sym c.if-is_empty.false ∙ (c.is_empty.ensures ∙ ap (λ n. n == 0) z))) r.lengths r.ascending r.rows r.column r.values r.not_zero
+    c.in_ok-start_column.ensures.columns c.in_ok-start_column.ensures.starts (omega arith)
+    (c.in_ok-extend_from_slice.ensures.items ∙ ap (λ xs. xs ++ c.args.rows.now) c.in_ok-reserve.ensures.items)
+    (c.in_ok-extend_from_slice-2.ensures.items ∙ ap (λ xs. xs ++ c.args.values.now) c.in_ok-reserve-2.ensures.items)).0
+
+pub returns-clause-ok : goal.returns-clause-ok
+returns-clause-ok g c =
+    let v = c.self.inside in
+    let r = c.requires in
+    let there = v.rows.ok.0 in
+    let count = c.len-len.ensures in
+    (column_pushed g.S.Semiring.arithmetic v.shape _ _ _ _ c.self.invariant _ c.self.view_is c.args.column r.before c.args.rows.now c.args.values.now _ _ _ _ _ (λ z. false≢true (sym c.if-is_empty.false ∙ (c.is_empty.ensures ∙ ap (λ n. n == 0) z))) r.lengths r.ascending r.rows r.column r.values r.not_zero
+    c.in_ok-start_column.ensures.columns c.in_ok-start_column.ensures.starts (omega arith)
+    (c.in_ok-extend_from_slice.ensures.items ∙ ap (λ xs. xs ++ c.args.rows.now) c.in_ok-reserve.ensures.items)
+    (c.in_ok-extend_from_slice-2.ensures.items ∙ ap (λ xs. xs ++ c.args.values.now) c.in_ok-reserve-2.ensures.items)).1
+
+pub returns-clause-matrix : goal.returns-clause-matrix
+returns-clause-matrix g c =
+    let v = c.self.inside in
+    let r = c.requires in
+    let there = v.rows.ok.0 in
+    let count = c.len-len.ensures in
+    (column_pushed g.S.Semiring.arithmetic v.shape _ _ _ _ c.self.invariant _ c.self.view_is c.args.column r.before c.args.rows.now c.args.values.now _ _ _ _ _ (λ z. false≢true (sym c.if-is_empty.false ∙ (c.is_empty.ensures ∙ ap (λ n. n == 0) z))) r.lengths r.ascending r.rows r.column r.values r.not_zero
+    c.in_ok-start_column.ensures.columns c.in_ok-start_column.ensures.starts (omega arith)
+    (c.in_ok-extend_from_slice.ensures.items ∙ ap (λ xs. xs ++ c.args.rows.now) c.in_ok-reserve.ensures.items)
+    (c.in_ok-extend_from_slice-2.ensures.items ∙ ap (λ xs. xs ++ c.args.values.now) c.in_ok-reserve-2.ensures.items)).0.matrix
