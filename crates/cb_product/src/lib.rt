@@ -127,9 +127,9 @@ fn accumulate<S: Semiring>(
 }
 
 /// Makes a column: at each row, the sum of what the accumulator's column and the heads have there. A single head, with
-/// nothing to add to, is copied as it is scaled. Where there is something to add for every 64 rows, it is added in an
-/// array with a place for each row, so that no order has to be kept; else, as in a hypersparse block, it is merged by
-/// the heap.
+/// nothing to add to, is copied as it is scaled. Where the entries are many for the rows, they are added in an array
+/// with a place for each row, so that no order has to be kept; else, as in a hypersparse block, they are merged by the
+/// heap.
 fn make_column<S: Semiring>(
     made: &mut Column,
     heads: &mut BinaryHeap<Head>,
@@ -159,7 +159,8 @@ fn make_column<S: Semiring>(
         heads.clear();
         return columns::scaled::<S>(made, left.rows(), left.values(), head);
     }
-    if heads::products_left(heads).saturating_add(own_rows.len()) >= rows / 64 {
+    let entries = heads::products_left(heads).saturating_add(own_rows.len());
+    if sums.serves(entries, rows) {
         return sums::merge(made, heads, sums, left, own_rows, own_values);
     }
     columns::merge::<S>(

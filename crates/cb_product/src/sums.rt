@@ -1,6 +1,6 @@
 //! One column of a product by sums, an array with a place for each row.
 //!
-//! Where a column has a product for every 64 rows, the products are added where they belong, and each row that has one
+//! Where a column has an entry for every 64 rows, the entries are added where they belong, and each row that has one
 //! is marked by a bit. The marks, a word for 64 rows, give the rows in order, so that no order has to be kept. It is
 //! the sparse accumulator of Gilbert, Moler and Schreiber, Sparse Matrices in MATLAB (SIAM J. Matrix Anal. Appl. 1992,
 //! section 3.1), with bits in place of a list of rows.
@@ -101,11 +101,13 @@ fn store<S: Semiring>(
     Ok(())
 }
 
-/// Sums, one for each row, which come and go as zeros, and the marks of the rows that have some.
+/// Sums, one for each row, which come and go as zeros; the marks of the rows that have some; and how many entries have
+/// come by, here or elsewhere.
 #[derive(Drop)]
 pub(crate) struct Sums {
     pub sums: Vec<u64>,
     pub marks: Vec<u64>,
+    seen: usize,
 }
 
 impl Sums {
@@ -117,7 +119,19 @@ impl Sums {
         Sums {
             sums: Vec::new(alloc),
             marks: Vec::new(alloc),
+            seen: 0,
         }
+    }
+
+    /// Whether a column of so many entries is better added here than merged by a heap: where it has an entry for every
+    /// 64 rows, and so many have come by, its own with them, that there is one for every four rows. So the sums are
+    /// never more than four times the entries that they could have served.
+    pub fn serves(&mut self, entries: usize, rows: usize) -> bool
+        ensures sums { self.new.sums.items ≡ self.old.sums.items }
+        ensures marks { self.new.marks.items ≡ self.old.marks.items }
+    {
+        self.seen = self.seen.saturating_add(entries);
+        rows / 64 <= entries && rows / 4 <= self.seen
     }
 
     /// Takes room for the sums of so many rows.
@@ -198,7 +212,7 @@ pub(crate) fn merge<S: Semiring>(
     ensures column { OnOk result (IsColumn S.arithmetic (λ i. S.arithmetic.add (own_value S.arithmetic own_rows.now own_values.now 0 i) (heads_value S.arithmetic (rows_of left.now.entries) (values_of left.now.entries) i (heap_items heads.old))) made.new.rows.items made.new.values.items) }
 {
     sums.make_room::<S>(left.shape().rows() as usize)?;
-    let Sums { sums, marks } = sums;
+    let Sums { sums, marks, .. } = sums;
     let slice = heads.as_slice();
     combine(made, slice, sums, marks, left, own_rows, own_values)?;
     heads.clear();

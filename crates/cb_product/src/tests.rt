@@ -140,6 +140,37 @@ fn three_columns_meet_in_one_row(rt: HostRuntime) -> Result<(), Fail> {
     Ok(())
 }
 
+/// Rows at both ends of the words that mark them, and one that is named twice. The first columns are merged by the
+/// heap, the last are summed.
+#[test]
+fn marked_rows_come_in_order(rt: HostRuntime) -> Result<(), Fail> {
+    let alloc = rt.alloc();
+    let given = [
+        entry(0, 0, 1),
+        entry(64, 0, 2),
+        entry(127, 0, 4),
+        entry(199, 0, 8),
+        entry(63, 1, 16),
+        entry(64, 1, 32),
+        entry(128, 1, 64),
+    ];
+    let a = block(alloc, 200, 2, &given)?;
+    let mut ones = Vec::new(alloc);
+    for column in 0..10 {
+        ones.push(entry(0, column, 1))?;
+        ones.push(entry(1, column, 1))?;
+    }
+    let b = block(alloc, 2, 10, &ones)?;
+    assert!(rt; a.shape().cols() == b.shape().rows());
+    let product = multiply(alloc, &a, &b)?;
+    for column in 0..10 {
+        let (rows, values) = product.column(column);
+        assert_eq!(rt; rows, [0, 63, 64, 127, 128, 199].as_slice());
+        assert_eq!(rt; values, [1, 16, 34, 4, 64, 8].as_slice());
+    }
+    Ok(())
+}
+
 /// A column that names one column is copied as it is scaled, and 2 times 2^63 is zero.
 #[test]
 fn one_named_column_is_a_scaled_copy(rt: HostRuntime) -> Result<(), Fail> {
