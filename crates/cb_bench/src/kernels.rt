@@ -35,7 +35,7 @@ fn now<R: CpuClock>(rt: &R) -> Duration {
 /// How many products of two entries the product of two blocks has.
 fn products(left: &Block<PlusTimes>, right: &Block<PlusTimes>) -> u64 {
     let mut count = 0u64;
-    for row in right.rows() {
+    for row in right.row_numbers() {
         let (at, end) = left.range(*row);
         count = count.saturating_add((end - at) as u64);
     }

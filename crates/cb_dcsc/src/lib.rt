@@ -116,7 +116,7 @@ impl<S: Semiring> Block<S> {
     }
 
     /// The rows of all entries, by column and then by row.
-    pub fn rows(&self) -> &[u32]
+    pub fn row_numbers(&self) -> &[u32]
         ensures { result.now ≡ rows_of self.now.entries }
     {
         &self.rows

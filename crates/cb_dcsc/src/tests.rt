@@ -71,7 +71,7 @@ fn a_block_is_walked_by_columns_and_looked_up_by_places(rt: HostRuntime) -> Resu
     assert_eq!(rt; block.column(900).0, [1].as_slice());
     assert!(rt; block.column(4).0.is_empty() && block.column(4).1.is_empty());
     assert_eq!(rt; (block.nth_range(1), block.range(3)), ((2, 3), (0, 2)));
-    assert_eq!(rt; (block.rows().len(), block.values().len()), (3, 3));
+    assert_eq!(rt; (block.row_numbers().len(), block.values().len()), (3, 3));
     assert_eq!(rt; (block.get(2, 3), block.get(1, 3)), (6, u64::MAX));
     for n in 0..3 {
         assert_eq!(rt; block.entry_at(n), spread()[n]);
@@ -98,7 +98,7 @@ fn a_column_is_stored_whole(rt: HostRuntime) -> Result<(), Fail> {
     block.push_column(5, &[], &[])?;
     block.push_column(900, &[0, 2], &[7, 8])?;
     assert_eq!(rt; block.column_numbers(), [3, 900].as_slice());
-    assert_eq!(rt; block.rows(), [1, 0, 2].as_slice());
+    assert_eq!(rt; block.row_numbers(), [1, 0, 2].as_slice());
     assert_eq!(rt; block.values(), [6, 7, 8].as_slice());
     assert_eq!(rt; block.get(2, 900), 8);
     Ok(())

@@ -43,7 +43,7 @@ impl Cursor {
     {
         if self.at < block.len() {
             Some(Entry {
-                row: block.rows()[self.at],
+                row: block.row_numbers()[self.at],
                 column: block.column_number(self.nth),
                 value: block.values()[self.at],
             })

@@ -137,8 +137,8 @@ fn what_comes_to_zero_is_not_stored(rt: HostRuntime) -> Result<(), Fail> {
     let half = 1 << 32;
     let a = block::<PlusTimes>(alloc, 2, 1, &[entry(0, 0, TOP), entry(1, 0, half)])?;
     let b = block(alloc, 2, 1, &[entry(0, 0, 1), entry(1, 0, half)])?;
-    assert_eq!(rt; add(alloc, &a, &b)?.rows(), [1].as_slice());
-    assert_eq!(rt; times(alloc, &a, &b)?.rows(), [0].as_slice());
+    assert_eq!(rt; add(alloc, &a, &b)?.row_numbers(), [1].as_slice());
+    assert_eq!(rt; times(alloc, &a, &b)?.row_numbers(), [0].as_slice());
     let far = block::<MinPlus>(alloc, 1, 1, &[entry(0, 0, TOP - 1)])?;
     let step = block(alloc, 1, 1, &[entry(0, 0, 1)])?;
     assert_eq!(rt; add(alloc, &far, &step)?.values(), [1].as_slice());
@@ -152,7 +152,7 @@ fn relations_and_capacities_are_joined_in_their_own_way(rt: HostRuntime) -> Resu
     let knows = block::<OrAnd>(alloc, 2, 2, &[entry(0, 0, 1), entry(1, 0, 1)])?;
     let likes = block(alloc, 2, 2, &[entry(1, 0, 1), entry(0, 1, 1)])?;
     assert_eq!(rt; add(alloc, &knows, &likes)?.values(), [1, 1, 1].as_slice());
-    assert_eq!(rt; times(alloc, &knows, &likes)?.rows(), [1].as_slice());
+    assert_eq!(rt; times(alloc, &knows, &likes)?.row_numbers(), [1].as_slice());
     let wide = block::<MaxMin>(alloc, 1, 2, &[entry(0, 0, 5), entry(0, 1, 7)])?;
     let tight = block(alloc, 1, 2, &[entry(0, 0, 9)])?;
     assert_eq!(rt; add(alloc, &wide, &tight)?.values(), [9, 7].as_slice());
@@ -193,7 +193,7 @@ fn the_largest_sides_cost_what_the_entries_cost(rt: HostRuntime) -> Result<(), F
     )?;
     let sum = add(alloc, &a, &b)?;
     assert_eq!(rt; sum.column_numbers(), [0, last].as_slice());
-    assert_eq!(rt; sum.rows(), [last, 0, last].as_slice());
+    assert_eq!(rt; sum.row_numbers(), [last, 0, last].as_slice());
     assert_eq!(rt; sum.values(), [2, 4, 8].as_slice());
     assert_eq!(rt; times(alloc, &a, &b)?.values(), [15].as_slice());
     assert_eq!(rt; mask(alloc, &a, &b)?.values(), [3].as_slice());
@@ -217,19 +217,19 @@ fn refused_memory_is_said(rt: HostRuntime) -> Result<(), Fail> {
     };
     if let Ok(sum) = add(alloc, &a, &b) {
         assert_eq!(rt; sum.column_numbers(), [0, 1].as_slice());
-        assert_eq!(rt; sum.rows(), [0, 1, 0, 1].as_slice());
+        assert_eq!(rt; sum.row_numbers(), [0, 1, 0, 1].as_slice());
         assert_eq!(rt; sum.values(), [1, 4, 3, 3].as_slice());
     }
     if let Ok(product) = times(alloc, &a, &b) {
-        assert_eq!(rt; product.rows(), [0].as_slice());
+        assert_eq!(rt; product.row_numbers(), [0].as_slice());
         assert_eq!(rt; product.values(), [2].as_slice());
     }
     if let Ok(kept) = mask(alloc, &a, &b) {
-        assert_eq!(rt; kept.rows(), [0].as_slice());
+        assert_eq!(rt; kept.row_numbers(), [0].as_slice());
         assert_eq!(rt; kept.values(), [2].as_slice());
     }
     if let Ok(kept) = prune(alloc, &a, Test::Below(2)) {
-        assert_eq!(rt; kept.rows(), [0, 1].as_slice());
+        assert_eq!(rt; kept.row_numbers(), [0, 1].as_slice());
         assert_eq!(rt; kept.values(), [2, 3].as_slice());
     }
     Ok(())

@@ -16,7 +16,7 @@ const fn entry(row: u32, column: u32, value: u64) -> Entry {
 fn has(block: &Block<PlusTimes>, rows: u32, cols: u32, places: &[u32], values: &[u64]) -> bool {
     let shape = block.shape();
     (shape.rows(), shape.cols()) == (rows, cols)
-        && block.rows() == places
+        && block.row_numbers() == places
         && block.values() == values
 }
 

@@ -102,7 +102,7 @@ impl Grid {
         for rank in 0..self.ranks() {
             let block = &blocks[usize::from(rank)];
             let start = self.result_start(shape.rows(), rank);
-            append_column(&mut entries, start, 0, block.rows(), block.values())?;
+            append_column(&mut entries, start, 0, block.row_numbers(), block.values())?;
         }
         Matrix::collect(shape, entries)
     }

@@ -119,7 +119,7 @@ pub(crate) fn gather<S: Semiring>(
     ensures order { OnOk result (IsHeap by_row (heap_items heads.new)) }
     ensures sums { OnOk result ((i : ℕ) → heads_value S.arithmetic (rows_of left.now.entries) (values_of left.now.entries) i (heap_items heads.new) ≡ column_sum S.arithmetic left.now i rows.now values.now) }
 {
-    let all_rows = left.rows();
+    let all_rows = left.row_numbers();
     for n in 0..rows.len() {
         let (at, end) = finder.range(left, rows[n]);
         if at < end {

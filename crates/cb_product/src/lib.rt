@@ -157,7 +157,7 @@ fn make_column<S: Semiring>(
     if own_rows.is_empty() && heads.len() == 1 {
         let head = heads.as_slice()[0];
         heads.clear();
-        return columns::scaled::<S>(made, left.rows(), left.values(), head);
+        return columns::scaled::<S>(made, left.row_numbers(), left.values(), head);
     }
     let entries = heads::products_left(heads).saturating_add(own_rows.len());
     if sums.serves(entries, rows) {
@@ -166,7 +166,7 @@ fn make_column<S: Semiring>(
     columns::merge::<S>(
         made,
         heads,
-        left.rows(),
+        left.row_numbers(),
         left.values(),
         own_rows,
         own_values,

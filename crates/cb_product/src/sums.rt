@@ -184,7 +184,7 @@ fn combine<S: Semiring>(
         scale: S::one(),
     };
     add_head::<S>(sums, marks, own_rows, own_values, own);
-    add_heads::<S>(sums, marks, left.rows(), left.values(), heads);
+    add_heads::<S>(sums, marks, left.row_numbers(), left.values(), heads);
     store::<S>(made, sums, marks)
 }
 

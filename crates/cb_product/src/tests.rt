@@ -74,7 +74,7 @@ fn a_sum_that_comes_to_zero_is_not_stored(rt: HostRuntime) -> Result<(), Fail> {
     assert!(rt; a.shape().cols() == ones.shape().rows());
     let product = multiply(alloc, &a, &ones)?;
     assert_eq!(rt; product.column_numbers(), [0].as_slice());
-    assert_eq!(rt; product.rows(), [1, 2].as_slice());
+    assert_eq!(rt; product.row_numbers(), [1, 2].as_slice());
     assert_eq!(rt; product.values(), [5, 1].as_slice());
     Ok(())
 }
@@ -134,7 +134,7 @@ fn three_columns_meet_in_one_row(rt: HostRuntime) -> Result<(), Fail> {
         let a = block(alloc, rows, 3, &given)?;
         assert!(rt; a.shape().cols() == ones.shape().rows());
         let product = multiply(alloc, &a, &ones)?;
-        assert_eq!(rt; product.rows(), [0, 1, 3, 4].as_slice());
+        assert_eq!(rt; product.row_numbers(), [0, 1, 3, 4].as_slice());
         assert_eq!(rt; product.values(), [4, 25, 2, 32].as_slice());
     }
     Ok(())
@@ -221,7 +221,7 @@ fn semirings_add_and_multiply_in_their_own_way(rt: HostRuntime) -> Result<(), Fa
     let relation = Block::<OrAnd>::from_sorted(alloc, shape(3, 3)?, &pairs)?;
     assert!(rt; relation.shape().cols() == relation.shape().rows());
     let square = multiply(alloc, &relation, &relation)?;
-    assert_eq!(rt; square.rows(), [0, 1, 2].as_slice());
+    assert_eq!(rt; square.row_numbers(), [0, 1, 2].as_slice());
     let far = Block::<MinPlus>::from_sorted(alloc, shape(1, 1)?, &[entry(0, 0, u64::MAX - 1)])?;
     let step = Block::<MinPlus>::from_sorted(alloc, shape(1, 1)?, &[entry(0, 0, 1)])?;
     assert!(rt; far.shape().cols() == step.shape().rows());
@@ -256,7 +256,7 @@ fn a_refused_product_hands_the_accumulator_back(rt: HostRuntime) -> Result<(), F
         Ok(sum) => assert_eq!(rt; sum.values(), [8, 12, 5].as_slice()),
         Err((same, _)) => {
             assert_eq!(rt; same.column_numbers(), [1].as_slice());
-            assert_eq!(rt; same.rows(), [0, 1].as_slice());
+            assert_eq!(rt; same.row_numbers(), [0, 1].as_slice());
             assert_eq!(rt; same.values(), [u64::MAX, 5].as_slice());
         }
     }
@@ -284,7 +284,7 @@ fn a_refused_tall_product_hands_the_accumulator_back(rt: HostRuntime) -> Result<
     match multiply_into(alloc, &a, &b, start) {
         Ok(sum) => assert_eq!(rt; sum.values(), [21, 430].as_slice()),
         Err((same, _)) => {
-            assert_eq!(rt; same.rows(), [5].as_slice());
+            assert_eq!(rt; same.row_numbers(), [5].as_slice());
             assert_eq!(rt; same.values(), [1].as_slice());
         }
     }

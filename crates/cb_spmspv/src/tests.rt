@@ -43,7 +43,7 @@ fn a_sum_that_comes_to_zero_is_not_stored(rt: HostRuntime) -> Result<(), Fail> {
     assert!(rt; ones.shape().cols() == 1);
     let product = times_vector(alloc, &matrix, &ones)?;
     assert_eq!(rt; product.column_numbers(), [0].as_slice());
-    assert_eq!(rt; product.rows(), [1, 2].as_slice());
+    assert_eq!(rt; product.row_numbers(), [1, 2].as_slice());
     assert_eq!(rt; product.values(), [5, 1].as_slice());
     Ok(())
 }
@@ -57,7 +57,7 @@ fn one_entry_costs_one_column(rt: HostRuntime) -> Result<(), Fail> {
     assert!(rt; matrix.shape().cols() == vector.shape().rows());
     assert!(rt; vector.shape().cols() == 1);
     let product = times_vector(alloc, &matrix, &vector)?;
-    assert_eq!(rt; product.rows(), [LIMIT - 1].as_slice());
+    assert_eq!(rt; product.row_numbers(), [LIMIT - 1].as_slice());
     assert_eq!(rt; product.values(), [6].as_slice());
     Ok(())
 }
@@ -79,7 +79,7 @@ fn refused_memory_is_said(rt: HostRuntime) -> Result<(), Fail> {
     assert!(rt; matrix.shape().cols() == vector.shape().rows());
     assert!(rt; vector.shape().cols() == 1);
     if let Ok(product) = times_vector(alloc, &matrix, &vector) {
-        assert_eq!(rt; product.rows(), [0, 1].as_slice());
+        assert_eq!(rt; product.row_numbers(), [0, 1].as_slice());
         assert_eq!(rt; product.values(), [15, 24].as_slice());
     }
     Ok(())

@@ -2,7 +2,7 @@ use Rattle.std.proofs.Common.{◌≡◌, ap, ◌∙◌}
 use Rattle.cb_matrix.specs.Sparse.{Sparse}
 use Rattle.cb_dcsc.specs.Compressed.{all_entries}
 use Rattle.cb_dcsc.proofs.Held.{rows_are}
-use Rattle.cb_dcsc.proofs.Block.rows.Goals as goal
+use Rattle.cb_dcsc.proofs.Block.row_numbers.Goals as goal
 
 pub returns : goal.returns
 returns g c =
