@@ -8,7 +8,7 @@ use Rattle.std.proofs.lemmas.List.Elements.{All-nil, All-cons, All-weaker, All-g
 use Rattle.cb_semirings.specs.Arithmetic.{Arithmetic}
 use Rattle.cb_matrix.specs.declared.Entry.{Entry}
 use Rattle.cb_matrix.specs.Sparse.{Extent, IsBefore, IsInside, is_outside, Sparse}
-use Rattle.cb_matrix.proofs.Made.{AllPairs-nil, AllPairs-cons}
+use Rattle.cb_matrix.proofs.Pairs.{AllPairs-nil, AllPairs-cons}
 use Rattle.cb_matrix.proofs.Same.{before_trans}
 use Rattle.cb_dcsc.specs.declared.faults.BlockFault.{BlockFault}
 use Rattle.cb_dcsc.specs.declared.faults.BlockFault.TheVariants.{Place, Order, Zero}
@@ -17,6 +17,7 @@ use Rattle.cb_dcsc.specs.Columns.{with_entry}
 
 -- ---- the scan
 module _ (s : Arithmetic) (shape : Extent) (es : List Entry) (n : ℕ) (before : Option Entry) (e : Entry) where
+  -- a fault that is found is the first
   pub scan_found : (f : Option BlockFault) → n < length es → first_fault_from s shape n before (drop n es) ≡ first_fault s shape es → f ≡ fault_of s shape n before (get_or es n e) → is_some f ≡ true → f ≡ first_fault s shape es
   unfolding first_fault_from
   scan_found f l so_far is found =
@@ -25,6 +26,7 @@ module _ (s : Arithmetic) (shape : Extent) (es : List Entry) (n : ℕ) (before :
         | Some g ↦ λ p q. ap (λ x. or_else x (first_fault_from s shape (n + 1) (Some (get_or es n e)) (drop (n + 1) es))) p ∙ sym (ap (first_fault_from s shape n before) (drop_more es n e l)) ∙ so_far
       ] is found
 
+  -- without one, the search goes on
   pub scan_on : (f : Option BlockFault) → n < length es → first_fault_from s shape n before (drop n es) ≡ first_fault s shape es → f ≡ fault_of s shape n before (get_or es n e) → is_some f ≡ false → first_fault_from s shape (n + 1) (Some (get_or es n e)) (drop (n + 1) es) ≡ first_fault s shape es
   unfolding first_fault_from
   scan_on f l so_far is found =
@@ -33,6 +35,7 @@ module _ (s : Arithmetic) (shape : Extent) (es : List Entry) (n : ℕ) (before :
         | Some g ↦ λ p q. cc
       ] is found
 
+  -- at the end there is none
   pub scan_end : length es ≤ n → first_fault_from s shape n before (drop n es) ≡ first_fault s shape es → None ≡ first_fault s shape es
   unfolding first_fault_from
   scan_end l so_far = sym (ap (first_fault_from s shape n before) (drop_all n es l)) ∙ so_far
@@ -64,6 +67,7 @@ not_false false h = cc
 not_late : (before : Option Entry) (d e : Entry) → before ≡ Some d → is_late before e ≡ false → comes_after d e ≡ true
 not_late before d e p h = not_false (comes_after d e) (ap (λ o. is_late o e) (sym p) ∙ h)
 
+-- entries without a fault are inside, none is zero, and they ascend
 pub faultless : (s : Arithmetic) (shape : Extent) (n : ℕ) (before : Option Entry) (es : List Entry) → first_fault_from s shape n before es ≡ None → AreFaultless s shape before es
 unfolding first_fault_from
 faultless s shape n before [] h = record { inside = All-nil (IsInside shape); not_zero = All-nil (λ e. e.value ≢ s.zero); ascending = AllPairs-nil IsBefore; after = λ d _. All-nil (IsBefore d) }
@@ -78,25 +82,22 @@ faultless s shape n before (e ∷ es) h =
       after = λ d is. let first : IsBefore d e = comes_after-true d e (not_late before d e is k.1) in All-cons (IsBefore d) e es first (All-weaker (IsBefore e) (IsBefore d) (λ x b. before_trans d e x first b) es later);
     }
 
--- ---- one entry after another
-module _ (s : Arithmetic) (shape : Extent) (es : List Entry) (none : first_fault s shape es ≡ None) (n : ℕ) (l : n < length es) (d : Entry) (block : Sparse) (is : block ≡ record { shape = shape; entries = take n es }) where
-  are : AreFaultless s shape None es
-  are = faultless s shape 0 None es none
+-- ---- one entry after another: entry n of entries in order, onto a block that has those before it
+module _ (shape : Extent) (es : List Entry) (n : ℕ) (l : n < length es) (d : Entry) (block : Sparse) (is : block ≡ record { shape = shape; entries = take n es }) where
+  -- it is inside the block's shape
+  pub next_inside : All (IsInside shape) es → IsInside block.shape (get_or es n d)
+  next_inside inside = rw is (All-get_or (IsInside shape) es n d l inside)
 
-  pub next_inside : IsInside block.shape (get_or es n d)
-  next_inside = rw is (All-get_or (IsInside shape) es n d l are.inside)
-
-  pub next_not_zero : (get_or es n d).value ≢ s.zero
-  next_not_zero = All-get_or (λ e. e.value ≢ s.zero) es n d l are.not_zero
-
-  taken_before : All (λ e. IsBefore e (get_or es n d)) (take n es)
-  taken_before k d' m =
+  taken_before : AllPairs IsBefore es → All (λ e. IsBefore e (get_or es n d)) (take n es)
+  taken_before ascending k d' m =
       let b : k < n = let t = length-take n es in omega arith in
-      let up : IsBefore (get_or es k d') (get_or es n d') = are.ascending k n d' b l in
+      let up : IsBefore (get_or es k d') (get_or es n d') = ascending k n d' b l in
       subst (λ x. IsBefore x (get_or es n d)) (sym (get_or-take n es k d' b)) (subst (λ y. IsBefore (get_or es k d') y) (get_or_default es n d' d l) up)
 
-  pub next_after : All (λ e. IsBefore e (get_or es n d)) block.entries
-  next_after = rw is taken_before
+  -- it comes after the block's entries
+  pub next_after : AllPairs IsBefore es → All (λ e. IsBefore e (get_or es n d)) block.entries
+  next_after ascending = rw is (taken_before ascending)
 
+  -- the block with it has one entry more
   pub next_block : (new : Sparse) → new ≡ with_entry block (get_or es n d) → new ≡ record { shape = shape; entries = take (n + 1) es }
   next_block new p = p ∙ ap (λ m. with_entry m (get_or es n d)) is ∙ ap (λ xs. record { shape = shape; entries = xs }) (sym (take_more es n d l))

@@ -10,8 +10,8 @@ use Rattle.std.proofs.lemmas.List.Elements.{All-head, All-tail, All-cons, All-ni
 use Rattle.cb_matrix.specs.declared.Entry.{Entry}
 use Rattle.cb_semirings.specs.Arithmetic.{Arithmetic, IsValue}
 use Rattle.cb_matrix.specs.Sparse.{Sparse, IsMatrix, value_at, IsBefore, IsInside}
-use Rattle.cb_matrix.proofs.Places.{AllPairs-head, AllPairs-tail}
-use Rattle.cb_matrix.proofs.Made.{AllPairs-nil, AllPairs-cons}
+use Rattle.cb_matrix.proofs.Pairs.{AllPairs-head, AllPairs-tail}
+use Rattle.cb_matrix.proofs.Pairs.{AllPairs-nil, AllPairs-cons}
 use Rattle.cb_dcsc.specs.Columns.{in_column, rows_of, values_of, row_value}
 use Rattle.cb_dcsc.proofs.Held.{same_number, not_found}
 
@@ -44,6 +44,7 @@ column_ascends k (e ∷ es) h =
       | false ↦ λ _. rest
     ] refl
 
+-- the value at the n-th row
 pub row_value-found : (z : ℕ) (rs vs : List ℕ) (n i : ℕ) → length vs ≡ length rs → AllPairs (λ a b. a < b) rs → n < length rs → get_or rs n 0 ≡ i → row_value z rs vs i ≡ get_or vs n 0
 unfolding row_value
 row_value-found z [] vs n i e up l h = absurd (omega arith)
@@ -53,36 +54,45 @@ row_value-found z (r ∷ rs) (v ∷ vs) (suc n) i e up l h =
     let less : r < get_or rs n 0 = All-get_or (λ b. r < b) rs n 0 (omega arith) (AllPairs-head (λ a b. a < b) r rs up) in
     cond-false _ _ _ (ne_eqb r i (omega arith)) ∙ row_value-found z rs vs n i (omega arith) (AllPairs-tail (λ a b. a < b) r rs up) (omega arith) h
 
+-- at other rows there is no value
 pub row_value-absent : (z : ℕ) (rs vs : List ℕ) (i : ℕ) → ((k : ℕ) → k < length rs → get_or rs k 0 ≢ i) → row_value z rs vs i ≡ z
 unfolding row_value
 row_value-absent z [] vs i h = refl
 row_value-absent z (r ∷ rs) [] i h = refl
 row_value-absent z (r ∷ rs) (v ∷ vs) i h = cond-false _ _ _ (ne_eqb r i (h 0 (omega arith))) ∙ row_value-absent z rs vs i (λ k l. h (suc k) (omega arith))
 
+-- a column has as many values as rows
 pub as_long : (es : List Entry) (rs vs : List ℕ) (k : ℕ) → rs ≡ rows_of (in_column k es) → vs ≡ values_of (in_column k es) → length vs ≡ length rs
 as_long es rs vs k p q = ap length q ∙ length-map (in_column k es) (λ (e : Entry). e.value) ∙ sym (length-map (in_column k es) (λ (e : Entry). e.row)) ∙ sym (ap length p)
 
 -- what a search in a column finds is the matrix's value
 module _ (z : ℕ) (es : List Entry) (rs vs : List ℕ) (i k n : ℕ) (rows_are : rs ≡ rows_of (in_column k es)) (values_are : vs ≡ values_of (in_column k es)) (up : AllPairs (λ a b. a < b) rs) where
+  -- a row that is found has the value at the place
   pub value_found : n < length rs → nat_cmp (get_or rs n 0) i ≡ Equal → get_or vs n 0 ≡ value_at z es i k
   value_found l found = sym (row_value-found z rs vs n i (as_long es rs vs k rows_are values_are) up l (same_number _ _ found)) ∙ (λ t. row_value z (rows_are t) (values_are t) i) ∙ column_value z es i k
 
+  -- where no row is found there is no value
   pub value_missed : IsBinarySearchResult (λ y. nat_cmp y i) rs (Err n) → z ≡ value_at z es i k
   value_missed missed = sym (row_value-absent z rs vs i (not_found rs i n up missed)) ∙ (λ t. row_value z (rows_are t) (values_are t) i) ∙ column_value z es i k
 
 -- ---- what a column's slices are
+-- they ascend
 pub ascending_rows : (s : Arithmetic) (m : Sparse) (k : ℕ) (rs : List ℕ) → IsMatrix s m → rs ≡ rows_of (in_column k m.entries) → AllPairs (λ i j. i < j) rs
 ascending_rows s m k rs is e = rw e (column_ascends k m.entries is.ascending)
 
+-- values of the semiring
 pub column_values : (s : Arithmetic) (m : Sparse) (k : ℕ) (vs : List ℕ) → IsMatrix s m → vs ≡ values_of (in_column k m.entries) → All (IsValue s) vs
 column_values s m k vs is e = rw e (All-map (IsValue s) (λ (e : Entry). e.value) (in_column k m.entries) (All-filter (λ (e : Entry). e.column == k) (λ (e : Entry). IsValue s e.value) m.entries is.values))
 
+-- rows inside the shape
 pub rows_inside : (s : Arithmetic) (m : Sparse) (k : ℕ) (rs : List ℕ) → IsMatrix s m → rs ≡ rows_of (in_column k m.entries) → All (λ i. i < m.shape.rows) rs
 rows_inside s m k rs is e = rw e (All-map (λ i. i < m.shape.rows) (λ (e : Entry). e.row) (in_column k m.entries) (All-filter (λ (e : Entry). e.column == k) (λ (e : Entry). e.row < m.shape.rows) m.entries (All-weaker (IsInside m.shape) (λ (e : Entry). e.row < m.shape.rows) (λ e k. k.0) m.entries is.inside)))
 
 -- ---- what the rows and values of all entries are
+-- rows inside the shape
 pub all_rows_inside : (s : Arithmetic) (m : Sparse) (rs : List ℕ) → IsMatrix s m → rs ≡ rows_of m.entries → All (λ i. i < m.shape.rows) rs
 all_rows_inside s m rs is e = rw e (All-map (λ i. i < m.shape.rows) (λ (e : Entry). e.row) m.entries (All-weaker (IsInside m.shape) (λ (e : Entry). e.row < m.shape.rows) (λ e k. k.0) m.entries is.inside))
 
+-- values of the semiring
 pub all_values : (s : Arithmetic) (m : Sparse) (vs : List ℕ) → IsMatrix s m → vs ≡ values_of m.entries → All (IsValue s) vs
 all_values s m vs is e = rw e (All-map (IsValue s) (λ (e : Entry). e.value) m.entries is.values)

@@ -12,6 +12,7 @@ with_front_all : (P : ℕ → Type 0) (c : ℕ) (ds : List ℕ) → P c → All 
 with_front_all P c [] p h = All-cons P c [] p h
 with_front_all P c (d ∷ ds) p h = elim (c == d) as (λ b. All P (cond b (d ∷ ds) (c ∷ d ∷ ds))) [ true ↦ h | false ↦ All-cons P c (d ∷ ds) p h ]
 
+-- what holds of the column of each entry holds of each column that has entries
 pub columns_all : (P : ℕ → Type 0) (es : List Entry) → All (λ e. P e.column) es → All P (columns_with_entries es)
 unfolding columns_with_entries
 columns_all P [] h = All-nil P
@@ -25,6 +26,7 @@ with_front_from P c (d ∷ ds) h =
       | false ↦ λ _ k. (All-head P c (d ∷ ds) k, All-tail P c (d ∷ ds) k)
     ] refl h
 
+-- and the other way round
 pub entries_all : (P : ℕ → Type 0) (es : List Entry) → All P (columns_with_entries es) → All (λ e. P e.column) es
 unfolding columns_with_entries
 entries_all P [] h = All-nil (λ e. P e.column)

@@ -9,18 +9,21 @@ use Rattle.cb_dcsc.specs.Compressed.{entries_in, pieces}
 use Rattle.cb_dcsc.specs.Columns.{in_column, rows_of, values_of, with_front, columns_with_entries}
 
 -- ---- the entries of one column
+-- a column has as many entries as rows
 pub length-entries_in : (j : ℕ) (is vs : List ℕ) → length vs ≡ length is → length (entries_in j is vs) ≡ length is
 unfolding entries_in
 length-entries_in j [] vs e = refl
 length-entries_in j (i ∷ is) [] e = absurd (omega arith)
 length-entries_in j (i ∷ is) (v ∷ vs) e = let h = length-entries_in j is vs (omega arith) in omega arith
 
+-- the rows of a column's entries are those that it is made of
 pub rows-entries_in : (j : ℕ) (is vs : List ℕ) → length vs ≡ length is → rows_of (entries_in j is vs) ≡ is
 unfolding entries_in
 rows-entries_in j [] vs e = refl
 rows-entries_in j (i ∷ is) [] e = absurd (omega arith)
 rows-entries_in j (i ∷ is) (v ∷ vs) e = ap (λ xs. i ∷ xs) (rows-entries_in j is vs (omega arith))
 
+-- and so are its values
 pub values-entries_in : (j : ℕ) (is vs : List ℕ) → length vs ≡ length is → values_of (entries_in j is vs) ≡ vs
 unfolding entries_in
 values-entries_in j [] [] e = refl
@@ -28,12 +31,14 @@ values-entries_in j [] (v ∷ vs) e = absurd (omega arith)
 values-entries_in j (i ∷ is) [] e = absurd (omega arith)
 values-entries_in j (i ∷ is) (v ∷ vs) e = ap (λ xs. v ∷ xs) (values-entries_in j is vs (omega arith))
 
+-- the entries of a column are all in it
 pub entries_in-columns : (j : ℕ) (is vs : List ℕ) → All (λ e. e.column ≡ j) (entries_in j is vs)
 unfolding entries_in
 entries_in-columns j [] vs = All-nil (λ e. e.column ≡ j)
 entries_in-columns j (i ∷ is) [] = All-nil (λ e. e.column ≡ j)
 entries_in-columns j (i ∷ is) (v ∷ vs) = All-cons (λ e. e.column ≡ j) (record { row = i; column = j; value = v }) (entries_in j is vs) refl (entries_in-columns j is vs)
 
+-- a row and a value more make an entry more
 pub entries_in-push : (j : ℕ) (is vs : List ℕ) (i v : ℕ) → length vs ≡ length is → entries_in j (is ++ i ∷ []) (vs ++ v ∷ []) ≡ entries_in j is vs ++ record { row = i; column = j; value = v } ∷ []
 unfolding entries_in
 entries_in-push j [] [] i v e = refl
@@ -46,6 +51,7 @@ pub entries_in_none : (es : List Entry) (j : ℕ) (is vs : List ℕ) → es ≡ 
 unfolding entries_in
 entries_in_none es j is vs = sym (append-nil es)
 
+-- entry n of a column, after those before it
 pub entries_in_more : (old es : List Entry) (j : ℕ) (is vs : List ℕ) (n : ℕ) (new : List Entry) → length vs ≡ length is → n < length is → es ≡ old ++ entries_in j (take n is) (take n vs)
     → new ≡ es ++ record { row = get_or is n 0; column = j; value = get_or vs n 0 } ∷ [] → new ≡ old ++ entries_in j (take (n + 1) is) (take (n + 1) vs)
 entries_in_more old es j is vs n new e l was is_new =
@@ -55,14 +61,17 @@ entries_in_more old es j is vs n new e l was is_new =
     is_new ∙ ap (λ xs. xs ++ record { row = get_or is n 0; column = j; value = get_or vs n 0 } ∷ []) was
     ∙ append_assoc old (entries_in j (take n is) (take n vs)) (record { row = get_or is n 0; column = j; value = get_or vs n 0 } ∷ []) ∙ ap (λ xs. old ++ xs) (sym next)
 
+-- after the last one the column is whole
 pub entries_in_all : (old es : List Entry) (j : ℕ) (is vs : List ℕ) (n : ℕ) → length vs ≡ length is → length is ≤ n → es ≡ old ++ entries_in j (take n is) (take n vs) → es ≡ old ++ entries_in j is vs
 entries_in_all old es j is vs n e l was = was ∙ (λ t. old ++ entries_in j (take_all n is l t) (take_all n vs (let m : length vs ≤ n = omega arith in m) t))
 
 -- ---- a filter by the column
+-- of entries that are all in a column, all are in it
 pub in_column-all : (j : ℕ) (es : List Entry) → All (λ e. e.column ≡ j) es → in_column j es ≡ es
 in_column-all j [] h = refl
 in_column-all j (e ∷ es) h = let t = eq-eqb e.column j (All-head (λ e. e.column ≡ j) e es h) in rw t (ap (λ xs. e ∷ xs) (in_column-all j es (All-tail (λ e. e.column ≡ j) e es h)))
 
+-- of entries that are all elsewhere, none is
 pub in_column-none : (j : ℕ) (es : List Entry) → All (λ e. e.column ≢ j) es → in_column j es ≡ []
 in_column-none j [] h = refl
 in_column-none j (e ∷ es) h = let t = ne_eqb e.column j (All-head (λ e. e.column ≢ j) e es h) in rw t (in_column-none j es (All-tail (λ e. e.column ≢ j) e es h))
@@ -78,6 +87,7 @@ entries_in-column j (e ∷ es) =
       | false ↦ λ _. rest
     ] refl
 
+-- column n, after the columns before it
 pub next_column : (n c : ℕ) (es : List Entry) (rs vs : List ℕ) (old new : List Entry) → c ≡ get_or (columns_with_entries es) n 0
     → rs ≡ rows_of (in_column (get_or (columns_with_entries es) n 0) es) → vs ≡ values_of (in_column (get_or (columns_with_entries es) n 0) es)
     → old ≡ pieces (λ k. in_column (get_or (columns_with_entries es) k 0) es) n → new ≡ old ++ entries_in c rs vs → new ≡ pieces (λ k. in_column (get_or (columns_with_entries es) k 0) es) (n + 1)
@@ -88,20 +98,24 @@ next_column n c es rs vs old new p q u was is =
     ∙ ap (pieces (λ k. in_column (get_or (columns_with_entries es) k 0) es)) (sym e)
 
 -- ---- pieces
+-- equal pieces make equal lists
 pub pieces_same : (f g : ℕ → List Entry) (n : ℕ) → ((k : ℕ) → k < n → f k ≡ g k) → pieces f n ≡ pieces g n
 unfolding pieces
 pieces_same f g zero h = refl
 pieces_same f g (suc n) h = ap (λ xs. xs ++ f n) (pieces_same f g n (λ k l. h k (omega arith))) ∙ ap (λ xs. pieces g n ++ xs) (h n (omega arith))
 
+-- what holds of each entry of each piece holds of all
 pub pieces-all : (P : Entry → Type 0) (f : ℕ → List Entry) (n : ℕ) → ((k : ℕ) → k < n → All P (f k)) → All P (pieces f n)
 unfolding pieces
 pieces-all P f zero h = All-nil P
 pieces-all P f (suc n) h = All-append P (pieces f n) (f n) (pieces-all P f n (λ k l. h k (omega arith))) (h n (omega arith))
 
 module _ (columns : List ℕ) (f : ℕ → List Entry) (own : (k : ℕ) → All (λ e. e.column ≡ get_or columns k 0) (f k)) (up : AllPairs (λ c d. c < d) columns) where
+  -- a column that is not named has no entries
   pub no_piece : (j n : ℕ) → ((k : ℕ) → k < n → get_or columns k 0 ≢ j) → in_column j (pieces f n) ≡ []
   no_piece j n h = in_column-none j (pieces f n) (pieces-all (λ e. e.column ≢ j) f n (λ k l. All-weaker (λ e. e.column ≡ get_or columns k 0) (λ e. e.column ≢ j) (λ e p q. h k l (sym p ∙ q)) (f k) (own k)))
 
+  -- a column that is named has those of its piece
   pub its_piece : (j n m : ℕ) → m < n → n ≤ length columns → get_or columns m 0 ≡ j → in_column j (pieces f n) ≡ f m
   unfolding pieces
   its_piece j zero m l b e = absurd (omega arith)
@@ -146,6 +160,7 @@ some_column : (x : Entry) (xs : List Entry) → 0 < length (columns_with_entries
 unfolding columns_with_entries
 some_column x xs = let b = with_front_begins x.column (columns_with_entries xs) in let n = ap length b.1 in omega arith
 
+-- the columns of two lists, where those of the second come after those of the first
 pub columns_with_entries-append : (xs ys : List Entry) → All (λ x. All (λ y. x.column < y.column) ys) xs → columns_with_entries (xs ++ ys) ≡ columns_with_entries xs ++ columns_with_entries ys
 unfolding columns_with_entries
 columns_with_entries-append [] ys h = refl
@@ -154,6 +169,7 @@ columns_with_entries-append (x ∷ w ∷ xs) ys h =
     ap (with_front x.column) (columns_with_entries-append (w ∷ xs) ys (All-tail (λ x. All (λ y. x.column < y.column) ys) x (w ∷ xs) h))
     ∙ with_front_again x.column (columns_with_entries (w ∷ xs)) (columns_with_entries ys) (some_column w xs)
 
+-- entries of one column have this one alone
 pub columns_with_entries-one : (j : ℕ) (es : List Entry) → 0 < length es → All (λ e. e.column ≡ j) es → columns_with_entries es ≡ j ∷ []
 unfolding columns_with_entries
 columns_with_entries-one j [] l h = absurd (omega arith)
@@ -164,6 +180,7 @@ columns_with_entries-one j (e ∷ f ∷ es) l h =
     ap (with_front e.column) (columns_with_entries-one j (f ∷ es) (omega arith) (All-tail (λ e. e.column ≡ j) e (f ∷ es) h)) ∙ rw t refl
 
 module _ (columns : List ℕ) (f : ℕ → List Entry) (own : (k : ℕ) → All (λ e. e.column ≡ get_or columns k 0) (f k)) (up : AllPairs (λ c d. c < d) columns) (some : (k : ℕ) → k < length columns → 0 < length (f k)) where
+  -- pieces that each have entries have the columns that are named
   pub columns_with_entries-pieces : (n : ℕ) → n ≤ length columns → columns_with_entries (pieces f n) ≡ take n columns
   unfolding pieces columns_with_entries
   columns_with_entries-pieces zero l = refl

@@ -8,7 +8,7 @@ use Rattle.std.proofs.lemmas.List.Quantifiers.{all_pairs_push}
 use Rattle.cb_semirings.specs.Arithmetic.{Arithmetic, IsValue}
 use Rattle.cb_matrix.specs.declared.Entry.{Entry}
 use Rattle.cb_matrix.specs.Sparse.{Sparse, Extent, IsMatrix, IsBefore, IsInside}
-use Rattle.cb_matrix.proofs.Combine.{AllPairs-push}
+use Rattle.cb_matrix.proofs.Pairs.{AllPairs-push}
 use Rattle.cb_dcsc.specs.Compressed.{entries_in, part, piece, pieces, all_entries, AreColumns, IsBlock, block_of, opened}
 use Rattle.cb_dcsc.specs.Columns.{with_entry}
 use Rattle.cb_dcsc.proofs.Pieces.{entries_in-push, pieces_same}
@@ -30,6 +30,7 @@ range-push xs x a b c l e f =
 no_range : (xs : List ℕ) (a : ℕ) → slice_range xs a a ≡ []
 no_range xs a = let z : a - a ≡ 0 = omega arith in ap (λ n. take n (drop a xs)) z
 
+-- what holds of each element holds of each of a back of the list
 pub All-back : {X : Type 0} (P : X → Type 0) (xs ys : List X) → All P (xs ++ ys) → All P ys
 All-back P [] ys h = h
 All-back P (x ∷ xs) ys h = All-back P xs ys (All-tail P x (xs ++ ys) h)
@@ -40,6 +41,7 @@ first_column (d ∷ es) c e l h k =
     let p = All-head (λ d. d.column ≡ c) d es h in
     ⊎_elim (λ b. omega arith) (λ b. omega arith) (All-head (λ d. IsBefore d e) d es k)
 
+-- a matrix with an entry more, after all others, is one
 pub matrix_push : (s : Arithmetic) (m : Sparse) (e : Entry) → IsMatrix s m → IsInside m.shape e → All (λ d. IsBefore d e) m.entries → IsValue s e.value → e.value ≢ s.zero → IsMatrix s (with_entry m e)
 matrix_push s m e is inside after value not_zero = record {
   ascending = AllPairs-push IsBefore m.entries e is.ascending after;
@@ -68,6 +70,7 @@ module _ (columns starts rows values : List ℕ) (are : AreColumns columns start
     abbrev ended : List ℕ
     ended = set starts (suc m) (length rows + 1)
 
+    -- the lists, with the end of the last column moved
     pub same_are : AreColumns columns ended (rows ++ i ∷ []) (values ++ v ∷ [])
     same_are =
         let longer = are.one_more_start (omega arith) in
@@ -99,6 +102,7 @@ module _ (columns starts rows values : List ℕ) (are : AreColumns columns start
           same_length = omega arith;
         }
 
+    -- they have the entry more
     pub same_entries : all_entries columns ended (rows ++ i ∷ []) (values ++ v ∷ []) ≡ all_entries columns starts rows values ++ e ∷ []
     unfolding pieces
     same_entries =
@@ -131,6 +135,7 @@ module _ (columns starts rows values : List ℕ) (are : AreColumns columns start
     new_start : get_or started (length columns + 1) 0 ≡ length rows + 1
     new_start = get_or_push opened (length rows + 1) 0 (length columns + 1) long
 
+    -- the lists, with a column more
     pub new_are : AreColumns (columns ++ j ∷ []) started (rows ++ i ∷ []) (values ++ v ∷ [])
     new_are =
         let columns_long = length_push columns j in
@@ -160,6 +165,7 @@ module _ (columns starts rows values : List ℕ) (are : AreColumns columns start
           same_length = omega arith;
         }
 
+    -- they have the entry more
     pub new_entries : all_entries (columns ++ j ∷ []) started (rows ++ i ∷ []) (values ++ v ∷ []) ≡ all_entries columns starts rows values ++ e ∷ []
     unfolding pieces entries_in
     new_entries =
@@ -185,6 +191,7 @@ module _ (columns starts rows values : List ℕ) (are : AreColumns columns start
       let h' : All (λ d. IsBefore d e) (pieces f m ++ f m) = subst (λ n. All (λ d. IsBefore d e) (pieces f n)) count h in
       first_column (f m) (get_or columns m 0) e (some_entry columns starts rows values are m (omega arith)) (own_columns columns starts rows values are m) (All-back (λ d. IsBefore d e) (pieces f m) (f m) h')
 
+  -- all columns come before that of the entry
   pub all_columns_before : All (λ d. IsBefore d e) (all_entries columns starts rows values) → ((m : ℕ) → length columns ≡ suc m → get_or columns m 0 ≢ j) → All (λ c. c < j) columns
   all_columns_before h other k d l =
       let m = length columns - 1 in
@@ -201,9 +208,11 @@ module _ (s : Arithmetic) (shape : Extent) (columns starts rows values : List �
   abbrev old : Sparse
   old = block_of shape columns starts rows values
 
+  -- the matrix with the entry
   pub new_matrix : IsMatrix s (with_entry old entry)
   new_matrix = matrix_push s old entry is.matrix inside after value not_zero
 
+  -- an entry more in the last column
   pub same_block : (0 < length columns) × (get_or columns (length columns - 1) 0 ≡ entry.column)
       → IsBlock s shape columns (set starts (length columns) (length rows + 1)) (rows ++ entry.row ∷ []) (values ++ entry.value ∷ [])
       × (block_of shape columns (set starts (length columns) (length rows + 1)) (rows ++ entry.row ∷ []) (values ++ entry.value ∷ []) ≡ with_entry old entry)
@@ -217,6 +226,7 @@ module _ (s : Arithmetic) (shape : Extent) (columns starts rows values : List �
       × (block_of shape columns (set starts n (length rows + 1)) (rows ++ entry.row ∷ []) (values ++ entry.value ∷ []) ≡ with_entry old entry)) (sym count)
       (record { lists = ls; matrix = subst (IsMatrix s) (sym here) new_matrix }, here)
 
+  -- an entry more in a column of its own
   pub new_block : ((0 < length columns) × (get_or columns (length columns - 1) 0 ≡ entry.column) → ⊥) → (opened : List ℕ) → length opened ≡ length columns + 1 → ((k : ℕ) → get_or opened k 0 ≡ get_or starts k 0)
       → IsBlock s shape (columns ++ entry.column ∷ []) (opened ++ (length rows + 1) ∷ []) (rows ++ entry.row ∷ []) (values ++ entry.value ∷ [])
       × (block_of shape (columns ++ entry.column ∷ []) (opened ++ (length rows + 1) ∷ []) (rows ++ entry.row ∷ []) (values ++ entry.value ∷ []) ≡ with_entry old entry)
@@ -232,6 +242,7 @@ same_starts [] zero = refl
 same_starts [] (suc k) = refl
 same_starts (a ∷ rest) k = refl
 
+-- the starts, with the first, are one more than the columns
 pub length-opened : (starts : List ℕ) (n : ℕ) → (n ≡ 0 → length starts ≡ 0) → (0 < n → length starts ≡ n + 1) → length (opened starts) ≡ n + 1
 length-opened [] zero h k = refl
 length-opened [] (suc n) h k = let e = k (omega arith) in absurd (omega arith)
@@ -246,11 +257,13 @@ module _ (s : Arithmetic) (shape : Extent) (columns starts rows values : List �
   inside' : IsInside shape entry
   inside' = subst (λ (x : Sparse). IsInside x.shape entry) (sym view) inside
 
+  -- an entry more in the last column
   pub pushed_same : (0 < length columns) × (get_or columns (length columns - 1) 0 ≡ entry.column) → (last len : ℕ) → last ≡ length columns → len ≡ length rows → IsBlock s shape columns (set starts last (len + 1)) rs vs × (block_of shape columns (set starts last (len + 1)) rs vs ≡ with_entry m entry)
   pushed_same ends last len p q =
       let b = same_block s shape columns starts rows values is entry inside' after' value not_zero ends in
       rw (rows_are, values_are, p, q) (b.0, b.1 ∙ ap (λ x. with_entry x entry) view)
 
+  -- an entry more in a column of its own
   pub pushed_new : ((0 < length columns) × (get_or columns (length columns - 1) 0 ≡ entry.column) → ⊥)
       → (cs ss : List ℕ) (len : ℕ) → len ≡ length rows → cs ≡ columns ++ entry.column ∷ [] → ss ≡ opened starts ++ (len + 1) ∷ []
       → IsBlock s shape cs ss rs vs × (block_of shape cs ss rs vs ≡ with_entry m entry)

@@ -26,9 +26,6 @@ follow_next j i v es is up h k d l =
     let e : Entry = record { row = i; column = j; value = v } in
     All-push (λ x. IsBefore x (spot j (get_or is k d))) es e (h k d l) (inr (refl, AllPairs-head (λ a b. a < b) i is up k d l))
 
-same_spot : (j i v : ℕ) (es : List Entry) → All (λ d. IsBefore d (spot j i)) es → All (λ d. IsBefore d (record { row = i; column = j; value = v })) es
-same_spot j i v es h = h
-
 module _ (s : Arithmetic) (shape : Extent) (columns : List ℕ) (j : ℕ) (ends : (0 < length columns) × (get_or columns (length columns - 1) 0 ≡ j)) (inside : j < shape.cols) (front : List ℕ) (long : length front ≡ length columns) where
   abbrev starts : ℕ → List ℕ
   starts n = front ++ n ∷ []
@@ -80,6 +77,7 @@ module _ (s : Arithmetic) (shape : Extent) (columns starts rows values : List �
       let p = e.1 in
       omega arith
 
+  -- a column more, after all others
   pub column_pushed : (js vs cs ss rs ws : List ℕ) (end : ℕ) → (length js ≡ 0 → ⊥) → length vs ≡ length js → AllPairs (λ a b. a < b) js → All (λ i. i < m.shape.rows) js → j < m.shape.cols → All (IsValue s) vs → All (λ v. v ≢ s.zero) vs
       → cs ≡ columns ++ j ∷ [] → ss ≡ opened starts ++ end ∷ [] → end ≡ length rows + length js → rs ≡ rows ++ js → ws ≡ values ++ vs
       → IsBlock s shape cs ss rs ws × (block_of shape cs ss rs ws ≡ with_column m j js vs)

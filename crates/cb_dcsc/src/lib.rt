@@ -54,7 +54,6 @@ impl<S: Semiring> Model for Block<S> {
 impl<S: Semiring> Block<S> {
     ghost use Rattle.cb_matrix.specs.Sparse.{Sparse, IsMatrix, at, IsInside, IsBefore};
     ghost use Rattle.cb_matrix.specs.Values.{empty_matrix};
-    ghost use Rattle.std.specs.Prelude.{None};
     ghost use Rattle.cb_dcsc.specs.declared.faults.BlockFault.TheVariants.{Place, Order, Zero};
     ghost use Rattle.cb_dcsc.specs.Faults.{first_fault};
     ghost use Rattle.cb_dcsc.specs.Columns.{in_column, rows_of, values_of, columns_with_entries, with_entry};
@@ -230,13 +229,16 @@ impl<S: Semiring> Block<S> {
         if let Some(fault) = faults::first_fault::<S>(shape, entries) {
             return Err(fault);
         }
-        Ok(Self::from_faultless(alloc, shape, entries)?)
+        Ok(Self::from_ordered(alloc, shape, entries)?)
     }
 
-    /// The block of entries without a fault.
-    fn from_faultless(alloc: Global, shape: Shape, entries: &[Entry]) -> Result<Self, AllocError>
+    /// The block of entries that are known to be inside the shape, to ascend by column and then by row, and to be
+    /// other than zero.
+    pub fn from_ordered(alloc: Global, shape: Shape, entries: &[Entry]) -> Result<Self, AllocError>
+        requires inside { All (IsInside shape) entries.now }
+        requires order { AllPairs IsBefore entries.now }
         requires values { All (λ e. IsValue S.arithmetic e.value) entries.now }
-        requires faultless { first_fault S.arithmetic shape entries.now ≡ None }
+        requires not_zero { All (λ e. e.value ≢ S.arithmetic.zero) entries.now }
         ensures { IfOk result (λ m. m ≡ record { shape = shape; entries = entries.now }) }
     {
         let mut block = Block::empty(alloc, shape);

@@ -27,6 +27,38 @@ fn the_lists_hold_the_columns_that_have_entries(rt: HostRuntime) -> Result<(), F
     assert_eq!(rt; block.starts.as_slice(), [0, 2, 3].as_slice());
     assert_eq!(rt; block.rows.as_slice(), [0, 2, 1].as_slice());
     assert_eq!(rt; block.values.as_slice(), [5, 6, 7].as_slice());
+    let copy = block.try_clone()?;
+    assert_eq!(rt; copy.columns.as_slice(), [3, 900].as_slice());
+    assert_eq!(rt; copy.starts.as_slice(), [0, 2, 3].as_slice());
+    assert_eq!(rt; copy.rows.as_slice(), [0, 2, 1].as_slice());
+    assert_eq!(rt; copy.values.as_slice(), [5, 6, 7].as_slice());
+    assert_eq!(rt; block.entries()?.as_slice(), spread().as_slice());
+    Ok(())
+}
+
+/// A vector is one column, in which row 0 came to zero and isn't stored.
+#[test]
+fn the_lists_of_a_vector_hold_one_column(rt: HostRuntime) -> Result<(), Fail> {
+    let mut vector = Block::<PlusTimes>::empty(rt.alloc(), shape(3, 1)?);
+    vector.push_column(0, &[1, 2], &[5, 1])?;
+    let given = [entry(1, 0, 5), entry(2, 0, 1)];
+    let same = Block::<PlusTimes>::from_sorted(rt.alloc(), shape(3, 1)?, &given)?;
+    for block in [&vector, &same] {
+        assert_eq!(rt; block.columns.as_slice(), [0].as_slice());
+        assert_eq!(rt; block.starts.as_slice(), [0, 2].as_slice());
+        assert_eq!(rt; block.rows.as_slice(), [1, 2].as_slice());
+        assert_eq!(rt; block.values.as_slice(), [5, 1].as_slice());
+    }
+    Ok(())
+}
+
+/// With ample memory each call that takes some succeeds.
+#[test]
+fn a_block_grows_by_entries(rt: HostRuntime) -> Result<(), Fail> {
+    let mut block = Block::<PlusTimes>::empty(rt.alloc(), shape(4, 1000)?);
+    block.reserve(3)?;
+    block.push(entry(2, 3, 6))?;
+    assert_eq!(rt; block.entries()?.as_slice(), [entry(2, 3, 6)].as_slice());
     Ok(())
 }
 

@@ -18,7 +18,7 @@ pub use Rattle.cb_matrix.proofs.Pairs.{All-front, All-last, AllPairs-front, AllP
 pub use Rattle.cb_matrix.proofs.Stored.{stored_all, stored_last, value_at-one, none_before, one_none}
 
 -- What holds while `given` has been read: the sums at all places before `current`'s are kept, and `current` has that at its own.
-pub record Combining (s : Arithmetic) (given kept : List Entry) (current : Entry) (rest : List Entry) : Type 0 where
+pub record IsCombinedSoFar (s : Arithmetic) (given kept : List Entry) (current : Entry) (rest : List Entry) : Type 0 where
   pub ascending : AllPairs IsBefore (kept ++ current ∷ [])
   pub inside : (shape : Extent) → All (IsInside shape) given → All (IsInside shape) (kept ++ current ∷ [])
   pub values : All (λ e. IsValue s e.value) (kept ++ current ∷ [])
@@ -52,7 +52,8 @@ module _ (s : Arithmetic) (laws : IsSemiring s) where
   total-elsewhere given x i j f =
       ap (total s) (values_at-append given (x ∷ []) i j ∙ ap (λ ys. values_at given i j ++ ys) (values_at-elsewhere x i j f) ∙ append-nil (values_at given i j))
 
-  pub combining_start : (e : Entry) (rest : List Entry) → IsValue s e.value → All (IsNotAfter e) rest → Combining s (e ∷ []) [] e rest
+  -- the first entry: nothing is kept, and its value is the sum at its place
+  pub combining_start : (e : Entry) (rest : List Entry) → IsValue s e.value → All (IsNotAfter e) rest → IsCombinedSoFar s (e ∷ []) [] e rest
   combining_start e rest v next = record {
     ascending = AllPairs-cons IsBefore e [] (All-nil (IsBefore e)) (AllPairs-nil IsBefore);
     inside = λ shape h. h;
@@ -67,7 +68,7 @@ module _ (s : Arithmetic) (laws : IsSemiring s) where
   }
 
   -- one more at the same place
-  pub combining_same : (given kept : List Entry) (c x : Entry) (rest : List Entry) → Combining s given kept c (x ∷ rest) → x.row ≡ c.row → x.column ≡ c.column → IsValue s x.value → Combining s (given ++ x ∷ []) kept (record { row = c.row; column = c.column; value = s.add c.value x.value }) rest
+  pub combining_same : (given kept : List Entry) (c x : Entry) (rest : List Entry) → IsCombinedSoFar s given kept c (x ∷ rest) → x.row ≡ c.row → x.column ≡ c.column → IsValue s x.value → IsCombinedSoFar s (given ++ x ∷ []) kept (record { row = c.row; column = c.column; value = s.add c.value x.value }) rest
   combining_same given kept c x rest h p q v =
       let d : Entry = record { row = c.row; column = c.column; value = s.add c.value x.value } in
       let front = AllPairs-last IsBefore kept c h.ascending in
@@ -98,7 +99,7 @@ module _ (s : Arithmetic) (laws : IsSemiring s) where
       }
 
   -- one at a later place
-  pub combining_next : (given kept : List Entry) (c x : Entry) (rest : List Entry) → Combining s given kept c (x ∷ rest) → (x.row ≡ c.row → x.column ≡ c.column → ⊥) → IsValue s x.value → All (IsNotAfter x) rest → Combining s (given ++ x ∷ []) (kept ++ stored s.zero c) x rest
+  pub combining_next : (given kept : List Entry) (c x : Entry) (rest : List Entry) → IsCombinedSoFar s given kept c (x ∷ rest) → (x.row ≡ c.row → x.column ≡ c.column → ⊥) → IsValue s x.value → All (IsNotAfter x) rest → IsCombinedSoFar s (given ++ x ∷ []) (kept ++ stored s.zero c) x rest
   combining_next given kept c x rest h n v next =
       let later : IsBefore c x = ⊎_elim (λ b. b) (λ e. absurd (n (sym e.0) (sym e.1))) (All-head (IsNotAfter c) x rest h.next) in
       let front = AllPairs-last IsBefore kept c h.ascending in
@@ -131,7 +132,8 @@ module _ (s : Arithmetic) (laws : IsSemiring s) where
         next = next;
       }
 
-  pub combining_end : (given kept : List Entry) (c : Entry) (rest : List Entry) → Combining s given kept c rest → IsCombined s given (kept ++ stored s.zero c)
+  -- when all are read, the last sum is kept too
+  pub combining_end : (given kept : List Entry) (c : Entry) (rest : List Entry) → IsCombinedSoFar s given kept c rest → IsCombined s given (kept ++ stored s.zero c)
   combining_end given kept c rest h = record {
     ascending = stored_pairs kept c h.ascending;
     inside = λ shape all.
@@ -142,6 +144,7 @@ module _ (s : Arithmetic) (laws : IsSemiring s) where
     sums = λ i j. stored_last s.zero kept c i j (AllPairs-last IsBefore kept c h.ascending) ∙ h.sums i j;
   }
 
+  -- of no entries nothing is kept
   pub combined_none : IsCombined s [] []
   combined_none = record {
     ascending = AllPairs-nil IsBefore;
@@ -152,6 +155,7 @@ module _ (s : Arithmetic) (laws : IsSemiring s) where
   }
 
   module _ (es : List Entry) (m : ℕ) (x : Entry) (within : m < length es) (read : get_or es m x ≡ x) (all_values : All Val es) where
+    -- the entry that is read has a value of the semiring
     pub value_here : IsValue s x.value
     value_here = let P : Entry → Type 0 = Val in subst P read (all_values m x within)
 
@@ -161,17 +165,20 @@ module _ (s : Arithmetic) (laws : IsSemiring s) where
     dropped : drop m es ≡ x ∷ drop (m + 1) es
     dropped = rw add-one (drop-cons es m x within ∙ ap (λ y. y ∷ drop (suc m) es) read)
 
-    pub step_same : (kept : List Entry) (c : Entry) → Combining s (take m es) kept c (drop m es) → x.row ≡ c.row → x.column ≡ c.column → Combining s (take (m + 1) es) kept (record { row = c.row; column = c.column; value = s.add c.value x.value }) (drop (m + 1) es)
+    -- entry m of a list is read, at the place of the last
+    pub step_same : (kept : List Entry) (c : Entry) → IsCombinedSoFar s (take m es) kept c (drop m es) → x.row ≡ c.row → x.column ≡ c.column → IsCombinedSoFar s (take (m + 1) es) kept (record { row = c.row; column = c.column; value = s.add c.value x.value }) (drop (m + 1) es)
     step_same kept c h p q =
-        let h' : Combining s (take m es) kept c (x ∷ drop (m + 1) es) = subst (λ r. Combining s (take m es) kept c r) dropped h in
-        subst (λ given. Combining s given kept (record { row = c.row; column = c.column; value = s.add c.value x.value }) (drop (m + 1) es)) taken (combining_same (take m es) kept c x (drop (m + 1) es) h' p q value_here)
+        let h' : IsCombinedSoFar s (take m es) kept c (x ∷ drop (m + 1) es) = subst (λ r. IsCombinedSoFar s (take m es) kept c r) dropped h in
+        subst (λ given. IsCombinedSoFar s given kept (record { row = c.row; column = c.column; value = s.add c.value x.value }) (drop (m + 1) es)) taken (combining_same (take m es) kept c x (drop (m + 1) es) h' p q value_here)
 
-    pub step_next : AllPairs IsNotAfter es → (kept : List Entry) (c : Entry) → Combining s (take m es) kept c (drop m es) → (x.row ≡ c.row → x.column ≡ c.column → ⊥) → Combining s (take (m + 1) es) (kept ++ stored s.zero c) x (drop (m + 1) es)
+    -- entry m of a list is read, at a later place
+    pub step_next : AllPairs IsNotAfter es → (kept : List Entry) (c : Entry) → IsCombinedSoFar s (take m es) kept c (drop m es) → (x.row ≡ c.row → x.column ≡ c.column → ⊥) → IsCombinedSoFar s (take (m + 1) es) (kept ++ stored s.zero c) x (drop (m + 1) es)
     step_next order kept c h n =
-        let h' : Combining s (take m es) kept c (x ∷ drop (m + 1) es) = subst (λ r. Combining s (take m es) kept c r) dropped h in
+        let h' : IsCombinedSoFar s (take m es) kept c (x ∷ drop (m + 1) es) = subst (λ r. IsCombinedSoFar s (take m es) kept c r) dropped h in
         let tail : AllPairs IsNotAfter (x ∷ drop (m + 1) es) = subst (λ r. AllPairs IsNotAfter r) dropped (AllPairs-drop IsNotAfter m es order) in
-        subst (λ given. Combining s given (kept ++ stored s.zero c) x (drop (m + 1) es)) taken
+        subst (λ given. IsCombinedSoFar s given (kept ++ stored s.zero c) x (drop (m + 1) es)) taken
         (combining_next (take m es) kept c x (drop (m + 1) es) h' n value_here (AllPairs-head IsNotAfter x (drop (m + 1) es) tail))
 
-    pub current_value : (kept : List Entry) (c : Entry) → Combining s (take m es) kept c (drop m es) → IsValue s c.value
+    -- the sum at the last place is a value
+    pub current_value : (kept : List Entry) (c : Entry) → IsCombinedSoFar s (take m es) kept c (drop m es) → IsValue s c.value
     current_value kept c h = All-last Val kept c h.values

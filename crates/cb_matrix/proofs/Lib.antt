@@ -1,34 +1,38 @@
--- Lemmas on sparse matrices, by topic. Crates above cite those that are `pub`.
+-- The toolbox of lemmas on sparse matrices, by topic. Crates above cite what is named here; each lemma's own
+-- sentence stands over it.
 --
 -- Equal: `matrix_is`, the lemma for every operation: a matrix is the one that has its values.
--- Made: the matrix of a function of row and column: `at-matrix_of` its values, `IsMatrix-matrix_of`
---   that it is one, `same_matrix_of` equal functions; `same_matrix` that matrices with the same value
---   at each place are the same; `at-outside` zero outside the shape; `columns_all`, `columns_value`.
--- Totals: sums in a semiring: of two lists (`total-append`), of nothing, of one value, of zeros, of
---   values of which all but one are zero (`total-single`), of sums (`total-add`), of equal values.
+-- Made: the matrix of a function of row and column: `at-matrix_of` its values, `shape-matrix_of` its shape,
+--   `IsMatrix-matrix_of` that it is one, `same_matrix_of` equal functions. `same_matrix`: matrices with the same
+--   value at each place are the same; `at-outside`: zero outside the shape.
+-- Places: whether an entry is at a place (`is_at-own`, `is_at-parts`, `is_at-before`), and the value that a list
+--   of entries has there: that of the first entry (`value_at-own`, `value_at-other`), of two lists
+--   (`value_at-append_left`, `value_at-append_right`), before all entries (`value_at-before`, `IsPlaceBefore`),
+--   where none is (`value_at-none`, `NoneAt`).
+-- Totals: sums in a semiring: they are values (`total_value`, `each_value`, `value_at-value`), `add_zero`, of
+--   nothing (`total-nil`), of one value (`total-one`), of two lists (`total-append`), of zeros (`total-zero`), of
+--   values of which all but one are zero (`total-single`), of sums (`total-add`), of equal values (`total-same`);
+--   the values given at a place (`values_at-append`, `values_at-here`, `values_at-elsewhere`, `values_at-values`).
 -- Split: a sum over numbers in two parts, `total_parts`.
--- Permuted: a sum in another order, `sum-permutation`.
--- Places: `is_at` and the value that a list of entries has at a place: of the first entry, of two
---   lists, before all entries, where none is (`NoneAt`).
--- Stored: an entry at the end of a list, unless it is zero: `stored_last` no value changes.
--- Pairs: lists of which each element and each later one stand in a relation: first, rest, front,
---   last, one element more, two lists.
--- Same: entries that ascend are known by their values, `same_entries`; `before_trans`.
--- Order: a stable sort by place. Search: a search by halves.
--- Combine, InPlace, Collected: the entries of each place are added up; in place; and make a matrix.
--- Product: the products of each two entries that meet make the product.
--- Worked: examples, computed.
+-- Permuted: a sum in another order: `sum-permutation`, `sum_value`, `swap_two`.
+-- Pairs: lists of which each element and each later one stand in a relation: `AllPairs-nil`, `-cons`, `-head`,
+--   `-tail`, `-front`, `-last`, `-push`, `-append`, `-drop`; `All-front`, `All-last`.
+-- Stored: an entry at the end of a list, unless it is zero: `stored_all`, `stored_last`, `none_before`.
+-- Same: entries that ascend are known by their values, `same_entries`; `before_trans`, the order is transitive.
 pub mod Pairs
 pub mod Places
 pub mod Same
 pub mod Made
-pub mod Order
-pub mod Search
 pub mod Totals
 pub mod Split
 pub mod Permuted
 pub mod Equal
 pub mod Stored
+-- For this crate alone. Order: a stable sort by place. Search: a search by halves. Combine, InPlace, Collected:
+-- the entries of each place are added up, in place, and make a matrix. Product: the products of each two entries
+-- that meet make the product. Worked: the definitions computed on small matrices.
+pub mod Order
+pub mod Search
 pub mod Combine
 pub mod InPlace
 pub mod Collected

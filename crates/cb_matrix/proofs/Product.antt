@@ -139,12 +139,15 @@ module _ (s : Arithmetic) (laws : IsSemiring s) where
   products_all P [] es h = All-nil P
   products_all P (d ∷ ds) es h = All-append P (products_with s d es) (products s ds es) (products_with-all P d es (All-head (λ d. All (λ e. P (product_of s d e)) es) d ds h)) (products_all P ds es (All-tail (λ d. All (λ e. P (product_of s d e)) es) d ds h))
 
+  -- products of values are values
   pub products_values : (a b : Sparse) → IsMatrix s a → IsMatrix s b → All Val (products s a.entries b.entries)
   products_values a b p q = products_all Val a.entries b.entries (λ k d l m e h. laws.mul_value _ _ (p.values k d l) (q.values m e h))
 
+  -- products are inside the shape of the product
   pub products_inside : (a b : Sparse) → IsMatrix s a → IsMatrix s b → All (IsInside (product_shape a b)) (products s a.entries b.entries)
   products_inside a b p q = products_all (IsInside (product_shape a b)) a.entries b.entries (λ k d l m e h. ((p.inside k d l).0, (q.inside m e h).1))
 
+  -- the matrix collected from the products is the product
   pub products_product : (a b : Sparse) → IsMatrix s a → IsMatrix s b → collected s (product_shape a b) (products s a.entries b.entries) ≡ product s a b
   products_product a b p q =
       same_matrix_of s (product_shape a b) (λ i j. total s (values_at (products s a.entries b.entries) i j)) (λ i j. total s (map (λ k. s.mul (at s a i k) (at s b k j)) (range_with_len 0 a.shape.cols)))
@@ -159,6 +162,7 @@ products_with_more s d es k x l =
 
 -- a loop that appends the products of d with each entry that it meets
 module _ (s : Arithmetic) (d : Entry) (es : List Entry) (k : ℕ) (x : Entry) (old before : List Entry) (within : k < length es) (so_far : old ≡ before ++ products_with s d (take k es)) where
+  -- an entry that is met gives one product more
   pub products_met : d.column ≡ (get_or es k x).row → old ++ product_of s d (get_or es k x) ∷ [] ≡ before ++ products_with s d (take (k + 1) es)
   products_met h =
       let met : (d.column == (get_or es k x).row) ≡ true = eq-eqb d.column (get_or es k x).row h in
@@ -166,6 +170,7 @@ module _ (s : Arithmetic) (d : Entry) (es : List Entry) (k : ℕ) (x : Entry) (o
       ∙ append_assoc before (products_with s d (take k es)) (product_of s d (get_or es k x) ∷ [])
       ∙ ap (λ xs. before ++ xs) (sym (products_with_more s d es k x within ∙ ap (λ b. products_with s d (take k es) ++ map (product_of s d) (cond b (get_or es k x ∷ []) [])) met))
 
+  -- an entry that is not met gives none
   pub products_missed : d.column ≢ (get_or es k x).row → old ≡ before ++ products_with s d (take (k + 1) es)
   products_missed h =
       let missed : (d.column == (get_or es k x).row) ≡ false = ne_eqb d.column (get_or es k x).row h in

@@ -11,9 +11,11 @@ use cb_semirings::Semiring;
 use std::alloc::{AllocError, Global};
 use std::marker::PhantomData;
 
-/// The entries by column and then by row. Those of one place keep their order. Entries that ascend
-/// already take no memory and one pass.
-fn in_order(entries: Vec<Entry>) -> Result<Vec<Entry>, AllocError>
+/// The entries by column and then by row. Those of one place keep their order.
+///
+/// It takes O(n log n) for n entries and the buffer of a stable sort, or O(n) and no memory where they
+/// ascend already.
+pub fn in_order(entries: Vec<Entry>) -> Result<Vec<Entry>, AllocError>
     ensures order { IfOk result (λ v. AllPairs IsNotAfter v.items) }
     ensures same { IfOk result (λ v. (i j : ℕ) → filter (is_at i j) v.items ≡ filter (is_at i j) entries.items) }
     ensures permutation { IfOk result (λ v. IsPermutation entries.items v.items) }

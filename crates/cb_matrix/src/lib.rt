@@ -16,7 +16,12 @@
 ghost use Rattle.std.specs.Prelude.{◌≡◌, ◌↔◌, IsTrue, ◌<◌, ◌≤◌, [], length, IfOk, IfSome, IsSome, slice_index_or};
 ghost use Rattle.cb_semirings.specs.Arithmetic.{IsValue};
 
+mod collect;
+#[cfg(test)]
+mod tests;
+
 use cb_semirings::Semiring;
+pub use collect::in_order;
 use std::alloc::{AllocError, Global};
 use std::marker::{Model, PhantomData};
 
@@ -41,12 +46,13 @@ pub struct Shape {
 impl Model for Shape {
     ghost use Rattle.std.specs.Prelude.{◌≤◌};
     ghost use Rattle.cb_matrix.specs.Sparse.{Extent};
+    ghost use Rattle.cb_matrix.specs.declared.TheConstants.{LIMIT};
 
     ghost Value = { Extent };
 
     ghost view = { λ a. record { rows = a.rows; cols = a.cols } };
 
-    ghost invariant = { λ a. (a.rows ≤ 2147483647) × (a.cols ≤ 2147483647) };
+    ghost invariant = { λ a. (a.rows ≤ LIMIT) × (a.cols ≤ LIMIT) };
 
     ghost inverse = { λ d. record { rows = d.rows; cols = d.cols } };
 }
@@ -54,7 +60,7 @@ impl Model for Shape {
 impl Shape {
     /// The shape of so many rows and columns, or None where one of the two is past the limit.
     pub fn new(rows: u32, cols: u32) -> Option<Shape>
-        ensures some { IsSome result ↔ ((rows ≤ 2147483647) × (cols ≤ 2147483647)) }
+        ensures some { IsSome result ↔ ((rows ≤ LIMIT) × (cols ≤ LIMIT)) }
         ensures value { IfSome result (λ s. (s.rows ≡ rows) × (s.cols ≡ cols)) }
     {
         if rows <= LIMIT && cols <= LIMIT {
@@ -67,7 +73,7 @@ impl Shape {
     /// How many rows there are.
     pub fn rows(&self) -> u32
         ensures value { result ≡ self.now.rows }
-        ensures limit { result ≤ 2147483647 }
+        ensures limit { result ≤ LIMIT }
     {
         self.rows
     }
@@ -75,7 +81,7 @@ impl Shape {
     /// How many columns there are.
     pub fn cols(&self) -> u32
         ensures value { result ≡ self.now.cols }
-        ensures limit { result ≤ 2147483647 }
+        ensures limit { result ≤ LIMIT }
     {
         self.cols
     }
@@ -131,6 +137,7 @@ impl<S: Semiring> Matrix<S> {
         ensures shape { result ≡ self.now.shape }
         ensures matrix { IsMatrix S.arithmetic self.now }
     {
+        // For the proof alone: to look at a field opens the value, and its invariant is at hand.
         let _entries = &self.entries;
         self.shape
     }
@@ -245,7 +252,3 @@ impl From<AllocError> for ProductFault {
         ProductFault::Memory
     }
 }
-
-mod collect;
-#[cfg(test)]
-mod tests;

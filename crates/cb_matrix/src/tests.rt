@@ -78,6 +78,10 @@ fn doubles_are_added_by_the_semiring(rt: HostRuntime) -> Result<(), Fail> {
     let twice = [entry(0, 0, 3), entry(0, 0, 4)];
     let sum = Matrix::<PlusTimes>::from_entries(alloc, side, &twice)?;
     assert_eq!(rt; sum.entries(), [entry(0, 0, 7)].as_slice());
+    assert_eq!(rt; sum.try_clone()?.entries(), sum.entries());
+    let given_up = Vec::from_slice(alloc, &twice)?;
+    let same = Matrix::<PlusTimes>::from_vec(side, given_up)?;
+    assert_eq!(rt; same.entries(), sum.entries());
     let least = Matrix::<MinPlus>::from_entries(alloc, side, &twice)?;
     assert_eq!(rt; least.entries(), [entry(0, 0, 3)].as_slice());
     let ones = [entry(0, 0, 1), entry(0, 0, 1)];
