@@ -1,0 +1,154 @@
+-- What a contract sees of a desk.
+use Rattle.std.specs.Prelude.{ℕ, ◌≡◌, ◌≢◌, ◌≤◌, ◌<◌, ◌||◌, ◌==◌, nat_le, Bool, true, List, [], ◌∷◌, ◌++◌, length, map, Option, None, slice_index_or, slice_get}
+use Rattle.std.specs.Option.{option_map_or}
+use Rattle.cb_letters.specs.declared.Letter.{Letter}
+use Rattle.cb_letters.specs.declared.Taken.{Taken}
+use Rattle.cb_letters.specs.Standing.{Standing}
+use Rattle.cb_letters.specs.Posted.{standing_by, GrowsBy, is_end, ends_closed}
+use mathlib.Core.List.{IsPrefix}
+use Rattle.std.specs.declared.vec.Vec.{Vec}
+use Rattle.std.specs.declared.alloc.Global.{Global}
+use Rattle.cb_lanes.specs.declared.ends.Poster.{Poster}
+use Rattle.cb_lanes.specs.declared.ends.Taker.{Taker}
+use Rattle.cb_lanes.specs.declared.desk.Desk.{Desk}
+use Rattle.cb_lanes.specs.Ends.{RingName, sent_by, room_of, capacity_of, received_by, outgoing_ring, incoming_ring}
+
+-- whose desk it is, and which rings it has ends of
+pub record Identity : Type 0 where
+  pub me : ℕ
+  pub outgoing : List (Option RingName)
+  pub incoming : List (Option RingName)
+
+-- the k-th of them
+abbrev pub identity_at : List Identity → ℕ → Identity
+identity_at ids k = slice_index_or ids k (record { me = 0; outgoing = []; incoming = [] })
+
+-- these are all desks of one opening, in order of their ranks: the end that one posts on and the end that the other takes from are of one ring
+pub record AreOfOneOpening (ids : List Identity) : Type 0 where
+  pub places : (k : ℕ) → k < length ids → (identity_at ids k).me ≡ k
+  pub ranks : (k : ℕ) → k < length ids → (length (identity_at ids k).outgoing ≡ length ids) × (length (identity_at ids k).incoming ≡ length ids)
+  pub rings : (i j : ℕ) → i < length ids → j < length ids → slice_index_or (identity_at ids i).outgoing j None ≡ slice_index_or (identity_at ids j).incoming i None
+
+-- two desks that have the ends of the two lanes between them
+pub record AreLinked (a b : Identity) : Type 0 where
+  pub apart : a.me ≢ b.me
+  pub there : slice_index_or a.outgoing b.me None ≡ slice_index_or b.incoming a.me None
+  pub back : slice_index_or b.outgoing a.me None ≡ slice_index_or a.incoming b.me None
+  pub inside_a : (b.me < length a.outgoing) × (b.me < length a.incoming)
+  pub inside_b : (a.me < length b.outgoing) × (a.me < length b.incoming)
+
+module _ {P : Type 0} where
+  -- the letters that the desk posted to this rank, oldest first
+  abbrev pub posted_to : Desk P → ℕ → List (Letter P)
+  posted_to d to = sent_by (slice_index_or d.outgoing.items to None)
+
+  -- the letters that the desk took from this rank, oldest first
+  abbrev pub taken_from : Desk P → ℕ → List (Letter P)
+  taken_from d from = received_by (slice_index_or d.incoming.items from None)
+
+  -- for how many more letters to this rank the desk knows that there is room
+  abbrev pub room_to : Desk P → ℕ → ℕ
+  room_to d to = room_of (slice_index_or d.outgoing.items to None)
+
+  abbrev pub capacity_to : Desk P → ℕ → ℕ
+  capacity_to d to = capacity_of (slice_index_or d.outgoing.items to None)
+
+  -- the rank itself, or no rank
+  abbrev pub is_stranger : Desk P → ℕ → Bool
+  is_stranger d k = (k == d.me) || nat_le (length d.outgoing.items) k
+
+  abbrev pub identity : Desk P → Identity
+  identity d = record { me = d.me; outgoing = map outgoing_ring d.outgoing.items; incoming = map incoming_ring d.incoming.items }
+
+  -- nothing was posted, nor is less room known
+  abbrev pub KeepsPosted : Desk P → Desk P → Type 0
+  KeepsPosted a b = (k : ℕ) → (posted_to b k ≡ posted_to a k) × (room_to a k ≤ room_to b k) × (capacity_to b k ≡ capacity_to a k)
+
+  abbrev pub KeepsTaken : Desk P → Desk P → Type 0
+  KeepsTaken a b = (k : ℕ) → taken_from b k ≡ taken_from a k
+
+  -- the letter was posted to this rank, and nothing else
+  abbrev pub AddsPosted : Desk P → Desk P → ℕ → Letter P → Type 0
+  AddsPosted a b to x =
+      (posted_to b to ≡ posted_to a to ++ x ∷ [])
+      × (capacity_to b to ≡ capacity_to a to)
+      × ((k : ℕ) → k ≢ to → (posted_to b k ≡ posted_to a k) × (room_to a k ≤ room_to b k) × (capacity_to b k ≡ capacity_to a k))
+
+  -- what was taken from this rank grew by a take that answers this, and nothing else did
+  abbrev pub AddsTaken : Desk P → Desk P → ℕ → Taken P → Type 0
+  AddsTaken a b from r = GrowsBy (taken_from a from) (taken_from b from) r × ((k : ℕ) → k ≢ from → taken_from b k ≡ taken_from a k)
+
+  -- how the lane to this rank stands
+  abbrev pub standing : Desk P → ℕ → Standing
+  standing d to = standing_by d.me (is_stranger d to) (posted_to d to)
+
+  -- the desk knows of a free place for a letter to this rank
+  abbrev pub has_room : Desk P → ℕ → Type 0
+  has_room d to = 0 < room_to d to
+
+  -- as many letters were posted to this rank as the lane has places
+  abbrev pub may_be_full : Desk P → ℕ → Type 0
+  may_be_full d to = capacity_to d to ≤ length (posted_to d to)
+
+  -- nothing was posted and nothing taken
+  abbrev pub Keeps : Desk P → Desk P → Type 0
+  Keeps a b = (identity b ≡ identity a) × KeepsPosted a b × KeepsTaken a b
+
+  -- this letter was posted to this rank, and nothing else happened
+  abbrev pub Posts : Desk P → ℕ → Letter P → Desk P → Type 0
+  Posts a to x b = (identity b ≡ identity a) × AddsPosted a b to x × KeepsTaken a b
+
+  -- a take from this rank answered this, and nothing else happened. The lane has ended just where the last letter taken is a close mark; then nothing more is taken
+  abbrev pub Takes : Desk P → ℕ → Taken P → Desk P → Type 0
+  Takes a from r b =
+      (identity b ≡ identity a)
+      × KeepsPosted a b
+      × AddsTaken a b from r
+      × (is_end r ≡ ends_closed (taken_from b from))
+      × (ends_closed (taken_from a from) ≡ true → taken_from b from ≡ taken_from a from)
+
+  -- the desk of rank k of n, with lanes for c letters, on which nothing was posted or taken
+  pub record IsNewDesk (c n k : ℕ) (d : Desk P) : Type 0 where
+    pub me : d.me ≡ k
+    pub ranks : length d.outgoing.items ≡ n
+    pub nothing_posted : (j : ℕ) → j < n → posted_to d j ≡ []
+    pub nothing_taken : (j : ℕ) → j < n → taken_from d j ≡ []
+    pub room : (j : ℕ) → j < n → j ≢ k → (room_to d j ≡ c) × (capacity_to d j ≡ c)
+
+  -- each desk has its row and its column
+  abbrev pub HaveLanes : List (Desk P) → List (Vec (Option (Poster P)) Global) → List (Vec (Option (Taker P)) Global) → Type 0
+  HaveLanes desks rows columns =
+      (k : ℕ) (a : Desk P) (r : Vec (Option (Poster P)) Global) (d : Vec (Option (Taker P)) Global) → k < length desks
+      → ((slice_index_or desks k a).me ≡ k)
+      × ((slice_index_or desks k a).outgoing ≡ slice_index_or rows k r)
+      × ((slice_index_or desks k a).incoming ≡ slice_index_or columns k d)
+
+  -- the same desks, on which nothing more was posted or taken
+  pub record SameDesks (old new : List (Desk P)) : Type 0 where
+    pub count : length new ≡ length old
+    pub identities : map identity new ≡ map identity old
+    pub each : (k : ℕ) (a : Desk P) → k < length old → Keeps (slice_index_or old k a) (slice_index_or new k a)
+
+  -- what was taken on the lane from one desk to another is a prefix of what was posted there
+  abbrev pub IsSettled : Desk P → Desk P → ℕ → ℕ → Type 0
+  IsSettled sender receiver from to = IsPrefix (taken_from receiver from) (posted_to sender to)
+
+  -- that for both lanes between two of the desks
+  abbrev pub IsPairSettled : List (Desk P) → ℕ → ℕ → Type 0
+  IsPairSettled desks low high =
+      (a b : Desk P)
+      → IsSettled (slice_index_or desks low a) (slice_index_or desks high b) low high
+      × IsSettled (slice_index_or desks high b) (slice_index_or desks low a) high low
+
+  -- the letters that one of these desks posted to the rank of another, oldest first; none where there is no such desk
+  abbrev pub posted_in : List (Desk P) → ℕ → ℕ → List (Letter P)
+  posted_in desks from to = option_map_or (λ d. posted_to d to) (slice_get desks from) []
+
+  -- the letters that the other of them took from the one, oldest first
+  abbrev pub taken_in : List (Desk P) → ℕ → ℕ → List (Letter P)
+  taken_in desks from to = option_map_or (λ d. taken_from d from) (slice_get desks to) []
+
+  -- what was taken on a lane is a beginning of what was posted there, and all of it where the close mark was taken
+  pub record IsSettledLane (posted taken : List (Letter P)) : Type 0 where
+    pub prefix : IsPrefix taken posted
+    pub whole : ends_closed taken ≡ true → taken ≡ posted

@@ -1,0 +1,5 @@
+pub mod Ends
+pub mod Desks
+pub mod Lanes
+pub mod Waiting
+pub mod Laws

@@ -1,0 +1,183 @@
+//! The two ends of one lane: a ring with the numbers of its letters and the close mark.
+ghost use Rattle.std.specs.Prelude.{ℕ, ◌≡◌, ◌-◌, ◌^◌, ◌<◌, length};
+ghost use Rattle.cb_letters.specs.Standing.{last_number};
+ghost use Rattle.cb_letters.specs.Posted.{ends_closed, NothingAfterClose};
+ghost use Rattle.rtrb.specs.Ring.{sent, received};
+
+use cb_letters::{Body, Letter, PostRefusal, Tag, Taken};
+use rtrb::{Consumer, Producer, Protocol, PushError};
+use std::alloc::Global;
+
+/// The rule of a lane's ring: its letters are numbered from 0 on, each below the last number, which isn't
+/// given out. So both ends can count in a `u64`. It says nothing of what the letters are about.
+#[derive(Clone, Copy)]
+pub struct Numbered;
+
+impl<P> Protocol<Letter<P>> for Numbered {
+    ghost allows = { λ before x. (x.number ≡ length before) × (x.number < last_number) };
+}
+
+/// The end that posts, and what it knows of its letters without looking at them again.
+#[derive(Drop)]
+pub struct Poster<P> {
+    pub(crate) ring: Producer<Letter<P>, Global, Numbered>,
+    posted: u64,
+    closed: bool,
+    ghost counted: { posted ≡ length (sent ring) },
+    ghost marked: { closed ≡ ends_closed (sent ring) },
+    ghost ended: { NothingAfterClose (sent ring) },
+}
+
+/// The end that takes, and whether it took the close mark.
+#[derive(Drop)]
+pub struct Taker<P> {
+    pub(crate) ring: Consumer<Letter<P>, Global, Numbered>,
+    taken: u64,
+    ended: bool,
+    ghost counted: { taken ≡ length (received ring) },
+    ghost marked: { ended ≡ ends_closed (received ring) },
+}
+
+impl<P: Drop> Poster<P> {
+    ghost use Rattle.std.specs.Prelude.{◌≤◌, [], ◌∷◌, ◌++◌, None, IfOk, IfErr, OnErr, IsOk, IsTrue, true, false};
+    ghost use Rattle.rtrb.specs.Ring.{known_free, producer_capacity, SameProducer, ProducerLooked};
+    ghost use Rattle.cb_letters.specs.Letters.{is_close};
+    ghost use Rattle.cb_letters.specs.Posted.{standing_by};
+    ghost use Rattle.cb_letters.specs.Standing.{standing_refusal, MayRefuse, next_letter};
+
+    pub(crate) fn new(ring: Producer<Letter<P>, Global, Numbered>) -> Poster<P>
+        requires { sent ring ≡ [] }
+        ensures { result.ring ≡ ring }
+    {
+        Poster {
+            ring,
+            posted: 0,
+            closed: false,
+        }
+    }
+
+    /// Posts a letter or a close mark, and answers its number. A refusal hands the body back.
+    #[tactic(auto, using(cb_letters::proofs::Marks::marks))]
+    pub(crate) fn post(
+        &mut self,
+        from: u16,
+        to: u16,
+        tag: Tag,
+        body: Body<P>,
+    ) -> Result<u64, (PostRefusal, Body<P>)>
+        ensures ring { SameProducer self.old.ring self.new.ring }
+        ensures accepted { IfOk result (λ number. (standing_refusal (standing_by from false (sent self.old.ring)) ≡ None) × (number ≡ length (sent self.old.ring)) × (sent self.new.ring ≡ sent self.old.ring ++ next_letter (standing_by from false (sent self.old.ring)) to tag body ∷ [])) }
+        ensures refused { IfErr result (λ e. MayRefuse (standing_by from false (sent self.old.ring)) (producer_capacity self.old.ring ≤ length (sent self.old.ring)) e.0 × (e.1 ≡ body) × (sent self.new.ring ≡ sent self.old.ring)) }
+        ensures room { OnErr result (known_free self.old.ring ≤ known_free self.new.ring) }
+        ensures succeeds { 0 < known_free self.old.ring → standing_refusal (standing_by from false (sent self.old.ring)) ≡ None → IsOk result }
+    {
+        if self.closed {
+            return Err((PostRefusal::Closed, body));
+        }
+        let number = self.posted;
+        if number == u64::MAX {
+            return Err((PostRefusal::Spent, body));
+        }
+        let closes = body.is_close();
+        let letter = Letter {
+            from,
+            to,
+            number,
+            tag,
+            body,
+        };
+        if let Err(PushError::Full(Letter { body, .. })) = self.ring.push(letter) {
+            return Err((PostRefusal::Full, body));
+        }
+        self.posted = number + 1;
+        self.closed = closes;
+        Ok(number)
+    }
+
+    /// Whether there is room for a letter.
+    pub(crate) fn has_room(&mut self) -> bool
+        ensures looked { ProducerLooked self.old.ring self.new.ring }
+        ensures value { IsTrue result → 0 < known_free self.new.ring }
+        ensures full { result ≡ false → producer_capacity self.old.ring ≤ length (sent self.old.ring) }
+    {
+        !self.ring.is_full()
+    }
+
+    /// Whether the other end was dropped. Nothing is claimed of the answer.
+    pub(crate) fn is_abandoned(&mut self) -> bool
+        ensures { ProducerLooked self.old.ring self.new.ring }
+    {
+        self.ring.is_abandoned()
+    }
+
+    pub(crate) fn posted(&self) -> u64
+        ensures { result ≡ length (sent self.now.ring) }
+    {
+        self.posted
+    }
+}
+
+impl<P: Drop> Taker<P> {
+    ghost use Rattle.std.specs.Prelude.{◌≢◌, ◌+◌, ◌≤◌, [], ◌∷◌, ◌++◌, Some, None, IfOk, IfErr, OnErr, IsOk, IsTrue, true, ◌↔◌};
+    ghost use mathlib.Core.List.{IsPrefix};
+    ghost use Rattle.rtrb.specs.Ring.{known_items, IsPair, SameConsumer, ConsumerLooked, ProducerLooked};
+    ghost use Rattle.cb_letters.specs.Letters.{is_close};
+    ghost use Rattle.cb_letters.specs.Posted.{GrowsBy, is_end};
+
+    pub(crate) fn new(ring: Consumer<Letter<P>, Global, Numbered>) -> Taker<P>
+        requires { received ring ≡ [] }
+        ensures { result.ring ≡ ring }
+    {
+        Taker {
+            ring,
+            taken: 0,
+            ended: false,
+        }
+    }
+
+    /// Takes the oldest letter that is there. `End` comes with the close mark and ever after.
+    #[tactic(auto, using(cb_letters::proofs::Marks::marks))]
+    pub(crate) fn take(&mut self) -> Taken<P>
+        ensures ring { SameConsumer self.old.ring self.new.ring }
+        ensures taken { GrowsBy (received self.old.ring) (received self.new.ring) result }
+        ensures end { is_end result ≡ ends_closed (received self.new.ring) }
+        ensures stays { ends_closed (received self.old.ring) ≡ true → received self.new.ring ≡ received self.old.ring }
+        ensures member { result ≢ Taken.Stranger }
+    {
+        if self.ended {
+            return Taken::End;
+        }
+        let Ok(letter) = self.ring.pop() else {
+            return Taken::Empty;
+        };
+        self.taken += 1;
+        self.ended = letter.body.is_close();
+        if self.ended {
+            return Taken::End;
+        }
+        Taken::Letter(letter)
+    }
+
+    /// Whether the other end was dropped. Nothing is claimed of the answer.
+    pub(crate) fn is_abandoned(&mut self) -> bool
+        ensures { ConsumerLooked self.old.ring self.new.ring }
+    {
+        self.ring.is_abandoned()
+    }
+
+    pub(crate) fn taken(&self) -> u64
+        ensures { result ≡ length (received self.now.ring) }
+    {
+        self.taken
+    }
+
+    /// Looks at both ends of the lane together: what was taken is a prefix of what was posted.
+    pub(crate) fn settle(&mut self, outgoing: &mut Poster<P>)
+        requires { IsPair outgoing.old.ring self.old.ring }
+        ensures incoming { ConsumerLooked self.old.ring self.new.ring }
+        ensures outgoing { ProducerLooked outgoing.old.ring outgoing.new.ring }
+        ensures settled { IsPrefix (received self.old.ring) (sent outgoing.old.ring) }
+    {
+        self.ring.slots_beside(&mut outgoing.ring);
+    }
+}

@@ -1,0 +1,101 @@
+//! Opening the lanes between all ranks.
+//!
+//! The ends are made row by row: the ends that post of one rank's lanes are a row, and those that take
+//! are put at the end of the columns of the ranks that take. Desk k is row k with column k.
+ghost use Rattle.std.specs.Prelude.{ℕ, ◌≡◌, ◌≢◌, ◌+◌, ◌<◌, ◌==◌, ◌^◌, length, map, slice_index_or, IfOk};
+ghost use Rattle.cb_lanes.specs.Desks.{identity, AreOfOneOpening, IsNewDesk};
+ghost use Rattle.cb_lanes.specs.Ends.{IsNewLane, AreRows, AreColumns, AreNewLanes, IsRow};
+
+use crate::desk::Desk;
+use crate::ends::{Numbered, Poster, Taker};
+use cb_letters::Letter;
+use rtrb::RingBuffer;
+use std::alloc::{AllocError, Global};
+use std::mem;
+
+type Row<P> = Vec<Option<Poster<P>>>;
+
+type Column<P> = Vec<Option<Taker<P>>>;
+
+/// The two ends of the lane from one rank to another. There is none from a rank to itself.
+fn open_lane<P: Drop>(
+    alloc: Global,
+    from: u16,
+    to: u16,
+    capacity: usize,
+) -> Result<(Option<Poster<P>>, Option<Taker<P>>), AllocError>
+    ensures { IfOk result (λ ends. IsNewLane from to capacity ends.0 ends.1) }
+{
+    if from == to {
+        return Ok((None, None));
+    }
+    let (producer, consumer) = RingBuffer::<Letter<P>>::with_protocol::<Global, Numbered>(
+        alloc, capacity,
+    )?;
+    Ok((Some(Poster::new(producer)), Some(Taker::new(consumer))))
+}
+
+/// The ends that post of the lanes from one rank; the ends that take go to the columns.
+fn open_row<P: Drop>(
+    alloc: Global,
+    from: u16,
+    capacity: usize,
+    columns: &mut Vec<Column<P>>,
+) -> Result<Row<P>, AllocError>
+    requires count { length columns.old.items < 2 ^ 16 }
+    requires columns { AreColumns columns.old.items from }
+    ensures count { IfOk result (λ row. (length row.items ≡ length columns.old.items) × (length columns.new.items ≡ length columns.old.items)) }
+    ensures row { IfOk result (λ row. IsRow from capacity row.items columns.old.items columns.new.items) }
+{
+    let mut row = Vec::new(alloc);
+    for to in 0..columns.len() as u16 {
+        let (outgoing, incoming) = open_lane(alloc, from, to, capacity)?;
+        row.push(outgoing)?;
+        columns[to as usize].push(incoming)?;
+    }
+    Ok(row)
+}
+
+/// The lanes from each rank to each: the ends that post by their sender, those that take by their
+/// addressee.
+pub(crate) fn open_lanes<P: Drop>(
+    alloc: Global,
+    ranks: u16,
+    capacity: usize,
+) -> Result<(Vec<Row<P>>, Vec<Column<P>>), AllocError>
+    ensures count { IfOk result (λ t. (length t.0.items ≡ ranks) × (length t.1.items ≡ ranks)) }
+    ensures rows { IfOk result (λ t. AreRows t.0.items ranks) }
+    ensures columns { IfOk result (λ t. AreColumns t.1.items ranks) }
+    ensures lanes { IfOk result (λ t. AreNewLanes capacity t.0.items t.1.items) }
+{
+    let mut columns = Vec::new(alloc);
+    for _ in 0..ranks {
+        columns.push(Vec::new(alloc))?;
+    }
+    let mut rows = Vec::new(alloc);
+    for from in 0..ranks {
+        rows.push(open_row(alloc, from, capacity, &mut columns)?)?;
+    }
+    Ok((rows, columns))
+}
+
+/// The desks of all ranks, in order of their numbers, with a new lane for at most `capacity` letters from
+/// each rank to each other. All memory that lanes ever use is taken here: `ranks * (ranks - 1)` rings.
+pub fn open<P: Drop>(alloc: Global, ranks: u16, capacity: usize) -> Result<Vec<Desk<P>>, AllocError>
+    ensures count { IfOk result (λ desks. length desks.items ≡ ranks) }
+    ensures one_opening { IfOk result (λ desks. AreOfOneOpening (map identity desks.items)) }
+    ensures new { IfOk result (λ desks. (k : ℕ) (a : _) → k < ranks → IsNewDesk capacity ranks k (slice_index_or desks.items k a)) }
+{
+    let (mut rows, mut columns) = open_lanes(alloc, ranks, capacity)?;
+    let mut desks = Vec::new(alloc);
+    for me in 0..ranks {
+        let outgoing = mem::replace(&mut rows[me as usize], Vec::new(alloc));
+        let incoming = mem::replace(&mut columns[me as usize], Vec::new(alloc));
+        desks.push(Desk {
+            me,
+            outgoing,
+            incoming,
+        })?;
+    }
+    Ok(desks)
+}
