@@ -37,7 +37,6 @@ front_digits_all (c ∷ rest) = ⊎_elim (λ e. rw e (rw e (front_digits_all res
 
 -- some digits
 number_front : (rest : List ℕ) → length (after_digits rest) < length rest → is_number (front_digits rest) ≡ true
-unfolding is_number
 number_front [] h = absurd (omega arith)
 number_front (c ∷ rest) h = ⊎_elim (λ e. rw e (rw e (front_digits_all rest))) (λ e. absurd (omega (arith, rw e at h))) (cases_Bool (is_digit c))
 
@@ -49,7 +48,6 @@ front_not_digits (c ∷ rest) h = ⊎_elim
     (λ e. let k : is_word_end (c ∷ rest) ≡ false = rw e at h in let g : front_word (c ∷ rest) ≡ c ∷ front_word rest = rw k refl in rw g (rw e refl)) (cases_Bool (is_digit c))
 
 not_number : (word : List ℕ) → all_digits word ≡ false → is_number word ≡ false
-unfolding is_number
 not_number [] h = refl
 not_number (c ∷ word) h = h
 
@@ -58,21 +56,17 @@ no_digit : (c : ℕ) (rest : List ℕ) → length (c ∷ rest) ≤ length (after
 no_digit c rest h = ⊎_elim (λ e. absurd (omega (arith, rw e at h, after_digits-le rest))) (λ e. e) (cases_Bool (is_digit c))
 
 no_digits_word : (rest : List ℕ) → length rest ≤ length (after_digits rest) → is_number (front_word rest) ≡ false
-unfolding is_number
 no_digits_word [] h = refl
 no_digits_word (c ∷ rest) h = ⊎_elim (λ e. rw e refl) (λ e. rw e (rw (no_digit c rest h) refl)) (cases_Bool (is_word_end (c ∷ rest)))
 
 -- signs
 sign_here : (c : ℕ) (rest : List ℕ) → ((c == 43) || (c == 45)) ≡ true → (is_value_word (front_word (c ∷ rest)) ≡ is_number (front_word rest)) × (magnitude (front_word (c ∷ rest)) ≡ number (front_word rest))
-unfolding is_value_word magnitude
 sign_here c rest e = let g : front_word (c ∷ rest) ≡ c ∷ front_word rest = rw (sign_no_end c rest e) refl in rw g (rw e (refl, refl))
 
 no_sign : (c : ℕ) (rest : List ℕ) → ((c == 43) || (c == 45)) ≡ false → (is_value_word (front_word (c ∷ rest)) ≡ is_number (front_word (c ∷ rest))) × (magnitude (front_word (c ∷ rest)) ≡ number (front_word (c ∷ rest)))
-unfolding is_value_word magnitude is_number
 no_sign c rest e = ⊎_elim (λ f. rw f (refl, refl)) (λ f. rw f (rw e (refl, refl))) (cases_Bool (is_word_end (c ∷ rest)))
 
 signed : (rest : List ℕ) → (is_value_word (front_word rest) ≡ is_number (front_word (after_sign rest))) × (magnitude (front_word rest) ≡ number (front_word (after_sign rest)))
-unfolding is_value_word magnitude is_number
 signed [] = (refl, refl)
 signed (c ∷ rest) = ⊎_elim (λ e. rw e (sign_here c rest e)) (λ e. rw e (no_sign c rest e)) (cases_Bool ((c == 43) || (c == 45)))
 

@@ -3,6 +3,7 @@ use Rattle.std.specs.Prelude.{ℕ, zero, suc, ◌-◌, ◌^◌, Bool, true, fals
 use Rattle.std.specs.Char.{to_ascii_lowercase}
 use Rattle.cb_semirings.specs.Arithmetic.{Arithmetic, has_negatives}
 use Rattle.cb_matrix.specs.declared.Entry.{Entry}
+use Rattle.cb_matrix.specs.declared.TheConstants.{LIMIT}
 use Rattle.cb_matrix.specs.Sparse.{Extent}
 use Rattle.cb_market.specs.declared.Kind.{Kind}
 use Rattle.cb_market.specs.declared.Kind.TheVariants.{BadHeader, Unsupported, BadSize, TooLarge, NotSquare, BadLine, BadNumber, IndexRange, AboveDiagonal, OnDiagonal, ValueRange}
@@ -79,7 +80,7 @@ is_shape SkewSymmetric shape = shape.rows == shape.cols
 abbrev pub size_checks : Header → List (List ℕ) → List (Bool × Kind)
 size_checks header ws =
     ((length ws == 3) && is_number (word 0 ws) && is_number (word 1 ws) && is_number (word 2 ws), BadSize)
-    ∷ (nat_le (number (word 0 ws)) 2147483647 && nat_le (number (word 1 ws)) 2147483647 && nat_le (number (word 2 ws)) 2147483647, TooLarge)
+    ∷ (nat_le (number (word 0 ws)) LIMIT && nat_le (number (word 1 ws)) LIMIT && nat_le (number (word 2 ws)) LIMIT, TooLarge)
     ∷ (is_shape header.symmetry (size_of ws).shape, NotSquare)
     ∷ []
 

@@ -1,5 +1,5 @@
 -- The first fault of a text, and the matrix of a text without one.
-use Rattle.std.specs.Prelude.{◌≡◌, ℕ, zero, suc, ◌+◌, ◌<◌, ◌⊎◌, List, [], ◌∷◌, length, flat_map, Some, None, Option, IfSome}
+use Rattle.std.specs.Prelude.{◌≡◌, ℕ, zero, suc, ◌+◌, ◌<◌, ◌≤◌, ◌⊎◌, List, [], ◌∷◌, length, flat_map, Some, None, Option, IfSome}
 use Rattle.cb_semirings.specs.Arithmetic.{Arithmetic}
 use Rattle.cb_matrix.specs.declared.Entry.{Entry}
 use Rattle.cb_matrix.specs.Sparse.{Sparse, Extent}
@@ -63,3 +63,7 @@ IsAnswer first f = (first ≡ Some f) ⊎ ((f.kind ≡ Memory) × IfSome first (
 -- an answer at a line: its fault, or want of memory where it has none
 abbrev pub IsLineAnswer : ℕ → Option Kind → ReadFault → Type 0
 IsLineAnswer n fault f = (f.line ≡ n) × ((fault ≡ Some f.kind) ⊎ ((fault ≡ None) × (f.kind ≡ Memory)))
+
+-- a fault at a line of a text whose first line has the number n, or at the one past its last
+abbrev pub IsLineOf : ℕ → List ℕ → ReadFault → Type 0
+IsLineOf n text f = (n ≤ f.line) × (f.line ≤ n + length (lines text))

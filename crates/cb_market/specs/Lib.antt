@@ -6,3 +6,4 @@ pub mod Faults
 pub mod Reads
 pub mod Text
 pub mod Rows
+pub mod Room

@@ -4,6 +4,7 @@ use Rattle.std.specs.Prelude.{◌≡◌, ℕ, ◌+◌, ◌<◌, ◌≤◌, List,
 use Rattle.std.specs.Char.{to_ascii_lowercase}
 use Rattle.cb_semirings.specs.Arithmetic.{Arithmetic}
 use Rattle.cb_matrix.specs.declared.Entry.{Entry}
+use Rattle.cb_matrix.specs.declared.TheConstants.{LIMIT}
 use Rattle.cb_matrix.specs.Sparse.{Sparse, Extent}
 use Rattle.cb_matrix.specs.Values.{collected}
 use Rattle.cb_market.specs.declared.header.Header.{Header}
@@ -46,14 +47,14 @@ IsShape General shape = Unit {0}
 IsShape Symmetric shape = shape.rows ≡ shape.cols
 IsShape SkewSymmetric shape = shape.rows ≡ shape.cols
 
--- The size line is three numbers, none above 2147483647: the rows, the columns and how many entries follow.
+-- The size line is three numbers, none above the limit: the rows, the columns and how many entries follow.
 pub record IsSize (symmetry : Symmetry) (ws : List (List ℕ)) (size : Size) : Type 0 where
   pub three_words : length ws ≡ 3
   pub numbers : (is_number (word 0 ws) ≡ true) × (is_number (word 1 ws) ≡ true) × (is_number (word 2 ws) ≡ true)
   pub rows : number (word 0 ws) ≡ size.shape.rows
   pub cols : number (word 1 ws) ≡ size.shape.cols
   pub count : number (word 2 ws) ≡ size.count
-  pub limit : (size.shape.rows ≤ 2147483647) × (size.shape.cols ≤ 2147483647) × (size.count ≤ 2147483647)
+  pub limit : (size.shape.rows ≤ LIMIT) × (size.shape.cols ≤ LIMIT) × (size.count ≤ LIMIT)
   pub shape : IsShape symmetry size.shape
 
 -- anywhere; on or below the diagonal; below it

@@ -1,11 +1,12 @@
 //! The entries of a text.
-ghost use Rattle.std.specs.Prelude.{◌≡◌, ◌+◌, ◌-◌, ◌*◌, ◌/◌, ◌^◌, ◌<◌, ◌≤◌, ◌++◌, IsTrue, IfOk, IfErr, OnOk, [], ◌∷◌, length, Some, None};
+ghost use Rattle.std.specs.Prelude.{◌≡◌, ◌+◌, ◌-◌, ◌*◌, ◌/◌, ◌^◌, ◌<◌, ◌≤◌, ◌++◌, IsTrue, IfOk, IfErr, OnOk, [], ◌∷◌, length, vec_capacity, Some, None};
 ghost use Rattle.cb_semirings.specs.Arithmetic.{IsValue};
 ghost use Rattle.cb_market.specs.declared.header.Field.TheVariants.{Integer, Pattern};
 ghost use Rattle.cb_market.specs.Lines.{is_number, number, words, lines, kept_from};
 ghost use Rattle.cb_market.specs.Cursor.{line_at, after_line};
 ghost use Rattle.cb_market.specs.Checks.{is_above, is_on_diagonal, place_fault, entry_fault, entry_of, mirrored, negative_of, given_by};
-ghost use Rattle.cb_market.specs.Faults.{entries_fault, given, IsAnswer, IsLineAnswer};
+ghost use Rattle.cb_market.specs.Room.{shortest_line, most_given, room_of};
+ghost use Rattle.cb_market.specs.Faults.{entries_fault, given, IsAnswer, IsLineAnswer, IsLineOf};
 
 use crate::header::{Field, Header, Symmetry};
 use crate::scanner::Scanner;
@@ -150,34 +151,41 @@ fn give<S: Semiring>(
     Ok(())
 }
 
-/// How many entries to make room for: no more than are announced, and no more than the bytes that
-/// follow can write. A short text that announces many takes no room for them.
-fn room(header: Header, count: u32, bytes: usize) -> usize
-    ensures announced { result ≤ 2 * count }
-    ensures written { result ≤ 2 * (bytes / 4 + 1) }
+/// The bytes of the shortest line of an entry, with its end.
+fn shortest_line(field: Field) -> usize
+    ensures { result ≡ shortest_line field }
 {
-    let shortest_line = match header.field {
+    match field {
         Field::Integer => 6,
         Field::Pattern => 4,
-    };
-    let lines = (bytes / shortest_line + 1).min(count as usize);
-    match header.symmetry {
-        Symmetry::General => lines,
-        Symmetry::Symmetric => 2 * lines,
-        Symmetry::SkewSymmetric => 2 * lines,
     }
 }
 
-/// A list without entries, with room for those that the bytes that follow write.
+/// The most entries that a line gives.
+fn most_given(symmetry: Symmetry) -> usize
+    ensures { result ≡ most_given symmetry }
+{
+    match symmetry {
+        Symmetry::General => 1,
+        Symmetry::Symmetric => 2,
+        Symmetry::SkewSymmetric => 2,
+    }
+}
+
+/// A list without entries. It has room for as many as are announced, but for no more than the text
+/// that follows can give: a short text that announces many takes no room for them.
 pub fn room_for_entries(
     alloc: Global,
     header: Header,
     count: u32,
-    bytes: usize,
+    text: &[u8],
 ) -> Result<Vec<Entry>, AllocError>
-    ensures { IfOk result (λ v. v.items ≡ []) }
+    ensures empty { IfOk result (λ v. v.items ≡ []) }
+    ensures room { IfOk result (λ v. vec_capacity v ≡ room_of header count (length text.now)) }
 {
-    Vec::with_capacity(alloc, room(header, count, bytes))
+    let lines = (text.len() + 1) / shortest_line(header.field);
+    let room = most_given(header.symmetry) * lines.min(count as usize);
+    Vec::with_capacity(alloc, room)
 }
 
 impl<'a> Scanner<'a> {
@@ -249,11 +257,13 @@ impl<'a> Scanner<'a> {
         header: Header,
         size: Size,
     ) -> Result<Vec<Entry>, ReadFault>
-        requires { self.old.line + length (lines self.old.rest.now) < 2 ^ 64 }
+        requires lines { self.old.line + length (lines self.old.rest.now) < 2 ^ 64 }
+        requires room { vec_capacity room ≡ room_of header size.count (length self.old.rest.now) }
         ensures none { IfOk result (λ v. entries_fault S.arithmetic header size.shape (self.old.line + length (lines self.old.rest.now)) size.count (kept_from self.old.line self.old.rest.now) ≡ None) }
         ensures given { IfOk result (λ v. v.items ≡ room.items ++ given S.arithmetic header (kept_from self.old.line self.old.rest.now)) }
         ensures line { IfOk result (λ v. self.new.line ≡ self.old.line + length (lines self.old.rest.now)) }
         ensures fault { IfErr result (IsAnswer (entries_fault S.arithmetic header size.shape (self.old.line + length (lines self.old.rest.now)) size.count (kept_from self.old.line self.old.rest.now))) }
+        ensures place { IfErr result (IsLineOf self.old.line self.old.rest.now) }
     {
         let mut entries = room;
         let mut left = size.count;

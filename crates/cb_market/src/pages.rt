@@ -5,7 +5,7 @@ use itoa::write_digits;
 use std::marker::Model;
 
 /// How many bytes a page holds.
-const SIZE: usize = 16_128;
+pub(crate) const SIZE: usize = 16_128;
 
 /// Bytes that are written in front of one another, since the digits of a number are found from its last
 /// to its first. They stand at the end of the page.
@@ -17,12 +17,13 @@ pub(crate) struct Page {
 
 impl Model for Page {
     ghost use Rattle.std.specs.Prelude.{ℕ, ◌≤◌, List, drop};
+    ghost use Rattle.cb_market.specs.declared.pages.TheConstants.{SIZE};
 
     ghost Value = { List ℕ };
 
     ghost view = { λ p. drop p.start p.bytes };
 
-    ghost invariant = { λ p. p.start ≤ 16128 };
+    ghost invariant = { λ p. p.start ≤ SIZE };
 }
 
 impl Page {
@@ -45,7 +46,7 @@ impl Page {
 
     /// Writes a number and a byte after it, in front of what was written. They have at most 21 bytes.
     pub fn put(&mut self, number: u64, end: u8)
-        requires room { length self.old + 21 ≤ 16128 }
+        requires room { length self.old + 21 ≤ SIZE }
         ensures written { self.new ≡ decimal number ++ end ∷ self.old }
         ensures length { length self.new ≤ length self.old + 21 }
     {

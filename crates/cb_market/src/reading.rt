@@ -1,10 +1,10 @@
 //! Reading a text.
-ghost use Rattle.std.specs.Prelude.{◌≡◌, ◌+◌, ◌^◌, ◌<◌, IfOk, IfErr, IsTrue, length, None};
+ghost use Rattle.std.specs.Prelude.{◌≡◌, ◌+◌, ◌^◌, ◌<◌, ◌≤◌, IfOk, IfErr, IsTrue, length, None};
 ghost use Rattle.cb_market.specs.Lines.{lines, kept_from};
 ghost use Rattle.cb_matrix.specs.Values.{collected};
 ghost use Rattle.cb_market.specs.Checks.{is_shape};
 ghost use Rattle.cb_market.specs.Cursor.{after_line};
-ghost use Rattle.cb_market.specs.Faults.{entries_fault, given, body_fault, body_matrix, first_fault, IsAnswer};
+ghost use Rattle.cb_market.specs.Faults.{entries_fault, given, body_fault, body_matrix, first_fault, IsAnswer, IsLineOf};
 ghost use Rattle.cb_market.specs.Reads.{Reads, IsFaultOrMatrix};
 
 use crate::entries::room_for_entries;
@@ -23,6 +23,7 @@ impl<'a> Scanner<'a> {
         ensures none { IfOk result (λ _. body_fault S.arithmetic header (self.old.line + length (lines self.old.rest.now)) (kept_from self.old.line self.old.rest.now) ≡ None) }
         ensures matrix { IfOk result (λ m. m ≡ body_matrix S.arithmetic header (kept_from self.old.line self.old.rest.now)) }
         ensures fault { IfErr result (IsAnswer (body_fault S.arithmetic header (self.old.line + length (lines self.old.rest.now)) (kept_from self.old.line self.old.rest.now))) }
+        ensures place { IfErr result (IsLineOf self.old.line self.old.rest.now) }
     {
         let Some(first) = self.kept_line() else {
             return Err(self.fault(Kind::BadSize));
@@ -43,12 +44,14 @@ impl<'a> Scanner<'a> {
         ensures none { IfOk result (λ _. entries_fault S.arithmetic header size.shape (self.old.line + 1 + length (lines (after_line self.old.rest.now))) size.count (kept_from (self.old.line + 1) (after_line self.old.rest.now)) ≡ None) }
         ensures matrix { IfOk result (λ m. m ≡ collected S.arithmetic size.shape (given S.arithmetic header (kept_from (self.old.line + 1) (after_line self.old.rest.now)))) }
         ensures fault { IfErr result (IsAnswer (entries_fault S.arithmetic header size.shape (self.old.line + 1 + length (lines (after_line self.old.rest.now))) size.count (kept_from (self.old.line + 1) (after_line self.old.rest.now)))) }
+        ensures place { IfErr result (λ f. (self.old.line ≤ f.line) × (f.line ≤ self.old.line + 1 + length (lines (after_line self.old.rest.now)))) }
     {
         let shape = size.shape;
-        let Ok(room) = room_for_entries(alloc, header, size.count, self.rest.len()) else {
-            return Err(self.fault(Kind::Memory));
-        };
+        let refused = self.fault(Kind::Memory);
         self.next_line();
+        let Ok(room) = room_for_entries(alloc, header, size.count, self.rest) else {
+            return Err(refused);
+        };
         let entries = self.entries::<S>(room, header, size)?;
         let Ok(matrix) = Matrix::collect(shape, entries) else {
             return Err(self.fault(Kind::Memory));
@@ -61,10 +64,11 @@ impl<'a> Scanner<'a> {
 /// entries give there; a sum of zero is not stored.
 ///
 /// Memory is answered with the line at which it was refused, and only where no fault stands before
-/// that line or at it. One pass over the bytes; then the entries are sorted and added in place.
+/// that line or at it; the line past the last is that of what is looked for at the end. One pass over the bytes; then the entries are sorted and added in place.
 pub fn read<S: Semiring>(alloc: Global, text: &[u8]) -> Result<Matrix<S>, ReadFault>
     ensures ok { IfOk result (λ m. Reads S.arithmetic text.now m) }
     ensures fault { IfErr result (IsAnswer (first_fault S.arithmetic text.now)) }
+    ensures line { IfErr result (IsLineOf 1 text.now) }
     ensures law { IsFaultOrMatrix S.arithmetic text.now }
 {
     if text.is_empty() {

@@ -2,7 +2,7 @@
 //!
 //! The cursor is the bytes that are left. What each step promises is said in the lines and words of
 //! these (`specs/Cursor.antt`).
-ghost use Rattle.std.specs.Prelude.{◌≡◌, ◌+◌, ◌^◌, ◌<◌, MatchOption, IfSome, IfNone, [], ◌∷◌, length};
+ghost use Rattle.std.specs.Prelude.{◌≡◌, ◌+◌, ◌^◌, ◌<◌, ◌≤◌, MatchOption, IfSome, IfNone, [], ◌∷◌, length};
 ghost use Rattle.cb_market.specs.Lines.{is_blank, number, words, lines, kept_from};
 ghost use Rattle.cb_market.specs.Cursor.{is_line_end, line_at, after_line, is_word_end, front_digits, after_digits, front_word, after_word, after_blanks, after_sign, if_small, number_of};
 
@@ -187,6 +187,7 @@ impl<'a> Scanner<'a> {
     pub fn kept_line(&mut self) -> Option<Word<'a>>
         requires { self.old.line + length (lines self.old.rest.now) < 2 ^ 64 }
         ensures none { IfNone result (kept_from self.old.line self.old.rest.now ≡ []) }
+        ensures later { self.old.line ≤ self.new.line }
         ensures end { IfNone result (self.new.line ≡ self.old.line + length (lines self.old.rest.now)) }
         ensures some { IfSome result (λ w. kept_from self.old.line self.old.rest.now ≡ (self.new.line, w.bytes.now ∷ words (line_at self.new.rest.now)) ∷ kept_from (self.new.line + 1) (after_line self.new.rest.now)) }
         ensures count { IfSome result (λ w. self.new.line + 1 + length (lines (after_line self.new.rest.now)) ≡ self.old.line + length (lines self.old.rest.now)) }

@@ -104,7 +104,7 @@ impl<'a> Word<'a> {
     /// The number that it writes, if a matrix may have as many rows, columns or entries.
     pub fn limited(&self) -> Option<u32>
         requires { IsTrue (is_number self.now.bytes.now) }
-        ensures { result ≡ small_in 2147483647 (number self.now.bytes.now) }
+        ensures { result ≡ small_in LIMIT (number self.now.bytes.now) }
     {
         match self.number {
             Number::Whole(number) => small_in(LIMIT, number),

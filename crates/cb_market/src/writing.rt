@@ -3,8 +3,8 @@ ghost use Rattle.std.specs.Prelude.{◌≡◌, ◌+◌, ◌≤◌, ◌++◌, IfO
 ghost use Rattle.cb_market.specs.Reads.{Reads};
 ghost use Rattle.cb_market.specs.Text.{text_of, entry_line, header_line, number_line, vertex_text_of, line_of};
 
-use crate::pages::Page;
-use cb_matrix::{Entry, Matrix, Shape};
+use crate::pages::{Page, SIZE};
+use cb_matrix::{Entry, LIMIT, Matrix, Shape};
 use cb_semirings::{MinPlus, Semiring};
 use itoa::Buffer;
 use std::alloc::{AllocError, Global};
@@ -56,7 +56,7 @@ fn text_of_lines(alloc: Global, shape: Shape, lines: usize) -> Result<Vec<u8>, A
 
 /// Puts the line of an entry in front of the lines of a page.
 fn put_line(page: &mut Page, line: Line, entry: Entry)
-    requires room { length page.old + 63 ≤ 16128 }
+    requires room { length page.old + 63 ≤ SIZE }
     ensures written { page.new ≡ line_of line entry ++ page.old }
     ensures length { length page.new ≤ length page.old + 63 }
 {
@@ -78,7 +78,7 @@ fn put_page(
     line: Line,
     entries: &[Entry],
 ) -> Result<(), AllocError>
-    requires { length entries.now ≤ 256 }
+    requires { length entries.now ≤ LINES }
     ensures { OnOk result (text.new.items ≡ text.old.items ++ flat_map (line_of line) entries.now) }
 {
     page.clear();
@@ -134,7 +134,7 @@ fn put_size(
 /// Read again it gives the same matrix, if there are at most 2,147,483,647 entries.
 pub fn text<S: Semiring>(alloc: Global, matrix: &Matrix<S>) -> Result<Vec<u8>, AllocError>
     ensures text { IfOk result (λ bytes. bytes.items ≡ text_of S.arithmetic matrix.now) }
-    ensures law { IfOk result (λ bytes. length matrix.now.entries ≤ 2147483647 → Reads S.arithmetic bytes.items matrix.now) }
+    ensures law { IfOk result (λ bytes. length matrix.now.entries ≤ LIMIT → Reads S.arithmetic bytes.items matrix.now) }
 {
     let shape = matrix.shape();
     let is_pattern = S::writes_pattern();

@@ -1,6 +1,6 @@
 //! Texts that read as a matrix.
 use super::again;
-use crate::{ReadFault, read, text, vertex_text};
+use crate::{Kind, ReadFault, read, text, vertex_text};
 use cb_semirings::{MaxMin, MinPlus, OrAnd, PlusTimes};
 use std::alloc::{AllocError, Global};
 
@@ -116,7 +116,16 @@ fn long_line(alloc: Global, before: &[u8], digit: u8, after: &[u8]) -> Result<Ve
 fn have_long_numbers(rt: HostRuntime) {
     let alloc = rt.alloc();
     let many = b"%%MatrixMarket matrix coordinate integer general\n1 1 2147483647\n";
-    assert_eq!(&rt; read::<PlusTimes>(alloc, many).is_ok(), false);
+    let found = again::<PlusTimes>(alloc, many);
+    assert!(&rt;
+        matches!(
+            found,
+            Err(ReadFault {
+                line: 3,
+                kind: Kind::MissingEntries
+            })
+        )
+    );
     let index = long_line(alloc, b"", b'9', b" 1 5\n").expect(&rt, "index");
     let found = again::<PlusTimes>(alloc, &index);
     assert!(&rt;
@@ -124,7 +133,7 @@ fn have_long_numbers(rt: HostRuntime) {
             found,
             Err(ReadFault {
                 line: 3,
-                kind: crate::Kind::IndexRange
+                kind: Kind::IndexRange
             })
         )
     );

@@ -1,16 +1,18 @@
 //! Where memory is refused, that is the answer, and else the right one. These tests are also run with
 //! each of their allocations refused in turn.
-use super::again;
-use crate::{Kind, ReadFault, read, vertex_text};
+use crate::{Kind, ReadFault, read, text, vertex_text};
 use cb_semirings::{MinPlus, OrAnd, PlusTimes, Semiring};
 use std::alloc::Global;
 
 /// The wanted text; or want of memory, at a line of the text, at the one past its last, or for the
 /// text of the answer.
 fn right_or_memory<S: Semiring>(alloc: Global, given: &[u8], wanted: &[u8], last: u64) -> bool {
-    match again::<S>(alloc, given) {
-        Ok(found) => found.as_slice() == wanted,
-        Err(ReadFault { line, kind }) => kind == Kind::Memory && line <= last,
+    match read::<S>(alloc, given) {
+        Ok(matrix) => match text(alloc, &matrix) {
+            Ok(found) => found.as_slice() == wanted,
+            Err(_) => true,
+        },
+        Err(ReadFault { line, kind }) => kind == Kind::Memory && 1 <= line && line <= last,
     }
 }
 

@@ -28,6 +28,7 @@ loop-first-preserved g c =
       faults = rw kept (passed g.S.Semiring.arithmetic c.args.header c.args.size.shape _ c.loop-first.left _ _ _ _ c.loop-first.invariant.faults some c.in-Some.ensures.some c.in_ok-entry_line.ensures.none);
       gives = rw kept (gives_more g.S.Semiring.arithmetic c.args.header c.loop-first.entries.items _ _ _ _ _ c.loop-first.invariant.gives c.in-Some.ensures.some c.in_ok-entry_line.ensures.given);
       count = rw (line, rest) (count ∙ c.loop-first.invariant.count);
+      later = omega (arith, line, c.kept_line.ensures.later, c.loop-first.invariant.later);
       room = rw (line, rest) (omega (arith, count, c.loop-first.invariant.room));
     }
 

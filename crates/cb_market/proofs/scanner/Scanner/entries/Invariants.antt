@@ -1,4 +1,4 @@
-use Rattle.std.proofs.Common.{length, ◌≡◌, ◌+◌, ◌++◌, ◌<◌, ◌^◌}
+use Rattle.std.proofs.Common.{length, ◌≡◌, ◌+◌, ◌++◌, ◌<◌, ◌≤◌, ◌^◌}
 use Rattle.cb_market.specs.Lines.{kept_from, lines}
 use Rattle.cb_market.specs.Faults.{given}
 use Rattle.cb_market.proofs.Faulted.{SameFault}
@@ -9,6 +9,7 @@ invariant-loop-first g l = record {
   faults : SameFault g.S.Semiring.arithmetic l.header l.fn.size.shape (l.initial.self.line + length (lines l.initial.self.rest.now)) l.fn.size.count (kept_from l.initial.self.line l.initial.self.rest.now) l.left (kept_from l.self.line l.self.rest.now);
   gives : l.entries.items ++ given g.S.Semiring.arithmetic l.header (kept_from l.self.line l.self.rest.now) ≡ l.initial.entries.items ++ given g.S.Semiring.arithmetic l.header (kept_from l.initial.self.line l.initial.self.rest.now);
   count : l.self.line + length (lines l.self.rest.now) ≡ l.initial.self.line + length (lines l.initial.self.rest.now);
+  later : l.initial.self.line ≤ l.self.line;
   room : l.self.line + length (lines l.self.rest.now) < 2 ^ 64;
 }
 

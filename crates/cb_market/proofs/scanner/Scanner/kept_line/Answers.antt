@@ -41,6 +41,7 @@ loop-self-preserved c =
     record {
       kept = kept_passed c.loop-self.self.line c.next_line.new.self.line c.loop-self.self.rest.now c.word.new.self.rest.now c.next_line.new.self.rest.now some line c.word.ensures.after c.next_line.ensures.rest skipped ∙ c.loop-self.invariant.kept;
       count = omega (arith, ap (λ l. length (lines l)) rest, lines_more c.loop-self.self.rest.now some, c.loop-self.invariant.count, line);
+      later = omega (arith, line, c.loop-self.invariant.later);
       shorter = omega (arith, ap length rest, after_line-lt c.loop-self.self.rest.now some, c.loop-self.invariant.shorter);
     }
 
