@@ -5,7 +5,7 @@ ghost use Rattle.cb_plan.specs.Plans.{CheckedView, IsChecked, IsElsewhere};
 ghost use Rattle.cb_plan.specs.declared.plans.PlanFaultKind.TheVariants.{Memory};
 
 use crate::acts::{Act, Op, Start};
-use crate::outlines::Outline;
+use crate::check_states::CheckState;
 use crate::plans::{Plan, PlanFault, PlanFaultKind, Planned};
 use std::alloc::{AllocError, Global};
 use std::marker::Model;
@@ -110,16 +110,16 @@ fn first_fault(
     requires few { length acts.now ≤ 4294967295 }
     ensures { IfOk result (λ fault. fault ≡ plan_fault ranks starts.now acts.now) }
 {
-    let mut outline = Outline::started(alloc, ranks, starts)?;
+    let mut state = CheckState::started(alloc, ranks, starts)?;
     let mut number = 0;
     for act in acts {
-        if let Some(kind) = outline.fault_of(act) {
+        if let Some(kind) = state.fault_of(act) {
             return Ok(Some(PlanFault { act: number, kind }));
         }
-        outline.pass(act);
+        state.pass(act);
         number += 1;
     }
-    if outline.is_all_shut() {
+    if state.is_all_shut() {
         Ok(None)
     } else {
         Ok(Some(PlanFault {

@@ -134,7 +134,7 @@ impl Plan {
         ensures long { length self.old.acts ≡ 4294967295 → result ≡ Err (record { act = 4294967295; kind = TooLong }) }
         ensures faults { IfErr result (λ e. (e ≡ record { act = 4294967295; kind = TooLong }) ⊎ (e ≡ record { act = 0; kind = Memory })) }
     {
-        // The borrow check knows a type that an act holds only where the body names it.
+        // For the borrow check alone, which knows a type that an act holds only where the body names it.
         let _none: Option<Op> = None;
         if self.acts.len() == MOST_ACTS {
             return Err(self.too_long());

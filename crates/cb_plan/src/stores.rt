@@ -12,7 +12,7 @@ use std::marker::Model;
 use std::mem;
 
 /// How many slots a rank has.
-pub(crate) const SLOTS: u16 = 256;
+pub const SLOTS: u16 = 256;
 
 /// A slot of a rank, for blocks of any kind.
 #[derive(Debug, Drop)]
