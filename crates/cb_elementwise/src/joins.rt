@@ -4,7 +4,7 @@ ghost use Rattle.cb_semirings.specs.Arithmetic.{IsValue};
 ghost use Rattle.cb_matrix.specs.Sparse.{at, IsMatrix, IsInside, IsBefore};
 ghost use Rattle.cb_matrix.specs.Values.{matrix_of};
 ghost use Rattle.cb_elementwise.specs.Walks.{earlier};
-ghost use Rattle.cb_elementwise.specs.Joining.{with_stored};
+ghost use Rattle.cb_elementwise.specs.Progress.{with_stored};
 
 use crate::cursors::Cursor;
 use crate::rules::Rule;
@@ -26,7 +26,7 @@ pub(crate) fn joined<S: Semiring, R: Rule<S>>(
     ensures { IfOk result (λ m. m ≡ matrix_of S.arithmetic left.now.shape (λ i j. R.combined rule.now (at S.arithmetic left.now i j) (at S.arithmetic right.now i j))) }
 {
     let shape = left.shape();
-    // The shapes are the same. The call is for what it says beside: that the entries of the block are in order.
+    // For the proof alone: the call says that the entries of the block are in order.
     let _shape = right.shape();
     let mut out = Block::empty(alloc, shape);
     out.reserve(room)?;

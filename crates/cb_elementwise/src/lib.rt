@@ -22,7 +22,7 @@ mod rules;
 mod tests;
 
 use crate::joins::joined;
-use crate::rules::{Adding, Masking, Multiplying};
+use crate::rules::{Product, Restriction, Sum};
 use cb_dcsc::Block;
 use cb_semirings::Semiring;
 pub use rules::Test;
@@ -40,7 +40,7 @@ pub fn add<S: Semiring>(
     ensures { IfOk result (λ sum. sum ≡ sum_of S.arithmetic left.now right.now) }
 {
     let room = left.len().max(right.len());
-    joined(alloc, &Adding, left, right, room)
+    joined(alloc, &Sum, left, right, room)
 }
 
 /// The product at each place of two blocks of one shape. A product that is zero is not stored.
@@ -55,7 +55,7 @@ pub fn times<S: Semiring>(
     ensures { IfOk result (λ product. product ≡ times_of S.arithmetic left.now right.now) }
 {
     let room = left.len().min(right.len());
-    joined(alloc, &Multiplying, left, right, room)
+    joined(alloc, &Product, left, right, room)
 }
 
 /// The entries of a block at the places where a mask of its shape has an entry. What value the mask has there
@@ -71,7 +71,7 @@ pub fn mask<S: Semiring>(
     ensures { IfOk result (λ kept. kept ≡ masked S.arithmetic block.now mask.now) }
 {
     let room = block.len().min(mask.len());
-    joined(alloc, &Masking, block, mask, room)
+    joined(alloc, &Restriction, block, mask, room)
 }
 
 /// The block without the entries whose value passes the test.

@@ -23,9 +23,9 @@ pub(crate) trait Rule<S: Semiring> {
 
 /// The sum.
 #[derive(Drop)]
-pub(crate) struct Adding;
+pub(crate) struct Sum;
 
-impl<S: Semiring> Rule<S> for Adding {
+impl<S: Semiring> Rule<S> for Sum {
     ghost combined = { λ rule x y. S.arithmetic.add x y };
 
     ghost zeros = { λ rule. S.is_semiring.zero_add S.arithmetic.zero S.is_semiring.zero_value };
@@ -39,9 +39,9 @@ impl<S: Semiring> Rule<S> for Adding {
 
 /// The product.
 #[derive(Drop)]
-pub(crate) struct Multiplying;
+pub(crate) struct Product;
 
-impl<S: Semiring> Rule<S> for Multiplying {
+impl<S: Semiring> Rule<S> for Product {
     ghost combined = { λ rule x y. S.arithmetic.mul x y };
 
     ghost zeros = { λ rule. S.is_semiring.zero_mul S.arithmetic.zero S.is_semiring.zero_value };
@@ -55,9 +55,9 @@ impl<S: Semiring> Rule<S> for Multiplying {
 
 /// The first value, where the second is other than zero.
 #[derive(Drop)]
-pub(crate) struct Masking;
+pub(crate) struct Restriction;
 
-impl<S: Semiring> Rule<S> for Masking {
+impl<S: Semiring> Rule<S> for Restriction {
     ghost combined = { λ rule x y. where_stored S.arithmetic.zero x y };
 
     ghost zeros = { λ rule. where_stored-zero S.arithmetic.zero };

@@ -1,49 +1,18 @@
 //! Worked examples, with ample memory and with each allocation refused in turn.
-ghost use Rattle.std.specs.Prelude.{◌≡◌, ◌↔◌, IsTrue, All, IfOk};
-ghost use Rattle.cb_semirings.specs.Arithmetic.{IsValue};
+ghost use Rattle.std.specs.Prelude.{◌≡◌, IfOk};
 
 use crate::{Test, add, mask, prune, times};
 use cb_dcsc::Block;
-use cb_matrix::{Entry, LIMIT, Shape};
-use cb_semirings::{MaxMin, MinPlus, OrAnd, PlusTimes, Semiring};
+use cb_matrix::LIMIT;
+use cb_samples::{SampleFault, block, entry, shape};
+use cb_semirings::{MaxMin, MinPlus, OrAnd, PlusTimes};
 use std::alloc::Global;
 use std::test::Fail;
 
 const TOP: u64 = u64::MAX;
 
-const fn entry(row: u32, column: u32, value: u64) -> Entry {
-    Entry { row, column, value }
-}
-
-fn shape(rows: u32, cols: u32) -> Result<Shape, Fail>
-    ensures { IfOk result (λ s. s ≡ record { rows = rows; cols = cols }) }
-{
-    Ok(Shape::new(rows, cols).ok_or("past the limit")?)
-}
-
-/// Whether each entry's value is one of the semiring.
-fn are_values<S: Semiring>(entries: &[Entry]) -> bool
-    ensures { IsTrue result ↔ All (λ e. IsValue S.arithmetic e.value) entries.now }
-{
-    entries.iter().all(|entry| S::is_value(entry.value))
-}
-
-fn block<S: Semiring>(
-    alloc: Global,
-    rows: u32,
-    cols: u32,
-    entries: &[Entry],
-) -> Result<Block<S>, Fail>
-    ensures { IfOk result (λ b. b.shape ≡ record { rows = rows; cols = cols }) }
-{
-    if !are_values::<S>(entries) {
-        return Err("a value out of range".into());
-    }
-    Ok(Block::from_sorted(alloc, shape(rows, cols)?, entries)?)
-}
-
 /// The first operand of the worked examples, two by two.
-fn first(alloc: Global) -> Result<Block<PlusTimes>, Fail>
+fn first(alloc: Global) -> Result<Block<PlusTimes>, SampleFault>
     ensures { IfOk result (λ b. b.shape ≡ record { rows = 2; cols = 2 }) }
 {
     block(
@@ -55,7 +24,7 @@ fn first(alloc: Global) -> Result<Block<PlusTimes>, Fail>
 }
 
 /// The second operand of the worked examples, two by two.
-fn second(alloc: Global) -> Result<Block<PlusTimes>, Fail>
+fn second(alloc: Global) -> Result<Block<PlusTimes>, SampleFault>
     ensures { IfOk result (λ b. b.shape ≡ record { rows = 2; cols = 2 }) }
 {
     block(alloc, 2, 2, &[entry(1, 0, 4), entry(0, 1, 1)])

@@ -1,4 +1,4 @@
-use Rattle.cb_elementwise.proofs.Steps.{is_end}
+use Rattle.cb_elementwise.proofs.CursorSteps.{is_end}
 use Rattle.cb_elementwise.proofs.cursors.column_end.Goals as goal
 
 pub returns-then-n-columns : goal.returns-then-n-columns

@@ -1,6 +1,6 @@
 use Rattle.std.proofs.Common.{◌+◌, length, drop}
 use Rattle.cb_elementwise.specs.Walks.{Stands}
-use Rattle.cb_elementwise.specs.Joining.{Joining}
+use Rattle.cb_elementwise.specs.Progress.{IsJoinedSoFar}
 use Rattle.cb_elementwise.proofs.joins.joined.Given as goal
 
 abbrev pub invariant-loop-place : goal.invariant-loop-place
@@ -8,7 +8,7 @@ invariant-loop-place g l =
     record {
       left : Stands l.left.entries l.at_left;
       right : Stands l.right.entries l.at_right;
-      joining : Joining g.S.Semiring.arithmetic (g.R.Rule.combined l.rule) l.left l.right l.out (drop l.at_left.at l.left.entries) (drop l.at_right.at l.right.entries);
+      joined : IsJoinedSoFar g.S.Semiring.arithmetic (g.R.Rule.combined l.rule) l.left l.right l.out (drop l.at_left.at l.left.entries) (drop l.at_right.at l.right.entries);
     }
 
 abbrev pub decreases-loop-place : goal.decreases-loop-place

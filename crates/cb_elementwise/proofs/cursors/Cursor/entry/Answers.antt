@@ -1,5 +1,5 @@
 use Rattle.std.proofs.Common.{ap, get_or, arith}
-use Rattle.cb_elementwise.proofs.Steps.{some_column, entry_here}
+use Rattle.cb_elementwise.proofs.CursorSteps.{some_column, entry_here}
 use Rattle.cb_elementwise.proofs.cursors.Cursor.entry.Goals as goal
 
 pub column_number-requires : goal.column_number-requires

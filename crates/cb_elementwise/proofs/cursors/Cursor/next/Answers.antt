@@ -1,5 +1,5 @@
 use Rattle.std.proofs.Common.{rules}
-use Rattle.cb_elementwise.proofs.Steps.{before_end, next_same, next_column}
+use Rattle.cb_elementwise.proofs.CursorSteps.{before_end, next_same, next_column}
 use Rattle.cb_elementwise.proofs.cursors.Cursor.next.Goals as goal
 
 pub overflow_add-next : goal.overflow_add-next

@@ -1,4 +1,4 @@
-use Rattle.cb_elementwise.proofs.Steps.{starts}
+use Rattle.cb_elementwise.proofs.CursorSteps.{starts}
 use Rattle.cb_elementwise.proofs.cursors.Cursor.start.Goals as goal
 
 pub returns-clause-stands : goal.returns-clause-stands

@@ -1,4 +1,4 @@
-use Rattle.cb_elementwise.proofs.Steps.{past_first}
+use Rattle.cb_elementwise.proofs.CursorSteps.{past_first}
 use Rattle.cb_elementwise.proofs.cursors.Cursor.take.Goals as goal
 
 pub returns-then-entry-place-2-clause-rest : goal.returns-then-entry-place-2-clause-rest

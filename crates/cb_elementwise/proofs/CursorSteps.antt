@@ -1,8 +1,8 @@
 -- A cursor's steps.
-use Rattle.std.proofs.Common.{◌≡◌, ◌≢◌, ℕ, suc, ◌+◌, ◌-◌, ◌<◌, ◌≤◌, true, false, cond, Some, None, List, [], ◌∷◌, ◌++◌, length, take, drop, get_or, sym, refl, ap, ◌∙◌, ⊎_elim, arith, subst, length-append, length-drop}
+use Rattle.std.proofs.Common.{◌≡◌, ◌≢◌, ℕ, suc, ◌+◌, ◌-◌, ◌<◌, ◌≤◌, true, false, cond, Some, List, [], ◌∷◌, ◌++◌, length, take, drop, get_or, sym, refl, ap, ◌∙◌, ⊎_elim, arith, subst, length-append, length-drop}
 use Rattle.std.specs.Prelude.{All, ◌==◌, slice_range, unwrap_or}
 use Rattle.std.proofs.lemmas.Bool.{cases_lt, cond-true, cond-false, eq-eqb, ne_eqb, eqb-true, eqb-false}
-use Rattle.std.proofs.lemmas.List.{take-append-drop, drop-drop, get_or-take, get_or-drop, get_or-map, drop_more, drop_all, nil_from_length, length-take-le}
+use Rattle.std.proofs.lemmas.List.{take-append-drop, drop-drop, get_or-take, get_or-drop, get_or-map, drop_more, nil_from_length, length-take-le}
 use Rattle.std.proofs.lemmas.List.Elements.{All-nil, All-cons, All-head, All-get_or, All-from_get_or, All-weaker, filter-append, filter_passes}
 use Rattle.cb_matrix.specs.declared.Entry.{Entry}
 use Rattle.cb_matrix.proofs.Places.{is_at-own}
@@ -44,6 +44,7 @@ module _ (es : List Entry) (c a b : ℕ) (some : a < b) (within : b ≤ length e
   none_after : All (λ e. e.column ≢ c) (drop b es)
   none_after = let n = counted in none_in c (drop b es) (nil_from_length (in_column c (drop b es)) (omega arith))
 
+  -- a column ends where its range does
   pub is_end : IsEnd es c b
   is_end = record {
     within = within;
@@ -99,6 +100,7 @@ module _ (es : List Entry) (at n : ℕ) (columns : columns_with_entries (drop at
   begins : (d : Entry) → (r : List ℕ) × (drop n (columns_with_entries es) ≡ (get_or es at d).column ∷ r)
   begins d = let b = first_column (get_or es at d) (drop (at + 1) es) in (b.0, sym columns ∙ ap columns_with_entries (drop_more es at d l) ∙ b.1)
 
+  -- at an entry there is a column
   pub some_column : n < length (columns_with_entries es)
   some_column =
       let b = begins blank in
@@ -111,6 +113,7 @@ module _ (es : List Entry) (at n : ℕ) (columns : columns_with_entries (drop at
       let e : n + 0 ≡ n = omega arith in
       ap (λ k. get_or (columns_with_entries es) k 0) (sym e) ∙ sym (get_or-drop n (columns_with_entries es) 0 0) ∙ ap (λ xs. get_or xs 0 0) b.1
 
+  -- the entry that a cursor is at
   pub entry_here : (r j v : ℕ) → r ≡ get_or (rows_of es) at 0 → j ≡ get_or (columns_with_entries es) n 0 → v ≡ get_or (values_of es) at 0 → Some (record { row = r; column = j; value = v }) ≡ first_of (drop at es)
   entry_here r j v p q u =
       let d = blank in
@@ -120,17 +123,17 @@ module _ (es : List Entry) (at n : ℕ) (columns : columns_with_entries (drop at
       let same : record { row = r; column = j; value = v } ≡ get_or es at d = λ t. record { row = row t; column = column t; value = value t } in
       ap Some same ∙ sym (ap first_of (drop_more es at d l))
 
-pub no_entry : (es : List Entry) (at : ℕ) → length es ≤ at → None ≡ first_of (drop at es)
-no_entry es at l = sym (ap first_of (drop_all at es l))
-
+-- a cursor starts at the first entry
 pub starts : (es : List Entry) (end : ℕ) → (0 < length (columns_with_entries es) → IsEnd es (get_or (columns_with_entries es) 0 0) end) → Stands es (record { nth = 0; at = 0; end = end })
 starts es end h = record { within = omega arith; passed = omega arith; columns = refl; ends = λ l. h (some_column es 0 0 refl l) }
 
 -- ---- one entry on
 module _ (es : List Entry) (cursor : Cursor) (is : Stands es cursor) (l : cursor.at < length es) where
+  -- the next entry is before the end of a column
   pub before_end : cursor.at < cursor.end
   before_end = (is.ends l).all cursor.at blank l (sym (column_is es cursor.at cursor.nth is.columns l blank))
 
+  -- the cursor at the next entry of its column
   pub next_same : cursor.at + 1 < cursor.end → Stands es (record { nth = cursor.nth; at = cursor.at + 1; end = cursor.end })
   next_same m =
       let at = cursor.at in
@@ -151,6 +154,7 @@ module _ (es : List Entry) (cursor : Cursor) (is : Stands es cursor) (l : cursor
         ends = λ _. ends;
       }
 
+  -- the cursor at the first entry of the next column
   pub next_column : (end : ℕ) → cursor.end ≤ cursor.at + 1 → (cursor.nth + 1 < length (columns_with_entries es) → IsEnd es (get_or (columns_with_entries es) (cursor.nth + 1) 0) end) → Stands es (record { nth = cursor.nth + 1; at = cursor.at + 1; end = end })
   next_column end m h =
       let at = cursor.at in

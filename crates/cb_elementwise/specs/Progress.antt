@@ -29,7 +29,7 @@ pub record IsToCome (z : ℕ) (a b made xs ys : List Entry) (i j : ℕ) : Type 0
   pub right : value_at z ys i j ≡ value_at z b i j
 
 -- `out` has been made of a and b, place by place, and the entries xs of a and ys of b are still to come
-pub record Joining (s : Arithmetic) (f : ℕ → ℕ → ℕ) (a b out : Sparse) (xs ys : List Entry) : Type 0 where
+pub record IsJoinedSoFar (s : Arithmetic) (f : ℕ → ℕ → ℕ) (a b out : Sparse) (xs ys : List Entry) : Type 0 where
   pub shape : out.shape ≡ a.shape
   pub matrix : IsMatrix s out
   pub left : IsRest s a.shape out.entries xs

@@ -9,14 +9,14 @@ use Rattle.cb_matrix.specs.declared.Entry.{Entry}
 use Rattle.cb_matrix.specs.Sparse.{Sparse, Extent, IsMatrix, is_at, at, value_at, IsBefore, IsInside, IsNotAfter}
 use Rattle.cb_matrix.specs.Values.{matrix_of, empty_matrix}
 use Rattle.cb_matrix.specs.Combined.{stored}
-use Rattle.cb_matrix.proofs.Places.{is_at-own, is_at-parts, value_at-before, AllPairs-head, AllPairs-tail}
-use Rattle.cb_matrix.proofs.Made.{NoneAt, value_at-none, value_at-append_left, value_at-append_right}
+use Rattle.cb_matrix.proofs.Pairs.{AllPairs-head, AllPairs-tail}
+use Rattle.cb_matrix.proofs.Places.{is_at-own, is_at-parts, value_at-before, NoneAt, value_at-none, value_at-append_left, value_at-append_right}
 use Rattle.cb_matrix.proofs.Same.{before_trans}
-use Rattle.cb_matrix.proofs.Product.{value_at-value}
+use Rattle.cb_matrix.proofs.Totals.{value_at-value}
 use Rattle.cb_matrix.proofs.Equal.{matrix_is}
 use Rattle.cb_dcsc.specs.Faults.{comes_after}
 use Rattle.cb_elementwise.specs.Walks.{first_of, earlier, past, value_here}
-use Rattle.cb_elementwise.specs.Joining.{IsRest, IsMade, IsToCome, Joining, with_stored}
+use Rattle.cb_elementwise.specs.Progress.{IsRest, IsMade, IsToCome, IsJoinedSoFar, with_stored}
 
 -- ---- the place that comes first
 after-true : (d e : Entry) → comes_after d e ≡ true → IsBefore d e
@@ -40,6 +40,7 @@ pub record IsNext (p : Entry) (xs ys : List Entry) : Type 0 where
   pub right : All (IsNotAfter p) ys
   pub one : (first_of xs ≡ Some p) ⊎ (first_of ys ≡ Some p)
 
+-- the earlier of the first entries is the next place
 pub is_next : (p : Entry) (xs ys : List Entry) → AllPairs IsBefore xs → AllPairs IsBefore ys → Some p ≡ earlier (first_of xs) (first_of ys) → IsNext p xs ys
 is_next p [] [] ux uy h = cc
 is_next p [] (y ∷ ys) ux uy h =
@@ -66,6 +67,7 @@ is_next p (x ∷ xs) (y ∷ ys) ux uy h =
           }
     ] refl h
 
+-- where there is none, both lists have ended
 pub none_next : (xs ys : List Entry) → None ≡ earlier (first_of xs) (first_of ys) → (xs ≡ []) × (ys ≡ [])
 none_next [] [] h = (refl, refl)
 none_next [] (y ∷ ys) h = cc
@@ -132,6 +134,7 @@ past_first_shorter p (x ∷ xs) h =
     let t = is_at-own x p.row p.column (sym (ap (λ (y : Entry). y.row) e)) (sym (ap (λ (y : Entry). y.column) e)) in
     rw t (omega arith)
 
+-- past a place fewer entries are left
 pub fewer : (p : Entry) (xs ys : List Entry) → IsNext p xs ys → length (past p xs) + length (past p ys) < length xs + length ys
 fewer p xs ys is =
     let a = past_shorter p xs in
@@ -181,10 +184,11 @@ module _ (s : Arithmetic) (laws : IsSemiring s) (f : ℕ → ℕ → ℕ) (zeros
     after = All-weaker (IsInside m.shape) (λ e. All (λ d. IsBefore d e) []) (λ e _. All-nil (λ d. IsBefore d e)) m.entries is.inside;
   }
 
-  pub joining_start : (out : Sparse) → IsMatrix s a → IsMatrix s b → b.shape ≡ a.shape → out ≡ empty_matrix a.shape → IsMatrix s out → Joining s f a b out a.entries b.entries
+  -- nothing has been made, and all is to come
+  pub join_start : (out : Sparse) → IsMatrix s a → IsMatrix s b → b.shape ≡ a.shape → out ≡ empty_matrix a.shape → IsMatrix s out → IsJoinedSoFar s f a b out a.entries b.entries
   unfolding value_at
-  joining_start out p q e is m =
-      subst (λ o. Joining s f a b o a.entries b.entries) (sym is) (record {
+  join_start out p q e is m =
+      subst (λ o. IsJoinedSoFar s f a b o a.entries b.entries) (sym is) (record {
         shape = refl;
         matrix = subst (IsMatrix s) is m;
         left = first_rest a a.shape refl p;
@@ -193,27 +197,33 @@ module _ (s : Arithmetic) (laws : IsSemiring s) (f : ℕ → ℕ → ℕ) (zeros
       })
 
   -- from a block that has taken room
-  pub joining_begin : (blank out : Sparse) (shape : Extent) (xs ys : List Entry) → IsMatrix s a → IsMatrix s b → b.shape ≡ a.shape → out ≡ blank → blank ≡ empty_matrix shape → shape ≡ a.shape → IsMatrix s blank → xs ≡ a.entries → ys ≡ b.entries → Joining s f a b out xs ys
-  joining_begin blank out shape xs ys p q e same is shapes m left right =
-      let start = joining_start out p q e (same ∙ is ∙ ap empty_matrix shapes) (subst (IsMatrix s) (sym same) m) in
-      subst (λ zs. Joining s f a b out zs ys) (sym left) (subst (λ zs. Joining s f a b out a.entries zs) (sym right) start)
+  pub join_begin : (blank out : Sparse) (shape : Extent) (xs ys : List Entry) → IsMatrix s a → IsMatrix s b → b.shape ≡ a.shape → out ≡ blank → blank ≡ empty_matrix shape → shape ≡ a.shape → IsMatrix s blank → xs ≡ a.entries → ys ≡ b.entries → IsJoinedSoFar s f a b out xs ys
+  join_begin blank out shape xs ys p q e same is shapes m left right =
+      let start = join_start out p q e (same ∙ is ∙ ap empty_matrix shapes) (subst (IsMatrix s) (sym same) m) in
+      subst (λ zs. IsJoinedSoFar s f a b out zs ys) (sym left) (subst (λ zs. IsJoinedSoFar s f a b out a.entries zs) (sym right) start)
 
-  module _ (out : Sparse) (xs ys : List Entry) (p : Entry) (so_far : Joining s f a b out xs ys) (next : Some p ≡ earlier (first_of xs) (first_of ys)) where
+  module _ (out : Sparse) (xs ys : List Entry) (p : Entry) (so_far : IsJoinedSoFar s f a b out xs ys) (next : Some p ≡ earlier (first_of xs) (first_of ys)) where
+    -- the next place is still to come
     pub comes : IsNext p xs ys
     comes = is_next p xs ys so_far.left.ascending so_far.right.ascending next
 
+    -- what has been made is before it
     pub before_it : All (λ d. IsBefore d p) out.entries
     before_it = ⊎_elim (λ h. before_next out.entries p xs so_far.left.after h) (λ h. before_next out.entries p ys so_far.right.after h) comes.one
 
+    -- it is inside the shape
     pub inside_it : IsInside out.shape p
     inside_it = subst (λ t. IsInside t p) (sym so_far.shape) (⊎_elim (λ h. inside_next a.shape p xs so_far.left.inside h) (λ h. inside_next a.shape p ys so_far.right.inside h) comes.one)
 
+    -- the first block's value there
     pub left_value : IsValue s (value_here s.zero p xs)
     left_value = subst (IsValue s) (sym (here_value s.zero p xs so_far.left.ascending comes.left)) (value_at-value s laws xs p.row p.column so_far.left.values)
 
+    -- and the second's
     pub right_value : IsValue s (value_here s.zero p ys)
     right_value = subst (IsValue s) (sym (here_value s.zero p ys so_far.right.ascending comes.right)) (value_at-value s laws ys p.row p.column so_far.right.values)
 
+    -- what the rule makes of them is a value
     pub its_value : IsValue s (f (value_here s.zero p xs) (value_here s.zero p ys))
     its_value = values _ _ left_value right_value
 
@@ -255,9 +265,10 @@ module _ (s : Arithmetic) (laws : IsSemiring s) (f : ℕ → ℕ → ℕ) (zeros
         (λ m. inl (record { value = same ∙ m.value; left = left ∙ m.left; right = right ∙ m.right }))
         (λ m. inr (record { value = same ∙ m.value; left = left ∙ m.left; right = right ∙ m.right })) was
 
-    pub joining_more : (new : Sparse) → IsMatrix s new → new ≡ with_stored s out made → Joining s f a b new (past p xs) (past p ys)
-    joining_more new m is =
-        subst (λ o. Joining s f a b o (past p xs) (past p ys)) (sym is) (record {
+    -- the next place is made
+    pub join_more : (new : Sparse) → IsMatrix s new → new ≡ with_stored s out made → IsJoinedSoFar s f a b new (past p xs) (past p ys)
+    join_more new m is =
+        subst (λ o. IsJoinedSoFar s f a b o (past p xs) (past p ys)) (sym is) (record {
           shape = so_far.shape;
           matrix = subst (IsMatrix s) is m;
           left = rest_past xs so_far.left comes.left;
@@ -266,16 +277,17 @@ module _ (s : Arithmetic) (laws : IsSemiring s) (f : ℕ → ℕ → ℕ) (zeros
         })
 
   -- the next lists and the value, as the calls tell them
-  pub joining_on : (out new : Sparse) (xs ys xs' ys' : List Entry) (p : Entry) (v x y : ℕ) → Joining s f a b out xs ys → Some p ≡ earlier (first_of xs) (first_of ys) → xs' ≡ past p xs → ys' ≡ past p ys
-      → x ≡ value_here s.zero p xs → y ≡ value_here s.zero p ys → v ≡ f x y → IsMatrix s new → new ≡ with_stored s out (record { row = p.row; column = p.column; value = v }) → Joining s f a b new xs' ys'
-  joining_on out new xs ys xs' ys' p v x y so_far next left right vx vy is m stores =
+  pub join_on : (out new : Sparse) (xs ys xs' ys' : List Entry) (p : Entry) (v x y : ℕ) → IsJoinedSoFar s f a b out xs ys → Some p ≡ earlier (first_of xs) (first_of ys) → xs' ≡ past p xs → ys' ≡ past p ys
+      → x ≡ value_here s.zero p xs → y ≡ value_here s.zero p ys → v ≡ f x y → IsMatrix s new → new ≡ with_stored s out (record { row = p.row; column = p.column; value = v }) → IsJoinedSoFar s f a b new xs' ys'
+  join_on out new xs ys xs' ys' p v x y so_far next left right vx vy is m stores =
       let value : v ≡ f (value_here s.zero p xs) (value_here s.zero p ys) = is ∙ (λ t. f (vx t) (vy t)) in
-      let more = joining_more out xs ys p so_far next new m (stores ∙ ap (λ n. with_stored s out (record { row = p.row; column = p.column; value = n })) value) in
-      subst (λ zs. Joining s f a b new zs ys') (sym left) (subst (λ zs. Joining s f a b new (past p xs) zs) (sym right) more)
+      let more = join_more out xs ys p so_far next new m (stores ∙ ap (λ n. with_stored s out (record { row = p.row; column = p.column; value = n })) value) in
+      subst (λ zs. IsJoinedSoFar s f a b new zs ys') (sym left) (subst (λ zs. IsJoinedSoFar s f a b new (past p xs) zs) (sym right) more)
 
-  pub joining_end : (out : Sparse) (xs ys : List Entry) → Joining s f a b out xs ys → None ≡ earlier (first_of xs) (first_of ys) → out ≡ matrix_of s a.shape (λ i j. f (at s a i j) (at s b i j))
+  -- when all is made, it is the matrix of the rule's values
+  pub join_end : (out : Sparse) (xs ys : List Entry) → IsJoinedSoFar s f a b out xs ys → None ≡ earlier (first_of xs) (first_of ys) → out ≡ matrix_of s a.shape (λ i j. f (at s a i j) (at s b i j))
   unfolding value_at
-  joining_end out xs ys is none =
+  join_end out xs ys is none =
       let ends = none_next xs ys none in
       matrix_is s laws out a.shape (λ i j. f (at s a i j) (at s b i j)) is.matrix is.shape (λ i j _ _.
       ⊎_elim (λ m. m.value)
