@@ -247,5 +247,6 @@ impl From<AllocError> for ProductFault {
 }
 
 mod collect;
+mod ordered;
 #[cfg(test)]
 mod tests;
