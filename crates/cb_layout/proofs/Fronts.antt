@@ -1,201 +1,150 @@
--- How far the columns of each block are merged.
-use Rattle.std.proofs.Common.{◌≡◌, ◌≢◌, ℕ, zero, suc, ◌+◌, ◌-◌, ◌*◌, ◌<◌, ◌≤◌, true, false, cond, List, [], ◌∷◌, ◌++◌, length, get_or, set, refl, sym, ap, subst, ⊎_elim, ◌∙◌, arith, append-nil}
-use Rattle.std.specs.Prelude.{All, AllPairs, ◌==◌, flat_map}
-use Rattle.std.proofs.lemmas.Bool.{cases_lt, cases_eq, eqb-true, eqb-false}
-use Rattle.std.proofs.lemmas.Bool.Decides.{nat_tests}
-use Rattle.std.proofs.lemmas.List.{get_or_past, get_or_default, get_or-set_same, get_or-set_other}
-use Rattle.std.proofs.lemmas.List.Elements.{All-nil, All-cons, All-head, All-tail, All-weaker}
-use Rattle.cb_matrix.specs.declared.Entry.{Entry}
-use Rattle.cb_matrix.specs.Sparse.{Sparse, IsBefore}
-use Rattle.cb_matrix.proofs.Places.{AllPairs-head, AllPairs-tail}
-use Rattle.cb_matrix.proofs.Made.{AllPairs-nil, AllPairs-cons}
-use Rattle.cb_dcsc.specs.Columns.{in_column, columns_with_entries, with_front}
-use Rattle.cb_layout.specs.Blocks.{block_at}
+-- The next column of each block in a column of the grid.
+use Rattle.std.proofs.Common.{◌≡◌, ◌≢◌, ℕ, ◌+◌, ◌-◌, ◌*◌, ◌<◌, ◌≤◌, ◌⊎◌, inl, inr, List, [], ◌∷◌, length, get_or, set, refl, sym, ap, subst, ⊎_elim, ◌∙◌, arith}
+use Rattle.std.specs.Prelude.{All, AllPairs, Option, Some, None, IfNone}
+use Rattle.std.proofs.lemmas.Bool.{cases_lt, cases_eq, cases_order}
+use Rattle.std.proofs.lemmas.List.{get_or_past, get_or_default, get_or-set_same, get_or-set_other, length-set}
+use Rattle.std.proofs.lemmas.List.Elements.{All-nil, All-cons, All-weaker}
+use Rattle.cb_matrix.specs.Sparse.{Extent, Sparse}
+use Rattle.cb_matrix.proofs.Pairs.{AllPairs-head}
+use Rattle.cb_layout.specs.Fronts.{columns_in, IsLeast, AreNext, IsFront}
+use Rattle.cb_layout.specs.declared.front.Front.{Front}
 
--- the columns that have entries in the block of row i of the grid
-abbrev pub columns_in : ℕ → List Sparse → ℕ → ℕ → List ℕ
-columns_in q blocks j i = columns_with_entries (block_at blocks (i * q + j)).entries
+-- what follows from a fact for None
+pub if_none : (o : Option (ℕ × ℕ)) (P Q : Type 0) → IfNone o P → (P → Q) → IfNone o Q
+if_none (Some t) P Q h k = tt
+if_none None P Q h k = k h
 
--- a row of the grid whose block has none
-abbrev pub IsDone : ℕ → List Sparse → ℕ → List ℕ → ℕ → Type 0
-IsDone q blocks j next i = length (columns_in q blocks j i) ≤ get_or next i 0
+-- the first of numbers that ascend is at most each of them
+pub first_is_least : (cs : List ℕ) (d : ℕ) → AllPairs (λ c d. c < d) cs → All (λ c. get_or cs 0 d ≤ c) cs
+first_is_least [] d h = All-nil (λ c. get_or [] 0 d ≤ c)
+first_is_least (c ∷ cs) d h = All-cons (λ x. c ≤ x) c cs (omega arith) (All-weaker (λ x. c < x) (λ x. c ≤ x) (λ x l. omega arith) cs (AllPairs-head (λ c d. c < d) c cs h))
 
--- for each row of the grid its block's next column, where it has one, and else a number past all columns
-pub record IsAhead (q : ℕ) (blocks : List Sparse) (j : ℕ) (next columns : List ℕ) : Type 0 where
-  pub rows : (k : ℕ) → k < q → get_or columns k 0 ≡ get_or (columns_in q blocks j k) (get_or next k 0) 4294967295
-  pub others : (k : ℕ) → q ≤ k → k < 6 → get_or columns k 0 ≡ 4294967295
-
--- a row that has a column has a block with a next column, which is that one
-pub ahead_row : (q : ℕ) (blocks : List Sparse) (j : ℕ) (next columns : List ℕ) → IsAhead q blocks j next columns → (i : ℕ) → i < 6 → get_or columns i 0 < 4294967295 → i < q
-ahead_row q blocks j next columns h i l some =
+-- of numbers that ascend each is below the nth, is the nth, or is from the one after it on
+pub none_between : (cs : List ℕ) (n d : ℕ) → n < length cs → AllPairs (λ c d. c < d) cs → All (λ c. (c < get_or cs n 0) ⊎ ((c ≡ get_or cs n 0) ⊎ (get_or cs (n + 1) d ≤ c))) cs
+none_between cs n d l up k e m =
+    let here : get_or cs n 0 ≡ get_or cs n e = get_or_default cs n 0 e l in
     ⊎_elim
-    (λ (k : i < q). k)
-    (λ (k : q ≤ i). let e = h.others i k l in absurd (omega arith))
-    (cases_lt i q)
-
-pub ahead_some : (q : ℕ) (blocks : List Sparse) (j : ℕ) (next columns : List ℕ) → IsAhead q blocks j next columns → (i : ℕ) → i < q → get_or columns i 0 < 4294967295 → get_or next i 0 < length (columns_in q blocks j i)
-ahead_some q blocks j next columns h i row some =
+    (λ (p : k ≡ n). inr (inl (ap (λ x. get_or cs x e) p ∙ sym here)))
+    (⊎_elim
+    (λ (p : k < n). let less : get_or cs k e < get_or cs n e = up k n e p l in inl (omega arith))
+    (λ (p : n < k).
+    let within : n + 1 < length cs = omega arith in
+    let next : get_or cs (n + 1) d ≡ get_or cs (n + 1) e = get_or_default cs (n + 1) d e within in
     ⊎_elim
-    (λ (k : get_or next i 0 < length (columns_in q blocks j i)). k)
-    (λ (k : length (columns_in q blocks j i) ≤ get_or next i 0).
-    let e = h.rows i row ∙ get_or_past (columns_in q blocks j i) (get_or next i 0) 4294967295 k in
-    absurd (omega arith))
-    (cases_lt (get_or next i 0) (length (columns_in q blocks j i)))
+    (λ (q : n + 1 < k). let less : get_or cs (n + 1) e < get_or cs k e = up (n + 1) k e q m in inr (inr (omega arith)))
+    (λ (q : k ≤ n + 1). let same : k ≡ n + 1 = omega arith in let at : get_or cs k e ≡ get_or cs (n + 1) e = ap (λ x. get_or cs x e) same in inr (inr (omega arith)))
+    (cases_lt (n + 1) k)))
+    (cases_order k n)
 
-pub ahead_column : (q : ℕ) (blocks : List Sparse) (j : ℕ) (next columns : List ℕ) → IsAhead q blocks j next columns → (i : ℕ) → i < q → get_or columns i 0 < 4294967295 → get_or columns i 0 ≡ get_or (columns_in q blocks j i) (get_or next i 0) 0
-ahead_column q blocks j next columns h i row some =
-    h.rows i row ∙ get_or_default (columns_in q blocks j i) (get_or next i 0) 4294967295 0 (ahead_some q blocks j next columns h i row some)
-
--- where a row has none, its block's columns are done
-pub ahead_done : (q : ℕ) (blocks : List Sparse) (j : ℕ) (next columns : List ℕ) → IsAhead q blocks j next columns → (i : ℕ) → i < q → All (λ c. c < 4294967295) (columns_in q blocks j i) → get_or columns i 0 ≡ 4294967295 → IsDone q blocks j next i
-ahead_done q blocks j next columns h i row inside none =
+-- the one after the nth, or a greater number where there is none, is above it
+pub next_above : (cs : List ℕ) (n d : ℕ) → n < length cs → AllPairs (λ c d. c < d) cs → get_or cs n 0 < d → get_or cs n 0 < get_or cs (n + 1) d
+next_above cs n d l up below =
     ⊎_elim
-    (λ (k : get_or next i 0 < length (columns_in q blocks j i)).
-    let l : get_or (columns_in q blocks j i) (get_or next i 0) 4294967295 < 4294967295 = inside (get_or next i 0) 4294967295 k in
-    let e = h.rows i row in
-    absurd (omega arith))
-    (λ (k : length (columns_in q blocks j i) ≤ get_or next i 0). k)
-    (cases_lt (get_or next i 0) (length (columns_in q blocks j i)))
+    (λ (m : n + 1 < length cs).
+    let less : get_or cs n 0 < get_or cs (n + 1) 0 = up n (n + 1) 0 (omega arith) m in
+    let next : get_or cs (n + 1) d ≡ get_or cs (n + 1) 0 = get_or_default cs (n + 1) d 0 m in
+    omega arith)
+    (λ (m : length cs ≤ n + 1). let past : get_or cs (n + 1) d ≡ d = get_or_past cs (n + 1) d m in omega arith)
+    (cases_lt (n + 1) (length cs))
 
--- one column of one block more
-pub ahead_more : (q : ℕ) (blocks : List Sparse) (j : ℕ) (next columns : List ℕ) → IsAhead q blocks j next columns → (i n c : ℕ) → i < length next → i < length columns → c ≡ get_or (columns_in q blocks j i) n 4294967295
-    → i < q → IsAhead q blocks j (set next i n) (set columns i c)
-ahead_more q blocks j next columns h i n c l m e row = record {
-  rows = λ k b.
+module _ (q : ℕ) (shape : Extent) (blocks : List Sparse) (f : Front) (front : IsFront q shape blocks f) (i c : ℕ) (least : IsLeast f.columns i c) where
+  abbrev cs : List ℕ
+  cs = columns_in q blocks f.column i
+
+  abbrev n : ℕ
+  n = get_or f.done i 0
+
+  -- the row of the least column is one of the grid, and its block has that column next
+  pub least_row : i < q
+  least_row =
       ⊎_elim
-      (λ (p : k ≡ i).
-      let now : get_or (set columns i c) k 0 ≡ c = ap (λ x. get_or (set columns i c) x 0) p ∙ get_or-set_same columns i c 0 m in
-      let at : get_or (set next i n) k 0 ≡ n = ap (λ x. get_or (set next i n) x 0) p ∙ get_or-set_same next i n 0 l in
-      now ∙ e ∙ (λ t. get_or (columns_in q blocks j (sym p t)) (sym at t) 4294967295))
-      (λ (p : k ≢ i).
-      let now : get_or (set columns i c) k 0 ≡ get_or columns k 0 = get_or-set_other columns i k c 0 p in
-      let at : get_or (set next i n) k 0 ≡ get_or next k 0 = get_or-set_other next i k n 0 p in
-      now ∙ h.rows k b ∙ ap (λ x. get_or (columns_in q blocks j k) x 4294967295) (sym at))
-      (cases_eq k i);
-  others = λ k b s. get_or-set_other columns i k c 0 (omega arith) ∙ h.others k b s;
+      (λ (k : i < q). k)
+      (λ (k : q ≤ i). let e = front.next.others i k least.row in let t = least.there in let s = least.some in absurd (omega arith))
+      (cases_lt i q)
+
+  pub least_known : n < length cs
+  least_known =
+      ⊎_elim
+      (λ (k : n < length cs). k)
+      (λ (k : length cs ≤ n).
+      let e = front.next.rows i least_row ∙ get_or_past cs n 4294967295 k in
+      let t = least.there in let s = least.some in
+      absurd (omega arith))
+      (cases_lt n (length cs))
+
+  pub least_is : c ≡ get_or cs n 0
+  least_is = least.there ∙ front.next.rows i least_row ∙ get_or_default cs n 4294967295 0 least_known
+
+  -- the front after it
+  module _ (g : Front) (column : g.column ≡ f.column) (left : g.left ≡ f.left) (done : g.done ≡ set f.done i (n + 1)) (columns : g.columns ≡ set f.columns i (get_or cs (n + 1) 4294967295)) where
+    pub next_own : get_or g.columns i 0 ≡ get_or cs (n + 1) 4294967295
+    next_own = ap (λ xs. get_or xs i 0) columns ∙ get_or-set_same f.columns i (get_or cs (n + 1) 4294967295) 0 (let r = least.row in let s = front.six_columns in omega arith)
+
+    pub next_other : (k : ℕ) → k ≢ i → get_or g.columns k 0 ≡ get_or f.columns k 0
+    next_other k ne = ap (λ xs. get_or xs k 0) columns ∙ get_or-set_other f.columns i k (get_or cs (n + 1) 4294967295) 0 ne
+
+    done_own : get_or g.done i 0 ≡ n + 1
+    done_own = ap (λ xs. get_or xs i 0) done ∙ get_or-set_same f.done i (n + 1) 0 (let r = least.row in let s = front.six_done in omega arith)
+
+    done_other : (k : ℕ) → k ≢ i → get_or g.done k 0 ≡ get_or f.done k 0
+    done_other k ne = ap (λ xs. get_or xs k 0) done ∙ get_or-set_other f.done i k (n + 1) 0 ne
+
+    pub are_next : AreNext q blocks g.column g.done g.columns
+    are_next = record {
+      rows = λ k l.
+          ⊎_elim
+          (λ (p : k ≡ i). ap (λ x. get_or g.columns x 0) p ∙ next_own ∙ (λ t. get_or (columns_in q blocks (sym column t) (sym p t)) (sym (ap (λ x. get_or g.done x 0) p ∙ done_own) t) 4294967295))
+          (λ (p : k ≢ i). next_other k p ∙ front.next.rows k l ∙ (λ t. get_or (columns_in q blocks (sym column t) k) (sym (done_other k p) t) 4294967295))
+          (cases_eq k i);
+      others = λ k l m. next_other k (let r = least_row in omega arith) ∙ front.next.others k l m;
+    }
+
+-- of the rows from the first number up to the second, one has the least column, and is the first that has it
+pub record IsLeastIn (columns : List ℕ) (from to i c : ℕ) : Type 0 where
+  pub low : from ≤ i
+  pub high : i < to
+  pub there : c ≡ get_or columns i 0
+  pub least : (k : ℕ) → from ≤ k → k < to → c ≤ get_or columns k 0
+  pub first : (k : ℕ) → from ≤ k → k < i → c < get_or columns k 0
+
+-- a row alone
+pub least_one : (columns : List ℕ) (i j : ℕ) → j ≡ i + 1 → IsLeastIn columns i j i (get_or columns i 0)
+least_one columns i j e = record {
+  low = omega arith;
+  high = omega arith;
+  there = refl;
+  least = λ k l m. let p : i ≡ k = omega arith in let q : get_or columns i 0 ≡ get_or columns k 0 = ap (λ n. get_or columns n 0) p in omega arith;
+  first = λ k l m. absurd (omega arith);
 }
 
--- ---- how many columns are left in the first n rows of the grid
-pub columns_left : ℕ → List Sparse → ℕ → List ℕ → ℕ → ℕ
-columns_left q blocks j next zero = 0
-columns_left q blocks j next (suc n) = columns_left q blocks j next n + (length (columns_in q blocks j n) - get_or next n 0)
-
-same_left : (q : ℕ) (blocks : List Sparse) (j : ℕ) (next more : List ℕ) (n : ℕ) → ((k : ℕ) → k < n → get_or more k 0 ≡ get_or next k 0) → columns_left q blocks j more n ≡ columns_left q blocks j next n
-unfolding columns_left
-same_left q blocks j next more zero h = refl
-same_left q blocks j next more (suc n) h =
-    λ i. same_left q blocks j next more n (λ k l. h k (omega arith)) i + (length (columns_in q blocks j n) - h n (omega arith) i)
-
-pub fewer_left : (q : ℕ) (blocks : List Sparse) (j : ℕ) (next : List ℕ) (i n : ℕ) → i < n → i < length next → get_or next i 0 < length (columns_in q blocks j i)
-    → columns_left q blocks j (set next i (get_or next i 0 + 1)) n < columns_left q blocks j next n
-unfolding columns_left
-fewer_left q blocks j next i zero l m h = absurd (omega arith)
-fewer_left q blocks j next i (suc n) l m h =
+-- the least of two ranges that follow one another
+pub least_either : (columns : List ℕ) (from mid to i c k d r x : ℕ) → IsLeastIn columns from mid i c → IsLeastIn columns mid to k d → (((r ≡ i) × (x ≡ c)) × (c ≤ d)) ⊎ (((r ≡ k) × (x ≡ d)) × (d < c)) → IsLeastIn columns from to r x
+least_either columns from mid to i c k d r x a b h =
+    let al = a.low in
+    let ah = a.high in
+    let bl = b.low in
+    let bh = b.high in
     ⊎_elim
-    (λ (k : i < n).
-    let rest = fewer_left q blocks j next i n k m h in
-    let ne : n ≢ i = omega arith in
-    let same : get_or (set next i (get_or next i 0 + 1)) n 0 ≡ get_or next n 0 = get_or-set_other next i n (get_or next i 0 + 1) 0 ne in
-    rw same (omega arith))
-    (λ (k : n ≤ i).
-    let e : i ≡ n = omega arith in
-    let rest : columns_left q blocks j (set next i (get_or next i 0 + 1)) n ≡ columns_left q blocks j next n =
-    same_left q blocks j next (set next i (get_or next i 0 + 1)) n (λ k b. let ne : k ≢ i = omega arith in get_or-set_other next i k (get_or next i 0 + 1) 0 ne) in
-    let own : get_or (set next i (get_or next i 0 + 1)) n 0 ≡ get_or next n 0 + 1 =
-    subst (λ x. get_or (set next i (get_or next i 0 + 1)) x 0 ≡ get_or next x 0 + 1) e (get_or-set_same next i (get_or next i 0 + 1) 0 m) in
-    let here : get_or next n 0 < length (columns_in q blocks j n) = subst (λ x. get_or next x 0 < length (columns_in q blocks j x)) e h in
-    rw (rest, own) (omega arith))
-    (cases_lt i n)
-
--- ---- all columns of a list in order are the list
-pub columns_all : (P : ℕ → Type 0) (es : List Entry) → All (λ e. P e.column) es → All P (columns_with_entries es)
-unfolding columns_with_entries
-columns_all P [] h = All-nil P
-columns_all P (e ∷ es) h = front P e.column (columns_with_entries es) (All-head (λ e. P e.column) e es h) (columns_all P es (All-tail (λ e. P e.column) e es h))
-  where
-    front : (P : ℕ → Type 0) (c : ℕ) (cs : List ℕ) → P c → All P cs → All P (with_front c cs)
-    front P c [] h k = All-cons P c [] h k
-    front P c (d ∷ ds) h k = elim (c == d) as (λ b. All P (cond b (d ∷ ds) (c ∷ d ∷ ds))) [
-      | true ↦ k
-      | false ↦ All-cons P c (d ∷ ds) h k
-    ]
-
-columns_back : (P : ℕ → Type 0) (es : List Entry) → All P (columns_with_entries es) → All (λ e. P e.column) es
-unfolding columns_with_entries
-columns_back P [] h = All-nil (λ e. P e.column)
-columns_back P (e ∷ es) h =
-    let parts = front P e.column (columns_with_entries es) h in
-    All-cons (λ e. P e.column) e es parts.0 (columns_back P es parts.1)
-  where
-    front : (P : ℕ → Type 0) (c : ℕ) (cs : List ℕ) → All P (with_front c cs) → P c × All P cs
-    front P c [] h = (All-head P c [] h, All-nil P)
-    front P c (d ∷ ds) h =
-        elim (c == d) as (λ b. (c == d) ≡ b → All P (cond b (d ∷ ds) (c ∷ d ∷ ds)) → P c × All P (d ∷ ds)) [
-          | true ↦ λ t k. (subst P (sym (eqb-true c d t)) (All-head P d ds k), k)
-          | false ↦ λ _ k. (All-head P c (d ∷ ds) k, All-tail P c (d ∷ ds) k)
-        ] refl h
-
-columns_ascend : (es : List Entry) → AllPairs IsBefore es → AllPairs (λ c d. c < d) (columns_with_entries es)
-unfolding columns_with_entries
-columns_ascend [] h = AllPairs-nil (λ c d. c < d)
-columns_ascend (e ∷ es) h =
-    front e.column (columns_with_entries es)
-    (columns_all (λ c. e.column ≤ c) es (All-weaker (IsBefore e) (λ d. e.column ≤ d.column) (λ d b. ⊎_elim (λ l. omega arith) (λ l. omega arith) b) es (AllPairs-head IsBefore e es h)))
-    (columns_ascend es (AllPairs-tail IsBefore e es h))
-  where
-    front : (c : ℕ) (cs : List ℕ) → All (λ d. c ≤ d) cs → AllPairs (λ c d. c < d) cs → AllPairs (λ c d. c < d) (with_front c cs)
-    front c [] h k = AllPairs-cons (λ c d. c < d) c [] (All-nil (λ d. c < d)) k
-    front c (d ∷ ds) h k = elim (c == d) as (λ b. (c == d) ≡ b → AllPairs (λ c d. c < d) (cond b (d ∷ ds) (c ∷ d ∷ ds))) [
-      | true ↦ λ _. k
-      | false ↦ λ f.
-          let ne : c ≢ d = eqb-false c d f in
-          let le : c ≤ d = All-head (λ d. c ≤ d) d ds h in
-          let l : c < d = omega arith in
-          AllPairs-cons (λ c d. c < d) c (d ∷ ds) (All-cons (λ d. c < d) d ds l (All-weaker (λ x. d < x) (λ x. c < x) (λ x m. omega arith) ds (AllPairs-head (λ c d. c < d) d ds k))) k
-    ] refl
-
--- columns past an entry's don't see it
-unseen : (e : Entry) (es : List Entry) (cs : List ℕ) → All (λ c. e.column < c) cs → flat_map (λ c. in_column c (e ∷ es)) cs ≡ flat_map (λ c. in_column c es) cs
-unseen e es [] h = refl
-unseen e es (c ∷ cs) h =
-    let l : e.column < c = All-head (λ c. e.column < c) c cs h in
-    let f : (e.column == c) ≡ false = grind (arith, nat_tests) in
-    (λ i. cond (f i) (e ∷ in_column c es) (in_column c es) ++ unseen e es cs (All-tail (λ c. e.column < c) c cs h) i)
-
-none_there : (c : ℕ) (es : List Entry) → All (λ e. c < e.column) es → in_column c es ≡ []
-none_there c [] h = refl
-none_there c (e ∷ es) h =
-    let l : c < e.column = All-head (λ e. c < e.column) e es h in
-    let f : (e.column == c) ≡ false = grind (arith, nat_tests) in
-    rw f (none_there c es (All-tail (λ e. c < e.column) e es h))
-
-pub columns_whole : (es : List Entry) → AllPairs IsBefore es → flat_map (λ c. in_column c es) (columns_with_entries es) ≡ es
-unfolding columns_with_entries
-columns_whole [] h = refl
-columns_whole (e ∷ es) h =
-    front (columns_with_entries es)
-    (columns_all (λ c. e.column ≤ c) es (All-weaker (IsBefore e) (λ d. e.column ≤ d.column) (λ d b. ⊎_elim (λ l. omega arith) (λ l. omega arith) b) es (AllPairs-head IsBefore e es h)))
-    (columns_ascend es (AllPairs-tail IsBefore e es h))
-    (λ P k. columns_back P es k)
-    (columns_whole es (AllPairs-tail IsBefore e es h))
-  where
-    front : (cs : List ℕ) → All (λ c. e.column ≤ c) cs → AllPairs (λ c d. c < d) cs → ((P : ℕ → Type 0) → All P cs → All (λ e. P e.column) es) → flat_map (λ c. in_column c es) cs ≡ es
-        → flat_map (λ c. in_column c (e ∷ es)) (with_front e.column cs) ≡ e ∷ es
-    front [] h k back same =
-        let t : (e.column == e.column) ≡ true = grind (arith, nat_tests) in
-        rw t (ap (λ xs. e ∷ xs) (append-nil (in_column e.column es) ∙ ap (in_column e.column) (sym same) ∙ same))
-    front (d ∷ ds) h k back same =
-        elim (e.column == d) as (λ b. (e.column == d) ≡ b → flat_map (λ c. in_column c (e ∷ es)) (cond b (d ∷ ds) (e.column ∷ d ∷ ds)) ≡ e ∷ es) [
-          | true ↦ λ t.
-              let p : e.column ≡ d = eqb-true e.column d t in
-              (λ i. cond (t i) (e ∷ in_column d es) (in_column d es) ++ unseen e es ds (All-weaker (λ x. d < x) (λ x. e.column < x) (λ x m. omega arith) ds (AllPairs-head (λ c d. c < d) d ds k)) i)
-              ∙ ap (λ xs. e ∷ xs) same
-          | false ↦ λ f.
-              let ne : e.column ≢ d = eqb-false e.column d f in
-              let le : e.column ≤ d = All-head (λ c. e.column ≤ c) d ds h in
-              let past : All (λ c. e.column < c) (d ∷ ds) = All-cons (λ c. e.column < c) d ds (omega arith) (All-weaker (λ x. d < x) (λ x. e.column < x) (λ x m. omega arith) ds (AllPairs-head (λ c d. c < d) d ds k)) in
-              let t : (e.column == e.column) ≡ true = grind (arith, nat_tests) in
-              (λ i. cond (t i) (e ∷ in_column e.column es) (in_column e.column es) ++ unseen e es (d ∷ ds) past i)
-              ∙ ap (λ xs. e ∷ (xs ++ flat_map (λ c. in_column c es) (d ∷ ds))) (none_there e.column es (back (λ c. e.column < c) past))
-              ∙ ap (λ xs. e ∷ xs) same
-        ] refl
+    (λ (h : ((r ≡ i) × (x ≡ c)) × (c ≤ d)).
+    let p = h.0.0 in
+    let q = h.0.1 in
+    let m = h.1 in
+    record {
+      low = omega arith;
+      high = omega arith;
+      there = q ∙ a.there ∙ ap (λ n. get_or columns n 0) (sym p);
+      least = λ n u v. ⊎_elim (λ (w : n < mid). let y = a.least n u w in omega arith) (λ (w : mid ≤ n). let y = b.least n w v in omega arith) (cases_lt n mid);
+      first = λ n u v. let y = a.first n u (omega arith) in omega arith;
+    })
+    (λ (h : ((r ≡ k) × (x ≡ d)) × (d < c)).
+    let p = h.0.0 in
+    let q = h.0.1 in
+    let m = h.1 in
+    record {
+      low = omega arith;
+      high = omega arith;
+      there = q ∙ b.there ∙ ap (λ n. get_or columns n 0) (sym p);
+      least = λ n u v. ⊎_elim (λ (w : n < mid). let y = a.least n u w in omega arith) (λ (w : mid ≤ n). let y = b.least n w v in omega arith) (cases_lt n mid);
+      first = λ n u v. ⊎_elim (λ (w : n < mid). let y = a.least n u w in omega arith) (λ (w : mid ≤ n). let y = b.first n w (omega arith) in omega arith) (cases_lt n mid);
+    })
+    h

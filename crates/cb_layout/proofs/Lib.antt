@@ -1,9 +1,14 @@
 pub mod Worked
 pub mod Parts
 pub mod Tiles
+pub mod Glued
+pub mod Counted
 pub mod Scattered
 pub mod Cuts
 pub mod Gathered
+pub mod ColumnNumbers
+pub mod Splits
 pub mod Fronts
-pub mod Merged
+pub mod Whole
+pub mod Remaining
 pub mod Spread

@@ -2,9 +2,9 @@
 use Rattle.std.proofs.Common.{◌≡◌, ℕ, ◌+◌, ◌*◌, ◌/◌, ◌%◌, ◌<◌, ◌≤◌, ap, ⊎_elim, ◌∙◌, arith}
 use Rattle.std.specs.Int.{div_ceil}
 use Rattle.std.proofs.lemmas.Bool.{cases_lt}
-use Rattle.std.proofs.lemmas.Nat.{mod_below, div-mul-add}
+use Rattle.std.proofs.lemmas.Nat.{mod_below, div-mul-add, le-div}
 use Rattle.std.proofs.lemmas.Grind.{div_ceil_times}
-use Rattle.std.proofs.Math.Nat.{add-mul, one-mul, div-add-mod, mul-le-mul_left}
+use Rattle.std.proofs.Math.Nat.{add-mul, one-mul, div-add-mod, div-mul-le_self, mul-le-mul_left}
 use Rattle.cb_layout.specs.Parts.{part_start, part_length}
 use Rattle.cb_layout.specs.Blocks.{part_with, place_in_part}
 
@@ -94,3 +94,7 @@ module _ (q d : ℕ) (pos : 0 < q) where
       let m : x < b = omega arith in
       let e : part_start q d p ≡ p * b = omega arith in
       rw e (div-mul-add p b x m)
+
+  -- a later place is in no earlier part
+  pub part_order : (i k : ℕ) → i < d → i ≤ k → part_with q d i ≤ part_with q d k
+  part_order i k l m = le-div (part_with q d i) k b (some_places i l) (let e : part_with q d i * b ≤ i = div-mul-le_self i b in omega arith)

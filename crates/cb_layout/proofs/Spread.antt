@@ -15,8 +15,10 @@ use Rattle.cb_layout.specs.Parts.{part_start, part_length}
 use Rattle.cb_layout.specs.Blocks.{block_at, part_with, place_in_part}
 use Rattle.cb_layout.specs.Vectors.{piece_start, piece_shape, piece_of, piece_with, place_in_piece, glued_pieces}
 use Rattle.cb_layout.specs.Tiles.{input_tiles, result_tiles, IsGathered, before_rank}
+use Rattle.cb_layout.specs.Segments.{shifted}
 use Rattle.cb_layout.proofs.Parts.{row_of_rank, column_of_rank, rank_below, rank_of, row_below, part_below, start_there, place_below, own_below, own_part}
 use Rattle.cb_layout.proofs.Tiles.{IsTiling}
+use Rattle.cb_layout.proofs.Glued.{tile_is_cut}
 use Rattle.cb_layout.proofs.Scattered.{IsScattered, tile_is}
 use Rattle.cb_layout.proofs.Gathered.{placed_column, gathered_none, gathered_more, gathered_same, gathered_all}
 use Rattle.std.proofs.lemmas.Nat.{mod_below}
@@ -142,7 +144,7 @@ module _ (s : Arithmetic) (q : ℕ) (pos : 0 < q) (shape : Extent) (one : shape.
         (All-weaker (IsInside (piece_shape q shape (r / q) (r % q))) (λ e. piece_start q shape.rows (r / q) (r % q) + e.row < shape.rows) (λ e k. own_row q shape.rows pos (r / q) (r % q) e.row k.0) es es_inside)
 
     pub piece_more : (out new : List Entry) (start : ℕ) → start ≡ piece_start q shape.rows (r / q) (r % q)
-        → new ≡ out ++ map (λ n. let e : Entry = record { row = start + get_or (rows_of es) n 0; column = 0; value = get_or (values_of es) n 0 } in e) (range_with_len 0 (length (rows_of es)))
+        → new ≡ out ++ shifted start 0 (rows_of es) (values_of es)
         → IsGathered s shape (result_tiles q shape) (before_rank blocks r) out → IsGathered s shape (result_tiles q shape) (before_rank blocks (r + 1)) new
     piece_more out new start p h so_far =
         let t : nat_lt r (r + 1) ≡ true = grind (arith, nat_tests) in
@@ -153,6 +155,14 @@ module _ (s : Arithmetic) (q : ℕ) (pos : 0 < q) (shape : Extent) (one : shape.
         (h ∙ ap (λ xs. out ++ xs) (placed_column start 0 es 0 0 (omega arith) (All-weaker (IsInside (piece_shape q shape (r / q) (r % q))) (λ e. e.column ≡ 0) (λ e k. let l = k.1 in omega arith) es es_inside)
         ∙ (λ i. map (λ e. let d : Entry = record { row = p i + e.row; column = 0 + e.column; value = e.value } in d) es)))
         so_far
+
+  -- the pieces are cuts of the vector that they glue to
+  pub pieces_are_cuts : IsSemiring s → (i t : ℕ) → i < q → t < q → block_at blocks (i * q + t) ≡ piece_of s q (glued_pieces s q shape (λ i t. block_at blocks (i * q + t))) i t
+  pieces_are_cuts laws i t l k =
+      let m = glued_pieces s q shape (λ i t. block_at blocks (i * q + t)) in
+      tile_is_cut s laws shape (result_tiles q shape) (result_tiling q shape pos) (block_at blocks) (λ r l. own_shape r l) (λ r l. is_matrix r l) (i * q + t) (rank_below q i t l k)
+      ∙ (λ n. matrix_of s (piece_shape q shape (row_of_rank q i t k n) (column_of_rank q i t k n)) (λ x y. at s m (piece_start q shape.rows (row_of_rank q i t k n) (column_of_rank q i t k n) + x) (0 + y)))
+      ∙ same_cut s q m i t
 
   pub pieces_all : IsSemiring s → (out : List Entry) (n : ℕ) → n ≡ q * q → IsGathered s shape (result_tiles q shape) (before_rank blocks n) out → collected s shape out ≡ glued_pieces s q shape (λ i t. block_at blocks (i * q + t))
   pieces_all laws out n e h =

@@ -29,7 +29,7 @@ abbrev pub moved : Tiles → Entry → Entry
 moved t e = record { row = t.row e.row e.column; column = t.column e.row e.column; value = e.value }
 
 -- the entries of tile r, with their places in it
-pub entries_of : Tiles → ℕ → List Entry → List Entry
+unfoldable pub entries_of : Tiles → ℕ → List Entry → List Entry
 entries_of t r [] = []
 entries_of t r (e ∷ es) = cond (owner_of t e == r) (moved t e ∷ entries_of t r es) (entries_of t r es)
 
@@ -128,3 +128,13 @@ module _ (shape : Extent) (t : Tiles) (is : IsTiling shape t) where
         | true ↦ λ o. λ i. cond (same_place r x y e (All-head (IsInside shape) e es k) (eqb-true (owner_of t e) r o) i) e.value (rest i)
         | false ↦ λ o. rest ∙ sym (cond-false _ _ _ (not_there r x y e l m n (eqb-false (owner_of t e) r o)))
       ] refl
+
+-- what holds of each entry of a tile holds of the entries that it has them from
+pub entries_of_back : (t : Tiles) (r : ℕ) (es : List Entry) (Q : Entry → Type 0) → All Q (entries_of t r es) → All (λ e. owner_of t e ≡ r → Q (moved t e)) es
+unfolding entries_of
+entries_of_back t r [] Q h = All-nil (λ e. owner_of t e ≡ r → Q (moved t e))
+entries_of_back t r (e ∷ es) Q h =
+    elim (owner_of t e == r) as (λ b. (owner_of t e == r) ≡ b → All Q (cond b (moved t e ∷ entries_of t r es) (entries_of t r es)) → All (λ e. owner_of t e ≡ r → Q (moved t e)) (e ∷ es)) [
+      | true ↦ λ _ k. All-cons (λ e. owner_of t e ≡ r → Q (moved t e)) e es (λ _. All-head Q (moved t e) (entries_of t r es) k) (entries_of_back t r es Q (All-tail Q (moved t e) (entries_of t r es) k))
+      | false ↦ λ o k. All-cons (λ e. owner_of t e ≡ r → Q (moved t e)) e es (λ p. absurd (eqb-false (owner_of t e) r o p)) (entries_of_back t r es Q k)
+    ] refl h

@@ -1,11 +1,10 @@
 -- A shape cut into tiles, of which blocks are one case and pieces of a vector another; and the entries that are
 -- gathered from them so far.
-use Rattle.std.specs.Prelude.{◌≡◌, ℕ, ◌+◌, ◌*◌, ◌/◌, ◌%◌, ◌<◌, ◌==◌, nat_lt, cond, List, [], All, take, flat_map, slice_index}
+use Rattle.std.specs.Prelude.{◌≡◌, ℕ, ◌+◌, ◌*◌, ◌/◌, ◌%◌, ◌<◌, nat_lt, cond, List, [], All}
 use Rattle.cb_semirings.specs.Arithmetic.{Arithmetic, IsValue}
 use Rattle.cb_matrix.specs.declared.Entry.{Entry}
 use Rattle.cb_matrix.specs.Sparse.{Extent, Sparse, IsInside}
 use Rattle.cb_matrix.specs.Values.{values_at}
-use Rattle.cb_dcsc.specs.Columns.{in_column, columns_with_entries}
 use Rattle.cb_layout.specs.Parts.{part_start, part_shape}
 use Rattle.cb_layout.specs.Blocks.{block_at, part_with, place_in_part}
 use Rattle.cb_layout.specs.Vectors.{piece_start, piece_shape, piece_with, place_in_piece}
@@ -37,18 +36,6 @@ pub record IsGathered (s : Arithmetic) (shape : Extent) (t : Tiles) (some : ℕ 
   pub values : (r x y : ℕ) → r < t.count → x < (t.size r).rows → y < (t.size r).cols → values_at out (t.top r + x) (t.left r + y) ≡ values_at (some r) x y
   pub inside : All (IsInside shape) out
   pub are_values : All (λ e. IsValue s e.value) out
-
--- the entries of the first n columns that have some
-abbrev pub first_columns : ℕ → List Entry → List Entry
-first_columns n es = flat_map (λ c. in_column c es) (take n (columns_with_entries es))
-
--- of each block: all its entries where it is in a column of the grid before column j, and none else
-abbrev pub before_column : ℕ → List Sparse → ℕ → ℕ → List Entry
-before_column q blocks j r = cond (nat_lt (r % q) j) (block_at blocks r).entries []
-
--- the same, and of the blocks in column j their first columns, as many as `next` says for the row of the grid
-abbrev pub up_to : ℕ → List Sparse → ℕ → List ℕ → ℕ → List Entry
-up_to q blocks j next r = cond (r % q == j) (first_columns (slice_index next (r / q)) (block_at blocks r).entries) (before_column q blocks j r)
 
 -- the pieces of an input vector, by the numbers of their ranks: rank (t, j) has piece t of part j
 abbrev pub input_tiles : ℕ → Extent → Tiles

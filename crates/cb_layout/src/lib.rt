@@ -14,15 +14,20 @@
 
 ghost use Rattle.std.specs.Prelude.{◌≡◌, ◌↔◌, ℕ, ◌<◌, ◌≤◌, ◌+◌, ◌*◌, List, [], ◌∷◌, ◌++◌, length, min, IsOk, IfOk};
 
+mod distributed;
+mod front;
 mod gather;
 mod scatter;
 #[cfg(test)]
 mod tests;
+mod traversal;
 mod vectors;
 
+pub use distributed::DistributedMatrix;
 use smallvec::SmallVec;
 use std::alloc::Global;
 use std::marker::Model;
+pub use traversal::{Segment, Segments};
 
 /// The greatest side of a grid.
 pub const LARGEST_SIDE: u32 = 6;

@@ -1,7 +1,7 @@
 //! Worked examples, with ample memory and with each allocation refused in turn.
 ghost use Rattle.std.specs.Prelude.{◌≡◌};
 
-use crate::{Grid, Side};
+use crate::{DistributedMatrix, Grid, Side};
 use cb_dcsc::Block;
 use cb_matrix::{Entry, LIMIT, Matrix, Shape};
 use cb_semirings::PlusTimes;
@@ -30,14 +30,13 @@ fn cut_and_glued(
     grid.gather(alloc, &blocks, whole.shape())
 }
 
-/// An input vector of four, spread over four ranks, and its pieces read as those of a result.
+/// An input vector with a row for each rank, spread over them, and its pieces read as those of a result.
 fn turned(
     alloc: Global,
     grid: &Grid,
     vector: &Matrix<PlusTimes>,
 ) -> Result<Matrix<PlusTimes>, AllocError>
-    requires side { grid.now.side ≡ 2 }
-    requires rows { vector.now.shape.rows ≡ 4 }
+    requires rows { vector.now.shape.rows ≡ grid.now.side * grid.now.side }
     requires column { vector.now.shape.cols ≡ 1 }
 {
     let pieces = grid.scatter_input(alloc, vector)?;
@@ -180,8 +179,7 @@ fn a_vector_on_four_ranks(rt: HostRuntime) -> Result<(), Fail> {
     ];
     let shape = Shape::new(4, 1).ok_or("past the limit")?;
     let vector = Matrix::<PlusTimes>::from_entries(alloc, shape, &given)?;
-    assert!(rt; grid.side() == 2);
-    assert!(rt; vector.rows() == 4);
+    assert!(rt; vector.rows() == u32::from(grid.ranks()));
     assert!(rt; vector.cols() == 1);
     let pieces = grid.scatter_input(alloc, &vector)?;
     assert_eq!(rt; pieces.len(), 4);
@@ -200,6 +198,145 @@ fn a_vector_on_four_ranks(rt: HostRuntime) -> Result<(), Fail> {
     Ok(())
 }
 
+/// With a row for each rank, piece t of part i of an input stands where piece i of part t of a result does: read
+/// so, the vector is a square that is turned.
+#[test]
+fn vectors_on_every_side(rt: HostRuntime) -> Result<(), Fail> {
+    let alloc = rt.alloc();
+    for side in 1..=6 {
+        let grid = Grid::new(side).map_err(|_| "a side")?;
+        let mut given = Vec::new(alloc);
+        let mut wanted = Vec::new(alloc);
+        for i in 0..grid.side() {
+            for t in 0..grid.side() {
+                let row = u32::from(grid.rank(i, t));
+                let from = u64::from(grid.rank(t, i));
+                given.push(entry(row, 0, u64::from(row) + 1))?;
+                wanted.push(entry(row, 0, from + 1))?;
+            }
+        }
+        let rows = u32::from(grid.ranks());
+        let shape = Shape::new(rows, 1).ok_or("past the limit")?;
+        let vector = Matrix::<PlusTimes>::from_entries(alloc, shape, &given)?;
+        assert!(rt; vector.cols() == 1);
+        assert!(rt; vector.rows() == rows);
+        let pieces = grid.scatter_input(alloc, &vector)?;
+        for t in 0..grid.side() {
+            for j in 0..grid.side() {
+                let rank = usize::from(grid.rank(t, j));
+                let piece = pieces.get(rank).ok_or("a piece")?;
+                let value = u64::from(grid.rank(j, t)) + 1;
+                assert!(rt;
+                    has(piece, 1, 1, &[0], &[value]),
+                    "side {side}, rank {rank}"
+                );
+            }
+        }
+        let result = turned(alloc, &grid, &vector)?;
+        assert_eq!(rt; result.entries(), wanted.as_slice(), "side {side}");
+    }
+    Ok(())
+}
+
+/// Seven rows on each side: how many rows of each part its pieces have.
+#[test]
+fn pieces_of_seven_rows(rt: HostRuntime) -> Result<(), Fail> {
+    let alloc = rt.alloc();
+    let sides: [(u32, &[&[u32]]); 6] = [
+        (1, &[&[7]]),
+        (2, &[&[2, 2], &[2, 1]]),
+        (3, &[&[1, 1, 1], &[1, 1, 1], &[1]]),
+        (4, &[&[1, 1], &[1, 1], &[1, 1], &[1]]),
+        (5, &[&[1, 1], &[1, 1], &[1, 1], &[1]]),
+        (6, &[&[1, 1], &[1, 1], &[1, 1], &[1]]),
+    ];
+    let given = [entry(0, 0, 1), entry(3, 0, 2), entry(6, 0, 3)];
+    let shape = Shape::new(7, 1).ok_or("past the limit")?;
+    let vector = Matrix::<PlusTimes>::from_entries(alloc, shape, &given)?;
+    assert!(rt; vector.cols() == 1);
+    for (side, parts) in sides {
+        let grid = Grid::new(side).map_err(|_| "a side")?;
+        let pieces = grid.scatter_input(alloc, &vector)?;
+        let mut stored = 0usize;
+        for t in 0..grid.side() {
+            for j in 0..grid.side() {
+                let rank = usize::from(grid.rank(t, j));
+                let piece = pieces.get(rank).ok_or("a piece")?;
+                let wanted = parts.get(j as usize).and_then(|part| part.get(t as usize));
+                let rows = wanted.copied().unwrap_or(0);
+                assert_eq!(rt; piece.shape().rows(), rows, "side {side}, rank {rank}");
+                stored = stored.saturating_add(piece.len());
+            }
+        }
+        assert_eq!(rt; stored, 3, "side {side}");
+    }
+    Ok(())
+}
+
+#[test]
+fn a_matrix_lies_over_each_grid(rt: HostRuntime) -> Result<(), Fail> {
+    let alloc = rt.alloc();
+    let given = [
+        entry(1, 0, 4),
+        entry(6, 0, 5),
+        entry(0, 3, 6),
+        entry(6, 3, 7),
+    ];
+    let shape = Shape::new(7, 5).ok_or("past the limit")?;
+    let whole = Matrix::<PlusTimes>::from_entries(alloc, shape, &given)?;
+    for side in 1..=6 {
+        let grid = Grid::new(side).map_err(|_| "a side")?;
+        let spread = DistributedMatrix::scatter(alloc, grid, &whole)?;
+        assert_eq!(rt; spread.grid(), grid);
+        assert_eq!(rt; spread.shape(), shape);
+        assert_eq!(rt; spread.len(), 4);
+        assert!(rt; !spread.is_empty());
+        assert_eq!(rt; spread.blocks().len(), usize::from(grid.ranks()));
+        assert_eq!(rt;
+            spread.gather(alloc)?.entries(),
+            given.as_slice(),
+            "side {side}"
+        );
+        let blocks = spread.into_blocks();
+        assert_eq!(rt; blocks.len(), usize::from(grid.ranks()));
+        let again = grid.gather(alloc, &blocks, shape)?;
+        assert_eq!(rt; again.entries(), given.as_slice(), "side {side}");
+    }
+    Ok(())
+}
+
+#[test]
+fn segments_of_a_matrix_on_four_ranks(rt: HostRuntime) -> Result<(), Fail> {
+    let alloc = rt.alloc();
+    let grid = Grid::new(2).map_err(|_| "a side")?;
+    let given = [
+        entry(0, 0, 1),
+        entry(1, 0, 2),
+        entry(2, 0, 3),
+        entry(3, 2, 4),
+        entry(0, 3, 5),
+    ];
+    let shape = Shape::new(4, 4).ok_or("past the limit")?;
+    let whole = Matrix::<PlusTimes>::from_entries(alloc, shape, &given)?;
+    let spread = DistributedMatrix::scatter(alloc, grid, &whole)?;
+    let wanted: [(u32, u32, &[u32], &[u64]); 4] = [
+        (0, 0, &[0, 1], &[1, 2]),
+        (0, 2, &[0], &[3]),
+        (2, 2, &[1], &[4]),
+        (3, 0, &[0], &[5]),
+    ];
+    let mut segments = spread.segments();
+    for (column, top, rows, values) in wanted {
+        let segment = segments.next_segment().ok_or("a segment")?;
+        assert_eq!(rt; (segment.column, segment.top), (column, top));
+        assert_eq!(rt; segment.rows, rows);
+        assert_eq!(rt; segment.values, values);
+    }
+    assert!(rt; segments.next_segment().is_none());
+    assert!(rt; segments.next_segment().is_none());
+    Ok(())
+}
+
 /// Each call that takes memory, one after another. It passes whichever single allocation is refused
 /// (`rt try --test --fail-alloc N`, for each N in turn): a call says so, or its answer is the right one.
 #[test]
@@ -212,6 +349,13 @@ fn refused_memory_is_said(rt: HostRuntime) -> Result<(), Fail> {
         return Ok(());
     };
     if let Ok(again) = cut_and_glued(alloc, &grid, &whole) {
+        assert_eq!(rt; again.entries(), given.as_slice());
+    }
+    let Ok(spread) = DistributedMatrix::scatter(alloc, grid, &whole) else {
+        return Ok(());
+    };
+    assert_eq!(rt; spread.len(), 3);
+    if let Ok(again) = spread.gather(alloc) {
         assert_eq!(rt; again.entries(), given.as_slice());
     }
     Ok(())
@@ -227,8 +371,7 @@ fn refused_memory_is_said_of_vectors(rt: HostRuntime) -> Result<(), Fail> {
     let Ok(vector) = Matrix::<PlusTimes>::from_entries(alloc, shape, &given) else {
         return Ok(());
     };
-    assert!(rt; grid.side() == 2);
-    assert!(rt; vector.rows() == 4);
+    assert!(rt; vector.rows() == u32::from(grid.ranks()));
     assert!(rt; vector.cols() == 1);
     if let Ok(result) = turned(alloc, &grid, &vector) {
         assert_eq!(rt;

@@ -85,7 +85,8 @@ impl Grid {
     }
 
     /// The vector of a shape from the piece of each rank of a result, in the order of their numbers: rank (i, t)
-    /// keeps piece t of part i, so the pieces follow one another. The cost is that of the stored entries.
+    /// keeps piece t of part i, so the pieces follow one another, and are the vector's cuts. The cost is that of the
+    /// stored entries.
     pub fn gather_result<S: Semiring>(
         &self,
         alloc: Global,
@@ -95,7 +96,8 @@ impl Grid {
         requires column { shape.cols ≡ 1 }
         requires count { length blocks.now ≡ self.now.side * self.now.side }
         requires shapes { (i t : ℕ) → i < self.now.side → t < self.now.side → (block_at blocks.now (i * self.now.side + t)).shape ≡ piece_shape self.now.side shape i t }
-        ensures { IfOk result (λ m. m ≡ glued_pieces S.arithmetic self.now.side shape (λ i t. block_at blocks.now (i * self.now.side + t))) }
+        ensures glued { IfOk result (λ m. m ≡ glued_pieces S.arithmetic self.now.side shape (λ i t. block_at blocks.now (i * self.now.side + t))) }
+        ensures cuts { IfOk result (λ m. (i t : ℕ) → i < self.now.side → t < self.now.side → block_at blocks.now (i * self.now.side + t) ≡ piece_of S.arithmetic self.now.side m i t) }
     {
         let mut entries = Vec::new(alloc);
         entries.reserve(stored(blocks))?;
@@ -104,7 +106,8 @@ impl Grid {
             let start = self.result_start(shape.rows(), rank);
             append_column(&mut entries, start, 0, block.row_numbers(), block.values())?;
         }
-        Matrix::collect(shape, entries)
+        let vector = Matrix::collect(shape, entries)?;
+        Ok(vector)
     }
 
     /// The first row of a rank's piece of a result.

@@ -17,6 +17,7 @@ ghost use Rattle.std.specs.Prelude.{◌≡◌, ◌↔◌, IsTrue, ◌<◌, ◌�
 ghost use Rattle.cb_semirings.specs.Arithmetic.{IsValue};
 
 mod collect;
+mod ordered;
 #[cfg(test)]
 mod tests;
 

@@ -1,20 +1,53 @@
-use Rattle.std.proofs.Common.{◌≡◌, ◌<◌, subst, arith}
-use Rattle.std.specs.Prelude.{IfOk}
-use Rattle.cb_layout.specs.Tiles.{block_tiles, IsGathered, before_column}
-use Rattle.cb_layout.proofs.Merged.{glued_all}
+use Rattle.std.proofs.Common.{◌≡◌, ℕ, ◌+◌, ◌*◌, ◌<◌, ◌≤◌, List, ◌++◌, length, ap, sym, subst, ◌∙◌, arith, append-nil, length-append}
+use Rattle.cb_matrix.specs.declared.Entry.{Entry}
+use Rattle.cb_matrix.specs.Sparse.{Sparse, IsMatrix}
+use Rattle.cb_layout.specs.Blocks.{block_of}
+use Rattle.cb_layout.specs.Distributed.{AreBlocks, glued_blocks}
+use Rattle.cb_layout.specs.Segments.{shifted}
+use Rattle.cb_layout.proofs.Gathered.{length-shifted}
+use Rattle.cb_layout.proofs.Whole.{whole_is_matrix, blocks_are_cuts}
 use Rattle.cb_layout.proofs.Grid.gather.Goals as goal
 
-pub returns : goal.returns
-returns g c =
+pub loop-segment-smaller : goal.loop-segment-smaller
+loop-segment-smaller g c =
+    let x = c.in-Some.segment in
+    let front : List Entry = shifted x.top x.column x.rows.now x.values.now in
+    let all = ap length c.in-Some.ensures.some ∙ length-append front c.next_segment.new.self in
+    let own = length-shifted x.top x.column x.rows.now x.values.now c.in-Some.ensures.lengths in
+    let some = c.in-Some.ensures.entries in
+    omega arith
+
+pub from_ordered-requires : goal.from_ordered-requires
+from_ordered-requires g c =
     let s = g.S.Semiring.arithmetic in
     let q = c.args.self.now.side in
+    let side = c.side-side.ensures.value in
+    let some = c.side-side.ensures.some in
+    let few = c.side-side.ensures.limit in
     let bs = c.args.blocks.now in
-    let shape = c.args.shape in
-    let value = c.side-j-end.ensures.value in
-    let some = c.side-j-end.ensures.some in
-    let pos : 0 < q = omega arith in
-    let last = c.loop-j-test.false in
-    let within = c.loop-j.auto.j-end in
-    let end : c.loop-j.j ≡ q = omega arith in
-    let all : IsGathered s shape (block_tiles q shape) (before_column q bs q) c.loop-j.entries.items = subst (λ j. IsGathered s shape (block_tiles q shape) (before_column q bs j) c.loop-j.entries.items) end c.loop-j.invariant in
-    subst (λ x. IfOk c.collect.result (λ m. m ≡ x)) (glued_all s g.met.S.Semiring.is_semiring q pos shape bs c.requires.count c.stored.ensures c.loop-j.entries.items all) c.collect.ensures
+    let are : AreBlocks s q c.args.shape bs = record { some = omega arith; few = omega arith; count = c.requires.count; shapes = c.requires.shapes; matrices = c.stored.ensures.matrices } in
+    let all : c.loop-segment.entries.items ≡ (glued_blocks s q c.args.shape bs).entries =
+    sym (append-nil c.loop-segment.entries.items) ∙ ap (λ es. c.loop-segment.entries.items ++ es) (sym c.in-None.ensures.none.0) ∙ c.loop-segment.invariant in
+    subst (λ es. IsMatrix s (record { shape = c.args.shape; entries = es })) (sym all) (whole_is_matrix s g.met.S.Semiring.is_semiring q c.args.shape bs are)
+
+pub returns-clause-glued : goal.returns-clause-glued
+returns-clause-glued g c =
+    let s = g.S.Semiring.arithmetic in
+    let all : c.loop-segment.entries.items ≡ (glued_blocks s c.args.self.now.side c.args.shape c.args.blocks.now).entries =
+    sym (append-nil c.loop-segment.entries.items) ∙ ap (λ es. c.loop-segment.entries.items ++ es) (sym c.in-None.ensures.none.0) ∙ c.loop-segment.invariant in
+    c.from_ordered.ensures ∙ ap (λ (es : List Entry). record { shape = c.args.shape; entries = es }) all
+
+pub returns-clause-cuts : goal.returns-clause-cuts
+returns-clause-cuts g c i j l k =
+    let s = g.S.Semiring.arithmetic in
+    let q = c.args.self.now.side in
+    let side = c.side-side.ensures.value in
+    let some = c.side-side.ensures.some in
+    let few = c.side-side.ensures.limit in
+    let bs = c.args.blocks.now in
+    let are : AreBlocks s q c.args.shape bs = record { some = omega arith; few = omega arith; count = c.requires.count; shapes = c.requires.shapes; matrices = c.stored.ensures.matrices } in
+    let all : c.loop-segment.entries.items ≡ (glued_blocks s q c.args.shape bs).entries =
+    sym (append-nil c.loop-segment.entries.items) ∙ ap (λ es. c.loop-segment.entries.items ++ es) (sym c.in-None.ensures.none.0) ∙ c.loop-segment.invariant in
+    let whole : c.from_ordered.result ≡ glued_blocks s q c.args.shape bs = c.from_ordered.ensures ∙ ap (λ (es : List Entry). record { shape = c.args.shape; entries = es }) all in
+    blocks_are_cuts s g.met.S.Semiring.is_semiring q c.args.shape bs are i j l k
+    ∙ ap (λ (m : Sparse). block_of s q m i j) (sym whole)

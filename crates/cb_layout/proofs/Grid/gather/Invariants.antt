@@ -1,7 +1,10 @@
-use Rattle.cb_layout.specs.Tiles.{block_tiles, IsGathered, before_column}
+use Rattle.std.proofs.Common.{◌≡◌, ◌++◌, length}
+use Rattle.cb_layout.specs.Distributed.{glued_blocks}
 use Rattle.cb_layout.proofs.Grid.gather.Given as goal
 
--- the blocks in the columns of the grid so far
-abbrev pub invariant-loop-j : goal.invariant-loop-j
-invariant-loop-j g l =
-    IsGathered g.S.Semiring.arithmetic l.fn.shape (block_tiles l.fn.self.side l.fn.shape) (before_column l.fn.self.side l.fn.blocks l.j) l.entries.items
+-- the entries so far, and those that are left
+abbrev pub invariant-loop-segment : goal.invariant-loop-segment
+invariant-loop-segment g l = l.entries.items ++ l.segments ≡ (glued_blocks g.S.Semiring.arithmetic l.fn.self.side l.fn.shape l.fn.blocks).entries
+
+abbrev pub decreases-loop-segment : goal.decreases-loop-segment
+decreases-loop-segment g l = length l.segments

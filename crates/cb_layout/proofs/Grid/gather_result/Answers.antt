@@ -1,12 +1,12 @@
 use Rattle.std.proofs.Common.{◌≡◌, ◌+◌, ◌*◌, ◌/◌, ◌%◌, ◌<◌, length, ap, sym, subst, ◌∙◌, arith}
-use Rattle.std.specs.Prelude.{All, IfOk}
+use Rattle.std.specs.Prelude.{All}
 use Rattle.std.proofs.lemmas.List.{get_or_read}
 use Rattle.std.proofs.lemmas.List.Elements.{All-weaker}
 use Rattle.cb_matrix.specs.Sparse.{Sparse}
 use Rattle.cb_matrix.specs.Values.{empty_matrix}
 use Rattle.cb_layout.specs.Blocks.{block_at}
-use Rattle.cb_layout.specs.Vectors.{piece_start}
-use Rattle.cb_layout.proofs.Spread.{piece_fits, piece_more, pieces_all, some_side}
+use Rattle.cb_layout.specs.Vectors.{piece_start, piece_of, glued_pieces}
+use Rattle.cb_layout.proofs.Spread.{piece_fits, piece_more, pieces_all, pieces_are_cuts, some_side}
 use Rattle.cb_layout.proofs.Grid.gather_result.Goals as goal
 
 pub append_column-requires-clause-fits : goal.append_column-requires-clause-fits
@@ -29,7 +29,7 @@ append_column-requires-clause-fits g c =
     let height = c.rows.ensures.value in
     let limit = c.rows.ensures.limit in
     subst (λ xs. All (λ x. c.result_start-start.result + x < 4294967296) xs) (sym rows)
-    (All-weaker (λ x. piece_start q shape.rows (r / q) (r % q) + x < shape.rows) (λ x. c.result_start-start.result + x < 4294967296) (λ x h. omega arith) _ (piece_fits s q pos shape c.requires.column bs c.requires.count c.requires.shapes c.stored.ensures r known))
+    (All-weaker (λ x. piece_start q shape.rows (r / q) (r % q) + x < shape.rows) (λ x. c.result_start-start.result + x < 4294967296) (λ x h. omega arith) _ (piece_fits s q pos shape c.requires.column bs c.requires.count c.requires.shapes c.stored.ensures.matrices r known))
 
 pub loop-rank-preserved : goal.loop-rank-preserved
 loop-rank-preserved g c =
@@ -49,10 +49,10 @@ loop-rank-preserved g c =
     let start : c.result_start-start.result ≡ piece_start q shape.rows (r / q) (r % q) = c.result_start-start.ensures.value ∙ ap (λ d. piece_start q d (r / q) (r % q)) c.rows.ensures.value in
     let rows = rw read at c.row_numbers.ensures in
     let values = rw read at c.values.ensures in
-    piece_more s q pos shape c.requires.column bs c.requires.count c.requires.shapes c.stored.ensures r known c.loop-rank.entries.items c.append_column.new.entries.items c.result_start-start.result start (rw (rows, values) at c.in_ok-append_column.ensures) c.loop-rank.invariant
+    piece_more s q pos shape c.requires.column bs c.requires.count c.requires.shapes c.stored.ensures.matrices r known c.loop-rank.entries.items c.append_column.new.entries.items c.result_start-start.result start (rw (rows, values) at c.in_ok-append_column.ensures) c.loop-rank.invariant
 
-pub returns : goal.returns
-returns g c =
+pub returns-clause-glued : goal.returns-clause-glued
+returns-clause-glued g c =
     let s = g.S.Semiring.arithmetic in
     let q = c.args.self.now.side in
     let bs = c.args.blocks.now in
@@ -64,4 +64,25 @@ returns g c =
     let end : c.loop-rank.rank ≡ q * q = omega arith in
     let known : 0 < q * q = omega arith in
     let pos : 0 < q = some_side q 0 known in
-    subst (λ x. IfOk c.collect.result (λ m. m ≡ x)) (pieces_all s q pos shape c.requires.column bs c.requires.count c.requires.shapes c.stored.ensures g.met.S.Semiring.is_semiring c.loop-rank.entries.items c.loop-rank.rank end c.loop-rank.invariant) c.collect.ensures
+    c.in_ok-vector.ensures
+    ∙ pieces_all s q pos shape c.requires.column bs c.requires.count c.requires.shapes c.stored.ensures.matrices g.met.S.Semiring.is_semiring c.loop-rank.entries.items c.loop-rank.rank end c.loop-rank.invariant
+
+pub returns-clause-cuts : goal.returns-clause-cuts
+returns-clause-cuts g c i t l k =
+    let s = g.S.Semiring.arithmetic in
+    let q = c.args.self.now.side in
+    let bs = c.args.blocks.now in
+    let shape = c.args.shape in
+    let ranks = c.ranks-rank-end.ensures.value in
+    let some = c.ranks-rank-end.ensures.some in
+    let last = c.loop-rank-test.false in
+    let within = c.loop-rank.auto.rank-end in
+    let end : c.loop-rank.rank ≡ q * q = omega arith in
+    let known : 0 < q * q = omega arith in
+    let pos : 0 < q = some_side q 0 known in
+    let laws = g.met.S.Semiring.is_semiring in
+    let whole : c.in_ok-vector.vector ≡ glued_pieces s q shape (λ i t. block_at bs (i * q + t)) =
+    c.in_ok-vector.ensures
+    ∙ pieces_all s q pos shape c.requires.column bs c.requires.count c.requires.shapes c.stored.ensures.matrices laws c.loop-rank.entries.items c.loop-rank.rank end c.loop-rank.invariant in
+    pieces_are_cuts s q pos shape c.requires.column bs c.requires.count c.requires.shapes c.stored.ensures.matrices laws i t l k
+    ∙ ap (λ (m : Sparse). piece_of s q m i t) (sym whole)

@@ -1,0 +1,13 @@
+use Rattle.std.proofs.Common.{◌≡◌, ℕ, ◌+◌, ◌*◌, ◌<◌, List, ap, subst, ◌∙◌}
+use Rattle.cb_matrix.specs.Sparse.{Sparse}
+use Rattle.cb_layout.specs.Blocks.{block_at, block_of}
+use Rattle.cb_layout.specs.Distributed.{Distributed}
+use Rattle.cb_layout.proofs.Whole.{blocks_are_cuts}
+use Rattle.cb_layout.proofs.distributed.DistributedMatrix.into_blocks.Goals as goal
+
+pub returns-clause-blocks : goal.returns-clause-blocks
+returns-clause-blocks g c =
+    let s = g.S.Semiring.arithmetic in
+    let a = c.self.inside in
+    subst (λ (d : Distributed). (i j : ℕ) → i < d.side → j < d.side → block_at c.self.inside.blocks.items (i * d.side + j) ≡ block_of s d.side d.matrix i j) c.self.view_is
+    (λ i j l k. blocks_are_cuts s g.met.S.Semiring.is_semiring a.grid.side a.shape a.blocks.items c.self.invariant.0 i j l k)

@@ -1,0 +1,240 @@
+use Rattle.std.proofs.Common.{◌≡◌, ℕ, ◌+◌, ◌*◌, ◌<◌, ◌≤◌, List, ◌++◌, length, get_or, set, ap, sym, subst, ◌∙◌, arith}
+use Rattle.std.specs.Prelude.{All}
+use Rattle.std.proofs.lemmas.List.{get_or_read, length-set, length-map}
+use Rattle.std.proofs.lemmas.List.Elements.{All-weaker}
+use Rattle.cb_matrix.specs.declared.Entry.{Entry}
+use Rattle.cb_matrix.specs.Sparse.{Sparse}
+use Rattle.cb_matrix.specs.Values.{empty_matrix}
+use Rattle.cb_dcsc.specs.Columns.{in_column, columns_with_entries, rows_of, values_of}
+use Rattle.cb_layout.specs.Parts.{part_start}
+use Rattle.cb_layout.specs.Blocks.{block_at}
+use Rattle.cb_layout.specs.Fronts.{IsLeast, columns_in}
+use Rattle.cb_layout.specs.Segments.{entries_left}
+use Rattle.cb_layout.proofs.Parts.{rank_below}
+use Rattle.cb_layout.proofs.Fronts.{least_row, least_known, least_is, are_next}
+use Rattle.cb_layout.proofs.Whole.{column_inside, rows_inside, column_is, some_in}
+use Rattle.cb_layout.proofs.Remaining.{stepped_left}
+use Rattle.cb_layout.proofs.traversal.Segments.next_segment.Goals as goal
+
+pub overflow_add-column : goal.overflow_add-column
+overflow_add-column g c =
+    let s = g.S.Semiring.arithmetic in
+    let laws = g.met.S.Semiring.is_semiring in
+    let q = c.self.inside.grid.side in
+    let shape = c.self.inside.shape in
+    let bs = c.self.inside.blocks.now in
+    let are = c.self.invariant.are_blocks in
+    let f = c.reached-self-inside.result in
+    let front = c.reached-self-inside.ensures.front in
+    let i = c.in_ok-row.row in
+    let x = c.in_ok-row.column in
+    let least : IsLeast f.columns i x = rw c.in_ok-row.was at front.some in
+    let row : i < q = least_row q shape bs f front i x least in
+    let known : get_or f.done i 0 < length (columns_in q bs f.column i) = least_known q shape bs f front i x least in
+    let number : x ≡ get_or (columns_in q bs f.column i) (get_or f.done i 0) 0 = least_is q shape bs f front i x least in
+    let inside = column_inside s laws q shape bs are i f.column row front.column (get_or f.done i 0) known in
+    let left = front.left in
+    let limit = front.limit in
+    omega arith
+
+pub bounds-blocks-from : goal.bounds-blocks-from
+bounds-blocks-from g c =
+    let s = g.S.Semiring.arithmetic in
+    let laws = g.met.S.Semiring.is_semiring in
+    let q = c.self.inside.grid.side in
+    let shape = c.self.inside.shape in
+    let bs = c.self.inside.blocks.now in
+    let are = c.self.invariant.are_blocks in
+    let f = c.reached-self-inside.result in
+    let front = c.reached-self-inside.ensures.front in
+    let i = c.in_ok-row.row in
+    let x = c.in_ok-row.column in
+    let least : IsLeast f.columns i x = rw c.in_ok-row.was at front.some in
+    let row : i < q = least_row q shape bs f front i x least in
+    let known : get_or f.done i 0 < length (columns_in q bs f.column i) = least_known q shape bs f front i x least in
+    let number : x ≡ get_or (columns_in q bs f.column i) (get_or f.done i 0) 0 = least_is q shape bs f front i x least in
+    let rank : c.from.result ≡ i * q + f.column = c.from.ensures ∙ c.rank.ensures in
+    let l = rank_below q i f.column row front.column in
+    let k = are.count in
+    omega arith
+
+pub stepped-self-inside-requires-clause-some : goal.stepped-self-inside-requires-clause-some
+stepped-self-inside-requires-clause-some g c =
+    let s = g.S.Semiring.arithmetic in
+    let laws = g.met.S.Semiring.is_semiring in
+    let q = c.self.inside.grid.side in
+    let shape = c.self.inside.shape in
+    let bs = c.self.inside.blocks.now in
+    let are = c.self.invariant.are_blocks in
+    let f = c.reached-self-inside.result in
+    let front = c.reached-self-inside.ensures.front in
+    let i = c.in_ok-row.row in
+    let x = c.in_ok-row.column in
+    let least : IsLeast f.columns i x = rw c.in_ok-row.was at front.some in
+    let row : i < q = least_row q shape bs f front i x least in
+    let known : get_or f.done i 0 < length (columns_in q bs f.column i) = least_known q shape bs f front i x least in
+    let number : x ≡ get_or (columns_in q bs f.column i) (get_or f.done i 0) 0 = least_is q shape bs f front i x least in
+    let none : Sparse = empty_matrix (record { rows = 0; cols = 0 }) in
+    let rank : c.from.result ≡ i * q + f.column = c.from.ensures ∙ c.rank.ensures in
+    let below : c.from.result < length bs = let l = rank_below q i f.column row front.column in let k = are.count in omega arith in
+    let read : c.index-blocks-from.result ≡ block_at bs (i * q + f.column) = get_or_read bs c.from.result c.index-blocks-from.result below c.index-blocks-from.is none ∙ ap (block_at bs) rank in
+    let own : c.column_numbers.result.now ≡ columns_in q bs f.column i = c.column_numbers.ensures.numbers ∙ ap (λ (b : Sparse). columns_with_entries b.entries) read in
+    subst (λ xs. get_or f.done i 0 < length xs) (sym own) known
+
+pub nth_column-requires : goal.nth_column-requires
+nth_column-requires g c =
+    let s = g.S.Semiring.arithmetic in
+    let laws = g.met.S.Semiring.is_semiring in
+    let q = c.self.inside.grid.side in
+    let shape = c.self.inside.shape in
+    let bs = c.self.inside.blocks.now in
+    let are = c.self.invariant.are_blocks in
+    let f = c.reached-self-inside.result in
+    let front = c.reached-self-inside.ensures.front in
+    let i = c.in_ok-row.row in
+    let x = c.in_ok-row.column in
+    let least : IsLeast f.columns i x = rw c.in_ok-row.was at front.some in
+    let row : i < q = least_row q shape bs f front i x least in
+    let known : get_or f.done i 0 < length (columns_in q bs f.column i) = least_known q shape bs f front i x least in
+    let number : x ≡ get_or (columns_in q bs f.column i) (get_or f.done i 0) 0 = least_is q shape bs f front i x least in
+    let none : Sparse = empty_matrix (record { rows = 0; cols = 0 }) in
+    let rank : c.from.result ≡ i * q + f.column = c.from.ensures ∙ c.rank.ensures in
+    let below : c.from.result < length bs = let l = rank_below q i f.column row front.column in let k = are.count in omega arith in
+    let read : c.index-blocks-from.result ≡ block_at bs (i * q + f.column) = get_or_read bs c.from.result c.index-blocks-from.result below c.index-blocks-from.is none ∙ ap (block_at bs) rank in
+    subst (λ (b : Sparse). get_or f.done i 0 < length (columns_with_entries b.entries)) (sym read) known
+
+pub invariant_of-self-2 : goal.invariant_of-self-2
+invariant_of-self-2 g c =
+    let s = g.S.Semiring.arithmetic in
+    let laws = g.met.S.Semiring.is_semiring in
+    let q = c.self.inside.grid.side in
+    let shape = c.self.inside.shape in
+    let bs = c.self.inside.blocks.now in
+    let are = c.self.invariant.are_blocks in
+    let f = c.reached-self-inside.result in
+    let front = c.reached-self-inside.ensures.front in
+    let i = c.in_ok-row.row in
+    let x = c.in_ok-row.column in
+    let least : IsLeast f.columns i x = rw c.in_ok-row.was at front.some in
+    let row : i < q = least_row q shape bs f front i x least in
+    let known : get_or f.done i 0 < length (columns_in q bs f.column i) = least_known q shape bs f front i x least in
+    let number : x ≡ get_or (columns_in q bs f.column i) (get_or f.done i 0) 0 = least_is q shape bs f front i x least in
+    let none : Sparse = empty_matrix (record { rows = 0; cols = 0 }) in
+    let rank : c.from.result ≡ i * q + f.column = c.from.ensures ∙ c.rank.ensures in
+    let below : c.from.result < length bs = let l = rank_below q i f.column row front.column in let k = are.count in omega arith in
+    let read : c.index-blocks-from.result ≡ block_at bs (i * q + f.column) = get_or_read bs c.from.result c.index-blocks-from.result below c.index-blocks-from.is none ∙ ap (block_at bs) rank in
+    let own : c.column_numbers.result.now ≡ columns_in q bs f.column i = c.column_numbers.ensures.numbers ∙ ap (λ (b : Sparse). columns_with_entries b.entries) read in
+    let n = get_or f.done i 0 in
+    let g' = c.stepped-self-inside.result in
+    let step = c.stepped-self-inside.ensures in
+    let columns : g'.columns ≡ set f.columns i (get_or (columns_in q bs f.column i) (n + 1) 4294967295) = step.columns ∙ ap (λ xs. set f.columns i (get_or xs (n + 1) 4294967295)) own in
+    record {
+      are_blocks = are;
+      front = record {
+        column = subst (λ j. j < q) (sym step.column) front.column;
+        limit = front.limit;
+        left = step.left ∙ front.left ∙ ap (part_start q shape.cols) (sym step.column);
+        six_done = ap length step.done ∙ length-set f.done i (n + 1) ∙ front.six_done;
+        six_columns = ap length columns ∙ length-set f.columns i (get_or (columns_in q bs f.column i) (n + 1) 4294967295) ∙ front.six_columns;
+        next = are_next q shape bs f front i x least g' step.column step.left step.done columns;
+        some = step.some;
+        none = step.none;
+      };
+      limit = c.self.invariant.limit;
+      six = c.self.invariant.six;
+      begin = c.self.invariant.begin;
+    }
+
+pub returns-clause-some : goal.returns-clause-some
+returns-clause-some g c =
+    let s = g.S.Semiring.arithmetic in
+    let laws = g.met.S.Semiring.is_semiring in
+    let q = c.self.inside.grid.side in
+    let shape = c.self.inside.shape in
+    let bs = c.self.inside.blocks.now in
+    let are = c.self.invariant.are_blocks in
+    let f = c.reached-self-inside.result in
+    let front = c.reached-self-inside.ensures.front in
+    let i = c.in_ok-row.row in
+    let x = c.in_ok-row.column in
+    let least : IsLeast f.columns i x = rw c.in_ok-row.was at front.some in
+    let row : i < q = least_row q shape bs f front i x least in
+    let known : get_or f.done i 0 < length (columns_in q bs f.column i) = least_known q shape bs f front i x least in
+    let number : x ≡ get_or (columns_in q bs f.column i) (get_or f.done i 0) 0 = least_is q shape bs f front i x least in
+    let none : Sparse = empty_matrix (record { rows = 0; cols = 0 }) in
+    let rank : c.from.result ≡ i * q + f.column = c.from.ensures ∙ c.rank.ensures in
+    let below : c.from.result < length bs = let l = rank_below q i f.column row front.column in let k = are.count in omega arith in
+    let read : c.index-blocks-from.result ≡ block_at bs (i * q + f.column) = get_or_read bs c.from.result c.index-blocks-from.result below c.index-blocks-from.is none ∙ ap (block_at bs) rank in
+    let own : c.column_numbers.result.now ≡ columns_in q bs f.column i = c.column_numbers.ensures.numbers ∙ ap (λ (b : Sparse). columns_with_entries b.entries) read in
+    let n = get_or f.done i 0 in
+    let g' = c.stepped-self-inside.result in
+    let step = c.stepped-self-inside.ensures in
+    let columns : g'.columns ≡ set f.columns i (get_or (columns_in q bs f.column i) (n + 1) 4294967295) = step.columns ∙ ap (λ xs. set f.columns i (get_or xs (n + 1) 4294967295)) own in
+    let rows : c.nth_column.result.0.now ≡ rows_of (in_column (get_or (columns_in q bs f.column i) (get_or f.done i 0) 0) (block_at bs (i * q + f.column)).entries) =
+    c.nth_column.ensures.rows ∙ ap (λ (b : Sparse). rows_of (in_column (get_or (columns_with_entries b.entries) (get_or f.done i 0) 0) b.entries)) read in
+    let values : c.nth_column.result.1.now ≡ values_of (in_column (get_or (columns_in q bs f.column i) (get_or f.done i 0) 0) (block_at bs (i * q + f.column)).entries) =
+    c.nth_column.ensures.values ∙ ap (λ (b : Sparse). values_of (in_column (get_or (columns_with_entries b.entries) (get_or f.done i 0) 0) b.entries)) read in
+    sym c.self.view_is
+    ∙ sym c.reached-self-inside.ensures.left
+    ∙ stepped_left s laws q shape bs are are.few f front i x least g' step.column step.left step.done columns
+    ∙ ap (λ (es : List Entry). es ++ entries_left s q shape bs g')
+    (sym (column_is s laws q shape bs are i f.column row front.column (get_or (columns_in q bs f.column i) n 0) (get_or c.self.inside.tops i 0) (f.left + x) c.nth_column.result.0.now c.nth_column.result.1.now
+    (c.self.invariant.begin i row) (λ t. front.left t + number t) rows values))
+
+pub returns-clause-entries : goal.returns-clause-entries
+returns-clause-entries g c =
+    let s = g.S.Semiring.arithmetic in
+    let laws = g.met.S.Semiring.is_semiring in
+    let q = c.self.inside.grid.side in
+    let shape = c.self.inside.shape in
+    let bs = c.self.inside.blocks.now in
+    let are = c.self.invariant.are_blocks in
+    let f = c.reached-self-inside.result in
+    let front = c.reached-self-inside.ensures.front in
+    let i = c.in_ok-row.row in
+    let x = c.in_ok-row.column in
+    let least : IsLeast f.columns i x = rw c.in_ok-row.was at front.some in
+    let row : i < q = least_row q shape bs f front i x least in
+    let known : get_or f.done i 0 < length (columns_in q bs f.column i) = least_known q shape bs f front i x least in
+    let number : x ≡ get_or (columns_in q bs f.column i) (get_or f.done i 0) 0 = least_is q shape bs f front i x least in
+    let none : Sparse = empty_matrix (record { rows = 0; cols = 0 }) in
+    let rank : c.from.result ≡ i * q + f.column = c.from.ensures ∙ c.rank.ensures in
+    let below : c.from.result < length bs = let l = rank_below q i f.column row front.column in let k = are.count in omega arith in
+    let read : c.index-blocks-from.result ≡ block_at bs (i * q + f.column) = get_or_read bs c.from.result c.index-blocks-from.result below c.index-blocks-from.is none ∙ ap (block_at bs) rank in
+    let rows : c.nth_column.result.0.now ≡ rows_of (in_column (get_or (columns_in q bs f.column i) (get_or f.done i 0) 0) (block_at bs (i * q + f.column)).entries) =
+    c.nth_column.ensures.rows ∙ ap (λ (b : Sparse). rows_of (in_column (get_or (columns_with_entries b.entries) (get_or f.done i 0) 0) b.entries)) read in
+    let some = some_in (block_at bs (i * q + f.column)).entries (get_or f.done i 0) known in
+    let count = ap length rows ∙ length-map (in_column (get_or (columns_in q bs f.column i) (get_or f.done i 0) 0) (block_at bs (i * q + f.column)).entries) (λ (e : Entry). e.row) in
+    omega arith
+
+pub returns-clause-inside : goal.returns-clause-inside
+returns-clause-inside g c =
+    let s = g.S.Semiring.arithmetic in
+    let laws = g.met.S.Semiring.is_semiring in
+    let q = c.self.inside.grid.side in
+    let shape = c.self.inside.shape in
+    let bs = c.self.inside.blocks.now in
+    let are = c.self.invariant.are_blocks in
+    let f = c.reached-self-inside.result in
+    let front = c.reached-self-inside.ensures.front in
+    let i = c.in_ok-row.row in
+    let x = c.in_ok-row.column in
+    let least : IsLeast f.columns i x = rw c.in_ok-row.was at front.some in
+    let row : i < q = least_row q shape bs f front i x least in
+    let known : get_or f.done i 0 < length (columns_in q bs f.column i) = least_known q shape bs f front i x least in
+    let number : x ≡ get_or (columns_in q bs f.column i) (get_or f.done i 0) 0 = least_is q shape bs f front i x least in
+    let none : Sparse = empty_matrix (record { rows = 0; cols = 0 }) in
+    let rank : c.from.result ≡ i * q + f.column = c.from.ensures ∙ c.rank.ensures in
+    let below : c.from.result < length bs = let l = rank_below q i f.column row front.column in let k = are.count in omega arith in
+    let read : c.index-blocks-from.result ≡ block_at bs (i * q + f.column) = get_or_read bs c.from.result c.index-blocks-from.result below c.index-blocks-from.is none ∙ ap (block_at bs) rank in
+    let rows : c.nth_column.result.0.now ≡ rows_of (in_column (get_or (columns_in q bs f.column i) (get_or f.done i 0) 0) (block_at bs (i * q + f.column)).entries) =
+    c.nth_column.ensures.rows ∙ ap (λ (b : Sparse). rows_of (in_column (get_or (columns_with_entries b.entries) (get_or f.done i 0) 0) b.entries)) read in
+    let inside = column_inside s laws q shape bs are i f.column row front.column (get_or f.done i 0) known in
+    let left = front.left in
+    let limit = front.limit in
+    let height = c.self.invariant.limit in
+    let top = c.self.invariant.begin i row in (
+      omega arith,
+      subst (λ xs. All (λ y. get_or c.self.inside.tops i 0 + y < 2147483647) xs) (sym rows)
+          (All-weaker (λ y. part_start q shape.rows i + y < shape.rows) (λ y. get_or c.self.inside.tops i 0 + y < 2147483647) (λ y h. omega arith) _ (rows_inside s laws q shape bs are i f.column row front.column (get_or (columns_in q bs f.column i) (get_or f.done i 0) 0))),
+    )

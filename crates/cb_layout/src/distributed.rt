@@ -1,0 +1,125 @@
+//! A matrix that lies over a grid of ranks.
+ghost use Rattle.std.specs.Prelude.{◌≡◌, ◌↔◌, ℕ, ◌<◌, ◌+◌, ◌*◌, [], length, IfOk, IsTrue};
+ghost use Rattle.cb_matrix.specs.Sparse.{IsMatrix};
+ghost use Rattle.cb_layout.specs.Parts.{part_shape};
+ghost use Rattle.cb_layout.specs.Blocks.{block_at, block_of};
+ghost use Rattle.cb_layout.specs.Distributed.{AreBlocks, glued_blocks};
+
+use crate::gather::stored;
+use crate::{Grid, Segments};
+use cb_dcsc::Block;
+use cb_matrix::{Matrix, Shape};
+use cb_semirings::Semiring;
+use std::alloc::{AllocError, Global};
+use std::marker::Model;
+
+/// A matrix whose blocks are kept by the ranks of a grid: the distributed sparse matrix of The Combinatorial BLAS.
+/// In contracts it is the side of its grid and the whole matrix, which its blocks glue to.
+#[derive(Debug, Drop)]
+pub struct DistributedMatrix<S: Semiring> {
+    grid: Grid,
+    shape: Shape,
+    /// How many entries all blocks store.
+    len: usize,
+    /// The block of each rank, in the order of their numbers.
+    blocks: Vec<Block<S>>,
+}
+
+impl<S: Semiring> Model for DistributedMatrix<S> {
+    ghost use Rattle.std.specs.Prelude.{◌≡◌, length};
+    ghost use Rattle.cb_layout.specs.Distributed.{Distributed, AreBlocks, glued_blocks};
+
+    ghost Value = { Distributed };
+
+    ghost view = { λ a. record { side = a.grid.side; matrix = glued_blocks S.arithmetic a.grid.side a.shape a.blocks.items } };
+
+    ghost invariant = { λ a. AreBlocks S.arithmetic a.grid.side a.shape a.blocks.items × (a.len ≡ length (glued_blocks S.arithmetic a.grid.side a.shape a.blocks.items).entries) };
+}
+
+impl<S: Semiring> DistributedMatrix<S> {
+    /// The matrix of a shape that these blocks glue to, one for each rank, in the order of their numbers. It takes
+    /// no memory.
+    pub fn from_blocks(grid: Grid, shape: Shape, blocks: Vec<Block<S>>) -> Self
+        requires count { length blocks.items ≡ grid.side * grid.side }
+        requires shapes { (i j : ℕ) → i < grid.side → j < grid.side → (block_at blocks.items (i * grid.side + j)).shape ≡ part_shape grid.side shape i j }
+        ensures { result ≡ record { side = grid.side; matrix = glued_blocks S.arithmetic grid.side shape blocks.items } }
+    {
+        let _side = grid.side();
+        let _limits = (shape.rows(), shape.cols());
+        let len = stored(&blocks);
+        DistributedMatrix {
+            grid,
+            shape,
+            len,
+            blocks,
+        }
+    }
+
+    /// A matrix cut over a grid. The cost is that of the stored entries, and of one block for each rank.
+    pub fn scatter(alloc: Global, grid: Grid, matrix: &Matrix<S>) -> Result<Self, AllocError>
+        ensures { IfOk result (λ m. m ≡ record { side = grid.side; matrix = matrix.now }) }
+    {
+        let blocks = grid.scatter(alloc, matrix)?;
+        Ok(Self::from_blocks(grid, matrix.shape(), blocks))
+    }
+
+    /// The whole matrix, in memory of its own. The cost is that of the stored entries.
+    pub fn gather(&self, alloc: Global) -> Result<Matrix<S>, AllocError>
+        ensures { IfOk result (λ m. m ≡ self.now.matrix) }
+    {
+        self.grid.gather(alloc, &self.blocks, self.shape)
+    }
+
+    /// The grid that it lies over.
+    pub fn grid(&self) -> Grid
+        ensures { result ≡ record { side = self.now.side } }
+    {
+        self.grid
+    }
+
+    /// How many rows and columns there are. The stored entries are inside them, ascend by column and then row, and
+    /// are other than zero: this call says so too.
+    pub fn shape(&self) -> Shape
+        ensures shape { result ≡ self.now.matrix.shape }
+        ensures matrix { IsMatrix S.arithmetic self.now.matrix }
+    {
+        self.shape
+    }
+
+    /// How many entries are stored.
+    pub fn len(&self) -> usize
+        ensures { result ≡ length self.now.matrix.entries }
+    {
+        self.len
+    }
+
+    /// Whether no entry is stored.
+    pub fn is_empty(&self) -> bool
+        ensures { IsTrue result ↔ (self.now.matrix.entries ≡ []) }
+    {
+        self.len == 0
+    }
+
+    /// The block of each rank, in the order of their numbers.
+    pub fn blocks(&self) -> &[Block<S>]
+        ensures count { length result.now ≡ self.now.side * self.now.side }
+        ensures blocks { (i j : ℕ) → i < self.now.side → j < self.now.side → block_at result.now (i * self.now.side + j) ≡ block_of S.arithmetic self.now.side self.now.matrix i j }
+    {
+        &self.blocks
+    }
+
+    /// The same, given up.
+    pub fn into_blocks(self) -> Vec<Block<S>>
+        ensures count { length result.items ≡ self.side * self.side }
+        ensures blocks { (i j : ℕ) → i < self.side → j < self.side → block_at result.items (i * self.side + j) ≡ block_of S.arithmetic self.side self.matrix i j }
+    {
+        self.blocks
+    }
+
+    /// The stored entries, column by column: of each column the segments in its blocks, from the first row on.
+    pub fn segments(&self) -> Segments<'_, S>
+        ensures { result ≡ self.now.matrix.entries }
+    {
+        Segments::new(self.grid, self.shape, &self.blocks)
+    }
+}

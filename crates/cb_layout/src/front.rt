@@ -1,0 +1,121 @@
+//! How far the blocks in one column of the grid are walked, column by column.
+ghost use Rattle.std.specs.Prelude.{◌≡◌, ℕ, List, ◌<◌, ◌≤◌, ◌+◌, ◌*◌, length, IfSome, IfNone, ◌⊎◌, slice_index, slice_index_or, slice_set};
+ghost use Rattle.cb_layout.specs.Fronts.{IsFront, IsLeast, AreNext};
+
+use crate::Grid;
+use cb_dcsc::Block;
+use cb_matrix::Shape;
+use cb_semirings::Semiring;
+
+/// Stands for the column of a block without a next one: a shape's columns end before it.
+pub(crate) const NO_COLUMN: u32 = u32::MAX;
+
+/// A column of the grid, and how far each of its blocks is walked.
+#[derive(Clone, Copy, Debug)]
+pub(crate) struct Front {
+    /// Which column of the grid.
+    pub column: u32,
+    /// Its first column in the whole matrix.
+    pub left: u32,
+    /// How many of its columns with entries are done of the block in each row.
+    pub done: [usize; 6],
+    /// The column that comes next in each, or that there is none.
+    pub columns: [u32; 6],
+    /// The first row that has the least of these, and that column, unless there is none.
+    pub first: Option<(u32, u32)>,
+}
+
+impl Front {
+    /// The front at the start of a column of the grid.
+    pub fn start<S: Semiring>(grid: Grid, shape: Shape, blocks: &[Block<S>], column: u32) -> Front
+        requires column { column < grid.side }
+        requires count { length blocks.now ≡ grid.side * grid.side }
+        ensures front { IsFront grid.side shape blocks.now result }
+        ensures column { result.column ≡ column }
+        ensures start { (i : ℕ) → slice_index result.done i ≡ 0 }
+    {
+        let (left, _) = grid.range(shape.cols(), column);
+        let done = [0usize; 6];
+        let columns = first_columns(grid, blocks, column);
+        let first = least(&columns);
+        Front {
+            column,
+            left,
+            done,
+            columns,
+            first,
+        }
+    }
+
+    /// The front after one column more of the block in a row of the grid, which has these columns.
+    pub fn stepped(self, row: u32, numbers: &[u32]) -> Front
+        requires row { row < 6 }
+        requires some { slice_index self.done row < length numbers.now }
+        requires six_done { length self.done ≡ 6 }
+        requires six_columns { length self.columns ≡ 6 }
+        ensures column { result.column ≡ self.column }
+        ensures left { result.left ≡ self.left }
+        ensures done { result.done ≡ slice_set self.done row (slice_index self.done row + 1) }
+        ensures columns { result.columns ≡ slice_set self.columns row (slice_index_or numbers.now (slice_index self.done row + 1) NO_COLUMN) }
+        ensures some { IfSome result.first (λ t. IsLeast result.columns t.0 t.1) }
+        ensures none { IfNone result.first ((k : ℕ) → k < 6 → slice_index result.columns k ≡ NO_COLUMN) }
+    {
+        let n = self.done[row as usize] + 1;
+        let mut done = self.done;
+        let mut columns = self.columns;
+        done[row as usize] = n;
+        columns[row as usize] = nth_or_none(numbers, n);
+        let first = least(&columns);
+        Front {
+            column: self.column,
+            left: self.left,
+            done,
+            columns,
+            first,
+        }
+    }
+}
+
+/// The first column with entries of each block in a column of the grid.
+fn first_columns<S: Semiring>(grid: Grid, blocks: &[Block<S>], column: u32) -> [u32; 6]
+    requires column { column < grid.side }
+    requires count { length blocks.now ≡ grid.side * grid.side }
+    ensures six { length result ≡ 6 }
+    ensures next { (done : List ℕ) → ((i : ℕ) → slice_index done i ≡ 0) → AreNext grid.side blocks.now column done result }
+{
+    let mut columns = [NO_COLUMN; 6];
+    for i in 0..grid.side() {
+        let block = &blocks[usize::from(grid.rank(i, column))];
+        columns[i as usize] = nth_or_none(block.column_numbers(), 0);
+    }
+    columns
+}
+
+/// The nth of the columns that have entries, or that there is none.
+fn nth_or_none(columns: &[u32], n: usize) -> u32
+    ensures { result ≡ slice_index_or columns.now n NO_COLUMN }
+{
+    columns.get(n).copied().unwrap_or(NO_COLUMN)
+}
+
+/// The first row of the grid that has the least column, and that column, unless there is none.
+fn least(columns: &[u32; 6]) -> Option<(u32, u32)>
+    ensures some { IfSome result (λ t. IsLeast columns.now t.0 t.1) }
+    ensures none { IfNone result ((k : ℕ) → k < 6 → slice_index columns.now k ≡ NO_COLUMN) }
+{
+    let upper = lesser((0, columns[0]), (1, columns[1]));
+    let middle = lesser((2, columns[2]), (3, columns[3]));
+    let lower = lesser((4, columns[4]), (5, columns[5]));
+    let (row, column) = lesser(lesser(upper, middle), lower);
+    if column == NO_COLUMN {
+        return None;
+    }
+    Some((row, column))
+}
+
+/// Of two rows with their columns the one with the lesser column, and the first where they are equal.
+fn lesser(first: (u32, u32), second: (u32, u32)) -> (u32, u32)
+    ensures { (((result.0 ≡ first.0) × (result.1 ≡ first.1)) × (first.1 ≤ second.1)) ⊎ (((result.0 ≡ second.0) × (result.1 ≡ second.1)) × (second.1 < first.1)) }
+{
+    if first.1 <= second.1 { first } else { second }
+}

@@ -1,0 +1,111 @@
+//! A matrix over a grid, walked in its own order: column by column, and in each column from the first row on.
+ghost use Rattle.std.specs.Prelude.{◌≡◌, ℕ, ◌<◌, ◌≤◌, ◌+◌, ◌*◌, [], ◌++◌, length, All, IfSome, IfNone};
+ghost use Rattle.cb_layout.specs.Distributed.{AreBlocks, glued_blocks};
+ghost use Rattle.cb_layout.specs.Fronts.{IsFront};
+ghost use Rattle.cb_layout.specs.Segments.{shifted, entries_left};
+
+use crate::Grid;
+use crate::front::Front;
+use cb_dcsc::Block;
+use cb_matrix::{Entry, Shape};
+use cb_semirings::Semiring;
+use std::alloc::AllocError;
+use std::marker::Model;
+
+/// The entries of one column that stand in one block.
+#[derive(Clone, Copy, Debug)]
+pub struct Segment<'a> {
+    /// The column in the whole matrix.
+    pub column: u32,
+    /// The row of the whole matrix from which the rows count.
+    pub top: u32,
+    /// The rows, ascending.
+    pub rows: &'a [u32],
+    /// The value at each.
+    pub values: &'a [u64],
+}
+
+/// The segments of a matrix over a grid that are left, by column and then by row: in contracts, the stored
+/// entries that are left. Each costs the least of six numbers, and nothing costs by a dimension.
+#[derive(Drop)]
+pub struct Segments<'a, S: Semiring> {
+    grid: Grid,
+    shape: Shape,
+    blocks: &'a [Block<S>],
+    /// The first row of each row of the grid.
+    tops: [u32; 6],
+    front: Front,
+}
+
+impl<'a, S: Semiring> Model for Segments<'a, S> {
+    ghost use Rattle.std.specs.Prelude.{List};
+    ghost use Rattle.cb_matrix.specs.declared.Entry.{Entry};
+
+    ghost Value = { List Entry };
+
+    ghost use Rattle.cb_layout.specs.Segments.{entries_left, AreSegments};
+
+    ghost view = { λ a. entries_left S.arithmetic a.grid.side a.shape a.blocks.now a.front };
+
+    ghost invariant = { λ a. AreSegments S.arithmetic a.grid.side a.shape a.blocks.now a.front a.tops };
+}
+
+impl<'a, S: Semiring> Segments<'a, S> {
+    /// All segments of the matrix of a shape that blocks over a grid glue to.
+    pub(crate) fn new(grid: Grid, shape: Shape, blocks: &'a [Block<S>]) -> Segments<'a, S>
+        requires { AreBlocks S.arithmetic grid.side shape blocks.now }
+        ensures { result ≡ (glued_blocks S.arithmetic grid.side shape blocks.now).entries }
+    {
+        Segments {
+            grid,
+            shape,
+            blocks,
+            tops: grid.tops(shape.rows()),
+            front: Front::start(grid, shape, blocks, 0),
+        }
+    }
+
+    /// The next segment, which has an entry at least, or None where no entry is left.
+    pub fn next_segment(&mut self) -> Option<Segment<'a>>
+        ensures some { IfSome result (λ g. self.old ≡ shifted g.top g.column g.rows.now g.values.now ++ self.new) }
+        ensures none { IfNone result ((self.old ≡ []) × (self.new ≡ [])) }
+        ensures lengths { IfSome result (λ g. length g.values.now ≡ length g.rows.now) }
+        ensures entries { IfSome result (λ g. 0 < length g.rows.now) }
+        ensures inside { IfSome result (λ g. (g.column < 2147483647) × All (λ i. g.top + i < 2147483647) g.rows.now) }
+    {
+        self.front = reached(self.grid, self.shape, self.blocks, self.front);
+        let (row, column) = self.front.first?;
+        let top = self.tops[row as usize];
+        let column = self.front.left + column;
+        let blocks = self.blocks;
+        let block = &blocks[usize::from(self.grid.rank(row, self.front.column))];
+        let n = self.front.done[row as usize];
+        self.front = self.front.stepped(row, block.column_numbers());
+        let (rows, values) = block.nth_column(n);
+        Some(Segment {
+            column,
+            top,
+            rows,
+            values,
+        })
+    }
+}
+
+/// The front, or, where its columns are all done, the start of the next column of the grid that has entries. That
+/// of the last column where there is none.
+fn reached<S: Semiring>(grid: Grid, shape: Shape, blocks: &[Block<S>], front: Front) -> Front
+    requires blocks { AreBlocks S.arithmetic grid.side shape blocks.now }
+    requires front { IsFront grid.side shape blocks.now front }
+    ensures front { IsFront grid.side shape blocks.now result }
+    ensures left { entries_left S.arithmetic grid.side shape blocks.now result ≡ entries_left S.arithmetic grid.side shape blocks.now front }
+    ensures last { IfNone result.first (entries_left S.arithmetic grid.side shape blocks.now result ≡ []) }
+{
+    let mut front = front;
+    for column in front.column + 1..grid.side() {
+        let None = front.first else {
+            return front;
+        };
+        front = Front::start(grid, shape, blocks, column);
+    }
+    front
+}
