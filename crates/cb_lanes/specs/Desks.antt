@@ -11,6 +11,7 @@ use Rattle.std.specs.declared.alloc.Global.{Global}
 use Rattle.cb_lanes.specs.declared.ends.Poster.{Poster}
 use Rattle.cb_lanes.specs.declared.ends.Taker.{Taker}
 use Rattle.cb_lanes.specs.declared.desk.Desk.{Desk}
+use Rattle.cb_lanes.specs.Numbers.{AreNumbered}
 use Rattle.cb_lanes.specs.Ends.{RingName, sent_by, room_of, capacity_of, received_by, outgoing_ring, incoming_ring}
 
 -- whose desk it is, and which rings it has ends of
@@ -98,7 +99,7 @@ module _ {P : Type 0} where
   abbrev pub Posts : Desk P → ℕ → Letter P → Desk P → Type 0
   Posts a to x b = (identity b ≡ identity a) × AddsPosted a b to x × KeepsTaken a b
 
-  -- a take from this rank answered this, and nothing else happened. The lane has ended just where the last letter taken is a close mark; then nothing more is taken
+  -- a take from this rank answered this, and nothing else happened. The lane has ended just where the last letter taken is a close mark; then nothing more is taken. What was taken is numbered
   abbrev pub Takes : Desk P → ℕ → Taken P → Desk P → Type 0
   Takes a from r b =
       (identity b ≡ identity a)
@@ -106,6 +107,7 @@ module _ {P : Type 0} where
       × AddsTaken a b from r
       × (is_end r ≡ ends_closed (taken_from b from))
       × (ends_closed (taken_from a from) ≡ true → taken_from b from ≡ taken_from a from)
+      × AreNumbered (taken_from b from)
 
   -- the desk of rank k of n, with lanes for c letters, on which nothing was posted or taken
   pub record IsNewDesk (c n k : ℕ) (d : Desk P) : Type 0 where

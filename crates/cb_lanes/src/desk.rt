@@ -25,6 +25,7 @@ impl<P: Drop> Desk<P> {
     ghost use Rattle.cb_letters.specs.Letters.{is_close, mark_tag};
     ghost use Rattle.cb_letters.specs.Posted.{is_end, ends_closed};
     ghost use Rattle.cb_letters.specs.Standing.{standing_refusal, MayRefuse, next_letter};
+    ghost use Rattle.cb_lanes.specs.Numbers.{AreNumbered};
     ghost use Rattle.cb_lanes.specs.Desks.{posted_to, taken_from, room_to, is_stranger, identity, KeepsPosted, KeepsTaken, AddsPosted, AddsTaken, standing, has_room, may_be_full, AreLinked, Keeps, IsSettled};
 
     /// Posts a letter to this rank, and answers its number on the lane. A refusal hands the body back, and
@@ -84,6 +85,7 @@ impl<P: Drop> Desk<P> {
         ensures taken { AddsTaken self.old self.new from result }
         ensures end { is_end result ≡ ends_closed (taken_from self.new from) }
         ensures stays { ends_closed (taken_from self.old from) ≡ true → taken_from self.new from ≡ taken_from self.old from }
+        ensures numbered { AreNumbered (taken_from self.new from) }
     {
         if self.is_stranger(from) {
             return Taken::Stranger;
@@ -111,6 +113,20 @@ impl<P: Drop> Desk<P> {
             Some(lane) => lane.has_room(),
             None => unreachable!(),
         }
+    }
+
+    /// The rank whose desk this is.
+    pub fn rank(&self) -> u16
+        ensures { result ≡ (identity self.now).me }
+    {
+        self.me
+    }
+
+    /// Whether there is no lane between this desk and this rank: it is the desk's own, or no rank.
+    pub fn is_stranger(&self, rank: u16) -> bool
+        ensures { result ≡ is_stranger self.now rank }
+    {
+        rank == self.me || rank as usize >= self.outgoing.len()
     }
 
     /// How many letters were posted to this rank, the close mark among them.
@@ -193,12 +209,5 @@ impl<P: Drop> Desk<P> {
     {
         self.settle_lane(other);
         other.settle_lane(self);
-    }
-
-    /// Whether there is no lane between this desk and this rank: it is the desk's own, or no rank.
-    fn is_stranger(&self, rank: u16) -> bool
-        ensures { result ≡ is_stranger self.now rank }
-    {
-        rank == self.me || rank as usize >= self.outgoing.len()
     }
 }

@@ -1,20 +1,21 @@
 //! The two ends of one lane: a ring with the numbers of its letters and the close mark.
 ghost use Rattle.std.specs.Prelude.{ℕ, ◌≡◌, ◌-◌, ◌^◌, ◌<◌, length};
-ghost use Rattle.cb_letters.specs.Standing.{last_number};
 ghost use Rattle.cb_letters.specs.Posted.{ends_closed, NothingAfterClose};
 ghost use Rattle.rtrb.specs.Ring.{sent, received};
+ghost use Rattle.cb_lanes.specs.Numbers.{IsNext, AreNumbered};
 
 use cb_letters::{Body, Letter, PostRefusal, Tag, Taken};
 use rtrb::{Consumer, Producer, Protocol, PushError};
 use std::alloc::Global;
 
 /// The rule of a lane's ring: its letters are numbered from 0 on, each below the last number, which isn't
-/// given out. So both ends can count in a `u64`. It says nothing of what the letters are about.
+/// given out, and a close mark has tag 0. So both ends can count in a `u64`. It says nothing of what the
+/// letters are about.
 #[derive(Clone, Copy)]
 pub struct Numbered;
 
 impl<P> Protocol<Letter<P>> for Numbered {
-    ghost allows = { λ before x. (x.number ≡ length before) × (x.number < last_number) };
+    ghost allows = { IsNext };
 }
 
 /// The end that posts, and what it knows of its letters without looking at them again.
@@ -36,6 +37,7 @@ pub struct Taker<P> {
     ended: bool,
     ghost counted: { taken ≡ length (received ring) },
     ghost marked: { ended ≡ ends_closed (received ring) },
+    ghost numbered: { AreNumbered (received ring) },
 }
 
 impl<P: Drop> Poster<P> {
@@ -65,6 +67,7 @@ impl<P: Drop> Poster<P> {
         tag: Tag,
         body: Body<P>,
     ) -> Result<u64, (PostRefusal, Body<P>)>
+        requires { is_close body ≡ true → tag.0 ≡ 0 }
         ensures ring { SameProducer self.old.ring self.new.ring }
         ensures accepted { IfOk result (λ number. (standing_refusal (standing_by from false (sent self.old.ring)) ≡ None) × (number ≡ length (sent self.old.ring)) × (sent self.new.ring ≡ sent self.old.ring ++ next_letter (standing_by from false (sent self.old.ring)) to tag body ∷ [])) }
         ensures refused { IfErr result (λ e. MayRefuse (standing_by from false (sent self.old.ring)) (producer_capacity self.old.ring ≤ length (sent self.old.ring)) e.0 × (e.1 ≡ body) × (sent self.new.ring ≡ sent self.old.ring)) }

@@ -19,11 +19,20 @@ fn lost_letter(number: u64) -> Taken<u64> {
     })
 }
 
+/// How many letters a desk posted to a rank, and took from it.
+fn counts(desk: &Desk<u64>, rank: u16) -> Option<(u64, u64)> {
+    if desk.is_stranger(rank) {
+        return None;
+    }
+    Some((desk.posted(rank), desk.taken(rank)))
+}
+
 #[test]
 fn a_pair_of_desks_on_one_thread(rt: HostRuntime) -> Result<(), Fail> {
     let mut desks = open::<u64>(rt.alloc(), 2, 1)?;
     let mut second = desks.pop().ok_or("two desks")?;
     let mut first = desks.pop().ok_or("two desks")?;
+    assert_eq!(rt; (first.rank(), second.rank()), (0, 1));
     assert!(rt; first.room(1));
     assert_eq!(rt; first.try_post(1, Tag(4), Body::Lost(0)), Ok(0));
     assert_eq!(rt;
@@ -44,8 +53,9 @@ fn a_pair_of_desks_on_one_thread(rt: HostRuntime) -> Result<(), Fail> {
         first.try_post(0, Tag(4), Body::Lost(0)),
         Err((PostRefusal::Stranger, Body::Lost(0)))
     );
-    assert_eq!(rt; (first.posted(1), first.taken(1)), (2, 0));
-    assert_eq!(rt; (second.posted(0), second.taken(0)), (0, 2));
+    assert_eq!(rt; counts(&first, 1), Some((2, 0)));
+    assert_eq!(rt; counts(&second, 0), Some((0, 2)));
+    assert_eq!(rt; (counts(&first, 0), counts(&first, 2)), (None, None));
     desks.push(first)?;
     desks.push(second)?;
     let settled = settle(desks);
