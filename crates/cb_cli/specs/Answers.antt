@@ -1,5 +1,5 @@
 -- What a job answers, and when it is refused.
-use Rattle.std.specs.Prelude.{ℕ, ◌≡◌, ◌⊎◌, List, [], map, slice_index_or, Vec}
+use Rattle.std.specs.Prelude.{ℕ, ◌≡◌, ◌⊎◌, List}
 use Rattle.cb_semirings.specs.Arithmetic.{Arithmetic}
 use Rattle.cb_matrix.specs.Sparse.{Sparse}
 use Rattle.cb_matrix.specs.Values.{product, product_shape}
@@ -9,6 +9,7 @@ use Rattle.cb_market.specs.Reads.{Reads}
 use Rattle.cb_market.specs.Text.{text_of}
 use Rattle.cb_market.specs.declared.Kind.{Kind}
 use Rattle.cb_market.specs.declared.Kind.TheVariants as kind_is
+use Rattle.cb_cli.specs.Files.{text_at}
 use Rattle.cb_cli.specs.Semirings.{arithmetic_of}
 use Rattle.cb_cli.specs.declared.jobs.Operation.{Operation}
 use Rattle.cb_cli.specs.declared.jobs.Operation.TheVariants.{Multiply, MultiplyMasked}
@@ -17,14 +18,6 @@ use Rattle.cb_scripts.specs.declared.ScriptFault.TheVariants as script_is
 use Rattle.cb_cli.specs.declared.runs.JobFault.{JobFault}
 use Rattle.cb_cli.specs.declared.runs.JobFault.TheVariants.{Read, Script, Memory, Output}
 use Rattle.cb_cli.specs.declared.semirings.SemiringName.{SemiringName}
-
--- the bytes of each text
-abbrev pub bytes_of : {A : Type 0} → List (Vec ℕ A) → List (List ℕ)
-bytes_of texts = map (λ t. t.items) texts
-
--- a text of a list, or no byte where there is none
-abbrev pub text_at : List (List ℕ) → ℕ → List ℕ
-text_at texts i = slice_index_or texts i []
 
 -- the text reads as some matrix
 abbrev pub IsMatrixText : Arithmetic → List ℕ → Type 0

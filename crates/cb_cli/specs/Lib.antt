@@ -2,5 +2,8 @@ pub mod Semirings
 pub mod Jobs
 pub mod Sinks
 pub mod Writers
-pub mod Answers
 pub mod Faults
+pub mod Files
+pub mod Answers
+pub mod Endings
+pub mod Statuses

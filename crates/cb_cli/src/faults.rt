@@ -7,7 +7,7 @@ use cb_scripts::ScriptFault;
 use std::alloc::{AllocError, Global};
 
 /// The name at a place, or nothing.
-fn name_at(names: &[String], which: usize) -> &str
+pub fn name_at(names: &[String], which: usize) -> &str
     ensures { result.now ≡ name_at names.now which }
 {
     match names.get(which) {

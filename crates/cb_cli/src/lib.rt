@@ -12,7 +12,9 @@
 //! contract of `execute` speaks of the semiring that the job names.
 #![tactic(auto)]
 
+pub mod endings;
 pub mod faults;
+pub mod files;
 pub mod jobs;
 pub mod runs;
 pub mod semirings;

@@ -3,7 +3,8 @@ ghost use Rattle.std.specs.Prelude.{◌≡◌, ◌≢◌, ◌↔◌, ℕ, ◌≤
 ghost use Rattle.std.specs.Io.KnownBytes.{Appends, Keeps};
 ghost use Rattle.cb_cli.specs.Sinks.{AppendsPrefix};
 ghost use Rattle.cb_market.specs.Reads.{Reads};
-ghost use Rattle.cb_cli.specs.Answers.{IsProductText, IsProductFault, IsMaskedText, IsMaskedFault, IsReadFault, IsAnswerOver, IsFaultOver, IsAnswer, IsFault, bytes_of, status_of};
+ghost use Rattle.cb_cli.specs.Answers.{IsProductText, IsProductFault, IsMaskedText, IsMaskedFault, IsReadFault, IsAnswerOver, IsFaultOver, IsAnswer, IsFault, status_of};
+ghost use Rattle.cb_cli.specs.Files.{bytes_of};
 
 use crate::jobs::{Job, Operation};
 use crate::semirings::SemiringName;

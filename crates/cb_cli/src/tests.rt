@@ -1,4 +1,5 @@
 //! Worked examples: whole runs from texts to bytes, sinks that fail, and command lines.
+mod endings;
 mod lines;
 mod products;
 mod sinks;

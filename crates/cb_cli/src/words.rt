@@ -1,6 +1,7 @@
 //! Reads a command line. Words are `clap`'s to judge: an unknown command or option, a missing file,
 //! one too many, an option given twice, a value that isn't offered are each a usage text.
 ghost use Rattle.std.specs.Prelude.{◌≢◌, String, ◌≡◌, IfOk, vec_len, if◌then◌else◌, is_some};
+ghost use Rattle.std.specs.declared.io.ErrorKind.TheVariants as io_is;
 ghost use Rattle.clap.specs.Words.{kind_of};
 ghost use Rattle.cb_cli.specs.Jobs.{file_count_of};
 
@@ -11,8 +12,23 @@ use cb_scripts::Engine;
 use clap::error::ErrorKind;
 use clap::{Arg, ArgAction, ArgMatches, Command, value_parser};
 use std::alloc::{AllocError, Global};
+use std::rt::Env;
+use std::{env, io};
 
 static ENGINES: [&str; 1] = ["plain"];
+
+/// What stands at the end of each help text.
+static AFTER_HELP: &str = "Example:
+  cbgrid multiply --semiring min-plus roads.mtx roads.mtx > two-roads.mtx
+
+Exit status:
+  0  done
+  2  the words are no command line
+  3  a file can't be read
+  4  a file is no matrix
+  5  the shapes don't agree
+  6  memory was refused
+  7  the answer can't be written";
 
 fn help_option<'a>(alloc: Global) -> Arg<'a> {
     Arg::new(alloc, "help")
@@ -70,6 +86,7 @@ fn command<'a>(
 ) -> Result<Command<'a>, AllocError> {
     let mut command = Command::new(alloc, name)
         .about(about)
+        .after_help(AFTER_HELP)
         .disable_help_flag(true);
     for name in files {
         command = command.arg(file(alloc, name))?;
@@ -84,6 +101,7 @@ fn command<'a>(
 fn cbgrid<'a>(alloc: Global) -> Result<Command<'a>, AllocError> {
     Command::new(alloc, "cbgrid")
         .about("Sparse matrices over semirings, read and written as Matrix Market files")
+        .after_help(AFTER_HELP)
         .subcommand_required(true)
         .disable_help_flag(true)
         .disable_help_subcommand(true)
@@ -97,7 +115,9 @@ fn cbgrid<'a>(alloc: Global) -> Result<Command<'a>, AllocError> {
         .arg(mask_option(alloc))?)
 }
 
-fn usage(alloc: Global, text: &str) -> UsageFault {
+fn usage(alloc: Global, text: &str) -> UsageFault
+    ensures { (told : String Global) → result ≢ UsageFault.Help told }
+{
     match String::from_str(alloc, text) {
         Ok(text) => UsageFault::Usage(text),
         Err(_) => UsageFault::Memory,
@@ -107,6 +127,7 @@ fn usage(alloc: Global, text: &str) -> UsageFault {
 fn fault_of(alloc: Global, error: &clap::Error) -> UsageFault
     ensures memory { kind_of error.now ≡ ErrorKind.OutOfMemory → result ≡ UsageFault.Memory }
     ensures help { kind_of error.now ≢ ErrorKind.DisplayHelp → (text : String Global) → result ≢ UsageFault.Help text }
+    ensures usage { kind_of error.now ≡ ErrorKind.DisplayHelp → (text : String Global) → result ≢ UsageFault.Usage text }
 {
     let kind = error.kind();
     if kind == ErrorKind::OutOfMemory {
@@ -188,6 +209,32 @@ fn job_of(alloc: Global, matches: &ArgMatches<'_>) -> Result<Option<Job>, AllocE
     match matches.subcommand() {
         Some(("multiply", found)) => product_of(alloc, found),
         _ => Ok(None),
+    }
+}
+
+/// Why words that can't be had are no job: memory was refused to them, or one of them is no text.
+fn unread_words(alloc: Global, kind: io::ErrorKind) -> UsageFault
+    ensures memory { kind ≡ io_is.OutOfMemory → result ≡ UsageFault.Memory }
+    ensures help { (told : String Global) → result ≢ UsageFault.Help told }
+{
+    if kind == io::ErrorKind::OutOfMemory {
+        return UsageFault::Memory;
+    }
+    usage(
+        alloc,
+        "error: a word of the command line is not valid UTF-8\n",
+    )
+}
+
+/// What the words of the command line ask for, the program's name first.
+pub fn asked<R: Env + AllocGlobal>(rt: &R) -> Result<Job, UsageFault> {
+    let alloc = rt.alloc();
+    match env::args(rt) {
+        Ok(words) => {
+            let words: Vec<String> = words.collect(alloc)?;
+            read_job(alloc, words.as_slice())
+        }
+        Err(error) => Err(unread_words(alloc, error.kind())),
     }
 }
 

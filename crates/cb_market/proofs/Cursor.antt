@@ -41,7 +41,7 @@ return_feed : (c d : ℕ) (rest : List ℕ) → (c == 10) ≡ true → without_r
 unfolding without_return
 return_feed c d rest e = rw e refl
 
-line_end_feed : (d : ℕ) (rest : List ℕ) → (d == 10) ≡ true → is_line_end (d ∷ rest) ≡ true
+pub line_end_feed : (d : ℕ) (rest : List ℕ) → (d == 10) ≡ true → is_line_end (d ∷ rest) ≡ true
 line_end_feed d [] e = rw e refl
 line_end_feed d (c ∷ rest) e = rw e refl
 
@@ -84,7 +84,7 @@ blank_more c (d ∷ rest) e = grind (arith, nat_tests)
 blank_no_feed : (c : ℕ) → is_blank c ≡ true → (c == 10) ≡ false
 blank_no_feed c e = grind (arith, nat_tests)
 
-words_blank : (c : ℕ) (rest : List ℕ) → is_blank c ≡ true → words (line_at (c ∷ rest)) ≡ words (line_at rest)
+pub words_blank : (c : ℕ) (rest : List ℕ) → is_blank c ≡ true → words (line_at (c ∷ rest)) ≡ words (line_at rest)
 unfolding words
 words_blank c rest e = rw (blank_more c rest e) (rw e refl)
 
@@ -169,7 +169,7 @@ end_after_blanks : (rest : List ℕ) → is_line_end (after_blanks rest) ≡ fal
 end_after_blanks [] h = h
 end_after_blanks (c ∷ rest) h = ⊎_elim (λ e. rw e (end_after_blanks rest (rw e at h))) (λ e. rw e (rw e (rw e at h))) (cases_Bool (is_blank c))
 
-words_first : (rest : List ℕ) → is_word_end rest ≡ false → words (line_at rest) ≡ front_word rest ∷ words (line_at (after_word rest))
+pub words_first : (rest : List ℕ) → is_word_end rest ≡ false → words (line_at rest) ≡ front_word rest ∷ words (line_at (after_word rest))
 words_first [] h = cc
 words_first (c ∷ rest) h = words_front c rest h
 

@@ -7,7 +7,7 @@ use Rattle.cb_market.specs.declared.words.Number.TheVariants.{NotWhole}
 use Rattle.cb_market.specs.Lines.{is_digit, all_digits, is_number, is_value_word, magnitude, number}
 use Rattle.cb_market.specs.Cursor.{is_word_end, front_word, after_word, front_digits, after_digits, after_sign, number_of, whole_number, if_small}
 
-digit_no_end : (c : ℕ) (rest : List ℕ) → is_digit c ≡ true → is_word_end (c ∷ rest) ≡ false
+pub digit_no_end : (c : ℕ) (rest : List ℕ) → is_digit c ≡ true → is_word_end (c ∷ rest) ≡ false
 digit_no_end c [] e = grind (arith, nat_tests)
 digit_no_end c (d ∷ rest) e = grind (arith, nat_tests)
 
@@ -20,12 +20,12 @@ pub after_digits_word : (rest : List ℕ) → after_word (after_digits rest) ≡
 after_digits_word [] = refl
 after_digits_word (c ∷ rest) = ⊎_elim (λ e. let f : after_digits (c ∷ rest) ≡ after_digits rest = rw e refl in let g : after_word (c ∷ rest) ≡ after_word rest = rw (digit_no_end c rest e) refl in ap after_word f ∙ after_digits_word rest ∙ sym g) (λ e. rw e refl) (cases_Bool (is_digit c))
 
-after_digits-le : (rest : List ℕ) → length (after_digits rest) ≤ length rest
+pub after_digits-le : (rest : List ℕ) → length (after_digits rest) ≤ length rest
 after_digits-le [] = omega arith
 after_digits-le (c ∷ rest) = ⊎_elim (λ e. rw e (omega (arith, after_digits-le rest))) (λ e. rw e (omega arith)) (cases_Bool (is_digit c))
 
 -- digits alone, where a word ends after them
-front_digits_word : (rest : List ℕ) → is_word_end (after_digits rest) ≡ true → front_word rest ≡ front_digits rest
+pub front_digits_word : (rest : List ℕ) → is_word_end (after_digits rest) ≡ true → front_word rest ≡ front_digits rest
 front_digits_word [] h = refl
 front_digits_word (c ∷ rest) h = ⊎_elim
     (λ e. let f : front_digits (c ∷ rest) ≡ c ∷ front_digits rest = rw e refl in let g : front_word (c ∷ rest) ≡ c ∷ front_word rest = rw (digit_no_end c rest e) refl in g ∙ ap (λ l. c ∷ l) (front_digits_word rest (rw e at h)) ∙ sym f)
@@ -36,7 +36,7 @@ front_digits_all [] = refl
 front_digits_all (c ∷ rest) = ⊎_elim (λ e. rw e (rw e (front_digits_all rest))) (λ e. rw e refl) (cases_Bool (is_digit c))
 
 -- some digits
-number_front : (rest : List ℕ) → length (after_digits rest) < length rest → is_number (front_digits rest) ≡ true
+pub number_front : (rest : List ℕ) → length (after_digits rest) < length rest → is_number (front_digits rest) ≡ true
 number_front [] h = absurd (omega arith)
 number_front (c ∷ rest) h = ⊎_elim (λ e. rw e (rw e (front_digits_all rest))) (λ e. absurd (omega (arith, rw e at h))) (cases_Bool (is_digit c))
 

@@ -8,3 +8,5 @@ pub mod Law
 pub mod Decimals
 pub mod Again
 pub mod Whole
+mod Plain
+mod NextEntries

@@ -1,8 +1,8 @@
 -- A text from a place within it on: what is left of a line, and the text after it.
-use Rattle.std.specs.Prelude.{ℕ, ◌^◌, Bool, true, cond, ◌&&◌, ◌||◌, ◌==◌, nat_lt, List, [], ◌∷◌, Option, Some, None}
+use Rattle.std.specs.Prelude.{◌≡◌, ℕ, ◌^◌, ◌<◌, Bool, true, cond, ◌&&◌, ◌||◌, ◌==◌, nat_lt, List, [], ◌∷◌, length, Option, Some, None}
 use Rattle.cb_market.specs.declared.words.Number.{Number}
 use Rattle.cb_market.specs.declared.words.Number.TheVariants.{NotWhole, TooLarge, Whole}
-use Rattle.cb_market.specs.Lines.{is_digit, is_blank, is_value_word, magnitude}
+use Rattle.cb_market.specs.Lines.{is_digit, is_number, is_blank, is_value_word, magnitude, words}
 
 -- whether a line ends here: at the end of the text or a line feed, or at a carriage return before either
 abbrev pub is_line_end : List ℕ → Bool
@@ -64,3 +64,16 @@ number_of word = cond (is_value_word word) (whole_number (if_small (magnitude wo
 abbrev pub after_sign : List ℕ → List ℕ
 after_sign [] = []
 after_sign (c ∷ rest) = cond ((c == 43) || (c == 45)) rest (c ∷ rest)
+
+-- a number of digits at the front, the byte that follows it, and what comes after that byte
+pub record IsNumberBefore (text : List ℕ) (end : ℕ) (word rest : List ℕ) : Type 0 where
+  pub number : is_number word ≡ true
+  pub front : front_digits text ≡ word
+  pub after : after_digits text ≡ end ∷ rest
+
+-- a line of three words, of which the first is a number, and the text after it
+pub record IsPlainLine (text row column value rest : List ℕ) : Type 0 where
+  pub some : 0 < length text
+  pub number : is_number row ≡ true
+  pub words_are : words (line_at text) ≡ row ∷ column ∷ value ∷ []
+  pub after : after_line text ≡ rest

@@ -1,5 +1,5 @@
 -- The first fault of a text, and the matrix of a text without one.
-use Rattle.std.specs.Prelude.{◌≡◌, ℕ, zero, suc, ◌+◌, ◌<◌, ◌≤◌, ◌⊎◌, List, [], ◌∷◌, length, flat_map, Some, None, Option, IfSome}
+use Rattle.std.specs.Prelude.{◌≡◌, ℕ, zero, suc, ◌+◌, ◌<◌, ◌≤◌, ◌⊎◌, List, [], ◌∷◌, length, flat_map, Some, None, Option, IfSome, Result, Ok, Err}
 use Rattle.cb_semirings.specs.Arithmetic.{Arithmetic}
 use Rattle.cb_matrix.specs.declared.Entry.{Entry}
 use Rattle.cb_matrix.specs.Sparse.{Sparse, Extent}
@@ -8,7 +8,7 @@ use Rattle.cb_market.specs.declared.Kind.{Kind}
 use Rattle.cb_market.specs.declared.Kind.TheVariants.{BadHeader, BadSize, ExtraEntry, MissingEntries, Memory}
 use Rattle.cb_market.specs.declared.ReadFault.{ReadFault}
 use Rattle.cb_market.specs.declared.header.Header.{Header}
-use Rattle.cb_market.specs.Lines.{lines, words, kept_lines, begins_blank}
+use Rattle.cb_market.specs.Lines.{lines, words, kept_lines, kept_from, begins_blank}
 use Rattle.cb_market.specs.Checks.{header_fault, header_of, size_fault, size_of, entry_fault, entry_of, given_by}
 
 -- a line's fault, or else a later one
@@ -63,6 +63,21 @@ IsAnswer first f = (first ≡ Some f) ⊎ ((f.kind ≡ Memory) × IfSome first (
 -- an answer at a line: its fault, or want of memory where it has none
 abbrev pub IsLineAnswer : ℕ → Option Kind → ReadFault → Type 0
 IsLineAnswer n fault f = (f.line ≡ n) × ((fault ≡ Some f.kind) ⊎ ((fault ≡ None) × (f.kind ≡ Memory)))
+
+-- the entry that a line's words write, or their fault
+abbrev pub IsEntryOf : Arithmetic → Header → Extent → List (List ℕ) → Result Entry Kind → Type 0
+IsEntryOf s header shape ws (Ok e) = (entry_fault s header shape ws ≡ None) × (e ≡ entry_of s header ws)
+IsEntryOf s header shape ws (Err kind) = entry_fault s header shape ws ≡ Some kind
+
+-- The first line that isn't skipped, of a text whose first line has the number n, has the number m and writes this entry,
+-- or has this fault; the rest is the text after it.
+pub record IsNextEntry (s : Arithmetic) (header : Header) (shape : Extent) (n : ℕ) (text : List ℕ) (m : ℕ) (found : Result Entry Kind) (rest : List ℕ) : Type 0 where
+  pub line_words : List (List ℕ)
+  pub kept : kept_from n text ≡ (m, line_words) ∷ kept_from (m + 1) rest
+  pub found_is : IsEntryOf s header shape line_words found
+  pub count : m + 1 + length (lines rest) ≡ n + length (lines text)
+  pub later : n ≤ m
+  pub shorter : length rest < length text
 
 -- a fault at a line of a text whose first line has the number n, or at the one past its last
 abbrev pub IsLineOf : ℕ → List ℕ → ReadFault → Type 0

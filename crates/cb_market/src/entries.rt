@@ -1,14 +1,15 @@
 //! The entries of a text.
-ghost use Rattle.std.specs.Prelude.{◌≡◌, ◌+◌, ◌-◌, ◌*◌, ◌/◌, ◌^◌, ◌<◌, ◌≤◌, ◌++◌, IsTrue, IfOk, IfErr, OnOk, [], ◌∷◌, length, vec_capacity, Some, None};
+ghost use Rattle.std.specs.Prelude.{◌≡◌, ◌+◌, ◌-◌, ◌*◌, ◌/◌, ◌^◌, ◌<◌, ◌≤◌, ◌++◌, IsTrue, IfOk, IfErr, OnOk, IfSome, OnSome, IfNone, [], ◌∷◌, length, vec_capacity, Some, None};
 ghost use Rattle.cb_semirings.specs.Arithmetic.{IsValue};
 ghost use Rattle.cb_market.specs.declared.header.Field.TheVariants.{Integer, Pattern};
 ghost use Rattle.cb_market.specs.Lines.{is_number, number, words, lines, kept_from};
 ghost use Rattle.cb_market.specs.Cursor.{line_at, after_line};
 ghost use Rattle.cb_market.specs.Checks.{is_above, is_on_diagonal, place_fault, entry_fault, entry_of, mirrored, negative_of, given_by};
 ghost use Rattle.cb_market.specs.Room.{shortest_line, most_given, room_of};
-ghost use Rattle.cb_market.specs.Faults.{entries_fault, given, IsAnswer, IsLineAnswer, IsLineOf};
+ghost use Rattle.cb_market.specs.Faults.{entries_fault, given, IsAnswer, IsLineOf, IsNextEntry};
 
 use crate::header::{Field, Header, Symmetry};
+use crate::plain_lines::plain_line;
 use crate::scanner::Scanner;
 use crate::size::Size;
 use crate::words::Word;
@@ -223,31 +224,64 @@ impl<'a> Scanner<'a> {
         }
     }
 
-    /// Adds what the entry of a line gives.
-    fn entry_line<S: Semiring>(
+    /// The entry of a line of three short numbers at the front, or its fault, and goes to the next
+    /// line. None before any other line, where it stays.
+    #[inline(always)]
+    fn plain_entry<S: Semiring>(
         &mut self,
-        entries: &mut Vec<Entry>,
         header: Header,
         shape: Shape,
-        first: &Word<'_>,
-    ) -> Result<(), ReadFault>
-        ensures none { OnOk result (entry_fault S.arithmetic header shape (first.now.bytes.now ∷ words (line_at self.old.rest.now)) ≡ None) }
-        ensures given { OnOk result (entries.new.items ≡ entries.old.items ++ given_by S.arithmetic header.symmetry (entry_of S.arithmetic header (first.now.bytes.now ∷ words (line_at self.old.rest.now)))) }
-        ensures fault { IfErr result (IsLineAnswer self.old.line (entry_fault S.arithmetic header shape (first.now.bytes.now ∷ words (line_at self.old.rest.now)))) }
-        ensures after { after_line self.new.rest.now ≡ after_line self.old.rest.now }
-        ensures line { self.new.line ≡ self.old.line }
+    ) -> Option<Result<Entry, Kind>>
+        requires { self.old.line + length (lines self.old.rest.now) < 2 ^ 64 }
+        ensures some { IfSome result (λ found. IsNextEntry S.arithmetic header shape self.old.line self.old.rest.now self.old.line found self.new.rest.now) }
+        ensures line { OnSome result (self.new.line ≡ self.old.line + 1) }
+        ensures none { IfNone result ((self.new.line ≡ self.old.line) × (self.new.rest.now ≡ self.old.rest.now)) }
     {
-        let line = self.line;
-        match self.entry::<S>(header, shape, first) {
-            Ok(entry) => match give::<S>(entries, header.symmetry, entry) {
-                Ok(()) => Ok(()),
-                Err(_) => Err(ReadFault {
-                    line,
-                    kind: Kind::Memory,
-                }),
-            },
-            Err(kind) => Err(ReadFault { line, kind }),
+        match header.field {
+            Field::Pattern => None,
+            Field::Integer => {
+                let Some(line) = plain_line(self.rest) else {
+                    return None;
+                };
+                self.rest = line.rest;
+                self.line += 1;
+                let found = integer_entry::<S>(
+                    header.symmetry,
+                    shape,
+                    &line.row,
+                    &line.column,
+                    &line.value,
+                );
+                Some(found)
+            }
         }
+    }
+
+    /// The entry of the next line that isn't skipped, or its fault, and the line's number. Goes to the
+    /// line after it.
+    #[inline(always)]
+    fn next_entry<S: Semiring>(
+        &mut self,
+        header: Header,
+        shape: Shape,
+    ) -> Option<(u64, Result<Entry, Kind>)>
+        requires { self.old.line + length (lines self.old.rest.now) < 2 ^ 64 }
+        ensures none { IfNone result (kept_from self.old.line self.old.rest.now ≡ []) }
+        ensures end { IfNone result (self.new.line ≡ self.old.line + length (lines self.old.rest.now)) }
+        ensures some { IfSome result (λ p. IsNextEntry S.arithmetic header shape self.old.line self.old.rest.now p.0 p.1 self.new.rest.now) }
+        ensures line { IfSome result (λ p. self.new.line ≡ p.0 + 1) }
+    {
+        let start = self.line;
+        if let Some(found) = self.plain_entry::<S>(header, shape) {
+            return Some((start, found));
+        }
+        let Some(first) = self.kept_line() else {
+            return None;
+        };
+        let line = self.line;
+        let found = self.entry::<S>(header, shape, &first);
+        self.next_line();
+        Some((line, found))
     }
 
     /// The entries of a text, from the line after its size on, added to a list.
@@ -268,15 +302,26 @@ impl<'a> Scanner<'a> {
         let mut entries = room;
         let mut left = size.count;
         loop {
-            let Some(first) = self.kept_line() else {
+            let Some((line, found)) = self.next_entry::<S>(header, size.shape) else {
                 break;
             };
             if left == 0 {
-                return Err(self.fault(Kind::ExtraEntry));
+                return Err(ReadFault {
+                    line,
+                    kind: Kind::ExtraEntry,
+                });
             }
-            self.entry_line::<S>(&mut entries, header, size.shape, &first)?;
+            let entry = match found {
+                Ok(entry) => entry,
+                Err(kind) => return Err(ReadFault { line, kind }),
+            };
+            if give::<S>(&mut entries, header.symmetry, entry).is_err() {
+                return Err(ReadFault {
+                    line,
+                    kind: Kind::Memory,
+                });
+            }
             left -= 1;
-            self.next_line();
         }
         if left != 0 {
             return Err(self.fault(Kind::MissingEntries));

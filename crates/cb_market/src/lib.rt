@@ -90,6 +90,7 @@ pub struct ReadFault {
 mod entries;
 mod header;
 mod pages;
+mod plain_lines;
 mod reading;
 mod scanner;
 mod size;

@@ -18,7 +18,8 @@ pub fn words(alloc: Global, line: &str) -> Result<Vec<String>, AllocError> {
     Ok(words)
 }
 
-fn job(alloc: Global, line: &str) -> Result<Job, UsageFault> {
+/// The job of a line, or why there is none.
+pub fn job(alloc: Global, line: &str) -> Result<Job, UsageFault> {
     let words = words(alloc, line)?;
     read_job(alloc, words.as_slice())
 }

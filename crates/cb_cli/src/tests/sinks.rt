@@ -10,7 +10,7 @@ use std::test::Fail;
 /// A sink that takes at most `step` bytes at a put, and `room` in all: then it fails, or if `stops`
 /// answers that it took none.
 #[derive(Drop)]
-struct Short {
+pub struct Short {
     room: usize,
     step: usize,
     stops: bool,
@@ -19,7 +19,7 @@ struct Short {
 }
 
 impl Short {
-    fn new(alloc: Global, room: usize, step: usize) -> Short
+    pub fn new(alloc: Global, room: usize, step: usize) -> Short
         ensures { result.failed ≡ false }
     {
         Short {

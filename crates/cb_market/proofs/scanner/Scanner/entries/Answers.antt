@@ -1,41 +1,48 @@
-use Rattle.std.proofs.Common.{rules, arith, ◌∙◌, ◌≡◌, ◌≢◌, ◌+◌, ap, length}
-use Rattle.cb_market.specs.Lines.{kept_from, lines}
-use Rattle.cb_market.specs.Cursor.{after_line}
-use Rattle.cb_market.proofs.Faulted.{extra, missing, complete, passed, refused, gives_more, kept_numbers, at_end}
-use Rattle.std.proofs.lemmas.Result.{err_from_is_err_and}
+use Rattle.std.proofs.Common.{rules, arith, ◌∙◌, ◌≡◌, ◌≢◌, ◌+◌, ◌++◌, length, subst}
+use Rattle.cb_market.specs.Lines.{lines}
+use Rattle.cb_market.specs.Checks.{given_by}
+use Rattle.cb_market.specs.Faults.{IsNextEntry}
+use Rattle.cb_market.proofs.NextEntries.{next_extra, next_refused, next_memory, next_passed, next_gives, at_ok}
+use Rattle.cb_market.proofs.Faulted.{missing, complete, at_end}
 use Rattle.cb_market.proofs.scanner.Scanner.entries.Goals as goal
 
 pub returns-then-left-eq0-clause-fault : goal.returns-then-left-eq0-clause-fault
 returns-then-left-eq0-clause-fault g c =
-    extra g.S.Semiring.arithmetic c.args.header c.args.size.shape _ c.loop-first.left _ _ _ _ _ c.loop-first.invariant.faults (search rules) c.in-Some.ensures.some c.fault.ensures
+    next_extra g.S.Semiring.arithmetic c.args.header c.args.size.shape (c.args.self.now.line + length (lines c.args.self.now.rest.now)) c.loop-line.left c.loop-line.self.line c.loop-line.self.rest.now c.in-Some.line c.next_entry.new.self.rest.now _ c.in-Some.found c.loop-line.invariant.faults (search rules) c.in-Some.ensures.some
 
-pub returns-in_err-entry_line-clause-fault : goal.returns-in_err-entry_line-clause-fault
-returns-in_err-entry_line-clause-fault g c =
-    let some : c.loop-first.left ≢ 0 = search rules in
-    let count = c.in-Some.ensures.count in
-    let answer = refused g.S.Semiring.arithmetic c.args.header c.args.size.shape (c.args.self.now.line + length (lines c.args.self.now.rest.now)) c.loop-first.left _ (c.kept_line.new.self.line, _) _ _ c.in_err-entry_line.field-0.0 c.loop-first.invariant.faults some c.in-Some.ensures.some (kept_numbers (c.kept_line.new.self.line + 1) (after_line c.kept_line.new.self.rest.now)) (omega (arith, count, c.loop-first.invariant.count)) c.in_err-entry_line.ensures.fault in
-    let p = err_from_is_err_and c.from_residual.result c.from_residual.ensures.1 in
-    rw (p.1, p.2) answer
+pub returns-in-Err-clause-fault : goal.returns-in-Err-clause-fault
+returns-in-Err-clause-fault g c =
+    let s = g.S.Semiring.arithmetic in
+    let some : c.loop-line.left ≢ 0 = search rules in
+    let next = subst (λ r. IsNextEntry s c.args.header c.args.size.shape c.loop-line.self.line c.loop-line.self.rest.now c.in-Some.line r c.next_entry.new.self.rest.now) c.in-Err.is c.in-Some.ensures.some in
+    next_refused s c.args.header c.args.size.shape (c.args.self.now.line + length (lines c.args.self.now.rest.now)) c.loop-line.left c.loop-line.self.line c.loop-line.self.rest.now c.in-Some.line c.next_entry.new.self.rest.now _ c.in-Err.kind c.loop-line.invariant.faults some (omega (arith, c.in-Some.ensures.some.count, c.loop-line.invariant.count)) next
 
-pub loop-first-preserved : goal.loop-first-preserved
-loop-first-preserved g c =
-    let some : c.loop-first.left ≢ 0 = search rules in
-    let line : c.next_line.new.self.line ≡ c.kept_line.new.self.line + 1 = search rules in
-    let rest : c.next_line.new.self.rest.now ≡ after_line c.kept_line.new.self.rest.now = c.next_line.ensures.rest ∙ c.entry_line.ensures.after in
-    let kept : kept_from c.next_line.new.self.line c.next_line.new.self.rest.now ≡ kept_from (c.kept_line.new.self.line + 1) (after_line c.kept_line.new.self.rest.now) = ap (λ k. kept_from k c.next_line.new.self.rest.now) line ∙ ap (kept_from (c.kept_line.new.self.line + 1)) rest in
-    let count = c.in-Some.ensures.count in
+pub returns-then-is_err-clause-fault : goal.returns-then-is_err-clause-fault
+returns-then-is_err-clause-fault g c =
+    let s = g.S.Semiring.arithmetic in
+    let some : c.loop-line.left ≢ 0 = search rules in
+    let next = subst (λ r. IsNextEntry s c.args.header c.args.size.shape c.loop-line.self.line c.loop-line.self.rest.now c.in-Some.line r c.next_entry.new.self.rest.now) c.in-Ok.is c.in-Some.ensures.some in
+    next_memory s c.args.header c.args.size.shape (c.args.self.now.line + length (lines c.args.self.now.rest.now)) c.loop-line.left c.loop-line.self.line c.loop-line.self.rest.now c.in-Some.line c.next_entry.new.self.rest.now _ c.in-Ok.entry c.loop-line.invariant.faults some (omega (arith, c.in-Some.ensures.some.count, c.loop-line.invariant.count)) next
+
+pub loop-line-preserved : goal.loop-line-preserved
+loop-line-preserved g c =
+    let s = g.S.Semiring.arithmetic in
+    let some : c.loop-line.left ≢ 0 = search rules in
+    let next = subst (λ r. IsNextEntry s c.args.header c.args.size.shape c.loop-line.self.line c.loop-line.self.rest.now c.in-Some.line r c.next_entry.new.self.rest.now) c.in-Ok.is c.in-Some.ensures.some in
+    let line : c.next_entry.new.self.line ≡ c.in-Some.line + 1 = c.in-Some.ensures.line in
+    let added = at_ok c.give.result (c.give.new.entries.items ≡ c.loop-line.entries.items ++ given_by s c.args.header.symmetry c.in-Ok.entry) (search rules) c.give.ensures in
     record {
-      faults = rw kept (passed g.S.Semiring.arithmetic c.args.header c.args.size.shape _ c.loop-first.left _ _ _ _ c.loop-first.invariant.faults some c.in-Some.ensures.some c.in_ok-entry_line.ensures.none);
-      gives = rw kept (gives_more g.S.Semiring.arithmetic c.args.header c.loop-first.entries.items _ _ _ _ _ c.loop-first.invariant.gives c.in-Some.ensures.some c.in_ok-entry_line.ensures.given);
-      count = rw (line, rest) (count ∙ c.loop-first.invariant.count);
-      later = omega (arith, line, c.kept_line.ensures.later, c.loop-first.invariant.later);
-      room = rw (line, rest) (omega (arith, count, c.loop-first.invariant.room));
+      faults = next_passed s c.args.header c.args.size.shape (c.args.self.now.line + length (lines c.args.self.now.rest.now)) c.loop-line.left c.loop-line.self.line c.loop-line.self.rest.now c.in-Some.line c.next_entry.new.self.rest.now _ c.in-Ok.entry c.next_entry.new.self.line line c.loop-line.invariant.faults some next;
+      gives = next_gives s c.args.header c.args.size.shape c.loop-line.self.line c.loop-line.self.rest.now c.in-Some.line c.next_entry.new.self.rest.now c.loop-line.entries.items c.give.new.entries.items _ c.in-Ok.entry c.next_entry.new.self.line line c.loop-line.invariant.gives next added;
+      count = omega (arith, line, c.in-Some.ensures.some.count, c.loop-line.invariant.count);
+      later = omega (arith, line, c.in-Some.ensures.some.later, c.loop-line.invariant.later);
+      room = omega (arith, line, c.in-Some.ensures.some.count, c.loop-line.invariant.room);
     }
 
 pub returns-then-left-ne0-clause-fault : goal.returns-then-left-ne0-clause-fault
-returns-then-left-ne0-clause-fault g c = missing g.S.Semiring.arithmetic c.args.header c.args.size.shape _ c.loop-first.left _ _ _ c.loop-first.invariant.faults (search rules) (rw c.in_default.is at c.kept_line.ensures.none)
-    (let end : c.kept_line.new.self.line ≡ c.loop-first.self.line + length (lines c.loop-first.self.rest.now) = rw c.in_default.is at c.kept_line.ensures.end in
-    c.fault-then-left-ne0.ensures ∙ at_end (end ∙ c.loop-first.invariant.count))
+returns-then-left-ne0-clause-fault g c =
+    missing g.S.Semiring.arithmetic c.args.header c.args.size.shape _ c.loop-line.left _ _ _ c.loop-line.invariant.faults (search rules) c.in_default.ensures.none
+    (c.fault.ensures ∙ at_end (c.in_default.ensures.end ∙ c.loop-line.invariant.count))
 
 pub returns-clause-none : goal.returns-clause-none
-returns-clause-none g c = complete g.S.Semiring.arithmetic c.args.header c.args.size.shape _ c.loop-first.left _ _ c.loop-first.invariant.faults (search rules) (rw c.in_default.is at c.kept_line.ensures.none)
+returns-clause-none g c = complete g.S.Semiring.arithmetic c.args.header c.args.size.shape _ c.loop-line.left _ _ c.loop-line.invariant.faults (search rules) c.in_default.ensures.none

@@ -4,8 +4,8 @@ use Rattle.cb_market.specs.Faults.{given}
 use Rattle.cb_market.proofs.Faulted.{SameFault}
 use Rattle.cb_market.proofs.scanner.Scanner.entries.Given as goal
 
-abbrev pub invariant-loop-first : goal.invariant-loop-first
-invariant-loop-first g l = record {
+abbrev pub invariant-loop-line : goal.invariant-loop-line
+invariant-loop-line g l = record {
   faults : SameFault g.S.Semiring.arithmetic l.header l.fn.size.shape (l.initial.self.line + length (lines l.initial.self.rest.now)) l.fn.size.count (kept_from l.initial.self.line l.initial.self.rest.now) l.left (kept_from l.self.line l.self.rest.now);
   gives : l.entries.items ++ given g.S.Semiring.arithmetic l.header (kept_from l.self.line l.self.rest.now) ≡ l.initial.entries.items ++ given g.S.Semiring.arithmetic l.header (kept_from l.initial.self.line l.initial.self.rest.now);
   count : l.self.line + length (lines l.self.rest.now) ≡ l.initial.self.line + length (lines l.initial.self.rest.now);
@@ -13,5 +13,5 @@ invariant-loop-first g l = record {
   room : l.self.line + length (lines l.self.rest.now) < 2 ^ 64;
 }
 
-abbrev pub decreases-loop-first : goal.decreases-loop-first
-decreases-loop-first g l = length l.self.rest.now
+abbrev pub decreases-loop-line : goal.decreases-loop-line
+decreases-loop-line g l = length l.self.rest.now

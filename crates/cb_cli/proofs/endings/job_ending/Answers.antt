@@ -1,0 +1,13 @@
+use Rattle.std.proofs.Common.{sym, subst}
+use Rattle.cb_cli.specs.Files.{IsUnloaded}
+use Rattle.cb_cli.specs.Endings.{IsJobEnding}
+use Rattle.cb_cli.proofs.EndingLemmas.{job_unloaded}
+use Rattle.cb_cli.proofs.endings.job_ending.Goals as goal
+
+pub returns-in-Err : goal.returns-in-Err
+returns-in-Err g c =
+    let holds = g.F.FileSource.holds c.args.files.now in
+    let refuses = g.F.FileSource.refuses c.args.files.now in
+    let old = g.K.Sink.written c.args.out.now in
+    let fault = subst (λ names. IsUnloaded holds refuses names c.in-Err.fault) c.files.ensures c.in-Err.ensures.fault in
+    subst (λ e. IsJobEnding holds refuses c.args.job.now old old e) (sym c.unloaded.ensures) (job_unloaded holds refuses c.args.job.now old c.in-Err.fault fault)

@@ -1,0 +1,167 @@
+//! How a run of the program ends: what goes to standard output, the text for standard error, and the
+//! status.
+ghost use Rattle.std.specs.Prelude.{◌≡◌, IfOk, false};
+ghost use Rattle.std.specs.Process.{exit_status};
+ghost use Rattle.cb_cli.specs.declared.endings.Ending.{Ending};
+ghost use Rattle.cb_cli.specs.Sinks.{AppendsPrefix};
+ghost use Rattle.cb_cli.specs.Endings.{told_of, ending_status, unloaded_ending, names_of, IsJobEnding, IsUsageEnding, IsEnding};
+ghost use Rattle.cb_cli.specs.Statuses.{status_code};
+
+use crate::faults::{fault_line, name_at, unreadable_line};
+use crate::files::{FileSource, LoadFault, texts_of};
+use crate::jobs::{Job, UsageFault};
+use crate::runs::{JobFault, execute, status};
+use crate::sinks::{Sink, put_all};
+use std::alloc::{AllocError, Global};
+use std::process::{ExitCode, Termination};
+
+/// How a run ended.
+#[derive(Debug, Drop)]
+pub enum Ending {
+    /// The answer, or the help that was asked for, has gone out.
+    Done,
+    /// The words are no command line, as this text says.
+    Usage(String),
+    /// Memory was refused before a text was read.
+    Memory,
+    /// The file of this place among those of the job can't be read.
+    Unreadable(usize),
+    /// The job has no answer, or what was asked for can't be written.
+    Fault(JobFault),
+}
+
+impl Ending {
+    /// The status that the program ends with.
+    pub fn status(&self) -> u8
+        ensures { result ≡ ending_status self.now }
+    {
+        match self {
+            Ending::Done => 0,
+            Ending::Usage(_) => 2,
+            Ending::Memory => 6,
+            Ending::Unreadable(_) => 3,
+            Ending::Fault(fault) => status(fault),
+        }
+    }
+
+    /// The text that the program prints on standard error, of a job with these files.
+    pub fn told(&self, alloc: Global, names: &[String]) -> Result<Vec<u8>, AllocError>
+        ensures { IfOk result (λ v. v.items ≡ told_of names.now self.now) }
+    {
+        match self {
+            Ending::Done => Ok(Vec::new(alloc)),
+            Ending::Usage(text) => Vec::from_slice(alloc, text.as_bytes()),
+            Ending::Memory => fault_line(alloc, names, &JobFault::Memory),
+            Ending::Unreadable(which) => unreadable_line(alloc, name_at(names, *which)),
+            Ending::Fault(fault) => fault_line(alloc, names, fault),
+        }
+    }
+}
+
+/// The status of a run. Only `run` makes one, so a program whose `main` answers it ends as its run
+/// did.
+#[derive(Clone, Copy, Debug, PartialEq, Eq)]
+pub struct Status {
+    code: u8,
+}
+
+impl Status {
+    pub fn code(&self) -> u8
+        ensures { result ≡ status_code self.now }
+    {
+        self.code
+    }
+}
+
+impl Termination for Status {
+    fn report<R: Eprint>(self, _rt: &R) -> ExitCode
+        ensures { exit_status result ≡ status_code self }
+    {
+        ExitCode::from(self.code)
+    }
+}
+
+/// The ending of a job whose files can't all be loaded.
+fn unloaded(fault: LoadFault) -> Ending
+    ensures { result ≡ unloaded_ending fault }
+{
+    match fault {
+        LoadFault::Unreadable(which) => Ending::Unreadable(which),
+        LoadFault::Memory => Ending::Memory,
+    }
+}
+
+/// Runs a job over its files, and writes its answer.
+fn job_ending<F: FileSource, K: Sink>(alloc: Global, job: &Job, files: &F, out: &mut K) -> Ending
+    requires { K.has_failed out.old ≡ false }
+    ensures { IsJobEnding (F.holds files.now) (F.refuses files.now) job.now (K.written out.old) (K.written out.new) result }
+{
+    let texts = match texts_of(alloc, files, job.files()) {
+        Ok(texts) => texts,
+        Err(fault) => return unloaded(fault),
+    };
+    match execute(alloc, job, texts.as_slice(), out) {
+        Ok(()) => Ending::Done,
+        Err(fault) => Ending::Fault(fault),
+    }
+}
+
+/// Writes the help that was asked for, or keeps the text of usage for standard error.
+fn usage_ending<K: Sink>(fault: UsageFault, out: &mut K) -> Ending
+    requires { K.has_failed out.old ≡ false }
+    ensures { IsUsageEnding fault (K.written out.old) (K.written out.new) result }
+{
+    match fault {
+        UsageFault::Help(text) => match put_all(out, text.as_bytes()) {
+            Ok(()) => Ending::Done,
+            Err(_) => Ending::Fault(JobFault::Output),
+        },
+        UsageFault::Usage(text) => Ending::Usage(text),
+        UsageFault::Memory => Ending::Memory,
+    }
+}
+
+/// Prints what an ending tells. Nothing is printed where memory is refused to it.
+fn tell<E: Sink>(alloc: Global, names: &[String], ending: &Ending, errors: &mut E)
+    requires { E.has_failed errors.old ≡ false }
+    ensures { AppendsPrefix (E.written errors.old) (E.written errors.new) (told_of names.now ending.now) }
+{
+    if let Ok(text) = ending.told(alloc, names) {
+        let _ = put_all(errors, text.as_slice());
+    }
+}
+
+/// Runs what the words of a command line ask for: the whole program, but for the words themselves.
+/// The answer or the help goes to `out`, what is told of a fault to `errors`.
+///
+/// The files are loaded in the job's order, before any of them is read, and the first fault ends the
+/// run. The status is that of the ending, and so is the text on `errors`, of which less may go out
+/// where memory is refused to it or the sink fails.
+pub fn run<F: FileSource, K: Sink, E: Sink>(
+    alloc: Global,
+    asked: Result<Job, UsageFault>,
+    files: &F,
+    out: &mut K,
+    errors: &mut E,
+) -> Status
+    requires out { K.has_failed out.old ≡ false }
+    requires errors { E.has_failed errors.old ≡ false }
+    ensures { (e : Ending) × IsEnding (F.holds files.now) (F.refuses files.now) asked (K.written out.old) (K.written out.new) e × AppendsPrefix (E.written errors.old) (E.written errors.new) (told_of (names_of asked) e) × (status_code result ≡ ending_status e) }
+{
+    match asked {
+        Ok(job) => {
+            let ending = job_ending(alloc, &job, files, out);
+            tell(alloc, job.files(), &ending, errors);
+            Status {
+                code: ending.status(),
+            }
+        }
+        Err(fault) => {
+            let ending = usage_ending(fault, out);
+            tell(alloc, &[], &ending, errors);
+            Status {
+                code: ending.status(),
+            }
+        }
+    }
+}
