@@ -1,13 +1,24 @@
--- Marks of rows: a bit for each, in words of 64.
-use Rattle.std.specs.Prelude.{◌≡◌, ℕ, ◌*◌, ◌/◌, ◌%◌, ◌≤◌, List, length, slice_index, slice_index_or}
+-- Marks of rows, a bit for each in words of 64, and marks of the words that have some.
+use Rattle.std.specs.Prelude.{◌≡◌, ℕ, ◌*◌, ◌/◌, ◌%◌, ◌≤◌, ◌<◌, ◌^◌, List, length, slice_index, slice_index_or, All}
 use Rattle.std.specs.Int.{bit_at}
+use Rattle.cb_semirings.specs.Arithmetic.{Arithmetic, IsValue}
 
 -- the mark of row i, 1 or 0
 abbrev pub mark_of : List ℕ → ℕ → ℕ
 mark_of words i = bit_at (slice_index words (i / 64)) (i % 64)
 
--- each sum other than zero has a mark
-pub record AreMarked (zero : ℕ) (sums words : List ℕ) : Type 0 where
-  pub room : length sums ≤ 64 * length words
-  pub inside : (i : ℕ) → length sums ≤ i → mark_of words i ≡ 0
-  pub unmarked : (i : ℕ) → mark_of words i ≡ 0 → slice_index_or sums i zero ≡ zero
+-- each sum other than zero has a mark, and each word of marks that has some has one in turn
+pub record AreMarked (zero : ℕ) (sums marks groups : List ℕ) : Type 0 where
+  pub room : length sums ≤ 64 * length marks
+  pub groups_room : length marks ≤ 64 * length groups
+  pub limit : length sums < 2 ^ 32
+  pub groups_limit : length groups < 2 ^ 32
+  pub inside : (i : ℕ) → length sums ≤ i → mark_of marks i ≡ 0
+  pub groups_inside : (n : ℕ) → length marks ≤ n → mark_of groups n ≡ 0
+  pub unmarked : (i : ℕ) → mark_of marks i ≡ 0 → slice_index_or sums i zero ≡ zero
+  pub no_group : (n : ℕ) → mark_of groups n ≡ 0 → slice_index marks n ≡ 0
+
+-- sums that are values, with their marks
+pub record IsAccumulator (s : Arithmetic) (sums marks groups : List ℕ) : Type 0 where
+  pub values : All (IsValue s) sums
+  pub marked : AreMarked s.zero sums marks groups

@@ -1,162 +1,142 @@
-//! One column of a product, made from the heads and the accumulator's column.
-ghost use Rattle.std.specs.Prelude.{◌≡◌, ℕ, ◌<◌, ◌≤◌, ◌++◌, IsTrue, false, List, [], ◌∷◌, length, drop, All, AllPairs, Contains, IfOk, IfSome, IfNone, OnOk, slice_index};
-ghost use Rattle.std.specs.BinaryHeap.{IsHeap, heap_items};
+//! Columns of a product as they are made, and the sum of two.
+ghost use Rattle.std.specs.Prelude.{◌≡◌, ℕ, ◌<◌, ◌≤◌, List, [], length, drop, All, AllPairs, Contains, IfOk, OnOk, slice_index};
 ghost use Rattle.cb_semirings.specs.Arithmetic.{IsValue};
-ghost use Rattle.cb_dcsc.specs.Columns.{in_column, rows_of, values_of};
-ghost use Rattle.cb_product.specs.Heads.{IsHead, IsPart, GivesEither, by_row, head_value, heads_value, own_value};
-ghost use Rattle.cb_product.specs.Added.{IsColumn, kept};
+ghost use Rattle.cb_dcsc.specs.Columns.{in_column, rows_of, values_of, row_value};
+ghost use Rattle.cb_product.specs.SparseColumn.{IsSparseColumn, value_in, rest_value, one_value};
 
-use crate::heads::{Head, next};
 use cb_dcsc::Block;
 use cb_semirings::Semiring;
 use std::alloc::{AllocError, Global};
-use std::collections::BinaryHeap;
+use std::marker::{Model, PhantomData};
 
-/// A column while it is made: the rows of its entries, and their values.
+/// A sparse column: the rows of its entries, ascending, and their values, none of them zero.
 #[derive(Drop)]
-pub(crate) struct Column {
-    pub rows: Vec<u32>,
-    pub values: Vec<u64>,
+pub(crate) struct Column<S: Semiring> {
+    rows: Vec<u32>,
+    values: Vec<u64>,
+    semiring: PhantomData<S>,
 }
 
-impl Column {
+impl<S: Semiring> Model for Column<S> {
+    ghost use Rattle.cb_product.specs.SparseColumn.{SparseColumn, IsSparseColumn};
+
+    ghost Value = { SparseColumn };
+
+    ghost view = { λ a. record { rows = a.rows.items; values = a.values.items } };
+
+    ghost invariant = { λ a. IsSparseColumn S.arithmetic a.rows.items a.values.items };
+}
+
+impl<S: Semiring> Column<S> {
     /// The column without entries.
-    pub fn new(alloc: Global) -> Self {
+    pub fn new(alloc: Global) -> Self
+        ensures { result.rows ≡ [] }
+    {
         Column {
             rows: Vec::new(alloc),
             values: Vec::new(alloc),
+            semiring: PhantomData,
         }
     }
 
     /// Forgets all entries. The room stays.
     pub fn clear(&mut self)
-        ensures rows { self.new.rows.items ≡ [] }
-        ensures values { self.new.values.items ≡ [] }
+        ensures { self.new.rows ≡ [] }
     {
         self.rows.clear();
         self.values.clear();
     }
 
-    /// Stores an entry after all the others, unless its value is zero.
-    pub fn keep<S: Semiring>(&mut self, row: u32, value: u64) -> Result<(), AllocError>
-        ensures rows { OnOk result (self.new.rows.items ≡ self.old.rows.items ++ kept S.arithmetic.zero value row) }
-        ensures values { OnOk result (self.new.values.items ≡ self.old.values.items ++ kept S.arithmetic.zero value value) }
+    /// The rows and the values.
+    pub fn entries(&self) -> (&[u32], &[u64])
+        ensures rows { result.0.now ≡ self.now.rows }
+        ensures values { result.1.now ≡ self.now.values }
+        ensures column { IsSparseColumn S.arithmetic self.now.rows self.now.values }
     {
+        (&self.rows, &self.values)
+    }
+
+    /// Stores an entry after all the others, unless its value is zero.
+    pub fn keep(&mut self, row: u32, value: u64) -> Result<(), AllocError>
+        requires after { All (λ i. i < row) self.old.rows }
+        requires value { IsValue S.arithmetic value }
+        ensures sum { OnOk result ((i : ℕ) → value_in S.arithmetic.zero self.new i ≡ S.arithmetic.add (value_in S.arithmetic.zero self.old i) (one_value S.arithmetic.zero (row, value) i)) }
+        ensures rows { OnOk result ((bound : ℕ) → row < bound → All (λ i. i < bound) self.new.rows) }
+    {
+        // For the proof alone: what an entry that isn't stored would add to are values.
+        let _entries = self.entries();
         if value == S::zero() {
             return Ok(());
         }
-        self.rows.push(row)?;
-        self.values.push(value)?;
+        self.rows.reserve(1)?;
+        self.values.reserve(1)?;
+        self.rows.push_reserved(row);
+        self.values.push_reserved(value);
         Ok(())
     }
-}
 
-/// Whether the accumulator's column, from `at` on, has the next row: no head is at an earlier one.
-fn is_own_next(heads: &BinaryHeap<Head>, own_rows: &[u32], at: usize) -> bool
-    requires order { IsHeap by_row (heap_items heads.now) }
-    requires ascending { AllPairs (λ i j. i < j) own_rows.now }
-    ensures some { IsTrue result → at < length own_rows.now }
-    ensures first { IsTrue result → All (λ h. slice_index own_rows.now at ≤ h.row) (heap_items heads.now) }
-    ensures later { result ≡ false → (bound : ℕ) → All (λ h. bound ≤ h.row) (heap_items heads.now) → All (λ i. bound ≤ i) (drop at own_rows.now) }
-{
-    if at >= own_rows.len() {
-        return false;
-    }
-    match heads.peek() {
-        Some(head) => own_rows[at] <= head.row,
-        None => true,
-    }
-}
-
-/// The next row that the heads or the accumulator's column, from `at` on, have, and its value there.
-fn next_of<S: Semiring>(
-    heads: &mut BinaryHeap<Head>,
-    rows: &[u32],
-    values: &[u64],
-    own_rows: &[u32],
-    own_values: &[u64],
-    at: &mut usize,
-) -> Option<(u32, u64)>
-    requires heads { All (IsHead S.arithmetic rows.now) (heap_items heads.old) }
-    requires lengths { length values.now ≡ length rows.now }
-    requires values { All (IsValue S.arithmetic) values.now }
-    requires order { IsHeap by_row (heap_items heads.old) }
-    requires own_lengths { length own_values.now ≡ length own_rows.now }
-    requires own_values { All (IsValue S.arithmetic) own_values.now }
-    requires own_order { AllPairs (λ i j. i < j) own_rows.now }
-    ensures order { IsHeap by_row (heap_items heads.new) }
-    ensures no_heads { IfNone result (heap_items heads.new ≡ []) }
-    ensures no_heads_before { IfNone result (heap_items heads.old ≡ []) }
-    ensures no_rows { IfNone result (length own_rows.now ≤ at.new) }
-    ensures no_rows_before { IfNone result (length own_rows.now ≤ at.old) }
-    ensures gives { IfSome result (λ t. GivesEither S.arithmetic rows.now values.now own_rows.now own_values.now (heap_items heads.old) at.old t (heap_items heads.new) at.new) }
-{
-    let n = *at;
-    if is_own_next(heads, own_rows, n) {
-        *at = n + 1;
-        return Some((own_rows[n], own_values[n]));
-    }
-    next::<S>(heads, rows, values)
-}
-
-/// Makes a column: at each row, the sum of what the accumulator's column and the heads have there.
-pub(crate) fn merge<S: Semiring>(
-    made: &mut Column,
-    heads: &mut BinaryHeap<Head>,
-    rows: &[u32],
-    values: &[u64],
-    own_rows: &[u32],
-    own_values: &[u64],
-) -> Result<(), AllocError>
-    requires heads { All (IsHead S.arithmetic rows.now) (heap_items heads.old) }
-    requires lengths { length values.now ≡ length rows.now }
-    requires values { All (IsValue S.arithmetic) values.now }
-    requires order { IsHeap by_row (heap_items heads.old) }
-    requires own_lengths { length own_values.now ≡ length own_rows.now }
-    requires own_values { All (IsValue S.arithmetic) own_values.now }
-    requires own_order { AllPairs (λ i j. i < j) own_rows.now }
-    ensures empty { OnOk result (heap_items heads.new ≡ []) }
-    ensures order { IsHeap by_row (heap_items heads.new) }
-    ensures column { OnOk result (IsColumn S.arithmetic (λ i. S.arithmetic.add (own_value S.arithmetic own_rows.now own_values.now 0 i) (heads_value S.arithmetic rows.now values.now i (heap_items heads.old))) made.new.rows.items made.new.values.items) }
-{
-    made.clear();
-    let mut at = 0;
-    let first = next_of::<S>(heads, rows, values, own_rows, own_values, &mut at);
-    let Some((mut row, mut sum)) = first else {
-        return Ok(());
-    };
-    while let Some((next, value)) = next_of::<S>(
-        heads, rows, values, own_rows, own_values, &mut at,
-    ) {
-        if next == row {
-            sum = S::add(sum, value);
-        } else {
-            made.keep::<S>(row, sum)?;
-            row = next;
-            sum = value;
+    /// Stores the entries of another column from the nth on, scaled, after all the others.
+    pub fn append(
+        &mut self,
+        rows: &[u32],
+        values: &[u64],
+        scale: u64,
+        from: usize,
+    ) -> Result<(), AllocError>
+        requires lengths { length values.now ≡ length rows.now }
+        requires values { All (IsValue S.arithmetic) values.now }
+        requires order { AllPairs (λ i j. i < j) rows.now }
+        requires scale { IsValue S.arithmetic scale }
+        requires after { from < length rows.now → All (λ i. i < slice_index rows.now from) self.old.rows }
+        ensures sum { OnOk result ((i : ℕ) → value_in S.arithmetic.zero self.new i ≡ S.arithmetic.add (value_in S.arithmetic.zero self.old i) (S.arithmetic.mul (rest_value S.arithmetic.zero rows.now values.now from i) scale)) }
+        ensures none { OnOk result (length rows.now ≤ from → self.new ≡ self.old) }
+    {
+        let _entries = self.entries();
+        for n in from..rows.len() {
+            self.keep(rows[n], S::mul(values[n], scale))?;
         }
+        Ok(())
     }
-    made.keep::<S>(row, sum)
-}
 
-/// Makes a column that is another one, scaled: nothing is added to it, so its rows are in order, and only the
-/// products that come to zero are left out.
-pub(crate) fn scaled<S: Semiring>(
-    made: &mut Column,
-    rows: &[u32],
-    values: &[u64],
-    head: Head,
-) -> Result<(), AllocError>
-    requires lengths { length values.now ≡ length rows.now }
-    requires values { All (IsValue S.arithmetic) values.now }
-    requires head { IsPart S.arithmetic rows.now head }
-    ensures column { OnOk result (IsColumn S.arithmetic (λ i. head_value S.arithmetic rows.now values.now i head) made.new.rows.items made.new.values.items) }
-{
-    made.clear();
-    for at in head.at..head.end {
-        made.keep::<S>(rows[at], S::mul(values[at], head.scale))?;
+    /// Makes this the sum of a column and of another one, scaled: both are gone through once.
+    pub fn join(
+        &mut self,
+        own_rows: &[u32],
+        own_values: &[u64],
+        rows: &[u32],
+        values: &[u64],
+        scale: u64,
+    ) -> Result<(), AllocError>
+        requires own_lengths { length own_values.now ≡ length own_rows.now }
+        requires own_values { All (IsValue S.arithmetic) own_values.now }
+        requires own_order { AllPairs (λ i j. i < j) own_rows.now }
+        requires lengths { length values.now ≡ length rows.now }
+        requires values { All (IsValue S.arithmetic) values.now }
+        requires order { AllPairs (λ i j. i < j) rows.now }
+        requires scale { IsValue S.arithmetic scale }
+        ensures { OnOk result ((i : ℕ) → value_in S.arithmetic.zero self.new i ≡ S.arithmetic.add (row_value S.arithmetic.zero own_rows.now own_values.now i) (S.arithmetic.mul (row_value S.arithmetic.zero rows.now values.now i) scale)) }
+    {
+        self.clear();
+        let mut x = 0;
+        let mut y = 0;
+        while x < own_rows.len() && y < rows.len() {
+            let own_row = own_rows[x];
+            let row = rows[y];
+            if own_row < row {
+                self.keep(own_row, own_values[x])?;
+                x += 1;
+            } else if row < own_row {
+                self.keep(row, S::mul(values[y], scale))?;
+                y += 1;
+            } else {
+                self.keep(row, S::add(own_values[x], S::mul(values[y], scale)))?;
+                x += 1;
+                y += 1;
+            }
+        }
+        self.append(own_rows, own_values, S::one(), x)?;
+        self.append(rows, values, scale, y)
     }
-    Ok(())
 }
 
 /// The rows and values of a column, which is the next of those that have entries, or is looked for: who goes

@@ -1,26 +1,26 @@
-//! Columns of the left block on their way through a merge.
-ghost use Rattle.std.specs.Prelude.{◌≡◌, ◌≢◌, ◌↔◌, ◌==◌, ℕ, ◌<◌, ◌≤◌, ◌+◌, List, [], ◌∷◌, length, All, IfSome, IfNone, OnOk};
+//! Terms merged by a heap over their heads.
+ghost use Rattle.std.specs.Prelude.{◌≡◌, ◌≢◌, ◌↔◌, ◌==◌, ℕ, ◌<◌, ◌≤◌, ◌+◌, List, [], ◌∷◌, length, All, IfSome, IfNone, IfOk, OnOk};
 ghost use Rattle.std.proofs.Common.{rules};
 ghost use Rattle.std.specs.Cmp.{partial_order_from_own_ties};
 ghost use Rattle.std.specs.Cmp.Rules.{comparing};
 ghost use Rattle.std.specs.Ordering.{nat_cmp, on, flip_args, as_partial_cmp};
 ghost use Rattle.std.specs.BinaryHeap.{IsHeap, heap_items};
 
-use crate::finder::Finder;
-use cb_dcsc::Block;
+use crate::columns::Column;
+use crate::terms::Term;
 use cb_semirings::Semiring;
-use std::alloc::AllocError;
+use std::alloc::{AllocError, Global};
 use std::cmp::Ordering;
 use std::collections::BinaryHeap;
 use std::collections::binary_heap::PeekMut;
 
-/// What is left of a column, and the factor that scales it. The least row is the greatest head.
+/// A term at its next entry: what is left of it, and the row of that entry. The least row is the greatest head.
 #[derive(Clone, Copy)]
-pub(crate) struct Head {
-    pub row: u32,
-    pub at: usize,
-    pub end: usize,
-    pub scale: u64,
+struct Head {
+    row: u32,
+    at: usize,
+    end: usize,
+    scale: u64,
 }
 
 impl PartialEq for Head {
@@ -61,13 +61,13 @@ impl Ord for Head {
     }
 }
 
-ghost use Rattle.cb_product.specs.Heads.{IsHead, Gives, by_row, heads_value, column_sum};
+ghost use Rattle.cb_product.specs.Heads.{IsHead, Gives, by_row, heads_value};
+ghost use Rattle.cb_product.specs.SparseColumn.{value_in};
+ghost use Rattle.cb_product.specs.Terms.{IsTerm, terms_value};
 ghost use Rattle.cb_semirings.specs.Arithmetic.{IsValue};
-ghost use Rattle.cb_matrix.specs.Sparse.{IsMatrix};
-ghost use Rattle.cb_dcsc.specs.Columns.{rows_of, values_of};
 
 /// The next row that has an entry, and its scaled value.
-pub(crate) fn next<S: Semiring>(
+fn next<S: Semiring>(
     heads: &mut BinaryHeap<Head>,
     rows: &[u32],
     values: &[u64],
@@ -80,7 +80,6 @@ pub(crate) fn next<S: Semiring>(
     ensures none { IfNone result (heap_items heads.old ≡ []) }
     ensures still_none { IfNone result (heap_items heads.new ≡ []) }
     ensures gives { IfSome result (λ t. Gives S.arithmetic rows.now values.now (heap_items heads.old) t (heap_items heads.new)) }
-    ensures least_before { IfSome result (λ t. All (λ h. t.0 ≤ h.row) (heap_items heads.old)) }
     ensures least { IfSome result (λ t. All (λ h. t.0 ≤ h.row) (heap_items heads.new)) }
 {
     let Some(mut top) = heads.peek_mut() else {
@@ -102,43 +101,56 @@ pub(crate) fn next<S: Semiring>(
     Some((head.row, value))
 }
 
-/// A head for each entry of a column of the right block, at the column of the left block that it names.
-pub(crate) fn gather<S: Semiring>(
-    heads: &mut BinaryHeap<Head>,
-    left: &Block<S>,
-    finder: &Finder,
+/// A head for each term, at its first entry.
+fn heads_of<S: Semiring>(
+    alloc: Global,
+    rows: &[u32],
+    terms: &[Term],
+) -> Result<BinaryHeap<Head>, AllocError>
+    requires { All (IsTerm S.arithmetic rows.now) terms.now }
+    ensures heads { IfOk result (λ h. All (IsHead S.arithmetic rows.now) (heap_items h)) }
+    ensures order { IfOk result (λ h. IsHeap by_row (heap_items h)) }
+    ensures sums { IfOk result (λ h. (values : List ℕ) → length values ≡ length rows.now → All (IsValue S.arithmetic) values → (i : ℕ) → heads_value S.arithmetic rows.now values i (heap_items h) ≡ terms_value S.arithmetic rows.now values i terms.now) }
+{
+    let mut heads = BinaryHeap::new(alloc);
+    for term in terms {
+        heads.push(Head {
+            row: rows[term.at],
+            at: term.at,
+            end: term.end,
+            scale: term.scale,
+        })?;
+    }
+    Ok(heads)
+}
+
+/// Makes a column the sum of terms, merged by a heap over their heads.
+pub(crate) fn merge<S: Semiring>(
+    alloc: Global,
+    made: &mut Column<S>,
     rows: &[u32],
     values: &[u64],
+    terms: &[Term],
 ) -> Result<(), AllocError>
     requires lengths { length values.now ≡ length rows.now }
     requires values { All (IsValue S.arithmetic) values.now }
-    requires empty { heap_items heads.old ≡ [] }
-    requires order { IsHeap by_row (heap_items heads.old) }
-    requires matrix { IsMatrix S.arithmetic left.now }
-    ensures heads { OnOk result (All (IsHead S.arithmetic (rows_of left.now.entries)) (heap_items heads.new)) }
-    ensures order { OnOk result (IsHeap by_row (heap_items heads.new)) }
-    ensures sums { OnOk result ((i : ℕ) → heads_value S.arithmetic (rows_of left.now.entries) (values_of left.now.entries) i (heap_items heads.new) ≡ column_sum S.arithmetic left.now i rows.now values.now) }
+    requires terms { All (IsTerm S.arithmetic rows.now) terms.now }
+    ensures { OnOk result ((i : ℕ) → value_in S.arithmetic.zero made.new i ≡ terms_value S.arithmetic rows.now values.now i terms.now) }
 {
-    let all_rows = left.row_numbers();
-    for n in 0..rows.len() {
-        let (at, end) = finder.range(left, rows[n]);
-        if at < end {
-            heads.push(Head {
-                row: all_rows[at],
-                at,
-                end,
-                scale: values[n],
-            })?;
+    made.clear();
+    let mut heads = heads_of::<S>(alloc, rows, terms)?;
+    let first = next::<S>(&mut heads, rows, values);
+    let Some((mut row, mut sum)) = first else {
+        return Ok(());
+    };
+    while let Some((later, value)) = next::<S>(&mut heads, rows, values) {
+        if later == row {
+            sum = S::add(sum, value);
+        } else {
+            made.keep(row, sum)?;
+            row = later;
+            sum = value;
         }
     }
-    Ok(())
-}
-
-/// How many products the heads have left to give.
-pub(crate) fn products_left(heads: &BinaryHeap<Head>) -> usize {
-    let mut count = 0usize;
-    for head in heads.as_slice() {
-        count = count.saturating_add(head.end.saturating_sub(head.at));
-    }
-    count
+    made.keep(row, sum)
 }

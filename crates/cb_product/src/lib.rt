@@ -14,30 +14,25 @@
 //! written.
 #![tactic(auto)]
 
-ghost use Rattle.std.specs.Prelude.{◌≡◌, ◌<◌, ◌≤◌, List, [], length, All, AllPairs, IfOk, IfErr, OnOk};
-ghost use Rattle.cb_matrix.specs.Values.{product, product_shape, empty_matrix};
+ghost use Rattle.std.specs.Prelude.{◌≡◌, ◌<◌, All, AllPairs, IfOk, IfErr};
+ghost use Rattle.cb_matrix.specs.Values.{product, product_shape};
 ghost use Rattle.cb_matrix.specs.Operations.{sum_of};
-ghost use Rattle.std.specs.BinaryHeap.{IsHeap, heap_items};
-ghost use Rattle.cb_semirings.specs.Arithmetic.{IsValue};
-ghost use Rattle.cb_matrix.specs.Sparse.{IsMatrix};
-ghost use Rattle.cb_dcsc.specs.Columns.{rows_of, values_of};
-ghost use Rattle.cb_product.specs.Heads.{IsHead, by_row, heads_value, own_value};
-ghost use Rattle.cb_product.specs.Added.{IsColumn, StandIn};
+ghost use Rattle.cb_product.specs.InColumns.{AreInColumns};
 
-use crate::columns::Column;
 use crate::finder::Finder;
-use crate::heads::Head;
-use crate::sums::Sums;
+use crate::terms::gather;
+use crate::workspace::Workspace;
 use cb_dcsc::Block;
 use cb_semirings::Semiring;
 use std::alloc::{AllocError, Global};
-use std::collections::BinaryHeap;
 
 mod columns;
 mod finder;
 mod heads;
 mod marks;
-mod sums;
+mod sparse_accumulator;
+mod terms;
+mod workspace;
 
 /// The product of two blocks.
 ///
@@ -102,75 +97,40 @@ fn accumulate<S: Semiring>(
     requires shape { accumulator.now.shape ≡ product_shape left.now right.now }
     requires ascending { AllPairs (λ c d. c < d) columns.now }
     requires within { All (λ c. c < right.now.shape.cols) columns.now }
-    requires accumulator_columns { StandIn columns.now accumulator.now.entries }
-    requires right_columns { StandIn columns.now right.now.entries }
+    requires accumulator_columns { AreInColumns columns.now accumulator.now.entries }
+    requires right_columns { AreInColumns columns.now right.now.entries }
     ensures { IfOk result (λ m. m ≡ sum_of S.arithmetic accumulator.now (product S.arithmetic left.now right.now)) }
 {
     let left_shape = left.shape();
     let right_shape = right.shape();
     let mut out = Block::empty(alloc, accumulator.shape());
     out.reserve(accumulator.len().saturating_mul(2).max(right.len()))?;
-    let mut heads = BinaryHeap::new(alloc);
-    let mut sums = Sums::new(alloc);
-    let mut made = Column::new(alloc);
+    let mut work = Workspace::new(alloc)?;
+    let mut terms = Vec::new(alloc);
     let finder = Finder::new(alloc, left, right.len())?;
     let mut next = 0;
     let mut own_next = 0;
+    let mut seen = 0usize;
     for column in columns {
         let (rows, values) = columns::of_next(right, &mut next, *column);
-        heads::gather(&mut heads, left, &finder, rows, values)?;
+        let products = gather(&mut terms, left, &finder, rows, values)?;
         let (own_rows, own_values) = columns::of_next(accumulator, &mut own_next, *column);
-        make_column(&mut made, &mut heads, &mut sums, left, own_rows, own_values)?;
-        out.push_column(*column, &made.rows, &made.values)?;
+        let entries = products.saturating_add(own_rows.len());
+        seen = seen.saturating_add(entries);
+        let dense = is_dense(left_shape.rows(), entries, seen);
+        work.make(left, &terms, own_rows, own_values, dense)?;
+        let (made_rows, made_values) = work.made.entries();
+        out.push_column(*column, made_rows, made_values)?;
     }
     Ok(out)
 }
 
-/// Makes a column: at each row, the sum of what the accumulator's column and the heads have there. A single head, with
-/// nothing to add to, is copied as it is scaled. Where the entries are many for the rows, they are added in an array
-/// with a place for each row, so that no order has to be kept; else, as in a hypersparse block, they are merged by the
-/// heap.
-fn make_column<S: Semiring>(
-    made: &mut Column,
-    heads: &mut BinaryHeap<Head>,
-    sums: &mut Sums,
-    left: &Block<S>,
-    own_rows: &[u32],
-    own_values: &[u64],
-) -> Result<(), AllocError>
-    requires left { IsMatrix S.arithmetic left.now }
-    requires heads { All (IsHead S.arithmetic (rows_of left.now.entries)) (heap_items heads.old) }
-    requires order { IsHeap by_row (heap_items heads.old) }
-    requires own_lengths { length own_values.now ≡ length own_rows.now }
-    requires own_values { All (IsValue S.arithmetic) own_values.now }
-    requires own_order { AllPairs (λ i j. i < j) own_rows.now }
-    requires own_rows { All (λ i. i < left.now.shape.rows) own_rows.now }
-    requires zeros { All (λ x. x ≡ S.arithmetic.zero) sums.old.sums.items }
-    requires unmarked { All (λ word. word ≡ 0) sums.old.marks.items }
-    ensures empty { OnOk result (heap_items heads.new ≡ []) }
-    ensures order { OnOk result (IsHeap by_row (heap_items heads.new)) }
-    ensures zeros_again { OnOk result (All (λ x. x ≡ S.arithmetic.zero) sums.new.sums.items) }
-    ensures unmarked_again { OnOk result (All (λ word. word ≡ 0) sums.new.marks.items) }
-    ensures column { OnOk result (IsColumn S.arithmetic (λ i. S.arithmetic.add (own_value S.arithmetic own_rows.now own_values.now 0 i) (heads_value S.arithmetic (rows_of left.now.entries) (values_of left.now.entries) i (heap_items heads.old))) made.new.rows.items made.new.values.items) }
-{
-    let rows = left.shape().rows() as usize;
-    if own_rows.is_empty() && heads.len() == 1 {
-        let head = heads.as_slice()[0];
-        heads.clear();
-        return columns::scaled::<S>(made, left.row_numbers(), left.values(), head);
-    }
-    let entries = heads::products_left(heads).saturating_add(own_rows.len());
-    if sums.serves(entries, rows) {
-        return sums::merge(made, heads, sums, left, own_rows, own_values);
-    }
-    columns::merge::<S>(
-        made,
-        heads,
-        left.row_numbers(),
-        left.values(),
-        own_rows,
-        own_values,
-    )
+/// Whether a column of so many entries is better made by the sparse accumulator: where it has an entry for every
+/// 16,384 rows, which is four words to look at, and so many have come by, its own with them, that there is one for
+/// every four rows. So the accumulator is never more than a few times the entries that it could have served.
+fn is_dense(rows: u32, entries: usize, seen: usize) -> bool {
+    let rows = rows as usize;
+    rows / 16384 <= entries && rows / 4 <= seen
 }
 
 #[cfg(test)]

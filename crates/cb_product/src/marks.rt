@@ -1,5 +1,5 @@
 //! Marks of rows, a bit for each, in words of 64: what is marked is found again in order, 64 rows at a look.
-ghost use Rattle.std.specs.Prelude.{◌≡◌, ◌≢◌, ℕ, ◌<◌, ◌≤◌, ◌/◌, ◌^◌, length, All, IfSome, IfNone};
+ghost use Rattle.std.specs.Prelude.{◌≡◌, ◌≢◌, ℕ, ◌<◌, ◌≤◌, ◌/◌, ◌^◌, length, All, IfSome, IfNone, slice_index};
 ghost use Rattle.cb_product.specs.Marks.{mark_of};
 
 /// Marks a row.
@@ -8,6 +8,7 @@ pub(crate) fn mark(words: &mut [u64], row: usize)
     ensures length { length words.new ≡ length words.old }
     ensures here { mark_of words.new row ≡ 1 }
     ensures others { (i : ℕ) → i ≢ row → mark_of words.new i ≡ mark_of words.old i }
+    ensures words { (k : ℕ) → k ≢ row / 64 → slice_index words.new k ≡ slice_index words.old k }
 {
     words[row / 64] |= 1 << (row % 64);
 }
@@ -37,7 +38,7 @@ pub(crate) fn next_marked(words: &[u64], from: usize) -> Option<usize>
 }
 
 /// Takes all marks away.
-pub(crate) fn clear(words: &mut [u64])
+pub(crate) fn unmark_all(words: &mut [u64])
     ensures length { length words.new ≡ length words.old }
     ensures none { All (λ word. word ≡ 0) words.new }
 {

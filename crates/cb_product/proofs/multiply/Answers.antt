@@ -1,6 +1,6 @@
 use Rattle.std.proofs.Common.{◌≡◌, ap, ◌∙◌}
 use Rattle.cb_matrix.specs.Values.{empty_matrix, product_shape}
-use Rattle.cb_product.proofs.Produced.{multiplied}
+use Rattle.cb_product.proofs.ProductColumns.{multiplied}
 use Rattle.cb_product.proofs.multiply.Goals as goal
 
 pub returns : goal.returns

@@ -1,5 +1,5 @@
 use Rattle.std.proofs.Common.{rules, refl}
-use Rattle.cb_product.proofs.Stepped.{gives_on, gives_last, least_on, least_last, least_row}
+use Rattle.cb_product.proofs.HeapStep.{gives_on, gives_last, least_on, least_last, least_row}
 use Rattle.cb_product.proofs.heads.next.Goals as goal
 
 pub returns-then-at-head-clause-gives : goal.returns-then-at-head-clause-gives
@@ -41,13 +41,3 @@ returns-else-at-head-clause-least g c =
     let greatest = rw (← c.deref-head.ensures) at (c.in-Some.ensures.greatest c.requires.order) in
     let t = least_last s laws c.args.rows.now c.args.values.now c.requires.lengths c.requires.values _ _ _ h _ refl c.requires.heads taken c.if-at-head.false c.pop.ensures.permutation (least_row h _ greatest) in
     search rules
-
-pub returns-then-at-head-clause-least_before : goal.returns-then-at-head-clause-least_before
-returns-then-at-head-clause-least_before g c =
-    let greatest = rw (← c.deref-head.ensures) at (c.in-Some.ensures.greatest c.requires.order) in
-    least_row c.deref-head.result.now _ greatest
-
-pub returns-else-at-head-clause-least_before : goal.returns-else-at-head-clause-least_before
-returns-else-at-head-clause-least_before g c =
-    let greatest = rw (← c.deref-head.ensures) at (c.in-Some.ensures.greatest c.requires.order) in
-    least_row c.deref-head.result.now _ greatest

@@ -1,5 +1,5 @@
 use Rattle.std.proofs.Common.{◌<◌, ◌/◌, arith}
-use Rattle.cb_product.proofs.Marked.{found_from, found_marked, found_first, later_marked, later_first, none_in_first, ahead}
+use Rattle.cb_product.proofs.MarkBits.{found_from, found_marked, found_first, later_marked, later_first, none_in_first, ahead}
 use Rattle.cb_product.proofs.marks.next_marked.Goals as goal
 
 pub returns-then-word-ne0-clause-from : goal.returns-then-word-ne0-clause-from

@@ -1,0 +1,178 @@
+-- The terms of a column, and their sum.
+use Rattle.std.proofs.Common.{◌≡◌, ℕ, ◌+◌, ◌-◌, ◌<◌, ◌≤◌, List, [], ◌∷◌, ◌++◌, length, map, take, drop, get_or, sym, refl, ap, ◌∙◌, arith}
+use Rattle.std.specs.Prelude.{All, slice_range}
+use Rattle.std.proofs.lemmas.List.{take-map, drop-map, drop_more, drop_all, length-map, map_push}
+use Rattle.std.proofs.lemmas.List.Elements.{All-head, All-tail, All-map, All-get_or, All-drop, All-take, All-weaker, All-cons, All-nil}
+use Rattle.cb_semirings.specs.Arithmetic.{Arithmetic, IsValue, IsSemiring}
+use Rattle.cb_matrix.specs.declared.Entry.{Entry}
+use Rattle.cb_matrix.specs.Sparse.{Sparse, IsMatrix, at}
+use Rattle.cb_matrix.specs.Values.{total}
+use Rattle.cb_matrix.proofs.Totals.{add_zero, total-append, total-one}
+use Rattle.cb_matrix.proofs.Product.{value_at-value}
+use Rattle.cb_matrix.proofs.Permuted.{sum_value}
+use Rattle.cb_dcsc.specs.Columns.{in_column, rows_of, values_of, row_value}
+use Rattle.cb_dcsc.proofs.Lookup.{column_value, column_ascends}
+use Rattle.cb_product.specs.declared.terms.Term.{Term}
+use Rattle.cb_product.specs.Terms.{term_value, terms_value, IsTerm, column_sum}
+use Rattle.cb_product.proofs.RowValues.{row_value-value, absent_above}
+
+range-map : {X Y : Type 0} (f : X → Y) (a b : ℕ) (xs : List X) → slice_range (map f xs) a b ≡ map f (slice_range xs a b)
+range-map f a b xs = ap (take (b - a)) (drop-map f a xs) ∙ take-map f (b - a) (drop a xs)
+
+-- ---- terms over any rows and values
+module _ (s : Arithmetic) (laws : IsSemiring s) (rows values : List ℕ) (all_values : All (IsValue s) values) where
+  -- a term has values
+  pub term_value-value : (i : ℕ) (t : Term) → IsValue s t.scale → IsValue s (term_value s rows values i t)
+  term_value-value i t v = laws.mul_value _ _ (row_value-value s laws (slice_range rows t.at t.end) (slice_range values t.at t.end) i (All-take (IsValue s) (t.end - t.at) (drop t.at values) (All-drop (IsValue s) t.at values all_values))) v
+
+  all_terms : (i : ℕ) (ts : List Term) → All (IsTerm s rows) ts → All (λ t. IsValue s (term_value s rows values i t)) ts
+  all_terms i ts k = All-weaker (IsTerm s rows) (λ t. IsValue s (term_value s rows values i t)) (λ t is. term_value-value i t is.scale) ts k
+
+  -- and so has a sum of terms
+  pub terms_value-value : (i : ℕ) (ts : List Term) → All (IsTerm s rows) ts → IsValue s (terms_value s rows values i ts)
+  terms_value-value i ts is = sum_value s laws (term_value s rows values i) ts (all_terms i ts is)
+
+  -- one term more
+  pub terms_value-push : (i : ℕ) (ts : List Term) (t : Term) → All (IsTerm s rows) ts → IsValue s t.scale → terms_value s rows values i (ts ++ t ∷ []) ≡ s.add (terms_value s rows values i ts) (term_value s rows values i t)
+  terms_value-push i ts t is v =
+      let here = term_value-value i t v in
+      ap (total s) (map_push (term_value s rows values i) ts t)
+      ∙ total-append s laws (map (term_value s rows values i) ts) (term_value s rows values i t ∷ []) (All-map (IsValue s) (term_value s rows values i) ts (all_terms i ts is)) (All-cons (IsValue s) (term_value s rows values i t) [] here (All-nil (IsValue s)))
+      ∙ ap (s.add (terms_value s rows values i ts)) (total-one s laws (term_value s rows values i t) here)
+
+  -- the first term, and the others
+  pub terms_value-rest : (i n : ℕ) (ts : List Term) (d : Term) → n < length ts → terms_value s rows values i (drop n ts) ≡ s.add (term_value s rows values i (get_or ts n d)) (terms_value s rows values i (drop (n + 1) ts))
+  unfolding total
+  terms_value-rest i n ts d l = ap (terms_value s rows values i) (drop_more ts n d l)
+
+  -- past all terms nothing is left
+  pub terms_value-end : (i n : ℕ) (ts : List Term) → length ts ≤ n → terms_value s rows values i (drop n ts) ≡ s.zero
+  unfolding total
+  terms_value-end i n ts l = ap (terms_value s rows values i) (drop_all n ts l)
+
+  -- ---- terms added to sums of rows
+  -- one term more
+  pub term_added : (ts : List Term) (n : ℕ) (d : Term) (old new : List ℕ) (T : ℕ → ℕ) → n < length ts → All (IsTerm s rows) ts → All (IsValue s) old → length new ≡ length old
+      → ((i : ℕ) → i < length old → get_or new i s.zero ≡ s.add (get_or old i s.zero) (term_value s rows values i (get_or ts n d)))
+      → ((i : ℕ) → i < length old → s.add (get_or old i s.zero) (terms_value s rows values i (drop n ts)) ≡ T i)
+      → (i : ℕ) → i < length old → s.add (get_or new i s.zero) (terms_value s rows values i (drop (n + 1) ts)) ≡ T i
+  term_added ts n d old new T l is vs long step so_far i li =
+      let t = get_or ts n d in
+      let term : IsTerm s rows t = All-get_or (IsTerm s rows) ts n d l is in
+      let rest = terms_value s rows values i (drop (n + 1) ts) in
+      ap (λ y. s.add y rest) (step i li)
+      ∙ laws.add_assoc (get_or old i s.zero) (term_value s rows values i t) rest (All-get_or (IsValue s) old i s.zero li vs) (term_value-value i t term.scale) (terms_value-value i (drop (n + 1) ts) (All-drop (IsTerm s rows) (n + 1) ts is))
+      ∙ ap (s.add (get_or old i s.zero)) (sym (terms_value-rest i n ts d l)) ∙ so_far i li
+
+  -- all are added
+  pub terms_added : (ts : List Term) (n : ℕ) (sums : List ℕ) (T : ℕ → ℕ) → length ts ≤ n → All (IsValue s) sums → ((i : ℕ) → i < length sums → s.add (get_or sums i s.zero) (terms_value s rows values i (drop n ts)) ≡ T i) → (i : ℕ) → i < length sums → get_or sums i s.zero ≡ T i
+  terms_added ts n sums T l vs so_far i li =
+      sym (add_zero s laws (get_or sums i s.zero) (All-get_or (IsValue s) sums i s.zero li vs)) ∙ ap (s.add (get_or sums i s.zero)) (sym (terms_value-end i n ts l)) ∙ so_far i li
+
+-- ---- at a row past all rows terms have nothing
+module _ (s : Arithmetic) (laws : IsSemiring s) (rows values : List ℕ) (bound i : ℕ) (inside : All (λ r. r < bound) rows) (past : bound ≤ i) where
+  pub terms_past : (ts : List Term) → All (IsTerm s rows) ts → terms_value s rows values i ts ≡ s.zero
+  unfolding total
+  terms_past [] is = refl
+  terms_past (t ∷ ts) is =
+      let here = All-head (IsTerm s rows) t ts is in
+      let none : term_value s rows values i t ≡ s.zero = ap (λ x. s.mul x t.scale) (absent_above s.zero bound (slice_range rows t.at t.end) (slice_range values t.at t.end) i (All-take (λ r. r < bound) (t.end - t.at) (drop t.at rows) (All-drop (λ r. r < bound) t.at rows inside)) past) ∙ laws.zero_mul t.scale here.scale in
+      (λ k. s.add (none k) (terms_past ts (All-tail (IsTerm s rows) t ts is) k)) ∙ laws.zero_add s.zero laws.zero_value
+
+-- ---- terms of a matrix
+module _ (s : Arithmetic) (laws : IsSemiring s) (a : Sparse) (is : IsMatrix s a) where
+  abbrev ks : List ℕ
+  ks = rows_of a.entries
+
+  abbrev vs : List ℕ
+  vs = values_of a.entries
+
+  -- as many values as rows
+  pub lengths : length vs ≡ length ks
+  lengths = length-map a.entries (λ (e : Entry). e.value) ∙ sym (length-map a.entries (λ (e : Entry). e.row))
+
+  -- all of them values
+  pub matrix_values : All (IsValue s) vs
+  matrix_values = All-map (IsValue s) (λ (e : Entry). e.value) a.entries is.values
+
+  column_sum-value : (i : ℕ) (rows values : List ℕ) → All (IsValue s) values → IsValue s (column_sum s a i rows values)
+  unfolding column_sum
+  column_sum-value i [] values h = laws.zero_value
+  column_sum-value i (k ∷ rows) [] h = laws.zero_value
+  column_sum-value i (k ∷ rows) (v ∷ values) h = laws.add_value _ _ (laws.mul_value _ v (value_at-value s laws a.entries i k is.values) (All-head (IsValue s) v values h)) (column_sum-value i rows values (All-tail (IsValue s) v values h))
+
+  module _ (k from to : ℕ) (there : slice_range a.entries from to ≡ in_column k a.entries) where
+    rows_there : slice_range ks from to ≡ rows_of (in_column k a.entries)
+    rows_there = range-map (λ (e : Entry). e.row) from to a.entries ∙ ap rows_of there
+
+    values_there : slice_range vs from to ≡ values_of (in_column k a.entries)
+    values_there = range-map (λ (e : Entry). e.value) from to a.entries ∙ ap values_of there
+
+    scaled_column : (scale i : ℕ) → term_value s ks vs i (record { at = from; end = to; scale = scale }) ≡ s.mul (at s a i k) scale
+    scaled_column scale i = ap (λ x. s.mul x scale) (ap (λ rs. row_value s.zero rs (slice_range vs from to) i) rows_there ∙ ap (λ ws. row_value s.zero (rows_of (in_column k a.entries)) ws i) values_there ∙ column_value s.zero a.entries i k)
+
+    -- the column's entries make a term
+    pub new_term : (scale : ℕ) → from < to → to ≤ length a.entries → IsValue s scale → IsTerm s ks (record { at = from; end = to; scale = scale })
+    new_term scale l m v = record {
+      some = l;
+      within = let n = length-map a.entries (λ (e : Entry). e.row) in omega arith;
+      ascending = rw rows_there (column_ascends k a.entries is.ascending);
+      scale = v;
+    }
+
+    no_column : to ≤ from → (i scale : ℕ) → IsValue s scale → s.mul (at s a i k) scale ≡ s.zero
+    unfolding row_value
+    no_column l i scale v =
+        let n : to - from ≡ 0 = omega arith in
+        let none : [] ≡ in_column k a.entries = ap (λ m. take m (drop from a.entries)) (sym n) ∙ there in
+        ap (λ x. s.mul x scale) (sym (column_value s.zero a.entries i k) ∙ ap (λ es. row_value s.zero (rows_of es) (values_of es) i) (sym none)) ∙ laws.zero_mul scale v
+
+  -- one entry of the right column more
+  module _ (rows values : List ℕ) (same : length values ≡ length rows) (values_are : All (IsValue s) values) (n : ℕ) (l : n < length rows) (old : List Term) (terms : All (IsTerm s ks) old) (from to : ℕ) (there : slice_range a.entries from to ≡ in_column (get_or rows n 0) a.entries) where
+    abbrev k : ℕ
+    k = get_or rows n 0
+
+    abbrev v : ℕ
+    v = get_or values n 0
+
+    -- its value is one
+    pub v_value : IsValue s v
+    v_value = All-get_or (IsValue s) values n 0 (omega arith) values_are
+
+    here_value : (i : ℕ) → IsValue s (s.mul (at s a i k) v)
+    here_value i = laws.mul_value _ v (value_at-value s laws a.entries i k is.values) v_value
+
+    rest_value : (i : ℕ) → IsValue s (column_sum s a i (drop (n + 1) rows) (drop (n + 1) values))
+    rest_value i = column_sum-value i (drop (n + 1) rows) (drop (n + 1) values) (All-drop (IsValue s) (n + 1) values values_are)
+
+    sum_split : (i : ℕ) → column_sum s a i (drop n rows) (drop n values) ≡ s.add (s.mul (at s a i k) v) (column_sum s a i (drop (n + 1) rows) (drop (n + 1) values))
+    unfolding column_sum
+    sum_split i = ap (λ rs. column_sum s a i rs (drop n values)) (drop_more rows n 0 l) ∙ ap (column_sum s a i (k ∷ drop (n + 1) rows)) (drop_more values n 0 (omega arith))
+
+    -- its column has entries
+    pub gathered_more : (T : ℕ → ℕ) → ((i : ℕ) → s.add (terms_value s ks vs i old) (column_sum s a i (drop n rows) (drop n values)) ≡ T i)
+        → (i : ℕ) → s.add (terms_value s ks vs i (old ++ record { at = from; end = to; scale = v } ∷ [])) (column_sum s a i (drop (n + 1) rows) (drop (n + 1) values)) ≡ T i
+    gathered_more T so_far i =
+        let rest = column_sum s a i (drop (n + 1) rows) (drop (n + 1) values) in
+        let whole : terms_value s ks vs i (old ++ record { at = from; end = to; scale = v } ∷ []) ≡ s.add (terms_value s ks vs i old) (s.mul (at s a i k) v) =
+        terms_value-push s laws ks vs matrix_values i old (record { at = from; end = to; scale = v }) terms v_value ∙ ap (s.add (terms_value s ks vs i old)) (scaled_column k from to there v i) in
+        ap (λ x. s.add x rest) whole
+        ∙ laws.add_assoc (terms_value s ks vs i old) (s.mul (at s a i k) v) rest (terms_value-value s laws ks vs matrix_values i old terms) (here_value i) (rest_value i)
+        ∙ ap (s.add (terms_value s ks vs i old)) (sym (sum_split i)) ∙ so_far i
+
+    -- it has none
+    pub gathered_none : to ≤ from → (T : ℕ → ℕ) → ((i : ℕ) → s.add (terms_value s ks vs i old) (column_sum s a i (drop n rows) (drop n values)) ≡ T i)
+        → (i : ℕ) → s.add (terms_value s ks vs i old) (column_sum s a i (drop (n + 1) rows) (drop (n + 1) values)) ≡ T i
+    gathered_none m T so_far i =
+        ap (s.add (terms_value s ks vs i old)) (sym (sum_split i ∙ ap (λ x. s.add x (column_sum s a i (drop (n + 1) rows) (drop (n + 1) values))) (no_column k from to there m i v v_value) ∙ laws.zero_add _ (rest_value i))) ∙ so_far i
+
+  -- before the first entry
+  pub gathered_start : (ts : List Term) (rows values : List ℕ) → All (IsValue s) values → ts ≡ [] → (i : ℕ) → s.add (terms_value s ks vs i ts) (column_sum s a i rows values) ≡ column_sum s a i rows values
+  unfolding total
+  gathered_start ts rows values h e i = ap (λ x. s.add (terms_value s ks vs i x) (column_sum s a i rows values)) e ∙ laws.zero_add _ (column_sum-value i rows values h)
+
+  -- past the last one
+  pub gathered_all : (ts : List Term) (rows values : List ℕ) (n : ℕ) → All (IsTerm s ks) ts → length rows ≤ n → (T : ℕ → ℕ) → ((i : ℕ) → s.add (terms_value s ks vs i ts) (column_sum s a i (drop n rows) (drop n values)) ≡ T i) → (i : ℕ) → terms_value s ks vs i ts ≡ T i
+  unfolding column_sum
+  gathered_all ts rows values n terms l T so_far i =
+      sym (ap (λ rs. s.add (terms_value s ks vs i ts) (column_sum s a i rs (drop n values))) (drop_all n rows l) ∙ add_zero s laws (terms_value s ks vs i ts) (terms_value-value s laws ks vs matrix_values i ts terms)) ∙ so_far i

@@ -1,0 +1,65 @@
+use Rattle.std.proofs.Common.{◌<◌, length, sym, refl, subst, ◌∙◌, arith, get_or}
+use Rattle.std.proofs.lemmas.List.{length-set}
+use Rattle.std.proofs.lemmas.List.Elements.{All-get_or, All-set}
+use Rattle.cb_semirings.specs.Arithmetic.{IsValue}
+use Rattle.cb_product.proofs.RowValues.{nth_product}
+use Rattle.cb_product.proofs.RowSums.{entry_added, all_added}
+use Rattle.cb_product.proofs.MarkBits.{marked_more}
+use Rattle.cb_product.proofs.sparse_accumulator.add_entries.Goals as goal
+
+pub loop-n-init : goal.loop-n-init
+loop-n-init g c = record { long = refl; accumulator = c.requires.accumulator; sums = λ i l. refl }
+
+pub add-requires-clause-left_is_value : goal.add-requires-clause-left_is_value
+add-requires-clause-left_is_value g c =
+    let inv = c.loop-n.invariant in
+    let lr = All-get_or (λ i. i < length c.args.sums.now) c.args.rows.now c.loop-n.n 0 c.loop-n-test.true c.requires.inside in
+    let long = inv.long in
+    All-get_or (IsValue g.S.Semiring.arithmetic) c.loop-n.sums _ 0 (omega arith) inv.accumulator.values
+
+pub mark-requires : goal.mark-requires
+mark-requires g c =
+    let inv = c.loop-n.invariant in
+    let lr = All-get_or (λ i. i < length c.args.sums.now) c.args.rows.now c.loop-n.n 0 c.loop-n-test.true c.requires.inside in
+    let long = inv.long in
+    let room = inv.accumulator.marked.room in
+    omega arith
+
+pub mark-requires-in-loop-n : goal.mark-requires-in-loop-n
+mark-requires-in-loop-n g c =
+    let inv = c.loop-n.invariant in
+    let lr = All-get_or (λ i. i < length c.args.sums.now) c.args.rows.now c.loop-n.n 0 c.loop-n-test.true c.requires.inside in
+    let long = inv.long in
+    let room = inv.accumulator.marked.room in
+    let groups_room = inv.accumulator.marked.groups_room in
+    omega arith
+
+pub loop-n-preserved : goal.loop-n-preserved
+loop-n-preserved g c =
+    let s = g.S.Semiring.arithmetic in
+    let laws = g.met.S.Semiring.is_semiring in
+    let inv = c.loop-n.invariant in
+    let r = c.requires in
+    let rows = c.args.rows.now in
+    let values = c.args.values.now in
+    let k = c.args.scale in
+    let n = c.loop-n.n in
+    let l = c.loop-n-test.true in
+    let before = All-get_or (λ i. i < length c.args.sums.now) rows n 0 l r.inside in
+    let long = inv.long in
+    let lr : get_or rows n 0 < length c.loop-n.sums = omega arith in
+    let product = nth_product s laws rows values k r.lengths r.values r.scale n l in
+    rw (c.add.ensures, c.mul.ensures) (record {
+      long = length-set c.loop-n.sums _ _ ∙ inv.long;
+      accumulator = record {
+        values = All-set (IsValue s) c.loop-n.sums _ _ (laws.add_value _ _ (All-get_or (IsValue s) c.loop-n.sums _ 0 lr inv.accumulator.values) product) inv.accumulator.values;
+        marked = marked_more s.zero c.loop-n.sums c.loop-n.marks c.loop-n.groups _ _ (get_or rows n 0) _ inv.accumulator.marked lr c.mark.ensures.length c.mark.ensures.here c.mark.ensures.others c.mark.ensures.words c.mark-in-loop-n.ensures.length c.mark-in-loop-n.ensures.here c.mark-in-loop-n.ensures.others;
+      };
+      sums = λ i li. entry_added s laws rows values k r.lengths r.values r.scale r.order n c.loop-n.sums _ l inv.accumulator.values lr inv.sums i (subst (λ m. i < m) (length-set c.loop-n.sums _ _) li);
+    })
+
+pub returns-clause-sums : goal.returns-clause-sums
+returns-clause-sums g c =
+    let inv = c.loop-n.invariant in
+    let r = c.requires in
+    λ i li. all_added g.S.Semiring.arithmetic g.met.S.Semiring.is_semiring c.args.rows.now c.args.values.now c.args.scale r.lengths r.values r.scale r.order c.loop-n.n c.loop-n.sums _ c.loop-n-test.false inv.accumulator.values inv.sums i (subst (λ m. i < m) (sym inv.long) li)

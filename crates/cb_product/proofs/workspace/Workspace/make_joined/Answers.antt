@@ -1,0 +1,48 @@
+use Rattle.std.proofs.Common.{◌+◌, refl, drop}
+use Rattle.std.proofs.lemmas.List.Elements.{All-take, All-drop, All-get_or}
+use Rattle.cb_semirings.specs.Arithmetic.{IsValue}
+use Rattle.cb_dcsc.specs.Columns.{rows_of, values_of}
+use Rattle.cb_dcsc.proofs.Lookup.{all_values}
+use Rattle.cb_product.specs.Terms.{IsTerm, terms_value}
+use Rattle.cb_product.proofs.ColumnSoFar.{so_far_more, so_far_all}
+use Rattle.cb_product.proofs.Joined.{joined_start}
+use Rattle.cb_product.proofs.TermSums.{matrix_values, term_value-value, terms_value-value, terms_value-rest, terms_value-end}
+use Rattle.cb_product.proofs.workspace.Workspace.make_joined.Goals as goal
+
+pub loop-term-init : goal.loop-term-init
+loop-term-init g c =
+    let s = g.S.Semiring.arithmetic in
+    let a = c.args.left.now in
+    record {
+      sums = refl;
+      so_far = joined_start s g.met.S.Semiring.is_semiring c.args.own_rows.now c.args.own_values.now c.requires.own.are_values c.clear.new.self c.append.new.self c.one.result (λ i. terms_value s (rows_of a.entries) (values_of a.entries) i c.args.terms.now) c.clear.ensures c.one.ensures c.in_ok-append.ensures.sum;
+    }
+
+pub join-requires-clause-values : goal.join-requires-clause-values
+join-requires-clause-values g c = All-take (IsValue g.S.Semiring.arithmetic) _ _ (All-drop (IsValue g.S.Semiring.arithmetic) _ _ (all_values g.S.Semiring.arithmetic c.args.left.now _ c.requires.left c.values-values.ensures))
+
+pub loop-term-preserved : goal.loop-term-preserved
+loop-term-preserved g c =
+    let s = g.S.Semiring.arithmetic in
+    let laws = g.met.S.Semiring.is_semiring in
+    let a = c.args.left.now in
+    let ts = c.args.terms.now in
+    let n = c.loop-term.term-index in
+    let l = c.loop-term-test.true in
+    let inv = c.loop-term.invariant in
+    let all = matrix_values s laws a c.requires.left in
+    let term = All-get_or (IsTerm s (rows_of a.entries)) ts n _ l c.requires.terms in
+    let step = rw (c.entries.ensures.rows, c.entries.ensures.values, c.swap.ensures.y_after, c.row_numbers-rows.ensures, c.values-values.ensures) at c.in_ok-join.ensures in
+    record {
+      sums = inv.sums;
+      so_far = so_far_more s laws _ c.loop-term.self.made c.join.new.self _ _ _ inv.so_far (λ i. terms_value-rest s laws (rows_of a.entries) (values_of a.entries) all i n ts _ l)
+          (λ i. term_value-value s laws (rows_of a.entries) (values_of a.entries) all i _ term.scale)
+          (λ i. terms_value-value s laws (rows_of a.entries) (values_of a.entries) all i (drop (n + 1) ts) (All-drop (IsTerm s (rows_of a.entries)) (n + 1) ts c.requires.terms)) step;
+    }
+
+pub returns-clause-column : goal.returns-clause-column
+returns-clause-column g c =
+    let s = g.S.Semiring.arithmetic in
+    let laws = g.met.S.Semiring.is_semiring in
+    let a = c.args.left.now in
+    so_far_all s laws _ _ _ c.loop-term.invariant.so_far (λ i. terms_value-end s laws (rows_of a.entries) (values_of a.entries) (matrix_values s laws a c.requires.left) i c.loop-term.term-index c.args.terms.now c.loop-term-test.false)

@@ -1,0 +1,32 @@
+-- A column of a product as a sum of terms: columns of the left block, each scaled by an entry of the right.
+use Rattle.std.specs.Prelude.{ℕ, ◌<◌, ◌≤◌, List, [], ◌∷◌, length, map, AllPairs, slice_range}
+use Rattle.cb_semirings.specs.Arithmetic.{Arithmetic, IsValue}
+use Rattle.cb_matrix.specs.Sparse.{Sparse, at}
+use Rattle.cb_matrix.specs.Values.{total}
+use Rattle.cb_dcsc.specs.Columns.{row_value, rows_of, values_of}
+use Rattle.cb_product.specs.declared.terms.Term.{Term}
+
+-- what a term has at row i, as a part of these rows and values
+abbrev pub term_value : Arithmetic → List ℕ → List ℕ → ℕ → Term → ℕ
+term_value s rows values i t = s.mul (row_value s.zero (slice_range rows t.at t.end) (slice_range values t.at t.end) i) t.scale
+
+-- what all of them have there
+abbrev pub terms_value : Arithmetic → List ℕ → List ℕ → ℕ → List Term → ℕ
+terms_value s rows values i ts = total s (map (term_value s rows values i) ts)
+
+-- the sum of what the columns k of `a` have at row i, each times its v
+unfoldable pub column_sum : Arithmetic → Sparse → ℕ → List ℕ → List ℕ → ℕ
+column_sum s a i [] vs = s.zero
+column_sum s a i (k ∷ ks) [] = s.zero
+column_sum s a i (k ∷ ks) (v ∷ vs) = s.add (s.mul (at s a i k) v) (column_sum s a i ks vs)
+
+-- a term has entries, and their rows ascend
+pub record IsTerm (s : Arithmetic) (rows : List ℕ) (t : Term) : Type 0 where
+  pub some : t.at < t.end
+  pub within : t.end ≤ length rows
+  pub ascending : AllPairs (λ i j. i < j) (slice_range rows t.at t.end)
+  pub scale : IsValue s t.scale
+
+-- what a column of the accumulator and terms of the left block have together at row i
+abbrev pub sum_with : Arithmetic → Sparse → List ℕ → List ℕ → List Term → ℕ → ℕ
+sum_with s a own_rows own_values ts i = s.add (row_value s.zero own_rows own_values i) (terms_value s (rows_of a.entries) (values_of a.entries) i ts)

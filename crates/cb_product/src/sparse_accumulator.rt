@@ -1,0 +1,220 @@
+//! The sparse accumulator: a sum for each row, marks of the rows that have one, and marks of those marks.
+//!
+//! Products are added where they belong, and each row that has one is marked by a bit, and each word of 64 such bits by
+//! another. The marks give the rows in order, so that no order has to be kept, and tell which words to look at: a word
+//! stands for 4,096 rows. It is the accumulator of Gilbert, Moler and Schreiber, Sparse Matrices in MATLAB (SIAM J.
+//! Matrix Anal. Appl. 1992, section 3.1), with bits in place of a list of rows.
+ghost use Rattle.std.specs.Prelude.{◌≡◌, ℕ, ◌<◌, ◌+◌, ◌*◌, ◌^◌, List, [], length, All, AllPairs, IfOk, OnOk, slice_index_or};
+ghost use Rattle.std.specs.Int.{bit_at};
+ghost use Rattle.cb_semirings.specs.Arithmetic.{IsValue};
+ghost use Rattle.cb_dcsc.specs.Columns.{row_value};
+ghost use Rattle.cb_product.specs.SparseColumn.{value_in};
+ghost use Rattle.cb_product.specs.Terms.{IsTerm, terms_value};
+ghost use Rattle.cb_product.specs.Marks.{IsAccumulator};
+
+use crate::columns::Column;
+use crate::marks::{mark, next_marked, unmark_all};
+use crate::terms::Term;
+use cb_semirings::Semiring;
+use std::alloc::{AllocError, Global};
+use std::marker::{Model, PhantomData};
+
+/// A sum for each row, which contracts see as a list. Only marked rows have one other than zero.
+#[derive(Drop)]
+pub(crate) struct SparseAccumulator<S: Semiring> {
+    sums: Vec<u64>,
+    /// A bit for each row.
+    marks: Vec<u64>,
+    /// A bit for each word of marks.
+    groups: Vec<u64>,
+    semiring: PhantomData<S>,
+}
+
+impl<S: Semiring> Model for SparseAccumulator<S> {
+    ghost use Rattle.std.specs.Prelude.{List, ℕ};
+    ghost use Rattle.cb_product.specs.Marks.{IsAccumulator};
+
+    ghost Value = { List ℕ };
+
+    ghost view = { λ a. a.sums.items };
+
+    ghost invariant = { λ a. IsAccumulator S.arithmetic a.sums.items a.marks.items a.groups.items };
+}
+
+impl<S: Semiring> SparseAccumulator<S> {
+    /// Sums of so many rows, all of them zero.
+    pub fn new(alloc: Global, rows: u32) -> Result<Self, AllocError>
+        ensures length { IfOk result (λ a. length a ≡ rows) }
+        ensures zeros { IfOk result (λ a. All (λ x. x ≡ S.arithmetic.zero) a) }
+    {
+        let rows = rows as usize;
+        let mut sums = Vec::new(alloc);
+        let mut marks = Vec::new(alloc);
+        let mut groups = Vec::new(alloc);
+        sums.resize(rows, S::zero())?;
+        marks.resize(rows / 64 + 1, 0)?;
+        groups.resize(rows / 4096 + 1, 0)?;
+        Ok(SparseAccumulator {
+            sums,
+            marks,
+            groups,
+            semiring: PhantomData,
+        })
+    }
+
+    /// How many rows it has sums for.
+    fn rows(&self) -> usize
+        ensures { result ≡ length self.now }
+    {
+        self.sums.len()
+    }
+
+    /// Takes memory for the sums of so many rows, unless it has it.
+    pub fn make_room(&mut self, alloc: Global, rows: u32) -> Result<(), AllocError>
+        requires { All (λ x. x ≡ S.arithmetic.zero) self.old }
+        ensures length { OnOk result (length self.new ≡ rows) }
+        ensures zeros { OnOk result (All (λ x. x ≡ S.arithmetic.zero) self.new) }
+    {
+        if self.rows() != rows as usize {
+            *self = Self::new(alloc, rows)?;
+        }
+        Ok(())
+    }
+
+    /// Adds a column, scaled.
+    pub fn add(&mut self, rows: &[u32], values: &[u64], scale: u64)
+        requires lengths { length values.now ≡ length rows.now }
+        requires values { All (IsValue S.arithmetic) values.now }
+        requires order { AllPairs (λ i j. i < j) rows.now }
+        requires scale { IsValue S.arithmetic scale }
+        requires inside { All (λ i. i < length self.old) rows.now }
+        ensures length { length self.new ≡ length self.old }
+        ensures values { All (IsValue S.arithmetic) self.new }
+        ensures sums { (i : ℕ) → i < length self.old → slice_index_or self.new i S.arithmetic.zero ≡ S.arithmetic.add (slice_index_or self.old i S.arithmetic.zero) (S.arithmetic.mul (row_value S.arithmetic.zero rows.now values.now i) scale) }
+    {
+        let SparseAccumulator {
+            sums,
+            marks,
+            groups,
+            ..
+        } = self;
+        add_entries::<S>(sums, marks, groups, rows, values, scale);
+    }
+
+    /// Adds all terms.
+    pub fn add_terms(&mut self, rows: &[u32], values: &[u64], terms: &[Term])
+        requires lengths { length values.now ≡ length rows.now }
+        requires values { All (IsValue S.arithmetic) values.now }
+        requires terms { All (IsTerm S.arithmetic rows.now) terms.now }
+        requires inside { All (λ i. i < length self.old) rows.now }
+        requires sums { All (IsValue S.arithmetic) self.old }
+        ensures length { length self.new ≡ length self.old }
+        ensures sums { (i : ℕ) → i < length self.old → slice_index_or self.new i S.arithmetic.zero ≡ S.arithmetic.add (slice_index_or self.old i S.arithmetic.zero) (terms_value S.arithmetic rows.now values.now i terms.now) }
+    {
+        for term in terms {
+            self.add(
+                &rows[term.at..term.end],
+                &values[term.at..term.end],
+                term.scale,
+            );
+        }
+    }
+
+    /// Makes a column of the sums that are not zero, and makes all of them zero: time for the rows that were added to,
+    /// and for every 4,096 rows.
+    pub fn take(&mut self, made: &mut Column<S>) -> Result<(), AllocError>
+        ensures length { length self.new ≡ length self.old }
+        ensures zeros { OnOk result (All (λ x. x ≡ S.arithmetic.zero) self.new) }
+        ensures column { OnOk result ((i : ℕ) → value_in S.arithmetic.zero made.new i ≡ slice_index_or self.old i S.arithmetic.zero) }
+    {
+        let SparseAccumulator {
+            sums,
+            marks,
+            groups,
+            ..
+        } = self;
+        take_rows(made, sums, marks, groups)
+    }
+}
+
+/// Adds a column, scaled, to the sums of its rows, and marks these.
+fn add_entries<S: Semiring>(
+    sums: &mut [u64],
+    marks: &mut [u64],
+    groups: &mut [u64],
+    rows: &[u32],
+    values: &[u64],
+    scale: u64,
+)
+    requires lengths { length values.now ≡ length rows.now }
+    requires values { All (IsValue S.arithmetic) values.now }
+    requires order { AllPairs (λ i j. i < j) rows.now }
+    requires scale { IsValue S.arithmetic scale }
+    requires inside { All (λ i. i < length sums.old) rows.now }
+    requires accumulator { IsAccumulator S.arithmetic sums.old marks.old groups.old }
+    ensures accumulator { IsAccumulator S.arithmetic sums.new marks.new groups.new }
+    ensures length { length sums.new ≡ length sums.old }
+    ensures sums { (i : ℕ) → i < length sums.old → slice_index_or sums.new i S.arithmetic.zero ≡ S.arithmetic.add (slice_index_or sums.old i S.arithmetic.zero) (S.arithmetic.mul (row_value S.arithmetic.zero rows.now values.now i) scale) }
+{
+    for n in 0..rows.len() {
+        let row = rows[n] as usize;
+        sums[row] = S::add(sums[row], S::mul(values[n], scale));
+        mark(marks, row);
+        mark(groups, row / 64);
+    }
+}
+
+/// Stores the sums of the rows that a word marks, and makes them zero. What the column and the sums have together stays.
+fn take_word<S: Semiring>(
+    made: &mut Column<S>,
+    sums: &mut [u64],
+    n: usize,
+    word: u64,
+) -> Result<(), AllocError>
+    requires limit { length sums.old < 2 ^ 32 }
+    requires values { All (IsValue S.arithmetic) sums.old }
+    requires inside { (k : ℕ) → bit_at word k ≡ 1 → n * 64 + k < length sums.old }
+    requires before { All (λ i. i < n * 64) made.old.rows }
+    ensures length { length sums.new ≡ length sums.old }
+    ensures values { All (IsValue S.arithmetic) sums.new }
+    ensures zeros_stay { (i : ℕ) → slice_index_or sums.old i S.arithmetic.zero ≡ S.arithmetic.zero → slice_index_or sums.new i S.arithmetic.zero ≡ S.arithmetic.zero }
+    ensures zeros { OnOk result ((k : ℕ) → bit_at word k ≡ 1 → slice_index_or sums.new (n * 64 + k) S.arithmetic.zero ≡ S.arithmetic.zero) }
+    ensures rows { OnOk result (All (λ i. i < n * 64 + 64) made.new.rows) }
+    ensures together { OnOk result ((i : ℕ) → S.arithmetic.add (value_in S.arithmetic.zero made.new i) (slice_index_or sums.new i S.arithmetic.zero) ≡ S.arithmetic.add (value_in S.arithmetic.zero made.old i) (slice_index_or sums.old i S.arithmetic.zero)) }
+{
+    let _entries = made.entries();
+    let mut rest = word;
+    while rest != 0 {
+        let bit = rest.trailing_zeros();
+        let row = n * 64 + bit as usize;
+        made.keep(row as u32, sums[row])?;
+        sums[row] = S::zero();
+        rest &= !(1 << bit);
+    }
+    Ok(())
+}
+
+/// Makes a column of the sums that are not zero, and makes all of them zero. Only marked words are looked at.
+fn take_rows<S: Semiring>(
+    made: &mut Column<S>,
+    sums: &mut [u64],
+    marks: &mut [u64],
+    groups: &mut [u64],
+) -> Result<(), AllocError>
+    requires { IsAccumulator S.arithmetic sums.old marks.old groups.old }
+    ensures accumulator { IsAccumulator S.arithmetic sums.new marks.new groups.new }
+    ensures length { length sums.new ≡ length sums.old }
+    ensures zeros { OnOk result (All (λ x. x ≡ S.arithmetic.zero) sums.new) }
+    ensures column { OnOk result ((i : ℕ) → value_in S.arithmetic.zero made.new i ≡ slice_index_or sums.old i S.arithmetic.zero) }
+{
+    made.clear();
+    let mut from = 0;
+    while let Some(n) = next_marked(groups, from) {
+        take_word(made, sums, n, marks[n])?;
+        marks[n] = 0;
+        from = n + 1;
+    }
+    let _entries = made.entries();
+    unmark_all(groups);
+    Ok(())
+}

@@ -1,0 +1,50 @@
+//! The terms that a column of a product is the sum of.
+ghost use Rattle.std.specs.Prelude.{◌≡◌, ℕ, length, All, OnOk};
+ghost use Rattle.cb_semirings.specs.Arithmetic.{IsValue};
+ghost use Rattle.cb_matrix.specs.Sparse.{IsMatrix};
+ghost use Rattle.cb_dcsc.specs.Columns.{rows_of, values_of};
+ghost use Rattle.cb_product.specs.Terms.{IsTerm, terms_value, column_sum};
+
+use crate::finder::Finder;
+use cb_dcsc::Block;
+use cb_semirings::Semiring;
+use std::alloc::AllocError;
+
+/// A column of the left block, by where its entries stand among all, and the factor that scales it.
+#[derive(Clone, Copy)]
+pub(crate) struct Term {
+    pub at: usize,
+    pub end: usize,
+    pub scale: u64,
+}
+
+/// The terms of a column of the product: one for each entry of the right block's column that names a column of the
+/// left with entries. Answers how many products they have.
+pub(crate) fn gather<S: Semiring>(
+    terms: &mut Vec<Term>,
+    left: &Block<S>,
+    finder: &Finder,
+    rows: &[u32],
+    values: &[u64],
+) -> Result<usize, AllocError>
+    requires lengths { length values.now ≡ length rows.now }
+    requires values { All (IsValue S.arithmetic) values.now }
+    requires matrix { IsMatrix S.arithmetic left.now }
+    ensures terms { OnOk result (All (IsTerm S.arithmetic (rows_of left.now.entries)) terms.new.items) }
+    ensures sums { OnOk result ((i : ℕ) → terms_value S.arithmetic (rows_of left.now.entries) (values_of left.now.entries) i terms.new.items ≡ column_sum S.arithmetic left.now i rows.now values.now) }
+{
+    terms.clear();
+    let mut products = 0usize;
+    for n in 0..rows.len() {
+        let (at, end) = finder.range(left, rows[n]);
+        if at < end {
+            terms.push(Term {
+                at,
+                end,
+                scale: values[n],
+            })?;
+            products = products.saturating_add(end - at);
+        }
+    }
+    Ok(products)
+}

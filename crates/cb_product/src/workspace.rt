@@ -1,0 +1,125 @@
+//! One column of a product, made in the way that costs least.
+ghost use Rattle.std.specs.Prelude.{◌≡◌, ℕ, All, IfOk, OnOk};
+ghost use Rattle.cb_matrix.specs.Sparse.{IsMatrix};
+ghost use Rattle.cb_dcsc.specs.Columns.{rows_of};
+ghost use Rattle.cb_product.specs.SparseColumn.{AreEntries, value_in};
+ghost use Rattle.cb_product.specs.Terms.{IsTerm, sum_with};
+
+use crate::columns::Column;
+use crate::heads::merge;
+use crate::sparse_accumulator::SparseAccumulator;
+use crate::terms::Term;
+use cb_dcsc::Block;
+use cb_semirings::Semiring;
+use std::alloc::{AllocError, Global};
+use std::mem::swap;
+
+/// Up to so many terms are joined one after another, more are merged by a heap.
+const FEW: usize = 24;
+
+/// What one column after another is made in: the column made, another one, and the sparse accumulator.
+#[derive(Drop)]
+pub(crate) struct Workspace<S: Semiring> {
+    alloc: Global,
+    pub made: Column<S>,
+    pub spare: Column<S>,
+    pub sums: SparseAccumulator<S>,
+}
+
+impl<S: Semiring> Workspace<S> {
+    /// Columns without entries, and sums of no rows.
+    pub fn new(alloc: Global) -> Result<Self, AllocError>
+        ensures { IfOk result (λ w. All (λ x. x ≡ S.arithmetic.zero) w.sums) }
+    {
+        Ok(Workspace {
+            alloc,
+            made: Column::new(alloc),
+            spare: Column::new(alloc),
+            sums: SparseAccumulator::new(alloc, 0)?,
+        })
+    }
+
+    /// Makes the sum of a column of the accumulator and of terms: by the sparse accumulator where that is said to pay,
+    /// else by joining a few terms one after another, or many by a heap.
+    pub fn make(
+        &mut self,
+        left: &Block<S>,
+        terms: &[Term],
+        own_rows: &[u32],
+        own_values: &[u64],
+        dense: bool,
+    ) -> Result<(), AllocError>
+        requires left { IsMatrix S.arithmetic left.now }
+        requires terms { All (IsTerm S.arithmetic (rows_of left.now.entries)) terms.now }
+        requires own { AreEntries S.arithmetic left.now.shape.rows own_rows.now own_values.now }
+        requires zeros { All (λ x. x ≡ S.arithmetic.zero) self.old.sums }
+        ensures zeros { OnOk result (All (λ x. x ≡ S.arithmetic.zero) self.new.sums) }
+        ensures column { OnOk result ((i : ℕ) → value_in S.arithmetic.zero self.new.made i ≡ sum_with S.arithmetic left.now own_rows.now own_values.now terms.now i) }
+    {
+        if dense {
+            return self.make_dense(left, terms, own_rows, own_values);
+        }
+        if terms.len() <= FEW {
+            return self.make_joined(left, terms, own_rows, own_values);
+        }
+        let (rows, values) = (left.row_numbers(), left.values());
+        merge(self.alloc, &mut self.spare, rows, values, terms)?;
+        let (merged_rows, merged_values) = self.spare.entries();
+        self.made
+            .join(own_rows, own_values, merged_rows, merged_values, S::one())
+    }
+
+    /// Makes it by the sparse accumulator.
+    fn make_dense(
+        &mut self,
+        left: &Block<S>,
+        terms: &[Term],
+        own_rows: &[u32],
+        own_values: &[u64],
+    ) -> Result<(), AllocError>
+        requires left { IsMatrix S.arithmetic left.now }
+        requires terms { All (IsTerm S.arithmetic (rows_of left.now.entries)) terms.now }
+        requires own { AreEntries S.arithmetic left.now.shape.rows own_rows.now own_values.now }
+        requires zeros { All (λ x. x ≡ S.arithmetic.zero) self.old.sums }
+        ensures zeros { OnOk result (All (λ x. x ≡ S.arithmetic.zero) self.new.sums) }
+        ensures column { OnOk result ((i : ℕ) → value_in S.arithmetic.zero self.new.made i ≡ sum_with S.arithmetic left.now own_rows.now own_values.now terms.now i) }
+    {
+        let rows = left.shape().rows();
+        self.sums.make_room(self.alloc, rows)?;
+        self.sums.add(own_rows, own_values, S::one());
+        self.sums
+            .add_terms(left.row_numbers(), left.values(), terms);
+        self.sums.take(&mut self.made)
+    }
+
+    /// Makes it by joining one term after another.
+    fn make_joined(
+        &mut self,
+        left: &Block<S>,
+        terms: &[Term],
+        own_rows: &[u32],
+        own_values: &[u64],
+    ) -> Result<(), AllocError>
+        requires left { IsMatrix S.arithmetic left.now }
+        requires terms { All (IsTerm S.arithmetic (rows_of left.now.entries)) terms.now }
+        requires own { AreEntries S.arithmetic left.now.shape.rows own_rows.now own_values.now }
+        ensures sums { self.new.sums ≡ self.old.sums }
+        ensures column { OnOk result ((i : ℕ) → value_in S.arithmetic.zero self.new.made i ≡ sum_with S.arithmetic left.now own_rows.now own_values.now terms.now i) }
+    {
+        let (rows, values) = (left.row_numbers(), left.values());
+        self.made.clear();
+        self.made.append(own_rows, own_values, S::one(), 0)?;
+        for term in terms {
+            swap(&mut self.made, &mut self.spare);
+            let (sum_rows, sum_values) = self.spare.entries();
+            self.made.join(
+                sum_rows,
+                sum_values,
+                &rows[term.at..term.end],
+                &values[term.at..term.end],
+                term.scale,
+            )?;
+        }
+        Ok(())
+    }
+}
