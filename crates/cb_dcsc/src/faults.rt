@@ -5,17 +5,22 @@ ghost use Rattle.cb_dcsc.specs.Faults.{fault_of, first_fault, is_late};
 use cb_matrix::{Entry, Shape};
 use cb_semirings::Semiring;
 use std::alloc::AllocError;
+use thiserror::Error;
 
 /// Why entries make no block. Each fault but `Memory` has the index of the first entry that has one.
-#[derive(Clone, Copy, Debug, PartialEq, Eq)]
+#[derive(Clone, Copy, Debug, PartialEq, Eq, Error)]
 pub enum BlockFault {
     /// The entry is outside the shape.
+    #[error("entry {0} is outside the shape")]
     Place(usize),
     /// The entry doesn't come after the one before it, by column and then by row.
+    #[error("entry {0} doesn't come after the one before it")]
     Order(usize),
     /// The entry's value is the semiring's zero.
+    #[error("entry {0} is zero")]
     Zero(usize),
     /// Memory was refused.
+    #[error("out of memory")]
     Memory,
 }
 

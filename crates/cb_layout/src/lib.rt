@@ -27,13 +27,15 @@ pub use distributed::DistributedMatrix;
 use smallvec::SmallVec;
 use std::alloc::Global;
 use std::marker::Model;
+use thiserror::Error;
 pub use traversal::{Segment, Segments};
 
 /// The greatest side of a grid.
 pub const LARGEST_SIDE: u32 = 6;
 
 /// A side of a grid that is not 1 to 6.
-#[derive(Clone, Copy, Debug, PartialEq, Eq)]
+#[derive(Clone, Copy, Debug, PartialEq, Eq, Error)]
+#[error("a grid has a side of 1 to 6")]
 pub struct Side;
 
 /// A square grid of ranks, of side 1 to 6.

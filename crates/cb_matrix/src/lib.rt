@@ -25,6 +25,7 @@ use cb_semirings::Semiring;
 pub use collect::in_order;
 use std::alloc::{AllocError, Global};
 use std::marker::{Model, PhantomData};
+use thiserror::Error;
 
 /// The most rows, and the most columns, that a matrix may have: 2^31 - 1.
 pub const LIMIT: u32 = 2_147_483_647;
@@ -217,11 +218,13 @@ impl<S: Semiring> Matrix<S> {
 }
 
 /// Why entries make no matrix. A place outside is looked for before memory is asked for.
-#[derive(Clone, Copy, Debug, PartialEq, Eq)]
+#[derive(Clone, Copy, Debug, PartialEq, Eq, Error)]
 pub enum EntryFault {
     /// The number of the first entry whose place is outside the shape.
+    #[error("entry {0} is outside the shape")]
     Place(usize),
     /// There was no memory.
+    #[error("out of memory")]
     Memory,
 }
 
@@ -236,11 +239,13 @@ impl From<AllocError> for EntryFault {
 }
 
 /// Why two matrices have no product. Their shapes are looked at before memory is asked for.
-#[derive(Clone, Copy, Debug, PartialEq, Eq)]
+#[derive(Clone, Copy, Debug, PartialEq, Eq, Error)]
 pub enum ProductFault {
     /// The first has not as many columns as the second has rows.
+    #[error("shapes don't agree")]
     Shapes,
     /// There was no memory.
+    #[error("out of memory")]
     Memory,
 }
 

@@ -1,0 +1,31 @@
+//! How many walks of two edges lead from one vertex of a small graph to another: the square of its adjacency
+//! matrix in plus-times. It shows how a library uses the crates.
+#![tactic(auto)]
+
+use anyhow::Context;
+use cb_layout::Grid;
+use cb_matrix::{Entry, Matrix, Shape};
+use cb_scripts::{Engine, multiply};
+use cb_semirings::PlusTimes;
+
+/// An edge is an entry with value 1.
+const fn edge(from: u32, to: u32) -> Entry {
+    Entry {
+        row: from,
+        column: to,
+        value: 1,
+    }
+}
+
+fn main(rt: HostRuntime) -> anyhow::Result<()> {
+    let alloc = rt.alloc();
+    let edges = [edge(0, 1), edge(0, 2), edge(1, 3), edge(2, 3)];
+    let shape = Shape::new(4, 4).context("past the limit")?;
+    let graph: Matrix<PlusTimes> = Matrix::from_entries(alloc, shape, &edges)?;
+    let grid = Grid::new(2)?;
+    let walks = multiply(alloc, Engine::Plain, &grid, &graph, &graph)?;
+    for walk in walks.entries() {
+        println!(rt; "{} to {}: {} walks", walk.row, walk.column, walk.value)?;
+    }
+    Ok(())
+}
