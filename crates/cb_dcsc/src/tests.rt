@@ -55,10 +55,16 @@ fn the_lists_of_a_vector_hold_one_column(rt: HostRuntime) -> Result<(), Fail> {
 /// With ample memory each call that takes some succeeds.
 #[test]
 fn a_block_grows_by_entries(rt: HostRuntime) -> Result<(), Fail> {
-    let mut block = Block::<PlusTimes>::empty(rt.alloc(), shape(4, 1000)?);
+    let side = shape(4, 1000)?;
+    let mut block = Block::<PlusTimes>::empty(rt.alloc(), side);
+    let first = Entry {
+        row: 2,
+        column: 3,
+        value: 6,
+    };
+    block.push(first)?;
     block.reserve(3)?;
-    block.push(entry(2, 3, 6))?;
-    assert_eq!(rt; block.entries()?.as_slice(), [entry(2, 3, 6)].as_slice());
+    assert_eq!(rt; block.entries()?.as_slice(), [first].as_slice());
     Ok(())
 }
 

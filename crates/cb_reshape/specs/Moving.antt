@@ -1,7 +1,8 @@
 -- A part of some entries, moved by a step.
-use Rattle.std.specs.Prelude.{ℕ, ◌+◌, ◌-◌, ◌≤◌, Bool, ◌&&◌, nat_le, nat_lt, List, map, filter}
+use Rattle.std.specs.Prelude.{ℕ, ◌+◌, ◌-◌, ◌≤◌, Bool, ◌&&◌, nat_le, nat_lt, List, ◌++◌, map, filter}
 use Rattle.cb_matrix.specs.declared.Entry.{Entry}
-use Rattle.cb_matrix.specs.Sparse.{Extent}
+use Rattle.cb_matrix.specs.declared.TheConstants.{LIMIT}
+use Rattle.cb_matrix.specs.Sparse.{Sparse, Extent}
 use Rattle.cb_reshape.specs.declared.parts.Part.{Part}
 
 -- whether a number is in a range, whose end is not in it
@@ -20,10 +21,14 @@ moved_entry part e = record { row = e.row - part.rows.0 + part.corner.0; column 
 abbrev pub moved_entries : Part → List Entry → List Entry
 moved_entries part es = map (moved_entry part) (filter (is_in part) es)
 
+-- more entries, after those of a matrix
+abbrev pub with_entries : Sparse → List Entry → Sparse
+with_entries m es = record { shape = m.shape; entries = m.entries ++ es }
+
 -- the part begins before it ends, and where it goes it is inside the shape, which keeps the limit
 pub record Fits (shape : Extent) (part : Part) : Type 0 where
   pub rows : part.rows.0 ≤ part.rows.1
   pub cols : part.cols.0 ≤ part.cols.1
   pub last_row : part.corner.0 + (part.rows.1 - part.rows.0) ≤ shape.rows
   pub last_column : part.corner.1 + (part.cols.1 - part.cols.0) ≤ shape.cols
-  pub limits : (shape.rows ≤ 2147483647) × (shape.cols ≤ 2147483647)
+  pub limits : (shape.rows ≤ LIMIT) × (shape.cols ≤ LIMIT)

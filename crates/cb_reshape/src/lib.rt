@@ -3,25 +3,24 @@
 //! None of these changes a value: each entry goes to another place or is left out. To cut and to place keep the
 //! order of the entries, by column and then by row, so that one walk over the columns does both (`parts`): it
 //! takes the entries in some rows and columns and moves them by a step. The columns and the rows to take are found
-//! by binary search, so that what is left out is not read. To transpose turns that order into another, and sorts
-//! (`turns`): a list as long as a dimension, which a counting sort would need, is more than a block may cost.
+//! by binary search, so that what is left out is not read. To transpose turns that order into another, and sorts:
+//! a list as long as a dimension, which a counting sort would need, is more than a block may cost.
 //!
 //! The operations are those of Buluç and Gilbert, The Combinatorial BLAS (Int. J. High Perform. Comput. Appl.
 //! 2011, section 4), by which a matrix is spread over a grid of processes and put together again.
 #![tactic(auto)]
 
-ghost use Rattle.std.specs.Prelude.{◌≡◌, ◌≢◌, ℕ, ◌<◌, ◌≤◌, ◌+◌, ◌-◌, List, [], ◌∷◌, ◌++◌, length, All, AllPairs, IfOk, OnOk};
+ghost use Rattle.std.specs.Prelude.{◌≡◌, ℕ, ◌≤◌, ◌+◌, ◌-◌, map, IfOk};
 ghost use Rattle.cb_matrix.specs.Operations.{transposed, cut, placed};
+ghost use Rattle.cb_reshape.specs.Exchange.{exchanged};
 
 mod parts;
 #[cfg(test)]
 mod tests;
-mod turns;
 
 use crate::parts::{Part, moved};
-use crate::turns::{append, in_order, turn};
 use cb_dcsc::Block;
-use cb_matrix::Shape;
+use cb_matrix::{Entry, LIMIT, Shape, in_order};
 use cb_semirings::Semiring;
 use std::alloc::{AllocError, Global};
 
@@ -33,11 +32,9 @@ pub fn transpose<S: Semiring>(alloc: Global, block: &Block<S>) -> Result<Block<S
 {
     let shape = block.shape();
     let mut entries = block.entries()?;
-    turn(&mut entries);
+    exchange(&mut entries);
     let entries = in_order(entries)?;
-    let mut out = Block::empty(alloc, shape_of(shape.cols(), shape.rows()));
-    append(&mut out, &entries)?;
-    Ok(out)
+    Block::from_ordered(alloc, shape_of(shape.cols(), shape.rows()), &entries)
 }
 
 /// The part of a block in some rows and columns, each from the first number up to the second, which is not in it.
@@ -89,10 +86,23 @@ pub fn place<S: Semiring>(
     moved(alloc, shape, block, part, block.len())
 }
 
+/// Exchanges the row and the column of each entry.
+fn exchange(entries: &mut [Entry])
+    ensures { entries.new ≡ map exchanged entries.old }
+{
+    for entry in entries.iter_mut() {
+        *entry = Entry {
+            row: entry.column,
+            column: entry.row,
+            value: entry.value,
+        };
+    }
+}
+
 /// The shape with so many rows and columns.
 fn shape_of(rows: u32, cols: u32) -> Shape
-    requires rows { rows ≤ 2147483647 }
-    requires cols { cols ≤ 2147483647 }
+    requires rows { rows ≤ LIMIT }
+    requires cols { cols ≤ LIMIT }
     ensures { result ≡ record { rows = rows; cols = cols } }
 {
     Shape::new(rows, cols).unwrap()

@@ -3,8 +3,7 @@ ghost use Rattle.std.specs.Prelude.{◌≡◌, ◌≢◌, ℕ, ◌<◌, ◌≤�
 ghost use Rattle.cb_semirings.specs.Arithmetic.{IsValue};
 ghost use Rattle.cb_matrix.specs.Sparse.{IsMatrix};
 ghost use Rattle.cb_dcsc.specs.Compressed.{entries_in};
-ghost use Rattle.cb_reshape.specs.Moving.{Fits, moved_entries};
-ghost use Rattle.cb_reshape.specs.Turning.{with_entries};
+ghost use Rattle.cb_reshape.specs.Moving.{Fits, moved_entries, with_entries};
 
 use cb_dcsc::Block;
 use cb_matrix::{Entry, Shape};

@@ -1,47 +1,16 @@
 //! Worked examples, with ample memory and with each allocation refused in turn.
-ghost use Rattle.std.specs.Prelude.{◌≡◌, ◌↔◌, IsTrue, All, IfOk};
-ghost use Rattle.cb_semirings.specs.Arithmetic.{IsValue};
+ghost use Rattle.std.specs.Prelude.{◌≡◌, IfOk};
 
 use crate::{cut, place, transpose};
 use cb_dcsc::Block;
-use cb_matrix::{Entry, LIMIT, Shape};
-use cb_semirings::{MaxMin, MinPlus, OrAnd, PlusTimes, Semiring};
+use cb_matrix::LIMIT;
+use cb_samples::{SampleFault, block, entry, shape};
+use cb_semirings::{MaxMin, MinPlus, OrAnd, PlusTimes};
 use std::alloc::Global;
 use std::test::Fail;
 
-const fn entry(row: u32, column: u32, value: u64) -> Entry {
-    Entry { row, column, value }
-}
-
-fn shape(rows: u32, cols: u32) -> Result<Shape, Fail>
-    ensures { IfOk result (λ s. s ≡ record { rows = rows; cols = cols }) }
-{
-    Ok(Shape::new(rows, cols).ok_or("past the limit")?)
-}
-
-/// Whether each entry's value is one of the semiring.
-fn are_values<S: Semiring>(entries: &[Entry]) -> bool
-    ensures { IsTrue result ↔ All (λ e. IsValue S.arithmetic e.value) entries.now }
-{
-    entries.iter().all(|entry| S::is_value(entry.value))
-}
-
-fn block<S: Semiring>(
-    alloc: Global,
-    rows: u32,
-    cols: u32,
-    entries: &[Entry],
-) -> Result<Block<S>, Fail>
-    ensures { IfOk result (λ b. b.shape ≡ record { rows = rows; cols = cols }) }
-{
-    if !are_values::<S>(entries) {
-        return Err("a value out of range".into());
-    }
-    Ok(Block::from_sorted(alloc, shape(rows, cols)?, entries)?)
-}
-
 /// The first operand of the worked examples, two by two.
-fn first(alloc: Global) -> Result<Block<PlusTimes>, Fail>
+fn first(alloc: Global) -> Result<Block<PlusTimes>, SampleFault>
     ensures { IfOk result (λ b. b.shape ≡ record { rows = 2; cols = 2 }) }
 {
     block(
@@ -53,7 +22,7 @@ fn first(alloc: Global) -> Result<Block<PlusTimes>, Fail>
 }
 
 /// Four by five, with entries inside and around rows 1 to 2 of columns 1 to 3.
-fn scattered(alloc: Global) -> Result<Block<PlusTimes>, Fail>
+fn scattered(alloc: Global) -> Result<Block<PlusTimes>, SampleFault>
     ensures { IfOk result (λ b. b.shape ≡ record { rows = 4; cols = 5 }) }
 {
     let given = [
@@ -100,7 +69,7 @@ fn transposing_orders_by_what_was_the_row(rt: HostRuntime) -> Result<(), Fail> {
     let turned = transpose(alloc, &a)?;
     assert_eq!(rt; turned.shape(), shape(5, 4)?);
     assert_eq!(rt; turned.column_numbers(), [0, 1, 2, 3].as_slice());
-    assert_eq!(rt; turned.rows(), [1, 0, 1, 4, 1, 3, 1, 2].as_slice());
+    assert_eq!(rt; turned.row_numbers(), [1, 0, 1, 4, 1, 3, 1, 2].as_slice());
     assert_eq!(rt; turned.values(), [2, 1, 3, 8, 4, 7, 5, 6].as_slice());
     Ok(())
 }
@@ -205,7 +174,7 @@ fn refused_memory_is_said(rt: HostRuntime) -> Result<(), Fail> {
         return Ok(());
     };
     if let Ok(turned) = transpose(alloc, &a) {
-        assert_eq!(rt; turned.rows(), [0, 1, 1].as_slice());
+        assert_eq!(rt; turned.row_numbers(), [0, 1, 1].as_slice());
         assert_eq!(rt; turned.values(), [1, 2, 3].as_slice());
     }
     if let Ok(part) = cut(alloc, &a, (0, 2), (1, 2)) {
@@ -214,7 +183,7 @@ fn refused_memory_is_said(rt: HostRuntime) -> Result<(), Fail> {
     }
     if let Ok(whole) = place(alloc, &a, shape(3, 3)?, (1, 1)) {
         assert_eq!(rt; whole.column_numbers(), [1, 2].as_slice());
-        assert_eq!(rt; whole.rows(), [1, 1, 2].as_slice());
+        assert_eq!(rt; whole.row_numbers(), [1, 1, 2].as_slice());
         assert_eq!(rt; whole.values(), [1, 2, 3].as_slice());
     }
     Ok(())

@@ -1,5 +1,5 @@
 use Rattle.std.proofs.Common.{refl}
-use Rattle.cb_reshape.proofs.Valued.{cut_is, both}
+use Rattle.cb_reshape.proofs.PartValues.{cut_is, both}
 use Rattle.cb_reshape.proofs.cut.Goals as goal
 
 pub returns : goal.returns

@@ -1,4 +1,4 @@
-use Rattle.cb_reshape.proofs.Valued.{placed_is, both, whole_part}
+use Rattle.cb_reshape.proofs.PartValues.{placed_is, both, whole_part}
 use Rattle.cb_reshape.proofs.place.Goals as goal
 
 pub returns : goal.returns

@@ -1,45 +1,47 @@
-use Rattle.std.proofs.Common.{◌≡◌, ap, ◌∙◌, sym, subst, arith}
+use Rattle.std.proofs.Common.{◌≡◌, List, ap, ◌∙◌, sym, subst, arith}
 use Rattle.std.specs.Prelude.{All, AllPairs}
+use Rattle.std.proofs.lemmas.Result.{IfOk-weaker}
 use Rattle.cb_semirings.specs.Arithmetic.{IsValue}
 use Rattle.cb_matrix.specs.declared.Entry.{Entry}
 use Rattle.cb_matrix.specs.Sparse.{Sparse, IsBefore, IsInside}
-use Rattle.cb_reshape.specs.Turning.{with_entries}
-use Rattle.cb_reshape.proofs.Exchanged.{written, turned_shape, turned_ascends, turned_inside, turned_values, turned_not_zero, turned_all}
+use Rattle.cb_reshape.proofs.Exchanged.{written, exchanged_shape, exchanged_ascends, exchanged_inside, exchanged_values, exchanged_not_zero, exchanged_all}
 use Rattle.cb_reshape.proofs.transpose.Goals as goal
 
-pub append-requires-clause-order : goal.append-requires-clause-order
-append-requires-clause-order g c =
-    let turns = written _ _ _ _ _ c.in_ok-entries.ensures c.deref_mut.ensures.value c.turn.ensures (let k = c.in_ok-entries.entries.ok.0 in omega arith) in
+pub from_ordered-requires-clause-order : goal.from_ordered-requires-clause-order
+from_ordered-requires-clause-order g c =
+    let given = written _ _ _ _ _ c.in_ok-entries.ensures c.deref_mut.ensures.value c.exchange.ensures (let k = c.in_ok-entries.entries.ok.0 in omega arith) in
     let o = c.in_ok-entries-2.ensures in
     subst (AllPairs IsBefore) (sym c.deref.ensures.value)
-    (turned_ascends g.S.Semiring.arithmetic c.args.block.now c.shape-shape.ensures.matrix _ c.in_ok-entries-2.entries.items turns o.order o.same o.permutation)
+    (exchanged_ascends g.S.Semiring.arithmetic c.args.block.now c.shape-shape.ensures.matrix _ c.in_ok-entries-2.entries.items given o.order o.same o.permutation)
 
-pub append-requires-clause-inside : goal.append-requires-clause-inside
-append-requires-clause-inside g c =
-    let turns = written _ _ _ _ _ c.in_ok-entries.ensures c.deref_mut.ensures.value c.turn.ensures (let k = c.in_ok-entries.entries.ok.0 in omega arith) in
+pub from_ordered-requires-clause-inside : goal.from_ordered-requires-clause-inside
+from_ordered-requires-clause-inside g c =
+    let given = written _ _ _ _ _ c.in_ok-entries.ensures c.deref_mut.ensures.value c.exchange.ensures (let k = c.in_ok-entries.entries.ok.0 in omega arith) in
     let o = c.in_ok-entries-2.ensures in
-    let shape = ap (λ (m : Sparse). m.shape) c.empty-out.ensures.value ∙ turned_shape _ _ _ _ _ c.shape_of.ensures c.cols.ensures.value c.rows.ensures.value c.shape-shape.ensures.shape in
-    subst (All (IsInside c.empty-out.result.shape)) (sym c.deref.ensures.value)
-    (turned_inside g.S.Semiring.arithmetic c.args.block.now c.shape-shape.ensures.matrix _ c.in_ok-entries-2.entries.items turns o.order o.same o.permutation _ shape)
+    let shape = exchanged_shape _ _ _ _ _ c.shape_of.ensures c.cols.ensures.value c.rows.ensures.value c.shape-shape.ensures.shape in
+    subst (All (IsInside c.shape_of.result)) (sym c.deref.ensures.value)
+    (exchanged_inside g.S.Semiring.arithmetic c.args.block.now c.shape-shape.ensures.matrix _ c.in_ok-entries-2.entries.items given o.order o.same o.permutation _ shape)
 
-pub append-requires-clause-values : goal.append-requires-clause-values
-append-requires-clause-values g c =
-    let turns = written _ _ _ _ _ c.in_ok-entries.ensures c.deref_mut.ensures.value c.turn.ensures (let k = c.in_ok-entries.entries.ok.0 in omega arith) in
+pub from_ordered-requires-clause-values : goal.from_ordered-requires-clause-values
+from_ordered-requires-clause-values g c =
+    let given = written _ _ _ _ _ c.in_ok-entries.ensures c.deref_mut.ensures.value c.exchange.ensures (let k = c.in_ok-entries.entries.ok.0 in omega arith) in
     let o = c.in_ok-entries-2.ensures in
     subst (All (λ (e : Entry). IsValue g.S.Semiring.arithmetic e.value)) (sym c.deref.ensures.value)
-    (turned_values g.S.Semiring.arithmetic c.args.block.now c.shape-shape.ensures.matrix _ c.in_ok-entries-2.entries.items turns o.order o.same o.permutation)
+    (exchanged_values g.S.Semiring.arithmetic c.args.block.now c.shape-shape.ensures.matrix _ c.in_ok-entries-2.entries.items given o.order o.same o.permutation)
 
-pub append-requires-clause-not_zero : goal.append-requires-clause-not_zero
-append-requires-clause-not_zero g c =
-    let turns = written _ _ _ _ _ c.in_ok-entries.ensures c.deref_mut.ensures.value c.turn.ensures (let k = c.in_ok-entries.entries.ok.0 in omega arith) in
+pub from_ordered-requires-clause-not_zero : goal.from_ordered-requires-clause-not_zero
+from_ordered-requires-clause-not_zero g c =
+    let given = written _ _ _ _ _ c.in_ok-entries.ensures c.deref_mut.ensures.value c.exchange.ensures (let k = c.in_ok-entries.entries.ok.0 in omega arith) in
     let o = c.in_ok-entries-2.ensures in
     subst (All (λ (e : Entry). e.value ≡ g.S.Semiring.arithmetic.zero → ⊥)) (sym c.deref.ensures.value)
-    (turned_not_zero g.S.Semiring.arithmetic c.args.block.now c.shape-shape.ensures.matrix _ c.in_ok-entries-2.entries.items turns o.order o.same o.permutation)
+    (exchanged_not_zero g.S.Semiring.arithmetic c.args.block.now c.shape-shape.ensures.matrix _ c.in_ok-entries-2.entries.items given o.order o.same o.permutation)
 
 pub returns : goal.returns
 returns g c =
-    let turns = written _ _ _ _ _ c.in_ok-entries.ensures c.deref_mut.ensures.value c.turn.ensures (let k = c.in_ok-entries.entries.ok.0 in omega arith) in
+    let given = written _ _ _ _ _ c.in_ok-entries.ensures c.deref_mut.ensures.value c.exchange.ensures (let k = c.in_ok-entries.entries.ok.0 in omega arith) in
     let o = c.in_ok-entries-2.ensures in
-    let shape = turned_shape _ _ _ _ _ c.shape_of.ensures c.cols.ensures.value c.rows.ensures.value c.shape-shape.ensures.shape in
-    turned_all g.S.Semiring.arithmetic c.args.block.now c.shape-shape.ensures.matrix _ c.in_ok-entries-2.entries.items turns o.order o.same o.permutation g.met.S.Semiring.is_semiring c.shape_of.result c.empty-out.result c.append.new.out shape c.empty-out.ensures.value
-    (c.in_ok-append.ensures ∙ ap (with_entries c.empty-out.result) c.deref.ensures.value)
+    let shape = exchanged_shape _ _ _ _ _ c.shape_of.ensures c.cols.ensures.value c.rows.ensures.value c.shape-shape.ensures.shape in
+    IfOk-weaker c.from_ordered.result _ _
+    (λ m is. exchanged_all g.S.Semiring.arithmetic c.args.block.now c.shape-shape.ensures.matrix _ c.in_ok-entries-2.entries.items given o.order o.same o.permutation g.met.S.Semiring.is_semiring c.shape_of.result m shape
+    (is ∙ ap (λ (es : List Entry). let x : Sparse = record { shape = c.shape_of.result; entries = es } in x) c.deref.ensures.value))
+    c.from_ordered.ensures

@@ -1,6 +1,6 @@
 use Rattle.std.proofs.Common.{◌<◌, ◌+◌, ◌-◌, ap, ◌∙◌, arith, get_or, length}
-use Rattle.cb_reshape.specs.Turning.{with_entries}
-use Rattle.cb_reshape.proofs.Taken.{taken_none, taken_more, taken_all, taken_before, old_before, stored_more, stored_none}
+use Rattle.cb_reshape.specs.Moving.{with_entries}
+use Rattle.cb_reshape.proofs.PartOfColumn.{taken_none, taken_more, taken_all, taken_before, old_before, stored_more, stored_none}
 use Rattle.cb_reshape.proofs.parts.append_column.Goals as goal
 
 pub loop-n-init : goal.loop-n-init

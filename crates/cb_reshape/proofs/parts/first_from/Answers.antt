@@ -1,4 +1,4 @@
-use Rattle.cb_reshape.proofs.Searched.{found_below, found_from, missed_below, missed_from}
+use Rattle.cb_reshape.proofs.FirstFrom.{found_below, found_from, missed_below, missed_from}
 use Rattle.cb_reshape.proofs.parts.first_from.Goals as goal
 
 pub returns-in-Ok-clause-below : goal.returns-in-Ok-clause-below

@@ -1,7 +1,7 @@
 use Rattle.std.proofs.Common.{◌≡◌, ◌<◌, ap, ◌∙◌, sym, subst, arith, length, get_or}
 use Rattle.std.specs.Prelude.{All}
 use Rattle.cb_matrix.specs.Sparse.{Sparse, IsMatrix}
-use Rattle.cb_reshape.proofs.Columned.{columns_begin, columns_more, columns_end, next_before, column_not_zero, in_shape}
+use Rattle.cb_reshape.proofs.PartOfBlock.{columns_begin, columns_more, columns_end, next_before, column_not_zero, in_shape}
 use Rattle.cb_reshape.proofs.parts.moved.Goals as goal
 
 pub loop-n-init : goal.loop-n-init

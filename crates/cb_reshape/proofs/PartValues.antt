@@ -7,12 +7,11 @@ use Rattle.cb_semirings.specs.Arithmetic.{Arithmetic, IsSemiring}
 use Rattle.cb_matrix.specs.declared.Entry.{Entry}
 use Rattle.cb_matrix.specs.Sparse.{Sparse, Extent, IsMatrix, is_at, at, value_at}
 use Rattle.cb_matrix.specs.Operations.{cut, placed, is_covered}
-use Rattle.cb_matrix.proofs.Places.{is_at-parts}
-use Rattle.cb_matrix.proofs.Made.{value_at-none}
+use Rattle.cb_matrix.proofs.Places.{is_at-parts, value_at-none}
 use Rattle.cb_matrix.proofs.Equal.{matrix_is}
 use Rattle.cb_reshape.specs.declared.parts.Part.{Part}
 use Rattle.cb_reshape.specs.Moving.{is_in, moved_entry, moved_entries}
-use Rattle.cb_reshape.proofs.Taken.{is_in-true, is_in-parts, moved_all}
+use Rattle.cb_reshape.proofs.PartOfColumn.{is_in-true, is_in-parts, moved_all}
 
 -- a number moved up is the same as another one moved down
 same_step : (low corner r i : ℕ) → low ≤ r → corner ≤ i → ((r - low + corner) == i) ≡ (r == (i - corner + low))
@@ -30,6 +29,7 @@ module _ (z : ℕ) (part : Part) (i j : ℕ) where
   abbrev column : ℕ
   column = j - part.corner.1 + part.cols.0
 
+  -- at a place that the part goes to, the value that was there
   pub inside_value : part.rows.0 ≤ part.rows.1 → part.cols.0 ≤ part.cols.1 → part.corner.0 ≤ i → i < part.corner.0 + (part.rows.1 - part.rows.0) → part.corner.1 ≤ j → j < part.corner.1 + (part.cols.1 - part.cols.0)
       → (es : List Entry) → value_at z (moved_entries part es) i j ≡ value_at z es row column
   unfolding value_at
@@ -51,6 +51,7 @@ module _ (z : ℕ) (part : Part) (i j : ℕ) where
       true_false : true ≡ false → ⊥
       true_false h = cc
 
+  -- at other places none
   pub outside_value : part.rows.0 ≤ part.rows.1 → part.cols.0 ≤ part.cols.1 → (part.corner.0 ≤ i → i < part.corner.0 + (part.rows.1 - part.rows.0) → part.corner.1 ≤ j → j < part.corner.1 + (part.cols.1 - part.cols.0) → ⊥)
       → (es : List Entry) → value_at z (moved_entries part es) i j ≡ z
   outside_value rows cols out es =
@@ -62,6 +63,7 @@ module _ (z : ℕ) (part : Part) (i j : ℕ) where
       absurd (out (omega arith) (omega arith) (omega arith) (omega arith))) (λ (u : is_at i j (moved_entry part e) ≡ false). u) (cases_Bool (is_at i j (moved_entry part e))))
       (λ k d l. refl))
 
+-- a part moved to row 0 and column 0 is a cut
 pub cut_is : (s : Arithmetic) → IsSemiring s → (a m : Sparse) (rows cols : ℕ × ℕ) (shape : Extent) (part : Part) → rows.0 ≤ rows.1 → cols.0 ≤ cols.1 → shape ≡ record { rows = rows.1 - rows.0; cols = cols.1 - cols.0 } → part ≡ record { rows = rows; cols = cols; corner = (0, 0) }
     → IsMatrix s m → m ≡ record { shape = shape; entries = moved_entries part a.entries } → m ≡ cut s rows cols a
 cut_is s laws a m rows cols shape part p q e f is h =
@@ -87,6 +89,7 @@ covered-column corner shape i j h = grind (arith, nat_tests)
 covered-end_column : (corner : ℕ × ℕ) (shape : Extent) (i j : ℕ) → is_covered corner shape i j ≡ true → j < corner.1 + shape.cols
 covered-end_column corner shape i j h = grind (arith, nat_tests)
 
+-- a block moved to a corner is placed there
 pub placed_is : (s : Arithmetic) → IsSemiring s → (a m : Sparse) (corner : ℕ × ℕ) (shape : Extent) (part : Part) → part ≡ record { rows = (0, a.shape.rows); cols = (0, a.shape.cols); corner = corner }
     → IsMatrix s m → m ≡ record { shape = shape; entries = moved_entries part a.entries } → m ≡ placed s shape corner a
 placed_is s laws a m corner shape part f is h =

@@ -11,13 +11,14 @@ use Rattle.cb_dcsc.specs.Compressed.{entries_in}
 use Rattle.cb_dcsc.specs.Columns.{with_entry}
 use Rattle.cb_dcsc.proofs.Pieces.{length-entries_in}
 use Rattle.cb_reshape.specs.declared.parts.Part.{Part}
-use Rattle.cb_reshape.specs.Turning.{with_entries}
-use Rattle.cb_reshape.specs.Moving.{is_in, moved_entry, moved_entries}
+use Rattle.cb_reshape.specs.Moving.{is_in, moved_entry, moved_entries, with_entries}
 
 -- ---- what is in the part
+-- an entry in the rows and columns of the part is in it
 pub is_in-true : (part : Part) (e : Entry) → part.rows.0 ≤ e.row → e.row < part.rows.1 → part.cols.0 ≤ e.column → e.column < part.cols.1 → is_in part e ≡ true
 is_in-true part e a b c d = grind (arith, nat_tests)
 
+-- what it says of an entry that it is in the part
 pub record IsIn (part : Part) (e : Entry) : Type 0 where
   pub first_row : part.rows.0 ≤ e.row
   pub end_row : e.row < part.rows.1
@@ -36,29 +37,37 @@ is_in-first_column part e h = grind (arith, nat_tests)
 is_in-end_column : (part : Part) (e : Entry) → is_in part e ≡ true → e.column < part.cols.1
 is_in-end_column part e h = grind (arith, nat_tests)
 
+-- an entry in the part is in its rows and columns
 pub is_in-parts : (part : Part) (e : Entry) → is_in part e ≡ true → IsIn part e
 is_in-parts part e h = record { first_row = is_in-first_row part e h; end_row = is_in-end_row part e h; first_column = is_in-first_column part e h; end_column = is_in-end_column part e h }
 
+-- an entry before its rows is not in it
 pub row_below : (part : Part) (e : Entry) → e.row < part.rows.0 → is_in part e ≡ false
 row_below part e h = ⊎_elim (λ t. let k = is_in-first_row part e t in absurd (omega arith)) (λ f. f) (cases_Bool (is_in part e))
 
+-- nor one after them
 pub row_past : (part : Part) (e : Entry) → part.rows.1 ≤ e.row → is_in part e ≡ false
 row_past part e h = ⊎_elim (λ t. let k = is_in-end_row part e t in absurd (omega arith)) (λ f. f) (cases_Bool (is_in part e))
 
+-- nor one before its columns
 pub column_below : (part : Part) (e : Entry) → e.column < part.cols.0 → is_in part e ≡ false
 column_below part e h = ⊎_elim (λ t. let k = is_in-first_column part e t in absurd (omega arith)) (λ f. f) (cases_Bool (is_in part e))
 
+-- nor one after them
 pub column_past : (part : Part) (e : Entry) → part.cols.1 ≤ e.column → is_in part e ≡ false
 column_past part e h = ⊎_elim (λ t. let k = is_in-end_column part e t in absurd (omega arith)) (λ f. f) (cases_Bool (is_in part e))
 
 -- ---- what is moved
+-- where no entry is in the part nothing is moved
 pub moved_none : (part : Part) (es : List Entry) → All (λ e. is_in part e ≡ false) es → moved_entries part es ≡ []
 moved_none part [] h = refl
 moved_none part (e ∷ es) h = let f = All-head (λ e. is_in part e ≡ false) e es h in rw f (moved_none part es (All-tail (λ e. is_in part e ≡ false) e es h))
 
+-- of two lists what each has is moved
 pub moved_append : (part : Part) (xs ys : List Entry) → moved_entries part (xs ++ ys) ≡ moved_entries part xs ++ moved_entries part ys
 moved_append part xs ys = ap (map (moved_entry part)) (filter-append (is_in part) xs ys) ∙ map-append (moved_entry part) (filter (is_in part) xs) (filter (is_in part) ys)
 
+-- of one entry in the part it is moved
 pub moved_one : (part : Part) (e : Entry) → is_in part e ≡ true → moved_entries part (e ∷ []) ≡ moved_entry part e ∷ []
 moved_one part e h = rw h refl
 
@@ -86,6 +95,7 @@ module _ (part : Part) (c : ℕ) (rows values : List ℕ) (lengths : length valu
   size : length all ≡ length rows
   size = length-entries_in c rows values lengths
 
+  -- before the first row of the part nothing is taken
   pub taken_none : (n : ℕ) → n ≤ length rows → ((k : ℕ) → k < n → get_or rows k 0 < part.rows.0) → moved_entries part (take n all) ≡ []
   taken_none n l below =
       moved_none part (take n all) (All-from_get_or (λ e. is_in part e ≡ false) (take n all) blank (λ k m.
@@ -94,6 +104,7 @@ module _ (part : Part) (c : ℕ) (rows values : List ℕ) (lengths : length valu
       let e = get_or-take n all k blank k_below ∙ entry_in c rows values k blank lengths (omega arith) in
       subst (λ x. is_in part x ≡ false) (sym e) (row_below part (record { row = get_or rows k 0; column = c; value = get_or values k 0 }) (below k k_below))))
 
+  -- the entry at a row of the part is taken
   pub taken_more : (n : ℕ) → n < length rows → part.rows.0 ≤ get_or rows n 0 → get_or rows n 0 < part.rows.1 → part.cols.0 ≤ c → c < part.cols.1
       → moved_entries part (take (n + 1) all) ≡ moved_entries part (take n all) ++ record { row = get_or rows n 0 - part.rows.0 + part.corner.0; column = c - part.cols.0 + part.corner.1; value = get_or values n 0 } ∷ []
   taken_more n l a b p q =
@@ -101,6 +112,7 @@ module _ (part : Part) (c : ℕ) (rows values : List ℕ) (lengths : length valu
       ap (moved_entries part) (take_more all n blank (rw size l)) ∙ ap (λ x. moved_entries part (take n all ++ x ∷ [])) (entry_in c rows values n blank lengths l)
       ∙ moved_append part (take n all) (e ∷ []) ∙ ap (λ xs. moved_entries part (take n all) ++ xs) (moved_one part e (is_in-true part e a b p q))
 
+  -- after its last row nothing more is taken
   pub taken_all : (n : ℕ) → ((k : ℕ) → n ≤ k → k < length rows → part.rows.1 ≤ get_or rows k 0) → moved_entries part (take n all) ≡ moved_entries part all
   taken_all n from =
       sym (ap (moved_entries part) (sym (take-append-drop n all)) ∙ moved_append part (take n all) (drop n all)
@@ -124,16 +136,16 @@ module _ (part : Part) (c : ℕ) (rows values : List ℕ) (lengths : length valu
       subst (λ x. (x.column ≡ c) × (x.row < get_or rows n 0)) (sym e) (refl, up k n 0 k_below l)))
 
 -- ---- a column after those before it
+-- what was stored before the column comes before an entry of it
 pub old_before : (old out : Sparse) (es : List Entry) (e : Entry) → out ≡ with_entries old es → All (λ x. x.column < e.column) old.entries → All (λ x. IsBefore x e) es → All (λ x. IsBefore x e) out.entries
 old_before old out es e is h k =
     subst (λ (o : Sparse). All (λ x. IsBefore x e) o.entries) (sym is) (All-append (λ x. IsBefore x e) old.entries es (All-weaker (λ x. x.column < e.column) (λ x. IsBefore x e) (λ x l. inl l) old.entries h) k)
 
+-- one entry more is stored
 pub stored_more : (old out new : Sparse) (xs ys : List Entry) (e : Entry) → out ≡ with_entries old xs → new ≡ with_entry out e → ys ≡ xs ++ e ∷ [] → new ≡ with_entries old ys
 stored_more old out new xs ys e so_far more is =
     more ∙ ap (λ o. with_entry o e) so_far ∙ ap (λ (es : List Entry). record { shape = old.shape; entries = es }) (append_assoc old.entries xs (e ∷ []) ∙ ap (λ es. old.entries ++ es) (sym is))
 
+-- none is stored yet
 pub stored_none : (old : Sparse) (xs : List Entry) → xs ≡ [] → old ≡ with_entries old xs
 stored_none old xs e = ap (λ (es : List Entry). record { shape = old.shape; entries = es }) (sym (append-nil old.entries)) ∙ ap (with_entries old) (sym e)
-
-pub moved_row : (low high row corner limit : ℕ) → low ≤ row → row < high → corner + (high - low) ≤ limit → row - low + corner < limit
-moved_row low high row corner limit a b c = omega arith

@@ -8,17 +8,15 @@ use Rattle.std.proofs.lemmas.List.Concat.{flat_map-append}
 use Rattle.std.proofs.lemmas.List.Elements.{All-nil, All-cons, All-head, All-tail, All-append, All-map, All-filter, All-from_get_or, All-weaker, filter_passes}
 use Rattle.cb_matrix.specs.declared.Entry.{Entry}
 use Rattle.cb_matrix.specs.Sparse.{Sparse, Extent, IsBefore}
-use Rattle.cb_matrix.proofs.Places.{AllPairs-head, AllPairs-tail}
-use Rattle.cb_matrix.proofs.Made.{AllPairs-nil, AllPairs-cons}
+use Rattle.cb_matrix.proofs.Pairs.{AllPairs-nil, AllPairs-cons, AllPairs-head, AllPairs-tail}
 use Rattle.cb_dcsc.specs.Columns.{in_column, rows_of, values_of, with_front, columns_with_entries}
 use Rattle.cb_matrix.specs.Values.{empty_matrix}
 use Rattle.cb_dcsc.specs.Compressed.{entries_in}
 use Rattle.cb_dcsc.proofs.Pieces.{in_column-none, entries_in-column}
 use Rattle.cb_dcsc.proofs.Numbers.{columns_all, entries_all}
 use Rattle.cb_reshape.specs.declared.parts.Part.{Part}
-use Rattle.cb_reshape.specs.Turning.{with_entries}
-use Rattle.cb_reshape.specs.Moving.{Fits, is_in, moved_entries}
-use Rattle.cb_reshape.proofs.Taken.{moved_none, moved_append, moved_all, column_below, column_past}
+use Rattle.cb_reshape.specs.Moving.{Fits, is_in, moved_entries, with_entries}
+use Rattle.cb_reshape.proofs.PartOfColumn.{moved_none, moved_append, moved_all, column_below, column_past}
 
 -- ---- the columns that have entries
 later : (c d : ℕ) (ds : List ℕ) → c < d → AllPairs (λ i j. i < j) (d ∷ ds) → All (λ x. c < x) (d ∷ ds)
@@ -38,6 +36,7 @@ with_front_ascends c (d ∷ ds) h k =
 least_column : (e : Entry) (es : List Entry) → AllPairs IsBefore (e ∷ es) → All (λ c. e.column ≤ c) (columns_with_entries es)
 least_column e es up = columns_all (λ c. e.column ≤ c) es (All-weaker (IsBefore e) (λ d. e.column ≤ d.column) (λ d b. ⊎_elim (λ l. omega arith) (λ l. omega arith) b) es (AllPairs-head IsBefore e es up))
 
+-- the columns that have entries ascend
 pub columns_ascend : (es : List Entry) → AllPairs IsBefore es → AllPairs (λ i j. i < j) (columns_with_entries es)
 unfolding columns_with_entries
 columns_ascend [] h = AllPairs-nil (λ i j. i < j)
@@ -70,6 +69,7 @@ front_column e es (d ∷ ds) least up so_far none =
           ap (λ xs. xs ++ flat_map (λ c. in_column c (e ∷ es)) (d ∷ ds)) own ∙ ap (λ xs. e ∷ xs) (other_columns e es (d ∷ ds) after ∙ so_far)
     ] refl
 
+-- all entries are those of each column, one column after another
 pub all_columns : (es : List Entry) → AllPairs IsBefore es → flat_map (λ c. in_column c es) (columns_with_entries es) ≡ es
 unfolding columns_with_entries
 all_columns [] up = refl
@@ -81,9 +81,11 @@ All-flat_map : (P : Entry → Type 0) (f : ℕ → List Entry) (cs : List ℕ) �
 All-flat_map P f [] h = All-nil P
 All-flat_map P f (c ∷ cs) h = All-append P (f c) (flat_map f cs) (All-head (λ c. All P (f c)) c cs h) (All-flat_map P f cs (All-tail (λ c. All P (f c)) c cs h))
 
+-- the entries in a column have its number
 pub own_column : (c : ℕ) (es : List Entry) → All (λ e. e.column ≡ c) (in_column c es)
 own_column c es = All-weaker (λ e. (e.column == c) ≡ true) (λ e. e.column ≡ c) (λ e t. eqb-true e.column c t) (in_column c es) (filter_passes (λ e. e.column == c) es)
 
+-- no value of a column is zero
 pub column_not_zero : (z c : ℕ) (es : List Entry) → All (λ e. e.value ≢ z) es → All (λ v. v ≢ z) (values_of (in_column c es))
 column_not_zero z c es h = All-map (λ v. v ≢ z) (λ (e : Entry). e.value) (in_column c es) (All-filter (λ e. e.column == c) (λ e. e.value ≢ z) es h)
 
@@ -92,6 +94,7 @@ module _ (part : Part) (es : List Entry) (up : AllPairs IsBefore es) where
   abbrev columns : List ℕ
   columns = columns_with_entries es
 
+  -- the entries of the first n columns that have some
   abbrev pub first_columns : ℕ → List Entry
   first_columns n = flat_map (λ c. in_column c es) (take n (columns_with_entries es))
 
@@ -103,9 +106,11 @@ module _ (part : Part) (es : List Entry) (up : AllPairs IsBefore es) where
   first_all : (Q : ℕ → Type 0) (n : ℕ) → n ≤ length columns → ((k : ℕ) → k < n → Q (get_or columns k 0)) → All Q (take n columns)
   first_all Q n l h = All-from_get_or Q (take n columns) 0 (λ k m. let size = length-take-le n columns l in let k_below : k < n = omega arith in subst Q (sym (get_or-take n columns k 0 k_below)) (h k k_below))
 
+  -- before the first column of the part nothing is moved
   pub none_first : (n : ℕ) → n ≤ length columns → ((k : ℕ) → k < n → get_or columns k 0 < part.cols.0) → moved_entries part (first_columns n) ≡ []
   none_first n l below = moved_none part (first_columns n) (of_columns (λ e. is_in part e ≡ false) (λ c. c < part.cols.0) (take n columns) (λ e q. column_below part e q) (first_all (λ c. c < part.cols.0) n l below))
 
+  -- one column more
   pub more_first : (n : ℕ) → n < length columns → moved_entries part (first_columns (n + 1)) ≡ moved_entries part (first_columns n) ++ moved_entries part (in_column (get_or columns n 0) es)
   more_first n l =
       ap (λ cs. moved_entries part (flat_map (λ c. in_column c es) cs)) (take_more columns n 0 l)
@@ -113,6 +118,7 @@ module _ (part : Part) (es : List Entry) (up : AllPairs IsBefore es) where
       ∙ ap (λ xs. moved_entries part (first_columns n ++ xs)) (append-nil (in_column (get_or columns n 0) es))
       ∙ moved_append part (first_columns n) (in_column (get_or columns n 0) es)
 
+  -- after its last column nothing more is moved
   pub all_first : (n : ℕ) → ((k : ℕ) → n ≤ k → k < length columns → part.cols.1 ≤ get_or columns k 0) → moved_entries part (first_columns n) ≡ moved_entries part es
   all_first n from =
       let rest : All (λ c. part.cols.1 ≤ c) (drop n columns) = All-from_get_or (λ c. part.cols.1 ≤ c) (drop n columns) 0 (λ k m.
@@ -125,6 +131,7 @@ module _ (part : Part) (es : List Entry) (up : AllPairs IsBefore es) where
       ∙ moved_append part (first_columns n) (flat_map (λ c. in_column c es) (drop n columns))
       ∙ ap (λ xs. moved_entries part (first_columns n) ++ xs) none ∙ append-nil (moved_entries part (first_columns n)))
 
+  -- what is moved comes before the next column
   pub before_next : (n : ℕ) → n < length columns → All (λ e. e.column < get_or columns n 0 - part.cols.0 + part.corner.1) (moved_entries part (first_columns n))
   before_next n l =
       moved_all (λ e. e.column < get_or columns n 0 - part.cols.0 + part.corner.1) (λ e. e.column < get_or columns n 0) part (first_columns n)
@@ -138,11 +145,13 @@ column_stored shape out new xs ys zs ws so_far more same is =
 
 -- ---- the walk over the columns of the part
 module _ (part : Part) (es : List Entry) (up : AllPairs IsBefore es) (shape : Extent) where
+  -- before the walk nothing is stored
   pub columns_begin : (blank out : Sparse) (numbers : List ℕ) (n : ℕ) → numbers ≡ columns_with_entries es → n ≤ length numbers → ((k : ℕ) → k < n → get_or numbers k 0 < part.cols.0) → out ≡ blank → blank ≡ empty_matrix shape
       → out ≡ record { shape = shape; entries = moved_entries part (first_columns part es up n) }
   columns_begin blank out numbers n are l below same is =
       same ∙ is ∙ ap (λ (xs : List Entry). record { shape = shape; entries = xs }) (sym (none_first part es up n (rw (← are) l) (λ k m. rw (← are) (below k m))))
 
+  -- one column more is stored
   pub columns_more : (out new : Sparse) (numbers rows values : List ℕ) (n c : ℕ) → numbers ≡ columns_with_entries es → n < length numbers → c ≡ get_or numbers n 0
       → rows ≡ rows_of (in_column (get_or (columns_with_entries es) n 0) es) → values ≡ values_of (in_column (get_or (columns_with_entries es) n 0) es)
       → out ≡ record { shape = shape; entries = moved_entries part (first_columns part es up n) } → new ≡ with_entries out (moved_entries part (entries_in c rows values))
@@ -153,9 +162,11 @@ module _ (part : Part) (es : List Entry) (up : AllPairs IsBefore es) (shape : Ex
       column_stored shape out new (moved_entries part (first_columns part es up n)) (moved_entries part (in_column (get_or (columns_with_entries es) n 0) es)) (moved_entries part (first_columns part es up (n + 1))) (moved_entries part (entries_in c rows values))
       so_far more (ap (moved_entries part) whole) (more_first part es up n (rw (← are) l))
 
+  -- after the walk all of the part is
   pub columns_end : (numbers : List ℕ) (n : ℕ) → numbers ≡ columns_with_entries es → ((k : ℕ) → n ≤ k → k < length numbers → part.cols.1 ≤ get_or numbers k 0) → moved_entries part (first_columns part es up n) ≡ moved_entries part es
   columns_end numbers n are from = all_first part es up n (λ k l m. rw (← are) (from k l (rw are m)))
 
+  -- what is stored comes before the next column
   pub next_before : (out : Sparse) (numbers : List ℕ) (n c : ℕ) → numbers ≡ columns_with_entries es → n < length numbers → c ≡ get_or numbers n 0 → out ≡ record { shape = shape; entries = moved_entries part (first_columns part es up n) }
       → All (λ e. e.column < c - part.cols.0 + part.corner.1) out.entries
   next_before out numbers n c are l number so_far =
@@ -163,5 +174,6 @@ module _ (part : Part) (es : List Entry) (up : AllPairs IsBefore es) (shape : Ex
       subst (λ (o : Sparse). All (λ e. e.column < c - part.cols.0 + part.corner.1) o.entries) (sym so_far)
       (subst (λ x. All (λ e. e.column < x - part.cols.0 + part.corner.1) (moved_entries part (first_columns part es up n))) (sym column) (before_next part es up n (rw (← are) l)))
 
+-- the part fits the block that it goes into
 pub in_shape : (part : Part) (shape : Extent) (out : Sparse) (es : List Entry) → out ≡ record { shape = shape; entries = es } → Fits shape part → Fits out.shape part
 in_shape part shape out es is h = subst (λ (o : Sparse). Fits o.shape part) (sym is) h

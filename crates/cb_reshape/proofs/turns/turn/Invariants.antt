@@ -1,6 +1,0 @@
-use Rattle.std.proofs.Common.{◌≡◌, ◌++◌, map, take, drop}
-use Rattle.cb_reshape.specs.Turning.{turned}
-use Rattle.cb_reshape.proofs.turns.turn.Given as goal
-
-abbrev pub invariant-loop-entry : goal.invariant-loop-entry
-invariant-loop-entry l = l.entries ≡ map turned (take l.entry-index l.fn.entries) ++ drop l.entry-index l.fn.entries
