@@ -1,32 +1,10 @@
 //! Worked examples, with ample memory and with each allocation refused in turn.
-ghost use Rattle.std.specs.Prelude.{◌↔◌, IsTrue, All};
-ghost use Rattle.cb_semirings.specs.Arithmetic.{IsValue};
-
 use crate::times_vector;
 use cb_dcsc::Block;
-use cb_matrix::{Entry, LIMIT, Shape};
-use cb_semirings::{PlusTimes, Semiring};
-use std::alloc::Global;
+use cb_matrix::{LIMIT, Shape};
+use cb_samples::{block, entry};
+use cb_semirings::PlusTimes;
 use std::test::Fail;
-
-const fn entry(row: u32, column: u32, value: u64) -> Entry {
-    Entry { row, column, value }
-}
-
-/// Whether each entry's value is one of the semiring.
-fn are_values<S: Semiring>(entries: &[Entry]) -> bool
-    ensures { IsTrue result ↔ All (λ e. IsValue S.arithmetic e.value) entries.now }
-{
-    entries.iter().all(|entry| S::is_value(entry.value))
-}
-
-fn block(alloc: Global, rows: u32, cols: u32, entries: &[Entry]) -> Result<Block<PlusTimes>, Fail> {
-    if !are_values::<PlusTimes>(entries) {
-        return Err("a value out of range".into());
-    }
-    let shape = Shape::new(rows, cols).ok_or("past the limit")?;
-    Ok(Block::from_sorted(alloc, shape, entries)?)
-}
 
 #[test]
 fn a_sum_that_comes_to_zero_is_not_stored(rt: HostRuntime) -> Result<(), Fail> {
@@ -37,7 +15,7 @@ fn a_sum_that_comes_to_zero_is_not_stored(rt: HostRuntime) -> Result<(), Fail> {
         entry(0, 1, u64::MAX),
         entry(1, 1, 5),
     ];
-    let matrix = block(alloc, 3, 2, &given)?;
+    let matrix = block::<PlusTimes>(alloc, 3, 2, &given)?;
     let ones = block(alloc, 2, 1, &[entry(0, 0, 1), entry(1, 0, 1)])?;
     assert!(rt; matrix.shape().cols() == ones.shape().rows());
     assert!(rt; ones.shape().cols() == 1);
@@ -52,7 +30,7 @@ fn a_sum_that_comes_to_zero_is_not_stored(rt: HostRuntime) -> Result<(), Fail> {
 fn one_entry_costs_one_column(rt: HostRuntime) -> Result<(), Fail> {
     let alloc = rt.alloc();
     let given = [entry(0, 7, 4), entry(LIMIT - 1, LIMIT - 1, 3)];
-    let matrix = block(alloc, LIMIT, LIMIT, &given)?;
+    let matrix = block::<PlusTimes>(alloc, LIMIT, LIMIT, &given)?;
     let vector = block(alloc, LIMIT, 1, &[entry(LIMIT - 1, 0, 2)])?;
     assert!(rt; matrix.shape().cols() == vector.shape().rows());
     assert!(rt; vector.shape().cols() == 1);
