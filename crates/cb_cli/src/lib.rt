@@ -1,12 +1,13 @@
 //! The command line of `cbgrid`, as a library: from words and texts to bytes and a status.
 //!
-//! A run goes through four steps, each a call of its own:
+//! `run` is a whole run but for the words: what goes to each stream and the status are its contract.
+//! It goes through four steps, each a call of its own:
 //! 1. `read_job` reads the words of a command line, and answers a `Job`, a help text or a usage text.
-//! 2. The caller reads the files that the job names, in the job's order.
+//! 2. `texts_of` loads the files that the job names, in the job's order, from a `FileSource`.
 //! 3. `execute` reads the texts, computes the answer and writes its text to a `Sink`. The whole text
 //!    is made before its first byte goes out, so every fault but a failed write leaves the sink as it
 //!    was, and after a failed write a beginning of the text has gone out.
-//! 4. `status` and `fault_line` tell what the program ends with, and the line that it prints.
+//! 4. An `Ending` tells the status that the program ends with, and what it prints on standard error.
 //!
 //! The semiring is chosen while the program runs: `SemiringName` is the one table of names, and the
 //! contract of `execute` speaks of the semiring that the job names.
