@@ -159,16 +159,38 @@ pub(crate) fn of_next<'a, S: Semiring>(
     block.column(column)
 }
 
-/// The columns of either list, ascending, each once.
+/// The columns of either list, ascending, each once: both are gone through once.
 pub(crate) fn union(alloc: Global, left: &[u32], right: &[u32]) -> Result<Vec<u32>, AllocError>
+    requires left { AllPairs (λ c d. c < d) left.now }
+    requires right { AllPairs (λ c d. c < d) right.now }
     ensures ascending { IfOk result (λ v. AllPairs (λ c d. c < d) v.items) }
     ensures left { IfOk result (λ v. (c : ℕ) → Contains left.now c → Contains v.items c) }
     ensures right { IfOk result (λ v. (c : ℕ) → Contains right.now c → Contains v.items c) }
     ensures within { IfOk result (λ v. (bound : ℕ) → All (λ c. c < bound) left.now → All (λ c. c < bound) right.now → All (λ c. c < bound) v.items) }
 {
-    let mut columns = Vec::from_slice(alloc, left)?;
-    columns.extend_from_slice(right)?;
-    columns.sort()?;
-    columns.dedup();
+    let mut columns = Vec::new(alloc);
+    columns.reserve(left.len().max(right.len()))?;
+    let mut x = 0;
+    let mut y = 0;
+    while x < left.len() {
+        if y >= right.len() {
+            columns.extend_from_slice(&left[x..])?;
+            return Ok(columns);
+        }
+        let first = left[x];
+        let second = right[y];
+        if first < second {
+            columns.push(first)?;
+            x += 1;
+        } else if second < first {
+            columns.push(second)?;
+            y += 1;
+        } else {
+            columns.push(first)?;
+            x += 1;
+            y += 1;
+        }
+    }
+    columns.extend_from_slice(&right[y..])?;
     Ok(columns)
 }

@@ -19,15 +19,15 @@ ghost use Rattle.cb_matrix.specs.Values.{product, product_shape};
 ghost use Rattle.cb_matrix.specs.Operations.{sum_of};
 ghost use Rattle.cb_product.specs.InColumns.{AreInColumns};
 
-use crate::finder::Finder;
+use crate::column_index::ColumnIndex;
 use crate::terms::gather;
 use crate::workspace::Workspace;
 use cb_dcsc::Block;
 use cb_semirings::Semiring;
 use std::alloc::{AllocError, Global};
 
+mod column_index;
 mod columns;
-mod finder;
 mod heads;
 mod marks;
 mod sparse_accumulator;
@@ -104,16 +104,18 @@ fn accumulate<S: Semiring>(
     let left_shape = left.shape();
     let right_shape = right.shape();
     let mut out = Block::empty(alloc, accumulator.shape());
-    out.reserve(accumulator.len().saturating_mul(2).max(right.len()))?;
+    let index = ColumnIndex::new(alloc, left, right.len())?;
+    let products = index.products(left, right.row_numbers());
+    // Where memory is refused for what may come, there can still be enough for what comes.
+    let _ = out.reserve(room(left.len(), right.len(), accumulator.len(), products));
     let mut work = Workspace::new(alloc)?;
     let mut terms = Vec::new(alloc);
-    let finder = Finder::new(alloc, left, right.len())?;
     let mut next = 0;
     let mut own_next = 0;
     let mut seen = 0usize;
     for column in columns {
         let (rows, values) = columns::of_next(right, &mut next, *column);
-        let products = gather(&mut terms, left, &finder, rows, values)?;
+        let products = gather(&mut terms, left, &index, rows, values)?;
         let (own_rows, own_values) = columns::of_next(accumulator, &mut own_next, *column);
         let entries = products.saturating_add(own_rows.len());
         seen = seen.saturating_add(entries);
@@ -123,6 +125,15 @@ fn accumulate<S: Semiring>(
         out.push_column(*column, made_rows, made_values)?;
     }
     Ok(out)
+}
+
+/// For how many entries room is taken at once: for all that may come, but no more than for a fixed multiple of what
+/// there is, since many products may come to few entries.
+fn room(left: usize, right: usize, accumulator: usize, products: usize) -> usize {
+    let given = left.saturating_add(right);
+    products
+        .min(given.saturating_mul(32))
+        .saturating_add(accumulator)
 }
 
 /// Whether a column of so many entries is better made by the sparse accumulator: where it has an entry for every

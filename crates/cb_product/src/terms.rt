@@ -5,7 +5,7 @@ ghost use Rattle.cb_matrix.specs.Sparse.{IsMatrix};
 ghost use Rattle.cb_dcsc.specs.Columns.{rows_of, values_of};
 ghost use Rattle.cb_product.specs.Terms.{IsTerm, terms_value, column_sum};
 
-use crate::finder::Finder;
+use crate::column_index::ColumnIndex;
 use cb_dcsc::Block;
 use cb_semirings::Semiring;
 use std::alloc::AllocError;
@@ -23,7 +23,7 @@ pub(crate) struct Term {
 pub(crate) fn gather<S: Semiring>(
     terms: &mut Vec<Term>,
     left: &Block<S>,
-    finder: &Finder,
+    index: &ColumnIndex,
     rows: &[u32],
     values: &[u64],
 ) -> Result<usize, AllocError>
@@ -36,7 +36,7 @@ pub(crate) fn gather<S: Semiring>(
     terms.clear();
     let mut products = 0usize;
     for n in 0..rows.len() {
-        let (at, end) = finder.range(left, rows[n]);
+        let (at, end) = index.range(left, rows[n]);
         if at < end {
             terms.push(Term {
                 at,

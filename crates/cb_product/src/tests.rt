@@ -4,7 +4,7 @@ ghost use Rattle.cb_semirings.specs.Arithmetic.{IsValue};
 
 use crate::{multiply, multiply_into};
 use cb_dcsc::Block;
-use cb_matrix::{Entry, LIMIT, Shape};
+use cb_matrix::{Entry, LIMIT, Matrix, Shape};
 use cb_semirings::{MinPlus, OrAnd, PlusTimes, Semiring};
 use std::alloc::Global;
 use std::test::Fail;
@@ -112,7 +112,7 @@ fn the_largest_sides_cost_what_the_entries_cost(rt: HostRuntime) -> Result<(), F
     Ok(())
 }
 
-/// Among 5 rows the products are summed row by row, among 2,147,483,647 they are merged by the heap.
+/// Among 5 rows the products are summed row by row, among 2,147,483,647 the columns are joined.
 #[test]
 fn three_columns_meet_in_one_row(rt: HostRuntime) -> Result<(), Fail> {
     let alloc = rt.alloc();
@@ -140,8 +140,8 @@ fn three_columns_meet_in_one_row(rt: HostRuntime) -> Result<(), Fail> {
     Ok(())
 }
 
-/// Rows at both ends of the words that mark them, and one that is named twice. The first columns are merged by the
-/// heap, the last are summed.
+/// Rows at both ends of the words that mark them, and one that is named twice. The first columns are joined, the last
+/// are summed.
 #[test]
 fn marked_rows_come_in_order(rt: HostRuntime) -> Result<(), Fail> {
     let alloc = rt.alloc();
@@ -229,6 +229,78 @@ fn semirings_add_and_multiply_in_their_own_way(rt: HostRuntime) -> Result<(), Fa
     Ok(())
 }
 
+/// Thirty columns of 45 entries each, spread over so many rows, of which many meet.
+fn spread(alloc: Global, rows: u32) -> Result<Vec<Entry>, Fail> {
+    let step = rows / 46;
+    let mut entries = Vec::new(alloc);
+    for column in 0..30u32 {
+        for n in 0..45u32 {
+            let row = n.wrapping_mul(step).wrapping_add(column % 7);
+            entries.push(entry(row, column, 1 + u64::from(column ^ n)))?;
+        }
+    }
+    Ok(entries)
+}
+
+/// A column that names all thirty, one that names three, and one that names one.
+fn named(alloc: Global) -> Result<Vec<Entry>, Fail> {
+    let mut entries = Vec::new(alloc);
+    for row in 0..30u32 {
+        entries.push(entry(row, 0, u64::from(row) + 2))?;
+    }
+    entries.push(entry(4, 1, 3))?;
+    entries.push(entry(9, 1, 1 << 63))?;
+    entries.push(entry(11, 1, 5))?;
+    entries.push(entry(7, 2, 9))?;
+    Ok(entries)
+}
+
+/// The matrix of plus-times that has the sums of these entries.
+fn matrix(
+    alloc: Global,
+    rows: u32,
+    cols: u32,
+    entries: &[Entry],
+) -> Result<Matrix<PlusTimes>, Fail> {
+    if !are_values::<PlusTimes>(entries) {
+        return Err("a value out of range".into());
+    }
+    Ok(Matrix::from_entries(alloc, shape(rows, cols)?, entries)?)
+}
+
+/// Among 5,000 rows the columns are made by the sparse accumulator, among 2,147,483,647 the first by the heap and the
+/// others by joining. Both ways, and with an accumulator too, the answer is that of the plain product.
+#[test]
+fn each_way_gives_the_plain_product(rt: HostRuntime) -> Result<(), Fail> {
+    let alloc = rt.alloc();
+    let named = named(alloc)?;
+    let own = [
+        entry(0, 0, 7),
+        entry(1, 0, 8),
+        entry(0, 1, 5),
+        entry(3, 3, 1),
+    ];
+    for rows in [5000, LIMIT] {
+        let given = spread(alloc, rows)?;
+        let left = matrix(alloc, rows, 30, &given)?;
+        let right = matrix(alloc, 30, 4, &named)?;
+        let plain = Matrix::plain_product(alloc, &left, &right)?;
+        let a = block(alloc, rows, 30, &given)?;
+        let b = block(alloc, 30, 4, &named)?;
+        assert!(rt; a.shape().cols() == b.shape().rows());
+        let product = multiply(alloc, &a, &b)?;
+        assert_eq!(rt; product.entries()?.as_slice(), plain.entries());
+        let mut both = plain.entries().to_vec(alloc)?;
+        both.extend_from_slice(&own)?;
+        let wanted = matrix(alloc, rows, 4, &both)?;
+        let start = block(alloc, rows, 4, &own)?;
+        assert!(rt; start.shape() == shape(a.shape().rows(), b.shape().cols())?);
+        let sum = multiply_into(alloc, &a, &b, start).map_err(|refused| refused.1)?;
+        assert_eq!(rt; sum.entries()?.as_slice(), wanted.entries());
+    }
+    Ok(())
+}
+
 /// Passes whichever single allocation is refused (`rt try --test --fail-alloc N`, for each N in turn): the answer
 /// is right, or memory was wanting and the accumulator is back as it was.
 #[test]
@@ -263,7 +335,7 @@ fn a_refused_product_hands_the_accumulator_back(rt: HostRuntime) -> Result<(), F
     Ok(())
 }
 
-/// The same where the columns are merged by the heap, as 2,147,483,647 rows have two products.
+/// The same where the columns are joined, as 2,147,483,647 rows have two products.
 #[test]
 fn a_refused_tall_product_hands_the_accumulator_back(rt: HostRuntime) -> Result<(), Fail> {
     let alloc = rt.alloc();
