@@ -70,6 +70,9 @@ pub trait Ports<P> {
     // a take changes no lane that letters are posted to
     ghost taken: { (p q : Self) (from : ℕ) (r : Taken P) → takes p from r q → (k : ℕ) → (standing q k ≡ standing p k) × (has_room p k → has_room q k) };
 
+    // a take that finds no letter, and no end, changed nothing
+    ghost empty: { (p q : Self) (from : ℕ) → takes p from Taken.Empty q → keeps p q };
+
     // what was kept before a post is no part of it
     ghost kept_posts: { (p q r : Self) (to : ℕ) (x : Letter P) → keeps p q → posts q to x r → posts p to x r };
 }

@@ -6,7 +6,7 @@ ghost use Rattle.cb_plan.specs.declared.plans.PlanFaultKind.TheVariants.{Memory}
 
 use crate::acts::{Act, Op, Start};
 use crate::outlines::Outline;
-use crate::plans::{Plan, PlanFault, PlanFaultKind};
+use crate::plans::{Plan, PlanFault, PlanFaultKind, Planned};
 use std::alloc::{AllocError, Global};
 use std::marker::Model;
 
@@ -77,6 +77,25 @@ impl CheckedPlan {
         ensures checked { IsChecked self.now }
     {
         self.plan.acts()
+    }
+}
+
+impl Planned {
+    ghost use Rattle.cb_plan.specs.Runnable.{IsRunnable};
+
+    /// The plan as one that was checked, and the slot that has each rank's part of the answer. A plan that is
+    /// proved to run isn't looked at again: its parts are moved, and no memory is taken.
+    pub fn into_checked(self) -> (CheckedPlan, u16)
+        requires { IsRunnable self }
+        ensures plan { result.0 ≡ record { ranks = self.plan.ranks; starts = self.starts.items; acts = self.plan.acts } }
+        ensures slot { result.1 ≡ self.result }
+    {
+        let Planned {
+            plan,
+            starts,
+            result: slot,
+        } = self;
+        (CheckedPlan { plan, starts }, slot)
     }
 }
 

@@ -1,6 +1,6 @@
 //! The operations of a plan, done on the slots of one rank by the block kernels.
-ghost use Rattle.std.specs.Prelude.{◌≡◌, ◌≢◌, ◌<◌, ℕ, true, length, get_or, slice_set, IfOk, OnOk, OnErr, IsSome, ◌∷◌, []};
-ghost use Rattle.cb_plan.specs.Meaning.{result_of, target_of};
+ghost use Rattle.std.specs.Prelude.{◌≡◌, ◌≢◌, ◌<◌, ℕ, true, false, length, get_or, slice_set, IfOk, OnOk, OnErr, IsOk, IsSome, ◌∷◌, []};
+ghost use Rattle.cb_plan.specs.Meaning.{result_of, target_of, needs_memory};
 ghost use Rattle.cb_plan.specs.Algebras.{matrices};
 ghost use Rattle.cb_plan.specs.Checks.{operands_of, all_below, all_filled, shapes_agree};
 ghost use Rattle.cb_plan.specs.Stores.{sheets_in, shapes_in, slot_of};
@@ -17,13 +17,14 @@ use std::alloc::{AllocError, Global};
 
 impl<S: Semiring> RankStore<S> {
     /// Does an operation whose operands are there, with the shapes that it asks for. On refusal the slots are as
-    /// they were.
+    /// they were; an operation that needs no memory isn't refused.
     pub fn work(&mut self, alloc: Global, op: &Op) -> Result<(), AllocError>
         requires slots { all_below 256 (target_of op.now ∷ operands_of op.now) ≡ true }
         requires filled { all_filled (shapes_in self.old) (operands_of op.now) ≡ true }
         requires agree { shapes_agree (shapes_in self.old) op.now ≡ true }
         ensures ok { OnOk result (self.new ≡ slice_set self.old (target_of op.now) (slot_of (result_of (matrices S.arithmetic) op.now (sheets_in self.old)))) }
         ensures err { OnErr result (self.new ≡ self.old) }
+        ensures granted { needs_memory op.now ≡ false → IsOk result }
     {
         if let Op::MulAdd { a, b, acc } = op
             && *acc != *a
@@ -41,7 +42,8 @@ impl<S: Semiring> RankStore<S> {
         requires slots { all_below 256 (operands_of op) ≡ true }
         requires filled { all_filled (shapes_in self.now) (operands_of op) ≡ true }
         requires agree { shapes_agree (shapes_in self.now) op ≡ true }
-        ensures { IfOk result (λ slot. slot ≡ slot_of (result_of (matrices S.arithmetic) op (sheets_in self.now))) }
+        ensures made { IfOk result (λ slot. slot ≡ slot_of (result_of (matrices S.arithmetic) op (sheets_in self.now))) }
+        ensures granted { needs_memory op ≡ false → IsOk result }
     {
         match op {
             Op::Zero { shape, .. } => Ok(Slot::Sheet(Block::empty(alloc, shape))),
