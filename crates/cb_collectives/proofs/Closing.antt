@@ -1,5 +1,5 @@
 -- Acts that shut all lanes pass the check where the lanes are open, and leave them shut.
-use Rattle.std.proofs.Common.{◌≡◌, ℕ, zero, suc, ◌+◌, ◌<◌, ◌≤◌, Bool, true, false, refl, ap, ◌∙◌, arith}
+use Rattle.std.proofs.Common.{◌≡◌, ◌≢◌, ℕ, zero, suc, ◌+◌, ◌<◌, ◌≤◌, Bool, true, false, refl, ap, ◌∙◌, arith}
 use Rattle.std.specs.Prelude.{◌==◌, ◌&&◌, ◌||◌, not, if◌then◌else◌, nat_lt, nat_le}
 use Rattle.std.specs.List.{range_with_len, flat_map}
 use Rattle.std.proofs.lemmas.Bool.Decides.{nat_tests}
@@ -7,20 +7,10 @@ use Rattle.cb_matrix.specs.Sparse.{Extent}
 use Rattle.cb_plan.specs.declared.acts.Act.TheVariants as act_is
 use Rattle.cb_plan.specs.Meaning.{State, meaning}
 use Rattle.cb_plan.specs.Algebras.{shapes}
-use Rattle.cb_plan.specs.Checks.{Lanes, IsSound, Passes, lanes_after, shut_after, all_hold, are_all_shut}
+use Rattle.cb_plan.specs.Checks.{Lanes, Passes, lanes_after, shut_after, all_hold, are_all_shut}
 use Rattle.cb_plan.proofs.Effects.{split}
 use Rattle.cb_collectives.specs.Collectives.{shut_lane, shut_from, shut_acts}
-use Rattle.cb_collectives.proofs.Passing.{passes-append, lanes_after-append}
-
-shut_is_sound : (ranks : ℕ) (state : State Extent) (shut : Lanes) (from to : ℕ) → from < ranks → to < ranks → (from == to) ≡ false → shut from to ≡ false → IsSound ranks state shut (act_is.Shut from to)
-shut_is_sound ranks state shut from to a b c d = record {
-  ranks_exist = let x : nat_lt from ranks ≡ true = grind (arith, nat_tests) in let y : nat_lt to ranks ≡ true = grind (arith, nat_tests) in rw (x, y) refl;
-  apart = rw c refl;
-  slots_exist = refl;
-  filled = refl;
-  agree = refl;
-  open_lane = rw d refl;
-}
+use Rattle.cb_plan.proofs.Passing.{passes-append, lanes_after-append, shut_is_sound}
 
 module _ (ranks from : ℕ) (exists : from < ranks) where
   lanes_pass : (a n : ℕ) (state : State Extent) (shut : Lanes) → a + n ≤ ranks → ((t : ℕ) → a ≤ t → shut from t ≡ false) → Passes ranks state shut (flat_map (shut_lane from) (range_with_len a n))
@@ -33,7 +23,8 @@ module _ (ranks from : ℕ) (exists : from < ranks) where
       let own : (from == from) ≡ true = grind (arith, nat_tests) in
       let apart : (a == t) ≡ false = grind (arith, nat_tests) in
       rw (own, apart) (is_open t (omega arith)) in
-      rw e (shut_is_sound ranks state shut from a exists (omega arith) e (is_open a (omega arith)), lanes_pass (a + 1) n state (shut_after (act_is.Shut from a) shut) (omega arith) still))
+      let ne : from ≢ a = grind (arith, nat_tests) in
+      rw e (shut_is_sound ranks state shut from a exists (omega arith) ne (is_open a (omega arith)), lanes_pass (a + 1) n state (shut_after (act_is.Shut from a) shut) (omega arith) still))
 
 -- whether a lane is shut by the acts for the addressees from a number on
 abbrev is_shut_by : ℕ → ℕ → ℕ → ℕ → ℕ → Bool

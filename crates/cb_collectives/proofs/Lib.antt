@@ -1,8 +1,21 @@
--- Appending: how a plan grows in a loop. Places: members of a list, their places, and the list turned.
--- Counts: how many acts there are. Spread: what broadcasts do. Shutting: what shut lanes do.
--- Filling: what gather and all_to_all do. Summing: what reduce does. Totals: the sum
--- that it makes, at each place.
--- Passing: acts that pass the check. Sending: those of gather and all_to_all. Closing: that all lanes are shut at the end.
+-- Lemmas on collectives, by topic. Crates above cite those that are `pub`.
+--
+-- Places: members of a list, their places (`place-below`, `member-place_of`, `at_place`), lists without a member
+--   twice (`distinct_from_apart`, `same_member`), and the list turned so that the root is first (`turned_at-length`).
+-- Counts: how many acts each collective appends: `count_broadcast`, `count_gather`, `count_all_to_all`,
+--   `count_reduce`, `count_shut`.
+-- Spread: what a broadcast does to the slots, over blocks of any kind: `broadcast_spreads`.
+-- Filling: what a sent slot does (`act_sent`), and what gather and all_to_all do (`gather_gathers`,
+--   `all_to_all_exchanges`).
+-- Summing, Totals: what reduce does (`reduce_sums`), and that its sum is the sum at each place (`members_add_up`).
+-- Shutting: lanes that are shut change no slot: `shut_nothing`.
+-- Passing: a broadcast passes the check (`broadcast_passes`) and shuts no lane (`broadcast_keeps_lanes`); a copy does
+--   (`copy_is_sound`).
+-- Sending: slots that are sent one after the other pass the check (`sends_pass`) and shut no lane
+--   (`sends_keep_lanes`); so do gather and all_to_all (`gather_passes`, `all_to_all_passes`).
+-- Closing: the shutting of all lanes passes the check where they are open (`shut_acts_pass`), and shuts each
+--   (`all_shut_after`).
+-- Appending: how a plan grows in the loops of this crate.
 pub mod Appending
 pub mod Places
 pub mod Counts

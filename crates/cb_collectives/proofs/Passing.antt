@@ -1,39 +1,20 @@
 -- Acts that pass the check, and the lanes after them.
-use Rattle.std.proofs.Common.{◌≡◌, ◌≢◌, ℕ, zero, suc, ◌+◌, ◌-◌, ◌/◌, ◌<◌, ◌≤◌, true, false, List, [], ◌∷◌, ◌++◌, map, length, get_or, refl, sym, ap, ◌∙◌, arith}
+use Rattle.std.proofs.Common.{◌≡◌, ◌≢◌, ℕ, zero, suc, ◌+◌, ◌-◌, ◌/◌, ◌<◌, ◌≤◌, true, false, List, map, length, get_or, refl, sym, ap, ◌∙◌, arith}
 use Rattle.std.specs.Prelude.{Some, ◌==◌, ◌&&◌, if◌then◌else◌, nat_lt}
 use Rattle.std.specs.List.{range_with_len}
 use Rattle.std.proofs.lemmas.Bool.Decides.{nat_tests}
 use Rattle.cb_letters.specs.declared.Tag.{Tag}
 use Rattle.cb_matrix.specs.Sparse.{Extent}
 use Rattle.cb_plan.specs.declared.acts.Op.TheVariants as op_is
-use Rattle.cb_plan.specs.declared.acts.Act.{Act}
 use Rattle.cb_plan.specs.declared.acts.Act.TheVariants as act_is
-use Rattle.cb_plan.specs.Meaning.{State, act, meaning}
+use Rattle.cb_plan.specs.Meaning.{State, act}
 use Rattle.cb_plan.specs.Algebras.{shapes}
-use Rattle.cb_plan.specs.Checks.{Lanes, IsSound, Passes, lanes_after, shut_after}
+use Rattle.cb_plan.specs.Checks.{Lanes, IsSound, Passes, lanes_after}
 use Rattle.cb_plan.proofs.Effects.{split}
+use Rattle.cb_plan.proofs.Passing.{move_is_sound}
 use Rattle.cb_collectives.specs.Collectives.{is_member, AreDistinct, member, place_of, turned, tree_move, tree_moves, broadcast_acts}
 use Rattle.cb_collectives.proofs.Places.{place-below, member-place_of, turned-begins, turned_at-length, turned-below, turned-differ}
 use Rattle.cb_collectives.proofs.Spread.{moved}
-
-pub passes-append : (ranks : ℕ) (state : State Extent) (shut : Lanes) (xs ys : List Act) → Passes ranks state shut xs → Passes ranks (meaning shapes xs state) (lanes_after xs shut) ys → Passes ranks state shut (xs ++ ys)
-passes-append ranks state shut [] ys h k = k
-passes-append ranks state shut (x ∷ xs) ys h k = (h.0, passes-append ranks (act shapes x state) (shut_after x shut) xs ys h.1 k)
-
-pub lanes_after-append : (xs ys : List Act) (shut : Lanes) → lanes_after (xs ++ ys) shut ≡ lanes_after ys (lanes_after xs shut)
-lanes_after-append [] ys shut = refl
-lanes_after-append (x ∷ xs) ys shut = lanes_after-append xs ys (shut_after x shut)
-
--- a move between two ranks, of a slot that is filled, on a lane that is open
-pub move_is_sound : (ranks : ℕ) (state : State Extent) (shut : Lanes) (from to : ℕ) (tag : Tag) (slot into : ℕ) (v : Extent) → from < ranks → to < ranks → from ≢ to → slot < 256 → into < 256 → state from slot ≡ Some v → shut from to ≡ false → IsSound ranks state shut (act_is.Move from to tag slot into)
-move_is_sound ranks state shut from to tag slot into v a b c d e f g = record {
-  ranks_exist = let x : nat_lt from ranks ≡ true = grind (arith, nat_tests) in let y : nat_lt to ranks ≡ true = grind (arith, nat_tests) in rw (x, y) refl;
-  apart = let x : (from == to) ≡ false = grind (arith, nat_tests) in rw x refl;
-  slots_exist = let x : nat_lt slot 256 ≡ true = grind (arith, nat_tests) in let y : nat_lt into 256 ≡ true = grind (arith, nat_tests) in rw (x, y) refl;
-  filled = rw f refl;
-  agree = refl;
-  open_lane = rw g refl;
-}
 
 -- a copy of a slot that is filled
 pub copy_is_sound : (ranks : ℕ) (state : State Extent) (shut : Lanes) (rank slot into : ℕ) (v : Extent) → rank < ranks → slot < 256 → into < 256 → state rank slot ≡ Some v → IsSound ranks state shut (act_is.Work rank (op_is.Copy slot into))

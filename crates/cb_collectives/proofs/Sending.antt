@@ -12,7 +12,7 @@ use Rattle.cb_plan.specs.Checks.{Lanes, IsSound, Passes, lanes_after, shut_after
 use Rattle.cb_plan.proofs.Effects.{split}
 use Rattle.cb_collectives.specs.Collectives.{member, sent, gather_acts, sent_from, all_to_all_acts}
 use Rattle.cb_collectives.proofs.Filling.{act_sent}
-use Rattle.cb_collectives.proofs.Passing.{passes-append}
+use Rattle.cb_plan.proofs.Passing.{passes-append}
 
 sent_keeps_lanes : (from to : ℕ) (tag : Tag) (slot into : ℕ) (shut : Lanes) → shut_after (sent from to tag slot into) shut ≡ shut
 sent_keeps_lanes from to tag slot into shut = split (from == to) (λ t. rw t refl) (λ t. rw t refl)
@@ -38,10 +38,11 @@ sent_is_sound ranks state shut from to tag slot into a b c d e f =
 -- slots sent one after the other, each of them filled before the first
 module _ (ranks : ℕ) (tag : Tag) (shut : Lanes) (open_lanes : (s t : ℕ) → shut s t ≡ false) (from to slot into : ℕ → ℕ) (limit : ℕ)
     (exist : (k : ℕ) → k < limit → (from k < ranks) × (to k < ranks) × (slot k < 256) × (into k < 256)) where
-  abbrev sends : ℕ → ℕ → List Act
+  abbrev pub sends : ℕ → ℕ → List Act
   sends a n = map (λ k. sent (from k) (to k) tag (slot k) (into k)) (range_with_len a n)
 
-  sends_keep_lanes : (a n : ℕ) → lanes_after (sends a n) shut ≡ shut
+  -- no lane is shut
+  pub sends_keep_lanes : (a n : ℕ) → lanes_after (sends a n) shut ≡ shut
   sends_keep_lanes a zero = refl
   sends_keep_lanes a (suc n) = ap (lanes_after (sends (a + 1) n)) (sent_keeps_lanes (from a) (to a) tag (slot a) (into a) shut) ∙ sends_keep_lanes (a + 1) n
 
@@ -51,7 +52,8 @@ module _ (ranks : ℕ) (tag : Tag) (shut : Lanes) (open_lanes : (s t : ℕ) → 
       let keeps = sent_keeps_filled state (from a) (to a) tag (slot a) (into a) (filled a (omega arith)) in
       sends_keep_filled (a + 1) n (act shapes (sent (from a) (to a) tag (slot a) (into a)) state) (omega arith) (λ k m. keeps (from k) (slot k) (filled k m)) r x (keeps r x h)
 
-  sends_pass : (a n : ℕ) (state : State Extent) → a + n ≤ limit → ((k : ℕ) → k < limit → is_some (state (from k) (slot k)) ≡ true) → Passes ranks state shut (sends a n)
+  -- they pass the check
+  pub sends_pass : (a n : ℕ) (state : State Extent) → a + n ≤ limit → ((k : ℕ) → k < limit → is_some (state (from k) (slot k)) ≡ true) → Passes ranks state shut (sends a n)
   sends_pass a zero state l filled = tt
   sends_pass a (suc n) state l filled =
       let x : Act = sent (from a) (to a) tag (slot a) (into a) in

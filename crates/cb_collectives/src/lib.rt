@@ -18,6 +18,7 @@ pub use closings::shut_all;
 pub use exchanges::all_to_all;
 pub use gathers::gather;
 pub use reductions::reduce;
+pub use steps::send;
 
 #[cfg(test)]
 mod tests;

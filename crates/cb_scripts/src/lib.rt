@@ -4,11 +4,11 @@
 //! blocks of the answer. The answer is the same on every grid.
 #![tactic(auto)]
 
-ghost use Rattle.std.specs.Prelude.{◌≡◌, ◌⊎◌, [], IfOk, IfErr};
+ghost use Rattle.std.specs.Prelude.{◌≡◌, ◌⊎◌, [], ◌∷◌, IfOk, IfErr};
 ghost use Rattle.cb_matrix.specs.Values.{product, product_shape};
 ghost use Rattle.cb_matrix.specs.Operations.{masked};
 ghost use Rattle.cb_scripts.specs.declared.ScriptFault.TheVariants.{Memory};
-ghost use Rattle.cb_scripts.specs.Filling.{HasOperands};
+ghost use Rattle.cb_scripts.specs.Slots.{HasOperands};
 ghost use Rattle.cb_scripts.specs.Refusals.{IsProductRefusal, IsMaskedRefusal};
 
 mod runs;
@@ -20,19 +20,11 @@ use cb_layout::Grid;
 use cb_matrix::Matrix;
 use cb_plan::RankStore;
 use cb_semirings::Semiring;
-use cb_summa::{summa, summa_masked};
+use cb_summa::{LEFT, MASK, RIGHT, summa, summa_masked};
 use runs::run;
 use std::alloc::{AllocError, Global};
 use stores::{blank, distribute};
 use thiserror::Error;
-
-/// The slot of each rank in which the plans look for its block of the first matrix, of the second, and of the
-/// mask.
-const LEFT: u16 = 0;
-
-const RIGHT: u16 = 1;
-
-const MASK: u16 = 7;
 
 /// What runs a plan.
 #[derive(Clone, Copy, Debug, PartialEq, Eq)]
@@ -150,7 +142,7 @@ fn operands<S: Semiring>(
     left: &Matrix<S>,
     right: &Matrix<S>,
 ) -> Result<Vec<RankStore<S>>, AllocError>
-    ensures { IfOk result (λ v. HasOperands S.arithmetic grid.now.side left.now right.now v.items) }
+    ensures { IfOk result (λ v. HasOperands S.arithmetic grid.now.side ((0, left.now) ∷ (1, right.now) ∷ []) v.items) }
 {
     let mut stores = blank(alloc, grid.ranks())?;
     distribute(alloc, grid, &mut stores, LEFT, left)?;

@@ -1,10 +1,9 @@
 //! A plan over the ranks' stores, and the matrix whose blocks it leaves.
-ghost use Rattle.std.specs.Prelude.{◌≡◌, ◌<◌, ◌*◌, None, All, AllPairs, IfOk};
+ghost use Rattle.std.specs.Prelude.{◌≡◌, ◌<◌, ◌*◌, IfOk};
 ghost use Rattle.cb_plan.specs.Algebras.{matrices};
-ghost use Rattle.cb_plan.specs.Checks.{plan_fault};
 ghost use Rattle.cb_plan.specs.Meaning.{meaning};
-ghost use Rattle.cb_plan.specs.Plans.{IsElsewhere};
-ghost use Rattle.cb_plan.specs.Stores.{state_of, Fits};
+ghost use Rattle.cb_plan.specs.Runnable.{IsRunnable};
+ghost use Rattle.cb_plan.specs.Stores.{state_of, NoneLost, Fits};
 ghost use Rattle.cb_plan.specs.Tables.{IsTable};
 ghost use Rattle.cb_scripts.specs.Answers.{HasShapes, gathered};
 
@@ -12,12 +11,12 @@ use crate::Engine;
 use crate::stores::drain;
 use cb_layout::Grid;
 use cb_matrix::{Matrix, Shape};
-use cb_plan::{CheckedPlan, Plan, PlanFaultKind, Planned, RankStore, Start, run_plain};
+use cb_plan::{CheckedPlan, Planned, RankStore, run_plain};
 use cb_semirings::Semiring;
 use std::alloc::{AllocError, Global};
 
-/// Runs a plan that has no fault, on stores that fit it, and gathers the matrix of this shape whose blocks it
-/// leaves in its slot for the answer.
+/// Runs a plan once, on stores that fit it, and gathers the matrix of this shape whose blocks it leaves in its
+/// slot for the answer.
 pub fn run<S: Semiring>(
     alloc: Global,
     engine: Engine,
@@ -27,39 +26,39 @@ pub fn run<S: Semiring>(
     shape: Shape,
 ) -> Result<Matrix<S>, AllocError>
     requires ranks { planned.plan.ranks ≡ grid.now.side * grid.now.side }
-    requires exist { All (λ s. (s.rank < planned.plan.ranks) × (s.slot < 256)) planned.starts.items }
-    requires once { AllPairs IsElsewhere planned.starts.items }
-    requires passes { plan_fault planned.plan.ranks planned.starts.items planned.plan.acts ≡ None }
+    requires runnable { IsRunnable planned }
     requires fits { Fits planned.plan.ranks planned.starts.items stores.items }
-    requires slot { planned.result < 256 }
     requires shapes { HasShapes grid.now.side shape planned.result (meaning (matrices S.arithmetic) planned.plan.acts (state_of stores.items)) }
     ensures { IfOk result (λ m. m ≡ gathered S.arithmetic grid.now.side shape planned.result (meaning (matrices S.arithmetic) planned.plan.acts (state_of stores.items))) }
 {
-    let slot = planned.result;
-    let plan = check(alloc, planned.plan, &planned.starts)?;
-    let stores = engine.run(alloc, &plan, stores)?;
+    let (plan, slot) = planned.into_checked();
+    round(alloc, engine, grid, &plan, stores, slot, shape)
+}
+
+/// Runs a checked plan on stores that fit it, and gathers the matrix of this shape whose blocks it leaves in a
+/// slot. A plan that is run again and again is made and checked once.
+pub fn round<S: Semiring>(
+    alloc: Global,
+    engine: Engine,
+    grid: &Grid,
+    plan: &CheckedPlan,
+    stores: Vec<RankStore<S>>,
+    slot: u16,
+    shape: Shape,
+) -> Result<Matrix<S>, AllocError>
+    requires ranks { plan.now.ranks ≡ grid.now.side * grid.now.side }
+    requires fits { Fits plan.now.ranks plan.now.starts stores.items }
+    requires slot { slot < 256 }
+    requires shapes { HasShapes grid.now.side shape slot (meaning (matrices S.arithmetic) plan.now.acts (state_of stores.items)) }
+    ensures { IfOk result (λ m. m ≡ gathered S.arithmetic grid.now.side shape slot (meaning (matrices S.arithmetic) plan.now.acts (state_of stores.items))) }
+{
+    let stores = engine.run(alloc, plan, stores)?;
     let blocks = drain(alloc, stores, slot)?;
     grid.gather(alloc, &blocks, shape)
 }
 
-/// Checks a plan that has no fault: only memory can be refused.
-fn check(alloc: Global, plan: Plan, starts: &[Start]) -> Result<CheckedPlan, AllocError>
-    requires exist { All (λ s. (s.rank < plan.ranks) × (s.slot < 256)) starts.now }
-    requires once { AllPairs IsElsewhere starts.now }
-    requires passes { plan_fault plan.ranks starts.now plan.acts ≡ None }
-    ensures { IfOk result (λ checked. checked ≡ record { ranks = plan.ranks; starts = starts.now; acts = plan.acts }) }
-{
-    match CheckedPlan::check(alloc, plan, starts) {
-        Ok(checked) => Ok(checked),
-        Err((_, fault)) => match fault.kind {
-            PlanFaultKind::Memory => Err(AllocError),
-            _ => unreachable!(),
-        },
-    }
-}
-
 impl Engine {
-    /// Runs a checked plan on stores that fit it.
+    /// Runs a checked plan on stores that fit it. At Ok no slot is lost.
     fn run<S: Semiring>(
         self,
         alloc: Global,
@@ -68,6 +67,7 @@ impl Engine {
     ) -> Result<Vec<RankStore<S>>, AllocError>
         requires { Fits plan.now.ranks plan.now.starts stores.items }
         ensures meaning { IfOk result (λ after. state_of after.items ≡ meaning (matrices S.arithmetic) plan.now.acts (state_of stores.items)) }
+        ensures none_lost { IfOk result (λ after. NoneLost after.items) }
         ensures table { IfOk result (λ after. IsTable plan.now.ranks 256 after.items) }
     {
         match self {

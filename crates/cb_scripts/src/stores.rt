@@ -4,7 +4,7 @@ ghost use Rattle.cb_layout.specs.Blocks.{block_at};
 ghost use Rattle.cb_plan.specs.declared.stores.Slot.TheVariants.{Empty};
 ghost use Rattle.cb_plan.specs.Stores.{state_of};
 ghost use Rattle.cb_plan.specs.Tables.{IsTable};
-ghost use Rattle.cb_scripts.specs.Filling.{Filled, block_of_rank};
+ghost use Rattle.cb_scripts.specs.Slots.{Filled, block_of_rank};
 
 use cb_dcsc::Block;
 use cb_layout::Grid;

@@ -1,11 +1,8 @@
 -- The product of two matrices, part by part.
-use Rattle.std.proofs.Common.{◌≡◌, ℕ, zero, suc, ◌+◌, ◌*◌, ◌/◌, ◌%◌, ◌<◌, ◌≤◌, true, [], ◌∷◌, map, min, refl, sym, ap, ◌∙◌, arith}
+use Rattle.std.proofs.Common.{◌≡◌, ℕ, zero, suc, ◌+◌, ◌<◌, true, [], map, refl, sym, ap, ◌∙◌, arith}
 use Rattle.std.specs.Prelude.{◌==◌}
 use Rattle.std.specs.List.{range_with_len}
-use Rattle.std.specs.Int.{div_ceil}
 use Rattle.std.proofs.lemmas.Bool.{eq-eqb}
-use Rattle.std.proofs.lemmas.Nat.{mod_below}
-use Rattle.std.proofs.Math.Nat.{add-mul, one-mul, div-add-mod, mul-add}
 use Rattle.cb_semirings.specs.Arithmetic.{Arithmetic, IsValue, IsSemiring}
 use Rattle.cb_matrix.specs.Sparse.{Sparse, Extent, IsMatrix, at}
 use Rattle.cb_matrix.specs.Values.{total, column_of, columns_of, matrix_of, empty_matrix, product}
@@ -15,29 +12,8 @@ use Rattle.cb_matrix.proofs.Split.{total_parts}
 use Rattle.cb_layout.specs.Parts.{part_start, part_length, part_shape}
 use Rattle.cb_layout.specs.Blocks.{block_of}
 use Rattle.cb_plan.specs.Algebras.{matrices}
+use Rattle.cb_distribution.proofs.PartStarts.{start_zero, start_rises, start_within, start_last, map_below}
 use Rattle.cb_summa.specs.Summa.{result_shape, stages_sum}
-
--- ---- where parts begin
-pub start_zero : (q d : ℕ) → part_start q d 0 ≡ 0
-start_zero q d = omega arith
-
-pub start_rises : (q d i : ℕ) → part_start q d i ≤ part_start q d (i + 1)
-start_rises q d i = let e : (i + 1) * div_ceil d q ≡ i * div_ceil d q + div_ceil d q = add-mul i 1 (div_ceil d q) ∙ ap (λ x. i * div_ceil d q + x) (one-mul (div_ceil d q)) in omega arith
-
-pub start_within : (q d i : ℕ) → part_start q d i ≤ d
-start_within q d i = omega arith
-
-rest : (x q : ℕ) → x < q → x ≤ q * min 1 x
-rest zero q l = omega arith
-rest (suc x) q l = let e : min 1 (suc x) ≡ 1 = omega arith in rw e (omega arith)
-
-pub start_last : (q d : ℕ) → 0 < q → part_start q d q ≡ d
-start_last q d pos =
-    let whole : q * (d / q) + d % q ≡ d = div-add-mod d q in
-    let below : d % q < q = mod_below d q pos in
-    let e : q * (d / q + min 1 (d % q)) ≡ q * (d / q) + q * min 1 (d % q) = mul-add q (d / q) (min 1 (d % q)) in
-    let f : d % q ≤ q * min 1 (d % q) = rest (d % q) q below in
-    omega arith
 
 -- ---- matrices without values
 column_blank : (z : ℕ) (j m : ℕ) → column_of z (λ _ _. z) j m ≡ []
@@ -53,11 +29,6 @@ columns_blank z m (suc n) = rw (columns_blank z m n, column_blank z n m) refl
 total-nil : (s : Arithmetic) → total s [] ≡ s.zero
 unfolding total
 total-nil s = refl
-
--- values that agree below a number have one sum
-pub map_below : (f g : ℕ → ℕ) (a n : ℕ) → ((k : ℕ) → a ≤ k → k < a + n → f k ≡ g k) → map f (range_with_len a n) ≡ map g (range_with_len a n)
-map_below f g a zero h = refl
-map_below f g a (suc n) h = ap (λ x. x ∷ map f (range_with_len (a + 1) n)) (h a (omega arith) (omega arith)) ∙ ap (λ xs. g a ∷ xs) (map_below f g (a + 1) n (λ k l m. h k (omega arith) (omega arith)))
 
 module _ (s : Arithmetic) (laws : IsSemiring s) (q : ℕ) (pos : 0 < q) (a b : Sparse) (is_a : IsMatrix s a) (is_b : IsMatrix s b) (agree : a.shape.cols ≡ b.shape.rows) (i j : ℕ) where
   -- one product of the sum at a place of part (i, j)

@@ -1,19 +1,19 @@
 -- What the stages of the product do, over blocks of any kind.
-use Rattle.std.proofs.Common.{◌≡◌, ◌≢◌, ℕ, zero, suc, ◌+◌, ◌*◌, ◌%◌, ◌<◌, ◌≤◌, true, false, List, ◌++◌, refl, ap, subst, ◌∙◌, arith}
+use Rattle.std.proofs.Common.{◌≡◌, ◌≢◌, ℕ, zero, suc, ◌+◌, ◌*◌, ◌<◌, ◌≤◌, true, List, ◌++◌, refl, ap, subst, ◌∙◌, arith}
 use Rattle.std.specs.Prelude.{Some, ◌==◌, ◌&&◌, nat_lt, nat_le, flat_map}
 use Rattle.std.specs.List.{range_with_len}
 use Rattle.std.proofs.lemmas.Bool.Decides.{nat_tests}
-use Rattle.std.proofs.lemmas.Nat.{div-mul-add, mod-mul-add}
 use Rattle.cb_matrix.specs.Sparse.{Extent}
-use Rattle.cb_plan.specs.declared.acts.Op.{Op}
 use Rattle.cb_plan.specs.declared.acts.Act.{Act}
-use Rattle.cb_plan.specs.Meaning.{Algebra, State, meaning, target_of, result_of, three}
+use Rattle.cb_plan.specs.Meaning.{Algebra, State, meaning, three}
 use Rattle.cb_layout.specs.Parts.{row_group, column_group, part_shape}
 use Rattle.cb_collectives.specs.Collectives.{is_member, broadcast_acts}
-use Rattle.cb_summa.specs.Summa.{tagged, left_slot, right_slot, product_op, zero_op, broadcasts, each_rank, stage, result_shape, product_acts, stages_sum}
-use Rattle.cb_plan.proofs.Effects.{split, meaning-append, each_works}
-use Rattle.cb_summa.proofs.Grid.{in_row, in_column, inside}
-use Rattle.cb_summa.proofs.Groups.{groups_stay, groups_spread}
+use Rattle.cb_summa.specs.Summa.{left_slot, right_slot, product_op, broadcasts, stage, result_shape, product_acts, stages_sum}
+use Rattle.cb_plan.proofs.Effects.{split, meaning-append}
+use Rattle.cb_distribution.specs.Distribution.{tagged, zero_op, each_rank}
+use Rattle.cb_distribution.proofs.Grid.{in_row, in_column, at_place}
+use Rattle.cb_distribution.proofs.Everywhere.{each_here, each_elsewhere}
+use Rattle.cb_distribution.proofs.Groups.{groups_stay, groups_spread}
 
 -- the operands are in slots 0 and 1, and slot 2 has what the stages before k add up to
 pub record AtStage {M : Type 0} (ops : Algebra M) (q : ℕ) (left right first : ℕ → ℕ → M) (k : ℕ) (state : State M) : Type 0 where
@@ -76,26 +76,14 @@ module _ {M : Type 0} (ops : Algebra M) (q : ℕ) where
     total = λ i j p h. broadcasts_stay k state l (i * q + j) 2 (omega arith) (omega arith) ∙ at.total i j p h;
   }
 
-  -- an operation of each rank, seen at one
-  pub each_here : (op : ℕ → Op) (state : State M) (i j : ℕ) → i < q → j < q → meaning ops (each_rank q op) state (i * q + j) (target_of (op (i * q + j))) ≡ result_of ops (op (i * q + j)) (state (i * q + j))
-  each_here op state i j p h =
-      let l = inside q i j p h in
-      let t : (nat_le 0 (i * q + j) && nat_lt (i * q + j) (0 + q * q)) ≡ true = grind (arith, nat_tests) in
-      each_works ops op 0 (q * q) state (i * q + j) (target_of (op (i * q + j))) ∙ rw (t, yes (target_of (op (i * q + j)))) refl
-
-  pub each_elsewhere : (op : ℕ → Op) (state : State M) (r n : ℕ) → target_of (op r) ≢ n → meaning ops (each_rank q op) state r n ≡ state r n
-  each_elsewhere op state r n ne =
-      let f : (target_of (op r) == n) ≡ false = grind (arith, nat_tests) in
-      each_works ops op 0 (q * q) state r n ∙ rw f (split (nat_le 0 r && nat_lt r (0 + q * q)) (λ t. rw t refl) (λ t. rw t refl))
-
   -- each rank adds the product of its two blocks
   products_add : (left right first : ℕ → ℕ → M) (k : ℕ) (state : State M) → AtStage ops q left right first k state → HasBlocks q left right k state → AtStage ops q left right first (k + 1) (meaning ops (each_rank q (product_op k)) state)
   products_add left right first k state at has = record {
-    a = λ i j p h. each_elsewhere (product_op k) state (i * q + j) 0 (omega arith) ∙ at.a i j p h;
-    b = λ i j p h. each_elsewhere (product_op k) state (i * q + j) 1 (omega arith) ∙ at.b i j p h;
+    a = λ i j p h. each_elsewhere ops q (product_op k) state (i * q + j) 0 (omega arith) ∙ at.a i j p h;
+    b = λ i j p h. each_elsewhere ops q (product_op k) state (i * q + j) 1 (omega arith) ∙ at.b i j p h;
     total = λ i j p h.
         let e : k + 1 ≡ suc k = omega arith in
-        each_here (product_op k) state i j p h
+        each_here ops q (product_op k) state i j p h
         ∙ ap (λ x. three ops.mul_add x (state (i * q + j) (right_slot k)) (state (i * q + j) 2)) (has.a i j p h)
         ∙ ap (λ x. three ops.mul_add (Some (left i k)) x (state (i * q + j) 2)) (has.b i j p h)
         ∙ ap (λ x. three ops.mul_add (Some (left i k)) (Some (right k j)) x) (at.total i j p h)
@@ -104,8 +92,8 @@ module _ {M : Type 0} (ops : Algebra M) (q : ℕ) where
 
   products_stay : (k n : ℕ) (left right : ℕ → ℕ → M) (state : State M) → HasBlocks q left right n state → HasBlocks q left right n (meaning ops (each_rank q (product_op k)) state)
   products_stay k n left right state has = record {
-    a = λ i j p h. each_elsewhere (product_op k) state (i * q + j) (left_slot n) (omega arith) ∙ has.a i j p h;
-    b = λ i j p h. each_elsewhere (product_op k) state (i * q + j) (right_slot n) (omega arith) ∙ has.b i j p h;
+    a = λ i j p h. each_elsewhere ops q (product_op k) state (i * q + j) (left_slot n) (omega arith) ∙ has.a i j p h;
+    b = λ i j p h. each_elsewhere ops q (product_op k) state (i * q + j) (right_slot n) (omega arith) ∙ has.b i j p h;
   }
 
   -- the blocks of stage k stay while those of the next come
@@ -140,11 +128,11 @@ module _ {M : Type 0} (ops : Algebra M) (q : ℕ) where
   -- the slots after the zeros
   pub at_start : (a b : Extent) (left right : ℕ → ℕ → M) (state : State M) →
       ((i j : ℕ) → i < q → j < q → state (i * q + j) 0 ≡ Some (left i j)) → ((i j : ℕ) → i < q → j < q → state (i * q + j) 1 ≡ Some (right i j)) →
-      AtStage ops q left right (λ i j. ops.empty (part_shape q (result_shape a b) i j)) 0 (meaning ops (each_rank q (zero_op q (result_shape a b))) state)
+      AtStage ops q left right (λ i j. ops.empty (part_shape q (result_shape a b) i j)) 0 (meaning ops (each_rank q (zero_op q 2 (result_shape a b))) state)
   at_start a b left right state has_a has_b = record {
-    a = λ i j p h. each_elsewhere (zero_op q (result_shape a b)) state (i * q + j) 0 (omega arith) ∙ has_a i j p h;
-    b = λ i j p h. each_elsewhere (zero_op q (result_shape a b)) state (i * q + j) 1 (omega arith) ∙ has_b i j p h;
-    total = λ i j p h. each_here (zero_op q (result_shape a b)) state i j p h ∙ ap (λ x. Some (ops.empty (part_shape q (result_shape a b) x ((i * q + j) % q)))) (div-mul-add i q j h) ∙ ap (λ x. Some (ops.empty (part_shape q (result_shape a b) i x))) (mod-mul-add i q j h);
+    a = λ i j p h. each_elsewhere ops q (zero_op q 2 (result_shape a b)) state (i * q + j) 0 (omega arith) ∙ has_a i j p h;
+    b = λ i j p h. each_elsewhere ops q (zero_op q 2 (result_shape a b)) state (i * q + j) 1 (omega arith) ∙ has_b i j p h;
+    total = λ i j p h. each_here ops q (zero_op q 2 (result_shape a b)) state i j p h ∙ at_place (λ x y. Some (ops.empty (part_shape q (result_shape a b) x y))) q i j h;
   }
 
   -- the slots after the acts that make the product: the operands, and what all stages add up to
@@ -152,7 +140,7 @@ module _ {M : Type 0} (ops : Algebra M) (q : ℕ) where
       ((i j : ℕ) → i < q → j < q → state (i * q + j) 0 ≡ Some (left i j)) → ((i j : ℕ) → i < q → j < q → state (i * q + j) 1 ≡ Some (right i j)) →
       AtStage ops q left right (λ i j. ops.empty (part_shape q (result_shape a b) i j)) q (meaning ops (product_acts q a b) state)
   after_products a b left right state pos has_a has_b =
-      let zeros = zero_op q (result_shape a b) in
+      let zeros = zero_op q 2 (result_shape a b) in
       let first : ℕ → ℕ → M = λ i j. ops.empty (part_shape q (result_shape a b) i j) in
       let one = meaning ops (each_rank q zeros) state in
       let at_one : AtStage ops q left right first 0 one = at_start a b left right state has_a has_b in
@@ -170,11 +158,11 @@ module _ {M : Type 0} (ops : Algebra M) (q : ℕ) where
       let one = meaning ops (stage q k) state in
       let stay : one r x ≡ state r x =
       split (k + 1 == q)
-      (λ t. rw t (each_elsewhere (product_op k) state r x (omega arith)))
+      (λ t. rw t (each_elsewhere ops q (product_op k) state r x (omega arith)))
       (λ f.
       let m : k + 1 < q = grind (arith, nat_tests) in
       rw f (ap (λ y. y r x) (meaning-append ops (broadcasts q (k + 1)) (each_rank q (product_op k)) state)
-      ∙ each_elsewhere (product_op k) (meaning ops (broadcasts q (k + 1)) state) r x (omega arith)
+      ∙ each_elsewhere ops q (product_op k) (meaning ops (broadcasts q (k + 1)) state) r x (omega arith)
       ∙ broadcasts_stay (k + 1) state m r x (omega arith) (omega arith))) in
       ap (λ y. y r x) (meaning-append ops (stage q k) (flat_map (stage q) (range_with_len (k + 1) n)) state)
       ∙ stages_stay (k + 1) n one (omega arith) r x l
@@ -182,9 +170,9 @@ module _ {M : Type 0} (ops : Algebra M) (q : ℕ) where
 
   pub products_leave : (a b : Extent) (state : State M) → 0 < q → (r x : ℕ) → 7 ≤ x → meaning ops (product_acts q a b) state r x ≡ state r x
   products_leave a b state pos r x l =
-      let one = meaning ops (each_rank q (zero_op q (result_shape a b))) state in
-      ap (λ y. y r x) (meaning-append ops (each_rank q (zero_op q (result_shape a b))) (broadcasts q 0 ++ flat_map (stage q) (range_with_len 0 q)) state
+      let one = meaning ops (each_rank q (zero_op q 2 (result_shape a b))) state in
+      ap (λ y. y r x) (meaning-append ops (each_rank q (zero_op q 2 (result_shape a b))) (broadcasts q 0 ++ flat_map (stage q) (range_with_len 0 q)) state
       ∙ meaning-append ops (broadcasts q 0) (flat_map (stage q) (range_with_len 0 q)) one)
       ∙ stages_stay 0 q (meaning ops (broadcasts q 0) one) (omega arith) r x l
       ∙ broadcasts_stay 0 one pos r x (omega arith) (omega arith)
-      ∙ each_elsewhere (zero_op q (result_shape a b)) state r x (omega arith)
+      ∙ each_elsewhere ops q (zero_op q 2 (result_shape a b)) state r x (omega arith)

@@ -10,8 +10,10 @@ use Rattle.cb_plan.specs.Algebras.{matrices}
 use Rattle.cb_plan.proofs.Effects.{meaning-append}
 use Rattle.cb_collectives.specs.Collectives.{shut_acts}
 use Rattle.cb_collectives.proofs.Shutting.{shut_nothing}
-use Rattle.cb_summa.specs.Summa.{product_acts, summa_acts, summa_masked_acts, each_rank, mask_op, MakesProduct, MakesMaskedProduct, IsProductPlan, IsMaskedPlan, result_shape}
-use Rattle.cb_summa.proofs.Stages.{after_products, products_leave, each_here}
+use Rattle.cb_distribution.specs.Distribution.{each_rank}
+use Rattle.cb_distribution.proofs.Everywhere.{each_here}
+use Rattle.cb_summa.specs.Summa.{product_acts, summa_acts, summa_masked_acts, mask_op, MakesProduct, MakesMaskedProduct, IsProductPlan, IsMaskedPlan, result_shape}
+use Rattle.cb_summa.proofs.Stages.{after_products, products_leave}
 use Rattle.cb_summa.proofs.Parts.{stages_make_product}
 use Rattle.cb_summa.proofs.Masks.{masked_blocks}
 
@@ -31,9 +33,8 @@ module _ (s : Arithmetic) (laws : IsSemiring s) (q : ℕ) (pos : 0 < q) (a b : S
   pub summa_makes_masked : (m : Sparse) → m.shape ≡ result_shape a.shape b.shape → MakesMaskedProduct (summa_masked_acts q a.shape b.shape) q s a b m
   summa_makes_masked m e state has_a has_b has_m i j k l =
       let after = meaning (matrices s) (product_acts q a.shape b.shape) state in
-      let end = meaning (matrices s) (each_rank q mask_op) after in
       let mask : after (i * q + j) 7 ≡ Some (block_of s q m i j) = products_leave (matrices s) q a.shape b.shape state pos (i * q + j) 7 (omega arith) ∙ has_m i j k l in
-      ap (λ x. x (i * q + j) 2) (meaning-append (matrices s) (product_acts q a.shape b.shape) (each_rank q mask_op ++ shut_acts (q * q)) state ∙ meaning-append (matrices s) (each_rank q mask_op) (shut_acts (q * q)) after ∙ shut_nothing (matrices s) (q * q) end)
+      ap (λ x. x (i * q + j) 2) (meaning-append (matrices s) (product_acts q a.shape b.shape ++ each_rank q mask_op) (shut_acts (q * q)) state ∙ shut_nothing (matrices s) (q * q) (meaning (matrices s) (product_acts q a.shape b.shape ++ each_rank q mask_op) state) ∙ meaning-append (matrices s) (product_acts q a.shape b.shape) (each_rank q mask_op) state)
       ∙ each_here (matrices s) q mask_op after i j k l
       ∙ ap (λ x. two ((matrices s).mask) x (after (i * q + j) 7)) (products state has_a has_b i j k l)
       ∙ ap (λ x. two ((matrices s).mask) (Some (block_of s q (product s a b) i j)) x) mask

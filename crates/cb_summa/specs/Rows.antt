@@ -6,7 +6,8 @@ use Rattle.cb_plan.specs.declared.acts.Act.{Act}
 use Rattle.cb_plan.specs.declared.acts.Act.TheVariants as act_is
 use Rattle.cb_plan.specs.Checks.{plan_fault, fault_from}
 use Rattle.cb_plan.specs.Programs.{project}
-use Rattle.cb_summa.specs.Summa.{summa_acts, summa_masked_acts, summa_starts, summa_masked_starts}
+use Rattle.cb_distribution.specs.Distribution.{operand_starts}
+use Rattle.cb_summa.specs.Summa.{summa_acts, summa_masked_acts, factors, masked_factors}
 
 abbrev two_by_two : Extent
 two_by_two = record { rows = 2; cols = 2 }
@@ -58,16 +59,16 @@ masked_acts_on_grid_2 : length (summa_masked_acts 2 two_by_two two_by_two) ≡ 4
 masked_acts_on_grid_2 = refl
 
 -- how many halves each rank of a grid of side 2 has: 60 in all, and 64 with a mask
-halves_on_grid_2 : map (λ r. length (project (summa_starts 2 two_by_two two_by_two) (summa_acts 2 two_by_two two_by_two) r)) (range_with_len 0 4) ≡ 15 ∷ 15 ∷ 15 ∷ 15 ∷ []
+halves_on_grid_2 : map (λ r. length (project (operand_starts 2 (factors two_by_two two_by_two)) (summa_acts 2 two_by_two two_by_two) r)) (range_with_len 0 4) ≡ 15 ∷ 15 ∷ 15 ∷ 15 ∷ []
 halves_on_grid_2 = refl
 
-masked_halves_on_grid_2 : map (λ r. length (project (summa_masked_starts 2 two_by_two two_by_two) (summa_masked_acts 2 two_by_two two_by_two) r)) (range_with_len 0 4) ≡ 16 ∷ 16 ∷ 16 ∷ 16 ∷ []
+masked_halves_on_grid_2 : map (λ r. length (project (operand_starts 2 (masked_factors two_by_two two_by_two)) (summa_masked_acts 2 two_by_two two_by_two) r)) (range_with_len 0 4) ≡ 16 ∷ 16 ∷ 16 ∷ 16 ∷ []
 masked_halves_on_grid_2 = refl
 
-passes_on_grid_2 : plan_fault 4 (summa_starts 2 two_by_two two_by_two) (summa_acts 2 two_by_two two_by_two) ≡ None
+passes_on_grid_2 : plan_fault 4 (operand_starts 2 (factors two_by_two two_by_two)) (summa_acts 2 two_by_two two_by_two) ≡ None
 unfolding fault_from
 passes_on_grid_2 = refl
 
-masked_passes_on_grid_2 : plan_fault 4 (summa_masked_starts 2 two_by_two two_by_two) (summa_masked_acts 2 two_by_two two_by_two) ≡ None
+masked_passes_on_grid_2 : plan_fault 4 (operand_starts 2 (masked_factors two_by_two two_by_two)) (summa_masked_acts 2 two_by_two two_by_two) ≡ None
 unfolding fault_from
 masked_passes_on_grid_2 = refl

@@ -1,25 +1,19 @@
 -- The plan of the product by stages.
-use Rattle.std.specs.Prelude.{◌≡◌, ◌<◌, Some, ℕ, suc, zero, ◌+◌, ◌*◌, ◌/◌, ◌%◌, ◌==◌, if◌then◌else◌, List, [], ◌∷◌, ◌++◌, map, flat_map}
+use Rattle.std.specs.Prelude.{◌≡◌, ℕ, suc, zero, ◌+◌, ◌*◌, ◌%◌, ◌==◌, if◌then◌else◌, List, [], ◌∷◌, ◌++◌, flat_map}
 use Rattle.std.specs.List.{range_with_len}
 use Rattle.cb_matrix.specs.Sparse.{Extent, Sparse, IsMatrix}
 use Rattle.cb_plan.specs.declared.acts.Op.{Op}
 use Rattle.cb_plan.specs.declared.acts.Op.TheVariants as op_is
 use Rattle.cb_plan.specs.declared.acts.Act.{Act}
-use Rattle.cb_plan.specs.declared.acts.Act.TheVariants as act_is
-use Rattle.cb_plan.specs.declared.acts.Start.{Start}
-use Rattle.cb_letters.specs.declared.Tag.{Tag}
 use Rattle.cb_plan.specs.Meaning.{Algebra, State, meaning}
 use Rattle.cb_plan.specs.Algebras.{matrices}
 use Rattle.cb_semirings.specs.Arithmetic.{Arithmetic, IsSemiring}
 use Rattle.cb_matrix.specs.Values.{product}
 use Rattle.cb_matrix.specs.Operations.{masked}
-use Rattle.cb_layout.specs.Parts.{row_group, column_group, part_shape}
-use Rattle.cb_layout.specs.Blocks.{block_of}
+use Rattle.cb_layout.specs.Parts.{row_group, column_group}
 use Rattle.cb_collectives.specs.Collectives.{broadcast_acts, shut_acts}
-
--- a letter's tag, by its number
-abbrev pub tagged : ℕ → Tag
-tagged n = record { 0 = n }
+use Rattle.cb_distribution.specs.declared.operands.Operand.{Operand}
+use Rattle.cb_distribution.specs.Distribution.{tagged, each_rank, zero_op, HasParts}
 
 -- the slots that a stage's blocks come into: two stages in a row have different ones
 abbrev pub left_slot : ℕ → ℕ
@@ -40,10 +34,6 @@ column_broadcast q k j = broadcast_acts (column_group q j) (k * q + j) (tagged (
 abbrev pub broadcasts : ℕ → ℕ → List Act
 broadcasts q k = flat_map (row_broadcast q k) (range_with_len 0 q) ++ flat_map (column_broadcast q k) (range_with_len 0 q)
 
--- each rank does an operation
-abbrev pub each_rank : ℕ → (ℕ → Op) → List Act
-each_rank q op = map (λ r. act_is.Work r (op r)) (range_with_len 0 (q * q))
-
 -- the product of the two blocks of stage k is added to slot 2
 abbrev pub product_op : ℕ → ℕ → Op
 product_op k r = op_is.MulAdd (left_slot k) (right_slot k) 2
@@ -60,10 +50,6 @@ stage q k = next_broadcasts q k ++ each_rank q (product_op k)
 abbrev pub result_shape : Extent → Extent → Extent
 result_shape a b = record { rows = a.rows; cols = b.cols }
 
--- slot 2 of a rank is its part of a product that has no entries yet
-abbrev pub zero_op : ℕ → Extent → ℕ → Op
-zero_op q shape r = op_is.Zero 2 (part_shape q shape (r / q) (r % q))
-
 -- slot 2 of a rank keeps what the mask in its slot 7 covers
 abbrev pub mask_op : ℕ → Op
 mask_op r = op_is.Mask 2 7 2
@@ -72,7 +58,7 @@ mask_op r = op_is.Mask 2 7 2
 -- while the blocks of the next one come
 abbrev pub product_acts : ℕ → Extent → Extent → List Act
 product_acts q a b =
-    each_rank q (zero_op q (result_shape a b))
+    each_rank q (zero_op q 2 (result_shape a b))
     ++ (broadcasts q 0 ++ flat_map (stage q) (range_with_len 0 q))
 
 abbrev pub summa_acts : ℕ → Extent → Extent → List Act
@@ -80,29 +66,20 @@ summa_acts q a b = product_acts q a b ++ shut_acts (q * q)
 
 -- the same, and each rank keeps what the mask in its slot 7 covers
 abbrev pub summa_masked_acts : ℕ → Extent → Extent → List Act
-summa_masked_acts q a b = product_acts q a b ++ (each_rank q mask_op ++ shut_acts (q * q))
+summa_masked_acts q a b = (product_acts q a b ++ each_rank q mask_op) ++ shut_acts (q * q)
 
--- a slot of a rank has its part of a matrix of this shape
-abbrev pub part_start_at : ℕ → ℕ → ℕ → Extent → Start
-part_start_at q slot r shape = record { rank = r; slot = slot; shape = part_shape q shape (r / q) (r % q) }
+-- the operands: the two matrices in slots 0 and 1
+abbrev pub factors : Extent → Extent → List Operand
+factors a b = record { slot = 0; shape = a } ∷ record { slot = 1; shape = b } ∷ []
 
--- before the first act each rank has its parts of the two matrices in slots 0 and 1
-abbrev pub summa_starts : ℕ → Extent → Extent → List Start
-summa_starts q a b = flat_map (λ r. part_start_at q 0 r a ∷ part_start_at q 1 r b ∷ []) (range_with_len 0 (q * q))
-
--- and its part of the mask in slot 7
-abbrev pub summa_masked_starts : ℕ → Extent → Extent → List Start
-summa_masked_starts q a b =
-    flat_map (λ r. part_start_at q 0 r a ∷ part_start_at q 1 r b ∷ part_start_at q 7 r (result_shape a b) ∷ []) (range_with_len 0 (q * q))
+-- and a mask of their product in slot 7
+abbrev pub masked_factors : Extent → Extent → List Operand
+masked_factors a b = record { slot = 0; shape = a } ∷ record { slot = 1; shape = b } ∷ record { slot = 7; shape = result_shape a b } ∷ []
 
 -- what stages 0 to k-1 add up to
 abbrev pub stages_sum : {M : Type 0} → Algebra M → (ℕ → M) → (ℕ → M) → M → ℕ → M
 stages_sum ops left right acc zero = acc
 stages_sum ops left right acc (suc k) = ops.mul_add (left k) (right k) (stages_sum ops left right acc k)
-
--- slot n of each rank (i, j) has part (i, j) of a matrix
-abbrev pub HasParts : Arithmetic → ℕ → Sparse → ℕ → State Sparse → Type 0
-HasParts s q m n state = (i j : ℕ) → i < q → j < q → state (i * q + j) n ≡ Some (block_of s q m i j)
 
 -- where slots 0 and 1 have the parts of two matrices, slot 2 has in the end the parts of their product
 abbrev pub MakesProduct : List Act → ℕ → Arithmetic → Sparse → Sparse → Type 0

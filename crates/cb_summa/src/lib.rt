@@ -14,47 +14,63 @@
 //! Computing, 2012).
 #![tactic(auto)]
 
-ghost use Rattle.std.specs.Prelude.{◌≡◌, ◌*◌, None, IfOk, IfErr};
-ghost use Rattle.cb_plan.specs.Checks.{plan_fault};
-ghost use Rattle.cb_summa.specs.Summa.{summa_acts, summa_starts, IsProductPlan};
-ghost use Rattle.cb_summa.specs.Growth.{no_memory};
+ghost use Rattle.std.specs.Prelude.{◌≡◌, ◌*◌, IfOk, IfErr};
+ghost use Rattle.cb_plan.specs.Runnable.{IsRunnable};
+ghost use Rattle.cb_distribution.specs.Distribution.{operand_starts};
+ghost use Rattle.cb_distribution.specs.Growth.{no_memory};
+ghost use Rattle.cb_summa.specs.Summa.{summa_acts, factors, IsProductPlan};
 
 mod masked;
-mod operands;
 mod products;
 #[cfg(test)]
 mod tests;
 
-use cb_collectives::shut_all;
+use cb_distribution::{Operand, finish, operand_starts};
 use cb_layout::Grid;
 use cb_matrix::Shape;
 use cb_plan::{Plan, PlanFault, Planned};
 pub use masked::summa_masked;
-use operands::{RESULT, starts};
 use products::multiply;
 use std::alloc::{AllocError, Global};
+
+/// The slot of each rank that has its block of the first matrix.
+pub const LEFT: u16 = 0;
+
+/// The slot of each rank that has its block of the second matrix.
+pub const RIGHT: u16 = 1;
+
+/// The slot of each rank that has its block of the product in the end.
+pub const RESULT: u16 = 2;
+
+/// The slot of each rank that has its block of the mask.
+pub const MASK: u16 = 7;
 
 /// The plan of the product of a matrix of shape `a` and one of shape `b`.
 pub fn summa(alloc: Global, grid: &Grid, a: Shape, b: Shape) -> Result<Planned, PlanFault>
     requires { a.cols ≡ b.rows }
     ensures ranks { IfOk result (λ p. p.plan.ranks ≡ grid.now.side * grid.now.side) }
-    ensures starts { IfOk result (λ p. p.starts.items ≡ summa_starts grid.now.side a b) }
+    ensures starts { IfOk result (λ p. p.starts.items ≡ operand_starts grid.now.side (factors a b)) }
     ensures acts { IfOk result (λ p. p.plan.acts ≡ summa_acts grid.now.side a b) }
-    ensures slot { IfOk result (λ p. p.result ≡ 2) }
-    ensures passes { IfOk result (λ p. plan_fault p.plan.ranks p.starts.items p.plan.acts ≡ None) }
+    ensures slot { IfOk result (λ p. p.result ≡ RESULT) }
+    ensures runnable { IfOk result (λ p. IsRunnable p) }
     ensures product { IfOk result (λ p. IsProductPlan p.plan.acts grid.now.side a b) }
     ensures fault { IfErr result (λ e. e ≡ no_memory) }
 {
     let _side = grid.side();
     let mut plan = Plan::new(alloc, grid.ranks());
     multiply(&mut plan, alloc, grid, a, b)?;
-    shut_all(&mut plan)?;
-    let Ok(starts) = starts(alloc, grid, a, b) else {
+    let operands = [
+        Operand {
+            slot: LEFT,
+            shape: a,
+        },
+        Operand {
+            slot: RIGHT,
+            shape: b,
+        },
+    ];
+    let Ok(starts) = operand_starts(alloc, grid, &operands) else {
         return Err(PlanFault::from(AllocError));
     };
-    Ok(Planned {
-        plan,
-        starts,
-        result: RESULT,
-    })
+    finish(grid, plan, starts, RESULT)
 }

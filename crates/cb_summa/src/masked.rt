@@ -1,12 +1,13 @@
 //! The plan of a product under a mask.
-ghost use Rattle.std.specs.Prelude.{◌≡◌, ◌*◌, None, IfOk, IfErr};
-ghost use Rattle.cb_plan.specs.Checks.{plan_fault};
-ghost use Rattle.cb_summa.specs.Summa.{summa_masked_acts, summa_masked_starts, IsMaskedPlan};
-ghost use Rattle.cb_summa.specs.Growth.{no_memory};
+ghost use Rattle.std.specs.Prelude.{◌≡◌, ◌*◌, IfOk, IfErr};
+ghost use Rattle.cb_plan.specs.Runnable.{IsRunnable};
+ghost use Rattle.cb_distribution.specs.Distribution.{operand_starts};
+ghost use Rattle.cb_distribution.specs.Growth.{no_memory};
+ghost use Rattle.cb_summa.specs.Summa.{summa_masked_acts, masked_factors, IsMaskedPlan};
 
-use crate::operands::{MASK, RESULT, masked_starts};
-use crate::products::{multiply, work_everywhere};
-use cb_collectives::shut_all;
+use crate::products::multiply;
+use crate::{LEFT, MASK, RESULT, RIGHT};
+use cb_distribution::{Operand, finish, operand_starts, work_everywhere};
 use cb_layout::Grid;
 use cb_matrix::Shape;
 use cb_plan::{Op, Plan, PlanFault, Planned};
@@ -17,10 +18,10 @@ use std::alloc::{AllocError, Global};
 pub fn summa_masked(alloc: Global, grid: &Grid, a: Shape, b: Shape) -> Result<Planned, PlanFault>
     requires { a.cols ≡ b.rows }
     ensures ranks { IfOk result (λ p. p.plan.ranks ≡ grid.now.side * grid.now.side) }
-    ensures starts { IfOk result (λ p. p.starts.items ≡ summa_masked_starts grid.now.side a b) }
+    ensures starts { IfOk result (λ p. p.starts.items ≡ operand_starts grid.now.side (masked_factors a b)) }
     ensures acts { IfOk result (λ p. p.plan.acts ≡ summa_masked_acts grid.now.side a b) }
-    ensures slot { IfOk result (λ p. p.result ≡ 2) }
-    ensures passes { IfOk result (λ p. plan_fault p.plan.ranks p.starts.items p.plan.acts ≡ None) }
+    ensures slot { IfOk result (λ p. p.result ≡ RESULT) }
+    ensures runnable { IfOk result (λ p. IsRunnable p) }
     ensures product { IfOk result (λ p. IsMaskedPlan p.plan.acts grid.now.side a b) }
     ensures fault { IfErr result (λ e. e ≡ no_memory) }
 {
@@ -33,13 +34,22 @@ pub fn summa_masked(alloc: Global, grid: &Grid, a: Shape, b: Shape) -> Result<Pl
         into: RESULT,
     };
     work_everywhere(&mut plan, grid, &mask)?;
-    shut_all(&mut plan)?;
-    let Ok(starts) = masked_starts(alloc, grid, a, b) else {
+    let operands = [
+        Operand {
+            slot: LEFT,
+            shape: a,
+        },
+        Operand {
+            slot: RIGHT,
+            shape: b,
+        },
+        Operand {
+            slot: MASK,
+            shape: a.with_columns_of(b),
+        },
+    ];
+    let Ok(starts) = operand_starts(alloc, grid, &operands) else {
         return Err(PlanFault::from(AllocError));
     };
-    Ok(Planned {
-        plan,
-        starts,
-        result: RESULT,
-    })
+    finish(grid, plan, starts, RESULT)
 }

@@ -1,15 +1,16 @@
 //! The acts that make the product: blocks are broadcast, and each rank adds the products of those that it gets.
 ghost use Rattle.std.specs.Prelude.{◌≡◌, ◌<◌, ◌≤◌, ◌+◌, ◌*◌, ◌/◌, ◌%◌, ◌==◌, ℕ, List, [], ◌++◌, map, flat_map, if◌then◌else◌, OnOk, IfErr};
 ghost use Rattle.std.specs.List.{range_with_len};
-ghost use Rattle.cb_summa.specs.Summa.{left_slot, right_slot, row_broadcast, column_broadcast, broadcasts, next_broadcasts, each_rank, stage, zero_op, result_shape, product_acts};
-ghost use Rattle.cb_summa.specs.Growth.{IsWithinLimit, Grew, no_memory};
+ghost use Rattle.cb_distribution.specs.Growth.{IsWithinLimit, Grew, no_memory};
+ghost use Rattle.cb_summa.specs.Summa.{left_slot, right_slot, row_broadcast, column_broadcast, broadcasts, next_broadcasts, stage, result_shape, product_acts};
 
-use crate::operands::{LEFT, RESULT, RIGHT};
+use crate::{LEFT, RESULT, RIGHT};
 use cb_collectives::broadcast;
+use cb_distribution::{work_everywhere, zero_everywhere};
 use cb_layout::Grid;
 use cb_letters::Tag;
 use cb_matrix::Shape;
-use cb_plan::{Act, Op, Plan, PlanFault};
+use cb_plan::{Op, Plan, PlanFault};
 use std::alloc::Global;
 
 /// Slot 2 of each rank gets its block of the product. The blocks of each stage but the first come before the
@@ -26,26 +27,9 @@ pub fn multiply(
     ensures fault { IfErr result (λ e. e ≡ no_memory) }
 {
     let _side = grid.side();
-    zero_results(plan, grid, a.with_columns_of(b))?;
+    zero_everywhere(plan, grid, RESULT, a.with_columns_of(b))?;
     broadcast_blocks(plan, alloc, grid, 0)?;
     multiply_stages(plan, alloc, grid)
-}
-
-/// Slot 2 of each rank is a block of its shape without entries.
-fn zero_results(plan: &mut Plan, grid: &Grid, shape: Shape) -> Result<(), PlanFault>
-    requires { IsWithinLimit plan.now (each_rank grid.now.side (zero_op grid.now.side shape)) }
-    ensures acts { OnOk result (Grew (each_rank grid.now.side (zero_op grid.now.side shape)) plan.old plan.new) }
-    ensures fault { IfErr result (λ e. e ≡ no_memory) }
-{
-    plan.make_room(usize::from(grid.ranks()))?;
-    for rank in 0..grid.ranks() {
-        let op = Op::Zero {
-            into: RESULT,
-            shape: grid.block_shape(shape, rank),
-        };
-        plan.push(Act::Work { rank, op })?;
-    }
-    Ok(())
 }
 
 /// All stages, one after the other.
@@ -134,19 +118,6 @@ fn broadcast_columns(plan: &mut Plan, alloc: Global, grid: &Grid, k: u32) -> Res
             RIGHT,
             right_slot(k),
         )?;
-    }
-    Ok(())
-}
-
-/// Every rank does an operation.
-pub fn work_everywhere(plan: &mut Plan, grid: &Grid, op: &Op) -> Result<(), PlanFault>
-    requires { IsWithinLimit plan.now (each_rank grid.now.side (λ _. op.now)) }
-    ensures acts { OnOk result (Grew (each_rank grid.now.side (λ _. op.now)) plan.old plan.new) }
-    ensures fault { IfErr result (λ e. e ≡ no_memory) }
-{
-    plan.make_room(usize::from(grid.ranks()))?;
-    for rank in 0..grid.ranks() {
-        plan.push(Act::Work { rank, op: *op })?;
     }
     Ok(())
 }

@@ -4,7 +4,7 @@ ghost use Rattle.std.specs.Prelude.{◌≡◌, IfOk};
 use crate::{summa, summa_masked};
 use cb_layout::Grid;
 use cb_matrix::Shape;
-use cb_plan::{Act, Op, Planned};
+use cb_plan::{Act, Op, PlanFault, PlanFaultKind, Planned};
 use std::alloc::Global;
 use std::test::Fail;
 
@@ -113,29 +113,23 @@ fn acts_under_a_mask(rt: HostRuntime) -> Result<(), Fail> {
     Ok(())
 }
 
+/// It passes whichever single allocation is refused (`rt try --test --fail-alloc N`, for each N in turn): the
+/// call says so, or its plan is the right one.
 #[test]
-fn starts_by_ranks(rt: HostRuntime) -> Result<(), Fail> {
+fn refused_memory_is_said(rt: HostRuntime) -> Result<(), Fail> {
     let grid = Grid::new(2).map_err(|_| "a side")?;
-    let (a, b) = (shape(3, 5)?, shape(5, 4)?);
-    let planned = summa_masked(rt.alloc(), &grid, a, b).map_err(|_| "a plan")?;
-    let expected: [(u16, u16, u32, u32); 12] = [
-        (0, 0, 2, 3),
-        (0, 1, 3, 2),
-        (0, 7, 2, 2),
-        (1, 0, 2, 2),
-        (1, 1, 3, 2),
-        (1, 7, 2, 2),
-        (2, 0, 1, 3),
-        (2, 1, 2, 2),
-        (2, 7, 1, 2),
-        (3, 0, 1, 2),
-        (3, 1, 2, 2),
-        (3, 7, 1, 2),
-    ];
-    assert_eq!(rt; planned.starts.len(), expected.len());
-    for (start, (rank, slot, rows, cols)) in planned.starts.iter().zip(expected) {
-        assert!(rt; (start.rank, start.slot) == (rank, slot));
-        assert!(rt; (start.shape.rows(), start.shape.cols()) == (rows, cols));
+    let shape = shape(2, 2)?;
+    let memory = PlanFault {
+        act: 0,
+        kind: PlanFaultKind::Memory,
+    };
+    match summa(rt.alloc(), &grid, shape, shape) {
+        Ok(planned) => assert_eq!(rt; planned.plan.len(), 40),
+        Err(fault) => assert_eq!(rt; fault, memory),
+    }
+    match summa_masked(rt.alloc(), &grid, shape, shape) {
+        Ok(planned) => assert_eq!(rt; planned.plan.len(), 44),
+        Err(fault) => assert_eq!(rt; fault, memory),
     }
     Ok(())
 }

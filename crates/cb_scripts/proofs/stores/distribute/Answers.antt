@@ -1,7 +1,7 @@
 use Rattle.std.proofs.Common.{◌*◌}
 use Rattle.cb_layout.specs.Blocks.{block_at}
-use Rattle.cb_scripts.specs.Filling.{block_of_rank}
-use Rattle.cb_scripts.proofs.Filling.{filled_with, of_ranks}
+use Rattle.cb_scripts.specs.Slots.{block_of_rank}
+use Rattle.cb_scripts.proofs.FilledSlots.{filled_with, of_ranks}
 use Rattle.cb_scripts.proofs.stores.distribute.Goals as goal
 
 pub returns : goal.returns

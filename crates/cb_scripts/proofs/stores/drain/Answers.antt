@@ -1,7 +1,7 @@
 use Rattle.std.proofs.Common.{◌<◌, length, subst, arith}
 use Rattle.std.specs.Prelude.{Option, IsSome}
 use Rattle.cb_matrix.specs.Sparse.{Sparse}
-use Rattle.cb_scripts.proofs.Draining.{taken, not_a_sheet, draining_next}
+use Rattle.cb_scripts.proofs.DrainedSlots.{taken, not_a_sheet, draining_next}
 use Rattle.cb_scripts.proofs.stores.drain.Goals as goal
 
 pub unreachable-requires : goal.unreachable-requires

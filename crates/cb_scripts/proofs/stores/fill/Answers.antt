@@ -3,7 +3,7 @@ use Rattle.std.specs.Prelude.{IsSome}
 use Rattle.cb_matrix.specs.Sparse.{Sparse}
 use Rattle.cb_matrix.specs.Values.{empty_matrix}
 use Rattle.cb_layout.specs.Blocks.{block_at}
-use Rattle.cb_scripts.proofs.Filling.{filling_next}
+use Rattle.cb_scripts.proofs.FilledSlots.{filling_next}
 use Rattle.cb_scripts.proofs.stores.fill.Goals as goal
 
 pub loop-block-preserved : goal.loop-block-preserved

@@ -1,0 +1,53 @@
+-- The blocks of one slot are moved out, rank after rank.
+use Rattle.std.proofs.Common.{◌≡◌, ◌≢◌, ℕ, ◌+◌, ◌-◌, ◌<◌, ◌≤◌, List, [], ◌∷◌, ◌++◌, length, length-append, get_or, refl, sym, ap, ⊎_elim, ◌∙◌, arith}
+use Rattle.std.specs.Prelude.{slice_set, Some, IsSome}
+use Rattle.std.proofs.lemmas.Bool.{cases_lt}
+use Rattle.std.proofs.lemmas.List.{length-set, get_or-set_other, get_or_append_left, get_or-append_right}
+use Rattle.cb_matrix.specs.Sparse.{Sparse}
+use Rattle.cb_matrix.specs.Values.{empty_matrix}
+use Rattle.cb_layout.specs.Blocks.{block_at}
+use Rattle.cb_plan.specs.declared.stores.Slot.{Slot}
+use Rattle.cb_plan.specs.declared.stores.Slot.TheVariants as slot_is
+use Rattle.cb_plan.specs.Stores.{state_of, sheet_of}
+use Rattle.cb_plan.proofs.Running.{read_at}
+
+-- the blocks of slot n of the first r ranks are out, and the other ranks are as they were
+pub record DrainedSoFar (n r : ℕ) (first now : List (List (Slot Sparse))) (out : List Sparse) : Type 0 where
+  pub ranks : length now ≡ length first
+  pub count : length out ≡ r
+  pub later : (k : ℕ) → r ≤ k → get_or now k [] ≡ get_or first k []
+  pub blocks : (k : ℕ) → k < r → state_of first k n ≡ Some (block_at out k)
+
+pub draining_none : (n : ℕ) (first : List (List (Slot Sparse))) → DrainedSoFar n 0 first first []
+draining_none n first = record { ranks = refl; count = refl; later = λ k l. refl; blocks = λ k l. absurd (omega arith) }
+
+-- what is taken is what stood there at first
+pub taken : (n r : ℕ) (first now : List (List (Slot Sparse))) (out : List Sparse) (row : List (Slot Sparse)) (x : Slot Sparse) → DrainedSoFar n r first now out → r < length now → row ≡ get_or now r row → x ≡ get_or row n slot_is.Empty →
+    state_of first r n ≡ sheet_of x
+taken n r first now out row x h l at_row is =
+    sym (ap sheet_of (is ∙ ap (λ s. get_or s n slot_is.Empty) (read_at now r row [] l at_row ∙ h.later r (omega arith))))
+
+pub draining_next : (n r : ℕ) (first now : List (List (Slot Sparse))) (out : List Sparse) (row new : List (Slot Sparse)) (x : Slot Sparse) (b : Sparse) → DrainedSoFar n r first now out → r < length now → row ≡ get_or now r row → x ≡ get_or row n slot_is.Empty → x ≡ slot_is.Sheet b →
+    DrainedSoFar n (r + 1) first (slice_set now r new) (out ++ b ∷ [])
+draining_next n r first now out row new x b h l at_row is sheet =
+    let none : Sparse = empty_matrix (record { rows = 0; cols = 0 }) in
+    let same = h.count in
+    record {
+      ranks = length-set now r new ∙ h.ranks;
+      count = length-append out (b ∷ []) ∙ ap (λ k. k + 1) h.count;
+      later = λ k m. let ne : k ≢ r = omega arith in get_or-set_other now r k new [] ne ∙ h.later k (omega arith);
+      blocks = λ k m. ⊎_elim
+          (λ (u : k < r). h.blocks k u ∙ ap Some (sym (get_or_append_left out (b ∷ []) none k (omega arith))))
+          (λ (u : r ≤ k).
+          let e : r ≡ k = omega arith in
+          let first_of_rest : k - length out ≡ 0 = omega arith in
+          ap (λ i. state_of first i n) (sym e) ∙ taken n r first now out row x h l at_row is ∙ ap sheet_of sheet
+          ∙ ap Some (sym (get_or-append_right out (b ∷ []) (length out) k none refl (omega arith) ∙ ap (λ i. get_or (b ∷ []) i none) first_of_rest)))
+          (cases_lt k r);
+    }
+
+-- nothing is lost, and no slot is empty
+pub not_a_sheet : (x : Slot Sparse) → ((b : Sparse) → x ≡ slot_is.Sheet b → ⊥) → IsSome (sheet_of x) → ⊥
+not_a_sheet slot_is.Empty h some = cc
+not_a_sheet (slot_is.Sheet b) h some = h b refl
+not_a_sheet (slot_is.Lost origin) h some = cc

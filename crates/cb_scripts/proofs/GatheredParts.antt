@@ -1,0 +1,60 @@
+-- The matrix whose parts stand in one slot of the ranks.
+use Rattle.std.proofs.Common.{◌≡◌, ℕ, ◌+◌, ◌*◌, ◌/◌, ◌%◌, ◌<◌, ◌≤◌, List, [], length, get_or, refl, sym, ap, subst, ⊎_elim, ◌∙◌, arith}
+use Rattle.std.specs.Prelude.{Option, Some, None, IsSome}
+use Rattle.std.proofs.lemmas.Bool.{cases_lt}
+use Rattle.std.proofs.lemmas.Nat.{mod_below}
+use Rattle.std.proofs.lemmas.List.{get_or_past}
+use Rattle.cb_semirings.specs.Arithmetic.{Arithmetic, IsSemiring}
+use Rattle.cb_matrix.specs.Sparse.{Sparse, Extent, IsMatrix}
+use Rattle.cb_matrix.specs.Values.{empty_matrix}
+use Rattle.cb_layout.specs.Parts.{part_shape}
+use Rattle.cb_layout.specs.Blocks.{block_at, block_of, glued}
+use Rattle.cb_layout.proofs.Parts.{rank_of, row_below, rank_below}
+use Rattle.cb_layout.proofs.Cuts.{glued_cut}
+use Rattle.cb_plan.specs.declared.stores.Slot.{Slot}
+use Rattle.cb_plan.specs.declared.stores.Slot.TheVariants as slot_is
+use Rattle.cb_plan.specs.Meaning.{State, one}
+use Rattle.cb_plan.specs.Stores.{state_of, sheet_of}
+use Rattle.cb_scripts.specs.Answers.{HasShapes, block_or, gathered}
+
+some_there : (x : Option Sparse) (e : Extent) → one (λ (m : Sparse). m.shape) x ≡ Some e → IsSome x
+some_there (Some m) e h = refl
+some_there None e h = cc
+
+-- each rank has a block there
+pub sheets_there : (q : ℕ) (shape : Extent) (n : ℕ) (stores : List (List (Slot Sparse))) (state : State Sparse) → state_of stores ≡ state → length stores ≡ q * q → HasShapes q shape n state → (r : ℕ) → r < length stores → IsSome (state_of stores r n)
+sheets_there q shape n stores state e ranks h r l =
+    let inside : r < q * q = omega arith in
+    let row = row_below q r inside in
+    let there = h (r / q) (r % q) row (mod_below r q (omega arith)) in
+    subst (λ (x : State Sparse). IsSome (x r n)) (sym e) (subst (λ k. IsSome (state k n)) (rank_of q r) (some_there (state ((r / q) * q + r % q) n) (part_shape q shape (r / q) (r % q)) there))
+
+-- the blocks that were taken out of the slot
+module _ (n : ℕ) (stores : List (List (Slot Sparse))) (blocks : List Sparse) (count : length blocks ≡ length stores) (are : (r : ℕ) → r < length stores → state_of stores r n ≡ Some (block_at blocks r)) where
+  same_block : (r : ℕ) → block_at blocks r ≡ block_or (state_of stores r n)
+  same_block r = ⊎_elim
+      (λ (l : r < length stores). sym (ap block_or (are r l)))
+      (λ (l : length stores ≤ r).
+      get_or_past blocks r (empty_matrix (record { rows = 0; cols = 0 })) (omega arith)
+      ∙ sym (ap (λ row. block_or (sheet_of (get_or row n slot_is.Empty))) (get_or_past stores r [] l)))
+      (cases_lt r (length stores))
+
+  pub glued_gathered : (s : Arithmetic) (q : ℕ) (shape : Extent) (state : State Sparse) → state_of stores ≡ state → glued s q shape (λ i j. block_at blocks (i * q + j)) ≡ gathered s q shape n state
+  glued_gathered s q shape state e =
+      ap (glued s q shape) (λ t i j. same_block (i * q + j) t) ∙ ap (gathered s q shape n) e
+
+  pub shapes_there : (q : ℕ) (shape : Extent) (state : State Sparse) → length stores ≡ q * q → state_of stores ≡ state → HasShapes q shape n state →
+      (i j : ℕ) → i < q → j < q → (block_at blocks (i * q + j)).shape ≡ part_shape q shape i j
+  shapes_there q shape state ranks e h i j l m =
+      let inside = rank_below q i j l m in
+      let both : one (λ (b : Sparse). b.shape) (Some (block_at blocks (i * q + j))) ≡ Some (part_shape q shape i j) =
+      ap (one (λ (b : Sparse). b.shape)) (sym (are (i * q + j) (omega arith)) ∙ ap (λ (x : State Sparse). x (i * q + j) n) e) ∙ h i j l m in
+      cc
+
+-- the parts of a matrix have the shapes of its parts, and gathered they are the matrix
+module _ (s : Arithmetic) (q : ℕ) (m : Sparse) (n : ℕ) (state : State Sparse) (parts : (i j : ℕ) → i < q → j < q → state (i * q + j) n ≡ Some (block_of s q m i j)) where
+  pub shapes_of_parts : HasShapes q m.shape n state
+  shapes_of_parts i j l k = ap (one (λ (b : Sparse). b.shape)) (parts i j l k)
+
+  pub gathered_parts : IsSemiring s → 0 < q → IsMatrix s m → gathered s q m.shape n state ≡ m
+  gathered_parts laws pos is = glued_cut s laws q pos m is (λ i j. block_or (state (i * q + j) n)) (λ i j l k. ap block_or (parts i j l k))
