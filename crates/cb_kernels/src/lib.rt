@@ -1,0 +1,25 @@
+//! Plans over a grid of ranks: the transpose, sums and products place by place, and entries dropped by a test.
+//!
+//! Rank (i, j) keeps the block of the first matrix in row part i and column part j in its slot 0, that of the
+//! second in slot 1, and that of the answer in slot 2; slot 0 is left as it was. Operations place by place need no
+//! letters but those that shut the lanes. In a transpose each rank sends its transposed block across the diagonal.
+//!
+//! `specs/Kernels` has the acts of each plan, and what they leave.
+#![tactic(auto)]
+
+mod placewise;
+#[cfg(test)]
+mod tests;
+mod transposes;
+
+pub use placewise::{grid_add, grid_prune, grid_times};
+pub use transposes::grid_transpose;
+
+/// The slot of each rank that has its block of the first matrix.
+pub const LEFT: u16 = 0;
+
+/// The slot of each rank that has its block of the second matrix.
+pub const RIGHT: u16 = 1;
+
+/// The slot of each rank that has its block of the answer in the end.
+pub const RESULT: u16 = 2;
