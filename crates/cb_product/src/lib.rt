@@ -1,17 +1,20 @@
-//! Products of blocks, by merging columns.
+//! Products of blocks, column by column.
 //!
-//! Column j of a product is a sum of columns of the left block: the entries (k, j) of the right block name
-//! them, and scale them. Their rows ascend, so a heap over their heads gives the products of the column by
-//! ascending row; equal rows are added, and a sum that is zero isn't stored. A single column is copied as it is
-//! scaled, without the heap. Where a column has many products for its rows, they are added in an array instead.
-//! With an accumulator, its own column is merged in beside the heads.
+//! Column j of a product is a sum of terms: columns k of the left block, each scaled by an entry (k, j) of the right.
+//! With an accumulator, its own column is added. A column is made in one of three ways, all under one contract:
+//!
+//! - by the sparse accumulator, an array with a place for each row, where its entries are many for the rows: time
+//!   (products), plus the words of marks that are looked at;
+//! - by joining a few terms one after another: time (products) times (terms);
+//! - by a heap over the heads of many terms, whose rows ascend: time (products) times log (terms).
+//!
+//! A sum that is zero isn't stored. An index tells where the left block's columns stand.
 //!
 //! Nothing is longer than a few times the products or the entries that it serves, so blocks of 2,147,483,647 rows
 //! and columns cost what their entries cost, and of the left block only the named columns cost anything.
 //!
-//! The method is that of Buluç and Gilbert, Parallel Sparse Matrix-Matrix Multiplication and Indexing (SIAM J.
-//! Sci. Comput. 2012, section 4.2): time (products) times log (columns merged), plus the entries read and
-//! written.
+//! The heap's way is that of Buluç and Gilbert, Parallel Sparse Matrix-Matrix Multiplication and Indexing (SIAM J.
+//! Sci. Comput. 2012, section 4.2).
 #![tactic(auto)]
 
 ghost use Rattle.std.specs.Prelude.{◌≡◌, ◌<◌, All, AllPairs, IfOk, IfErr};
@@ -49,7 +52,8 @@ pub fn multiply<S: Semiring>(
     accumulate(alloc, left, right, &nothing, right.column_numbers())
 }
 
-/// An accumulator plus the product of two blocks. On refusal the accumulator comes back as it was.
+/// An accumulator plus the product of two blocks. On refusal the accumulator comes back as it was. Its entries are
+/// copied, so it takes time for these too.
 ///
 /// The columns of the left block are as many as the rows of the right, and the accumulator has the product's
 /// shape.

@@ -1,4 +1,4 @@
-use Rattle.std.proofs.Common.{◌≡◌, ◌<◌, ◌≤◌, ◌++◌, drop, length, get_or, sym, subst, ap, ◌∙◌, arith}
+use Rattle.std.proofs.Common.{◌≡◌, ◌≤◌, ◌++◌, drop, length, get_or, sym, subst, ap, ◌∙◌, arith}
 use Rattle.std.proofs.lemmas.List.{take_rest}
 use Rattle.cb_product.proofs.Union.{IsUnionSoFar, union_start, union_left, union_right, union_both, union_rest, union_last, union_has_left, union_has_right}
 use Rattle.cb_product.proofs.columns.union.Goals as goal
