@@ -1,5 +1,5 @@
 //! Worked examples, with ample memory and with each allocation refused in turn.
-ghost use Rattle.std.specs.Prelude.{◌≡◌};
+ghost use Rattle.std.specs.Prelude.{◌≡◌, ◌*◌};
 
 use crate::{DistributedMatrix, Grid, Side};
 use cb_dcsc::Block;
