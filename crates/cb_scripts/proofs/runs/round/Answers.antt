@@ -38,4 +38,4 @@ returns g c =
     let same =
     ap (λ (bs : List Sparse). glued s q c.args.shape (λ i j. block_at bs (i * q + j))) c.deref.ensures.value
     ∙ glued_gathered c.args.slot after blocks c.in_ok-blocks.ensures.count c.in_ok-blocks.ensures.blocks s q c.args.shape state c.in_ok-stores.ensures.meaning in
-    subst (λ (z : Sparse). IfOk c.gather.result (λ m. m ≡ z)) same c.gather.ensures
+    subst (λ (z : Sparse). IfOk c.gather.result (λ m. m ≡ z)) same c.gather.ensures.glued
