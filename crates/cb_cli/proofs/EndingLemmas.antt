@@ -1,5 +1,5 @@
 -- What goes out at the end of a run.
-use Rattle.std.proofs.Common.{◌≡◌, ℕ, List, Option, Some, None, refl}
+use Rattle.std.proofs.Common.{ℕ, List, Option, Some, None, refl}
 use Rattle.std.specs.Io.KnownBytes.{Keeps}
 use Rattle.cb_cli.specs.Files.{IsUnloaded}
 use Rattle.cb_cli.specs.Endings.{IsJobEnding, unloaded_ending}
