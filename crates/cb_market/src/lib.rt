@@ -11,7 +11,7 @@
 //! fault of a text is its first. Every text has a first fault or reads as exactly one matrix, and
 //! never both; `read` answers accordingly. `text` writes the one text of a matrix, which reads as it.
 //!
-//! The reader is one cursor that goes over the bytes once. It keeps nothing of the text but the
+//! The reader is one cursor that goes over each byte at most twice. It keeps nothing of the text but the
 //! entries, and takes room for them by what the text can hold and not by what it announces.
 #![tactic(auto)]
 

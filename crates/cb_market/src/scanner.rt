@@ -1,4 +1,4 @@
-//! A cursor over the bytes of a text, which goes over each byte once.
+//! A cursor over the bytes of a text, which goes over each byte once, or twice where a line isn't plain.
 //!
 //! The cursor is the bytes that are left. What each step promises is said in the lines and words of
 //! these (`specs/Cursor.antt`).
