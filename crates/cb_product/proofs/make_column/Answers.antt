@@ -17,7 +17,7 @@ returns-then-len-eq1-clause-column g c =
     let r = c.requires in
     let none : length c.args.own_rows.now ≡ 0 = eqb-true _ 0 (sym c.is_empty.ensures ∙ c.if-is_empty.true) in
     let one : length (heap_items c.args.heads.now) ≡ 1 = ap length (sym c.as_slice.ensures.value) ∙ c.as_slice.ensures.len ∙ sym c.len.ensures ∙ c.if-len-eq1.true in
-    let column = rw (c.rows.ensures, c.values.ensures, c.as_slice.ensures.value) at c.scaled.ensures.column in
+    let column = rw (c.row_numbers.ensures, c.values.ensures, c.as_slice.ensures.value) at c.scaled.ensures.column in
     on_ok_weaker c.scaled.result (λ h. column_as s _ _ _ _ h (single s laws _ _ _ _ (heap_items c.args.heads.now) _ (lengths s laws c.args.left.now r.left) (all_values s c.args.left.now _ r.left refl) r.heads none one)) column
 
 pub merge-requires-2-clause-values : goal.merge-requires-2-clause-values

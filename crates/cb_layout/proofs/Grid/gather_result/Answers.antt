@@ -25,7 +25,7 @@ append_column-requires-clause-fits g c =
     let below : c.from.result < length bs = let k = c.requires.count in omega arith in
     let read : c.index-blocks-from.result ≡ block_at bs r = get_or_read bs c.from.result c.index-blocks-from.result below c.index-blocks-from.is none ∙ ap (block_at bs) rank in
     let start : c.result_start-start.result ≡ piece_start q shape.rows (r / q) (r % q) = c.result_start-start.ensures.value ∙ ap (λ d. piece_start q d (r / q) (r % q)) c.rows.ensures.value in
-    let rows = rw read at c.rows-in-loop-rank.ensures in
+    let rows = rw read at c.row_numbers.ensures in
     let height = c.rows.ensures.value in
     let limit = c.rows.ensures.limit in
     subst (λ xs. All (λ x. c.result_start-start.result + x < 4294967296) xs) (sym rows)
@@ -47,7 +47,7 @@ loop-rank-preserved g c =
     let below : c.from.result < length bs = let k = c.requires.count in omega arith in
     let read : c.index-blocks-from.result ≡ block_at bs r = get_or_read bs c.from.result c.index-blocks-from.result below c.index-blocks-from.is none ∙ ap (block_at bs) rank in
     let start : c.result_start-start.result ≡ piece_start q shape.rows (r / q) (r % q) = c.result_start-start.ensures.value ∙ ap (λ d. piece_start q d (r / q) (r % q)) c.rows.ensures.value in
-    let rows = rw read at c.rows-in-loop-rank.ensures in
+    let rows = rw read at c.row_numbers.ensures in
     let values = rw read at c.values.ensures in
     piece_more s q pos shape c.requires.column bs c.requires.count c.requires.shapes c.stored.ensures r known c.loop-rank.entries.items c.append_column.new.entries.items c.result_start-start.result start (rw (rows, values) at c.in_ok-append_column.ensures) c.loop-rank.invariant
 

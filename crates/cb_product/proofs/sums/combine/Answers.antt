@@ -15,14 +15,14 @@ add_heads-requires-clause-values g c = all_values g.S.Semiring.arithmetic c.args
 
 pub add_heads-requires-clause-inside : goal.add_heads-requires-clause-inside
 add_heads-requires-clause-inside g c =
-    subst (λ n. All (λ i. i < n) c.rows.result.now) (sym (c.add_head.ensures.length ∙ c.requires.sums)) (all_rows_inside g.S.Semiring.arithmetic c.args.left.now _ c.requires.left c.rows.ensures)
+    subst (λ n. All (λ i. i < n) c.row_numbers.result.now) (sym (c.add_head.ensures.length ∙ c.requires.sums)) (all_rows_inside g.S.Semiring.arithmetic c.args.left.now _ c.requires.left c.row_numbers.ensures)
 
 pub returns-clause-column : goal.returns-clause-column
 returns-clause-column g c =
     let s = g.S.Semiring.arithmetic in
     let laws = g.met.S.Semiring.is_semiring in
     let r = c.requires in
-    let all = rw (c.rows.ensures, c.values.ensures) at c.add_heads.ensures.sums in
+    let all = rw (c.row_numbers.ensures, c.values.ensures) at c.add_heads.ensures.sums in
     let own = rw c.one.ensures at c.add_head.ensures.sums in
     let left_inside = all_rows_inside s c.args.left.now _ r.left refl in
     on_ok_weaker c.store.result (λ h. column_as s _ _ _ _ h

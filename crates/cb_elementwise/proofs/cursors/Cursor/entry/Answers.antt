@@ -11,4 +11,4 @@ pub returns-then-self-len : goal.returns-then-self-len
 returns-then-self-len g c =
     let n = c.len.ensures in
     entry_here c.args.block.now.entries c.args.self.now.at c.args.self.now.nth c.requires.columns (let t = c.if-self-len.true in omega arith) _ _ _
-    (ap (λ xs. get_or xs c.args.self.now.at 0) c.rows.ensures) c.column_number.ensures (ap (λ xs. get_or xs c.args.self.now.at 0) c.values.ensures)
+    (ap (λ xs. get_or xs c.args.self.now.at 0) c.row_numbers.ensures) c.column_number.ensures (ap (λ xs. get_or xs c.args.self.now.at 0) c.values.ensures)
