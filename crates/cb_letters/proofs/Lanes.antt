@@ -16,6 +16,7 @@ or_false true b e = absurd (let wrong : true ≡ false = e in cc)
 or_false false b e = refl
 
 module _ {P : Type 0} where
+  -- a lane on which nothing was posted is one
   pub IsLane-new : (from to capacity : ℕ) → IsLane {P = P} from to (new_lane capacity)
   IsLane-new from to capacity = record {
     letters = (λ k d below. absurd (omega arith));
@@ -30,6 +31,7 @@ module _ {P : Type 0} where
       by_cases [] f = ap ends_closed f
       by_cases (x ∷ xs) f = let some : 0 < length l.queue = rw f (omega arith) in sym (h.closed some) ∙ e
 
+  -- a lane that is not closed stays one as the letter of its next number is posted
   pub IsLane-append : (from to : ℕ) (l : Lane P) (x : Letter P) → IsLane from to l → l.closed ≡ false → IsAddressed from to (posted l) x → IsLane from to (append l x)
   IsLane-append from to l x h e new = record {
     letters = (λ k d below. at_place k d below);
@@ -59,6 +61,7 @@ module _ {P : Type 0} where
   drop_closed (x ∷ []) some = absurd (omega arith)
   drop_closed (x ∷ (y ∷ ys)) some = refl
 
+  -- a lane stays one as its oldest letter is taken
   pub IsLane-take : (from to : ℕ) (l : Lane P) → IsLane from to l → IsLane from to (after_take l)
   IsLane-take from to l h = record {
     letters = (λ k d below. at_place k d below);

@@ -13,12 +13,12 @@
 //! (`Events`). [`Ports`] are the ends of one rank's lanes, whatever they are made of.
 #![tactic(auto)]
 
-mod ends;
+mod lane_ends;
 
 ghost use Rattle.std.specs.Prelude.{◌≡◌};
 ghost use Rattle.cb_letters.specs.Letters.{is_close};
 
-pub use ends::Ports;
+pub use lane_ends::Ports;
 
 /// What a letter is about, chosen by its sender. A close mark has tag 0.
 #[derive(Clone, Copy, Debug, PartialEq, Eq, Drop)]

@@ -15,11 +15,13 @@ use Rattle.cb_mailbox.proofs.Inboxes.{lane_at, lane_other, same_or_other}
 use Rattle.cb_mailbox.specs.Run.{after, after_post, after_all, post_events, take_events, events_of, events, IsBalanced}
 
 module _ {P : Type 0} where
+  -- the letters posted in two lists of events
   pub posts_on-append : (from to : ℕ) (xs ys : List (Event P)) → posts_on from to (xs ++ ys) ≡ posts_on from to xs ++ posts_on from to ys
   posts_on-append from to [] ys = refl
   posts_on-append from to (Sent f t x ∷ xs) ys = grind (arith, common_steps, posts_on-append from to xs ys)
   posts_on-append from to (Got f t x ∷ xs) ys = posts_on-append from to xs ys
 
+  -- and those taken
   pub takes_on-append : (from to : ℕ) (xs ys : List (Event P)) → takes_on from to (xs ++ ys) ≡ takes_on from to xs ++ takes_on from to ys
   takes_on-append from to [] ys = refl
   takes_on-append from to (Got f t x ∷ xs) ys = grind (arith, common_steps, takes_on-append from to xs ys)
@@ -34,6 +36,7 @@ module _ {P : Type 0} where
   take_queue from sender me [] = refl
   take_queue from sender me (x ∷ xs) = append-nil _
 
+  -- a take posts nothing
   pub take_posts : (from sender me : ℕ) (queue : List (Letter P)) → posts_on from me (take_events sender me queue) ≡ []
   take_posts from sender me [] = refl
   take_posts from sender me (x ∷ xs) = refl
@@ -42,10 +45,12 @@ module _ {P : Type 0} where
   take_same from me [] = refl
   take_same from me (x ∷ xs) = grind (arith, common_steps)
 
+  -- and takes nothing from another sender
   pub take_other : (from sender me : ℕ) (queue : List (Letter P)) → from ≢ sender → takes_on from me (take_events sender me queue) ≡ []
   take_other from sender me [] apart = refl
   take_other from sender me (x ∷ xs) apart = grind (arith, common_steps)
 
+  -- a take from a sender
   pub take_balanced : (box : Inbox P) (sender : ℕ) → is_stranger box sender ≡ false
       → IsBalanced box (with_lane box sender (after_take (lane_from box sender))) (take_events sender box.me (lane_from box sender).queue)
   take_balanced box sender known from inside =
@@ -63,6 +68,7 @@ module _ {P : Type 0} where
   take_call box sender true e from inside = append-nil _
   take_call box sender false e from inside = take_balanced box sender e from inside
 
+  -- one call
   pub call_balanced : (box : Inbox P) (c : Call P) → IsBalanced box (after box c) (events_of box c)
   call_balanced box (Post from tag body) = post_balanced box (post_refusal box from) (next_letter box from tag body) refl refl
   call_balanced box (Close from) = post_balanced box (post_refusal box from) (next_letter box from mark_tag Body.Close) refl refl
@@ -78,17 +84,20 @@ module _ {P : Type 0} where
   take_keeps box sender true = (refl, refl)
   take_keeps box sender false = (refl, length-set box.lanes sender (after_take (lane_from box sender)))
 
+  -- a call changes neither the rank nor the number of lanes
   pub after_keeps : (box : Inbox P) (c : Call P) → ((after box c).me ≡ box.me) × (length (after box c).lanes ≡ length box.lanes)
   after_keeps box (Post from tag body) = after_post_keeps box (post_refusal box from) (next_letter box from tag body)
   after_keeps box (Close from) = after_post_keeps box (post_refusal box from) (next_letter box from mark_tag Body.Close)
   after_keeps box (Take from) = take_keeps box from (is_stranger box from)
 
+  -- so a sender that had a lane has one after it
   pub still_inside : (box : Inbox P) (c : Call P) (from : ℕ) → is_stranger box from ≡ false → is_stranger (after box c) from ≡ false
   still_inside box c from inside = let k = after_keeps box c in rw (k.0, k.1) inside
 
   joined : (q a b p q1 t q2 : List (Letter P)) → q ++ a ≡ t ++ q1 → q1 ++ b ≡ p ++ q2 → q ++ (a ++ b) ≡ (t ++ p) ++ q2
   joined q a b p q1 t q2 e f = sym (append_assoc q a b) ∙ ap (λ (xs : List (Letter P)). xs ++ b) e ∙ append_assoc t q1 b ∙ ap (λ (xs : List (Letter P)). t ++ xs) f ∙ sym (append_assoc t p q2)
 
+  -- a list of calls: on each lane, what was queued and then accepted is what was taken and is queued
   pub all_balanced : (box : Inbox P) (cs : List (Call P)) → IsBalanced box (after_all box cs) (events box cs)
   all_balanced box [] from inside = append-nil _
   all_balanced box (c ∷ cs) from inside =

@@ -40,6 +40,7 @@ module _ {P : Type 0} where
       accepted_by false true f h = absurd (grind (arith, common_steps, e, f, h))
       accepted_by false false f h = (f, h)
 
+  -- a letter of its lane, with its next number, may follow where the lane is open
   pub post_may_follow : (past : List (Event P)) (box : Inbox P) (x : Letter P) → Agrees past box → None ≡ post_refusal box x.from → x.to ≡ box.me → x.number ≡ posted (lane_from box x.from)
       → (is_close x.body ≡ true → x.tag.0 ≡ 0) → MayFollow past (Sent x.from x.to x)
   post_may_follow past box x h e m n tag =
@@ -48,6 +49,7 @@ module _ {P : Type 0} where
       let counted = h.count x.from ok.0 in
       (refl, refl, rw m (omega arith), rw m (sym (h.closed x.from ok.0) ∙ ok.1), tag)
 
+  -- the oldest letter that is queued may follow as the next taken
   pub take_may_follow : (past : List (Event P)) (box : Inbox P) (from : ℕ) (x : Letter P) (xs : List (Letter P)) → Agrees past box → is_stranger box from ≡ false → (lane_from box from).queue ≡ x ∷ xs
       → MayFollow past (Got from box.me x)
   take_may_follow past box from x xs h inside q =
@@ -108,6 +110,7 @@ module _ {P : Type 0} where
             ∙ rw (posts_on-append, sent_elsewhere from box.me x apart) (ap ends_closed (sym (append-nil (posts_on from box.me past))))));
       }
 
+  -- a post, accepted or refused, is legal, and the lanes are what it leaves
   pub post_legal : (past : List (Event P)) (box : Inbox P) (r : Option PostRefusal) (x : Letter P) → Agrees past box → r ≡ post_refusal box x.from → x.to ≡ box.me → x.number ≡ posted (lane_from box x.from)
       → (is_close x.body ≡ true → x.tag.0 ≡ 0) → AreLegalAfter past (post_events r x) × Agrees (past ++ post_events r x) (after_post r box x)
   post_legal past box (Some why) x h e m n tag = (tt, rw append-nil h)
@@ -182,5 +185,6 @@ module _ {P : Type 0} where
     closed = (λ from inside. ap (λ (l : Lane P). l.closed) (new from inside).1);
   }
 
+  -- on a new mailbox the events of a list of calls are legal
   pub run_legal : (box : Inbox P) (cs : List (Call P)) → All IsPostable cs → IsNew box → AreLegal (events box cs)
   run_legal box cs ok new = all_legal [] box cs ok (new_agrees box new)

@@ -5,9 +5,10 @@ use Rattle.std.proofs.lemmas.Bool.Decides.{nat_tests}
 use Rattle.std.proofs.lemmas.List.{length-set, get_or-set_same, get_or-set_other, get_or-replicate, length-replicate}
 use Rattle.cb_plan.specs.Tables.{cell, cell_set, IsTable}
 use Rattle.cb_matrix.specs.Sparse.{Extent}
-use Rattle.cb_plan.specs.Checks.{Outline, IsOutline, IsBlank, SetSlot, slots_in, lanes_in}
+use Rattle.cb_plan.specs.Checks.{CheckState, IsCheckState, IsBlank, SetSlot, slots_in, lanes_in}
 use Rattle.cb_plan.proofs.Effects.{split}
 
+-- a table with one place changed is one of the same size
 pub set_is_table : {X : Type 0} (height width : ℕ) (t : List (List X)) (r n : ℕ) (x : X) → IsTable height width t → r < height → IsTable height width (cell_set t r n x)
 set_is_table height width t r n x is l = record {
   rows = length-set t r (set (get_or t r []) n x) ∙ is.rows;
@@ -21,6 +22,7 @@ set_is_table height width t r n x is l = record {
       ap length (get_or-set_other t r q (set (get_or t r []) n x) [] ne) ∙ is.cols q m);
 }
 
+-- what stands in a table of which one place was set
 pub cell_after_set : {X : Type 0} (blank : X) (height width : ℕ) (t : List (List X)) (r n : ℕ) (x : X) → IsTable height width t → r < height → n < width → (q k : ℕ) →
     cell blank (cell_set t r n x) q k ≡ (if r == q && n == k then x else cell blank t q k)
 cell_after_set blank height width t r n x is l m q k =
@@ -40,31 +42,36 @@ same_everywhere x zero i = refl
 same_everywhere x (suc n) zero = refl
 same_everywhere x (suc n) (suc i) = same_everywhere x n i
 
+-- a table that has one value everywhere has it at each place
 pub blank_cell : {X : Type 0} (x : X) (height width r n : ℕ) → cell x (replicate height (replicate width x)) r n ≡ x
 blank_cell x zero width r n = refl
 blank_cell x (suc height) width zero n = same_everywhere x width n
 blank_cell x (suc height) width (suc r) n = blank_cell x height width r n
 
+-- and is a table
 pub blank_is_table : {X : Type 0} (x : X) (height width : ℕ) → IsTable height width (replicate height (replicate width x))
 blank_is_table x height width = record {
   rows = length-replicate height (replicate width x);
   cols = λ r l. ap length (get_or-replicate height r (replicate width x) [] l) ∙ length-replicate width x;
 }
 
-pub blank_outline : (o : Outline) (ranks : ℕ) → o.ranks ≡ ranks → o.slots ≡ replicate ranks (replicate 256 None) → o.shut ≡ replicate ranks (replicate ranks false) → IsBlank ranks o
-blank_outline o ranks e f g = record {
+-- nothing is there in new tables, and no lane is shut
+pub blank_state : (o : CheckState) (ranks : ℕ) → o.ranks ≡ ranks → o.slots ≡ replicate ranks (replicate 256 None) → o.shut ≡ replicate ranks (replicate ranks false) → IsBlank ranks o
+blank_state o ranks e f g = record {
   ranks_are = e;
   slots = λ i r n. (ap (λ t. slots_in t r n) f ∙ blank_cell None ranks 256 r n) i;
   shut = λ i r n. (ap (λ t. lanes_in t r n) g ∙ blank_cell false ranks ranks r n) i;
 }
 
-pub blank_is_outline : (o : Outline) (ranks : ℕ) → o.ranks ≡ ranks → o.slots ≡ replicate ranks (replicate 256 None) → o.shut ≡ replicate ranks (replicate ranks false) → IsOutline o
-blank_is_outline o ranks e f g = record {
+-- new tables have a slot for each rank and number, and a lane for each two ranks
+pub blank_is_state : (o : CheckState) (ranks : ℕ) → o.ranks ≡ ranks → o.slots ≡ replicate ranks (replicate 256 None) → o.shut ≡ replicate ranks (replicate ranks false) → IsCheckState o
+blank_is_state o ranks e f g = record {
   slots = rw (e, f) (blank_is_table None ranks 256);
   shut = rw (e, g) (blank_is_table false ranks ranks);
 }
 
-pub slot_is_set : (o : Outline) (r n : ℕ) (x : Option Extent) → IsOutline o → r < o.ranks → n < 256 → SetSlot r n x o (record o { slots = cell_set o.slots r n x })
+-- one place of the slots set is one slot with another shape
+pub slot_is_set : (o : CheckState) (r n : ℕ) (x : Option Extent) → IsCheckState o → r < o.ranks → n < 256 → SetSlot r n x o (record o { slots = cell_set o.slots r n x })
 slot_is_set o r n x is l m = record {
   ranks = refl;
   slots = λ i q k. cell_after_set None o.ranks 256 o.slots r n x is.slots l m q k i;

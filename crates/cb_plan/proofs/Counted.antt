@@ -39,6 +39,7 @@ none_in_row row n h = split (Rattle.std.specs.Prelude.nat_lt n (length row))
     not_filled (get_or row n slot_is.Empty) (grind (arith, nat_tests)))
     (λ f. get_or_past row n slot_is.Empty (grind (arith, nat_tests)))
 
+-- where the count is 0, each slot is empty
 pub none_filled : (t : List (List (Slot Sparse))) (r n : ℕ) → count_filled t ≡ 0 → cell slot_is.Empty t r n ≡ slot_is.Empty
 none_filled t r n h = split (Rattle.std.specs.Prelude.nat_lt r (length t))
     (λ u.

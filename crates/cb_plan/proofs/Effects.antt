@@ -8,6 +8,7 @@ use Rattle.cb_plan.specs.declared.acts.Act.{Act}
 use Rattle.cb_plan.specs.declared.acts.Act.TheVariants as act_is
 use Rattle.cb_plan.specs.Meaning.{Algebra, State, act, meaning, target_of, result_of}
 
+-- a statement that holds where a test does, and where it does not, holds
 pub split : {P : Type 0} (b : Bool) → (b ≡ true → P) → (b ≡ false → P) → P
 split true t f = t refl
 split false t f = f refl
@@ -16,6 +17,7 @@ split false t f = f refl
 pub same_state : {M : Type 0} (x y : State M) → ((r n : ℕ) → x r n ≡ y r n) → x ≡ y
 same_state x y h = λ i r n. h r n i
 
+-- what two lists of acts mean, one after the other
 pub meaning-append : {M : Type 0} (ops : Algebra M) (xs ys : List Act) (state : State M) → meaning ops (xs ++ ys) state ≡ meaning ops ys (meaning ops xs state)
 meaning-append ops [] ys state = refl
 meaning-append ops (x ∷ xs) ys state = meaning-append ops xs ys (act ops x state)
@@ -29,6 +31,7 @@ nothing_each ops f state h (x ∷ xs) = meaning-append ops (f x) (flat_map f xs)
 abbrev pub worked : {M : Type 0} → Algebra M → (ℕ → Op) → ℕ → ℕ → State M → State M
 worked ops op a m state r n = if (nat_le a r && nat_lt r (a + m)) && target_of (op r) == n then result_of ops (op r) (state r) else state r n
 
+-- what that means
 pub each_works : {M : Type 0} (ops : Algebra M) (op : ℕ → Op) (a m : ℕ) (state : State M) (r n : ℕ) →
     meaning ops (map (λ k. act_is.Work k (op k)) (range_with_len a m)) state r n ≡ worked ops op a m state r n
 each_works ops op a zero state r n = grind (arith, nat_tests)

@@ -1,19 +1,33 @@
--- Effects: what lists of acts do. Measured: the shapes of a meaning. Ranges: lists over a range that grows.
--- Cells: tables, read and written. Sound: acts without a fault. Holds: loops over ranges. Faults: the steps of the check.
--- Worked: a product added in place. Running: one act on the stores. Plain: the steps of a plan that runs.
--- Projected: the steps of a projection. Passing: acts that pass the check.
--- Counted: slots that are not empty. Fitting: stores that fit a plan, by their count.
+-- Lemmas on plans, by topic. The toolbox: crates above cite those of its lemmas that are `pub`.
+--
+-- Effects: what lists of acts do: `split`, a statement by the two cases of a test; `same_state`, states are
+--   equal where their slots are; `meaning-append`, two lists of acts; `nothing_each`, lists of acts that
+--   change nothing; `each_works`, an operation at each rank of a range.
+-- Measured: `shapes_of_meaning`, the shapes of what acts mean are what they mean for the shapes; `act_turns`
+--   and `meaning_turns`, the same of each map that turns one kind of block into another (`shape_turns`).
+-- Sound: an act is sound just where no fault is found in it, `no_fault` and `is_no_fault`.
+-- Passing: acts that pass: `passes-append` and `lanes_after-append`, of two lists; `move_is_sound` and
+--   `shut_is_sound`, of one act; `passes_check`, acts that pass and shut each lane have no fault, and the
+--   other way round `checked_passes` and `checked_shuts`.
+-- Ranges: lists over a range of numbers that grows, by an element (`pushed`) or by a list (`extended`).
+-- Cells: tables: `set_is_table` and `cell_after_set`, one place set; `blank_is_table` and `blank_cell`, one
+--   value everywhere.
+-- Running: `read_at`, an element that was read by its number; `first_below`, numbers below a limit; the
+--   blocks in the slots after one was set, `state_after_set` and `none_lost_after_set`.
 pub mod Effects
 pub mod Measured
+pub mod Sound
+pub mod Passing
 pub mod Ranges
 pub mod Cells
-pub mod Sound
+pub mod Running
+-- The steps of this crate's own proofs. Holds: loops over ranges. Faults: the check. Worked: a product added
+-- in place. Plain: a plan that runs. Projected: a projection. Counted: slots that are not empty. Fitting: stores
+-- that fit a plan, by their count.
 pub mod Holds
 pub mod Faults
 pub mod Worked
-pub mod Running
 pub mod Plain
 pub mod Projected
 pub mod Counted
 pub mod Fitting
-pub mod Passing

@@ -38,11 +38,13 @@ module _ {M N : Type 0} (f : M → N) (ops : Algebra M) (to : Algebra N) (turns 
   result_turns (op_is.Clear slot) slots = refl
   result_turns (op_is.Mask a m into) slots = two_turns ops.mask to.mask turns.mask (slots a) (slots m)
 
+  -- what an act does, turned, is what it does to what is turned
   pub act_turns : (a : Act) (state : State M) (r n : ℕ) → images f (act ops a state) r n ≡ act to a (images f state) r n
   act_turns (act_is.Move from into tag slot n') state r n = split (into == r && n' == n) (λ t. rw t refl) (λ t. rw t refl)
   act_turns (act_is.Work rank op) state r n = split (rank == r && target_of op == n) (λ t. rw t (result_turns op (state rank))) (λ t. rw t refl)
   act_turns (act_is.Shut from into) state r n = refl
 
+  -- and so is what a list of acts means
   pub meaning_turns : (acts : List Act) (state : State M) → images f (meaning ops acts state) ≡ meaning to acts (images f state)
   meaning_turns [] state = refl
   meaning_turns (a ∷ acts) state = meaning_turns acts (act ops a state) ∙ ap (meaning to acts) (same_state (images f (act ops a state)) (act to a (images f state)) (act_turns a state))
@@ -62,5 +64,6 @@ shape_turns s = record {
   mask = λ a m. refl;
 }
 
+-- the shapes of what acts mean are what the acts mean for the shapes
 pub shapes_of_meaning : (s : Arithmetic) (acts : List Act) (state : State Sparse) → images (λ (m : Sparse). m.shape) (meaning (matrices s) acts state) ≡ meaning shapes acts (images (λ (m : Sparse). m.shape) state)
 shapes_of_meaning s acts state = meaning_turns (λ m. m.shape) (matrices s) shapes (shape_turns s) acts state

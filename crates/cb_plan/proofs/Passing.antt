@@ -14,10 +14,12 @@ use Rattle.cb_plan.specs.Checks.{Lanes, IsSound, Passes, lanes_after, shut_after
 use Rattle.cb_plan.proofs.Sound.{is_no_fault, no_fault}
 use Rattle.cb_plan.proofs.Plain.{both_none}
 
+-- two lists of acts of which each passes where it stands
 pub passes-append : (ranks : ℕ) (state : State Extent) (shut : Lanes) (xs ys : List Act) → Passes ranks state shut xs → Passes ranks (meaning shapes xs state) (lanes_after xs shut) ys → Passes ranks state shut (xs ++ ys)
 passes-append ranks state shut [] ys h k = k
 passes-append ranks state shut (x ∷ xs) ys h k = (h.0, passes-append ranks (act shapes x state) (shut_after x shut) xs ys h.1 k)
 
+-- the lanes after two lists of acts
 pub lanes_after-append : (xs ys : List Act) (shut : Lanes) → lanes_after (xs ++ ys) shut ≡ lanes_after ys (lanes_after xs shut)
 lanes_after-append [] ys shut = refl
 lanes_after-append (x ∷ xs) ys shut = lanes_after-append xs ys (shut_after x shut)
@@ -45,6 +47,7 @@ shut_at_end : (b : Bool) (n : ℕ) → (if b then no_fault_at else Some (record 
 shut_at_end true n h = refl
 shut_at_end false n h = absurd (grind arith)
 
+-- where there is no fault, each lane is shut in the end
 pub checked_shuts : (ranks n : ℕ) (state : State Extent) (shut : Lanes) (acts : List Act) → fault_from ranks n state shut acts ≡ None → are_all_shut ranks (lanes_after acts shut) ≡ true
 unfolding fault_from
 checked_shuts ranks n state shut [] h = shut_at_end (are_all_shut ranks shut) n h

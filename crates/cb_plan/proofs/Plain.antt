@@ -19,6 +19,7 @@ use Rattle.cb_plan.proofs.Faults.{next_element, fault_here}
 use Rattle.cb_plan.proofs.Effects.{same_state}
 use Rattle.cb_plan.proofs.Measured.{act_turns, shape_turns}
 
+-- no fault here, and none later
 pub both_none : (n : ℕ) (k : Option PlanFaultKind) (later : Option PlanFault) → fault_or n k later ≡ None → (k ≡ None) × (later ≡ None)
 both_none n None later h = (refl, h)
 both_none n (Some k) later h = absurd (grind arith)
@@ -31,6 +32,7 @@ no_fault_next ranks i state shut acts a l e h =
     (sym (ap (fault_from ranks i state shut) (next_element acts i a l e) ∙ fault_here ranks i state shut a (drop (i + 1) acts)) ∙ h) in
     (no_fault ranks state shut a parts.0, parts.1)
 
+-- a checked plan on stores that fit runs, before its first act
 pub first_runs : (s : Arithmetic) (p : CheckedView) (first : List (List (Slot Sparse))) → IsChecked p → Fits p.ranks p.starts first → Runs s p.ranks p.acts 0 first first
 first_runs s p first checked fits = record {
   table = fits.table;
@@ -44,12 +46,15 @@ module _ (s : Arithmetic) (ranks : ℕ) (acts : List Act) (i : ℕ) (first now :
   next : IsSound ranks (shapes_of now) runs.shut a × (fault_from ranks (i + 1) (act shapes a (shapes_of now)) (shut_after a runs.shut) (drop (i + 1) acts) ≡ None)
   next = no_fault_next ranks i (shapes_of now) runs.shut acts a l e runs.no_fault
 
+  -- the stores are a table
   pub now_is_table : IsTable (length now) 256 now
   now_is_table = rw runs.table.rows runs.table
 
+  -- the next act can be done
   pub next_is_sound : (shut : Lanes) × IsSound (length now) (shapes_of now) shut a
   next_is_sound = (runs.shut, rw runs.table.rows next.0)
 
+  -- the plan runs on after it
   pub next_runs : (after : List (List (Slot Sparse))) → IsTable (length now) 256 after → NoneLost after → state_of after ≡ act (matrices s) a (state_of now) → Runs s ranks acts (i + 1) first after
   next_runs after table none is =
       let shapes_are : shapes_of after ≡ act shapes a (shapes_of now) =

@@ -17,27 +17,33 @@ use Rattle.cb_plan.specs.Tables.{IsTable, cell, cell_set}
 use Rattle.cb_plan.proofs.Cells.{cell_after_set, set_is_table}
 use Rattle.cb_plan.proofs.Effects.{same_state, split}
 
+-- an element that was read by its number, by any default
 pub read_at : {A : Type 0} (xs : List A) (i : ℕ) (x d : A) → i < length xs → x ≡ get_or xs i x → x ≡ get_or xs i d
 read_at xs i x d h e = sym (get_or_from_slice_get xs i x d (slice_get_read xs (length xs) i x refl h e))
 
+-- of numbers that are below a limit, the first is, and so are the others
 pub first_below : (limit n : ℕ) (ns : List ℕ) → all_below limit (n ∷ ns) ≡ true → (n < limit) × (all_below limit ns ≡ true)
 first_below limit n ns h = (grind (arith, nat_tests), grind (arith, nat_tests))
 
+-- the slot that holds a block has it
 pub sheet_of_slot : {M : Type 0} (x : Option M) → sheet_of (slot_of x) ≡ x
 sheet_of_slot None = refl
 sheet_of_slot (Some m) = refl
 
+-- and is not lost
 pub slot_of_not_lost : {M : Type 0} (x : Option M) → is_lost (slot_of x) ≡ false
 slot_of_not_lost None = refl
 slot_of_not_lost (Some m) = refl
 
 -- a slot that is not lost is set
 module _ {M : Type 0} (t : List (List (Slot M))) (table : IsTable (length t) 256 t) (none : NoneLost t) (r n : ℕ) (x : Slot M) (l : r < length t) (m : n < 256) (kept : is_lost x ≡ false) where
+  -- the blocks in the slots after that
   pub state_after_set : (q k : ℕ) → state_of (cell_set t r n x) q k ≡ (if r == q && n == k then sheet_of x else state_of t q k)
   state_after_set q k =
       let e = cell_after_set slot_is.Empty (length t) 256 t r n x table l m q k in
       ap sheet_of e ∙ split (r == q && n == k) (λ u. rw u refl) (λ u. rw u refl)
 
+  -- nothing is lost by it
   pub none_lost_after_set : NoneLost (cell_set t r n x)
   none_lost_after_set q k =
       let e = cell_after_set slot_is.Empty (length t) 256 t r n x table l m q k in
@@ -53,6 +59,7 @@ module _ (ops : Algebra Sparse) (t : List (List (Slot Sparse))) (table : IsTable
   abbrev Sound : Act → Type 0
   Sound = IsSound (length t) (shapes_of t) shut
 
+  -- a move, done
   pub moved : (from to : ℕ) (tag : Tag) (slot into : ℕ) (source row new : List (Slot Sparse)) (x : Slot Sparse) → Sound (act_is.Move from to tag slot into) →
       source ≡ get_or t from source → row ≡ get_or t to row → x ≡ get_or source slot slot_is.Empty → new ≡ slice_set row into x → Acted ops (act_is.Move from to tag slot into) t (slice_set t to new)
   moved from to tag slot into source row new x sound a b e h =
@@ -70,6 +77,7 @@ module _ (ops : Algebra Sparse) (t : List (List (Slot Sparse))) (table : IsTable
             (λ r n. state_after_set t table none to into x two.0 four.0 kept r n ∙ ap (λ y. if to == r && into == n then y else state_of t r n) (ap sheet_of is_x));
       })
 
+  -- an operation, done
   pub worked : (rank : ℕ) (op : Op) (row new : List (Slot Sparse)) → Sound (act_is.Work rank op) → row ≡ get_or t rank row →
       new ≡ slice_set row (target_of op) (slot_of (result_of ops op (sheets_in row))) → Acted ops (act_is.Work rank op) t (slice_set t rank new)
   worked rank op row new sound b h =

@@ -20,6 +20,7 @@ pub put_back : {M : Type 0} (xs ys zs : List (Slot M)) (n : ℕ) (x y : Slot M) 
 put_back xs ys zs n x y was left put same =
     put ∙ ap (λ l. slice_set l n y) left ∙ set-set xs n Empty y ∙ ap (slice_set xs n) (same ∙ was) ∙ set-get_or xs n Empty
 
+-- the sum of a product and what was taken out is put back
 pub accumulated : (s : Arithmetic) (xs ys zs : List (Slot Sparse)) (a b acc : ℕ) (left right sum new : Sparse) → acc ≢ a → acc ≢ b → Sheet sum ≡ get_or xs acc Empty → ys ≡ slice_set xs acc Empty →
     sheets_in ys a ≡ Some left → sheets_in ys b ≡ Some right → new ≡ sum_of s sum (product s left right) → zs ≡ slice_set ys acc (Sheet new) →
     zs ≡ slice_set xs acc (slot_of (three (matrices s).mul_add (sheets_in xs a) (sheets_in xs b) (sheets_in xs acc)))

@@ -158,7 +158,7 @@ abbrev pub plan_fault : ℕ → List Start → List Act → Option PlanFault
 plan_fault ranks starts acts = fault_from ranks 0 (started starts) none_shut acts
 
 -- what the check knows before an act: the shapes in all slots, and which lanes are shut
-pub record Outline : Type 0 where
+pub record CheckState : Type 0 where
   pub ranks : ℕ
   pub slots : List (List (Option Extent))
   pub shut : List (List Bool)
@@ -170,36 +170,36 @@ abbrev pub lanes_in : List (List Bool) → Lanes
 lanes_in table s t = cell false table s t
 
 -- a slot for each rank and number, a lane for each two ranks
-pub record IsOutline (o : Outline) : Type 0 where
+pub record IsCheckState (o : CheckState) : Type 0 where
   pub slots : IsTable o.ranks 256 o.slots
   pub shut : IsTable o.ranks o.ranks o.shut
 
 -- nothing is there, and no lane is shut
-pub record IsBlank (ranks : ℕ) (o : Outline) : Type 0 where
+pub record IsBlank (ranks : ℕ) (o : CheckState) : Type 0 where
   pub ranks_are : o.ranks ≡ ranks
   pub slots : slots_in o.slots ≡ (λ _ _. None)
   pub shut : lanes_in o.shut ≡ none_shut
 
 -- what stands in the slots before the first act, and no lane is shut
-pub record IsStarted (ranks : ℕ) (starts : List Start) (o : Outline) : Type 0 where
+pub record IsStarted (ranks : ℕ) (starts : List Start) (o : CheckState) : Type 0 where
   pub ranks_are : o.ranks ≡ ranks
   pub slots : slots_in o.slots ≡ started starts
   pub shut : lanes_in o.shut ≡ none_shut
 
 -- the shapes after an act, and the lanes
-pub record DidAct (a : Act) (old new : Outline) : Type 0 where
+pub record DidAct (a : Act) (old new : CheckState) : Type 0 where
   pub ranks : new.ranks ≡ old.ranks
   pub slots : slots_in new.slots ≡ act shapes a (slots_in old.slots)
   pub shut : lanes_in new.shut ≡ shut_after a (lanes_in old.shut)
 
 -- one slot has another shape
-pub record SetSlot (r n : ℕ) (x : Option Extent) (old new : Outline) : Type 0 where
+pub record SetSlot (r n : ℕ) (x : Option Extent) (old new : CheckState) : Type 0 where
   pub ranks : new.ranks ≡ old.ranks
   pub slots : slots_in new.slots ≡ (λ q k. if r == q && n == k then x else slots_in old.slots q k)
   pub shut : new.shut ≡ old.shut
 
-abbrev pub outline_fault : Outline → Act → Option PlanFaultKind
-outline_fault o a = act_fault o.ranks (slots_in o.slots) (lanes_in o.shut) a
+abbrev pub fault_in : CheckState → Act → Option PlanFaultKind
+fault_in o a = act_fault o.ranks (slots_in o.slots) (lanes_in o.shut) a
 
 -- an act without a fault
 pub record IsSound (ranks : ℕ) (state : State Extent) (shut : Lanes) (a : Act) : Type 0 where

@@ -1,5 +1,5 @@
 -- What a plan means, act by act, over blocks of any kind.
-use Rattle.std.specs.Prelude.{◌≡◌, ℕ, ◌&&◌, ◌==◌, if◌then◌else◌, List, [], ◌∷◌, Option, Some, None}
+use Rattle.std.specs.Prelude.{◌≡◌, ℕ, Bool, true, false, ◌&&◌, ◌==◌, if◌then◌else◌, List, [], ◌∷◌, Option, Some, None}
 use Rattle.cb_matrix.specs.Sparse.{Extent}
 use Rattle.cb_elementwise.specs.declared.rules.Test.{Test}
 use Rattle.cb_plan.specs.declared.acts.Op.{Op}
@@ -70,6 +70,12 @@ result_of ops (op_is.Prune a test into) slots = one (ops.prune test) (slots a)
 result_of ops (op_is.Copy a into) slots = slots a
 result_of ops (op_is.Clear slot) slots = None
 result_of ops (op_is.Mask a m into) slots = two ops.mask (slots a) (slots m)
+
+-- whether doing it may take memory: a block without entries and an empty slot take none
+abbrev pub needs_memory : Op → Bool
+needs_memory (op_is.Zero into shape) = false
+needs_memory (op_is.Clear slot) = false
+needs_memory _ = true
 
 -- one act on the slots of all ranks: a copy goes to another rank, a rank does an operation, or a lane is shut
 abbrev pub act : {M : Type 0} → Algebra M → Act → State M → State M

@@ -9,7 +9,7 @@ use Rattle.cb_plan.specs.declared.acts.Half.TheVariants as half_is
 use Rattle.cb_plan.specs.declared.acts.Start.{Start}
 use Rattle.cb_plan.specs.Meaning.{State, act}
 use Rattle.cb_plan.specs.Algebras.{shapes}
-use Rattle.cb_plan.specs.Checks.{Outline, started, fault_from, slots_in, lanes_in}
+use Rattle.cb_plan.specs.Checks.{CheckState, started, fault_from, slots_in, lanes_in}
 
 -- a letter of the shape that the check gives its sheet; a checked plan moves no empty slot
 abbrev pub take_of : ℕ → Tag → ℕ → Option Extent → List Half
@@ -35,8 +35,8 @@ project_from state (a ∷ acts) r = halves_of state a r ++ project_from (act sha
 abbrev pub project : List Start → List Act → ℕ → List Half
 project starts acts r = project_from (started starts) acts r
 
--- what is there of a program after the first i acts, with the outline of the slots then
-pub record Projects (ranks : ℕ) (starts : List Start) (acts : List Act) (r i : ℕ) (o : Outline) (halves : List Half) : Type 0 where
+-- what is there of a program after the first i acts, with what the check knows then
+pub record Projects (ranks : ℕ) (starts : List Start) (acts : List Act) (r i : ℕ) (o : CheckState) (halves : List Half) : Type 0 where
   pub ranks_are : o.ranks ≡ ranks
   pub no_fault : fault_from ranks i (slots_in o.slots) (lanes_in o.shut) (drop i acts) ≡ None
   pub so_far : halves ++ project_from (slots_in o.slots) (drop i acts) r ≡ project starts acts r

@@ -5,8 +5,8 @@ ghost use Rattle.cb_plan.specs.Plans.{CheckedView, IsChecked, IsElsewhere};
 ghost use Rattle.cb_plan.specs.declared.plans.PlanFaultKind.TheVariants.{Memory};
 
 use crate::acts::{Act, Op, Start};
-use crate::outlines::Outline;
-use crate::plans::{Plan, PlanFault, PlanFaultKind};
+use crate::check_states::CheckState;
+use crate::plans::{Plan, PlanFault, PlanFaultKind, Planned};
 use std::alloc::{AllocError, Global};
 use std::marker::Model;
 
@@ -80,6 +80,25 @@ impl CheckedPlan {
     }
 }
 
+impl Planned {
+    ghost use Rattle.cb_plan.specs.Runnable.{IsRunnable};
+
+    /// The plan as one that was checked, and the slot that has each rank's part of the answer. A plan that is
+    /// proved to run isn't looked at again: its parts are moved, and no memory is taken.
+    pub fn into_checked(self) -> (CheckedPlan, u16)
+        requires { IsRunnable self }
+        ensures plan { result.0 ≡ record { ranks = self.plan.ranks; starts = self.starts.items; acts = self.plan.acts } }
+        ensures slot { result.1 ≡ self.result }
+    {
+        let Planned {
+            plan,
+            starts,
+            result: slot,
+        } = self;
+        (CheckedPlan { plan, starts }, slot)
+    }
+}
+
 /// The first fault of a plan, if it has one.
 fn first_fault(
     alloc: Global,
@@ -91,16 +110,16 @@ fn first_fault(
     requires few { length acts.now ≤ 4294967295 }
     ensures { IfOk result (λ fault. fault ≡ plan_fault ranks starts.now acts.now) }
 {
-    let mut outline = Outline::started(alloc, ranks, starts)?;
+    let mut state = CheckState::started(alloc, ranks, starts)?;
     let mut number = 0;
     for act in acts {
-        if let Some(kind) = outline.fault_of(act) {
+        if let Some(kind) = state.fault_of(act) {
             return Ok(Some(PlanFault { act: number, kind }));
         }
-        outline.pass(act);
+        state.pass(act);
         number += 1;
     }
-    if outline.is_all_shut() {
+    if state.is_all_shut() {
         Ok(None)
     } else {
         Ok(Some(PlanFault {

@@ -112,11 +112,14 @@ impl Plan {
         &self.acts
     }
 
-    /// Makes room, so that the next `count` pushes take no memory.
+    /// Makes room, so that the next `count` pushes take no memory. Where there is room already, as there is for
+    /// none, nothing is taken.
     pub fn reserve(&mut self, count: usize) -> Result<(), AllocError>
         ensures ranks { self.new.ranks ≡ self.old.ranks }
         ensures acts { self.new.acts ≡ self.old.acts }
         ensures room { OnOk result (length self.new.acts + count ≤ self.new.room) }
+        ensures granted { length self.old.acts + count ≤ self.old.room → IsOk result }
+        ensures none { count ≡ 0 → IsOk result }
     {
         self.acts.reserve(count)?;
         Ok(())
@@ -131,7 +134,7 @@ impl Plan {
         ensures long { length self.old.acts ≡ 4294967295 → result ≡ Err (record { act = 4294967295; kind = TooLong }) }
         ensures faults { IfErr result (λ e. (e ≡ record { act = 4294967295; kind = TooLong }) ⊎ (e ≡ record { act = 0; kind = Memory })) }
     {
-        // The borrow check knows a type that an act holds only where the body names it.
+        // For the borrow check alone, which knows a type that an act holds only where the body names it.
         let _none: Option<Op> = None;
         if self.acts.len() == MOST_ACTS {
             return Err(self.too_long());
@@ -154,11 +157,13 @@ impl Plan {
     }
 
     /// Makes room for `count` acts more, so that the next pushes can't be refused. TooLong is answered before
-    /// memory is asked for.
+    /// memory is asked for, which is where there isn't room already.
     pub fn make_room(&mut self, count: usize) -> Result<(), PlanFault>
         ensures ranks { self.new.ranks ≡ self.old.ranks }
         ensures acts { self.new.acts ≡ self.old.acts }
         ensures room { OnOk result ((length self.new.acts + count ≤ self.new.room) × (length self.new.acts + count ≤ 4294967295)) }
+        ensures granted { length self.old.acts + count ≤ 4294967295 → length self.old.acts + count ≤ self.old.room → IsOk result }
+        ensures none { count ≡ 0 → IsOk result }
         ensures long { 4294967295 < length self.old.acts + count → result ≡ Err (record { act = length self.old.acts; kind = TooLong }) }
         ensures faults { IfErr result (λ e. ((4294967295 < length self.old.acts + count) × (e ≡ record { act = length self.old.acts; kind = TooLong })) ⊎ (e ≡ record { act = 0; kind = Memory })) }
     {

@@ -4,8 +4,8 @@ ghost use Rattle.cb_plan.specs.Checks.{IsSound, slots_in, lanes_in};
 ghost use Rattle.cb_plan.specs.Programs.{halves_of, half_list, project};
 
 use crate::acts::{Act, Half, Op};
+use crate::check_states::CheckState;
 use crate::checks::CheckedPlan;
-use crate::outlines::Outline;
 use std::alloc::{AllocError, Global};
 
 impl CheckedPlan {
@@ -17,11 +17,11 @@ impl CheckedPlan {
         requires { rank < self.now.ranks }
         ensures { IfOk result (λ halves. halves.items ≡ project self.now.starts self.now.acts rank) }
     {
-        let mut outline = Outline::started(alloc, self.ranks(), self.starts())?;
+        let mut state = CheckState::started(alloc, self.ranks(), self.starts())?;
         let mut halves = Vec::new(alloc);
         for act in self.acts() {
-            append_half(&mut halves, outline.half_of(act, rank))?;
-            outline.pass(act);
+            append_half(&mut halves, state.half_of(act, rank))?;
+            state.pass(act);
         }
         Ok(halves)
     }
@@ -31,7 +31,7 @@ impl CheckedPlan {
 fn append_half(halves: &mut Vec<Half>, half: Option<Half>) -> Result<(), AllocError>
     ensures { OnOk result (halves.new.items ≡ halves.old.items ++ half_list half) }
 {
-    // The borrow check knows a type that a half holds only where the body names it.
+    // For the borrow check, as in `Plan::push`.
     let _none: Option<Op> = None;
     if let Some(half) = half {
         halves.push(half)?;
@@ -39,7 +39,7 @@ fn append_half(halves: &mut Vec<Half>, half: Option<Half>) -> Result<(), AllocEr
     Ok(())
 }
 
-impl Outline {
+impl CheckState {
     /// What a rank does of an act that has no fault here.
     fn half_of(&self, act: &Act, rank: u16) -> Option<Half>
         requires { IsSound self.now.ranks (slots_in self.now.slots) (lanes_in self.now.shut) act.now }

@@ -1,5 +1,5 @@
 //! The slots of a rank.
-ghost use Rattle.std.specs.Prelude.{◌≡◌, ◌<◌, ◌≤◌, ℕ, true, List, Some, length, get_or, replicate, slice_set, IfOk, IsSome, count_by, not};
+ghost use Rattle.std.specs.Prelude.{◌≡◌, ◌<◌, ◌≤◌, ℕ, true, List, Some, None, length, get_or, replicate, slice_set, IfOk, IsOk, IsSome, count_by, not};
 ghost use Rattle.cb_matrix.specs.Sparse.{Sparse};
 ghost use Rattle.cb_plan.specs.declared.stores.Slot.{Slot as SlotOf};
 ghost use Rattle.cb_plan.specs.declared.stores.Slot.TheVariants.{Empty, Sheet, Lost};
@@ -12,7 +12,7 @@ use std::marker::Model;
 use std::mem;
 
 /// How many slots a rank has.
-pub(crate) const SLOTS: u16 = 256;
+pub const SLOTS: u16 = 256;
 
 /// A slot of a rank, for blocks of any kind.
 #[derive(Debug, Drop)]
@@ -115,10 +115,11 @@ impl<S: Semiring> RankStore<S> {
         mem::replace(&mut self.slots[n as usize], Slot::Empty)
     }
 
-    /// A copy of a slot.
+    /// A copy of a slot. One without a block takes no memory.
     pub fn try_copy(&self, n: u16) -> Result<Slot<Block<S>>, AllocError>
         requires { n < 256 }
-        ensures { IfOk result (λ slot. slot ≡ get_or self.now n Empty) }
+        ensures copy { IfOk result (λ slot. slot ≡ get_or self.now n Empty) }
+        ensures granted { sheets_in self.now n ≡ None → IsOk result }
     {
         match self.slot(n) {
             Slot::Empty => Ok(Slot::Empty),

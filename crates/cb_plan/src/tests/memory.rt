@@ -1,21 +1,37 @@
 //! Memory that was taken before, and memory that is refused.
-use super::{entry, fault, plan_of, row_at_0, shape, small};
-use crate::{CheckedPlan, Plan, PlanFaultKind, RankStore, run_plain};
+use super::{block, checked, entry, fault, plan_of, row_at_0, shape, small};
+use crate::{CheckedPlan, Plan, PlanFaultKind, RankStore, Slot, run_plain};
 use cb_dcsc::Block;
 use cb_semirings::PlusTimes;
 use std::alloc::Global;
 use std::test::Fail;
 
+/// With ample memory no call that may be refused is.
 #[test]
-fn acts_fit_into_room_that_was_taken(rt: HostRuntime) -> Result<(), Fail> {
+fn ample_memory_is_taken(rt: HostRuntime) -> Result<(), Fail> {
     let alloc = rt.alloc();
     let mut plan = Plan::new(alloc, 2);
-    if plan.reserve(3).is_ok() {
-        for act in small() {
-            assert!(rt; plan.push(act).is_ok());
-        }
-        assert_eq!(rt; plan.len(), 3);
+    plan.reserve(2)?;
+    assert!(rt; plan.make_room(3).is_ok());
+    for act in small() {
+        assert!(rt; plan.push(act).is_ok());
     }
+    assert_eq!(rt; plan.len(), 3);
+    let plan = checked(alloc)?;
+    assert_eq!(rt; plan.project(alloc, 1)?.len(), 3);
+    let mut first = RankStore::<PlusTimes>::new(alloc)?;
+    first.put(0, block(alloc, 1, 2, &[entry(0, 1, 6)])?);
+    let Slot::Sheet(copy) = first.try_copy(0)? else {
+        return Err("a copy of the block".into());
+    };
+    assert_eq!(rt; copy.entries()?.as_slice(), [entry(0, 1, 6)].as_slice());
+    let stores = vec![in alloc; first, RankStore::new(alloc)?]?;
+    assert!(rt; plan.fits(&stores));
+    let stores = run_plain(alloc, &plan, stores)?;
+    let Slot::Sheet(sent) = stores[1].slot(3) else {
+        return Err("the block that was sent".into());
+    };
+    assert_eq!(rt; sent.entries()?.as_slice(), [entry(0, 1, 6)].as_slice());
     Ok(())
 }
 

@@ -78,6 +78,18 @@ fn sent_after(alloc: Global, op: Op, slot: u16) -> Result<Vec<Entry>, Fail> {
 }
 
 #[test]
+fn operands_are_read_in_the_order_of_the_fields(rt: HostRuntime) -> Result<(), Fail> {
+    let product = Op::MulAdd { a: 5, b: 6, acc: 7 };
+    assert_eq!(rt; product.operands().as_slice(), [5, 6, 7].as_slice());
+    let zero = Op::Zero {
+        into: 1,
+        shape: shape(2, 2)?,
+    };
+    assert_eq!(rt; zero.operands().as_slice().len(), 0);
+    Ok(())
+}
+
+#[test]
 fn products_are_added_in_place_or_apart(rt: HostRuntime) -> Result<(), Fail> {
     let alloc = rt.alloc();
     let sum = sent_after(alloc, Op::MulAdd { a: 0, b: 1, acc: 3 }, 3)?;
