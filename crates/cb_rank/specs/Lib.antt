@@ -1,0 +1,4 @@
+pub mod Agreement
+pub mod Halves
+pub mod Ranks
+pub mod Steps

@@ -1,0 +1,65 @@
+//! Operations on the slots of a rank, some of which may be lost.
+ghost use Rattle.std.specs.Prelude.{◌≡◌, ◌≢◌, ℕ, true, false, ◌∷◌, [], Some, None, Option, slice_set, length};
+ghost use Rattle.cb_matrix.specs.Sparse.{Extent};
+ghost use Rattle.cb_plan.specs.Checks.{all_below, all_filled, operands_of, shapes_agree};
+ghost use Rattle.cb_plan.specs.Meaning.{needs_memory, target_of};
+ghost use Rattle.cb_plan.specs.declared.stores.Slot.TheVariants.{Lost};
+ghost use Rattle.cb_rank.specs.Halves.{slot_at, first_lost, reads_of, work_result};
+ghost use Rattle.cb_rank.specs.Ranks.{HasShape};
+
+use crate::wants::Supply;
+use cb_dcsc::Block;
+use cb_plan::{Op, RankStore, Slot};
+use cb_semirings::Semiring;
+use std::alloc::Global;
+
+/// Does an operation on the slots of a rank, whose slots have the shapes that the operation asks for, and answers
+/// whether memory was refused.
+pub(crate) fn operate<S: Semiring>(
+    alloc: Global,
+    store: &mut RankStore<S>,
+    me: u16,
+    op: &Op,
+    supply: Supply,
+) -> bool
+    requires slots { all_below 256 (target_of op.now ∷ operands_of op.now) ≡ true }
+    requires shapes { (shape : ℕ → Option Extent) × (all_filled shape (operands_of op.now) ≡ true) × (shapes_agree shape op.now ≡ true) × ((n : ℕ) → HasShape (shape n) (slot_at store.old n)) }
+    ensures done { result ≡ false → store.new ≡ slice_set store.old (target_of op.now) (work_result S.arithmetic op.now store.old) }
+    ensures lost { result ≡ true → store.new ≡ slice_set store.old (target_of op.now) (Lost me) }
+    ensures cause { result ≡ true → (needs_memory op.now ≡ true) × (first_lost store.old (reads_of op.now) ≡ None) }
+    ensures starved { supply ≡ Supply.Refused → needs_memory op.now ≡ true → first_lost store.old (reads_of op.now) ≡ None → result ≡ true }
+{
+    match *op {
+        Op::Clear { slot } => {
+            store.clear(slot);
+            return false;
+        }
+        Op::Zero { into, shape } => {
+            store.put(into, Block::empty(alloc, shape));
+            return false;
+        }
+        _ => {}
+    }
+    if let Some(origin) = first_lost(store, op.operands().as_slice()) {
+        store.put_lost(op.target(), origin);
+        return false;
+    }
+    if supply == Supply::Refused || store.work(alloc, op).is_err() {
+        store.put_lost(op.target(), me);
+        return true;
+    }
+    false
+}
+
+/// The origin in the first of some slots that is lost.
+fn first_lost<S: Semiring>(store: &RankStore<S>, slots: &[u16]) -> Option<u16>
+    requires { all_below 256 slots.now ≡ true }
+    ensures { result ≡ first_lost store.now slots.now }
+{
+    for slot in slots {
+        if let Slot::Lost(origin) = store.slot(*slot) {
+            return Some(*origin);
+        }
+    }
+    None
+}
