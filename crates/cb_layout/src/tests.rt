@@ -1,15 +1,32 @@
 //! Worked examples, with ample memory and with each allocation refused in turn.
-ghost use Rattle.std.specs.Prelude.{◌≡◌, ◌*◌};
+ghost use Rattle.std.specs.Prelude.{◌≡◌, ◌↔◌, ◌*◌, IsTrue, All};
+ghost use Rattle.cb_semirings.specs.Arithmetic.{IsValue};
 
 use crate::{DistributedMatrix, Grid, Side};
 use cb_dcsc::Block;
 use cb_matrix::{Entry, LIMIT, Matrix, Shape};
-use cb_semirings::PlusTimes;
+use cb_semirings::{PlusTimes, Semiring};
 use std::alloc::{AllocError, Global};
 use std::test::Fail;
 
 const fn entry(row: u32, column: u32, value: u64) -> Entry {
     Entry { row, column, value }
+}
+
+/// Whether each entry's value is one of the semiring.
+fn are_values<S: Semiring>(entries: &[Entry]) -> bool
+    ensures { IsTrue result ↔ All (λ e. IsValue S.arithmetic e.value) entries.now }
+{
+    entries.iter().all(|entry| S::is_value(entry.value))
+}
+
+/// The vector with a row for each of these entries, if their values are values.
+fn vector(alloc: Global, rows: u32, given: &[Entry]) -> Option<Matrix<PlusTimes>> {
+    if !are_values::<PlusTimes>(given) {
+        return None;
+    }
+    let shape = Shape::new(rows, 1)?;
+    Matrix::from_entries(alloc, shape, given).ok()
 }
 
 /// What a block has: its rows and columns, and the rows and values of its entries.
@@ -216,8 +233,7 @@ fn vectors_on_every_side(rt: HostRuntime) -> Result<(), Fail> {
             }
         }
         let rows = u32::from(grid.ranks());
-        let shape = Shape::new(rows, 1).ok_or("past the limit")?;
-        let vector = Matrix::<PlusTimes>::from_entries(alloc, shape, &given)?;
+        let vector = vector(alloc, rows, &given).ok_or("no vector")?;
         assert!(rt; vector.cols() == 1);
         assert!(rt; vector.rows() == rows);
         let pieces = grid.scatter_input(alloc, &vector)?;
