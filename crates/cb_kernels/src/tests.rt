@@ -51,12 +51,13 @@ fn stores(
     }
     let mut slot = 0u16;
     for operand in operands {
-        let mut blocks = grid.scatter(alloc, operand)?;
-        while let Some(block) = blocks.pop() {
-            let rank = blocks.len();
+        let blocks = grid.scatter(alloc, operand)?;
+        let mut rank = 0usize;
+        for block in blocks {
             if rank < stores.len() && slot < 256 {
                 stores[rank].put(slot, block);
             }
+            rank = rank.saturating_add(1);
         }
         slot = slot.saturating_add(1);
     }
