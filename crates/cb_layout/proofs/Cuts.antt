@@ -11,6 +11,7 @@ use Rattle.cb_layout.specs.Tiles.{block_tiles}
 use Rattle.cb_layout.proofs.Tiles.{IsTiling}
 use Rattle.cb_layout.proofs.Scattered.{IsScattered, tile_is}
 
+-- the blocks of a grid cut a shape into tiles
 pub block_tiling : (q : ℕ) (shape : Extent) → 0 < q → IsTiling shape (block_tiles q shape)
 block_tiling q shape pos =
     let row : (i j : ℕ) → j < shape.cols → (part_with q shape.rows i * q + part_with q shape.cols j) / q ≡ part_with q shape.rows i =
@@ -28,6 +29,7 @@ block_tiling q shape pos =
     }
 
 module _ (s : Arithmetic) (laws : IsSemiring s) (q : ℕ) (pos : 0 < q) (m : Sparse) (matrix : IsMatrix s m) where
+  -- lists of entries that stand in their tiles are the blocks of the matrix
   pub block_is : (blocks : List Sparse) → IsScattered (block_tiles q m.shape) m.entries blocks → (i j : ℕ) → i < q → j < q
       → (block_at blocks (i * q + j) ≡ block_of s q m i j) × IsMatrix s (block_at blocks (i * q + j))
   block_is blocks h i j l k =
@@ -36,7 +38,7 @@ module _ (s : Arithmetic) (laws : IsSemiring s) (q : ℕ) (pos : 0 < q) (m : Spa
       let b = column_of_rank q i j k in
       (both.0 ∙ (λ t. block_of s q m (a t) (b t)), both.1)
 
-  -- glue of cut
+  -- the blocks that a matrix is cut into glue to that matrix
   pub glued_cut : (block : ℕ → ℕ → Sparse) → ((i j : ℕ) → i < q → j < q → block i j ≡ block_of s q m i j) → glued s q m.shape block ≡ m
   glued_cut block h =
       sym (matrix_is s laws m m.shape

@@ -8,10 +8,11 @@ use Rattle.std.proofs.Math.Nat.{add-mul, one-mul, div-add-mod, div-mul-le_self, 
 use Rattle.cb_layout.specs.Parts.{part_start, part_length}
 use Rattle.cb_layout.specs.Blocks.{part_with, place_in_part}
 
--- a number of row i and column j has these
+-- the rank in row i and column j of a grid: its row
 pub row_of_rank : (q i j : ℕ) → j < q → (i * q + j) / q ≡ i
 row_of_rank q i j l = div-mul-add i q j l
 
+-- and its column
 pub column_of_rank : (q i j : ℕ) → j < q → (i * q + j) % q ≡ j
 column_of_rank q i j l =
     let e : (i * q + j) / q ≡ i = row_of_rank q i j l in
@@ -19,6 +20,7 @@ column_of_rank q i j l =
     let g = rw e at f in
     omega arith
 
+-- the rank of a row and a column of the grid is below the number of ranks
 pub rank_below : (q i j : ℕ) → i < q → j < q → i * q + j < q * q
 rank_below q i j l m =
     let e : q * (i + 1) ≤ q * q = mul-le-mul_left q (let k : i + 1 ≤ q = omega arith in k) in
@@ -28,6 +30,7 @@ rank_below q i j l m =
 pub rank_of : (q r : ℕ) → (r / q) * q + r % q ≡ r
 rank_of q r = let e : q * (r / q) + r % q ≡ r = div-add-mod r q in omega arith
 
+-- the row of a rank is below the side of the grid
 pub row_below : (q r : ℕ) → r < q * q → r / q < q
 row_below q r l =
     ⊎_elim

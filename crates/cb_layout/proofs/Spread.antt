@@ -60,6 +60,7 @@ module _ (q d : ℕ) (pos : 0 < q) where
   own_piece p t x l =
       (λ i. part_with q (part_length q d (own_part_of_piece p t x l i)) (own_place_in_part p t x l i)) ∙ own_part q (part_length q d p) pos t x l
 
+-- the pieces of an input, by rank, cut a vector into tiles
 pub input_tiling : (q : ℕ) (shape : Extent) → 0 < q → IsTiling shape (input_tiles q shape)
 input_tiling q shape pos =
     let d = shape.rows in
@@ -75,6 +76,7 @@ input_tiling q shape pos =
       inside = λ r x y l m n. (own_row q d pos (r % q) (r / q) x m, omega arith);
     }
 
+-- and so do the pieces of a result
 pub result_tiling : (q : ℕ) (shape : Extent) → 0 < q → IsTiling shape (result_tiles q shape)
 result_tiling q shape pos =
     let d = shape.rows in
@@ -99,6 +101,7 @@ same_cut s q m i t =
     λ k. matrix_of s (record { rows = rows k; cols = cols k }) (λ x y. at s m (piece_start q d i t + x) (0 + y))
 
 module _ (s : Arithmetic) (laws : IsSemiring s) (q : ℕ) (pos : 0 < q) (m : Sparse) (matrix : IsMatrix s m) where
+  -- lists of entries that stand in their tiles are the pieces of the vector
   pub piece_is : (blocks : List Sparse) → IsScattered (input_tiles q m.shape) m.entries blocks → (t j : ℕ) → t < q → j < q
       → (block_at blocks (t * q + j) ≡ piece_of s q m j t) × IsMatrix s (block_at blocks (t * q + j))
   piece_is blocks h t j l k =
@@ -107,6 +110,7 @@ module _ (s : Arithmetic) (laws : IsSemiring s) (q : ℕ) (pos : 0 < q) (m : Spa
       let b = column_of_rank q t j k in
       (both.0 ∙ (λ i. matrix_of s (piece_shape q m.shape (b i) (a i)) (λ x y. at s m (piece_start q m.shape.rows (b i) (a i) + x) (0 + y))) ∙ same_cut s q m j t, both.1)
 
+  -- the pieces that a vector is cut into glue to that vector
   pub glued_pieces_cut : (block : ℕ → ℕ → Sparse) → ((i t : ℕ) → i < q → t < q → block i t ≡ piece_of s q m i t) → glued_pieces s q m.shape block ≡ m
   glued_pieces_cut block h =
       let d = m.shape.rows in

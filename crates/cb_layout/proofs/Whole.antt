@@ -12,6 +12,7 @@ use Rattle.cb_matrix.specs.Sparse.{Extent, Sparse, IsMatrix, IsInside}
 use Rattle.cb_matrix.specs.Values.{empty_matrix}
 use Rattle.cb_dcsc.specs.Columns.{in_column, columns_with_entries, rows_of, values_of}
 use Rattle.cb_dcsc.specs.Compressed.{entries_in}
+use Rattle.cb_dcsc.proofs.Numbers.{columns_all, entries_all}
 use Rattle.cb_layout.specs.Parts.{part_start, part_length, part_shape}
 use Rattle.cb_layout.specs.Blocks.{block_at, block_of, part_with, place_in_part}
 use Rattle.cb_layout.specs.Distributed.{AreBlocks, glued_blocks}
@@ -23,7 +24,7 @@ use Rattle.cb_layout.proofs.Tiles.{IsTiling, owner_of, moved, tile_of, entries_o
 use Rattle.cb_layout.proofs.Cuts.{block_tiling}
 use Rattle.cb_layout.proofs.Glued.{glued_is_matrix, tile_is_cut, tile_is_part}
 use Rattle.cb_layout.proofs.Counted.{before, before_none, before_more, before_all, entries_below}
-use Rattle.cb_layout.proofs.ColumnNumbers.{columns_all, columns_back, columns_ascend}
+use Rattle.cb_layout.proofs.ColumnNumbers.{columns_ascend}
 
 -- the entries of a column of a tile, with their places in the whole
 pub column_there : (shape : Extent) (t : Tiles) → IsTiling shape t → (r c : ℕ) (es : List Entry) → All (IsInside shape) es
@@ -107,7 +108,7 @@ module _ (s : Arithmetic) (laws : IsSemiring s) (q : ℕ) (shape : Extent) (bloc
   pub of_columns : (P : ℕ → Type 0) (i j : ℕ) → i < q → j < q → All P (columns_in q blocks j i) → All (λ e. owner_of t e ≡ i * q + j → P (place_in_part q shape.cols e.column)) whole.entries
   of_columns P i j l k h =
       let r = i * q + j in
-      let own : All (λ e. P e.column) (block_at blocks r).entries = columns_back P (block_at blocks r).entries h in
+      let own : All (λ e. P e.column) (block_at blocks r).entries = entries_all P (block_at blocks r).entries h in
       entries_of_back t r whole.entries (λ e. P e.column) (subst (λ (b : Sparse). All (λ (e : Entry). P e.column) b.entries) (block_is_part r (rank_below q i j l k)) own)
 
   module _ (i j : ℕ) (row : i < q) (column : j < q) where

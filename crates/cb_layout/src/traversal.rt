@@ -7,7 +7,7 @@ ghost use Rattle.cb_layout.specs.Segments.{shifted, entries_left};
 use crate::Grid;
 use crate::front::Front;
 use cb_dcsc::Block;
-use cb_matrix::{Entry, Shape};
+use cb_matrix::{Entry, LIMIT, Shape};
 use cb_semirings::Semiring;
 use std::alloc::AllocError;
 use std::marker::Model;
@@ -71,7 +71,7 @@ impl<'a, S: Semiring> Segments<'a, S> {
         ensures none { IfNone result ((self.old ≡ []) × (self.new ≡ [])) }
         ensures lengths { IfSome result (λ g. length g.values.now ≡ length g.rows.now) }
         ensures entries { IfSome result (λ g. 0 < length g.rows.now) }
-        ensures inside { IfSome result (λ g. (g.column < 2147483647) × All (λ i. g.top + i < 2147483647) g.rows.now) }
+        ensures inside { IfSome result (λ g. (g.column < LIMIT) × All (λ i. g.top + i < LIMIT) g.rows.now) }
     {
         self.front = reached(self.grid, self.shape, self.blocks, self.front);
         let (row, column) = self.front.first?;

@@ -10,6 +10,7 @@ use Rattle.cb_plan.specs.declared.plans.PlanFault.{PlanFault}
 use Rattle.cb_plan.specs.declared.plans.PlanFaultKind.{PlanFaultKind}
 use Rattle.cb_plan.specs.declared.plans.PlanFaultKind.TheVariants as kind_is
 use Rattle.cb_plan.specs.declared.acts.Start.{Start}
+use Rattle.cb_plan.specs.declared.stores.TheConstants.{SLOTS}
 use Rattle.cb_plan.specs.Meaning.{State, one, two, three, act, target_of}
 use Rattle.cb_plan.specs.Algebras.{shapes}
 use Rattle.cb_plan.specs.Tables.{cell, IsTable}
@@ -107,7 +108,7 @@ abbrev pub act_fault : ℕ → State Extent → Lanes → Act → Option PlanFau
 act_fault ranks state shut a = first_failed (
     (all_below ranks (ranks_of a), kind_is.NoRank)
     ∷ (is_apart a, kind_is.SelfMove)
-    ∷ (all_below 256 (slots_of a), kind_is.NoSlot)
+    ∷ (all_below SLOTS (slots_of a), kind_is.NoSlot)
     ∷ (reads_filled state a, kind_is.EmptySlot)
     ∷ (act_agrees state a, kind_is.Shape)
     ∷ (is_open shut a, kind_is.AfterShut)
@@ -171,7 +172,7 @@ lanes_in table s t = cell false table s t
 
 -- a slot for each rank and number, a lane for each two ranks
 pub record IsCheckState (o : CheckState) : Type 0 where
-  pub slots : IsTable o.ranks 256 o.slots
+  pub slots : IsTable o.ranks SLOTS o.slots
   pub shut : IsTable o.ranks o.ranks o.shut
 
 -- nothing is there, and no lane is shut
@@ -205,7 +206,7 @@ fault_in o a = act_fault o.ranks (slots_in o.slots) (lanes_in o.shut) a
 pub record IsSound (ranks : ℕ) (state : State Extent) (shut : Lanes) (a : Act) : Type 0 where
   pub ranks_exist : all_below ranks (ranks_of a) ≡ true
   pub apart : is_apart a ≡ true
-  pub slots_exist : all_below 256 (slots_of a) ≡ true
+  pub slots_exist : all_below SLOTS (slots_of a) ≡ true
   pub filled : reads_filled state a ≡ true
   pub agree : act_agrees state a ≡ true
   pub open_lane : is_open shut a ≡ true

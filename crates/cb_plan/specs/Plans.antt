@@ -2,6 +2,8 @@
 use Rattle.std.specs.Prelude.{◌≡◌, ◌≢◌, ℕ, ◌<◌, ◌≤◌, ◌⊎◌, List, length, All, AllPairs, None}
 use Rattle.cb_plan.specs.declared.acts.Act.{Act}
 use Rattle.cb_plan.specs.declared.acts.Start.{Start}
+use Rattle.cb_plan.specs.declared.plans.TheConstants.{MOST_ACTS}
+use Rattle.cb_plan.specs.declared.stores.TheConstants.{SLOTS}
 use Rattle.cb_plan.specs.Checks.{plan_fault}
 
 pub record PlanView : Type 0 where
@@ -23,6 +25,6 @@ IsElsewhere a b = (a.rank ≢ b.rank) ⊎ (a.slot ≢ b.slot)
 -- the plan has no fault, and the starts name slots that exist, each once
 pub record IsChecked (p : CheckedView) : Type 0 where
   pub no_fault : plan_fault p.ranks p.starts p.acts ≡ None
-  pub few : length p.acts ≤ 4294967295
-  pub exist : All (λ s. (s.rank < p.ranks) × (s.slot < 256)) p.starts
+  pub few : length p.acts ≤ MOST_ACTS
+  pub exist : All (λ s. (s.rank < p.ranks) × (s.slot < SLOTS)) p.starts
   pub once : AllPairs IsElsewhere p.starts

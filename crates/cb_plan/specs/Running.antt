@@ -4,6 +4,7 @@ use Rattle.cb_semirings.specs.Arithmetic.{Arithmetic}
 use Rattle.cb_matrix.specs.Sparse.{Sparse}
 use Rattle.cb_plan.specs.declared.acts.Act.{Act}
 use Rattle.cb_plan.specs.declared.stores.Slot.{Slot}
+use Rattle.cb_plan.specs.declared.stores.TheConstants.{SLOTS}
 use Rattle.cb_plan.specs.Meaning.{meaning}
 use Rattle.cb_plan.specs.Algebras.{matrices}
 use Rattle.cb_plan.specs.Checks.{Lanes, fault_from}
@@ -12,7 +13,7 @@ use Rattle.cb_plan.specs.Tables.{IsTable}
 
 -- after the first i acts
 pub record Runs (s : Arithmetic) (ranks : ℕ) (acts : List Act) (i : ℕ) (first now : List (List (Slot Sparse))) : Type 0 where
-  pub table : IsTable ranks 256 now
+  pub table : IsTable ranks SLOTS now
   pub none_lost : NoneLost now
   pub shut : Lanes
   pub no_fault : fault_from ranks i (shapes_of now) shut (drop i acts) ≡ None

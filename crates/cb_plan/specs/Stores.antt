@@ -4,6 +4,7 @@ use Rattle.cb_matrix.specs.Sparse.{Sparse, Extent}
 use Rattle.cb_plan.specs.declared.acts.Start.{Start}
 use Rattle.cb_plan.specs.declared.stores.Slot.{Slot}
 use Rattle.cb_plan.specs.declared.stores.Slot.TheVariants as slot_is
+use Rattle.cb_plan.specs.declared.stores.TheConstants.{SLOTS}
 use Rattle.cb_plan.specs.Meaning.{State, one, images}
 use Rattle.cb_plan.specs.Tables.{cell, IsTable}
 use Rattle.cb_plan.specs.Checks.{started, same_shape}
@@ -68,6 +69,6 @@ count_filled stores = sum_by (count_by is_filled) stores
 
 -- a store of 256 slots for each rank; sheets stand just where the starts say, with their shapes; nothing is lost
 pub record Fits (ranks : ℕ) (starts : List Start) (stores : List (List (Slot Sparse))) : Type 0 where
-  pub table : IsTable ranks 256 stores
+  pub table : IsTable ranks SLOTS stores
   pub shapes : shapes_of stores ≡ started starts
   pub none_lost : NoneLost stores

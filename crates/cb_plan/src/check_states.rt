@@ -42,7 +42,7 @@ impl CheckState {
 
     /// What stands in the slots before the first act. All lanes are open.
     pub(crate) fn started(alloc: Global, ranks: u16, starts: &[Start]) -> Result<Self, AllocError>
-        requires { All (λ s. (s.rank < ranks) × (s.slot < 256)) starts.now }
+        requires { All (λ s. (s.rank < ranks) × (s.slot < SLOTS)) starts.now }
         ensures { IfOk result (λ o. IsStarted ranks starts.now o) }
     {
         let mut state = CheckState::new(alloc, ranks)?;
@@ -55,7 +55,7 @@ impl CheckState {
     /// The shape in a slot, if it isn't empty.
     pub(crate) fn slot(&self, rank: u16, slot: u16) -> Option<Shape>
         requires rank { rank < self.now.ranks }
-        requires slot { slot < 256 }
+        requires slot { slot < SLOTS }
         ensures { result ≡ slots_in self.now.slots rank slot }
     {
         self.slots.get(rank as usize, slot as usize)
@@ -64,7 +64,7 @@ impl CheckState {
     /// Puts a shape into a slot, or empties it.
     fn set_slot(&mut self, rank: u16, slot: u16, shape: Option<Shape>)
         requires rank { rank < self.old.ranks }
-        requires slot { slot < 256 }
+        requires slot { slot < SLOTS }
         ensures { SetSlot rank slot shape self.old self.new }
     {
         self.slots.set(rank as usize, slot as usize, shape);
@@ -86,7 +86,7 @@ impl CheckState {
     /// Whether a slot isn't empty.
     fn is_filled(&self, rank: u16, slot: u16) -> bool
         requires rank { rank < self.now.ranks }
-        requires slot { slot < 256 }
+        requires slot { slot < SLOTS }
         ensures { result ≡ is_some (slots_in self.now.slots rank slot) }
     {
         self.slot(rank, slot).is_some()
@@ -95,7 +95,7 @@ impl CheckState {
     /// Whether none of some slots is empty.
     fn are_filled(&self, rank: u16, slots: &[u16]) -> bool
         requires rank { rank < self.now.ranks }
-        requires slots { IsTrue (all_below 256 slots.now) }
+        requires slots { IsTrue (all_below SLOTS slots.now) }
         ensures { result ≡ all_filled (slots_in self.now.slots rank) slots.now }
     {
         for slot in slots {
@@ -109,7 +109,7 @@ impl CheckState {
     /// Whether the operands of an operation are there.
     fn has_operands(&self, rank: u16, op: Op) -> bool
         requires rank { rank < self.now.ranks }
-        requires slots { IsTrue (all_below 256 (operands_of op)) }
+        requires slots { IsTrue (all_below SLOTS (operands_of op)) }
         ensures { result ≡ all_filled (slots_in self.now.slots rank) (operands_of op) }
     {
         let operands = op.operands();
@@ -119,7 +119,7 @@ impl CheckState {
     /// The shape in a slot, which isn't empty.
     fn shape(&self, rank: u16, slot: u16) -> Shape
         requires rank { rank < self.now.ranks }
-        requires slot { slot < 256 }
+        requires slot { slot < SLOTS }
         requires filled { IsSome (slots_in self.now.slots rank slot) }
         ensures { slots_in self.now.slots rank slot ≡ Some result }
     {
@@ -137,7 +137,7 @@ impl CheckState {
     /// The shape of two slots that have one shape.
     fn common_shape(&self, rank: u16, a: u16, b: u16) -> Result<Option<Shape>, PlanFaultKind>
         requires rank { rank < self.now.ranks }
-        requires slots { IsTrue (all_below 256 (a ∷ b ∷ [])) }
+        requires slots { IsTrue (all_below SLOTS (a ∷ b ∷ [])) }
         requires filled { IsTrue (all_filled (slots_in self.now.slots rank) (a ∷ b ∷ [])) }
         ensures { result ≡ (if demand (two same_shape (slots_in self.now.slots rank a) (slots_in self.now.slots rank b)) then Ok (slots_in self.now.slots rank a) else Err PlanFaultKind.Shape) }
     {
@@ -150,7 +150,7 @@ impl CheckState {
     /// other shapes than it asks for.
     fn made_by(&self, rank: u16, op: Op) -> Result<Option<Shape>, PlanFaultKind>
         requires rank { rank < self.now.ranks }
-        requires slots { IsTrue (all_below 256 (operands_of op)) }
+        requires slots { IsTrue (all_below SLOTS (operands_of op)) }
         requires filled { IsTrue (all_filled (slots_in self.now.slots rank) (operands_of op)) }
         ensures { result ≡ (if shapes_agree (slots_in self.now.slots rank) op then Ok (result_of shapes op (slots_in self.now.slots rank)) else Err PlanFaultKind.Shape) }
     {
@@ -224,7 +224,7 @@ fn is_place(part: Shape, shape: Shape, at: (u32, u32)) -> bool
 
 /// Whether all these slots exist.
 fn all_exist(slots: &[u16]) -> bool
-    ensures { result ≡ all_below 256 slots.now }
+    ensures { result ≡ all_below SLOTS slots.now }
 {
     for slot in slots {
         if *slot >= SLOTS {
@@ -236,7 +236,7 @@ fn all_exist(slots: &[u16]) -> bool
 
 /// Whether the slots that an operation names exist.
 fn names_slots(op: &Op) -> bool
-    ensures { result ≡ all_below 256 (target_of op.now ∷ operands_of op.now) }
+    ensures { result ≡ all_below SLOTS (target_of op.now ∷ operands_of op.now) }
 {
     let operands = op.operands();
     let exist = all_exist(operands.as_slice());

@@ -6,7 +6,8 @@ ghost use Rattle.cb_plan.specs.declared.plans.PlanFaultKind.TheVariants.{Memory}
 
 use crate::acts::{Act, Op, Start};
 use crate::check_states::CheckState;
-use crate::plans::{Plan, PlanFault, PlanFaultKind, Planned};
+use crate::plans::{MOST_ACTS, Plan, PlanFault, PlanFaultKind, Planned};
+use crate::stores::SLOTS;
 use std::alloc::{AllocError, Global};
 use std::marker::Model;
 
@@ -37,7 +38,7 @@ impl CheckedPlan {
         plan: Plan,
         starts: &[Start],
     ) -> Result<CheckedPlan, (Plan, PlanFault)>
-        requires exist { All (λ s. (s.rank < plan.ranks) × (s.slot < 256)) starts.now }
+        requires exist { All (λ s. (s.rank < plan.ranks) × (s.slot < SLOTS)) starts.now }
         requires once { AllPairs IsElsewhere starts.now }
         ensures ok { IfOk result (λ checked. checked ≡ record { ranks = plan.ranks; starts = starts.now; acts = plan.acts }) }
         ensures no_fault { IfOk result (λ checked. plan_fault plan.ranks starts.now plan.acts ≡ None) }
@@ -106,8 +107,8 @@ fn first_fault(
     starts: &[Start],
     acts: &[Act],
 ) -> Result<Option<PlanFault>, AllocError>
-    requires starts { All (λ s. (s.rank < ranks) × (s.slot < 256)) starts.now }
-    requires few { length acts.now ≤ 4294967295 }
+    requires starts { All (λ s. (s.rank < ranks) × (s.slot < SLOTS)) starts.now }
+    requires few { length acts.now ≤ MOST_ACTS }
     ensures { IfOk result (λ fault. fault ≡ plan_fault ranks starts.now acts.now) }
 {
     let mut state = CheckState::started(alloc, ranks, starts)?;

@@ -4,7 +4,7 @@ ghost use Rattle.cb_plan.specs.Stores.{Fits, all_stand, count_filled, is_filled,
 
 use crate::acts::Start;
 use crate::checks::CheckedPlan;
-use crate::stores::{RankStore, Slot};
+use crate::stores::{RankStore, SLOTS, Slot};
 use cb_semirings::Semiring;
 
 impl CheckedPlan {
@@ -26,7 +26,7 @@ impl CheckedPlan {
 
 /// Whether a block of each start's shape stands where it says.
 fn all_stand<S: Semiring>(starts: &[Start], stores: &[RankStore<S>]) -> bool
-    requires { All (λ s. (s.rank < length stores.now) × (s.slot < 256)) starts.now }
+    requires { All (λ s. (s.rank < length stores.now) × (s.slot < SLOTS)) starts.now }
     ensures { result ≡ all_stand stores.now starts.now }
 {
     for start in starts {
@@ -40,7 +40,7 @@ fn all_stand<S: Semiring>(starts: &[Start], stores: &[RankStore<S>]) -> bool
 /// Whether a block of the start's shape stands where it says.
 fn stands<S: Semiring>(start: Start, stores: &[RankStore<S>]) -> bool
     requires rank { start.rank < length stores.now }
-    requires slot { start.slot < 256 }
+    requires slot { start.slot < SLOTS }
     ensures { result ≡ stands stores.now start }
 {
     match stores[start.rank as usize].slot(start.slot) {
@@ -54,9 +54,9 @@ fn stands<S: Semiring>(start: Start, stores: &[RankStore<S>]) -> bool
 
 /// How many slots aren't empty.
 fn count_filled<S: Semiring>(stores: &[RankStore<S>]) -> usize
-    requires { length stores.now ≤ 65535 }
+    requires { length stores.now ≤ u16.MAX }
     ensures value { result ≡ count_filled stores.now }
-    ensures sizes { All (λ slots. length slots ≡ 256) stores.now }
+    ensures sizes { All (λ slots. length slots ≡ SLOTS) stores.now }
 {
     let mut count = 0;
     for store in stores {

@@ -6,7 +6,7 @@ ghost use Rattle.cb_plan.specs.Checks.{operands_of, all_below, all_filled, shape
 ghost use Rattle.cb_plan.specs.Stores.{sheets_in, shapes_in, slot_of};
 
 use crate::acts::Op;
-use crate::stores::{RankStore, Slot};
+use crate::stores::{RankStore, SLOTS, Slot};
 use cb_dcsc::Block;
 use cb_elementwise::{add, mask, prune, times};
 use cb_product::{multiply, multiply_into};
@@ -19,7 +19,7 @@ impl<S: Semiring> RankStore<S> {
     /// Does an operation whose operands are there, with the shapes that it asks for. On refusal the slots are as
     /// they were; an operation that needs no memory isn't refused.
     pub fn work(&mut self, alloc: Global, op: &Op) -> Result<(), AllocError>
-        requires slots { all_below 256 (target_of op.now ∷ operands_of op.now) ≡ true }
+        requires slots { all_below SLOTS (target_of op.now ∷ operands_of op.now) ≡ true }
         requires filled { all_filled (shapes_in self.old) (operands_of op.now) ≡ true }
         requires agree { shapes_agree (shapes_in self.old) op.now ≡ true }
         ensures ok { OnOk result (self.new ≡ slice_set self.old (target_of op.now) (slot_of (result_of (matrices S.arithmetic) op.now (sheets_in self.old)))) }
@@ -39,7 +39,7 @@ impl<S: Semiring> RankStore<S> {
 
     /// What an operation makes.
     fn made_by(&self, alloc: Global, op: Op) -> Result<Slot<Block<S>>, AllocError>
-        requires slots { all_below 256 (operands_of op) ≡ true }
+        requires slots { all_below SLOTS (operands_of op) ≡ true }
         requires filled { all_filled (shapes_in self.now) (operands_of op) ≡ true }
         requires agree { shapes_agree (shapes_in self.now) op ≡ true }
         ensures made { IfOk result (λ slot. slot ≡ slot_of (result_of (matrices S.arithmetic) op (sheets_in self.now))) }
@@ -72,7 +72,7 @@ impl<S: Semiring> RankStore<S> {
 
     /// Adds the product of two blocks to a third, which is neither of them and gives its place to the sum.
     fn accumulate(&mut self, alloc: Global, a: u16, b: u16, acc: u16) -> Result<(), AllocError>
-        requires slots { all_below 256 (target_of (Op.MulAdd a b acc) ∷ operands_of (Op.MulAdd a b acc)) ≡ true }
+        requires slots { all_below SLOTS (target_of (Op.MulAdd a b acc) ∷ operands_of (Op.MulAdd a b acc)) ≡ true }
         requires other_left { acc ≢ a }
         requires other_right { acc ≢ b }
         requires filled { all_filled (shapes_in self.old) (operands_of (Op.MulAdd a b acc)) ≡ true }

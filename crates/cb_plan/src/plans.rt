@@ -5,36 +5,47 @@ ghost use Rattle.cb_plan.specs.Plans.{PlanView};
 use crate::acts::{Act, Op, Start};
 use std::alloc::{AllocError, Global};
 use std::marker::Model;
+use thiserror::Error;
 
 /// How many acts a plan may have.
 pub const MOST_ACTS: usize = 4_294_967_295;
 
 /// What may be wrong with a plan, in the order in which it is looked for at an act.
-#[derive(Clone, Copy, Debug, PartialEq, Eq)]
+#[derive(Clone, Copy, Debug, PartialEq, Eq, Error)]
 pub enum PlanFaultKind {
     /// A rank is not below the plan's number of ranks.
+    #[error("no such rank")]
     NoRank,
     /// An act goes from a rank to itself.
+    #[error("from a rank to itself")]
     SelfMove,
-    /// A slot is 256 or more.
+    /// A slot is `SLOTS` or more.
+    #[error("no such slot")]
     NoSlot,
     /// A slot that is read is empty there.
+    #[error("a slot that is read is empty")]
     EmptySlot,
     /// The shapes aren't those that the operation asks for.
+    #[error("shapes don't agree")]
     Shape,
     /// The lane was shut before.
+    #[error("the lane was shut before")]
     AfterShut,
     /// Some lane isn't shut at the end.
+    #[error("a lane isn't shut at the end")]
     NotShut,
     /// The plan has as many acts as a plan may have.
+    #[error("too many acts")]
     TooLong,
     /// There is no memory.
+    #[error("out of memory")]
     Memory,
 }
 
 /// What is wrong with a plan, and at which act, counted from 0. NotShut and TooLong have the plan's length for
 /// their act, Memory has 0.
-#[derive(Clone, Copy, Debug, PartialEq, Eq)]
+#[derive(Clone, Copy, Debug, PartialEq, Eq, Error)]
+#[error("act {act}: {kind}")]
 pub struct PlanFault {
     pub act: u32,
     pub kind: PlanFaultKind,
@@ -61,7 +72,7 @@ pub struct Planned {
     pub result: u16,
 }
 
-/// The acts of all ranks, in one order: at most 4,294,967,295.
+/// The acts of all ranks, in one order: at most `MOST_ACTS`.
 #[derive(Drop)]
 pub struct Plan {
     ranks: u16,
@@ -69,11 +80,13 @@ pub struct Plan {
 }
 
 impl Model for Plan {
+    ghost use Rattle.cb_plan.specs.declared.plans.TheConstants.{MOST_ACTS};
+
     ghost Value = { PlanView };
 
     ghost view = { λ p. record { ranks = p.ranks; acts = p.acts.items; room = vec_capacity p.acts } };
 
-    ghost invariant = { λ p. length p.acts.items ≤ 4294967295 };
+    ghost invariant = { λ p. length p.acts.items ≤ MOST_ACTS };
 }
 
 impl Plan {
@@ -100,7 +113,7 @@ impl Plan {
     /// How many acts there are.
     pub fn len(&self) -> usize
         ensures value { result ≡ length self.now.acts }
-        ensures limit { result ≤ 4294967295 }
+        ensures limit { result ≤ MOST_ACTS }
     {
         self.acts.len()
     }
@@ -130,9 +143,9 @@ impl Plan {
         ensures ranks { self.new.ranks ≡ self.old.ranks }
         ensures acts { self.new.acts ≡ (if is_ok result then self.old.acts ++ act ∷ [] else self.old.acts) }
         ensures room { self.old.room ≤ self.new.room }
-        ensures granted { length self.old.acts < 4294967295 → length self.old.acts < self.old.room → IsOk result }
-        ensures long { length self.old.acts ≡ 4294967295 → result ≡ Err (record { act = 4294967295; kind = TooLong }) }
-        ensures faults { IfErr result (λ e. (e ≡ record { act = 4294967295; kind = TooLong }) ⊎ (e ≡ record { act = 0; kind = Memory })) }
+        ensures granted { length self.old.acts < MOST_ACTS → length self.old.acts < self.old.room → IsOk result }
+        ensures long { length self.old.acts ≡ MOST_ACTS → result ≡ Err (record { act = MOST_ACTS; kind = TooLong }) }
+        ensures faults { IfErr result (λ e. (e ≡ record { act = MOST_ACTS; kind = TooLong }) ⊎ (e ≡ record { act = 0; kind = Memory })) }
     {
         // For the borrow check alone, which knows a type that an act holds only where the body names it.
         let _none: Option<Op> = None;
@@ -161,11 +174,11 @@ impl Plan {
     pub fn make_room(&mut self, count: usize) -> Result<(), PlanFault>
         ensures ranks { self.new.ranks ≡ self.old.ranks }
         ensures acts { self.new.acts ≡ self.old.acts }
-        ensures room { OnOk result ((length self.new.acts + count ≤ self.new.room) × (length self.new.acts + count ≤ 4294967295)) }
-        ensures granted { length self.old.acts + count ≤ 4294967295 → length self.old.acts + count ≤ self.old.room → IsOk result }
+        ensures room { OnOk result ((length self.new.acts + count ≤ self.new.room) × (length self.new.acts + count ≤ MOST_ACTS)) }
+        ensures granted { length self.old.acts + count ≤ MOST_ACTS → length self.old.acts + count ≤ self.old.room → IsOk result }
         ensures none { count ≡ 0 → IsOk result }
-        ensures long { 4294967295 < length self.old.acts + count → result ≡ Err (record { act = length self.old.acts; kind = TooLong }) }
-        ensures faults { IfErr result (λ e. ((4294967295 < length self.old.acts + count) × (e ≡ record { act = length self.old.acts; kind = TooLong })) ⊎ (e ≡ record { act = 0; kind = Memory })) }
+        ensures long { MOST_ACTS < length self.old.acts + count → result ≡ Err (record { act = length self.old.acts; kind = TooLong }) }
+        ensures faults { IfErr result (λ e. ((MOST_ACTS < length self.old.acts + count) × (e ≡ record { act = length self.old.acts; kind = TooLong })) ⊎ (e ≡ record { act = 0; kind = Memory })) }
     {
         if count > MOST_ACTS - self.len() {
             return Err(self.too_long());

@@ -8,7 +8,7 @@ ghost use Rattle.cb_plan.specs.Tables.{IsTable};
 
 use crate::acts::Act;
 use crate::checks::CheckedPlan;
-use crate::stores::RankStore;
+use crate::stores::{RankStore, SLOTS};
 use cb_semirings::Semiring;
 use std::alloc::{AllocError, Global};
 
@@ -24,7 +24,7 @@ pub fn run_plain<S: Semiring>(
     requires { Fits plan.now.ranks plan.now.starts stores.items }
     ensures meaning { IfOk result (λ after. state_of after.items ≡ meaning (matrices S.arithmetic) plan.now.acts (state_of stores.items)) }
     ensures none_lost { IfOk result (λ after. NoneLost after.items) }
-    ensures table { IfOk result (λ after. IsTable plan.now.ranks 256 after.items) }
+    ensures table { IfOk result (λ after. IsTable plan.now.ranks SLOTS after.items) }
 {
     let mut stores = stores;
     for act in plan.acts() {
@@ -39,10 +39,10 @@ fn run_act<S: Semiring>(
     stores: &mut Vec<RankStore<S>>,
     next: &Act,
 ) -> Result<(), AllocError>
-    requires table { IsTable (length stores.old.items) 256 stores.old.items }
+    requires table { IsTable (length stores.old.items) SLOTS stores.old.items }
     requires none_lost { NoneLost stores.old.items }
     requires sound { (shut : Lanes) × IsSound (length stores.old.items) (shapes_of stores.old.items) shut next.now }
-    ensures table { OnOk result (IsTable (length stores.old.items) 256 stores.new.items) }
+    ensures table { OnOk result (IsTable (length stores.old.items) SLOTS stores.new.items) }
     ensures none_lost { OnOk result (NoneLost stores.new.items) }
     ensures act { OnOk result (state_of stores.new.items ≡ act (matrices S.arithmetic) next.now (state_of stores.old.items)) }
 {

@@ -34,24 +34,26 @@ impl<B> Slot<B> {
     }
 }
 
-/// The 256 slots of a rank.
+/// The slots of a rank, `SLOTS` of them.
 #[derive(Debug, Drop)]
 pub struct RankStore<S: Semiring> {
     slots: Vec<Slot<Block<S>>>,
 }
 
 impl<S: Semiring> Model for RankStore<S> {
+    ghost use Rattle.cb_plan.specs.declared.stores.TheConstants.{SLOTS};
+
     ghost Value = { List (SlotOf Sparse) };
 
     ghost view = { λ store. store.slots.items };
 
-    ghost invariant = { λ store. length store.slots.items ≡ 256 };
+    ghost invariant = { λ store. length store.slots.items ≡ SLOTS };
 }
 
 impl<S: Semiring> RankStore<S> {
     /// A store whose slots are all empty.
     pub fn new(alloc: Global) -> Result<Self, AllocError>
-        ensures { IfOk result (λ store. store ≡ replicate 256 Empty) }
+        ensures { IfOk result (λ store. store ≡ replicate SLOTS Empty) }
     {
         let mut slots = Vec::with_capacity(alloc, SLOTS as usize)?;
         for _ in 0..SLOTS {
@@ -62,62 +64,62 @@ impl<S: Semiring> RankStore<S> {
 
     /// What is in a slot.
     pub fn slot(&self, n: u16) -> &Slot<Block<S>>
-        requires { n < 256 }
+        requires { n < SLOTS }
         ensures value { result.now ≡ get_or self.now n Empty }
-        ensures size { length self.now ≡ 256 }
+        ensures size { length self.now ≡ SLOTS }
     {
         &self.slots[n as usize]
     }
 
     /// Puts anything into a slot.
     pub(crate) fn set(&mut self, n: u16, slot: Slot<Block<S>>)
-        requires { n < 256 }
+        requires { n < SLOTS }
         ensures value { self.new ≡ slice_set self.old n slot }
-        ensures size { length self.old ≡ 256 }
+        ensures size { length self.old ≡ SLOTS }
     {
         self.slots[n as usize] = slot;
     }
 
     /// Puts a block into a slot.
     pub fn put(&mut self, n: u16, block: Block<S>)
-        requires { n < 256 }
+        requires { n < SLOTS }
         ensures value { self.new ≡ slice_set self.old n (Sheet block) }
-        ensures size { length self.old ≡ 256 }
+        ensures size { length self.old ≡ SLOTS }
     {
         self.set(n, Slot::Sheet(block));
     }
 
     /// Marks a slot as lost at a rank.
     pub fn put_lost(&mut self, n: u16, origin: u16)
-        requires { n < 256 }
+        requires { n < SLOTS }
         ensures value { self.new ≡ slice_set self.old n (Lost origin) }
-        ensures size { length self.old ≡ 256 }
+        ensures size { length self.old ≡ SLOTS }
     {
         self.set(n, Slot::Lost(origin));
     }
 
     /// Leaves a slot empty.
     pub fn clear(&mut self, n: u16)
-        requires { n < 256 }
+        requires { n < SLOTS }
         ensures value { self.new ≡ slice_set self.old n Empty }
-        ensures size { length self.old ≡ 256 }
+        ensures size { length self.old ≡ SLOTS }
     {
         self.set(n, Slot::Empty);
     }
 
     /// What is in a slot, which is left empty.
     pub fn take(&mut self, n: u16) -> Slot<Block<S>>
-        requires { n < 256 }
+        requires { n < SLOTS }
         ensures value { result ≡ get_or self.old n Empty }
         ensures left { self.new ≡ slice_set self.old n Empty }
-        ensures size { length self.old ≡ 256 }
+        ensures size { length self.old ≡ SLOTS }
     {
         mem::replace(&mut self.slots[n as usize], Slot::Empty)
     }
 
     /// A copy of a slot. One without a block takes no memory.
     pub fn try_copy(&self, n: u16) -> Result<Slot<Block<S>>, AllocError>
-        requires { n < 256 }
+        requires { n < SLOTS }
         ensures copy { IfOk result (λ slot. slot ≡ get_or self.now n Empty) }
         ensures granted { sheets_in self.now n ≡ None → IsOk result }
     {
@@ -130,7 +132,7 @@ impl<S: Semiring> RankStore<S> {
 
     /// The block in a slot.
     pub fn sheet(&self, n: u16) -> &Block<S>
-        requires slot { n < 256 }
+        requires slot { n < SLOTS }
         requires sheet { IsSome (sheets_in self.now n) }
         ensures { sheets_in self.now n ≡ Some result.now }
     {
@@ -143,8 +145,8 @@ impl<S: Semiring> RankStore<S> {
     /// How many slots aren't empty.
     pub fn filled(&self) -> usize
         ensures value { result ≡ count_by is_filled self.now }
-        ensures limit { result ≤ 256 }
-        ensures size { length self.now ≡ 256 }
+        ensures limit { result ≤ SLOTS }
+        ensures size { length self.now ≡ SLOTS }
     {
         count_filled(&self.slots)
     }

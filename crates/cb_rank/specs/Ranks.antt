@@ -7,6 +7,7 @@ use Rattle.cb_plan.specs.declared.acts.Half.TheVariants as half_is
 use Rattle.cb_plan.specs.declared.acts.Start.{Start}
 use Rattle.cb_plan.specs.declared.stores.Slot.{Slot}
 use Rattle.cb_plan.specs.declared.stores.Slot.TheVariants as slot_is
+use Rattle.cb_plan.specs.declared.stores.TheConstants.{SLOTS}
 use Rattle.cb_plan.specs.Algebras.{shapes}
 use Rattle.cb_plan.specs.Checks.{started}
 use Rattle.cb_plan.specs.Letters.{before}
@@ -70,7 +71,7 @@ slots_with half arrival slots = slots
 
 -- the slot that a Take fills exists
 abbrev pub HasSlot : Half → Type 0
-HasSlot (half_is.Take from tag into shape) = into < 256
+HasSlot (half_is.Take from tag into shape) = into < SLOTS
 HasSlot half = Unit {0}
 
 -- a slot is filled just where there is a shape, and its sheet has it; a lost slot may stand for any
@@ -90,12 +91,12 @@ pub record IsRank (x : RankView) : Type 0 where
   pub program : x.program ≡ project x.plan.starts x.plan.acts x.me
   pub progress : x.done ≤ length x.program
   pub refusals : x.refusals ≤ x.done
-  pub size : length x.slots ≡ 256
+  pub size : length x.slots ≡ SLOTS
   pub shapes : (n : ℕ) → HasShape (shapes_at x.plan x.me x.done n) (slot_at x.slots n)
 
 -- one rank's part of a store that fits: its sheets stand just where the starts say, with their shapes, and nothing is lost
 pub record FitsAt (starts : List Start) (me : ℕ) (slots : List (Slot Sparse)) : Type 0 where
-  pub size : length slots ≡ 256
+  pub size : length slots ≡ SLOTS
   pub shapes : (n : ℕ) → shapes_in slots n ≡ started starts me n
   pub none_lost : (n : ℕ) → is_lost (slot_at slots n) ≡ false
 

@@ -9,7 +9,7 @@ ghost use Rattle.cb_rank.specs.Ranks.{HasShape};
 
 use crate::wants::Supply;
 use cb_dcsc::Block;
-use cb_plan::{Op, RankStore, Slot};
+use cb_plan::{Op, RankStore, SLOTS, Slot};
 use cb_semirings::Semiring;
 use std::alloc::Global;
 
@@ -22,7 +22,7 @@ pub(crate) fn operate<S: Semiring>(
     op: &Op,
     supply: Supply,
 ) -> bool
-    requires slots { all_below 256 (target_of op.now ∷ operands_of op.now) ≡ true }
+    requires slots { all_below SLOTS (target_of op.now ∷ operands_of op.now) ≡ true }
     requires shapes { (shape : ℕ → Option Extent) × (all_filled shape (operands_of op.now) ≡ true) × (shapes_agree shape op.now ≡ true) × ((n : ℕ) → HasShape (shape n) (slot_at store.old n)) }
     ensures done { result ≡ false → store.new ≡ slice_set store.old (target_of op.now) (work_result S.arithmetic op.now store.old) }
     ensures lost { result ≡ true → store.new ≡ slice_set store.old (target_of op.now) (Lost me) }
@@ -53,7 +53,7 @@ pub(crate) fn operate<S: Semiring>(
 
 /// The origin in the first of some slots that is lost.
 fn first_lost<S: Semiring>(store: &RankStore<S>, slots: &[u16]) -> Option<u16>
-    requires { all_below 256 slots.now ≡ true }
+    requires { all_below SLOTS slots.now ≡ true }
     ensures { result ≡ first_lost store.now slots.now }
 {
     for slot in slots {

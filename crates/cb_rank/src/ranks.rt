@@ -11,7 +11,7 @@ use crate::wants::{Arrival, Stray, Supply, Want};
 use cb_dcsc::Block;
 use cb_letters::{Body, Letter, Tag};
 use cb_matrix::Shape;
-use cb_plan::{CheckedPlan, Half, Op, RankStore, Slot};
+use cb_plan::{CheckedPlan, Half, MOST_ACTS, Op, RankStore, SLOTS, Slot};
 use cb_semirings::Semiring;
 use std::alloc::{AllocError, Global};
 use std::marker::Model;
@@ -103,7 +103,7 @@ impl<S: Semiring> Rank<S> {
     /// How many halves are not done.
     pub fn remaining(&self) -> u64
         ensures value { result ≡ length self.now.program - self.now.done }
-        ensures few { result ≤ 4294967295 }
+        ensures few { result ≤ MOST_ACTS }
     {
         (self.program.len() - self.done) as u64
     }
@@ -236,7 +236,7 @@ fn copy_of<S: Semiring>(
     slot: u16,
     supply: Supply,
 ) -> (Body<Block<S>>, bool)
-    requires inside { slot < 256 }
+    requires inside { slot < SLOTS }
     requires filled { is_filled (slot_at store.now slot) ≡ true }
     ensures copy { IsCopy me (slot_at store.now slot) result.0 0 (from_bool result.1) }
     ensures starved { supply ≡ Supply.Refused → is_sheet (slot_at store.now slot) ≡ true → result.1 ≡ true }

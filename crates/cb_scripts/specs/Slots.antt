@@ -5,11 +5,12 @@ use Rattle.cb_matrix.specs.Sparse.{Sparse}
 use Rattle.cb_layout.specs.Blocks.{block_of}
 use Rattle.cb_plan.specs.declared.stores.Slot.{Slot}
 use Rattle.cb_plan.specs.declared.stores.Slot.TheVariants as slot_is
+use Rattle.cb_plan.specs.declared.stores.TheConstants.{SLOTS}
 use Rattle.cb_plan.specs.Tables.{cell, IsTable}
 
 -- slot n of each rank has its block, and the other slots have what they had
 pub record Filled (ranks n : ℕ) (blocks : ℕ → Sparse) (old new : List (List (Slot Sparse))) : Type 0 where
-  pub table : IsTable ranks 256 new
+  pub table : IsTable ranks SLOTS new
   pub cells : (r k : ℕ) → r < ranks → cell slot_is.Empty new r k ≡ (if n == k then slot_is.Sheet (blocks r) else cell slot_is.Empty old r k)
 
 -- the block of a matrix that a rank keeps
@@ -24,5 +25,5 @@ slot_with s q r (p ∷ ps) k x = slot_with s q r ps k (if p.0 == k then slot_is.
 -- on a grid of some ranks, their stores have the blocks of these matrices in these slots, and nothing else
 pub record HasOperands (s : Arithmetic) (q : ℕ) (operands : List (ℕ × Sparse)) (stores : List (List (Slot Sparse))) : Type 0 where
   pub some : 0 < q
-  pub table : IsTable (q * q) 256 stores
+  pub table : IsTable (q * q) SLOTS stores
   pub cells : (r k : ℕ) → r < q * q → cell slot_is.Empty stores r k ≡ slot_with s q r operands k slot_is.Empty

@@ -9,13 +9,13 @@ ghost use Rattle.cb_scripts.specs.Slots.{Filled, block_of_rank};
 use cb_dcsc::Block;
 use cb_layout::Grid;
 use cb_matrix::Matrix;
-use cb_plan::{RankStore, Slot};
+use cb_plan::{RankStore, SLOTS, Slot};
 use cb_semirings::Semiring;
 use std::alloc::{AllocError, Global};
 
 /// A store of empty slots for each rank.
 pub fn blank<S: Semiring>(alloc: Global, ranks: u16) -> Result<Vec<RankStore<S>>, AllocError>
-    ensures { IfOk result (λ v. v.items ≡ replicate ranks (replicate 256 Empty)) }
+    ensures { IfOk result (λ v. v.items ≡ replicate ranks (replicate SLOTS Empty)) }
 {
     let mut stores = Vec::new(alloc);
     for _ in 0..ranks {
@@ -32,8 +32,8 @@ pub fn distribute<S: Semiring>(
     slot: u16,
     matrix: &Matrix<S>,
 ) -> Result<(), AllocError>
-    requires slot { slot < 256 }
-    requires table { IsTable (grid.now.side * grid.now.side) 256 stores.old.items }
+    requires slot { slot < SLOTS }
+    requires table { IsTable (grid.now.side * grid.now.side) SLOTS stores.old.items }
     ensures { OnOk result (Filled (grid.now.side * grid.now.side) slot (block_of_rank S.arithmetic grid.now.side matrix.now) stores.old.items stores.new.items) }
 {
     let blocks = grid.scatter(alloc, matrix)?;
@@ -43,9 +43,9 @@ pub fn distribute<S: Semiring>(
 
 /// Moves one block into a slot of each rank.
 fn fill<S: Semiring>(stores: &mut Vec<RankStore<S>>, slot: u16, blocks: Vec<Block<S>>)
-    requires slot { slot < 256 }
+    requires slot { slot < SLOTS }
     requires count { length blocks.items ≡ length stores.old.items }
-    requires table { IsTable (length stores.old.items) 256 stores.old.items }
+    requires table { IsTable (length stores.old.items) SLOTS stores.old.items }
     ensures { Filled (length stores.old.items) slot (block_at blocks.items) stores.old.items stores.new.items }
 {
     let mut blocks = blocks;
@@ -61,7 +61,7 @@ pub fn drain<S: Semiring>(
     stores: Vec<RankStore<S>>,
     slot: u16,
 ) -> Result<Vec<Block<S>>, AllocError>
-    requires slot { slot < 256 }
+    requires slot { slot < SLOTS }
     requires sheets { (r : ℕ) → r < length stores.items → IsSome (state_of stores.items r slot) }
     ensures count { IfOk result (λ v. length v.items ≡ length stores.items) }
     ensures blocks { IfOk result (λ v. (r : ℕ) → r < length stores.items → state_of stores.items r slot ≡ Some (block_at v.items r)) }
