@@ -1,4 +1,4 @@
--- How a plan grows in a loop over a range, where it has room.
+-- How a plan grows, and how it does in a loop over a range where it has room.
 use Rattle.std.proofs.Common.{◌≡◌, ℕ, zero, suc, ◌+◌, ◌<◌, ◌≤◌, List, [], ◌∷◌, ◌++◌, map, length, get_or, take, length-append, refl, sym, ap, ◌∙◌, arith, append_assoc, append-nil, add-one, take-suc}
 use Rattle.std.specs.List.{range_with_len, flat_map}
 use Rattle.std.proofs.lemmas.List.FromFn.{length-map-range_with_len, map-range_with_len_more}
@@ -6,22 +6,30 @@ use Rattle.std.proofs.lemmas.List.Folds.{length-flat_map-take}
 use Rattle.std.proofs.lemmas.Grind.{flat_map-append}
 use Rattle.cb_plan.specs.declared.acts.Act.{Act}
 use Rattle.cb_plan.specs.Plans.{PlanView}
-use Rattle.cb_collectives.specs.Appends.{HasRoom, Appended}
+use Rattle.cb_collectives.specs.Appends.{HasRoom, Grew, Appended}
 
+-- a plan as it is has no acts more
+pub grew_none : (plan : PlanView) → Grew [] plan plan
+grew_none plan = record { ranks_are = refl; acts_are = sym (append-nil plan.acts) }
+
+-- a plan that grows twice has the acts of both
+pub grew_both : (xs ys : List Act) (first now next : PlanView) → Grew xs first now → Grew ys now next → Grew (xs ++ ys) first next
+grew_both xs ys first now next h k = record { ranks_are = k.ranks_are ∙ h.ranks_are; acts_are = k.acts_are ∙ ap (λ zs. zs ++ ys) h.acts_are ∙ append_assoc first.acts xs ys }
+
+-- the same, where there is room
 pub appended_none : (plan : PlanView) → Appended [] plan plan
-appended_none plan = record { ranks = refl; acts_are = sym (append-nil plan.acts); room = omega arith }
+appended_none plan = record { grew = grew_none plan; room = omega arith }
 
 pub appended_both : (xs ys : List Act) (first now next : PlanView) → Appended xs first now → Appended ys now next → Appended (xs ++ ys) first next
 appended_both xs ys first now next h k = record {
-  ranks = k.ranks ∙ h.ranks;
-  acts_are = k.acts_are ∙ ap (λ zs. zs ++ ys) h.acts_are ∙ append_assoc first.acts xs ys;
+  grew = grew_both xs ys first now next h.grew k.grew;
   room = let a = h.room in let b = k.room in omega arith;
 }
 
 -- what is left of the room for two lists
 pub room_left : (xs ys : List Act) (first now : PlanView) → HasRoom first (xs ++ ys) → Appended xs first now → HasRoom now ys
 room_left xs ys first now h k =
-    let e = ap length k.acts_are ∙ length-append first.acts xs in
+    let e = ap length k.grew.acts_are ∙ length-append first.acts xs in
     let f = length-append xs ys in
     let m = h.memory in
     let l = h.limit in
@@ -37,7 +45,7 @@ room_first xs ys first h =
 
 room_for : (xs ys all : List Act) (first now : PlanView) → length xs + length ys ≤ length all → HasRoom first all → Appended xs first now → HasRoom now ys
 room_for xs ys all first now le h k =
-    let e = ap length k.acts_are ∙ length-append first.acts xs in
+    let e = ap length k.grew.acts_are ∙ length-append first.acts xs in
     let m = h.memory in
     let l = h.limit in
     let r = k.room in
@@ -61,7 +69,8 @@ flat_more f a (suc n) b e =
     let g : suc n + 1 ≡ suc (n + 1) = omega arith in
     rw g (ap (λ xs. f a ++ xs) (flat_more f (a + 1) n b (omega arith)) ∙ sym (append_assoc (f a) (flat_map f (range_with_len (a + 1) n)) (f b)))
 
-length_up_to : (f : ℕ → List Act) (a n i b : ℕ) → a + i ≡ b → i < n → length (flat_map f (range_with_len a i)) + length (f b) ≤ length (flat_map f (range_with_len a n))
+-- the lists of a range, up to one of them and with it, are no longer than those of the whole range
+pub length_up_to : (f : ℕ → List Act) (a n i b : ℕ) → a + i ≡ b → i < n → length (flat_map f (range_with_len a i)) + length (f b) ≤ length (flat_map f (range_with_len a n))
 length_up_to f a zero i b e l = absurd (omega arith)
 length_up_to f a (suc n) zero b e l =
     let g : a ≡ b = omega arith in

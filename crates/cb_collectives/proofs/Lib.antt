@@ -15,7 +15,8 @@
 --   (`sends_keep_lanes`); so do gather and all_to_all (`gather_passes`, `all_to_all_passes`).
 -- Closing: the shutting of all lanes passes the check where they are open (`shut_acts_pass`), and shuts each
 --   (`all_shut_after`).
--- Appending: how a plan grows in the loops of this crate.
+-- Appending: how a plan grows: not at all (`grew_none`), and twice (`grew_both`); how long lists of acts are together
+--   (`length_up_to`). The rest is of the loops of this crate, which have room.
 pub mod Appending
 pub mod Places
 pub mod Counts

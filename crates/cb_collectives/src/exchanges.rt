@@ -7,7 +7,7 @@ ghost use Rattle.cb_collectives.specs.Collectives.{AreDistinct, sent_from, all_t
 
 use crate::steps::send;
 use cb_letters::Tag;
-use cb_plan::{Plan, PlanFault};
+use cb_plan::{Plan, PlanFault, SLOTS};
 
 /// Each member sends a slot to each member: slot `slot + t` of member s goes to slot `into + s` of member t.
 ///
@@ -21,8 +21,8 @@ pub fn all_to_all(
     into: u16,
 ) -> Result<(), PlanFault>
     requires distinct { AreDistinct members.now }
-    requires read { slot + length members.now ≤ 256 }
-    requires set { into + length members.now ≤ 256 }
+    requires read { slot + length members.now ≤ SLOTS }
+    requires set { into + length members.now ≤ SLOTS }
     requires apart { (slot + length members.now ≤ into) ⊎ (into + length members.now ≤ slot) }
     ensures ranks { plan.new.ranks ≡ plan.old.ranks }
     ensures acts { plan.new.acts ≡ (if is_ok result then plan.old.acts ++ all_to_all_acts members.now tag slot into else plan.old.acts) }
@@ -42,8 +42,8 @@ fn exchange(
     slot: u16,
     into: u16,
 ) -> Result<(), PlanFault>
-    requires read { slot + length members.now ≤ 256 }
-    requires set { into + length members.now ≤ 256 }
+    requires read { slot + length members.now ≤ SLOTS }
+    requires set { into + length members.now ≤ SLOTS }
     requires room { HasRoom plan.now (all_to_all_acts members.now tag slot into) }
     ensures granted { IsOk result }
     ensures appended { Appended (all_to_all_acts members.now tag slot into) plan.old plan.new }
@@ -64,7 +64,7 @@ fn send_from(
     into: u16,
 ) -> Result<(), PlanFault>
     requires member { s < length members.now }
-    requires read { slot + length members.now ≤ 256 }
+    requires read { slot + length members.now ≤ SLOTS }
     requires room { HasRoom plan.now (sent_from members.now tag slot into s) }
     ensures granted { IsOk result }
     ensures appended { Appended (sent_from members.now tag slot into s) plan.old plan.new }

@@ -7,7 +7,7 @@ ghost use Rattle.cb_collectives.specs.Collectives.{gather_acts, gathered};
 
 use crate::steps::send;
 use cb_letters::Tag;
-use cb_plan::{Plan, PlanFault};
+use cb_plan::{Plan, PlanFault, SLOTS};
 
 /// The `slot` of each member goes to the root: to slot `into` that of the first member, and so on.
 ///
@@ -21,7 +21,7 @@ pub fn gather(
     slot: u16,
     into: u16,
 ) -> Result<(), PlanFault>
-    requires exist { into + length members.now ≤ 256 }
+    requires exist { into + length members.now ≤ SLOTS }
     requires apart { (slot < into) ⊎ (into + length members.now ≤ slot) }
     ensures ranks { plan.new.ranks ≡ plan.old.ranks }
     ensures acts { plan.new.acts ≡ (if is_ok result then plan.old.acts ++ gather_acts members.now root tag slot into else plan.old.acts) }
@@ -42,7 +42,7 @@ fn send_to_root(
     slot: u16,
     into: u16,
 ) -> Result<(), PlanFault>
-    requires exist { into + length members.now ≤ 256 }
+    requires exist { into + length members.now ≤ SLOTS }
     requires room { HasRoom plan.now (gather_acts members.now root tag slot into) }
     ensures granted { IsOk result }
     ensures appended { Appended (gather_acts members.now root tag slot into) plan.old plan.new }

@@ -10,18 +10,14 @@ use Rattle.cb_plan.specs.Checks.{started, none_shut}
 use Rattle.cb_plan.specs.Plans.{PlanView}
 use Rattle.cb_plan.proofs.Ranges.{pushed, extended}
 use Rattle.cb_collectives.specs.Appends.{IsRefusal, IsTooLong, too_long}
+pub use Rattle.cb_collectives.proofs.Appending.{grew_none, grew_both}
+use Rattle.cb_collectives.proofs.Appending.{length_up_to}
 use Rattle.cb_distribution.specs.Flows.{Flows}
 use Rattle.cb_distribution.specs.Growth.{IsWithinLimit, Grew, no_memory}
 
 -- within the limit, a call is refused for want of memory alone
 pub only_memory : (plan : PlanView) (acts : List Act) (e : PlanFault) → IsWithinLimit plan acts → IsRefusal plan acts e → e ≡ no_memory
 only_memory plan acts e l h = ⊎_elim (λ (t : IsTooLong plan acts × (e ≡ too_long plan)). absurd (let m = t.0 in omega arith)) (λ (m : e ≡ no_memory). m) h
-
-pub grew_none : (plan : PlanView) → Grew [] plan plan
-grew_none plan = record { ranks_are = refl; acts_are = sym (append-nil plan.acts) }
-
-pub grew_both : (xs ys : List Act) (first now next : PlanView) → Grew xs first now → Grew ys now next → Grew (xs ++ ys) first next
-grew_both xs ys first now next h k = record { ranks_are = k.ranks_are ∙ h.ranks_are; acts_are = k.acts_are ∙ ap (λ zs. zs ++ ys) h.acts_are ∙ append_assoc first.acts xs ys }
 
 -- the first acts of a plan are the plan's
 pub grew_all : (acts : List Act) (first now : PlanView) → first.acts ≡ [] → Grew acts first now → now.acts ≡ acts
@@ -43,25 +39,12 @@ within_first xs ys plan l = let e = length-append xs ys in omega arith
 pub within_rest : (xs ys : List Act) (first now : PlanView) → IsWithinLimit first (xs ++ ys) → Grew xs first now → IsWithinLimit now ys
 within_rest xs ys first now l h = let e = length-append xs ys in let f = ap length h.acts_are ∙ length-append first.acts xs in omega arith
 
-up_to : (f : ℕ → List Act) (a n i b : ℕ) → a + i ≡ b → i < n → length (flat_map f (range_with_len a i)) + length (f b) ≤ length (flat_map f (range_with_len a n))
-up_to f a zero i b e l = absurd (omega arith)
-up_to f a (suc n) zero b e l =
-    let g : a ≡ b = omega arith in
-    let x = length-append (f a) (flat_map f (range_with_len (a + 1) n)) in
-    let y = ap (λ k. length (f k)) g in
-    omega arith
-up_to f a (suc n) (suc i) b e l =
-    let h = up_to f (a + 1) n i b (omega arith) (omega arith) in
-    let x = length-append (f a) (flat_map f (range_with_len (a + 1) n)) in
-    let y = length-append (f a) (flat_map f (range_with_len (a + 1) i)) in
-    omega arith
-
 -- a loop that extends the plan by a list of acts for each number
 module _ (f : ℕ → List Act) (i : ℕ) (first now : PlanView) where
   pub within_next : (n : ℕ) → i < n → IsWithinLimit first (flat_map f (range_with_len 0 n)) → Grew (flat_map f (range_with_len 0 i)) first now → IsWithinLimit now (f i)
   within_next n l w h =
       let e = ap length h.acts_are ∙ length-append first.acts (flat_map f (range_with_len 0 i)) in
-      let u = up_to f 0 n i i (omega arith) l in
+      let u = length_up_to f 0 n i i (omega arith) l in
       omega arith
 
   pub grew_next : (next : PlanView) → Grew (flat_map f (range_with_len 0 i)) first now → Grew (f i) now next → Grew (flat_map f (range_with_len 0 (i + 1))) first next

@@ -9,6 +9,7 @@ use Rattle.cb_plan.specs.declared.acts.Op.TheVariants as op_is
 use Rattle.cb_plan.specs.declared.acts.Act.{Act}
 use Rattle.cb_plan.specs.declared.acts.Act.TheVariants as act_is
 use Rattle.cb_plan.specs.declared.acts.Start.{Start}
+use Rattle.cb_plan.specs.declared.stores.TheConstants.{SLOTS}
 use Rattle.cb_plan.specs.Meaning.{State}
 use Rattle.cb_plan.specs.Checks.{all_below}
 use Rattle.cb_collectives.specs.Collectives.{are_distinct}
@@ -42,7 +43,7 @@ operand_starts q operands = flat_map (starts_at q operands) (range_with_len 0 (q
 
 -- the operands name slots that exist, each once
 abbrev pub names_slots : List Operand → Bool
-names_slots operands = are_distinct (map (λ o. o.slot) operands) && all_below 256 (map (λ o. o.slot) operands)
+names_slots operands = are_distinct (map (λ o. o.slot) operands) && all_below SLOTS (map (λ o. o.slot) operands)
 
 abbrev pub NamesSlots : List Operand → Type 0
 NamesSlots operands = names_slots operands ≡ true

@@ -9,7 +9,7 @@ ghost use Rattle.cb_distribution.specs.Growth.{IsWithinLimit, no_memory};
 
 use cb_collectives::shut_all;
 use cb_layout::Grid;
-use cb_plan::{Plan, PlanFault, Planned, Start};
+use cb_plan::{Plan, PlanFault, Planned, SLOTS, Start};
 
 /// The plan that these acts are once all lanes are shut after them. Before the first act stand the starts, and
 /// after the last one each rank has its part of the answer in slot `answer`.
@@ -22,9 +22,9 @@ pub fn finish(
     requires ranks { plan.ranks ≡ grid.now.side * grid.now.side }
     requires limit { IsWithinLimit plan (shut_acts (grid.now.side * grid.now.side)) }
     requires flows { Flows (grid.now.side * grid.now.side) none_shut (started starts.items) plan.acts }
-    requires exist { All (λ s. (s.rank < grid.now.side * grid.now.side) × (s.slot < 256)) starts.items }
+    requires exist { All (λ s. (s.rank < grid.now.side * grid.now.side) × (s.slot < SLOTS)) starts.items }
     requires once { AllPairs IsElsewhere starts.items }
-    requires slot { answer < 256 }
+    requires slot { answer < SLOTS }
     ensures ranks { IfOk result (λ p. p.plan.ranks ≡ grid.now.side * grid.now.side) }
     ensures starts { IfOk result (λ p. p.starts.items ≡ starts.items) }
     ensures acts { IfOk result (λ p. p.plan.acts ≡ plan.acts ++ shut_acts (grid.now.side * grid.now.side)) }

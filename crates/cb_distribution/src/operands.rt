@@ -5,7 +5,7 @@ ghost use Rattle.cb_distribution.specs.Distribution.{part_start_at, starts_at, o
 
 use cb_layout::Grid;
 use cb_matrix::Shape;
-use cb_plan::Start;
+use cb_plan::{SLOTS, Start};
 use std::alloc::{AllocError, Global};
 
 /// A matrix of this shape, of which each rank has its part in this slot.
@@ -23,7 +23,7 @@ pub fn operand_starts(
 ) -> Result<Vec<Start>, AllocError>
     requires { NamesSlots operands.now }
     ensures starts { IfOk result (λ v. v.items ≡ operand_starts grid.now.side operands.now) }
-    ensures exist { IfOk result (λ v. All (λ s. (s.rank < grid.now.side * grid.now.side) × (s.slot < 256)) v.items) }
+    ensures exist { IfOk result (λ v. All (λ s. (s.rank < grid.now.side * grid.now.side) × (s.slot < SLOTS)) v.items) }
     ensures once { IfOk result (λ v. AllPairs IsElsewhere v.items) }
 {
     let mut starts = Vec::new(alloc);

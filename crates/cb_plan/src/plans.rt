@@ -1,5 +1,6 @@
 //! Plans, which grow act by act, and what may be wrong with one.
 ghost use Rattle.std.specs.Prelude.{◌≡◌, ◌<◌, ◌≤◌, ◌+◌, List, [], ◌∷◌, ◌++◌, length, vec_capacity, if◌then◌else◌, is_ok, IsOk, IfErr, OnOk, IsErrOf, ◌↔◌, ◌⊎◌, Err};
+ghost use Rattle.cb_plan.specs.declared.plans.TheConstants.{MOST_ACTS};
 ghost use Rattle.cb_plan.specs.Plans.{PlanView};
 
 use crate::acts::{Act, Op, Start};
@@ -80,8 +81,6 @@ pub struct Plan {
 }
 
 impl Model for Plan {
-    ghost use Rattle.cb_plan.specs.declared.plans.TheConstants.{MOST_ACTS};
-
     ghost Value = { PlanView };
 
     ghost view = { λ p. record { ranks = p.ranks; acts = p.acts.items; room = vec_capacity p.acts } };

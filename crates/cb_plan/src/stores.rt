@@ -3,6 +3,7 @@ ghost use Rattle.std.specs.Prelude.{◌≡◌, ◌<◌, ◌≤◌, ℕ, true, Li
 ghost use Rattle.cb_matrix.specs.Sparse.{Sparse};
 ghost use Rattle.cb_plan.specs.declared.stores.Slot.{Slot as SlotOf};
 ghost use Rattle.cb_plan.specs.declared.stores.Slot.TheVariants.{Empty, Sheet, Lost};
+ghost use Rattle.cb_plan.specs.declared.stores.TheConstants.{SLOTS};
 ghost use Rattle.cb_plan.specs.Stores.{is_filled, sheets_in};
 
 use cb_dcsc::Block;
@@ -41,8 +42,6 @@ pub struct RankStore<S: Semiring> {
 }
 
 impl<S: Semiring> Model for RankStore<S> {
-    ghost use Rattle.cb_plan.specs.declared.stores.TheConstants.{SLOTS};
-
     ghost Value = { List (SlotOf Sparse) };
 
     ghost view = { λ store. store.slots.items };
