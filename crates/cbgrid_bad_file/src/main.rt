@@ -1,0 +1,16 @@
+//! The program `cbgrid` again, for a stored run that fails: a file that is no matrix ends it with status 4, and
+//! nothing on standard output.
+#![tactic(auto)]
+
+use cb_cli::endings::{Status, run};
+use cb_cli::files::SystemFiles;
+use cb_cli::sinks::WriterSink;
+use cb_cli::words::asked;
+use std::io;
+
+fn main(rt: HostRuntime) -> Status {
+    let mut out = WriterSink::new(io::writer(&rt));
+    let mut errors = WriterSink::new(rt.stderr());
+    let files = SystemFiles::new(&rt);
+    run(rt.alloc(), asked(&rt), &files, &mut out, &mut errors)
+}
