@@ -1,122 +1,90 @@
 //! Worked examples, with ample memory and with each allocation refused in turn.
-ghost use Rattle.std.specs.Prelude.{◌≡◌, ◌↔◌, IsTrue, All, IfOk};
-ghost use Rattle.cb_semirings.specs.Arithmetic.{IsValue};
-
 use crate::{multiply, multiply_into};
-use cb_dcsc::Block;
-use cb_matrix::{Entry, LIMIT, Matrix, Shape};
+use cb_matrix::{Entry, LIMIT, Matrix};
+use cb_samples::{SampleFault, are_values, block, entry, shape};
 use cb_semirings::{MinPlus, OrAnd, PlusTimes, Semiring};
 use std::alloc::Global;
 use std::test::Fail;
 
-const fn entry(row: u32, column: u32, value: u64) -> Entry {
-    Entry { row, column, value }
+/// The entries of the product of two blocks, of these sides: rows, inner side, columns.
+fn product<S: Semiring>(
+    alloc: Global,
+    sides: [u32; 3],
+    left: &[Entry],
+    right: &[Entry],
+) -> Result<Vec<Entry>, SampleFault> {
+    let a = block::<S>(alloc, sides[0], sides[1], left)?;
+    let b = block::<S>(alloc, sides[1], sides[2], right)?;
+    Ok(multiply(alloc, &a, &b)?.entries()?)
 }
 
-fn shape(rows: u32, cols: u32) -> Result<Shape, Fail>
-    ensures { IfOk result (λ s. s ≡ record { rows = rows; cols = cols }) }
-{
-    Ok(Shape::new(rows, cols).ok_or("past the limit")?)
-}
-
-/// Whether each entry's value is one of the semiring.
-fn are_values<S: Semiring>(entries: &[Entry]) -> bool
-    ensures { IsTrue result ↔ All (λ e. IsValue S.arithmetic e.value) entries.now }
-{
-    entries.iter().all(|entry| S::is_value(entry.value))
-}
-
-/// A block of plus-times, whose values are all numbers.
-fn block(alloc: Global, rows: u32, cols: u32, entries: &[Entry]) -> Result<Block<PlusTimes>, Fail> {
-    if !are_values::<PlusTimes>(entries) {
-        return Err("a value out of range".into());
+/// The same of a product of plus-times that is added to a block.
+fn added(
+    alloc: Global,
+    sides: [u32; 3],
+    left: &[Entry],
+    right: &[Entry],
+    own: &[Entry],
+) -> Result<Vec<Entry>, SampleFault> {
+    let a = block::<PlusTimes>(alloc, sides[0], sides[1], left)?;
+    let b = block::<PlusTimes>(alloc, sides[1], sides[2], right)?;
+    let start = block::<PlusTimes>(alloc, sides[0], sides[2], own)?;
+    match multiply_into(alloc, &a, &b, start) {
+        Ok(sum) => Ok(sum.entries()?),
+        Err((_, refused)) => Err(refused.into()),
     }
-    Ok(Block::from_sorted(alloc, shape(rows, cols)?, entries)?)
 }
 
 #[test]
 fn multiplies_two_by_two(rt: HostRuntime) -> Result<(), Fail> {
-    let alloc = rt.alloc();
-    let a = block(
-        alloc,
-        2,
-        2,
-        &[entry(0, 0, 1), entry(0, 1, 2), entry(1, 1, 3)],
-    )?;
-    let b = block(alloc, 2, 2, &[entry(1, 0, 4), entry(0, 1, 1)])?;
-    assert!(rt; a.shape().cols() == b.shape().rows());
-    let product = multiply(alloc, &a, &b)?;
-    assert_eq!(rt;
-        product.entries()?.as_slice(),
-        [entry(0, 0, 8), entry(1, 0, 12), entry(0, 1, 1)].as_slice()
-    );
-    let start = block(alloc, 2, 2, &[entry(0, 1, u64::MAX), entry(1, 1, 5)])?;
-    assert!(rt; start.shape() == shape(a.shape().rows(), b.shape().cols())?);
-    let sum = multiply_into(alloc, &a, &b, start).map_err(|refused| refused.1)?;
-    assert_eq!(rt;
-        sum.entries()?.as_slice(),
-        [entry(0, 0, 8), entry(1, 0, 12), entry(1, 1, 5)].as_slice()
-    );
+    let left = [entry(0, 0, 1), entry(0, 1, 2), entry(1, 1, 3)];
+    let right = [entry(1, 0, 4), entry(0, 1, 1)];
+    let found = product::<PlusTimes>(rt.alloc(), [2; 3], &left, &right)?;
+    let wanted = [entry(0, 0, 8), entry(1, 0, 12), entry(0, 1, 1)];
+    assert_eq!(rt; found.as_slice(), wanted.as_slice());
+    let own = [entry(0, 1, u64::MAX), entry(1, 1, 5)];
+    let sum = added(rt.alloc(), [2; 3], &left, &right, &own)?;
+    let wanted = [entry(0, 0, 8), entry(1, 0, 12), entry(1, 1, 5)];
+    assert_eq!(rt; sum.as_slice(), wanted.as_slice());
     Ok(())
 }
 
 #[test]
 fn a_sum_that_comes_to_zero_is_not_stored(rt: HostRuntime) -> Result<(), Fail> {
-    let alloc = rt.alloc();
-    let given = [
+    let left = [
         entry(0, 0, 1),
         entry(2, 0, 1),
         entry(0, 1, u64::MAX),
         entry(1, 1, 5),
     ];
-    let a = block(alloc, 3, 2, &given)?;
-    let ones = block(alloc, 2, 1, &[entry(0, 0, 1), entry(1, 0, 1)])?;
-    assert!(rt; a.shape().cols() == ones.shape().rows());
-    let product = multiply(alloc, &a, &ones)?;
-    assert_eq!(rt; product.column_numbers(), [0].as_slice());
-    assert_eq!(rt; product.row_numbers(), [1, 2].as_slice());
-    assert_eq!(rt; product.values(), [5, 1].as_slice());
+    let ones = [entry(0, 0, 1), entry(1, 0, 1)];
+    let found = product::<PlusTimes>(rt.alloc(), [3, 2, 1], &left, &ones)?;
+    assert_eq!(rt; found.as_slice(), [entry(1, 0, 5), entry(2, 0, 1)].as_slice());
     Ok(())
 }
 
 #[test]
 fn blocks_without_rows_columns_or_entries_have_empty_products(rt: HostRuntime) -> Result<(), Fail> {
-    let alloc = rt.alloc();
-    for (rows, inner, cols) in [(0, 0, 0), (0, 3, 2), (2, 0, 3), (2, 3, 0), (2, 3, 4)] {
-        let a = block(alloc, rows, inner, &[])?;
-        let b = block(alloc, inner, cols, &[])?;
-        assert!(rt; a.shape().cols() == b.shape().rows());
-        let product = multiply(alloc, &a, &b)?;
-        assert_eq!(rt; product.shape(), shape(rows, cols)?);
-        assert_eq!(rt; product.len(), 0);
+    for sides in [[0, 0, 0], [0, 3, 2], [2, 0, 3], [2, 3, 0], [2, 3, 4]] {
+        let found = product::<PlusTimes>(rt.alloc(), sides, &[], &[])?;
+        assert_eq!(rt; found.len(), 0);
     }
     Ok(())
 }
 
 #[test]
 fn the_largest_sides_cost_what_the_entries_cost(rt: HostRuntime) -> Result<(), Fail> {
-    let alloc = rt.alloc();
-    let a = block(
-        alloc,
-        LIMIT,
-        LIMIT,
-        &[entry(0, LIMIT - 1, 7), entry(LIMIT - 1, LIMIT - 1, 5)],
-    )?;
-    let b = block(alloc, LIMIT, LIMIT, &[entry(LIMIT - 1, 4, 3)])?;
-    assert!(rt; a.shape().cols() == b.shape().rows());
-    let product = multiply(alloc, &a, &b)?;
-    assert_eq!(rt;
-        product.entries()?.as_slice(),
-        [entry(0, 4, 21), entry(LIMIT - 1, 4, 15)].as_slice()
-    );
+    let last = LIMIT - 1;
+    let left = [entry(0, last, 7), entry(last, last, 5)];
+    let found = product::<PlusTimes>(rt.alloc(), [LIMIT; 3], &left, &[entry(last, 4, 3)])?;
+    assert_eq!(rt; found.as_slice(), [entry(0, 4, 21), entry(last, 4, 15)].as_slice());
     Ok(())
 }
 
 /// Among 5 rows the products are summed row by row, among 2,147,483,647 the columns are joined.
 #[test]
 fn three_columns_meet_in_one_row(rt: HostRuntime) -> Result<(), Fail> {
-    let alloc = rt.alloc();
-    let given = [
+    let left = [
         entry(1, 0, 1),
         entry(3, 0, 2),
         entry(0, 1, 4),
@@ -124,18 +92,16 @@ fn three_columns_meet_in_one_row(rt: HostRuntime) -> Result<(), Fail> {
         entry(1, 2, 16),
         entry(4, 2, 32),
     ];
-    let ones = block(
-        alloc,
-        3,
-        1,
-        &[entry(0, 0, 1), entry(1, 0, 1), entry(2, 0, 1)],
-    )?;
+    let ones = [entry(0, 0, 1), entry(1, 0, 1), entry(2, 0, 1)];
+    let wanted = [
+        entry(0, 0, 4),
+        entry(1, 0, 25),
+        entry(3, 0, 2),
+        entry(4, 0, 32),
+    ];
     for rows in [5, LIMIT] {
-        let a = block(alloc, rows, 3, &given)?;
-        assert!(rt; a.shape().cols() == ones.shape().rows());
-        let product = multiply(alloc, &a, &ones)?;
-        assert_eq!(rt; product.row_numbers(), [0, 1, 3, 4].as_slice());
-        assert_eq!(rt; product.values(), [4, 25, 2, 32].as_slice());
+        let found = product::<PlusTimes>(rt.alloc(), [rows, 3, 1], &left, &ones)?;
+        assert_eq!(rt; found.as_slice(), wanted.as_slice());
     }
     Ok(())
 }
@@ -144,8 +110,7 @@ fn three_columns_meet_in_one_row(rt: HostRuntime) -> Result<(), Fail> {
 /// are summed.
 #[test]
 fn marked_rows_come_in_order(rt: HostRuntime) -> Result<(), Fail> {
-    let alloc = rt.alloc();
-    let given = [
+    let left = [
         entry(0, 0, 1),
         entry(64, 0, 2),
         entry(127, 0, 4),
@@ -154,78 +119,62 @@ fn marked_rows_come_in_order(rt: HostRuntime) -> Result<(), Fail> {
         entry(64, 1, 32),
         entry(128, 1, 64),
     ];
-    let a = block(alloc, 200, 2, &given)?;
-    let mut ones = Vec::new(alloc);
+    let sums = [(0, 1), (63, 16), (64, 34), (127, 4), (128, 64), (199, 8)];
+    let mut ones = Vec::new(rt.alloc());
+    let mut wanted = Vec::new(rt.alloc());
     for column in 0..10 {
         ones.push(entry(0, column, 1))?;
         ones.push(entry(1, column, 1))?;
+        for (row, value) in sums {
+            wanted.push(entry(row, column, value))?;
+        }
     }
-    let b = block(alloc, 2, 10, &ones)?;
-    assert!(rt; a.shape().cols() == b.shape().rows());
-    let product = multiply(alloc, &a, &b)?;
-    for column in 0..10 {
-        let (rows, values) = product.column(column);
-        assert_eq!(rt; rows, [0, 63, 64, 127, 128, 199].as_slice());
-        assert_eq!(rt; values, [1, 16, 34, 4, 64, 8].as_slice());
-    }
+    let found = product::<PlusTimes>(rt.alloc(), [200, 2, 10], &left, &ones)?;
+    assert_eq!(rt; found.as_slice(), wanted.as_slice());
     Ok(())
 }
 
 /// A column that names one column is copied as it is scaled, and 2 times 2^63 is zero.
 #[test]
 fn one_named_column_is_a_scaled_copy(rt: HostRuntime) -> Result<(), Fail> {
-    let alloc = rt.alloc();
-    let given = [entry(0, 0, 1 << 63), entry(2, 0, 3), entry(1, 1, 9)];
-    let a = block(alloc, 3, 2, &given)?;
-    let b = block(alloc, 2, 2, &[entry(0, 0, 2), entry(1, 1, 5)])?;
-    assert!(rt; a.shape().cols() == b.shape().rows());
-    let product = multiply(alloc, &a, &b)?;
-    assert_eq!(rt;
-        product.entries()?.as_slice(),
-        [entry(2, 0, 6), entry(1, 1, 45)].as_slice()
-    );
+    let left = [entry(0, 0, 1 << 63), entry(2, 0, 3), entry(1, 1, 9)];
+    let right = [entry(0, 0, 2), entry(1, 1, 5)];
+    let found = product::<PlusTimes>(rt.alloc(), [3, 2, 2], &left, &right)?;
+    assert_eq!(rt; found.as_slice(), [entry(2, 0, 6), entry(1, 1, 45)].as_slice());
     Ok(())
 }
 
 #[test]
 fn a_tall_accumulator_is_merged_in(rt: HostRuntime) -> Result<(), Fail> {
-    let alloc = rt.alloc();
-    let a = block(
-        alloc,
-        LIMIT,
-        2,
-        &[entry(5, 0, 2), entry(9, 0, 3), entry(9, 1, 4)],
-    )?;
-    let b = block(alloc, 2, 3, &[entry(0, 1, 10), entry(1, 1, 100)])?;
+    let left = [entry(5, 0, 2), entry(9, 0, 3), entry(9, 1, 4)];
+    let right = [entry(0, 1, 10), entry(1, 1, 100)];
     let own = [
         entry(7, 0, 1),
         entry(5, 1, 1),
         entry(8, 1, 1),
         entry(3, 2, 1),
     ];
-    let start = block(alloc, LIMIT, 3, &own)?;
-    assert!(rt; a.shape().cols() == b.shape().rows());
-    assert!(rt; start.shape() == shape(a.shape().rows(), b.shape().cols())?);
-    let sum = multiply_into(alloc, &a, &b, start).map_err(|refused| refused.1)?;
-    assert_eq!(rt; sum.column_numbers(), [0, 1, 2].as_slice());
-    assert_eq!(rt; sum.column(1).0, [5, 8, 9].as_slice());
-    assert_eq!(rt; sum.column(1).1, [21, 1, 430].as_slice());
+    let wanted = [
+        entry(7, 0, 1),
+        entry(5, 1, 21),
+        entry(8, 1, 1),
+        entry(9, 1, 430),
+        entry(3, 2, 1),
+    ];
+    let sum = added(rt.alloc(), [LIMIT, 2, 3], &left, &right, &own)?;
+    assert_eq!(rt; sum.as_slice(), wanted.as_slice());
     Ok(())
 }
 
 #[test]
 fn semirings_add_and_multiply_in_their_own_way(rt: HostRuntime) -> Result<(), Fail> {
-    let alloc = rt.alloc();
     let pairs = [entry(1, 0, 1), entry(0, 1, 1), entry(2, 2, 1)];
-    assert!(rt; are_values::<OrAnd>(&pairs));
-    let relation = Block::<OrAnd>::from_sorted(alloc, shape(3, 3)?, &pairs)?;
-    assert!(rt; relation.shape().cols() == relation.shape().rows());
-    let square = multiply(alloc, &relation, &relation)?;
-    assert_eq!(rt; square.row_numbers(), [0, 1, 2].as_slice());
-    let far = Block::<MinPlus>::from_sorted(alloc, shape(1, 1)?, &[entry(0, 0, u64::MAX - 1)])?;
-    let step = Block::<MinPlus>::from_sorted(alloc, shape(1, 1)?, &[entry(0, 0, 1)])?;
-    assert!(rt; far.shape().cols() == step.shape().rows());
-    assert_eq!(rt; multiply(alloc, &far, &step)?.len(), 0);
+    let square = product::<OrAnd>(rt.alloc(), [3; 3], &pairs, &pairs)?;
+    let diagonal = [entry(0, 0, 1), entry(1, 1, 1), entry(2, 2, 1)];
+    assert_eq!(rt; square.as_slice(), diagonal.as_slice());
+    let far = [entry(0, 0, u64::MAX - 1)];
+    let farther = product::<MinPlus>(rt.alloc(), [1; 3], &far, &[entry(0, 0, 1)])?;
+    assert_eq!(rt; farther.len(), 0);
     Ok(())
 }
 
@@ -248,10 +197,10 @@ fn named(alloc: Global) -> Result<Vec<Entry>, Fail> {
     for row in 0..30u32 {
         entries.push(entry(row, 0, u64::from(row) + 2))?;
     }
-    entries.push(entry(4, 1, 3))?;
-    entries.push(entry(9, 1, 1 << 63))?;
-    entries.push(entry(11, 1, 5))?;
-    entries.push(entry(7, 2, 9))?;
+    let others = [(4, 1, 3), (9, 1, 1 << 63), (11, 1, 5), (7, 2, 9)];
+    for (row, column, value) in others {
+        entries.push(entry(row, column, value))?;
+    }
     Ok(entries)
 }
 
@@ -268,12 +217,28 @@ fn matrix(
     Ok(Matrix::from_entries(alloc, shape(rows, cols)?, entries)?)
 }
 
+/// The entries of the product by its definition, row by column, and of that product added to a block.
+fn plain(
+    alloc: Global,
+    sides: [u32; 3],
+    left: &[Entry],
+    right: &[Entry],
+    own: &[Entry],
+) -> Result<(Vec<Entry>, Vec<Entry>), Fail> {
+    let a = matrix(alloc, sides[0], sides[1], left)?;
+    let b = matrix(alloc, sides[1], sides[2], right)?;
+    let product = Matrix::plain_product(alloc, &a, &b)?;
+    let mut both = product.entries().to_vec(alloc)?;
+    both.extend_from_slice(own)?;
+    let sum = matrix(alloc, sides[0], sides[2], &both)?;
+    Ok((product.entries().to_vec(alloc)?, sum.entries().to_vec(alloc)?))
+}
+
 /// Among 5,000 rows the columns are made by the sparse accumulator, among 2,147,483,647 the first by the heap and the
 /// others by joining. Both ways, and with an accumulator too, the answer is that of the plain product.
 #[test]
 fn each_way_gives_the_plain_product(rt: HostRuntime) -> Result<(), Fail> {
-    let alloc = rt.alloc();
-    let named = named(alloc)?;
+    let right = named(rt.alloc())?;
     let own = [
         entry(0, 0, 7),
         entry(1, 0, 8),
@@ -281,84 +246,60 @@ fn each_way_gives_the_plain_product(rt: HostRuntime) -> Result<(), Fail> {
         entry(3, 3, 1),
     ];
     for rows in [5000, LIMIT] {
-        let given = spread(alloc, rows)?;
-        let left = matrix(alloc, rows, 30, &given)?;
-        let right = matrix(alloc, 30, 4, &named)?;
-        let plain = Matrix::plain_product(alloc, &left, &right)?;
-        let a = block(alloc, rows, 30, &given)?;
-        let b = block(alloc, 30, 4, &named)?;
-        assert!(rt; a.shape().cols() == b.shape().rows());
-        let product = multiply(alloc, &a, &b)?;
-        assert_eq!(rt; product.entries()?.as_slice(), plain.entries());
-        let mut both = plain.entries().to_vec(alloc)?;
-        both.extend_from_slice(&own)?;
-        let wanted = matrix(alloc, rows, 4, &both)?;
-        let start = block(alloc, rows, 4, &own)?;
-        assert!(rt; start.shape() == shape(a.shape().rows(), b.shape().cols())?);
-        let sum = multiply_into(alloc, &a, &b, start).map_err(|refused| refused.1)?;
-        assert_eq!(rt; sum.entries()?.as_slice(), wanted.entries());
+        let (alloc, sides) = (rt.alloc(), [rows, 30, 4]);
+        let left = spread(alloc, rows)?;
+        let (wanted, wanted_sum) = plain(alloc, sides, &left, &right, &own)?;
+        let found = product::<PlusTimes>(alloc, sides, &left, &right)?;
+        assert_eq!(rt; found.as_slice(), wanted.as_slice());
+        let sum = added(alloc, sides, &left, &right, &own)?;
+        assert_eq!(rt; sum.as_slice(), wanted_sum.as_slice());
     }
     Ok(())
 }
 
 /// Passes whichever single allocation is refused (`rt try --test --fail-alloc N`, for each N in turn): the answer
-/// is right, or memory was wanting and the accumulator is back as it was.
+/// is right, or memory was wanting. Among 2,147,483,647 rows the columns are joined.
 #[test]
-fn a_refused_product_hands_the_accumulator_back(rt: HostRuntime) -> Result<(), Fail> {
-    let alloc = rt.alloc();
-    let given = [entry(0, 0, 1), entry(0, 1, 2), entry(1, 1, 3)];
-    let side = shape(2, 2)?;
-    let Ok(a) = Block::<PlusTimes>::from_sorted(alloc, side, &given) else {
-        return Ok(());
-    };
-    let Ok(b) = Block::<PlusTimes>::from_sorted(alloc, side, &[entry(1, 0, 4), entry(0, 1, 1)])
-    else {
-        return Ok(());
-    };
-    let corner = [entry(0, 1, u64::MAX), entry(1, 1, 5)];
-    let Ok(start) = Block::<PlusTimes>::from_sorted(alloc, side, &corner) else {
-        return Ok(());
-    };
-    assert!(rt; a.shape().cols() == b.shape().rows());
-    assert!(rt; start.shape() == shape(a.shape().rows(), b.shape().cols())?);
-    if let Ok(product) = multiply(alloc, &a, &b) {
-        assert_eq!(rt; product.values(), [8, 12, 1].as_slice());
-    }
-    match multiply_into(alloc, &a, &b, start) {
-        Ok(sum) => assert_eq!(rt; sum.values(), [8, 12, 5].as_slice()),
-        Err((same, _)) => {
-            assert_eq!(rt; same.column_numbers(), [1].as_slice());
-            assert_eq!(rt; same.row_numbers(), [0, 1].as_slice());
-            assert_eq!(rt; same.values(), [u64::MAX, 5].as_slice());
+fn a_refused_product_answers_memory(rt: HostRuntime) {
+    let left = [entry(0, 0, 1), entry(0, 1, 2), entry(1, 1, 3)];
+    let right = [entry(0, 0, 10), entry(1, 0, 100)];
+    for rows in [2, LIMIT] {
+        if let Ok(found) = product::<PlusTimes>(rt.alloc(), [rows, 2, 1], &left, &right) {
+            assert_eq!(rt; found.as_slice(), [entry(0, 0, 210), entry(1, 0, 300)].as_slice());
         }
     }
-    Ok(())
 }
 
-/// The same where the columns are joined, as 2,147,483,647 rows have two products.
-#[test]
-fn a_refused_tall_product_hands_the_accumulator_back(rt: HostRuntime) -> Result<(), Fail> {
-    let alloc = rt.alloc();
-    let given = [entry(5, 0, 2), entry(9, 0, 3), entry(9, 1, 4)];
-    let Ok(a) = Block::<PlusTimes>::from_sorted(alloc, shape(LIMIT, 2)?, &given) else {
-        return Ok(());
-    };
-    let both = [entry(0, 0, 10), entry(1, 0, 100)];
-    let Ok(b) = Block::<PlusTimes>::from_sorted(alloc, shape(2, 1)?, &both) else {
-        return Ok(());
-    };
-    let own = [entry(5, 0, 1)];
-    let Ok(start) = Block::<PlusTimes>::from_sorted(alloc, shape(LIMIT, 1)?, &own) else {
-        return Ok(());
-    };
-    assert!(rt; a.shape().cols() == b.shape().rows());
-    assert!(rt; start.shape() == shape(a.shape().rows(), b.shape().cols())?);
+/// The sum, or the accumulator as it was.
+fn sum_or_start(
+    alloc: Global,
+    sides: [u32; 3],
+    left: &[Entry],
+    right: &[Entry],
+    own: &[Entry],
+) -> Result<(bool, Vec<Entry>), SampleFault> {
+    let a = block::<PlusTimes>(alloc, sides[0], sides[1], left)?;
+    let b = block::<PlusTimes>(alloc, sides[1], sides[2], right)?;
+    let start = block::<PlusTimes>(alloc, sides[0], sides[2], own)?;
     match multiply_into(alloc, &a, &b, start) {
-        Ok(sum) => assert_eq!(rt; sum.values(), [21, 430].as_slice()),
-        Err((same, _)) => {
-            assert_eq!(rt; same.row_numbers(), [5].as_slice());
-            assert_eq!(rt; same.values(), [1].as_slice());
-        }
+        Ok(sum) => Ok((true, sum.entries()?)),
+        Err((same, _)) => Ok((false, same.entries()?)),
     }
-    Ok(())
+}
+
+/// The same for a product that is added: where memory was wanting the accumulator is back as it was.
+#[test]
+fn a_refused_product_hands_the_accumulator_back(rt: HostRuntime) {
+    let left = [entry(0, 0, 1), entry(0, 1, 2), entry(1, 1, 3)];
+    let right = [entry(0, 0, 10), entry(1, 0, 100)];
+    let own = [entry(0, 0, 5), entry(1, 0, 5)];
+    let sums = [entry(0, 0, 215), entry(1, 0, 305)];
+    for rows in [2, LIMIT] {
+        let Ok((is_sum, found)) = sum_or_start(rt.alloc(), [rows, 2, 1], &left, &right, &own)
+        else {
+            continue;
+        };
+        let wanted = if is_sum { sums } else { own };
+        assert_eq!(rt; found.as_slice(), wanted.as_slice());
+    }
 }

@@ -10,7 +10,7 @@ ghost use Rattle.cb_semirings.specs.Arithmetic.{IsValue};
 use cb_dcsc::{Block, BlockFault};
 use cb_matrix::{Entry, Shape};
 use cb_semirings::Semiring;
-use std::alloc::Global;
+use std::alloc::{AllocError, Global};
 
 /// Why what a test writes out is no block.
 #[derive(Clone, Copy, Debug, PartialEq, Eq)]
@@ -26,6 +26,12 @@ pub enum SampleFault {
 impl From<BlockFault> for SampleFault {
     fn from(fault: BlockFault) -> SampleFault {
         SampleFault::Block(fault)
+    }
+}
+
+impl From<AllocError> for SampleFault {
+    fn from(_error: AllocError) -> SampleFault {
+        SampleFault::Block(BlockFault::Memory)
     }
 }
 
