@@ -1,40 +1,41 @@
 //! Worked examples, with ample memory and with each allocation refused in turn.
-ghost use Rattle.std.specs.Prelude.{◌≡◌, ◌↔◌, ◌*◌, IsTrue, All};
-ghost use Rattle.cb_semirings.specs.Arithmetic.{IsValue};
+ghost use Rattle.std.specs.Prelude.{◌≡◌, ◌*◌, IfOk, IfSome};
 
 use crate::{DistributedMatrix, Grid, Side};
 use cb_dcsc::Block;
-use cb_matrix::{Entry, LIMIT, Matrix, Shape};
-use cb_semirings::{PlusTimes, Semiring};
+use cb_matrix::{Entry, LIMIT, Matrix};
+use cb_samples::{are_values, entry, shape};
+use cb_semirings::PlusTimes;
 use std::alloc::{AllocError, Global};
 use std::test::Fail;
 
-const fn entry(row: u32, column: u32, value: u64) -> Entry {
-    Entry { row, column, value }
-}
-
-/// Whether each entry's value is one of the semiring.
-fn are_values<S: Semiring>(entries: &[Entry]) -> bool
-    ensures { IsTrue result ↔ All (λ e. IsValue S.arithmetic e.value) entries.now }
+/// The grid of a side.
+fn grid_of(side: u32) -> Result<Grid, Fail>
+    ensures { IfOk result (λ g. g.side ≡ side) }
 {
-    entries.iter().all(|entry| S::is_value(entry.value))
+    Ok(Grid::new(side).map_err(|_| "a side")?)
 }
 
-/// The vector with a row for each of these entries, if their values are values.
-fn vector(alloc: Global, rows: u32, given: &[Entry]) -> Option<Matrix<PlusTimes>> {
+/// The matrix of these entries, or None where memory was wanting.
+fn matrix(alloc: Global, rows: u32, cols: u32, given: &[Entry]) -> Option<Matrix<PlusTimes>>
+    ensures { IfSome result (λ m. m.shape ≡ record { rows = rows; cols = cols }) }
+{
     if !are_values::<PlusTimes>(given) {
         return None;
     }
-    let shape = Shape::new(rows, 1)?;
-    Matrix::from_entries(alloc, shape, given).ok()
+    Matrix::from_entries(alloc, shape(rows, cols).ok()?, given).ok()
 }
 
-/// What a block has: its rows and columns, and the rows and values of its entries.
-fn has(block: &Block<PlusTimes>, rows: u32, cols: u32, places: &[u32], values: &[u64]) -> bool {
-    let shape = block.shape();
-    (shape.rows(), shape.cols()) == (rows, cols)
-        && block.row_numbers() == places
-        && block.values() == values
+/// Whether blocks are these: how many rows and columns, and the rows and the values of the entries.
+fn are(blocks: &[Block<PlusTimes>], wanted: &[(u32, u32, &[u32], &[u64])]) -> bool {
+    let same = |block: &Block<PlusTimes>, (rows, cols, places, values): (u32, u32, &[u32], &[u64])| {
+        block.shape().rows() == rows
+            && block.shape().cols() == cols
+            && block.row_numbers() == places
+            && block.values() == values
+    };
+    blocks.len() == wanted.len()
+        && blocks.iter().zip(wanted).all(|(block, wanted)| same(block, *wanted))
 }
 
 /// A matrix cut over a grid and glued together again.
@@ -67,18 +68,13 @@ fn sides_are_one_to_six(rt: HostRuntime) -> Result<(), Fail> {
         assert_eq!(rt; Grid::new(side).map(|grid| grid.side()), Ok(side));
     }
     assert_eq!(rt; Grid::new(7), Err(Side));
-    let grid = Grid::new(3).map_err(|_| "a side")?;
+    let grid = grid_of(3)?;
     assert_eq!(rt; grid.ranks(), 9);
-    assert!(rt; grid.side() == 3);
     assert_eq!(rt; grid.rank(1, 2), 5);
-    assert_eq!(rt;
-        grid.row_group(rt.alloc(), 1).as_slice(),
-        [3, 4, 5].as_slice()
-    );
-    assert_eq!(rt;
-        grid.column_group(rt.alloc(), 1).as_slice(),
-        [1, 4, 7].as_slice()
-    );
+    let row = grid.row_group(rt.alloc(), 1);
+    assert_eq!(rt; row.as_slice(), [3, 4, 5].as_slice());
+    let column = grid.column_group(rt.alloc(), 1);
+    assert_eq!(rt; column.as_slice(), [1, 4, 7].as_slice());
     Ok(())
 }
 
@@ -93,7 +89,7 @@ fn ranges_of_dimensions(rt: HostRuntime) -> Result<(), Fail> {
         (2, LIMIT, &[(0, 1_073_741_824), (1_073_741_824, LIMIT)]),
     ];
     for (side, d, wanted) in rows {
-        let grid = Grid::new(side).map_err(|_| "a side")?;
+        let grid = grid_of(side)?;
         for (i, want) in wanted.iter().enumerate() {
             let part = i as u32;
             assert!(rt; part < grid.side());
@@ -105,12 +101,12 @@ fn ranges_of_dimensions(rt: HostRuntime) -> Result<(), Fail> {
 
 #[test]
 fn lengths_of_parts_and_shapes_of_blocks(rt: HostRuntime) -> Result<(), Fail> {
-    let grid = Grid::new(3).map_err(|_| "a side")?;
+    let grid = grid_of(3)?;
     for (part, wanted) in [(0, 4), (1, 4), (2, 2)] {
         assert!(rt; part < grid.side());
         assert_eq!(rt; grid.part_length(10, part), wanted, "part {part}");
     }
-    let shape = Shape::new(10, 5).ok_or("past the limit")?;
+    let shape = shape(10, 5)?;
     for (rank, rows, cols) in [(0, 4, 2), (5, 4, 1), (7, 2, 2), (8, 2, 1)] {
         assert!(rt; rank < grid.ranks());
         let block = grid.block_shape(shape, rank);
@@ -121,168 +117,132 @@ fn lengths_of_parts_and_shapes_of_blocks(rt: HostRuntime) -> Result<(), Fail> {
 
 #[test]
 fn a_matrix_of_two_by_two_on_four_ranks(rt: HostRuntime) -> Result<(), Fail> {
-    let alloc = rt.alloc();
-    let grid = Grid::new(2).map_err(|_| "a side")?;
     let given = [entry(0, 0, 1), entry(0, 1, 2), entry(1, 1, 3)];
-    let shape = Shape::new(2, 2).ok_or("past the limit")?;
-    let whole = Matrix::<PlusTimes>::from_entries(alloc, shape, &given)?;
-    let blocks = grid.scatter(alloc, &whole)?;
-    assert_eq!(rt; blocks.len(), 4);
-    assert!(rt; has(&blocks[0], 1, 1, &[0], &[1]));
-    assert!(rt; has(&blocks[1], 1, 1, &[0], &[2]));
-    assert!(rt; has(&blocks[2], 1, 1, &[], &[]));
-    assert!(rt; has(&blocks[3], 1, 1, &[0], &[3]));
-    let again = cut_and_glued(alloc, &grid, &whole)?;
-    assert_eq!(rt; again.entries(), given.as_slice());
+    let whole = matrix(rt.alloc(), 2, 2, &given).ok_or("no matrix")?;
+    let blocks = grid_of(2)?.scatter(rt.alloc(), &whole)?;
+    let wanted: [(u32, u32, &[u32], &[u64]); 4] = [
+        (1, 1, &[0], &[1]),
+        (1, 1, &[0], &[2]),
+        (1, 1, &[], &[]),
+        (1, 1, &[0], &[3]),
+    ];
+    assert!(rt; are(&blocks, &wanted));
     Ok(())
 }
 
+/// An entry keeps its place in the matrix.
 #[test]
-fn one_entry_costs_one_entry(rt: HostRuntime) -> Result<(), Fail> {
-    let alloc = rt.alloc();
+fn a_matrix_of_five_by_four_on_nine_ranks(rt: HostRuntime) -> Result<(), Fail> {
+    let whole = matrix(rt.alloc(), 5, 4, &[entry(4, 1, 9), entry(1, 2, 8)]).ok_or("no matrix")?;
+    let blocks = grid_of(3)?.scatter(rt.alloc(), &whole)?;
+    let wanted: [(u32, u32, &[u32], &[u64]); 9] = [
+        (2, 2, &[], &[]),
+        (2, 2, &[1], &[8]),
+        (2, 0, &[], &[]),
+        (2, 2, &[], &[]),
+        (2, 2, &[], &[]),
+        (2, 0, &[], &[]),
+        (1, 2, &[0], &[9]),
+        (1, 2, &[], &[]),
+        (1, 0, &[], &[]),
+    ];
+    assert!(rt; are(&blocks, &wanted));
+    Ok(())
+}
+
+/// The largest sides, where one entry costs one entry; dimensions below the side of the grid; and no rows.
+#[test]
+fn a_matrix_is_cut_and_glued_on_each_side(rt: HostRuntime) -> Result<(), Fail> {
     let last = LIMIT - 1;
-    let given = [entry(last, 0, 2), entry(0, last, 3), entry(last, last, 4)];
-    let shape = Shape::new(LIMIT, LIMIT).ok_or("past the limit")?;
-    let whole = Matrix::<PlusTimes>::from_entries(alloc, shape, &given)?;
-    for side in 1..=6 {
-        let grid = Grid::new(side).map_err(|_| "a side")?;
-        let again = cut_and_glued(alloc, &grid, &whole)?;
-        assert_eq!(rt; again.entries(), given.as_slice(), "side {side}");
+    let cases: [(u32, u32, &[Entry]); 3] = [
+        (
+            LIMIT,
+            LIMIT,
+            &[entry(last, 0, 2), entry(0, last, 3), entry(last, last, 4)],
+        ),
+        (2, 3, &[entry(1, 0, 4), entry(0, 2, 5)]),
+        (0, 1, &[]),
+    ];
+    for (rows, cols, given) in cases {
+        let whole = matrix(rt.alloc(), rows, cols, given).ok_or("no matrix")?;
+        for side in 1..=6 {
+            let again = cut_and_glued(rt.alloc(), &grid_of(side)?, &whole)?;
+            assert_eq!(rt; again.entries(), given, "side {side}");
+        }
     }
-    Ok(())
-}
-
-#[test]
-fn dimensions_below_the_side(rt: HostRuntime) -> Result<(), Fail> {
-    let alloc = rt.alloc();
-    let given = [entry(1, 0, 4), entry(0, 2, 5)];
-    let shape = Shape::new(2, 3).ok_or("past the limit")?;
-    let whole = Matrix::<PlusTimes>::from_entries(alloc, shape, &given)?;
-    let nothing = Shape::new(0, 1).ok_or("past the limit")?;
-    let empty = Matrix::<PlusTimes>::from_entries(alloc, nothing, &[])?;
-    for side in 1..=6 {
-        let grid = Grid::new(side).map_err(|_| "a side")?;
-        let again = cut_and_glued(alloc, &grid, &whole)?;
-        assert_eq!(rt; again.entries(), given.as_slice(), "side {side}");
-        assert_eq!(rt; cut_and_glued(alloc, &grid, &empty)?.len(), 0);
-    }
-    Ok(())
-}
-
-#[test]
-fn a_part_keeps_its_place_in_the_matrix(rt: HostRuntime) -> Result<(), Fail> {
-    let alloc = rt.alloc();
-    let grid = Grid::new(3).map_err(|_| "a side")?;
-    let given = [entry(4, 1, 9), entry(1, 2, 8)];
-    let shape = Shape::new(5, 4).ok_or("past the limit")?;
-    let whole = Matrix::<PlusTimes>::from_entries(alloc, shape, &given)?;
-    let blocks = grid.scatter(alloc, &whole)?;
-    assert_eq!(rt; blocks.len(), 9);
-    assert!(rt; has(&blocks[1], 2, 2, &[1], &[8]));
-    assert!(rt; has(&blocks[2], 2, 0, &[], &[]));
-    assert!(rt; has(&blocks[6], 1, 2, &[0], &[9]));
     Ok(())
 }
 
 #[test]
 fn a_vector_on_four_ranks(rt: HostRuntime) -> Result<(), Fail> {
-    let alloc = rt.alloc();
-    let grid = Grid::new(2).map_err(|_| "a side")?;
     let given = [
         entry(0, 0, 5),
         entry(1, 0, 6),
         entry(2, 0, 7),
         entry(3, 0, 8),
     ];
-    let shape = Shape::new(4, 1).ok_or("past the limit")?;
-    let vector = Matrix::<PlusTimes>::from_entries(alloc, shape, &given)?;
-    assert!(rt; vector.rows() == u32::from(grid.ranks()));
-    assert!(rt; vector.cols() == 1);
-    let pieces = grid.scatter_input(alloc, &vector)?;
-    assert_eq!(rt; pieces.len(), 4);
-    assert!(rt; has(&pieces[0], 1, 1, &[0], &[5]));
-    assert!(rt; has(&pieces[1], 1, 1, &[0], &[7]));
-    assert!(rt; has(&pieces[2], 1, 1, &[0], &[6]));
-    assert!(rt; has(&pieces[3], 1, 1, &[0], &[8]));
-    let result = turned(alloc, &grid, &vector)?;
-    let wanted = [
-        entry(0, 0, 5),
-        entry(1, 0, 7),
-        entry(2, 0, 6),
-        entry(3, 0, 8),
+    let vector = matrix(rt.alloc(), 4, 1, &given).ok_or("no vector")?;
+    let pieces = grid_of(2)?.scatter_input(rt.alloc(), &vector)?;
+    let wanted: [(u32, u32, &[u32], &[u64]); 4] = [
+        (1, 1, &[0], &[5]),
+        (1, 1, &[0], &[7]),
+        (1, 1, &[0], &[6]),
+        (1, 1, &[0], &[8]),
     ];
-    assert_eq!(rt; result.entries(), wanted.as_slice());
+    assert!(rt; are(&pieces, &wanted));
     Ok(())
+}
+
+/// A vector with a row for each rank, and the same as a square that is turned.
+fn square(alloc: Global, side: u32) -> Result<(Vec<Entry>, Vec<Entry>), AllocError> {
+    let mut given = Vec::new(alloc);
+    let mut turned = Vec::new(alloc);
+    for i in 0..side {
+        for t in 0..side {
+            let row = i.wrapping_mul(side).wrapping_add(t);
+            let from = t.wrapping_mul(side).wrapping_add(i);
+            given.push(entry(row, 0, u64::from(row) + 1))?;
+            turned.push(entry(row, 0, u64::from(from) + 1))?;
+        }
+    }
+    Ok((given, turned))
 }
 
 /// With a row for each rank, piece t of part i of an input stands where piece i of part t of a result does: read
 /// so, the vector is a square that is turned.
 #[test]
 fn vectors_on_every_side(rt: HostRuntime) -> Result<(), Fail> {
-    let alloc = rt.alloc();
     for side in 1..=6 {
-        let grid = Grid::new(side).map_err(|_| "a side")?;
-        let mut given = Vec::new(alloc);
-        let mut wanted = Vec::new(alloc);
-        for i in 0..grid.side() {
-            for t in 0..grid.side() {
-                let row = u32::from(grid.rank(i, t));
-                let from = u64::from(grid.rank(t, i));
-                given.push(entry(row, 0, u64::from(row) + 1))?;
-                wanted.push(entry(row, 0, from + 1))?;
-            }
-        }
+        let grid = grid_of(side)?;
+        let (given, wanted) = square(rt.alloc(), side)?;
         let rows = u32::from(grid.ranks());
-        let vector = vector(alloc, rows, &given).ok_or("no vector")?;
-        assert!(rt; vector.cols() == 1);
-        assert!(rt; vector.rows() == rows);
-        let pieces = grid.scatter_input(alloc, &vector)?;
-        for t in 0..grid.side() {
-            for j in 0..grid.side() {
-                let rank = usize::from(grid.rank(t, j));
-                let piece = pieces.get(rank).ok_or("a piece")?;
-                let value = u64::from(grid.rank(j, t)) + 1;
-                assert!(rt;
-                    has(piece, 1, 1, &[0], &[value]),
-                    "side {side}, rank {rank}"
-                );
-            }
-        }
-        let result = turned(alloc, &grid, &vector)?;
+        let vector = matrix(rt.alloc(), rows, 1, &given).ok_or("no vector")?;
+        let result = turned(rt.alloc(), &grid, &vector)?;
         assert_eq!(rt; result.entries(), wanted.as_slice(), "side {side}");
     }
     Ok(())
 }
 
-/// Seven rows on each side: how many rows of each part its pieces have.
+/// Seven rows on each side: how many rows the piece of each rank has, and that no entry is left behind.
 #[test]
 fn pieces_of_seven_rows(rt: HostRuntime) -> Result<(), Fail> {
-    let alloc = rt.alloc();
-    let sides: [(u32, &[&[u32]]); 6] = [
-        (1, &[&[7]]),
-        (2, &[&[2, 2], &[2, 1]]),
-        (3, &[&[1, 1, 1], &[1, 1, 1], &[1]]),
-        (4, &[&[1, 1], &[1, 1], &[1, 1], &[1]]),
-        (5, &[&[1, 1], &[1, 1], &[1, 1], &[1]]),
-        (6, &[&[1, 1], &[1, 1], &[1, 1], &[1]]),
+    let sides: [(u32, &[u32]); 6] = [
+        (1, &[7]),
+        (2, &[2, 2, 2, 1]),
+        (3, &[1, 1, 1, 1, 1, 0, 1, 1, 0]),
+        (4, &[1, 1, 1, 1, 1, 1, 1]),
+        (5, &[1, 1, 1, 1, 0, 1, 1, 1]),
+        (6, &[1, 1, 1, 1, 0, 0, 1, 1, 1]),
     ];
     let given = [entry(0, 0, 1), entry(3, 0, 2), entry(6, 0, 3)];
-    let shape = Shape::new(7, 1).ok_or("past the limit")?;
-    let vector = Matrix::<PlusTimes>::from_entries(alloc, shape, &given)?;
-    assert!(rt; vector.cols() == 1);
-    for (side, parts) in sides {
-        let grid = Grid::new(side).map_err(|_| "a side")?;
-        let pieces = grid.scatter_input(alloc, &vector)?;
+    let vector = matrix(rt.alloc(), 7, 1, &given).ok_or("no vector")?;
+    for (side, wanted) in sides {
+        let pieces = grid_of(side)?.scatter_input(rt.alloc(), &vector)?;
         let mut stored = 0usize;
-        for t in 0..grid.side() {
-            for j in 0..grid.side() {
-                let rank = usize::from(grid.rank(t, j));
-                let piece = pieces.get(rank).ok_or("a piece")?;
-                let wanted = parts.get(j as usize).and_then(|part| part.get(t as usize));
-                let rows = wanted.copied().unwrap_or(0);
-                assert_eq!(rt; piece.shape().rows(), rows, "side {side}, rank {rank}");
-                stored = stored.saturating_add(piece.len());
-            }
+        for (rank, piece) in pieces.iter().enumerate() {
+            let rows = wanted.get(rank).copied().unwrap_or(0);
+            assert_eq!(rt; piece.shape().rows(), rows, "side {side}, rank {rank}");
+            stored = stored.saturating_add(piece.len());
         }
         assert_eq!(rt; stored, 3, "side {side}");
     }
@@ -291,40 +251,28 @@ fn pieces_of_seven_rows(rt: HostRuntime) -> Result<(), Fail> {
 
 #[test]
 fn a_matrix_lies_over_each_grid(rt: HostRuntime) -> Result<(), Fail> {
-    let alloc = rt.alloc();
     let given = [
         entry(1, 0, 4),
         entry(6, 0, 5),
         entry(0, 3, 6),
         entry(6, 3, 7),
     ];
-    let shape = Shape::new(7, 5).ok_or("past the limit")?;
-    let whole = Matrix::<PlusTimes>::from_entries(alloc, shape, &given)?;
+    let whole = matrix(rt.alloc(), 7, 5, &given).ok_or("no matrix")?;
     for side in 1..=6 {
-        let grid = Grid::new(side).map_err(|_| "a side")?;
-        let spread = DistributedMatrix::scatter(alloc, grid, &whole)?;
-        assert_eq!(rt; spread.grid(), grid);
-        assert_eq!(rt; spread.shape(), shape);
-        assert_eq!(rt; spread.len(), 4);
-        assert!(rt; !spread.is_empty());
-        assert_eq!(rt; spread.blocks().len(), usize::from(grid.ranks()));
-        assert_eq!(rt;
-            spread.gather(alloc)?.entries(),
-            given.as_slice(),
-            "side {side}"
-        );
-        let blocks = spread.into_blocks();
-        assert_eq!(rt; blocks.len(), usize::from(grid.ranks()));
-        let again = grid.gather(alloc, &blocks, shape)?;
+        let grid = grid_of(side)?;
+        let spread = DistributedMatrix::scatter(rt.alloc(), grid, &whole)?;
+        assert_eq!(rt; (spread.grid(), spread.shape()), (grid, whole.shape()));
+        assert_eq!(rt; (spread.len(), spread.is_empty()), (4, false));
+        let again = spread.gather(rt.alloc())?;
         assert_eq!(rt; again.entries(), given.as_slice(), "side {side}");
+        assert_eq!(rt; spread.blocks().len(), usize::from(grid.ranks()));
+        assert_eq!(rt; spread.into_blocks().len(), usize::from(grid.ranks()));
     }
     Ok(())
 }
 
 #[test]
 fn segments_of_a_matrix_on_four_ranks(rt: HostRuntime) -> Result<(), Fail> {
-    let alloc = rt.alloc();
-    let grid = Grid::new(2).map_err(|_| "a side")?;
     let given = [
         entry(0, 0, 1),
         entry(1, 0, 2),
@@ -332,9 +280,8 @@ fn segments_of_a_matrix_on_four_ranks(rt: HostRuntime) -> Result<(), Fail> {
         entry(3, 2, 4),
         entry(0, 3, 5),
     ];
-    let shape = Shape::new(4, 4).ok_or("past the limit")?;
-    let whole = Matrix::<PlusTimes>::from_entries(alloc, shape, &given)?;
-    let spread = DistributedMatrix::scatter(alloc, grid, &whole)?;
+    let whole = matrix(rt.alloc(), 4, 4, &given).ok_or("no matrix")?;
+    let spread = DistributedMatrix::scatter(rt.alloc(), grid_of(2)?, &whole)?;
     let wanted: [(u32, u32, &[u32], &[u64]); 4] = [
         (0, 0, &[0, 1], &[1, 2]),
         (0, 2, &[0], &[3]),
@@ -353,26 +300,22 @@ fn segments_of_a_matrix_on_four_ranks(rt: HostRuntime) -> Result<(), Fail> {
     Ok(())
 }
 
-/// Each call that takes memory, one after another. It passes whichever single allocation is refused
-/// (`rt try --test --fail-alloc N`, for each N in turn): a call says so, or its answer is the right one.
+/// Each call that takes memory. It passes whichever single allocation is refused (`rt try --test --fail-alloc N`,
+/// for each N in turn): a call says so, or its answer is the right one.
 #[test]
 fn refused_memory_is_said(rt: HostRuntime) -> Result<(), Fail> {
-    let alloc = rt.alloc();
-    let grid = Grid::new(2).map_err(|_| "a side")?;
     let given = [entry(0, 0, 1), entry(3, 0, 2), entry(0, 2, 3)];
-    let shape = Shape::new(4, 4).ok_or("past the limit")?;
-    let Ok(whole) = Matrix::<PlusTimes>::from_entries(alloc, shape, &given) else {
+    let grid = grid_of(2)?;
+    let Some(whole) = matrix(rt.alloc(), 4, 4, &given) else {
         return Ok(());
     };
-    if let Ok(again) = cut_and_glued(alloc, &grid, &whole) {
+    if let Ok(again) = cut_and_glued(rt.alloc(), &grid, &whole) {
         assert_eq!(rt; again.entries(), given.as_slice());
     }
-    let Ok(spread) = DistributedMatrix::scatter(alloc, grid, &whole) else {
-        return Ok(());
-    };
-    assert_eq!(rt; spread.len(), 3);
-    if let Ok(again) = spread.gather(alloc) {
-        assert_eq!(rt; again.entries(), given.as_slice());
+    if let Ok(spread) = DistributedMatrix::scatter(rt.alloc(), grid, &whole) {
+        if let Ok(again) = spread.gather(rt.alloc()) {
+            assert_eq!(rt; again.entries(), given.as_slice());
+        }
     }
     Ok(())
 }
@@ -380,20 +323,13 @@ fn refused_memory_is_said(rt: HostRuntime) -> Result<(), Fail> {
 /// The same of the calls on vectors.
 #[test]
 fn refused_memory_is_said_of_vectors(rt: HostRuntime) -> Result<(), Fail> {
-    let alloc = rt.alloc();
-    let grid = Grid::new(2).map_err(|_| "a side")?;
-    let given = [entry(1, 0, 5), entry(3, 0, 6)];
-    let shape = Shape::new(4, 1).ok_or("past the limit")?;
-    let Ok(vector) = Matrix::<PlusTimes>::from_entries(alloc, shape, &given) else {
+    let grid = grid_of(2)?;
+    let Some(vector) = matrix(rt.alloc(), 4, 1, &[entry(1, 0, 5), entry(3, 0, 6)]) else {
         return Ok(());
     };
-    assert!(rt; vector.rows() == u32::from(grid.ranks()));
-    assert!(rt; vector.cols() == 1);
-    if let Ok(result) = turned(alloc, &grid, &vector) {
-        assert_eq!(rt;
-            result.entries(),
-            [entry(2, 0, 5), entry(3, 0, 6)].as_slice()
-        );
+    if let Ok(result) = turned(rt.alloc(), &grid, &vector) {
+        let wanted = [entry(2, 0, 5), entry(3, 0, 6)];
+        assert_eq!(rt; result.entries(), wanted.as_slice());
     }
     Ok(())
 }

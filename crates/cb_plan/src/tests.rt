@@ -1,12 +1,10 @@
 //! Worked examples, with ample memory and with each allocation refused in turn.
-ghost use Rattle.std.specs.Prelude.{◌≡◌, ◌↔◌, IsTrue, All, IfOk};
-ghost use Rattle.cb_semirings.specs.Arithmetic.{IsValue};
+ghost use Rattle.std.specs.Prelude.{◌≡◌, IfOk, IfSome, length};
 
-use crate::{Act, CheckedPlan, Plan, PlanFault, PlanFaultKind, Start};
-use cb_dcsc::Block;
+use crate::{Act, CheckedPlan, Plan, PlanFault, PlanFaultKind, RankStore, Start};
 use cb_letters::Tag;
-use cb_matrix::{Entry, Shape};
-use cb_semirings::{PlusTimes, Semiring};
+use cb_samples::{SampleFault, block, entry, shape};
+use cb_semirings::PlusTimes;
 use std::alloc::Global;
 use std::test::Fail;
 
@@ -18,11 +16,6 @@ mod stores;
 
 /// The tag of each letter.
 const TAG: Tag = Tag(0);
-
-/// An entry by its place and its value.
-const fn entry(row: u32, column: u32, value: u64) -> Entry {
-    Entry { row, column, value }
-}
 
 /// A move between two ranks.
 const fn send(from: u16, to: u16, slot: u16, into: u16) -> Act {
@@ -45,15 +38,8 @@ const fn fault(act: u32, kind: PlanFaultKind) -> Option<PlanFault> {
     Some(PlanFault { act, kind })
 }
 
-/// A shape below the limit.
-fn shape(rows: u32, cols: u32) -> Result<Shape, Fail>
-    ensures { IfOk result (λ s. s ≡ record { rows = rows; cols = cols }) }
-{
-    Ok(Shape::new(rows, cols).ok_or("past the limit")?)
-}
-
 /// A block of 1 by 2 stands in slot 0 of rank 0.
-fn row_at_0() -> Result<Start, Fail>
+fn row_at_0() -> Result<Start, SampleFault>
     ensures { IfOk result (λ s. s ≡ record { rank = 0; slot = 0; shape = record { rows = 1; cols = 2 } }) }
 {
     Ok(Start {
@@ -89,27 +75,20 @@ fn small() -> [Act; 3] {
     [send(0, 1, 0, 3), shut(0, 1), shut(1, 0)]
 }
 
-/// That plan, checked, where a block of 1 by 2 stands in slot 0 of rank 0.
-fn checked(alloc: Global) -> Result<CheckedPlan, Fail>
-    ensures { IfOk result (λ p. p.ranks ≡ 2) }
+/// That plan, checked, where a block of 1 by 2 stands in slot 0 of rank 0, or None where memory was wanting.
+fn checked(alloc: Global) -> Option<CheckedPlan>
+    ensures { IfSome result (λ p. p.ranks ≡ 2) }
 {
-    match CheckedPlan::check(alloc, grown(alloc, &small())?, &[row_at_0()?]) {
-        Ok(plan) => Ok(plan),
-        Err(_) => Err("a fault".into()),
-    }
+    let plan = plan_of(alloc, &small()).ok()?;
+    CheckedPlan::check(alloc, plan, &[row_at_0().ok()?]).ok()
 }
 
-/// Whether each entry's value is one of the semiring.
-fn are_values<S: Semiring>(entries: &[Entry]) -> bool
-    ensures { IsTrue result ↔ All (λ e. IsValue S.arithmetic e.value) entries.now }
+/// Two stores, and in slot 0 of rank 0 a block of 1 by 2, or None where memory was wanting.
+fn two_stores(alloc: Global) -> Option<Vec<RankStore<PlusTimes>>>
+    ensures { IfSome result (λ v. length v.items ≡ 2) }
 {
-    entries.iter().all(|entry| S::is_value(entry.value))
-}
-
-/// A block of plus-times, whose values are all numbers.
-fn block(alloc: Global, rows: u32, cols: u32, entries: &[Entry]) -> Result<Block<PlusTimes>, Fail> {
-    if !are_values::<PlusTimes>(entries) {
-        return Err("a value out of range".into());
-    }
-    Ok(Block::from_sorted(alloc, shape(rows, cols)?, entries)?)
+    let mut first = RankStore::new(alloc).ok()?;
+    first.put(0, block(alloc, 1, 2, &[entry(0, 1, 6)]).ok()?);
+    let second = RankStore::new(alloc).ok()?;
+    vec![in alloc; first, second].ok()
 }

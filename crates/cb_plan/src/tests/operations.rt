@@ -2,10 +2,11 @@
 ghost use Rattle.std.specs.Prelude.{◌≡◌, ◌<◌, ℕ, All, AllPairs, IfOk, length};
 ghost use Rattle.cb_plan.specs.Plans.{IsElsewhere};
 
-use super::{block, entry, grown, send, shape, shut};
-use crate::{Act, CheckedPlan, Op, RankStore, Slot, Start, run_plain};
+use super::{grown, send, shut};
+use crate::{Act, CheckedPlan, Op, RankStore, SLOTS, Slot, Start, run_plain};
 use cb_elementwise::Test;
 use cb_matrix::Entry;
+use cb_samples::{block, entry, shape};
 use cb_semirings::PlusTimes;
 use std::alloc::Global;
 use std::test::Fail;
@@ -14,22 +15,23 @@ use std::test::Fail;
 fn stores(alloc: Global) -> Result<Vec<RankStore<PlusTimes>>, Fail>
     ensures { IfOk result (λ v. length v.items ≡ 2) }
 {
-    let a = [entry(0, 0, 1), entry(0, 1, 2), entry(1, 1, 3)];
-    let b = [entry(1, 0, 4), entry(0, 1, 1)];
-    let x = [entry(0, 0, 5), entry(1, 0, 7)];
-    let sum = [entry(0, 1, u64::MAX), entry(1, 1, 5)];
+    let blocks: [(u32, &[Entry]); 4] = [
+        (2, &[entry(0, 0, 1), entry(0, 1, 2), entry(1, 1, 3)]),
+        (2, &[entry(1, 0, 4), entry(0, 1, 1)]),
+        (1, &[entry(0, 0, 5), entry(1, 0, 7)]),
+        (2, &[entry(0, 1, u64::MAX), entry(1, 1, 5)]),
+    ];
     let mut first = RankStore::new(alloc)?;
-    first.put(0, block(alloc, 2, 2, &a)?);
-    first.put(1, block(alloc, 2, 2, &b)?);
-    first.put(2, block(alloc, 2, 1, &x)?);
-    first.put(3, block(alloc, 2, 2, &sum)?);
-    let second = RankStore::new(alloc)?;
-    Ok(vec![in alloc; first, second]?)
+    for n in 0..blocks.len() {
+        let (cols, entries) = blocks[n];
+        first.put(n as u16, block(alloc, 2, cols, entries)?);
+    }
+    Ok(vec![in alloc; first, RankStore::new(alloc)?]?)
 }
 
 /// What the starts say of these stores.
 fn starts() -> Result<[Start; 4], Fail>
-    ensures exist { IfOk result (λ v. All (λ s. (s.rank < 2) × (s.slot < 256)) v) }
+    ensures exist { IfOk result (λ v. All (λ s. (s.rank < 2) × (s.slot < SLOTS)) v) }
     ensures once { IfOk result (λ v. AllPairs IsElsewhere v) }
 {
     let start = |slot, shape| Start {
@@ -62,7 +64,7 @@ fn after(alloc: Global, acts: &[Act]) -> Result<Vec<RankStore<PlusTimes>>, Fail>
 
 /// The entries of a slot.
 fn entries_at(store: &RankStore<PlusTimes>, n: u16) -> Result<Vec<Entry>, Fail>
-    requires { n < 256 }
+    requires { n < SLOTS }
 {
     match store.slot(n) {
         Slot::Sheet(block) => Ok(block.entries()?),
@@ -89,114 +91,60 @@ fn operands_are_read_in_the_order_of_the_fields(rt: HostRuntime) -> Result<(), F
     Ok(())
 }
 
+/// Into slot 8, or over the accumulator: what is added may be the product itself, and a sum that comes to zero isn't
+/// stored.
 #[test]
-fn products_are_added_in_place_or_apart(rt: HostRuntime) -> Result<(), Fail> {
-    let alloc = rt.alloc();
-    let sum = sent_after(alloc, Op::MulAdd { a: 0, b: 1, acc: 3 }, 3)?;
-    assert_eq!(rt;
-        sum.as_slice(),
-        [entry(0, 0, 8), entry(1, 0, 12), entry(1, 1, 5)].as_slice()
-    );
-    let own = [
-        entry(0, 0, 9),
-        entry(1, 0, 12),
-        entry(0, 1, 3),
-        entry(1, 1, 3),
-    ];
-    let sum = sent_after(alloc, Op::MulAdd { a: 0, b: 1, acc: 0 }, 0)?;
-    assert_eq!(rt; sum.as_slice(), own.as_slice());
-    let into = 8;
-    let product = sent_after(alloc, Op::MulVec { a: 0, x: 2, into }, into)?;
-    assert_eq!(rt;
-        product.as_slice(),
-        [entry(0, 0, 19), entry(1, 0, 21)].as_slice()
-    );
-    Ok(())
-}
-
-#[test]
-fn two_blocks_are_combined(rt: HostRuntime) -> Result<(), Fail> {
-    let alloc = rt.alloc();
-    let into = 8;
-    let all = [
-        entry(0, 0, 1),
-        entry(1, 0, 4),
-        entry(0, 1, 3),
-        entry(1, 1, 3),
-    ];
-    let sum = sent_after(alloc, Op::Add { a: 0, b: 1, into }, into)?;
-    assert_eq!(rt; sum.as_slice(), all.as_slice());
-    let corner = [entry(0, 1, 2)];
-    let product = sent_after(alloc, Op::Times { a: 0, b: 1, into }, into)?;
-    assert_eq!(rt; product.as_slice(), corner.as_slice());
-    let kept = sent_after(alloc, Op::Mask { a: 0, m: 1, into }, into)?;
-    assert_eq!(rt; kept.as_slice(), corner.as_slice());
-    Ok(())
-}
-
-#[test]
-fn entries_that_pass_are_pruned(rt: HostRuntime) -> Result<(), Fail> {
-    let alloc = rt.alloc();
-    let pruned = Op::Prune {
-        a: 0,
-        test: Test::Above(1),
-        into: 8,
-    };
-    assert_eq!(rt;
-        sent_after(alloc, pruned, 8)?.as_slice(),
-        [entry(0, 0, 1)].as_slice()
-    );
-    Ok(())
-}
-
-#[test]
-fn a_block_is_turned_cut_and_placed(rt: HostRuntime) -> Result<(), Fail> {
-    let alloc = rt.alloc();
-    let turned = [entry(0, 0, 1), entry(1, 0, 2), entry(1, 1, 3)];
-    let turn = Op::Transpose { a: 0, into: 8 };
-    assert_eq!(rt; sent_after(alloc, turn, 8)?.as_slice(), turned.as_slice());
+fn each_operation_makes_its_result(rt: HostRuntime) -> Result<(), Fail> {
+    let (a, b, x, m, into) = (0, 1, 2, 1, 8);
+    let (rows, cols) = ((0, 1), (1, 2));
+    let (at, test) = ((1, 1), Test::Above(1));
     let cut = Op::Cut {
-        a: 0,
-        rows: (0, 1),
-        cols: (1, 2),
-        into: 8,
+        a,
+        rows,
+        cols,
+        into,
     };
+    let large = shape(3, 3)?;
     let place = Op::Place {
-        a: 8,
-        shape: shape(2, 2)?,
-        at: (1, 1),
-        into: 8,
+        a: b,
+        shape: large,
+        at,
+        into,
     };
-    let acts = [
-        Act::Work { rank: 0, op: cut },
-        Act::Work { rank: 0, op: place },
-        shut(0, 1),
-        shut(1, 0),
+    let zero = Op::Zero {
+        into: 1,
+        shape: large,
+    };
+    let results: [(Op, u16, &[(u32, u32, u64)]); 11] = [
+        (Op::MulAdd { a, b, acc: 3 }, 3, &[(0, 0, 8), (1, 0, 12), (1, 1, 5)]),
+        (Op::MulAdd { a, b, acc: 0 }, 0, &[(0, 0, 9), (1, 0, 12), (0, 1, 3), (1, 1, 3)]),
+        (Op::MulVec { a, x, into }, 8, &[(0, 0, 19), (1, 0, 21)]),
+        (Op::Add { a, b, into }, 8, &[(0, 0, 1), (1, 0, 4), (0, 1, 3), (1, 1, 3)]),
+        (Op::Times { a, b, into }, 8, &[(0, 1, 2)]),
+        (Op::Mask { a, m, into }, 8, &[(0, 1, 2)]),
+        (Op::Prune { a, test, into }, 8, &[(0, 0, 1)]),
+        (Op::Transpose { a, into }, 8, &[(0, 0, 1), (1, 0, 2), (1, 1, 3)]),
+        (cut, 8, &[(0, 0, 2)]),
+        (place, 8, &[(2, 1, 4), (1, 2, 1)]),
+        (zero, 1, &[]),
     ];
-    let stores = after(alloc, &acts)?;
-    assert_eq!(rt;
-        entries_at(&stores[0], 8)?.as_slice(),
-        [entry(1, 1, 2)].as_slice()
-    );
+    for (op, slot, wanted) in results {
+        let found = sent_after(rt.alloc(), op, slot)?;
+        let places = found.iter().map(|e| (e.row, e.column, e.value));
+        assert!(rt; places.eq(wanted.iter().copied()), "slot {slot}");
+    }
     Ok(())
 }
 
 #[test]
 fn slots_are_copied_emptied_and_cleared(rt: HostRuntime) -> Result<(), Fail> {
-    let alloc = rt.alloc();
-    let b = [entry(1, 0, 4), entry(0, 1, 1)];
-    let copy = Op::Copy { a: 1, into: 8 };
-    assert_eq!(rt; sent_after(alloc, copy, 8)?.as_slice(), b.as_slice());
-    let zero = Op::Zero {
-        into: 1,
-        shape: shape(2, 2)?,
-    };
-    assert_eq!(rt; sent_after(alloc, zero, 1)?.len(), 0);
+    let copy = sent_after(rt.alloc(), Op::Copy { a: 1, into: 8 }, 8)?;
+    assert_eq!(rt; copy.as_slice(), [entry(1, 0, 4), entry(0, 1, 1)].as_slice());
     let clear = Act::Work {
         rank: 0,
         op: Op::Clear { slot: 1 },
     };
-    let stores = after(alloc, &[clear, shut(0, 1), shut(1, 0)])?;
+    let stores = after(rt.alloc(), &[clear, shut(0, 1), shut(1, 0)])?;
     assert!(rt; stores[0].slot(1).is_empty());
     assert_eq!(rt; stores[0].filled(), 3);
     Ok(())

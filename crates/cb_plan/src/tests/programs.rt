@@ -1,12 +1,13 @@
 //! The programs of two ranks.
-use super::{TAG, checked, shape};
+use super::{TAG, checked};
 use crate::Half;
+use cb_samples::shape;
 use std::test::Fail;
 
 #[test]
 fn each_rank_has_its_halves(rt: HostRuntime) -> Result<(), Fail> {
     let alloc = rt.alloc();
-    let plan = checked(alloc)?;
+    let plan = checked(alloc).ok_or("no plan")?;
     let sender = [
         Half::Post {
             to: 1,
