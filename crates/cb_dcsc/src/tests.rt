@@ -20,18 +20,27 @@ fn spread() -> [Entry; 3] {
     [entry(0, 3, 5), entry(2, 3, 6), entry(1, 900, 7)]
 }
 
+/// Whether the four lists of a block are these.
+fn has_lists(
+    block: &Block<PlusTimes>,
+    columns: &[u32],
+    starts: &[usize],
+    rows: &[u32],
+    values: &[u64],
+) -> bool {
+    block.columns.as_slice() == columns
+        && block.starts.as_slice() == starts
+        && block.rows.as_slice() == rows
+        && block.values.as_slice() == values
+}
+
 #[test]
 fn the_lists_hold_the_columns_that_have_entries(rt: HostRuntime) -> Result<(), Fail> {
     let block = Block::<PlusTimes>::from_sorted(rt.alloc(), shape(4, 1000)?, &spread())?;
-    assert_eq!(rt; block.columns.as_slice(), [3, 900].as_slice());
-    assert_eq!(rt; block.starts.as_slice(), [0, 2, 3].as_slice());
-    assert_eq!(rt; block.rows.as_slice(), [0, 2, 1].as_slice());
-    assert_eq!(rt; block.values.as_slice(), [5, 6, 7].as_slice());
     let copy = block.try_clone()?;
-    assert_eq!(rt; copy.columns.as_slice(), [3, 900].as_slice());
-    assert_eq!(rt; copy.starts.as_slice(), [0, 2, 3].as_slice());
-    assert_eq!(rt; copy.rows.as_slice(), [0, 2, 1].as_slice());
-    assert_eq!(rt; copy.values.as_slice(), [5, 6, 7].as_slice());
+    for one in [&block, &copy] {
+        assert!(rt; has_lists(one, &[3, 900], &[0, 2, 3], &[0, 2, 1], &[5, 6, 7]));
+    }
     assert_eq!(rt; block.entries()?.as_slice(), spread().as_slice());
     Ok(())
 }
@@ -43,11 +52,8 @@ fn the_lists_of_a_vector_hold_one_column(rt: HostRuntime) -> Result<(), Fail> {
     vector.push_column(0, &[1, 2], &[5, 1])?;
     let given = [entry(1, 0, 5), entry(2, 0, 1)];
     let same = Block::<PlusTimes>::from_sorted(rt.alloc(), shape(3, 1)?, &given)?;
-    for block in [&vector, &same] {
-        assert_eq!(rt; block.columns.as_slice(), [0].as_slice());
-        assert_eq!(rt; block.starts.as_slice(), [0, 2].as_slice());
-        assert_eq!(rt; block.rows.as_slice(), [1, 2].as_slice());
-        assert_eq!(rt; block.values.as_slice(), [5, 1].as_slice());
+    for one in [&vector, &same] {
+        assert!(rt; has_lists(one, &[0], &[0, 2], &[1, 2], &[5, 1]));
     }
     Ok(())
 }
@@ -72,9 +78,7 @@ fn a_block_grows_by_entries(rt: HostRuntime) -> Result<(), Fail> {
 fn a_block_without_entries_has_empty_lists(rt: HostRuntime) -> Result<(), Fail> {
     for side in [0, 3, LIMIT] {
         let block = Block::<PlusTimes>::from_sorted(rt.alloc(), shape(side, side)?, &[])?;
-        assert!(rt; block.columns.is_empty() && block.starts.is_empty());
-        assert!(rt; block.rows.is_empty() && block.values.is_empty());
-        assert_eq!(rt; block.shape(), shape(side, side)?);
+        assert!(rt; has_lists(&block, &[], &[], &[], &[]));
     }
     Ok(())
 }
@@ -99,21 +103,25 @@ fn the_first_fault_is_named(rt: HostRuntime) -> Result<(), Fail> {
 }
 
 #[test]
-fn a_block_is_walked_by_columns_and_looked_up_by_places(rt: HostRuntime) -> Result<(), Fail> {
+fn a_block_is_walked_by_columns(rt: HostRuntime) -> Result<(), Fail> {
     let block = Block::<MinPlus>::from_sorted(rt.alloc(), shape(4, 1000)?, &spread())?;
-    assert_eq!(rt; (block.len(), block.columns()), (3, 2));
-    assert_eq!(rt; (block.column_number(0), block.column_number(1)), (3, 900));
-    assert_eq!(rt; block.column_numbers(), [3, 900].as_slice());
-    assert_eq!(rt; block.nth_column(0).0, [0, 2].as_slice());
-    assert_eq!(rt; block.column(3).1, [5, 6].as_slice());
-    assert_eq!(rt; block.column(900).0, [1].as_slice());
-    assert!(rt; block.column(4).0.is_empty() && block.column(4).1.is_empty());
-    assert_eq!(rt; (block.nth_range(1), block.range(3)), ((2, 3), (0, 2)));
-    assert_eq!(rt; (block.row_numbers().len(), block.values().len()), (3, 3));
-    assert_eq!(rt; (block.get(2, 3), block.get(1, 3)), (6, u64::MAX));
+    assert!(rt; block.len() == 3 && block.columns() == 2);
+    assert!(rt; block.column_numbers() == [3, 900].as_slice());
+    assert!(rt; block.column_number(1) == 900 && block.nth_range(1) == (2, 3));
+    assert!(rt; block.nth_column(0) == ([0, 2].as_slice(), [5, 6].as_slice()));
     for n in 0..3 {
         assert_eq!(rt; block.entry_at(n), spread()[n]);
     }
+    Ok(())
+}
+
+#[test]
+fn a_block_is_looked_up_by_columns_and_places(rt: HostRuntime) -> Result<(), Fail> {
+    let block = Block::<MinPlus>::from_sorted(rt.alloc(), shape(4, 1000)?, &spread())?;
+    assert!(rt; block.column(900) == ([1].as_slice(), [7].as_slice()));
+    assert!(rt; block.column(4) == ([].as_slice(), [].as_slice()));
+    assert!(rt; block.range(3) == (0, 2));
+    assert!(rt; block.get(2, 3) == 6 && block.get(1, 3) == u64::MAX);
     Ok(())
 }
 
@@ -135,10 +143,7 @@ fn a_column_is_stored_whole(rt: HostRuntime) -> Result<(), Fail> {
     block.push_column(3, &[1], &[6])?;
     block.push_column(5, &[], &[])?;
     block.push_column(900, &[0, 2], &[7, 8])?;
-    assert_eq!(rt; block.column_numbers(), [3, 900].as_slice());
-    assert_eq!(rt; block.row_numbers(), [1, 0, 2].as_slice());
-    assert_eq!(rt; block.values(), [6, 7, 8].as_slice());
-    assert_eq!(rt; block.get(2, 900), 8);
+    assert!(rt; has_lists(&block, &[3, 900], &[0, 1, 3], &[1, 0, 2], &[6, 7, 8]));
     Ok(())
 }
 
@@ -146,24 +151,18 @@ fn a_column_is_stored_whole(rt: HostRuntime) -> Result<(), Fail> {
 /// (`rt try --test --fail-alloc N`, for each N in turn).
 #[test]
 fn refused_memory_is_said(rt: HostRuntime) -> Result<(), Fail> {
-    let alloc = rt.alloc();
-    let side = shape(4, 1000)?;
-    let block = match Block::<PlusTimes>::from_sorted(alloc, side, &spread()) {
-        Ok(block) => block,
-        Err(fault) => {
-            assert_eq!(rt; fault, BlockFault::Memory);
-            return Ok(());
+    match Block::<PlusTimes>::from_sorted(rt.alloc(), shape(4, 1000)?, &spread()) {
+        Ok(block) => {
+            if let Ok(mut copy) = block.try_clone() {
+                let _ = copy.reserve(100);
+                assert_eq!(rt; (copy.len(), copy.get(1, 900)), (3, 7));
+            }
+            if let Ok(entries) = block.entries() {
+                assert_eq!(rt; entries.as_slice(), spread().as_slice());
+            }
         }
-    };
-    let Ok(mut copy) = block.try_clone() else {
-        return Ok(());
-    };
-    let _ = copy.reserve(100);
-    assert_eq!(rt; (copy.len(), copy.get(1, 900)), (3, 7));
-    let Ok(entries) = block.entries() else {
-        return Ok(());
-    };
-    assert_eq!(rt; entries.as_slice(), spread().as_slice());
+        Err(fault) => assert_eq!(rt; fault, BlockFault::Memory),
+    }
     Ok(())
 }
 
