@@ -35,49 +35,47 @@ fn added(
     }
 }
 
+/// Two by two; a sum that comes to zero; the largest sides, which cost what the entries cost; and columns that name
+/// one column and are scaled copies of it, where 2 times 2^63 is zero.
 #[test]
-fn multiplies_two_by_two(rt: HostRuntime) -> Result<(), Fail> {
-    let left = [entry(0, 0, 1), entry(0, 1, 2), entry(1, 1, 3)];
-    let right = [entry(1, 0, 4), entry(0, 1, 1)];
-    let found = product::<PlusTimes>(rt.alloc(), [2; 3], &left, &right)?;
-    let wanted = [entry(0, 0, 8), entry(1, 0, 12), entry(0, 1, 1)];
-    assert_eq!(rt; found.as_slice(), wanted.as_slice());
-    let own = [entry(0, 1, u64::MAX), entry(1, 1, 5)];
-    let sum = added(rt.alloc(), [2; 3], &left, &right, &own)?;
-    let wanted = [entry(0, 0, 8), entry(1, 0, 12), entry(1, 1, 5)];
-    assert_eq!(rt; sum.as_slice(), wanted.as_slice());
-    Ok(())
-}
-
-#[test]
-fn a_sum_that_comes_to_zero_is_not_stored(rt: HostRuntime) -> Result<(), Fail> {
-    let left = [
+fn products_of_plus_times(rt: HostRuntime) -> Result<(), Fail> {
+    let last = LIMIT - 1;
+    let to_zero = [
         entry(0, 0, 1),
         entry(2, 0, 1),
         entry(0, 1, u64::MAX),
         entry(1, 1, 5),
     ];
-    let ones = [entry(0, 0, 1), entry(1, 0, 1)];
-    let found = product::<PlusTimes>(rt.alloc(), [3, 2, 1], &left, &ones)?;
-    assert_eq!(rt; found.as_slice(), [entry(1, 0, 5), entry(2, 0, 1)].as_slice());
-    Ok(())
-}
-
-#[test]
-fn blocks_without_rows_columns_or_entries_have_empty_products(rt: HostRuntime) -> Result<(), Fail> {
-    for sides in [[0, 0, 0], [0, 3, 2], [2, 0, 3], [2, 3, 0], [2, 3, 4]] {
-        let found = product::<PlusTimes>(rt.alloc(), sides, &[], &[])?;
-        assert_eq!(rt; found.len(), 0);
+    let cases: [([u32; 3], &[Entry], &[Entry], &[Entry]); 4] = [
+        (
+            [2, 2, 2],
+            &[entry(0, 0, 1), entry(0, 1, 2), entry(1, 1, 3)],
+            &[entry(1, 0, 4), entry(0, 1, 1)],
+            &[entry(0, 0, 8), entry(1, 0, 12), entry(0, 1, 1)],
+        ),
+        (
+            [3, 2, 1],
+            &to_zero,
+            &[entry(0, 0, 1), entry(1, 0, 1)],
+            &[entry(1, 0, 5), entry(2, 0, 1)],
+        ),
+        (
+            [LIMIT; 3],
+            &[entry(0, last, 7), entry(last, last, 5)],
+            &[entry(last, 4, 3)],
+            &[entry(0, 4, 21), entry(last, 4, 15)],
+        ),
+        (
+            [3, 2, 2],
+            &[entry(0, 0, 1 << 63), entry(2, 0, 3), entry(1, 1, 9)],
+            &[entry(0, 0, 2), entry(1, 1, 5)],
+            &[entry(2, 0, 6), entry(1, 1, 45)],
+        ),
+    ];
+    for (sides, left, right, wanted) in cases {
+        let found = product::<PlusTimes>(rt.alloc(), sides, left, right)?;
+        assert_eq!(rt; found.as_slice(), wanted);
     }
-    Ok(())
-}
-
-#[test]
-fn the_largest_sides_cost_what_the_entries_cost(rt: HostRuntime) -> Result<(), Fail> {
-    let last = LIMIT - 1;
-    let left = [entry(0, last, 7), entry(last, last, 5)];
-    let found = product::<PlusTimes>(rt.alloc(), [LIMIT; 3], &left, &[entry(last, 4, 3)])?;
-    assert_eq!(rt; found.as_slice(), [entry(0, 4, 21), entry(last, 4, 15)].as_slice());
     Ok(())
 }
 
@@ -93,15 +91,60 @@ fn three_columns_meet_in_one_row(rt: HostRuntime) -> Result<(), Fail> {
         entry(4, 2, 32),
     ];
     let ones = [entry(0, 0, 1), entry(1, 0, 1), entry(2, 0, 1)];
-    let wanted = [
-        entry(0, 0, 4),
-        entry(1, 0, 25),
-        entry(3, 0, 2),
-        entry(4, 0, 32),
-    ];
+    let sums = [(0, 4), (1, 25), (3, 2), (4, 32)].map(|(row, value)| entry(row, 0, value));
     for rows in [5, LIMIT] {
         let found = product::<PlusTimes>(rt.alloc(), [rows, 3, 1], &left, &ones)?;
-        assert_eq!(rt; found.as_slice(), wanted.as_slice());
+        assert_eq!(rt; found.as_slice(), sums.as_slice());
+    }
+    Ok(())
+}
+
+/// Two by two, where a sum comes to zero; and a tall accumulator, which is merged in.
+#[test]
+fn products_that_are_added(rt: HostRuntime) -> Result<(), Fail> {
+    let cases: [([u32; 3], [&[Entry]; 3], &[Entry]); 2] = [
+        (
+            [2, 2, 2],
+            [
+                &[entry(0, 0, 1), entry(0, 1, 2), entry(1, 1, 3)],
+                &[entry(1, 0, 4), entry(0, 1, 1)],
+                &[entry(0, 1, u64::MAX), entry(1, 1, 5)],
+            ],
+            &[entry(0, 0, 8), entry(1, 0, 12), entry(1, 1, 5)],
+        ),
+        (
+            [LIMIT, 2, 3],
+            [
+                &[entry(5, 0, 2), entry(9, 0, 3), entry(9, 1, 4)],
+                &[entry(0, 1, 10), entry(1, 1, 100)],
+                &[
+                    entry(7, 0, 1),
+                    entry(5, 1, 1),
+                    entry(8, 1, 1),
+                    entry(3, 2, 1),
+                ],
+            ],
+            &[
+                entry(7, 0, 1),
+                entry(5, 1, 21),
+                entry(8, 1, 1),
+                entry(9, 1, 430),
+                entry(3, 2, 1),
+            ],
+        ),
+    ];
+    for (sides, [left, right, own], wanted) in cases {
+        let sum = added(rt.alloc(), sides, left, right, own)?;
+        assert_eq!(rt; sum.as_slice(), wanted);
+    }
+    Ok(())
+}
+
+#[test]
+fn blocks_without_rows_columns_or_entries_have_empty_products(rt: HostRuntime) -> Result<(), Fail> {
+    for sides in [[0, 0, 0], [0, 3, 2], [2, 0, 3], [2, 3, 0], [2, 3, 4]] {
+        let found = product::<PlusTimes>(rt.alloc(), sides, &[], &[])?;
+        assert_eq!(rt; found.len(), 0);
     }
     Ok(())
 }
@@ -131,38 +174,6 @@ fn marked_rows_come_in_order(rt: HostRuntime) -> Result<(), Fail> {
     }
     let found = product::<PlusTimes>(rt.alloc(), [200, 2, 10], &left, &ones)?;
     assert_eq!(rt; found.as_slice(), wanted.as_slice());
-    Ok(())
-}
-
-/// A column that names one column is copied as it is scaled, and 2 times 2^63 is zero.
-#[test]
-fn one_named_column_is_a_scaled_copy(rt: HostRuntime) -> Result<(), Fail> {
-    let left = [entry(0, 0, 1 << 63), entry(2, 0, 3), entry(1, 1, 9)];
-    let right = [entry(0, 0, 2), entry(1, 1, 5)];
-    let found = product::<PlusTimes>(rt.alloc(), [3, 2, 2], &left, &right)?;
-    assert_eq!(rt; found.as_slice(), [entry(2, 0, 6), entry(1, 1, 45)].as_slice());
-    Ok(())
-}
-
-#[test]
-fn a_tall_accumulator_is_merged_in(rt: HostRuntime) -> Result<(), Fail> {
-    let left = [entry(5, 0, 2), entry(9, 0, 3), entry(9, 1, 4)];
-    let right = [entry(0, 1, 10), entry(1, 1, 100)];
-    let own = [
-        entry(7, 0, 1),
-        entry(5, 1, 1),
-        entry(8, 1, 1),
-        entry(3, 2, 1),
-    ];
-    let wanted = [
-        entry(7, 0, 1),
-        entry(5, 1, 21),
-        entry(8, 1, 1),
-        entry(9, 1, 430),
-        entry(3, 2, 1),
-    ];
-    let sum = added(rt.alloc(), [LIMIT, 2, 3], &left, &right, &own)?;
-    assert_eq!(rt; sum.as_slice(), wanted.as_slice());
     Ok(())
 }
 
