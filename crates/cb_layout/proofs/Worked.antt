@@ -1,8 +1,13 @@
 -- What the definitions give in a few cases.
 use Rattle.std.proofs.Common.{◌≡◌, [], ◌∷◌, refl}
-use Rattle.cb_layout.specs.Parts.{part, row_group, column_group}
+use Rattle.cb_matrix.specs.Sparse.{Extent}
+use Rattle.cb_layout.specs.Parts.{part, part_length, part_shape, row_group, column_group}
 use Rattle.cb_layout.specs.Blocks.{part_with, place_in_part}
 use Rattle.cb_layout.specs.Vectors.{piece}
+
+-- ten rows and five columns
+abbrev ten_by_five : Extent
+ten_by_five = record { rows = 10; cols = 5 }
 
 ten_on_four : (part 4 10 0 ≡ (0, 3)) × (part 4 10 1 ≡ (3, 6)) × (part 4 10 2 ≡ (6, 9)) × (part 4 10 3 ≡ (9, 10))
 ten_on_four = (refl, refl, refl, refl)
@@ -15,6 +20,13 @@ none_on_four = (refl, refl)
 
 twelve_on_five : (part 5 12 0 ≡ (0, 3)) × (part 5 12 3 ≡ (9, 12)) × (part 5 12 4 ≡ (12, 12))
 twelve_on_five = (refl, refl, refl)
+
+-- ten rows and five columns on side 3: the lengths of the parts, and the shapes of some blocks
+ten_on_three : (part_length 3 10 0 ≡ 4) × (part_length 3 10 1 ≡ 4) × (part_length 3 10 2 ≡ 2)
+ten_on_three = (refl, refl, refl)
+
+ten_by_five_on_three : (part_shape 3 ten_by_five 0 0 ≡ record { rows = 4; cols = 2 }) × (part_shape 3 ten_by_five 1 2 ≡ record { rows = 4; cols = 1 }) × (part_shape 3 ten_by_five 2 2 ≡ record { rows = 2; cols = 1 })
+ten_by_five_on_three = (refl, refl, refl)
 
 groups_of_three : (row_group 3 1 ≡ 3 ∷ 4 ∷ 5 ∷ []) × (column_group 3 1 ≡ 1 ∷ 4 ∷ 7 ∷ [])
 groups_of_three = (refl, refl)

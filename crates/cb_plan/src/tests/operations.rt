@@ -115,23 +115,52 @@ fn each_operation_makes_its_result(rt: HostRuntime) -> Result<(), Fail> {
         into: 1,
         shape: large,
     };
-    let results: [(Op, u16, &[(u32, u32, u64)]); 11] = [
-        (Op::MulAdd { a, b, acc: 3 }, 3, &[(0, 0, 8), (1, 0, 12), (1, 1, 5)]),
-        (Op::MulAdd { a, b, acc: 0 }, 0, &[(0, 0, 9), (1, 0, 12), (0, 1, 3), (1, 1, 3)]),
-        (Op::MulVec { a, x, into }, 8, &[(0, 0, 19), (1, 0, 21)]),
-        (Op::Add { a, b, into }, 8, &[(0, 0, 1), (1, 0, 4), (0, 1, 3), (1, 1, 3)]),
-        (Op::Times { a, b, into }, 8, &[(0, 1, 2)]),
-        (Op::Mask { a, m, into }, 8, &[(0, 1, 2)]),
-        (Op::Prune { a, test, into }, 8, &[(0, 0, 1)]),
-        (Op::Transpose { a, into }, 8, &[(0, 0, 1), (1, 0, 2), (1, 1, 3)]),
-        (cut, 8, &[(0, 0, 2)]),
-        (place, 8, &[(2, 1, 4), (1, 2, 1)]),
+    let results: [(Op, u16, &[Entry]); 11] = [
+        (
+            Op::MulAdd { a, b, acc: 3 },
+            3,
+            &[entry(0, 0, 8), entry(1, 0, 12), entry(1, 1, 5)],
+        ),
+        (
+            Op::MulAdd { a, b, acc: 0 },
+            0,
+            &[
+                entry(0, 0, 9),
+                entry(1, 0, 12),
+                entry(0, 1, 3),
+                entry(1, 1, 3),
+            ],
+        ),
+        (
+            Op::MulVec { a, x, into },
+            8,
+            &[entry(0, 0, 19), entry(1, 0, 21)],
+        ),
+        (
+            Op::Add { a, b, into },
+            8,
+            &[
+                entry(0, 0, 1),
+                entry(1, 0, 4),
+                entry(0, 1, 3),
+                entry(1, 1, 3),
+            ],
+        ),
+        (Op::Times { a, b, into }, 8, &[entry(0, 1, 2)]),
+        (Op::Mask { a, m, into }, 8, &[entry(0, 1, 2)]),
+        (Op::Prune { a, test, into }, 8, &[entry(0, 0, 1)]),
+        (
+            Op::Transpose { a, into },
+            8,
+            &[entry(0, 0, 1), entry(1, 0, 2), entry(1, 1, 3)],
+        ),
+        (cut, 8, &[entry(0, 0, 2)]),
+        (place, 8, &[entry(2, 1, 4), entry(1, 2, 1)]),
         (zero, 1, &[]),
     ];
     for (op, slot, wanted) in results {
         let found = sent_after(rt.alloc(), op, slot)?;
-        let places = found.iter().map(|e| (e.row, e.column, e.value));
-        assert!(rt; places.eq(wanted.iter().copied()), "slot {slot}");
+        assert_eq!(rt; found.as_slice(), wanted, "slot {slot}");
     }
     Ok(())
 }
@@ -139,7 +168,10 @@ fn each_operation_makes_its_result(rt: HostRuntime) -> Result<(), Fail> {
 #[test]
 fn slots_are_copied_emptied_and_cleared(rt: HostRuntime) -> Result<(), Fail> {
     let copy = sent_after(rt.alloc(), Op::Copy { a: 1, into: 8 }, 8)?;
-    assert_eq!(rt; copy.as_slice(), [entry(1, 0, 4), entry(0, 1, 1)].as_slice());
+    assert_eq!(rt;
+        copy.as_slice(),
+        [entry(1, 0, 4), entry(0, 1, 1)].as_slice()
+    );
     let clear = Act::Work {
         rank: 0,
         op: Op::Clear { slot: 1 },
