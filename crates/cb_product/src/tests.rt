@@ -242,7 +242,10 @@ fn plain(
     let mut both = product.entries().to_vec(alloc)?;
     both.extend_from_slice(own)?;
     let sum = matrix(alloc, sides[0], sides[2], &both)?;
-    Ok((product.entries().to_vec(alloc)?, sum.entries().to_vec(alloc)?))
+    Ok((
+        product.entries().to_vec(alloc)?,
+        sum.entries().to_vec(alloc)?,
+    ))
 }
 
 /// Among 5,000 rows the columns are made by the sparse accumulator, among 2,147,483,647 the first by the heap and the
@@ -276,7 +279,10 @@ fn a_refused_product_answers_memory(rt: HostRuntime) {
     let right = [entry(0, 0, 10), entry(1, 0, 100)];
     for rows in [2, LIMIT] {
         if let Ok(found) = product::<PlusTimes>(rt.alloc(), [rows, 2, 1], &left, &right) {
-            assert_eq!(rt; found.as_slice(), [entry(0, 0, 210), entry(1, 0, 300)].as_slice());
+            assert_eq!(rt;
+                found.as_slice(),
+                [entry(0, 0, 210), entry(1, 0, 300)].as_slice()
+            );
         }
     }
 }
@@ -306,8 +312,7 @@ fn a_refused_product_hands_the_accumulator_back(rt: HostRuntime) {
     let own = [entry(0, 0, 5), entry(1, 0, 5)];
     let sums = [entry(0, 0, 215), entry(1, 0, 305)];
     for rows in [2, LIMIT] {
-        let Ok((is_sum, found)) = sum_or_start(rt.alloc(), [rows, 2, 1], &left, &right, &own)
-        else {
+        let Ok((is_sum, found)) = sum_or_start(rt.alloc(), [rows, 2, 1], &left, &right, &own) else {
             continue;
         };
         let wanted = if is_sum { sums } else { own };

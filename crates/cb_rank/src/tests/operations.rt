@@ -71,12 +71,7 @@ fn body(
 
 /// What the target of an operation holds after it, and the count of refusals, where some of slots 0, 1 and 2 are
 /// lost, at ranks 10, 11 and 12.
-fn after(
-    alloc: Global,
-    op: Op,
-    lost: [bool; 3],
-    supply: Supply,
-) -> Result<(Held, u64), Fail> {
+fn after(alloc: Global, op: Op, lost: [bool; 3], supply: Supply) -> Result<(Held, u64), Fail> {
     let plan = plan(alloc, op, 0)?;
     let first = body(alloc, 2, 10, lost[0])?;
     let second = body(alloc, 3, 11, lost[1])?;
@@ -135,9 +130,19 @@ fn refused_memory_loses_the_result_at_this_rank(rt: HostRuntime) -> Result<(), F
 #[test]
 fn zero_and_clear_need_no_memory(rt: HostRuntime) -> Result<(), Fail> {
     let shape = shape(2, 3)?;
-    let made = after(rt.alloc(), Op::Zero { into: 0, shape }, [true; 3], Supply::Refused)?;
+    let made = after(
+        rt.alloc(),
+        Op::Zero { into: 0, shape },
+        [true; 3],
+        Supply::Refused,
+    )?;
     assert_eq!(rt; made, (Held::Entries(0, 0), 0));
-    let cleared = after(rt.alloc(), Op::Clear { slot: 1 }, [true; 3], Supply::Refused)?;
+    let cleared = after(
+        rt.alloc(),
+        Op::Clear { slot: 1 },
+        [true; 3],
+        Supply::Refused,
+    )?;
     assert_eq!(rt; cleared, (Held::Nothing, 0));
     Ok(())
 }
