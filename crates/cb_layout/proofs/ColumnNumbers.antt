@@ -1,8 +1,8 @@
 -- The columns that have entries, in order.
-use Rattle.std.proofs.Common.{◌≡◌, ◌≢◌, ℕ, ◌<◌, ◌≤◌, true, false, cond, List, [], ◌∷◌, refl, sym, subst, ⊎_elim, arith}
+use Rattle.std.proofs.Common.{◌≡◌, ◌≢◌, ℕ, ◌<◌, ◌≤◌, true, false, cond, List, [], ◌∷◌, refl, ⊎_elim, arith}
 use Rattle.std.specs.Prelude.{All, AllPairs, ◌==◌}
-use Rattle.std.proofs.lemmas.Bool.{eqb-true, eqb-false}
-use Rattle.std.proofs.lemmas.List.Elements.{All-nil, All-cons, All-head, All-tail, All-weaker}
+use Rattle.std.proofs.lemmas.Bool.{eqb-false}
+use Rattle.std.proofs.lemmas.List.Elements.{All-nil, All-cons, All-head, All-weaker}
 use Rattle.cb_matrix.specs.declared.Entry.{Entry}
 use Rattle.cb_matrix.specs.Sparse.{IsBefore}
 use Rattle.cb_matrix.proofs.Places.{AllPairs-head, AllPairs-tail}
