@@ -11,9 +11,11 @@ mod placewise;
 #[cfg(test)]
 mod tests;
 mod transposes;
+mod vectors;
 
 pub use placewise::{grid_add, grid_prune, grid_times};
 pub use transposes::grid_transpose;
+pub use vectors::grid_vector;
 
 /// The slot of each rank that has its block of the first matrix.
 pub const LEFT: u16 = 0;
