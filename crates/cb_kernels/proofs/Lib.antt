@@ -10,3 +10,6 @@ pub mod Pieces
 pub mod Assembly
 pub mod SpreadProduct
 pub mod Loops
+pub mod VectorFlow
+pub mod VectorStarts
+pub mod VectorLengths
