@@ -187,13 +187,13 @@ fn vector_stores(
     Ok(stores)
 }
 
-/// The values in slot 2 of all ranks, rank by rank, after a matrix was multiplied by a vector.
+/// The ranks and values of the entries in slot 2, rank by rank, after a matrix was multiplied by a vector.
 fn spread_product(
     alloc: Global,
     grid: &Grid,
     a: &Matrix<PlusTimes>,
     x: &Matrix<PlusTimes>,
-) -> Result<Vec<u64>, Fail> {
+) -> Result<Vec<[u64; 2]>, Fail> {
     let Ok(planned) = grid_vector(alloc, grid, a.shape()) else {
         return Err("a plan".into());
     };
@@ -202,16 +202,16 @@ fn spread_product(
     if slot != 2 || !plan.fits(&stores) {
         return Err("stores".into());
     }
-    let mut values = Vec::new(alloc);
-    for store in run_plain(alloc, &plan, stores)?.iter() {
-        let Slot::Sheet(found) = store.slot(2) else {
+    let mut found = Vec::new(alloc);
+    for (rank, store) in run_plain(alloc, &plan, stores)?.iter().enumerate() {
+        let Slot::Sheet(piece) = store.slot(2) else {
             return Err("a sheet".into());
         };
-        for entry in found.entries()?.iter() {
-            values.push(entry.value)?;
+        for entry in piece.entries()?.iter() {
+            found.push([rank as u64, entry.value])?;
         }
     }
-    Ok(values)
+    Ok(found)
 }
 
 #[test]
@@ -230,12 +230,15 @@ fn multiplies_a_vector(rt: HostRuntime) -> Result<(), Fail> {
     for side in SIDES {
         let grid = Grid::new(side).map_err(|_| "a side")?;
         let found = spread_product(alloc, &grid, &a, &x)?;
-        assert_eq!(rt; found.as_slice(), [17, 15, 24].as_slice());
+        assert_eq!(rt; found.len(), 3);
+        for (piece, wanted) in found.iter().zip([17, 15, 24]) {
+            assert!(rt; piece[1] == wanted);
+        }
     }
     Ok(())
 }
 
-/// Two rows of ranks have a row of the result each, in the first of their two pieces.
+/// Each of the two parts of the result has one row, which is in the first of its pieces.
 #[test]
 fn multiplies_by_pieces(rt: HostRuntime) -> Result<(), Fail> {
     let alloc = rt.alloc();
@@ -244,7 +247,7 @@ fn multiplies_by_pieces(rt: HostRuntime) -> Result<(), Fail> {
     let a = matrix(alloc, 2, 2, &a)?;
     let x = matrix(alloc, 2, 1, &[entry(0, 0, 5), entry(1, 0, 7)])?;
     let found = spread_product(alloc, &grid, &a, &x)?;
-    assert_eq!(rt; found.as_slice(), [19, 21].as_slice());
+    assert_eq!(rt; found.as_slice(), [[0, 19], [2, 21]].as_slice());
     Ok(())
 }
 
