@@ -1,17 +1,19 @@
 //! Runs a job.
-ghost use Rattle.std.specs.Prelude.{◌≡◌, ◌≢◌, ◌↔◌, ℕ, ◌≤◌, List, length, vec_len, true, false, OnOk, IfOk, IfErr, IsErrOf};
+ghost use Rattle.std.specs.Prelude.{◌≡◌, ◌≢◌, ◌↔◌, ℕ, ◌<◌, List, length, vec_len, true, false, OnOk, IfOk, IfErr, IsErrOf};
 ghost use Rattle.std.specs.Io.KnownBytes.{Appends, Keeps};
 ghost use Rattle.cb_cli.specs.Sinks.{AppendsPrefix};
+ghost use Rattle.cb_cli.specs.Jobs.{file_count_of};
 ghost use Rattle.cb_market.specs.Reads.{Reads};
-ghost use Rattle.cb_cli.specs.Answers.{IsProductText, IsProductFault, IsMaskedText, IsMaskedFault, IsReadFault, IsAnswerOver, IsFaultOver, IsAnswer, IsFault, status_of};
-ghost use Rattle.cb_cli.specs.Files.{bytes_of};
+ghost use Rattle.cb_market.specs.Text.{text_of};
+ghost use Rattle.cb_cli.specs.Answers.{IsMatrixText, IsReadFault, IsLateFault, Agree, answer_of, IsRefusal, IsAnswerOver, IsFaultOver, IsAnswer, IsFault, status_of};
+ghost use Rattle.cb_cli.specs.Files.{bytes_of, text_at};
 
 use crate::jobs::{Job, Operation};
 use crate::semirings::SemiringName;
 use crate::sinks::{Sink, put_all};
 use cb_market::{Kind, ReadFault, read, text};
 use cb_matrix::Matrix;
-use cb_scripts::{ScriptFault, multiply, multiply_masked};
+use cb_scripts::{ScriptFault, add, multiply, multiply_masked, prune, times, transpose};
 use cb_semirings::{MaxMin, MinPlus, OrAnd, PlusTimes, Semiring};
 use std::alloc::{AllocError, Global};
 use thiserror::Error;
@@ -32,61 +34,80 @@ pub enum JobFault {
     Output,
 }
 
-/// The matrix of one of the texts.
-fn read_text<S: Semiring>(alloc: Global, which: usize, text: &[u8]) -> Result<Matrix<S>, JobFault>
-    ensures ok { IfOk result (λ m. Reads S.arithmetic text.now m) }
-    ensures fault { IfErr result (IsReadFault S.arithmetic which text.now) }
+impl From<ScriptFault> for JobFault {
+    ghost use Rattle.cb_cli.specs.declared.runs.JobFault.TheVariants.{Script};
+
+    ghost from_gives = { λ fault told. told ≡ Script fault };
+
+    fn from(fault: ScriptFault) -> JobFault {
+        JobFault::Script(fault)
+    }
+}
+
+impl From<AllocError> for JobFault {
+    ghost use Rattle.cb_cli.specs.declared.runs.JobFault.TheVariants.{Memory};
+
+    ghost from_gives = { λ _ told. told ≡ Memory };
+
+    fn from(_error: AllocError) -> JobFault {
+        JobFault::Memory
+    }
+}
+
+/// The matrix of one of the texts, where those before it are matrices.
+fn read_text<S: Semiring>(
+    alloc: Global,
+    texts: &[Vec<u8>],
+    which: usize,
+) -> Result<Matrix<S>, JobFault>
+    requires some { which < length texts.now }
+    requires earlier { (i : ℕ) → i < which → IsMatrixText S.arithmetic (text_at (bytes_of texts.now) i) }
+    ensures ok { IfOk result (λ m. Reads S.arithmetic (text_at (bytes_of texts.now) which) m) }
+    ensures fault { IfErr result (IsReadFault S.arithmetic (bytes_of texts.now)) }
 {
-    match read::<S>(alloc, text) {
+    match read::<S>(alloc, &texts[which]) {
         Ok(matrix) => Ok(matrix),
         Err(fault) => Err(JobFault::Read { which, fault }),
     }
 }
 
-/// The text of the product of two texts.
-fn product_text<S: Semiring>(
+/// What the operation of a job makes of its matrices.
+fn computed<S: Semiring>(
     alloc: Global,
     job: &Job,
-    first: &[u8],
-    second: &[u8],
-) -> Result<Vec<u8>, JobFault>
-    ensures ok { IfOk result (λ v. IsProductText S.arithmetic first.now second.now v.items) }
-    ensures fault { IfErr result (IsProductFault S.arithmetic first.now second.now) }
-    ensures unwritten { IfErr result (λ f. f ≢ JobFault.Output) }
+    operands: &[Matrix<S>],
+) -> Result<Matrix<S>, ScriptFault>
+    requires { length operands.now ≡ file_count_of job.now.operation }
+    ensures ok { IfOk result (λ m. m ≡ answer_of job.now.operation S.arithmetic operands.now) }
+    ensures agree { IfOk result (λ m. Agree job.now.operation operands.now) }
+    ensures fault { IfErr result (IsRefusal job.now.operation operands.now) }
 {
-    let left = read_text::<S>(alloc, 0, first)?;
-    let right = read_text::<S>(alloc, 1, second)?;
-    match multiply(alloc, job.engine, &job.grid, &left, &right) {
-        Err(fault) => Err(JobFault::Script(fault)),
-        Ok(product) => match text(alloc, &product) {
-            Ok(text) => Ok(text),
-            Err(_) => Err(JobFault::Memory),
-        },
+    let (engine, grid, first) = (job.engine, &job.grid, &operands[0]);
+    match job.operation {
+        Operation::Multiply => multiply(alloc, engine, grid, first, &operands[1]),
+        Operation::MultiplyMasked => {
+            multiply_masked(alloc, engine, grid, first, &operands[1], &operands[2])
+        }
+        Operation::Transpose => transpose(alloc, engine, grid, first),
+        Operation::Add => add(alloc, engine, grid, first, &operands[1]),
+        Operation::Times => times(alloc, engine, grid, first, &operands[1]),
+        Operation::Prune(test) => prune(alloc, engine, grid, first, test),
     }
 }
 
-/// The text of the product of two texts, kept where a third one's matrix has entries.
-fn masked_text<S: Semiring>(
+/// The text of what the operation of a job makes of its matrices.
+fn answer<S: Semiring>(
     alloc: Global,
     job: &Job,
-    first: &[u8],
-    second: &[u8],
-    third: &[u8],
+    operands: &[Matrix<S>],
 ) -> Result<Vec<u8>, JobFault>
-    ensures ok { IfOk result (λ v. IsMaskedText S.arithmetic first.now second.now third.now v.items) }
-    ensures fault { IfErr result (IsMaskedFault S.arithmetic first.now second.now third.now) }
-    ensures unwritten { IfErr result (λ f. f ≢ JobFault.Output) }
+    requires { length operands.now ≡ file_count_of job.now.operation }
+    ensures ok { IfOk result (λ v. v.items ≡ text_of S.arithmetic (answer_of job.now.operation S.arithmetic operands.now)) }
+    ensures agree { IfOk result (λ v. Agree job.now.operation operands.now) }
+    ensures fault { IfErr result (IsLateFault job.now.operation operands.now) }
 {
-    let left = read_text::<S>(alloc, 0, first)?;
-    let right = read_text::<S>(alloc, 1, second)?;
-    let mask = read_text::<S>(alloc, 2, third)?;
-    match multiply_masked(alloc, job.engine, &job.grid, &left, &right, &mask) {
-        Err(fault) => Err(JobFault::Script(fault)),
-        Ok(kept) => match text(alloc, &kept) {
-            Ok(text) => Ok(text),
-            Err(_) => Err(JobFault::Memory),
-        },
-    }
+    let answer = computed(alloc, job, operands)?;
+    Ok(text(alloc, &answer)?)
 }
 
 /// The text of the answer of a job over a semiring.
@@ -100,10 +121,16 @@ fn answer_over<S: Semiring>(
     ensures fault { IfErr result (IsFaultOver job.now.operation S.arithmetic (bytes_of texts.now)) }
     ensures unwritten { IfErr result (λ f. f ≢ JobFault.Output) }
 {
-    match job.operation {
-        Operation::Multiply => product_text::<S>(alloc, job, &texts[0], &texts[1]),
-        Operation::MultiplyMasked => masked_text::<S>(alloc, job, &texts[0], &texts[1], &texts[2]),
+    let first = read_text::<S>(alloc, texts, 0)?;
+    if texts.len() == 1 {
+        return answer(alloc, job, &[first]);
     }
+    let second = read_text::<S>(alloc, texts, 1)?;
+    if texts.len() == 2 {
+        return answer(alloc, job, &[first, second]);
+    }
+    let third = read_text::<S>(alloc, texts, 2)?;
+    answer(alloc, job, &[first, second, third])
 }
 
 /// The text of the answer of a job.
