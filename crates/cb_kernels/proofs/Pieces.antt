@@ -1,6 +1,6 @@
 -- What each step of the product by a spread vector does to the slots, over blocks of any kind.
-use Rattle.std.proofs.Common.{◌≡◌, ◌≢◌, ℕ, zero, suc, ◌+◌, ◌-◌, ◌*◌, ◌<◌, ◌≤◌, true, false, List, [], ◌∷◌, ◌++◌, map, length, inl, inr, refl, sym, ap, subst, ◌∙◌, arith}
-use Rattle.std.specs.Prelude.{◌⊎◌, Option, Some, ◌==◌, ◌&&◌, nat_lt, nat_le, if◌then◌else◌, flat_map}
+use Rattle.std.proofs.Common.{◌≡◌, ◌≢◌, ℕ, zero, suc, ◌+◌, ◌-◌, ◌*◌, ◌<◌, ◌≤◌, true, false, List, [], ◌∷◌, map, length, inl, refl, sym, ap, subst, ◌∙◌, arith}
+use Rattle.std.specs.Prelude.{◌⊎◌, Option, Some, ◌==◌, ◌&&◌, nat_lt, nat_le, flat_map}
 use Rattle.std.specs.List.{range_with_len}
 use Rattle.std.proofs.lemmas.Bool.Decides.{nat_tests}
 use Rattle.std.proofs.lemmas.List.FromFn.{length-map-range_with_len, get_or-map-range_with_len}
@@ -10,8 +10,7 @@ use Rattle.cb_plan.specs.declared.acts.Op.TheVariants as op_is
 use Rattle.cb_plan.specs.Meaning.{Algebra, State, meaning, one, two}
 use Rattle.cb_plan.proofs.Effects.{split}
 use Rattle.cb_layout.specs.Parts.{row_group, column_group, part, part_start}
-use Rattle.cb_layout.proofs.Parts.{rank_below}
-use Rattle.cb_collectives.specs.Collectives.{is_member, member, place_of, all_to_all_acts, exchanged}
+use Rattle.cb_collectives.specs.Collectives.{is_member, member, place_of, exchanged}
 use Rattle.cb_collectives.proofs.Places.{place_of-member}
 use Rattle.cb_collectives.proofs.Spread.{broadcast_spreads}
 use Rattle.cb_collectives.proofs.Filling.{all_to_all_exchanges}

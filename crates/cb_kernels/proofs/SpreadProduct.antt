@@ -1,8 +1,7 @@
 -- What the acts of the product by a spread vector leave, over blocks of any kind, and of matrices.
-use Rattle.std.proofs.Common.{◌≡◌, ℕ, ◌+◌, ◌-◌, ◌*◌, ◌/◌, ◌%◌, ◌<◌, ◌≤◌, ◌++◌, inl, refl, sym, ap, subst, ◌∙◌, arith}
-use Rattle.std.specs.Prelude.{Option, Some}
-use Rattle.cb_semirings.specs.Arithmetic.{Arithmetic, IsSemiring}
-use Rattle.cb_matrix.specs.Sparse.{Sparse, Extent, IsMatrix}
+use Rattle.std.proofs.Common.{◌≡◌, ℕ, ◌+◌, ◌-◌, ◌*◌, ◌/◌, ◌%◌, ◌<◌, ◌≤◌, ◌++◌, inl, sym, ap, ◌∙◌, arith}
+use Rattle.std.specs.Prelude.{Some}
+use Rattle.cb_matrix.specs.Sparse.{Extent}
 use Rattle.cb_matrix.specs.Values.{product}
 use Rattle.cb_matrix.specs.Operations.{cut}
 use Rattle.cb_plan.specs.Meaning.{Algebra, State, meaning, one}
@@ -15,7 +14,7 @@ use Rattle.cb_layout.proofs.Parts.{rank_below}
 use Rattle.cb_collectives.specs.Collectives.{shut_acts}
 use Rattle.cb_collectives.proofs.Shutting.{shut_nothing}
 use Rattle.cb_distribution.proofs.Grid.{at_place}
-use Rattle.cb_kernels.specs.VectorPlans.{column, each_works, piece_broadcasts, product_ops, cut_ops, exchanges, sum_ops, products_at, cuts_at, spread_product_acts, vector_acts, LeavesResult, IsVectorPlan}
+use Rattle.cb_kernels.specs.VectorPlans.{column, each_works, piece_broadcasts, product_ops, cut_ops, exchanges, sum_ops, products_at, cuts_at, spread_product_acts, vector_acts, IsVectorPlan}
 use Rattle.cb_kernels.proofs.Programs.{after_ops, each_works_here, each_works_skip}
 use Rattle.cb_kernels.proofs.Pieces.{assembled, summed, pieces_come, pieces_skip, product_made, products_skip, pieces_cut, cuts_skip, pieces_exchanged, exchanges_skip, sum_made, sums_skip}
 use Rattle.cb_kernels.proofs.Assembly.{vector_part, part_assembled, pieces_make_product}

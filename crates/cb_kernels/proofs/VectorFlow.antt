@@ -1,6 +1,6 @@
 -- The acts of the product by a spread vector pass the check.
-use Rattle.std.proofs.Common.{◌≡◌, ◌≢◌, ℕ, zero, suc, ◌+◌, ◌-◌, ◌*◌, ◌/◌, ◌%◌, ◌<◌, ◌≤◌, true, false, List, [], ◌∷◌, ◌++◌, map, length, inl, refl, sym, ap, subst, ◌∙◌, arith}
-use Rattle.std.specs.Prelude.{Option, Some, is_some, ◌==◌, ◌&&◌, nat_lt, nat_le, flat_map}
+use Rattle.std.proofs.Common.{◌≡◌, ◌≢◌, ℕ, zero, suc, ◌+◌, ◌-◌, ◌*◌, ◌/◌, ◌%◌, ◌<◌, ◌≤◌, true, List, [], ◌∷◌, ◌++◌, map, length, inl, refl, sym, ap, subst, ◌∙◌, arith}
+use Rattle.std.specs.Prelude.{Option, Some, is_some, nat_lt, nat_le, flat_map}
 use Rattle.std.specs.List.{range_with_len}
 use Rattle.std.proofs.lemmas.Bool.Decides.{nat_tests}
 use Rattle.std.proofs.lemmas.List.FromFn.{length-map-range_with_len, get_or-map-range_with_len}
@@ -9,25 +9,25 @@ use Rattle.cb_matrix.specs.Sparse.{Extent}
 use Rattle.cb_plan.specs.declared.acts.Op.{Op}
 use Rattle.cb_plan.specs.declared.acts.Op.TheVariants as op_is
 use Rattle.cb_plan.specs.declared.acts.Act.{Act}
-use Rattle.cb_plan.specs.Meaning.{State, meaning, one}
+use Rattle.cb_plan.specs.Meaning.{State}
 use Rattle.cb_plan.specs.Algebras.{shapes}
-use Rattle.cb_plan.specs.Checks.{Lanes, none_shut, started, lanes_after}
+use Rattle.cb_plan.specs.Checks.{none_shut, lanes_after}
 use Rattle.cb_plan.proofs.Passing.{lanes_after-append}
 use Rattle.cb_layout.specs.Parts.{row_group, column_group, part, part_start, part_length, part_shape}
 use Rattle.cb_layout.specs.Vectors.{piece_shape}
-use Rattle.cb_layout.proofs.Parts.{rank_below, rank_of, row_below}
-use Rattle.cb_collectives.specs.Collectives.{is_member, member, sent_from}
+use Rattle.cb_layout.proofs.Parts.{rank_of, row_below}
+use Rattle.cb_collectives.specs.Collectives.{member, sent_from}
 use Rattle.cb_collectives.proofs.Passing.{broadcast_passes, broadcast_keeps_lanes}
 use Rattle.cb_collectives.proofs.Sending.{sends_keep_lanes, all_to_all_passes}
 use Rattle.cb_distribution.specs.Distribution.{tagged}
 use Rattle.cb_distribution.specs.Flows.{Flows}
-use Rattle.cb_distribution.proofs.Flows.{flows-append, flows_each, CanWork}
+use Rattle.cb_distribution.proofs.Flows.{flows-append, flows_each}
 use Rattle.cb_distribution.proofs.Grid.{in_column, column_exists, column_distinct, row_exists}
 use Rattle.cb_distribution.proofs.PartStarts.{start_rises, start_within}
-use Rattle.cb_kernels.specs.VectorPlans.{column, works, each_works, piece_broadcast, part_broadcasts, piece_broadcasts, add_piece, product_ops, piece_cut, cut_ops, exchange, exchanges, next_summand, sum_ops, products_at, cuts_at, spread_product_acts, vector_starts}
+use Rattle.cb_kernels.specs.VectorPlans.{column, each_works, piece_broadcast, part_broadcasts, piece_broadcasts, add_piece, product_ops, piece_cut, exchange, exchanges, next_summand, sum_ops, products_at, cuts_at, spread_product_acts}
 use Rattle.cb_kernels.proofs.Programs.{after_op, after_ops, CanDo, can_do_both, each_works_flow, lists_skip}
 use Rattle.cb_kernels.proofs.Pieces.{yes, no, assembled, broadcast_skips, part_skips, pieces_add, adds_skip, exchange_skips}
-use Rattle.cb_kernels.proofs.SpreadProduct.{after_pieces, after_products, after_cuts, after_exchanges, block_product, product_piece, has_left, has_pieces, has_product, has_cuts, has_summands}
+use Rattle.cb_kernels.proofs.SpreadProduct.{after_pieces, after_products, after_cuts, after_exchanges, has_left, has_pieces, has_product, has_cuts, has_summands}
 
 below : (n : ℕ) → n < 256 → nat_lt n 256 ≡ true
 below n l = grind (arith, nat_tests)

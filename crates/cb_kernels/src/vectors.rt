@@ -77,12 +77,7 @@ fn vector_starts(alloc: Global, grid: &Grid, a: Shape) -> Result<Vec<Start>, All
 }
 
 /// Appends the starts of one rank.
-fn push_starts(
-    starts: &mut Vec<Start>,
-    grid: &Grid,
-    rank: u16,
-    a: Shape,
-) -> Result<(), AllocError>
+fn push_starts(starts: &mut Vec<Start>, grid: &Grid, rank: u16, a: Shape) -> Result<(), AllocError>
     requires { rank < grid.now.side * grid.now.side }
     ensures { OnOk result (starts.new.items ≡ starts.old.items ++ vector_starts_at grid.now.side a rank) }
 {
@@ -111,12 +106,7 @@ fn input_shape(grid: &Grid, rank: u16, a: Shape) -> Shape
 }
 
 /// Slot 2 of each rank gets its piece of the product.
-fn multiply_spread(
-    plan: &mut Plan,
-    alloc: Global,
-    grid: &Grid,
-    a: Shape,
-) -> Result<(), PlanFault>
+fn multiply_spread(plan: &mut Plan, alloc: Global, grid: &Grid, a: Shape) -> Result<(), PlanFault>
     requires { IsWithinLimit plan.now (spread_product_acts grid.now.side a) }
     ensures acts { OnOk result (Grew (spread_product_acts grid.now.side a) plan.old plan.new) }
     ensures fault { IfErr result (λ e. e ≡ no_memory) }
@@ -185,12 +175,7 @@ fn part_of_vector(grid: &Grid, rank: u16, a: Shape) -> Shape
 }
 
 /// A rank makes its part of the vector, which has this shape, and multiplies its block by it.
-fn multiply_block(
-    plan: &mut Plan,
-    grid: &Grid,
-    rank: u16,
-    part: Shape,
-) -> Result<(), PlanFault>
+fn multiply_block(plan: &mut Plan, grid: &Grid, rank: u16, part: Shape) -> Result<(), PlanFault>
     requires { IsWithinLimit plan.now (works rank (product_ops grid.now.side part)) }
     ensures acts { OnOk result (Grew (works rank (product_ops grid.now.side part)) plan.old plan.new) }
     ensures fault { IfErr result (λ e. e ≡ no_memory) }

@@ -4,7 +4,7 @@ use Rattle.cb_plan.specs.declared.acts.Act.{Act}
 use Rattle.cb_plan.specs.declared.acts.Op.TheVariants as op_is
 use Rattle.cb_layout.specs.Parts.{part_start}
 use Rattle.cb_distribution.specs.Growth.{IsWithinLimit, Grew}
-use Rattle.cb_kernels.specs.VectorPlans.{works, piece_cut, cut_ops}
+use Rattle.cb_kernels.specs.VectorPlans.{works, piece_cut}
 use Rattle.cb_kernels.proofs.Loops.{next_within, next_grew, works_each}
 use Rattle.cb_kernels.proofs.vectors.cut_product.Goals as goal
 

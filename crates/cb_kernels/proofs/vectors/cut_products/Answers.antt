@@ -1,4 +1,4 @@
-use Rattle.std.proofs.Common.{◌≡◌, ℕ, ◌/◌, List, ap, ◌∙◌, arith}
+use Rattle.std.proofs.Common.{◌≡◌, ℕ, ◌/◌, ap, ◌∙◌, arith}
 use Rattle.cb_layout.specs.Parts.{part_length}
 use Rattle.cb_matrix.specs.Sparse.{Extent}
 use Rattle.cb_kernels.specs.VectorPlans.{works, cut_ops, cuts_at}

@@ -1,6 +1,5 @@
-use Rattle.std.proofs.Common.{ℕ, List, ap, arith}
+use Rattle.std.proofs.Common.{ap, arith}
 use Rattle.cb_matrix.specs.Sparse.{Extent}
-use Rattle.cb_plan.specs.declared.acts.Act.{Act}
 use Rattle.cb_kernels.specs.VectorPlans.{works, product_ops, products_at}
 use Rattle.cb_kernels.proofs.Loops.{next_within, next_grew}
 use Rattle.cb_kernels.proofs.vectors.multiply_blocks.Goals as goal
