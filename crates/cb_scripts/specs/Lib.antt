@@ -3,3 +3,6 @@
 pub mod Refusals
 pub mod Slots
 pub mod Answers
+-- Walks: walks in a graph, levels and distances. Numbers: the least numbers known so far.
+pub mod Walks
+pub mod Numbers
