@@ -1,7 +1,8 @@
 //! One rank on its caller's thread.
 ghost use Rattle.std.specs.Prelude.{◌≡◌, ◌≢◌, ◌⊎◌, None, IfOk, OnOk};
 ghost use Rattle.cb_rank.specs.Ranks.{IsRank, next_half, want_of};
-ghost use Rattle.cb_ranks.specs.Runs.{IsNewRun, IsUnderWay, DoesNext, Runs};
+ghost use Rattle.cb_ranks.specs.Runs.{IsNewRun, Runs};
+ghost use Rattle.cb_ranks.specs.UnderWay.{IsUnderWay, DoesNext};
 
 use crate::gates::Gate;
 use cb_dcsc::Block;
@@ -64,15 +65,16 @@ fn post<S: Semiring, R: Wait>(
     desk: &mut Desk<Block<S>>,
     to: u16,
 ) -> Result<(), Gone>
+    requires rank { IsRank rank.old }
     requires want { want_of (next_half rank.old) ≡ Want.Post to }
     requires under_way { IsUnderWay rank.old desk.old }
     ensures next { OnOk result (DoesNext S.arithmetic rank.old desk.old rank.new desk.new) }
 {
     let (tag, body) = rank.outgoing(Supply::Granted);
-    match desk.post(rt, to, tag, body) {
-        Ok(_number) => Ok(()),
-        Err(_) => Err(Gone(to)),
-    }
+    let Ok(_number) = desk.post(rt, to, tag, body) else {
+        return Err(Gone(to));
+    };
+    Ok(())
 }
 
 /// A Shut. It is refused as a Post is.
@@ -82,15 +84,16 @@ fn close<S: Semiring, R: Wait>(
     desk: &mut Desk<Block<S>>,
     to: u16,
 ) -> Result<(), Gone>
+    requires rank { IsRank rank.old }
     requires want { want_of (next_half rank.old) ≡ Want.Shut to }
     requires under_way { IsUnderWay rank.old desk.old }
     ensures next { OnOk result (DoesNext S.arithmetic rank.old desk.old rank.new desk.new) }
 {
     rank.shut();
-    match desk.close(rt, to) {
-        Ok(_number) => Ok(()),
-        Err(_) => Err(Gone(to)),
-    }
+    let Ok(_number) = desk.close(rt, to) else {
+        return Err(Gone(to));
+    };
+    Ok(())
 }
 
 /// A Take or an End.
@@ -111,8 +114,8 @@ fn take<S: Semiring, R: Wait>(
         Taken::Empty => unreachable!(),
         Taken::Stranger => unreachable!(),
     };
-    match rank.accept(arrival) {
-        Ok(()) => Ok(()),
-        Err(_stray) => Err(Gone(from)),
-    }
+    let Ok(()) = rank.accept(arrival) else {
+        return Err(Gone(from));
+    };
+    Ok(())
 }
