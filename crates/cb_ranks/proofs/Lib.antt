@@ -1,0 +1,9 @@
+-- Courses: what a rank does of its program only adds to what it posted and took, and a program is done piece by piece.
+-- Results: what a rank leaves in a slot, or posts, stands for what the plan means.
+-- Acts: one act of the plan, on ranks that each did their halves of it by themselves.
+-- Closing: the closing law, `closes`: what each rank did by itself, and lanes on which what was taken is a beginning of
+--   what was posted, are what the whole plan means.
+pub mod Courses
+pub mod Results
+pub mod Acts
+pub mod Closing
