@@ -217,7 +217,7 @@ module _ (s : Arithmetic) (refs : ℕ → ℕ) (ranks : ℕ) (state : State Spar
               rw e (set_stands refs (c to).slots (c1 to).slots (state to) (act (matrices s) a state to) into (state from slot) (slot_of_body x.body) (stands.sizes to m) k set (λ j. stands.slots to j m) (λ j. rw t2 refl) left n))
               (λ u. rw (u, kept r h u) (stands.slots r n h));
           sizes = λ r h. split (to == r)
-              (λ u. let e : r ≡ to = grind (arith, nat_tests) in rw e (ap length set ∙ length-set (c to).slots into (slot_of_body x.body) ∙ stands.sizes to m))
+              (λ u. let e : r ≡ to = grind (arith, nat_tests) in rw e (ap length {y = slice_set (c to).slots into (slot_of_body x.body)} set ∙ length-set (c to).slots into (slot_of_body x.body) ∙ stands.sizes to m))
               (λ u. rw (kept r h u) (stands.sizes r h));
           lanes = lanes_pass refs ranks state sent c c1 from to l m apart w y x stands passes same right;
         }

@@ -3,7 +3,10 @@
 -- Acts: one act of the plan, on ranks that each did their halves of it by themselves.
 -- Closing: the closing law, `closes`: what each rank did by itself, and lanes on which what was taken is a beginning of
 --   what was posted, are what the whole plan means.
+-- Crews: the same of all ranks with their desks: `finishes_all`; `still_opening`, for `settle`; `is_crew` and `are_new`, ranks
+--   and desks before they run; `is_finished` and `sum_small`, the sum of refusals.
 pub mod Courses
 pub mod Results
 pub mod Acts
 pub mod Closing
+pub mod Crews
