@@ -29,22 +29,22 @@ use Rattle.cb_rank.proofs.View.{split, some_shape}
 use Rattle.cb_rank.proofs.Halves.{all_some, some_by_shape, arrived_slot}
 use Rattle.cb_ranks.proofs.Results.{worked_by_end, copied_by_end}
 
--- a lane: these letters were posted, and all were taken
-pub record LaneIs (refs : ℕ → ℕ) (f t : ℕ) (sent : List (Tag × Cargo Sparse)) (posted taken : List (Letter Sparse)) : Type 0 where
+-- on a lane these letters were posted, and all were taken
+pub record IsWholeLane (refs : ℕ → ℕ) (f t : ℕ) (sent : List (Tag × Cargo Sparse)) (posted taken : List (Letter Sparse)) : Type 0 where
   pub letters : AreLettersOf refs f t 0 sent posted
   pub all_taken : taken ≡ posted
 
 -- how courses stand to a state of the whole plan and the letters so far, with the counts of refusals at the end
-pub record Stands (refs : ℕ → ℕ) (ranks : ℕ) (state : State Sparse) (sent : ℕ → ℕ → List (Tag × Cargo Sparse)) (c : ℕ → Course) : Type 0 where
+pub record CoursesStand (refs : ℕ → ℕ) (ranks : ℕ) (state : State Sparse) (sent : ℕ → ℕ → List (Tag × Cargo Sparse)) (c : ℕ → Course) : Type 0 where
   pub slots : (r n : ℕ) → r < ranks → IsSlotOf refs (state r n) (slot_at (c r).slots n)
   pub sizes : (r : ℕ) → r < ranks → length (c r).slots ≡ 256
-  pub lanes : (f t : ℕ) → f < ranks → t < ranks → f ≢ t → LaneIs refs f t (sent f t) ((c f).posted t) ((c t).taken f)
+  pub lanes : (f t : ℕ) → f < ranks → t < ranks → f ≢ t → IsWholeLane refs f t (sent f t) ((c f).posted t) ((c t).taken f)
 
--- two lists that go on to the same list
-abbrev pub Meet : List (Letter Sparse) → List (Letter Sparse) → Type 0
-Meet xs ys = (u : List (Letter Sparse)) × (v : List (Letter Sparse)) × (xs ++ u ≡ ys ++ v)
+-- two lists that go on to one list
+abbrev pub GoToOne : List (Letter Sparse) → List (Letter Sparse) → Type 0
+GoToOne xs ys = (u : List (Letter Sparse)) × (v : List (Letter Sparse)) × (xs ++ u ≡ ys ++ v)
 
-one_letter : (old : List (Letter Sparse)) (x y : Letter Sparse) → Meet (old ++ x ∷ []) (old ++ y ∷ []) → x ≡ y
+one_letter : (old : List (Letter Sparse)) (x y : Letter Sparse) → GoToOne (old ++ x ∷ []) (old ++ y ∷ []) → x ≡ y
 one_letter old x y m =
     let e : old ++ (x ∷ m.0) ≡ old ++ (y ∷ m.1) = sym (append_assoc old (x ∷ []) m.0) ∙ m.2 ∙ append_assoc old (y ∷ []) m.1 in
     let k = append_cancel_left old (x ∷ m.0) (y ∷ m.1) e in
@@ -56,14 +56,14 @@ letters_snoc refs f t n k (v ∷ ws) (y ∷ xs) w x e h a g b = (h.0, h.1, h.2, 
 letters_snoc refs f t n k [] (y ∷ xs) w x e h a g b = absurd h
 letters_snoc refs f t n k (v ∷ ws) [] w x e h a g b = absurd h
 
--- what a post must say
-pub record IsRight (refs : ℕ → ℕ) (f t : ℕ) (w : Tag × Cargo Sparse) (count : ℕ) (y : Letter Sparse) : Type 0 where
+-- the letter that an act posts, with this number
+pub record IsLetterFor (refs : ℕ → ℕ) (f t : ℕ) (w : Tag × Cargo Sparse) (count : ℕ) (y : Letter Sparse) : Type 0 where
   pub addressed : IsAddressed f t count y
   pub tagged : y.tag ≡ w.0
   pub carries : IsBodyOf refs w.1 y.body
 
-lane_passes : (refs : ℕ → ℕ) (f t : ℕ) (sent : List (Tag × Cargo Sparse)) (posted taken posted' taken' : List (Letter Sparse)) (b : Bool) (w : Tag × Cargo Sparse) (y x : Letter Sparse) → LaneIs refs f t sent posted taken →
-    posted' ≡ posted ++ (if b then y ∷ [] else []) → taken' ≡ taken ++ (if b then x ∷ [] else []) → (b ≡ true → (x ≡ y) × IsRight refs f t w (length posted) y) → LaneIs refs f t (sent ++ (if b then w ∷ [] else [])) posted' taken'
+lane_passes : (refs : ℕ → ℕ) (f t : ℕ) (sent : List (Tag × Cargo Sparse)) (posted taken posted' taken' : List (Letter Sparse)) (b : Bool) (w : Tag × Cargo Sparse) (y x : Letter Sparse) → IsWholeLane refs f t sent posted taken →
+    posted' ≡ posted ++ (if b then y ∷ [] else []) → taken' ≡ taken ++ (if b then x ∷ [] else []) → (b ≡ true → (x ≡ y) × IsLetterFor refs f t w (length posted) y) → IsWholeLane refs f t (sent ++ (if b then w ∷ [] else [])) posted' taken'
 lane_passes refs f t sent posted taken posted' taken' true w y x h p q is =
     let r = is refl in
     let right = r.1 in
@@ -77,7 +77,7 @@ lane_passes refs f t sent posted taken posted' taken' false w y x h p q is = rec
 }
 
 -- a letter went from one rank to another
-pub record IsPassed (ranks : ℕ) (c c1 : ℕ → Course) (from to : ℕ) (y x : Letter Sparse) : Type 0 where
+pub record IsHandedOver (ranks : ℕ) (c c1 : ℕ → Course) (from to : ℕ) (y x : Letter Sparse) : Type 0 where
   pub from_posts : (k : ℕ) → (c1 from).posted k ≡ with_letter (c from).posted to y k
   pub from_takes : (k : ℕ) → (c1 from).taken k ≡ (c from).taken k
   pub to_takes : (k : ℕ) → (c1 to).taken k ≡ with_letter (c to).taken from x k
@@ -87,7 +87,7 @@ pub record IsPassed (ranks : ℕ) (c c1 : ℕ → Course) (from to : ℕ) (y x :
 with_letter_is : (lists : ℕ → List (Letter Sparse)) (j : ℕ) (x : Letter Sparse) (k : ℕ) → with_letter lists j x k ≡ lists k ++ (if j == k then x ∷ [] else [])
 with_letter_is lists j x k = split (j == k) (λ t. rw t refl) (λ f. rw f (sym (append-nil (lists k))))
 
-module _ (refs : ℕ → ℕ) (ranks : ℕ) (state : State Sparse) (sent : ℕ → ℕ → List (Tag × Cargo Sparse)) (c c1 : ℕ → Course) (from to : ℕ) (l : from < ranks) (m : to < ranks) (apart : from ≢ to) (w : Tag × Cargo Sparse) (y x : Letter Sparse) (stands : Stands refs ranks state sent c) (passes : IsPassed ranks c c1 from to y x) where
+module _ (refs : ℕ → ℕ) (ranks : ℕ) (state : State Sparse) (sent : ℕ → ℕ → List (Tag × Cargo Sparse)) (c c1 : ℕ → Course) (from to : ℕ) (l : from < ranks) (m : to < ranks) (apart : from ≢ to) (w : Tag × Cargo Sparse) (y x : Letter Sparse) (stands : CoursesStand refs ranks state sent c) (passes : IsHandedOver ranks c c1 from to y x) where
   posted_now : (f t : ℕ) → f < ranks → (c1 f).posted t ≡ (c f).posted t ++ (if from == f && to == t then y ∷ [] else [])
   posted_now f t h =
       split (from == f)
@@ -109,15 +109,15 @@ module _ (refs : ℕ → ℕ) (ranks : ℕ) (state : State Sparse) (sent : ℕ �
       (λ v. rw both (ap (λ (z : Course). z.taken f) (passes.others t h v u) ∙ sym (append-nil ((c t).taken f)))))
 
   -- the letter that is taken is the one that was posted
-  pub same_letter : Meet ((c1 to).taken from) ((c1 from).posted to) → x ≡ y
+  pub same_letter : GoToOne ((c1 to).taken from) ((c1 from).posted to) → x ≡ y
   same_letter meet =
       let t1 : (from == from && to == to) ≡ true = grind (arith, nat_tests) in
       let lane = stands.lanes from to l m apart in
       let p : (c1 from).posted to ≡ (c from).posted to ++ y ∷ [] = posted_now from to l ∙ rw t1 refl in
       let q : (c1 to).taken from ≡ (c from).posted to ++ x ∷ [] = taken_now from to m ∙ rw t1 (ap (λ z. z ++ x ∷ []) lane.all_taken) in
-      one_letter ((c from).posted to) x y (subst (λ z. Meet z ((c from).posted to ++ y ∷ [])) q (subst (λ z. Meet ((c1 to).taken from) z) p meet))
+      one_letter ((c from).posted to) x y (subst (λ z. GoToOne z ((c from).posted to ++ y ∷ [])) q (subst (λ z. GoToOne ((c1 to).taken from) z) p meet))
 
-  pub lanes_pass : x ≡ y → IsRight refs from to w (length ((c from).posted to)) y → (f t : ℕ) → f < ranks → t < ranks → f ≢ t → LaneIs refs f t (sent f t ++ (if from == f && to == t then w ∷ [] else [])) ((c1 f).posted t) ((c1 t).taken f)
+  pub lanes_pass : x ≡ y → IsLetterFor refs from to w (length ((c from).posted to)) y → (f t : ℕ) → f < ranks → t < ranks → f ≢ t → IsWholeLane refs f t (sent f t ++ (if from == f && to == t then w ∷ [] else [])) ((c1 f).posted t) ((c1 t).taken f)
   lanes_pass same right f t g h ne =
       lane_passes refs f t (sent f t) ((c f).posted t) ((c t).taken f) ((c1 f).posted t) ((c1 t).taken f) (from == f && to == t) w y x (stands.lanes f t g h ne) (posted_now f t g) (taken_now f t h)
       (λ u.
@@ -141,14 +141,14 @@ only_half s me hs h old new e runs =
 no_half : (s : Arithmetic) (me : ℕ) (hs : List Half) (old new : Course) → hs ≡ [] → RunsTo s me hs old new → new ≡ old
 no_half s me hs old new e runs = subst (λ z. RunsTo s me z old new) e runs
 
-module _ (s : Arithmetic) (refs : ℕ → ℕ) (ranks : ℕ) (state : State Sparse) (outline : State Extent) (shut : Lanes) (sent : ℕ → ℕ → List (Tag × Cargo Sparse)) (c c1 : ℕ → Course) (measured : (r n : ℕ) → outline r n ≡ one (λ (m : Sparse). m.shape) (state r n)) (counts : (r : ℕ) → r < ranks → (c1 r).refusals ≤ refs r) (stands : Stands refs ranks state sent c) where
-  abbrev pub Does : Act → Type 0
-  Does a = (r : ℕ) → r < ranks → RunsTo s r (halves_of outline a r) (c r) (c1 r)
+module _ (s : Arithmetic) (refs : ℕ → ℕ) (ranks : ℕ) (state : State Sparse) (outline : State Extent) (shut : Lanes) (sent : ℕ → ℕ → List (Tag × Cargo Sparse)) (c c1 : ℕ → Course) (measured : (r n : ℕ) → outline r n ≡ one (λ (m : Sparse). m.shape) (state r n)) (counts : (r : ℕ) → r < ranks → (c1 r).refusals ≤ refs r) (stands : CoursesStand refs ranks state sent c) where
+  abbrev pub DoTheirHalves : Act → Type 0
+  DoTheirHalves a = (r : ℕ) → r < ranks → RunsTo s r (halves_of outline a r) (c r) (c1 r)
 
-  abbrev pub After : Act → Type 0
-  After a = Stands refs ranks (act (matrices s) a state) (λ f t. sent f t ++ letter_of a state f t) c1
+  abbrev pub StandAfter : Act → Type 0
+  StandAfter a = CoursesStand refs ranks (act (matrices s) a state) (λ f t. sent f t ++ letter_of a state f t) c1
 
-  pub works : (rank : ℕ) (op : Op) → IsSound ranks outline shut (act_is.Work rank op) → Does (act_is.Work rank op) → After (act_is.Work rank op)
+  pub works : (rank : ℕ) (op : Op) → IsSound ranks outline shut (act_is.Work rank op) → DoTheirHalves (act_is.Work rank op) → StandAfter (act_is.Work rank op)
   works rank op sound does =
       let l = (first_below ranks rank [] sound.ranks_exist).0 in
       let k = (first_below 256 (target_of op) (operands_of op) sound.slots_exist).0 in
@@ -178,7 +178,7 @@ module _ (s : Arithmetic) (refs : ℕ → ℕ) (ranks : ℕ) (state : State Spar
       }
 
   module _ (from to : ℕ) (l : from < ranks) (m : to < ranks) (apart : from ≢ to) where
-    pub moves : (tag : Tag) (slot into : ℕ) → IsSound ranks outline shut (act_is.Move from to tag slot into) → Does (act_is.Move from to tag slot into) → Meet ((c1 to).taken from) ((c1 from).posted to) → After (act_is.Move from to tag slot into)
+    pub moves : (tag : Tag) (slot into : ℕ) → IsSound ranks outline shut (act_is.Move from to tag slot into) → DoTheirHalves (act_is.Move from to tag slot into) → GoToOne ((c1 to).taken from) ((c1 from).posted to) → StandAfter (act_is.Move from to tag slot into)
     moves tag slot into sound does meet =
         let a : Act = act_is.Move from to tag slot into in
         let k = (first_below 256 into [] (first_below 256 slot (into ∷ []) sound.slots_exist).1).0 in
@@ -194,7 +194,7 @@ module _ (s : Arithmetic) (refs : ℕ → ℕ) (ranks : ℕ) (state : State Spar
         let y : Letter Sparse = record { from = from; to = to; number = length ((c from).posted to); tag = tag; body = post.0 } in
         let x : Letter Sparse = take.0 in
         let quiet : (r : ℕ) → r < ranks → (from == r) ≡ false → (to == r) ≡ false → c1 r ≡ c r = λ r h u v. no_half s r (halves_of outline a r) (c r) (c1 r) (rw (u, v) refl) (does r h) in
-        let passes : IsPassed ranks c c1 from to y x = record {
+        let passes : IsHandedOver ranks c c1 from to y x = record {
           from_posts = λ j. ap (λ (z : Course). z.posted j) post.2;
           from_takes = λ j. ap (λ (z : Course). z.taken j) post.2;
           to_takes = λ j. ap (λ (z : Course). z.taken j) take.3;
@@ -204,7 +204,7 @@ module _ (s : Arithmetic) (refs : ℕ → ℕ) (ranks : ℕ) (state : State Spar
         let w : Tag × Cargo Sparse = (tag, Sheet (state from slot)) in
         let same : x ≡ y = same_letter refs ranks state sent c c1 from to l m apart w y x stands passes meet in
         let body : IsBodyOf refs (Sheet (state from slot)) post.0 = copied_by_end refs from (state from slot) (slot_at (c from).slots slot) post.0 (c from).refusals (c1 from).refusals (counts from l) some (stands.slots from slot l) post.1 in
-        let right : IsRight refs from to w (length ((c from).posted to)) y = record { addressed = record { sender = refl; addressee = refl; numbered = refl }; tagged = refl; carries = body } in
+        let right : IsLetterFor refs from to w (length ((c from).posted to)) y = record { addressed = record { sender = refl; addressee = refl; numbered = refl }; tagged = refl; carries = body } in
         let set : (c1 to).slots ≡ slice_set (c to).slots into (slot_of_body x.body) = ap (λ (z : Course). z.slots) take.3 in
         let left : IsSlotOf refs (state from slot) (slot_of_body x.body) = subst (λ (z : Letter Sparse). IsSlotOf refs (state from slot) (slot_of_body z.body)) (sym same) (arrived_slot refs (state from slot) post.0 body) in
         let kept : (r : ℕ) → r < ranks → (to == r) ≡ false → (c1 r).slots ≡ (c r).slots = λ r h u. split (from == r)
@@ -222,7 +222,7 @@ module _ (s : Arithmetic) (refs : ℕ → ℕ) (ranks : ℕ) (state : State Spar
           lanes = lanes_pass refs ranks state sent c c1 from to l m apart w y x stands passes same right;
         }
 
-    pub shuts : IsSound ranks outline shut (act_is.Shut from to) → Does (act_is.Shut from to) → Meet ((c1 to).taken from) ((c1 from).posted to) → After (act_is.Shut from to)
+    pub shuts : IsSound ranks outline shut (act_is.Shut from to) → DoTheirHalves (act_is.Shut from to) → GoToOne ((c1 to).taken from) ((c1 from).posted to) → StandAfter (act_is.Shut from to)
     shuts sound does meet =
         let a : Act = act_is.Shut from to in
         let t1 : (from == from) ≡ true = grind (arith, nat_tests) in
@@ -235,7 +235,7 @@ module _ (s : Arithmetic) (refs : ℕ → ℕ) (ranks : ℕ) (state : State Spar
         let y : Letter Sparse = record { from = from; to = to; number = length ((c from).posted to); tag = mark_tag; body = body_is.Close } in
         let x : Letter Sparse = take.0 in
         let quiet : (r : ℕ) → r < ranks → (from == r) ≡ false → (to == r) ≡ false → c1 r ≡ c r = λ r h u v. no_half s r (halves_of outline a r) (c r) (c1 r) (rw (u, v) refl) (does r h) in
-        let passes : IsPassed ranks c c1 from to y x = record {
+        let passes : IsHandedOver ranks c c1 from to y x = record {
           from_posts = λ j. ap (λ (z : Course). z.posted j) post;
           from_takes = λ j. ap (λ (z : Course). z.taken j) post;
           to_takes = λ j. ap (λ (z : Course). z.taken j) take.3;
@@ -244,7 +244,7 @@ module _ (s : Arithmetic) (refs : ℕ → ℕ) (ranks : ℕ) (state : State Spar
         } in
         let w : Tag × Cargo Sparse = (mark_tag, Mark) in
         let same : x ≡ y = same_letter refs ranks state sent c c1 from to l m apart w y x stands passes meet in
-        let right : IsRight refs from to w (length ((c from).posted to)) y = record { addressed = record { sender = refl; addressee = refl; numbered = refl }; tagged = refl; carries = refl } in
+        let right : IsLetterFor refs from to w (length ((c from).posted to)) y = record { addressed = record { sender = refl; addressee = refl; numbered = refl }; tagged = refl; carries = refl } in
         let kept : (r : ℕ) → r < ranks → (c1 r).slots ≡ (c r).slots = λ r h. split (from == r)
         (λ v. let e : r ≡ from = grind (arith, nat_tests) in rw e (ap (λ (z : Course). z.slots) post))
         (λ v. split (to == r)
@@ -260,7 +260,7 @@ module _ (s : Arithmetic) (refs : ℕ → ℕ) (ranks : ℕ) (state : State Spar
   apart_of from to e = grind (arith, nat_tests)
 
   -- whichever act it is
-  pub acts_stand : (a : Act) → IsSound ranks outline shut a → Does a → ((f t : ℕ) → f < ranks → t < ranks → f ≢ t → Meet ((c1 t).taken f) ((c1 f).posted t)) → After a
+  pub acts_stand : (a : Act) → IsSound ranks outline shut a → DoTheirHalves a → ((f t : ℕ) → f < ranks → t < ranks → f ≢ t → GoToOne ((c1 t).taken f) ((c1 f).posted t)) → StandAfter a
   acts_stand (act_is.Move from to tag slot into) sound does meet =
       let one = first_below ranks from (to ∷ []) sound.ranks_exist in
       let two = first_below ranks to [] one.1 in

@@ -22,12 +22,12 @@ use Rattle.cb_plan.specs.Stores.{Fits}
 use Rattle.cb_rank.specs.Agreement.{IsSlotOf, AreLettersOf}
 use Rattle.cb_rank.specs.Halves.{Course, RunsTo, slot_at}
 use Rattle.cb_ranks.proofs.Courses.{Extends, Grows, fresh, grows, parts, choose}
-use Rattle.cb_ranks.proofs.Acts.{Stands, LaneIs, Meet, acts_stand}
+use Rattle.cb_ranks.proofs.Acts.{CoursesStand, IsWholeLane, GoToOne, acts_stand}
 use Rattle.cb_ranks.proofs.Results.{sheet_stands}
 use mathlib.Core.List.{IsPrefix}
 
--- where two lists go on to the same list, so do their beginnings
-meet_before : (xs ys xs' ys' : List (Letter Sparse)) → Extends xs xs' → Extends ys ys' → Meet xs' ys' → Meet xs ys
+-- where two lists go on to one list, so do their beginnings
+meet_before : (xs ys xs' ys' : List (Letter Sparse)) → Extends xs xs' → Extends ys ys' → GoToOne xs' ys' → GoToOne xs ys
 meet_before xs ys xs' ys' h k m = (
   h.0 ++ m.0,
   k.0 ++ m.1,
@@ -43,8 +43,8 @@ measured_next s a state outline h r n =
 pub walk : (s : Arithmetic) (refs : ℕ → ℕ) (ranks : ℕ) (acts : List Act) (state : State Sparse) (outline : State Extent) (shut : Lanes) (sent : ℕ → ℕ → List (Tag × Cargo Sparse)) (c last : ℕ → Course) →
     ((r n : ℕ) → outline r n ≡ one (λ (m : Sparse). m.shape) (state r n)) → Passes ranks outline shut acts →
     ((r : ℕ) → r < ranks → RunsTo s r (project_from outline acts r) (c r) (last r)) → ((r : ℕ) → r < ranks → (last r).refusals ≤ refs r) →
-    ((f t : ℕ) → f < ranks → t < ranks → f ≢ t → Meet ((last t).taken f) ((last f).posted t)) → Stands refs ranks state sent c →
-    Stands refs ranks (meaning (matrices s) acts state) (λ f t. sent f t ++ letters (matrices s) acts state f t) last
+    ((f t : ℕ) → f < ranks → t < ranks → f ≢ t → GoToOne ((last t).taken f) ((last f).posted t)) → CoursesStand refs ranks state sent c →
+    CoursesStand refs ranks (meaning (matrices s) acts state) (λ f t. sent f t ++ letters (matrices s) acts state f t) last
 walk s refs ranks [] state outline shut sent c last measured passes runs counts meet stands = record {
   slots = λ r n h. rw (runs r h) (stands.slots r n h);
   sizes = λ r h. rw (runs r h) (stands.sizes r h);
@@ -55,14 +55,14 @@ walk s refs ranks (a ∷ acts) state outline shut sent c last measured passes ru
     let chosen = choose ranks (λ r mid. RunsTo s r (halves_of outline a r) (c r) mid × RunsTo s r (rest_of r) mid (last r)) (fresh []) (λ r h. parts s r (halves_of outline a r) (rest_of r) (c r) (last r) (runs r h)) in
     let mid : ℕ → Course = chosen.0 in
     let grown : (r : ℕ) → r < ranks → Grows (mid r) (last r) = λ r h. grows s r (rest_of r) (mid r) (last r) (chosen.1 r h).1 in
-    let meets : (f t : ℕ) → f < ranks → t < ranks → f ≢ t → Meet ((mid t).taken f) ((mid f).posted t) = λ f t g h ne. meet_before ((mid t).taken f) ((mid f).posted t) ((last t).taken f) ((last f).posted t) ((grown t h).taken f) ((grown f g).posted t) (meet f t g h ne) in
+    let meets : (f t : ℕ) → f < ranks → t < ranks → f ≢ t → GoToOne ((mid t).taken f) ((mid f).posted t) = λ f t g h ne. meet_before ((mid t).taken f) ((mid f).posted t) ((last t).taken f) ((last f).posted t) ((grown t h).taken f) ((grown f g).posted t) (meet f t g h ne) in
     let few : (r : ℕ) → r < ranks → (mid r).refusals ≤ refs r = λ r h. let x = (grown r h).refusals in let y = counts r h in omega arith in
     let after = acts_stand s refs ranks state outline shut sent c mid measured few stands a passes.0 (λ r h. (chosen.1 r h).0) meets in
     let end = walk s refs ranks acts (act (matrices s) a state) (act shapes a outline) (shut_after a shut) (λ f t. sent f t ++ letter_of a state f t) mid last (measured_next s a state outline measured) passes.1 (λ r h. (chosen.1 r h).1) counts meet after in
     record {
       slots = end.slots;
       sizes = end.sizes;
-      lanes = λ f t g h ne. subst (λ z. LaneIs refs f t z ((last f).posted t) ((last t).taken f)) (append_assoc (sent f t) (letter_of a state f t) (letters (matrices s) acts (act (matrices s) a state) f t)) (end.lanes f t g h ne);
+      lanes = λ f t g h ne. subst (λ z. IsWholeLane refs f t z ((last f).posted t) ((last t).taken f)) (append_assoc (sent f t) (letter_of a state f t) (letters (matrices s) acts (act (matrices s) a state) f t)) (end.lanes f t g h ne);
     }
 
 -- every slot and every lane is that of the whole plan
@@ -80,7 +80,7 @@ pub closes : (s : Arithmetic) (p : CheckedView) (first : List (List (Slot Sparse
     → AreFinished s p first courses
 closes s p first courses checked fits runs prefixes =
     let refs : ℕ → ℕ = λ q. (courses q).refusals in
-    let begins : Stands refs p.ranks (state_of first) (λ _ _. []) (λ r. fresh (get_or first r [])) = record {
+    let begins : CoursesStand refs p.ranks (state_of first) (λ _ _. []) (λ r. fresh (get_or first r [])) = record {
       slots = λ r n h. sheet_stands refs (get_or (get_or first r []) n slot_is.Empty) (fits.none_lost r n);
       sizes = λ r h. fits.table.cols r h;
       lanes = λ f t g h ne. record { letters = tt; all_taken = refl };

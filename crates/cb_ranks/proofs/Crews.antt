@@ -1,6 +1,6 @@
 -- All ranks of a plan with their desks, each of which ran its program: together they hold what the plan means.
-use Rattle.std.proofs.Common.{◌≡◌, ◌≢◌, ℕ, zero, suc, ◌+◌, ◌*◌, ◌<◌, ◌≤◌, ◌^◌, Bool, true, false, List, [], ◌∷◌, ◌++◌, length, map, get_or, refl, sym, ap, ◌∙◌, subst, arith, ⊎_elim}
-use Rattle.std.specs.Prelude.{Option, Some, None, nat_lt, slice_get, sum, All, ◌==◌}
+use Rattle.std.proofs.Common.{◌≡◌, ◌≢◌, ℕ, zero, suc, ◌+◌, ◌<◌, ◌≤◌, ◌^◌, false, List, [], ◌∷◌, length, map, get_or, refl, sym, ap, ◌∙◌, subst, arith, ⊎_elim}
+use Rattle.std.specs.Prelude.{Option, Some, None, slice_get, sum, ◌==◌}
 use Rattle.std.specs.List.{AllZip}
 use Rattle.std.proofs.lemmas.Bool.{cases_lt}
 use Rattle.std.proofs.lemmas.Bool.Decides.{nat_tests}
@@ -9,7 +9,7 @@ use Rattle.std.proofs.lemmas.List.Elements.{All-from_get_or, length_all_zip}
 use Rattle.std.proofs.lemmas.List.Sums.{get_or-le-sum_by, sum_by-le}
 use Rattle.std.proofs.lemmas.Option.{slice_get-map, get_or_from_slice_get}
 use Rattle.std.proofs.Math.ListN.{get_or-eq_default}
-use Rattle.std.specs.Option.{option_map, option_map_or}
+use Rattle.std.specs.Option.{option_map}
 use Rattle.cb_semirings.specs.Arithmetic.{Arithmetic}
 use Rattle.cb_matrix.specs.Sparse.{Sparse, Extent}
 use Rattle.cb_letters.specs.declared.Tag.{Tag}
@@ -30,15 +30,15 @@ use Rattle.cb_plan.proofs.Effects.{same_state}
 use Rattle.cb_plan.proofs.Passing.{checked_passes}
 use Rattle.cb_plan.proofs.Running.{first_below}
 use Rattle.cb_lanes.specs.declared.desk.Desk.{Desk}
-use Rattle.cb_lanes.specs.Desks.{Identity, identity, posted_to, taken_from, posted_in, taken_in, AreOfOneOpening, IsNewDesk, IsSettledLane}
+use Rattle.cb_lanes.specs.Desks.{identity, posted_to, taken_from, posted_in, taken_in, AreOfOneOpening, IsNewDesk, IsSettledLane}
 use Rattle.cb_rank.specs.Agreement.{IsSlotOf, AreLettersOf}
-use Rattle.cb_rank.specs.Halves.{Course, RunsTo, slot_at}
-use Rattle.cb_rank.specs.Ranks.{RankView, IsRank, new_rank}
-use Rattle.cb_rank.proofs.View.{split, quiet_act}
+use Rattle.cb_rank.specs.Halves.{Course, RunsTo}
+use Rattle.cb_rank.specs.Ranks.{RankView, new_rank}
+use Rattle.cb_rank.proofs.View.{quiet_act}
 use Rattle.cb_rank.proofs.Keeping.{few_halves}
-use Rattle.cb_ranks.specs.Runs.{course_of, IsNewRun, Runs}
+use Rattle.cb_ranks.specs.Runs.{course_of, IsNewRun}
 use Rattle.cb_ranks.specs.Crews.{Member, desks_of, stores_of, counts_of, AreNew, Ran, IsCrew}
-use Rattle.cb_ranks.specs.Finished.{FinishedView, refused_at, all_refusals, IsFinished, HasLetters, HoldsMeaning}
+use Rattle.cb_ranks.specs.Finished.{FinishedView, all_refusals, IsFinished, HoldsMeaning}
 use Rattle.cb_ranks.proofs.Courses.{fresh}
 use Rattle.cb_ranks.proofs.Closing.{AreFinished, closes}
 

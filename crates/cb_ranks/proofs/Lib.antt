@@ -5,8 +5,10 @@
 --   what was posted, are what the whole plan means.
 -- Crews: the same of all ranks with their desks: `finishes_all`; `still_opening`, for `settle`; `is_crew` and `are_new`, ranks
 --   and desks before they run; `is_finished` and `sum_small`, the sum of refusals.
+-- Example: two ranks that meet what the closing law asks for, one of them refused memory.
 pub mod Courses
 pub mod Results
 pub mod Acts
 pub mod Closing
 pub mod Crews
+mod Example

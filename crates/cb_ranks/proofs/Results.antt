@@ -1,5 +1,5 @@
 -- What a rank leaves in a slot, or posts, stands for what the plan means, with the counts of refusals at the end of all runs.
-use Rattle.std.proofs.Common.{◌≡◌, ℕ, ◌+◌, ◌-◌, ◌<◌, ◌≤◌, false, List, refl, ap, arith, inl, inr}
+use Rattle.std.proofs.Common.{◌≡◌, ℕ, ◌-◌, ◌≤◌, false, List, refl, ap, arith, inl, inr}
 use Rattle.std.specs.Prelude.{Option, IsSome}
 use Rattle.std.proofs.lemmas.Bool.Decides.{nat_tests}
 use Rattle.cb_semirings.specs.Arithmetic.{Arithmetic}
