@@ -1,0 +1,11 @@
+//! Ranks in threads of their own, over the lanes between them.
+#![tactic(auto)]
+
+mod faults;
+mod gates;
+mod runs;
+
+pub use cb_rank::Rank;
+pub use faults::RunFault;
+pub use gates::{Gate, OpenGate};
+pub use runs::run_rank;
