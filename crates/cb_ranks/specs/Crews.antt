@@ -1,5 +1,5 @@
 -- All ranks of a plan, each with its desk, before they run and after.
-use Rattle.std.specs.Prelude.{◌≡◌, ℕ, ◌<◌, List, [], length, map, get_or}
+use Rattle.std.specs.Prelude.{◌≡◌, ℕ, ◌<◌, List, [], ◌∷◌, length, map, get_or}
 use Rattle.cb_semirings.specs.Arithmetic.{Arithmetic}
 use Rattle.cb_matrix.specs.Sparse.{Sparse}
 use Rattle.cb_plan.specs.declared.stores.Slot.{Slot}
@@ -22,6 +22,11 @@ stores_of crew = map (λ m. m.0.slots) crew
 -- how often each was refused memory
 abbrev pub counts_of : List Member → List ℕ
 counts_of crew = map (λ m. m.0.refusals) crew
+
+-- each is a new rank with its new desk
+abbrev pub AreNew : List Member → Type 0
+AreNew [] = Unit {0}
+AreNew (m ∷ ms) = IsNewRun m.0 m.1 × AreNew ms
 
 -- the second is what the run of the first left
 abbrev pub Ran : Arithmetic → Member → Member → Type 0
