@@ -1,6 +1,7 @@
 -- Lanes: which lanes to a rank are shut before each of its halves.
 -- Going: a rank that goes on over its desk by one half.
 -- Running: the loop over a rank's halves.
+-- Joined: threads that are joined one after the other.
 -- Courses: what a rank does of its program only adds to what it posted and took, and a program is done piece by piece.
 -- Results: what a rank leaves in a slot, or posts, stands for what the plan means.
 -- Acts: one act of the plan, on ranks that each did their halves of it by themselves.
@@ -12,6 +13,7 @@
 pub mod Lanes
 pub mod Going
 pub mod Running
+pub mod Joined
 pub mod Courses
 pub mod Results
 pub mod Acts

@@ -1,9 +1,11 @@
 //! Ranks in threads of their own, over the lanes between them.
 #![tactic(auto)]
 
+mod crew;
 mod faults;
 mod gates;
 mod runs;
+mod threads;
 
 pub use cb_rank::Rank;
 pub use faults::RunFault;
