@@ -31,6 +31,8 @@ use Rattle.cb_plan.proofs.Passing.{checked_passes}
 use Rattle.cb_plan.proofs.Running.{first_below}
 use Rattle.cb_lanes.specs.declared.desk.Desk.{Desk}
 use Rattle.cb_lanes.specs.Desks.{identity, posted_to, taken_from, posted_in, taken_in, AreOfOneOpening, IsNewDesk, IsSettledLane}
+use Rattle.cb_lanes.specs.declared.settled.Settled.{Settled}
+use Rattle.cb_lanes.specs.Lanes.{posted_on, taken_on}
 use Rattle.cb_rank.specs.Agreement.{IsSlotOf, AreLettersOf}
 use Rattle.cb_rank.specs.Halves.{Course, RunsTo}
 use Rattle.cb_rank.specs.Ranks.{RankView, new_rank}
@@ -207,32 +209,27 @@ finishes_all s p first crew done checked fits is ran settled =
           );
     }
 
--- what such a run keeps, so that its refusals can be summed
+-- no rank was refused memory more often than its program has halves
+few_refusals : (s : Arithmetic) (p : CheckedView) (first : List (List (Slot Sparse))) (crew done : List Member) → IsCrew p first crew → AllZip (Ran s) crew done → All (λ n. n ≤ 4294967295) (counts_of done)
+few_refusals s p first crew done is ran =
+    All-from_get_or (λ n. n ≤ 4294967295) (counts_of done) 0 (λ i l.
+    let size = length_all_zip (Ran s) crew done ran in
+    let counts = length-map done (λ (m : Member). m.0.refusals) in
+    let it = place s crew done i ran (omega arith) in
+    let rank = it.ran.rank in
+    let same = get_or_of (λ (x : Member). x.0.refusals) done i it.new 0 it.new_is in
+    let short = few_halves it.new.0 rank in
+    let so_far = rank.progress in
+    let refused = rank.refusals in
+    omega arith)
+
+-- what such a run keeps
 pub is_finished : (s : Arithmetic) (p : CheckedView) (first : List (List (Slot Sparse))) (crew done : List Member) → p.ranks < 2 ^ 16 → IsCrew p first crew → AllZip (Ran s) crew done → IsFinished (finished_by done)
 is_finished s p first crew done few is ran =
     let size : length done ≡ p.ranks = sym (length_all_zip (Ran s) crew done ran) ∙ is.count in
-    let stores = length-map done (λ (m : Member). m.0.slots) in
     let counts = length-map done (λ (m : Member). m.0.refusals) in
-    record {
-      ranks = stores ∙ sym counts;
-      few = omega arith;
-      small = All-from_get_or (λ n. n ≤ 4294967295) (counts_of done) 0 (λ i l.
-          let it = place s crew done i ran (omega (arith, is.count)) in
-          let y = it.new.0 in
-          let rank = it.ran.rank in
-          let same = get_or_of (λ (x : Member). x.0.refusals) done i it.new 0 it.new_is in
-          let short = few_halves y rank in
-          let done_few = rank.progress in
-          let refused = rank.refusals in
-          omega arith);
-    }
-
--- and the sum is a number of 64 bits
-pub sum_small : (f : FinishedView) → IsFinished f → all_refusals f < 2 ^ 64
-sum_small f is =
-    let bound = sum_by-le (λ (x : ℕ). x) 4294967295 f.refusals is.small in
-    let few = is.few in
-    omega arith
+    let bound = sum_by-le (λ (x : ℕ). x) 4294967295 (counts_of done) (few_refusals s p first crew done is ran) in
+    record { ranks = counts ∙ sym (length-map done (λ (m : Member). m.0.slots)); fits = omega arith }
 
 -- ranks that start with their parts of the stores, each with its desk of one opening, are a crew
 pub is_crew : (c : ℕ) (p : CheckedView) (first : List (List (Slot Sparse))) (crew : List Member) (desks : List (Desk Sparse)) → length desks ≡ p.ranks → desks_of crew ≡ desks → AreOfOneOpening (map identity desks)
@@ -259,3 +256,12 @@ is_crew c p first crew desks count same opening new ranks =
 pub are_new : (crew : List Member) → ((k : ℕ) (d : Member) → k < length crew → IsNewRun (get_or crew k d).0 (get_or crew k d).1) → AreNew crew
 are_new [] new = tt
 are_new (m ∷ ms) new = (new 0 m (omega arith), are_new ms (λ k d l. new (suc k) d (omega arith)))
+
+-- the lanes after `settle` are those of the desks
+settled_by : (done : List Member) (w : Settled Sparse) → ((from to : ℕ) → posted_on w from to ≡ posted_in (desks_of done) from to) → ((from to : ℕ) → taken_on w from to ≡ taken_in (desks_of done) from to) → finished_by done ≡ record { stores = stores_of done; refusals = counts_of done; posted = posted_on w; taken = taken_on w }
+settled_by done w posted taken = λ i. record { stores = stores_of done; refusals = counts_of done; posted = λ f t. sym (posted f t) i; taken = λ f t. sym (taken f t) i }
+
+-- so what the plan means is held by the stores, the counts and these lanes
+pub finishes_with : (s : Arithmetic) (p : CheckedView) (first : List (List (Slot Sparse))) (done : List Member) (w : Settled Sparse) → ((from to : ℕ) → posted_on w from to ≡ posted_in (desks_of done) from to) → ((from to : ℕ) → taken_on w from to ≡ taken_in (desks_of done) from to)
+    → HoldsMeaning s p first (finished_by done) → HoldsMeaning s p first (record { stores = stores_of done; refusals = counts_of done; posted = posted_on w; taken = taken_on w })
+finishes_with s p first done w posted taken h = subst (λ f. HoldsMeaning s p first f) (settled_by done w posted taken) h

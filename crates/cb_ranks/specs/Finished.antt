@@ -1,5 +1,5 @@
 -- What all ranks of a plan leave once each has run its program in its thread.
-use Rattle.std.specs.Prelude.{◌≡◌, ◌≢◌, ℕ, ◌<◌, ◌≤◌, ◌^◌, List, length, get_or, sum, All}
+use Rattle.std.specs.Prelude.{◌≡◌, ◌≢◌, ℕ, ◌<◌, ◌^◌, List, length, get_or, sum}
 use Rattle.cb_semirings.specs.Arithmetic.{Arithmetic}
 use Rattle.cb_matrix.specs.Sparse.{Sparse}
 use Rattle.cb_letters.specs.declared.Letter.{Letter}
@@ -28,11 +28,14 @@ refused_at f r = get_or f.refusals r 0
 abbrev pub all_refusals : FinishedView → ℕ
 all_refusals f = sum f.refusals
 
--- what every such run keeps, so that its refusals can be summed: there are no more ranks, nor refusals of one, than a plan can have
+-- what every such run keeps: a count of refusals for each rank, and their sum is a number of 64 bits
 pub record IsFinished (f : FinishedView) : Type 0 where
-  pub ranks : length f.stores ≡ length f.refusals
-  pub few : length f.refusals < 2 ^ 16
-  pub small : All (λ n. n ≤ 4294967295) f.refusals
+  pub ranks : length f.refusals ≡ length f.stores
+  pub fits : all_refusals f < 2 ^ 64
+
+-- there is a lane between these two ranks
+abbrev pub IsLaneOf : FinishedView → ℕ → ℕ → Type 0
+IsLaneOf f from to = (from < length f.stores) × (to < length f.stores) × (from ≢ to)
 
 -- on the lane between two ranks all letters of the plan were posted, the close mark among them, and all were taken
 pub record HasLetters (s : Arithmetic) (p : CheckedView) (first : List (List (Slot Sparse))) (f : FinishedView) (from to : ℕ) : Type 0 where

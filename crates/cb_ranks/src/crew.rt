@@ -2,7 +2,7 @@
 ghost use Rattle.std.specs.Prelude.{◌≡◌, ◌≤◌, ◌<◌, ℕ, [], length, get_or, IfOk, vec_len, vec_capacity};
 ghost use Rattle.cb_plan.specs.Stores.{Fits};
 ghost use Rattle.cb_rank.specs.Ranks.{new_rank};
-ghost use Rattle.cb_ranks.specs.Crews.{Member as MemberView, IsCrew, desks_of, stores_of, counts_of};
+ghost use Rattle.cb_ranks.specs.Crews.{Member as MemberView, AreNew, IsCrew, desks_of, stores_of, counts_of};
 
 use cb_dcsc::Block;
 use cb_lanes::{Desk, open};
@@ -22,7 +22,8 @@ pub(crate) fn assemble<S: Semiring>(
     capacity: usize,
 ) -> Result<Vec<Member<S>>, AllocError>
     requires { Fits plan.now.ranks plan.now.starts stores.items }
-    ensures { IfOk result (λ crew. IsCrew plan.now stores.items crew.items) }
+    ensures crew { IfOk result (λ crew. IsCrew plan.now stores.items crew.items) }
+    ensures new { IfOk result (λ crew. AreNew crew.items) }
 {
     let desks = open(alloc, plan.ranks(), capacity)?;
     pair_up(alloc, plan, stores, desks)

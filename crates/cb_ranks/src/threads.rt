@@ -1,22 +1,64 @@
 //! A thread for each rank, in one scope: started in order, and all joined before the scope ends.
 ghost use Rattle.std.specs.Prelude.{◌≡◌, ◌≤◌, [], map, IfOk, IfSome, IfNone, vec_len, vec_capacity};
 ghost use Rattle.std.specs.List.{AllZip};
+ghost use Rattle.cb_plan.specs.Stores.{Fits};
 ghost use Rattle.cb_ranks.specs.Crews.{AreNew, Ran};
+ghost use Rattle.cb_ranks.specs.Finished.{HoldsMeaning};
 ghost use Rattle.cb_ranks.specs.Runs.{IsNewRun, Runs};
 ghost use Rattle.cb_ranks.specs.Started.{started};
+ghost use Rattle.cb_ranks.specs.Views.{finished_view};
 
-use crate::crew::Member;
+use crate::crew::{Member, Remains, assemble};
 use crate::faults::RunFault;
+use crate::finished::Finished;
 use crate::gates::Gate;
 use crate::runs::run_rank;
 use cb_dcsc::Block;
-use cb_lanes::{Desk, Gone};
+use cb_lanes::{Desk, Gone, settle};
+use cb_plan::{CheckedPlan, RankStore};
 use cb_rank::Rank;
 use cb_semirings::Semiring;
+use std::alloc::Global;
 use std::snapshot::Snapshot;
 use std::sync::Wait;
 use std::thread;
 use std::thread::{Promise, PromisedHandle, Scope, Threads};
+
+/// Runs each rank of a plan in a thread of its own, over lanes for `capacity` letters (1 to 64) from each rank to each
+/// other: what is left is what the plan means. Every rank does its whole program: where it is refused memory for a
+/// block the block is lost, and the count of refusals says so.
+///
+/// All memory but that of the ranks' own work and of the threads is taken before the first thread is started. On a
+/// fault the stores are given up, once every thread has ended.
+pub fn run_threads<S: Semiring + Send + Sync, R: Threads + Wait + Sync, G: Gate<S>>(
+    rt: &R,
+    alloc: Global,
+    plan: &CheckedPlan,
+    stores: Vec<RankStore<S>>,
+    capacity: usize,
+    gate: &G,
+) -> Result<Finished<S>, RunFault>
+    requires { Fits plan.now.ranks plan.now.starts stores.items }
+    ensures meaning { IfOk result (λ finished. HoldsMeaning S.arithmetic plan.now stores.items (finished_view finished)) }
+{
+    let ranks = plan.ranks() as usize;
+    let crew = assemble(alloc, plan, stores, capacity)?;
+    let threads = Vec::with_capacity(alloc, ranks)?;
+    let room = Vec::with_capacity(alloc, ranks)?;
+    let remains = Remains::with_room(alloc, ranks)?;
+    let done = run_crew(rt, crew, threads, room, gate)?;
+    let Remains {
+        stores,
+        refusals,
+        desks,
+    } = remains.take_from(done);
+    let lanes = settle(desks);
+    Ok(Finished {
+        stores,
+        refusals,
+        lanes,
+    })
+}
 
 /// What the thread of this rank and this desk promises: at its end the rank has run its program.
 #[derive(Drop)]
@@ -116,7 +158,7 @@ fn join_all<S: Semiring, R: Threads>(
 }
 
 /// Runs each rank over its desk in a thread of its own, and takes them back. No memory is taken but for the threads.
-pub(crate) fn run_crew<S: Semiring + Send + Sync, R: Threads + Wait + Sync, G: Gate<S>>(
+fn run_crew<S: Semiring + Send + Sync, R: Threads + Wait + Sync, G: Gate<S>>(
     rt: &R,
     crew: Vec<Member<S>>,
     threads: Vec<Running<S>>,
