@@ -19,6 +19,10 @@ use Rattle.cb_rank.proofs.View.{split}
 abbrev pub fresh : List (Slot Sparse) → Course
 fresh slots = record { slots = slots; refusals = 0; posted = λ _. []; taken = λ _. [] }
 
+-- courses that agree in every point are one
+pub same_course : (a b : Course) → a.slots ≡ b.slots → a.refusals ≡ b.refusals → ((k : ℕ) → a.posted k ≡ b.posted k) → ((k : ℕ) → a.taken k ≡ b.taken k) → a ≡ b
+same_course a b e f g h = λ i. record { slots = e i; refusals = f i; posted = λ k. g k i; taken = λ k. h k i }
+
 -- a list goes on to another
 abbrev pub Extends : List (Letter Sparse) → List (Letter Sparse) → Type 0
 Extends xs ys = (rest : List (Letter Sparse)) × (ys ≡ xs ++ rest)

@@ -1,6 +1,6 @@
 -- All ranks of a plan with their desks, each of which ran its program: together they hold what the plan means.
 use Rattle.std.proofs.Common.{◌≡◌, ◌≢◌, ℕ, zero, suc, ◌+◌, ◌<◌, ◌≤◌, ◌^◌, false, List, [], ◌∷◌, length, map, get_or, refl, sym, ap, ◌∙◌, subst, arith, ⊎_elim}
-use Rattle.std.specs.Prelude.{Option, Some, None, slice_get, sum, ◌==◌}
+use Rattle.std.specs.Prelude.{All, Option, Some, None, slice_get, sum, ◌==◌}
 use Rattle.std.specs.List.{AllZip}
 use Rattle.std.proofs.lemmas.Bool.{cases_lt}
 use Rattle.std.proofs.lemmas.Bool.Decides.{nat_tests}
@@ -41,7 +41,7 @@ use Rattle.cb_rank.proofs.Keeping.{few_halves}
 use Rattle.cb_ranks.specs.Runs.{course_of, IsNewRun}
 use Rattle.cb_ranks.specs.Crews.{Member, desks_of, stores_of, counts_of, AreNew, Ran, IsCrew}
 use Rattle.cb_ranks.specs.Finished.{FinishedView, all_refusals, IsFinished, HoldsMeaning}
-use Rattle.cb_ranks.proofs.Courses.{fresh}
+use Rattle.cb_ranks.proofs.Courses.{fresh, same_course}
 use Rattle.cb_ranks.proofs.Closing.{AreFinished, closes}
 
 -- on a new desk nothing was posted to any number, nor taken
@@ -58,10 +58,6 @@ none_taken c n k d new j =
     (λ (l : j < n). new.nothing_taken j l)
     (λ (l : n ≤ j). let size = new.ranks in let same = d.ranks.0 in rw (get_or-eq_default d.incoming.items None {n = j} (omega arith)) refl)
     (cases_lt j n)
-
--- courses that agree in every point are one
-pub same_course : (a b : Course) → a.slots ≡ b.slots → a.refusals ≡ b.refusals → ((k : ℕ) → a.posted k ≡ b.posted k) → ((k : ℕ) → a.taken k ≡ b.taken k) → a ≡ b
-same_course a b e f g h = λ i. record { slots = e i; refusals = f i; posted = λ k. g k i; taken = λ k. h k i }
 
 -- a new rank over its new desk is at its beginning
 pub new_course : (p : CheckedView) (me : ℕ) (slots : List (Slot Sparse)) (d : Desk Sparse) → IsNewRun (new_rank p me slots) d → course_of (new_rank p me slots) d ≡ fresh slots

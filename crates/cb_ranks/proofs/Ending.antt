@@ -27,7 +27,7 @@ module _ (s : Arithmetic) (p : CheckedView) (first : List (List (Slot Sparse))) 
       let posted_then : (from to : ℕ) → posted_on w from to ≡ posted_in (desks_of done) from to = λ f t. posted f t ∙ ap (λ (ds : List (Desk Sparse)). posted_in ds f t) desks_are in
       let taken_then : (from to : ℕ) → taken_on w from to ≡ taken_in (desks_of done) from to = λ f t. taken f t ∙ ap (λ (ds : List (Desk Sparse)). taken_in ds f t) desks_are in
       let settled_then : (from to : ℕ) → from < length done → to < length done → from ≢ to → IsSettledLane (posted_in (desks_of done) from to) (taken_in (desks_of done) from to) =
-          λ f t l m ne. subst (λ (ds : List (Desk Sparse)). IsSettledLane (posted_in ds f t) (taken_in ds f t)) desks_are (settled f t (omega arith) (omega arith) ne) in
+      λ f t l m ne. subst (λ (ds : List (Desk Sparse)). IsSettledLane (posted_in ds f t) (taken_in ds f t)) desks_are (settled f t (omega arith) (omega arith) ne) in
       rw (stores_are, refusals_are) (finishes_with s p first done w posted_then taken_then (finishes_all s p first crew done checked fits is ran settled_then))
 
   -- there is a count of refusals for each rank, whose sum is a number of 64 bits, and so many ranks have lanes

@@ -33,11 +33,8 @@ use Rattle.cb_rank.proofs.View.{split}
 use Rattle.cb_rank.proofs.Wanted.{wants_take, wants_end}
 use Rattle.cb_ranks.specs.Runs.{course_of}
 use Rattle.cb_ranks.specs.UnderWay.{IsUnderWay, DoesNext}
+use Rattle.cb_ranks.proofs.Courses.{same_course}
 use Rattle.cb_ranks.proofs.Lanes.{lanes_to, lanes_then, lanes_post, lanes_work, lanes_shut, lanes_take, lanes_end}
-
--- courses are one where their slots, refusals and letters are
-pub same_course : (a b : Course) → a.slots ≡ b.slots → a.refusals ≡ b.refusals → ((k : ℕ) → a.posted k ≡ b.posted k) → ((k : ℕ) → a.taken k ≡ b.taken k) → a ≡ b
-same_course a b slots refusals posted taken = λ i. record { slots = slots i; refusals = refusals i; posted = λ k. posted k i; taken = λ k. taken k i }
 
 -- one desk, whatever happened to it, has one rank
 pub same_me : (d e : Desk Sparse) → identity e ≡ identity d → e.me ≡ d.me
@@ -77,8 +74,12 @@ does_post s x y d e to tag slot t body is was next hands posts =
     record {
       half = half_is.Post to tag slot;
       next = next;
-      does = (body, h.1, same_course (course_of y e) (record { slots = x.slots; refusals = y.refusals; posted = with_letter (posted_to d) to letter; taken = taken_from d }) slots refl
-          (with_one (posted_to d) (posted_to e) to letter (posts.1.0 ∙ ap (λ z. posted_to d to ++ z ∷ []) same) (λ k ne. (posts.1.2 k ne).0)) posts.2);
+      does = (
+        body,
+        h.1,
+        same_course (course_of y e) (record { slots = x.slots; refusals = y.refusals; posted = with_letter (posted_to d) to letter; taken = taken_from d }) slots refl
+            (with_one (posted_to d) (posted_to e) to letter (posts.1.0 ∙ ap (λ z. posted_to d to ++ z ∷ []) same) (λ k ne. (posts.1.2 k ne).0)) posts.2,
+      );
       one_more = onward_of x y x.slots y.refusals h.2;
       rings = posts.0;
       under_way = still_under_way x y d e x.slots y.refusals was h.2 posts.0 posts.2 (lanes_post x to tag slot is next);
@@ -133,18 +134,23 @@ does_take s x y d e from tag into shape letter is was next waits onto takes =
     record {
       half = half_is.Take from tag into shape;
       next = next;
-      does = (letter, w.2, w.3, same_course (course_of y e) (record { slots = set; refusals = x.refusals; posted = posted_to d; taken = with_letter (taken_from d) from letter }) (ap (λ (z : RankView). z.slots) onto_set) (ap (λ (z : RankView). z.refusals) onto_set)
-          (λ k. (takes.1 k).0) (with_one (taken_from d) (taken_from e) from letter grown takes.2.1));
+      does = (
+        letter,
+        w.2,
+        w.3,
+        same_course (course_of y e) (record { slots = set; refusals = x.refusals; posted = posted_to d; taken = with_letter (taken_from d) from letter }) (ap (λ (z : RankView). z.slots) onto_set) (ap (λ (z : RankView). z.refusals) onto_set)
+            (λ k. (takes.1 k).0) (with_one (taken_from d) (taken_from e) from letter grown takes.2.1),
+      );
       one_more = onward_of x y set x.refusals onto_set;
       rings = takes.0;
       under_way = rw onto_set (record {
-            me = same_me d e takes.0 ∙ was.me;
-            ranks = same_ranks d e takes.0 ∙ was.ranks;
-            numbered = numbered_then d e from was.numbered takes.5 takes.2.1;
-            ends = λ k. split (from == k)
-                (λ t. let at : from ≡ k = grind (arith, nat_tests) in subst (λ n. ends_closed (taken_from e n) ≡ lanes_then x n) at (sym takes.3 ∙ sym lane.1 ∙ sym (lane.0 from)))
-                (λ f. let ne : k ≢ from = grind (arith, nat_tests) in ap ends_closed (takes.2.1 k ne) ∙ was.ends k ∙ sym (lane.0 k));
-          });
+        me = same_me d e takes.0 ∙ was.me;
+        ranks = same_ranks d e takes.0 ∙ was.ranks;
+        numbered = numbered_then d e from was.numbered takes.5 takes.2.1;
+        ends = λ k. split (from == k)
+            (λ t. let at : from ≡ k = grind (arith, nat_tests) in subst (λ n. ends_closed (taken_from e n) ≡ lanes_then x n) at (sym takes.3 ∙ sym lane.1 ∙ sym (lane.0 from)))
+            (λ f. let ne : k ≢ from = grind (arith, nat_tests) in ap ends_closed (takes.2.1 k ne) ∙ was.ends k ∙ sym (lane.0 k));
+      });
     }
 
 is_mark : (b : Body Sparse) → is_close b ≡ true → b ≡ body_is.Close
@@ -180,18 +186,23 @@ does_end s x y d e from is was next onto takes =
     record {
       half = half_is.End from;
       next = next;
-      does = (mark.0, mark.2, mark.3, same_course (course_of y e) (record { slots = x.slots; refusals = x.refusals; posted = posted_to d; taken = with_letter (taken_from d) from mark.0 }) (ap (λ (z : RankView). z.slots) onto_same) (ap (λ (z : RankView). z.refusals) onto_same)
-          (λ k. (takes.1 k).0) (with_one (taken_from d) (taken_from e) from mark.0 mark.1 takes.2.1));
+      does = (
+        mark.0,
+        mark.2,
+        mark.3,
+        same_course (course_of y e) (record { slots = x.slots; refusals = x.refusals; posted = posted_to d; taken = with_letter (taken_from d) from mark.0 }) (ap (λ (z : RankView). z.slots) onto_same) (ap (λ (z : RankView). z.refusals) onto_same)
+            (λ k. (takes.1 k).0) (with_one (taken_from d) (taken_from e) from mark.0 mark.1 takes.2.1),
+      );
       one_more = onward_of x y x.slots x.refusals onto_same;
       rings = takes.0;
       under_way = rw onto_same (record {
-            me = same_me d e takes.0 ∙ was.me;
-            ranks = same_ranks d e takes.0 ∙ was.ranks;
-            numbered = numbered_then d e from was.numbered takes.5 takes.2.1;
-            ends = λ k. split (from == k)
-                (λ t. let at : from ≡ k = grind (arith, nat_tests) in subst (λ n. ends_closed (taken_from e n) ≡ lanes_then x n) at (sym takes.3 ∙ sym (lane.0 from ∙ rw here refl)))
-                (λ f. let ne : k ≢ from = grind (arith, nat_tests) in ap ends_closed (takes.2.1 k ne) ∙ was.ends k ∙ sym (lane.0 k ∙ rw f refl));
-          });
+        me = same_me d e takes.0 ∙ was.me;
+        ranks = same_ranks d e takes.0 ∙ was.ranks;
+        numbered = numbered_then d e from was.numbered takes.5 takes.2.1;
+        ends = λ k. split (from == k)
+            (λ t. let at : from ≡ k = grind (arith, nat_tests) in subst (λ n. ends_closed (taken_from e n) ≡ lanes_then x n) at (sym takes.3 ∙ sym (lane.0 from ∙ rw here refl)))
+            (λ f. let ne : k ≢ from = grind (arith, nat_tests) in ap ends_closed (takes.2.1 k ne) ∙ was.ends k ∙ sym (lane.0 k ∙ rw f refl));
+      });
     }
 
 abbrev pub WaitsOn : RankView → ℕ → Type 0

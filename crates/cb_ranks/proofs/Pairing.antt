@@ -1,5 +1,5 @@
 -- Pairing stores and desks, one after the other.
-use Rattle.std.proofs.Common.{◌≡◌, ℕ, zero, suc, ◌+◌, ◌<◌, ◌≤◌, List, [], ◌∷◌, ◌++◌, length, refl, sym, ◌∙◌, ap, subst, arith, length-append, ⊎_elim}
+use Rattle.std.proofs.Common.{◌≡◌, ℕ, zero, suc, ◌+◌, ◌<◌, ◌≤◌, List, [], ◌∷◌, ◌++◌, length, refl, sym, ◌∙◌, ap, subst, arith, length-append, append-nil, ⊎_elim}
 use Rattle.std.specs.Prelude.{get_or, drop, Result, Ok, Err, IfOk}
 use Rattle.std.proofs.lemmas.Bool.{cases_lt}
 use Rattle.std.proofs.lemmas.List.{get_or_append_left}
@@ -39,3 +39,8 @@ started_more p first crew x h e k d below =
 pub ok_both : {A E : Type 0} (P Q R : A → Type 0) (r : Result A E) → ((x : A) → P x → Q x → R x) → IfOk r P → IfOk r Q → IfOk r R
 ok_both P Q R (Ok x) f p q = f x p q
 ok_both P Q R (Err e) f p q = tt
+
+-- where nothing is left, what is done is all
+pub nothing_left : {X : Type 0} (done rest all : List X) → length rest ≡ 0 → done ++ rest ≡ all → done ≡ all
+nothing_left done [] all none e = sym (append-nil done) ∙ e
+nothing_left done (x ∷ xs) all none e = absurd (omega arith)

@@ -1,16 +1,13 @@
 -- The loop over a rank's halves.
 use Rattle.std.proofs.Common.{◌≡◌, ℕ, zero, suc, ◌+◌, ◌<◌, ◌≤◌, Bool, true, false, List, [], ◌∷◌, ◌++◌, length, take, refl, sym, ◌∙◌, ap, subst, arith}
 use Rattle.std.specs.Prelude.{Option, Some, None, slice_get, slice_index_or}
-use Rattle.std.proofs.lemmas.List.{get_or_past, take_all}
-use Rattle.std.proofs.lemmas.Bool.{cases_lt}
-use Rattle.std.proofs.Common.{⊎_elim}
+use Rattle.std.proofs.lemmas.List.{take_all}
 use Rattle.cb_semirings.specs.Arithmetic.{Arithmetic}
 use Rattle.cb_matrix.specs.Sparse.{Sparse}
 use Rattle.cb_letters.specs.declared.Letter.{Letter}
 use Rattle.cb_letters.specs.Posted.{ends_closed}
 use Rattle.cb_lanes.specs.declared.desk.Desk.{Desk}
 use Rattle.cb_lanes.specs.Desks.{identity, taken_from, IsNewDesk}
-use Rattle.cb_lanes.specs.Ends.{received_by}
 use Rattle.cb_lanes.specs.Numbers.{AreNumbered}
 use Rattle.cb_plan.specs.declared.acts.Half.{Half}
 use Rattle.cb_plan.specs.Checks.{none_shut, lanes_after}
@@ -20,6 +17,7 @@ use Rattle.cb_rank.specs.Ranks.{RankView, IsRank, next_half, onward}
 use Rattle.cb_rank.proofs.Standing.{take-next}
 use Rattle.cb_ranks.specs.Runs.{course_of, IsNewRun, Runs}
 use Rattle.cb_ranks.specs.UnderWay.{IsUnderWay, DoesNext}
+use Rattle.cb_ranks.proofs.Crews.{none_taken}
 use Rattle.cb_ranks.proofs.Lanes.{lanes-before_next}
 
 -- from x and d a rank came to y and e, by the halves that it has done
@@ -34,16 +32,6 @@ pub runs_to-append : (s : Arithmetic) (me : ℕ) (hs : List Half) (h : Half) (a 
 runs_to-append s me [] h a b c runs does = (c, subst (λ z. DoesHalf s me h z c) runs does, refl)
 runs_to-append s me (g ∷ hs) h a b c runs does = (runs.0, runs.1, runs_to-append s me hs h runs.0 b c runs.2 does)
 
--- nothing was taken on a new desk
-taken_none : (x : RankView) (d : Desk Sparse) → IsNewRun x d → (k : ℕ) → taken_from d k ≡ []
-taken_none x d new k =
-    ⊎_elim
-    (λ (low : k < x.plan.ranks). new.desk.nothing_taken k low)
-    (λ (past : x.plan.ranks ≤ k).
-    let size : length d.incoming.items ≡ x.plan.ranks = d.ranks.0 ∙ new.desk.ranks in
-    ap received_by (get_or_past d.incoming.items k None (omega arith)))
-    (cases_lt k x.plan.ranks)
-
 -- a rank that begins
 pub begins : (s : Arithmetic) (x : RankView) (d : Desk Sparse) → IsNewRun x d → HasRun s x d x d
 begins s x d new = record {
@@ -51,11 +39,11 @@ begins s x d new = record {
   halves = rw new.undone refl;
   rings = refl;
   under_way = record {
-        me = new.desk.me;
-        ranks = new.desk.ranks;
-        numbered = λ k. subst AreNumbered (sym (taken_none x d new k)) (λ i y below. absurd (omega arith));
-        ends = λ k. ap ends_closed (taken_none x d new k) ∙ sym (ap (λ n. lanes_after (before x.plan.acts x.me n) none_shut k x.me) new.undone ∙ lanes-before_next x.plan.acts none_shut k x.me);
-      };
+    me = new.desk.me;
+    ranks = new.desk.ranks;
+    numbered = λ k. subst AreNumbered (sym (none_taken new.capacity x.plan.ranks x.me d new.desk k)) (λ i y below. absurd (omega arith));
+    ends = λ k. ap ends_closed (none_taken new.capacity x.plan.ranks x.me d new.desk k) ∙ sym (ap (λ n. lanes_after (before x.plan.acts x.me n) none_shut k x.me) new.undone ∙ lanes-before_next x.plan.acts none_shut k x.me);
+  };
 }
 
 -- and goes on

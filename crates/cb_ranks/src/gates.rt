@@ -1,5 +1,5 @@
 //! Where a rank passes before each half of its program.
-use crate::Rank;
+use cb_rank::Rank;
 use cb_semirings::Semiring;
 
 /// Called by each rank's thread before each half, with the rank as it stands. It may look, count and wait; it

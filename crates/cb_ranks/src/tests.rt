@@ -1,15 +1,15 @@
 //! Two ranks on threads of their own: what they leave, what the gate sees, and what is answered where one of them is
 //! gone or memory is refused.
-ghost use Rattle.std.specs.Prelude.{◌≡◌, ◌<◌, IfOk};
+ghost use Rattle.std.specs.Prelude.{◌≡◌, ◌<◌, IfOk, IfSome};
 ghost use Rattle.cb_plan.specs.Stores.{Fits};
 ghost use Rattle.cb_ranks.specs.Runs.{IsNewRun};
 
 use crate::crew::{Member, assemble};
-use crate::{Gate, OpenGate, Rank, RunFault, run_rank, run_threads};
+use crate::{Gate, OpenGate, RunFault, run_rank, run_threads};
 use cb_lanes::Gone;
 use cb_letters::Tag;
 use cb_plan::{Act, CheckedPlan, Op, Plan, RankStore, Slot, Start};
-use cb_rank::Want;
+use cb_rank::{Rank, Want};
 use cb_samples::{block, entry, shape};
 use cb_semirings::{PlusTimes, Semiring};
 use std::alloc::Global;
@@ -31,52 +31,51 @@ const fn send(from: u16, to: u16, tag: u32, slot: u16, into: u16) -> Act {
 }
 
 /// Rank 0 sends its 3 to rank 1, which doubles it and sends that back.
-const ACTS: [Act; 5] = [
-    send(0, 1, 5, 0, 0),
-    Act::Work {
-        rank: 1,
-        op: Op::Add {
-            a: 0,
-            b: 0,
-            into: 1,
+fn acts() -> [Act; 5] {
+    [
+        send(0, 1, 5, 0, 0),
+        Act::Work {
+            rank: 1,
+            op: Op::Add {
+                a: 0,
+                b: 0,
+                into: 1,
+            },
         },
-    },
-    send(1, 0, 6, 1, 2),
-    Act::Shut { from: 0, to: 1 },
-    Act::Shut { from: 1, to: 0 },
-];
+        send(1, 0, 6, 1, 2),
+        Act::Shut { from: 0, to: 1 },
+        Act::Shut { from: 1, to: 0 },
+    ]
+}
 
-/// The plan of these acts.
-fn plan(alloc: Global) -> Result<CheckedPlan, Fail> {
+/// The plan of these acts, where memory for it is to be had.
+fn plan(alloc: Global) -> Option<CheckedPlan> {
     let mut plan = Plan::new(alloc, 2);
-    for act in &ACTS {
-        if plan.push(*act).is_err() {
-            return Err("an act can't be appended".into());
-        }
+    for act in acts() {
+        plan.push(act).ok()?;
     }
     let three = Start {
         rank: 0,
         slot: 0,
-        shape: shape(1, 1)?,
+        shape: shape(1, 1).ok()?,
     };
-    match CheckedPlan::check(alloc, plan, &[three]) {
-        Ok(plan) => Ok(plan),
-        Err(_) => Err("a fault".into()),
-    }
+    CheckedPlan::check(alloc, plan, &[three]).ok()
 }
 
 /// The plan with stores that fit it.
-fn planned(alloc: Global) -> Result<(CheckedPlan, Vec<RankStore<PlusTimes>>), Fail>
-    ensures { IfOk result (λ p. Fits p.0.ranks p.0.starts p.1.items) }
+fn planned(alloc: Global) -> Option<(CheckedPlan, Vec<RankStore<PlusTimes>>)>
+    ensures { IfSome result (λ p. Fits p.0.ranks p.0.starts p.1.items) }
 {
     let plan = plan(alloc)?;
-    let mut first = RankStore::new(alloc)?;
-    first.put(0, block(alloc, 1, 1, &[entry(0, 0, 3)])?);
-    let stores = vec![in alloc; first, RankStore::new(alloc)?]?;
-    if !plan.fits(&stores) {
-        return Err("the stores fit".into());
+    let mut first = RankStore::new(alloc).ok()?;
+    first.put(0, block(alloc, 1, 1, &[entry(0, 0, 3)]).ok()?);
+    let second = RankStore::new(alloc).ok()?;
+    let stores = vec![in alloc; first, second].ok()?;
+    if plan.fits(&stores) {
+        Some((plan, stores))
+    } else {
+        None
     }
-    Ok((plan, stores))
 }
 
 /// Its two ranks, new, with new desks for one letter a lane.
@@ -84,7 +83,7 @@ fn pair(alloc: Global) -> Result<(Member<PlusTimes>, Member<PlusTimes>), Fail>
     ensures first { IfOk result (λ p. IsNewRun p.0.0 p.0.1) }
     ensures second { IfOk result (λ p. IsNewRun p.1.0 p.1.1) }
 {
-    let (plan, stores) = planned(alloc)?;
+    let (plan, stores) = planned(alloc).ok_or("a plan")?;
     let mut crew = assemble(alloc, &plan, stores, 1)?.into_iter();
     let first = crew.next().ok_or("two ranks")?;
     let second = crew.next().ok_or("two ranks")?;
@@ -199,7 +198,7 @@ impl<S: Semiring> Gate<S> for Meeting {
 
 #[test]
 fn ranks_in_threads_meet(rt: HostRuntime) -> Result<(), Fail> {
-    let (plan, stores) = planned(rt.alloc())?;
+    let (plan, stores) = planned(rt.alloc()).ok_or("a plan")?;
     let gate = Meeting {
         passes: [AtomicU64::new(0), AtomicU64::new(0)],
         met: AtomicU64::new(0),
@@ -232,7 +231,7 @@ impl<'a, S: Semiring, R: Wait + Sync> Gate<S> for Keeper<'a, R> {
 
 #[test]
 fn the_gate_sees_each_half(rt: HostRuntime) -> Result<(), Fail> {
-    let (plan, stores) = planned(rt.alloc())?;
+    let (plan, stores) = planned(rt.alloc()).ok_or("a plan")?;
     let gate = Keeper {
         rt: &rt,
         wants: [
@@ -241,14 +240,24 @@ fn the_gate_sees_each_half(rt: HostRuntime) -> Result<(), Fail> {
         ],
     };
     assert!(rt; run_threads(&rt, rt.alloc(), &plan, stores, 1, &gate).is_ok());
-    let Keeper { rt: _, wants: [first, second] } = gate;
+    let Keeper {
+        rt: _,
+        wants: [first, second],
+    } = gate;
     assert_eq!(rt;
         first.into_inner().as_slice(),
         [Want::Post(1), Want::Take(1), Want::Shut(1), Want::End(1)].as_slice()
     );
     assert_eq!(rt;
         second.into_inner().as_slice(),
-        [Want::Take(0), Want::Work, Want::Post(0), Want::End(0), Want::Shut(0)].as_slice()
+        [
+            Want::Take(0),
+            Want::Work,
+            Want::Post(0),
+            Want::End(0),
+            Want::Shut(0)
+        ]
+        .as_slice()
     );
     Ok(())
 }
@@ -257,7 +266,7 @@ fn the_gate_sees_each_half(rt: HostRuntime) -> Result<(), Fail> {
 /// started, or every rank does its whole program, and what is lost is counted.
 #[test]
 fn refused_memory_is_answered_or_counted(rt: HostRuntime) -> Result<(), Fail> {
-    let Ok((plan, stores)) = planned(rt.alloc()) else {
+    let Some((plan, stores)) = planned(rt.alloc()) else {
         return Ok(());
     };
     match run_threads(&rt, rt.alloc(), &plan, stores, 2, &OpenGate) {

@@ -25,15 +25,15 @@ returns g c =
     let takes = c.in_ok-letter.ensures.taken in
     record {
       next = elim c.match-branch-2.branch [
-          in-Letter w ↦
+        | in-Letter w ↦
             does_letter _ x y d e from w.in-Letter.letter c.requires.rank c.requires.under_way c.requires.want
-              (subst (λ a. IsAwaited (next_half x) x.me a) w.arrival-is awaited)
-              (subst (λ a. y ≡ onward x (slots_with (next_half x) a x.slots) x.refusals) w.arrival-is onto)
-              (subst (λ t. Takes d from t e) w.in-Letter.is takes)
+            (subst (λ a. IsAwaited (next_half x) x.me a) w.arrival-is awaited)
+            (subst (λ a. y ≡ onward x (slots_with (next_half x) a x.slots) x.refusals) w.arrival-is onto)
+            (subst (λ t. Takes d from t e) w.in-Letter.is takes)
         | in-End w ↦
             does_mark _ x y d e from c.requires.rank c.requires.under_way c.requires.want
-              (subst (λ a. IsAwaited (next_half x) x.me a) w.arrival-is awaited)
-              (subst (λ a. y ≡ onward x (slots_with (next_half x) a x.slots) x.refusals) w.arrival-is onto)
-              (subst (λ t. Takes d from t e) w.in-End.is takes)
-        ];
+            (subst (λ a. IsAwaited (next_half x) x.me a) w.arrival-is awaited)
+            (subst (λ a. y ≡ onward x (slots_with (next_half x) a x.slots) x.refusals) w.arrival-is onto)
+            (subst (λ t. Takes d from t e) w.in-End.is takes)
+      ];
     }

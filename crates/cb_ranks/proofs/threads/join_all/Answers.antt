@@ -6,7 +6,7 @@ use Rattle.cb_ranks.proofs.threads.join_all.Goals as goal
 
 pub loop-rank-preserved-in-Ok : goal.loop-rank-preserved-in-Ok
 loop-rank-preserved-in-Ok g c =
-    let ran : Ran g.S.Semiring.arithmetic (started {S = g.row.S.Denot} c.in-Some.field-0) c.in-Ok.member = rw c.in-Some.thread-is c.in-Ok.ensures in
+    let ran : Ran g.S.Semiring.arithmetic (started {S = g.row.S.Denot} c.in-Some.field-0) c.in-Ok.member = c.in-Ok.ensures in
     record {
       ran = joined_more (started {S = g.row.S.Denot}) (Ran g.S.Semiring.arithmetic) _ _ _ _ _ _ c.in-Some.field-0 c.in-Ok.member c.in-Some.ensures.steps.0 c.push_reserved.ensures.items ran c.loop-rank.invariant.ran;
       room = search rules;
