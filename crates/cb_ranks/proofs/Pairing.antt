@@ -8,7 +8,8 @@ use Rattle.cb_plan.specs.declared.stores.Slot.{Slot}
 use Rattle.cb_matrix.specs.Sparse.{Sparse}
 use Rattle.cb_plan.specs.Plans.{CheckedView}
 use Rattle.cb_rank.specs.Ranks.{new_rank}
-use Rattle.cb_ranks.specs.Crews.{Member}
+use Rattle.cb_lanes.specs.declared.desk.Desk.{Desk}
+use Rattle.cb_ranks.specs.Crews.{Member, desks_of}
 
 -- the first of what is left of a list after so many
 pub drop_head : {X : Type 0} (xs : List X) (k : ℕ) (y d : X) (ys : List X) → drop k xs ≡ y ∷ ys → (get_or xs k d ≡ y) × (drop (k + 1) xs ≡ ys)
@@ -44,3 +45,8 @@ ok_both P Q R (Err e) f p q = tt
 pub nothing_left : {X : Type 0} (done rest all : List X) → length rest ≡ 0 → done ++ rest ≡ all → done ≡ all
 nothing_left done [] all none e = sym (append-nil done) ∙ e
 nothing_left done (x ∷ xs) all none e = absurd (omega arith)
+
+-- one member more brings its desk
+pub desks_grow : (crew : List Member) (x : Member) (rest : List (Desk Sparse)) → desks_of (crew ++ x ∷ []) ++ rest ≡ desks_of crew ++ (x.1 ∷ rest)
+desks_grow [] x rest = refl
+desks_grow (m ∷ ms) x rest = ap (λ ds. m.1 ∷ ds) (desks_grow ms x rest)
