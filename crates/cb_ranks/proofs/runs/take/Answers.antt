@@ -1,0 +1,39 @@
+use Rattle.std.proofs.Common.{◌≡◌, refl, subst}
+use Rattle.cb_rank.specs.Ranks.{IsAwaited, next_half, onward, slots_with}
+use Rattle.cb_rank.proofs.Ports.{waits_for}
+use Rattle.cb_lanes.specs.Desks.{Takes}
+use Rattle.cb_ranks.proofs.Going.{is_lane, does_letter, does_mark}
+use Rattle.cb_ranks.proofs.runs.take.Goals.{in-Letter, in-End}
+use Rattle.cb_ranks.proofs.runs.take.Goals as goal
+
+pub unreachable-requires-in-Stranger : goal.unreachable-requires-in-Stranger
+unreachable-requires-in-Stranger g c =
+    let it = waits_for _ c.args.from c.requires.rank c.requires.want in
+    let lane = is_lane c.args.rank.now c.args.desk.now c.args.from c.requires.under_way it.other.0 it.other.1 in
+    let stranger = c.in_ok-letter.ensures.stranger.0 c.in-Stranger.is in
+    cc
+
+pub returns : goal.returns
+returns g c =
+    let x = c.args.rank.now in
+    let d = c.args.desk.now in
+    let y = c.accept.new.self in
+    let e = c.take.new.self in
+    let from = c.args.from in
+    let awaited = c.in-Ok.ensures.awaited.0 refl in
+    let onto = c.in-Ok.ensures.taken in
+    let takes = c.in_ok-letter.ensures.taken in
+    record {
+      next = elim c.match-branch-2.branch [
+        | in-Letter w ↦
+            does_letter _ x y d e from w.in-Letter.letter c.requires.rank c.requires.under_way c.requires.want
+            (subst (λ a. IsAwaited (next_half x) x.me a) w.arrival-is awaited)
+            (subst (λ a. y ≡ onward x (slots_with (next_half x) a x.slots) x.refusals) w.arrival-is onto)
+            (subst (λ t. Takes d from t e) w.in-Letter.is takes)
+        | in-End w ↦
+            does_mark _ x y d e from c.requires.rank c.requires.under_way c.requires.want
+            (subst (λ a. IsAwaited (next_half x) x.me a) w.arrival-is awaited)
+            (subst (λ a. y ≡ onward x (slots_with (next_half x) a x.slots) x.refusals) w.arrival-is onto)
+            (subst (λ t. Takes d from t e) w.in-End.is takes)
+      ];
+    }

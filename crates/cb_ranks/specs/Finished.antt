@@ -1,0 +1,53 @@
+-- What all ranks of a plan leave once each has run its program in its thread.
+use Rattle.std.specs.Prelude.{◌≡◌, ◌≢◌, ℕ, ◌<◌, ◌^◌, List, length, get_or, sum}
+use Rattle.cb_semirings.specs.Arithmetic.{Arithmetic}
+use Rattle.cb_matrix.specs.Sparse.{Sparse}
+use Rattle.cb_letters.specs.declared.Letter.{Letter}
+use Rattle.cb_plan.specs.declared.stores.Slot.{Slot}
+use Rattle.cb_plan.specs.declared.stores.Slot.TheVariants as slot_is
+use Rattle.cb_plan.specs.Algebras.{matrices}
+use Rattle.cb_plan.specs.Letters.{letters}
+use Rattle.cb_plan.specs.Meaning.{meaning}
+use Rattle.cb_plan.specs.Plans.{CheckedView}
+use Rattle.cb_plan.specs.Stores.{state_of, NoneLost}
+use Rattle.cb_plan.specs.Tables.{cell}
+use Rattle.cb_rank.specs.Agreement.{IsSlotOf, AreLettersOf}
+
+-- the store of each rank, how often each was refused memory, and the letters that were posted on the lane from each rank to each, and taken
+pub record FinishedView : Type 0 where
+  pub stores : List (List (Slot Sparse))
+  pub refusals : List ℕ
+  pub posted : ℕ → ℕ → List (Letter Sparse)
+  pub taken : ℕ → ℕ → List (Letter Sparse)
+
+-- how often this rank was refused memory
+abbrev pub refused_at : FinishedView → ℕ → ℕ
+refused_at f r = get_or f.refusals r 0
+
+-- how often any rank was
+abbrev pub all_refusals : FinishedView → ℕ
+all_refusals f = sum f.refusals
+
+-- what every such run keeps: a count of refusals for each rank, and their sum is a number of 64 bits
+pub record IsFinished (f : FinishedView) : Type 0 where
+  pub ranks : length f.refusals ≡ length f.stores
+  pub fits : all_refusals f < 2 ^ 64
+
+-- there is a lane between these two ranks
+abbrev pub IsLaneOf : FinishedView → ℕ → ℕ → Type 0
+IsLaneOf f from to = (from < length f.stores) × (to < length f.stores) × (from ≢ to)
+
+-- on the lane between two ranks all letters of the plan were posted, the close mark among them, and all were taken
+pub record HasLetters (s : Arithmetic) (p : CheckedView) (first : List (List (Slot Sparse))) (f : FinishedView) (from to : ℕ) : Type 0 where
+  pub posted : AreLettersOf (refused_at f) from to 0 (letters (matrices s) p.acts (state_of first) from to) (f.posted from to)
+  pub taken : f.taken from to ≡ f.posted from to
+  pub count : length (f.posted from to) ≡ length (letters (matrices s) p.acts (state_of first) from to)
+
+-- the ranks of a plan have done what it means for these first stores
+pub record HoldsMeaning (s : Arithmetic) (p : CheckedView) (first : List (List (Slot Sparse))) (f : FinishedView) : Type 0 where
+  pub ranks : (length f.stores ≡ p.ranks) × (length f.refusals ≡ p.ranks)
+  -- a slot holds what the plan means there, or is lost, and then a rank was refused memory
+  pub slots : (r n : ℕ) → IsSlotOf (refused_at f) (meaning (matrices s) p.acts (state_of first) r n) (cell slot_is.Empty f.stores r n)
+  pub lanes : (from to : ℕ) → from < p.ranks → to < p.ranks → from ≢ to → HasLetters s p first f from to
+  -- where no rank was refused memory, nothing is lost, and the stores hold just what the plan means
+  pub whole : all_refusals f ≡ 0 → (state_of f.stores ≡ meaning (matrices s) p.acts (state_of first)) × NoneLost f.stores

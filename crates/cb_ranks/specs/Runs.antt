@@ -1,0 +1,31 @@
+-- What one rank leaves once it has run its whole program over its desk.
+use Rattle.std.specs.Prelude.{◌≡◌, ℕ, length}
+use Rattle.cb_semirings.specs.Arithmetic.{Arithmetic}
+use Rattle.cb_matrix.specs.Sparse.{Sparse}
+use Rattle.cb_lanes.specs.declared.desk.Desk.{Desk}
+use Rattle.cb_lanes.specs.Desks.{identity, posted_to, taken_from, IsNewDesk}
+use Rattle.cb_lanes.specs.Numbers.{AreNumbered}
+use Rattle.cb_rank.specs.Halves.{Course, RunsTo}
+use Rattle.cb_rank.specs.Ranks.{RankView, IsRank}
+
+-- how far a rank came over its desk
+abbrev pub course_of : RankView → Desk Sparse → Course
+course_of x d = record { slots = x.slots; refusals = x.refusals; posted = posted_to d; taken = taken_from d }
+
+-- a rank that has done nothing, and its own desk among those of its plan's ranks, on which nothing was posted or taken
+pub record IsNewRun (x : RankView) (d : Desk Sparse) : Type 0 where
+  pub undone : x.done ≡ 0
+  pub capacity : ℕ
+  pub desk : IsNewDesk capacity x.plan.ranks x.me d
+
+-- a rank has run its whole program over its desk: from x and d it came to y and e
+pub record Runs (s : Arithmetic) (x : RankView) (d : Desk Sparse) (y : RankView) (e : Desk Sparse) : Type 0 where
+  -- it is the same rank of the same plan, and has done every half
+  pub done : y ≡ record x { done = length x.program; slots = y.slots; refusals = y.refusals }
+  -- one half after the other: each Post and Shut added its letter to what was posted, each Take and End to what was taken, and nothing else did
+  pub halves : RunsTo s x.me x.program (course_of x d) (course_of y e)
+  -- what was taken is numbered on each lane from 0 on
+  pub numbered : (k : ℕ) → AreNumbered (taken_from e k)
+  -- the desk is of the same rank, and has ends of the same rings
+  pub rings : identity e ≡ identity d
+  pub rank : IsRank y

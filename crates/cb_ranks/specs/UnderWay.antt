@@ -1,0 +1,30 @@
+-- A rank in the midst of its program, over its desk.
+use Rattle.std.specs.Prelude.{◌≡◌, ℕ, length, Some}
+use Rattle.cb_semirings.specs.Arithmetic.{Arithmetic}
+use Rattle.cb_matrix.specs.Sparse.{Sparse}
+use Rattle.cb_letters.specs.Posted.{ends_closed}
+use Rattle.cb_plan.specs.declared.acts.Half.{Half}
+use Rattle.cb_plan.specs.Checks.{lanes_after, none_shut}
+use Rattle.cb_plan.specs.Letters.{before}
+use Rattle.cb_lanes.specs.declared.desk.Desk.{Desk}
+use Rattle.cb_lanes.specs.Desks.{identity, taken_from}
+use Rattle.cb_lanes.specs.Numbers.{AreNumbered}
+use Rattle.cb_rank.specs.Halves.{DoesHalf}
+use Rattle.cb_rank.specs.Ranks.{RankView, next_half, onward}
+use Rattle.cb_ranks.specs.Runs.{course_of}
+
+-- the desk is the rank's own among the ranks of its plan, and has taken the close marks of just those lanes that the acts before the rank's next half shut
+pub record IsUnderWay (x : RankView) (d : Desk Sparse) : Type 0 where
+  pub me : d.me ≡ x.me
+  pub ranks : length d.outgoing.items ≡ x.plan.ranks
+  pub numbered : (k : ℕ) → AreNumbered (taken_from d k)
+  pub ends : (k : ℕ) → ends_closed (taken_from d k) ≡ lanes_after (before x.plan.acts x.me x.done) none_shut k x.me
+
+-- the rank has done its next half over its desk, and nothing else: from x and d it came to y and e
+pub record DoesNext (s : Arithmetic) (x : RankView) (d : Desk Sparse) (y : RankView) (e : Desk Sparse) : Type 0 where
+  pub half : Half
+  pub next : next_half x ≡ Some half
+  pub does : DoesHalf s x.me half (course_of x d) (course_of y e)
+  pub one_more : y ≡ onward x y.slots y.refusals
+  pub rings : identity e ≡ identity d
+  pub under_way : IsUnderWay y e

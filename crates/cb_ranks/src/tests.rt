@@ -1,0 +1,281 @@
+//! Two ranks on threads of their own: what they leave, what the gate sees, and what is answered where one of them is
+//! gone or memory is refused.
+ghost use Rattle.std.specs.Prelude.{◌≡◌, ◌<◌, IfOk, IfSome};
+ghost use Rattle.cb_plan.specs.Stores.{Fits};
+ghost use Rattle.cb_ranks.specs.Runs.{IsNewRun};
+
+use crate::crew::{Member, assemble};
+use crate::{Gate, OpenGate, RunFault, run_rank, run_threads};
+use cb_lanes::Gone;
+use cb_letters::Tag;
+use cb_plan::{Act, CheckedPlan, Op, Plan, RankStore, Slot, Start};
+use cb_rank::{Rank, Want};
+use cb_samples::{block, entry, shape};
+use cb_semirings::{PlusTimes, Semiring};
+use std::alloc::Global;
+use std::sync::atomic::{AtomicU64, Ordering};
+use std::sync::{Mutex, Wait};
+use std::test::Fail;
+use std::thread;
+use std::thread::Threads;
+
+/// A move between two ranks.
+const fn send(from: u16, to: u16, tag: u32, slot: u16, into: u16) -> Act {
+    Act::Move {
+        from,
+        to,
+        tag: Tag(tag),
+        slot,
+        into,
+    }
+}
+
+/// Rank 0 sends its 3 to rank 1, which doubles it and sends that back.
+fn acts() -> [Act; 5] {
+    [
+        send(0, 1, 5, 0, 0),
+        Act::Work {
+            rank: 1,
+            op: Op::Add {
+                a: 0,
+                b: 0,
+                into: 1,
+            },
+        },
+        send(1, 0, 6, 1, 2),
+        Act::Shut { from: 0, to: 1 },
+        Act::Shut { from: 1, to: 0 },
+    ]
+}
+
+/// The plan of these acts, where memory for it is to be had.
+fn plan(alloc: Global) -> Option<CheckedPlan> {
+    let mut plan = Plan::new(alloc, 2);
+    for act in acts() {
+        plan.push(act).ok()?;
+    }
+    let three = Start {
+        rank: 0,
+        slot: 0,
+        shape: shape(1, 1).ok()?,
+    };
+    CheckedPlan::check(alloc, plan, &[three]).ok()
+}
+
+/// The plan with stores that fit it.
+fn planned(alloc: Global) -> Option<(CheckedPlan, Vec<RankStore<PlusTimes>>)>
+    ensures { IfSome result (λ p. Fits p.0.ranks p.0.starts p.1.items) }
+{
+    let plan = plan(alloc)?;
+    let mut first = RankStore::new(alloc).ok()?;
+    first.put(0, block(alloc, 1, 1, &[entry(0, 0, 3)]).ok()?);
+    let second = RankStore::new(alloc).ok()?;
+    let stores = vec![in alloc; first, second].ok()?;
+    if plan.fits(&stores) {
+        Some((plan, stores))
+    } else {
+        None
+    }
+}
+
+/// Its two ranks, new, with new desks for one letter a lane.
+fn pair(alloc: Global) -> Result<(Member<PlusTimes>, Member<PlusTimes>), Fail>
+    ensures first { IfOk result (λ p. IsNewRun p.0.0 p.0.1) }
+    ensures second { IfOk result (λ p. IsNewRun p.1.0 p.1.1) }
+{
+    let (plan, stores) = planned(alloc).ok_or("a plan")?;
+    let mut crew = assemble(alloc, &plan, stores, 1)?.into_iter();
+    let first = crew.next().ok_or("two ranks")?;
+    let second = crew.next().ok_or("two ranks")?;
+    Ok((first, second))
+}
+
+/// The value in row 0 of column 0 of a slot, if a block stands there.
+fn value_at(store: &RankStore<PlusTimes>, n: u16) -> Option<u64>
+    requires { n < 256 }
+{
+    match store.slot(n) {
+        Slot::Sheet(block) => Some(block.get(0, 0)),
+        _ => None,
+    }
+}
+
+/// That value of rank 0.
+fn value_at_0(stores: &[RankStore<PlusTimes>], n: u16) -> Option<u64>
+    requires { n < 256 }
+{
+    value_at(stores.first()?, n)
+}
+
+/// What a rank left in a slot, and how many letters it posted to the other rank and took from it.
+fn outcome(
+    answer: Result<Member<PlusTimes>, Gone>,
+    n: u16,
+    other: u16,
+) -> Option<(Option<u64>, u64, u64)>
+    requires { n < 256 }
+{
+    let (rank, desk) = answer.ok()?;
+    if desk.is_stranger(other) {
+        return None;
+    }
+    let counts = (desk.posted(other), desk.taken(other));
+    Some((value_at(&rank.into_store(), n), counts.0, counts.1))
+}
+
+/// Runs two ranks, each on a thread.
+fn run_both<R: Threads + Wait + Sync>(
+    rt: &R,
+    first: Member<PlusTimes>,
+    second: Member<PlusTimes>,
+) -> (
+    Result<Member<PlusTimes>, Gone>,
+    Result<Member<PlusTimes>, Gone>,
+)
+    requires first { IsNewRun first.0 first.1 }
+    requires second { IsNewRun second.0 second.1 }
+{
+    thread::join(
+        rt,
+        move || -> Result<Member<PlusTimes>, Gone>
+            requires { IsNewRun first.0 first.1 }
+        { run_rank(rt, first.0, first.1, &OpenGate) },
+        move || -> Result<Member<PlusTimes>, Gone>
+            requires { IsNewRun second.0 second.1 }
+        { run_rank(rt, second.0, second.1, &OpenGate) },
+    )
+}
+
+#[test]
+fn two_ranks_run_on_threads_of_the_caller(rt: HostRuntime) -> Result<(), Fail> {
+    let (first, second) = pair(rt.alloc())?;
+    let (first, second) = run_both(&rt, first, second);
+    assert_eq!(rt; outcome(first, 2, 1), Some((Some(6), 2, 2)));
+    assert_eq!(rt; outcome(second, 0, 0), Some((Some(3), 2, 2)));
+    Ok(())
+}
+
+#[test]
+fn a_rank_whose_peer_is_gone_is_given_up(rt: HostRuntime) -> Result<(), Fail> {
+    let (first, second) = pair(rt.alloc())?;
+    drop(second);
+    let (rank, desk) = first;
+    match run_rank(&rt, rank, desk, &OpenGate) {
+        Ok(_) => Err("nothing comes from rank 1".into()),
+        Err(gone) => {
+            assert_eq!(rt; gone, Gone(1));
+            Ok(())
+        }
+    }
+}
+
+/// For how many turns a rank looks for the other one.
+const TURNS: u32 = 10_000_000;
+
+/// Two ranks wait for each other in their first pass.
+#[derive(Drop)]
+struct Meeting {
+    passes: [AtomicU64; 2],
+    met: AtomicU64,
+}
+
+impl<S: Semiring> Gate<S> for Meeting {
+    fn pass(&self, rank: u16, state: &Rank<S>) {
+        let _ = state;
+        let me = rank as usize;
+        if me > 1 || self.passes[me].fetch_add(1, Ordering::SeqCst) > 0 {
+            return;
+        }
+        for _ in 0..TURNS {
+            if self.passes[1 - me].load(Ordering::SeqCst) > 0 {
+                self.met.fetch_add(1, Ordering::SeqCst);
+                return;
+            }
+            thread::yield_now();
+        }
+    }
+}
+
+#[test]
+fn ranks_in_threads_meet(rt: HostRuntime) -> Result<(), Fail> {
+    let (plan, stores) = planned(rt.alloc()).ok_or("a plan")?;
+    let gate = Meeting {
+        passes: [AtomicU64::new(0), AtomicU64::new(0)],
+        met: AtomicU64::new(0),
+    };
+    let Ok(finished) = run_threads(&rt, rt.alloc(), &plan, stores, 1, &gate) else {
+        return Err("the run ends".into());
+    };
+    assert_eq!(rt; gate.met.load(Ordering::SeqCst), 2);
+    assert_eq!(rt; gate.passes[0].load(Ordering::SeqCst), 4);
+    assert_eq!(rt; gate.passes[1].load(Ordering::SeqCst), 5);
+    assert_eq!(rt; finished.refusals(), 0);
+    assert_eq!(rt; value_at_0(&finished.stores(), 2), Some(6));
+    Ok(())
+}
+
+/// Keeps what each of two ranks wanted at each of its passes.
+#[derive(Drop)]
+struct Keeper<'a, R: Wait> {
+    rt: &'a R,
+    wants: [Mutex<Vec<Want>>; 2],
+}
+
+impl<'a, S: Semiring, R: Wait + Sync> Gate<S> for Keeper<'a, R> {
+    fn pass(&self, rank: u16, state: &Rank<S>) {
+        if let Some(mine) = self.wants.get(rank as usize) {
+            let _ = mine.lock(self.rt).push(state.want());
+        }
+    }
+}
+
+#[test]
+fn the_gate_sees_each_half(rt: HostRuntime) -> Result<(), Fail> {
+    let (plan, stores) = planned(rt.alloc()).ok_or("a plan")?;
+    let gate = Keeper {
+        rt: &rt,
+        wants: [
+            Mutex::new(Vec::new(rt.alloc())),
+            Mutex::new(Vec::new(rt.alloc())),
+        ],
+    };
+    assert!(rt; run_threads(&rt, rt.alloc(), &plan, stores, 1, &gate).is_ok());
+    let Keeper {
+        rt: _,
+        wants: [first, second],
+    } = gate;
+    assert_eq!(rt;
+        first.into_inner().as_slice(),
+        [Want::Post(1), Want::Take(1), Want::Shut(1), Want::End(1)].as_slice()
+    );
+    assert_eq!(rt;
+        second.into_inner().as_slice(),
+        [
+            Want::Take(0),
+            Want::Work,
+            Want::Post(0),
+            Want::End(0),
+            Want::Shut(0)
+        ]
+        .as_slice()
+    );
+    Ok(())
+}
+
+/// Passes whichever single growth is refused (`rt try --test --fail-alloc N`, for each N in turn): either no thread is
+/// started, or every rank does its whole program, and what is lost is counted.
+#[test]
+fn refused_memory_is_answered_or_counted(rt: HostRuntime) -> Result<(), Fail> {
+    let Some((plan, stores)) = planned(rt.alloc()) else {
+        return Ok(());
+    };
+    match run_threads(&rt, rt.alloc(), &plan, stores, 2, &OpenGate) {
+        Err(fault) => assert_eq!(rt; fault, RunFault::Memory),
+        Ok(finished) => {
+            let refusals = finished.refusals();
+            let doubled = value_at_0(&finished.stores(), 2);
+            assert!(rt; (refusals, doubled) == (0, Some(6)) || (refusals, doubled) == (1, None));
+        }
+    }
+    Ok(())
+}

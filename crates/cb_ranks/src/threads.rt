@@ -1,0 +1,190 @@
+//! A thread for each rank, in one scope: started in order, and all joined before the scope ends.
+ghost use Rattle.std.specs.Prelude.{◌≡◌, ◌≤◌, [], map, IfOk, IfSome, IfNone, vec_len, vec_capacity};
+ghost use Rattle.std.specs.List.{AllZip};
+ghost use Rattle.cb_plan.specs.Stores.{Fits};
+ghost use Rattle.cb_ranks.specs.Crews.{AreNew, Ran};
+ghost use Rattle.cb_ranks.specs.Finished.{HoldsMeaning};
+ghost use Rattle.cb_ranks.specs.Runs.{IsNewRun, Runs};
+ghost use Rattle.cb_ranks.specs.Started.{started};
+ghost use Rattle.cb_ranks.specs.Views.{finished_view};
+
+use crate::crew::{Member, Remains, assemble};
+use crate::faults::RunFault;
+use crate::finished::Finished;
+use crate::gates::Gate;
+use crate::runs::run_rank;
+use cb_dcsc::Block;
+use cb_lanes::{Desk, Gone, settle};
+use cb_plan::{CheckedPlan, RankStore};
+use cb_rank::Rank;
+use cb_semirings::Semiring;
+use std::alloc::Global;
+use std::snapshot::Snapshot;
+use std::sync::Wait;
+use std::thread;
+use std::thread::{Promise, PromisedHandle, Scope, Threads};
+
+/// Runs each rank of a plan in a thread of its own, over lanes for `capacity` letters (1 to 64) from each rank to each
+/// other: what is left is what the plan means. Every rank does its whole program: where it is refused memory for a
+/// block the block is lost, and the count of refusals says so.
+///
+/// All memory but that of the ranks' own work and of the threads is taken before the first thread is started. On a
+/// fault the stores are given up, once every thread has ended.
+pub fn run_threads<S: Semiring + Send + Sync, R: Threads + Wait + Sync, G: Gate<S>>(
+    rt: &R,
+    alloc: Global,
+    plan: &CheckedPlan,
+    stores: Vec<RankStore<S>>,
+    capacity: usize,
+    gate: &G,
+) -> Result<Finished<S>, RunFault>
+    requires { Fits plan.now.ranks plan.now.starts stores.items }
+    ensures meaning { IfOk result (λ finished. HoldsMeaning S.arithmetic plan.now stores.items (finished_view finished)) }
+{
+    let ranks = plan.ranks() as usize;
+    let crew = assemble(alloc, plan, stores, capacity)?;
+    let threads = Vec::with_capacity(alloc, ranks)?;
+    let room = Vec::with_capacity(alloc, ranks)?;
+    let remains = Remains::with_room(alloc, ranks)?;
+    let done = run_crew(rt, crew, threads, room, gate)?;
+    let Remains {
+        stores,
+        refusals,
+        desks,
+    } = remains.take_from(done);
+    let lanes = settle(desks);
+    Ok(Finished {
+        stores,
+        refusals,
+        lanes,
+    })
+}
+
+/// What the thread of this rank and this desk promises: at its end the rank has run its program.
+#[derive(Drop)]
+pub(crate) struct RunOf<S: Semiring> {
+    rank: Snapshot<Rank<S>>,
+    desk: Snapshot<Desk<Block<S>>>,
+}
+
+impl<S: Semiring> Promise<Result<(Rank<S>, Desk<Block<S>>), Gone>> for RunOf<S> {
+    ghost kept_by = { λ p r. IfOk r (λ done. Runs S.arithmetic p.rank.value p.desk.value done.0 done.1) };
+}
+
+/// The thread of a rank, which is still to be joined.
+#[derive(Drop)]
+pub(crate) struct Running<S: Semiring> {
+    rank: u16,
+    thread: PromisedHandle<Result<(Rank<S>, Desk<Block<S>>), Gone>, RunOf<S>>,
+}
+
+/// Starts a thread for one rank. Where there is none to be had, the rank and its desk are dropped here.
+fn start_one<'s, E, S: Semiring + Send + Sync + 's, R: Wait + Sync, G: Gate<S>>(
+    scope: &Scope<'s, E>,
+    rt: &'s R,
+    rank: Rank<S>,
+    desk: Desk<Block<S>>,
+    gate: &'s G,
+) -> Option<Running<S>>
+    requires { IsNewRun rank desk }
+    ensures { IfSome result (λ running. started running ≡ (rank, desk)) }
+{
+    let number = desk.rank();
+    let promise = RunOf {
+        rank: Snapshot::of(&rank),
+        desk: Snapshot::of(&desk),
+    };
+    let started = scope.spawn_with(
+        promise,
+        move || -> Result<(Rank<S>, Desk<Block<S>>), Gone>
+            requires { IsNewRun rank desk }
+        { run_rank(rt, rank, desk, gate) },
+    );
+    let Ok(thread) = started else {
+        return None;
+    };
+    Some(Running {
+        rank: number,
+        thread,
+    })
+}
+
+/// Starts a thread for each rank, into the room for so many. Where there is none to be had, that rank is answered
+/// too, and it and the later ones are dropped: then whoever waits for one of them finds it gone.
+fn start_all<'s, E, S: Semiring + Send + Sync + 's, R: Wait + Sync, G: Gate<S>>(
+    scope: &Scope<'s, E>,
+    rt: &'s R,
+    crew: Vec<Member<S>>,
+    room: Vec<Running<S>>,
+    gate: &'s G,
+) -> (Vec<Running<S>>, Option<u16>)
+    requires new { AreNew crew.items }
+    requires room { (room.items ≡ []) × (vec_len crew ≤ vec_capacity room) }
+    ensures all { IfNone result.1 (map started result.0.items ≡ crew.items) }
+    ensures few { vec_len result.0 ≤ vec_len crew }
+{
+    let mut threads = room;
+    for (rank, desk) in crew {
+        let number = desk.rank();
+        let Some(thread) = start_one(scope, rt, rank, desk, gate) else {
+            return (threads, Some(number));
+        };
+        threads.push_reserved(thread);
+    }
+    (threads, None)
+}
+
+/// Joins all threads, into the room for so many. The error is the first rank that answered `Gone`.
+fn join_all<S: Semiring, R: Threads>(
+    rt: &R,
+    threads: Vec<Running<S>>,
+    room: Vec<Member<S>>,
+) -> Result<Vec<Member<S>>, u16>
+    requires room { (room.items ≡ []) × (vec_len threads ≤ vec_capacity room) }
+    ensures { IfOk result (λ done. AllZip (Ran S.arithmetic) (map started threads.items) done.items) }
+{
+    let mut done = room;
+    let mut gone = None;
+    for Running { rank, thread } in threads {
+        match thread.join(rt) {
+            Ok(member) => done.push_reserved(member),
+            Err(_) => gone = gone.or(Some(rank)),
+        }
+    }
+    match gone {
+        None => Ok(done),
+        Some(rank) => Err(rank),
+    }
+}
+
+/// Runs each rank over its desk in a thread of its own, and takes them back. No memory is taken but for the threads.
+fn run_crew<S: Semiring + Send + Sync, R: Threads + Wait + Sync, G: Gate<S>>(
+    rt: &R,
+    crew: Vec<Member<S>>,
+    threads: Vec<Running<S>>,
+    done: Vec<Member<S>>,
+    gate: &G,
+) -> Result<Vec<Member<S>>, RunFault>
+    requires new { AreNew crew.items }
+    requires threads { (threads.items ≡ []) × (vec_len crew ≤ vec_capacity threads) }
+    requires done { (done.items ≡ []) × (vec_len crew ≤ vec_capacity done) }
+    ensures { IfOk result (λ done. AllZip (Ran S.arithmetic) crew.items done.items) }
+{
+    thread::scope(
+        thread::scope_env(),
+        rt,
+        move |scope| -> Result<Vec<Member<S>>, RunFault>
+            requires { AreNew crew.items × (threads.items ≡ []) × (vec_len crew ≤ vec_capacity threads) × (done.items ≡ []) × (vec_len crew ≤ vec_capacity done) }
+            ensures { IfOk result (λ ran. AllZip (Ran S.arithmetic) crew.items ran.items) }
+        {
+            let (threads, missing) = start_all(scope, rt, crew, threads, gate);
+            // Also where one is missing, so that no thread outlives the call.
+            let joined = join_all(rt, threads, done);
+            match (missing, joined) {
+                (Some(rank), _) => Err(RunFault::NotStarted(rank)),
+                (None, Err(rank)) => Err(RunFault::Gone(rank)),
+                (None, Ok(done)) => Ok(done),
+            }
+        },
+    )
+}
