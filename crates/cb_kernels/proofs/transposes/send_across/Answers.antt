@@ -19,14 +19,14 @@ loop-rank-preserved c =
     let q = c.args.grid.now.side in
     let r = c.loop-rank.rank in
     let f : ℕ → Act = λ r. sent r (mirrored q r) (tagged 0) 1 2 in
-    let is = c.in_ok-send.ensures.appended.acts_are ∙ ap (λ (to : ℕ). c.loop-rank.plan.acts ++ sent r to (tagged 0) 1 2 ∷ []) c.mirrored.ensures in
+    let is = c.in_ok-send.ensures.appended.grew.acts_are ∙ ap (λ (to : ℕ). c.loop-rank.plan.acts ++ sent r to (tagged 0) 1 2 ∷ []) c.mirrored.ensures in
     let e = ap length is ∙ length-append c.loop-rank.plan.acts (f r ∷ []) in
     let room = c.loop-rank.invariant.1 in
     let limit = c.loop-rank.invariant.2 in
     let wide = c.in_ok-send.ensures.appended.room in
     let l = c.loop-rank-test.true in
     let m = c.ranks-rank-end.ensures.value in (
-      grew_by_one f r _ c.loop-rank.plan _ c.loop-rank.invariant.0 c.in_ok-send.ensures.appended.ranks is,
+      grew_by_one f r _ c.loop-rank.plan _ c.loop-rank.invariant.0 c.in_ok-send.ensures.appended.grew.ranks_are is,
       omega arith,
       omega arith,
     )
