@@ -87,6 +87,10 @@ IsAnswer operation semiring texts answer = IsAnswerOver operation (arithmetic_of
 abbrev pub IsFault : Operation → SemiringName → List (List ℕ) → JobFault → Type 0
 IsFault operation semiring texts fault = IsFaultOver operation (arithmetic_of semiring) texts fault
 
+-- why an answer that there is has not gone out whole
+abbrev pub IsUnwritten : JobFault → Type 0
+IsUnwritten fault = (fault ≡ Memory) ⊎ (fault ≡ Output)
+
 -- 6 for want of memory, else 4 for a text that is no matrix
 abbrev pub read_status_of : Kind → ℕ
 read_status_of kind_is.Memory = 6
