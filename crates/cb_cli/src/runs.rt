@@ -3,15 +3,18 @@ ghost use Rattle.std.specs.Prelude.{◌≡◌, ◌≢◌, ◌↔◌, ℕ, ◌≤
 ghost use Rattle.std.specs.Io.KnownBytes.{Appends, Keeps};
 ghost use Rattle.cb_cli.specs.Sinks.{AppendsPrefix};
 ghost use Rattle.cb_market.specs.Reads.{Reads};
+ghost use Rattle.cb_market.specs.Text.{text_of};
 ghost use Rattle.cb_cli.specs.Answers.{IsProductText, IsProductFault, IsMaskedText, IsMaskedFault, IsReadFault, IsAnswerOver, IsFaultOver, IsAnswer, IsFault, status_of};
 ghost use Rattle.cb_cli.specs.Files.{bytes_of};
 
 use crate::jobs::{Job, Operation};
 use crate::semirings::SemiringName;
-use crate::sinks::{Sink, put_all};
-use cb_market::{Kind, ReadFault, read, text};
+use crate::pages::put_text;
+use crate::sinks::Sink;
+use cb_layout::DistributedMatrix;
+use cb_market::{Kind, ReadFault, read};
 use cb_matrix::Matrix;
-use cb_scripts::{ScriptFault, multiply, multiply_masked};
+use cb_scripts::{ScriptFault, multiply_distributed, multiply_masked_distributed};
 use cb_semirings::{MaxMin, MinPlus, OrAnd, PlusTimes, Semiring};
 use std::alloc::{AllocError, Global};
 use thiserror::Error;
@@ -43,87 +46,87 @@ fn read_text<S: Semiring>(alloc: Global, which: usize, text: &[u8]) -> Result<Ma
     }
 }
 
-/// The text of the product of two texts.
-fn product_text<S: Semiring>(
+/// The product of the matrices of two texts, over the grid.
+fn product_of<S: Semiring>(
     alloc: Global,
     job: &Job,
     first: &[u8],
     second: &[u8],
-) -> Result<Vec<u8>, JobFault>
-    ensures ok { IfOk result (λ v. IsProductText S.arithmetic first.now second.now v.items) }
+) -> Result<DistributedMatrix<S>, JobFault>
+    ensures ok { IfOk result (λ m. IsProductText S.arithmetic first.now second.now (text_of S.arithmetic m.matrix)) }
     ensures fault { IfErr result (IsProductFault S.arithmetic first.now second.now) }
     ensures unwritten { IfErr result (λ f. f ≢ JobFault.Output) }
 {
     let left = read_text::<S>(alloc, 0, first)?;
     let right = read_text::<S>(alloc, 1, second)?;
-    match multiply(alloc, job.engine, &job.grid, &left, &right) {
+    match multiply_distributed(alloc, job.engine, &job.grid, &left, &right) {
+        Ok(product) => Ok(product),
         Err(fault) => Err(JobFault::Script(fault)),
-        Ok(product) => match text(alloc, &product) {
-            Ok(text) => Ok(text),
-            Err(_) => Err(JobFault::Memory),
-        },
     }
 }
 
-/// The text of the product of two texts, kept where a third one's matrix has entries.
-fn masked_text<S: Semiring>(
+/// The product of the matrices of two texts, kept where a third one's matrix has entries, over the grid.
+fn masked_product_of<S: Semiring>(
     alloc: Global,
     job: &Job,
     first: &[u8],
     second: &[u8],
     third: &[u8],
-) -> Result<Vec<u8>, JobFault>
-    ensures ok { IfOk result (λ v. IsMaskedText S.arithmetic first.now second.now third.now v.items) }
+) -> Result<DistributedMatrix<S>, JobFault>
+    ensures ok { IfOk result (λ m. IsMaskedText S.arithmetic first.now second.now third.now (text_of S.arithmetic m.matrix)) }
     ensures fault { IfErr result (IsMaskedFault S.arithmetic first.now second.now third.now) }
     ensures unwritten { IfErr result (λ f. f ≢ JobFault.Output) }
 {
     let left = read_text::<S>(alloc, 0, first)?;
     let right = read_text::<S>(alloc, 1, second)?;
     let mask = read_text::<S>(alloc, 2, third)?;
-    match multiply_masked(alloc, job.engine, &job.grid, &left, &right, &mask) {
+    match multiply_masked_distributed(alloc, job.engine, &job.grid, &left, &right, &mask) {
+        Ok(kept) => Ok(kept),
         Err(fault) => Err(JobFault::Script(fault)),
-        Ok(kept) => match text(alloc, &kept) {
-            Ok(text) => Ok(text),
-            Err(_) => Err(JobFault::Memory),
-        },
     }
 }
 
-/// The text of the answer of a job over a semiring.
+/// The answer of a job over a semiring, on the job's grid.
 fn answer_over<S: Semiring>(
     alloc: Global,
     job: &Job,
     texts: &[Vec<u8>],
-) -> Result<Vec<u8>, JobFault>
+) -> Result<DistributedMatrix<S>, JobFault>
     requires { length texts.now ≡ vec_len job.now.files }
-    ensures ok { IfOk result (λ v. IsAnswerOver job.now.operation S.arithmetic (bytes_of texts.now) v.items) }
+    ensures ok { IfOk result (λ m. IsAnswerOver job.now.operation S.arithmetic (bytes_of texts.now) (text_of S.arithmetic m.matrix)) }
     ensures fault { IfErr result (IsFaultOver job.now.operation S.arithmetic (bytes_of texts.now)) }
     ensures unwritten { IfErr result (λ f. f ≢ JobFault.Output) }
 {
     match job.operation {
-        Operation::Multiply => product_text::<S>(alloc, job, &texts[0], &texts[1]),
-        Operation::MultiplyMasked => masked_text::<S>(alloc, job, &texts[0], &texts[1], &texts[2]),
+        Operation::Multiply => product_of::<S>(alloc, job, &texts[0], &texts[1]),
+        Operation::MultiplyMasked => {
+            masked_product_of::<S>(alloc, job, &texts[0], &texts[1], &texts[2])
+        }
     }
 }
 
-/// The text of the answer of a job.
-fn answer_text(alloc: Global, job: &Job, texts: &[Vec<u8>]) -> Result<Vec<u8>, JobFault>
-    requires { length texts.now ≡ vec_len job.now.files }
-    ensures ok { IfOk result (λ v. IsAnswer job.now.operation job.now.semiring (bytes_of texts.now) v.items) }
-    ensures fault { IfErr result (IsFault job.now.operation job.now.semiring (bytes_of texts.now)) }
-    ensures unwritten { IfErr result (λ f. f ≢ JobFault.Output) }
+/// Writes the answer of a job over a semiring.
+fn execute_over<S: Semiring, K: Sink>(
+    alloc: Global,
+    job: &Job,
+    texts: &[Vec<u8>],
+    out: &mut K,
+) -> Result<(), JobFault>
+    requires texts { length texts.now ≡ vec_len job.now.files }
+    requires works { K.has_failed out.old ≡ false }
+    ensures whole { OnOk result ((t : List ℕ) × IsAnswerOver job.now.operation S.arithmetic (bytes_of texts.now) t × Appends (K.written out.old) (K.written out.new) t) }
+    ensures fault { IfErr result (IsFaultOver job.now.operation S.arithmetic (bytes_of texts.now)) }
+    ensures nothing { IfErr result (λ f. f ≢ JobFault.Output → Keeps (K.written out.old) (K.written out.new)) }
+    ensures output { IsErrOf result JobFault.Output → (t : List ℕ) × IsAnswerOver job.now.operation S.arithmetic (bytes_of texts.now) t × AppendsPrefix (K.written out.old) (K.written out.new) t }
+    ensures failed { IsErrOf result JobFault.Output ↔ (K.has_failed out.new ≡ true) }
 {
-    match job.semiring {
-        SemiringName::PlusTimes => answer_over::<PlusTimes>(alloc, job, texts),
-        SemiringName::MinPlus => answer_over::<MinPlus>(alloc, job, texts),
-        SemiringName::OrAnd => answer_over::<OrAnd>(alloc, job, texts),
-        SemiringName::MaxMin => answer_over::<MaxMin>(alloc, job, texts),
-    }
+    let answer = answer_over::<S>(alloc, job, texts)?;
+    put_text(alloc, &answer, out)
 }
 
-/// Reads the texts of a job's files, in the job's order, and writes the text of its answer. The whole
-/// text is made first: a fault other than `Output` has written nothing. At `Output` a beginning of
-/// the text has gone out, and the sink has failed; it has failed in no other case.
+/// Reads the texts of a job's files, in the job's order, and writes the text of its answer, page by page. All memory
+/// is taken before the first byte goes out: a fault other than `Output` has written nothing. At `Output` a beginning
+/// of the text has gone out, and the sink has failed; it has failed in no other case.
 ///
 /// The faults come in their order: the first text that is no matrix, then shapes that don't agree,
 /// then want of memory, then `Output`. Costs the reading, the operation and the writing.
@@ -141,10 +144,11 @@ pub fn execute<K: Sink>(
     ensures output { IsErrOf result JobFault.Output → (t : List ℕ) × IsAnswer job.now.operation job.now.semiring (bytes_of texts.now) t × AppendsPrefix (K.written out.old) (K.written out.new) t }
     ensures failed { IsErrOf result JobFault.Output ↔ (K.has_failed out.new ≡ true) }
 {
-    let text = answer_text(alloc, job, texts)?;
-    match put_all(out, text.as_slice()) {
-        Ok(()) => Ok(()),
-        Err(_) => Err(JobFault::Output),
+    match job.semiring {
+        SemiringName::PlusTimes => execute_over::<PlusTimes, K>(alloc, job, texts, out),
+        SemiringName::MinPlus => execute_over::<MinPlus, K>(alloc, job, texts, out),
+        SemiringName::OrAnd => execute_over::<OrAnd, K>(alloc, job, texts, out),
+        SemiringName::MaxMin => execute_over::<MaxMin, K>(alloc, job, texts, out),
     }
 }
 

@@ -1,7 +1,8 @@
 //! Operations on whole matrices, computed over a grid of ranks.
 //!
 //! A script scatters its operands over the grid, runs a checked plan over the ranks' slots, and gathers the
-//! blocks of the answer. The answer is the same on every grid.
+//! blocks of the answer. The answer is the same on every grid. The calls named `.._distributed` leave it in the
+//! blocks, for who needs no whole matrix.
 #![tactic(auto)]
 
 ghost use Rattle.std.specs.Prelude.{◌≡◌};
@@ -16,7 +17,7 @@ mod tests;
 mod transposes;
 
 pub use placewise::{add, prune, times};
-pub use products::{multiply, multiply_masked};
+pub use products::{multiply, multiply_distributed, multiply_masked, multiply_masked_distributed};
 use std::alloc::AllocError;
 use thiserror::Error;
 pub use transposes::transpose;
