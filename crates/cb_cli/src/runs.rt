@@ -8,8 +8,8 @@ ghost use Rattle.cb_cli.specs.Answers.{IsProductText, IsProductFault, IsMaskedTe
 ghost use Rattle.cb_cli.specs.Files.{bytes_of};
 
 use crate::jobs::{Job, Operation};
-use crate::semirings::SemiringName;
 use crate::pages::put_text;
+use crate::semirings::SemiringName;
 use crate::sinks::Sink;
 use cb_layout::DistributedMatrix;
 use cb_market::{Kind, ReadFault, read};
