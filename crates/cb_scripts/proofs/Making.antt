@@ -50,8 +50,3 @@ pub whichever_made : {E : Type 0} (s : Arithmetic) → IsSemiring s → (q : ℕ
     IfOk r (λ m. m ≡ over_grid q (gathered s q shape planned.result (meaning (matrices s) planned.plan.acts (state_of stores)))) → IfOk r (λ m. (answer : Sparse) → Makes s q operands planned shape answer → m ≡ over_grid q answer)
 whichever_made s laws q operands planned shape stores has (Ok m) h = λ answer makes. h ∙ ap (over_grid q) (made_answer s q operands planned shape answer makes stores has laws)
 whichever_made s laws q operands planned shape stores has (Err e) h = h
-
--- and gathered it is that answer
-pub whichever_gathered : {E : Type 0} (s : Arithmetic) (q : ℕ) (operands : List (ℕ × Sparse)) (planned : Planned) (shape : Extent) (d : Distributed) → ((answer : Sparse) → Makes s q operands planned shape answer → d ≡ over_grid q answer) → (r : Result Sparse E) → IfOk r (λ m. m ≡ d.matrix) → IfOk r (λ m. (answer : Sparse) → Makes s q operands planned shape answer → m ≡ answer)
-whichever_gathered s q operands planned shape d is (Ok m) h = λ answer makes. h ∙ ap (λ (x : Distributed). x.matrix) (is answer makes)
-whichever_gathered s q operands planned shape d is (Err e) h = h

@@ -16,11 +16,11 @@ mod stores;
 mod tests;
 mod transposes;
 
-pub use placewise::{add, prune, times};
+pub use placewise::{add, add_distributed, prune, prune_distributed, times, times_distributed};
 pub use products::{multiply, multiply_distributed, multiply_masked, multiply_masked_distributed};
 use std::alloc::AllocError;
 use thiserror::Error;
-pub use transposes::transpose;
+pub use transposes::{transpose, transpose_distributed};
 
 /// What runs a plan.
 #[derive(Clone, Copy, Debug, PartialEq, Eq)]

@@ -4,7 +4,7 @@ ghost use Rattle.cb_matrix.specs.Values.{product, product_shape};
 ghost use Rattle.cb_matrix.specs.Operations.{masked};
 ghost use Rattle.cb_scripts.specs.Refusals.{IsProductRefusal, IsMaskedRefusal};
 
-use crate::runs::compute_distributed;
+use crate::runs::compute;
 use crate::{Engine, ScriptFault};
 use cb_layout::{DistributedMatrix, Grid};
 use cb_matrix::Matrix;
@@ -56,7 +56,7 @@ pub fn multiply_distributed<S: Semiring>(
     };
     let operands = [(LEFT, left), (RIGHT, right)];
     let shape = a.with_columns_of(b);
-    Ok(compute_distributed(alloc, engine, grid, planned, &operands, shape)?)
+    Ok(compute(alloc, engine, grid, planned, &operands, shape)?)
 }
 
 /// The product of two matrices of which one has no entries: it has none either.
@@ -112,5 +112,5 @@ pub fn multiply_masked_distributed<S: Semiring>(
         return Err(ScriptFault::Memory);
     };
     let operands = [(LEFT, left), (RIGHT, right), (MASK, mask)];
-    Ok(compute_distributed(alloc, engine, grid, planned, &operands, shape)?)
+    Ok(compute(alloc, engine, grid, planned, &operands, shape)?)
 }

@@ -16,24 +16,9 @@ use cb_plan::{CheckedPlan, Planned, RankStore, run_plain};
 use cb_semirings::Semiring;
 use std::alloc::{AllocError, Global};
 
-/// The matrix of this shape that a plan makes of its operands, each of which is cut over the grid into its slot.
+/// The matrix of this shape that a plan makes of its operands, each of which is cut over the grid into its slot. It
+/// is left in the blocks of the grid.
 pub fn compute<S: Semiring>(
-    alloc: Global,
-    engine: Engine,
-    grid: &Grid,
-    planned: Planned,
-    operands: &[(u16, &Matrix<S>)],
-    shape: Shape,
-) -> Result<Matrix<S>, AllocError>
-    requires { (answer : Sparse) × Makes S.arithmetic grid.now.side (map (λ o. (o.0, o.1.now)) operands.now) planned shape answer }
-    ensures { IfOk result (λ m. (answer : Sparse) → Makes S.arithmetic grid.now.side (map (λ o. (o.0, o.1.now)) operands.now) planned shape answer → m ≡ answer) }
-{
-    let answer = compute_distributed(alloc, engine, grid, planned, operands, shape)?;
-    answer.gather(alloc)
-}
-
-/// The same, left in the blocks of the grid.
-pub fn compute_distributed<S: Semiring>(
     alloc: Global,
     engine: Engine,
     grid: &Grid,

@@ -2,7 +2,7 @@ use Rattle.std.proofs.Common.{rules}
 use Rattle.cb_matrix.specs.Operations.{pruned}
 use Rattle.cb_elementwise.specs.Passing.{passes}
 use Rattle.cb_scripts.proofs.KernelPlans.{rest_made}
-use Rattle.cb_scripts.proofs.placewise.prune.Goals as goal
+use Rattle.cb_scripts.proofs.placewise.prune_distributed.Goals as goal
 
 pub compute-requires : goal.compute-requires
 compute-requires g c =

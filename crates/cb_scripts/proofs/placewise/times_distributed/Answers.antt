@@ -2,7 +2,7 @@ use Rattle.std.proofs.Common.{rules, ◌≡◌}
 use Rattle.cb_matrix.specs.Operations.{times_of}
 use Rattle.cb_scripts.proofs.Making.{found_equal}
 use Rattle.cb_scripts.proofs.KernelPlans.{times_made}
-use Rattle.cb_scripts.proofs.placewise.times.Goals as goal
+use Rattle.cb_scripts.proofs.placewise.times_distributed.Goals as goal
 
 pub compute-requires : goal.compute-requires
 compute-requires g c =

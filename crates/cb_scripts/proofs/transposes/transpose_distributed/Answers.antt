@@ -1,7 +1,7 @@
 use Rattle.std.proofs.Common.{rules, ◌≡◌, sym, ◌∙◌}
 use Rattle.cb_matrix.specs.Operations.{transposed}
 use Rattle.cb_scripts.proofs.KernelPlans.{transpose_made}
-use Rattle.cb_scripts.proofs.transposes.transpose.Goals as goal
+use Rattle.cb_scripts.proofs.transposes.transpose_distributed.Goals as goal
 
 pub compute-requires : goal.compute-requires
 compute-requires g c =
