@@ -1,5 +1,6 @@
 //! Worked examples: whole runs from texts to bytes, sinks that fail, and command lines.
 mod endings;
 mod lines;
+mod pages;
 mod products;
 mod sinks;

@@ -1,7 +1,7 @@
 use Rattle.std.proofs.lemmas.Result.{on_ok_weaker}
 use Rattle.cb_market.specs.Text.{text_of}
 use Rattle.cb_cli.specs.Files.{bytes_of}
-use Rattle.cb_cli.proofs.AnswerLemmas.{fault_told}
+use Rattle.cb_cli.proofs.UnwrittenLemmas.{fault_told}
 use Rattle.cb_cli.proofs.runs.execute_over.Goals as goal
 
 pub returns-clause-whole : goal.returns-clause-whole
