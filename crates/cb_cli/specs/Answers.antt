@@ -91,7 +91,7 @@ abbrev pub IsAnswer : Operation → SemiringName → List (List ℕ) → List �
 IsAnswer operation semiring texts answer = IsAnswerOver operation (arithmetic_of semiring) texts answer
 
 abbrev pub IsFault : Operation → SemiringName → List (List ℕ) → JobFault → Type 0
-IsFault operation semiring texts fault = IsFaultOver operation (arithmetic_of semiring) texts fault
+IsFault operation semiring texts = IsFaultOver operation (arithmetic_of semiring) texts
 
 -- 6 for want of memory, else 4 for a text that is no matrix
 abbrev pub read_status_of : Kind → ℕ
