@@ -1,9 +1,10 @@
 -- What a job answers, and when it is refused.
-use Rattle.std.specs.Prelude.{ℕ, ◌≡◌, ◌⊎◌, List}
+use Rattle.std.specs.Prelude.{ℕ, ◌≡◌, ◌<◌, ◌⊎◌, List, length, slice_index_or}
 use Rattle.cb_semirings.specs.Arithmetic.{Arithmetic}
 use Rattle.cb_matrix.specs.Sparse.{Sparse}
-use Rattle.cb_matrix.specs.Values.{product, product_shape}
-use Rattle.cb_matrix.specs.Operations.{masked}
+use Rattle.cb_matrix.specs.Values.{empty_matrix, product, product_shape}
+use Rattle.cb_matrix.specs.Operations.{masked, transposed, sum_of, times_of, pruned}
+use Rattle.cb_elementwise.specs.Passing.{passes}
 use Rattle.cb_market.specs.Faults as market
 use Rattle.cb_market.specs.Reads.{Reads}
 use Rattle.cb_market.specs.Text.{text_of}
@@ -12,8 +13,8 @@ use Rattle.cb_market.specs.declared.Kind.TheVariants as kind_is
 use Rattle.cb_cli.specs.Files.{text_at}
 use Rattle.cb_cli.specs.Semirings.{arithmetic_of}
 use Rattle.cb_cli.specs.declared.jobs.Operation.{Operation}
-use Rattle.cb_cli.specs.declared.jobs.Operation.TheVariants.{Multiply, MultiplyMasked}
-use Rattle.cb_scripts.specs.Refusals.{IsProductRefusal, IsMaskedRefusal}
+use Rattle.cb_cli.specs.declared.jobs.Operation.TheVariants.{Multiply, MultiplyMasked, Transpose, Add, Times, Prune}
+use Rattle.cb_scripts.specs.declared.ScriptFault.{ScriptFault}
 use Rattle.cb_scripts.specs.declared.ScriptFault.TheVariants as script_is
 use Rattle.cb_cli.specs.declared.runs.JobFault.{JobFault}
 use Rattle.cb_cli.specs.declared.runs.JobFault.TheVariants.{Read, Script, Memory, Output}
@@ -23,69 +24,74 @@ use Rattle.cb_cli.specs.declared.semirings.SemiringName.{SemiringName}
 abbrev pub IsMatrixText : Arithmetic → List ℕ → Type 0
 IsMatrixText s text = (m : Sparse) × Reads s text m
 
--- both texts read as matrices, and the first has as many columns as the second has rows
-abbrev pub HaveProduct : Arithmetic → List ℕ → List ℕ → Type 0
-HaveProduct s first second = (a : Sparse) × (b : Sparse) × Reads s first a × Reads s second b × (a.shape.cols ≡ b.shape.rows)
+-- a matrix of a list, or one of 0 by 0 where there is none
+abbrev pub matrix_at : List Sparse → ℕ → Sparse
+matrix_at operands i = slice_index_or operands i (empty_matrix (record { rows = 0; cols = 0 }))
 
--- the text of the product of the matrices that the two texts read as
-abbrev pub IsProductText : Arithmetic → List ℕ → List ℕ → List ℕ → Type 0
-IsProductText s first second answer =
-    (a : Sparse) × (b : Sparse) × Reads s first a × Reads s second b × (a.shape.cols ≡ b.shape.rows) × (answer ≡ text_of s (product s a b))
+-- each text below a place reads as the matrix of that place
+abbrev pub ReadBelow : Arithmetic → List (List ℕ) → List Sparse → ℕ → Type 0
+ReadBelow s texts operands n = (i : ℕ) → i < n → Reads s (text_at texts i) (matrix_at operands i)
 
--- what is told of a text by its number: its first fault, or want of memory with no fault before it
-abbrev pub IsReadFault : Arithmetic → ℕ → List ℕ → JobFault → Type 0
-IsReadFault s n text (Read which fault) = (which ≡ n) × market.IsAnswer (market.first_fault s text) fault
-IsReadFault s n text (Script fault) = ⊥
-IsReadFault s n text Memory = ⊥
-IsReadFault s n text Output = ⊥
+-- one matrix for each text, which it reads as
+abbrev pub AreMatrices : Arithmetic → List (List ℕ) → List Sparse → Type 0
+AreMatrices s texts operands = (length operands ≡ length texts) × ReadBelow s texts operands (length texts)
 
--- Why two texts have no product: the first is no matrix; the second isn't; their shapes don't agree; and where none of
--- these holds, want of memory, or a sink that failed.
-abbrev pub IsProductFault : Arithmetic → List ℕ → List ℕ → JobFault → Type 0
-IsProductFault s first second (Read which fault) =
-    IsReadFault s 0 first (Read which fault) ⊎ (IsMatrixText s first × IsReadFault s 1 second (Read which fault))
-IsProductFault s first second (Script fault) = (a : Sparse) × (b : Sparse) × Reads s first a × Reads s second b × IsProductRefusal a b fault
-IsProductFault s first second Memory = HaveProduct s first second
-IsProductFault s first second Output = HaveProduct s first second
+-- the shapes of an operation's matrices agree
+abbrev pub Agree : Operation → List Sparse → Type 0
+Agree Multiply ms = (matrix_at ms 0).shape.cols ≡ (matrix_at ms 1).shape.rows
+Agree MultiplyMasked ms =
+    ((matrix_at ms 0).shape.cols ≡ (matrix_at ms 1).shape.rows) × ((matrix_at ms 2).shape ≡ product_shape (matrix_at ms 0) (matrix_at ms 1))
+Agree Transpose ms = Unit {0}
+Agree Add ms = (matrix_at ms 0).shape ≡ (matrix_at ms 1).shape
+Agree Times ms = (matrix_at ms 0).shape ≡ (matrix_at ms 1).shape
+Agree (Prune test) ms = Unit {0}
 
--- the three texts read as matrices: two that have a product, and a mask of its shape
-abbrev pub HaveMaskedProduct : Arithmetic → List ℕ → List ℕ → List ℕ → Type 0
-HaveMaskedProduct s first second third =
-    (a : Sparse) × (b : Sparse) × (m : Sparse) × Reads s first a × Reads s second b × Reads s third m × (a.shape.cols ≡ b.shape.rows) × (m.shape ≡ product_shape a b)
+-- what an operation makes of its matrices
+abbrev pub answer_of : Operation → Arithmetic → List Sparse → Sparse
+answer_of Multiply s ms = product s (matrix_at ms 0) (matrix_at ms 1)
+answer_of MultiplyMasked s ms = masked s (product s (matrix_at ms 0) (matrix_at ms 1)) (matrix_at ms 2)
+answer_of Transpose s ms = transposed s (matrix_at ms 0)
+answer_of Add s ms = sum_of s (matrix_at ms 0) (matrix_at ms 1)
+answer_of Times s ms = times_of s (matrix_at ms 0) (matrix_at ms 1)
+answer_of (Prune test) s ms = pruned s (passes test) (matrix_at ms 0)
 
--- the text of the product of the first two matrices, kept where the third has entries
-abbrev pub IsMaskedText : Arithmetic → List ℕ → List ℕ → List ℕ → List ℕ → Type 0
-IsMaskedText s first second third answer =
-    (a : Sparse) × (b : Sparse) × (m : Sparse) × Reads s first a × Reads s second b × Reads s third m × (a.shape.cols ≡ b.shape.rows) × (m.shape ≡ product_shape a b)
-    × (answer ≡ text_of s (masked s (product s a b) m))
+-- why it makes nothing: their shapes don't agree, or, where they do, want of memory
+abbrev pub IsRefusal : Operation → List Sparse → ScriptFault → Type 0
+IsRefusal operation ms script_is.Shapes = ¬ Agree operation ms
+IsRefusal operation ms script_is.Memory = Agree operation ms
 
--- Why two texts have no product under a mask: the first of the three texts that is no matrix; shapes that don't agree, of
--- the two or of the mask; and where none of these holds, want of memory, or a sink that failed.
-abbrev pub IsMaskedFault : Arithmetic → List ℕ → List ℕ → List ℕ → JobFault → Type 0
-IsMaskedFault s first second third (Read which fault) =
-    IsReadFault s 0 first (Read which fault)
-    ⊎ (IsMatrixText s first × (IsReadFault s 1 second (Read which fault) ⊎ (IsMatrixText s second × IsReadFault s 2 third (Read which fault))))
-IsMaskedFault s first second third (Script fault) =
-    (a : Sparse) × (b : Sparse) × (m : Sparse) × Reads s first a × Reads s second b × Reads s third m × IsMaskedRefusal a b m fault
-IsMaskedFault s first second third Memory = HaveMaskedProduct s first second third
-IsMaskedFault s first second third Output = HaveMaskedProduct s first second third
-
--- the text that an operation over a semiring answers of the texts of its files
+-- the text that an operation over a semiring answers: that of what it makes of the matrices that the texts read as
 abbrev pub IsAnswerOver : Operation → Arithmetic → List (List ℕ) → List ℕ → Type 0
-IsAnswerOver Multiply s texts answer = IsProductText s (text_at texts 0) (text_at texts 1) answer
-IsAnswerOver MultiplyMasked s texts answer = IsMaskedText s (text_at texts 0) (text_at texts 1) (text_at texts 2) answer
+IsAnswerOver operation s texts answer =
+    (ms : List Sparse) × AreMatrices s texts ms × Agree operation ms × (answer ≡ text_of s (answer_of operation s ms))
 
--- why it has no answer of them
+-- The first text that is no matrix, with its first fault, or want of memory with no fault before it.
+abbrev pub IsReadFault : Arithmetic → List (List ℕ) → JobFault → Type 0
+IsReadFault s texts (Read which fault) =
+    (which < length texts) × ((i : ℕ) → i < which → IsMatrixText s (text_at texts i)) × market.IsAnswer (market.first_fault s (text_at texts which)) fault
+IsReadFault s texts _ = ⊥
+
+-- why an operation answers nothing of its matrices: it is refused; or, where they agree, want of memory
+abbrev pub IsLateFault : Operation → List Sparse → JobFault → Type 0
+IsLateFault operation ms (Read which fault) = ⊥
+IsLateFault operation ms (Script fault) = IsRefusal operation ms fault
+IsLateFault operation ms Memory = Agree operation ms
+IsLateFault operation ms Output = ⊥
+
+-- Why it answers nothing of texts: one of them is no matrix; else it is refused; and where neither holds, want of memory,
+-- or a sink that failed.
 abbrev pub IsFaultOver : Operation → Arithmetic → List (List ℕ) → JobFault → Type 0
-IsFaultOver Multiply s texts fault = IsProductFault s (text_at texts 0) (text_at texts 1) fault
-IsFaultOver MultiplyMasked s texts fault = IsMaskedFault s (text_at texts 0) (text_at texts 1) (text_at texts 2) fault
+IsFaultOver operation s texts (Read which fault) = IsReadFault s texts (Read which fault)
+IsFaultOver operation s texts (Script fault) = (ms : List Sparse) × AreMatrices s texts ms × IsRefusal operation ms fault
+IsFaultOver operation s texts Memory = (ms : List Sparse) × AreMatrices s texts ms × Agree operation ms
+IsFaultOver operation s texts Output = (ms : List Sparse) × AreMatrices s texts ms × Agree operation ms
 
 -- the same, over the semiring that a job names
 abbrev pub IsAnswer : Operation → SemiringName → List (List ℕ) → List ℕ → Type 0
 IsAnswer operation semiring texts answer = IsAnswerOver operation (arithmetic_of semiring) texts answer
 
 abbrev pub IsFault : Operation → SemiringName → List (List ℕ) → JobFault → Type 0
-IsFault operation semiring texts fault = IsFaultOver operation (arithmetic_of semiring) texts fault
+IsFault operation semiring texts = IsFaultOver operation (arithmetic_of semiring) texts
 
 -- why an answer that there is has not gone out whole
 abbrev pub IsUnwritten : JobFault → Type 0

@@ -3,6 +3,7 @@ ghost use Rattle.std.specs.Prelude.{◌≡◌, vec_len};
 ghost use Rattle.cb_cli.specs.Jobs.{file_count_of};
 
 use crate::semirings::SemiringName;
+use cb_elementwise::Test;
 use cb_layout::Grid;
 use cb_scripts::Engine;
 use std::alloc::{AllocError, AllocFailed};
@@ -15,6 +16,14 @@ pub enum Operation {
     Multiply,
     /// The same, kept where the third file's matrix has entries.
     MultiplyMasked,
+    /// The transpose of the file's matrix.
+    Transpose,
+    /// The sum of two files' matrices, place by place.
+    Add,
+    /// The product of two files' matrices, place by place.
+    Times,
+    /// The file's matrix without the entries whose value passes the test.
+    Prune(Test),
 }
 
 /// A command line that was read.

@@ -1,11 +1,12 @@
 //! Runs a job.
-ghost use Rattle.std.specs.Prelude.{◌≡◌, ◌≢◌, ◌↔◌, ℕ, ◌≤◌, List, length, vec_len, true, false, OnOk, IfOk, IfErr, IsErrOf};
+ghost use Rattle.std.specs.Prelude.{◌≡◌, ◌≢◌, ◌↔◌, ℕ, ◌<◌, List, length, vec_len, true, false, OnOk, IfOk, IfErr, IsErrOf};
 ghost use Rattle.std.specs.Io.KnownBytes.{Appends, Keeps};
 ghost use Rattle.cb_cli.specs.Sinks.{AppendsPrefix};
+ghost use Rattle.cb_cli.specs.Jobs.{file_count_of};
 ghost use Rattle.cb_market.specs.Reads.{Reads};
 ghost use Rattle.cb_market.specs.Text.{text_of};
-ghost use Rattle.cb_cli.specs.Answers.{IsProductText, IsProductFault, IsMaskedText, IsMaskedFault, IsReadFault, IsAnswerOver, IsFaultOver, IsAnswer, IsFault, status_of};
-ghost use Rattle.cb_cli.specs.Files.{bytes_of};
+ghost use Rattle.cb_cli.specs.Answers.{IsMatrixText, IsReadFault, IsLateFault, Agree, answer_of, IsRefusal, IsAnswerOver, IsFaultOver, IsAnswer, IsFault, status_of};
+ghost use Rattle.cb_cli.specs.Files.{bytes_of, text_at};
 
 use crate::jobs::{Job, Operation};
 use crate::pages::put_text;
@@ -14,7 +15,10 @@ use crate::sinks::Sink;
 use cb_layout::DistributedMatrix;
 use cb_market::{Kind, ReadFault, read};
 use cb_matrix::Matrix;
-use cb_scripts::{ScriptFault, multiply_distributed, multiply_masked_distributed};
+use cb_scripts::{
+    ScriptFault, add_distributed, multiply_distributed, multiply_masked_distributed,
+    prune_distributed, times_distributed, transpose_distributed,
+};
 use cb_semirings::{MaxMin, MinPlus, OrAnd, PlusTimes, Semiring};
 use std::alloc::{AllocError, Global};
 use thiserror::Error;
@@ -35,55 +39,80 @@ pub enum JobFault {
     Output,
 }
 
-/// The matrix of one of the texts.
-fn read_text<S: Semiring>(alloc: Global, which: usize, text: &[u8]) -> Result<Matrix<S>, JobFault>
-    ensures ok { IfOk result (λ m. Reads S.arithmetic text.now m) }
-    ensures fault { IfErr result (IsReadFault S.arithmetic which text.now) }
+impl From<ScriptFault> for JobFault {
+    ghost use Rattle.cb_cli.specs.declared.runs.JobFault.TheVariants.{Script};
+
+    ghost from_gives = { λ fault told. told ≡ Script fault };
+
+    fn from(fault: ScriptFault) -> JobFault {
+        JobFault::Script(fault)
+    }
+}
+
+impl From<AllocError> for JobFault {
+    ghost use Rattle.cb_cli.specs.declared.runs.JobFault.TheVariants.{Memory};
+
+    ghost from_gives = { λ _ told. told ≡ Memory };
+
+    fn from(_error: AllocError) -> JobFault {
+        JobFault::Memory
+    }
+}
+
+/// The matrix of one of the texts, where those before it are matrices.
+fn read_text<S: Semiring>(
+    alloc: Global,
+    texts: &[Vec<u8>],
+    which: usize,
+) -> Result<Matrix<S>, JobFault>
+    requires some { which < length texts.now }
+    requires earlier { (i : ℕ) → i < which → IsMatrixText S.arithmetic (text_at (bytes_of texts.now) i) }
+    ensures ok { IfOk result (λ m. Reads S.arithmetic (text_at (bytes_of texts.now) which) m) }
+    ensures fault { IfErr result (IsReadFault S.arithmetic (bytes_of texts.now)) }
 {
-    match read::<S>(alloc, text) {
+    match read::<S>(alloc, &texts[which]) {
         Ok(matrix) => Ok(matrix),
         Err(fault) => Err(JobFault::Read { which, fault }),
     }
 }
 
-/// The product of the matrices of two texts, over the grid.
-fn product_of<S: Semiring>(
+/// What the operation of a job makes of its matrices, on the job's grid.
+fn computed<S: Semiring>(
     alloc: Global,
     job: &Job,
-    first: &[u8],
-    second: &[u8],
-) -> Result<DistributedMatrix<S>, JobFault>
-    ensures ok { IfOk result (λ m. IsProductText S.arithmetic first.now second.now (text_of S.arithmetic m.matrix)) }
-    ensures fault { IfErr result (IsProductFault S.arithmetic first.now second.now) }
-    ensures unwritten { IfErr result (λ f. f ≢ JobFault.Output) }
+    operands: &[Matrix<S>],
+) -> Result<DistributedMatrix<S>, ScriptFault>
+    requires { length operands.now ≡ file_count_of job.now.operation }
+    ensures ok { IfOk result (λ m. m.matrix ≡ answer_of job.now.operation S.arithmetic operands.now) }
+    ensures agree { IfOk result (λ m. Agree job.now.operation operands.now) }
+    ensures fault { IfErr result (IsRefusal job.now.operation operands.now) }
 {
-    let left = read_text::<S>(alloc, 0, first)?;
-    let right = read_text::<S>(alloc, 1, second)?;
-    match multiply_distributed(alloc, job.engine, &job.grid, &left, &right) {
-        Ok(product) => Ok(product),
-        Err(fault) => Err(JobFault::Script(fault)),
+    let (engine, grid, first) = (job.engine, &job.grid, &operands[0]);
+    match job.operation {
+        Operation::Multiply => multiply_distributed(alloc, engine, grid, first, &operands[1]),
+        Operation::MultiplyMasked => {
+            multiply_masked_distributed(alloc, engine, grid, first, &operands[1], &operands[2])
+        }
+        Operation::Transpose => transpose_distributed(alloc, engine, grid, first),
+        Operation::Add => add_distributed(alloc, engine, grid, first, &operands[1]),
+        Operation::Times => times_distributed(alloc, engine, grid, first, &operands[1]),
+        Operation::Prune(test) => prune_distributed(alloc, engine, grid, first, test),
     }
 }
 
-/// The product of the matrices of two texts, kept where a third one's matrix has entries, over the grid.
-fn masked_product_of<S: Semiring>(
+/// The same, or the fault of the job.
+fn answer<S: Semiring>(
     alloc: Global,
     job: &Job,
-    first: &[u8],
-    second: &[u8],
-    third: &[u8],
+    operands: &[Matrix<S>],
 ) -> Result<DistributedMatrix<S>, JobFault>
-    ensures ok { IfOk result (λ m. IsMaskedText S.arithmetic first.now second.now third.now (text_of S.arithmetic m.matrix)) }
-    ensures fault { IfErr result (IsMaskedFault S.arithmetic first.now second.now third.now) }
-    ensures unwritten { IfErr result (λ f. f ≢ JobFault.Output) }
+    requires { length operands.now ≡ file_count_of job.now.operation }
+    ensures ok { IfOk result (λ m. m.matrix ≡ answer_of job.now.operation S.arithmetic operands.now) }
+    ensures agree { IfOk result (λ m. Agree job.now.operation operands.now) }
+    ensures fault { IfErr result (IsLateFault job.now.operation operands.now) }
 {
-    let left = read_text::<S>(alloc, 0, first)?;
-    let right = read_text::<S>(alloc, 1, second)?;
-    let mask = read_text::<S>(alloc, 2, third)?;
-    match multiply_masked_distributed(alloc, job.engine, &job.grid, &left, &right, &mask) {
-        Ok(kept) => Ok(kept),
-        Err(fault) => Err(JobFault::Script(fault)),
-    }
+    let answer = computed(alloc, job, operands)?;
+    Ok(answer)
 }
 
 /// The answer of a job over a semiring, on the job's grid.
@@ -97,12 +126,16 @@ fn answer_over<S: Semiring>(
     ensures fault { IfErr result (IsFaultOver job.now.operation S.arithmetic (bytes_of texts.now)) }
     ensures unwritten { IfErr result (λ f. f ≢ JobFault.Output) }
 {
-    match job.operation {
-        Operation::Multiply => product_of::<S>(alloc, job, &texts[0], &texts[1]),
-        Operation::MultiplyMasked => {
-            masked_product_of::<S>(alloc, job, &texts[0], &texts[1], &texts[2])
-        }
+    let first = read_text::<S>(alloc, texts, 0)?;
+    if texts.len() == 1 {
+        return answer(alloc, job, &[first]);
     }
+    let second = read_text::<S>(alloc, texts, 1)?;
+    if texts.len() == 2 {
+        return answer(alloc, job, &[first, second]);
+    }
+    let third = read_text::<S>(alloc, texts, 2)?;
+    answer(alloc, job, &[first, second, third])
 }
 
 /// Writes the answer of a job over a semiring.

@@ -1,6 +1,7 @@
 //! Worked examples: whole runs from texts to bytes, sinks that fail, and command lines.
 mod endings;
 mod lines;
+mod operations;
 mod pages;
 mod products;
 mod sinks;

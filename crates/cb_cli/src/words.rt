@@ -1,12 +1,13 @@
 //! Reads a command line. Words are `clap`'s to judge: an unknown command or option, a missing file,
 //! one too many, an option given twice, a value that isn't offered are each a usage text.
-ghost use Rattle.std.specs.Prelude.{◌≢◌, String, ◌≡◌, IfOk, vec_len, if◌then◌else◌, is_some};
+ghost use Rattle.std.specs.Prelude.{◌≢◌, String, ◌≡◌, IfOk, IfSome, length, vec_len};
 ghost use Rattle.std.specs.declared.io.ErrorKind.TheVariants as io_is;
 ghost use Rattle.clap.specs.Words.{kind_of};
 ghost use Rattle.cb_cli.specs.Jobs.{file_count_of};
 
 use crate::jobs::{Job, Operation, UsageFault};
 use crate::semirings::{NAMES, SemiringName};
+use cb_elementwise::Test;
 use cb_layout::Grid;
 use cb_scripts::Engine;
 use clap::error::ErrorKind;
@@ -16,6 +17,8 @@ use std::rt::Env;
 use std::{env, io};
 
 static ENGINES: [&str; 1] = ["plain"];
+
+static TESTS: [&str; 3] = ["below", "above", "equal"];
 
 /// What stands at the end of each help text.
 static AFTER_HELP: &str = "Example:
@@ -78,6 +81,24 @@ fn mask_option<'a>(alloc: Global) -> Arg<'a> {
         .help("Keep the entries at the places where this matrix has one")
 }
 
+fn test_option<'a>(alloc: Global) -> Arg<'a> {
+    Arg::new(alloc, "test")
+        .long("test")
+        .value_name("TEST")
+        .required(true)
+        .value_parser(TESTS.as_slice())
+        .help("How the values that are dropped compare to the number of --value")
+}
+
+fn value_option<'a>(alloc: Global) -> Arg<'a> {
+    Arg::new(alloc, "value")
+        .long("value")
+        .value_name("N")
+        .required(true)
+        .value_parser(value_parser!(u64))
+        .help("The number that values are compared to")
+}
+
 fn command<'a>(
     alloc: Global,
     name: &'a str,
@@ -98,6 +119,18 @@ fn command<'a>(
         .arg(help_option(alloc))
 }
 
+fn multiply_command<'a>(alloc: Global) -> Result<Command<'a>, AllocError> {
+    let about = "Write the product of two matrices";
+    command(alloc, "multiply", about, &["A", "B"])?.arg(mask_option(alloc))
+}
+
+fn prune_command<'a>(alloc: Global) -> Result<Command<'a>, AllocError> {
+    let about = "Write a matrix without the entries whose value passes a test";
+    command(alloc, "prune", about, &["A"])?
+        .arg(test_option(alloc))?
+        .arg(value_option(alloc))
+}
+
 fn cbgrid<'a>(alloc: Global) -> Result<Command<'a>, AllocError> {
     Command::new(alloc, "cbgrid")
         .about("Sparse matrices over semirings, read and written as Matrix Market files")
@@ -106,13 +139,21 @@ fn cbgrid<'a>(alloc: Global) -> Result<Command<'a>, AllocError> {
         .disable_help_flag(true)
         .disable_help_subcommand(true)
         .arg(help_option(alloc))?
+        .subcommand(multiply_command(alloc)?)?
         .subcommand(command(
             alloc,
-            "multiply",
-            "Write the product of two matrices",
+            "transpose",
+            "Write the transpose of a matrix",
+            &["A"],
+        )?)?
+        .subcommand(command(alloc, "add", "Write the sum of two matrices", &["A", "B"])?)?
+        .subcommand(command(
+            alloc,
+            "times",
+            "Write the product of two matrices place by place",
             &["A", "B"],
-        )?
-        .arg(mask_option(alloc))?)
+        )?)?
+        .subcommand(prune_command(alloc)?)
 }
 
 fn usage(alloc: Global, text: &str) -> UsageFault
@@ -145,22 +186,33 @@ fn fault_of(alloc: Global, error: &clap::Error) -> UsageFault
     }
 }
 
-/// The names of files, in the order in which they are read.
-fn file_names(
-    alloc: Global,
-    first: &str,
-    second: &str,
-    mask: Option<&str>,
-) -> Result<Vec<String>, AllocError>
-    ensures { IfOk result (λ v. vec_len v ≡ (if is_some mask.entry then 3 else 2)) }
+/// The arguments that name the files of an operation, in the order in which they are read.
+fn arguments(operation: Operation) -> &'static [&'static str]
+    ensures { length result.now ≡ file_count_of operation }
 {
-    let mut files = Vec::with_capacity(alloc, 3)?;
-    files.push(String::from_str(alloc, first)?)?;
-    files.push(String::from_str(alloc, second)?)?;
-    if let Some(mask) = mask {
-        files.push(String::from_str(alloc, mask)?)?;
+    match operation {
+        Operation::Multiply | Operation::Add | Operation::Times => &["A", "B"],
+        Operation::MultiplyMasked => &["A", "B", "mask"],
+        Operation::Transpose | Operation::Prune(_) => &["A"],
     }
-    Ok(files)
+}
+
+/// The files that these arguments name, or None where one of them names none.
+fn files_of(
+    alloc: Global,
+    found: &ArgMatches<'_>,
+    arguments: &[&str],
+) -> Result<Option<Vec<String>>, AllocError>
+    ensures { IfOk result (λ files. IfSome files (λ v. vec_len v ≡ length arguments.now)) }
+{
+    let mut files = Vec::with_capacity(alloc, arguments.len())?;
+    for argument in arguments {
+        let Some(name) = found.get_str(argument) else {
+            return Ok(None);
+        };
+        files.push(String::from_str(alloc, name)?)?;
+    }
+    Ok(Some(files))
 }
 
 fn engine_of(found: &ArgMatches<'_>) -> Option<Engine> {
@@ -178,9 +230,34 @@ fn semiring_of(found: &ArgMatches<'_>) -> Option<SemiringName> {
     SemiringName::named(found.get_str("semiring")?)
 }
 
-/// The product that `multiply` asks for.
-fn product_of(alloc: Global, found: &ArgMatches<'_>) -> Result<Option<Job>, AllocError> {
-    let (Some(first), Some(second)) = (found.get_str("A"), found.get_str("B")) else {
+fn test_of(found: &ArgMatches<'_>) -> Option<Test> {
+    let number = found.get_one::<u64>("value")?;
+    match found.get_str("test")? {
+        "below" => Some(Test::Below(number)),
+        "above" => Some(Test::Above(number)),
+        "equal" => Some(Test::Equal(number)),
+        _ => None,
+    }
+}
+
+/// The operation of a command.
+fn operation_of(command: &str, found: &ArgMatches<'_>) -> Option<Operation> {
+    match command {
+        "multiply" if found.contains_id("mask") => Some(Operation::MultiplyMasked),
+        "multiply" => Some(Operation::Multiply),
+        "transpose" => Some(Operation::Transpose),
+        "add" => Some(Operation::Add),
+        "times" => Some(Operation::Times),
+        "prune" => Some(Operation::Prune(test_of(found)?)),
+        _ => None,
+    }
+}
+
+fn job_of(alloc: Global, matches: &ArgMatches<'_>) -> Result<Option<Job>, AllocError> {
+    let Some((command, found)) = matches.subcommand() else {
+        return Ok(None);
+    };
+    let Some(operation) = operation_of(command, found) else {
         return Ok(None);
     };
     let (Some(semiring), Some(grid), Some(engine)) = (
@@ -190,12 +267,9 @@ fn product_of(alloc: Global, found: &ArgMatches<'_>) -> Result<Option<Job>, Allo
     ) else {
         return Ok(None);
     };
-    let mask = found.get_str("mask");
-    let operation = match mask {
-        None => Operation::Multiply,
-        Some(_) => Operation::MultiplyMasked,
+    let Some(files) = files_of(alloc, found, arguments(operation))? else {
+        return Ok(None);
     };
-    let files = file_names(alloc, first, second, mask)?;
     Ok(Some(Job {
         operation,
         semiring,
@@ -203,13 +277,6 @@ fn product_of(alloc: Global, found: &ArgMatches<'_>) -> Result<Option<Job>, Allo
         engine,
         files,
     }))
-}
-
-fn job_of(alloc: Global, matches: &ArgMatches<'_>) -> Result<Option<Job>, AllocError> {
-    match matches.subcommand() {
-        Some(("multiply", found)) => product_of(alloc, found),
-        _ => Ok(None),
-    }
 }
 
 /// Why words that can't be had are no job: memory was refused to them, or one of them is no text.

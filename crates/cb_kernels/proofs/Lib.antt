@@ -4,3 +4,15 @@ pub mod Blocks
 pub mod Pointwise
 pub mod Mirror
 pub mod Lengths
+-- The product by a spread vector. Programs: operations of each rank, one after the other. Pieces: what each step
+-- does to the slots. Assembly: the pieces make the parts of a vector, and the pieces of the products those of the
+-- result. SpreadProduct: so the plan makes the product. VectorFlow, VectorStarts: it passes the check. Loops: how
+-- it is pushed. VectorLengths: it is short.
+pub mod Programs
+pub mod Pieces
+pub mod Assembly
+pub mod SpreadProduct
+pub mod VectorFlow
+pub mod VectorStarts
+pub mod VectorLengths
+pub mod Loops

@@ -3,7 +3,7 @@ ghost use Rattle.std.specs.Prelude.{◌↔◌, IsTrue, IfOk, All};
 ghost use Rattle.cb_plan.specs.Runnable.{IsRunnable};
 ghost use Rattle.cb_semirings.specs.Arithmetic.{IsValue};
 
-use crate::{grid_add, grid_prune, grid_times, grid_transpose};
+use crate::{grid_add, grid_prune, grid_times, grid_transpose, grid_vector};
 use cb_elementwise::Test;
 use cb_layout::Grid;
 use cb_matrix::{Entry, Matrix, Shape};
@@ -165,6 +165,92 @@ fn drops_entries(rt: HostRuntime) -> Result<(), Fail> {
     Ok(())
 }
 
+/// The stores of the ranks, with the blocks of a matrix in slot 0 and the pieces of a vector in slot 1.
+fn vector_stores(
+    alloc: Global,
+    grid: &Grid,
+    a: &Matrix<PlusTimes>,
+    x: &Matrix<PlusTimes>,
+) -> Result<Vec<RankStore<PlusTimes>>, Fail> {
+    if x.cols() != 1 {
+        return Err("a vector".into());
+    }
+    let mut stores = stores(alloc, grid, &[a])?;
+    let pieces = grid.scatter_input(alloc, x)?;
+    let mut rank = 0usize;
+    for piece in pieces {
+        if rank < stores.len() {
+            stores[rank].put(1, piece);
+        }
+        rank = rank.saturating_add(1);
+    }
+    Ok(stores)
+}
+
+/// The ranks and values of the entries in slot 2, rank by rank, after a matrix was multiplied by a vector.
+fn spread_product(
+    alloc: Global,
+    grid: &Grid,
+    a: &Matrix<PlusTimes>,
+    x: &Matrix<PlusTimes>,
+) -> Result<Vec<[u64; 2]>, Fail> {
+    let Ok(planned) = grid_vector(alloc, grid, a.shape()) else {
+        return Err("a plan".into());
+    };
+    let (plan, slot) = planned.into_checked();
+    let stores = vector_stores(alloc, grid, a, x)?;
+    if slot != 2 || !plan.fits(&stores) {
+        return Err("stores".into());
+    }
+    let mut found = Vec::new(alloc);
+    for (rank, store) in run_plain(alloc, &plan, stores)?.iter().enumerate() {
+        let Slot::Sheet(piece) = store.slot(2) else {
+            return Err("a sheet".into());
+        };
+        for entry in piece.entries()?.iter() {
+            found.push([rank as u64, entry.value])?;
+        }
+    }
+    Ok(found)
+}
+
+#[test]
+fn multiplies_a_vector(rt: HostRuntime) -> Result<(), Fail> {
+    let alloc = rt.alloc();
+    let a = [
+        entry(0, 0, 1),
+        entry(2, 1, 4),
+        entry(0, 3, 2),
+        entry(1, 3, 3),
+        entry(4, 4, 5),
+    ];
+    let a = matrix(alloc, 6, 5, &a)?;
+    let x = [entry(0, 0, 7), entry(1, 0, 6), entry(3, 0, 5)];
+    let x = matrix(alloc, 5, 1, &x)?;
+    for side in SIDES {
+        let grid = Grid::new(side).map_err(|_| "a side")?;
+        let found = spread_product(alloc, &grid, &a, &x)?;
+        assert_eq!(rt; found.len(), 3);
+        for (piece, wanted) in found.iter().zip([17, 15, 24]) {
+            assert!(rt; piece[1] == wanted);
+        }
+    }
+    Ok(())
+}
+
+/// Each of the two parts of the result has one row, which is in the first of its pieces.
+#[test]
+fn multiplies_by_pieces(rt: HostRuntime) -> Result<(), Fail> {
+    let alloc = rt.alloc();
+    let grid = Grid::new(2).map_err(|_| "a side")?;
+    let a = [entry(0, 0, 1), entry(0, 1, 2), entry(1, 1, 3)];
+    let a = matrix(alloc, 2, 2, &a)?;
+    let x = matrix(alloc, 2, 1, &[entry(0, 0, 5), entry(1, 0, 7)])?;
+    let found = spread_product(alloc, &grid, &a, &x)?;
+    assert_eq!(rt; found.as_slice(), [[0, 19], [2, 21]].as_slice());
+    Ok(())
+}
+
 /// Whether a plan has so many acts, or was refused for want of memory.
 fn has_acts_or_no_memory(planned: Result<Planned, PlanFault>, acts: usize) -> bool {
     match planned {
@@ -184,5 +270,6 @@ fn refused_memory_is_said(rt: HostRuntime) -> Result<(), Fail> {
     assert!(rt; has_acts_or_no_memory(grid_add(alloc, &grid, shape), 16));
     assert!(rt; has_acts_or_no_memory(grid_times(alloc, &grid, shape), 16));
     assert!(rt; has_acts_or_no_memory(grid_prune(alloc, &grid, shape, Test::Above(3)), 16));
+    assert!(rt; has_acts_or_no_memory(grid_vector(alloc, &grid, shape), 68));
     Ok(())
 }

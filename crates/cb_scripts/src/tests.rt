@@ -1,8 +1,9 @@
-//! Worked products on grids of several sides, with ample memory and with each allocation refused in turn.
+//! Worked examples on grids of several sides, with ample memory and with each allocation refused in turn.
 ghost use Rattle.std.specs.Prelude.{◌↔◌, IsTrue, All};
 ghost use Rattle.cb_semirings.specs.Arithmetic.{IsValue};
 
-use crate::{Engine, ScriptFault, multiply, multiply_masked};
+use crate::{Engine, ScriptFault, add, multiply, multiply_masked, prune, times, transpose};
+use cb_elementwise::Test;
 use cb_layout::Grid;
 use cb_matrix::{Entry, LIMIT, Matrix, Shape};
 use cb_semirings::{MaxMin, PlusTimes, Semiring};
@@ -128,6 +129,39 @@ fn keeps_what_a_mask_covers(rt: HostRuntime) -> Result<(), Fail> {
 }
 
 #[test]
+fn transposes_and_prunes(rt: HostRuntime) -> Result<(), Fail> {
+    let (left, _) = operands::<PlusTimes>(rt.alloc()).ok_or("memory")?;
+    let turned = [entry(0, 0, 1), entry(1, 0, 2), entry(1, 1, 3)];
+    for side in SIDES {
+        let grid = grid(side)?;
+        let answer = transpose(rt.alloc(), Engine::Plain, &grid, &left)?;
+        assert!(rt; answer.entries() == turned.as_slice());
+        let answer = prune(rt.alloc(), Engine::Plain, &grid, &left, Test::Above(1))?;
+        assert!(rt; answer.entries() == [entry(0, 0, 1)].as_slice());
+    }
+    Ok(())
+}
+
+#[test]
+fn adds_and_multiplies_place_by_place(rt: HostRuntime) -> Result<(), Fail> {
+    let (left, right) = operands::<PlusTimes>(rt.alloc()).ok_or("memory")?;
+    let sum = [
+        entry(0, 0, 1),
+        entry(1, 0, 4),
+        entry(0, 1, 3),
+        entry(1, 1, 3),
+    ];
+    for side in SIDES {
+        let grid = grid(side)?;
+        let answer = add(rt.alloc(), Engine::Plain, &grid, &left, &right)?;
+        assert!(rt; answer.entries() == sum.as_slice());
+        let answer = times(rt.alloc(), Engine::Plain, &grid, &left, &right)?;
+        assert!(rt; answer.entries() == [entry(0, 1, 2)].as_slice());
+    }
+    Ok(())
+}
+
+#[test]
 fn refuses_shapes(rt: HostRuntime) -> Result<(), Fail> {
     let (left, right) = operands::<PlusTimes>(rt.alloc()).ok_or("memory")?;
     let small = matrix(rt.alloc(), 1, 1, &[]).ok_or("memory")?;
@@ -136,38 +170,61 @@ fn refuses_shapes(rt: HostRuntime) -> Result<(), Fail> {
     assert!(rt; matches!(answer, Err(ScriptFault::Shapes)));
     let answer = multiply_masked(rt.alloc(), Engine::Plain, &grid, &left, &right, &small);
     assert!(rt; matches!(answer, Err(ScriptFault::Shapes)));
+    let answer = add(rt.alloc(), Engine::Plain, &grid, &left, &small);
+    assert!(rt; matches!(answer, Err(ScriptFault::Shapes)));
+    let answer = times(rt.alloc(), Engine::Plain, &grid, &left, &small);
+    assert!(rt; matches!(answer, Err(ScriptFault::Shapes)));
     Ok(())
+}
+
+/// Whether an answer has just these entries, or is want of memory.
+fn is_right_or_refused(answer: Result<Matrix<PlusTimes>, ScriptFault>, wanted: &[Entry]) -> bool {
+    match answer {
+        Ok(matrix) => matrix.entries() == wanted,
+        Err(fault) => fault == ScriptFault::Memory,
+    }
 }
 
 /// It passes whichever single allocation is refused (`rt try --test --fail-alloc N`, for each N in turn): the
 /// call says so, or its answer is the right one.
 #[test]
-fn refused_memory_is_said(rt: HostRuntime) -> Result<(), Fail> {
+fn refused_memory_is_said_by_products(rt: HostRuntime) -> Result<(), Fail> {
     let alloc = rt.alloc();
-    let Some((left, right)) = operands::<PlusTimes>(alloc) else {
+    let Some((left, right)) = operands(alloc) else {
         return Ok(());
     };
+    let grid = grid(2)?;
     let wanted = [entry(0, 0, 8), entry(1, 0, 12), entry(0, 1, 1)];
-    match multiply(alloc, Engine::Plain, &grid(2)?, &left, &right) {
-        Ok(product) => assert_eq!(rt; product.entries(), wanted.as_slice()),
-        Err(fault) => assert_eq!(rt; fault, ScriptFault::Memory),
-    }
+    let answer = multiply(alloc, Engine::Plain, &grid, &left, &right);
+    assert!(rt; is_right_or_refused(answer, &wanted));
+    let wanted = [entry(0, 0, 8), entry(0, 1, 1)];
+    let answer = multiply_masked(alloc, Engine::Plain, &grid, &left, &right, &left);
+    assert!(rt; is_right_or_refused(answer, &wanted));
     Ok(())
 }
 
-/// The same of a product under a mask.
+/// The same of the other operations.
 #[test]
-fn refused_memory_is_said_under_a_mask(rt: HostRuntime) -> Result<(), Fail> {
+fn refused_memory_is_said(rt: HostRuntime) -> Result<(), Fail> {
     let alloc = rt.alloc();
-    let Some((left, right)) = operands::<PlusTimes>(alloc) else {
+    let Some((left, right)) = operands(alloc) else {
         return Ok(());
     };
-    let Some(mask) = matrix(alloc, 2, 2, &[entry(0, 0, 9), entry(1, 1, 9)]) else {
-        return Ok(());
-    };
-    match multiply_masked(alloc, Engine::Plain, &grid(2)?, &left, &right, &mask) {
-        Ok(product) => assert_eq!(rt; product.entries(), [entry(0, 0, 8)].as_slice()),
-        Err(fault) => assert_eq!(rt; fault, ScriptFault::Memory),
-    }
+    let grid = grid(2)?;
+    let turned = [entry(0, 0, 1), entry(1, 0, 2), entry(1, 1, 3)];
+    let answer = transpose(alloc, Engine::Plain, &grid, &left);
+    assert!(rt; is_right_or_refused(answer, &turned));
+    let sum = [
+        entry(0, 0, 1),
+        entry(1, 0, 4),
+        entry(0, 1, 3),
+        entry(1, 1, 3),
+    ];
+    let answer = add(alloc, Engine::Plain, &grid, &left, &right);
+    assert!(rt; is_right_or_refused(answer, &sum));
+    let answer = times(alloc, Engine::Plain, &grid, &left, &right);
+    assert!(rt; is_right_or_refused(answer, &[entry(0, 1, 2)]));
+    let answer = prune(alloc, Engine::Plain, &grid, &left, Test::Above(1));
+    assert!(rt; is_right_or_refused(answer, &[entry(0, 0, 1)]));
     Ok(())
 }

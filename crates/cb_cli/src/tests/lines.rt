@@ -4,6 +4,7 @@ use crate::jobs::{Job, Operation, UsageFault};
 use crate::runs::{JobFault, status};
 use crate::semirings::SemiringName;
 use crate::words::read_job;
+use cb_elementwise::Test;
 use cb_market::{Kind, ReadFault};
 use cb_scripts::{Engine, ScriptFault};
 use std::alloc::{AllocError, Global};
@@ -72,6 +73,31 @@ fn reads_each_semiring(rt: HostRuntime) -> Result<(), Fail> {
 }
 
 #[test]
+fn reads_each_command(rt: HostRuntime) -> Result<(), Fail> {
+    let wanted = [
+        ("cbgrid transpose a", Operation::Transpose),
+        ("cbgrid add a b", Operation::Add),
+        ("cbgrid times a b", Operation::Times),
+        (
+            "cbgrid prune a --test below --value 0",
+            Operation::Prune(Test::Below(0)),
+        ),
+        (
+            "cbgrid prune --value 18446744073709551615 a --test above",
+            Operation::Prune(Test::Above(u64::MAX)),
+        ),
+        (
+            "cbgrid prune a --test=equal --value=7",
+            Operation::Prune(Test::Equal(7)),
+        ),
+    ];
+    for (line, operation) in wanted {
+        assert!(rt; job(rt.alloc(), line)?.operation == operation, "{line}");
+    }
+    Ok(())
+}
+
+#[test]
 fn refuses_what_is_not_offered(rt: HostRuntime) {
     let lines = [
         "cbgrid",
@@ -92,6 +118,19 @@ fn refuses_what_is_not_offered(rt: HostRuntime) {
         "cbgrid multiply a b --mask m --mask m",
         "cbgrid multiply a b --colour",
         "cbgrid multiply a b -h",
+        "cbgrid multiply a b --test above --value 1",
+        "cbgrid transpose",
+        "cbgrid transpose a b",
+        "cbgrid transpose a --mask m",
+        "cbgrid add a",
+        "cbgrid times a b c",
+        "cbgrid prune a",
+        "cbgrid prune a --test above",
+        "cbgrid prune a --value 1",
+        "cbgrid prune a --test over --value 1",
+        "cbgrid prune a --test above --value some",
+        "cbgrid prune a --test above --value 18446744073709551616",
+        "cbgrid prune a --test above --test below --value 1",
         "cbgrid -h",
         "cbgrid help",
     ];
@@ -109,6 +148,10 @@ fn offers_help(rt: HostRuntime) {
         "cbgrid --help",
         "cbgrid multiply --help",
         "cbgrid multiply a --help",
+        "cbgrid transpose --help",
+        "cbgrid add --help",
+        "cbgrid times --help",
+        "cbgrid prune --help",
     ] {
         assert!(rt;
             matches!(job(rt.alloc(), line), Err(UsageFault::Help(_))),

@@ -10,7 +10,7 @@ use cb_market::{Kind, ReadFault};
 use cb_scripts::ScriptFault;
 use std::test::Fail;
 
-const HEADER: &str = "%%MatrixMarket matrix coordinate integer general\n";
+pub const HEADER: &str = "%%MatrixMarket matrix coordinate integer general\n";
 
 pub const FIRST: &str =
     "%%MatrixMarket matrix coordinate integer general\n2 2 3\n1 1 1\n1 2 2\n2 2 3\n";
@@ -22,10 +22,10 @@ pub const PRODUCT: &str =
 
 const PATTERN: &str = "%%MatrixMarket matrix coordinate pattern symmetric\n3 3 2\n2 1\n3 3\n";
 
-/// The job of `cbgrid COMMAND a b`, with `command` from the command's word on.
+/// The job of `cbgrid COMMAND`, with `command` from the command's word on.
 fn job_of(rt: &HostRuntime, command: &str) -> Result<Job, JobFault> {
     let alloc = rt.alloc();
-    let Ok(line) = format!(in alloc; "cbgrid {command} a b") else {
+    let Ok(line) = format!(in alloc; "cbgrid {command}") else {
         return Err(JobFault::Memory);
     };
     let Ok(words) = words(alloc, line.as_str()) else {
@@ -37,7 +37,7 @@ fn job_of(rt: &HostRuntime, command: &str) -> Result<Job, JobFault> {
     Ok(job)
 }
 
-/// Runs a command over two texts. What the test itself can't make is `Memory`.
+/// Runs a command over texts. What the test itself can't make is `Memory`.
 pub fn run_into<K: Sink>(
     rt: &HostRuntime,
     command: &str,
@@ -71,7 +71,7 @@ fn answer(rt: &HostRuntime, command: &str, texts: &[&str]) -> Result<Vec<u8>, Jo
 }
 
 /// Whether a command writes just these bytes of some texts, on the grid of each side.
-fn writes_on_each_grid(rt: &HostRuntime, command: &str, texts: &[&str], wanted: &[u8]) -> bool {
+pub fn writes_on_each_grid(rt: &HostRuntime, command: &str, texts: &[&str], wanted: &[u8]) -> bool {
     for side in 1..=6 {
         let Ok(command) = format!(in rt.alloc(); "{command} --grid {side}") else {
             return false;
@@ -95,8 +95,15 @@ fn writes(rt: &HostRuntime, command: &str, first: &str, second: &str, lines: &st
 #[test]
 fn multiplies_two_by_two(rt: HostRuntime) -> Result<(), Fail> {
     let texts = [FIRST, SECOND];
-    assert!(rt; answer(&rt, "multiply", &texts)?.as_slice() == PRODUCT.as_bytes());
-    assert!(rt; writes_on_each_grid(&rt, "multiply --engine plain", &texts, PRODUCT.as_bytes()));
+    assert!(rt; answer(&rt, "multiply a b", &texts)?.as_slice() == PRODUCT.as_bytes());
+    assert!(rt;
+        writes_on_each_grid(
+            &rt,
+            "multiply a b --engine plain",
+            &texts,
+            PRODUCT.as_bytes()
+        )
+    );
     Ok(())
 }
 
@@ -112,84 +119,84 @@ struct Row {
 const ROWS: [Row; 12] = [
     Row {
         name: "empty",
-        command: "multiply",
+        command: "multiply a b",
         first: "0 0 0\n",
         second: "0 0 0\n",
         answer: "0 0 0\n",
     },
     Row {
         name: "huge and sparse",
-        command: "multiply",
+        command: "multiply a b",
         first: "2147483647 2147483647 1\n1 2147483647 7\n",
         second: "2147483647 2147483647 1\n2147483647 5 3\n",
         answer: "2147483647 2147483647 1\n1 5 21\n",
     },
     Row {
         name: "wraps to zero",
-        command: "multiply",
+        command: "multiply a b",
         first: "1 1 1\n1 1 4294967296\n",
         second: "1 1 1\n1 1 4294967296\n",
         answer: "1 1 0\n",
     },
     Row {
         name: "a sum that cancels",
-        command: "multiply",
+        command: "multiply a b",
         first: "1 2 2\n1 1 1\n1 2 -1\n",
         second: "2 1 2\n1 1 1\n2 1 1\n",
         answer: "1 1 0\n",
     },
     Row {
         name: "above the top of min-plus",
-        command: "multiply --semiring min-plus",
+        command: "multiply a b --semiring min-plus",
         first: "1 1 1\n1 1 18446744073709551614\n",
         second: "1 1 1\n1 1 1\n",
         answer: "1 1 0\n",
     },
     Row {
         name: "below the top of min-plus",
-        command: "multiply --semiring min-plus",
+        command: "multiply a b --semiring min-plus",
         first: "1 1 1\n1 1 18446744073709551614\n",
         second: "1 1 1\n1 1 0\n",
         answer: "1 1 1\n1 1 18446744073709551614\n",
     },
     Row {
         name: "a zero of a file in min-plus",
-        command: "multiply --semiring min-plus",
+        command: "multiply a b --semiring min-plus",
         first: "1 1 1\n1 1 0\n",
         second: "1 1 1\n1 1 0\n",
         answer: "1 1 1\n1 1 0\n",
     },
     Row {
         name: "a zero of a file in plus-times",
-        command: "multiply",
+        command: "multiply a b",
         first: "1 1 1\n1 1 0\n",
         second: "1 1 1\n1 1 0\n",
         answer: "1 1 0\n",
     },
     Row {
         name: "two by two in max-min",
-        command: "multiply --semiring max-min",
+        command: "multiply a b --semiring max-min",
         first: "2 2 3\n1 1 1\n1 2 2\n2 2 3\n",
         second: "2 2 2\n1 2 1\n2 1 4\n",
         answer: "2 2 3\n1 1 2\n2 1 3\n1 2 1\n",
     },
     Row {
         name: "the one of max-min",
-        command: "multiply --semiring max-min",
+        command: "multiply a b --semiring max-min",
         first: "1 1 1\n1 1 18446744073709551615\n",
         second: "1 1 1\n1 1 5\n",
         answer: "1 1 1\n1 1 5\n",
     },
     Row {
         name: "no rows",
-        command: "multiply",
+        command: "multiply a b",
         first: "0 3 0\n",
         second: "3 2 1\n1 1 5\n",
         answer: "0 2 0\n",
     },
     Row {
         name: "no inner places",
-        command: "multiply",
+        command: "multiply a b",
         first: "3 0 0\n",
         second: "0 2 0\n",
         answer: "3 2 0\n",
@@ -219,7 +226,7 @@ fn squares_an_untidy_file(rt: HostRuntime) -> Result<(), Fail> {
     let text =
         "%%MatrixMarket MATRIX Coordinate INTEGER General\r\n%\r\n\r\n3 3 3\r\n1 3 +5\r\n\t2 1 007\r\n3 2 -1";
     let lines = "3 3 3\n3 1 18446744073709551609\n1 2 18446744073709551611\n2 3 35\n";
-    assert!(rt; writes(&rt, "multiply", text, text, lines));
+    assert!(rt; writes(&rt, "multiply a b", text, text, lines));
     Ok(())
 }
 
@@ -227,7 +234,14 @@ fn squares_an_untidy_file(rt: HostRuntime) -> Result<(), Fail> {
 fn squares_a_symmetric_pattern(rt: HostRuntime) {
     let wanted = "%%MatrixMarket matrix coordinate pattern general\n3 3 3\n1 1\n2 2\n3 3\n";
     let texts = [PATTERN, PATTERN];
-    assert!(rt; writes_on_each_grid(&rt, "multiply --semiring or-and", &texts, wanted.as_bytes()));
+    assert!(rt;
+        writes_on_each_grid(
+            &rt,
+            "multiply a b --semiring or-and",
+            &texts,
+            wanted.as_bytes()
+        )
+    );
 }
 
 #[test]
@@ -240,7 +254,7 @@ fn keeps_what_a_mask_has(rt: HostRuntime) -> Result<(), Fail> {
         let mask = format!(in alloc; "{HEADER}{mask}")?;
         let wanted = format!(in alloc; "{HEADER}{wanted}")?;
         let texts = [FIRST, SECOND, mask.as_str()];
-        assert!(rt; writes_on_each_grid(&rt, "multiply --mask m", &texts, wanted.as_bytes()));
+        assert!(rt; writes_on_each_grid(&rt, "multiply a b --mask m", &texts, wanted.as_bytes()));
     }
     Ok(())
 }
@@ -249,7 +263,12 @@ fn keeps_what_a_mask_has(rt: HostRuntime) -> Result<(), Fail> {
 fn refuses_a_mask_of_another_shape(rt: HostRuntime) -> Result<(), Fail> {
     let mask = "%%MatrixMarket matrix coordinate integer general\n1 1 1\n1 1 1\n";
     let mut out = WriterSink::new(Vec::new(rt.alloc()));
-    let fault = run_into(&rt, "multiply --mask m", &[FIRST, SECOND, mask], &mut out);
+    let fault = run_into(
+        &rt,
+        "multiply a b --mask m",
+        &[FIRST, SECOND, mask],
+        &mut out,
+    );
     assert!(rt; fault == Err(JobFault::Script(ScriptFault::Shapes)));
     assert!(rt; out.into_inner().is_empty());
     Ok(())
@@ -259,7 +278,7 @@ fn refuses_a_mask_of_another_shape(rt: HostRuntime) -> Result<(), Fail> {
 fn squares_a_skew_symmetric_file(rt: HostRuntime) -> Result<(), Fail> {
     let text = "%%MatrixMarket matrix coordinate integer skew-symmetric\n2 2 1\n2 1 3\n";
     let lines = "2 2 2\n1 1 18446744073709551607\n2 2 18446744073709551607\n";
-    assert!(rt; writes(&rt, "multiply", text, text, lines));
+    assert!(rt; writes(&rt, "multiply a b", text, text, lines));
     let wanted = Err(JobFault::Read {
         which: 0,
         fault: ReadFault {
@@ -268,7 +287,12 @@ fn squares_a_skew_symmetric_file(rt: HostRuntime) -> Result<(), Fail> {
         },
     });
     let mut out = WriterSink::new(Vec::new(rt.alloc()));
-    let fault = run_into(&rt, "multiply --semiring min-plus", &[text, text], &mut out);
+    let fault = run_into(
+        &rt,
+        "multiply a b --semiring min-plus",
+        &[text, text],
+        &mut out,
+    );
     assert!(rt; fault == wanted);
     Ok(())
 }
@@ -278,7 +302,7 @@ fn refuses_shapes_that_do_not_agree(rt: HostRuntime) -> Result<(), Fail> {
     let text = "%%MatrixMarket matrix coordinate integer general\n2 3 0\n";
     let other = "%%MatrixMarket matrix coordinate integer general\n2 2 0\n";
     let mut out = WriterSink::new(Vec::new(rt.alloc()));
-    let fault = run_into(&rt, "multiply", &[text, other], &mut out);
+    let fault = run_into(&rt, "multiply a b", &[text, other], &mut out);
     assert!(rt; fault == Err(JobFault::Script(ScriptFault::Shapes)));
     assert!(rt; out.into_inner().is_empty());
     Ok(())
@@ -295,7 +319,7 @@ fn tells_the_first_text_that_is_no_matrix(rt: HostRuntime) -> Result<(), Fail> {
     ];
     for (first, second, which, line, kind) in wanted {
         let mut out = WriterSink::new(Vec::new(rt.alloc()));
-        let fault = run_into(&rt, "multiply", &[first, second], &mut out);
+        let fault = run_into(&rt, "multiply a b", &[first, second], &mut out);
         let read = JobFault::Read {
             which,
             fault: ReadFault { line, kind },

@@ -1,4 +1,4 @@
-use Rattle.std.proofs.Common.{rules, ℕ, ◌+◌, ◌-◌, ◌*◌, ◌++◌, length, length-append, [], ◌∷◌, ap, ◌∙◌, arith}
+use Rattle.std.proofs.Common.{rules, ℕ, ◌*◌, ◌++◌, length, length-append, [], ◌∷◌, ap, ◌∙◌, arith}
 use Rattle.cb_plan.specs.declared.acts.Act.{Act}
 use Rattle.cb_collectives.specs.Collectives.{sent}
 use Rattle.cb_distribution.specs.Distribution.{tagged}

@@ -1,0 +1,52 @@
+//! The transpose, and operations place by place, by `execute`.
+use crate::runs::JobFault;
+use crate::sinks::WriterSink;
+use crate::tests::products::{FIRST, HEADER, SECOND, run_into, writes_on_each_grid};
+use cb_scripts::ScriptFault;
+use std::test::Fail;
+
+/// Whether a command writes the header of integers and these lines, on the grid of each side.
+fn writes(rt: &HostRuntime, command: &str, texts: &[&str], lines: &str) -> bool {
+    match format!(in rt.alloc(); "{HEADER}{lines}") {
+        Ok(wanted) => writes_on_each_grid(rt, command, texts, wanted.as_bytes()),
+        Err(_) => false,
+    }
+}
+
+#[test]
+fn of_one_file(rt: HostRuntime) {
+    for (command, lines) in [
+        ("transpose a", "2 2 3\n1 1 1\n2 1 2\n2 2 3\n"),
+        ("prune a --test above --value 1", "2 2 1\n1 1 1\n"),
+        ("prune --test below --value 3 a", "2 2 1\n2 2 3\n"),
+        ("prune a --value=2 --test=equal", "2 2 2\n1 1 1\n2 2 3\n"),
+    ] {
+        assert!(rt; writes(&rt, command, &[FIRST], lines), "{command}");
+    }
+}
+
+#[test]
+fn of_two_files(rt: HostRuntime) {
+    for (command, lines) in [
+        ("add a b", "2 2 4\n1 1 1\n2 1 4\n1 2 3\n2 2 3\n"),
+        ("times a b", "2 2 1\n1 2 2\n"),
+        (
+            "add a b --semiring max-min",
+            "2 2 4\n1 1 1\n2 1 4\n1 2 2\n2 2 3\n",
+        ),
+    ] {
+        assert!(rt; writes(&rt, command, &[FIRST, SECOND], lines), "{command}");
+    }
+}
+
+#[test]
+fn refuse_shapes_that_differ(rt: HostRuntime) -> Result<(), Fail> {
+    let row = format!(in rt.alloc(); "{HEADER}1 2 0\n")?;
+    for command in ["add a b", "times a b"] {
+        let mut out = WriterSink::new(Vec::new(rt.alloc()));
+        let fault = run_into(&rt, command, &[FIRST, row.as_str()], &mut out);
+        assert!(rt; fault == Err(JobFault::Script(ScriptFault::Shapes)));
+        assert!(rt; out.into_inner().is_empty());
+    }
+    Ok(())
+}
