@@ -1,5 +1,5 @@
 -- What a job answers, and when it is refused.
-use Rattle.std.specs.Prelude.{ℕ, ◌≡◌, ◌<◌, List, length, slice_index_or}
+use Rattle.std.specs.Prelude.{ℕ, ◌≡◌, ◌<◌, ◌⊎◌, List, length, slice_index_or}
 use Rattle.cb_semirings.specs.Arithmetic.{Arithmetic}
 use Rattle.cb_matrix.specs.Sparse.{Sparse}
 use Rattle.cb_matrix.specs.Values.{empty_matrix, product, product_shape}
@@ -91,7 +91,11 @@ abbrev pub IsAnswer : Operation → SemiringName → List (List ℕ) → List �
 IsAnswer operation semiring texts answer = IsAnswerOver operation (arithmetic_of semiring) texts answer
 
 abbrev pub IsFault : Operation → SemiringName → List (List ℕ) → JobFault → Type 0
-IsFault operation semiring texts fault = IsFaultOver operation (arithmetic_of semiring) texts fault
+IsFault operation semiring texts = IsFaultOver operation (arithmetic_of semiring) texts
+
+-- why an answer that there is has not gone out whole
+abbrev pub IsUnwritten : JobFault → Type 0
+IsUnwritten fault = (fault ≡ Memory) ⊎ (fault ≡ Output)
 
 -- 6 for want of memory, else 4 for a text that is no matrix
 abbrev pub read_status_of : Kind → ℕ

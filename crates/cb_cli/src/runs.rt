@@ -9,11 +9,16 @@ ghost use Rattle.cb_cli.specs.Answers.{IsMatrixText, IsReadFault, IsLateFault, A
 ghost use Rattle.cb_cli.specs.Files.{bytes_of, text_at};
 
 use crate::jobs::{Job, Operation};
+use crate::pages::put_text;
 use crate::semirings::SemiringName;
-use crate::sinks::{Sink, put_all};
-use cb_market::{Kind, ReadFault, read, text};
+use crate::sinks::Sink;
+use cb_layout::DistributedMatrix;
+use cb_market::{Kind, ReadFault, read};
 use cb_matrix::Matrix;
-use cb_scripts::{ScriptFault, add, multiply, multiply_masked, prune, times, transpose};
+use cb_scripts::{
+    ScriptFault, add_distributed, multiply_distributed, multiply_masked_distributed,
+    prune_distributed, times_distributed, transpose_distributed,
+};
 use cb_semirings::{MaxMin, MinPlus, OrAnd, PlusTimes, Semiring};
 use std::alloc::{AllocError, Global};
 use thiserror::Error;
@@ -71,53 +76,53 @@ fn read_text<S: Semiring>(
     }
 }
 
-/// What the operation of a job makes of its matrices.
+/// What the operation of a job makes of its matrices, on the job's grid.
 fn computed<S: Semiring>(
     alloc: Global,
     job: &Job,
     operands: &[Matrix<S>],
-) -> Result<Matrix<S>, ScriptFault>
+) -> Result<DistributedMatrix<S>, ScriptFault>
     requires { length operands.now ≡ file_count_of job.now.operation }
-    ensures ok { IfOk result (λ m. m ≡ answer_of job.now.operation S.arithmetic operands.now) }
+    ensures ok { IfOk result (λ m. m.matrix ≡ answer_of job.now.operation S.arithmetic operands.now) }
     ensures agree { IfOk result (λ m. Agree job.now.operation operands.now) }
     ensures fault { IfErr result (IsRefusal job.now.operation operands.now) }
 {
     let (engine, grid, first) = (job.engine, &job.grid, &operands[0]);
     match job.operation {
-        Operation::Multiply => multiply(alloc, engine, grid, first, &operands[1]),
+        Operation::Multiply => multiply_distributed(alloc, engine, grid, first, &operands[1]),
         Operation::MultiplyMasked => {
-            multiply_masked(alloc, engine, grid, first, &operands[1], &operands[2])
+            multiply_masked_distributed(alloc, engine, grid, first, &operands[1], &operands[2])
         }
-        Operation::Transpose => transpose(alloc, engine, grid, first),
-        Operation::Add => add(alloc, engine, grid, first, &operands[1]),
-        Operation::Times => times(alloc, engine, grid, first, &operands[1]),
-        Operation::Prune(test) => prune(alloc, engine, grid, first, test),
+        Operation::Transpose => transpose_distributed(alloc, engine, grid, first),
+        Operation::Add => add_distributed(alloc, engine, grid, first, &operands[1]),
+        Operation::Times => times_distributed(alloc, engine, grid, first, &operands[1]),
+        Operation::Prune(test) => prune_distributed(alloc, engine, grid, first, test),
     }
 }
 
-/// The text of what the operation of a job makes of its matrices.
+/// The same, or the fault of the job.
 fn answer<S: Semiring>(
     alloc: Global,
     job: &Job,
     operands: &[Matrix<S>],
-) -> Result<Vec<u8>, JobFault>
+) -> Result<DistributedMatrix<S>, JobFault>
     requires { length operands.now ≡ file_count_of job.now.operation }
-    ensures ok { IfOk result (λ v. v.items ≡ text_of S.arithmetic (answer_of job.now.operation S.arithmetic operands.now)) }
-    ensures agree { IfOk result (λ v. Agree job.now.operation operands.now) }
+    ensures ok { IfOk result (λ m. m.matrix ≡ answer_of job.now.operation S.arithmetic operands.now) }
+    ensures agree { IfOk result (λ m. Agree job.now.operation operands.now) }
     ensures fault { IfErr result (IsLateFault job.now.operation operands.now) }
 {
     let answer = computed(alloc, job, operands)?;
-    Ok(text(alloc, &answer)?)
+    Ok(answer)
 }
 
-/// The text of the answer of a job over a semiring.
+/// The answer of a job over a semiring, on the job's grid.
 fn answer_over<S: Semiring>(
     alloc: Global,
     job: &Job,
     texts: &[Vec<u8>],
-) -> Result<Vec<u8>, JobFault>
+) -> Result<DistributedMatrix<S>, JobFault>
     requires { length texts.now ≡ vec_len job.now.files }
-    ensures ok { IfOk result (λ v. IsAnswerOver job.now.operation S.arithmetic (bytes_of texts.now) v.items) }
+    ensures ok { IfOk result (λ m. IsAnswerOver job.now.operation S.arithmetic (bytes_of texts.now) (text_of S.arithmetic m.matrix)) }
     ensures fault { IfErr result (IsFaultOver job.now.operation S.arithmetic (bytes_of texts.now)) }
     ensures unwritten { IfErr result (λ f. f ≢ JobFault.Output) }
 {
@@ -133,24 +138,28 @@ fn answer_over<S: Semiring>(
     answer(alloc, job, &[first, second, third])
 }
 
-/// The text of the answer of a job.
-fn answer_text(alloc: Global, job: &Job, texts: &[Vec<u8>]) -> Result<Vec<u8>, JobFault>
-    requires { length texts.now ≡ vec_len job.now.files }
-    ensures ok { IfOk result (λ v. IsAnswer job.now.operation job.now.semiring (bytes_of texts.now) v.items) }
-    ensures fault { IfErr result (IsFault job.now.operation job.now.semiring (bytes_of texts.now)) }
-    ensures unwritten { IfErr result (λ f. f ≢ JobFault.Output) }
+/// Writes the answer of a job over a semiring.
+fn execute_over<S: Semiring, K: Sink>(
+    alloc: Global,
+    job: &Job,
+    texts: &[Vec<u8>],
+    out: &mut K,
+) -> Result<(), JobFault>
+    requires texts { length texts.now ≡ vec_len job.now.files }
+    requires works { K.has_failed out.old ≡ false }
+    ensures whole { OnOk result ((t : List ℕ) × IsAnswerOver job.now.operation S.arithmetic (bytes_of texts.now) t × Appends (K.written out.old) (K.written out.new) t) }
+    ensures fault { IfErr result (IsFaultOver job.now.operation S.arithmetic (bytes_of texts.now)) }
+    ensures nothing { IfErr result (λ f. f ≢ JobFault.Output → Keeps (K.written out.old) (K.written out.new)) }
+    ensures output { IsErrOf result JobFault.Output → (t : List ℕ) × IsAnswerOver job.now.operation S.arithmetic (bytes_of texts.now) t × AppendsPrefix (K.written out.old) (K.written out.new) t }
+    ensures failed { IsErrOf result JobFault.Output ↔ (K.has_failed out.new ≡ true) }
 {
-    match job.semiring {
-        SemiringName::PlusTimes => answer_over::<PlusTimes>(alloc, job, texts),
-        SemiringName::MinPlus => answer_over::<MinPlus>(alloc, job, texts),
-        SemiringName::OrAnd => answer_over::<OrAnd>(alloc, job, texts),
-        SemiringName::MaxMin => answer_over::<MaxMin>(alloc, job, texts),
-    }
+    let answer = answer_over::<S>(alloc, job, texts)?;
+    put_text(alloc, &answer, out)
 }
 
-/// Reads the texts of a job's files, in the job's order, and writes the text of its answer. The whole
-/// text is made first: a fault other than `Output` has written nothing. At `Output` a beginning of
-/// the text has gone out, and the sink has failed; it has failed in no other case.
+/// Reads the texts of a job's files, in the job's order, and writes the text of its answer, page by page. All memory
+/// is taken before the first byte goes out: a fault other than `Output` has written nothing. At `Output` a beginning
+/// of the text has gone out, and the sink has failed; it has failed in no other case.
 ///
 /// The faults come in their order: the first text that is no matrix, then shapes that don't agree,
 /// then want of memory, then `Output`. Costs the reading, the operation and the writing.
@@ -168,10 +177,11 @@ pub fn execute<K: Sink>(
     ensures output { IsErrOf result JobFault.Output → (t : List ℕ) × IsAnswer job.now.operation job.now.semiring (bytes_of texts.now) t × AppendsPrefix (K.written out.old) (K.written out.new) t }
     ensures failed { IsErrOf result JobFault.Output ↔ (K.has_failed out.new ≡ true) }
 {
-    let text = answer_text(alloc, job, texts)?;
-    match put_all(out, text.as_slice()) {
-        Ok(()) => Ok(()),
-        Err(_) => Err(JobFault::Output),
+    match job.semiring {
+        SemiringName::PlusTimes => execute_over::<PlusTimes, K>(alloc, job, texts, out),
+        SemiringName::MinPlus => execute_over::<MinPlus, K>(alloc, job, texts, out),
+        SemiringName::OrAnd => execute_over::<OrAnd, K>(alloc, job, texts, out),
+        SemiringName::MaxMin => execute_over::<MaxMin, K>(alloc, job, texts, out),
     }
 }
 

@@ -2,5 +2,6 @@
 mod endings;
 mod lines;
 mod operations;
+mod pages;
 mod products;
 mod sinks;

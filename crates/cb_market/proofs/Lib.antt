@@ -8,5 +8,8 @@ pub mod Law
 pub mod Decimals
 pub mod Again
 pub mod Whole
+pub mod Digits
+pub mod Segments
+pub mod WrittenBytes
 mod Plain
 mod NextEntries

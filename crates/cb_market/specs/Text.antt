@@ -1,8 +1,8 @@
 -- The text of a matrix.
-use Rattle.std.specs.Prelude.{ℕ, ◌+◌, Bool, true, false, List, [], ◌∷◌, ◌++◌, flat_map, length, codes, decimal}
+use Rattle.std.specs.Prelude.{ℕ, ◌+◌, Bool, true, false, List, [], ◌∷◌, ◌++◌, if◌then◌else◌, flat_map, length, codes, decimal}
 use Rattle.cb_semirings.specs.Arithmetic.{Arithmetic}
 use Rattle.cb_matrix.specs.declared.Entry.{Entry}
-use Rattle.cb_matrix.specs.Sparse.{Sparse}
+use Rattle.cb_matrix.specs.Sparse.{Extent, Sparse}
 use Rattle.cb_market.specs.declared.writing.Line.{Line}
 use Rattle.cb_market.specs.declared.writing.Line.TheVariants.{Place, PlaceAndValue, RowAndValue}
 
@@ -25,9 +25,23 @@ header_line false = codes "%%MatrixMarket matrix coordinate integer general" ++ 
 abbrev pub size_line : Sparse → List ℕ
 size_line m = number_line (m.shape.rows ∷ m.shape.cols ∷ length m.entries ∷ [])
 
+-- the header, and the size line of a matrix of a shape with so many entries
+abbrev pub head_of : Bool → Extent → ℕ → List ℕ
+head_of is_pattern shape count = header_line is_pattern ++ number_line (shape.rows ∷ shape.cols ∷ count ∷ [])
+
 -- the header, the size and the entries, a line each
 unfoldable pub text_of : Arithmetic → Sparse → List ℕ
 text_of s m = header_line s.writes_pattern ++ size_line m ++ flat_map (entry_line s.writes_pattern) m.entries
+
+-- what is left of a text: the header and the size line, or not; and the lines of some entries
+abbrev pub text_left : Arithmetic → Bool → Extent → ℕ → List Entry → List ℕ
+text_left s has_head shape count entries =
+    (if has_head then head_of s.writes_pattern shape count else []) ++ flat_map (entry_line s.writes_pattern) entries
+
+-- the line of an entry, by its row counted from 1, the digits of its column, and its value
+abbrev pub line_with : Bool → ℕ → List ℕ → ℕ → List ℕ
+line_with true row column value = decimal row ++ 32 ∷ (column ++ 10 ∷ [])
+line_with false row column value = decimal row ++ 32 ∷ (column ++ 32 ∷ (decimal value ++ 10 ∷ []))
 
 -- the line of a vertex: its number, counted from 1, and its value
 abbrev pub vertex_line : Entry → List ℕ

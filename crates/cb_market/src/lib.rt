@@ -94,10 +94,13 @@ mod plain_lines;
 mod reading;
 mod scanner;
 mod size;
+mod text_pages;
 mod words;
 mod writing;
 
+pub use pages::Page;
 pub use reading::read;
+pub use text_pages::TextPages;
 pub use writing::{text, vertex_text};
 
 #[cfg(test)]

@@ -1,64 +1,135 @@
-//! Lines of numbers, made from the last byte to the first.
-ghost use Rattle.std.specs.Prelude.{◌≡◌, ◌+◌, ◌≤◌, [], ◌∷◌, ◌++◌, length, decimal};
+//! Pages: bytes of a text, written one after the other until there is no room for a line more.
+ghost use Rattle.std.specs.Prelude.{◌≡◌, ◌↔◌, ◌+◌, ◌<◌, ◌≤◌, [], ◌∷◌, ◌++◌, length, take, decimal, IfOk, IsTrue};
 
 use itoa::write_digits;
+use std::alloc::{AllocError, Global};
 use std::marker::Model;
 
 /// How many bytes a page holds.
-pub(crate) const SIZE: usize = 16_128;
+pub(crate) const SIZE: usize = 65_536;
 
-/// Bytes that are written in front of one another, since the digits of a number are found from its last
-/// to its first. They stand at the end of the page.
+/// How many bytes a line of three numbers may have: at most 20 digits each, and a byte after each.
+pub(crate) const LINE: usize = 63;
+
+/// Bytes of a text, at most 65,536. In contracts it is these bytes.
 #[derive(Drop)]
-pub(crate) struct Page {
-    bytes: [u8; SIZE],
-    start: usize,
+pub struct Page {
+    /// As many as a page holds, of which the first `end` are written.
+    bytes: Vec<u8>,
+    end: usize,
 }
 
 impl Model for Page {
-    ghost use Rattle.std.specs.Prelude.{ℕ, ◌≤◌, List, drop};
+    ghost use Rattle.std.specs.Prelude.{◌≡◌, ℕ, ◌≤◌, List, take, length};
     ghost use Rattle.cb_market.specs.declared.pages.TheConstants.{SIZE};
 
     ghost Value = { List ℕ };
 
-    ghost view = { λ p. drop p.start p.bytes };
+    ghost view = { λ p. take p.end p.bytes.items };
 
-    ghost invariant = { λ p. p.start ≤ SIZE };
+    ghost invariant = { λ p. (length p.bytes.items ≡ SIZE) × (p.end ≤ SIZE) };
 }
 
 impl Page {
-    /// A page without bytes.
-    pub fn new() -> Page
-        ensures { result ≡ [] }
+    /// A page without bytes. Nothing that is written on it later takes memory.
+    pub fn new(alloc: Global) -> Result<Page, AllocError>
+        ensures { IfOk result (λ page. page ≡ []) }
     {
-        Page {
-            bytes: [0; SIZE],
-            start: SIZE,
-        }
+        let bytes = vec![in alloc; 0; SIZE]?;
+        Ok(Page { bytes, end: 0 })
     }
 
     /// Forgets what was written.
     pub fn clear(&mut self)
         ensures { self.new ≡ [] }
     {
-        self.start = SIZE;
-    }
-
-    /// Writes a number and a byte after it, in front of what was written. They have at most 21 bytes.
-    pub fn put(&mut self, number: u64, end: u8)
-        requires room { length self.old + 21 ≤ SIZE }
-        ensures written { self.new ≡ decimal number ++ end ∷ self.old }
-        ensures length { length self.new ≤ length self.old + 21 }
-    {
-        let last = self.start - 1;
-        self.bytes[last] = end;
-        self.start = write_digits(number, &mut self.bytes, last);
+        self.end = 0;
     }
 
     /// What was written.
     pub fn written(&self) -> &[u8]
         ensures { result.now ≡ self.now }
     {
-        &self.bytes[self.start..]
+        &self.bytes[..self.end]
+    }
+
+    /// Whether there is room for a line of numbers.
+    pub(crate) fn has_room(&self) -> bool
+        ensures { IsTrue result ↔ (length self.now + LINE ≤ SIZE) }
+    {
+        self.end + LINE <= SIZE
+    }
+
+    /// Writes a number and a byte after it. They have at most 21 bytes.
+    pub(crate) fn put(&mut self, number: u64, after: u8)
+        requires room { length self.old + 21 ≤ SIZE }
+        ensures written { self.new ≡ self.old ++ decimal number ++ after ∷ [] }
+        ensures length { length self.new ≤ length self.old + 21 }
+    {
+        self.end = put_number(&mut self.bytes, self.end, number, after);
+    }
+
+    /// Writes some bytes and a byte after them.
+    pub(crate) fn append(&mut self, bytes: &[u8], after: u8)
+        requires { length self.old + length bytes.now < SIZE }
+        ensures { self.new ≡ self.old ++ bytes.now ++ after ∷ [] }
+    {
+        self.end = put_bytes(&mut self.bytes, self.end, bytes, after);
+    }
+}
+
+/// Writes a number and a byte after it from a place on, and answers the place after them.
+fn put_number(buffer: &mut [u8], at: usize, number: u64, after: u8) -> usize
+    requires { at + 21 ≤ length buffer.old }
+    ensures end { result ≡ at + length (decimal number) + 1 }
+    ensures written { take result buffer.new ≡ take at buffer.old ++ decimal number ++ after ∷ [] }
+    ensures limit { result ≤ at + 21 }
+{
+    let end = at + digits(number);
+    write_digits(number, buffer, end);
+    buffer[end] = after;
+    end + 1
+}
+
+/// Writes some bytes and a byte after them from a place on, and answers the place after them.
+fn put_bytes(buffer: &mut [u8], at: usize, bytes: &[u8], after: u8) -> usize
+    requires { at + length bytes.now < length buffer.old }
+    ensures end { result ≡ at + length bytes.now + 1 }
+    ensures written { take result buffer.new ≡ take at buffer.old ++ bytes.now ++ after ∷ [] }
+{
+    let end = at + bytes.len();
+    buffer[at..end].copy_from_slice(bytes);
+    buffer[end] = after;
+    end + 1
+}
+
+/// How many digits a number has. Most have few, so they are counted by fours.
+pub(crate) fn digits(number: u64) -> usize
+    ensures value { result ≡ length (decimal number) }
+    ensures limit { result ≤ 20 }
+{
+    let mut left = number;
+    let mut count = 0;
+    while left >= 10_000 {
+        left /= 10_000;
+        count += 4;
+    }
+    count + short_digits(left)
+}
+
+/// How many digits a number of at most four has.
+#[tactic(auto, using(crate::proofs::Digits::one_digit, crate::proofs::Digits::two_digits, crate::proofs::Digits::three_digits, crate::proofs::Digits::four_digits))]
+fn short_digits(number: u64) -> usize
+    requires { number < 10000 }
+    ensures { result ≡ length (decimal number) }
+{
+    if number < 10 {
+        1
+    } else if number < 100 {
+        2
+    } else if number < 1000 {
+        3
+    } else {
+        4
     }
 }

@@ -6,6 +6,7 @@ use std::alloc::Global;
 mod faults;
 mod matrices;
 mod memory;
+mod pages;
 
 /// The text of the matrix that a text reads as.
 fn again<S: Semiring>(alloc: Global, given: &[u8]) -> Result<Vec<u8>, ReadFault> {

@@ -1,17 +1,15 @@
-//! Writing a text. The lines of some entries are made on a page, the last one first, and then appended.
+//! Writing a text. The lines of some entries are made on a page, and then appended.
 ghost use Rattle.std.specs.Prelude.{◌≡◌, ◌+◌, ◌≤◌, ◌++◌, IfOk, OnOk, [], ◌∷◌, length, decimal, flat_map};
 ghost use Rattle.cb_market.specs.Reads.{Reads};
-ghost use Rattle.cb_market.specs.Text.{text_of, entry_line, header_line, number_line, vertex_text_of, line_of};
+ghost use Rattle.cb_market.specs.Text.{text_of, entry_line, head_of, vertex_text_of, line_of};
 
-use crate::pages::{Page, SIZE};
+use crate::pages::{LINE, Page, SIZE, digits};
 use cb_matrix::{Entry, LIMIT, Matrix, Shape};
 use cb_semirings::{MinPlus, Semiring};
-use itoa::Buffer;
 use std::alloc::{AllocError, Global};
 
-/// How many lines go to a text at once. A page has room for as many: three numbers of at most 20 digits
-/// each, and a byte after each.
-const LINES: usize = 256;
+/// How many lines go to a text at once. A page has room for as many.
+const LINES: usize = 1_024;
 
 /// Which numbers of an entry its line has. Rows and columns are counted from 1.
 #[derive(Clone, Copy)]
@@ -37,41 +35,33 @@ impl Line {
     }
 }
 
-/// How many digits a number has.
-fn digits(number: u32) -> usize
-    ensures value { result ≡ length (decimal number) }
-    ensures limit { result ≤ 40 }
-{
-    Buffer::new().format(number).len()
-}
-
 /// An empty text, with room for a header, and for as many entries of two-digit values in the last row
 /// and column.
 fn text_of_lines(alloc: Global, shape: Shape, lines: usize) -> Result<Vec<u8>, AllocError>
     ensures { IfOk result (λ text. text.items ≡ []) }
 {
-    let line = digits(shape.rows()) + digits(shape.cols()) + 5;
+    let line = digits(shape.rows().into()) + digits(shape.cols().into()) + 5;
     Vec::with_capacity(alloc, lines.saturating_mul(line).saturating_add(80))
 }
 
-/// Puts the line of an entry in front of the lines of a page.
+/// Writes the line of an entry.
 fn put_line(page: &mut Page, line: Line, entry: Entry)
-    requires room { length page.old + 63 ≤ SIZE }
-    ensures written { page.new ≡ line_of line entry ++ page.old }
-    ensures length { length page.new ≤ length page.old + 63 }
+    requires room { length page.old + LINE ≤ SIZE }
+    ensures written { page.new ≡ page.old ++ line_of line entry }
+    ensures length { length page.new ≤ length page.old + LINE }
 {
+    page.put(entry.row as u64 + 1, b' ');
     match line {
         Line::Place => page.put(entry.column as u64 + 1, b'\n'),
         Line::PlaceAndValue => {
-            page.put(entry.value, b'\n');
             page.put(entry.column as u64 + 1, b' ');
+            page.put(entry.value, b'\n');
         }
         Line::RowAndValue => page.put(entry.value, b'\n'),
     }
-    page.put(entry.row as u64 + 1, b' ');
 }
 
-/// Appends the lines of at most 256 entries, which are made in the page from the last to the first.
+/// Appends the lines of at most 1,024 entries, which are made on the page.
 fn put_page(
     text: &mut Vec<u8>,
     page: &mut Page,
@@ -82,8 +72,8 @@ fn put_page(
     ensures { OnOk result (text.new.items ≡ text.old.items ++ flat_map (line_of line) entries.now) }
 {
     page.clear();
-    for index in (0..entries.len()).rev() {
-        put_line(page, line, entries[index]);
+    for entry in entries {
+        put_line(page, line, *entry);
     }
     text.extend_from_slice(page.written())
 }
@@ -103,31 +93,19 @@ fn put_lines(
     Ok(())
 }
 
-/// Appends the header of a text.
-fn put_header(text: &mut Vec<u8>, is_pattern: bool) -> Result<(), AllocError>
-    ensures { OnOk result (text.new.items ≡ text.old.items ++ header_line is_pattern) }
+/// Writes the header, and the size line: how many rows, columns and entries there are.
+pub(crate) fn put_head(page: &mut Page, is_pattern: bool, shape: Shape, entries: usize)
+    requires { page.old ≡ [] }
+    ensures { page.new ≡ head_of is_pattern shape entries }
 {
     if is_pattern {
-        text.extend_from_slice(b"%%MatrixMarket matrix coordinate pattern general\n")
+        page.append(b"%%MatrixMarket matrix coordinate pattern general", b'\n');
     } else {
-        text.extend_from_slice(b"%%MatrixMarket matrix coordinate integer general\n")
+        page.append(b"%%MatrixMarket matrix coordinate integer general", b'\n');
     }
-}
-
-/// Appends the size line: how many rows, columns and entries there are.
-fn put_size(
-    text: &mut Vec<u8>,
-    page: &mut Page,
-    shape: Shape,
-    entries: usize,
-) -> Result<(), AllocError>
-    ensures { OnOk result (text.new.items ≡ text.old.items ++ number_line (shape.rows ∷ shape.cols ∷ entries ∷ [])) }
-{
-    page.clear();
-    page.put(entries as u64, b'\n');
-    page.put(shape.cols() as u64, b' ');
     page.put(shape.rows() as u64, b' ');
-    text.extend_from_slice(page.written())
+    page.put(shape.cols() as u64, b' ');
+    page.put(entries as u64, b'\n');
 }
 
 /// The text of a matrix: a header, a size line, and a line for each entry by column and then by row.
@@ -139,9 +117,9 @@ pub fn text<S: Semiring>(alloc: Global, matrix: &Matrix<S>) -> Result<Vec<u8>, A
     let shape = matrix.shape();
     let is_pattern = S::writes_pattern();
     let mut text = text_of_lines(alloc, shape, matrix.len())?;
-    put_header(&mut text, is_pattern)?;
-    let mut page = Page::new();
-    put_size(&mut text, &mut page, shape, matrix.len())?;
+    let mut page = Page::new(alloc)?;
+    put_head(&mut page, is_pattern, shape, matrix.len());
+    text.extend_from_slice(page.written())?;
     let line = Line::of_entry(is_pattern);
     put_lines(&mut text, &mut page, line, matrix.entries())?;
     Ok(text)
@@ -154,7 +132,7 @@ pub fn vertex_text(alloc: Global, vector: &Matrix<MinPlus>) -> Result<Vec<u8>, A
     ensures { IfOk result (λ bytes. bytes.items ≡ vertex_text_of vector.now) }
 {
     let mut text = text_of_lines(alloc, vector.shape(), vector.len())?;
-    let mut page = Page::new();
+    let mut page = Page::new(alloc)?;
     put_lines(&mut text, &mut page, Line::RowAndValue, vector.entries())?;
     Ok(text)
 }

@@ -9,6 +9,7 @@ use Rattle.cb_matrix.specs.Sparse.{Sparse, Extent, IsMatrix}
 use Rattle.cb_matrix.specs.Values.{empty_matrix}
 use Rattle.cb_layout.specs.Parts.{part_shape}
 use Rattle.cb_layout.specs.Blocks.{block_at, block_of, glued}
+use Rattle.cb_layout.specs.Distributed.{Distributed}
 use Rattle.cb_layout.proofs.Parts.{rank_of, row_below, rank_below}
 use Rattle.cb_layout.proofs.Cuts.{glued_cut}
 use Rattle.cb_plan.specs.declared.stores.Slot.{Slot}
@@ -16,6 +17,10 @@ use Rattle.cb_plan.specs.declared.stores.Slot.TheVariants as slot_is
 use Rattle.cb_plan.specs.Meaning.{State, one}
 use Rattle.cb_plan.specs.Stores.{state_of, sheet_of}
 use Rattle.cb_scripts.specs.Answers.{HasShapes, block_or, gathered}
+
+-- a matrix over the grid of a side
+abbrev pub over_grid : ℕ → Sparse → Distributed
+over_grid q m = record { side = q; matrix = m }
 
 some_there : (x : Option Sparse) (e : Extent) → one (λ (m : Sparse). m.shape) x ≡ Some e → IsSome x
 some_there (Some m) e h = refl

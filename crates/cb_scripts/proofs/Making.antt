@@ -1,5 +1,5 @@
 -- What a plan makes of the matrices whose blocks stand in slots of the ranks.
-use Rattle.std.proofs.Common.{◌≡◌, ℕ, false, List, sym, subst, ◌∙◌, arith}
+use Rattle.std.proofs.Common.{◌≡◌, ℕ, false, List, sym, ap, subst, ◌∙◌, arith}
 use Rattle.std.specs.Prelude.{not, ◌==◌, ◌&&◌, Result, Ok, Err, IfOk}
 use Rattle.std.proofs.lemmas.Bool.Decides.{nat_tests}
 use Rattle.cb_semirings.specs.Arithmetic.{Arithmetic, IsSemiring}
@@ -9,11 +9,12 @@ use Rattle.cb_plan.specs.declared.stores.Slot.{Slot}
 use Rattle.cb_plan.specs.Algebras.{matrices}
 use Rattle.cb_plan.specs.Meaning.{meaning}
 use Rattle.cb_plan.specs.Stores.{state_of, Fits}
+use Rattle.cb_layout.specs.Distributed.{Distributed}
 use Rattle.cb_distribution.specs.Distribution.{HasParts}
 use Rattle.cb_scripts.specs.Slots.{HasOperands}
 use Rattle.cb_scripts.specs.Answers.{HasShapes, Makes, gathered}
 use Rattle.cb_scripts.proofs.Holdings.{operands_fit}
-use Rattle.cb_scripts.proofs.GatheredParts.{shapes_of_parts, gathered_parts}
+use Rattle.cb_scripts.proofs.GatheredParts.{shapes_of_parts, gathered_parts, over_grid}
 
 -- shapes that a test found equal are
 pub found_equal : (d e a b : Extent) → d ≡ a → e ≡ b → false ≡ not ((d.rows == e.rows) && (d.cols == e.cols)) → a ≡ b
@@ -44,8 +45,8 @@ module _ (s : Arithmetic) (q : ℕ) (operands : List (ℕ × Sparse)) (planned :
       subst (λ (d : Extent). gathered s q d planned.result (meaning (matrices s) planned.plan.acts (state_of stores)) ≡ answer) makes.shaped
       (gathered_parts s q answer planned.result (meaning (matrices s) planned.plan.acts (state_of stores)) (makes.parts stores has) laws has.some makes.matrix)
 
--- so a matrix that is gathered from them is whichever answer the plan makes
-pub whichever_made : {E : Type 0} (s : Arithmetic) → IsSemiring s → (q : ℕ) (operands : List (ℕ × Sparse)) (planned : Planned) (shape : Extent) (stores : List (List (Slot Sparse))) → HasOperands s q operands stores → (r : Result Sparse E) →
-    IfOk r (λ m. m ≡ gathered s q shape planned.result (meaning (matrices s) planned.plan.acts (state_of stores))) → IfOk r (λ m. (answer : Sparse) → Makes s q operands planned shape answer → m ≡ answer)
-whichever_made s laws q operands planned shape stores has (Ok m) h = λ answer makes. h ∙ made_answer s q operands planned shape answer makes stores has laws
+-- so the matrix that they are over the grid is whichever answer the plan makes
+pub whichever_made : {E : Type 0} (s : Arithmetic) → IsSemiring s → (q : ℕ) (operands : List (ℕ × Sparse)) (planned : Planned) (shape : Extent) (stores : List (List (Slot Sparse))) → HasOperands s q operands stores → (r : Result Distributed E) →
+    IfOk r (λ m. m ≡ over_grid q (gathered s q shape planned.result (meaning (matrices s) planned.plan.acts (state_of stores)))) → IfOk r (λ m. (answer : Sparse) → Makes s q operands planned shape answer → m ≡ over_grid q answer)
+whichever_made s laws q operands planned shape stores has (Ok m) h = λ answer makes. h ∙ ap (over_grid q) (made_answer s q operands planned shape answer makes stores has laws)
 whichever_made s laws q operands planned shape stores has (Err e) h = h

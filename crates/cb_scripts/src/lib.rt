@@ -1,7 +1,8 @@
 //! Operations on whole matrices, computed over a grid of ranks.
 //!
 //! A script scatters its operands over the grid, runs a checked plan over the ranks' slots, and gathers the
-//! blocks of the answer. The answer is the same on every grid.
+//! blocks of the answer. The answer is the same on every grid. The calls named `.._distributed` leave it in the
+//! blocks, for who needs no whole matrix.
 #![tactic(auto)]
 
 ghost use Rattle.std.specs.Prelude.{◌≡◌};
@@ -15,11 +16,11 @@ mod stores;
 mod tests;
 mod transposes;
 
-pub use placewise::{add, prune, times};
-pub use products::{multiply, multiply_masked};
+pub use placewise::{add, add_distributed, prune, prune_distributed, times, times_distributed};
+pub use products::{multiply, multiply_distributed, multiply_masked, multiply_masked_distributed};
 use std::alloc::AllocError;
 use thiserror::Error;
-pub use transposes::transpose;
+pub use transposes::{transpose, transpose_distributed};
 
 /// What runs a plan.
 #[derive(Clone, Copy, Debug, PartialEq, Eq)]

@@ -8,7 +8,7 @@ use crate::runs::compute;
 use crate::{Engine, ScriptFault};
 use cb_elementwise::Test;
 use cb_kernels::{LEFT, RIGHT, grid_add, grid_prune, grid_times};
-use cb_layout::Grid;
+use cb_layout::{DistributedMatrix, Grid};
 use cb_matrix::Matrix;
 use cb_semirings::Semiring;
 use std::alloc::Global;
@@ -24,6 +24,22 @@ pub fn add<S: Semiring>(
     right: &Matrix<S>,
 ) -> Result<Matrix<S>, ScriptFault>
     ensures ok { IfOk result (λ m. m ≡ sum_of S.arithmetic left.now right.now) }
+    ensures agree { IfOk result (λ m. left.now.shape ≡ right.now.shape) }
+    ensures fault { IfErr result (IsPlacewiseRefusal left.now right.now) }
+{
+    let answer = add_distributed(alloc, engine, grid, left, right)?;
+    Ok(answer.gather(alloc)?)
+}
+
+/// The sum of two matrices, left in the blocks of the grid. All else is as in [`add`].
+pub fn add_distributed<S: Semiring>(
+    alloc: Global,
+    engine: Engine,
+    grid: &Grid,
+    left: &Matrix<S>,
+    right: &Matrix<S>,
+) -> Result<DistributedMatrix<S>, ScriptFault>
+    ensures ok { IfOk result (λ m. m ≡ record { side = grid.now.side; matrix = sum_of S.arithmetic left.now right.now }) }
     ensures agree { IfOk result (λ m. left.now.shape ≡ right.now.shape) }
     ensures fault { IfErr result (IsPlacewiseRefusal left.now right.now) }
 {
@@ -53,6 +69,22 @@ pub fn times<S: Semiring>(
     ensures agree { IfOk result (λ m. left.now.shape ≡ right.now.shape) }
     ensures fault { IfErr result (IsPlacewiseRefusal left.now right.now) }
 {
+    let answer = times_distributed(alloc, engine, grid, left, right)?;
+    Ok(answer.gather(alloc)?)
+}
+
+/// The product of two matrices, place by place, left in the blocks of the grid. All else is as in [`times`].
+pub fn times_distributed<S: Semiring>(
+    alloc: Global,
+    engine: Engine,
+    grid: &Grid,
+    left: &Matrix<S>,
+    right: &Matrix<S>,
+) -> Result<DistributedMatrix<S>, ScriptFault>
+    ensures ok { IfOk result (λ m. m ≡ record { side = grid.now.side; matrix = times_of S.arithmetic left.now right.now }) }
+    ensures agree { IfOk result (λ m. left.now.shape ≡ right.now.shape) }
+    ensures fault { IfErr result (IsPlacewiseRefusal left.now right.now) }
+{
     let shape = left.shape();
     if shape != right.shape() {
         return Err(ScriptFault::Shapes);
@@ -73,6 +105,21 @@ pub fn prune<S: Semiring>(
     test: Test,
 ) -> Result<Matrix<S>, ScriptFault>
     ensures ok { IfOk result (λ m. m ≡ pruned S.arithmetic (passes test) matrix.now) }
+    ensures fault { IfErr result (λ f. f ≡ ScriptFault.Memory) }
+{
+    let answer = prune_distributed(alloc, engine, grid, matrix, test)?;
+    Ok(answer.gather(alloc)?)
+}
+
+/// A matrix without the entries whose value passes a test, left in the blocks of the grid. All else is as in [`prune`].
+pub fn prune_distributed<S: Semiring>(
+    alloc: Global,
+    engine: Engine,
+    grid: &Grid,
+    matrix: &Matrix<S>,
+    test: Test,
+) -> Result<DistributedMatrix<S>, ScriptFault>
+    ensures ok { IfOk result (λ m. m ≡ record { side = grid.now.side; matrix = pruned S.arithmetic (passes test) matrix.now }) }
     ensures fault { IfErr result (λ f. f ≡ ScriptFault.Memory) }
 {
     let shape = matrix.shape();

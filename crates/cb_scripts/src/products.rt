@@ -6,7 +6,7 @@ ghost use Rattle.cb_scripts.specs.Refusals.{IsProductRefusal, IsMaskedRefusal};
 
 use crate::runs::compute;
 use crate::{Engine, ScriptFault};
-use cb_layout::Grid;
+use cb_layout::{DistributedMatrix, Grid};
 use cb_matrix::Matrix;
 use cb_semirings::Semiring;
 use cb_summa::{LEFT, MASK, RIGHT, summa, summa_masked};
@@ -15,7 +15,7 @@ use std::alloc::Global;
 /// The product of two matrices, by Sparse SUMMA over the grid.
 ///
 /// The first has as many columns as the second has rows, else the answer is `Shapes`, before memory is asked for.
-/// Where one of the two has no entries no plan is made, and the answer costs nothing.
+/// Where one of the two has no entries no plan is made, and the answer costs a block for each rank.
 pub fn multiply<S: Semiring>(
     alloc: Global,
     engine: Engine,
@@ -27,11 +27,28 @@ pub fn multiply<S: Semiring>(
     ensures agree { IfOk result (λ m. left.now.shape.cols ≡ right.now.shape.rows) }
     ensures fault { IfErr result (IsProductRefusal left.now right.now) }
 {
+    let product = multiply_distributed(alloc, engine, grid, left, right)?;
+    Ok(product.gather(alloc)?)
+}
+
+/// The product of two matrices, by Sparse SUMMA, left in the blocks of the grid. All else is as in [`multiply`].
+pub fn multiply_distributed<S: Semiring>(
+    alloc: Global,
+    engine: Engine,
+    grid: &Grid,
+    left: &Matrix<S>,
+    right: &Matrix<S>,
+) -> Result<DistributedMatrix<S>, ScriptFault>
+    ensures ok { IfOk result (λ m. m ≡ record { side = grid.now.side; matrix = product S.arithmetic left.now right.now }) }
+    ensures agree { IfOk result (λ m. left.now.shape.cols ≡ right.now.shape.rows) }
+    ensures fault { IfErr result (IsProductRefusal left.now right.now) }
+{
     if left.cols() != right.rows() {
         return Err(ScriptFault::Shapes);
     }
     if left.is_empty() || right.is_empty() {
-        return Ok(nothing(alloc, left, right));
+        let empty = nothing(alloc, left, right);
+        return Ok(DistributedMatrix::scatter(alloc, *grid, &empty)?);
     }
     let (a, b) = (left.shape(), right.shape());
     let Ok(planned) = summa(alloc, grid, a, b) else {
@@ -65,6 +82,24 @@ pub fn multiply_masked<S: Semiring>(
     mask: &Matrix<S>,
 ) -> Result<Matrix<S>, ScriptFault>
     ensures ok { IfOk result (λ m. m ≡ masked S.arithmetic (product S.arithmetic left.now right.now) mask.now) }
+    ensures agree { IfOk result (λ m. (left.now.shape.cols ≡ right.now.shape.rows) × (mask.now.shape ≡ product_shape left.now right.now)) }
+    ensures fault { IfErr result (IsMaskedRefusal left.now right.now mask.now) }
+{
+    let product = multiply_masked_distributed(alloc, engine, grid, left, right, mask)?;
+    Ok(product.gather(alloc)?)
+}
+
+/// The product of two matrices, kept where a mask has entries, left in the blocks of the grid. All else is as in
+/// [`multiply_masked`].
+pub fn multiply_masked_distributed<S: Semiring>(
+    alloc: Global,
+    engine: Engine,
+    grid: &Grid,
+    left: &Matrix<S>,
+    right: &Matrix<S>,
+    mask: &Matrix<S>,
+) -> Result<DistributedMatrix<S>, ScriptFault>
+    ensures ok { IfOk result (λ m. m ≡ record { side = grid.now.side; matrix = masked S.arithmetic (product S.arithmetic left.now right.now) mask.now }) }
     ensures agree { IfOk result (λ m. (left.now.shape.cols ≡ right.now.shape.rows) × (mask.now.shape ≡ product_shape left.now right.now)) }
     ensures fault { IfErr result (IsMaskedRefusal left.now right.now mask.now) }
 {

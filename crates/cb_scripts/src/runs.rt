@@ -10,13 +10,14 @@ ghost use Rattle.cb_scripts.specs.Answers.{HasShapes, Makes, gathered};
 
 use crate::Engine;
 use crate::stores::{drain, laid_out};
-use cb_layout::Grid;
+use cb_layout::{DistributedMatrix, Grid};
 use cb_matrix::{Matrix, Shape};
 use cb_plan::{CheckedPlan, Planned, RankStore, run_plain};
 use cb_semirings::Semiring;
 use std::alloc::{AllocError, Global};
 
-/// The matrix of this shape that a plan makes of its operands, each of which is cut over the grid into its slot.
+/// The matrix of this shape that a plan makes of its operands, each of which is cut over the grid into its slot. It
+/// is left in the blocks of the grid.
 pub fn compute<S: Semiring>(
     alloc: Global,
     engine: Engine,
@@ -24,15 +25,15 @@ pub fn compute<S: Semiring>(
     planned: Planned,
     operands: &[(u16, &Matrix<S>)],
     shape: Shape,
-) -> Result<Matrix<S>, AllocError>
+) -> Result<DistributedMatrix<S>, AllocError>
     requires { (answer : Sparse) × Makes S.arithmetic grid.now.side (map (λ o. (o.0, o.1.now)) operands.now) planned shape answer }
-    ensures { IfOk result (λ m. (answer : Sparse) → Makes S.arithmetic grid.now.side (map (λ o. (o.0, o.1.now)) operands.now) planned shape answer → m ≡ answer) }
+    ensures { IfOk result (λ m. (answer : Sparse) → Makes S.arithmetic grid.now.side (map (λ o. (o.0, o.1.now)) operands.now) planned shape answer → m ≡ record { side = grid.now.side; matrix = answer }) }
 {
     let stores = laid_out(alloc, grid, operands)?;
     run(alloc, engine, grid, planned, stores, shape)
 }
 
-/// Runs a plan once, on stores that fit it, and gathers the matrix of this shape whose blocks it leaves in its
+/// Runs a plan once, on stores that fit it, and answers the matrix of this shape whose blocks it leaves in its
 /// slot for the answer.
 fn run<S: Semiring>(
     alloc: Global,
@@ -41,18 +42,18 @@ fn run<S: Semiring>(
     planned: Planned,
     stores: Vec<RankStore<S>>,
     shape: Shape,
-) -> Result<Matrix<S>, AllocError>
+) -> Result<DistributedMatrix<S>, AllocError>
     requires ranks { planned.plan.ranks ≡ grid.now.side * grid.now.side }
     requires runnable { IsRunnable planned }
     requires fits { Fits planned.plan.ranks planned.starts.items stores.items }
     requires shapes { HasShapes grid.now.side shape planned.result (meaning (matrices S.arithmetic) planned.plan.acts (state_of stores.items)) }
-    ensures { IfOk result (λ m. m ≡ gathered S.arithmetic grid.now.side shape planned.result (meaning (matrices S.arithmetic) planned.plan.acts (state_of stores.items))) }
+    ensures { IfOk result (λ m. m ≡ record { side = grid.now.side; matrix = gathered S.arithmetic grid.now.side shape planned.result (meaning (matrices S.arithmetic) planned.plan.acts (state_of stores.items)) }) }
 {
     let (plan, slot) = planned.into_checked();
     round(alloc, engine, grid, &plan, stores, slot, shape)
 }
 
-/// Runs a checked plan on stores that fit it, and gathers the matrix of this shape whose blocks it leaves in a
+/// Runs a checked plan on stores that fit it, and answers the matrix of this shape whose blocks it leaves in a
 /// slot. A plan that is run again and again is made and checked once.
 pub fn round<S: Semiring>(
     alloc: Global,
@@ -62,16 +63,16 @@ pub fn round<S: Semiring>(
     stores: Vec<RankStore<S>>,
     slot: u16,
     shape: Shape,
-) -> Result<Matrix<S>, AllocError>
+) -> Result<DistributedMatrix<S>, AllocError>
     requires ranks { plan.now.ranks ≡ grid.now.side * grid.now.side }
     requires fits { Fits plan.now.ranks plan.now.starts stores.items }
     requires slot { slot < 256 }
     requires shapes { HasShapes grid.now.side shape slot (meaning (matrices S.arithmetic) plan.now.acts (state_of stores.items)) }
-    ensures { IfOk result (λ m. m ≡ gathered S.arithmetic grid.now.side shape slot (meaning (matrices S.arithmetic) plan.now.acts (state_of stores.items))) }
+    ensures { IfOk result (λ m. m ≡ record { side = grid.now.side; matrix = gathered S.arithmetic grid.now.side shape slot (meaning (matrices S.arithmetic) plan.now.acts (state_of stores.items)) }) }
 {
     let stores = engine.run(alloc, plan, stores)?;
     let blocks = drain(alloc, stores, slot)?;
-    grid.gather(alloc, &blocks, shape)
+    Ok(DistributedMatrix::from_blocks(*grid, shape, blocks))
 }
 
 impl Engine {

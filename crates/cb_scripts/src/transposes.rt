@@ -5,7 +5,7 @@ ghost use Rattle.cb_matrix.specs.Operations.{transposed};
 use crate::runs::compute;
 use crate::{Engine, ScriptFault};
 use cb_kernels::{LEFT, grid_transpose};
-use cb_layout::Grid;
+use cb_layout::{DistributedMatrix, Grid};
 use cb_matrix::{Matrix, Shape};
 use cb_semirings::Semiring;
 use std::alloc::Global;
@@ -18,6 +18,20 @@ pub fn transpose<S: Semiring>(
     matrix: &Matrix<S>,
 ) -> Result<Matrix<S>, ScriptFault>
     ensures ok { IfOk result (λ m. m ≡ transposed S.arithmetic matrix.now) }
+    ensures fault { IfErr result (λ f. f ≡ ScriptFault.Memory) }
+{
+    let answer = transpose_distributed(alloc, engine, grid, matrix)?;
+    Ok(answer.gather(alloc)?)
+}
+
+/// The transpose of a matrix, left in the blocks of the grid. All else is as in [`transpose`].
+pub fn transpose_distributed<S: Semiring>(
+    alloc: Global,
+    engine: Engine,
+    grid: &Grid,
+    matrix: &Matrix<S>,
+) -> Result<DistributedMatrix<S>, ScriptFault>
+    ensures ok { IfOk result (λ m. m ≡ record { side = grid.now.side; matrix = transposed S.arithmetic matrix.now }) }
     ensures fault { IfErr result (λ f. f ≡ ScriptFault.Memory) }
 {
     let shape = matrix.shape();

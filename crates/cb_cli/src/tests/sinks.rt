@@ -30,6 +30,11 @@ impl Short {
             failed: false,
         }
     }
+
+    /// What was taken.
+    pub fn bytes(&self) -> &[u8] {
+        &self.bytes
+    }
 }
 
 impl Sink for Short {

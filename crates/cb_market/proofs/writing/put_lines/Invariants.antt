@@ -7,5 +7,5 @@ use Rattle.cb_market.proofs.writing.put_lines.Given as goal
 abbrev pub invariant-loop-some : goal.invariant-loop-some
 invariant-loop-some l =
     goal.iterator-loop-some.can_next l.some-iterator × goal.iterator-loop-some.is_finite l.some-iterator
-    × (chunks_size l.some-iterator ≡ 256)
+    × (chunks_size l.some-iterator ≡ 1024)
     × (l.text.items ++ flat_map (line_of l.line) (chunks_rest l.some-iterator) ≡ l.initial.text.items ++ flat_map (line_of l.line) l.entries)

@@ -5,6 +5,7 @@ use Rattle.cb_plan.specs.Meaning.{meaning}
 use Rattle.cb_plan.specs.Plans.{CheckedView}
 use Rattle.cb_plan.specs.Stores.{state_of, Fits}
 use Rattle.cb_scripts.specs.Answers.{HasShapes, gathered}
+use Rattle.cb_scripts.proofs.GatheredParts.{over_grid}
 use Rattle.cb_scripts.proofs.runs.run.Goals as goal
 
 pub round-requires-clause-ranks : goal.round-requires-clause-ranks
@@ -24,8 +25,8 @@ pub returns : goal.returns
 returns g c =
     let s = g.S.Semiring.arithmetic in
     let q = c.args.grid.now.side in
-    subst (λ (p : CheckedView). IfOk c.round.result (λ m. m ≡ gathered s q c.args.shape c.args.planned.result (meaning (matrices s) p.acts (state_of c.args.stores.items)))) c.into_checked-plan.ensures.plan
-    (subst (λ n. IfOk c.round.result (λ m. m ≡ gathered s q c.args.shape n (meaning (matrices s) c.into_checked-plan.result.0.acts (state_of c.args.stores.items)))) c.into_checked-plan.ensures.slot c.round.ensures)
+    subst (λ (p : CheckedView). IfOk c.round.result (λ m. m ≡ over_grid q (gathered s q c.args.shape c.args.planned.result (meaning (matrices s) p.acts (state_of c.args.stores.items))))) c.into_checked-plan.ensures.plan
+    (subst (λ n. IfOk c.round.result (λ m. m ≡ over_grid q (gathered s q c.args.shape n (meaning (matrices s) c.into_checked-plan.result.0.acts (state_of c.args.stores.items))))) c.into_checked-plan.ensures.slot c.round.ensures)
 
 pub round-requires-clause-slot : goal.round-requires-clause-slot
 round-requires-clause-slot g c = subst (λ n. n < 256) (sym c.into_checked-plan.ensures.slot) c.requires.runnable.result

@@ -1,0 +1,111 @@
+//! Texts of matrices over a grid, page by page.
+ghost use Rattle.std.specs.Prelude.{◌↔◌, IsTrue, All};
+ghost use Rattle.cb_semirings.specs.Arithmetic.{IsValue};
+
+use crate::{Kind, Page, TextPages, read, text};
+use cb_layout::{DistributedMatrix, Grid};
+use cb_matrix::{Entry, Matrix, Shape};
+use cb_semirings::{MinPlus, OrAnd, PlusTimes, Semiring};
+use std::alloc::{AllocError, Global};
+
+/// The pages of a matrix over the grid of a side, one after the other, and how many they are.
+fn joined<S: Semiring>(
+    alloc: Global,
+    side: u32,
+    matrix: &Matrix<S>,
+) -> Result<(Vec<u8>, usize), AllocError> {
+    let Ok(grid) = Grid::new(side) else {
+        return Err(AllocError);
+    };
+    let matrix = DistributedMatrix::scatter(alloc, grid, matrix)?;
+    let mut page = Page::new(alloc)?;
+    let mut pages = TextPages::new(&matrix);
+    let mut bytes = Vec::new(alloc);
+    let mut count: usize = 0;
+    while pages.next_page(&mut page) {
+        bytes.extend_from_slice(page.written())?;
+        count = count.saturating_add(1);
+    }
+    Ok((bytes, count))
+}
+
+/// Whether the pages of the matrix that a text reads as are that text on one page, on the grid of each side.
+fn is_one_page<S: Semiring>(alloc: Global, given: &[u8]) -> bool {
+    let Ok(matrix) = read::<S>(alloc, given) else {
+        return false;
+    };
+    for side in 1..=6 {
+        match joined(alloc, side, &matrix) {
+            Ok((bytes, 1)) if bytes.as_slice() == given => {}
+            _ => return false,
+        }
+    }
+    true
+}
+
+#[test]
+fn are_the_text_on_each_grid(rt: HostRuntime) {
+    let alloc = rt.alloc();
+    let given =
+        b"%%MatrixMarket matrix coordinate integer general\n5 4 6\n1 1 7\n5 1 10\n2 2 18446744073709551615\n4 2 3\n1 4 99999\n3 4 1\n";
+    assert!(&rt; is_one_page::<PlusTimes>(alloc, given));
+    let weights =
+        b"%%MatrixMarket matrix coordinate integer general\n11 11 2\n10 10 0\n11 10 123456789\n";
+    assert!(&rt; is_one_page::<MinPlus>(alloc, weights));
+    let pattern = b"%%MatrixMarket matrix coordinate pattern general\n3 100 3\n2 1\n1 100\n3 100\n";
+    assert!(&rt; is_one_page::<OrAnd>(alloc, pattern));
+    let far =
+        b"%%MatrixMarket matrix coordinate integer general\n2147483647 2147483647 1\n2147483647 2147483647 1\n";
+    assert!(&rt; is_one_page::<PlusTimes>(alloc, far));
+    let empty = b"%%MatrixMarket matrix coordinate integer general\n0 0 0\n";
+    assert!(&rt; is_one_page::<PlusTimes>(alloc, empty));
+}
+
+/// Whether each entry's value is one of the semiring.
+fn are_values<S: Semiring>(entries: &[Entry]) -> bool
+    ensures { IsTrue result ↔ All (λ e. IsValue S.arithmetic e.value) entries.now }
+{
+    entries.iter().all(|entry| S::is_value(entry.value))
+}
+
+/// A matrix of seven columns, whose text has more bytes than a page.
+fn long_matrix(alloc: Global) -> Option<Matrix<PlusTimes>> {
+    let mut entries = Vec::new(alloc);
+    for row in 0u32..9_000 {
+        let value = u64::from(row) + 1;
+        let column = row % 7;
+        entries.push(Entry { row, column, value }).ok()?;
+    }
+    if !are_values::<PlusTimes>(&entries) {
+        return None;
+    }
+    Matrix::from_entries(alloc, Shape::new(9_000, 7)?, &entries).ok()
+}
+
+/// A column goes on where a page is full.
+#[test]
+fn follow_one_another(rt: HostRuntime) {
+    let alloc = rt.alloc();
+    let matrix = long_matrix(alloc).expect(&rt, "matrix");
+    let whole = text(alloc, &matrix).expect(&rt, "text");
+    for side in [1, 3] {
+        let (bytes, count) = joined(alloc, side, &matrix).expect(&rt, "pages");
+        assert_eq!(&rt; count, 2);
+        assert_eq!(&rt; bytes.as_slice(), whole.as_slice());
+    }
+}
+
+/// Run with each of its allocations refused in turn.
+#[test]
+fn are_refused_or_joined(rt: HostRuntime) {
+    let alloc = rt.alloc();
+    let given = b"%%MatrixMarket matrix coordinate integer general\n2 2 3\n1 1 1\n1 2 2\n2 2 3\n";
+    let right = match read::<PlusTimes>(alloc, given) {
+        Ok(matrix) => match joined(alloc, 2, &matrix) {
+            Ok((bytes, _)) => bytes.as_slice() == given.as_slice(),
+            Err(_) => true,
+        },
+        Err(fault) => fault.kind == Kind::Memory,
+    };
+    assert!(&rt; right);
+}

@@ -1,0 +1,221 @@
+//! The text of a matrix that lies over a grid of ranks, page by page, without gathering it.
+ghost use Rattle.std.specs.Prelude.{◌≡◌, ◌+◌, ◌≤◌, ◌<◌, [], ◌++◌, length, drop, flat_map, true, false, IfSome, IfNone};
+ghost use Rattle.cb_layout.specs.Segments.{shifted};
+ghost use Rattle.cb_market.specs.Text.{text_of, entry_line, line_with};
+
+use crate::pages::{LINE, Page, SIZE};
+use crate::writing::put_head;
+use cb_layout::{DistributedMatrix, Segment, Segments};
+use cb_matrix::Shape;
+use cb_semirings::Semiring;
+use itoa::Buffer;
+use std::marker::Model;
+
+/// What is left to write of the text of a matrix over a grid. In contracts it is these bytes.
+///
+/// The entries are taken from the blocks as they lie, column by column, and the digits of a column are made
+/// once for the entries of it that stand in one block. The cost is that of the stored entries, and no call
+/// takes memory.
+#[derive(Drop)]
+pub struct TextPages<'a, S: Semiring> {
+    shape: Shape,
+    /// How many entries the matrix has.
+    len: usize,
+    /// Whether the header and the size line are left.
+    has_head: bool,
+    entries: EntriesLeft<'a, S>,
+}
+
+impl<'a, S: Semiring> Model for TextPages<'a, S> {
+    ghost use Rattle.std.specs.Prelude.{ℕ, List};
+    ghost use Rattle.cb_market.specs.Text.{text_left};
+
+    ghost Value = { List ℕ };
+
+    ghost view = { λ t. text_left S.arithmetic t.has_head t.shape t.len t.entries };
+}
+
+impl<'a, S: Semiring> TextPages<'a, S> {
+    /// The whole text of a matrix, which is the one that [`text`](crate::text) makes of it gathered.
+    pub fn new(matrix: &'a DistributedMatrix<S>) -> TextPages<'a, S>
+        ensures { result ≡ text_of S.arithmetic matrix.now.matrix }
+    {
+        TextPages {
+            shape: matrix.shape(),
+            len: matrix.len(),
+            has_head: true,
+            entries: EntriesLeft::new(matrix),
+        }
+    }
+
+    /// Writes the next lines on an emptied page, as many as there is room for, and answers whether there are
+    /// some. Where it answers false the whole text is written.
+    pub fn next_page(&mut self, page: &mut Page) -> bool
+        ensures page { self.old ≡ page.new ++ self.new }
+        ensures some { result ≡ true → 0 < length page.new }
+        ensures none { result ≡ false → self.old ≡ [] }
+    {
+        page.clear();
+        if self.has_head {
+            put_head(page, S::writes_pattern(), self.shape, self.len);
+            self.has_head = false;
+        }
+        self.entries.put_lines(page);
+        !page.written().is_empty()
+    }
+}
+
+/// The entries of a matrix over a grid that are left, of which one segment may be begun. In contracts it is
+/// these entries.
+#[derive(Drop)]
+struct EntriesLeft<'a, S: Semiring> {
+    segment: Segment<'a>,
+    segments: Segments<'a, S>,
+}
+
+impl<'a, S: Semiring> Model for EntriesLeft<'a, S> {
+    ghost use Rattle.std.specs.Prelude.{◌≡◌, ◌++◌, List, length};
+    ghost use Rattle.cb_matrix.specs.declared.Entry.{Entry};
+    ghost use Rattle.cb_layout.specs.Segments.{shifted};
+
+    ghost Value = { List Entry };
+
+    ghost view = { λ a. shifted a.segment.top a.segment.column a.segment.rows.now a.segment.values.now ++ a.segments };
+
+    ghost invariant = { λ a. length a.segment.values.now ≡ length a.segment.rows.now };
+}
+
+impl<'a, S: Semiring> EntriesLeft<'a, S> {
+    /// All entries of a matrix.
+    fn new(matrix: &'a DistributedMatrix<S>) -> EntriesLeft<'a, S>
+        ensures { result ≡ matrix.now.matrix.entries }
+    {
+        EntriesLeft {
+            segment: Segment {
+                column: 0,
+                top: 0,
+                rows: &[],
+                values: &[],
+            },
+            segments: matrix.segments(),
+        }
+    }
+
+    /// Writes the lines of the next entries, until there is no room or no entry.
+    fn put_lines(&mut self, page: &mut Page)
+        ensures lines { page.new ++ flat_map (entry_line S.arithmetic.writes_pattern) self.new ≡ page.old ++ flat_map (entry_line S.arithmetic.writes_pattern) self.old }
+        ensures all { length page.new + LINE ≤ SIZE → self.new ≡ [] }
+    {
+        while page.has_room() {
+            if !self.put_some(page) {
+                return;
+            }
+        }
+    }
+
+    /// Writes lines of the segment that is begun, or, where it is done, of the next one: one line at least, and
+    /// as many as there is room for. Answers false where there is none.
+    fn put_some(&mut self, page: &mut Page) -> bool
+        requires { length page.old + LINE ≤ SIZE }
+        ensures lines { page.new ++ flat_map (entry_line S.arithmetic.writes_pattern) self.new ≡ page.old ++ flat_map (entry_line S.arithmetic.writes_pattern) self.old }
+        ensures some { result ≡ true → length self.new < length self.old }
+        ensures none { result ≡ false → self.new ≡ [] }
+    {
+        let Some(segment) = begun(self.segment, &mut self.segments) else {
+            return false;
+        };
+        let done = put_segment(page, S::writes_pattern(), segment);
+        self.segment = rest_of(segment, done);
+        true
+    }
+}
+
+/// The segment, or, where it has no entry, the next one. None where there is none either.
+fn begun<'a, S: Semiring>(
+    segment: Segment<'a>,
+    segments: &mut Segments<'a, S>,
+) -> Option<Segment<'a>>
+    requires { length segment.values.now ≡ length segment.rows.now }
+    ensures some { IfSome result (λ g. shifted segment.entry.top segment.entry.column segment.entry.rows.now segment.entry.values.now ++ segments.old ≡ shifted g.top g.column g.rows.now g.values.now ++ segments.new) }
+    ensures none { IfNone result (shifted segment.entry.top segment.entry.column segment.entry.rows.now segment.entry.values.now ++ segments.new ≡ []) }
+    ensures kept { IfNone result (segments.old ≡ segments.new) }
+    ensures lengths { IfSome result (λ g. length g.values.now ≡ length g.rows.now) }
+    ensures entries { IfSome result (λ g. 0 < length g.rows.now) }
+{
+    if segment.rows.is_empty() {
+        segments.next_segment()
+    } else {
+        Some(segment)
+    }
+}
+
+/// A segment without its first entries.
+fn rest_of(segment: Segment<'_>, done: usize) -> Segment<'_>
+    requires rows { done ≤ length segment.rows.now }
+    requires values { done ≤ length segment.values.now }
+    ensures place { (result.top ≡ segment.entry.top) × (result.column ≡ segment.entry.column) }
+    ensures rows { result.rows.now ≡ drop done segment.entry.rows.now }
+    ensures values { result.values.now ≡ drop done segment.entry.values.now }
+{
+    Segment {
+        column: segment.column,
+        top: segment.top,
+        rows: &segment.rows[done..],
+        values: &segment.values[done..],
+    }
+}
+
+/// Writes the lines of the entries of a segment, as many as there is room for, and answers how many.
+fn put_segment(page: &mut Page, is_pattern: bool, segment: Segment<'_>) -> usize
+    requires lengths { length segment.values.now ≡ length segment.rows.now }
+    requires room { length page.old + LINE ≤ SIZE }
+    ensures lines { page.new ++ flat_map (entry_line is_pattern) (shifted segment.entry.top segment.entry.column (drop result segment.entry.rows.now) (drop result segment.entry.values.now)) ≡ page.old ++ flat_map (entry_line is_pattern) (shifted segment.entry.top segment.entry.column segment.entry.rows.now segment.entry.values.now) }
+    ensures limit { result ≤ length segment.entry.rows.now }
+    ensures some { 0 < length segment.entry.rows.now → 0 < result }
+{
+    let (top, column) = (segment.top, segment.column);
+    put_column(page, is_pattern, top, column, segment.rows, segment.values)
+}
+
+/// Writes the lines of the entries of a column, whose rows count from `top`, as many as there is room for, and
+/// answers how many.
+fn put_column(
+    page: &mut Page,
+    is_pattern: bool,
+    top: u32,
+    column: u32,
+    rows: &[u32],
+    values: &[u64],
+) -> usize
+    requires lengths { length values.now ≡ length rows.now }
+    requires room { length page.old + LINE ≤ SIZE }
+    ensures lines { page.new ++ flat_map (entry_line is_pattern) (shifted top column (drop result rows.now) (drop result values.now)) ≡ page.old ++ flat_map (entry_line is_pattern) (shifted top column rows.now values.now) }
+    ensures limit { result ≤ length rows.now }
+    ensures some { 0 < length rows.now → 0 < result }
+{
+    let mut buffer = Buffer::new();
+    let digits = buffer.format(u64::from(column) + 1).as_bytes();
+    for n in 0..rows.len() {
+        if !page.has_room() {
+            return n;
+        }
+        let row = u64::from(top) + u64::from(rows[n]) + 1;
+        put_entry(page, is_pattern, row, digits, values[n]);
+    }
+    rows.len()
+}
+
+/// Writes the line of an entry, by the digits of its column.
+fn put_entry(page: &mut Page, is_pattern: bool, row: u64, column: &[u8], value: u64)
+    requires room { length page.old + LINE ≤ SIZE }
+    requires digits { length column.now ≤ 20 }
+    ensures line { page.new ≡ page.old ++ line_with is_pattern row column.now value }
+{
+    page.put(row, b' ');
+    if is_pattern {
+        page.append(column, b'\n');
+    } else {
+        page.append(column, b' ');
+        page.put(value, b'\n');
+    }
+}
