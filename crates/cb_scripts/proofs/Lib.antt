@@ -1,12 +1,14 @@
 -- FilledSlots: a slot of every rank is filled, rank after rank. DrainedSlots: it is emptied, rank after rank.
 -- GatheredParts: the matrix whose parts stand in one slot. Holdings: matrices in slots of the ranks, and the starts
--- that they fit. Products: the operands of a product, and what its plan makes of them.
+-- that they fit. Making: what a plan makes of them, gathered. ProductPlans, KernelPlans: what each plan makes.
 -- EmptyFactors: a product with a matrix that has no entries.
 pub mod FilledSlots
 pub mod DrainedSlots
 pub mod GatheredParts
 pub mod Holdings
-pub mod Products
+pub mod Making
+pub mod ProductPlans
+pub mod KernelPlans
 pub mod EmptyFactors
 -- Walks. WalkCosts: how they begin, grow and end, and what they cost. ShortWalks: for each walk a short one that
 -- costs no more. Nearing: numbers that near the least costs, round by round. TurnedProducts: a round is the product

@@ -14,3 +14,8 @@ IsProductRefusal a b Memory = a.shape.cols ≡ b.shape.rows
 abbrev pub IsMaskedRefusal : Sparse → Sparse → Sparse → ScriptFault → Type 0
 IsMaskedRefusal a b m Shapes = (a.shape.cols ≢ b.shape.rows) ⊎ (m.shape ≢ product_shape a b)
 IsMaskedRefusal a b m Memory = (a.shape.cols ≡ b.shape.rows) × (m.shape ≡ product_shape a b)
+
+-- why a and b have no sum, nor a product place by place
+abbrev pub IsPlacewiseRefusal : Sparse → Sparse → ScriptFault → Type 0
+IsPlacewiseRefusal a b Shapes = a.shape ≢ b.shape
+IsPlacewiseRefusal a b Memory = a.shape ≡ b.shape

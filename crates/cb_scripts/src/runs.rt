@@ -1,23 +1,40 @@
 //! A plan over the ranks' stores, and the matrix whose blocks it leaves.
-ghost use Rattle.std.specs.Prelude.{◌≡◌, ◌<◌, ◌*◌, IfOk};
+ghost use Rattle.std.specs.Prelude.{◌≡◌, ◌<◌, ◌*◌, map, IfOk};
+ghost use Rattle.cb_matrix.specs.Sparse.{Sparse};
 ghost use Rattle.cb_plan.specs.Algebras.{matrices};
 ghost use Rattle.cb_plan.specs.Meaning.{meaning};
 ghost use Rattle.cb_plan.specs.Runnable.{IsRunnable};
 ghost use Rattle.cb_plan.specs.Stores.{state_of, NoneLost, Fits};
 ghost use Rattle.cb_plan.specs.Tables.{IsTable};
-ghost use Rattle.cb_scripts.specs.Answers.{HasShapes, gathered};
+ghost use Rattle.cb_scripts.specs.Answers.{HasShapes, Makes, gathered};
 
 use crate::Engine;
-use crate::stores::drain;
+use crate::stores::{drain, laid_out};
 use cb_layout::Grid;
 use cb_matrix::{Matrix, Shape};
 use cb_plan::{CheckedPlan, Planned, RankStore, run_plain};
 use cb_semirings::Semiring;
 use std::alloc::{AllocError, Global};
 
+/// The matrix of this shape that a plan makes of its operands, each of which is cut over the grid into its slot.
+pub fn compute<S: Semiring>(
+    alloc: Global,
+    engine: Engine,
+    grid: &Grid,
+    planned: Planned,
+    operands: &[(u16, &Matrix<S>)],
+    shape: Shape,
+) -> Result<Matrix<S>, AllocError>
+    requires { (answer : Sparse) × Makes S.arithmetic grid.now.side (map (λ o. (o.0, o.1.now)) operands.now) planned shape answer }
+    ensures { IfOk result (λ m. (answer : Sparse) → Makes S.arithmetic grid.now.side (map (λ o. (o.0, o.1.now)) operands.now) planned shape answer → m ≡ answer) }
+{
+    let stores = laid_out(alloc, grid, operands)?;
+    run(alloc, engine, grid, planned, stores, shape)
+}
+
 /// Runs a plan once, on stores that fit it, and gathers the matrix of this shape whose blocks it leaves in its
 /// slot for the answer.
-pub fn run<S: Semiring>(
+fn run<S: Semiring>(
     alloc: Global,
     engine: Engine,
     grid: &Grid,

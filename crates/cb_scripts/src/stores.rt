@@ -1,10 +1,10 @@
 //! The slots of the ranks: filled with blocks before a plan, and read after it.
-ghost use Rattle.std.specs.Prelude.{◌≡◌, ◌≢◌, ◌<◌, ◌*◌, ℕ, length, replicate, Some, IfOk, OnOk, IsSome};
+ghost use Rattle.std.specs.Prelude.{◌≡◌, ◌≢◌, ◌<◌, ◌*◌, ℕ, map, length, replicate, Some, IfOk, OnOk, IsSome};
 ghost use Rattle.cb_layout.specs.Blocks.{block_at};
 ghost use Rattle.cb_plan.specs.declared.stores.Slot.TheVariants.{Empty};
 ghost use Rattle.cb_plan.specs.Stores.{state_of};
 ghost use Rattle.cb_plan.specs.Tables.{IsTable};
-ghost use Rattle.cb_scripts.specs.Slots.{Filled, block_of_rank};
+ghost use Rattle.cb_scripts.specs.Slots.{Filled, HasOperands, HaveSlots, block_of_rank};
 
 use cb_dcsc::Block;
 use cb_layout::Grid;
@@ -24,8 +24,24 @@ pub fn blank<S: Semiring>(alloc: Global, ranks: u16) -> Result<Vec<RankStore<S>>
     Ok(stores)
 }
 
+/// The stores of the ranks, with the block of each matrix in its slot, and nothing else.
+pub fn laid_out<S: Semiring>(
+    alloc: Global,
+    grid: &Grid,
+    operands: &[(u16, &Matrix<S>)],
+) -> Result<Vec<RankStore<S>>, AllocError>
+    requires { HaveSlots (map (λ o. (o.0, o.1.now)) operands.now) }
+    ensures { IfOk result (λ v. HasOperands S.arithmetic grid.now.side (map (λ o. (o.0, o.1.now)) operands.now) v.items) }
+{
+    let mut stores = blank(alloc, grid.ranks())?;
+    for (slot, matrix) in operands {
+        distribute(alloc, grid, &mut stores, *slot, matrix)?;
+    }
+    Ok(stores)
+}
+
 /// Cuts a matrix over the grid, and puts the blocks into a slot of their ranks.
-pub fn distribute<S: Semiring>(
+fn distribute<S: Semiring>(
     alloc: Global,
     grid: &Grid,
     stores: &mut Vec<RankStore<S>>,
@@ -42,7 +58,7 @@ pub fn distribute<S: Semiring>(
 }
 
 /// Moves one block into a slot of each rank.
-fn fill<S: Semiring>(stores: &mut Vec<RankStore<S>>, slot: u16, blocks: Vec<Block<S>>)
+pub fn fill<S: Semiring>(stores: &mut Vec<RankStore<S>>, slot: u16, blocks: Vec<Block<S>>)
     requires slot { slot < 256 }
     requires count { length blocks.items ≡ length stores.old.items }
     requires table { IsTable (length stores.old.items) 256 stores.old.items }

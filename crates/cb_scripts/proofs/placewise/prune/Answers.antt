@@ -1,0 +1,19 @@
+use Rattle.std.proofs.Common.{rules}
+use Rattle.cb_matrix.specs.Operations.{pruned}
+use Rattle.cb_elementwise.specs.Passing.{passes}
+use Rattle.cb_scripts.proofs.KernelPlans.{rest_made}
+use Rattle.cb_scripts.proofs.placewise.prune.Goals as goal
+
+pub compute-requires : goal.compute-requires
+compute-requires g c =
+    let s = g.S.Semiring.arithmetic in
+    let a = c.args.matrix.now in
+    let shape = c.shape-shape.ensures.shape in
+    (pruned s (passes c.args.test) a, rw shape (rest_made s g.met.S.Semiring.is_semiring c.args.grid.now.side c.in-Ok.planned c.in-Ok.ensures.ranks c.in-Ok.ensures.runnable c.in-Ok.ensures.slot a c.shape-shape.ensures.matrix c.args.test (rw shape at c.in-Ok.ensures.starts) (rw shape at c.in-Ok.ensures.rest)))
+
+pub returns-clause-ok : goal.returns-clause-ok
+returns-clause-ok g c =
+    let s = g.S.Semiring.arithmetic in
+    let a = c.args.matrix.now in
+    let shape = c.shape-shape.ensures.shape in
+    c.in_ok-compute.ensures (pruned s (passes c.args.test) a) (rw shape (rest_made s g.met.S.Semiring.is_semiring c.args.grid.now.side c.in-Ok.planned c.in-Ok.ensures.ranks c.in-Ok.ensures.runnable c.in-Ok.ensures.slot a c.shape-shape.ensures.matrix c.args.test (rw shape at c.in-Ok.ensures.starts) (rw shape at c.in-Ok.ensures.rest)))

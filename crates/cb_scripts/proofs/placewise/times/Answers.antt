@@ -1,0 +1,23 @@
+use Rattle.std.proofs.Common.{rules, ◌≡◌}
+use Rattle.cb_matrix.specs.Operations.{times_of}
+use Rattle.cb_scripts.proofs.Making.{found_equal}
+use Rattle.cb_scripts.proofs.KernelPlans.{times_made}
+use Rattle.cb_scripts.proofs.placewise.times.Goals as goal
+
+pub compute-requires : goal.compute-requires
+compute-requires g c =
+    let s = g.S.Semiring.arithmetic in
+    let a = c.args.left.now in
+    let b = c.args.right.now in
+    let shape = c.shape-shape.ensures.shape in
+    let agree : a.shape ≡ b.shape = found_equal c.shape-shape.result c.shape.result a.shape b.shape shape c.shape.ensures.shape c.if-ne.ensures in
+    (times_of s a b, rw shape (times_made s g.met.S.Semiring.is_semiring c.args.grid.now.side c.in-Ok.planned c.in-Ok.ensures.ranks c.in-Ok.ensures.runnable c.in-Ok.ensures.slot a c.shape-shape.ensures.matrix b c.shape.ensures.matrix agree (rw shape at c.in-Ok.ensures.starts) (rw shape at c.in-Ok.ensures.product)))
+
+pub returns-clause-ok : goal.returns-clause-ok
+returns-clause-ok g c =
+    let s = g.S.Semiring.arithmetic in
+    let a = c.args.left.now in
+    let b = c.args.right.now in
+    let shape = c.shape-shape.ensures.shape in
+    let agree : a.shape ≡ b.shape = found_equal c.shape-shape.result c.shape.result a.shape b.shape shape c.shape.ensures.shape c.if-ne.ensures in
+    c.in_ok-compute.ensures (times_of s a b) (rw shape (times_made s g.met.S.Semiring.is_semiring c.args.grid.now.side c.in-Ok.planned c.in-Ok.ensures.ranks c.in-Ok.ensures.runnable c.in-Ok.ensures.slot a c.shape-shape.ensures.matrix b c.shape.ensures.matrix agree (rw shape at c.in-Ok.ensures.starts) (rw shape at c.in-Ok.ensures.product)))

@@ -1,0 +1,81 @@
+//! Products of two matrices.
+ghost use Rattle.std.specs.Prelude.{◌≡◌, ◌⊎◌, [], IfOk, IfErr};
+ghost use Rattle.cb_matrix.specs.Values.{product, product_shape};
+ghost use Rattle.cb_matrix.specs.Operations.{masked};
+ghost use Rattle.cb_scripts.specs.Refusals.{IsProductRefusal, IsMaskedRefusal};
+
+use crate::runs::compute;
+use crate::{Engine, ScriptFault};
+use cb_layout::Grid;
+use cb_matrix::Matrix;
+use cb_semirings::Semiring;
+use cb_summa::{LEFT, MASK, RIGHT, summa, summa_masked};
+use std::alloc::Global;
+
+/// The product of two matrices, by Sparse SUMMA over the grid.
+///
+/// The first has as many columns as the second has rows, else the answer is `Shapes`, before memory is asked for.
+/// Where one of the two has no entries no plan is made, and the answer costs nothing.
+pub fn multiply<S: Semiring>(
+    alloc: Global,
+    engine: Engine,
+    grid: &Grid,
+    left: &Matrix<S>,
+    right: &Matrix<S>,
+) -> Result<Matrix<S>, ScriptFault>
+    ensures ok { IfOk result (λ m. m ≡ product S.arithmetic left.now right.now) }
+    ensures agree { IfOk result (λ m. left.now.shape.cols ≡ right.now.shape.rows) }
+    ensures fault { IfErr result (IsProductRefusal left.now right.now) }
+{
+    if left.cols() != right.rows() {
+        return Err(ScriptFault::Shapes);
+    }
+    if left.is_empty() || right.is_empty() {
+        return Ok(nothing(alloc, left, right));
+    }
+    let (a, b) = (left.shape(), right.shape());
+    let Ok(planned) = summa(alloc, grid, a, b) else {
+        return Err(ScriptFault::Memory);
+    };
+    let operands = [(LEFT, left), (RIGHT, right)];
+    let shape = a.with_columns_of(b);
+    Ok(compute(alloc, engine, grid, planned, &operands, shape)?)
+}
+
+/// The product of two matrices of which one has no entries: it has none either.
+fn nothing<S: Semiring>(alloc: Global, left: &Matrix<S>, right: &Matrix<S>) -> Matrix<S>
+    requires { (left.now.entries ≡ []) ⊎ (right.now.entries ≡ []) }
+    ensures { result ≡ product S.arithmetic left.now right.now }
+{
+    let empty = Matrix::empty(alloc, left.shape().with_columns_of(right.shape()));
+    let _shape = empty.shape();
+    empty
+}
+
+/// The product of two matrices, kept where a mask has entries, by Sparse SUMMA over the grid.
+///
+/// The first has as many columns as the second has rows, and the mask has the product's shape, else the answer is
+/// `Shapes`, before memory is asked for. What value the mask has at an entry doesn't matter.
+pub fn multiply_masked<S: Semiring>(
+    alloc: Global,
+    engine: Engine,
+    grid: &Grid,
+    left: &Matrix<S>,
+    right: &Matrix<S>,
+    mask: &Matrix<S>,
+) -> Result<Matrix<S>, ScriptFault>
+    ensures ok { IfOk result (λ m. m ≡ masked S.arithmetic (product S.arithmetic left.now right.now) mask.now) }
+    ensures agree { IfOk result (λ m. (left.now.shape.cols ≡ right.now.shape.rows) × (mask.now.shape ≡ product_shape left.now right.now)) }
+    ensures fault { IfErr result (IsMaskedRefusal left.now right.now mask.now) }
+{
+    let (a, b) = (left.shape(), right.shape());
+    let shape = a.with_columns_of(b);
+    if a.cols() != b.rows() || mask.shape() != shape {
+        return Err(ScriptFault::Shapes);
+    }
+    let Ok(planned) = summa_masked(alloc, grid, a, b) else {
+        return Err(ScriptFault::Memory);
+    };
+    let operands = [(LEFT, left), (RIGHT, right), (MASK, mask)];
+    Ok(compute(alloc, engine, grid, planned, &operands, shape)?)
+}
