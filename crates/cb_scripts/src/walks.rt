@@ -148,7 +148,8 @@ fn nearest(
         turned = matrix;
         fell = take_lower(alloc, &mut known, &reached)?;
     }
-    Ok(column_of(alloc, shape, &known)?)
+    let column = column_of(alloc, shape, &known)?;
+    Ok(column)
 }
 
 /// The transpose of a matrix, over a grid.
