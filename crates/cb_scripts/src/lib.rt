@@ -15,6 +15,8 @@ mod stores;
 #[cfg(test)]
 mod tests;
 mod transposes;
+#[cfg(test)]
+mod walk_tests;
 mod walks;
 
 pub use placewise::{add, prune, times};
