@@ -25,3 +25,5 @@ pub mod NumberColumns
 pub mod NearestRounds
 pub mod UnitWeights
 pub mod OneColumn
+-- SpreadProducts: a matrix over a grid times a vector.
+pub mod SpreadProducts

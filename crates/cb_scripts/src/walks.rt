@@ -4,36 +4,23 @@
 //! Both scripts are one loop. The numbers known so far near the least ones round by round: a round multiplies the
 //! transposed matrix by the numbers that fell in the round before, in min-plus, and takes over what is lower. It ends
 //! when none falls, at the latest after as many rounds as there are vertices. In a level each edge weighs 1.
-ghost use Rattle.std.specs.Prelude.{◌≡◌, ◌≢◌, ◌↔◌, ℕ, ◌<◌, ◌≤◌, min, filter, map, length, All, AllPairs, IfOk, OnOk};
+ghost use Rattle.std.specs.Prelude.{◌≡◌, ◌≢◌, ℕ, ◌<◌, ◌≤◌, min, filter, map, All, AllPairs, IfOk, IfErr, OnOk};
 ghost use Rattle.std.specs.BTreeMap.{BTreeMap};
 ghost use Rattle.cb_semirings.specs.Tables.{min_plus};
-ghost use Rattle.cb_matrix.specs.Sparse.{Sparse, at, value_at, IsMatrix};
-ghost use Rattle.cb_matrix.specs.Values.{product};
+ghost use Rattle.cb_matrix.specs.Sparse.{at, value_at};
 ghost use Rattle.cb_matrix.specs.Operations.{transposed};
 ghost use Rattle.cb_scripts.specs.Walks.{infinite, AreLevels, AreDistances, unit_entry, unit_weights};
+ghost use Rattle.cb_scripts.specs.Refusals.{IsGraphRefusal};
 ghost use Rattle.cb_scripts.specs.Numbers.{number_at, AreNumbers, is_lower};
 
-use crate::ScriptFault;
+use crate::rounds::{multiply_vector, vector_plan};
+use crate::transposes::transpose;
+use crate::{Engine, ScriptFault};
+use cb_layout::{DistributedMatrix, Grid};
 use cb_matrix::{Entry, Matrix, Shape};
 use cb_semirings::{MinPlus, OrAnd};
 use std::alloc::{AllocError, Global};
 use std::collections::BTreeMap;
-
-/// Products of one matrix by vectors, one after the other. A refusal ends them.
-pub trait Rounds: Drop + Sized {
-    ghost matrix: { Self → Sparse };
-
-    /// The product by a vector.
-    fn times(
-        self,
-        alloc: Global,
-        x: &Matrix<MinPlus>,
-    ) -> Result<(Self, Matrix<MinPlus>), ScriptFault>
-        requires rows { x.now.shape.rows ≡ (matrix self).shape.cols }
-        requires column { x.now.shape.cols ≡ 1 }
-        ensures product { IfOk result (λ p. p.1 ≡ product min_plus (matrix self) x.now) }
-        ensures same { IfOk result (λ p. matrix p.0 ≡ matrix self) };
-}
 
 /// The number known of a vertex.
 fn number_of(known: &BTreeMap<u32, u64>, vertex: u32) -> u64
@@ -134,33 +121,49 @@ fn column_shape(graph: &Matrix<MinPlus>) -> Shape
 }
 
 /// The least weight of a walk from the source to each vertex.
-pub fn nearest<R: Rounds>(
+fn nearest(
     alloc: Global,
+    engine: Engine,
+    grid: &Grid,
     graph: &Matrix<MinPlus>,
-    rounds: R,
     source: u32,
 ) -> Result<Matrix<MinPlus>, ScriptFault>
     requires square { graph.now.shape.rows ≡ graph.now.shape.cols }
     requires source { source < graph.now.shape.rows }
-    requires turned { R.matrix rounds ≡ transposed min_plus graph.now }
-    ensures { IfOk result (λ column. AreDistances graph.now source column) }
+    ensures ok { IfOk result (λ column. AreDistances graph.now source column) }
+    ensures fault { IfErr result (λ f. f ≡ ScriptFault.Memory) }
 {
     let _shape = graph.shape();
     let shape = column_shape(graph);
+    let mut turned = turned_over(alloc, engine, grid, graph)?;
+    let plan = vector_plan(alloc, grid, turned.shape())?;
     let mut known = known_from(alloc, source)?;
     let mut fell = column_of(alloc, shape, &known)?;
-    let mut rounds = rounds;
     for _round in 0..graph.rows() {
         let _shape = fell.shape();
         if fell.is_empty() {
             break;
         }
-        let (next, reached) = rounds.times(alloc, &fell)?;
-        rounds = next;
+        let (matrix, reached) = multiply_vector(alloc, engine, grid, &plan, turned, &fell)?;
+        turned = matrix;
         fell = take_lower(alloc, &mut known, &reached)?;
     }
     let column = column_of(alloc, shape, &known)?;
     Ok(column)
+}
+
+/// The transpose of a matrix, over a grid.
+fn turned_over(
+    alloc: Global,
+    engine: Engine,
+    grid: &Grid,
+    graph: &Matrix<MinPlus>,
+) -> Result<DistributedMatrix<MinPlus>, ScriptFault>
+    ensures ok { IfOk result (λ m. m ≡ record { side = grid.now.side; matrix = transposed min_plus graph.now }) }
+    ensures fault { IfErr result (λ f. f ≡ ScriptFault.Memory) }
+{
+    let turned = transpose(alloc, engine, grid, graph)?;
+    Ok(DistributedMatrix::scatter(alloc, *grid, &turned)?)
 }
 
 /// Each entry with the value 1.
@@ -178,10 +181,61 @@ fn unit_entries(alloc: Global, entries: &[Entry]) -> Result<Vec<Entry>, AllocErr
 }
 
 /// The matrix in which each stored entry weighs 1.
-pub fn unit_matrix(alloc: Global, graph: &Matrix<OrAnd>) -> Result<Matrix<MinPlus>, AllocError>
+fn unit_matrix(alloc: Global, graph: &Matrix<OrAnd>) -> Result<Matrix<MinPlus>, AllocError>
     ensures { IfOk result (λ m. m ≡ unit_weights graph.now) }
 {
     let shape = graph.shape();
     let entries = unit_entries(alloc, graph.entries())?;
     Ok(Matrix::from_ordered(shape, entries))
+}
+
+/// The distance of each vertex from a source: the least weight of a walk, where a walk's weight is the sum of its
+/// entries' values, which stops at 2^64-1. Vertices without a walk, or with an infinite distance, are not stored.
+///
+/// Refused are `NotSquare`, then `Source` for one that is no vertex, before memory is asked for. The matrix is
+/// transposed once. A round is one run of the engine, and costs what the entries of the vertices that fell in the
+/// round before cost; there are at most as many as vertices.
+pub fn distances(
+    alloc: Global,
+    engine: Engine,
+    grid: &Grid,
+    graph: &Matrix<MinPlus>,
+    source: u32,
+) -> Result<Matrix<MinPlus>, ScriptFault>
+    ensures ok { IfOk result (λ column. AreDistances graph.now source column) }
+    ensures agree { IfOk result (λ column. (graph.now.shape.rows ≡ graph.now.shape.cols) × (source < graph.now.shape.rows)) }
+    ensures fault { IfErr result (IsGraphRefusal graph.now source) }
+{
+    if graph.rows() != graph.cols() {
+        return Err(ScriptFault::NotSquare);
+    }
+    if source >= graph.rows() {
+        return Err(ScriptFault::Source);
+    }
+    nearest(alloc, engine, grid, graph, source)
+}
+
+/// The level of each vertex from a source: the least number of entries of a walk. Vertices without a walk are not
+/// stored. Refusals and cost are those of [`distances`]; the level of a vertex is its distance where each entry
+/// weighs 1. This is the breadth-first search of Buluç and Gilbert, The Combinatorial BLAS (IJHPCA 2011), section 5.
+pub fn levels(
+    alloc: Global,
+    engine: Engine,
+    grid: &Grid,
+    graph: &Matrix<OrAnd>,
+    source: u32,
+) -> Result<Matrix<MinPlus>, ScriptFault>
+    ensures ok { IfOk result (λ column. AreLevels graph.now source column) }
+    ensures agree { IfOk result (λ column. (graph.now.shape.rows ≡ graph.now.shape.cols) × (source < graph.now.shape.rows)) }
+    ensures fault { IfErr result (IsGraphRefusal graph.now source) }
+{
+    let shape = graph.shape();
+    if shape.rows() != shape.cols() {
+        return Err(ScriptFault::NotSquare);
+    }
+    if source >= shape.rows() {
+        return Err(ScriptFault::Source);
+    }
+    let weighted = unit_matrix(alloc, graph)?;
+    nearest(alloc, engine, grid, &weighted, source)
 }
