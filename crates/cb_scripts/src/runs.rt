@@ -12,7 +12,7 @@ use crate::Engine;
 use crate::stores::{drain, laid_out};
 use cb_layout::{DistributedMatrix, Grid};
 use cb_matrix::{Matrix, Shape};
-use cb_plan::{CheckedPlan, Planned, RankStore, run_plain};
+use cb_plan::{CheckedPlan, Planned, RankStore, SLOTS, run_plain};
 use cb_semirings::Semiring;
 use std::alloc::{AllocError, Global};
 
@@ -66,7 +66,7 @@ pub fn round<S: Semiring>(
 ) -> Result<DistributedMatrix<S>, AllocError>
     requires ranks { plan.now.ranks ≡ grid.now.side * grid.now.side }
     requires fits { Fits plan.now.ranks plan.now.starts stores.items }
-    requires slot { slot < 256 }
+    requires slot { slot < SLOTS }
     requires shapes { HasShapes grid.now.side shape slot (meaning (matrices S.arithmetic) plan.now.acts (state_of stores.items)) }
     ensures { IfOk result (λ m. m ≡ record { side = grid.now.side; matrix = gathered S.arithmetic grid.now.side shape slot (meaning (matrices S.arithmetic) plan.now.acts (state_of stores.items)) }) }
 {
@@ -86,7 +86,7 @@ impl Engine {
         requires { Fits plan.now.ranks plan.now.starts stores.items }
         ensures meaning { IfOk result (λ after. state_of after.items ≡ meaning (matrices S.arithmetic) plan.now.acts (state_of stores.items)) }
         ensures none_lost { IfOk result (λ after. NoneLost after.items) }
-        ensures table { IfOk result (λ after. IsTable plan.now.ranks 256 after.items) }
+        ensures table { IfOk result (λ after. IsTable plan.now.ranks SLOTS after.items) }
     {
         match self {
             Engine::Plain => run_plain(alloc, plan, stores),
