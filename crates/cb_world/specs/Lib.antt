@@ -1,0 +1,4 @@
+pub mod Ends
+pub mod EndLaws
+pub mod Worlds
+pub mod Steps
