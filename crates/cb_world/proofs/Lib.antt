@@ -1,0 +1,6 @@
+pub mod Lanes
+pub mod Moving
+pub mod Progress
+pub mod Stepping
+pub mod Counting
+pub mod NextHalf
