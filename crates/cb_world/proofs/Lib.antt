@@ -4,3 +4,4 @@ pub mod Progress
 pub mod Stepping
 pub mod Counting
 pub mod NextHalf
+pub mod Keeping

@@ -19,6 +19,7 @@ use Rattle.cb_plan.specs.Meaning.{State, meaning, one, images, target_of}
 use Rattle.cb_plan.specs.Letters.{Cargo, Sheet, Mark, before, next_act, letter_of, letters}
 use Rattle.cb_plan.specs.Algebras.{matrices, shapes}
 use Rattle.cb_plan.specs.Checks.{IsSound, Passes, lanes_after, none_shut, started, operands_of}
+use Rattle.cb_plan.specs.Plans.{CheckedView}
 use Rattle.cb_plan.specs.Programs.{halves_of, project, project_from}
 use Rattle.cb_plan.specs.Stores.{state_of}
 use Rattle.cb_plan.proofs.Measured.{shapes_of_meaning}
@@ -35,7 +36,7 @@ use Rattle.cb_world.proofs.Stepping.{letters_begin, letters_unmarked, unmarked}
 
 -- a rank's program is the plan's
 pub program_of : (w : WorldView) (r : ℕ) → HasRank w r → (rank_of w r).program ≡ project w.plan.starts w.plan.acts r
-program_of w r has = rw (← has.plan, ← has.number) has.sound.program
+program_of w r has = has.sound.program ∙ ap (λ (p : CheckedView). project p.starts p.acts (rank_of w r).me) has.plan ∙ ap (λ n. project w.plan.starts w.plan.acts n) has.number
 
 pub passes_of : (s : Arithmetic) (w : WorldView) → IsWorld s w → Passes w.plan.ranks (started w.plan.starts) none_shut w.plan.acts
 passes_of s w h = checked_passes w.plan.ranks 0 (started w.plan.starts) none_shut w.plan.acts h.checked.no_fault
