@@ -1,3 +1,9 @@
--- Boxes: the mailbox of a rank, read by its number. Starting: the ranks of a new world.
+pub mod Lanes
+pub mod Moving
+pub mod Progress
+pub mod Stepping
+pub mod Counting
+pub mod NextHalf
+pub mod Keeping
 pub mod Boxes
 pub mod Starting
