@@ -6,4 +6,4 @@ pub mod Counting
 pub mod NextHalf
 pub mod Keeping
 pub mod Boxes
-pub mod Starting
+pub mod NewRanks

@@ -1,7 +1,8 @@
 -- The ranks of a new world, made of their stores from the last on.
 use Rattle.std.proofs.Common.{ℕ, zero, suc, ◌≡◌, ◌<◌, ◌≤◌, ◌+◌, List, [], ◌∷◌, ◌++◌, length, refl, sym, ◌∙◌, ◌-◌, ap, subst, arith, append_assoc, length-append}
 use Rattle.std.specs.Prelude.{map, reverse, get_or}
-use Rattle.std.proofs.lemmas.List.{reverse-append, map-append, get_or-append_right}
+use Rattle.std.proofs.lemmas.List.{reverse-append, map-append}
+use Rattle.std.proofs.Math.Seq.{get_or-append_right}
 use Rattle.cb_matrix.specs.Sparse.{Sparse}
 use Rattle.cb_plan.specs.declared.acts.Start.{Start}
 use Rattle.cb_plan.specs.declared.stores.Slot.{Slot}
@@ -12,7 +13,7 @@ use Rattle.cb_rank.specs.Ranks.{RankView, FitsAt, new_rank}
 use Rattle.cb_world.specs.Starting.{new_ranks}
 use Rattle.cb_world.specs.Worlds.{no_rank}
 
-abbrev Stores : Type 0
+abbrev pub Stores : Type 0
 Stores = List (List (Slot Sparse))
 
 -- one rank's store fits where all do
@@ -42,11 +43,23 @@ read_rank p k [] i h = absurd (omega arith)
 read_rank p k (s ∷ ss) zero h = let e : k + 0 ≡ k = omega arith in rw e refl
 read_rank p k (s ∷ ss) (suc i) h = let e : k + suc i ≡ k + 1 + i = omega arith in rw e (read_rank p (k + 1) ss i (omega arith))
 
--- the store that was popped is that of the rank with the number of those left
-pub last_store : (first stores : Stores) (store : List (Slot Sparse)) (rest : Stores) → (stores ++ store ∷ []) ++ rest ≡ first → get_or first (length stores) [] ≡ store
-last_store first stores store rest e =
+-- the store that is taken from the end is that of the rank with the number of those left
+last_store : (stores rest : Stores) (store blank : List (Slot Sparse)) → get_or ((stores ++ store ∷ []) ++ rest) (length stores) blank ≡ store
+last_store stores rest store blank =
     let z : length stores - length stores ≡ 0 = omega arith in
-    subst (λ xs. get_or xs (length stores) [] ≡ store) (sym (append_assoc stores (store ∷ []) rest) ∙ e) (get_or-append_right stores (store ∷ rest) (length stores) [] (omega arith) ∙ ap (λ k. get_or (store ∷ rest) k []) z)
+    let at : ℕ → List (Slot Sparse) = λ k. get_or (store ∷ rest) k blank in
+    rw (append_assoc stores (store ∷ []) rest) (get_or-append_right stores (store ∷ rest) (length stores) blank (omega arith) ∙ ap at z)
+
+-- so it fits there
+pub store_fits : (p : CheckedView) (first before stores : Stores) (store : List (Slot Sparse)) (ranks : List RankView) (rest : Stores) (n : ℕ) → Fits p.ranks p.starts first → AreStarting p first before ranks rest → before ≡ stores ++ store ∷ [] → n ≡ length stores → FitsAt p.starts n store
+store_fits p first before stores store ranks rest n fits are popped number =
+    let whole : (stores ++ store ∷ []) ++ rest ≡ first = ap (λ xs. xs ++ rest) (sym popped) ∙ are.whole in
+    let long : length ((stores ++ store ∷ []) ++ rest) ≡ length stores + 1 + length rest = length-append (stores ++ store ∷ []) rest ∙ ap (λ k. k + length rest) (length-append stores (store ∷ [])) in
+    let size : length first ≡ length stores + 1 + length rest = ap length (sym whole) ∙ long in
+    let rows = fits.table.rows in
+    let blank : List (Slot Sparse) = [] in
+    let here : get_or first n blank ≡ store = rw number (ap (λ xs. get_or xs (length stores) blank) (sym whole) ∙ last_store stores rest store blank) in
+    subst (FitsAt p.starts n) here (fits_at p.ranks p.starts first n fits (omega arith))
 
 pub one_rank_more : (p : CheckedView) (first stores : Stores) (store : List (Slot Sparse)) (ranks : List RankView) (rest : Stores) → AreStarting p first (stores ++ store ∷ []) ranks rest → AreStarting p first stores (ranks ++ new_rank p (length stores) store ∷ []) (store ∷ rest)
 one_rank_more p first stores store ranks rest are = record {
