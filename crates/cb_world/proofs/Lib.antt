@@ -5,3 +5,6 @@ pub mod Stepping
 pub mod Counting
 pub mod NextHalf
 pub mod Keeping
+pub mod OwnEnds
+pub mod Acting
+pub mod OneStep
