@@ -49,13 +49,13 @@ agrees_on s w r h after sound inside next moves =
 
 -- the lanes after the one between two ranks has changed
 module _ (w : WorldView) (ranks : List RankView) (f t : ℕ) (l : Lane Sparse) (inside : t < length w.boxes) where
-  abbrev new : WorldView
-  new = record w { ranks = ranks; boxes = with_lane_in w.boxes f t l }
+  abbrev changed : WorldView
+  changed = record w { ranks = ranks; boxes = with_lane_in w.boxes f t l }
 
-  pub others : OtherLanesStay f t (system_of w) (system_of new)
+  pub others : OtherLanesStay f t (system_of w) (system_of changed)
   others = record { by_sender = λ p q ne. lane_by_sender w.boxes f t p q l inside ne; by_addressee = λ p q ne. lane_by_addressee w.boxes f t p q l ne }
 
-  rooms : f < length (box_in w.boxes t).lanes → l.capacity ≡ (lane_between w f t).capacity → (p q : ℕ) → (lane_between new p q).capacity ≡ (lane_between w p q).capacity
+  rooms : f < length (box_in w.boxes t).lanes → l.capacity ≡ (lane_between w f t).capacity → (p q : ℕ) → (lane_between changed p q).capacity ≡ (lane_between w p q).capacity
   rooms h e p q =
       split (q == t)
       (λ u. split (p == f)
@@ -64,9 +64,9 @@ module _ (w : WorldView) (ranks : List RankView) (f t : ℕ) (l : Lane Sparse) (
       (λ u. ap (λ (x : Lane Sparse). x.capacity) (lane_by_addressee w.boxes f t p q l (grind (arith, nat_tests))))
 
   -- a mailbox keeps its number and its lanes
-  pub has_box : f < length (box_in w.boxes t).lanes → l.capacity ≡ (lane_between w f t).capacity → (q : ℕ) → HasBox w q → HasBox new q
+  pub has_box : f < length (box_in w.boxes t).lanes → l.capacity ≡ (lane_between w f t).capacity → (q : ℕ) → HasBox w q → HasBox changed q
   has_box h e q has =
-      let kept : ((box_in new.boxes q).me ≡ (box_in w.boxes q).me) × (length (box_in new.boxes q).lanes ≡ length (box_in w.boxes q).lanes) =
+      let kept : ((box_in changed.boxes q).me ≡ (box_in w.boxes q).me) × (length (box_in changed.boxes q).lanes ≡ length (box_in w.boxes q).lanes) =
       split (q == t)
       (λ u.
       let same : q ≡ t = grind (arith, nat_tests) in
@@ -301,22 +301,22 @@ works_keep s w r op x refusals sound inside next work =
     )
 
 -- a world is one after each half
-pub does_keep : (s : Arithmetic) (w new : WorldView) (r : ℕ) (h : Half) → IsWorld s w → r < w.plan.ranks → next_of w r ≡ Some h → DoesIn s r h w new → IsWorld s new
-does_keep s w new r (half_is.Post to tag slot) sound inside next did =
+pub does_keep : (s : Arithmetic) (w after : WorldView) (r : ℕ) (h : Half) → IsWorld s w → r < w.plan.ranks → next_of w r ≡ Some h → DoesIn s r h w after → IsWorld s after
+does_keep s w after r (half_is.Post to tag slot) sound inside next did =
     let me = (sound.ranks r inside).number in
     let copy = did.2.1 in
-    let after : with_rank w r did.1 (boxes_with w.boxes (letter_to w r to tag did.0)) ≡ with_rank w r (onward (rank_of w r) (rank_of w r).slots did.1.refusals) (boxes_with w.boxes (letter_to w r to tag did.0)) = ap (λ x. with_rank w r x (boxes_with w.boxes (letter_to w r to tag did.0))) did.2.2 in
-    subst (λ y. IsWorld s y) (sym (did.3 ∙ after))
+    let same : with_rank w r did.1 (boxes_with w.boxes (letter_to w r to tag did.0)) ≡ with_rank w r (onward (rank_of w r) (rank_of w r).slots did.1.refusals) (boxes_with w.boxes (letter_to w r to tag did.0)) = ap (λ x. with_rank w r x (boxes_with w.boxes (letter_to w r to tag did.0))) did.2.2 in
+    subst (λ y. IsWorld s y) (sym (did.3 ∙ same))
     (posts_keep s w r to tag slot did.0 did.1.refusals sound inside next (subst (λ me. IsCopy me (slot_at (rank_of w r).slots slot) did.0 (rank_of w r).refusals did.1.refusals) me copy))
-does_keep s w new r (half_is.Take from tag into shape) sound inside next did =
+does_keep s w after r (half_is.Take from tag into shape) sound inside next did =
     subst (λ y. IsWorld s y) (sym did.3) (takes_keep s w r from tag into shape did.0 sound inside next did.1)
-does_keep s w new r (half_is.Work op) sound inside next did =
+does_keep s w after r (half_is.Work op) sound inside next did =
     let me = (sound.ranks r inside).number in
     let it = did.1 in
-    let after : with_rank w r did.0 w.boxes ≡ with_rank w r (onward (rank_of w r) (slice_set (rank_of w r).slots (target_of op) it.0) did.0.refusals) w.boxes = ap (λ x. with_rank w r x w.boxes) it.2 in
-    subst (λ y. IsWorld s y) (sym (did.2 ∙ after))
+    let same : with_rank w r did.0 w.boxes ≡ with_rank w r (onward (rank_of w r) (slice_set (rank_of w r).slots (target_of op) it.0) did.0.refusals) w.boxes = ap (λ x. with_rank w r x w.boxes) it.2 in
+    subst (λ y. IsWorld s y) (sym (did.2 ∙ same))
     (works_keep s w r op it.0 did.0.refusals sound inside next (subst (λ me. IsWork s me op (rank_of w r).slots it.0 (rank_of w r).refusals did.0.refusals) me it.1))
-does_keep s w new r (half_is.Shut to) sound inside next did =
+does_keep s w after r (half_is.Shut to) sound inside next did =
     subst (λ y. IsWorld s y) (sym did) (shuts_keep s w r to sound inside next)
-does_keep s w new r (half_is.End from) sound inside next did =
+does_keep s w after r (half_is.End from) sound inside next did =
     subst (λ y. IsWorld s y) (sym did.3) (ends_keep s w r from did.0 sound inside next did.1)

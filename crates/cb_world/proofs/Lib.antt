@@ -7,3 +7,6 @@ pub mod NextHalf
 pub mod Keeping
 pub mod Boxes
 pub mod NewRanks
+pub mod OwnEnds
+pub mod Acting
+pub mod OneStep

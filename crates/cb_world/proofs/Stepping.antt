@@ -48,7 +48,7 @@ unmarked ((tag, Sheet m) ∷ []) h = refl
 unmarked ((tag, Sheet m) ∷ (v ∷ ws)) h = unmarked (v ∷ ws) h
 unmarked ((tag, Mark) ∷ ws) h = absurd h
 
-kept_shut : (a : Act) (shut : Lanes) (s t : ℕ) → shut s t ≡ true → shut_after a shut s t ≡ true
+pub kept_shut : (a : Act) (shut : Lanes) (s t : ℕ) → shut s t ≡ true → shut_after a shut s t ≡ true
 kept_shut (act_is.Move from to tag slot into) shut s t e = e
 kept_shut (act_is.Work rank op) shut s t e = e
 kept_shut (act_is.Shut from to) shut s t e = split (from == s && to == t) (λ u. rw u refl) (λ u. rw u e)
