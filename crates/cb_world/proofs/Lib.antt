@@ -7,6 +7,7 @@ pub mod NextHalf
 pub mod Keeping
 pub mod Boxes
 pub mod NewRanks
+pub mod Asking
 pub mod OwnEnds
 pub mod Acting
 pub mod OneStep
