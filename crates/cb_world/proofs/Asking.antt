@@ -1,33 +1,37 @@
 -- What a rank's next half asks of its lanes: the other rank exists and is another, and the half can be done where
 -- there is room, or where a letter is queued.
-use Rattle.std.proofs.Common.{ℕ, ◌≡◌, ◌≢◌, ◌<◌, ◌+◌, List, [], length, slice_index_or, refl, sym, ◌∙◌, ap, subst, arith, IsTrue}
-use Rattle.std.specs.Prelude.{Option, Some, None, slice_get, ◌↔◌}
-use Rattle.std.proofs.lemmas.Option.{same_Some, slice_get-get_or, slice_get_within}
+use Rattle.std.proofs.Common.{ℕ, ◌≡◌, ◌≢◌, ◌<◌, ◌+◌, List, [], length, slice_index_or, refl, sym, ◌∙◌, ap, subst, arith, IsTrue, inl, inr}
+use Rattle.std.specs.Prelude.{Option, Some, None, Ok, Err, ◌↔◌, ◌==◌, nat_lt}
+use Rattle.std.proofs.lemmas.Bool.Decides.{nat_tests}
+use Rattle.std.proofs.lemmas.Option.{same_Some, slice_get-get_or}
 use Rattle.cb_semirings.specs.Arithmetic.{Arithmetic}
 use Rattle.cb_letters.specs.Lane.{HasRoom}
 use Rattle.cb_plan.specs.declared.acts.Half.{Half}
 use Rattle.cb_plan.specs.declared.acts.Half.TheVariants as half_is
 use Rattle.cb_rank.specs.declared.wants.Want.TheVariants as want_is
+use Rattle.cb_rank.specs.declared.wants.Moved.{Moved}
+use Rattle.cb_rank.specs.Steps.{Answer}
 use Rattle.cb_rank.specs.Ranks.{RankView, next_half, want_of}
 use Rattle.cb_rank.proofs.Wanted.{wants_post_to, wants_shut_to, wants_take, wants_work, wants_end, wants_nothing}
-use Rattle.cb_world.specs.Worlds.{WorldView, IsWorld, HasBox, no_rank, rank_of, next_of, lane_between, CanDo, CanAct}
+use Rattle.cb_world.specs.Worlds.{WorldView, IsWorld, HasBox, no_rank, rank_of, next_of, lane_between, CanDo, CanAct, remaining}
+use Rattle.cb_world.specs.Steps.{Steps, StepsBy}
+use Rattle.cb_world.specs.declared.events.Event.TheVariants as event_is
+use Rattle.cb_rank.proofs.View.{split}
+use Rattle.cb_world.proofs.Acting.{no_next}
+use Rattle.cb_world.proofs.Going.{does_lower}
 use Rattle.cb_world.proofs.NextHalf.{finds_half}
+use Rattle.cb_world.proofs.OneStep.{Came}
 
 -- a list read at a place, whatever stands for what is past its end
 pub read_at : {X : Type 0} (xs : List X) (i : ℕ) (x d : X) → i < length xs → x ≡ slice_index_or xs i x → x ≡ slice_index_or xs i d
 read_at xs i x d l e = e ∙ same_Some _ _ (sym (slice_get-get_or xs i x l) ∙ slice_get-get_or xs i d l)
 
-pub found_at : {X : Type 0} (xs : List X) (i : ℕ) (x d : X) → slice_get xs i ≡ Some x → (i < length xs) × (slice_index_or xs i d ≡ x)
-found_at xs i x d e =
-    let inside = slice_get_within xs i x e in
-    (inside, same_Some _ _ (sym (slice_get-get_or xs i d inside) ∙ e))
-
-module _ (s : Arithmetic) (w : WorldView) (sound : IsWorld s w) (r : ℕ) (x : RankView) (there : slice_get w.ranks r ≡ Some x) where
+module _ (s : Arithmetic) (w : WorldView) (sound : IsWorld s w) (r : ℕ) (x : RankView) (there : r < length w.ranks) (read : x ≡ rank_of w r) where
   inside : r < w.plan.ranks
-  inside = let size = sound.sizes.0 in let l = (found_at w.ranks r x no_rank there).0 in omega arith
+  inside = let size = sound.sizes.0 in omega arith
 
   next : (half : Option Half) → next_half x ≡ half → next_of w r ≡ half
-  next half e = ap next_half (found_at w.ranks r x no_rank there).1 ∙ e
+  next half e = ap next_half (sym read) ∙ e
 
   -- the two ranks of a lane, as mailboxes ask for them
   pub record AreTwo (k : ℕ) : Type 0 where
@@ -84,3 +88,33 @@ module _ (s : Arithmetic) (w : WorldView) (sound : IsWorld s w) (r : ℕ) (x : R
 
   pub at_done : want_of (next_half x) ≡ want_is.Done → ¬ CanAct w r
   at_done e c = (can None (next None (wants_nothing (next_half x) e))).1 c
+
+pub zero_test : (n : ℕ) → IsTrue (n == 0) ↔ (n ≡ 0)
+zero_test n = (λ t. grind (arith, nat_tests), λ e. grind (arith, nat_tests))
+
+moved_in : Answer → Moved → Moved
+moved_in (Ok m) other = m
+moved_in (Err e) other = other
+
+-- a step of the world, by the answer that its rank gave
+pub came_as : (s : Arithmetic) (w : WorldView) (r : ℕ) (answer : Answer) (after : WorldView) (m : Moved) → Came s w r answer after → answer ≡ Ok m → StepsBy s r (next_of w r) m w after
+unfolding moved_in
+came_as s w r answer after m came e =
+    let same : came.moved ≡ m = ap (λ a. moved_in a m) (sym came.answer_is ∙ e) in
+    subst (λ m. StepsBy s r (next_of w r) m w after) same came.steps
+
+lowers : (s : Arithmetic) (w after : WorldView) (r : ℕ) (half : Option Half) (m : Moved) → IsWorld s w → next_of w r ≡ half → CanAct w r → StepsBy s r half m w after → remaining after < remaining w
+lowers s w after r None m sound next can steps = absurd (subst (CanDo w r) next can)
+lowers s w after r (Some h) m sound next can (inl waits) = absurd (waits.1 can)
+lowers s w after r (Some h) m sound next can (inr did) =
+    split (nat_lt r (length w.ranks))
+    (λ t.
+    let there : r < length w.ranks = grind (arith, nat_tests) in
+    let size = sound.sizes.0 in
+    let less = does_lower s w after r h sound (omega arith) next did.2 in
+    omega arith)
+    (λ f. let none = sym next ∙ no_next w r (grind (arith, nat_tests)) in cc)
+
+-- less remains after a step of a rank that can act
+pub acts_lower : (s : Arithmetic) (w after : WorldView) (r : ℕ) (m : Moved) → IsWorld s w → CanAct w r → Steps s (event_is.Step r) m w after → remaining after < remaining w
+acts_lower s w after r m sound can steps = lowers s w after r (next_of w r) m sound refl can steps.half

@@ -10,8 +10,8 @@ use Rattle.cb_plan.specs.declared.stores.Slot.TheVariants as slot_is
 use Rattle.cb_plan.specs.Plans.{CheckedView}
 use Rattle.cb_plan.specs.Stores.{Fits}
 use Rattle.cb_rank.specs.Ranks.{RankView, FitsAt, new_rank}
-use Rattle.cb_world.specs.Starting.{new_ranks}
-use Rattle.cb_world.specs.Worlds.{no_rank}
+use Rattle.cb_world.specs.Starting.{new_ranks, AreNewBoxes}
+use Rattle.cb_world.specs.Worlds.{WorldView, IsNewWorld, no_rank}
 
 abbrev pub Stores : Type 0
 Stores = List (List (Slot Sparse))
@@ -72,3 +72,17 @@ one_rank_more p first stores store ranks rest are = record {
 -- the stores come back as they were
 pub all_back : (p : CheckedView) (first stores : Stores) (ranks : List RankView) (rest : Stores) → AreStarting p first stores ranks rest → stores ++ map (λ (x : RankView). x.slots) (reverse ranks) ≡ first
 all_back p first stores ranks rest are = ap (λ xs. stores ++ map (λ (x : RankView). x.slots) xs) are.made ∙ ap (λ xs. stores ++ xs) (slots_of p (length stores) rest) ∙ are.whole
+
+-- and in the end a world in which nothing is done
+pub new_world : (p : CheckedView) (stores : Stores) (c : ℕ) (w : WorldView) → w.plan ≡ p → w.first ≡ stores → w.capacity ≡ c → Fits p.ranks p.starts stores → w.ranks ≡ new_ranks p 0 stores → AreNewBoxes p.ranks c w.boxes → IsNewWorld p stores c w
+new_world p stores c w plan first capacity fits ranks boxes =
+    let rows = fits.table.rows in
+    record {
+      plan = plan;
+      first = first;
+      capacity = capacity;
+      sizes = (ap length ranks ∙ length-new_ranks p 0 stores ∙ rows, boxes.size);
+      ranks = λ r l. let z : 0 + r ≡ r = omega arith in ap (λ rs. get_or rs r no_rank) ranks ∙ read_rank p 0 stores r (omega arith) ∙ ap (λ k. new_rank p k (get_or stores r [])) z;
+      boxes = boxes.owners;
+      lanes = boxes.lanes;
+    }

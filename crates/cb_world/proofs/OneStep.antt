@@ -21,7 +21,7 @@ use Rattle.cb_rank.specs.declared.wants.Arrival.TheVariants as arrival_is
 use Rattle.cb_rank.specs.declared.wants.Moved.{Moved}
 use Rattle.cb_rank.specs.declared.wants.Moved.TheVariants as moved_is
 use Rattle.cb_rank.specs.Halves.{HasKind, asks_memory}
-use Rattle.cb_rank.specs.Ranks.{RankView, IsAwaited}
+use Rattle.cb_rank.specs.Ranks.{RankView, IsAwaited, next_half}
 use Rattle.cb_rank.specs.Steps.{Answer, StepPosts, StepTakes, StepWorks, TakesUp, Accepts, moved_by}
 use Rattle.cb_rank.proofs.View.{split}
 use Rattle.cb_world.specs.declared.events.Event.TheVariants as event_is
@@ -180,3 +180,41 @@ module _ (s : Arithmetic) (w : WorldView) (r : ℕ) (sound : IsWorld s w) (insid
       did_half (half_is.Shut to) next sent.1 (omega arith) (both sent.0 boxes)
   step_by (Some (half_is.Take from tag into shape)) next p t k = take_from from tag into shape next (lane_between w from r).queue (lane_between w from r).closed refl refl t.0 t.1 t.2
   step_by (Some (half_is.End from)) next p t k = end_from from next (lane_between w from r).queue (lane_between w from r).closed refl refl t.0 t.1 t.2
+
+-- a step of rank r over its own ends of the world's lanes: no stray comes, it is a step of the world, and the world goes on as one
+pub step_is : (s : Arithmetic) (w : WorldView) (r : ℕ) (old x : RankView) (answer : Answer) (p q : EndsView Sparse) → IsWorld s w → r < w.plan.ranks → old ≡ rank_of w r → p ≡ record { me = r; boxes = w.boxes }
+    → StepPosts standing has_room may_be_full keeps posts (next_half old) answer old p x q → StepTakes takes (next_half old) answer old p x q → StepWorks s (next_half old) answer old p x q → Came s w r answer (with_rank w r x q.boxes)
+step_is s w r old x answer p q sound inside e f posted taken worked =
+    step_by s w r sound inside x answer q (next_of w r) refl
+    (subst (λ a. StepPosts standing has_room may_be_full keeps posts (next_of w r) answer (rank_of w r) a x q) f (subst (λ o. StepPosts standing has_room may_be_full keeps posts (next_half o) answer o p x q) e posted))
+    (subst (λ a. StepTakes takes (next_of w r) answer (rank_of w r) a x q) f (subst (λ o. StepTakes takes (next_half o) answer o p x q) e taken))
+    (subst (λ a. StepWorks s (next_of w r) answer (rank_of w r) a x q) f (subst (λ o. StepWorks s (next_half o) answer o p x q) e worked))
+
+moved_not_waiting : (h : Half) → moved_by h ≢ moved_is.Waiting
+moved_not_waiting (half_is.Post to tag slot) e = cc
+moved_not_waiting (half_is.Take from tag into shape) e = cc
+moved_not_waiting (half_is.Work op) e = cc
+moved_not_waiting (half_is.Shut to) e = cc
+moved_not_waiting (half_is.End from) e = cc
+
+-- where a step of a rank that can act was starved, its count is one more if it asked for memory
+starved_by : (s : Arithmetic) (w : WorldView) (r : ℕ) (next : Option Half) (m : Moved) (answer : Answer) (after : WorldView) (n : ℕ) → answer ≡ Ok m → StepsBy s r next m w after → CanAct w r → (rank_of after r).refusals ≡ n
+    → IfSome next (λ h. asks_memory (rank_of w r).slots h ≡ true → answer ≢ Ok moved_is.Waiting → n ≡ (rank_of w r).refusals + 1)
+    → IfSome next (λ h. asks_memory (rank_of w r).slots h ≡ true → (rank_of after r).refusals ≡ (rank_of w r).refusals + 1)
+starved_by s w r None m answer after n is steps can count refused = tt
+starved_by s w r (Some h) m answer after n is (inl waits) can count refused = absurd (waits.1 can)
+starved_by s w r (Some h) m answer after n is (inr did) can count refused = λ asks.
+    let went : answer ≢ Ok moved_is.Waiting = λ e.
+        let both : Ok (moved_by h) ≡ Ok moved_is.Waiting = ap Ok (sym did.0) ∙ sym is ∙ e in
+        let same : moved_by h ≡ moved_is.Waiting = cc in
+        moved_not_waiting h same in
+    count ∙ refused asks went
+
+pub starved_is : (s : Arithmetic) (w : WorldView) (r : ℕ) (old x : RankView) (answer : Answer) (boxes : List (Inbox Sparse)) (m : Moved) → IsWorld s w → r < w.plan.ranks → old ≡ rank_of w r → answer ≡ Ok m → StepsBy s r (next_of w r) m w (with_rank w r x boxes)
+    → IfSome (next_half old) (λ h. asks_memory old.slots h ≡ true → answer ≢ Ok moved_is.Waiting → x.refusals ≡ old.refusals + 1)
+    → IsStarved (event_is.Starve r) w (with_rank w r x boxes)
+starved_is s w r old x answer boxes m sound inside e is steps refused can =
+    let size = sound.sizes.0 in
+    let same : rank_of (with_rank w r x boxes) r ≡ x = get_or-set_same w.ranks r x no_rank (omega arith) in
+    starved_by s w r (next_of w r) m answer (with_rank w r x boxes) x.refusals is steps can (ap (λ (y : RankView). y.refusals) same)
+    (subst (λ o. IfSome (next_half o) (λ h. asks_memory o.slots h ≡ true → answer ≢ Ok moved_is.Waiting → x.refusals ≡ o.refusals + 1)) e refused)

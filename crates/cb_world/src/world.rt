@@ -156,8 +156,7 @@ impl<S: Semiring> World<S> {
 
     /// How many halves are not done, of all ranks.
     pub fn remaining(&self) -> u64
-        ensures value { result ≡ remaining self.now }
-        ensures done { (result ≡ 0) ↔ AllDone self.now }
+        ensures { result ≡ remaining self.now }
     {
         let mut halves = 0;
         for rank in &self.ranks {
@@ -168,7 +167,8 @@ impl<S: Semiring> World<S> {
 
     /// Whether every rank has done all its halves.
     pub fn all_done(&self) -> bool
-        ensures { IsTrue result ↔ AllDone self.now }
+        ensures done { IsTrue result ↔ AllDone self.now }
+        ensures none_left { IsTrue result ↔ (remaining self.now ≡ 0) }
     {
         self.remaining() == 0
     }

@@ -1,0 +1,14 @@
+-- All is done, so the world is finished, and its stores hold what its plan means.
+use Rattle.cb_world.proofs.Finishing.{finishes, ends_in_meaning}
+use Rattle.cb_world.proofs.world.World.into_stores.Goals as goal
+
+pub returns-clause-finished : goal.returns-clause-finished
+returns-clause-finished g c =
+    let done = rw (← c.self.view_is) at c.requires in
+    rw (← c.self.view_is) (finishes _ _ c.self.invariant.0 done)
+
+pub returns-clause-meaning : goal.returns-clause-meaning
+returns-clause-meaning g c =
+    let done = rw (← c.self.view_is) at c.requires in
+    let meaning = ends_in_meaning _ _ c.self.invariant.0 done in
+    ?
