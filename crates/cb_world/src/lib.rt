@@ -15,6 +15,8 @@
 mod ends;
 mod events;
 mod starting;
+#[cfg(test)]
+mod tests;
 mod world;
 
 pub use events::Event;

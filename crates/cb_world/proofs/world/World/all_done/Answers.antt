@@ -7,4 +7,4 @@ pub returns-clause-done : goal.returns-clause-done
 returns-clause-done g c =
     let value = c.remaining.ensures in
     let zero = zero_test c.remaining.result in
-    (λ t. all_done_by _ (sym value ∙ zero.0 t), λ d. zero.1 (value ∙ none_remains _ d))
+    (λ t. all_done_by c.args.self.now (sym value ∙ zero.0 t), λ d. zero.1 (value ∙ none_remains c.args.self.now d))

@@ -6,7 +6,7 @@ use Rattle.cb_world.proofs.Going.{runs_more}
 use Rattle.cb_world.proofs.world.World.finish.Goals as goal
 
 pub loop-r-smaller : goal.loop-r-smaller
-loop-r-smaller g c = acts_lower _ _ _ c.in-Some.r _ c.in-Some.ensures.world c.in-Some.ensures.ready.0 c.step.ensures.step
+loop-r-smaller g c = acts_lower _ _ _ c.in-Some.r _ c.in-Some.ensures.world c.in-Some.ensures.ready.0 c.step-moved.ensures.step
 
 pub loop-r-preserved : goal.loop-r-preserved
-loop-r-preserved g c = (c.loop-r.invariant.0 ++ Step c.in-Some.r ∷ [], runs_more _ c.loop-r.invariant.0 (Step c.in-Some.r) c.step.result _ _ _ c.loop-r.invariant.1 c.step.ensures.step)
+loop-r-preserved g c = (c.loop-r.invariant.0 ++ Step c.in-Some.r ∷ [], runs_more _ c.loop-r.invariant.0 (Step c.in-Some.r) c.step-moved.result _ _ _ c.loop-r.invariant.1 c.step-moved.ensures.step)
