@@ -10,15 +10,17 @@ use Rattle.cb_plan.specs.declared.acts.Half.{Half}
 use Rattle.cb_plan.specs.declared.acts.Half.TheVariants as half_is
 use Rattle.cb_rank.specs.declared.wants.Want.TheVariants as want_is
 use Rattle.cb_rank.specs.declared.wants.Moved.{Moved}
+use Rattle.cb_rank.specs.declared.wants.Moved.TheVariants as moved_is
 use Rattle.cb_rank.specs.Steps.{Answer}
 use Rattle.cb_rank.specs.Ranks.{RankView, next_half, want_of}
 use Rattle.cb_rank.proofs.Wanted.{wants_post_to, wants_shut_to, wants_take, wants_work, wants_end, wants_nothing}
 use Rattle.cb_world.specs.Worlds.{WorldView, IsWorld, HasBox, no_rank, rank_of, next_of, lane_between, CanDo, CanAct, remaining}
-use Rattle.cb_world.specs.Steps.{Steps, StepsBy}
+use Rattle.cb_world.specs.Steps.{DoesIn, Steps, StepsBy, RunsBy, rank_in}
+use Rattle.cb_world.specs.declared.events.Event.{Event}
 use Rattle.cb_world.specs.declared.events.Event.TheVariants as event_is
 use Rattle.cb_rank.proofs.View.{split}
 use Rattle.cb_world.proofs.Acting.{no_next}
-use Rattle.cb_world.proofs.Going.{does_lower}
+use Rattle.cb_world.proofs.Going.{does_lower, steps_stay, runs_stay}
 use Rattle.cb_world.proofs.NextHalf.{finds_half}
 use Rattle.cb_world.proofs.OneStep.{Came}
 
@@ -103,18 +105,39 @@ came_as s w r answer after m came e =
     let same : came.moved ≡ m = ap (λ a. moved_in a m) (sym came.answer_is ∙ e) in
     subst (λ m. StepsBy s r (next_of w r) m w after) same came.steps
 
-lowers : (s : Arithmetic) (w after : WorldView) (r : ℕ) (half : Option Half) (m : Moved) → IsWorld s w → next_of w r ≡ half → CanAct w r → StepsBy s r half m w after → remaining after < remaining w
-lowers s w after r None m sound next can steps = absurd (subst (CanDo w r) next can)
-lowers s w after r (Some h) m sound next can (inl waits) = absurd (waits.1 can)
-lowers s w after r (Some h) m sound next can (inr did) =
+-- one half less remains after a half of a rank
+lowers : (s : Arithmetic) (w after : WorldView) (r : ℕ) (h : Half) → IsWorld s w → next_of w r ≡ Some h → DoesIn s r h w after → remaining after + 1 ≡ remaining w
+lowers s w after r h sound next did =
     split (nat_lt r (length w.ranks))
     (λ t.
     let there : r < length w.ranks = grind (arith, nat_tests) in
     let size = sound.sizes.0 in
-    let less = does_lower s w after r h sound (omega arith) next did.2 in
-    omega arith)
+    does_lower s w after r h sound (omega arith) next did)
     (λ f. let none = sym next ∙ no_next w r (grind (arith, nat_tests)) in cc)
+
+acts : (s : Arithmetic) (w after : WorldView) (r : ℕ) (half : Option Half) (m : Moved) → IsWorld s w → next_of w r ≡ half → CanAct w r → StepsBy s r half m w after → remaining after < remaining w
+acts s w after r None m sound next can steps = absurd (subst (CanDo w r) next can)
+acts s w after r (Some h) m sound next can (inl waits) = absurd (waits.1 can)
+acts s w after r (Some h) m sound next can (inr did) = let less = lowers s w after r h sound next did.2 in omega arith
 
 -- less remains after a step of a rank that can act
 pub acts_lower : (s : Arithmetic) (w after : WorldView) (r : ℕ) (m : Moved) → IsWorld s w → CanAct w r → Steps s (event_is.Step r) m w after → remaining after < remaining w
-acts_lower s w after r m sound can steps = lowers s w after r (next_of w r) m sound refl can steps.half
+acts_lower s w after r m sound can steps = acts s w after r (next_of w r) m sound refl can steps.half
+
+-- a step that neither waits nor is idle does a half
+pub falls : (s : Arithmetic) (w after : WorldView) (r : ℕ) (half : Option Half) (m : Moved) → IsWorld s w → next_of w r ≡ half → StepsBy s r half m w after → m ≢ moved_is.Waiting → m ≢ moved_is.Idle → remaining after + 1 ≡ remaining w
+falls s w after r None m sound next steps waits idles = absurd (idles steps.0)
+falls s w after r (Some h) m sound next (inl held) waits idles = absurd (waits held.0)
+falls s w after r (Some h) m sound next (inr did) waits idles = lowers s w after r h sound next did.2
+
+-- no step changes the plan and the first state
+abbrev pub Keeps : WorldView → WorldView → Type 0
+Keeps w after = (after.plan ≡ w.plan) × (after.first ≡ w.first)
+
+pub step_keeps : (s : Arithmetic) (event : Event) (m : Moved) (w after : WorldView) → Steps s event m w after → Keeps w after
+step_keeps s event m w after steps =
+    let stay = steps_stay s w after (rank_in event) (next_of w (rank_in event)) m steps.half in
+    (stay.plan, stay.first)
+
+pub run_keeps : (s : Arithmetic) (events : List Event) (w after : WorldView) → RunsBy s events w after → Keeps w after
+run_keeps s events w after runs = let stay = runs_stay s events w after runs in (stay.plan, stay.first)

@@ -115,9 +115,9 @@ ends_in_meaning s w sound done =
     let stores : List (List (Slot Sparse)) = map (λ (x : RankView). x.slots) w.ranks in
     let wanted : State Sparse = meaning (matrices s) w.plan.acts (state_of w.first) in
     let slots : (r n : ℕ) → IsSlotOf (system_of w).refusals (wanted r n) (cell slot_is.Empty stores r n) = λ r n.
-        let h : IsSlotOf (system_of w).refusals (meaning (matrices s) (before w.plan.acts r (rank_of w r).done) (state_of w.first) r n) (slot_at (rank_of w r).slots n) = sound.agrees.ranks r n in
-        let h2 : IsSlotOf (system_of w).refusals (wanted r n) (slot_at (rank_of w r).slots n) = subst (λ x. IsSlotOf (system_of w).refusals (meaning (matrices s) x (state_of w.first) r n) (slot_at (rank_of w r).slots n)) (all r) h in
-        subst (λ y. IsSlotOf (system_of w).refusals (wanted r n) y) (sym (slots_in_order w r n)) h2 in
+    let h : IsSlotOf (system_of w).refusals (meaning (matrices s) (before w.plan.acts r (rank_of w r).done) (state_of w.first) r n) (slot_at (rank_of w r).slots n) = sound.agrees.ranks r n in
+    let h2 : IsSlotOf (system_of w).refusals (wanted r n) (slot_at (rank_of w r).slots n) = subst (λ x. IsSlotOf (system_of w).refusals (meaning (matrices s) x (state_of w.first) r n) (slot_at (rank_of w r).slots n)) (all r) h in
+    subst (λ y. IsSlotOf (system_of w).refusals (wanted r n) y) (sym (slots_in_order w r n)) h2 in
     record {
       slots = slots;
       whole = λ none.

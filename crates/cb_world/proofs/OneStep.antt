@@ -205,9 +205,9 @@ starved_by s w r None m answer after n is steps can count refused = tt
 starved_by s w r (Some h) m answer after n is (inl waits) can count refused = absurd (waits.1 can)
 starved_by s w r (Some h) m answer after n is (inr did) can count refused = λ asks.
     let went : answer ≢ Ok moved_is.Waiting = λ e.
-        let both : Ok (moved_by h) ≡ Ok moved_is.Waiting = ap Ok (sym did.0) ∙ sym is ∙ e in
-        let same : moved_by h ≡ moved_is.Waiting = cc in
-        moved_not_waiting h same in
+    let both : Ok (moved_by h) ≡ Ok moved_is.Waiting = ap Ok (sym did.0) ∙ sym is ∙ e in
+    let same : moved_by h ≡ moved_is.Waiting = cc in
+    moved_not_waiting h same in
     count ∙ refused asks went
 
 pub starved_is : (s : Arithmetic) (w : WorldView) (r : ℕ) (old x : RankView) (answer : Answer) (boxes : List (Inbox Sparse)) (m : Moved) → IsWorld s w → r < w.plan.ranks → old ≡ rank_of w r → answer ≡ Ok m → StepsBy s r (next_of w r) m w (with_rank w r x boxes)

@@ -1,4 +1,4 @@
-//! The ranks of a new world, made of their stores.
+//! The ranks of a world, made of their stores and turned into them again.
 ghost use Rattle.std.specs.Prelude.{◌≡◌, ◌+◌, ◌≤◌, [], ◌++◌, length, map, reverse, vec_capacity, IfOk, IfErr};
 ghost use Rattle.cb_plan.specs.Stores.{Fits};
 ghost use Rattle.cb_world.specs.Starting.{new_ranks};
@@ -39,16 +39,29 @@ pub(crate) fn start_ranks<S: Semiring>(
 }
 
 /// The stores, and after them those of the ranks, the last rank's first.
-fn with_stores_of<S: Semiring>(
-    stores: Vec<RankStore<S>>,
-    ranks: Vec<Rank<S>>,
-) -> Vec<RankStore<S>>
+fn with_stores_of<S: Semiring>(stores: Vec<RankStore<S>>, ranks: Vec<Rank<S>>) -> Vec<RankStore<S>>
     requires { length stores.items + length ranks.items ≤ vec_capacity stores }
     ensures { result.items ≡ stores.items ++ map (λ r. r.slots) (reverse ranks.items) }
 {
     let mut stores = stores;
     let mut ranks = ranks;
     while let Some(rank) = ranks.pop() {
+        stores.push_reserved(rank.into_store());
+    }
+    stores
+}
+
+/// The stores of the ranks, in a vector that is empty and has room for them.
+pub(crate) fn stores_of<S: Semiring>(
+    stores: Vec<RankStore<S>>,
+    ranks: Vec<Rank<S>>,
+) -> Vec<RankStore<S>>
+    requires empty { stores.items ≡ [] }
+    requires room { length ranks.items ≤ vec_capacity stores }
+    ensures { result.items ≡ map (λ r. r.slots) ranks.items }
+{
+    let mut stores = stores;
+    for rank in ranks {
         stores.push_reserved(rank.into_store());
     }
     stores

@@ -9,7 +9,7 @@ ghost use Rattle.cb_world.specs.declared.events.Event.TheVariants.{Starve};
 
 use crate::ends::Ends;
 use crate::events::Event;
-use crate::starting::start_ranks;
+use crate::starting::{start_ranks, stores_of};
 use cb_dcsc::Block;
 use cb_plan::{CheckedPlan, RankStore};
 use cb_rank::{Moved, Rank, Supply, Want};
@@ -78,6 +78,8 @@ impl<S: Semiring> World<S> {
     /// Costs what the half costs, whatever the length of the plan and the number of ranks.
     pub fn step(&mut self, event: Event) -> Moved
         ensures step { Steps S.arithmetic event result self.old self.new }
+        ensures falls { result ≢ Moved.Waiting → result ≢ Moved.Idle → remaining self.new + 1 ≡ remaining self.old }
+        ensures keeps { (self.new.plan ≡ self.old.plan) × (self.new.first ≡ self.old.first) }
         ensures world { IsWorld S.arithmetic self.new }
     {
         match event {
@@ -90,6 +92,7 @@ impl<S: Semiring> World<S> {
     fn advance(&mut self, r: u16, supply: Supply) -> Moved
         ensures half { StepsBy S.arithmetic r (next_of self.old r) result self.old self.new }
         ensures starved { supply ≡ Supply.Refused → IsStarved (Starve r) self.old self.new }
+        ensures falls { result ≢ Moved.Waiting → result ≢ Moved.Idle → remaining self.new + 1 ≡ remaining self.old }
         ensures world { IsWorld S.arithmetic self.new }
     {
         if r as usize >= self.ranks.len() {
@@ -104,7 +107,8 @@ impl<S: Semiring> World<S> {
 
     /// Some events, one after the other.
     pub fn run(&mut self, events: &[Event])
-        ensures { RunsBy S.arithmetic events.now self.old self.new }
+        ensures runs { RunsBy S.arithmetic events.now self.old self.new }
+        ensures keeps { (self.new.plan ≡ self.old.plan) × (self.new.first ≡ self.old.first) }
     {
         for event in events {
             let _moved = self.step(*event);
@@ -148,6 +152,7 @@ impl<S: Semiring> World<S> {
     pub fn finish(&mut self)
         ensures runs { (events : List EventOf) × RunsBy S.arithmetic events self.old self.new }
         ensures done { AllDone self.new }
+        ensures keeps { (self.new.plan ≡ self.old.plan) × (self.new.first ≡ self.old.first) }
     {
         while let Some(r) = self.ready() {
             let _moved = self.step(Event::Step(r));
@@ -213,10 +218,6 @@ impl<S: Semiring> World<S> {
         ensures meaning { HoldsMeaning S.arithmetic self result.items }
     {
         let World { ranks, stores, .. } = self;
-        let mut stores = stores;
-        for rank in ranks {
-            stores.push_reserved(rank.into_store());
-        }
-        stores
+        stores_of(stores, ranks)
     }
 }

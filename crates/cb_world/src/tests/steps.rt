@@ -11,7 +11,10 @@ fn a_rank_waits_for_its_letter(rt: HostRuntime) -> Result<(), Fail> {
     }
     assert_eq!(rt; world.step(Event::Step(2)), Moved::Idle);
     world.finish();
-    assert_eq!(rt; (world.remaining(), world.ready(), world.refusals()), (0, None, 0));
+    assert_eq!(rt;
+        (world.remaining(), world.ready(), world.refusals()),
+        (0, None, 0)
+    );
     assert_eq!(rt; sums(world)?, (Held::Number(12), Held::Number(12)));
     Ok(())
 }

@@ -1,7 +1,5 @@
 -- All is done, so the world is finished, and its stores hold what its plan means.
-use Rattle.std.proofs.Common.{◌≡◌, sym, subst, rules}
-use Rattle.std.specs.Prelude.{map}
-use Rattle.cb_rank.specs.Ranks.{RankView}
+use Rattle.std.proofs.Common.{sym, subst}
 use Rattle.cb_world.specs.Worlds.{HoldsMeaning}
 use Rattle.cb_world.proofs.Finishing.{finishes, ends_in_meaning}
 use Rattle.cb_world.proofs.world.World.into_stores.Goals as goal
@@ -14,5 +12,4 @@ returns-clause-finished g c =
 pub returns-clause-meaning : goal.returns-clause-meaning
 returns-clause-meaning g c =
     let done = rw (← c.self.view_is) at c.requires in
-    let stores : c.loop-rank.stores.items ≡ map (λ (x : RankView). x.slots) c.self.inside.ranks.items = search rules in
-    rw (← c.self.view_is) (subst (HoldsMeaning _ _) (sym stores) (ends_in_meaning _ _ c.self.invariant.0 done))
+    rw (← c.self.view_is) (subst (HoldsMeaning _ _) (sym c.stores_of.ensures) (ends_in_meaning _ _ c.self.invariant.0 done))
