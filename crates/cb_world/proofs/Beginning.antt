@@ -1,5 +1,5 @@
 -- A world in which nothing is done agrees with its plan and first state.
-use Rattle.std.proofs.Common.{◌≡◌, ◌≢◌, ℕ, ◌<◌, ◌≤◌, ◌^◌, false, List, [], length, refl, sym, ◌∙◌, ap, subst, arith, inl, inr}
+use Rattle.std.proofs.Common.{◌≡◌, ◌≢◌, ℕ, ◌<◌, ◌≤◌, ◌^◌, false, List, [], refl, sym, ◌∙◌, ap, subst, arith, inl, inr}
 use Rattle.std.specs.Prelude.{nat_lt, get_or}
 use Rattle.std.proofs.lemmas.Bool.Decides.{nat_tests}
 use Rattle.std.proofs.lemmas.List.{get_or_past}
@@ -14,12 +14,12 @@ use Rattle.cb_plan.specs.Stores.{Fits, state_of, sheet_of, is_lost}
 use Rattle.cb_plan.specs.Tables.{cell}
 use Rattle.cb_rank.specs.Agreement.{IsSlotOf, LaneAgrees}
 use Rattle.cb_rank.specs.Halves.{slot_at}
-use Rattle.cb_rank.specs.Ranks.{RankView, IsRank, new_rank}
+use Rattle.cb_rank.specs.Ranks.{RankView, IsRank}
 use Rattle.cb_rank.proofs.View.{split, meaning-before_next, letters-before_next}
 use Rattle.cb_rank.proofs.Keeping.{starts_as, fits_at}
 use Rattle.cb_mailbox.specs.Inbox.{Inbox, lane_from}
 use Rattle.cb_world.specs.Ends.{box_in}
-use Rattle.cb_world.specs.Worlds.{WorldView, IsWorld, IsNewWorld, HasRank, no_rank, rank_of, lane_between, system_of}
+use Rattle.cb_world.specs.Worlds.{WorldView, IsWorld, IsNewWorld, no_rank, rank_of, lane_between, system_of}
 
 whole_slot : (refs : ℕ → ℕ) (x : Slot Sparse) → is_lost x ≡ false → IsSlotOf refs (sheet_of x) x
 whole_slot refs slot_is.Empty e = refl

@@ -1,8 +1,8 @@
 -- A world in which all is done holds what its plan means.
-use Rattle.std.proofs.Common.{◌≡◌, ◌≢◌, ℕ, ◌+◌, ◌-◌, ◌<◌, ◌≤◌, false, List, [], ◌∷◌, ◌++◌, length, map, refl, sym, ◌∙◌, ap, subst, arith, length-append, append-nil}
-use Rattle.std.specs.Prelude.{Option, None, nat_lt, get_or}
+use Rattle.std.proofs.Common.{◌≡◌, ℕ, ◌+◌, ◌-◌, ◌<◌, ◌≤◌, false, List, [], ◌∷◌, ◌++◌, length, map, refl, sym, ◌∙◌, ap, subst, arith, length-append, append-nil}
+use Rattle.std.specs.Prelude.{Option, nat_lt}
 use Rattle.std.proofs.lemmas.Bool.Decides.{nat_tests}
-use Rattle.std.proofs.lemmas.List.{append_cancel_left, get_or_past}
+use Rattle.std.proofs.lemmas.List.{append_cancel_left}
 use Rattle.std.proofs.Math.ListN.{get_or-map}
 use Rattle.cb_semirings.specs.Arithmetic.{Arithmetic}
 use Rattle.cb_matrix.specs.Sparse.{Sparse, Extent}
@@ -26,7 +26,7 @@ use Rattle.cb_rank.specs.Halves.{slot_at}
 use Rattle.cb_rank.specs.Ranks.{RankView}
 use Rattle.cb_rank.proofs.View.{split, counted}
 use Rattle.cb_rank.proofs.Next.{both_below}
-use Rattle.cb_world.specs.Worlds.{WorldView, IsWorld, no_rank, rank_of, lane_between, system_of, AllDone, refusals_in, IsFinished, HoldsMeaning}
+use Rattle.cb_world.specs.Worlds.{WorldView, IsWorld, no_rank, rank_of, lane_between, system_of, AllDone, IsFinished, HoldsMeaning}
 use Rattle.cb_world.proofs.NextHalf.{passes_of, program_of}
 use Rattle.cb_world.proofs.Acting.{is_done_by, none_refused}
 

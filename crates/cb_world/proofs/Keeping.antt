@@ -3,7 +3,7 @@ use Rattle.std.proofs.Common.{◌≡◌, ◌≢◌, ℕ, ◌+◌, ◌<◌, ◌�
 use Rattle.std.specs.Prelude.{Some, ◌==◌, slice_get, slice_set, min}
 use Rattle.std.proofs.lemmas.Bool.Decides.{nat_tests}
 use Rattle.std.proofs.lemmas.List.{get_or-set_same, get_or-set_other}
-use Rattle.std.proofs.lemmas.Option.{same_Some, slice_get-get_or}
+use Rattle.std.proofs.lemmas.Option.{same_Some}
 use Rattle.std.proofs.Math.ListN.{length-set}
 use Rattle.cb_semirings.specs.Arithmetic.{Arithmetic}
 use Rattle.cb_matrix.specs.Sparse.{Sparse, Extent}
@@ -13,7 +13,7 @@ use Rattle.cb_letters.specs.declared.Body.{Body}
 use Rattle.cb_letters.specs.declared.Body.TheVariants as body_is
 use Rattle.cb_letters.specs.Letters.{mark_tag}
 use Rattle.cb_letters.specs.Lane.{Lane, append, after_take}
-use Rattle.cb_mailbox.specs.Inbox.{Inbox, with_lane}
+use Rattle.cb_mailbox.specs.Inbox.{Inbox}
 use Rattle.cb_plan.specs.declared.acts.Op.{Op}
 use Rattle.cb_plan.specs.declared.acts.Half.{Half}
 use Rattle.cb_plan.specs.declared.acts.Half.TheVariants as half_is
@@ -24,10 +24,9 @@ use Rattle.cb_plan.specs.Checks.{Passes, none_shut, started}
 use Rattle.cb_plan.specs.Meaning.{images, target_of}
 use Rattle.cb_plan.specs.Programs.{project, project_from}
 use Rattle.cb_plan.specs.Stores.{state_of}
-use Rattle.cb_rank.specs.declared.wants.Arrival.TheVariants as arrival_is
 use Rattle.cb_rank.specs.Agreement.{System, Agrees}
 use Rattle.cb_rank.specs.Halves.{slot_at, slot_of_body, IsCopy, IsWork}
-use Rattle.cb_rank.specs.Ranks.{RankView, IsRank, onward, slots_with, IsAwaited}
+use Rattle.cb_rank.specs.Ranks.{RankView, IsRank, onward}
 use Rattle.cb_rank.proofs.View.{split}
 use Rattle.cb_rank.proofs.Keeping.{posts_on, shuts_on, takes_on, ends_on, works_on}
 use Rattle.cb_world.specs.Ends.{box_in, with_lane_in, boxes_with, boxes_after}

@@ -1,6 +1,6 @@
 -- What a step of a rank through its ends of its lanes is in the world.
-use Rattle.std.proofs.Common.{◌≡◌, ◌≢◌, ℕ, ◌+◌, ◌<◌, ◌≤◌, Bool, true, false, List, [], ◌∷◌, length, refl, sym, ◌∙◌, ap, subst, arith, inl, inr}
-use Rattle.std.specs.Prelude.{Option, Some, None, Ok, IfSome, slice_set, ◌==◌, ◌||◌, nat_le, if◌then◌else◌}
+use Rattle.std.proofs.Common.{◌≡◌, ◌≢◌, ℕ, ◌+◌, ◌<◌, Bool, true, false, List, [], ◌∷◌, length, refl, sym, ◌∙◌, ap, subst, arith, inl, inr}
+use Rattle.std.specs.Prelude.{Option, Some, None, Ok, IfSome, slice_set}
 use Rattle.std.proofs.lemmas.Bool.Decides.{nat_tests}
 use Rattle.std.proofs.lemmas.List.{get_or-set_same, set-get_or}
 use Rattle.cb_semirings.specs.Arithmetic.{Arithmetic}
@@ -16,19 +16,17 @@ use Rattle.cb_letters.specs.Lane.{Lane, answer_at, take_answer}
 use Rattle.cb_mailbox.specs.Inbox.{Inbox}
 use Rattle.cb_plan.specs.declared.acts.Half.{Half}
 use Rattle.cb_plan.specs.declared.acts.Half.TheVariants as half_is
-use Rattle.cb_rank.specs.declared.wants.Arrival.{Arrival}
 use Rattle.cb_rank.specs.declared.wants.Arrival.TheVariants as arrival_is
 use Rattle.cb_rank.specs.declared.wants.Moved.{Moved}
 use Rattle.cb_rank.specs.declared.wants.Moved.TheVariants as moved_is
 use Rattle.cb_rank.specs.Halves.{HasKind, asks_memory}
 use Rattle.cb_rank.specs.Ranks.{RankView, IsAwaited, next_half}
 use Rattle.cb_rank.specs.Steps.{Answer, StepPosts, StepTakes, StepWorks, TakesUp, Accepts, moved_by}
-use Rattle.cb_rank.proofs.View.{split}
 use Rattle.cb_world.specs.declared.events.Event.TheVariants as event_is
-use Rattle.cb_world.specs.Ends.{EndsView, box_in, boxes_after, is_out, standing, has_room, may_be_full, keeps, posts, takes}
+use Rattle.cb_world.specs.Ends.{EndsView, boxes_after, is_out, standing, has_room, may_be_full, keeps, posts, takes}
 use Rattle.cb_world.specs.EndLaws as laws
 use Rattle.cb_world.specs.Worlds.{WorldView, IsWorld, no_rank, rank_of, next_of, lane_between, CanDo, CanAct}
-use Rattle.cb_world.specs.Steps.{with_rank, DoesIn, StepsBy, IsOldest, IsStarved}
+use Rattle.cb_world.specs.Steps.{with_rank, DoesIn, StepsBy, IsStarved}
 use Rattle.cb_world.proofs.NextHalf.{finds_half}
 use Rattle.cb_world.proofs.Keeping.{does_keep}
 

@@ -1,16 +1,15 @@
 -- A rank's own ends of its lanes stand as the halves that it has done left them.
-use Rattle.std.proofs.Common.{◌≡◌, ◌≢◌, ℕ, zero, suc, ◌+◌, ◌-◌, ◌<◌, ◌≤◌, Bool, true, false, List, [], ◌∷◌, ◌++◌, length, take, refl, sym, ◌∙◌, ap, arith, length-append}
-use Rattle.std.specs.Prelude.{Option, Some, None, nat_lt, nat_le, not, ◌==◌, ◌&&◌, ◌||◌, if◌then◌else◌}
+use Rattle.std.proofs.Common.{◌≡◌, ◌≢◌, ℕ, ◌-◌, ◌<◌, ◌≤◌, true, false, List, [], ◌∷◌, take, refl, sym, ◌∙◌, ap, arith}
+use Rattle.std.specs.Prelude.{Option, Some, None, nat_lt, ◌==◌, ◌&&◌}
 use Rattle.std.proofs.lemmas.Bool.Decides.{nat_tests}
 use Rattle.cb_semirings.specs.Arithmetic.{Arithmetic}
-use Rattle.cb_matrix.specs.Sparse.{Sparse, Extent}
+use Rattle.cb_matrix.specs.Sparse.{Extent}
 use Rattle.cb_letters.specs.declared.Tag.{Tag}
 use Rattle.cb_letters.specs.Lane.{posted}
 use Rattle.cb_letters.proofs.Standings.{same_standing}
 use Rattle.cb_plan.specs.declared.acts.Act.{Act}
 use Rattle.cb_plan.specs.declared.acts.Act.TheVariants as act_is
 use Rattle.cb_plan.specs.declared.acts.Half.{Half}
-use Rattle.cb_plan.specs.declared.acts.Half.TheVariants as half_is
 use Rattle.cb_plan.specs.Algebras.{matrices, shapes}
 use Rattle.cb_plan.specs.Checks.{Lanes, Passes, lanes_after, none_shut, shut_after, started}
 use Rattle.cb_plan.specs.Letters.{Cargo, Sheet, Mark, before, count_of, letters}
@@ -23,7 +22,7 @@ use Rattle.cb_rank.specs.Ranks.{ArePortsOf, is_shut_to, posted_to, standing_by}
 use Rattle.cb_rank.proofs.View.{split, counted, one_half}
 use Rattle.cb_rank.proofs.Next.{not_true}
 use Rattle.cb_rank.proofs.Standing.{lanes_by_halves, posted_to-append, take_none, take_past}
-use Rattle.cb_world.specs.Ends.{EndsView, standing}
+use Rattle.cb_world.specs.Ends.{standing}
 use Rattle.cb_world.specs.Worlds.{WorldView, IsWorld, rank_of, lane_between, system_of}
 use Rattle.cb_world.proofs.Progress.{posts, posts_of, length-letters, queued_of_agrees}
 use Rattle.cb_world.proofs.Stepping.{kept_shut, letters_unmarked, unmarked}

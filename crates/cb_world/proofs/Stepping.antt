@@ -1,8 +1,7 @@
 -- A step of one rank keeps the agreement of the whole.
-use Rattle.std.proofs.Common.{◌≡◌, ◌≢◌, ℕ, zero, suc, ◌-◌, ◌<◌, ◌≤◌, Bool, true, false, List, [], ◌∷◌, ◌++◌, length, refl, sym, ◌∙◌, ap, arith, subst, append-nil, append_assoc, inl, inr}
-use Rattle.std.specs.Prelude.{Some, IsSome, nat_lt, not, ◌==◌, ◌&&◌, slice_get}
+use Rattle.std.proofs.Common.{◌≡◌, ◌≢◌, ℕ, ◌-◌, true, false, List, [], ◌∷◌, ◌++◌, refl, sym, ◌∙◌, ap, arith, subst, append-nil, append_assoc, inl, inr}
+use Rattle.std.specs.Prelude.{Some, IsSome, nat_lt, ◌==◌, ◌&&◌, slice_get}
 use Rattle.std.proofs.lemmas.Bool.Decides.{nat_tests}
-use Rattle.std.proofs.lemmas.Option.{same_Some}
 use Rattle.cb_semirings.specs.Arithmetic.{Arithmetic}
 use Rattle.cb_matrix.specs.Sparse.{Sparse, Extent}
 use Rattle.cb_letters.specs.declared.Tag.{Tag}
@@ -15,9 +14,8 @@ use Rattle.cb_plan.specs.declared.acts.Half.TheVariants as half_is
 use Rattle.cb_plan.specs.Meaning.{Algebra, State, act, meaning, one, images, target_of}
 use Rattle.cb_plan.specs.Letters.{Cargo, Sheet, Mark, count_of, before, next_act, letter_of, letters}
 use Rattle.cb_plan.specs.Algebras.{matrices, shapes}
-use Rattle.cb_plan.specs.Checks.{Lanes, IsSound, Passes, shut_after, lanes_after, none_shut, started, operands_of}
-use Rattle.cb_plan.specs.Programs.{halves_of, project_from, project}
-use Rattle.cb_plan.specs.Stores.{state_of}
+use Rattle.cb_plan.specs.Checks.{Lanes, IsSound, Passes, shut_after, lanes_after, none_shut, operands_of}
+use Rattle.cb_plan.specs.Programs.{halves_of, project_from}
 use Rattle.cb_plan.proofs.Measured.{shapes_of_meaning}
 use Rattle.cb_rank.specs.Agreement.{IsSlotOf, System, LaneAgrees, Agrees, ends_marked}
 use Rattle.cb_rank.specs.Halves.{slot_at, slot_of_body}
