@@ -1,0 +1,143 @@
+-- What a rank's next half asks of its lanes: the other rank exists and is another, and the half can be done where
+-- there is room, or where a letter is queued.
+use Rattle.std.proofs.Common.{ℕ, ◌≡◌, ◌≢◌, ◌<◌, ◌+◌, List, [], length, slice_index_or, refl, sym, ◌∙◌, ap, subst, arith, IsTrue, inl, inr}
+use Rattle.std.specs.Prelude.{Option, Some, None, Ok, Err, ◌↔◌, ◌==◌, nat_lt}
+use Rattle.std.proofs.lemmas.Bool.Decides.{nat_tests}
+use Rattle.std.proofs.lemmas.Option.{same_Some, slice_get-get_or}
+use Rattle.cb_semirings.specs.Arithmetic.{Arithmetic}
+use Rattle.cb_letters.specs.Lane.{HasRoom}
+use Rattle.cb_plan.specs.declared.acts.Half.{Half}
+use Rattle.cb_plan.specs.declared.acts.Half.TheVariants as half_is
+use Rattle.cb_rank.specs.declared.wants.Want.TheVariants as want_is
+use Rattle.cb_rank.specs.declared.wants.Moved.{Moved}
+use Rattle.cb_rank.specs.declared.wants.Moved.TheVariants as moved_is
+use Rattle.cb_rank.specs.Steps.{Answer}
+use Rattle.cb_rank.specs.Ranks.{RankView, next_half, want_of}
+use Rattle.cb_rank.proofs.Wanted.{wants_post_to, wants_shut_to, wants_take, wants_work, wants_end, wants_nothing}
+use Rattle.cb_world.specs.Worlds.{WorldView, IsWorld, HasBox, no_rank, rank_of, next_of, lane_between, CanDo, CanAct, remaining}
+use Rattle.cb_world.specs.Steps.{DoesIn, Steps, StepsBy, RunsBy, rank_in}
+use Rattle.cb_world.specs.declared.events.Event.{Event}
+use Rattle.cb_world.specs.declared.events.Event.TheVariants as event_is
+use Rattle.cb_rank.proofs.View.{split}
+use Rattle.cb_world.proofs.Acting.{no_next}
+use Rattle.cb_world.proofs.Going.{does_lower, steps_stay, runs_stay}
+use Rattle.cb_world.proofs.NextHalf.{finds_half}
+use Rattle.cb_world.proofs.OneStep.{Came}
+
+-- a list read at a place, whatever stands for what is past its end
+pub read_at : {X : Type 0} (xs : List X) (i : ℕ) (x d : X) → i < length xs → x ≡ slice_index_or xs i x → x ≡ slice_index_or xs i d
+read_at xs i x d l e = e ∙ same_Some _ _ (sym (slice_get-get_or xs i x l) ∙ slice_get-get_or xs i d l)
+
+module _ (s : Arithmetic) (w : WorldView) (sound : IsWorld s w) (r : ℕ) (x : RankView) (there : r < length w.ranks) (read : x ≡ rank_of w r) where
+  inside : r < w.plan.ranks
+  inside = let size = sound.sizes.0 in omega arith
+
+  next : (half : Option Half) → next_half x ≡ half → next_of w r ≡ half
+  next half e = ap next_half (sym read) ∙ e
+
+  -- the two ranks of a lane, as mailboxes ask for them
+  pub record AreTwo (k : ℕ) : Type 0 where
+    pub this : r < length w.boxes
+    pub other : k < length w.boxes
+    pub apart : r ≢ k
+    pub back : k ≢ r
+
+  two : (k : ℕ) → k < w.plan.ranks → r ≢ k → AreTwo k
+  two k l ne = let size = sound.sizes.1 in let i = inside in record { this = omega arith; other = omega arith; apart = ne; back = λ e. ne (sym e) }
+
+  room : (k : ℕ) → k < w.plan.ranks → r ≢ k → HasRoom (lane_between w r k) ↔ (length (lane_between w r k).queue < w.capacity)
+  room k l ne = let same = (sound.boxes k l).capacity r inside ne in (λ h. omega arith, λ h. omega arith)
+
+  can : (half : Option Half) → next_of w r ≡ half → CanDo w r half ↔ CanAct w r
+  can half e = (λ h. subst (CanDo w r) (sym e) h, λ h. subst (CanDo w r) e h)
+
+  pub at_post : (to : ℕ) → want_of (next_half x) ≡ want_is.Post to → AreTwo to × (HasRoom (lane_between w r to) ↔ CanAct w r)
+  at_post to e =
+      let it = wants_post_to (next_half x) to e in
+      let half : Half = half_is.Post to it.0 it.1 in
+      let is = next (Some half) it.2 in
+      let f = finds_half s w r half sound inside is in
+      let a = room to f.0 f.1 in
+      let b = can (Some half) is in
+      (two to f.0 f.1, (λ h. b.0 (a.0 h), λ h. a.1 (b.1 h)))
+
+  pub at_shut : (to : ℕ) → want_of (next_half x) ≡ want_is.Shut to → AreTwo to × (HasRoom (lane_between w r to) ↔ CanAct w r)
+  at_shut to e =
+      let half : Half = half_is.Shut to in
+      let is = next (Some half) (wants_shut_to (next_half x) to e) in
+      let f = finds_half s w r half sound inside is in
+      let a = room to f.0 f.1 in
+      let b = can (Some half) is in
+      (two to f.0 f.1, (λ h. b.0 (a.0 h), λ h. a.1 (b.1 h)))
+
+  pub at_take : (from : ℕ) → want_of (next_half x) ≡ want_is.Take from → AreTwo from × ((0 < length (lane_between w from r).queue) ↔ CanAct w r)
+  at_take from e =
+      let it = wants_take (next_half x) from e in
+      let half : Half = half_is.Take from it.0 it.1 it.2 in
+      let is = next (Some half) it.3 in
+      let f = finds_half s w r half sound inside is in
+      (two from f.0 (λ z. f.1 (sym z)), can (Some half) is)
+
+  pub at_end : (from : ℕ) → want_of (next_half x) ≡ want_is.End from → AreTwo from × ((0 < length (lane_between w from r).queue) ↔ CanAct w r)
+  at_end from e =
+      let half : Half = half_is.End from in
+      let is = next (Some half) (wants_end (next_half x) from e) in
+      let f = finds_half s w r half sound inside is in
+      (two from f.0 (λ z. f.1 (sym z)), can (Some half) is)
+
+  pub at_work : want_of (next_half x) ≡ want_is.Work → CanAct w r
+  at_work e = let it = wants_work (next_half x) e in (can (Some (half_is.Work it.0)) (next (Some (half_is.Work it.0)) it.1)).0 tt
+
+  pub at_done : want_of (next_half x) ≡ want_is.Done → ¬ CanAct w r
+  at_done e c = (can None (next None (wants_nothing (next_half x) e))).1 c
+
+pub zero_test : (n : ℕ) → IsTrue (n == 0) ↔ (n ≡ 0)
+zero_test n = (λ t. grind (arith, nat_tests), λ e. grind (arith, nat_tests))
+
+moved_in : Answer → Moved → Moved
+moved_in (Ok m) other = m
+moved_in (Err e) other = other
+
+-- a step of the world, by the answer that its rank gave
+pub came_as : (s : Arithmetic) (w : WorldView) (r : ℕ) (answer : Answer) (after : WorldView) (m : Moved) → Came s w r answer after → answer ≡ Ok m → StepsBy s r (next_of w r) m w after
+unfolding moved_in
+came_as s w r answer after m came e =
+    let same : came.moved ≡ m = ap (λ a. moved_in a m) (sym came.answer_is ∙ e) in
+    subst (λ m. StepsBy s r (next_of w r) m w after) same came.steps
+
+-- one half less remains after a half of a rank
+lowers : (s : Arithmetic) (w after : WorldView) (r : ℕ) (h : Half) → IsWorld s w → next_of w r ≡ Some h → DoesIn s r h w after → remaining after + 1 ≡ remaining w
+lowers s w after r h sound next did =
+    split (nat_lt r (length w.ranks))
+    (λ t.
+    let there : r < length w.ranks = grind (arith, nat_tests) in
+    let size = sound.sizes.0 in
+    does_lower s w after r h sound (omega arith) next did)
+    (λ f. let none = sym next ∙ no_next w r (grind (arith, nat_tests)) in cc)
+
+acts : (s : Arithmetic) (w after : WorldView) (r : ℕ) (half : Option Half) (m : Moved) → IsWorld s w → next_of w r ≡ half → CanAct w r → StepsBy s r half m w after → remaining after < remaining w
+acts s w after r None m sound next can steps = absurd (subst (CanDo w r) next can)
+acts s w after r (Some h) m sound next can (inl waits) = absurd (waits.1 can)
+acts s w after r (Some h) m sound next can (inr did) = let less = lowers s w after r h sound next did.2 in omega arith
+
+-- less remains after a step of a rank that can act
+pub acts_lower : (s : Arithmetic) (w after : WorldView) (r : ℕ) (m : Moved) → IsWorld s w → CanAct w r → Steps s (event_is.Step r) m w after → remaining after < remaining w
+acts_lower s w after r m sound can steps = acts s w after r (next_of w r) m sound refl can steps.half
+
+-- a step that neither waits nor is idle does a half
+pub falls : (s : Arithmetic) (w after : WorldView) (r : ℕ) (half : Option Half) (m : Moved) → IsWorld s w → next_of w r ≡ half → StepsBy s r half m w after → m ≢ moved_is.Waiting → m ≢ moved_is.Idle → remaining after + 1 ≡ remaining w
+falls s w after r None m sound next steps waits idles = absurd (idles steps.0)
+falls s w after r (Some h) m sound next (inl held) waits idles = absurd (waits held.0)
+falls s w after r (Some h) m sound next (inr did) waits idles = lowers s w after r h sound next did.2
+
+-- no step changes the plan and the first state
+abbrev pub Keeps : WorldView → WorldView → Type 0
+Keeps w after = (after.plan ≡ w.plan) × (after.first ≡ w.first)
+
+pub step_keeps : (s : Arithmetic) (event : Event) (m : Moved) (w after : WorldView) → Steps s event m w after → Keeps w after
+step_keeps s event m w after steps =
+    let stay = steps_stay s w after (rank_in event) (next_of w (rank_in event)) m steps.half in
+    (stay.plan, stay.first)
+
+pub run_keeps : (s : Arithmetic) (events : List Event) (w after : WorldView) → RunsBy s events w after → Keeps w after
+run_keeps s events w after runs = let stay = runs_stay s events w after runs in (stay.plan, stay.first)

@@ -1,0 +1,127 @@
+-- A world in which all is done holds what its plan means.
+use Rattle.std.proofs.Common.{◌≡◌, ℕ, ◌+◌, ◌-◌, ◌<◌, ◌≤◌, false, List, [], ◌∷◌, ◌++◌, length, map, refl, sym, ◌∙◌, ap, subst, arith, length-append, append-nil}
+use Rattle.std.specs.Prelude.{Option, nat_lt}
+use Rattle.std.proofs.lemmas.Bool.Decides.{nat_tests}
+use Rattle.std.proofs.lemmas.List.{append_cancel_left}
+use Rattle.std.proofs.Math.ListN.{get_or-map}
+use Rattle.cb_semirings.specs.Arithmetic.{Arithmetic}
+use Rattle.cb_matrix.specs.Sparse.{Sparse, Extent}
+use Rattle.cb_letters.specs.declared.Tag.{Tag}
+use Rattle.cb_letters.specs.declared.Letter.{Letter}
+use Rattle.cb_plan.specs.declared.acts.Act.{Act}
+use Rattle.cb_plan.specs.declared.acts.Act.TheVariants as act_is
+use Rattle.cb_plan.specs.declared.stores.Slot.{Slot}
+use Rattle.cb_plan.specs.declared.stores.Slot.TheVariants as slot_is
+use Rattle.cb_plan.specs.Meaning.{State, act, meaning}
+use Rattle.cb_plan.specs.Letters.{Cargo, count_of, before, letters}
+use Rattle.cb_plan.specs.Algebras.{matrices, shapes}
+use Rattle.cb_plan.specs.Checks.{Lanes, IsSound, Passes, shut_after, none_shut, started}
+use Rattle.cb_plan.specs.Programs.{halves_of, project_from, project}
+use Rattle.cb_plan.specs.Stores.{state_of, sheet_of, is_lost}
+use Rattle.cb_plan.specs.Tables.{cell}
+use Rattle.cb_plan.proofs.Effects.{same_state}
+use Rattle.cb_plan.proofs.Running.{first_below}
+use Rattle.cb_rank.specs.Agreement.{IsSlotOf, AreLettersOf}
+use Rattle.cb_rank.specs.Halves.{slot_at}
+use Rattle.cb_rank.specs.Ranks.{RankView}
+use Rattle.cb_rank.proofs.View.{split, counted}
+use Rattle.cb_rank.proofs.Next.{both_below}
+use Rattle.cb_world.specs.Worlds.{WorldView, IsWorld, no_rank, rank_of, lane_between, system_of, AllDone, IsFinished, HoldsMeaning}
+use Rattle.cb_world.proofs.NextHalf.{passes_of, program_of}
+use Rattle.cb_world.proofs.Acting.{is_done_by, none_refused}
+
+-- how many halves of the acts a rank does
+abbrev pub total : List Act → ℕ → ℕ
+total [] r = 0
+total (a ∷ acts) r = count_of a r + total acts r
+
+pub before_all : (acts : List Act) (r k : ℕ) → total acts r ≤ k → before acts r k ≡ acts
+before_all [] r k l = refl
+before_all (a ∷ acts) r k l =
+    let f : nat_lt k (count_of a r) ≡ false = grind (arith, nat_tests) in
+    rw f (ap (λ x. a ∷ x) (before_all acts r (k - count_of a r) (omega arith)))
+
+-- as many as its program has
+pub total_program : (ranks : ℕ) (shut : Lanes) (acts : List Act) (state : State Extent) (r : ℕ) → Passes ranks state shut acts → length (project_from state acts r) ≡ total acts r
+total_program ranks shut [] state r p = refl
+total_program ranks shut (a ∷ acts) state r p =
+    let size = counted ranks state shut a r p.0 in
+    let rest = total_program ranks (shut_after a shut) acts (act shapes a state) r p.1 in
+    length-append (halves_of state a r) (project_from (act shapes a state) acts r) ∙ rw (size, rest) refl
+
+outside : (ranks : ℕ) (state : State Extent) (shut : Lanes) (a : Act) (r : ℕ) → IsSound ranks state shut a → ranks ≤ r → count_of a r ≡ 0
+outside ranks state shut (act_is.Move from to tag slot into) r h l = let both = both_below ranks from to h.ranks_exist in let b = both.0 in let c = both.1 in grind (arith, nat_tests)
+outside ranks state shut (act_is.Work rank op) r h l = let b = (first_below ranks rank [] h.ranks_exist).0 in grind (arith, nat_tests)
+outside ranks state shut (act_is.Shut from to) r h l = let both = both_below ranks from to h.ranks_exist in let b = both.0 in let c = both.1 in grind (arith, nat_tests)
+
+-- what is no rank does nothing
+pub total_outside : (ranks : ℕ) (shut : Lanes) (acts : List Act) (state : State Extent) (r : ℕ) → Passes ranks state shut acts → ranks ≤ r → total acts r ≡ 0
+total_outside ranks shut [] state r p l = refl
+total_outside ranks shut (a ∷ acts) state r p l =
+    let here = outside ranks state shut a r p.0 l in
+    let rest = total_outside ranks (shut_after a shut) acts (act shapes a state) r p.1 l in
+    rw (here, rest) refl
+
+no_letters : {M : Type 0} (refusals : ℕ → ℕ) (from to n : ℕ) (ws : List (Tag × Cargo M)) (ls : List (Letter M)) → ws ≡ [] → AreLettersOf refusals from to n ws ls → ls ≡ []
+no_letters refusals from to n [] [] e h = refl
+no_letters refusals from to n [] (l ∷ ls) e h = absurd h
+no_letters refusals from to n (w ∷ ws) ls e h = cc
+
+pub held : {M : Type 0} (refusals : ℕ → ℕ) (w : Option M) (x : Slot M) → ((r : ℕ) → refusals r ≡ 0) → IsSlotOf refusals w x → (sheet_of x ≡ w) × (is_lost x ≡ false)
+held refusals w slot_is.Empty none h = (sym h, refl)
+held refusals w (slot_is.Sheet m) none h = (sym h, refl)
+held refusals w (slot_is.Lost o) none h = let z = none o in let l = h.1 in absurd (omega arith)
+
+-- once all is done, each rank has all acts behind it
+pub all_before : (s : Arithmetic) (w : WorldView) → IsWorld s w → AllDone w → (r : ℕ) → before w.plan.acts r (rank_of w r).done ≡ w.plan.acts
+all_before s w sound done r =
+    let passes = passes_of s w sound in
+    before_all w.plan.acts r (rank_of w r).done
+    (split (nat_lt r w.plan.ranks)
+    (λ t.
+    let inside : r < w.plan.ranks = grind (arith, nat_tests) in
+    let past = is_done_by (rank_of w r) (done r) in
+    let size : length (project w.plan.starts w.plan.acts r) ≡ total w.plan.acts r = total_program w.plan.ranks none_shut w.plan.acts (started w.plan.starts) r passes in
+    let same : length (rank_of w r).program ≡ length (project w.plan.starts w.plan.acts r) = ap length (program_of w r (sound.ranks r inside)) in
+    omega arith)
+    (λ f.
+    let out : w.plan.ranks ≤ r = grind (arith, nat_tests) in
+    let nothing = total_outside w.plan.ranks none_shut w.plan.acts (started w.plan.starts) r passes out in
+    omega arith))
+
+-- nothing is on its way, and all letters of the plan were taken
+pub finishes : (s : Arithmetic) (w : WorldView) → IsWorld s w → AllDone w → IsFinished s w
+finishes s w sound done =
+    let all = all_before s w sound done in
+    record {
+      done = done;
+      queues = λ p q ne.
+          let h = sound.agrees.lanes p q ne in
+          let whole : List (Tag × Cargo Sparse) = letters (matrices s) w.plan.acts (state_of w.first) p q in
+          let e : whole ++ h.waits.0 ≡ whole = subst (λ x. letters (matrices s) x (state_of w.first) p q ++ h.waits.0 ≡ whole) (all q) (subst (λ x. letters (matrices s) (before w.plan.acts q (rank_of w q).done) (state_of w.first) p q ++ h.waits.0 ≡ letters (matrices s) x (state_of w.first) p q) (all p) h.waits.1) in
+          let nothing : h.waits.0 ≡ [] = append_cancel_left whole h.waits.0 [] (e ∙ sym (append-nil _)) in
+          no_letters (system_of w).refusals p q (lane_between w p q).taken h.waits.0 (lane_between w p q).queue nothing h.waits.2;
+      taken = λ p q ne. (sound.agrees.lanes p q ne).counted ∙ ap (λ x. length (letters (matrices s) x (state_of w.first) p q)) (all q);
+    }
+
+-- the ranks' stores, in a list, are their slots
+slots_in_order : (w : WorldView) (r n : ℕ) → cell slot_is.Empty (map (λ (x : RankView). x.slots) w.ranks) r n ≡ slot_at (rank_of w r).slots n
+slots_in_order w r n = ap (λ xs. slot_at xs n) (get_or-map (λ (x : RankView). x.slots) w.ranks r no_rank)
+
+-- the stores of all ranks hold what the plan means
+pub ends_in_meaning : (s : Arithmetic) (w : WorldView) → IsWorld s w → AllDone w → HoldsMeaning s w (map (λ (x : RankView). x.slots) w.ranks)
+ends_in_meaning s w sound done =
+    let all = all_before s w sound done in
+    let stores : List (List (Slot Sparse)) = map (λ (x : RankView). x.slots) w.ranks in
+    let wanted : State Sparse = meaning (matrices s) w.plan.acts (state_of w.first) in
+    let slots : (r n : ℕ) → IsSlotOf (system_of w).refusals (wanted r n) (cell slot_is.Empty stores r n) = λ r n.
+    let h : IsSlotOf (system_of w).refusals (meaning (matrices s) (before w.plan.acts r (rank_of w r).done) (state_of w.first) r n) (slot_at (rank_of w r).slots n) = sound.agrees.ranks r n in
+    let h2 : IsSlotOf (system_of w).refusals (wanted r n) (slot_at (rank_of w r).slots n) = subst (λ x. IsSlotOf (system_of w).refusals (meaning (matrices s) x (state_of w.first) r n) (slot_at (rank_of w r).slots n)) (all r) h in
+    subst (λ y. IsSlotOf (system_of w).refusals (wanted r n) y) (sym (slots_in_order w r n)) h2 in
+    record {
+      slots = slots;
+      whole = λ none.
+          let zeros = none_refused w none in
+          let at : (r n : ℕ) → (sheet_of (cell slot_is.Empty stores r n) ≡ wanted r n) × (is_lost (cell slot_is.Empty stores r n) ≡ false) = λ r n. held (system_of w).refusals (wanted r n) (cell slot_is.Empty stores r n) zeros (slots r n) in
+          (same_state (state_of stores) wanted (λ r n. (at r n).0), λ r n. (at r n).1);
+    }

@@ -1,0 +1,5 @@
+pub mod Ends
+pub mod EndLaws
+pub mod Worlds
+pub mod Steps
+pub mod Starting

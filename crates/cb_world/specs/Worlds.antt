@@ -1,0 +1,124 @@
+-- A world: all ranks of a checked plan, and their mailboxes.
+use Rattle.std.specs.Prelude.{◌≡◌, ◌≢◌, ℕ, ◌-◌, ◌<◌, ◌≤◌, ◌^◌, List, [], length, get_or, sum_by, Option, Some, None}
+use Rattle.cb_semirings.specs.Arithmetic.{Arithmetic}
+use Rattle.cb_matrix.specs.Sparse.{Sparse}
+use Rattle.cb_letters.specs.Lane.{Lane, new_lane}
+use Rattle.cb_mailbox.specs.Inbox.{Inbox, lane_from}
+use Rattle.cb_plan.specs.declared.acts.Half.{Half}
+use Rattle.cb_plan.specs.declared.acts.Half.TheVariants as half_is
+use Rattle.cb_plan.specs.declared.stores.Slot.{Slot}
+use Rattle.cb_plan.specs.declared.stores.Slot.TheVariants as slot_is
+use Rattle.cb_plan.specs.Algebras.{matrices}
+use Rattle.cb_plan.specs.Letters.{letters}
+use Rattle.cb_plan.specs.Meaning.{meaning}
+use Rattle.cb_plan.specs.Plans.{CheckedView, IsChecked}
+use Rattle.cb_plan.specs.Stores.{state_of, Fits, NoneLost}
+use Rattle.cb_plan.specs.Tables.{cell}
+use Rattle.cb_rank.specs.Agreement.{System, Agrees, IsSlotOf}
+use Rattle.cb_rank.specs.Halves.{slot_at}
+use Rattle.cb_rank.specs.Ranks.{RankView, IsRank, new_rank, next_half}
+use Rattle.cb_world.specs.Ends.{box_in}
+
+-- the plan, the stores that the world began with, and how many letters a lane may hold, none of which changes; and the ranks and their mailboxes
+pub record WorldView : Type 0 where
+  pub plan : CheckedView
+  pub first : List (List (Slot Sparse))
+  pub capacity : ℕ
+  pub ranks : List RankView
+  pub boxes : List (Inbox Sparse)
+
+-- what stands for a rank where there is none: it has nothing to do
+abbrev pub no_rank : RankView
+no_rank = record { plan = record { ranks = 0; starts = []; acts = [] }; me = 0; program = []; done = 0; slots = []; refusals = 0 }
+
+abbrev pub rank_of : WorldView → ℕ → RankView
+rank_of w r = get_or w.ranks r no_rank
+
+-- the next half of a rank, if there is such a rank and it isn't done
+abbrev pub next_of : WorldView → ℕ → Option Half
+next_of w r = next_half (rank_of w r)
+
+abbrev pub lane_between : WorldView → ℕ → ℕ → Lane Sparse
+lane_between w from to = lane_from (box_in w.boxes to) from
+
+-- the world as a running system
+abbrev pub system_of : WorldView → System Sparse
+system_of w = record {
+  done = λ r. (rank_of w r).done;
+  slots = λ r n. slot_at (rank_of w r).slots n;
+  refusals = λ r. (rank_of w r).refusals;
+  lane = lane_between w;
+}
+
+-- rank r is one of the plan's, with its number
+pub record HasRank (w : WorldView) (r : ℕ) : Type 0 where
+  pub plan : (rank_of w r).plan ≡ w.plan
+  pub number : (rank_of w r).me ≡ r
+  pub sound : IsRank (rank_of w r)
+
+-- its mailbox has its number, and a lane from each rank; the lanes from others hold as many letters as the world says
+pub record HasBox (w : WorldView) (t : ℕ) : Type 0 where
+  pub number : (box_in w.boxes t).me ≡ t
+  pub lanes : length (box_in w.boxes t).lanes ≡ w.plan.ranks
+  pub capacity : (f : ℕ) → f < w.plan.ranks → f ≢ t → (lane_between w f t).capacity ≡ w.capacity
+
+-- the world agrees with its own plan and first state
+pub record IsWorld (s : Arithmetic) (w : WorldView) : Type 0 where
+  pub checked : IsChecked w.plan
+  pub fits : Fits w.plan.ranks w.plan.starts w.first
+  pub few : w.plan.ranks < 2 ^ 16
+  pub capacity : (1 ≤ w.capacity) × (w.capacity ≤ 64)
+  pub sizes : (length w.ranks ≡ w.plan.ranks) × (length w.boxes ≡ w.plan.ranks)
+  pub ranks : (r : ℕ) → r < w.plan.ranks → HasRank w r
+  pub boxes : (t : ℕ) → t < w.plan.ranks → HasBox w t
+  pub agrees : Agrees (matrices s) w.plan.acts (state_of w.first) (system_of w)
+
+-- nothing is done: each rank is new, with its store, and so is each lane
+pub record IsNewWorld (p : CheckedView) (stores : List (List (Slot Sparse))) (c : ℕ) (w : WorldView) : Type 0 where
+  pub plan : w.plan ≡ p
+  pub first : w.first ≡ stores
+  pub capacity : w.capacity ≡ c
+  pub sizes : (length w.ranks ≡ p.ranks) × (length w.boxes ≡ p.ranks)
+  pub ranks : (r : ℕ) → r < p.ranks → rank_of w r ≡ new_rank p r (get_or stores r [])
+  pub boxes : (t : ℕ) → t < p.ranks → ((box_in w.boxes t).me ≡ t) × (length (box_in w.boxes t).lanes ≡ p.ranks)
+  pub lanes : (f t : ℕ) → f < p.ranks → t < p.ranks → f ≢ t → lane_between w f t ≡ new_lane c
+
+-- this half can be done by rank r: a post finds room, a take finds a letter, and work waits for nothing
+abbrev pub CanDo : WorldView → ℕ → Option Half → Type 0
+CanDo w r (Some (half_is.Post to tag slot)) = length (lane_between w r to).queue < w.capacity
+CanDo w r (Some (half_is.Take from tag into shape)) = 0 < length (lane_between w from r).queue
+CanDo w r (Some (half_is.Work op)) = Unit {0}
+CanDo w r (Some (half_is.Shut to)) = length (lane_between w r to).queue < w.capacity
+CanDo w r (Some (half_is.End from)) = 0 < length (lane_between w from r).queue
+CanDo w r None = ⊥
+
+abbrev pub CanAct : WorldView → ℕ → Type 0
+CanAct w r = CanDo w r (next_of w r)
+
+-- every rank has done all its halves
+abbrev pub AllDone : WorldView → Type 0
+AllDone w = (r : ℕ) → next_of w r ≡ None
+
+-- the least rank that can act; there is none only where all are done
+abbrev pub IsReady : WorldView → Option ℕ → Type 0
+IsReady w (Some r) = CanAct w r × ((q : ℕ) → q < r → ¬ CanAct w q)
+IsReady w None = AllDone w
+
+-- how many halves are not done, of all ranks
+abbrev pub remaining : WorldView → ℕ
+remaining w = sum_by (λ x. length x.program - x.done) w.ranks
+
+-- how often a rank was refused memory, of all ranks
+abbrev pub refusals_in : WorldView → ℕ
+refusals_in w = sum_by (λ x. x.refusals) w.ranks
+
+-- all is done: nothing is on its way, and on each lane all letters of the plan were taken
+pub record IsFinished (s : Arithmetic) (w : WorldView) : Type 0 where
+  pub done : AllDone w
+  pub queues : (f t : ℕ) → f ≢ t → (lane_between w f t).queue ≡ []
+  pub taken : (f t : ℕ) → f ≢ t → (lane_between w f t).taken ≡ length (letters (matrices s) w.plan.acts (state_of w.first) f t)
+
+-- the stores hold what the plan means: a slot is lost only where its origin was refused memory, and where no rank was, none is lost
+pub record HoldsMeaning (s : Arithmetic) (w : WorldView) (stores : List (List (Slot Sparse))) : Type 0 where
+  pub slots : (r n : ℕ) → IsSlotOf (system_of w).refusals (meaning (matrices s) w.plan.acts (state_of w.first) r n) (cell slot_is.Empty stores r n)
+  pub whole : refusals_in w ≡ 0 → (state_of stores ≡ meaning (matrices s) w.plan.acts (state_of w.first)) × NoneLost stores

@@ -1,0 +1,68 @@
+//! The ranks of a world, made of their stores and turned into them again.
+ghost use Rattle.std.specs.Prelude.{◌≡◌, ◌+◌, ◌≤◌, [], ◌++◌, length, map, reverse, vec_capacity, IfOk, IfErr};
+ghost use Rattle.cb_plan.specs.Stores.{Fits};
+ghost use Rattle.cb_world.specs.Starting.{new_ranks};
+
+use cb_plan::{CheckedPlan, RankStore};
+use cb_rank::Rank;
+use cb_semirings::Semiring;
+use std::alloc::{AllocError, Global};
+
+/// The new ranks, and the vector that the stores were in, emptied. Where memory is refused, the stores come back.
+pub(crate) fn start_ranks<S: Semiring>(
+    alloc: Global,
+    plan: &CheckedPlan,
+    stores: Vec<RankStore<S>>,
+) -> Result<(Vec<Rank<S>>, Vec<RankStore<S>>), (Vec<RankStore<S>>, AllocError)>
+    requires { Fits plan.now.ranks plan.now.starts stores.items }
+    ensures ranks { IfOk result (λ r. r.0.items ≡ new_ranks plan.now 0 stores.items) }
+    ensures empty { IfOk result (λ r. (r.1.items ≡ []) × (length r.0.items ≤ vec_capacity r.1)) }
+    ensures back { IfErr result (λ e. e.0.items ≡ stores.items) }
+{
+    let mut stores = stores;
+    let mut ranks = match Vec::with_capacity(alloc, plan.ranks() as usize) {
+        Ok(ranks) => ranks,
+        Err(refused) => return Err((stores, refused)),
+    };
+    // From the last on, so that each store leaves the end of its vector, and comes back there.
+    while let Some(store) = stores.pop() {
+        match Rank::start(alloc, plan, stores.len() as u16, store) {
+            Ok(rank) => ranks.push_reserved(rank),
+            Err((store, refused)) => {
+                stores.push_reserved(store);
+                return Err((with_stores_of(stores, ranks), refused));
+            }
+        }
+    }
+    ranks.reverse();
+    Ok((ranks, stores))
+}
+
+/// The stores, and after them those of the ranks, the last rank's first.
+fn with_stores_of<S: Semiring>(stores: Vec<RankStore<S>>, ranks: Vec<Rank<S>>) -> Vec<RankStore<S>>
+    requires { length stores.items + length ranks.items ≤ vec_capacity stores }
+    ensures { result.items ≡ stores.items ++ map (λ r. r.slots) (reverse ranks.items) }
+{
+    let mut stores = stores;
+    let mut ranks = ranks;
+    while let Some(rank) = ranks.pop() {
+        stores.push_reserved(rank.into_store());
+    }
+    stores
+}
+
+/// The stores of the ranks, in a vector that is empty and has room for them.
+pub(crate) fn stores_of<S: Semiring>(
+    stores: Vec<RankStore<S>>,
+    ranks: Vec<Rank<S>>,
+) -> Vec<RankStore<S>>
+    requires empty { stores.items ≡ [] }
+    requires room { length ranks.items ≤ vec_capacity stores }
+    ensures { result.items ≡ map (λ r. r.slots) ranks.items }
+{
+    let mut stores = stores;
+    for rank in ranks {
+        stores.push_reserved(rank.into_store());
+    }
+    stores
+}

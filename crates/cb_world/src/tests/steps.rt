@@ -1,0 +1,41 @@
+//! Events in any order, with ample memory.
+use super::{Event, Held, Moved, sums, world};
+use std::test::Fail;
+
+#[test]
+fn a_rank_waits_for_its_letter(rt: HostRuntime) -> Result<(), Fail> {
+    let mut world = world(rt.alloc())?;
+    assert_eq!(rt; (world.remaining(), world.ready()), (9, Some(0)));
+    for _ in 0..3 {
+        assert_eq!(rt; world.step(Event::Step(1)), Moved::Waiting);
+    }
+    assert_eq!(rt; world.step(Event::Step(2)), Moved::Idle);
+    world.finish();
+    assert_eq!(rt;
+        (world.remaining(), world.ready(), world.refusals()),
+        (0, None, 0)
+    );
+    assert_eq!(rt; sums(world)?, (Held::Number(12), Held::Number(12)));
+    Ok(())
+}
+
+#[test]
+fn a_full_lane_holds_up_its_sender(rt: HostRuntime) -> Result<(), Fail> {
+    let mut world = world(rt.alloc())?;
+    assert_eq!(rt; world.step(Event::Step(0)), Moved::Posted);
+    assert_eq!(rt; world.step(Event::Step(0)), Moved::Waiting);
+    assert_eq!(rt; world.step(Event::Step(1)), Moved::Took);
+    assert_eq!(rt; world.step(Event::Step(1)), Moved::Worked);
+    assert_eq!(rt; world.remaining(), 6);
+    Ok(())
+}
+
+#[test]
+fn ranks_may_step_in_rounds(rt: HostRuntime) -> Result<(), Fail> {
+    let mut world = world(rt.alloc())?;
+    for _ in 0..9 {
+        world.run(&[Event::Step(1), Event::Step(0)]);
+    }
+    assert_eq!(rt; sums(world)?, (Held::Number(12), Held::Number(12)));
+    Ok(())
+}

@@ -1,0 +1,223 @@
+//! All ranks of a checked plan, one event at a time.
+ghost use Rattle.std.specs.Prelude.{ℕ, ◌≡◌, ◌≢◌, ◌+◌, ◌<◌, ◌≤◌, ◌↔◌, List, length, map, IfOk, IfErr, IsTrue};
+ghost use Rattle.cb_letters.specs.Lane.{posted};
+ghost use Rattle.cb_plan.specs.Stores.{Fits};
+ghost use Rattle.cb_world.specs.Worlds.{IsWorld, IsNewWorld, next_of, lane_between, CanAct, AllDone, IsReady, remaining, refusals_in, IsFinished, HoldsMeaning};
+ghost use Rattle.cb_world.specs.Steps.{Steps, StepsBy, IsStarved, RunsBy};
+ghost use Rattle.cb_world.specs.declared.events.Event.{Event as EventOf};
+ghost use Rattle.cb_world.specs.declared.events.Event.TheVariants.{Starve};
+
+use crate::ends::Ends;
+use crate::events::Event;
+use crate::starting::{start_ranks, stores_of};
+use cb_dcsc::Block;
+use cb_plan::{CheckedPlan, RankStore};
+use cb_rank::{Moved, Rank, Supply, Want};
+use cb_semirings::Semiring;
+use std::alloc::{AllocError, Global};
+use std::marker::Model;
+use std::snapshot::Snapshot;
+
+/// The ranks of a checked plan, each with its slots, and the lanes between them.
+#[derive(Drop)]
+pub struct World<S: Semiring> {
+    plan: Snapshot<CheckedPlan>,
+    first: Snapshot<Vec<RankStore<S>>>,
+    capacity: usize,
+    ranks: Vec<Rank<S>>,
+    ends: Ends<Block<S>>,
+    // Empty, with room for the store of each rank.
+    stores: Vec<RankStore<S>>,
+}
+
+impl<S: Semiring> Model for World<S> {
+    ghost use Rattle.std.specs.Prelude.{◌≡◌, ◌≤◌, [], length, vec_capacity};
+    ghost use Rattle.cb_world.specs.Worlds.{WorldView, IsWorld};
+
+    ghost Value = { WorldView };
+
+    ghost view = { λ w. record { plan = w.plan.value; first = w.first.value.items; capacity = w.capacity; ranks = w.ranks.items; boxes = w.ends.boxes } };
+
+    ghost invariant = { λ w. IsWorld S.arithmetic (record { plan = w.plan.value; first = w.first.value.items; capacity = w.capacity; ranks = w.ranks.items; boxes = w.ends.boxes }) × (w.stores.items ≡ []) × (length w.ranks.items ≤ vec_capacity w.stores) };
+}
+
+impl<S: Semiring> World<S> {
+    /// A world in which nothing is done: a rank for each store, and lanes of `capacity` letters, 1 to 64. All
+    /// memory that a world itself needs is taken here; where it is refused the stores come back.
+    pub fn start(
+        alloc: Global,
+        plan: &CheckedPlan,
+        stores: Vec<RankStore<S>>,
+        capacity: usize,
+    ) -> Result<World<S>, (Vec<RankStore<S>>, AllocError)>
+        requires fits { Fits plan.now.ranks plan.now.starts stores.items }
+        requires capacity { (1 ≤ capacity) × (capacity ≤ 64) }
+        ensures new { IfOk result (λ w. IsNewWorld plan.now stores.items capacity w) }
+        ensures world { IfOk result (λ w. IsWorld S.arithmetic w) }
+        ensures back { IfErr result (λ e. e.0.items ≡ stores.items) }
+    {
+        let first = Snapshot::of(&stores);
+        let ends = match Ends::open(alloc, plan.ranks(), capacity) {
+            Ok(ends) => ends,
+            Err(refused) => return Err((stores, refused)),
+        };
+        let (ranks, stores) = start_ranks(alloc, plan, stores)?;
+        Ok(World {
+            plan: Snapshot::of(plan),
+            first,
+            capacity,
+            ranks,
+            ends,
+            stores,
+        })
+    }
+
+    /// One event: a rank does its next half, if it can, and the answer says which kind it was. A rank that waits,
+    /// or is done, or isn't there, changes nothing.
+    ///
+    /// Costs what the half costs, whatever the length of the plan and the number of ranks.
+    pub fn step(&mut self, event: Event) -> Moved
+        ensures step { Steps S.arithmetic event result self.old self.new }
+        ensures falls { result ≢ Moved.Waiting → result ≢ Moved.Idle → remaining self.new + 1 ≡ remaining self.old }
+        ensures keeps { (self.new.plan ≡ self.old.plan) × (self.new.first ≡ self.old.first) }
+        ensures world { IsWorld S.arithmetic self.new }
+    {
+        match event {
+            Event::Step(rank) => self.advance(rank, Supply::Granted),
+            Event::Starve(rank) => self.advance(rank, Supply::Refused),
+        }
+    }
+
+    /// A step of a rank, with this supply of memory.
+    fn advance(&mut self, r: u16, supply: Supply) -> Moved
+        ensures half { StepsBy S.arithmetic r (next_of self.old r) result self.old self.new }
+        ensures starved { supply ≡ Supply.Refused → IsStarved (Starve r) self.old self.new }
+        ensures falls { result ≢ Moved.Waiting → result ≢ Moved.Idle → remaining self.new + 1 ≡ remaining self.old }
+        ensures world { IsWorld S.arithmetic self.new }
+    {
+        if r as usize >= self.ranks.len() {
+            return Moved::Idle;
+        }
+        self.ends.turn_to(r);
+        match self.ranks[r as usize].step(&mut self.ends, supply) {
+            Ok(moved) => moved,
+            Err(_) => unreachable!(),
+        }
+    }
+
+    /// Some events, one after the other.
+    pub fn run(&mut self, events: &[Event])
+        ensures runs { RunsBy S.arithmetic events.now self.old self.new }
+        ensures keeps { (self.new.plan ≡ self.old.plan) × (self.new.first ≡ self.old.first) }
+    {
+        for event in events {
+            let _moved = self.step(*event);
+        }
+    }
+
+    /// Whether a rank can act.
+    fn can_act(&self, r: u16) -> bool
+        ensures { IsTrue result ↔ CanAct self.now r }
+    {
+        let Some(rank) = self.ranks.get(r as usize) else {
+            return false;
+        };
+        match rank.want() {
+            Want::Post(to) => self.ends.has_room(r, to),
+            Want::Take(from) => self.ends.has_letter(from, r),
+            Want::Work => true,
+            Want::Shut(to) => self.ends.has_room(r, to),
+            Want::End(from) => self.ends.has_letter(from, r),
+            Want::Done => false,
+        }
+    }
+
+    /// The least rank that can act. There is none only where all are done, whatever the capacity and whatever
+    /// was refused.
+    ///
+    /// Looks at each rank once.
+    pub fn ready(&self) -> Option<u16>
+        ensures ready { IsReady self.now result }
+        ensures world { IsWorld S.arithmetic self.now }
+    {
+        for r in 0..self.ranks.len() as u16 {
+            if self.can_act(r) {
+                return Some(r);
+            }
+        }
+        None
+    }
+
+    /// Steps the least rank that can act, until all are done.
+    pub fn finish(&mut self)
+        ensures runs { (events : List EventOf) × RunsBy S.arithmetic events self.old self.new }
+        ensures done { AllDone self.new }
+        ensures keeps { (self.new.plan ≡ self.old.plan) × (self.new.first ≡ self.old.first) }
+    {
+        while let Some(r) = self.ready() {
+            let _moved = self.step(Event::Step(r));
+        }
+    }
+
+    /// How many halves are not done, of all ranks.
+    pub fn remaining(&self) -> u64
+        ensures { result ≡ remaining self.now }
+    {
+        let mut halves = 0;
+        for rank in &self.ranks {
+            halves += rank.remaining();
+        }
+        halves
+    }
+
+    /// Whether every rank has done all its halves.
+    pub fn all_done(&self) -> bool
+        ensures done { IsTrue result ↔ AllDone self.now }
+        ensures none_left { IsTrue result ↔ (remaining self.now ≡ 0) }
+    {
+        self.remaining() == 0
+    }
+
+    /// How often memory was refused, to all ranks.
+    pub fn refusals(&self) -> u64
+        ensures { result ≡ refusals_in self.now }
+    {
+        let mut refusals = 0;
+        for rank in &self.ranks {
+            refusals += rank.refusals();
+        }
+        refusals
+    }
+
+    /// How many letters one rank has posted to another, its close mark among them.
+    pub fn posted(&self, from: u16, to: u16) -> u64
+        requires from { from < self.now.plan.ranks }
+        requires to { to < self.now.plan.ranks }
+        requires apart { from ≢ to }
+        ensures { result ≡ posted (lane_between self.now from to) }
+    {
+        self.ends.posted(from, to)
+    }
+
+    /// How many letters of one rank another has taken, the close mark among them.
+    pub fn taken(&self, from: u16, to: u16) -> u64
+        requires from { from < self.now.plan.ranks }
+        requires to { to < self.now.plan.ranks }
+        requires apart { from ≢ to }
+        ensures { result ≡ (lane_between self.now from to).taken }
+    {
+        self.ends.taken(from, to)
+    }
+
+    /// The stores of all ranks, once all is done. They hold what the plan means, but for what was lost where
+    /// memory was refused. They come in the vector that `start` was given, and so no memory is taken.
+    pub fn into_stores(self) -> Vec<RankStore<S>>
+        requires { AllDone self }
+        ensures stores { result.items ≡ map (λ x. x.slots) self.ranks }
+        ensures finished { IsFinished S.arithmetic self }
+        ensures meaning { HoldsMeaning S.arithmetic self result.items }
+    {
+        let World { ranks, stores, .. } = self;
+        stores_of(stores, ranks)
+    }
+}
