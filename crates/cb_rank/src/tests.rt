@@ -1,21 +1,44 @@
 //! Worked examples: the halves of one rank, with ample memory and with memory refused.
-ghost use Rattle.std.specs.Prelude.{◌≡◌, ◌<◌, IfSome};
+ghost use Rattle.std.specs.Prelude.{◌≡◌, ◌<◌, ◌↔◌, IsTrue, All, IfOk, IfSome};
+ghost use Rattle.cb_semirings.specs.Arithmetic.{IsValue};
 
 use crate::{Arrival, Rank, Stray, Supply, Want};
 use cb_dcsc::Block;
 use cb_letters::{Body, Letter, Tag};
-use cb_plan::{Act, CheckedPlan, Op, Plan, RankStore, SLOTS, Slot};
-use cb_samples::{block, entry, shape};
-use cb_semirings::PlusTimes;
+use cb_matrix::{Entry, Shape};
+use cb_plan::{Act, CheckedPlan, Op, Plan, RankStore, Slot};
+use cb_semirings::{PlusTimes, Semiring};
 use std::alloc::Global;
 use std::test::Fail;
 
 mod letters;
 mod operations;
 
+/// A shape below the limit.
+fn shape(rows: u32, cols: u32) -> Result<Shape, Fail>
+    ensures { IfOk result (λ s. s ≡ record { rows = rows; cols = cols }) }
+{
+    Ok(Shape::new(rows, cols).ok_or("past the limit")?)
+}
+
+/// Whether each entry's value is one of the semiring.
+fn are_values<S: Semiring>(entries: &[Entry]) -> bool
+    ensures { IsTrue result ↔ All (λ e. IsValue S.arithmetic e.value) entries.now }
+{
+    entries.iter().all(|entry| S::is_value(entry.value))
+}
+
 /// A block of 1 by 1.
 fn single(alloc: Global, value: u64) -> Result<Block<PlusTimes>, Fail> {
-    Ok(block(alloc, 1, 1, &[entry(0, 0, value)])?)
+    let entries = [Entry {
+        row: 0,
+        column: 0,
+        value,
+    }];
+    if !are_values::<PlusTimes>(&entries) {
+        return Err("a value out of range".into());
+    }
+    Ok(Block::from_sorted(alloc, shape(1, 1)?, &entries)?)
 }
 
 /// A letter from rank 1 to rank 0.
@@ -153,7 +176,7 @@ enum Held {
 }
 
 fn contents_of(store: &RankStore<PlusTimes>, n: u16) -> Result<Held, Fail>
-    requires { n < SLOTS }
+    requires { n < 256 }
 {
     match store.slot(n) {
         Slot::Empty => Ok(Held::Nothing),

@@ -1,88 +1,149 @@
 //! Every operation through a rank, with each operand lost in turn, and with memory refused.
-use super::{Held, contents_of, filled, plan, single, work};
+use super::{Held, contents_of, filled, plan, shape, single, work};
 use crate::Supply;
-use cb_dcsc::Block;
 use cb_elementwise::Test;
 use cb_letters::Body;
-use cb_plan::{Op, SLOTS};
-use cb_samples::shape;
-use cb_semirings::PlusTimes;
+use cb_plan::Op;
 use std::alloc::Global;
 use std::test::Fail;
 
-/// An operation, what it makes of 2, 3 and 5 in slots 0, 1 and 2, and how many of them it reads.
+/// An operation, the slot that it sets, what it makes of 2, 3 and 5 in slots 0, 1 and 2, and which of them it reads.
 #[derive(Drop)]
 struct Case {
     op: Op,
+    target: u16,
     makes: Held,
-    operands: usize,
-}
-
-const fn makes(op: Op, makes: Held, operands: usize) -> Case {
-    Case {
-        op,
-        makes,
-        operands,
-    }
-}
-
-const fn one(value: u64) -> Held {
-    Held::Entries(1, value)
+    reads: [bool; 3],
 }
 
 /// Each operation that needs memory.
 fn cases() -> Result<[Case; 10], Fail> {
-    let (a, b, x, m, acc, into) = (0, 1, 1, 1, 2, 3);
-    let (rows, cols) = ((0, 1), (0, 1));
-    let cut = Op::Cut {
-        a,
-        rows,
-        cols,
-        into,
+    let case = |op, target, value, second, third| Case {
+        op,
+        target,
+        makes: Held::Entries(1, value),
+        reads: [true, second, third],
     };
-    let (shape, at) = (shape(2, 2)?, (1, 1));
-    let test = Test::Below(3);
+    let larger = shape(2, 2)?;
+    let all = (0, 1);
+    let pruned = Case {
+        op: Op::Prune {
+            a: 0,
+            test: Test::Below(3),
+            into: 3,
+        },
+        target: 3,
+        makes: Held::Entries(0, 0),
+        reads: [true, false, false],
+    };
     Ok([
-        makes(Op::MulAdd { a, b, acc }, one(11), 3),
-        makes(Op::Add { a, b, into }, one(5), 2),
-        makes(Op::Times { a, b, into }, one(6), 2),
-        makes(Op::Transpose { a, into }, one(2), 1),
-        makes(cut, one(2), 1),
-        makes(Op::Place { a, shape, at, into }, one(2), 1),
-        makes(Op::MulVec { a, x, into }, one(6), 2),
-        makes(Op::Copy { a, into }, one(2), 1),
-        makes(Op::Mask { a, m, into }, one(2), 2),
-        makes(Op::Prune { a, test, into }, Held::Entries(0, 0), 1),
+        case(Op::MulAdd { a: 0, b: 1, acc: 2 }, 2, 11, true, true),
+        case(
+            Op::Add {
+                a: 0,
+                b: 1,
+                into: 3,
+            },
+            3,
+            5,
+            true,
+            false,
+        ),
+        case(
+            Op::Times {
+                a: 0,
+                b: 1,
+                into: 3,
+            },
+            3,
+            6,
+            true,
+            false,
+        ),
+        case(Op::Transpose { a: 0, into: 3 }, 3, 2, false, false),
+        case(
+            Op::Cut {
+                a: 0,
+                rows: all,
+                cols: all,
+                into: 3,
+            },
+            3,
+            2,
+            false,
+            false,
+        ),
+        case(
+            Op::Place {
+                a: 0,
+                shape: larger,
+                at: (1, 1),
+                into: 3,
+            },
+            3,
+            2,
+            false,
+            false,
+        ),
+        case(
+            Op::MulVec {
+                a: 0,
+                x: 1,
+                into: 3,
+            },
+            3,
+            6,
+            true,
+            false,
+        ),
+        case(Op::Copy { a: 0, into: 3 }, 3, 2, false, false),
+        case(
+            Op::Mask {
+                a: 0,
+                m: 1,
+                into: 3,
+            },
+            3,
+            2,
+            true,
+            false,
+        ),
+        pruned,
     ])
-}
-
-/// A block of this value, or that it was lost at a rank.
-fn body(
-    alloc: Global,
-    value: u64,
-    rank: u16,
-    is_lost: bool,
-) -> Result<Body<Block<PlusTimes>>, Fail> {
-    if is_lost {
-        return Ok(Body::Lost(rank));
-    }
-    Ok(Body::Sheet(single(alloc, value)?))
 }
 
 /// What the target of an operation holds after it, and the count of refusals, where some of slots 0, 1 and 2 are
 /// lost, at ranks 10, 11 and 12.
-fn after(alloc: Global, op: Op, lost: [bool; 3], supply: Supply) -> Result<(Held, u64), Fail> {
+fn after(
+    alloc: Global,
+    op: Op,
+    target: u16,
+    lost: [bool; 3],
+    supply: Supply,
+) -> Result<(Held, u64), Fail> {
     let plan = plan(alloc, op, 0)?;
-    let first = body(alloc, 2, 10, lost[0])?;
-    let second = body(alloc, 3, 11, lost[1])?;
-    let third = body(alloc, 5, 12, lost[2])?;
+    let first = if lost[0] {
+        Body::Lost(10)
+    } else {
+        Body::Sheet(single(alloc, 2)?)
+    };
+    let second = if lost[1] {
+        Body::Lost(11)
+    } else {
+        Body::Sheet(single(alloc, 3)?)
+    };
+    let third = if lost[2] {
+        Body::Lost(12)
+    } else {
+        Body::Sheet(single(alloc, 5)?)
+    };
     let mut rank = filled(alloc, &plan, first, second, third)?;
     work(&mut rank, supply)?;
     let refusals = rank.refusals();
-    if op.target() >= SLOTS {
+    if target >= 256 {
         return Err("no slot".into());
     }
-    Ok((contents_of(&rank.into_store(), op.target())?, refusals))
+    Ok((contents_of(&rank.into_store(), target)?, refusals))
 }
 
 /// Where no operand is lost, the result, or that memory was refused for it.
@@ -93,24 +154,51 @@ fn is_result(answer: (Held, u64), makes: Held) -> bool {
 #[test]
 fn an_operation_makes_its_result(rt: HostRuntime) -> Result<(), Fail> {
     for case in cases()? {
-        let answer = after(rt.alloc(), case.op, [false; 3], Supply::Granted)?;
+        let answer = after(
+            rt.alloc(),
+            case.op,
+            case.target,
+            [false, false, false],
+            Supply::Granted,
+        )?;
         assert_eq!(rt; answer, (case.makes, 0));
     }
     Ok(())
 }
 
-/// The first of the operands that are lost says where.
 #[test]
 fn a_lost_operand_loses_the_result(rt: HostRuntime) -> Result<(), Fail> {
     for case in cases()? {
-        for first in 0..3 {
-            let lost = [first == 0, first <= 1, true];
-            let answer = after(rt.alloc(), case.op, lost, Supply::Granted)?;
-            if first < case.operands {
-                assert_eq!(rt; answer, (Held::LostAt(10 + first as u16), 0));
-            } else {
-                assert!(rt; is_result(answer, case.makes));
-            }
+        let first = after(
+            rt.alloc(),
+            case.op,
+            case.target,
+            [true, true, true],
+            Supply::Refused,
+        )?;
+        assert_eq!(rt; first, (Held::LostAt(10), 0));
+        let second = after(
+            rt.alloc(),
+            case.op,
+            case.target,
+            [false, true, true],
+            Supply::Granted,
+        )?;
+        let third = after(
+            rt.alloc(),
+            case.op,
+            case.target,
+            [false, false, true],
+            Supply::Granted,
+        )?;
+        if case.reads[1] {
+            assert_eq!(rt; second, (Held::LostAt(11), 0));
+        }
+        if case.reads[2] {
+            assert_eq!(rt; third, (Held::LostAt(12), 0));
+        }
+        if !case.reads[1] {
+            assert!(rt; is_result(second, case.makes));
         }
     }
     Ok(())
@@ -119,30 +207,28 @@ fn a_lost_operand_loses_the_result(rt: HostRuntime) -> Result<(), Fail> {
 #[test]
 fn refused_memory_loses_the_result_at_this_rank(rt: HostRuntime) -> Result<(), Fail> {
     for case in cases()? {
-        let answer = after(rt.alloc(), case.op, [false; 3], Supply::Refused)?;
+        let answer = after(
+            rt.alloc(),
+            case.op,
+            case.target,
+            [false, false, false],
+            Supply::Refused,
+        )?;
         assert_eq!(rt; answer, (Held::LostAt(0), 1));
-        let lost = after(rt.alloc(), case.op, [true; 3], Supply::Refused)?;
-        assert_eq!(rt; lost, (Held::LostAt(10), 0));
     }
     Ok(())
 }
 
 #[test]
 fn zero_and_clear_need_no_memory(rt: HostRuntime) -> Result<(), Fail> {
-    let shape = shape(2, 3)?;
-    let made = after(
-        rt.alloc(),
-        Op::Zero { into: 0, shape },
-        [true; 3],
-        Supply::Refused,
-    )?;
+    let zero = Op::Zero {
+        into: 0,
+        shape: shape(2, 3)?,
+    };
+    let lost = [true, true, true];
+    let made = after(rt.alloc(), zero, 0, lost, Supply::Refused)?;
     assert_eq!(rt; made, (Held::Entries(0, 0), 0));
-    let cleared = after(
-        rt.alloc(),
-        Op::Clear { slot: 1 },
-        [true; 3],
-        Supply::Refused,
-    )?;
+    let cleared = after(rt.alloc(), Op::Clear { slot: 1 }, 1, lost, Supply::Refused)?;
     assert_eq!(rt; cleared, (Held::Nothing, 0));
     Ok(())
 }
