@@ -218,14 +218,14 @@ fn ranks_in_threads_meet(rt: HostRuntime) -> Result<(), Fail> {
 #[derive(Drop)]
 struct Keeper<'a, R: Wait> {
     rt: &'a R,
-    wants: [Mutex<Vec<Want>>; 2],
+    of_0: Mutex<Vec<Want>>,
+    of_1: Mutex<Vec<Want>>,
 }
 
 impl<'a, S: Semiring, R: Wait + Sync> Gate<S> for Keeper<'a, R> {
     fn pass(&self, rank: u16, state: &Rank<S>) {
-        if let Some(mine) = self.wants.get(rank as usize) {
-            let _ = mine.lock(self.rt).push(state.want());
-        }
+        let mine = if rank == 0 { &self.of_0 } else { &self.of_1 };
+        let _ = mine.lock(self.rt).push(state.want());
     }
 }
 
@@ -234,22 +234,17 @@ fn the_gate_sees_each_half(rt: HostRuntime) -> Result<(), Fail> {
     let (plan, stores) = planned(rt.alloc()).ok_or("a plan")?;
     let gate = Keeper {
         rt: &rt,
-        wants: [
-            Mutex::new(Vec::new(rt.alloc())),
-            Mutex::new(Vec::new(rt.alloc())),
-        ],
+        of_0: Mutex::new(Vec::new(rt.alloc())),
+        of_1: Mutex::new(Vec::new(rt.alloc())),
     };
     assert!(rt; run_threads(&rt, rt.alloc(), &plan, stores, 1, &gate).is_ok());
-    let Keeper {
-        rt: _,
-        wants: [first, second],
-    } = gate;
+    let Keeper { of_0, of_1, .. } = gate;
     assert_eq!(rt;
-        first.into_inner().as_slice(),
+        of_0.into_inner().as_slice(),
         [Want::Post(1), Want::Take(1), Want::Shut(1), Want::End(1)].as_slice()
     );
     assert_eq!(rt;
-        second.into_inner().as_slice(),
+        of_1.into_inner().as_slice(),
         [
             Want::Take(0),
             Want::Work,
