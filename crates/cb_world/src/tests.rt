@@ -1,6 +1,5 @@
-//! Worked examples: two ranks add a block of one to a block of the other, and the sum goes back.
-ghost use Rattle.std.specs.Prelude.{◌≡◌, ◌<◌, ◌↔◌, length, IsTrue, All, IfOk};
-ghost use Rattle.cb_plan.specs.Stores.{Fits};
+//! Worked examples: a block goes to another rank, is doubled there, and the double goes back.
+ghost use Rattle.std.specs.Prelude.{◌≡◌, ◌<◌, ◌↔◌, IsTrue, All, IfOk};
 ghost use Rattle.cb_semirings.specs.Arithmetic.{IsValue};
 
 use crate::{Event, World};
@@ -46,12 +45,12 @@ fn store(alloc: Global, value: u64) -> Result<RankStore<PlusTimes>, AllocError> 
     Ok(store)
 }
 
-/// A block of 1 by 1 stands in slot 0 of this rank.
-fn start(rank: u16) -> Result<Start, AllocError>
-    ensures { IfOk result (λ s. s ≡ record { rank = rank; slot = 0; shape = record { rows = 1; cols = 1 } }) }
+/// A block of 1 by 1 stands in slot 0 of rank 0.
+fn start() -> Result<Start, AllocError>
+    ensures { IfOk result (λ s. s ≡ record { rank = 0; slot = 0; shape = record { rows = 1; cols = 1 } }) }
 {
     Ok(Start {
-        rank,
+        rank: 0,
         slot: 0,
         shape: shape()?,
     })
@@ -68,10 +67,10 @@ const fn send(from: u16, to: u16, slot: u16, into: u16) -> Act {
     }
 }
 
-/// Rank 0 sends its block, rank 1 adds its own to it in slot 2, and sends the sum back: nine halves.
+/// Rank 0 sends its block, rank 1 adds it to itself in slot 2, and sends the sum back: nine halves.
 fn plan(alloc: Global) -> Result<CheckedPlan, AllocError> {
     let add = Op::Add {
-        a: 0,
+        a: 1,
         b: 1,
         into: 2,
     };
@@ -86,16 +85,16 @@ fn plan(alloc: Global) -> Result<CheckedPlan, AllocError> {
     for act in acts {
         plan.push(act).map_err(|_| AllocError)?;
     }
-    match CheckedPlan::check(alloc, plan, &[start(0)?, start(1)?]) {
+    match CheckedPlan::check(alloc, plan, &[start()?]) {
         Ok(plan) => Ok(plan),
         Err(_) => Err(AllocError),
     }
 }
 
-/// The plan, and its stores: rank 0 has the number 5, rank 1 has 7.
+/// The plan, and its stores: rank 0 has the number 6.
 fn parts(alloc: Global) -> Result<(CheckedPlan, Vec<RankStore<PlusTimes>>), AllocError> {
     let plan = plan(alloc)?;
-    let stores = vec![in alloc; store(alloc, 5)?, store(alloc, 7)?]?;
+    let stores = vec![in alloc; store(alloc, 6)?, RankStore::new(alloc)?]?;
     Ok((plan, stores))
 }
 
