@@ -59,6 +59,7 @@ answer_of (Prune test) s ms = pruned s (passes test) (matrix_at ms 0)
 abbrev pub IsRefusal : Operation → List Sparse → ScriptFault → Type 0
 IsRefusal operation ms script_is.Shapes = ¬ Agree operation ms
 IsRefusal operation ms script_is.Memory = Agree operation ms
+IsRefusal operation ms _ = ⊥
 
 -- the text that an operation over a semiring answers: that of what it makes of the matrices that the texts read as
 abbrev pub IsAnswerOver : Operation → Arithmetic → List (List ℕ) → List ℕ → Type 0
@@ -106,6 +107,8 @@ read_status_of _ = 4
 abbrev pub status_of : JobFault → ℕ
 status_of (Read which fault) = read_status_of fault.kind
 status_of (Script script_is.Shapes) = 5
+status_of (Script script_is.NotSquare) = 5
+status_of (Script script_is.Source) = 5
 status_of (Script script_is.Memory) = 6
 status_of Memory = 6
 status_of Output = 7

@@ -186,7 +186,7 @@ pub fn execute<K: Sink>(
 }
 
 /// The status that the program ends with: 4 for a text that is no matrix, 5 for shapes that don't
-/// agree, 6 for want of memory, 7 for output.
+/// agree, a matrix that isn't square or a source that is no vertex, 6 for want of memory, 7 for output.
 pub fn status(fault: &JobFault) -> u8
     ensures { result ≡ status_of fault.now }
 {
@@ -195,7 +195,7 @@ pub fn status(fault: &JobFault) -> u8
             Kind::Memory => 6,
             _ => 4,
         },
-        JobFault::Script(ScriptFault::Shapes) => 5,
+        JobFault::Script(ScriptFault::Shapes | ScriptFault::NotSquare | ScriptFault::Source) => 5,
         JobFault::Script(ScriptFault::Memory) => 6,
         JobFault::Memory => 6,
         JobFault::Output => 7,

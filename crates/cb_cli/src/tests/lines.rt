@@ -185,6 +185,16 @@ fn ends_with_a_status_and_prints_a_line(rt: HostRuntime) -> Result<(), Fail> {
             "cbgrid: shapes don't agree\n",
         ),
         (
+            JobFault::Script(ScriptFault::NotSquare),
+            5,
+            "cbgrid: matrix not square\n",
+        ),
+        (
+            JobFault::Script(ScriptFault::Source),
+            5,
+            "cbgrid: no such source\n",
+        ),
+        (
             JobFault::Script(ScriptFault::Memory),
             6,
             "cbgrid: out of memory\n",
