@@ -15,13 +15,13 @@ use Rattle.cb_layout.proofs.Parts.{rank_below}
 use Rattle.cb_distribution.specs.Distribution.{part_start_at}
 use Rattle.cb_distribution.specs.Flows.{Flows}
 use Rattle.cb_distribution.proofs.Grid.{at_place}
-use Rattle.cb_distribution.proofs.Starts.{starts_there, all_starts, starts_once}
+use Rattle.cb_distribution.proofs.Starts.{starts_there, starts_elsewhere, all_starts, starts_once}
 use Rattle.cb_kernels.specs.VectorPlans.{column, input_start_at, vector_starts_at, vector_starts, spread_product_acts}
 use Rattle.cb_kernels.proofs.VectorFlow.{spread_flow}
 
 module _ (q : ℕ) (shape : Extent) where
   -- what a slot of a rank has after its starts, where it had x before
-  abbrev held : ℕ → ℕ → Option Extent → Option Extent
+  abbrev pub held : ℕ → ℕ → Option Extent → Option Extent
   held r n x = if 1 == n then Some (piece_shape q (column shape.cols) (r % q) (r / q)) else (if 0 == n then Some (part_shape q shape (r / q) (r % q)) else x)
 
   own_alone : (k r n : ℕ) (state : State Extent) → (k == r) ≡ false → started_from (vector_starts_at q shape k) state r n ≡ state r n
@@ -30,14 +30,19 @@ module _ (q : ℕ) (shape : Extent) where
   own_set : (k n : ℕ) (state : State Extent) → started_from (vector_starts_at q shape k) state k n ≡ held k n (state k n)
   own_set k n state = let e : (k == k) ≡ true = grind (arith, nat_tests) in rw e refl
 
-  there : (r n : ℕ) → r < q * q → started (vector_starts q shape) r n ≡ held r n None
-  there r n l = starts_there (vector_starts_at q shape) held own_alone own_set 0 (q * q) (λ _ _. None) r n (omega arith) (omega arith)
+  -- what a rank has at the start
+  pub vector_starts_there : (r n : ℕ) → r < q * q → started (vector_starts q shape) r n ≡ held r n None
+  vector_starts_there r n l = starts_there (vector_starts_at q shape) held own_alone own_set 0 (q * q) (λ _ _. None) r n (omega arith) (omega arith)
+
+  -- there are no other ranks
+  pub vector_starts_elsewhere : (r n : ℕ) → q * q ≤ r → started (vector_starts q shape) r n ≡ None
+  vector_starts_elsewhere r n l = starts_elsewhere (vector_starts_at q shape) held own_alone own_set 0 (q * q) (λ _ _. None) r n (λ k _ m. let ne : k ≢ r = omega arith in ne)
 
   has_part : (i j : ℕ) → i < q → j < q → started (vector_starts q shape) (i * q + j) 0 ≡ Some (part_shape q shape i j)
-  has_part i j l m = there (i * q + j) 0 (rank_below q i j l m) ∙ at_place (λ x y. Some (part_shape q shape x y)) q i j m
+  has_part i j l m = vector_starts_there (i * q + j) 0 (rank_below q i j l m) ∙ at_place (λ x y. Some (part_shape q shape x y)) q i j m
 
   has_piece : (t j : ℕ) → t < q → j < q → started (vector_starts q shape) (t * q + j) 1 ≡ Some (piece_shape q (column shape.cols) j t)
-  has_piece t j l m = there (t * q + j) 1 (rank_below q t j l m) ∙ at_place (λ x y. Some (piece_shape q (column shape.cols) y x)) q t j m
+  has_piece t j l m = vector_starts_there (t * q + j) 1 (rank_below q t j l m) ∙ at_place (λ x y. Some (piece_shape q (column shape.cols) y x)) q t j m
 
   abbrev Exists : Start → Type 0
   Exists s = (s.rank < q * q) × (s.slot < 256)

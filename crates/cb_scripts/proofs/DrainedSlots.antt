@@ -1,6 +1,7 @@
 -- The blocks of one slot are moved out, rank after rank.
-use Rattle.std.proofs.Common.{◌≡◌, ◌≢◌, ℕ, ◌+◌, ◌-◌, ◌<◌, ◌≤◌, List, [], ◌∷◌, ◌++◌, length, length-append, get_or, refl, sym, ap, ⊎_elim, ◌∙◌, arith}
-use Rattle.std.specs.Prelude.{slice_set, Some, IsSome}
+use Rattle.std.proofs.Common.{◌≡◌, ◌≢◌, ℕ, ◌+◌, ◌-◌, ◌<◌, ◌≤◌, false, List, [], ◌∷◌, ◌++◌, length, length-append, get_or, refl, sym, ap, ⊎_elim, ◌∙◌, arith}
+use Rattle.std.specs.Prelude.{slice_set, Some, IsSome, ◌==◌}
+use Rattle.std.proofs.lemmas.Bool.Decides.{nat_tests}
 use Rattle.std.proofs.lemmas.Bool.{cases_lt}
 use Rattle.std.proofs.lemmas.List.{length-set, get_or-set_other, get_or_append_left, get_or-append_right}
 use Rattle.cb_matrix.specs.Sparse.{Sparse}
@@ -9,17 +10,22 @@ use Rattle.cb_layout.specs.Blocks.{block_at}
 use Rattle.cb_plan.specs.declared.stores.Slot.{Slot}
 use Rattle.cb_plan.specs.declared.stores.Slot.TheVariants as slot_is
 use Rattle.cb_plan.specs.Stores.{state_of, sheet_of}
+use Rattle.cb_plan.specs.Tables.{IsTable, cell_set}
+use Rattle.cb_plan.proofs.Cells.{set_is_table, cell_after_set}
+use Rattle.cb_plan.proofs.Effects.{split}
 use Rattle.cb_plan.proofs.Running.{read_at}
 
--- the blocks of slot n of the first r ranks are out, and the other ranks are as they were
+-- the blocks of slot n of the first r ranks are out, and the other ranks and slots are as they were
 pub record DrainedSoFar (n r : ℕ) (first now : List (List (Slot Sparse))) (out : List Sparse) : Type 0 where
   pub ranks : length now ≡ length first
   pub count : length out ≡ r
   pub later : (k : ℕ) → r ≤ k → get_or now k [] ≡ get_or first k []
+  pub table : IsTable (length first) 256 now
+  pub others : (k m : ℕ) → n ≢ m → state_of now k m ≡ state_of first k m
   pub blocks : (k : ℕ) → k < r → state_of first k n ≡ Some (block_at out k)
 
-pub draining_none : (n : ℕ) (first : List (List (Slot Sparse))) → DrainedSoFar n 0 first first []
-draining_none n first = record { ranks = refl; count = refl; later = λ k l. refl; blocks = λ k l. absurd (omega arith) }
+pub draining_none : (n : ℕ) (first : List (List (Slot Sparse))) → IsTable (length first) 256 first → DrainedSoFar n 0 first first []
+draining_none n first table = record { ranks = refl; count = refl; later = λ k l. refl; table = table; others = λ k m ne. refl; blocks = λ k l. absurd (omega arith) }
 
 -- what is taken is what stood there at first
 pub taken : (n r : ℕ) (first now : List (List (Slot Sparse))) (out : List Sparse) (row : List (Slot Sparse)) (x : Slot Sparse) → DrainedSoFar n r first now out → r < length now → row ≡ get_or now r row → x ≡ get_or row n slot_is.Empty →
@@ -27,12 +33,21 @@ pub taken : (n r : ℕ) (first now : List (List (Slot Sparse))) (out : List Spar
 taken n r first now out row x h l at_row is =
     sym (ap sheet_of (is ∙ ap (λ s. get_or s n slot_is.Empty) (read_at now r row [] l at_row ∙ h.later r (omega arith))))
 
-pub draining_next : (n r : ℕ) (first now : List (List (Slot Sparse))) (out : List Sparse) (row new : List (Slot Sparse)) (x : Slot Sparse) (b : Sparse) → DrainedSoFar n r first now out → r < length now → row ≡ get_or now r row → x ≡ get_or row n slot_is.Empty → x ≡ slot_is.Sheet b →
+pub draining_next : (n r : ℕ) (first now : List (List (Slot Sparse))) (out : List Sparse) (row new : List (Slot Sparse)) (x : Slot Sparse) (b : Sparse) → n < 256 → DrainedSoFar n r first now out → r < length now → row ≡ get_or now r row → x ≡ get_or row n slot_is.Empty → new ≡ slice_set row n slot_is.Empty → x ≡ slot_is.Sheet b →
     DrainedSoFar n (r + 1) first (slice_set now r new) (out ++ b ∷ [])
-draining_next n r first now out row new x b h l at_row is sheet =
+draining_next n r first now out row new x b small h l at_row is is_new sheet =
     let none : Sparse = empty_matrix (record { rows = 0; cols = 0 }) in
     let same = h.count in
+    let empty : Slot Sparse = slot_is.Empty in
+    let below : r < length first = let e = h.ranks in omega arith in
+    let is_set : slice_set now r new ≡ cell_set now r n empty = ap (slice_set now r) (is_new ∙ ap (λ s. slice_set s n empty) (read_at now r row [] l at_row)) in
     record {
+      table = rw is_set (set_is_table (length first) 256 now r n empty h.table below);
+      others = λ k m ne.
+          let off : (n == m) ≡ false = grind (arith, nat_tests) in
+          ap (λ t. state_of t k m) is_set
+          ∙ ap sheet_of (cell_after_set slot_is.Empty (length first) 256 now r n empty h.table below small k m ∙ split (r == k) (λ t. rw (t, off) refl) (λ t. rw t refl))
+          ∙ h.others k m ne;
       ranks = length-set now r new ∙ h.ranks;
       count = length-append out (b ∷ []) ∙ ap (λ k. k + 1) h.count;
       later = λ k m. let ne : k ≢ r = omega arith in get_or-set_other now r k new [] ne ∙ h.later k (omega arith);

@@ -10,3 +10,20 @@ pub mod Making
 pub mod ProductPlans
 pub mod KernelPlans
 pub mod EmptyFactors
+-- Walks. WalkCosts: how they begin, grow and end, and what they cost. ShortWalks: for each walk a short one that
+-- costs no more. Nearing: numbers that near the least costs, round by round. TurnedProducts: a round is the product
+-- of the turned matrix. NearestRounds: the loop over rounds. UnitWeights: levels are distances where each entry
+-- weighs 1. OneColumn: there is one column of distances. TakenNumbers, LowerEntries, NumberColumns: the numbers
+-- known so far, those that fall, and their column.
+pub mod WalkCosts
+pub mod ShortWalks
+pub mod Nearing
+pub mod TurnedProducts
+pub mod TakenNumbers
+pub mod LowerEntries
+pub mod NumberColumns
+pub mod NearestRounds
+pub mod UnitWeights
+pub mod OneColumn
+-- SpreadProducts: a matrix over a grid times a vector.
+pub mod SpreadProducts

@@ -3,3 +3,8 @@
 pub mod Refusals
 pub mod Slots
 pub mod Answers
+-- Walks: walks in a graph, levels and distances. Numbers: the least numbers known so far. SpreadVectors: a matrix and
+-- a vector in the slots of the ranks.
+pub mod Walks
+pub mod Numbers
+pub mod SpreadVectors

@@ -9,17 +9,22 @@ ghost use Rattle.cb_scripts.specs.declared.ScriptFault.TheVariants.{Memory};
 
 mod placewise;
 mod products;
+mod rounds;
 mod runs;
 mod stores;
 #[cfg(test)]
 mod tests;
 mod transposes;
+#[cfg(test)]
+mod walk_tests;
+mod walks;
 
 pub use placewise::{add, prune, times};
 pub use products::{multiply, multiply_masked};
 use std::alloc::AllocError;
 use thiserror::Error;
 pub use transposes::transpose;
+pub use walks::{distances, levels};
 
 /// What runs a plan.
 #[derive(Clone, Copy, Debug, PartialEq, Eq)]
@@ -34,6 +39,12 @@ pub enum ScriptFault {
     /// The shapes of the operands don't agree.
     #[error("shapes don't agree")]
     Shapes,
+    /// The matrix of a graph isn't square.
+    #[error("matrix not square")]
+    NotSquare,
+    /// The source is no vertex of the graph.
+    #[error("no such source")]
+    Source,
     /// Memory was refused.
     #[error("out of memory")]
     Memory,

@@ -69,14 +69,14 @@ pub fn round<S: Semiring>(
     requires shapes { HasShapes grid.now.side shape slot (meaning (matrices S.arithmetic) plan.now.acts (state_of stores.items)) }
     ensures { IfOk result (λ m. m ≡ gathered S.arithmetic grid.now.side shape slot (meaning (matrices S.arithmetic) plan.now.acts (state_of stores.items))) }
 {
-    let stores = engine.run(alloc, plan, stores)?;
-    let blocks = drain(alloc, stores, slot)?;
+    let mut stores = engine.run(alloc, plan, stores)?;
+    let blocks = drain(alloc, &mut stores, slot)?;
     grid.gather(alloc, &blocks, shape)
 }
 
 impl Engine {
     /// Runs a checked plan on stores that fit it. At Ok no slot is lost.
-    fn run<S: Semiring>(
+    pub fn run<S: Semiring>(
         self,
         alloc: Global,
         plan: &CheckedPlan,

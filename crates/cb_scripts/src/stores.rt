@@ -1,5 +1,5 @@
 //! The slots of the ranks: filled with blocks before a plan, and read after it.
-ghost use Rattle.std.specs.Prelude.{◌≡◌, ◌<◌, ◌*◌, ℕ, map, length, replicate, Some, IfOk, OnOk, IsSome};
+ghost use Rattle.std.specs.Prelude.{◌≡◌, ◌≢◌, ◌<◌, ◌*◌, ℕ, map, length, replicate, Some, IfOk, OnOk, IsSome};
 ghost use Rattle.cb_layout.specs.Blocks.{block_at};
 ghost use Rattle.cb_plan.specs.declared.stores.Slot.TheVariants.{Empty};
 ghost use Rattle.cb_plan.specs.Stores.{state_of};
@@ -14,7 +14,7 @@ use cb_semirings::Semiring;
 use std::alloc::{AllocError, Global};
 
 /// A store of empty slots for each rank.
-fn blank<S: Semiring>(alloc: Global, ranks: u16) -> Result<Vec<RankStore<S>>, AllocError>
+pub fn blank<S: Semiring>(alloc: Global, ranks: u16) -> Result<Vec<RankStore<S>>, AllocError>
     ensures { IfOk result (λ v. v.items ≡ replicate ranks (replicate 256 Empty)) }
 {
     let mut stores = Vec::new(alloc);
@@ -58,7 +58,7 @@ fn distribute<S: Semiring>(
 }
 
 /// Moves one block into a slot of each rank.
-fn fill<S: Semiring>(stores: &mut Vec<RankStore<S>>, slot: u16, blocks: Vec<Block<S>>)
+pub fn fill<S: Semiring>(stores: &mut Vec<RankStore<S>>, slot: u16, blocks: Vec<Block<S>>)
     requires slot { slot < 256 }
     requires count { length blocks.items ≡ length stores.old.items }
     requires table { IsTable (length stores.old.items) 256 stores.old.items }
@@ -71,18 +71,20 @@ fn fill<S: Semiring>(stores: &mut Vec<RankStore<S>>, slot: u16, blocks: Vec<Bloc
     }
 }
 
-/// Moves the blocks out of a slot of the ranks.
+/// Moves the blocks out of a slot of the ranks. Their other slots are as they were.
 pub fn drain<S: Semiring>(
     alloc: Global,
-    stores: Vec<RankStore<S>>,
+    stores: &mut Vec<RankStore<S>>,
     slot: u16,
 ) -> Result<Vec<Block<S>>, AllocError>
     requires slot { slot < 256 }
-    requires sheets { (r : ℕ) → r < length stores.items → IsSome (state_of stores.items r slot) }
-    ensures count { IfOk result (λ v. length v.items ≡ length stores.items) }
-    ensures blocks { IfOk result (λ v. (r : ℕ) → r < length stores.items → state_of stores.items r slot ≡ Some (block_at v.items r)) }
+    requires table { IsTable (length stores.old.items) 256 stores.old.items }
+    requires sheets { (r : ℕ) → r < length stores.old.items → IsSome (state_of stores.old.items r slot) }
+    ensures count { IfOk result (λ v. length v.items ≡ length stores.old.items) }
+    ensures blocks { IfOk result (λ v. (r : ℕ) → r < length stores.old.items → state_of stores.old.items r slot ≡ Some (block_at v.items r)) }
+    ensures table { OnOk result (IsTable (length stores.old.items) 256 stores.new.items) }
+    ensures others { OnOk result ((r n : ℕ) → slot ≢ n → state_of stores.new.items r n ≡ state_of stores.old.items r n) }
 {
-    let mut stores = stores;
     let mut blocks = Vec::new(alloc);
     for rank in 0..stores.len() {
         let Slot::Sheet(block) = stores[rank].take(slot) else {

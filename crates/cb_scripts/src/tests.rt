@@ -10,13 +10,13 @@ use cb_semirings::{MaxMin, PlusTimes, Semiring};
 use std::alloc::Global;
 use std::test::Fail;
 
-const SIDES: [u32; 4] = [1, 2, 3, 6];
+pub const SIDES: [u32; 4] = [1, 2, 3, 6];
 
-const fn entry(row: u32, column: u32, value: u64) -> Entry {
+pub const fn entry(row: u32, column: u32, value: u64) -> Entry {
     Entry { row, column, value }
 }
 
-fn grid(side: u32) -> Result<Grid, Fail> {
+pub fn grid(side: u32) -> Result<Grid, Fail> {
     Ok(Grid::new(side).map_err(|_| "a side")?)
 }
 
@@ -28,7 +28,7 @@ fn are_values<S: Semiring>(entries: &[Entry]) -> bool
 }
 
 /// The matrix of so many rows and columns with these entries, where they make one and there is memory.
-fn matrix<S: Semiring>(
+pub fn matrix<S: Semiring>(
     alloc: Global,
     rows: u32,
     cols: u32,

@@ -1,0 +1,129 @@
+-- A matrix over a grid times a vector that is spread over its ranks: the slots before the plan, and after it.
+use Rattle.std.proofs.Common.{◌≡◌, ◌≢◌, ℕ, ◌+◌, ◌-◌, ◌*◌, ◌/◌, ◌%◌, ◌<◌, ◌≤◌, false, List, [], length, replicate, get_or, refl, sym, ap, subst, ⊎_elim, ◌∙◌, arith}
+use Rattle.std.specs.Prelude.{Some, None, IsSome, ◌==◌, if◌then◌else◌}
+use Rattle.std.proofs.lemmas.Bool.{cases_lt}
+use Rattle.std.proofs.lemmas.Nat.{mod_below}
+use Rattle.std.proofs.lemmas.List.{get_or_past}
+use Rattle.std.proofs.lemmas.Option.{same_Some}
+use Rattle.cb_semirings.specs.Arithmetic.{Arithmetic, IsSemiring}
+use Rattle.cb_matrix.specs.Sparse.{Sparse, Extent, IsMatrix}
+use Rattle.cb_matrix.specs.Values.{product}
+use Rattle.cb_layout.specs.Parts.{part_length, part_shape}
+use Rattle.cb_layout.specs.Blocks.{block_at, block_of, glued}
+use Rattle.cb_layout.specs.Vectors.{piece_start, piece_shape, piece_of, glued_pieces}
+use Rattle.cb_layout.proofs.Parts.{rank_of, row_below, rank_below}
+use Rattle.cb_layout.proofs.Cuts.{glued_cut}
+use Rattle.cb_layout.proofs.Spread.{glued_pieces_cut}
+use Rattle.cb_plan.specs.declared.acts.Act.{Act}
+use Rattle.cb_plan.specs.declared.stores.Slot.{Slot}
+use Rattle.cb_plan.specs.declared.stores.Slot.TheVariants as slot_is
+use Rattle.cb_plan.specs.Algebras.{matrices}
+use Rattle.cb_plan.specs.Checks.{started}
+use Rattle.cb_plan.specs.Meaning.{meaning, one}
+use Rattle.cb_plan.specs.Stores.{state_of, sheet_of, is_lost, shapes_of, Fits}
+use Rattle.cb_plan.specs.Tables.{cell}
+use Rattle.cb_plan.proofs.Cells.{blank_cell, blank_is_table}
+use Rattle.cb_plan.proofs.Effects.{split, same_state}
+use Rattle.cb_distribution.proofs.Grid.{at_place}
+use Rattle.cb_kernels.specs.VectorPlans.{column, vector_starts, IsVectorPlan, LeavesResult}
+use Rattle.cb_kernels.proofs.VectorStarts.{held, vector_starts_there, vector_starts_elsewhere}
+use Rattle.cb_scripts.specs.Slots.{Filled}
+use Rattle.cb_scripts.specs.SpreadVectors.{HasSpread, spread_slot}
+use Rattle.cb_scripts.proofs.ProductPlans.{product_is_matrix}
+
+-- a slot of each rank is filled twice
+pub spread_filled : (s : Arithmetic) (q : ℕ) (a x : Sparse) (first second third : List (List (Slot Sparse))) (blocks pieces : List Sparse) → 0 < q → first ≡ replicate (q * q) (replicate 256 slot_is.Empty) →
+    Filled (q * q) 0 (block_at blocks) first second → Filled (q * q) 1 (block_at pieces) second third →
+    ((i j : ℕ) → i < q → j < q → block_at blocks (i * q + j) ≡ block_of s q a i j) → ((t j : ℕ) → t < q → j < q → block_at pieces (t * q + j) ≡ piece_of s q x j t) → HasSpread s q a x third
+spread_filled s q a x first second third blocks pieces pos e one two left right = record {
+  some = pos;
+  table = two.table;
+  cells = λ i j k l m.
+      let r = i * q + j in
+      let inside = rank_below q i j l m in
+      let nothing : cell slot_is.Empty first r k ≡ slot_is.Empty = rw e (blank_cell slot_is.Empty (q * q) 256 r k) in
+      two.cells r k inside
+      ∙ ap (λ y. if 1 == k then slot_is.Sheet (block_at pieces r) else y) (one.cells r k inside)
+      ∙ ap (λ y. if 1 == k then slot_is.Sheet y else (if 0 == k then slot_is.Sheet (block_at blocks r) else cell slot_is.Empty first r k)) (right i j l m)
+      ∙ ap (λ y. if 1 == k then slot_is.Sheet (piece_of s q x j i) else (if 0 == k then slot_is.Sheet y else cell slot_is.Empty first r k)) (left i j l m)
+      ∙ ap (λ y. if 1 == k then slot_is.Sheet (piece_of s q x j i) else (if 0 == k then slot_is.Sheet (block_of s q a i j) else y)) nothing;
+}
+
+-- a piece has the shape of its piece
+pub piece_has_shape : (s : Arithmetic) (q : ℕ) (x : Sparse) (j t : ℕ) → (piece_of s q x j t).shape ≡ piece_shape q x.shape j t
+piece_has_shape s q x j t =
+    let d = x.shape.rows in
+    let rows : piece_start q d j (t + 1) - piece_start q d j t ≡ part_length q (part_length q d j) t = omega arith in
+    let cols : x.shape.cols - 0 ≡ x.shape.cols = omega arith in
+    λ k. record { rows = rows k; cols = cols k }
+
+module _ (s : Arithmetic) (q : ℕ) (a x : Sparse) (stores : List (List (Slot Sparse))) (has : HasSpread s q a x stores) where
+  -- what holds of each place holds of each rank
+  each_rank : (P : ℕ → Type 0) → ((i j : ℕ) → i < q → j < q → P (i * q + j)) → (r : ℕ) → r < q * q → P r
+  each_rank P h r l = subst P (rank_of q r) (h (r / q) (r % q) (row_below q r l) (mod_below r q has.some))
+
+  past : (r k : ℕ) → q * q ≤ r → cell slot_is.Empty stores r k ≡ slot_is.Empty
+  past r k l = let e = has.table.rows in ap (λ row. get_or row k slot_is.Empty) (get_or_past stores r [] (omega arith))
+
+  shape_there : x.shape ≡ column a.shape.cols → (k i j : ℕ) → i < q → j < q → shapes_of stores (i * q + j) k ≡ started (vector_starts q a.shape) (i * q + j) k
+  shape_there e k i j l m =
+      ap (λ y. one (λ (b : Sparse). b.shape) (sheet_of y)) (has.cells i j k l m)
+      ∙ split (1 == k)
+      (λ t. rw t (ap Some (piece_has_shape s q x j i ∙ ap (λ (d : Extent). piece_shape q d j i) e)))
+      (λ t. rw t (split (0 == k) (λ u. rw u refl) (λ u. rw u refl)))
+      ∙ sym (vector_starts_there q a.shape (i * q + j) k (rank_below q i j l m)
+      ∙ at_place (λ u v. if 1 == k then Some (piece_shape q (column a.shape.cols) v u) else (if 0 == k then Some (part_shape q a.shape u v) else None)) q i j m)
+
+  -- the stores fit the plan
+  pub spread_fits : x.shape ≡ column a.shape.cols → Fits (q * q) (vector_starts q a.shape) stores
+  spread_fits e = record {
+    table = has.table;
+    shapes = same_state (shapes_of stores) (started (vector_starts q a.shape)) (λ r k. ⊎_elim
+        (λ (l : r < q * q). each_rank (λ r. shapes_of stores r k ≡ started (vector_starts q a.shape) r k) (shape_there e k) r l)
+        (λ (l : q * q ≤ r). ap (λ y. one (λ (b : Sparse). b.shape) (sheet_of y)) (past r k l) ∙ sym (vector_starts_elsewhere q a.shape r k l))
+        (cases_lt r (q * q)));
+    none_lost = λ r k. ⊎_elim
+        (λ (l : r < q * q). each_rank (λ r. is_lost (cell slot_is.Empty stores r k) ≡ false) (λ i j m n. ap is_lost (has.cells i j k m n) ∙ split (1 == k) (λ t. rw t refl) (λ t. rw t (split (0 == k) (λ u. rw u refl) (λ u. rw u refl)))) r l)
+        (λ (l : q * q ≤ r). ap is_lost (past r k l))
+        (cases_lt r (q * q));
+  }
+
+  module _ (laws : IsSemiring s) (is_a : IsMatrix s a) (is_x : IsMatrix s x) (vector : x.shape ≡ column a.shape.cols) (acts : List Act) (plan : IsVectorPlan acts q a.shape)
+      (after : List (List (Slot Sparse))) (ranks : length after ≡ q * q) (ran : state_of after ≡ meaning (matrices s) acts (state_of stores)) where
+    leaves : LeavesResult s q acts (state_of stores) (product s a x)
+    leaves = plan s laws a x is_a is_x refl vector (state_of stores) (λ i j l m. ap sheet_of (has.cells i j 0 l m)) (λ t j l m. ap sheet_of (has.cells t j 1 l m))
+
+    left_there : (i j : ℕ) → i < q → j < q → state_of after (i * q + j) 0 ≡ Some (block_of s q a i j)
+    left_there i j l m = ap (λ st. st (i * q + j) 0) ran ∙ leaves.kept (i * q + j) ∙ ap sheet_of (has.cells i j 0 l m)
+
+    pub left_sheets : (r : ℕ) → r < length after → IsSome (state_of after r 0)
+    left_sheets r l = each_rank (λ r. IsSome (state_of after r 0)) (λ i j m n. rw (left_there i j m n) refl) r (omega arith)
+
+    -- the parts of the matrix come out again
+    module _ (blocks : List Sparse) (out : (r : ℕ) → r < length after → state_of after r 0 ≡ Some (block_at blocks r)) where
+      same_blocks : (i j : ℕ) → i < q → j < q → block_at blocks (i * q + j) ≡ block_of s q a i j
+      same_blocks i j l m = let b = rank_below q i j l m in same_Some _ _ (sym (out (i * q + j) (omega arith)) ∙ left_there i j l m)
+
+      pub blocks_shaped : (i j : ℕ) → i < q → j < q → (block_at blocks (i * q + j)).shape ≡ part_shape q a.shape i j
+      blocks_shaped i j l m = ap (λ b. b.shape) (same_blocks i j l m)
+
+      pub blocks_glued : glued s q a.shape (λ i j. block_at blocks (i * q + j)) ≡ a
+      blocks_glued = glued_cut s laws q has.some a is_a (λ i j. block_at blocks (i * q + j)) same_blocks
+
+    -- and so do the pieces of the product
+    module _ (later : List (List (Slot Sparse))) (others : (r n : ℕ) → 0 ≢ n → state_of later r n ≡ state_of after r n) where
+      result_there : (i t : ℕ) → i < q → t < q → state_of later (i * q + t) 2 ≡ Some (piece_of s q (product s a x) i t)
+      result_there i t l m = others (i * q + t) 2 (let ne : 0 ≢ 2 = omega arith in ne) ∙ ap (λ st. st (i * q + t) 2) ran ∙ leaves.pieces i t l m
+
+      pub result_sheets : length later ≡ q * q → (r : ℕ) → r < length later → IsSome (state_of later r 2)
+      result_sheets e r l = each_rank (λ r. IsSome (state_of later r 2)) (λ i j m n. rw (result_there i j m n) refl) r (omega arith)
+
+      module _ (pieces : List Sparse) (count : length later ≡ q * q) (out : (r : ℕ) → r < length later → state_of later r 2 ≡ Some (block_at pieces r)) where
+        same_pieces : (i t : ℕ) → i < q → t < q → block_at pieces (i * q + t) ≡ piece_of s q (product s a x) i t
+        same_pieces i t l m = let b = rank_below q i t l m in same_Some _ _ (sym (out (i * q + t) (omega arith)) ∙ result_there i t l m)
+
+        pub pieces_shaped : (i t : ℕ) → i < q → t < q → (block_at pieces (i * q + t)).shape ≡ piece_shape q (product s a x).shape i t
+        pieces_shaped i t l m = ap (λ b. b.shape) (same_pieces i t l m) ∙ piece_has_shape s q (product s a x) i t
+
+        pub pieces_glued : glued_pieces s q (product s a x).shape (λ i t. block_at pieces (i * q + t)) ≡ product s a x
+        pieces_glued = glued_pieces_cut s laws q has.some (product s a x) (product_is_matrix s laws a x is_a is_x) (λ i t. block_at pieces (i * q + t)) same_pieces

@@ -1,0 +1,67 @@
+//! A matrix that lies over a grid times a vector, again and again, by a plan that is made once.
+ghost use Rattle.std.specs.Prelude.{◌≡◌, IfOk};
+ghost use Rattle.cb_matrix.specs.Values.{product};
+ghost use Rattle.cb_kernels.specs.VectorPlans.{column};
+ghost use Rattle.cb_scripts.specs.SpreadVectors.{HasSpread, MultipliesVectors};
+
+use crate::Engine;
+use crate::stores::{blank, drain, fill};
+use cb_kernels::{LEFT, RESULT, RIGHT, grid_vector};
+use cb_layout::{DistributedMatrix, Grid};
+use cb_matrix::{Matrix, Shape};
+use cb_plan::{CheckedPlan, RankStore};
+use cb_semirings::Semiring;
+use std::alloc::{AllocError, Global};
+
+/// The plan by which matrices of a shape are multiplied by vectors.
+pub fn vector_plan(alloc: Global, grid: &Grid, shape: Shape) -> Result<CheckedPlan, AllocError>
+    ensures { IfOk result (MultipliesVectors grid.now.side shape) }
+{
+    let Ok(planned) = grid_vector(alloc, grid, shape) else {
+        return Err(AllocError);
+    };
+    let (plan, _slot) = planned.into_checked();
+    Ok(plan)
+}
+
+/// The product of a matrix and a vector, by a plan for matrices of its shape. The matrix is given back as it was.
+pub fn multiply_vector<S: Semiring>(
+    alloc: Global,
+    engine: Engine,
+    grid: &Grid,
+    plan: &CheckedPlan,
+    matrix: DistributedMatrix<S>,
+    vector: &Matrix<S>,
+) -> Result<(DistributedMatrix<S>, Matrix<S>), AllocError>
+    requires side { matrix.side ≡ grid.now.side }
+    requires plan { MultipliesVectors grid.now.side matrix.matrix.shape plan.now }
+    requires vector { vector.now.shape ≡ column matrix.matrix.shape.cols }
+    ensures product { IfOk result (λ p. p.1 ≡ product S.arithmetic matrix.matrix vector.now) }
+    ensures same { IfOk result (λ p. p.0 ≡ matrix) }
+{
+    let (a, x) = (matrix.shape(), vector.shape());
+    let stores = spread(alloc, grid, matrix, vector)?;
+    let mut stores = engine.run(alloc, plan, stores)?;
+    let blocks = drain(alloc, &mut stores, LEFT)?;
+    let pieces = drain(alloc, &mut stores, RESULT)?;
+    let product = grid.gather_result(alloc, &pieces, a.with_columns_of(x))?;
+    Ok((DistributedMatrix::from_blocks(*grid, a, blocks), product))
+}
+
+/// The stores of the ranks, with the parts of a matrix in slot 0 and the pieces of a vector in slot 1.
+fn spread<S: Semiring>(
+    alloc: Global,
+    grid: &Grid,
+    matrix: DistributedMatrix<S>,
+    vector: &Matrix<S>,
+) -> Result<Vec<RankStore<S>>, AllocError>
+    requires side { matrix.side ≡ grid.now.side }
+    requires vector { vector.now.shape.cols ≡ 1 }
+    ensures { IfOk result (λ v. HasSpread S.arithmetic grid.now.side matrix.matrix vector.now v.items) }
+{
+    let pieces = grid.scatter_input(alloc, vector)?;
+    let mut stores = blank(alloc, grid.ranks())?;
+    fill(&mut stores, LEFT, matrix.into_blocks());
+    fill(&mut stores, RIGHT, pieces);
+    Ok(stores)
+}
