@@ -17,6 +17,8 @@ read_line_of name line text = codes "cbgrid: " ++ name ++ codes ":" ++ decimal l
 abbrev pub line_of : {A : Type 0} → List (String A) → JobFault → List ℕ
 line_of names (Read which fault) = read_line_of (name_at names which) fault.line (kind_text fault.kind)
 line_of names (Script script_is.Shapes) = codes "cbgrid: shapes don't agree\n"
+line_of names (Script script_is.NotSquare) = codes "cbgrid: matrix not square\n"
+line_of names (Script script_is.Source) = codes "cbgrid: no such source\n"
 line_of names (Script script_is.Memory) = codes "cbgrid: out of memory\n"
 line_of names Memory = codes "cbgrid: out of memory\n"
 line_of names Output = codes "cbgrid: can't write\n"

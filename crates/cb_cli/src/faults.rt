@@ -44,6 +44,13 @@ pub fn fault_line(alloc: Global, names: &[String], fault: &JobFault) -> Result<V
         JobFault::Script(ScriptFault::Shapes) => {
             Vec::from_slice(alloc, b"cbgrid: shapes don't agree\n")
         }
+        JobFault::Script(ScriptFault::NotSquare) => {
+            Vec::from_slice(alloc, b"cbgrid: matrix not square\n")
+        }
+        JobFault::Script(ScriptFault::Source) => Vec::from_slice(
+            alloc,
+            b"cbgrid: no such source\n",
+        ),
         JobFault::Script(ScriptFault::Memory) => Vec::from_slice(alloc, b"cbgrid: out of memory\n"),
         JobFault::Memory => Vec::from_slice(alloc, b"cbgrid: out of memory\n"),
         JobFault::Output => Vec::from_slice(alloc, b"cbgrid: can't write\n"),

@@ -13,7 +13,7 @@ use crate::semirings::SemiringName;
 use crate::sinks::{Sink, put_all};
 use cb_market::{Kind, ReadFault, read, text};
 use cb_matrix::Matrix;
-use cb_scripts::{ScriptFault, add, multiply, multiply_masked, prune, times, transpose};
+use cb_scripts::{ScriptFault, add, multiply, multiply_masked, prune, times, transpose, vector};
 use cb_semirings::{MaxMin, MinPlus, OrAnd, PlusTimes, Semiring};
 use std::alloc::{AllocError, Global};
 use thiserror::Error;
@@ -88,6 +88,7 @@ fn computed<S: Semiring>(
         Operation::MultiplyMasked => {
             multiply_masked(alloc, engine, grid, first, &operands[1], &operands[2])
         }
+        Operation::MultiplyVector => vector(alloc, engine, grid, first, &operands[1]),
         Operation::Transpose => transpose(alloc, engine, grid, first),
         Operation::Add => add(alloc, engine, grid, first, &operands[1]),
         Operation::Times => times(alloc, engine, grid, first, &operands[1]),
@@ -176,7 +177,7 @@ pub fn execute<K: Sink>(
 }
 
 /// The status that the program ends with: 4 for a text that is no matrix, 5 for shapes that don't
-/// agree, 6 for want of memory, 7 for output.
+/// agree, a matrix that isn't square or a source that is no vertex, 6 for want of memory, 7 for output.
 pub fn status(fault: &JobFault) -> u8
     ensures { result ≡ status_of fault.now }
 {
@@ -185,7 +186,7 @@ pub fn status(fault: &JobFault) -> u8
             Kind::Memory => 6,
             _ => 4,
         },
-        JobFault::Script(ScriptFault::Shapes) => 5,
+        JobFault::Script(ScriptFault::Shapes | ScriptFault::NotSquare | ScriptFault::Source) => 5,
         JobFault::Script(ScriptFault::Memory) => 6,
         JobFault::Memory => 6,
         JobFault::Output => 7,

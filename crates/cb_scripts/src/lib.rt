@@ -15,6 +15,7 @@ mod stores;
 #[cfg(test)]
 mod tests;
 mod transposes;
+mod vectors;
 #[cfg(test)]
 mod walk_tests;
 mod walks;
@@ -24,6 +25,7 @@ pub use products::{multiply, multiply_masked};
 use std::alloc::AllocError;
 use thiserror::Error;
 pub use transposes::transpose;
+pub use vectors::vector;
 pub use walks::{distances, levels};
 
 /// What runs a plan.

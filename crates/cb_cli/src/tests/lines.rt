@@ -75,6 +75,7 @@ fn reads_each_semiring(rt: HostRuntime) -> Result<(), Fail> {
 #[test]
 fn reads_each_command(rt: HostRuntime) -> Result<(), Fail> {
     let wanted = [
+        ("cbgrid spmv a x", Operation::MultiplyVector),
         ("cbgrid transpose a", Operation::Transpose),
         ("cbgrid add a b", Operation::Add),
         ("cbgrid times a b", Operation::Times),
@@ -183,6 +184,16 @@ fn ends_with_a_status_and_prints_a_line(rt: HostRuntime) -> Result<(), Fail> {
             JobFault::Script(ScriptFault::Shapes),
             5,
             "cbgrid: shapes don't agree\n",
+        ),
+        (
+            JobFault::Script(ScriptFault::NotSquare),
+            5,
+            "cbgrid: matrix not square\n",
+        ),
+        (
+            JobFault::Script(ScriptFault::Source),
+            5,
+            "cbgrid: no such source\n",
         ),
         (
             JobFault::Script(ScriptFault::Memory),
