@@ -68,6 +68,7 @@ module _ (s : Arithmetic) (texts : List (List ℕ)) where
 pub three_left : (operation : Operation) (n : ℕ) → n ≡ file_count_of operation → n ≢ 1 → n ≢ 2 → n ≡ 3
 three_left op_is.Multiply n e a b = absurd (b e)
 three_left op_is.MultiplyMasked n e a b = e
+three_left op_is.MultiplyVector n e a b = absurd (b e)
 three_left op_is.Transpose n e a b = absurd (a e)
 three_left op_is.Add n e a b = absurd (b e)
 three_left op_is.Times n e a b = absurd (b e)

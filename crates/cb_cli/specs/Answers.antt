@@ -13,7 +13,7 @@ use Rattle.cb_market.specs.declared.Kind.TheVariants as kind_is
 use Rattle.cb_cli.specs.Files.{text_at}
 use Rattle.cb_cli.specs.Semirings.{arithmetic_of}
 use Rattle.cb_cli.specs.declared.jobs.Operation.{Operation}
-use Rattle.cb_cli.specs.declared.jobs.Operation.TheVariants.{Multiply, MultiplyMasked, Transpose, Add, Times, Prune}
+use Rattle.cb_cli.specs.declared.jobs.Operation.TheVariants.{Multiply, MultiplyMasked, MultiplyVector, Transpose, Add, Times, Prune}
 use Rattle.cb_scripts.specs.declared.ScriptFault.{ScriptFault}
 use Rattle.cb_scripts.specs.declared.ScriptFault.TheVariants as script_is
 use Rattle.cb_cli.specs.declared.runs.JobFault.{JobFault}
@@ -41,6 +41,7 @@ abbrev pub Agree : Operation → List Sparse → Type 0
 Agree Multiply ms = (matrix_at ms 0).shape.cols ≡ (matrix_at ms 1).shape.rows
 Agree MultiplyMasked ms =
     ((matrix_at ms 0).shape.cols ≡ (matrix_at ms 1).shape.rows) × ((matrix_at ms 2).shape ≡ product_shape (matrix_at ms 0) (matrix_at ms 1))
+Agree MultiplyVector ms = ((matrix_at ms 0).shape.cols ≡ (matrix_at ms 1).shape.rows) × ((matrix_at ms 1).shape.cols ≡ 1)
 Agree Transpose ms = Unit {0}
 Agree Add ms = (matrix_at ms 0).shape ≡ (matrix_at ms 1).shape
 Agree Times ms = (matrix_at ms 0).shape ≡ (matrix_at ms 1).shape
@@ -50,6 +51,7 @@ Agree (Prune test) ms = Unit {0}
 abbrev pub answer_of : Operation → Arithmetic → List Sparse → Sparse
 answer_of Multiply s ms = product s (matrix_at ms 0) (matrix_at ms 1)
 answer_of MultiplyMasked s ms = masked s (product s (matrix_at ms 0) (matrix_at ms 1)) (matrix_at ms 2)
+answer_of MultiplyVector s ms = product s (matrix_at ms 0) (matrix_at ms 1)
 answer_of Transpose s ms = transposed s (matrix_at ms 0)
 answer_of Add s ms = sum_of s (matrix_at ms 0) (matrix_at ms 1)
 answer_of Times s ms = times_of s (matrix_at ms 0) (matrix_at ms 1)

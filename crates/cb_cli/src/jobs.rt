@@ -16,6 +16,8 @@ pub enum Operation {
     Multiply,
     /// The same, kept where the third file's matrix has entries.
     MultiplyMasked,
+    /// The product of the first file's matrix by the second's, which is a vector.
+    MultiplyVector,
     /// The transpose of the file's matrix.
     Transpose,
     /// The sum of two files' matrices, place by place.

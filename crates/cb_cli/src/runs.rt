@@ -17,7 +17,7 @@ use cb_market::{Kind, ReadFault, read};
 use cb_matrix::Matrix;
 use cb_scripts::{
     ScriptFault, add_distributed, multiply_distributed, multiply_masked_distributed,
-    prune_distributed, times_distributed, transpose_distributed,
+    prune_distributed, times_distributed, transpose_distributed, vector_distributed,
 };
 use cb_semirings::{MaxMin, MinPlus, OrAnd, PlusTimes, Semiring};
 use std::alloc::{AllocError, Global};
@@ -92,6 +92,9 @@ fn computed<S: Semiring>(
         Operation::Multiply => multiply_distributed(alloc, engine, grid, first, &operands[1]),
         Operation::MultiplyMasked => {
             multiply_masked_distributed(alloc, engine, grid, first, &operands[1], &operands[2])
+        }
+        Operation::MultiplyVector => {
+            vector_distributed(alloc, engine, grid, first, &operands[1])
         }
         Operation::Transpose => transpose_distributed(alloc, engine, grid, first),
         Operation::Add => add_distributed(alloc, engine, grid, first, &operands[1]),

@@ -142,6 +142,12 @@ fn cbgrid<'a>(alloc: Global) -> Result<Command<'a>, AllocError> {
         .subcommand(multiply_command(alloc)?)?
         .subcommand(command(
             alloc,
+            "spmv",
+            "Write the product of a matrix and a vector, a matrix of one column",
+            &["A", "x"],
+        )?)?
+        .subcommand(command(
+            alloc,
             "transpose",
             "Write the transpose of a matrix",
             &["A"],
@@ -193,6 +199,7 @@ fn arguments(operation: Operation) -> &'static [&'static str]
     match operation {
         Operation::Multiply | Operation::Add | Operation::Times => &["A", "B"],
         Operation::MultiplyMasked => &["A", "B", "mask"],
+        Operation::MultiplyVector => &["A", "x"],
         Operation::Transpose | Operation::Prune(_) => &["A"],
     }
 }
@@ -245,6 +252,7 @@ fn operation_of(command: &str, found: &ArgMatches<'_>) -> Option<Operation> {
     match command {
         "multiply" if found.contains_id("mask") => Some(Operation::MultiplyMasked),
         "multiply" => Some(Operation::Multiply),
+        "spmv" => Some(Operation::MultiplyVector),
         "transpose" => Some(Operation::Transpose),
         "add" => Some(Operation::Add),
         "times" => Some(Operation::Times),

@@ -29,3 +29,9 @@ IsGraphRefusal a source NotSquare = a.shape.rows ≢ a.shape.cols
 IsGraphRefusal a source Source = (a.shape.rows ≡ a.shape.cols) × (a.shape.rows ≤ source)
 IsGraphRefusal a source Memory = (a.shape.rows ≡ a.shape.cols) × (source < a.shape.rows)
 IsGraphRefusal a source _ = ⊥
+
+-- why a has no product by the vector x
+abbrev pub IsVectorRefusal : Sparse → Sparse → ScriptFault → Type 0
+IsVectorRefusal a x Shapes = (a.shape.cols ≢ x.shape.rows) ⊎ (x.shape.cols ≢ 1)
+IsVectorRefusal a x Memory = (a.shape.cols ≡ x.shape.rows) × (x.shape.cols ≡ 1)
+IsVectorRefusal a x _ = ⊥

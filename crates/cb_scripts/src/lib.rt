@@ -16,6 +16,7 @@ mod stores;
 #[cfg(test)]
 mod tests;
 mod transposes;
+mod vectors;
 #[cfg(test)]
 mod walk_tests;
 mod walks;
@@ -25,6 +26,7 @@ pub use products::{multiply, multiply_distributed, multiply_masked, multiply_mas
 use std::alloc::AllocError;
 use thiserror::Error;
 pub use transposes::{transpose, transpose_distributed};
+pub use vectors::{vector, vector_distributed};
 pub use walks::{distances, levels};
 
 /// What runs a plan.

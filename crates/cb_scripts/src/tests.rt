@@ -2,7 +2,7 @@
 ghost use Rattle.std.specs.Prelude.{◌↔◌, IsTrue, All};
 ghost use Rattle.cb_semirings.specs.Arithmetic.{IsValue};
 
-use crate::{Engine, ScriptFault, add, multiply, multiply_masked, prune, times, transpose};
+use crate::{Engine, ScriptFault, add, multiply, multiply_masked, prune, times, transpose, vector};
 use cb_elementwise::Test;
 use cb_layout::Grid;
 use cb_matrix::{Entry, LIMIT, Matrix, Shape};
@@ -158,6 +158,21 @@ fn adds_and_multiplies_place_by_place(rt: HostRuntime) -> Result<(), Fail> {
         let answer = times(rt.alloc(), Engine::Plain, &grid, &left, &right)?;
         assert!(rt; answer.entries() == [entry(0, 1, 2)].as_slice());
     }
+    Ok(())
+}
+
+#[test]
+fn multiplies_a_vector(rt: HostRuntime) -> Result<(), Fail> {
+    let (left, right) = operands::<PlusTimes>(rt.alloc()).ok_or("memory")?;
+    let given = [entry(0, 0, 5), entry(1, 0, 7)];
+    let column = matrix(rt.alloc(), 2, 1, &given).ok_or("memory")?;
+    let wanted = [entry(0, 0, 19), entry(1, 0, 21)];
+    for side in SIDES {
+        let answer = vector(rt.alloc(), Engine::Plain, &grid(side)?, &left, &column)?;
+        assert!(rt; answer.entries() == wanted.as_slice());
+    }
+    let answer = vector(rt.alloc(), Engine::Plain, &grid(2)?, &left, &right);
+    assert!(rt; matches!(answer, Err(ScriptFault::Shapes)));
     Ok(())
 }
 

@@ -75,6 +75,7 @@ fn reads_each_semiring(rt: HostRuntime) -> Result<(), Fail> {
 #[test]
 fn reads_each_command(rt: HostRuntime) -> Result<(), Fail> {
     let wanted = [
+        ("cbgrid spmv a x", Operation::MultiplyVector),
         ("cbgrid transpose a", Operation::Transpose),
         ("cbgrid add a b", Operation::Add),
         ("cbgrid times a b", Operation::Times),

@@ -1,4 +1,4 @@
-//! The transpose, and operations place by place, by `execute`.
+//! The transpose, products by vectors, and operations place by place, by `execute`.
 use crate::runs::JobFault;
 use crate::sinks::WriterSink;
 use crate::tests::products::{FIRST, HEADER, SECOND, run_into, writes_on_each_grid};
@@ -37,6 +37,17 @@ fn of_two_files(rt: HostRuntime) {
     ] {
         assert!(rt; writes(&rt, command, &[FIRST, SECOND], lines), "{command}");
     }
+}
+
+#[test]
+fn of_a_vector(rt: HostRuntime) -> Result<(), Fail> {
+    let vector = format!(in rt.alloc(); "{HEADER}2 1 2\n1 1 5\n2 1 7\n")?;
+    let texts = [FIRST, vector.as_str()];
+    assert!(rt; writes(&rt, "spmv a x", &texts, "2 1 2\n1 1 19\n2 1 21\n"));
+    let mut out = WriterSink::new(Vec::new(rt.alloc()));
+    let fault = run_into(&rt, "spmv a b", &[FIRST, SECOND], &mut out);
+    assert!(rt; fault == Err(JobFault::Script(ScriptFault::Shapes)));
+    Ok(())
 }
 
 #[test]

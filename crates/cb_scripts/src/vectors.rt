@@ -1,0 +1,52 @@
+//! The product of a matrix and a vector, which is a matrix of one column.
+ghost use Rattle.std.specs.Prelude.{◌≡◌, IfOk, IfErr};
+ghost use Rattle.cb_matrix.specs.Values.{product};
+ghost use Rattle.cb_scripts.specs.Refusals.{IsVectorRefusal};
+
+use crate::rounds::{multiply_vector, vector_plan};
+use crate::{Engine, ScriptFault};
+use cb_layout::{DistributedMatrix, Grid};
+use cb_matrix::Matrix;
+use cb_semirings::Semiring;
+use std::alloc::Global;
+
+/// The product of a matrix and a vector, whose pieces are spread over all ranks.
+///
+/// The vector has one column, and as many rows as the matrix has columns, else the answer is `Shapes`, before memory
+/// is asked for. It costs the products of entries that meet, and the entries of the two.
+pub fn vector<S: Semiring>(
+    alloc: Global,
+    engine: Engine,
+    grid: &Grid,
+    matrix: &Matrix<S>,
+    vector: &Matrix<S>,
+) -> Result<Matrix<S>, ScriptFault>
+    ensures ok { IfOk result (λ m. m ≡ product S.arithmetic matrix.now vector.now) }
+    ensures agree { IfOk result (λ m. (matrix.now.shape.cols ≡ vector.now.shape.rows) × (vector.now.shape.cols ≡ 1)) }
+    ensures fault { IfErr result (IsVectorRefusal matrix.now vector.now) }
+{
+    let (a, x) = (matrix.shape(), vector.shape());
+    if a.cols() != x.rows() || x.cols() != 1 {
+        return Err(ScriptFault::Shapes);
+    }
+    let plan = vector_plan(alloc, grid, a)?;
+    let spread = DistributedMatrix::scatter(alloc, *grid, matrix)?;
+    let (_, product) = multiply_vector(alloc, engine, grid, &plan, spread, vector)?;
+    Ok(product)
+}
+
+/// The product of a matrix and a vector, left in the blocks of the grid. All else is as in [`vector`].
+pub fn vector_distributed<S: Semiring>(
+    alloc: Global,
+    engine: Engine,
+    grid: &Grid,
+    matrix: &Matrix<S>,
+    vector: &Matrix<S>,
+) -> Result<DistributedMatrix<S>, ScriptFault>
+    ensures ok { IfOk result (λ m. m ≡ record { side = grid.now.side; matrix = product S.arithmetic matrix.now vector.now }) }
+    ensures agree { IfOk result (λ m. (matrix.now.shape.cols ≡ vector.now.shape.rows) × (vector.now.shape.cols ≡ 1)) }
+    ensures fault { IfErr result (IsVectorRefusal matrix.now vector.now) }
+{
+    let product = crate::vector(alloc, engine, grid, matrix, vector)?;
+    Ok(DistributedMatrix::scatter(alloc, *grid, &product)?)
+}
