@@ -40,7 +40,7 @@ use Rattle.cb_rank.proofs.View.{quiet_act}
 use Rattle.cb_rank.proofs.Keeping.{few_halves}
 use Rattle.cb_ranks.specs.Runs.{course_of, IsNewRun}
 use Rattle.cb_ranks.specs.Crews.{Member, desks_of, stores_of, counts_of, AreNew, Ran, IsCrew}
-use Rattle.cb_ranks.specs.Finished.{FinishedView, all_refusals, IsFinished, HoldsMeaning}
+use Rattle.cb_ranks.specs.Finished.{FinishedView, IsFinished, HoldsMeaning}
 use Rattle.cb_ranks.proofs.Courses.{fresh, same_course}
 use Rattle.cb_ranks.proofs.Closing.{AreFinished, closes}
 

@@ -1,6 +1,6 @@
 -- What all ranks leave once their threads are joined and the lanes settled.
-use Rattle.std.proofs.Common.{◌≡◌, ◌≢◌, ℕ, ◌<◌, ◌^◌, List, length, refl, sym, ◌∙◌, ap, subst, arith}
-use Rattle.std.specs.Prelude.{map, sum}
+use Rattle.std.proofs.Common.{◌≡◌, ◌≢◌, ℕ, ◌<◌, ◌^◌, List, length, sym, ◌∙◌, ap, subst, arith}
+use Rattle.std.specs.Prelude.{sum}
 use Rattle.std.specs.List.{AllZip}
 use Rattle.std.proofs.lemmas.List.{length-map}
 use Rattle.cb_semirings.specs.Arithmetic.{Arithmetic}

@@ -1,6 +1,6 @@
 -- A rank that goes on over its desk, half by half.
-use Rattle.std.proofs.Common.{◌≡◌, ◌≢◌, ℕ, ◌+◌, ◌<◌, ◌≤◌, Bool, true, false, List, [], ◌∷◌, ◌++◌, length, take, refl, sym, ◌∙◌, ap, subst, arith, length-append, inl, inr}
-use Rattle.std.specs.Prelude.{Some, ◌==◌, ◌⊎◌, nat_le, if◌then◌else◌, slice_set, slice_index_or}
+use Rattle.std.proofs.Common.{◌≡◌, ◌≢◌, ℕ, ◌<◌, true, false, List, [], ◌∷◌, ◌++◌, length, refl, sym, ◌∙◌, ap, subst, arith, length-append, inl, inr}
+use Rattle.std.specs.Prelude.{Some, ◌==◌, ◌⊎◌, nat_le, slice_set, slice_index_or}
 use Rattle.std.proofs.lemmas.Bool.Decides.{nat_tests}
 use Rattle.std.proofs.lemmas.List.{length-map}
 use Rattle.std.proofs.Math.Seq.{get_or-append_seam}
@@ -16,16 +16,14 @@ use Rattle.cb_letters.specs.Posted.{ends_closed}
 use Rattle.cb_letters.specs.Standing.{next_letter}
 use Rattle.cb_letters.proofs.Marks.{ends_closed-append}
 use Rattle.cb_lanes.specs.declared.desk.Desk.{Desk}
-use Rattle.cb_lanes.specs.Desks.{identity, posted_to, taken_from, is_stranger, standing, Posts, Takes, IsNewDesk}
+use Rattle.cb_lanes.specs.Desks.{identity, posted_to, taken_from, is_stranger, standing, Posts, Takes}
 use Rattle.cb_lanes.specs.Ends.{outgoing_ring}
 use Rattle.cb_lanes.specs.Numbers.{AreNumbered}
-use Rattle.cb_plan.specs.declared.acts.Half.{Half}
 use Rattle.cb_plan.specs.declared.acts.Half.TheVariants as half_is
 use Rattle.cb_plan.specs.declared.stores.Slot.{Slot}
 use Rattle.cb_plan.specs.Meaning.{target_of}
-use Rattle.cb_rank.specs.declared.wants.Arrival.{Arrival}
 use Rattle.cb_rank.specs.declared.wants.Arrival.TheVariants as arrival_is
-use Rattle.cb_rank.specs.Halves.{Course, DoesHalf, RunsTo, with_letter, slot_of_body}
+use Rattle.cb_rank.specs.Halves.{with_letter, slot_of_body}
 use Rattle.cb_rank.specs.declared.wants.Want.TheVariants as want_is
 use Rattle.cb_rank.specs.Ranks.{RankView, IsRank, next_half, want_of, onward, IsAwaited, slots_with}
 use Rattle.cb_rank.specs.Steps.{HandsOut, Works}

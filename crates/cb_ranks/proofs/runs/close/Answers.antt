@@ -1,4 +1,3 @@
-use Rattle.std.proofs.Common.{rules}
 use Rattle.cb_rank.proofs.Wanted.{wants_shut_to}
 use Rattle.cb_ranks.proofs.Going.{does_shut}
 use Rattle.cb_ranks.proofs.runs.close.Goals as goal

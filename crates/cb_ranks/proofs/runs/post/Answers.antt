@@ -1,4 +1,3 @@
-use Rattle.std.proofs.Common.{rules}
 use Rattle.cb_rank.proofs.Wanted.{wants_post_to}
 use Rattle.cb_ranks.proofs.Going.{does_post}
 use Rattle.cb_ranks.proofs.runs.post.Goals as goal

@@ -1,4 +1,4 @@
-use Rattle.std.proofs.Common.{rules, ◌≡◌, ◌<◌, ◌^◌, length}
+use Rattle.std.proofs.Common.{rules, ◌<◌, ◌^◌}
 use Rattle.std.proofs.lemmas.List.Elements.{length_all_zip}
 use Rattle.cb_ranks.specs.Crews.{Ran}
 use Rattle.cb_ranks.proofs.Crews.{still_opening}
