@@ -22,13 +22,13 @@ use Rattle.cb_plan.specs.Checks.{started}
 use Rattle.cb_plan.specs.Meaning.{meaning, one}
 use Rattle.cb_plan.specs.Stores.{state_of, sheet_of, is_lost, shapes_of, Fits}
 use Rattle.cb_plan.specs.Tables.{cell}
-use Rattle.cb_plan.proofs.Cells.{blank_cell, blank_is_table}
+use Rattle.cb_plan.proofs.Cells.{blank_cell}
 use Rattle.cb_plan.proofs.Effects.{split, same_state}
 use Rattle.cb_distribution.proofs.Grid.{at_place}
 use Rattle.cb_kernels.specs.VectorPlans.{column, vector_starts, IsVectorPlan, LeavesResult}
-use Rattle.cb_kernels.proofs.VectorStarts.{held, vector_starts_there, vector_starts_elsewhere}
+use Rattle.cb_kernels.proofs.VectorStarts.{vector_starts_there, vector_starts_elsewhere}
 use Rattle.cb_scripts.specs.Slots.{Filled}
-use Rattle.cb_scripts.specs.SpreadVectors.{HasSpread, spread_slot}
+use Rattle.cb_scripts.specs.SpreadVectors.{HasSpread}
 use Rattle.cb_scripts.proofs.ProductPlans.{product_is_matrix}
 
 -- a slot of each rank is filled twice

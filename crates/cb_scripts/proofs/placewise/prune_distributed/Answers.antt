@@ -1,4 +1,3 @@
-use Rattle.std.proofs.Common.{rules}
 use Rattle.cb_matrix.specs.Operations.{pruned}
 use Rattle.cb_elementwise.specs.Passing.{passes}
 use Rattle.cb_scripts.proofs.KernelPlans.{rest_made}

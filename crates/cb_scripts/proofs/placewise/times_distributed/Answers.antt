@@ -1,4 +1,4 @@
-use Rattle.std.proofs.Common.{rules, ◌≡◌}
+use Rattle.std.proofs.Common.{◌≡◌}
 use Rattle.cb_matrix.specs.Operations.{times_of}
 use Rattle.cb_scripts.proofs.Making.{found_equal}
 use Rattle.cb_scripts.proofs.KernelPlans.{times_made}

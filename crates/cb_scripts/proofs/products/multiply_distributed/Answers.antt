@@ -1,4 +1,4 @@
-use Rattle.std.proofs.Common.{rules, ◌≡◌, ◌∙◌}
+use Rattle.std.proofs.Common.{◌≡◌, ◌∙◌}
 use Rattle.cb_matrix.specs.Values.{product, product_shape}
 use Rattle.cb_scripts.proofs.ProductPlans.{product_made}
 use Rattle.cb_scripts.proofs.products.multiply_distributed.Goals as goal

@@ -1,4 +1,4 @@
-use Rattle.std.proofs.Common.{rules, ◌≡◌, ◌∙◌, sym}
+use Rattle.std.proofs.Common.{◌≡◌, ◌∙◌}
 use Rattle.cb_matrix.specs.Values.{product, product_shape}
 use Rattle.cb_matrix.specs.Operations.{masked}
 use Rattle.cb_scripts.proofs.Making.{found_equal}

@@ -1,4 +1,4 @@
-use Rattle.std.proofs.Common.{rules, ◌≡◌, sym, ◌∙◌}
+use Rattle.std.proofs.Common.{◌≡◌, sym, ◌∙◌}
 use Rattle.cb_matrix.specs.Operations.{transposed}
 use Rattle.cb_scripts.proofs.KernelPlans.{transpose_made}
 use Rattle.cb_scripts.proofs.transposes.transpose_distributed.Goals as goal

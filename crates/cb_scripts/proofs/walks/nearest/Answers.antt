@@ -1,6 +1,6 @@
 use Rattle.std.proofs.Common.{◌≡◌, ◌∙◌, length, sym, ap, arith, subst}
 use Rattle.cb_semirings.specs.Tables.{min_plus}
-use Rattle.cb_matrix.specs.Sparse.{Sparse, Extent, at}
+use Rattle.cb_matrix.specs.Sparse.{Extent, at}
 use Rattle.cb_layout.specs.Distributed.{Distributed}
 use Rattle.cb_kernels.specs.VectorPlans.{column}
 use Rattle.cb_scripts.specs.SpreadVectors.{MultipliesVectors}
