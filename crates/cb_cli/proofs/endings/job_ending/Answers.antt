@@ -1,5 +1,5 @@
-use Rattle.std.proofs.Common.{sym, subst}
-use Rattle.cb_cli.specs.Files.{IsUnloaded}
+use Rattle.std.proofs.Common.{sym, subst, ap, Err}
+use Rattle.cb_cli.specs.Files.{AreTexts, IsUnloaded, bytes_of}
 use Rattle.cb_cli.specs.Endings.{IsJobEnding}
 use Rattle.cb_cli.proofs.EndingLemmas.{job_unloaded}
 use Rattle.cb_cli.proofs.endings.job_ending.Goals as goal
@@ -11,3 +11,11 @@ returns-in-Err g c =
     let old = g.K.Sink.written c.args.out.now in
     let fault = subst (λ names. IsUnloaded holds refuses names c.in-Err.fault) c.files.ensures c.in-Err.ensures.fault in
     subst (λ e. IsJobEnding holds refuses c.args.job.now old old e) (sym c.unloaded.ensures) (job_unloaded holds refuses c.args.job.now old c.in-Err.fault fault)
+
+pub returns : goal.returns
+returns g c =
+    let holds = g.F.FileSource.holds c.args.files.now in
+    let loaded = subst (λ names. AreTexts holds names (bytes_of c.in-Ok.texts.items)) c.files.ensures c.in-Ok.ensures.texts in
+    let are = subst (λ texts. AreTexts holds c.args.job.now.files.items (bytes_of texts)) (sym c.as_slice.ensures.value) loaded in
+    let told = c.in-Err-execute.ensures in
+    (bytes_of c.as_slice.result.now, are, told.fault, told.nothing, λ e. told.output (ap Err e))
