@@ -27,8 +27,8 @@ fn a_starved_post_is_lost_at_its_rank(rt: HostRuntime) -> Result<(), Fail> {
 /// A Starve at each of the nine halves: three ask for memory.
 #[test]
 fn each_half_may_be_starved(rt: HostRuntime) -> Result<(), Fail> {
-    let mut refused = 0;
-    for n in 0..9 {
+    let mut refused: usize = 0;
+    for n in 0..9usize {
         let mut world = world(rt.alloc())?;
         for _ in 0..n {
             if let Some(rank) = world.ready() {
