@@ -1,6 +1,6 @@
 -- What a rank's next half asks of its lanes: the other rank exists and is another, and the half can be done where
 -- there is room, or where a letter is queued.
-use Rattle.std.proofs.Common.{ℕ, ◌≡◌, ◌≢◌, ◌<◌, ◌+◌, List, [], length, slice_index_or, refl, sym, ◌∙◌, ap, subst, arith, IsTrue, inl, inr}
+use Rattle.std.proofs.Common.{ℕ, ◌≡◌, ◌≢◌, ◌<◌, ◌+◌, List, length, slice_index_or, refl, sym, ◌∙◌, ap, subst, arith, IsTrue, inl, inr}
 use Rattle.std.specs.Prelude.{Option, Some, None, Ok, Err, ◌↔◌, ◌==◌, nat_lt}
 use Rattle.std.proofs.lemmas.Bool.Decides.{nat_tests}
 use Rattle.std.proofs.lemmas.Option.{same_Some, slice_get-get_or}
@@ -14,7 +14,7 @@ use Rattle.cb_rank.specs.declared.wants.Moved.TheVariants as moved_is
 use Rattle.cb_rank.specs.Steps.{Answer}
 use Rattle.cb_rank.specs.Ranks.{RankView, next_half, want_of}
 use Rattle.cb_rank.proofs.Wanted.{wants_post_to, wants_shut_to, wants_take, wants_work, wants_end, wants_nothing}
-use Rattle.cb_world.specs.Worlds.{WorldView, IsWorld, HasBox, no_rank, rank_of, next_of, lane_between, CanDo, CanAct, remaining}
+use Rattle.cb_world.specs.Worlds.{WorldView, IsWorld, rank_of, next_of, lane_between, CanDo, CanAct, remaining}
 use Rattle.cb_world.specs.Steps.{DoesIn, Steps, StepsBy, RunsBy, rank_in}
 use Rattle.cb_world.specs.declared.events.Event.{Event}
 use Rattle.cb_world.specs.declared.events.Event.TheVariants as event_is

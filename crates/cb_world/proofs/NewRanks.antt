@@ -1,12 +1,11 @@
 -- The ranks of a new world, made of their stores from the last on.
-use Rattle.std.proofs.Common.{ℕ, zero, suc, ◌≡◌, ◌<◌, ◌≤◌, ◌+◌, List, [], ◌∷◌, ◌++◌, length, refl, sym, ◌∙◌, ◌-◌, ap, subst, arith, append_assoc, length-append}
+use Rattle.std.proofs.Common.{ℕ, zero, suc, ◌≡◌, ◌<◌, ◌+◌, List, [], ◌∷◌, ◌++◌, length, refl, sym, ◌∙◌, ◌-◌, ap, subst, arith, append_assoc, length-append}
 use Rattle.std.specs.Prelude.{map, reverse, get_or}
-use Rattle.std.proofs.lemmas.List.{reverse-append, map-append}
+use Rattle.std.proofs.lemmas.List.{reverse-append}
 use Rattle.std.proofs.Math.Seq.{get_or-append_right}
 use Rattle.cb_matrix.specs.Sparse.{Sparse}
 use Rattle.cb_plan.specs.declared.acts.Start.{Start}
 use Rattle.cb_plan.specs.declared.stores.Slot.{Slot}
-use Rattle.cb_plan.specs.declared.stores.Slot.TheVariants as slot_is
 use Rattle.cb_plan.specs.Plans.{CheckedView}
 use Rattle.cb_plan.specs.Stores.{Fits}
 use Rattle.cb_rank.specs.Ranks.{RankView, FitsAt, new_rank}

@@ -2,7 +2,7 @@
 use Rattle.std.proofs.Common.{◌≡◌, ◌≤◌, ◌∷◌, [], ◌++◌, length, length-append, sym, ◌∙◌, ap, subst, arith}
 use Rattle.std.specs.Prelude.{map, reverse}
 use Rattle.cb_rank.specs.Ranks.{RankView, new_rank}
-use Rattle.cb_world.proofs.NewRanks.{Stores, AreStarting, store_fits, one_rank_more, all_back}
+use Rattle.cb_world.proofs.NewRanks.{AreStarting, store_fits, one_rank_more, all_back}
 use Rattle.cb_world.proofs.starting.start_ranks.Goals as goal
 
 pub start-requires-clause-fits : goal.start-requires-clause-fits

@@ -1,5 +1,4 @@
-use Rattle.std.proofs.Common.{◌≡◌, ◌≤◌, ◌<◌, ◌+◌, ◌^◌, List, length, vec_capacity, vec_len}
-use Rattle.cb_plan.specs.Plans.{IsChecked}
+use Rattle.std.proofs.Common.{◌≡◌, ◌≤◌, ◌<◌, ◌+◌, length, vec_capacity, vec_len}
 use Rattle.cb_world.proofs.NewRanks.{Stores, AreStarting}
 use Rattle.cb_world.proofs.starting.start_ranks.Given as goal
 

@@ -1,6 +1,5 @@
 -- The other rank is no stranger in this rank's own mailbox, which therefore answers.
-use Rattle.std.proofs.Common.{◌≡◌, true, false, sym, ◌∙◌}
-use Rattle.cb_letters.specs.Lane.{take_answer}
+use Rattle.std.proofs.Common.{◌≡◌, false, sym, ◌∙◌}
 use Rattle.cb_mailbox.specs.Inbox.{lane_from}
 use Rattle.cb_world.specs.Ends.{EndsView, is_out}
 use Rattle.cb_world.specs.EndLaws.{known_here}
