@@ -2,6 +2,5 @@
 mod endings;
 mod lines;
 mod operations;
-mod pages;
 mod products;
 mod sinks;
