@@ -12,10 +12,9 @@ use Rattle.cb_matrix.specs.Values.{total, matrix_of, empty_matrix, product}
 use Rattle.cb_matrix.specs.Operations.{cut, placed, is_covered, sum_of}
 use Rattle.cb_matrix.proofs.Pairs.{AllPairs-nil}
 use Rattle.cb_matrix.proofs.Places.{value_at-none}
-use Rattle.cb_matrix.proofs.Made.{at-matrix_of}
+use Rattle.cb_matrix.proofs.Made.{at-matrix_of, same_matrix_of}
 use Rattle.cb_matrix.proofs.Equal.{matrix_is}
-use Rattle.cb_matrix.proofs.Product.{same_matrix_of, value_at-value}
-use Rattle.cb_matrix.proofs.Totals.{add_zero}
+use Rattle.cb_matrix.proofs.Totals.{add_zero, value_at-value}
 use Rattle.cb_matrix.proofs.Split.{total_parts}
 use Rattle.cb_layout.specs.Parts.{part, part_start, part_length}
 use Rattle.cb_layout.specs.Blocks.{block_of}

@@ -11,7 +11,7 @@ use Rattle.cb_matrix.specs.Sparse.{Extent, Sparse, IsMatrix, is_at, at, value_at
 use Rattle.cb_matrix.specs.Values.{matrix_of, total, values_at, collected}
 use Rattle.cb_matrix.proofs.Places.{is_at-parts, AllPairs-head, AllPairs-tail}
 use Rattle.cb_matrix.proofs.Totals.{values_at-append, total-one}
-use Rattle.cb_matrix.proofs.Product.{same_matrix_of}
+use Rattle.cb_matrix.proofs.Made.{same_matrix_of}
 use Rattle.cb_dcsc.specs.Columns.{rows_of, values_of}
 use Rattle.cb_dcsc.specs.Compressed.{entries_in}
 use Rattle.cb_layout.specs.Tiles.{Tiles, IsGathered}

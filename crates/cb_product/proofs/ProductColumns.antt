@@ -10,11 +10,9 @@ use Rattle.cb_matrix.specs.declared.Entry.{Entry}
 use Rattle.cb_matrix.specs.Sparse.{Sparse, Extent, IsMatrix, is_at, at, value_at, IsBefore, IsInside}
 use Rattle.cb_matrix.specs.Values.{total, product, product_shape, empty_matrix}
 use Rattle.cb_matrix.proofs.Places.{AllPairs-head, AllPairs-tail, is_at-parts, is_at-own, value_at-before, IsPlaceBefore}
-use Rattle.cb_matrix.proofs.Made.{NoneAt, value_at-none, at-matrix_of}
+use Rattle.cb_matrix.proofs.Made.{NoneAt, value_at-none, at-matrix_of, same_matrix_of}
 use Rattle.cb_matrix.proofs.Equal.{matrix_is}
-use Rattle.cb_matrix.proofs.Totals.{add_zero, total_value}
-use Rattle.cb_matrix.proofs.Product.{value_at-value, same_matrix_of}
-use Rattle.cb_matrix.proofs.Totals.{total-add, total-single, total-zero, total-same, each_value}
+use Rattle.cb_matrix.proofs.Totals.{add_zero, total_value, total-add, total-single, total-zero, total-same, each_value, value_at-value}
 use Rattle.cb_dcsc.specs.Columns.{in_column, rows_of, values_of}
 use Rattle.cb_dcsc.proofs.Pieces.{in_column-none}
 use Rattle.cb_dcsc.specs.Columns.{row_value}

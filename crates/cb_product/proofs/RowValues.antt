@@ -7,7 +7,7 @@ use Rattle.std.proofs.lemmas.List.Elements.{All-head, All-tail, All-drop, All-ge
 use Rattle.cb_semirings.specs.Arithmetic.{Arithmetic, IsValue, IsSemiring}
 use Rattle.cb_matrix.proofs.Totals.{add_zero}
 use Rattle.cb_matrix.proofs.Places.{AllPairs-head}
-use Rattle.cb_matrix.proofs.Combine.{AllPairs-drop}
+use Rattle.cb_matrix.proofs.Pairs.{AllPairs-drop}
 use Rattle.cb_dcsc.specs.Columns.{row_value}
 use Rattle.cb_dcsc.proofs.Lookup.{row_value-absent}
 use Rattle.cb_product.specs.SparseColumn.{one_value, rest_value}

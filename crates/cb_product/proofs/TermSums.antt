@@ -7,8 +7,7 @@ use Rattle.cb_semirings.specs.Arithmetic.{Arithmetic, IsValue, IsSemiring}
 use Rattle.cb_matrix.specs.declared.Entry.{Entry}
 use Rattle.cb_matrix.specs.Sparse.{Sparse, IsMatrix, at}
 use Rattle.cb_matrix.specs.Values.{total}
-use Rattle.cb_matrix.proofs.Totals.{add_zero, total-append, total-one}
-use Rattle.cb_matrix.proofs.Product.{value_at-value}
+use Rattle.cb_matrix.proofs.Totals.{add_zero, total-append, total-one, value_at-value}
 use Rattle.cb_matrix.proofs.Permuted.{sum_value}
 use Rattle.cb_dcsc.specs.Columns.{in_column, rows_of, values_of, row_value}
 use Rattle.cb_dcsc.proofs.Lookup.{column_value, column_ascends}

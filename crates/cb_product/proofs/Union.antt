@@ -6,7 +6,7 @@ use Rattle.std.proofs.lemmas.List.{get_or-drop, get_or_default, length-drop, dro
 use Rattle.std.proofs.lemmas.List.Elements.{All-nil, All-push, All-weaker, All-get_or, All-append, All-drop, Contains-push, Contains-append_left, Contains-append_right, Contains-get_or}
 use Rattle.std.proofs.lemmas.List.Quantifiers.{all_pairs_push}
 use Rattle.cb_matrix.proofs.Made.{AllPairs-nil, AllPairs-append}
-use Rattle.cb_matrix.proofs.Combine.{AllPairs-drop}
+use Rattle.cb_matrix.proofs.Pairs.{AllPairs-drop}
 
 -- `items` has the first x of `left` and the first y of `right`, and nothing past what comes next
 pub record IsUnionSoFar (left right items : List ℕ) (x y : ℕ) : Type 0 where

@@ -8,7 +8,7 @@ use Rattle.cb_semirings.specs.Laws.{min_plus_is_semiring}
 use Rattle.cb_matrix.specs.Sparse.{Sparse, at, IsMatrix}
 use Rattle.cb_matrix.specs.Values.{total, product, product_shape}
 use Rattle.cb_matrix.proofs.Made.{at-matrix_of, at-outside, IsMatrix-matrix_of}
-use Rattle.cb_matrix.proofs.Product.{value_at-value}
+use Rattle.cb_matrix.proofs.Totals.{value_at-value}
 use Rattle.cb_scripts.specs.Walks.{infinite}
 use Rattle.cb_matrix.specs.Operations.{transposed}
 use Rattle.cb_scripts.proofs.Nearing.{IsRound}

@@ -6,8 +6,8 @@ use Rattle.std.proofs.lemmas.Bool.{eq-eqb}
 use Rattle.cb_semirings.specs.Arithmetic.{Arithmetic, IsValue, IsSemiring}
 use Rattle.cb_matrix.specs.Sparse.{Sparse, Extent, IsMatrix, at}
 use Rattle.cb_matrix.specs.Values.{total, column_of, columns_of, matrix_of, empty_matrix, product}
-use Rattle.cb_matrix.proofs.Made.{at-matrix_of}
-use Rattle.cb_matrix.proofs.Product.{same_matrix_of, value_at-value}
+use Rattle.cb_matrix.proofs.Made.{at-matrix_of, same_matrix_of}
+use Rattle.cb_matrix.proofs.Totals.{value_at-value}
 use Rattle.cb_matrix.proofs.Split.{total_parts}
 use Rattle.cb_layout.specs.Parts.{part_start, part_length, part_shape}
 use Rattle.cb_layout.specs.Blocks.{block_of}

@@ -91,77 +91,95 @@ fn operands_are_read_in_the_order_of_the_fields(rt: HostRuntime) -> Result<(), F
     Ok(())
 }
 
-/// Into slot 8, or over the accumulator: what is added may be the product itself, and a sum that comes to zero isn't
-/// stored.
+/// An operation, the slot that it fills, and the entries that come there.
+type Outcome<'a> = (Op, u16, &'a [Entry]);
+
+/// The first slot that doesn't come out as said.
+fn wrong_slot(alloc: Global, outcomes: &[Outcome<'_>]) -> Result<Option<u16>, Fail> {
+    for (op, slot, wanted) in outcomes {
+        if sent_after(alloc, *op, *slot)?.as_slice() != *wanted {
+            return Ok(Some(*slot));
+        }
+    }
+    Ok(None)
+}
+
+/// Into slot 8, or over the accumulator: what is added may be the product itself.
 #[test]
-fn each_operation_makes_its_result(rt: HostRuntime) -> Result<(), Fail> {
-    let (a, b, x, m, into) = (0, 1, 2, 1, 8);
-    let (rows, cols) = ((0, 1), (1, 2));
-    let (at, test) = ((1, 1), Test::Above(1));
+fn products_make_their_results(rt: HostRuntime) -> Result<(), Fail> {
+    let (a, b, x, into) = (0, 1, 2, 8);
+    let sum = [entry(0, 0, 8), entry(1, 0, 12), entry(1, 1, 5)];
+    let own = [
+        entry(0, 0, 9),
+        entry(1, 0, 12),
+        entry(0, 1, 3),
+        entry(1, 1, 3),
+    ];
+    let column = [entry(0, 0, 19), entry(1, 0, 21)];
+    let wrong = wrong_slot(
+        rt.alloc(),
+        &[
+            (Op::MulAdd { a, b, acc: 3 }, 3, &sum),
+            (Op::MulAdd { a, b, acc: 0 }, 0, &own),
+            (Op::MulVec { a, x, into }, 8, &column),
+        ],
+    )?;
+    assert_eq!(rt; wrong, None);
+    Ok(())
+}
+
+#[test]
+fn what_is_done_place_by_place_makes_its_result(rt: HostRuntime) -> Result<(), Fail> {
+    let (a, b, m, into, test) = (0, 1, 1, 8, Test::Above(1));
+    let sum = [
+        entry(0, 0, 1),
+        entry(1, 0, 4),
+        entry(0, 1, 3),
+        entry(1, 1, 3),
+    ];
+    let common = [entry(0, 1, 2)];
+    let kept = [entry(0, 0, 1)];
+    let wrong = wrong_slot(
+        rt.alloc(),
+        &[
+            (Op::Add { a, b, into }, 8, &sum),
+            (Op::Times { a, b, into }, 8, &common),
+            (Op::Mask { a, m, into }, 8, &common),
+            (Op::Prune { a, test, into }, 8, &kept),
+        ],
+    )?;
+    assert_eq!(rt; wrong, None);
+    Ok(())
+}
+
+#[test]
+fn what_is_moved_makes_its_result(rt: HostRuntime) -> Result<(), Fail> {
+    let (a, into, shape) = (0, 8, shape(3, 3)?);
+    let turned = [entry(0, 0, 1), entry(1, 0, 2), entry(1, 1, 3)];
+    let part = [entry(0, 0, 2)];
+    let placed = [entry(2, 1, 4), entry(1, 2, 1)];
     let cut = Op::Cut {
         a,
-        rows,
-        cols,
+        rows: (0, 1),
+        cols: (1, 2),
         into,
     };
-    let large = shape(3, 3)?;
     let place = Op::Place {
-        a: b,
-        shape: large,
-        at,
+        a: 1,
+        shape,
+        at: (1, 1),
         into,
     };
-    let zero = Op::Zero {
-        into: 1,
-        shape: large,
-    };
-    let results: [(Op, u16, &[Entry]); 11] = [
-        (
-            Op::MulAdd { a, b, acc: 3 },
-            3,
-            &[entry(0, 0, 8), entry(1, 0, 12), entry(1, 1, 5)],
-        ),
-        (
-            Op::MulAdd { a, b, acc: 0 },
-            0,
-            &[
-                entry(0, 0, 9),
-                entry(1, 0, 12),
-                entry(0, 1, 3),
-                entry(1, 1, 3),
-            ],
-        ),
-        (
-            Op::MulVec { a, x, into },
-            8,
-            &[entry(0, 0, 19), entry(1, 0, 21)],
-        ),
-        (
-            Op::Add { a, b, into },
-            8,
-            &[
-                entry(0, 0, 1),
-                entry(1, 0, 4),
-                entry(0, 1, 3),
-                entry(1, 1, 3),
-            ],
-        ),
-        (Op::Times { a, b, into }, 8, &[entry(0, 1, 2)]),
-        (Op::Mask { a, m, into }, 8, &[entry(0, 1, 2)]),
-        (Op::Prune { a, test, into }, 8, &[entry(0, 0, 1)]),
-        (
-            Op::Transpose { a, into },
-            8,
-            &[entry(0, 0, 1), entry(1, 0, 2), entry(1, 1, 3)],
-        ),
-        (cut, 8, &[entry(0, 0, 2)]),
-        (place, 8, &[entry(2, 1, 4), entry(1, 2, 1)]),
-        (zero, 1, &[]),
-    ];
-    for (op, slot, wanted) in results {
-        let found = sent_after(rt.alloc(), op, slot)?;
-        assert_eq!(rt; found.as_slice(), wanted, "slot {slot}");
-    }
+    let wrong = wrong_slot(
+        rt.alloc(),
+        &[
+            (Op::Transpose { a, into }, 8, &turned),
+            (cut, 8, &part),
+            (place, 8, &placed),
+            (Op::Zero { into: 1, shape }, 1, &[]),
+        ],
+    )?;
+    assert_eq!(rt; wrong, None);
     Ok(())
 }
 
