@@ -1,5 +1,5 @@
 -- How many digits a number has in decimal.
-use Rattle.std.proofs.Common.{◌≡◌, ℕ, ◌+◌, ◌/◌, ◌%◌, ◌∷◌, [], ◌<◌, ◌≤◌, ◌^◌, ap, arith, length, length-append, ◌∙◌, sym}
+use Rattle.std.proofs.Common.{◌≡◌, ℕ, ◌+◌, ◌/◌, ◌%◌, ◌∷◌, [], ◌<◌, ◌≤◌, ◌^◌, ap, arith, length, length-append, ◌∙◌}
 use Rattle.std.specs.Prelude.{decimal}
 use Rattle.std.proofs.lemmas.Fmt.{decimal_digit, decimal_step}
 

@@ -99,7 +99,7 @@ mod words;
 mod writing;
 
 pub use pages::Page;
-pub use reading::read;
+pub use reading::{read, read_distributed};
 pub use text_pages::TextPages;
 pub use writing::{text, vertex_text};
 

@@ -1,5 +1,6 @@
 //! Reading a text.
-ghost use Rattle.std.specs.Prelude.{◌≡◌, ◌+◌, ◌^◌, ◌<◌, ◌≤◌, IfOk, IfErr, IsTrue, length, None};
+ghost use Rattle.std.specs.Prelude.{◌≡◌, ◌+◌, ◌^◌, ◌<◌, ◌≤◌, IfOk, IfErr, IsTrue, length, None, ◌==◌};
+ghost use Rattle.std.specs.List.{count_by};
 ghost use Rattle.cb_market.specs.Lines.{lines, kept_from};
 ghost use Rattle.cb_matrix.specs.Values.{collected};
 ghost use Rattle.cb_market.specs.Checks.{is_shape};
@@ -12,6 +13,7 @@ use crate::header::Header;
 use crate::scanner::Scanner;
 use crate::size::Size;
 use crate::{Kind, ReadFault};
+use cb_layout::{DistributedMatrix, Grid};
 use cb_matrix::Matrix;
 use cb_semirings::Semiring;
 use std::alloc::Global;
@@ -84,4 +86,43 @@ pub fn read<S: Semiring>(alloc: Global, text: &[u8]) -> Result<Matrix<S>, ReadFa
     };
     scanner.next_line();
     scanner.body::<S>(alloc, header)
+}
+
+/// The matrix that a text reads as, in the blocks of a grid, or its first fault. All else is as in [`read`].
+///
+/// The list of all entries is given up once the blocks have them: who keeps the matrix in its blocks never has it
+/// twice but while it is read.
+pub fn read_distributed<S: Semiring>(
+    alloc: Global,
+    grid: &Grid,
+    text: &[u8],
+) -> Result<DistributedMatrix<S>, ReadFault>
+    ensures ok { IfOk result (λ m. Reads S.arithmetic text.now m.matrix) }
+    ensures side { IfOk result (λ m. m.side ≡ grid.now.side) }
+    ensures fault { IfErr result (IsAnswer (first_fault S.arithmetic text.now)) }
+    ensures line { IfErr result (IsLineOf 1 text.now) }
+    ensures law { IsFaultOrMatrix S.arithmetic text.now }
+{
+    let matrix = read::<S>(alloc, text)?;
+    match DistributedMatrix::scatter(alloc, *grid, &matrix) {
+        Ok(blocks) => Ok(blocks),
+        Err(_refused) => Err(ReadFault {
+            line: line_past_last(text),
+            kind: Kind::Memory,
+        }),
+    }
+}
+
+/// The number of the line past the last, or of the last one where no line feed ends it.
+fn line_past_last(text: &[u8]) -> u64
+    ensures { (1 ≤ result) × (result ≤ 1 + length (lines text.now)) }
+{
+    line_feeds(text) as u64 + 1
+}
+
+/// How many line feeds a text has.
+fn line_feeds(text: &[u8]) -> usize
+    ensures { result ≡ count_by (λ c. c == 10) text.now }
+{
+    text.iter().filter(|byte| **byte == b'\n').count()
 }

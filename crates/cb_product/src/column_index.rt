@@ -39,6 +39,8 @@ impl ColumnIndex {
             let bits = (columns as u64).saturating_mul(4).leading_zeros();
             index.shift = bits.saturating_sub(32).max(1).min(31);
             index.places.resize(1 << (32 - index.shift), 0)?;
+        } else {
+            return Ok(index);
         }
         index.fill(block.column_numbers());
         Ok(index)

@@ -193,7 +193,10 @@ fn refuses_shapes(rt: HostRuntime) -> Result<(), Fail> {
 }
 
 /// Whether an answer has just these entries, or is want of memory.
-fn is_right_or_refused(answer: Result<Matrix<PlusTimes>, ScriptFault>, wanted: &[Entry]) -> bool {
+pub fn is_right_or_refused<S: Semiring>(
+    answer: Result<Matrix<S>, ScriptFault>,
+    wanted: &[Entry],
+) -> bool {
     match answer {
         Ok(matrix) => matrix.entries() == wanted,
         Err(fault) => fault == ScriptFault::Memory,
@@ -205,7 +208,7 @@ fn is_right_or_refused(answer: Result<Matrix<PlusTimes>, ScriptFault>, wanted: &
 #[test]
 fn refused_memory_is_said_by_products(rt: HostRuntime) -> Result<(), Fail> {
     let alloc = rt.alloc();
-    let Some((left, right)) = operands(alloc) else {
+    let Some((left, right)) = operands::<PlusTimes>(alloc) else {
         return Ok(());
     };
     let grid = grid(2)?;
@@ -222,7 +225,7 @@ fn refused_memory_is_said_by_products(rt: HostRuntime) -> Result<(), Fail> {
 #[test]
 fn refused_memory_is_said(rt: HostRuntime) -> Result<(), Fail> {
     let alloc = rt.alloc();
-    let Some((left, right)) = operands(alloc) else {
+    let Some((left, right)) = operands::<PlusTimes>(alloc) else {
         return Ok(());
     };
     let grid = grid(2)?;

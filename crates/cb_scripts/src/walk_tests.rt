@@ -1,38 +1,50 @@
 //! Worked graphs on grids of several sides.
-use crate::tests::{SIDES, entry, grid, matrix};
-use crate::{Engine, ScriptFault, distances, levels};
+use crate::tests::{entry, grid, is_right_or_refused, matrix};
+use crate::{Engine, ScriptFault, distances, levels, vector};
 use cb_matrix::Matrix;
 use cb_semirings::{MinPlus, OrAnd};
 use std::alloc::Global;
 use std::test::Fail;
 
 /// A path from vertex 0 to 2, and an edge from 3 to itself.
-fn path(alloc: Global) -> Result<Matrix<OrAnd>, Fail> {
+fn path(alloc: Global) -> Option<Matrix<OrAnd>> {
     let entries = [
         entry(0, 1, 1),
         entry(1, 2, 1),
         entry(2, 0, 1),
         entry(3, 3, 1),
     ];
-    Ok(matrix(alloc, 4, 4, &entries).ok_or("a graph")?)
+    matrix(alloc, 4, 4, &entries)
 }
 
 /// A cycle of no weight between vertices 0 and 1, and edges to 2.
-fn cycle(alloc: Global) -> Result<Matrix<MinPlus>, Fail> {
+fn cycle(alloc: Global) -> Option<Matrix<MinPlus>> {
     let entries = [
         entry(0, 1, 0),
         entry(1, 0, 0),
         entry(0, 2, 5),
         entry(1, 2, 2),
     ];
-    Ok(matrix(alloc, 3, 3, &entries).ok_or("a graph")?)
+    matrix(alloc, 3, 3, &entries)
+}
+
+/// A path 3, 0, 5, 1, 4 whose edges weigh 1, and an edge from its first vertex to its last that weighs 9.
+fn winding_path(alloc: Global) -> Option<Matrix<MinPlus>> {
+    let entries = [
+        entry(3, 0, 1),
+        entry(0, 5, 1),
+        entry(5, 1, 1),
+        entry(1, 4, 1),
+        entry(3, 4, 9),
+    ];
+    matrix(alloc, 6, 6, &entries)
 }
 
 #[test]
 fn levels_of_a_path(rt: HostRuntime) -> Result<(), Fail> {
-    let graph = path(rt.alloc())?;
+    let graph = path(rt.alloc()).ok_or("a graph")?;
     let wanted = [entry(0, 0, 0), entry(1, 0, 1), entry(2, 0, 2)];
-    for side in SIDES {
+    for side in 1..=6 {
         let found = levels(rt.alloc(), Engine::Plain, &grid(side)?, &graph, 0)?;
         assert!(rt; found.entries() == wanted.as_slice());
     }
@@ -41,9 +53,9 @@ fn levels_of_a_path(rt: HostRuntime) -> Result<(), Fail> {
 
 #[test]
 fn a_cycle_of_no_weight(rt: HostRuntime) -> Result<(), Fail> {
-    let graph = cycle(rt.alloc())?;
+    let graph = cycle(rt.alloc()).ok_or("a graph")?;
     let wanted = [entry(0, 0, 0), entry(1, 0, 0), entry(2, 0, 2)];
-    for side in SIDES {
+    for side in 1..=6 {
         let found = distances(rt.alloc(), Engine::Plain, &grid(side)?, &graph, 0)?;
         assert!(rt; found.entries() == wanted.as_slice());
     }
@@ -51,12 +63,61 @@ fn a_cycle_of_no_weight(rt: HostRuntime) -> Result<(), Fail> {
 }
 
 #[test]
+fn a_long_walk_that_weighs_less_than_an_edge(rt: HostRuntime) -> Result<(), Fail> {
+    let graph = winding_path(rt.alloc()).ok_or("a graph")?;
+    let wanted = [
+        entry(0, 0, 1),
+        entry(1, 0, 3),
+        entry(3, 0, 0),
+        entry(4, 0, 4),
+        entry(5, 0, 2),
+    ];
+    for side in 1..=6 {
+        let found = distances(rt.alloc(), Engine::Plain, &grid(side)?, &graph, 3)?;
+        assert!(rt; found.entries() == wanted.as_slice());
+    }
+    Ok(())
+}
+
+#[test]
 fn no_such_source(rt: HostRuntime) -> Result<(), Fail> {
-    let graph = path(rt.alloc())?;
+    let graph = path(rt.alloc()).ok_or("a graph")?;
     let found = levels(rt.alloc(), Engine::Plain, &grid(2)?, &graph, 8);
     assert!(rt; matches!(found, Err(ScriptFault::Source)));
     let wide = matrix::<OrAnd>(rt.alloc(), 2, 3, &[]).ok_or("a matrix")?;
     let found = levels(rt.alloc(), Engine::Plain, &grid(2)?, &wide, 8);
     assert!(rt; matches!(found, Err(ScriptFault::NotSquare)));
+    Ok(())
+}
+
+/// It passes whichever single allocation is refused (`rt try --test --fail-alloc N`, for each N in turn): the
+/// call says so, or its answer is the right one.
+#[test]
+fn refused_memory_is_said_by_walks(rt: HostRuntime) -> Result<(), Fail> {
+    let alloc = rt.alloc();
+    let (Some(graph), Some(weighted)) = (path(alloc), cycle(alloc)) else {
+        return Ok(());
+    };
+    let grid = grid(2)?;
+    let wanted = [entry(0, 0, 0), entry(1, 0, 1), entry(2, 0, 2)];
+    let answer = levels(alloc, Engine::Plain, &grid, &graph, 0);
+    assert!(rt; is_right_or_refused(answer, &wanted));
+    let wanted = [entry(0, 0, 0), entry(1, 0, 0), entry(2, 0, 2)];
+    let answer = distances(alloc, Engine::Plain, &grid, &weighted, 0);
+    assert!(rt; is_right_or_refused(answer, &wanted));
+    Ok(())
+}
+
+/// The same of a product with a vector.
+#[test]
+fn refused_memory_is_said_by_vectors(rt: HostRuntime) -> Result<(), Fail> {
+    let alloc = rt.alloc();
+    let given = [entry(0, 0, 4), entry(2, 0, 7)];
+    let (Some(weighted), Some(column)) = (cycle(alloc), matrix(alloc, 3, 1, &given)) else {
+        return Ok(());
+    };
+    let answer = vector(alloc, Engine::Plain, &grid(2)?, &weighted, &column);
+    let wanted = [entry(0, 0, 12), entry(1, 0, 4)];
+    assert!(rt; is_right_or_refused(answer, &wanted));
     Ok(())
 }

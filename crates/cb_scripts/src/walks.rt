@@ -8,15 +8,14 @@ ghost use Rattle.std.specs.Prelude.{◌≡◌, ◌≢◌, ℕ, ◌<◌, ◌≤�
 ghost use Rattle.std.specs.BTreeMap.{BTreeMap};
 ghost use Rattle.cb_semirings.specs.Tables.{min_plus};
 ghost use Rattle.cb_matrix.specs.Sparse.{at, value_at};
-ghost use Rattle.cb_matrix.specs.Operations.{transposed};
 ghost use Rattle.cb_scripts.specs.Walks.{infinite, AreLevels, AreDistances, unit_entry, unit_weights};
 ghost use Rattle.cb_scripts.specs.Refusals.{IsGraphRefusal};
 ghost use Rattle.cb_scripts.specs.Numbers.{number_at, AreNumbers, is_lower};
 
 use crate::rounds::{multiply_vector, vector_plan};
-use crate::transposes::transpose;
+use crate::transposes::transpose_distributed;
 use crate::{Engine, ScriptFault};
-use cb_layout::{DistributedMatrix, Grid};
+use cb_layout::Grid;
 use cb_matrix::{Entry, Matrix, Shape};
 use cb_semirings::{MinPlus, OrAnd};
 use std::alloc::{AllocError, Global};
@@ -135,7 +134,7 @@ fn nearest(
 {
     let _shape = graph.shape();
     let shape = column_shape(graph);
-    let mut turned = turned_over(alloc, engine, grid, graph)?;
+    let mut turned = transpose_distributed(alloc, engine, grid, graph)?;
     let plan = vector_plan(alloc, grid, turned.shape())?;
     let mut known = known_from(alloc, source)?;
     let mut fell = column_of(alloc, shape, &known)?;
@@ -150,20 +149,6 @@ fn nearest(
     }
     let column = column_of(alloc, shape, &known)?;
     Ok(column)
-}
-
-/// The transpose of a matrix, over a grid.
-fn turned_over(
-    alloc: Global,
-    engine: Engine,
-    grid: &Grid,
-    graph: &Matrix<MinPlus>,
-) -> Result<DistributedMatrix<MinPlus>, ScriptFault>
-    ensures ok { IfOk result (λ m. m ≡ record { side = grid.now.side; matrix = transposed min_plus graph.now }) }
-    ensures fault { IfErr result (λ f. f ≡ ScriptFault.Memory) }
-{
-    let turned = transpose(alloc, engine, grid, graph)?;
-    Ok(DistributedMatrix::scatter(alloc, *grid, &turned)?)
 }
 
 /// Each entry with the value 1.

@@ -2,24 +2,19 @@
 ghost use Rattle.std.specs.Prelude.{◌↔◌, IsTrue, All};
 ghost use Rattle.cb_semirings.specs.Arithmetic.{IsValue};
 
-use crate::{Kind, Page, TextPages, read, text};
+use crate::{Kind, Page, TextPages, read_distributed, text};
 use cb_layout::{DistributedMatrix, Grid};
 use cb_matrix::{Entry, Matrix, Shape};
 use cb_semirings::{MinPlus, OrAnd, PlusTimes, Semiring};
 use std::alloc::{AllocError, Global};
 
-/// The pages of a matrix over the grid of a side, one after the other, and how many they are.
+/// The pages of a matrix over a grid, one after the other, and how many they are.
 fn joined<S: Semiring>(
     alloc: Global,
-    side: u32,
-    matrix: &Matrix<S>,
+    matrix: &DistributedMatrix<S>,
 ) -> Result<(Vec<u8>, usize), AllocError> {
-    let Ok(grid) = Grid::new(side) else {
-        return Err(AllocError);
-    };
-    let matrix = DistributedMatrix::scatter(alloc, grid, matrix)?;
     let mut page = Page::new(alloc)?;
-    let mut pages = TextPages::new(&matrix);
+    let mut pages = TextPages::new(matrix);
     let mut bytes = Vec::new(alloc);
     let mut count: usize = 0;
     while pages.next_page(&mut page) {
@@ -29,13 +24,25 @@ fn joined<S: Semiring>(
     Ok((bytes, count))
 }
 
+/// The pages of the matrix that a text reads as, over the grid of a side.
+fn read_and_joined<S: Semiring>(
+    alloc: Global,
+    side: u32,
+    given: &[u8],
+) -> Result<(Vec<u8>, usize), Kind> {
+    let Ok(grid) = Grid::new(side) else {
+        return Err(Kind::TooLarge);
+    };
+    match read_distributed::<S>(alloc, &grid, given) {
+        Ok(matrix) => joined(alloc, &matrix).map_err(|_| Kind::Memory),
+        Err(fault) => Err(fault.kind),
+    }
+}
+
 /// Whether the pages of the matrix that a text reads as are that text on one page, on the grid of each side.
 fn is_one_page<S: Semiring>(alloc: Global, given: &[u8]) -> bool {
-    let Ok(matrix) = read::<S>(alloc, given) else {
-        return false;
-    };
     for side in 1..=6 {
-        match joined(alloc, side, &matrix) {
+        match read_and_joined::<S>(alloc, side, given) {
             Ok((bytes, 1)) if bytes.as_slice() == given => {}
             _ => return false,
         }
@@ -89,7 +96,9 @@ fn follow_one_another(rt: HostRuntime) {
     let matrix = long_matrix(alloc).expect(&rt, "matrix");
     let whole = text(alloc, &matrix).expect(&rt, "text");
     for side in [1, 3] {
-        let (bytes, count) = joined(alloc, side, &matrix).expect(&rt, "pages");
+        let grid = Grid::new(side).ok().expect(&rt, "grid");
+        let blocks = DistributedMatrix::scatter(alloc, grid, &matrix).expect(&rt, "blocks");
+        let (bytes, count) = joined(alloc, &blocks).expect(&rt, "pages");
         assert_eq!(&rt; count, 2);
         assert_eq!(&rt; bytes.as_slice(), whole.as_slice());
     }
@@ -100,12 +109,18 @@ fn follow_one_another(rt: HostRuntime) {
 fn are_refused_or_joined(rt: HostRuntime) {
     let alloc = rt.alloc();
     let given = b"%%MatrixMarket matrix coordinate integer general\n2 2 3\n1 1 1\n1 2 2\n2 2 3\n";
-    let right = match read::<PlusTimes>(alloc, given) {
-        Ok(matrix) => match joined(alloc, 2, &matrix) {
-            Ok((bytes, _)) => bytes.as_slice() == given.as_slice(),
-            Err(_) => true,
-        },
-        Err(fault) => fault.kind == Kind::Memory,
+    let right = match read_and_joined::<PlusTimes>(alloc, 2, given) {
+        Ok((bytes, _)) => bytes.as_slice() == given.as_slice(),
+        Err(kind) => kind == Kind::Memory,
     };
     assert!(&rt; right);
+}
+
+#[test]
+fn a_bad_text_is_refused_on_each_grid(rt: HostRuntime) {
+    let short = b"%%MatrixMarket matrix coordinate integer general\n2 2 3\n1 1 1\n";
+    for side in 1..=6 {
+        let answer = read_and_joined::<PlusTimes>(rt.alloc(), side, short);
+        assert!(&rt; matches!(answer, Err(Kind::MissingEntries)));
+    }
 }

@@ -1,4 +1,4 @@
-use Rattle.std.proofs.Common.{arith, ◌≡◌, ◌+◌, length, refl}
+use Rattle.std.proofs.Common.{arith, ◌+◌, length, refl}
 use Rattle.cb_market.proofs.WrittenBytes.{bytes_put}
 use Rattle.cb_market.proofs.pages.put_bytes.Goals as goal
 

@@ -1,4 +1,4 @@
-use Rattle.std.proofs.Common.{arith, ◌≡◌, ◌+◌, drop, refl}
+use Rattle.std.proofs.Common.{arith, ◌≡◌, ◌+◌, refl}
 use Rattle.std.specs.Prelude.{decimal}
 use Rattle.cb_market.proofs.WrittenBytes.{number_put}
 use Rattle.cb_market.proofs.pages.put_number.Goals as goal

@@ -1,4 +1,4 @@
-use Rattle.std.proofs.Common.{◌≡◌, ◌++◌, [], ap, sym, ◌∙◌, arith, length}
+use Rattle.std.proofs.Common.{◌≡◌, arith, length}
 use Rattle.cb_layout.specs.Segments.{shifted}
 use Rattle.cb_market.proofs.Segments.{shifted_done, next_first, nothing_left}
 use Rattle.cb_market.proofs.text_pages.begun.Goals as goal

@@ -1,6 +1,5 @@
-use Rattle.std.proofs.Common.{◌≡◌, ◌+◌, ◌<◌, ◌++◌, ◌∷◌, drop, length, get_or, ap, sym, ◌∙◌, arith, append_assoc}
+use Rattle.std.proofs.Common.{◌+◌, ◌++◌, drop, get_or, ap, sym, ◌∙◌, arith, append_assoc}
 use Rattle.std.specs.Prelude.{flat_map}
-use Rattle.std.proofs.lemmas.List.{get_or_read}
 use Rattle.cb_matrix.specs.declared.Entry.{Entry}
 use Rattle.cb_layout.specs.Segments.{shifted}
 use Rattle.cb_market.specs.Text.{entry_line}

@@ -1,4 +1,4 @@
-use Rattle.std.proofs.Common.{◌≡◌, ◌<◌, length, ap, sym, subst, ◌∙◌, arith}
+use Rattle.std.proofs.Common.{sym, ◌∙◌}
 use Rattle.cb_market.proofs.Segments.{shorter_at}
 use Rattle.cb_market.proofs.text_pages.EntriesLeft.put_some.Goals as goal
 
