@@ -5,7 +5,7 @@ use Rattle.std.specs.Ordering.{nat_cmp, is_eq}
 use Rattle.std.specs.Cmp.{nat_cmp_is}
 use Rattle.std.specs.declared.cmp.Ordering.TheVariants.{Less, Equal, Greater}
 use Rattle.std.specs.BTreeMap.{BTreeMap, get}
-use Rattle.std.proofs.lemmas.Bool.{lt-ltb, le-ltb, cases_order, cond-true, cond-false}
+use Rattle.std.proofs.lemmas.Bool.{cases_order, cond-true, cond-false}
 use Rattle.std.proofs.lemmas.Option.{same_Some}
 use Rattle.std.proofs.lemmas.List.{append-nil, take_all, take_more, get_or_default, get_or-take, length-take}
 use Rattle.std.proofs.lemmas.List.Elements.{All-cons, All-nil, filter_more}
@@ -83,15 +83,15 @@ module _ (es : List Entry) (i : ℕ) (d : Entry) (l : i < length es) (rows : All
 
 -- one entry more has been looked at
 module _ (known : BTreeMap ℕ ℕ) (es : List Entry) (i : ℕ) (d : Entry) (l : i < length es) (so_far now : List Entry) (before : so_far ≡ filter (is_lower known) (take i es)) where
-  pub lower_kept : (get_or es i d).value < number_at known (get_or es i d).row → now ≡ so_far ++ get_or es i d ∷ [] → now ≡ filter (is_lower known) (take (i + 1) es)
+  pub lower_kept : is_lower known (get_or es i d) ≡ true → now ≡ so_far ++ get_or es i d ∷ [] → now ≡ filter (is_lower known) (take (i + 1) es)
   lower_kept h e =
       e ∙ ap (λ (xs : List Entry). xs ++ get_or es i d ∷ []) before
-      ∙ sym (filter_more (is_lower known) es i d l ∙ ap (λ (b : Bool). filter (is_lower known) (take i es) ++ cond b (get_or es i d ∷ []) []) (lt-ltb (get_or es i d).value (number_at known (get_or es i d).row) h))
+      ∙ sym (filter_more (is_lower known) es i d l ∙ ap (λ (b : Bool). filter (is_lower known) (take i es) ++ cond b (get_or es i d ∷ []) []) h)
 
-  pub lower_passed : number_at known (get_or es i d).row ≤ (get_or es i d).value → now ≡ so_far → now ≡ filter (is_lower known) (take (i + 1) es)
+  pub lower_passed : is_lower known (get_or es i d) ≡ false → now ≡ so_far → now ≡ filter (is_lower known) (take (i + 1) es)
   lower_passed h e =
       e ∙ before
-      ∙ sym (filter_more (is_lower known) es i d l ∙ ap (λ (b : Bool). filter (is_lower known) (take i es) ++ cond b (get_or es i d ∷ []) []) (le-ltb (get_or es i d).value (number_at known (get_or es i d).row) h) ∙ append-nil (filter (is_lower known) (take i es)))
+      ∙ sym (filter_more (is_lower known) es i d l ∙ ap (λ (b : Bool). filter (is_lower known) (take i es) ++ cond b (get_or es i d ∷ []) []) h ∙ append-nil (filter (is_lower known) (take i es)))
 
 pub all_taken : (old now : BTreeMap ℕ ℕ) (es : List Entry) (i : ℕ) → length es ≤ i → HasTaken old now (take i es) → HasTaken old now es
 all_taken old now es i l h = subst (λ (xs : List Entry). HasTaken old now xs) (take_all i es l) h

@@ -28,6 +28,13 @@ fn number_of(known: &BTreeMap<u32, u64>, vertex: u32) -> u64
     known.get(&vertex).copied().unwrap_or(u64::MAX)
 }
 
+/// Whether an entry is below what is known of its row.
+fn is_lower(known: &BTreeMap<u32, u64>, entry: &Entry) -> bool
+    ensures { result ≡ is_lower known.now entry.now }
+{
+    entry.value < number_of(known, entry.row)
+}
+
 /// The entries below what is known of their rows.
 fn lower_entries(
     alloc: Global,
@@ -38,7 +45,7 @@ fn lower_entries(
 {
     let mut lower = Vec::new(alloc);
     for entry in entries {
-        if entry.value < number_of(known, entry.row) {
+        if is_lower(known, entry) {
             lower.push(*entry)?;
         }
     }
