@@ -33,7 +33,7 @@ pub fn compute<S: Semiring + Send + Sync, R: Threads + Wait + Sync>(
     operands: &[(u16, &Matrix<S>)],
     shape: Shape,
 ) -> Result<DistributedMatrix<S>, ScriptFault>
-    requires { (answer : Sparse) × Makes S.arithmetic grid.now.side (map (λ o. (o.0, o.1.now)) operands.now) planned shape answer }
+    requires makes { (answer : Sparse) × Makes S.arithmetic grid.now.side (map (λ o. (o.0, o.1.now)) operands.now) planned shape answer }
     ensures ok { IfOk result (λ m. (answer : Sparse) → Makes S.arithmetic grid.now.side (map (λ o. (o.0, o.1.now)) operands.now) planned shape answer → m ≡ record { side = grid.now.side; matrix = answer }) }
     ensures fault { IfErr result (IsRunRefusal engine) }
 {
@@ -97,7 +97,7 @@ impl Engine {
         plan: &CheckedPlan,
         stores: Vec<RankStore<S>>,
     ) -> Result<Vec<RankStore<S>>, ScriptFault>
-        requires { Fits plan.now.ranks plan.now.starts stores.items }
+        requires fits { Fits plan.now.ranks plan.now.starts stores.items }
         ensures meaning { IfOk result (λ after. LostOrMeans (meaning (matrices S.arithmetic) plan.now.acts (state_of stores.items)) after.items) }
         ensures none_lost { self ≡ Plain → IfOk result (λ after. NoneLost after.items) }
         ensures table { IfOk result (λ after. IsTable plan.now.ranks SLOTS after.items) }
