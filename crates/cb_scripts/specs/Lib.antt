@@ -9,3 +9,5 @@ pub mod Losses
 pub mod Walks
 pub mod Numbers
 pub mod SpreadVectors
+-- Orders: ranks that are stepped one at a time, in any order: what they lose, and why they leave no answer.
+pub mod Orders

@@ -9,6 +9,9 @@ ghost use Rattle.std.specs.Prelude.{◌≡◌};
 ghost use Rattle.cb_scripts.specs.declared.ScriptFault.TheVariants.{Memory};
 ghost use Rattle.cb_scripts.specs.Refusals.{fault_of_run};
 
+#[cfg(test)]
+mod order_tests;
+mod orders;
 mod placewise;
 mod products;
 mod rounds;
@@ -23,6 +26,7 @@ mod walk_tests;
 mod walks;
 
 use cb_ranks::RunFault;
+pub use orders::{multiply_in_order, multiply_masked_in_order};
 pub use placewise::{add, add_distributed, prune, prune_distributed, times, times_distributed};
 pub use products::{multiply, multiply_distributed, multiply_masked, multiply_masked_distributed};
 use std::alloc::AllocError;

@@ -59,7 +59,7 @@ pub fn matrix<S: Semiring>(
 }
 
 /// Two matrices of two by two.
-fn operands<S: Semiring>(alloc: Global) -> Option<(Matrix<S>, Matrix<S>)> {
+pub fn operands<S: Semiring>(alloc: Global) -> Option<(Matrix<S>, Matrix<S>)> {
     let left = [entry(0, 0, 1), entry(0, 1, 2), entry(1, 1, 3)];
     let right = [entry(0, 1, 1), entry(1, 0, 4)];
     Some((matrix(alloc, 2, 2, &left)?, matrix(alloc, 2, 2, &right)?))
