@@ -2,7 +2,8 @@
 //!
 //! A script scatters its operands over the grid, runs a checked plan over the ranks' slots, and gathers the
 //! blocks of the answer. The answer is the same on every grid, and with each [`Engine`]. The calls named
-//! `.._distributed` leave it in the blocks, for who needs no whole matrix.
+//! `.._distributed` leave it in the blocks, for who needs no whole matrix, and those named `.._in_order` step the
+//! ranks one at a time, as they are told.
 #![tactic(auto)]
 
 ghost use Rattle.std.specs.Prelude.{◌≡◌};

@@ -21,16 +21,17 @@ use cb_summa::{LEFT, MASK, RIGHT, summa, summa_masked};
 use cb_world::{Event, World};
 use std::alloc::{AllocError, Global};
 
-/// The product of two matrices, by Sparse SUMMA, by ranks that are stepped one at a time, in this order.
+/// The product of two matrices, by Sparse SUMMA over the grid, by ranks that are stepped one at a time, in this order.
 ///
-/// Each event is one half of one rank's program, which is done if it can be done now: see [`World`]. After the last
-/// event whichever rank is ready is stepped, until all are done. Whatever the order, and however few letters a lane
-/// holds (`capacity`, from 1 to 64), the answer is the product: `docs/RANKS.md` says why. So this is for replaying an
+/// Each event is one half of one rank's program, done if it can be done now (see [`World`]). After the last event
+/// whichever rank is ready is stepped, until all are done. Whatever the order, and however few letters a lane holds
+/// (`capacity`, from 1 to 64), the answer is the product; `docs/RANKS.md` says why. So the order is for replaying an
 /// interleaving, and for seeing what a refusal of memory does.
 ///
-/// Shapes that don't agree are `Shapes`, before memory is asked for. Where memory is refused to a rank, by an
-/// [`Event::Starve`] or by the machine, and the answer needs the block that is lost so, it is `Lost` with that rank.
-/// It costs what [`multiply`](crate::multiply) costs, and for each event past the last half nothing but its look.
+/// Shapes that don't agree are `Shapes`, before memory is asked for. Where memory is refused in a rank, by an
+/// [`Event::Starve`] or by the machine, and a block of the answer is lost by it, the answer is `Lost` with that rank;
+/// where it is refused before the first event or after the last half, `Memory`. It costs the products of entries that
+/// meet, a copy of each block that moves, a look for each event, and one at each rank for each half past the last.
 pub fn multiply_in_order<S: Semiring>(
     alloc: Global,
     grid: &Grid,
