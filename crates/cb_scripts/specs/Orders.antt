@@ -1,5 +1,5 @@
 -- Products by ranks that are stepped one at a time, in any order: why there is none.
-use Rattle.std.specs.Prelude.{◌≡◌, ◌≢◌, ℕ, ◌*◌, ◌<◌, ◌⊎◌, List}
+use Rattle.std.specs.Prelude.{◌≡◌, ◌≢◌, ℕ, ◌<◌, ◌⊎◌, List}
 use Rattle.cb_matrix.specs.Sparse.{Sparse}
 use Rattle.cb_matrix.specs.Values.{product_shape}
 use Rattle.cb_plan.specs.declared.stores.Slot.{Slot}

@@ -12,11 +12,7 @@ use std::test::Fail;
 const SIDES: [u32; 3] = [1, 2, 3];
 
 /// A hundred rounds, in each of which every rank has an event, from the last to the first. One may be starved.
-fn backwards(
-    alloc: Global,
-    ranks: u16,
-    starved: Option<u16>,
-) -> Result<Vec<Event>, AllocError> {
+fn backwards(alloc: Global, ranks: u16, starved: Option<u16>) -> Result<Vec<Event>, AllocError> {
     let mut order = Vec::new(alloc);
     for _ in 0..100 {
         for rank in (0..ranks).rev() {
