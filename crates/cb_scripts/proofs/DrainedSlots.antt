@@ -25,6 +25,7 @@ pub record DrainedSoFar (n r : ℕ) (first now : List (List (Slot Sparse))) (out
   pub others : (k m : ℕ) → n ≢ m → cell slot_is.Empty now k m ≡ cell slot_is.Empty first k m
   pub blocks : (k : ℕ) → k < r → state_of first k n ≡ Some (block_at out k)
 
+-- at first none is out
 pub draining_none : (n : ℕ) (first : List (List (Slot Sparse))) → IsTable (length first) 256 first → DrainedSoFar n 0 first first []
 draining_none n first table = record { ranks = refl; count = refl; later = λ k l. refl; table = table; others = λ k m ne. refl; blocks = λ k l. absurd (omega arith) }
 
@@ -34,6 +35,7 @@ pub taken : (n r : ℕ) (first now : List (List (Slot Sparse))) (out : List Spar
 taken n r first now out row x h l at_row is =
     sym (is ∙ ap (λ s. get_or s n slot_is.Empty) (read_at now r row [] l at_row ∙ h.later r (omega arith)))
 
+-- the block of one rank more is out
 pub draining_next : (n r : ℕ) (first now : List (List (Slot Sparse))) (out : List Sparse) (row new : List (Slot Sparse)) (x : Slot Sparse) (b : Sparse) → n < 256 → DrainedSoFar n r first now out → r < length now → row ≡ get_or now r row → x ≡ get_or row n slot_is.Empty → new ≡ slice_set row n slot_is.Empty → x ≡ slot_is.Sheet b →
     DrainedSoFar n (r + 1) first (slice_set now r new) (out ++ b ∷ [])
 draining_next n r first now out row new x b small h l at_row is is_new sheet =

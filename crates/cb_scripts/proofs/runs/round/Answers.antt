@@ -1,6 +1,5 @@
-use Rattle.std.proofs.Common.{◌≡◌, ◌+◌, ◌*◌, length, ap, ◌∙◌}
+use Rattle.std.proofs.Common.{◌≡◌, ◌*◌, length, ap, ◌∙◌}
 use Rattle.cb_matrix.specs.Sparse.{Sparse}
-use Rattle.cb_layout.specs.Distributed.{Distributed}
 use Rattle.cb_plan.specs.Algebras.{matrices}
 use Rattle.cb_plan.specs.Meaning.{State, meaning}
 use Rattle.cb_plan.specs.Stores.{state_of}
