@@ -27,3 +27,5 @@ pub mod UnitWeights
 pub mod OneColumn
 -- SpreadProducts: a matrix over a grid times a vector.
 pub mod SpreadProducts
+-- OrderedRuns: what ranks leave that were stepped in some order, gathered.
+pub mod OrderedRuns

@@ -1,6 +1,6 @@
 -- What the plans of products make of their operands.
-use Rattle.std.proofs.Common.{◌≡◌, ℕ, ◌*◌, ◌<◌, cond, List, [], ◌∷◌, lit<, refl, sym, ap, ◌∙◌}
-use Rattle.std.specs.Prelude.{map}
+use Rattle.std.proofs.Common.{◌≡◌, ℕ, ◌*◌, ◌<◌, cond, false, List, [], ◌∷◌, lit<, refl, sym, ap, ◌∙◌}
+use Rattle.std.specs.Prelude.{map, not, ◌==◌, ◌&&◌}
 use Rattle.std.specs.List.{range_with_len}
 use Rattle.std.proofs.lemmas.List.Elements.{All-cons, All-nil}
 use Rattle.cb_semirings.specs.Arithmetic.{Arithmetic, IsSemiring}
@@ -18,7 +18,7 @@ use Rattle.cb_summa.specs.Summa.{factors, masked_factors, IsProductPlan, IsMaske
 use Rattle.cb_scripts.specs.Slots.{HaveSlots}
 use Rattle.cb_scripts.specs.Answers.{Makes}
 use Rattle.cb_scripts.proofs.Holdings.{parts_there}
-use Rattle.cb_scripts.proofs.Making.{in_slot}
+use Rattle.cb_scripts.proofs.Making.{found_equal, in_slot}
 use Rattle.cb_scripts.proofs.KernelPlans.{both_slots}
 
 -- slots 0, 1 and 7 exist
@@ -58,6 +58,13 @@ module _ (s : Arithmetic) (laws : IsSemiring s) (q : ℕ) (planned : Planned) (r
         shaped = refl;
       }
 
+  -- the same, where the shapes have other names
+  pub product_found : (d e shape : Extent) → d ≡ a.shape → e ≡ b.shape → shape ≡ record { rows = d.rows; cols = e.cols } → planned.starts.items ≡ operand_starts q (factors d e) → IsProductPlan planned.plan.acts q d e →
+      Makes s q ((0, a) ∷ (1, b) ∷ []) planned shape (product s a b)
+  product_found d e shape of_a of_b of_both starts plan =
+      let same : shape ≡ product_shape a b = of_both ∙ (λ t. record { rows = (of_a t).rows; cols = (of_b t).cols }) in
+      rw same (product_made (rw (of_a, of_b) at starts) (rw (of_a, of_b) at plan))
+
   -- and the one under a mask, the mask being in slot 7
   pub masked_made : (m : Sparse) → IsMatrix s m → m.shape ≡ product_shape a b → planned.starts.items ≡ operand_starts q (masked_factors a.shape b.shape) → IsMaskedPlan planned.plan.acts q a.shape b.shape →
       Makes s q ((0, a) ∷ (1, b) ∷ (7, m) ∷ []) planned (product_shape a b) (masked s (product s a b) m)
@@ -73,3 +80,11 @@ module _ (s : Arithmetic) (laws : IsSemiring s) (q : ℕ) (planned : Planned) (r
         matrix = masked_is_matrix s laws (product s a b) m (product_is_matrix s laws a b is_a is_b);
         shaped = refl;
       }
+
+  -- the same, where the shapes have other names
+  pub masked_found : (m : Sparse) (d e f shape : Extent) → IsMatrix s m → d ≡ a.shape → e ≡ b.shape → f ≡ m.shape → shape ≡ record { rows = d.rows; cols = e.cols } → false ≡ not ((f.rows == shape.rows) && (f.cols == shape.cols)) →
+      planned.starts.items ≡ operand_starts q (masked_factors d e) → IsMaskedPlan planned.plan.acts q d e → Makes s q ((0, a) ∷ (1, b) ∷ (7, m) ∷ []) planned shape (masked s (product s a b) m)
+  masked_found m d e f shape is_m of_a of_b of_m of_both equal starts plan =
+      let same : shape ≡ product_shape a b = of_both ∙ (λ t. record { rows = (of_a t).rows; cols = (of_b t).cols }) in
+      let agree : m.shape ≡ product_shape a b = found_equal f shape m.shape (product_shape a b) of_m same equal in
+      rw same (masked_made m is_m agree (rw (of_a, of_b) at starts) (rw (of_a, of_b) at plan))

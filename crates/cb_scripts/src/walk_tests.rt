@@ -1,5 +1,5 @@
-//! Worked graphs on grids of several sides.
-use crate::tests::{entry, grid, is_right_or_refused, matrix};
+//! Worked graphs with each engine on grids of several sides.
+use crate::tests::{ENGINES, RUNS, entry, grid, is_right_or_refused, matrix};
 use crate::{Engine, ScriptFault, distances, levels, vector};
 use cb_matrix::Matrix;
 use cb_semirings::{MinPlus, OrAnd};
@@ -44,8 +44,8 @@ fn winding_path(alloc: Global) -> Option<Matrix<MinPlus>> {
 fn levels_of_a_path(rt: HostRuntime) -> Result<(), Fail> {
     let graph = path(rt.alloc()).ok_or("a graph")?;
     let wanted = [entry(0, 0, 0), entry(1, 0, 1), entry(2, 0, 2)];
-    for side in 1..=6 {
-        let found = levels(rt.alloc(), Engine::Plain, &grid(side)?, &graph, 0)?;
+    for (engine, side) in RUNS {
+        let found = levels(&rt, rt.alloc(), engine, &grid(side)?, &graph, 0)?;
         assert!(rt; found.entries() == wanted.as_slice());
     }
     Ok(())
@@ -55,8 +55,8 @@ fn levels_of_a_path(rt: HostRuntime) -> Result<(), Fail> {
 fn a_cycle_of_no_weight(rt: HostRuntime) -> Result<(), Fail> {
     let graph = cycle(rt.alloc()).ok_or("a graph")?;
     let wanted = [entry(0, 0, 0), entry(1, 0, 0), entry(2, 0, 2)];
-    for side in 1..=6 {
-        let found = distances(rt.alloc(), Engine::Plain, &grid(side)?, &graph, 0)?;
+    for (engine, side) in RUNS {
+        let found = distances(&rt, rt.alloc(), engine, &grid(side)?, &graph, 0)?;
         assert!(rt; found.entries() == wanted.as_slice());
     }
     Ok(())
@@ -72,8 +72,8 @@ fn a_long_walk_that_weighs_less_than_an_edge(rt: HostRuntime) -> Result<(), Fail
         entry(4, 0, 4),
         entry(5, 0, 2),
     ];
-    for side in 1..=6 {
-        let found = distances(rt.alloc(), Engine::Plain, &grid(side)?, &graph, 3)?;
+    for (engine, side) in RUNS {
+        let found = distances(&rt, rt.alloc(), engine, &grid(side)?, &graph, 3)?;
         assert!(rt; found.entries() == wanted.as_slice());
     }
     Ok(())
@@ -82,10 +82,10 @@ fn a_long_walk_that_weighs_less_than_an_edge(rt: HostRuntime) -> Result<(), Fail
 #[test]
 fn no_such_source(rt: HostRuntime) -> Result<(), Fail> {
     let graph = path(rt.alloc()).ok_or("a graph")?;
-    let found = levels(rt.alloc(), Engine::Plain, &grid(2)?, &graph, 8);
+    let found = levels(&rt, rt.alloc(), Engine::Plain, &grid(2)?, &graph, 8);
     assert!(rt; matches!(found, Err(ScriptFault::Source)));
     let wide = matrix::<OrAnd>(rt.alloc(), 2, 3, &[]).ok_or("a matrix")?;
-    let found = levels(rt.alloc(), Engine::Plain, &grid(2)?, &wide, 8);
+    let found = levels(&rt, rt.alloc(), Engine::Plain, &grid(2)?, &wide, 8);
     assert!(rt; matches!(found, Err(ScriptFault::NotSquare)));
     Ok(())
 }
@@ -99,12 +99,14 @@ fn refused_memory_is_said_by_walks(rt: HostRuntime) -> Result<(), Fail> {
         return Ok(());
     };
     let grid = grid(2)?;
-    let wanted = [entry(0, 0, 0), entry(1, 0, 1), entry(2, 0, 2)];
-    let answer = levels(alloc, Engine::Plain, &grid, &graph, 0);
-    assert!(rt; is_right_or_refused(answer, &wanted));
-    let wanted = [entry(0, 0, 0), entry(1, 0, 0), entry(2, 0, 2)];
-    let answer = distances(alloc, Engine::Plain, &grid, &weighted, 0);
-    assert!(rt; is_right_or_refused(answer, &wanted));
+    for engine in ENGINES {
+        let wanted = [entry(0, 0, 0), entry(1, 0, 1), entry(2, 0, 2)];
+        let answer = levels(&rt, alloc, engine, &grid, &graph, 0);
+        assert!(rt; is_right_or_refused(engine, answer, &wanted));
+        let wanted = [entry(0, 0, 0), entry(1, 0, 0), entry(2, 0, 2)];
+        let answer = distances(&rt, alloc, engine, &grid, &weighted, 0);
+        assert!(rt; is_right_or_refused(engine, answer, &wanted));
+    }
     Ok(())
 }
 
@@ -116,8 +118,10 @@ fn refused_memory_is_said_by_vectors(rt: HostRuntime) -> Result<(), Fail> {
     let (Some(weighted), Some(column)) = (cycle(alloc), matrix(alloc, 3, 1, &given)) else {
         return Ok(());
     };
-    let answer = vector(alloc, Engine::Plain, &grid(2)?, &weighted, &column);
     let wanted = [entry(0, 0, 12), entry(1, 0, 4)];
-    assert!(rt; is_right_or_refused(answer, &wanted));
+    for engine in ENGINES {
+        let answer = vector(&rt, alloc, engine, &grid(2)?, &weighted, &column);
+        assert!(rt; is_right_or_refused(engine, answer, &wanted));
+    }
     Ok(())
 }

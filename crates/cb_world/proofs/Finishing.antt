@@ -2,7 +2,7 @@
 use Rattle.std.proofs.Common.{◌≡◌, ℕ, ◌+◌, ◌-◌, ◌<◌, ◌≤◌, false, List, [], ◌∷◌, ◌++◌, length, map, refl, sym, ◌∙◌, ap, subst, arith, length-append, append-nil}
 use Rattle.std.specs.Prelude.{Option, nat_lt}
 use Rattle.std.proofs.lemmas.Bool.Decides.{nat_tests}
-use Rattle.std.proofs.lemmas.List.{append_cancel_left}
+use Rattle.std.proofs.lemmas.List.{append_cancel_left, length-map}
 use Rattle.std.proofs.Math.ListN.{get_or-map}
 use Rattle.cb_semirings.specs.Arithmetic.{Arithmetic}
 use Rattle.cb_matrix.specs.Sparse.{Sparse, Extent}
@@ -18,7 +18,7 @@ use Rattle.cb_plan.specs.Algebras.{matrices, shapes}
 use Rattle.cb_plan.specs.Checks.{Lanes, IsSound, Passes, shut_after, none_shut, started}
 use Rattle.cb_plan.specs.Programs.{halves_of, project_from, project}
 use Rattle.cb_plan.specs.Stores.{state_of, sheet_of, is_lost}
-use Rattle.cb_plan.specs.Tables.{cell}
+use Rattle.cb_plan.specs.Tables.{cell, IsTable}
 use Rattle.cb_plan.proofs.Effects.{same_state}
 use Rattle.cb_plan.proofs.Running.{first_below}
 use Rattle.cb_rank.specs.Agreement.{IsSlotOf, AreLettersOf}
@@ -107,6 +107,13 @@ finishes s w sound done =
 -- the ranks' stores, in a list, are their slots
 slots_in_order : (w : WorldView) (r n : ℕ) → cell slot_is.Empty (map (λ (x : RankView). x.slots) w.ranks) r n ≡ slot_at (rank_of w r).slots n
 slots_in_order w r n = ap (λ xs. slot_at xs n) (get_or-map (λ (x : RankView). x.slots) w.ranks r no_rank)
+
+-- a store for each rank, each of as many slots as a rank has
+pub stores_are_table : (s : Arithmetic) (w : WorldView) → IsWorld s w → IsTable w.plan.ranks 256 (map (λ (x : RankView). x.slots) w.ranks)
+stores_are_table s w sound = record {
+  rows = length-map w.ranks (λ (x : RankView). x.slots) ∙ sound.sizes.0;
+  cols = λ r l. ap length (get_or-map (λ (x : RankView). x.slots) w.ranks r no_rank) ∙ (sound.ranks r l).sound.size;
+}
 
 -- the stores of all ranks hold what the plan means
 pub ends_in_meaning : (s : Arithmetic) (w : WorldView) → IsWorld s w → AllDone w → HoldsMeaning s w (map (λ (x : RankView). x.slots) w.ranks)

@@ -2,6 +2,7 @@
 ghost use Rattle.std.specs.Prelude.{ℕ, ◌≡◌, ◌≢◌, ◌+◌, ◌<◌, ◌≤◌, ◌↔◌, List, length, map, IfOk, IfErr, IsTrue};
 ghost use Rattle.cb_letters.specs.Lane.{posted};
 ghost use Rattle.cb_plan.specs.Stores.{Fits};
+ghost use Rattle.cb_plan.specs.Tables.{IsTable};
 ghost use Rattle.cb_world.specs.Worlds.{IsWorld, IsNewWorld, next_of, lane_between, CanAct, AllDone, IsReady, remaining, refusals_in, IsFinished, HoldsMeaning};
 ghost use Rattle.cb_world.specs.Steps.{Steps, StepsBy, IsStarved, RunsBy};
 ghost use Rattle.cb_world.specs.declared.events.Event.{Event as EventOf};
@@ -11,7 +12,7 @@ use crate::ends::Ends;
 use crate::events::Event;
 use crate::starting::{start_ranks, stores_of};
 use cb_dcsc::Block;
-use cb_plan::{CheckedPlan, RankStore};
+use cb_plan::{CheckedPlan, RankStore, SLOTS};
 use cb_rank::{Moved, Rank, Supply, Want};
 use cb_semirings::Semiring;
 use std::alloc::{AllocError, Global};
@@ -214,6 +215,7 @@ impl<S: Semiring> World<S> {
     pub fn into_stores(self) -> Vec<RankStore<S>>
         requires { AllDone self }
         ensures stores { result.items ≡ map (λ x. x.slots) self.ranks }
+        ensures table { IsTable self.plan.ranks SLOTS result.items }
         ensures finished { IsFinished S.arithmetic self }
         ensures meaning { HoldsMeaning S.arithmetic self result.items }
     {

@@ -1,8 +1,12 @@
 -- All is done, so the world is finished, and its stores hold what its plan means.
 use Rattle.std.proofs.Common.{sym, subst}
+use Rattle.cb_plan.specs.Tables.{IsTable}
 use Rattle.cb_world.specs.Worlds.{HoldsMeaning}
-use Rattle.cb_world.proofs.Finishing.{finishes, ends_in_meaning}
+use Rattle.cb_world.proofs.Finishing.{finishes, stores_are_table, ends_in_meaning}
 use Rattle.cb_world.proofs.world.World.into_stores.Goals as goal
+
+pub returns-clause-table : goal.returns-clause-table
+returns-clause-table g c = rw (← c.self.view_is) (subst (IsTable _ _) (sym c.stores_of.ensures) (stores_are_table _ _ c.self.invariant.0))
 
 pub returns-clause-finished : goal.returns-clause-finished
 returns-clause-finished g c =
