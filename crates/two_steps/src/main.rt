@@ -23,7 +23,7 @@ fn main(rt: HostRuntime) -> anyhow::Result<()> {
     let shape = Shape::new(4, 4).context("past the limit")?;
     let graph: Matrix<PlusTimes> = Matrix::from_entries(alloc, shape, &edges)?;
     let grid = Grid::new(2)?;
-    let walks = multiply(alloc, Engine::Plain, &grid, &graph, &graph)?;
+    let walks = multiply(&rt, alloc, Engine::Plain, &grid, &graph, &graph)?;
     for walk in walks.entries() {
         println!(rt; "{} to {}: {} walks", walk.row, walk.column, walk.value)?;
     }
