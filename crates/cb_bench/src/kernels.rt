@@ -4,6 +4,7 @@ ghost use Rattle.cb_matrix.specs.Values.{product_shape};
 
 use crate::loads::{block_of, random_matrix};
 use crate::words::{Bench, Kernel};
+use crate::worlds::measure_world;
 use cb_dcsc::Block;
 use cb_elementwise::add;
 use cb_layout::Grid;
@@ -15,17 +16,19 @@ use cb_semirings::PlusTimes;
 use std::alloc::AllocError;
 use std::time::{CpuClock, Duration};
 
-/// What was counted: the entries of the operands, the steps, and the entries of the result.
+/// What was counted: the entries of the operands, the steps, and the entries of the result; and how long it took.
 #[derive(Clone, Copy, Debug)]
 pub(crate) struct Counts {
     pub given: u64,
     pub steps: u64,
     pub made: u64,
     pub took: Duration,
+    /// What the same work took act by act, where that was measured too.
+    pub plain: Option<Duration>,
 }
 
 /// The processor time so far, or none where it can't be had.
-fn now<R: CpuClock>(rt: &R) -> Duration {
+pub(crate) fn now<R: CpuClock>(rt: &R) -> Duration {
     match rt.process_cpu_time() {
         Ok(time) => time,
         Err(_) => Duration::ZERO,
@@ -49,6 +52,7 @@ fn counted<R: CpuClock>(rt: &R, start: Duration, given: usize, steps: u64, made:
         steps,
         made: made as u64,
         took: now(rt).saturating_sub(start),
+        plain: None,
     }
 }
 
@@ -148,6 +152,9 @@ pub(crate) fn measure<R: CpuClock + AllocGlobal>(
         _ => {}
     }
     let second = random_matrix(alloc, shape, bench.entries, 2)?;
+    if bench.kernel == Kernel::World {
+        return measure_world(rt, bench.grid, &first, &second);
+    }
     let left = block_of(alloc, &first)?;
     let right = block_of(alloc, &second)?;
     match bench.kernel {

@@ -3,9 +3,11 @@
 //! `cb_bench KERNEL SIDE ENTRIES` makes two square matrices of this side with this many random places each (a
 //! place that comes twice is one entry), and runs the kernel on them: `multiply`, `multiply-into` (the product,
 //! added to the first matrix), `add`, `transpose`, `scatter` (the first matrix over the grid of side `--grid`,
-//! and gathered again), or `read` (the text of the first matrix). What was counted stands on standard output,
-//! and is the same in every run. The processor time, and the steps a second, stand on standard error: a step of a
-//! product is one product of two entries, and a step of the others is one entry that is read.
+//! and gathered again), `read` (the text of the first matrix), or `world` (their product by Sparse SUMMA over the
+//! grid, in a world of ranks, beside the same plan act by act). What was counted stands on standard output, and is
+//! the same in every run. The processor time, and the steps a second, stand on standard error: a step of a product
+//! is one product of two entries, a step of a world is one half of a rank, and a step of the others is one entry
+//! that is read. Of a world the time of the plan act by act stands there too, and the ratio of the two.
 #![tactic(auto)]
 
 ghost use Rattle.std.specs.Prelude.{◌≡◌, ◌<◌, ◌≤◌, All, IfOk, IfSome};
@@ -13,6 +15,7 @@ ghost use Rattle.std.specs.Prelude.{◌≡◌, ◌<◌, ◌≤◌, All, IfOk, If
 mod kernels;
 mod loads;
 mod words;
+mod worlds;
 
 use crate::kernels::{Counts, measure};
 use crate::words::{Bench, BenchFault, read_words};
@@ -39,7 +42,19 @@ fn tell<R: Print + Eprint>(rt: &R, bench: &Bench, counts: &Counts) -> io::Result
     let (given, steps, made) = (counts.given, counts.steps, counts.made);
     println!(rt; "{name}: {given} entries, {steps} steps, {made} entries made")?;
     let (micros, rate) = (counts.took.as_micros(), rate(steps, counts.took));
-    eprintln!(rt; "{micros} us, {rate} steps a second")
+    eprintln!(rt; "{micros} us, {rate} steps a second")?;
+    match counts.plain {
+        Some(plain) => tell_ratio(rt, counts.took, plain),
+        None => Ok(()),
+    }
+}
+
+/// Prints how long the same took act by act, and how many times as long it took in a world.
+fn tell_ratio<R: Eprint>(rt: &R, took: Duration, plain: Duration) -> io::Result<()> {
+    let micros = plain.as_micros();
+    let hundredths = took.as_micros().saturating_mul(100) / micros.max(1);
+    let (ones, rest) = (hundredths / 100, hundredths % 100);
+    eprintln!(rt; "{micros} us act by act, ratio {ones}.{rest:02}")
 }
 
 /// Measures, and answers the status that the program ends with.

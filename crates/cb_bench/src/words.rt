@@ -13,15 +13,17 @@ pub(crate) enum Kernel {
     Transpose,
     Scatter,
     Read,
+    World,
 }
 
-static KERNELS: [&str; 6] = [
+static KERNELS: [&str; 7] = [
     "multiply",
     "multiply-into",
     "add",
     "transpose",
     "scatter",
     "read",
+    "world",
 ];
 
 impl Kernel {
@@ -34,6 +36,7 @@ impl Kernel {
             Kernel::Transpose => "transpose",
             Kernel::Scatter => "scatter",
             Kernel::Read => "read",
+            Kernel::World => "world",
         }
     }
 
@@ -46,6 +49,7 @@ impl Kernel {
             "transpose" => Some(Kernel::Transpose),
             "scatter" => Some(Kernel::Scatter),
             "read" => Some(Kernel::Read),
+            "world" => Some(Kernel::World),
             _ => None,
         }
     }
@@ -91,7 +95,7 @@ fn command<'a>(alloc: Global) -> Result<Command<'a>, AllocError> {
         .value_name("N")
         .value_parser(value_parser!(u32).range(1..=6))
         .default_value("2")
-        .help("The side of the grid of scatter");
+        .help("The side of the grid of scatter and world");
     let help = Arg::new(alloc, "help")
         .long("help")
         .action(ArgAction::Help)

@@ -1,6 +1,7 @@
 -- Lanes: which lanes to a rank are shut before each of its halves.
 -- Going: a rank that goes on over its desk by one half.
 -- Running: the loop over a rank's halves.
+-- Others: which ranks a run names where it is given up.
 -- Pairing: stores and desks that are paired one after the other.
 -- Joined: threads that are joined one after the other.
 -- Courses: what a rank does of its program only adds to what it posted and took, and a program is done piece by piece.
@@ -15,6 +16,7 @@
 pub mod Lanes
 pub mod Going
 pub mod Running
+pub mod Others
 pub mod Pairing
 pub mod Joined
 pub mod Courses

@@ -1,5 +1,5 @@
 -- All ranks of a plan, each with its desk, before they run and after.
-use Rattle.std.specs.Prelude.{◌≡◌, ℕ, ◌<◌, List, [], ◌∷◌, length, map, get_or}
+use Rattle.std.specs.Prelude.{◌≡◌, ℕ, ◌<◌, ◌⊎◌, List, [], ◌∷◌, length, map, get_or}
 use Rattle.cb_semirings.specs.Arithmetic.{Arithmetic}
 use Rattle.cb_matrix.specs.Sparse.{Sparse}
 use Rattle.cb_plan.specs.declared.stores.Slot.{Slot}
@@ -27,6 +27,11 @@ counts_of crew = map (λ m. m.0.refusals) crew
 abbrev pub AreNew : List Member → Type 0
 AreNew [] = Unit {0}
 AreNew (m ∷ ms) = IsNewRun m.0 m.1 × AreNew ms
+
+-- the desk of one of them is this rank's
+abbrev pub IsOneOf : List Member → ℕ → Type 0
+IsOneOf [] r = ⊥
+IsOneOf (m ∷ ms) r = (m.1.me ≡ r) ⊎ IsOneOf ms r
 
 -- the second is what the run of the first left
 abbrev pub Ran : Arithmetic → Member → Member → Type 0

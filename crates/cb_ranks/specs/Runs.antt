@@ -1,5 +1,5 @@
 -- What one rank leaves once it has run its whole program over its desk.
-use Rattle.std.specs.Prelude.{◌≡◌, ℕ, length}
+use Rattle.std.specs.Prelude.{◌≡◌, ◌≢◌, ℕ, ◌<◌, length}
 use Rattle.cb_semirings.specs.Arithmetic.{Arithmetic}
 use Rattle.cb_matrix.specs.Sparse.{Sparse}
 use Rattle.cb_lanes.specs.declared.desk.Desk.{Desk}
@@ -11,6 +11,10 @@ use Rattle.cb_rank.specs.Ranks.{RankView, IsRank}
 -- how far a rank came over its desk
 abbrev pub course_of : RankView → Desk Sparse → Course
 course_of x d = record { slots = x.slots; refusals = x.refusals; posted = posted_to d; taken = taken_from d }
+
+-- there is a lane between this rank and that one: it is another rank of the plan
+abbrev pub IsOther : RankView → ℕ → Type 0
+IsOther x k = (k < x.plan.ranks) × (k ≢ x.me)
 
 -- a rank that has done nothing, and its own desk among those of its plan's ranks, on which nothing was posted or taken
 pub record IsNewRun (x : RankView) (d : Desk Sparse) : Type 0 where

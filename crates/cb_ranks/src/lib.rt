@@ -22,6 +22,7 @@ mod crew;
 mod faults;
 mod finished;
 mod gates;
+mod promises;
 mod runs;
 #[cfg(test)]
 mod tests;

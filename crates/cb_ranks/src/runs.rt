@@ -1,7 +1,7 @@
 //! One rank on its caller's thread.
-ghost use Rattle.std.specs.Prelude.{◌≡◌, ◌≢◌, ◌⊎◌, None, IfOk, OnOk};
+ghost use Rattle.std.specs.Prelude.{◌≡◌, ◌≢◌, ◌⊎◌, None, IfOk, IfErr, OnOk};
 ghost use Rattle.cb_rank.specs.Ranks.{IsRank, next_half, want_of};
-ghost use Rattle.cb_ranks.specs.Runs.{IsNewRun, Runs};
+ghost use Rattle.cb_ranks.specs.Runs.{IsNewRun, IsOther, Runs};
 ghost use Rattle.cb_ranks.specs.UnderWay.{IsUnderWay, DoesNext};
 
 use crate::gates::Gate;
@@ -25,6 +25,7 @@ pub fn run_rank<S: Semiring, R: Wait, G: Gate<S>>(
 ) -> Result<(Rank<S>, Desk<Block<S>>), Gone>
     requires { IsNewRun rank desk }
     ensures runs { IfOk result (λ r. Runs S.arithmetic rank desk r.0 r.1) }
+    ensures gone { IfErr result (λ e. IsOther rank e.0) }
 {
     let mut rank = rank;
     let mut desk = desk;
@@ -44,6 +45,7 @@ fn do_half<S: Semiring, R: Wait>(
     requires more { next_half rank.old ≢ None }
     requires under_way { IsUnderWay rank.old desk.old }
     ensures next { OnOk result (DoesNext S.arithmetic rank.old desk.old rank.new desk.new) }
+    ensures gone { IfErr result (λ e. IsOther rank.old e.0) }
 {
     match rank.want() {
         Want::Post(to) => post(rt, rank, desk, to),
@@ -69,6 +71,7 @@ fn post<S: Semiring, R: Wait>(
     requires want { want_of (next_half rank.old) ≡ Want.Post to }
     requires under_way { IsUnderWay rank.old desk.old }
     ensures next { OnOk result (DoesNext S.arithmetic rank.old desk.old rank.new desk.new) }
+    ensures gone { IfErr result (λ e. IsOther rank.old e.0) }
 {
     let (tag, body) = rank.outgoing(Supply::Granted);
     let Ok(_number) = desk.post(rt, to, tag, body) else {
@@ -88,6 +91,7 @@ fn close<S: Semiring, R: Wait>(
     requires want { want_of (next_half rank.old) ≡ Want.Shut to }
     requires under_way { IsUnderWay rank.old desk.old }
     ensures next { OnOk result (DoesNext S.arithmetic rank.old desk.old rank.new desk.new) }
+    ensures gone { IfErr result (λ e. IsOther rank.old e.0) }
 {
     rank.shut();
     let Ok(_number) = desk.close(rt, to) else {
@@ -107,6 +111,7 @@ fn take<S: Semiring, R: Wait>(
     requires want { (want_of (next_half rank.old) ≡ Want.Take from) ⊎ (want_of (next_half rank.old) ≡ Want.End from) }
     requires under_way { IsUnderWay rank.old desk.old }
     ensures next { OnOk result (DoesNext S.arithmetic rank.old desk.old rank.new desk.new) }
+    ensures gone { IfErr result (λ e. IsOther rank.old e.0) }
 {
     let arrival = match desk.take(rt, from)? {
         Taken::Letter(letter) => Arrival::Letter(letter),

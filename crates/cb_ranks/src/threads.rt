@@ -1,10 +1,11 @@
 //! A thread for each rank, in one scope: started in order, and all joined before the scope ends.
-ghost use Rattle.std.specs.Prelude.{◌≡◌, ◌≤◌, [], map, IfOk, IfSome, IfNone, vec_len, vec_capacity};
+ghost use Rattle.std.specs.Prelude.{◌≡◌, ◌≤◌, [], map, IfOk, IfErr, IfSome, IfNone, vec_len, vec_capacity};
 ghost use Rattle.std.specs.List.{AllZip};
 ghost use Rattle.cb_plan.specs.Stores.{Fits};
-ghost use Rattle.cb_ranks.specs.Crews.{AreNew, Ran};
+ghost use Rattle.cb_ranks.specs.Crews.{AreNew, IsOneOf, Ran};
+ghost use Rattle.cb_ranks.specs.Faults.{IsFaultIn, IsFaultOf};
 ghost use Rattle.cb_ranks.specs.Finished.{HoldsMeaning};
-ghost use Rattle.cb_ranks.specs.Runs.{IsNewRun, Runs};
+ghost use Rattle.cb_ranks.specs.Runs.{IsNewRun};
 ghost use Rattle.cb_ranks.specs.Started.{started};
 ghost use Rattle.cb_ranks.specs.Views.{finished_view};
 
@@ -12,6 +13,7 @@ use crate::crew::{Member, Remains, assemble};
 use crate::faults::RunFault;
 use crate::finished::Finished;
 use crate::gates::Gate;
+use crate::promises::{RunOf, Running};
 use crate::runs::run_rank;
 use cb_dcsc::Block;
 use cb_lanes::{Desk, Gone, settle};
@@ -22,7 +24,7 @@ use std::alloc::Global;
 use std::snapshot::Snapshot;
 use std::sync::Wait;
 use std::thread;
-use std::thread::{Promise, PromisedHandle, Scope, Threads};
+use std::thread::{Scope, Threads};
 
 /// Runs each rank of a plan in a thread of its own, over lanes for `capacity` letters (1 to 64) from each rank to each
 /// other: what is left is what the plan means. Every rank does its whole program: where it is refused memory for a
@@ -40,6 +42,7 @@ pub fn run_threads<S: Semiring + Send + Sync, R: Threads + Wait + Sync, G: Gate<
 ) -> Result<Finished<S>, RunFault>
     requires { Fits plan.now.ranks plan.now.starts stores.items }
     ensures meaning { IfOk result (λ finished. HoldsMeaning S.arithmetic plan.now stores.items (finished_view finished)) }
+    ensures fault { IfErr result (IsFaultOf plan.now.ranks) }
 {
     let ranks = plan.ranks() as usize;
     let crew = assemble(alloc, plan, stores, capacity)?;
@@ -58,24 +61,6 @@ pub fn run_threads<S: Semiring + Send + Sync, R: Threads + Wait + Sync, G: Gate<
         refusals,
         lanes,
     })
-}
-
-/// What the thread of this rank and this desk promises: at its end the rank has run its program.
-#[derive(Drop)]
-pub(crate) struct RunOf<S: Semiring> {
-    rank: Snapshot<Rank<S>>,
-    desk: Snapshot<Desk<Block<S>>>,
-}
-
-impl<S: Semiring> Promise<Result<(Rank<S>, Desk<Block<S>>), Gone>> for RunOf<S> {
-    ghost kept_by = { λ p r. IfOk r (λ done. Runs S.arithmetic p.rank.value p.desk.value done.0 done.1) };
-}
-
-/// The thread of a rank, which is still to be joined.
-#[derive(Drop)]
-pub(crate) struct Running<S: Semiring> {
-    rank: u16,
-    thread: PromisedHandle<Result<(Rank<S>, Desk<Block<S>>), Gone>, RunOf<S>>,
 }
 
 /// Starts a thread for one rank. Where there is none to be had, the rank and its desk are dropped here.
@@ -122,6 +107,7 @@ fn start_all<'s, E, S: Semiring + Send + Sync + 's, R: Wait + Sync, G: Gate<S>>(
     requires room { (room.items ≡ []) × (vec_len crew ≤ vec_capacity room) }
     ensures all { IfNone result.1 (map started result.0.items ≡ crew.items) }
     ensures few { vec_len result.0 ≤ vec_len crew }
+    ensures missing { IfSome result.1 (IsOneOf crew.items) }
 {
     let mut threads = room;
     for (rank, desk) in crew {
@@ -141,7 +127,8 @@ fn join_all<S: Semiring, R: Threads>(
     room: Vec<Member<S>>,
 ) -> Result<Vec<Member<S>>, u16>
     requires room { (room.items ≡ []) × (vec_len threads ≤ vec_capacity room) }
-    ensures { IfOk result (λ done. AllZip (Ran S.arithmetic) (map started threads.items) done.items) }
+    ensures ran { IfOk result (λ done. AllZip (Ran S.arithmetic) (map started threads.items) done.items) }
+    ensures gone { IfErr result (IsOneOf (map started threads.items)) }
 {
     let mut done = room;
     let mut gone = None;
@@ -168,14 +155,16 @@ fn run_crew<S: Semiring + Send + Sync, R: Threads + Wait + Sync, G: Gate<S>>(
     requires new { AreNew crew.items }
     requires threads { (threads.items ≡ []) × (vec_len crew ≤ vec_capacity threads) }
     requires done { (done.items ≡ []) × (vec_len crew ≤ vec_capacity done) }
-    ensures { IfOk result (λ done. AllZip (Ran S.arithmetic) crew.items done.items) }
+    ensures ran { IfOk result (λ done. AllZip (Ran S.arithmetic) crew.items done.items) }
+    ensures fault { IfErr result (IsFaultIn crew.items) }
 {
     thread::scope(
         thread::scope_env(),
         rt,
         move |scope| -> Result<Vec<Member<S>>, RunFault>
             requires { AreNew crew.items × (threads.items ≡ []) × (vec_len crew ≤ vec_capacity threads) × (done.items ≡ []) × (vec_len crew ≤ vec_capacity done) }
-            ensures { IfOk result (λ ran. AllZip (Ran S.arithmetic) crew.items ran.items) }
+            ensures ran { IfOk result (λ ran. AllZip (Ran S.arithmetic) crew.items ran.items) }
+            ensures fault { IfErr result (IsFaultIn crew.items) }
         {
             let (threads, missing) = start_all(scope, rt, crew, threads, gate);
             // Also where one is missing, so that no thread outlives the call.

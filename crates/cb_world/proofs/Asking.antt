@@ -14,7 +14,7 @@ use Rattle.cb_rank.specs.declared.wants.Moved.TheVariants as moved_is
 use Rattle.cb_rank.specs.Steps.{Answer}
 use Rattle.cb_rank.specs.Ranks.{RankView, next_half, want_of}
 use Rattle.cb_rank.proofs.Wanted.{wants_post_to, wants_shut_to, wants_take, wants_work, wants_end, wants_nothing}
-use Rattle.cb_world.specs.Worlds.{WorldView, IsWorld, rank_of, next_of, lane_between, CanDo, CanAct, remaining}
+use Rattle.cb_world.specs.Worlds.{WorldView, IsWorld, no_rank, rank_of, next_of, lane_between, CanDo, CanAct, remaining}
 use Rattle.cb_world.specs.Steps.{DoesIn, Steps, StepsBy, RunsBy, rank_in}
 use Rattle.cb_world.specs.declared.events.Event.{Event}
 use Rattle.cb_world.specs.declared.events.Event.TheVariants as event_is
@@ -27,6 +27,16 @@ use Rattle.cb_world.proofs.OneStep.{Came}
 -- a list read at a place, whatever stands for what is past its end
 pub read_at : {X : Type 0} (xs : List X) (i : ℕ) (x d : X) → i < length xs → x ≡ slice_index_or xs i x → x ≡ slice_index_or xs i d
 read_at xs i x d l e = e ∙ same_Some _ _ (sym (slice_get-get_or xs i x l) ∙ slice_get-get_or xs i d l)
+
+-- a rank of a world, read from the list of its ranks
+pub record IsAt (w : WorldView) (r : ℕ) (x : RankView) : Type 0 where
+  pub inside : r < w.plan.ranks
+  pub read : x ≡ rank_of w r
+
+pub rank_at : (s : Arithmetic) (w : WorldView) (r : ℕ) (x : RankView) (len size : ℕ) → IsWorld s w → r < len → len ≡ size → size ≡ length w.ranks → x ≡ slice_index_or w.ranks r x → IsAt w r x
+rank_at s w r x len size sound below counted is_size read =
+    let ranks = sound.sizes.0 in
+    record { inside = omega arith; read = read_at w.ranks r x no_rank (omega arith) read }
 
 module _ (s : Arithmetic) (w : WorldView) (sound : IsWorld s w) (r : ℕ) (x : RankView) (there : r < length w.ranks) (read : x ≡ rank_of w r) where
   inside : r < w.plan.ranks

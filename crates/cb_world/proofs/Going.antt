@@ -16,10 +16,11 @@ use Rattle.cb_rank.specs.declared.wants.Arrival.TheVariants as arrival_is
 use Rattle.cb_rank.specs.declared.wants.Moved.{Moved}
 use Rattle.cb_rank.specs.Ranks.{RankView, onward, slots_with}
 use Rattle.cb_world.specs.declared.events.Event.{Event}
+use Rattle.cb_world.specs.declared.events.Event.TheVariants as event_is
 use Rattle.cb_world.specs.Ends.{boxes_with, boxes_after}
 use Rattle.cb_world.specs.EndLaws.{same_length}
-use Rattle.cb_world.specs.Worlds.{WorldView, IsWorld, no_rank, rank_of, next_of, remaining}
-use Rattle.cb_world.specs.Steps.{with_rank, letter_to, DoesIn, StepsBy, Steps, RunsBy, rank_in}
+use Rattle.cb_world.specs.Worlds.{WorldView, IsWorld, no_rank, rank_of, next_of, IsReady, remaining}
+use Rattle.cb_world.specs.Steps.{with_rank, letter_to, DoesIn, StepsBy, Steps, RunsBy, FinishesBy, rank_in}
 use Rattle.cb_world.proofs.Counting.{sum_of_set}
 
 -- a half changes one rank, which has done one half more, and the mailboxes
@@ -95,3 +96,15 @@ runs_stay s (e ∷ es) w after runs =
 pub runs_more : (s : Arithmetic) (es : List Event) (e : Event) (moved : Moved) (w mid after : WorldView) → RunsBy s es w mid → Steps s e moved mid after → RunsBy s (es ++ e ∷ []) w after
 runs_more s [] e moved w mid after runs steps = (moved, after, rw (← runs) steps, refl)
 runs_more s (f ∷ es) e moved w mid after runs steps = (runs.0, runs.1, runs.2, runs_more s es e moved runs.1 mid after runs.3 steps)
+
+-- a run to the end is a run
+pub finishes_run : (s : Arithmetic) (es : List Event) (w after : WorldView) → FinishesBy s es w after → RunsBy s es w after
+finishes_run s [] w after runs = runs
+finishes_run s (event_is.Step r ∷ es) w after runs = (runs.1, runs.2, runs.3, finishes_run s es runs.2 after runs.4)
+finishes_run s (event_is.Starve r ∷ es) w after runs = absurd runs
+
+-- one that goes on by the least rank that can act
+pub finishes_more : (s : Arithmetic) (es : List Event) (r : ℕ) (moved : Moved) (w mid after : WorldView) → FinishesBy s es w mid → IsReady mid (Some r) → Steps s (event_is.Step r) moved mid after → FinishesBy s (es ++ event_is.Step r ∷ []) w after
+finishes_more s [] r moved w mid after runs ready steps = (rw (← runs) ready, moved, after, rw (← runs) steps, refl)
+finishes_more s (event_is.Step q ∷ es) r moved w mid after runs ready steps = (runs.0, runs.1, runs.2, runs.3, finishes_more s es r moved runs.2 mid after runs.4 ready steps)
+finishes_more s (event_is.Starve q ∷ es) r moved w mid after runs ready steps = absurd runs

@@ -20,7 +20,7 @@ use Rattle.cb_rank.specs.Steps.{HandsOut, Works, moved_by}
 use Rattle.cb_world.specs.declared.events.Event.{Event}
 use Rattle.cb_world.specs.declared.events.Event.TheVariants as event_is
 use Rattle.cb_world.specs.Ends.{boxes_with, boxes_after}
-use Rattle.cb_world.specs.Worlds.{WorldView, rank_of, next_of, lane_between, CanAct}
+use Rattle.cb_world.specs.Worlds.{WorldView, rank_of, next_of, lane_between, CanAct, IsReady}
 
 -- one rank, and the mailboxes, are these
 abbrev pub with_rank : WorldView → ℕ → RankView → List (Inbox Sparse) → WorldView
@@ -77,3 +77,9 @@ pub record Steps (s : Arithmetic) (event : Event) (moved : Moved) (old new : Wor
 abbrev pub RunsBy : Arithmetic → List Event → WorldView → WorldView → Type 0
 RunsBy s [] old new = new ≡ old
 RunsBy s (e ∷ es) old new = (moved : Moved) × (mid : WorldView) × Steps s e moved old mid × RunsBy s es mid new
+
+-- steps of the least rank that can act, one after the other
+abbrev pub FinishesBy : Arithmetic → List Event → WorldView → WorldView → Type 0
+FinishesBy s [] old new = new ≡ old
+FinishesBy s (event_is.Step r ∷ es) old new = IsReady old (Some r) × (moved : Moved) × (mid : WorldView) × Steps s (event_is.Step r) moved old mid × FinishesBy s es mid new
+FinishesBy s (event_is.Starve r ∷ es) old new = ⊥

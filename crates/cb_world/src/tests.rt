@@ -67,6 +67,18 @@ const fn send(from: u16, to: u16, slot: u16, into: u16) -> Act {
     }
 }
 
+/// The plan of some acts of two ranks.
+fn plan_of(alloc: Global, acts: &[Act]) -> Result<CheckedPlan, AllocError> {
+    let mut plan = Plan::new(alloc, 2);
+    for act in acts {
+        plan.push(*act).map_err(|_| AllocError)?;
+    }
+    match CheckedPlan::check(alloc, plan, &[start()?]) {
+        Ok(plan) => Ok(plan),
+        Err(_) => Err(AllocError),
+    }
+}
+
 /// Rank 0 sends its block, rank 1 adds it to itself in slot 2, and sends the sum back: nine halves.
 fn plan(alloc: Global) -> Result<CheckedPlan, AllocError> {
     let add = Op::Add {
@@ -81,30 +93,34 @@ fn plan(alloc: Global) -> Result<CheckedPlan, AllocError> {
         Act::Shut { from: 0, to: 1 },
         Act::Shut { from: 1, to: 0 },
     ];
-    let mut plan = Plan::new(alloc, 2);
-    for act in acts {
-        plan.push(act).map_err(|_| AllocError)?;
-    }
-    match CheckedPlan::check(alloc, plan, &[start()?]) {
-        Ok(plan) => Ok(plan),
-        Err(_) => Err(AllocError),
-    }
+    plan_of(alloc, &acts)
 }
 
-/// The plan, and its stores: rank 0 has the number 6.
+/// The stores of such a plan: rank 0 has the number 6.
+fn stores(alloc: Global) -> Result<Vec<RankStore<PlusTimes>>, AllocError> {
+    Ok(vec![in alloc; store(alloc, 6)?, RankStore::new(alloc)?]?)
+}
+
+/// The plan, and its stores.
 fn parts(alloc: Global) -> Result<(CheckedPlan, Vec<RankStore<PlusTimes>>), AllocError> {
     let plan = plan(alloc)?;
-    let stores = vec![in alloc; store(alloc, 6)?, RankStore::new(alloc)?]?;
+    let stores = stores(alloc)?;
     Ok((plan, stores))
 }
 
-/// Their world, whose lanes hold one letter.
+/// Their world.
 fn world(alloc: Global) -> Result<World<PlusTimes>, Fail> {
-    let (plan, stores) = parts(alloc)?;
+    let plan = plan(alloc)?;
+    world_of(alloc, &plan)
+}
+
+/// The world of a plan, whose lanes hold one letter.
+fn world_of(alloc: Global, plan: &CheckedPlan) -> Result<World<PlusTimes>, Fail> {
+    let stores = stores(alloc)?;
     if !plan.fits(&stores) {
         return Err("the stores fit".into());
     }
-    match World::start(alloc, &plan, stores, 1) {
+    match World::start(alloc, plan, stores, 1) {
         Ok(world) => Ok(world),
         Err((_stores, refused)) => Err(refused.into()),
     }

@@ -4,7 +4,7 @@ ghost use Rattle.cb_letters.specs.Lane.{posted};
 ghost use Rattle.cb_plan.specs.Stores.{Fits};
 ghost use Rattle.cb_plan.specs.Tables.{IsTable};
 ghost use Rattle.cb_world.specs.Worlds.{IsWorld, IsNewWorld, next_of, lane_between, CanAct, AllDone, IsReady, remaining, refusals_in, IsFinished, HoldsMeaning};
-ghost use Rattle.cb_world.specs.Steps.{Steps, StepsBy, IsStarved, RunsBy};
+ghost use Rattle.cb_world.specs.Steps.{Steps, StepsBy, IsStarved, RunsBy, FinishesBy};
 ghost use Rattle.cb_world.specs.declared.events.Event.{Event as EventOf};
 ghost use Rattle.cb_world.specs.declared.events.Event.TheVariants.{Starve};
 
@@ -151,7 +151,7 @@ impl<S: Semiring> World<S> {
 
     /// Steps the least rank that can act, until all are done.
     pub fn finish(&mut self)
-        ensures runs { (events : List EventOf) × RunsBy S.arithmetic events self.old self.new }
+        ensures runs { (events : List EventOf) × FinishesBy S.arithmetic events self.old self.new }
         ensures done { AllDone self.new }
         ensures keeps { (self.new.plan ≡ self.old.plan) × (self.new.first ≡ self.old.first) }
     {

@@ -1,119 +1,78 @@
 //! Every operation through a rank, with each operand lost in turn, and with memory refused.
+ghost use Rattle.std.specs.Prelude.{◌<◌};
+
 use super::{Held, contents_of, filled, plan, shape, single, work};
 use crate::Supply;
+use cb_dcsc::Block;
 use cb_elementwise::Test;
 use cb_letters::Body;
 use cb_plan::Op;
+use cb_semirings::PlusTimes;
 use std::alloc::Global;
 use std::test::Fail;
 
-/// An operation, the slot that it sets, what it makes of 2, 3 and 5 in slots 0, 1 and 2, and which of them it reads.
-#[derive(Drop)]
+/// An operation, the slot that it sets, how many of slots 0, 1 and 2 it reads, the first ones, and what it makes of
+/// 2, 3 and 5 in them.
+#[derive(Clone, Copy, Drop)]
 struct Case {
     op: Op,
     target: u16,
+    reads: u16,
     makes: Held,
-    reads: [bool; 3],
+}
+
+/// An operation that sets slot 3 to a block of one entry.
+const fn one_entry(op: Op, reads: u16, value: u64) -> Case {
+    Case {
+        op,
+        target: 3,
+        reads,
+        makes: Held::Entries(1, value),
+    }
 }
 
 /// Each operation that needs memory.
 fn cases() -> Result<[Case; 10], Fail> {
-    let case = |op, target, value, second, third| Case {
-        op,
-        target,
-        makes: Held::Entries(1, value),
-        reads: [true, second, third],
+    let (a, b, x, m, acc, into) = (0, 1, 1, 1, 2, 3);
+    let (shape, at) = (shape(2, 2)?, (1, 1));
+    let (rows, cols) = ((0, 1), (0, 1));
+    let test = Test::Below(3);
+    let cut = Op::Cut {
+        a,
+        rows,
+        cols,
+        into,
     };
-    let larger = shape(2, 2)?;
-    let all = (0, 1);
-    let pruned = Case {
-        op: Op::Prune {
-            a: 0,
-            test: Test::Below(3),
-            into: 3,
-        },
-        target: 3,
-        makes: Held::Entries(0, 0),
-        reads: [true, false, false],
-    };
+    let mut multiply = one_entry(Op::MulAdd { a, b, acc }, 3, 11);
+    multiply.target = acc;
+    let mut prune = one_entry(Op::Prune { a, test, into }, 1, 0);
+    prune.makes = Held::Entries(0, 0);
     Ok([
-        case(Op::MulAdd { a: 0, b: 1, acc: 2 }, 2, 11, true, true),
-        case(
-            Op::Add {
-                a: 0,
-                b: 1,
-                into: 3,
-            },
-            3,
-            5,
-            true,
-            false,
-        ),
-        case(
-            Op::Times {
-                a: 0,
-                b: 1,
-                into: 3,
-            },
-            3,
-            6,
-            true,
-            false,
-        ),
-        case(Op::Transpose { a: 0, into: 3 }, 3, 2, false, false),
-        case(
-            Op::Cut {
-                a: 0,
-                rows: all,
-                cols: all,
-                into: 3,
-            },
-            3,
-            2,
-            false,
-            false,
-        ),
-        case(
-            Op::Place {
-                a: 0,
-                shape: larger,
-                at: (1, 1),
-                into: 3,
-            },
-            3,
-            2,
-            false,
-            false,
-        ),
-        case(
-            Op::MulVec {
-                a: 0,
-                x: 1,
-                into: 3,
-            },
-            3,
-            6,
-            true,
-            false,
-        ),
-        case(Op::Copy { a: 0, into: 3 }, 3, 2, false, false),
-        case(
-            Op::Mask {
-                a: 0,
-                m: 1,
-                into: 3,
-            },
-            3,
-            2,
-            true,
-            false,
-        ),
-        pruned,
+        multiply,
+        one_entry(Op::Add { a, b, into }, 2, 5),
+        one_entry(Op::Times { a, b, into }, 2, 6),
+        one_entry(Op::Transpose { a, into }, 1, 2),
+        one_entry(cut, 1, 2),
+        one_entry(Op::Place { a, shape, at, into }, 1, 2),
+        one_entry(Op::MulVec { a, x, into }, 2, 6),
+        one_entry(Op::Copy { a, into }, 1, 2),
+        one_entry(Op::Mask { a, m, into }, 2, 2),
+        prune,
     ])
 }
 
+/// The letter that fills one of slots 0, 1 and 2: a number, or that it was lost at rank 10, 11 or 12.
+fn operand(alloc: Global, slot: u16, lost: bool) -> Result<Body<Block<PlusTimes>>, Fail>
+    requires { slot < 3 }
+{
+    if lost {
+        return Ok(Body::Lost(10 + slot));
+    }
+    Ok(Body::Sheet(single(alloc, [2, 3, 5][slot as usize])?))
+}
+
 /// What the target of an operation holds after it, and the count of refusals, where some of slots 0, 1 and 2 are
-/// lost, at ranks 10, 11 and 12.
+/// lost.
 fn after(
     alloc: Global,
     op: Op,
@@ -122,21 +81,9 @@ fn after(
     supply: Supply,
 ) -> Result<(Held, u64), Fail> {
     let plan = plan(alloc, op, 0)?;
-    let first = if lost[0] {
-        Body::Lost(10)
-    } else {
-        Body::Sheet(single(alloc, 2)?)
-    };
-    let second = if lost[1] {
-        Body::Lost(11)
-    } else {
-        Body::Sheet(single(alloc, 3)?)
-    };
-    let third = if lost[2] {
-        Body::Lost(12)
-    } else {
-        Body::Sheet(single(alloc, 5)?)
-    };
+    let first = operand(alloc, 0, lost[0])?;
+    let second = operand(alloc, 1, lost[1])?;
+    let third = operand(alloc, 2, lost[2])?;
     let mut rank = filled(alloc, &plan, first, second, third)?;
     work(&mut rank, supply)?;
     let refusals = rank.refusals();
@@ -146,59 +93,38 @@ fn after(
     Ok((contents_of(&rank.into_store(), target)?, refusals))
 }
 
-/// Where no operand is lost, the result, or that memory was refused for it.
-fn is_result(answer: (Held, u64), makes: Held) -> bool {
-    answer == (makes, 0) || answer == (Held::LostAt(0), 1)
-}
-
 #[test]
 fn an_operation_makes_its_result(rt: HostRuntime) -> Result<(), Fail> {
+    let none = [false, false, false];
     for case in cases()? {
-        let answer = after(
-            rt.alloc(),
-            case.op,
-            case.target,
-            [false, false, false],
-            Supply::Granted,
-        )?;
+        let answer = after(rt.alloc(), case.op, case.target, none, Supply::Granted)?;
         assert_eq!(rt; answer, (case.makes, 0));
     }
     Ok(())
 }
 
+/// Whether an operation that reads this slot is lost with it, and one that doesn't makes its result. No memory is
+/// asked for where an operand is lost, and the first that is names the origin.
+fn is_lost_with(alloc: Global, case: &Case, slot: u16) -> Result<bool, Fail>
+    requires { slot < 3 }
+{
+    let alone = [slot == 0, slot == 1, slot == 2];
+    if slot >= case.reads {
+        let answer = after(alloc, case.op, case.target, alone, Supply::Granted)?;
+        return Ok(answer == (case.makes, 0));
+    }
+    let and_later = [slot == 0, slot <= 1, true];
+    let first = after(alloc, case.op, case.target, alone, Supply::Refused)?;
+    let second = after(alloc, case.op, case.target, and_later, Supply::Refused)?;
+    let lost = (Held::LostAt(10 + slot), 0);
+    Ok(first == lost && second == lost)
+}
+
 #[test]
 fn a_lost_operand_loses_the_result(rt: HostRuntime) -> Result<(), Fail> {
     for case in cases()? {
-        let first = after(
-            rt.alloc(),
-            case.op,
-            case.target,
-            [true, true, true],
-            Supply::Refused,
-        )?;
-        assert_eq!(rt; first, (Held::LostAt(10), 0));
-        let second = after(
-            rt.alloc(),
-            case.op,
-            case.target,
-            [false, true, true],
-            Supply::Granted,
-        )?;
-        let third = after(
-            rt.alloc(),
-            case.op,
-            case.target,
-            [false, false, true],
-            Supply::Granted,
-        )?;
-        if case.reads[1] {
-            assert_eq!(rt; second, (Held::LostAt(11), 0));
-        }
-        if case.reads[2] {
-            assert_eq!(rt; third, (Held::LostAt(12), 0));
-        }
-        if !case.reads[1] {
-            assert!(rt; is_result(second, case.makes));
+        for slot in 0..3 {
+            assert!(rt; is_lost_with(rt.alloc(), &case, slot)?);
         }
     }
     Ok(())
@@ -206,14 +132,9 @@ fn a_lost_operand_loses_the_result(rt: HostRuntime) -> Result<(), Fail> {
 
 #[test]
 fn refused_memory_loses_the_result_at_this_rank(rt: HostRuntime) -> Result<(), Fail> {
+    let none = [false, false, false];
     for case in cases()? {
-        let answer = after(
-            rt.alloc(),
-            case.op,
-            case.target,
-            [false, false, false],
-            Supply::Refused,
-        )?;
+        let answer = after(rt.alloc(), case.op, case.target, none, Supply::Refused)?;
         assert_eq!(rt; answer, (Held::LostAt(0), 1));
     }
     Ok(())

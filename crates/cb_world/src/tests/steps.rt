@@ -1,5 +1,6 @@
 //! Events in any order, with ample memory.
-use super::{Event, Held, Moved, sums, world};
+use super::{Event, Held, Moved, plan_of, send, sums, world, world_of};
+use cb_plan::Act;
 use std::test::Fail;
 
 #[test]
@@ -19,14 +20,23 @@ fn a_rank_waits_for_its_letter(rt: HostRuntime) -> Result<(), Fail> {
     Ok(())
 }
 
+/// Rank 0 sends its block twice, over a lane for one letter. Where it has to wait it asks for no memory.
 #[test]
 fn a_full_lane_holds_up_its_sender(rt: HostRuntime) -> Result<(), Fail> {
-    let mut world = world(rt.alloc())?;
+    let acts = [
+        send(0, 1, 0, 1),
+        send(0, 1, 0, 2),
+        Act::Shut { from: 0, to: 1 },
+        Act::Shut { from: 1, to: 0 },
+    ];
+    let mut world = world_of(rt.alloc(), &plan_of(rt.alloc(), &acts)?)?;
     assert_eq!(rt; world.step(Event::Step(0)), Moved::Posted);
     assert_eq!(rt; world.step(Event::Step(0)), Moved::Waiting);
+    assert_eq!(rt; world.step(Event::Starve(0)), Moved::Waiting);
+    assert_eq!(rt; (world.remaining(), world.refusals()), (7, 0));
     assert_eq!(rt; world.step(Event::Step(1)), Moved::Took);
-    assert_eq!(rt; world.step(Event::Step(1)), Moved::Worked);
-    assert_eq!(rt; world.remaining(), 6);
+    assert_eq!(rt; world.step(Event::Starve(0)), Moved::Posted);
+    assert_eq!(rt; (world.remaining(), world.refusals()), (5, 1));
     Ok(())
 }
 

@@ -3,7 +3,7 @@ use Rattle.cb_rank.proofs.Wanted.{wants_work}
 use Rattle.cb_ranks.proofs.Going.{does_work}
 use Rattle.cb_ranks.proofs.runs.do_half.Goals as goal
 
-pub returns-in-Work : goal.returns-in-Work
-returns-in-Work g c =
+pub returns-in-Work-clause-next : goal.returns-in-Work-clause-next
+returns-in-Work-clause-next g c =
     let next = wants_work _ (sym c.want.ensures.value ∙ c.in-Work.is) in
-    record { next = does_work _ _ _ _ next.0 c.want.ensures.rank c.requires.under_way next.1 c.work.ensures.half }
+    does_work _ _ _ _ next.0 c.want.ensures.rank c.requires.under_way next.1 c.work.ensures.half

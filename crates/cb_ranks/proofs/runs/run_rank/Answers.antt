@@ -10,7 +10,7 @@ loop-desk-init g c = begins _ _ _ c.requires
 pub loop-desk-preserved : goal.loop-desk-preserved
 loop-desk-preserved g c = goes_on _ _ _ _ _ _ _ c.loop-desk.invariant c.in_ok-do_half.ensures.next
 
-pub returns : goal.returns
-returns g c =
+pub returns-clause-runs : goal.returns-clause-runs
+returns-clause-runs g c =
     let nothing : c.want.result ≡ want_is.Done = search rules in
-    record { runs = ends _ _ _ _ _ c.loop-desk.invariant c.want.ensures.rank (wants_nothing _ (sym c.want.ensures.value ∙ nothing)) }
+    ends _ _ _ _ _ c.loop-desk.invariant c.want.ensures.rank (wants_nothing _ (sym c.want.ensures.value ∙ nothing))

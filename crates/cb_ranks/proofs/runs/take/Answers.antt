@@ -13,8 +13,8 @@ unreachable-requires-in-Stranger g c =
     let stranger = c.in_ok-letter.ensures.stranger.0 c.in-Stranger.is in
     cc
 
-pub returns : goal.returns
-returns g c =
+pub returns-clause-next : goal.returns-clause-next
+returns-clause-next g c =
     let x = c.args.rank.now in
     let d = c.args.desk.now in
     let y = c.accept.new.self in
@@ -23,17 +23,15 @@ returns g c =
     let awaited = c.in-Ok.ensures.awaited.0 refl in
     let onto = c.in-Ok.ensures.taken in
     let takes = c.in_ok-letter.ensures.taken in
-    record {
-      next = elim c.match-branch-2.branch [
-        | in-Letter w ↦
-            does_letter _ x y d e from w.in-Letter.letter c.requires.rank c.requires.under_way c.requires.want
-            (subst (λ a. IsAwaited (next_half x) x.me a) w.arrival-is awaited)
-            (subst (λ a. y ≡ onward x (slots_with (next_half x) a x.slots) x.refusals) w.arrival-is onto)
-            (subst (λ t. Takes d from t e) w.in-Letter.is takes)
-        | in-End w ↦
-            does_mark _ x y d e from c.requires.rank c.requires.under_way c.requires.want
-            (subst (λ a. IsAwaited (next_half x) x.me a) w.arrival-is awaited)
-            (subst (λ a. y ≡ onward x (slots_with (next_half x) a x.slots) x.refusals) w.arrival-is onto)
-            (subst (λ t. Takes d from t e) w.in-End.is takes)
-      ];
-    }
+    elim c.match-branch-2.branch [
+      | in-Letter w ↦
+          does_letter _ x y d e from w.in-Letter.letter c.requires.rank c.requires.under_way c.requires.want
+          (subst (λ a. IsAwaited (next_half x) x.me a) w.arrival-is awaited)
+          (subst (λ a. y ≡ onward x (slots_with (next_half x) a x.slots) x.refusals) w.arrival-is onto)
+          (subst (λ t. Takes d from t e) w.in-Letter.is takes)
+      | in-End w ↦
+          does_mark _ x y d e from c.requires.rank c.requires.under_way c.requires.want
+          (subst (λ a. IsAwaited (next_half x) x.me a) w.arrival-is awaited)
+          (subst (λ a. y ≡ onward x (slots_with (next_half x) a x.slots) x.refusals) w.arrival-is onto)
+          (subst (λ t. Takes d from t e) w.in-End.is takes)
+    ]

@@ -1,27 +1,34 @@
 use Rattle.std.proofs.Common.{rules, ◌<◌, ◌^◌}
 use Rattle.std.proofs.lemmas.List.Elements.{length_all_zip}
 use Rattle.cb_ranks.specs.Crews.{Ran}
+use Rattle.cb_ranks.specs.Faults.{IsFaultOf}
 use Rattle.cb_ranks.proofs.Crews.{still_opening}
 use Rattle.cb_ranks.proofs.Ending.{ends_all, ends_counted}
+use Rattle.cb_ranks.proofs.Others.{is_fault_of, err_is}
 use Rattle.cb_ranks.proofs.threads.run_threads.Goals as goal
 
 pub take_from-stores-requires-clause-room : goal.take_from-stores-requires-clause-room
 take_from-stores-requires-clause-room g c =
-    let same = length_all_zip (Ran g.S.Semiring.arithmetic) _ _ c.in_ok-done.ensures in
+    let same = length_all_zip (Ran g.S.Semiring.arithmetic) _ _ c.in_ok-done.ensures.ran in
     let count = c.in_ok-crew.ensures.crew.count in
     (search rules, search rules, search rules)
 
 pub settle-lanes-requires : goal.settle-lanes-requires
 settle-lanes-requires g c =
-    rw c.take_from-stores.ensures.desks (still_opening g.S.Semiring.arithmetic c.args.plan.now c.args.stores.items c.in_ok-crew.crew.items c.in_ok-done.done.items c.in_ok-crew.ensures.crew c.in_ok-done.ensures)
+    rw c.take_from-stores.ensures.desks (still_opening g.S.Semiring.arithmetic c.args.plan.now c.args.stores.items c.in_ok-crew.crew.items c.in_ok-done.done.items c.in_ok-crew.ensures.crew c.in_ok-done.ensures.ran)
 
 pub invariant_of-result : goal.invariant_of-result
 invariant_of-result g c =
     let few : c.args.plan.now.ranks < 2 ^ 16 = search rules in
-    let ends = ends_counted g.S.Semiring.arithmetic c.args.plan.now c.args.stores.items c.in_ok-crew.crew.items c.in_ok-done.done.items c.take_from-stores.result.stores.items c.take_from-stores.result.refusals.items c.take_from-stores.result.desks.items c.settle-lanes.result c.in_ok-crew.ensures.crew c.in_ok-done.ensures c.take_from-stores.ensures.stores c.take_from-stores.ensures.refusals c.take_from-stores.ensures.desks few c.settle-lanes.ensures.ranks in
+    let ends = ends_counted g.S.Semiring.arithmetic c.args.plan.now c.args.stores.items c.in_ok-crew.crew.items c.in_ok-done.done.items c.take_from-stores.result.stores.items c.take_from-stores.result.refusals.items c.take_from-stores.result.desks.items c.settle-lanes.result c.in_ok-crew.ensures.crew c.in_ok-done.ensures.ran c.take_from-stores.ensures.stores c.take_from-stores.ensures.refusals c.take_from-stores.ensures.desks few c.settle-lanes.ensures.ranks in
     record { ranks = (ends.0, ends.1); fits = ends.2 }
 
-pub returns : goal.returns
-returns g c = record {
-  meaning = ends_all g.S.Semiring.arithmetic c.args.plan.now c.args.stores.items c.in_ok-crew.crew.items c.in_ok-done.done.items c.take_from-stores.result.stores.items c.take_from-stores.result.refusals.items c.take_from-stores.result.desks.items c.settle-lanes.result c.in_ok-crew.ensures.crew c.in_ok-done.ensures c.take_from-stores.ensures.stores c.take_from-stores.ensures.refusals c.take_from-stores.ensures.desks c.ranks-ranks.ensures.checked c.requires c.settle-lanes.ensures.posted c.settle-lanes.ensures.taken c.settle-lanes.ensures.settled;
-}
+pub returns-clause-meaning : goal.returns-clause-meaning
+returns-clause-meaning g c =
+    ends_all g.S.Semiring.arithmetic c.args.plan.now c.args.stores.items c.in_ok-crew.crew.items c.in_ok-done.done.items c.take_from-stores.result.stores.items c.take_from-stores.result.refusals.items c.take_from-stores.result.desks.items c.settle-lanes.result c.in_ok-crew.ensures.crew c.in_ok-done.ensures.ran c.take_from-stores.ensures.stores c.take_from-stores.ensures.refusals c.take_from-stores.ensures.desks c.ranks-ranks.ensures.checked c.requires c.settle-lanes.ensures.posted c.settle-lanes.ensures.taken c.settle-lanes.ensures.settled
+
+pub returns-in_err-done-clause-fault : goal.returns-in_err-done-clause-fault
+returns-in_err-done-clause-fault g c =
+    let p = c.args.plan.now in
+    let fault = is_fault_of p c.args.stores.items c.in_ok-crew.crew.items c.in_err-done.field-0.0 c.in_ok-crew.ensures.crew c.in_err-done.ensures.fault in
+    err_is (IsFaultOf p.ranks) c.in_err-done.field-0.0 c.from_residual-in_err-done.result c.from_residual-in_err-done.ensures.1 fault

@@ -1,104 +1,53 @@
 -- A step of a rank through its ends is a step of the world, and no stray comes.
-use Rattle.std.proofs.Common.{◌<◌, length, refl, sym, ◌∙◌, arith}
-use Rattle.std.proofs.lemmas.Bool.Decides.{nat_tests}
+use Rattle.std.proofs.Common.{refl, sym, ◌∙◌}
 use Rattle.std.proofs.Math.ListN.{length-set}
-use Rattle.cb_world.specs.Worlds.{no_rank}
-use Rattle.cb_world.proofs.Asking.{read_at, came_as, falls}
+use Rattle.cb_world.proofs.Asking.{rank_at, came_as, falls}
 use Rattle.cb_world.proofs.OneStep.{step_is, starved_is}
 use Rattle.cb_world.proofs.OwnEnds.{ports_of}
 use Rattle.cb_world.proofs.world.World.advance.Goals as goal
 
 pub step-requires : goal.step-requires
 step-requires g c =
-    let sound = c.self.invariant.0 in
-    let no = c.if-r-len.false in
-    let len = c.len.ensures in
-    let long = c.self.inside.ranks.ok.0 in
-    let size = sound.sizes.0 in
-    let there : c.args.r < length c.self.inside.ranks.items = grind (arith, nat_tests) in
-    let inside : c.args.r < c.self.inside.plan.value.ranks = omega arith in
-    let old = read_at c.self.inside.ranks.items c.args.r c.index_mut.result.now no_rank there c.index_mut.ensures.value in
-    rw (old, c.turn_to.ensures) (ports_of _ _ c.args.r sound inside)
+    let at = rank_at _ _ c.args.r c.index_mut.result.now _ _ c.self.invariant.0 c.if-r-len.false c.len.ensures c.self.inside.ranks.ok.0 c.index_mut.ensures.value in
+    rw (at.read, c.turn_to.ensures) (ports_of _ _ c.args.r c.self.invariant.0 at.inside)
 
 pub unreachable-requires : goal.unreachable-requires
 unreachable-requires g c =
-    let sound = c.self.invariant.0 in
-    let no = c.if-r-len.false in
-    let len = c.len.ensures in
-    let long = c.self.inside.ranks.ok.0 in
-    let size = sound.sizes.0 in
-    let there : c.args.r < length c.self.inside.ranks.items = grind (arith, nat_tests) in
-    let inside : c.args.r < c.self.inside.plan.value.ranks = omega arith in
-    let old = read_at c.self.inside.ranks.items c.args.r c.index_mut.result.now no_rank there c.index_mut.ensures.value in
-    let came = step_is _ _ c.args.r c.index_mut.result.now c.step.new.self c.step.result c.turn_to.new.self c.step.new.ports sound inside old c.turn_to.ensures c.step.ensures.posts c.step.ensures.takes c.step.ensures.works in
+    let at = rank_at _ _ c.args.r c.index_mut.result.now _ _ c.self.invariant.0 c.if-r-len.false c.len.ensures c.self.inside.ranks.ok.0 c.index_mut.ensures.value in
+    let came = step_is _ _ c.args.r c.index_mut.result.now c.step.new.self c.step.result c.turn_to.new.self c.step.new.ports c.self.invariant.0 at.inside at.read c.turn_to.ensures c.step.ensures.posts c.step.ensures.takes c.step.ensures.works in
     let both = sym came.answer_is ∙ c.in-Err.is in
     cc
 
 pub invariant_of-self : goal.invariant_of-self
 invariant_of-self g c =
-    let sound = c.self.invariant.0 in
-    let no = c.if-r-len.false in
-    let len = c.len.ensures in
-    let long = c.self.inside.ranks.ok.0 in
-    let size = sound.sizes.0 in
-    let there : c.args.r < length c.self.inside.ranks.items = grind (arith, nat_tests) in
-    let inside : c.args.r < c.self.inside.plan.value.ranks = omega arith in
-    let old = read_at c.self.inside.ranks.items c.args.r c.index_mut.result.now no_rank there c.index_mut.ensures.value in
-    let came = step_is _ _ c.args.r c.index_mut.result.now c.step.new.self c.step.result c.turn_to.new.self c.step.new.ports sound inside old c.turn_to.ensures c.step.ensures.posts c.step.ensures.takes c.step.ensures.works in
+    let at = rank_at _ _ c.args.r c.index_mut.result.now _ _ c.self.invariant.0 c.if-r-len.false c.len.ensures c.self.inside.ranks.ok.0 c.index_mut.ensures.value in
+    let came = step_is _ _ c.args.r c.index_mut.result.now c.step.new.self c.step.result c.turn_to.new.self c.step.new.ports c.self.invariant.0 at.inside at.read c.turn_to.ensures c.step.ensures.posts c.step.ensures.takes c.step.ensures.works in
     let same = length-set c.self.inside.ranks.items c.args.r c.step.new.self in
     let room = c.self.invariant.2 in
     (came.sound, c.self.invariant.1, rw same room)
 
 pub returns-clause-half : goal.returns-clause-half
 returns-clause-half g c =
-    let sound = c.self.invariant.0 in
-    let no = c.if-r-len.false in
-    let len = c.len.ensures in
-    let long = c.self.inside.ranks.ok.0 in
-    let size = sound.sizes.0 in
-    let there : c.args.r < length c.self.inside.ranks.items = grind (arith, nat_tests) in
-    let inside : c.args.r < c.self.inside.plan.value.ranks = omega arith in
-    let old = read_at c.self.inside.ranks.items c.args.r c.index_mut.result.now no_rank there c.index_mut.ensures.value in
-    let came = step_is _ _ c.args.r c.index_mut.result.now c.step.new.self c.step.result c.turn_to.new.self c.step.new.ports sound inside old c.turn_to.ensures c.step.ensures.posts c.step.ensures.takes c.step.ensures.works in
+    let at = rank_at _ _ c.args.r c.index_mut.result.now _ _ c.self.invariant.0 c.if-r-len.false c.len.ensures c.self.inside.ranks.ok.0 c.index_mut.ensures.value in
+    let came = step_is _ _ c.args.r c.index_mut.result.now c.step.new.self c.step.result c.turn_to.new.self c.step.new.ports c.self.invariant.0 at.inside at.read c.turn_to.ensures c.step.ensures.posts c.step.ensures.takes c.step.ensures.works in
     rw (← c.self.view_is) (came_as _ _ c.args.r c.step.result _ c.in-Ok.moved came c.in-Ok.is)
 
 pub returns-clause-starved : goal.returns-clause-starved
 returns-clause-starved g c =
-    let sound = c.self.invariant.0 in
-    let no = c.if-r-len.false in
-    let len = c.len.ensures in
-    let long = c.self.inside.ranks.ok.0 in
-    let size = sound.sizes.0 in
-    let there : c.args.r < length c.self.inside.ranks.items = grind (arith, nat_tests) in
-    let inside : c.args.r < c.self.inside.plan.value.ranks = omega arith in
-    let old = read_at c.self.inside.ranks.items c.args.r c.index_mut.result.now no_rank there c.index_mut.ensures.value in
-    let came = step_is _ _ c.args.r c.index_mut.result.now c.step.new.self c.step.result c.turn_to.new.self c.step.new.ports sound inside old c.turn_to.ensures c.step.ensures.posts c.step.ensures.takes c.step.ensures.works in
+    let at = rank_at _ _ c.args.r c.index_mut.result.now _ _ c.self.invariant.0 c.if-r-len.false c.len.ensures c.self.inside.ranks.ok.0 c.index_mut.ensures.value in
+    let came = step_is _ _ c.args.r c.index_mut.result.now c.step.new.self c.step.result c.turn_to.new.self c.step.new.ports c.self.invariant.0 at.inside at.read c.turn_to.ensures c.step.ensures.posts c.step.ensures.takes c.step.ensures.works in
     let steps = came_as _ _ c.args.r c.step.result _ c.in-Ok.moved came c.in-Ok.is in
-    rw (← c.self.view_is) (λ refused. starved_is _ _ c.args.r c.index_mut.result.now c.step.new.self c.step.result c.step.new.ports.boxes c.in-Ok.moved sound inside old c.in-Ok.is steps (c.step.ensures.starved refused))
+    rw (← c.self.view_is) (λ refused. starved_is _ _ c.args.r c.index_mut.result.now c.step.new.self c.step.result c.step.new.ports.boxes c.in-Ok.moved c.self.invariant.0 at.inside at.read c.in-Ok.is steps (c.step.ensures.starved refused))
 
 pub returns-clause-falls : goal.returns-clause-falls
 returns-clause-falls g c =
-    let sound = c.self.invariant.0 in
-    let no = c.if-r-len.false in
-    let len = c.len.ensures in
-    let long = c.self.inside.ranks.ok.0 in
-    let size = sound.sizes.0 in
-    let there : c.args.r < length c.self.inside.ranks.items = grind (arith, nat_tests) in
-    let inside : c.args.r < c.self.inside.plan.value.ranks = omega arith in
-    let old = read_at c.self.inside.ranks.items c.args.r c.index_mut.result.now no_rank there c.index_mut.ensures.value in
-    let came = step_is _ _ c.args.r c.index_mut.result.now c.step.new.self c.step.result c.turn_to.new.self c.step.new.ports sound inside old c.turn_to.ensures c.step.ensures.posts c.step.ensures.takes c.step.ensures.works in
+    let at = rank_at _ _ c.args.r c.index_mut.result.now _ _ c.self.invariant.0 c.if-r-len.false c.len.ensures c.self.inside.ranks.ok.0 c.index_mut.ensures.value in
+    let came = step_is _ _ c.args.r c.index_mut.result.now c.step.new.self c.step.result c.turn_to.new.self c.step.new.ports c.self.invariant.0 at.inside at.read c.turn_to.ensures c.step.ensures.posts c.step.ensures.takes c.step.ensures.works in
     let steps = came_as _ _ c.args.r c.step.result _ c.in-Ok.moved came c.in-Ok.is in
-    rw (← c.self.view_is) (falls g.S.Semiring.arithmetic _ _ c.args.r _ c.in-Ok.moved sound refl steps)
+    rw (← c.self.view_is) (falls g.S.Semiring.arithmetic _ _ c.args.r _ c.in-Ok.moved c.self.invariant.0 refl steps)
 
 pub returns-clause-world : goal.returns-clause-world
 returns-clause-world g c =
-    let sound = c.self.invariant.0 in
-    let no = c.if-r-len.false in
-    let len = c.len.ensures in
-    let long = c.self.inside.ranks.ok.0 in
-    let size = sound.sizes.0 in
-    let there : c.args.r < length c.self.inside.ranks.items = grind (arith, nat_tests) in
-    let inside : c.args.r < c.self.inside.plan.value.ranks = omega arith in
-    let old = read_at c.self.inside.ranks.items c.args.r c.index_mut.result.now no_rank there c.index_mut.ensures.value in
-    let came = step_is _ _ c.args.r c.index_mut.result.now c.step.new.self c.step.result c.turn_to.new.self c.step.new.ports sound inside old c.turn_to.ensures c.step.ensures.posts c.step.ensures.takes c.step.ensures.works in
+    let at = rank_at _ _ c.args.r c.index_mut.result.now _ _ c.self.invariant.0 c.if-r-len.false c.len.ensures c.self.inside.ranks.ok.0 c.index_mut.ensures.value in
+    let came = step_is _ _ c.args.r c.index_mut.result.now c.step.new.self c.step.result c.turn_to.new.self c.step.new.ports c.self.invariant.0 at.inside at.read c.turn_to.ensures c.step.ensures.posts c.step.ensures.takes c.step.ensures.works in
     came.sound
