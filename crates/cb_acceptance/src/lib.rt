@@ -13,3 +13,7 @@ mod examples;
 mod grids;
 #[cfg(test)]
 mod losses;
+#[cfg(test)]
+mod meetings;
+#[cfg(test)]
+mod own_threads;
