@@ -1,0 +1,105 @@
+//! Worlds of a product over four ranks, whose ranks step in some order.
+ghost use Rattle.std.specs.Prelude.{◌≡◌, ◌≤◌, IfSome};
+ghost use Rattle.cb_plan.specs.Stores.{Fits};
+
+use crate::examples::{product_blocks, results, two_by_two};
+use cb_plan::{CheckedPlan, RankStore};
+use cb_rank::Moved;
+use cb_semirings::PlusTimes;
+use cb_world::{Event, World};
+use std::alloc::Global;
+use std::test::Fail;
+
+/// The world of a plan and its stores, with lanes for one letter.
+pub(crate) fn world(
+    alloc: Global,
+    plan: &CheckedPlan,
+    stores: Vec<RankStore<PlusTimes>>,
+) -> Option<World<PlusTimes>>
+    requires { Fits plan.now.ranks plan.now.starts stores.items }
+    ensures { IfSome result (λ w. w.plan ≡ plan.now) }
+{
+    World::start(alloc, plan, stores, 1).ok()
+}
+
+/// The world of the product of two matrices of 2 by 2 over four ranks.
+pub(crate) fn product_world(alloc: Global) -> Option<World<PlusTimes>>
+    ensures { IfSome result (λ w. w.plan.ranks ≡ 4) }
+{
+    let (plan, stores) = two_by_two(alloc, 2)?;
+    world(alloc, &plan, stores)
+}
+
+/// The stores that the ranks leave, once all are done.
+pub(crate) fn stores_of(world: World<PlusTimes>) -> Option<Vec<RankStore<PlusTimes>>> {
+    if !world.all_done() {
+        return None;
+    }
+    Some(world.into_stores())
+}
+
+/// Whether each of these events is answered so.
+pub(crate) fn answers(world: &mut World<PlusTimes>, events: &[(Event, Moved)]) -> bool
+    ensures { world.new.plan ≡ world.old.plan }
+{
+    let mut as_said = true;
+    for (event, moved) in events {
+        as_said &= world.step(*event) == *moved;
+    }
+    as_said
+}
+
+/// How many letters were posted and taken on all lanes of so many ranks, close marks among them.
+pub(crate) fn letters(world: &World<PlusTimes>, ranks: u16) -> (u64, u64)
+    requires { ranks ≤ world.now.plan.ranks }
+{
+    let mut posted = 0u64;
+    let mut taken = 0u64;
+    for from in 0..ranks {
+        for to in 0..ranks {
+            if from != to {
+                posted = posted.saturating_add(world.posted(from, to));
+                taken = taken.saturating_add(world.taken(from, to));
+            }
+        }
+    }
+    (posted, taken)
+}
+
+#[test]
+fn a_rank_waits_until_the_others_step(rt: HostRuntime) -> Result<(), Fail> {
+    let mut world = product_world(rt.alloc()).ok_or("a world")?;
+    assert_eq!(rt; world.remaining(), 60);
+    assert!(rt; answers(&mut world, &[(Event::Step(3), Moved::Worked)]));
+    assert!(rt; answers(&mut world, &[(Event::Step(3), Moved::Waiting); 99]));
+    world.finish();
+    assert_eq!(rt; (world.remaining(), world.refusals()), (0, 0));
+    assert_eq!(rt; (world.posted(1, 3), world.posted(0, 3)), (2, 1));
+    assert_eq!(rt; letters(&world, 4), (20, 20));
+    assert_eq!(rt;
+        results(&stores_of(world).ok_or("some rank is not done")?),
+        product_blocks()
+    );
+    Ok(())
+}
+
+#[test]
+fn ranks_step_in_rounds(rt: HostRuntime) -> Result<(), Fail> {
+    let mut world = product_world(rt.alloc()).ok_or("a world")?;
+    for _ in 0..60 {
+        world.run(&[
+            Event::Step(0),
+            Event::Step(1),
+            Event::Step(2),
+            Event::Step(3),
+        ]);
+        if world.all_done() {
+            break;
+        }
+    }
+    assert_eq!(rt;
+        results(&stores_of(world).ok_or("some rank is not done")?),
+        product_blocks()
+    );
+    Ok(())
+}

@@ -1,0 +1,242 @@
+//! What the tests work on: matrices, plans over a grid with stores that fit them, and what ranks leave.
+ghost use Rattle.std.specs.Prelude.{◌≡◌, ◌<◌, ◌*◌, IfSome};
+ghost use Rattle.cb_plan.specs.Runnable.{IsRunnable};
+ghost use Rattle.cb_plan.specs.Stores.{Fits};
+
+use cb_dcsc::Block;
+use cb_layout::Grid;
+use cb_matrix::{Entry, Matrix};
+use cb_plan::{CheckedPlan, Planned, RankStore, SLOTS, Slot};
+use cb_samples::{are_values, entry, shape};
+use cb_semirings::PlusTimes;
+use cb_summa::{LEFT, RESULT, RIGHT, summa};
+use std::alloc::Global;
+
+/// The grid of a side.
+pub(crate) fn grid(side: u32) -> Option<Grid>
+    ensures { IfSome result (λ grid. grid.side ≡ side) }
+{
+    Grid::new(side).ok()
+}
+
+/// The matrix of so many rows and columns with these entries.
+pub(crate) fn matrix(
+    alloc: Global,
+    rows: u32,
+    cols: u32,
+    entries: &[Entry],
+) -> Option<Matrix<PlusTimes>> {
+    if !are_values::<PlusTimes>(entries) {
+        return None;
+    }
+    Matrix::from_entries(alloc, shape(rows, cols).ok()?, entries).ok()
+}
+
+/// The first of two matrices of 2 by 2.
+pub(crate) fn left(alloc: Global) -> Option<Matrix<PlusTimes>> {
+    matrix(
+        alloc,
+        2,
+        2,
+        &[entry(0, 0, 1), entry(0, 1, 2), entry(1, 1, 3)],
+    )
+}
+
+/// The second.
+pub(crate) fn right(alloc: Global) -> Option<Matrix<PlusTimes>> {
+    matrix(alloc, 2, 2, &[entry(1, 0, 4), entry(0, 1, 1)])
+}
+
+/// Their product.
+pub(crate) fn product(alloc: Global) -> Option<Matrix<PlusTimes>> {
+    matrix(
+        alloc,
+        2,
+        2,
+        &[entry(0, 0, 8), entry(1, 0, 12), entry(0, 1, 1)],
+    )
+}
+
+/// Puts one block into a slot of each rank.
+pub(crate) fn fill(stores: &mut [RankStore<PlusTimes>], slot: u16, blocks: Vec<Block<PlusTimes>>)
+    requires { slot < SLOTS }
+{
+    for (store, block) in stores.iter_mut().zip(blocks) {
+        store.put(slot, block);
+    }
+}
+
+/// A store for each rank, with the blocks of each matrix in its slot, and nothing else.
+pub(crate) fn laid_out(
+    alloc: Global,
+    grid: &Grid,
+    operands: &[(u16, &Matrix<PlusTimes>)],
+) -> Option<Vec<RankStore<PlusTimes>>> {
+    let mut stores = Vec::new(alloc);
+    for _ in 0..grid.ranks() {
+        stores.push(RankStore::new(alloc).ok()?).ok()?;
+    }
+    for (slot, matrix) in operands {
+        if *slot >= SLOTS {
+            return None;
+        }
+        fill(&mut stores, *slot, grid.scatter(alloc, matrix).ok()?);
+    }
+    Some(stores)
+}
+
+/// A plan, and the store that each of its ranks begins with.
+pub(crate) type Example = (CheckedPlan, Vec<RankStore<PlusTimes>>);
+
+/// A plan that runs, with stores, where they fit it.
+pub(crate) fn fitted(planned: Planned, stores: Vec<RankStore<PlusTimes>>) -> Option<Example>
+    requires { IsRunnable planned }
+    ensures fits { IfSome result (λ p. Fits p.0.ranks p.0.starts p.1.items) }
+    ensures ranks { IfSome result (λ p. p.0.ranks ≡ planned.plan.ranks) }
+{
+    let (plan, slot) = planned.into_checked();
+    if slot != RESULT || !plan.fits(&stores) {
+        return None;
+    }
+    Some((plan, stores))
+}
+
+/// The plan of a product over a grid, with the factors in their slots.
+pub(crate) fn product_of(
+    alloc: Global,
+    grid: &Grid,
+    left: &Matrix<PlusTimes>,
+    right: &Matrix<PlusTimes>,
+) -> Option<Example>
+    ensures fits { IfSome result (λ p. Fits p.0.ranks p.0.starts p.1.items) }
+    ensures ranks { IfSome result (λ p. p.0.ranks ≡ grid.now.side * grid.now.side) }
+{
+    let stores = laid_out(alloc, grid, &[(LEFT, left), (RIGHT, right)])?;
+    if left.cols() != right.rows() {
+        return None;
+    }
+    fitted(
+        summa(alloc, grid, left.shape(), right.shape()).ok()?,
+        stores,
+    )
+}
+
+/// The plan of the product of two matrices of 2 by 2 over the grid of a side.
+pub(crate) fn two_by_two(alloc: Global, side: u32) -> Option<Example>
+    ensures fits { IfSome result (λ p. Fits p.0.ranks p.0.starts p.1.items) }
+    ensures ranks { IfSome result (λ p. p.0.ranks ≡ side * side) }
+{
+    product_of(alloc, &grid(side)?, &left(alloc)?, &right(alloc)?)
+}
+
+/// What a rank leaves of the result.
+#[derive(Clone, Copy, Debug, PartialEq, Eq, Drop)]
+pub(crate) enum Held {
+    /// Nothing, or more than one entry.
+    Other,
+    /// A block without entries.
+    NoEntry,
+    /// A block with one entry.
+    One(Entry),
+    /// It is lost, at this rank.
+    LostAt(u16),
+}
+
+/// A block that has this value in its first place, and no other entry.
+pub(crate) const fn one(value: u64) -> Held {
+    Held::One(Entry {
+        row: 0,
+        column: 0,
+        value,
+    })
+}
+
+/// The blocks of the product of the two matrices of 2 by 2, over the grid of side 2.
+pub(crate) const fn product_blocks() -> [Held; 4] {
+    [one(8), one(1), one(12), Held::NoEntry]
+}
+
+/// What a rank leaves of the result.
+pub(crate) fn result_of(stores: &[RankStore<PlusTimes>], rank: usize) -> Held {
+    let Some(store) = stores.get(rank) else {
+        return Held::Other;
+    };
+    match store.slot(RESULT) {
+        Slot::Empty => Held::Other,
+        Slot::Sheet(block) => match block.len() {
+            0 => Held::NoEntry,
+            1 => Held::One(block.entry_at(0)),
+            _ => Held::Other,
+        },
+        Slot::Lost(origin) => Held::LostAt(*origin),
+    }
+}
+
+/// What four ranks leave of the result.
+pub(crate) fn results(stores: &[RankStore<PlusTimes>]) -> [Held; 4] {
+    [
+        result_of(stores, 0),
+        result_of(stores, 1),
+        result_of(stores, 2),
+        result_of(stores, 3),
+    ]
+}
+
+/// Whether two blocks are the same.
+fn are_same(found: &Block<PlusTimes>, wanted: &Block<PlusTimes>) -> bool {
+    if found.shape() != wanted.shape() || found.len() != wanted.len() {
+        return false;
+    }
+    for n in 0..found.len() {
+        if found.entry_at(n) != wanted.entry_at(n) {
+            return false;
+        }
+    }
+    true
+}
+
+/// Whether two slots hold the same, and neither is lost.
+fn hold_same(found: &Slot<Block<PlusTimes>>, wanted: &Slot<Block<PlusTimes>>) -> bool {
+    match (found, wanted) {
+        (Slot::Empty, Slot::Empty) => true,
+        (Slot::Sheet(found), Slot::Sheet(wanted)) => are_same(found, wanted),
+        _ => false,
+    }
+}
+
+/// Whether each slot of some stores that isn't lost holds what the other stores hold there, and how many are lost.
+pub(crate) fn kept(found: &[RankStore<PlusTimes>], wanted: &[RankStore<PlusTimes>]) -> (bool, u32) {
+    let mut lost = 0u32;
+    for (found, wanted) in found.iter().zip(wanted.iter()) {
+        for n in 0..SLOTS {
+            if matches!(found.slot(n), Slot::Lost(_)) {
+                lost = lost.saturating_add(1);
+            } else if !hold_same(found.slot(n), wanted.slot(n)) {
+                return (false, lost);
+            }
+        }
+    }
+    (found.len() == wanted.len(), lost)
+}
+
+/// Whether the ranks of a grid leave the blocks of a matrix.
+pub(crate) fn leave(
+    alloc: Global,
+    grid: &Grid,
+    stores: &[RankStore<PlusTimes>],
+    wanted: &Matrix<PlusTimes>,
+) -> Option<bool> {
+    let blocks = grid.scatter(alloc, wanted).ok()?;
+    if blocks.len() != stores.len() {
+        return Some(false);
+    }
+    for (store, block) in stores.iter().zip(blocks.iter()) {
+        let Slot::Sheet(found) = store.slot(RESULT) else {
+            return Some(false);
+        };
+        if !are_same(found, block) {
+            return Some(false);
+        }
+    }
+    Some(true)
+}
