@@ -7,7 +7,7 @@ use Rattle.cb_layout.specs.Distributed.{Distributed}
 use Rattle.cb_market.specs.Reads.{Reads}
 use Rattle.cb_cli.specs.Files.{text_at}
 use Rattle.cb_market.specs.Text.{text_of}
-use Rattle.cb_cli.specs.Jobs.{file_count_of}
+use Rattle.cb_cli.specs.Jobs.{operand_count_of}
 use Rattle.cb_cli.specs.Answers.{matrix_at, IsMatrixText, AreMatrices, Agree, answer_of, IsAnswerOver, IsLateFault, IsFaultOver}
 use Rattle.cb_cli.specs.declared.jobs.Operation.{Operation}
 use Rattle.cb_cli.specs.declared.jobs.Operation.TheVariants as op_is
@@ -65,7 +65,7 @@ module _ (s : Arithmetic) (texts : List (List ℕ)) where
     refused (Err f) h = met_late f h
 
 -- an operation that doesn't read one or two files reads three
-pub three_left : (operation : Operation) (n : ℕ) → n ≡ file_count_of operation → n ≢ 1 → n ≢ 2 → n ≡ 3
+pub three_left : (operation : Operation) (n : ℕ) → n ≡ operand_count_of operation → n ≢ 1 → n ≢ 2 → n ≡ 3
 three_left op_is.Multiply n e a b = absurd (b e)
 three_left op_is.MultiplyMasked n e a b = e
 three_left op_is.MultiplyVector n e a b = absurd (b e)
