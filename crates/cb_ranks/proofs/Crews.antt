@@ -18,6 +18,7 @@ use Rattle.cb_plan.specs.declared.acts.Act.{Act}
 use Rattle.cb_plan.specs.declared.acts.Act.TheVariants as act_is
 use Rattle.cb_plan.specs.declared.stores.Slot.{Slot}
 use Rattle.cb_plan.specs.declared.stores.Slot.TheVariants as slot_is
+use Rattle.cb_plan.specs.declared.stores.TheConstants.{SLOTS}
 use Rattle.cb_plan.specs.Algebras.{matrices, shapes}
 use Rattle.cb_plan.specs.Checks.{IsSound, Passes, Lanes, shut_after, none_shut, started}
 use Rattle.cb_plan.specs.Letters.{Cargo, count_of, letters}
@@ -25,7 +26,7 @@ use Rattle.cb_plan.specs.Meaning.{Algebra, State, act, meaning}
 use Rattle.cb_plan.specs.Plans.{CheckedView, IsChecked}
 use Rattle.cb_plan.specs.Programs.{project}
 use Rattle.cb_plan.specs.Stores.{state_of, sheet_of, is_lost, Fits}
-use Rattle.cb_plan.specs.Tables.{cell}
+use Rattle.cb_plan.specs.Tables.{cell, IsTable}
 use Rattle.cb_plan.proofs.Effects.{same_state}
 use Rattle.cb_plan.proofs.Passing.{checked_passes}
 use Rattle.cb_plan.proofs.Running.{first_below}
@@ -168,6 +169,15 @@ run_of s p first crew done r is ran l =
     subst (λ z. RunsTo s r (project p.starts p.acts r) (fresh (get_or first r [])) z) (sym (course_at done r it.new it.new_is))
     (subst (λ z. RunsTo s r (project p.starts p.acts r) z (course_of it.new.0 it.new.1)) (new_course p r (get_or first r []) it.old.1 new) did)
 
+-- each left a store of 256 slots
+tables_of : (s : Arithmetic) (p : CheckedView) (first : List (List (Slot Sparse))) (crew done : List Member) → IsCrew p first crew → AllZip (Ran s) crew done → IsTable p.ranks SLOTS (stores_of done)
+tables_of s p first crew done is ran = record {
+  rows = length-map done (λ (m : Member). m.0.slots) ∙ sym (length_all_zip (Ran s) crew done ran) ∙ is.count;
+  cols = λ r l.
+      let it = place s crew done r ran (let size = is.count in omega arith) in
+      ap length (get_or_of (λ (x : Member). x.0.slots) done r it.new [] it.new_is) ∙ it.ran.rank.size;
+}
+
 abbrev pub finished_by : List Member → FinishedView
 finished_by done = record { stores = stores_of done; refusals = counts_of done; posted = posted_in (desks_of done); taken = taken_in (desks_of done) }
 
@@ -191,7 +201,8 @@ finishes_all s p first crew done checked fits is ran settled =
     rw none (outside (matrices s) p.ranks p.acts (state_of first) (started p.starts) none_shut r n (checked_passes p.ranks 0 (started p.starts) none_shut p.acts checked.no_fault) l ∙ rw blank refl))
     (cases_lt r p.ranks) in
     record {
-      ranks = (length-map done (λ (m : Member). m.0.slots) ∙ size, length-map done (λ (m : Member). m.0.refusals) ∙ size);
+      table = tables_of s p first crew done is ran;
+      counts = length-map done (λ (m : Member). m.0.refusals) ∙ size;
       slots = slots;
       lanes = λ f t g h ne. let l = end.lanes f t g h ne in record {
         posted = l.0;

@@ -1,6 +1,6 @@
 -- The blocks of one slot are moved out, rank after rank.
-use Rattle.std.proofs.Common.{◌≡◌, ◌≢◌, ℕ, ◌+◌, ◌-◌, ◌<◌, ◌≤◌, false, List, [], ◌∷◌, ◌++◌, length, length-append, get_or, refl, sym, ap, ⊎_elim, ◌∙◌, arith}
-use Rattle.std.specs.Prelude.{slice_set, Some, IsSome, ◌==◌}
+use Rattle.std.proofs.Common.{◌≡◌, ◌≢◌, ℕ, ◌+◌, ◌-◌, ◌<◌, ◌≤◌, true, false, List, [], ◌∷◌, ◌++◌, length, length-append, get_or, refl, sym, ap, subst, ⊎_elim, ◌∙◌, arith}
+use Rattle.std.specs.Prelude.{slice_set, Some, ◌==◌}
 use Rattle.std.proofs.lemmas.Bool.Decides.{nat_tests}
 use Rattle.std.proofs.lemmas.Bool.{cases_lt}
 use Rattle.std.proofs.lemmas.List.{length-set, get_or-set_other, get_or_append_left, get_or-append_right}
@@ -9,11 +9,12 @@ use Rattle.cb_matrix.specs.Values.{empty_matrix}
 use Rattle.cb_layout.specs.Blocks.{block_at}
 use Rattle.cb_plan.specs.declared.stores.Slot.{Slot}
 use Rattle.cb_plan.specs.declared.stores.Slot.TheVariants as slot_is
-use Rattle.cb_plan.specs.Stores.{state_of, sheet_of}
-use Rattle.cb_plan.specs.Tables.{IsTable, cell_set}
+use Rattle.cb_plan.specs.Stores.{state_of, sheet_of, is_filled}
+use Rattle.cb_plan.specs.Tables.{IsTable, cell, cell_set}
 use Rattle.cb_plan.proofs.Cells.{set_is_table, cell_after_set}
 use Rattle.cb_plan.proofs.Effects.{split}
 use Rattle.cb_plan.proofs.Running.{read_at}
+use Rattle.cb_scripts.specs.Losses.{AreFilled, IsFirstLoss}
 
 -- the blocks of slot n of the first r ranks are out, and the other ranks and slots are as they were
 pub record DrainedSoFar (n r : ℕ) (first now : List (List (Slot Sparse))) (out : List Sparse) : Type 0 where
@@ -21,7 +22,7 @@ pub record DrainedSoFar (n r : ℕ) (first now : List (List (Slot Sparse))) (out
   pub count : length out ≡ r
   pub later : (k : ℕ) → r ≤ k → get_or now k [] ≡ get_or first k []
   pub table : IsTable (length first) 256 now
-  pub others : (k m : ℕ) → n ≢ m → state_of now k m ≡ state_of first k m
+  pub others : (k m : ℕ) → n ≢ m → cell slot_is.Empty now k m ≡ cell slot_is.Empty first k m
   pub blocks : (k : ℕ) → k < r → state_of first k n ≡ Some (block_at out k)
 
 pub draining_none : (n : ℕ) (first : List (List (Slot Sparse))) → IsTable (length first) 256 first → DrainedSoFar n 0 first first []
@@ -29,9 +30,9 @@ draining_none n first table = record { ranks = refl; count = refl; later = λ k 
 
 -- what is taken is what stood there at first
 pub taken : (n r : ℕ) (first now : List (List (Slot Sparse))) (out : List Sparse) (row : List (Slot Sparse)) (x : Slot Sparse) → DrainedSoFar n r first now out → r < length now → row ≡ get_or now r row → x ≡ get_or row n slot_is.Empty →
-    state_of first r n ≡ sheet_of x
+    cell slot_is.Empty first r n ≡ x
 taken n r first now out row x h l at_row is =
-    sym (ap sheet_of (is ∙ ap (λ s. get_or s n slot_is.Empty) (read_at now r row [] l at_row ∙ h.later r (omega arith))))
+    sym (is ∙ ap (λ s. get_or s n slot_is.Empty) (read_at now r row [] l at_row ∙ h.later r (omega arith)))
 
 pub draining_next : (n r : ℕ) (first now : List (List (Slot Sparse))) (out : List Sparse) (row new : List (Slot Sparse)) (x : Slot Sparse) (b : Sparse) → n < 256 → DrainedSoFar n r first now out → r < length now → row ≡ get_or now r row → x ≡ get_or row n slot_is.Empty → new ≡ slice_set row n slot_is.Empty → x ≡ slot_is.Sheet b →
     DrainedSoFar n (r + 1) first (slice_set now r new) (out ++ b ∷ [])
@@ -45,8 +46,9 @@ draining_next n r first now out row new x b small h l at_row is is_new sheet =
       table = rw is_set (set_is_table (length first) 256 now r n empty h.table below);
       others = λ k m ne.
           let off : (n == m) ≡ false = grind (arith, nat_tests) in
-          ap (λ t. state_of t k m) is_set
-          ∙ ap sheet_of (cell_after_set slot_is.Empty (length first) 256 now r n empty h.table below small k m ∙ split (r == k) (λ t. rw (t, off) refl) (λ t. rw t refl))
+          ap (λ t. cell slot_is.Empty t k m) is_set
+          ∙ cell_after_set slot_is.Empty (length first) 256 now r n empty h.table below small k m
+          ∙ split (r == k) (λ t. rw (t, off) refl) (λ t. rw t refl)
           ∙ h.others k m ne;
       ranks = length-set now r new ∙ h.ranks;
       count = length-append out (b ∷ []) ∙ ap (λ k. k + 1) h.count;
@@ -56,13 +58,22 @@ draining_next n r first now out row new x b small h l at_row is is_new sheet =
           (λ (u : r ≤ k).
           let e : r ≡ k = omega arith in
           let first_of_rest : k - length out ≡ 0 = omega arith in
-          ap (λ i. state_of first i n) (sym e) ∙ taken n r first now out row x h l at_row is ∙ ap sheet_of sheet
+          ap (λ i. state_of first i n) (sym e) ∙ ap sheet_of (taken n r first now out row x h l at_row is ∙ sheet)
           ∙ ap Some (sym (get_or-append_right out (b ∷ []) (length out) k none refl (omega arith) ∙ ap (λ i. get_or (b ∷ []) i none) first_of_rest)))
           (cases_lt k r);
     }
 
--- nothing is lost, and no slot is empty
-pub not_a_sheet : (x : Slot Sparse) → ((b : Sparse) → x ≡ slot_is.Sheet b → ⊥) → IsSome (sheet_of x) → ⊥
-not_a_sheet slot_is.Empty h some = cc
-not_a_sheet (slot_is.Sheet b) h some = h b refl
-not_a_sheet (slot_is.Lost origin) h some = cc
+-- no slot is found empty
+pub never_empty : (n r : ℕ) (first : List (List (Slot Sparse))) (x : Slot Sparse) → AreFilled n first → r < length first → cell slot_is.Empty first r n ≡ x → x ≡ slot_is.Empty → ⊥
+never_empty n r first x filled l is empty =
+    let there : false ≡ true = subst (λ (y : Slot Sparse). is_filled y ≡ true) (is ∙ empty) (filled r l) in
+    cc
+
+-- the first slot that is found lost is the first that is
+pub first_loss : (n r origin : ℕ) (first now : List (List (Slot Sparse))) (out : List Sparse) (x : Slot Sparse) → DrainedSoFar n r first now out → r < length first → cell slot_is.Empty first r n ≡ x → x ≡ slot_is.Lost origin → IsFirstLoss n first origin
+first_loss n r origin first now out x h l is lost = record {
+  rank = r;
+  inside = l;
+  lost = is ∙ lost;
+  least = λ k m. rw (h.blocks k m) refl;
+}

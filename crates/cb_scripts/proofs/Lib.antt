@@ -1,7 +1,7 @@
 -- FilledSlots: a slot of every rank is filled, rank after rank. DrainedSlots: it is emptied, rank after rank.
 -- GatheredParts: the matrix whose parts stand in one slot. Holdings: matrices in slots of the ranks, and the starts
 -- that they fit. Making: what a plan makes of them, gathered. ProductPlans, KernelPlans: what each plan makes.
--- EmptyFactors: a product with a matrix that has no entries.
+-- EmptyFactors: a product with a matrix that has no entries. Refused: why there is no answer.
 pub mod FilledSlots
 pub mod DrainedSlots
 pub mod GatheredParts
@@ -10,6 +10,7 @@ pub mod Making
 pub mod ProductPlans
 pub mod KernelPlans
 pub mod EmptyFactors
+pub mod Refused
 -- Walks. WalkCosts: how they begin, grow and end, and what they cost. ShortWalks: for each walk a short one that
 -- costs no more. Nearing: numbers that near the least costs, round by round. TurnedProducts: a round is the product
 -- of the turned matrix. NearestRounds: the loop over rounds. UnitWeights: levels are distances where each entry

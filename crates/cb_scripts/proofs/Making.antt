@@ -50,3 +50,9 @@ pub whichever_made : {E : Type 0} (s : Arithmetic) → IsSemiring s → (q : ℕ
     IfOk r (λ m. m ≡ over_grid q (gathered s q shape planned.result (meaning (matrices s) planned.plan.acts (state_of stores)))) → IfOk r (λ m. (answer : Sparse) → Makes s q operands planned shape answer → m ≡ over_grid q answer)
 whichever_made s laws q operands planned shape stores has (Ok m) h = λ answer makes. h ∙ ap (over_grid q) (made_answer s q operands planned shape answer makes stores has laws)
 whichever_made s laws q operands planned shape stores has (Err e) h = h
+
+-- and what is whichever answer it makes is this one
+pub this_made : {E : Type 0} {s : Arithmetic} {q : ℕ} {operands : List (ℕ × Sparse)} {planned : Planned} {shape : Extent} (r : Result Distributed E) →
+    IfOk r (λ m. (answer : Sparse) → Makes s q operands planned shape answer → m ≡ over_grid q answer) → (answer : Sparse) → Makes s q operands planned shape answer → IfOk r (λ m. m ≡ over_grid q answer)
+this_made (Ok m) h answer makes = h answer makes
+this_made (Err e) h answer makes = h

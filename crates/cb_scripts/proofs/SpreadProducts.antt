@@ -1,6 +1,6 @@
 -- A matrix over a grid times a vector that is spread over its ranks: the slots before the plan, and after it.
-use Rattle.std.proofs.Common.{◌≡◌, ◌≢◌, ℕ, ◌+◌, ◌-◌, ◌*◌, ◌/◌, ◌%◌, ◌<◌, ◌≤◌, false, List, [], length, replicate, get_or, refl, sym, ap, subst, ⊎_elim, ◌∙◌, arith}
-use Rattle.std.specs.Prelude.{Some, None, IsSome, ◌==◌, if◌then◌else◌}
+use Rattle.std.proofs.Common.{◌≡◌, ◌≢◌, ℕ, ◌+◌, ◌-◌, ◌*◌, ◌/◌, ◌%◌, ◌<◌, ◌≤◌, true, false, List, [], length, replicate, get_or, refl, sym, ap, subst, ⊎_elim, ◌∙◌, arith}
+use Rattle.std.specs.Prelude.{Some, None, ◌==◌, if◌then◌else◌}
 use Rattle.std.proofs.lemmas.Bool.{cases_lt}
 use Rattle.std.proofs.lemmas.Nat.{mod_below}
 use Rattle.std.proofs.lemmas.List.{get_or_past}
@@ -20,7 +20,7 @@ use Rattle.cb_plan.specs.declared.stores.Slot.TheVariants as slot_is
 use Rattle.cb_plan.specs.Algebras.{matrices}
 use Rattle.cb_plan.specs.Checks.{started}
 use Rattle.cb_plan.specs.Meaning.{meaning, one}
-use Rattle.cb_plan.specs.Stores.{state_of, sheet_of, is_lost, shapes_of, Fits}
+use Rattle.cb_plan.specs.Stores.{state_of, sheet_of, is_lost, is_filled, shapes_of, Fits}
 use Rattle.cb_plan.specs.Tables.{cell}
 use Rattle.cb_plan.proofs.Cells.{blank_cell}
 use Rattle.cb_plan.proofs.Effects.{split, same_state}
@@ -28,7 +28,9 @@ use Rattle.cb_distribution.proofs.Grid.{at_place}
 use Rattle.cb_kernels.specs.VectorPlans.{column, vector_starts, IsVectorPlan, LeavesResult}
 use Rattle.cb_kernels.proofs.VectorStarts.{vector_starts_there, vector_starts_elsewhere}
 use Rattle.cb_scripts.specs.Slots.{Filled}
+use Rattle.cb_scripts.specs.Losses.{IsLostOr, LostOrMeans, AreFilled}
 use Rattle.cb_scripts.specs.SpreadVectors.{HasSpread}
+use Rattle.cb_scripts.proofs.GatheredParts.{lost_or_filled, block_meant}
 use Rattle.cb_scripts.proofs.ProductPlans.{product_is_matrix}
 
 -- a slot of each rank is filled twice
@@ -89,20 +91,24 @@ module _ (s : Arithmetic) (q : ℕ) (a x : Sparse) (stores : List (List (Slot Sp
   }
 
   module _ (laws : IsSemiring s) (is_a : IsMatrix s a) (is_x : IsMatrix s x) (vector : x.shape ≡ column a.shape.cols) (acts : List Act) (plan : IsVectorPlan acts q a.shape)
-      (after : List (List (Slot Sparse))) (ranks : length after ≡ q * q) (ran : state_of after ≡ meaning (matrices s) acts (state_of stores)) where
+      (after : List (List (Slot Sparse))) (ranks : length after ≡ q * q) (ran : LostOrMeans (meaning (matrices s) acts (state_of stores)) after) where
     leaves : LeavesResult s q acts (state_of stores) (product s a x)
     leaves = plan s laws a x is_a is_x refl vector (state_of stores) (λ i j l m. ap sheet_of (has.cells i j 0 l m)) (λ t j l m. ap sheet_of (has.cells t j 1 l m))
 
-    left_there : (i j : ℕ) → i < q → j < q → state_of after (i * q + j) 0 ≡ Some (block_of s q a i j)
-    left_there i j l m = ap (λ st. st (i * q + j) 0) ran ∙ leaves.kept (i * q + j) ∙ ap sheet_of (has.cells i j 0 l m)
+    left_meant : (i j : ℕ) → i < q → j < q → meaning (matrices s) acts (state_of stores) (i * q + j) 0 ≡ Some (block_of s q a i j)
+    left_meant i j l m = leaves.kept (i * q + j) ∙ ap sheet_of (has.cells i j 0 l m)
 
-    pub left_sheets : (r : ℕ) → r < length after → IsSome (state_of after r 0)
-    left_sheets r l = each_rank (λ r. IsSome (state_of after r 0)) (λ i j m n. rw (left_there i j m n) refl) r (omega arith)
+    pub left_filled : AreFilled 0 after
+    left_filled r l = each_rank (λ r. is_filled (cell slot_is.Empty after r 0) ≡ true)
+        (λ i j m n. lost_or_filled (meaning (matrices s) acts (state_of stores) (i * q + j) 0) (cell slot_is.Empty after (i * q + j) 0) (ran (i * q + j) 0) (rw (left_meant i j m n) refl)) r (omega arith)
 
     -- the parts of the matrix come out again
     module _ (blocks : List Sparse) (out : (r : ℕ) → r < length after → state_of after r 0 ≡ Some (block_at blocks r)) where
       same_blocks : (i j : ℕ) → i < q → j < q → block_at blocks (i * q + j) ≡ block_of s q a i j
-      same_blocks i j l m = let b = rank_below q i j l m in same_Some _ _ (sym (out (i * q + j) (omega arith)) ∙ left_there i j l m)
+      same_blocks i j l m =
+          let r = i * q + j in
+          let inside = rank_below q i j l m in
+          same_Some _ _ (sym (block_meant (meaning (matrices s) acts (state_of stores) r 0) (cell slot_is.Empty after r 0) (block_at blocks r) (ran r 0) (out r (omega arith))) ∙ left_meant i j l m)
 
       pub blocks_shaped : (i j : ℕ) → i < q → j < q → (block_at blocks (i * q + j)).shape ≡ part_shape q a.shape i j
       blocks_shaped i j l m = ap (λ b. b.shape) (same_blocks i j l m)
@@ -111,16 +117,23 @@ module _ (s : Arithmetic) (q : ℕ) (a x : Sparse) (stores : List (List (Slot Sp
       blocks_glued = glued_cut s laws q has.some a is_a (λ i j. block_at blocks (i * q + j)) same_blocks
 
     -- and so do the pieces of the product
-    module _ (later : List (List (Slot Sparse))) (others : (r n : ℕ) → 0 ≢ n → state_of later r n ≡ state_of after r n) where
-      result_there : (i t : ℕ) → i < q → t < q → state_of later (i * q + t) 2 ≡ Some (piece_of s q (product s a x) i t)
-      result_there i t l m = others (i * q + t) 2 (let ne : 0 ≢ 2 = omega arith in ne) ∙ ap (λ st. st (i * q + t) 2) ran ∙ leaves.pieces i t l m
+    module _ (later : List (List (Slot Sparse))) (others : (r n : ℕ) → 0 ≢ n → cell slot_is.Empty later r n ≡ cell slot_is.Empty after r n) where
+      result_meant : (i t : ℕ) → i < q → t < q → meaning (matrices s) acts (state_of stores) (i * q + t) 2 ≡ Some (piece_of s q (product s a x) i t)
+      result_meant i t l m = leaves.pieces i t l m
 
-      pub result_sheets : length later ≡ q * q → (r : ℕ) → r < length later → IsSome (state_of later r 2)
-      result_sheets e r l = each_rank (λ r. IsSome (state_of later r 2)) (λ i j m n. rw (result_there i j m n) refl) r (omega arith)
+      result_left : (r : ℕ) → IsLostOr (meaning (matrices s) acts (state_of stores) r 2) (cell slot_is.Empty later r 2)
+      result_left r = subst (λ (y : Slot Sparse). IsLostOr (meaning (matrices s) acts (state_of stores) r 2) y) (sym (others r 2 (let ne : 0 ≢ 2 = omega arith in ne))) (ran r 2)
+
+      pub result_filled : length later ≡ q * q → AreFilled 2 later
+      result_filled e r l = each_rank (λ r. is_filled (cell slot_is.Empty later r 2) ≡ true)
+          (λ i t m n. lost_or_filled (meaning (matrices s) acts (state_of stores) (i * q + t) 2) (cell slot_is.Empty later (i * q + t) 2) (result_left (i * q + t)) (rw (result_meant i t m n) refl)) r (omega arith)
 
       module _ (pieces : List Sparse) (count : length later ≡ q * q) (out : (r : ℕ) → r < length later → state_of later r 2 ≡ Some (block_at pieces r)) where
         same_pieces : (i t : ℕ) → i < q → t < q → block_at pieces (i * q + t) ≡ piece_of s q (product s a x) i t
-        same_pieces i t l m = let b = rank_below q i t l m in same_Some _ _ (sym (out (i * q + t) (omega arith)) ∙ result_there i t l m)
+        same_pieces i t l m =
+            let r = i * q + t in
+            let inside = rank_below q i t l m in
+            same_Some _ _ (sym (block_meant (meaning (matrices s) acts (state_of stores) r 2) (cell slot_is.Empty later r 2) (block_at pieces r) (result_left r) (out r (omega arith))) ∙ result_meant i t l m)
 
         pub pieces_shaped : (i t : ℕ) → i < q → t < q → (block_at pieces (i * q + t)).shape ≡ piece_shape q (product s a x).shape i t
         pieces_shaped i t l m = ap (λ b. b.shape) (same_pieces i t l m) ∙ piece_has_shape s q (product s a x) i t

@@ -1,8 +1,9 @@
 -- Refusals: why a script has no answer. Slots: the slots of the ranks before a plan.
--- Answers: what the slots have after it.
+-- Answers: what the slots have after it. Losses: what they have where memory was refused in a rank.
 pub mod Refusals
 pub mod Slots
 pub mod Answers
+pub mod Losses
 -- Walks: walks in a graph, levels and distances. Numbers: the least numbers known so far. SpreadVectors: a matrix and
 -- a vector in the slots of the ranks.
 pub mod Walks

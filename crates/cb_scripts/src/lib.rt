@@ -1,12 +1,13 @@
 //! Operations on whole matrices, computed over a grid of ranks.
 //!
 //! A script scatters its operands over the grid, runs a checked plan over the ranks' slots, and gathers the
-//! blocks of the answer. The answer is the same on every grid. The calls named `.._distributed` leave it in the
-//! blocks, for who needs no whole matrix.
+//! blocks of the answer. The answer is the same on every grid, and with each [`Engine`]. The calls named
+//! `.._distributed` leave it in the blocks, for who needs no whole matrix.
 #![tactic(auto)]
 
 ghost use Rattle.std.specs.Prelude.{◌≡◌};
 ghost use Rattle.cb_scripts.specs.declared.ScriptFault.TheVariants.{Memory};
+ghost use Rattle.cb_scripts.specs.Refusals.{fault_of_run};
 
 mod placewise;
 mod products;
@@ -21,6 +22,7 @@ mod vectors;
 mod walk_tests;
 mod walks;
 
+use cb_ranks::RunFault;
 pub use placewise::{add, add_distributed, prune, prune_distributed, times, times_distributed};
 pub use products::{multiply, multiply_distributed, multiply_masked, multiply_masked_distributed};
 use std::alloc::AllocError;
@@ -34,6 +36,9 @@ pub use walks::{distances, levels};
 pub enum Engine {
     /// The acts one after the other, on the caller's thread.
     Plain,
+    /// Each rank in a thread of its own, over lanes for so many letters (1 to 64) from each rank to each other. What
+    /// memory a rank is refused for a block it goes on without, and the answer is refused only if it needs that block.
+    Ranks(usize),
 }
 
 /// Why a script has no answer, in the order in which the reasons are looked for.
@@ -51,6 +56,16 @@ pub enum ScriptFault {
     /// Memory was refused.
     #[error("out of memory")]
     Memory,
+    /// No thread could be started for this rank.
+    #[error("rank {0} not started")]
+    NotStarted(u16),
+    /// This rank came to a lane whose other rank was gone.
+    #[error("rank {0} gone")]
+    Gone(u16),
+    /// A block that the answer needs is lost, since memory was refused in this rank. Of several it is that of the least
+    /// rank whose result is lost.
+    #[error("lost at rank {0}")]
+    Lost(u16),
 }
 
 impl From<AllocError> for ScriptFault {
@@ -58,5 +73,17 @@ impl From<AllocError> for ScriptFault {
 
     fn from(_error: AllocError) -> ScriptFault {
         ScriptFault::Memory
+    }
+}
+
+impl From<RunFault> for ScriptFault {
+    ghost from_gives = { λ run fault. fault ≡ fault_of_run run };
+
+    fn from(fault: RunFault) -> ScriptFault {
+        match fault {
+            RunFault::Memory => ScriptFault::Memory,
+            RunFault::NotStarted(rank) => ScriptFault::NotStarted(rank),
+            RunFault::Gone(rank) => ScriptFault::Gone(rank),
+        }
     }
 }

@@ -2,7 +2,7 @@
 ghost use Rattle.std.specs.Prelude.{◌≡◌, IfOk, IfErr};
 ghost use Rattle.cb_matrix.specs.Operations.{sum_of, times_of, pruned};
 ghost use Rattle.cb_elementwise.specs.Passing.{passes};
-ghost use Rattle.cb_scripts.specs.Refusals.{IsPlacewiseRefusal};
+ghost use Rattle.cb_scripts.specs.Refusals.{IsPlacewiseRefusal, IsRunRefusal};
 
 use crate::runs::compute;
 use crate::{Engine, ScriptFault};
@@ -12,11 +12,14 @@ use cb_layout::{DistributedMatrix, Grid};
 use cb_matrix::Matrix;
 use cb_semirings::Semiring;
 use std::alloc::Global;
+use std::sync::Wait;
+use std::thread::Threads;
 
 /// The sum of two matrices, place by place: where only one has an entry, that entry.
 ///
 /// The two have one shape, else the answer is `Shapes`, before memory is asked for. It costs their entries.
-pub fn add<S: Semiring>(
+pub fn add<S: Semiring + Send + Sync, R: Threads + Wait + Sync>(
+    rt: &R,
     alloc: Global,
     engine: Engine,
     grid: &Grid,
@@ -25,14 +28,15 @@ pub fn add<S: Semiring>(
 ) -> Result<Matrix<S>, ScriptFault>
     ensures ok { IfOk result (λ m. m ≡ sum_of S.arithmetic left.now right.now) }
     ensures agree { IfOk result (λ m. left.now.shape ≡ right.now.shape) }
-    ensures fault { IfErr result (IsPlacewiseRefusal left.now right.now) }
+    ensures fault { IfErr result (IsPlacewiseRefusal left.now right.now engine) }
 {
-    let answer = add_distributed(alloc, engine, grid, left, right)?;
+    let answer = add_distributed(rt, alloc, engine, grid, left, right)?;
     Ok(answer.gather(alloc)?)
 }
 
 /// The sum of two matrices, left in the blocks of the grid. All else is as in [`add`].
-pub fn add_distributed<S: Semiring>(
+pub fn add_distributed<S: Semiring + Send + Sync, R: Threads + Wait + Sync>(
+    rt: &R,
     alloc: Global,
     engine: Engine,
     grid: &Grid,
@@ -41,7 +45,7 @@ pub fn add_distributed<S: Semiring>(
 ) -> Result<DistributedMatrix<S>, ScriptFault>
     ensures ok { IfOk result (λ m. m ≡ record { side = grid.now.side; matrix = sum_of S.arithmetic left.now right.now }) }
     ensures agree { IfOk result (λ m. left.now.shape ≡ right.now.shape) }
-    ensures fault { IfErr result (IsPlacewiseRefusal left.now right.now) }
+    ensures fault { IfErr result (IsPlacewiseRefusal left.now right.now engine) }
 {
     let shape = left.shape();
     if shape != right.shape() {
@@ -51,14 +55,15 @@ pub fn add_distributed<S: Semiring>(
         return Err(ScriptFault::Memory);
     };
     let operands = [(LEFT, left), (RIGHT, right)];
-    Ok(compute(alloc, engine, grid, planned, &operands, shape)?)
+    compute(rt, alloc, engine, grid, planned, &operands, shape)
 }
 
 /// The product of two matrices, place by place: only places where both have an entry can have one. This is the
 /// element-wise multiplication of The Combinatorial BLAS.
 ///
 /// The two have one shape, else the answer is `Shapes`, before memory is asked for. It costs their entries.
-pub fn times<S: Semiring>(
+pub fn times<S: Semiring + Send + Sync, R: Threads + Wait + Sync>(
+    rt: &R,
     alloc: Global,
     engine: Engine,
     grid: &Grid,
@@ -67,14 +72,15 @@ pub fn times<S: Semiring>(
 ) -> Result<Matrix<S>, ScriptFault>
     ensures ok { IfOk result (λ m. m ≡ times_of S.arithmetic left.now right.now) }
     ensures agree { IfOk result (λ m. left.now.shape ≡ right.now.shape) }
-    ensures fault { IfErr result (IsPlacewiseRefusal left.now right.now) }
+    ensures fault { IfErr result (IsPlacewiseRefusal left.now right.now engine) }
 {
-    let answer = times_distributed(alloc, engine, grid, left, right)?;
+    let answer = times_distributed(rt, alloc, engine, grid, left, right)?;
     Ok(answer.gather(alloc)?)
 }
 
 /// The product of two matrices, place by place, left in the blocks of the grid. All else is as in [`times`].
-pub fn times_distributed<S: Semiring>(
+pub fn times_distributed<S: Semiring + Send + Sync, R: Threads + Wait + Sync>(
+    rt: &R,
     alloc: Global,
     engine: Engine,
     grid: &Grid,
@@ -83,7 +89,7 @@ pub fn times_distributed<S: Semiring>(
 ) -> Result<DistributedMatrix<S>, ScriptFault>
     ensures ok { IfOk result (λ m. m ≡ record { side = grid.now.side; matrix = times_of S.arithmetic left.now right.now }) }
     ensures agree { IfOk result (λ m. left.now.shape ≡ right.now.shape) }
-    ensures fault { IfErr result (IsPlacewiseRefusal left.now right.now) }
+    ensures fault { IfErr result (IsPlacewiseRefusal left.now right.now engine) }
 {
     let shape = left.shape();
     if shape != right.shape() {
@@ -93,11 +99,12 @@ pub fn times_distributed<S: Semiring>(
         return Err(ScriptFault::Memory);
     };
     let operands = [(LEFT, left), (RIGHT, right)];
-    Ok(compute(alloc, engine, grid, planned, &operands, shape)?)
+    compute(rt, alloc, engine, grid, planned, &operands, shape)
 }
 
 /// A matrix without the entries whose value, as a whole number, passes a test. It costs the entries.
-pub fn prune<S: Semiring>(
+pub fn prune<S: Semiring + Send + Sync, R: Threads + Wait + Sync>(
+    rt: &R,
     alloc: Global,
     engine: Engine,
     grid: &Grid,
@@ -105,14 +112,15 @@ pub fn prune<S: Semiring>(
     test: Test,
 ) -> Result<Matrix<S>, ScriptFault>
     ensures ok { IfOk result (λ m. m ≡ pruned S.arithmetic (passes test) matrix.now) }
-    ensures fault { IfErr result (λ f. f ≡ ScriptFault.Memory) }
+    ensures fault { IfErr result (IsRunRefusal engine) }
 {
-    let answer = prune_distributed(alloc, engine, grid, matrix, test)?;
+    let answer = prune_distributed(rt, alloc, engine, grid, matrix, test)?;
     Ok(answer.gather(alloc)?)
 }
 
 /// A matrix without the entries whose value passes a test, left in the blocks of the grid. All else is as in [`prune`].
-pub fn prune_distributed<S: Semiring>(
+pub fn prune_distributed<S: Semiring + Send + Sync, R: Threads + Wait + Sync>(
+    rt: &R,
     alloc: Global,
     engine: Engine,
     grid: &Grid,
@@ -120,12 +128,12 @@ pub fn prune_distributed<S: Semiring>(
     test: Test,
 ) -> Result<DistributedMatrix<S>, ScriptFault>
     ensures ok { IfOk result (λ m. m ≡ record { side = grid.now.side; matrix = pruned S.arithmetic (passes test) matrix.now }) }
-    ensures fault { IfErr result (λ f. f ≡ ScriptFault.Memory) }
+    ensures fault { IfErr result (IsRunRefusal engine) }
 {
     let shape = matrix.shape();
     let Ok(planned) = grid_prune(alloc, grid, shape, test) else {
         return Err(ScriptFault::Memory);
     };
     let operands = [(LEFT, matrix)];
-    Ok(compute(alloc, engine, grid, planned, &operands, shape)?)
+    compute(rt, alloc, engine, grid, planned, &operands, shape)
 }

@@ -11,12 +11,15 @@ use cb_matrix::Matrix;
 use cb_semirings::Semiring;
 use cb_summa::{LEFT, MASK, RIGHT, summa, summa_masked};
 use std::alloc::Global;
+use std::sync::Wait;
+use std::thread::Threads;
 
 /// The product of two matrices, by Sparse SUMMA over the grid.
 ///
 /// The first has as many columns as the second has rows, else the answer is `Shapes`, before memory is asked for.
 /// Where one of the two has no entries no plan is made, and the answer costs a block for each rank.
-pub fn multiply<S: Semiring>(
+pub fn multiply<S: Semiring + Send + Sync, R: Threads + Wait + Sync>(
+    rt: &R,
     alloc: Global,
     engine: Engine,
     grid: &Grid,
@@ -25,14 +28,15 @@ pub fn multiply<S: Semiring>(
 ) -> Result<Matrix<S>, ScriptFault>
     ensures ok { IfOk result (λ m. m ≡ product S.arithmetic left.now right.now) }
     ensures agree { IfOk result (λ m. left.now.shape.cols ≡ right.now.shape.rows) }
-    ensures fault { IfErr result (IsProductRefusal left.now right.now) }
+    ensures fault { IfErr result (IsProductRefusal left.now right.now engine) }
 {
-    let product = multiply_distributed(alloc, engine, grid, left, right)?;
+    let product = multiply_distributed(rt, alloc, engine, grid, left, right)?;
     Ok(product.gather(alloc)?)
 }
 
 /// The product of two matrices, by Sparse SUMMA, left in the blocks of the grid. All else is as in [`multiply`].
-pub fn multiply_distributed<S: Semiring>(
+pub fn multiply_distributed<S: Semiring + Send + Sync, R: Threads + Wait + Sync>(
+    rt: &R,
     alloc: Global,
     engine: Engine,
     grid: &Grid,
@@ -41,7 +45,7 @@ pub fn multiply_distributed<S: Semiring>(
 ) -> Result<DistributedMatrix<S>, ScriptFault>
     ensures ok { IfOk result (λ m. m ≡ record { side = grid.now.side; matrix = product S.arithmetic left.now right.now }) }
     ensures agree { IfOk result (λ m. left.now.shape.cols ≡ right.now.shape.rows) }
-    ensures fault { IfErr result (IsProductRefusal left.now right.now) }
+    ensures fault { IfErr result (IsProductRefusal left.now right.now engine) }
 {
     if left.cols() != right.rows() {
         return Err(ScriptFault::Shapes);
@@ -56,7 +60,7 @@ pub fn multiply_distributed<S: Semiring>(
     };
     let operands = [(LEFT, left), (RIGHT, right)];
     let shape = a.with_columns_of(b);
-    Ok(compute(alloc, engine, grid, planned, &operands, shape)?)
+    compute(rt, alloc, engine, grid, planned, &operands, shape)
 }
 
 /// The product of two matrices of which one has no entries: it has none either.
@@ -73,7 +77,8 @@ fn nothing<S: Semiring>(alloc: Global, left: &Matrix<S>, right: &Matrix<S>) -> M
 ///
 /// The first has as many columns as the second has rows, and the mask has the product's shape, else the answer is
 /// `Shapes`, before memory is asked for. What value the mask has at an entry doesn't matter.
-pub fn multiply_masked<S: Semiring>(
+pub fn multiply_masked<S: Semiring + Send + Sync, R: Threads + Wait + Sync>(
+    rt: &R,
     alloc: Global,
     engine: Engine,
     grid: &Grid,
@@ -83,15 +88,16 @@ pub fn multiply_masked<S: Semiring>(
 ) -> Result<Matrix<S>, ScriptFault>
     ensures ok { IfOk result (λ m. m ≡ masked S.arithmetic (product S.arithmetic left.now right.now) mask.now) }
     ensures agree { IfOk result (λ m. (left.now.shape.cols ≡ right.now.shape.rows) × (mask.now.shape ≡ product_shape left.now right.now)) }
-    ensures fault { IfErr result (IsMaskedRefusal left.now right.now mask.now) }
+    ensures fault { IfErr result (IsMaskedRefusal left.now right.now mask.now engine) }
 {
-    let product = multiply_masked_distributed(alloc, engine, grid, left, right, mask)?;
+    let product = multiply_masked_distributed(rt, alloc, engine, grid, left, right, mask)?;
     Ok(product.gather(alloc)?)
 }
 
 /// The product of two matrices, kept where a mask has entries, left in the blocks of the grid. All else is as in
 /// [`multiply_masked`].
-pub fn multiply_masked_distributed<S: Semiring>(
+pub fn multiply_masked_distributed<S: Semiring + Send + Sync, R: Threads + Wait + Sync>(
+    rt: &R,
     alloc: Global,
     engine: Engine,
     grid: &Grid,
@@ -101,7 +107,7 @@ pub fn multiply_masked_distributed<S: Semiring>(
 ) -> Result<DistributedMatrix<S>, ScriptFault>
     ensures ok { IfOk result (λ m. m ≡ record { side = grid.now.side; matrix = masked S.arithmetic (product S.arithmetic left.now right.now) mask.now }) }
     ensures agree { IfOk result (λ m. (left.now.shape.cols ≡ right.now.shape.rows) × (mask.now.shape ≡ product_shape left.now right.now)) }
-    ensures fault { IfErr result (IsMaskedRefusal left.now right.now mask.now) }
+    ensures fault { IfErr result (IsMaskedRefusal left.now right.now mask.now engine) }
 {
     let (a, b) = (left.shape(), right.shape());
     let shape = a.with_columns_of(b);
@@ -112,5 +118,5 @@ pub fn multiply_masked_distributed<S: Semiring>(
         return Err(ScriptFault::Memory);
     };
     let operands = [(LEFT, left), (RIGHT, right), (MASK, mask)];
-    Ok(compute(alloc, engine, grid, planned, &operands, shape)?)
+    compute(rt, alloc, engine, grid, planned, &operands, shape)
 }

@@ -1,17 +1,20 @@
 //! A matrix that lies over a grid times a vector, again and again, by a plan that is made once.
-ghost use Rattle.std.specs.Prelude.{◌≡◌, IfOk};
+ghost use Rattle.std.specs.Prelude.{◌≡◌, IfOk, IfErr};
 ghost use Rattle.cb_matrix.specs.Values.{product};
 ghost use Rattle.cb_kernels.specs.VectorPlans.{column};
+ghost use Rattle.cb_scripts.specs.Refusals.{IsRunRefusal};
 ghost use Rattle.cb_scripts.specs.SpreadVectors.{HasSpread, MultipliesVectors};
 
-use crate::Engine;
 use crate::stores::{blank, drain, fill};
+use crate::{Engine, ScriptFault};
 use cb_kernels::{LEFT, RESULT, RIGHT, grid_vector};
 use cb_layout::{DistributedMatrix, Grid};
 use cb_matrix::{Matrix, Shape};
 use cb_plan::{CheckedPlan, RankStore};
 use cb_semirings::Semiring;
 use std::alloc::{AllocError, Global};
+use std::sync::Wait;
+use std::thread::Threads;
 
 /// The plan by which matrices of a shape are multiplied by vectors.
 pub fn vector_plan(alloc: Global, grid: &Grid, shape: Shape) -> Result<CheckedPlan, AllocError>
@@ -25,23 +28,25 @@ pub fn vector_plan(alloc: Global, grid: &Grid, shape: Shape) -> Result<CheckedPl
 }
 
 /// The product of a matrix and a vector, by a plan for matrices of its shape. The matrix is given back as it was.
-pub fn multiply_vector<S: Semiring>(
+pub fn multiply_vector<S: Semiring + Send + Sync, R: Threads + Wait + Sync>(
+    rt: &R,
     alloc: Global,
     engine: Engine,
     grid: &Grid,
     plan: &CheckedPlan,
     matrix: DistributedMatrix<S>,
     vector: &Matrix<S>,
-) -> Result<(DistributedMatrix<S>, Matrix<S>), AllocError>
+) -> Result<(DistributedMatrix<S>, Matrix<S>), ScriptFault>
     requires side { matrix.side ≡ grid.now.side }
     requires plan { MultipliesVectors grid.now.side matrix.matrix.shape plan.now }
     requires vector { vector.now.shape ≡ column matrix.matrix.shape.cols }
     ensures product { IfOk result (λ p. p.1 ≡ product S.arithmetic matrix.matrix vector.now) }
     ensures same { IfOk result (λ p. p.0 ≡ matrix) }
+    ensures fault { IfErr result (IsRunRefusal engine) }
 {
     let (a, x) = (matrix.shape(), vector.shape());
     let stores = spread(alloc, grid, matrix, vector)?;
-    let mut stores = engine.run(alloc, plan, stores)?;
+    let mut stores = engine.run(rt, alloc, plan, stores)?;
     let blocks = drain(alloc, &mut stores, LEFT)?;
     let pieces = drain(alloc, &mut stores, RESULT)?;
     let product = grid.gather_result(alloc, &pieces, a.with_columns_of(x))?;

@@ -1,61 +1,72 @@
 //! A plan over the ranks' stores, and the matrix whose blocks it leaves.
-ghost use Rattle.std.specs.Prelude.{◌≡◌, ◌<◌, ◌*◌, map, IfOk};
+ghost use Rattle.std.specs.Prelude.{◌≡◌, ◌<◌, ◌*◌, map, IfOk, IfErr};
 ghost use Rattle.cb_matrix.specs.Sparse.{Sparse};
 ghost use Rattle.cb_plan.specs.Algebras.{matrices};
 ghost use Rattle.cb_plan.specs.Meaning.{meaning};
 ghost use Rattle.cb_plan.specs.Runnable.{IsRunnable};
 ghost use Rattle.cb_plan.specs.Stores.{state_of, NoneLost, Fits};
 ghost use Rattle.cb_plan.specs.Tables.{IsTable};
+ghost use Rattle.cb_scripts.specs.declared.Engine.TheVariants.{Plain};
 ghost use Rattle.cb_scripts.specs.Answers.{HasShapes, Makes, gathered};
+ghost use Rattle.cb_scripts.specs.Losses.{LostOrMeans};
+ghost use Rattle.cb_scripts.specs.Refusals.{IsEngineRefusal, IsRunRefusal};
 
-use crate::Engine;
 use crate::stores::{drain, laid_out};
+use crate::{Engine, ScriptFault};
 use cb_layout::{DistributedMatrix, Grid};
 use cb_matrix::{Matrix, Shape};
 use cb_plan::{CheckedPlan, Planned, RankStore, SLOTS, run_plain};
+use cb_ranks::{OpenGate, run_threads};
 use cb_semirings::Semiring;
-use std::alloc::{AllocError, Global};
+use std::alloc::Global;
+use std::sync::Wait;
+use std::thread::Threads;
 
 /// The matrix of this shape that a plan makes of its operands, each of which is cut over the grid into its slot. It
 /// is left in the blocks of the grid.
-pub fn compute<S: Semiring>(
+pub fn compute<S: Semiring + Send + Sync, R: Threads + Wait + Sync>(
+    rt: &R,
     alloc: Global,
     engine: Engine,
     grid: &Grid,
     planned: Planned,
     operands: &[(u16, &Matrix<S>)],
     shape: Shape,
-) -> Result<DistributedMatrix<S>, AllocError>
-    requires { (answer : Sparse) × Makes S.arithmetic grid.now.side (map (λ o. (o.0, o.1.now)) operands.now) planned shape answer }
-    ensures { IfOk result (λ m. (answer : Sparse) → Makes S.arithmetic grid.now.side (map (λ o. (o.0, o.1.now)) operands.now) planned shape answer → m ≡ record { side = grid.now.side; matrix = answer }) }
+) -> Result<DistributedMatrix<S>, ScriptFault>
+    requires makes { (answer : Sparse) × Makes S.arithmetic grid.now.side (map (λ o. (o.0, o.1.now)) operands.now) planned shape answer }
+    ensures ok { IfOk result (λ m. (answer : Sparse) → Makes S.arithmetic grid.now.side (map (λ o. (o.0, o.1.now)) operands.now) planned shape answer → m ≡ record { side = grid.now.side; matrix = answer }) }
+    ensures fault { IfErr result (IsRunRefusal engine) }
 {
     let stores = laid_out(alloc, grid, operands)?;
-    run(alloc, engine, grid, planned, stores, shape)
+    run(rt, alloc, engine, grid, planned, stores, shape)
 }
 
 /// Runs a plan once, on stores that fit it, and answers the matrix of this shape whose blocks it leaves in its
 /// slot for the answer.
-fn run<S: Semiring>(
+fn run<S: Semiring + Send + Sync, R: Threads + Wait + Sync>(
+    rt: &R,
     alloc: Global,
     engine: Engine,
     grid: &Grid,
     planned: Planned,
     stores: Vec<RankStore<S>>,
     shape: Shape,
-) -> Result<DistributedMatrix<S>, AllocError>
+) -> Result<DistributedMatrix<S>, ScriptFault>
     requires ranks { planned.plan.ranks ≡ grid.now.side * grid.now.side }
     requires runnable { IsRunnable planned }
     requires fits { Fits planned.plan.ranks planned.starts.items stores.items }
     requires shapes { HasShapes grid.now.side shape planned.result (meaning (matrices S.arithmetic) planned.plan.acts (state_of stores.items)) }
-    ensures { IfOk result (λ m. m ≡ record { side = grid.now.side; matrix = gathered S.arithmetic grid.now.side shape planned.result (meaning (matrices S.arithmetic) planned.plan.acts (state_of stores.items)) }) }
+    ensures ok { IfOk result (λ m. m ≡ record { side = grid.now.side; matrix = gathered S.arithmetic grid.now.side shape planned.result (meaning (matrices S.arithmetic) planned.plan.acts (state_of stores.items)) }) }
+    ensures fault { IfErr result (IsRunRefusal engine) }
 {
     let (plan, slot) = planned.into_checked();
-    round(alloc, engine, grid, &plan, stores, slot, shape)
+    round(rt, alloc, engine, grid, &plan, stores, slot, shape)
 }
 
 /// Runs a checked plan on stores that fit it, and answers the matrix of this shape whose blocks it leaves in a
 /// slot. A plan that is run again and again is made and checked once.
-pub fn round<S: Semiring>(
+pub fn round<S: Semiring + Send + Sync, R: Threads + Wait + Sync>(
+    rt: &R,
     alloc: Global,
     engine: Engine,
     grid: &Grid,
@@ -63,33 +74,41 @@ pub fn round<S: Semiring>(
     stores: Vec<RankStore<S>>,
     slot: u16,
     shape: Shape,
-) -> Result<DistributedMatrix<S>, AllocError>
+) -> Result<DistributedMatrix<S>, ScriptFault>
     requires ranks { plan.now.ranks ≡ grid.now.side * grid.now.side }
     requires fits { Fits plan.now.ranks plan.now.starts stores.items }
     requires slot { slot < SLOTS }
     requires shapes { HasShapes grid.now.side shape slot (meaning (matrices S.arithmetic) plan.now.acts (state_of stores.items)) }
-    ensures { IfOk result (λ m. m ≡ record { side = grid.now.side; matrix = gathered S.arithmetic grid.now.side shape slot (meaning (matrices S.arithmetic) plan.now.acts (state_of stores.items)) }) }
+    ensures ok { IfOk result (λ m. m ≡ record { side = grid.now.side; matrix = gathered S.arithmetic grid.now.side shape slot (meaning (matrices S.arithmetic) plan.now.acts (state_of stores.items)) }) }
+    ensures fault { IfErr result (IsRunRefusal engine) }
 {
-    let mut stores = engine.run(alloc, plan, stores)?;
+    let mut stores = engine.run(rt, alloc, plan, stores)?;
     let blocks = drain(alloc, &mut stores, slot)?;
     Ok(DistributedMatrix::from_blocks(*grid, shape, blocks))
 }
 
 impl Engine {
-    /// Runs a checked plan on stores that fit it. At Ok no slot is lost.
-    pub fn run<S: Semiring>(
+    /// Runs a checked plan on stores that fit it. Ranks in threads may leave a slot lost where memory was refused to
+    /// them; the plain engine answers `Memory` then, and leaves none lost. On a fault the stores are given up.
+    pub fn run<S: Semiring + Send + Sync, R: Threads + Wait + Sync>(
         self,
+        rt: &R,
         alloc: Global,
         plan: &CheckedPlan,
         stores: Vec<RankStore<S>>,
-    ) -> Result<Vec<RankStore<S>>, AllocError>
-        requires { Fits plan.now.ranks plan.now.starts stores.items }
-        ensures meaning { IfOk result (λ after. state_of after.items ≡ meaning (matrices S.arithmetic) plan.now.acts (state_of stores.items)) }
-        ensures none_lost { IfOk result (λ after. NoneLost after.items) }
+    ) -> Result<Vec<RankStore<S>>, ScriptFault>
+        requires fits { Fits plan.now.ranks plan.now.starts stores.items }
+        ensures meaning { IfOk result (λ after. LostOrMeans (meaning (matrices S.arithmetic) plan.now.acts (state_of stores.items)) after.items) }
+        ensures none_lost { self ≡ Plain → IfOk result (λ after. NoneLost after.items) }
         ensures table { IfOk result (λ after. IsTable plan.now.ranks SLOTS after.items) }
+        ensures fault { IfErr result (IsEngineRefusal self) }
     {
         match self {
-            Engine::Plain => run_plain(alloc, plan, stores),
+            Engine::Plain => Ok(run_plain(alloc, plan, stores)?),
+            Engine::Ranks(capacity) => {
+                let finished = run_threads(rt, alloc, plan, stores, capacity, &OpenGate)?;
+                Ok(finished.stores())
+            }
         }
     }
 }

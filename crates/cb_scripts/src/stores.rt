@@ -1,11 +1,13 @@
 //! The slots of the ranks: filled with blocks before a plan, and read after it.
-ghost use Rattle.std.specs.Prelude.{◌≡◌, ◌≢◌, ◌<◌, ◌*◌, ℕ, map, length, replicate, Some, IfOk, OnOk, IsSome};
+ghost use Rattle.std.specs.Prelude.{◌≡◌, ◌≢◌, ◌<◌, ◌*◌, ℕ, map, length, replicate, Some, IfOk, IfErr, OnOk};
 ghost use Rattle.cb_layout.specs.Blocks.{block_at};
 ghost use Rattle.cb_plan.specs.declared.stores.Slot.TheVariants.{Empty};
 ghost use Rattle.cb_plan.specs.Stores.{state_of};
-ghost use Rattle.cb_plan.specs.Tables.{IsTable};
+ghost use Rattle.cb_plan.specs.Tables.{IsTable, cell};
+ghost use Rattle.cb_scripts.specs.Losses.{AreFilled, IsDrainRefusal};
 ghost use Rattle.cb_scripts.specs.Slots.{Filled, HasOperands, HaveSlots, block_of_rank};
 
+use crate::ScriptFault;
 use cb_dcsc::Block;
 use cb_layout::Grid;
 use cb_matrix::Matrix;
@@ -72,25 +74,30 @@ pub fn fill<S: Semiring>(stores: &mut Vec<RankStore<S>>, slot: u16, blocks: Vec<
 }
 
 /// Moves the blocks out of a slot of the ranks. Their other slots are as they were.
+///
+/// `Memory` comes before any block is moved. `Lost` names the origin of the lost block of the least rank whose slot is
+/// lost; the blocks of the ranks before it are dropped.
 pub fn drain<S: Semiring>(
     alloc: Global,
     stores: &mut Vec<RankStore<S>>,
     slot: u16,
-) -> Result<Vec<Block<S>>, AllocError>
+) -> Result<Vec<Block<S>>, ScriptFault>
     requires slot { slot < SLOTS }
     requires table { IsTable (length stores.old.items) SLOTS stores.old.items }
-    requires sheets { (r : ℕ) → r < length stores.old.items → IsSome (state_of stores.old.items r slot) }
+    requires filled { AreFilled slot stores.old.items }
     ensures count { IfOk result (λ v. length v.items ≡ length stores.old.items) }
     ensures blocks { IfOk result (λ v. (r : ℕ) → r < length stores.old.items → state_of stores.old.items r slot ≡ Some (block_at v.items r)) }
     ensures table { OnOk result (IsTable (length stores.old.items) SLOTS stores.new.items) }
-    ensures others { OnOk result ((r n : ℕ) → slot ≢ n → state_of stores.new.items r n ≡ state_of stores.old.items r n) }
+    ensures others { OnOk result ((r n : ℕ) → slot ≢ n → cell Empty stores.new.items r n ≡ cell Empty stores.old.items r n) }
+    ensures fault { IfErr result (IsDrainRefusal slot stores.old.items) }
 {
-    let mut blocks = Vec::new(alloc);
+    let mut blocks = Vec::with_capacity(alloc, stores.len())?;
     for rank in 0..stores.len() {
-        let Slot::Sheet(block) = stores[rank].take(slot) else {
-            unreachable!()
-        };
-        blocks.push(block)?;
+        match stores[rank].take(slot) {
+            Slot::Sheet(block) => blocks.push_reserved(block),
+            Slot::Lost(origin) => return Err(ScriptFault::Lost(origin)),
+            Slot::Empty => unreachable!(),
+        }
     }
     Ok(blocks)
 }

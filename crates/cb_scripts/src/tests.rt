@@ -1,4 +1,5 @@
-//! Worked examples on grids of several sides, with ample memory and with each allocation refused in turn.
+//! Worked examples with each engine on grids of several sides, with ample memory and with each allocation refused in
+//! turn.
 ghost use Rattle.std.specs.Prelude.{◌↔◌, IsTrue, All};
 ghost use Rattle.cb_semirings.specs.Arithmetic.{IsValue};
 
@@ -8,9 +9,25 @@ use cb_layout::Grid;
 use cb_matrix::{Entry, LIMIT, Matrix, Shape};
 use cb_semirings::{MaxMin, PlusTimes, Semiring};
 use std::alloc::Global;
+use std::sync::Wait;
 use std::test::Fail;
+use std::thread::Threads;
 
-pub const SIDES: [u32; 4] = [1, 2, 3, 6];
+/// Each engine, with the sides of its grids: a run of ranks in threads starts as many as the side squared.
+pub const RUNS: [(Engine, u32); 12] = [
+    (Engine::Plain, 1),
+    (Engine::Plain, 2),
+    (Engine::Plain, 3),
+    (Engine::Plain, 6),
+    (Engine::Ranks(1), 1),
+    (Engine::Ranks(1), 2),
+    (Engine::Ranks(1), 3),
+    (Engine::Ranks(1), 6),
+    (Engine::Ranks(2), 2),
+    (Engine::Ranks(2), 3),
+    (Engine::Ranks(64), 2),
+    (Engine::Ranks(64), 3),
+];
 
 pub const fn entry(row: u32, column: u32, value: u64) -> Entry {
     Entry { row, column, value }
@@ -48,15 +65,16 @@ fn operands<S: Semiring>(alloc: Global) -> Option<(Matrix<S>, Matrix<S>)> {
     Some((matrix(alloc, 2, 2, &left)?, matrix(alloc, 2, 2, &right)?))
 }
 
-/// Whether the product of two matrices has just these entries on each grid.
-fn makes<S: Semiring>(
+/// Whether the product of two matrices has just these entries in each run.
+fn makes<S: Semiring + Send + Sync, R: Threads + Wait + Sync>(
+    rt: &R,
     alloc: Global,
     left: &Matrix<S>,
     right: &Matrix<S>,
     wanted: &[Entry],
 ) -> Result<bool, Fail> {
-    for side in SIDES {
-        let product = multiply(alloc, Engine::Plain, &grid(side)?, left, right)?;
+    for (engine, side) in RUNS {
+        let product = multiply(rt, alloc, engine, &grid(side)?, left, right)?;
         if product.entries() != wanted {
             return Ok(false);
         }
@@ -64,16 +82,17 @@ fn makes<S: Semiring>(
     Ok(true)
 }
 
-/// Whether the product under a mask has just these entries on each grid.
-fn makes_masked(
+/// Whether the product under a mask has just these entries in each run.
+fn makes_masked<R: Threads + Wait + Sync>(
+    rt: &R,
     alloc: Global,
     left: &Matrix<PlusTimes>,
     right: &Matrix<PlusTimes>,
     mask: &Matrix<PlusTimes>,
     wanted: &[Entry],
 ) -> Result<bool, Fail> {
-    for side in SIDES {
-        let product = multiply_masked(alloc, Engine::Plain, &grid(side)?, left, right, mask)?;
+    for (engine, side) in RUNS {
+        let product = multiply_masked(rt, alloc, engine, &grid(side)?, left, right, mask)?;
         if product.entries() != wanted {
             return Ok(false);
         }
@@ -85,7 +104,7 @@ fn makes_masked(
 fn multiplies_two_by_two(rt: HostRuntime) -> Result<(), Fail> {
     let (left, right) = operands::<PlusTimes>(rt.alloc()).ok_or("memory")?;
     let wanted = [entry(0, 0, 8), entry(1, 0, 12), entry(0, 1, 1)];
-    assert!(rt; makes(rt.alloc(), &left, &right, &wanted)?);
+    assert!(rt; makes(&rt, rt.alloc(), &left, &right, &wanted)?);
     Ok(())
 }
 
@@ -93,7 +112,7 @@ fn multiplies_two_by_two(rt: HostRuntime) -> Result<(), Fail> {
 fn multiplies_in_max_min(rt: HostRuntime) -> Result<(), Fail> {
     let (left, right) = operands::<MaxMin>(rt.alloc()).ok_or("memory")?;
     let wanted = [entry(0, 0, 2), entry(1, 0, 3), entry(0, 1, 1)];
-    assert!(rt; makes(rt.alloc(), &left, &right, &wanted)?);
+    assert!(rt; makes(&rt, rt.alloc(), &left, &right, &wanted)?);
     Ok(())
 }
 
@@ -103,7 +122,7 @@ fn squares_a_skew_matrix(rt: HostRuntime) -> Result<(), Fail> {
     let skew = matrix::<PlusTimes>(rt.alloc(), 2, 2, &given).ok_or("memory")?;
     let minus_nine = u64::MAX - 8;
     let wanted = [entry(0, 0, minus_nine), entry(1, 1, minus_nine)];
-    assert!(rt; makes(rt.alloc(), &skew, &skew, &wanted)?);
+    assert!(rt; makes(&rt, rt.alloc(), &skew, &skew, &wanted)?);
     Ok(())
 }
 
@@ -114,7 +133,7 @@ fn the_largest_sides_cost_what_the_entries_cost(rt: HostRuntime) -> Result<(), F
     let right = matrix::<PlusTimes>(rt.alloc(), LIMIT, LIMIT, &[entry(last, 4, 3)]).ok_or(
         "memory",
     )?;
-    assert!(rt; makes(rt.alloc(), &left, &right, &[entry(0, 4, 21)])?);
+    assert!(rt; makes(&rt, rt.alloc(), &left, &right, &[entry(0, 4, 21)])?);
     Ok(())
 }
 
@@ -122,9 +141,9 @@ fn the_largest_sides_cost_what_the_entries_cost(rt: HostRuntime) -> Result<(), F
 fn keeps_what_a_mask_covers(rt: HostRuntime) -> Result<(), Fail> {
     let (left, right) = operands::<PlusTimes>(rt.alloc()).ok_or("memory")?;
     let mask = matrix(rt.alloc(), 2, 2, &[entry(0, 0, 9), entry(1, 1, 9)]).ok_or("memory")?;
-    assert!(rt; makes_masked(rt.alloc(), &left, &right, &mask, &[entry(0, 0, 8)])?);
+    assert!(rt; makes_masked(&rt, rt.alloc(), &left, &right, &mask, &[entry(0, 0, 8)])?);
     let nothing = matrix(rt.alloc(), 2, 2, &[]).ok_or("memory")?;
-    assert!(rt; makes_masked(rt.alloc(), &left, &right, &nothing, &[])?);
+    assert!(rt; makes_masked(&rt, rt.alloc(), &left, &right, &nothing, &[])?);
     Ok(())
 }
 
@@ -132,11 +151,11 @@ fn keeps_what_a_mask_covers(rt: HostRuntime) -> Result<(), Fail> {
 fn transposes_and_prunes(rt: HostRuntime) -> Result<(), Fail> {
     let (left, _) = operands::<PlusTimes>(rt.alloc()).ok_or("memory")?;
     let turned = [entry(0, 0, 1), entry(1, 0, 2), entry(1, 1, 3)];
-    for side in SIDES {
+    for (engine, side) in RUNS {
         let grid = grid(side)?;
-        let answer = transpose(rt.alloc(), Engine::Plain, &grid, &left)?;
+        let answer = transpose(&rt, rt.alloc(), engine, &grid, &left)?;
         assert!(rt; answer.entries() == turned.as_slice());
-        let answer = prune(rt.alloc(), Engine::Plain, &grid, &left, Test::Above(1))?;
+        let answer = prune(&rt, rt.alloc(), engine, &grid, &left, Test::Above(1))?;
         assert!(rt; answer.entries() == [entry(0, 0, 1)].as_slice());
     }
     Ok(())
@@ -151,11 +170,11 @@ fn adds_and_multiplies_place_by_place(rt: HostRuntime) -> Result<(), Fail> {
         entry(0, 1, 3),
         entry(1, 1, 3),
     ];
-    for side in SIDES {
+    for (engine, side) in RUNS {
         let grid = grid(side)?;
-        let answer = add(rt.alloc(), Engine::Plain, &grid, &left, &right)?;
+        let answer = add(&rt, rt.alloc(), engine, &grid, &left, &right)?;
         assert!(rt; answer.entries() == sum.as_slice());
-        let answer = times(rt.alloc(), Engine::Plain, &grid, &left, &right)?;
+        let answer = times(&rt, rt.alloc(), engine, &grid, &left, &right)?;
         assert!(rt; answer.entries() == [entry(0, 1, 2)].as_slice());
     }
     Ok(())
@@ -167,11 +186,11 @@ fn multiplies_a_vector(rt: HostRuntime) -> Result<(), Fail> {
     let given = [entry(0, 0, 5), entry(1, 0, 7)];
     let column = matrix(rt.alloc(), 2, 1, &given).ok_or("memory")?;
     let wanted = [entry(0, 0, 19), entry(1, 0, 21)];
-    for side in SIDES {
-        let answer = vector(rt.alloc(), Engine::Plain, &grid(side)?, &left, &column)?;
+    for (engine, side) in RUNS {
+        let answer = vector(&rt, rt.alloc(), engine, &grid(side)?, &left, &column)?;
         assert!(rt; answer.entries() == wanted.as_slice());
     }
-    let answer = vector(rt.alloc(), Engine::Plain, &grid(2)?, &left, &right);
+    let answer = vector(&rt, rt.alloc(), Engine::Plain, &grid(2)?, &left, &right);
     assert!(rt; matches!(answer, Err(ScriptFault::Shapes)));
     Ok(())
 }
@@ -181,24 +200,34 @@ fn refuses_shapes(rt: HostRuntime) -> Result<(), Fail> {
     let (left, right) = operands::<PlusTimes>(rt.alloc()).ok_or("memory")?;
     let small = matrix(rt.alloc(), 1, 1, &[]).ok_or("memory")?;
     let grid = grid(2)?;
-    let answer = multiply(rt.alloc(), Engine::Plain, &grid, &left, &small);
+    let answer = multiply(&rt, rt.alloc(), Engine::Plain, &grid, &left, &small);
     assert!(rt; matches!(answer, Err(ScriptFault::Shapes)));
-    let answer = multiply_masked(rt.alloc(), Engine::Plain, &grid, &left, &right, &small);
+    let answer = multiply_masked(&rt, rt.alloc(), Engine::Plain, &grid, &left, &right, &small);
     assert!(rt; matches!(answer, Err(ScriptFault::Shapes)));
-    let answer = add(rt.alloc(), Engine::Plain, &grid, &left, &small);
+    let answer = add(&rt, rt.alloc(), Engine::Plain, &grid, &left, &small);
     assert!(rt; matches!(answer, Err(ScriptFault::Shapes)));
-    let answer = times(rt.alloc(), Engine::Plain, &grid, &left, &small);
+    let answer = times(&rt, rt.alloc(), Engine::Plain, &grid, &left, &small);
     assert!(rt; matches!(answer, Err(ScriptFault::Shapes)));
     Ok(())
 }
 
-/// Whether an answer has just these entries, or is want of memory.
-fn is_right_or_refused(answer: Result<Matrix<PlusTimes>, ScriptFault>, wanted: &[Entry]) -> bool {
+/// Whether an answer has just these entries, or is a refusal that want of memory has with this engine.
+fn is_right_or_refused(
+    engine: Engine,
+    answer: Result<Matrix<PlusTimes>, ScriptFault>,
+    wanted: &[Entry],
+) -> bool {
     match answer {
         Ok(matrix) => matrix.entries() == wanted,
-        Err(fault) => fault == ScriptFault::Memory,
+        Err(ScriptFault::Memory) => true,
+        Err(ScriptFault::NotStarted(_)) => engine != Engine::Plain,
+        Err(ScriptFault::Lost(_)) => engine != Engine::Plain,
+        Err(_) => false,
     }
 }
+
+/// The engines that differ in what they do where memory is refused.
+const ENGINES: [Engine; 2] = [Engine::Plain, Engine::Ranks(1)];
 
 /// It passes whichever single allocation is refused (`rt try --test --fail-alloc N`, for each N in turn): the
 /// call says so, or its answer is the right one.
@@ -209,12 +238,14 @@ fn refused_memory_is_said_by_products(rt: HostRuntime) -> Result<(), Fail> {
         return Ok(());
     };
     let grid = grid(2)?;
-    let wanted = [entry(0, 0, 8), entry(1, 0, 12), entry(0, 1, 1)];
-    let answer = multiply(alloc, Engine::Plain, &grid, &left, &right);
-    assert!(rt; is_right_or_refused(answer, &wanted));
-    let wanted = [entry(0, 0, 8), entry(0, 1, 1)];
-    let answer = multiply_masked(alloc, Engine::Plain, &grid, &left, &right, &left);
-    assert!(rt; is_right_or_refused(answer, &wanted));
+    for engine in ENGINES {
+        let wanted = [entry(0, 0, 8), entry(1, 0, 12), entry(0, 1, 1)];
+        let answer = multiply(&rt, alloc, engine, &grid, &left, &right);
+        assert!(rt; is_right_or_refused(engine, answer, &wanted));
+        let wanted = [entry(0, 0, 8), entry(0, 1, 1)];
+        let answer = multiply_masked(&rt, alloc, engine, &grid, &left, &right, &left);
+        assert!(rt; is_right_or_refused(engine, answer, &wanted));
+    }
     Ok(())
 }
 
@@ -227,19 +258,21 @@ fn refused_memory_is_said(rt: HostRuntime) -> Result<(), Fail> {
     };
     let grid = grid(2)?;
     let turned = [entry(0, 0, 1), entry(1, 0, 2), entry(1, 1, 3)];
-    let answer = transpose(alloc, Engine::Plain, &grid, &left);
-    assert!(rt; is_right_or_refused(answer, &turned));
     let sum = [
         entry(0, 0, 1),
         entry(1, 0, 4),
         entry(0, 1, 3),
         entry(1, 1, 3),
     ];
-    let answer = add(alloc, Engine::Plain, &grid, &left, &right);
-    assert!(rt; is_right_or_refused(answer, &sum));
-    let answer = times(alloc, Engine::Plain, &grid, &left, &right);
-    assert!(rt; is_right_or_refused(answer, &[entry(0, 1, 2)]));
-    let answer = prune(alloc, Engine::Plain, &grid, &left, Test::Above(1));
-    assert!(rt; is_right_or_refused(answer, &[entry(0, 0, 1)]));
+    for engine in ENGINES {
+        let answer = transpose(&rt, alloc, engine, &grid, &left);
+        assert!(rt; is_right_or_refused(engine, answer, &turned));
+        let answer = add(&rt, alloc, engine, &grid, &left, &right);
+        assert!(rt; is_right_or_refused(engine, answer, &sum));
+        let answer = times(&rt, alloc, engine, &grid, &left, &right);
+        assert!(rt; is_right_or_refused(engine, answer, &[entry(0, 1, 2)]));
+        let answer = prune(&rt, alloc, engine, &grid, &left, Test::Above(1));
+        assert!(rt; is_right_or_refused(engine, answer, &[entry(0, 0, 1)]));
+    }
     Ok(())
 }

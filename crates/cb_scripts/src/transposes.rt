@@ -1,6 +1,7 @@
 //! The transpose: blocks are sent across the diagonal of the grid.
 ghost use Rattle.std.specs.Prelude.{◌≡◌, IfOk, IfErr};
 ghost use Rattle.cb_matrix.specs.Operations.{transposed};
+ghost use Rattle.cb_scripts.specs.Refusals.{IsRunRefusal};
 
 use crate::runs::compute;
 use crate::{Engine, ScriptFault};
@@ -9,37 +10,41 @@ use cb_layout::{DistributedMatrix, Grid};
 use cb_matrix::{Matrix, Shape};
 use cb_semirings::Semiring;
 use std::alloc::Global;
+use std::sync::Wait;
+use std::thread::Threads;
 
 /// The transpose of a matrix. It costs the entries, which each rank sorts.
-pub fn transpose<S: Semiring>(
+pub fn transpose<S: Semiring + Send + Sync, R: Threads + Wait + Sync>(
+    rt: &R,
     alloc: Global,
     engine: Engine,
     grid: &Grid,
     matrix: &Matrix<S>,
 ) -> Result<Matrix<S>, ScriptFault>
     ensures ok { IfOk result (λ m. m ≡ transposed S.arithmetic matrix.now) }
-    ensures fault { IfErr result (λ f. f ≡ ScriptFault.Memory) }
+    ensures fault { IfErr result (IsRunRefusal engine) }
 {
-    let answer = transpose_distributed(alloc, engine, grid, matrix)?;
+    let answer = transpose_distributed(rt, alloc, engine, grid, matrix)?;
     Ok(answer.gather(alloc)?)
 }
 
 /// The transpose of a matrix, left in the blocks of the grid. All else is as in [`transpose`].
-pub fn transpose_distributed<S: Semiring>(
+pub fn transpose_distributed<S: Semiring + Send + Sync, R: Threads + Wait + Sync>(
+    rt: &R,
     alloc: Global,
     engine: Engine,
     grid: &Grid,
     matrix: &Matrix<S>,
 ) -> Result<DistributedMatrix<S>, ScriptFault>
     ensures ok { IfOk result (λ m. m ≡ record { side = grid.now.side; matrix = transposed S.arithmetic matrix.now }) }
-    ensures fault { IfErr result (λ f. f ≡ ScriptFault.Memory) }
+    ensures fault { IfErr result (IsRunRefusal engine) }
 {
     let shape = matrix.shape();
     let Ok(planned) = grid_transpose(alloc, grid, shape) else {
         return Err(ScriptFault::Memory);
     };
     let operands = [(LEFT, matrix)];
-    Ok(compute(alloc, engine, grid, planned, &operands, turned(shape))?)
+    compute(rt, alloc, engine, grid, planned, &operands, turned(shape))
 }
 
 /// As many rows as a shape has columns, and as many columns as it has rows.

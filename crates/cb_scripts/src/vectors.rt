@@ -9,12 +9,15 @@ use cb_layout::{DistributedMatrix, Grid};
 use cb_matrix::Matrix;
 use cb_semirings::Semiring;
 use std::alloc::Global;
+use std::sync::Wait;
+use std::thread::Threads;
 
 /// The product of a matrix and a vector, whose pieces are spread over all ranks.
 ///
 /// The vector has one column, and as many rows as the matrix has columns, else the answer is `Shapes`, before memory
 /// is asked for. It costs the products of entries that meet, and the entries of the two.
-pub fn vector<S: Semiring>(
+pub fn vector<S: Semiring + Send + Sync, R: Threads + Wait + Sync>(
+    rt: &R,
     alloc: Global,
     engine: Engine,
     grid: &Grid,
@@ -23,7 +26,7 @@ pub fn vector<S: Semiring>(
 ) -> Result<Matrix<S>, ScriptFault>
     ensures ok { IfOk result (λ m. m ≡ product S.arithmetic matrix.now vector.now) }
     ensures agree { IfOk result (λ m. (matrix.now.shape.cols ≡ vector.now.shape.rows) × (vector.now.shape.cols ≡ 1)) }
-    ensures fault { IfErr result (IsVectorRefusal matrix.now vector.now) }
+    ensures fault { IfErr result (IsVectorRefusal matrix.now vector.now engine) }
 {
     let (a, x) = (matrix.shape(), vector.shape());
     if a.cols() != x.rows() || x.cols() != 1 {
@@ -31,12 +34,13 @@ pub fn vector<S: Semiring>(
     }
     let plan = vector_plan(alloc, grid, a)?;
     let spread = DistributedMatrix::scatter(alloc, *grid, matrix)?;
-    let (_, product) = multiply_vector(alloc, engine, grid, &plan, spread, vector)?;
+    let (_, product) = multiply_vector(rt, alloc, engine, grid, &plan, spread, vector)?;
     Ok(product)
 }
 
 /// The product of a matrix and a vector, left in the blocks of the grid. All else is as in [`vector`].
-pub fn vector_distributed<S: Semiring>(
+pub fn vector_distributed<S: Semiring + Send + Sync, R: Threads + Wait + Sync>(
+    rt: &R,
     alloc: Global,
     engine: Engine,
     grid: &Grid,
@@ -45,8 +49,8 @@ pub fn vector_distributed<S: Semiring>(
 ) -> Result<DistributedMatrix<S>, ScriptFault>
     ensures ok { IfOk result (λ m. m ≡ record { side = grid.now.side; matrix = product S.arithmetic matrix.now vector.now }) }
     ensures agree { IfOk result (λ m. (matrix.now.shape.cols ≡ vector.now.shape.rows) × (vector.now.shape.cols ≡ 1)) }
-    ensures fault { IfErr result (IsVectorRefusal matrix.now vector.now) }
+    ensures fault { IfErr result (IsVectorRefusal matrix.now vector.now engine) }
 {
-    let product = crate::vector(alloc, engine, grid, matrix, vector)?;
+    let product = crate::vector(rt, alloc, engine, grid, matrix, vector)?;
     Ok(DistributedMatrix::scatter(alloc, *grid, &product)?)
 }

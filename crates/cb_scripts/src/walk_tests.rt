@@ -1,5 +1,5 @@
-//! Worked graphs on grids of several sides.
-use crate::tests::{SIDES, entry, grid, matrix};
+//! Worked graphs with each engine on grids of several sides.
+use crate::tests::{RUNS, entry, grid, matrix};
 use crate::{Engine, ScriptFault, distances, levels};
 use cb_matrix::Matrix;
 use cb_semirings::{MinPlus, OrAnd};
@@ -32,8 +32,8 @@ fn cycle(alloc: Global) -> Result<Matrix<MinPlus>, Fail> {
 fn levels_of_a_path(rt: HostRuntime) -> Result<(), Fail> {
     let graph = path(rt.alloc())?;
     let wanted = [entry(0, 0, 0), entry(1, 0, 1), entry(2, 0, 2)];
-    for side in SIDES {
-        let found = levels(rt.alloc(), Engine::Plain, &grid(side)?, &graph, 0)?;
+    for (engine, side) in RUNS {
+        let found = levels(&rt, rt.alloc(), engine, &grid(side)?, &graph, 0)?;
         assert!(rt; found.entries() == wanted.as_slice());
     }
     Ok(())
@@ -43,8 +43,8 @@ fn levels_of_a_path(rt: HostRuntime) -> Result<(), Fail> {
 fn a_cycle_of_no_weight(rt: HostRuntime) -> Result<(), Fail> {
     let graph = cycle(rt.alloc())?;
     let wanted = [entry(0, 0, 0), entry(1, 0, 0), entry(2, 0, 2)];
-    for side in SIDES {
-        let found = distances(rt.alloc(), Engine::Plain, &grid(side)?, &graph, 0)?;
+    for (engine, side) in RUNS {
+        let found = distances(&rt, rt.alloc(), engine, &grid(side)?, &graph, 0)?;
         assert!(rt; found.entries() == wanted.as_slice());
     }
     Ok(())
@@ -53,10 +53,10 @@ fn a_cycle_of_no_weight(rt: HostRuntime) -> Result<(), Fail> {
 #[test]
 fn no_such_source(rt: HostRuntime) -> Result<(), Fail> {
     let graph = path(rt.alloc())?;
-    let found = levels(rt.alloc(), Engine::Plain, &grid(2)?, &graph, 8);
+    let found = levels(&rt, rt.alloc(), Engine::Plain, &grid(2)?, &graph, 8);
     assert!(rt; matches!(found, Err(ScriptFault::Source)));
     let wide = matrix::<OrAnd>(rt.alloc(), 2, 3, &[]).ok_or("a matrix")?;
-    let found = levels(rt.alloc(), Engine::Plain, &grid(2)?, &wide, 8);
+    let found = levels(&rt, rt.alloc(), Engine::Plain, &grid(2)?, &wide, 8);
     assert!(rt; matches!(found, Err(ScriptFault::NotSquare)));
     Ok(())
 }

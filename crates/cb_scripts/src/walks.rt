@@ -10,7 +10,7 @@ ghost use Rattle.cb_semirings.specs.Tables.{min_plus};
 ghost use Rattle.cb_matrix.specs.Sparse.{at, value_at};
 ghost use Rattle.cb_matrix.specs.Operations.{transposed};
 ghost use Rattle.cb_scripts.specs.Walks.{infinite, AreLevels, AreDistances, unit_entry, unit_weights};
-ghost use Rattle.cb_scripts.specs.Refusals.{IsGraphRefusal};
+ghost use Rattle.cb_scripts.specs.Refusals.{IsGraphRefusal, IsRunRefusal};
 ghost use Rattle.cb_scripts.specs.Numbers.{number_at, AreNumbers, is_lower};
 
 use crate::rounds::{multiply_vector, vector_plan};
@@ -21,6 +21,8 @@ use cb_matrix::{Entry, Matrix, Shape};
 use cb_semirings::{MinPlus, OrAnd};
 use std::alloc::{AllocError, Global};
 use std::collections::BTreeMap;
+use std::sync::Wait;
+use std::thread::Threads;
 
 /// The number known of a vertex.
 fn number_of(known: &BTreeMap<u32, u64>, vertex: u32) -> u64
@@ -121,7 +123,8 @@ fn column_shape(graph: &Matrix<MinPlus>) -> Shape
 }
 
 /// The least weight of a walk from the source to each vertex.
-fn nearest(
+fn nearest<R: Threads + Wait + Sync>(
+    rt: &R,
     alloc: Global,
     engine: Engine,
     grid: &Grid,
@@ -131,11 +134,11 @@ fn nearest(
     requires square { graph.now.shape.rows ≡ graph.now.shape.cols }
     requires source { source < graph.now.shape.rows }
     ensures ok { IfOk result (λ column. AreDistances graph.now source column) }
-    ensures fault { IfErr result (λ f. f ≡ ScriptFault.Memory) }
+    ensures fault { IfErr result (IsRunRefusal engine) }
 {
     let _shape = graph.shape();
     let shape = column_shape(graph);
-    let mut turned = turned_over(alloc, engine, grid, graph)?;
+    let mut turned = turned_over(rt, alloc, engine, grid, graph)?;
     let plan = vector_plan(alloc, grid, turned.shape())?;
     let mut known = known_from(alloc, source)?;
     let mut fell = column_of(alloc, shape, &known)?;
@@ -144,7 +147,7 @@ fn nearest(
         if fell.is_empty() {
             break;
         }
-        let (matrix, reached) = multiply_vector(alloc, engine, grid, &plan, turned, &fell)?;
+        let (matrix, reached) = multiply_vector(rt, alloc, engine, grid, &plan, turned, &fell)?;
         turned = matrix;
         fell = take_lower(alloc, &mut known, &reached)?;
     }
@@ -153,16 +156,17 @@ fn nearest(
 }
 
 /// The transpose of a matrix, over a grid.
-fn turned_over(
+fn turned_over<R: Threads + Wait + Sync>(
+    rt: &R,
     alloc: Global,
     engine: Engine,
     grid: &Grid,
     graph: &Matrix<MinPlus>,
 ) -> Result<DistributedMatrix<MinPlus>, ScriptFault>
     ensures ok { IfOk result (λ m. m ≡ record { side = grid.now.side; matrix = transposed min_plus graph.now }) }
-    ensures fault { IfErr result (λ f. f ≡ ScriptFault.Memory) }
+    ensures fault { IfErr result (IsRunRefusal engine) }
 {
-    let turned = transpose(alloc, engine, grid, graph)?;
+    let turned = transpose(rt, alloc, engine, grid, graph)?;
     Ok(DistributedMatrix::scatter(alloc, *grid, &turned)?)
 }
 
@@ -195,7 +199,8 @@ fn unit_matrix(alloc: Global, graph: &Matrix<OrAnd>) -> Result<Matrix<MinPlus>, 
 /// Refused are `NotSquare`, then `Source` for one that is no vertex, before memory is asked for. The matrix is
 /// transposed once. A round is one run of the engine, and costs what the entries of the vertices that fell in the
 /// round before cost; there are at most as many as vertices.
-pub fn distances(
+pub fn distances<R: Threads + Wait + Sync>(
+    rt: &R,
     alloc: Global,
     engine: Engine,
     grid: &Grid,
@@ -204,7 +209,7 @@ pub fn distances(
 ) -> Result<Matrix<MinPlus>, ScriptFault>
     ensures ok { IfOk result (λ column. AreDistances graph.now source column) }
     ensures agree { IfOk result (λ column. (graph.now.shape.rows ≡ graph.now.shape.cols) × (source < graph.now.shape.rows)) }
-    ensures fault { IfErr result (IsGraphRefusal graph.now source) }
+    ensures fault { IfErr result (IsGraphRefusal graph.now source engine) }
 {
     if graph.rows() != graph.cols() {
         return Err(ScriptFault::NotSquare);
@@ -212,13 +217,14 @@ pub fn distances(
     if source >= graph.rows() {
         return Err(ScriptFault::Source);
     }
-    nearest(alloc, engine, grid, graph, source)
+    nearest(rt, alloc, engine, grid, graph, source)
 }
 
 /// The level of each vertex from a source: the least number of entries of a walk. Vertices without a walk are not
 /// stored. Refusals and cost are those of [`distances`]; the level of a vertex is its distance where each entry
 /// weighs 1. This is the breadth-first search of Buluç and Gilbert, The Combinatorial BLAS (IJHPCA 2011), section 5.
-pub fn levels(
+pub fn levels<R: Threads + Wait + Sync>(
+    rt: &R,
     alloc: Global,
     engine: Engine,
     grid: &Grid,
@@ -227,7 +233,7 @@ pub fn levels(
 ) -> Result<Matrix<MinPlus>, ScriptFault>
     ensures ok { IfOk result (λ column. AreLevels graph.now source column) }
     ensures agree { IfOk result (λ column. (graph.now.shape.rows ≡ graph.now.shape.cols) × (source < graph.now.shape.rows)) }
-    ensures fault { IfErr result (IsGraphRefusal graph.now source) }
+    ensures fault { IfErr result (IsGraphRefusal graph.now source engine) }
 {
     let shape = graph.shape();
     if shape.rows() != shape.cols() {
@@ -237,5 +243,5 @@ pub fn levels(
         return Err(ScriptFault::Source);
     }
     let weighted = unit_matrix(alloc, graph)?;
-    nearest(alloc, engine, grid, &weighted, source)
+    nearest(rt, alloc, engine, grid, &weighted, source)
 }

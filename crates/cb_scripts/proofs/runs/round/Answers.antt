@@ -4,17 +4,17 @@ use Rattle.cb_layout.specs.Distributed.{Distributed}
 use Rattle.cb_plan.specs.Algebras.{matrices}
 use Rattle.cb_plan.specs.Meaning.{State, meaning}
 use Rattle.cb_plan.specs.Stores.{state_of}
-use Rattle.cb_scripts.proofs.GatheredParts.{sheets_there, shapes_there, glued_gathered, over_grid}
+use Rattle.cb_scripts.proofs.GatheredParts.{filled_there, shapes_there, glued_gathered, over_grid}
 use Rattle.cb_scripts.proofs.runs.round.Goals as goal
 
-pub drain-requires-clause-sheets : goal.drain-requires-clause-sheets
-drain-requires-clause-sheets g c =
+pub drain-requires-clause-filled : goal.drain-requires-clause-filled
+drain-requires-clause-filled g c =
     let s = g.S.Semiring.arithmetic in
     let q = c.args.grid.now.side in
     let after = c.in_ok-stores.stores.items in
     let state : State Sparse = meaning (matrices s) c.args.plan.now.acts (state_of c.args.stores.items) in
     let ranks : length after ≡ q * q = c.in_ok-stores.ensures.table.rows ∙ c.requires.ranks in
-    sheets_there q c.args.shape c.args.slot after state c.in_ok-stores.ensures.meaning ranks c.requires.shapes
+    filled_there q c.args.shape c.args.slot after state c.in_ok-stores.ensures.meaning ranks c.requires.shapes
 
 pub from_blocks-requires-clause-count : goal.from_blocks-requires-clause-count
 from_blocks-requires-clause-count g c = c.in_ok-blocks.ensures.count ∙ c.in_ok-stores.ensures.table.rows ∙ c.requires.ranks
@@ -27,14 +27,14 @@ from_blocks-requires-clause-shapes g c i j l m =
     let blocks = c.in_ok-blocks.blocks.items in
     let state : State Sparse = meaning (matrices s) c.args.plan.now.acts (state_of c.args.stores.items) in
     let ranks : length after ≡ q * q = c.in_ok-stores.ensures.table.rows ∙ c.requires.ranks in
-    shapes_there c.args.slot after blocks c.in_ok-blocks.ensures.count c.in_ok-blocks.ensures.blocks q c.args.shape state ranks c.in_ok-stores.ensures.meaning c.requires.shapes i j l m
+    shapes_there c.args.slot after blocks c.in_ok-blocks.ensures.count c.in_ok-blocks.ensures.blocks state c.in_ok-stores.ensures.meaning q c.args.shape ranks c.requires.shapes i j l m
 
-pub returns : goal.returns
-returns g c =
+pub returns-clause-ok : goal.returns-clause-ok
+returns-clause-ok g c =
     let s = g.S.Semiring.arithmetic in
     let q = c.args.grid.now.side in
     let after = c.in_ok-stores.stores.items in
     let blocks = c.in_ok-blocks.blocks.items in
     let state : State Sparse = meaning (matrices s) c.args.plan.now.acts (state_of c.args.stores.items) in
-    let same = glued_gathered c.args.slot after blocks c.in_ok-blocks.ensures.count c.in_ok-blocks.ensures.blocks s q c.args.shape state c.in_ok-stores.ensures.meaning in
+    let same = glued_gathered c.args.slot after blocks c.in_ok-blocks.ensures.count c.in_ok-blocks.ensures.blocks state c.in_ok-stores.ensures.meaning s q c.args.shape in
     c.from_blocks.ensures ∙ ap (over_grid q) same

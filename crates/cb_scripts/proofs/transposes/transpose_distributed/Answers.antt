@@ -1,20 +1,23 @@
 use Rattle.std.proofs.Common.{◌≡◌, sym, ◌∙◌}
 use Rattle.cb_matrix.specs.Operations.{transposed}
+use Rattle.cb_scripts.proofs.Making.{this_made}
 use Rattle.cb_scripts.proofs.KernelPlans.{transpose_made}
 use Rattle.cb_scripts.proofs.transposes.transpose_distributed.Goals as goal
 
-pub compute-requires : goal.compute-requires
-compute-requires g c =
+pub compute-requires-clause-makes : goal.compute-requires-clause-makes
+compute-requires-clause-makes g c κs lives =
     let s = g.S.Semiring.arithmetic in
+    let laws = (g.met.S.Semiring g.world.𝓛 g.world.𝓜 g.world.𝓡 ((λ s x. x), (λ x. x), (λ x. x), λ x. x)).is_semiring in
     let a = c.args.matrix.now in
     let shape = c.shape-shape.ensures.shape in
     let shaped : (transposed s a).shape ≡ c.turned.result = sym (c.turned.ensures ∙ (λ t. record { rows = (shape t).cols; cols = (shape t).rows })) in
-    (transposed s a, transpose_made s g.met.S.Semiring.is_semiring c.args.grid.now.side c.in-Ok.planned c.in-Ok.ensures.ranks c.in-Ok.ensures.runnable c.in-Ok.ensures.slot a c.shape-shape.ensures.matrix (rw shape at c.in-Ok.ensures.starts) (rw shape at c.in-Ok.ensures.transpose) c.turned.result shaped)
+    (transposed s a, transpose_made s laws c.args.grid.now.side c.in-Ok.planned c.in-Ok.ensures.ranks c.in-Ok.ensures.runnable c.in-Ok.ensures.slot a c.shape-shape.ensures.matrix (rw shape at c.in-Ok.ensures.starts) (rw shape at c.in-Ok.ensures.transpose) c.turned.result shaped)
 
 pub returns-clause-ok : goal.returns-clause-ok
 returns-clause-ok g c =
     let s = g.S.Semiring.arithmetic in
+    let laws = (g.met.S.Semiring g.world.𝓛 g.world.𝓜 g.world.𝓡 ((λ s x. x), (λ x. x), (λ x. x), λ x. x)).is_semiring in
     let a = c.args.matrix.now in
     let shape = c.shape-shape.ensures.shape in
     let shaped : (transposed s a).shape ≡ c.turned.result = sym (c.turned.ensures ∙ (λ t. record { rows = (shape t).cols; cols = (shape t).rows })) in
-    c.in_ok-compute.ensures (transposed s a) (transpose_made s g.met.S.Semiring.is_semiring c.args.grid.now.side c.in-Ok.planned c.in-Ok.ensures.ranks c.in-Ok.ensures.runnable c.in-Ok.ensures.slot a c.shape-shape.ensures.matrix (rw shape at c.in-Ok.ensures.starts) (rw shape at c.in-Ok.ensures.transpose) c.turned.result shaped)
+    this_made c.compute.result c.compute.ensures.ok (transposed s a) (transpose_made s laws c.args.grid.now.side c.in-Ok.planned c.in-Ok.ensures.ranks c.in-Ok.ensures.runnable c.in-Ok.ensures.slot a c.shape-shape.ensures.matrix (rw shape at c.in-Ok.ensures.starts) (rw shape at c.in-Ok.ensures.transpose) c.turned.result shaped)

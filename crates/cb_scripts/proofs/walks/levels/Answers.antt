@@ -6,7 +6,7 @@ use Rattle.cb_scripts.proofs.UnitWeights.{levels_are}
 use Rattle.cb_scripts.proofs.walks.levels.Goals as goal
 
 pub returns-clause-ok : goal.returns-clause-ok
-returns-clause-ok c =
+returns-clause-ok g c =
     let a = c.args.graph.now in
     let rows : c.rows.result ≡ a.shape.rows = c.rows.ensures.value ∙ ap (λ (e : Extent). e.rows) c.shape-shape.ensures.shape in
     let again : c.rows-2.result ≡ a.shape.rows = c.rows-2.ensures.value ∙ ap (λ (e : Extent). e.rows) c.shape-shape.ensures.shape in

@@ -12,11 +12,11 @@ use Rattle.cb_scripts.proofs.walks.nearest.Goals as goal
 use Rattle.cb_scripts.proofs.walks.nearest.Goals.{else-loop-round-test, then-loop-round-test+then-is_empty}
 
 pub column_of-requires-clause-finite : goal.column_of-requires-clause-finite
-column_of-requires-clause-finite c =
+column_of-requires-clause-finite g c =
     subst (λ (e : Extent). AreNumbers e.rows c.in_ok-known.known) (sym c.column_shape-shape.ensures) (c.in_ok-known.ensures.finite c.args.graph.now.shape.rows c.requires.source)
 
 pub loop-round-init : goal.loop-round-init
-loop-round-init c = record {
+loop-round-init g c = record {
   nearing = started c.args.graph.now c.args.source (number_at c.in_ok-known.known) (λ u. at min_plus c.in_ok-fell.fell u 0) c.in_ok-known.ensures.here c.in_ok-known.ensures.there c.in_ok-fell.ensures.values;
   shape = c.in_ok-fell.ensures.shape ∙ c.column_shape-shape.ensures;
   finite = c.in_ok-known.ensures.finite c.args.graph.now.shape.rows c.requires.source;
@@ -24,28 +24,28 @@ loop-round-init c = record {
 }
 
 pub multiply_vector-requires-clause-side : goal.multiply_vector-requires-clause-side
-multiply_vector-requires-clause-side c = ap (λ (m : Distributed). m.side) c.loop-round.invariant.turned
+multiply_vector-requires-clause-side g c κs lives = ap (λ (m : Distributed). m.side) c.loop-round.invariant.turned
 
 pub multiply_vector-requires-clause-plan : goal.multiply_vector-requires-clause-plan
-multiply_vector-requires-clause-plan c =
+multiply_vector-requires-clause-plan g c κs lives =
     subst (λ (d : Extent). MultipliesVectors c.args.grid.now.side d c.in_ok-plan.plan)
     (c.shape.ensures.shape ∙ ap (λ (m : Distributed). m.matrix.shape) (c.in_ok-turned.ensures.ok ∙ sym c.loop-round.invariant.turned)) c.in_ok-plan.ensures
 
 pub multiply_vector-requires-clause-vector : goal.multiply_vector-requires-clause-vector
-multiply_vector-requires-clause-vector c = c.loop-round.invariant.shape ∙ ap (λ (m : Distributed). column m.matrix.shape.cols) (sym c.loop-round.invariant.turned)
+multiply_vector-requires-clause-vector g c κs lives = c.loop-round.invariant.shape ∙ ap (λ (m : Distributed). column m.matrix.shape.cols) (sym c.loop-round.invariant.turned)
 
 pub take_lower-requires-clause-column : goal.take_lower-requires-clause-column
-take_lower-requires-clause-column c =
+take_lower-requires-clause-column g c =
     let turned = ap (λ (m : Distributed). m.matrix) c.loop-round.invariant.turned in
     ap (λ (e : Extent). e.cols) (round_shape c.args.graph.now c.loop-round.fell c.in_ok-matrix.reached c.loop-round.turned.matrix c.requires.square c.loop-round.invariant.shape turned c.in_ok-matrix.ensures.product)
 
 pub take_lower-requires-clause-finite : goal.take_lower-requires-clause-finite
-take_lower-requires-clause-finite c =
+take_lower-requires-clause-finite g c =
     let turned = ap (λ (m : Distributed). m.matrix) c.loop-round.invariant.turned in
     subst (λ (e : Extent). AreNumbers e.rows c.loop-round.known) (sym (round_shape c.args.graph.now c.loop-round.fell c.in_ok-matrix.reached c.loop-round.turned.matrix c.requires.square c.loop-round.invariant.shape turned c.in_ok-matrix.ensures.product)) c.loop-round.invariant.finite
 
 pub loop-round-preserved : goal.loop-round-preserved
-loop-round-preserved c =
+loop-round-preserved g c =
     let a = c.args.graph.now in
     let fell = c.loop-round.fell in
     let reached = c.in_ok-matrix.reached in
@@ -62,7 +62,7 @@ loop-round-preserved c =
     }
 
 pub returns-clause-ok : goal.returns-clause-ok
-returns-clause-ok c =
+returns-clause-ok g c =
     let a = c.args.graph.now in
     let s = c.args.source in
     let d = number_at c.loop-round.known in

@@ -9,7 +9,7 @@ use Rattle.cb_scripts.proofs.walks.nearest.Given as goal
 
 -- the known numbers near the least ones, and the matrix is the transposed graph
 abbrev pub invariant-loop-round : goal.invariant-loop-round
-invariant-loop-round l = record {
+invariant-loop-round g l = record {
   nearing : Nearing l.fn.graph l.fn.source l._round (number_at l.known) (λ u. at min_plus l.fell u 0);
   shape : l.fell.shape ≡ column_shape l.fn.graph;
   finite : AreNumbers l.fn.graph.shape.rows l.known;
