@@ -47,7 +47,7 @@ IsJobEnding holds refuses job old new Memory = Keeps old new
 IsJobEnding holds refuses job old new (Unreadable which) = IsUnloaded holds refuses job.files.items (load_is.Unreadable which) × Keeps old new
 IsJobEnding holds refuses job old new (Fault fault) =
     (texts : List (List ℕ)) × AreTexts holds job.files.items texts
-    × IsFault job.task texts fault
+    × IsFault job.task job.engine texts fault
     × (fault ≢ job_is.Output → Keeps old new)
     × (fault ≡ job_is.Output → (t : List ℕ) × IsAnswer job.task texts t × AppendsPrefix old new t)
 

@@ -25,6 +25,8 @@ use cb_scripts::{
 };
 use cb_semirings::{MaxMin, MinPlus, OrAnd, PlusTimes, Semiring};
 use std::alloc::{AllocError, Global};
+use std::sync::Wait;
+use std::thread::Threads;
 use thiserror::Error;
 
 /// Why a job has no answer, in the order in which the reasons are looked for.
@@ -81,7 +83,8 @@ fn read_text<S: Semiring>(
 }
 
 /// What an operation makes of matrices, on the job's grid.
-fn computed<S: Semiring>(
+fn computed<S: Semiring + Send + Sync, R: Threads + Wait + Sync>(
+    rt: &R,
     alloc: Global,
     job: &Job,
     operation: Operation,
@@ -90,26 +93,27 @@ fn computed<S: Semiring>(
     requires { length operands.now ≡ operand_count_of operation }
     ensures ok { IfOk result (λ m. m.matrix ≡ answer_of operation S.arithmetic operands.now) }
     ensures agree { IfOk result (λ m. Agree operation operands.now) }
-    ensures fault { IfErr result (IsRefusal operation operands.now) }
+    ensures fault { IfErr result (IsRefusal operation operands.now job.now.engine) }
 {
     let (engine, grid, first) = (job.engine, &job.grid, &operands[0]);
     match operation {
-        Operation::Multiply => multiply_distributed(alloc, engine, grid, first, &operands[1]),
+        Operation::Multiply => multiply_distributed(rt, alloc, engine, grid, first, &operands[1]),
         Operation::MultiplyMasked => {
-            multiply_masked_distributed(alloc, engine, grid, first, &operands[1], &operands[2])
+            multiply_masked_distributed(rt, alloc, engine, grid, first, &operands[1], &operands[2])
         }
         Operation::MultiplyVector => {
-            vector_distributed(alloc, engine, grid, first, &operands[1])
+            vector_distributed(rt, alloc, engine, grid, first, &operands[1])
         }
-        Operation::Transpose => transpose_distributed(alloc, engine, grid, first),
-        Operation::Add => add_distributed(alloc, engine, grid, first, &operands[1]),
-        Operation::Times => times_distributed(alloc, engine, grid, first, &operands[1]),
-        Operation::Prune(test) => prune_distributed(alloc, engine, grid, first, test),
+        Operation::Transpose => transpose_distributed(rt, alloc, engine, grid, first),
+        Operation::Add => add_distributed(rt, alloc, engine, grid, first, &operands[1]),
+        Operation::Times => times_distributed(rt, alloc, engine, grid, first, &operands[1]),
+        Operation::Prune(test) => prune_distributed(rt, alloc, engine, grid, first, test),
     }
 }
 
 /// The same, or the fault of the job.
-fn answer<S: Semiring>(
+fn answer<S: Semiring + Send + Sync, R: Threads + Wait + Sync>(
+    rt: &R,
     alloc: Global,
     job: &Job,
     operation: Operation,
@@ -118,14 +122,15 @@ fn answer<S: Semiring>(
     requires { length operands.now ≡ operand_count_of operation }
     ensures ok { IfOk result (λ m. m.matrix ≡ answer_of operation S.arithmetic operands.now) }
     ensures agree { IfOk result (λ m. Agree operation operands.now) }
-    ensures fault { IfErr result (IsLateFault operation operands.now) }
+    ensures fault { IfErr result (IsLateFault operation operands.now job.now.engine) }
 {
-    let answer = computed(alloc, job, operation, operands)?;
+    let answer = computed(rt, alloc, job, operation, operands)?;
     Ok(answer)
 }
 
 /// What an operation makes of texts over a semiring, on the job's grid.
-fn answer_over<S: Semiring>(
+fn answer_over<S: Semiring + Send + Sync, R: Threads + Wait + Sync>(
+    rt: &R,
     alloc: Global,
     job: &Job,
     operation: Operation,
@@ -133,23 +138,24 @@ fn answer_over<S: Semiring>(
 ) -> Result<DistributedMatrix<S>, JobFault>
     requires { length texts.now ≡ operand_count_of operation }
     ensures ok { IfOk result (λ m. IsAnswerOver operation S.arithmetic (bytes_of texts.now) (text_of S.arithmetic m.matrix)) }
-    ensures fault { IfErr result (IsFaultOver operation S.arithmetic (bytes_of texts.now)) }
+    ensures fault { IfErr result (IsFaultOver operation S.arithmetic job.now.engine (bytes_of texts.now)) }
     ensures unwritten { IfErr result (λ f. f ≢ JobFault.Output) }
 {
     let first = read_text::<S>(alloc, texts, 0)?;
     if texts.len() == 1 {
-        return answer(alloc, job, operation, &[first]);
+        return answer(rt, alloc, job, operation, &[first]);
     }
     let second = read_text::<S>(alloc, texts, 1)?;
     if texts.len() == 2 {
-        return answer(alloc, job, operation, &[first, second]);
+        return answer(rt, alloc, job, operation, &[first, second]);
     }
     let third = read_text::<S>(alloc, texts, 2)?;
-    answer(alloc, job, operation, &[first, second, third])
+    answer(rt, alloc, job, operation, &[first, second, third])
 }
 
 /// Writes what an operation makes of texts over a semiring.
-fn execute_over<S: Semiring, K: Sink>(
+fn execute_over<S: Semiring + Send + Sync, R: Threads + Wait + Sync, K: Sink>(
+    rt: &R,
     alloc: Global,
     job: &Job,
     operation: Operation,
@@ -159,17 +165,18 @@ fn execute_over<S: Semiring, K: Sink>(
     requires texts { length texts.now ≡ operand_count_of operation }
     requires works { K.has_failed out.old ≡ false }
     ensures whole { OnOk result ((t : List ℕ) × IsAnswerOver operation S.arithmetic (bytes_of texts.now) t × Appends (K.written out.old) (K.written out.new) t) }
-    ensures fault { IfErr result (IsFaultOver operation S.arithmetic (bytes_of texts.now)) }
+    ensures fault { IfErr result (IsFaultOver operation S.arithmetic job.now.engine (bytes_of texts.now)) }
     ensures nothing { IfErr result (λ f. f ≢ JobFault.Output → Keeps (K.written out.old) (K.written out.new)) }
     ensures output { IsErrOf result JobFault.Output → (t : List ℕ) × IsAnswerOver operation S.arithmetic (bytes_of texts.now) t × AppendsPrefix (K.written out.old) (K.written out.new) t }
     ensures failed { IsErrOf result JobFault.Output ↔ (K.has_failed out.new ≡ true) }
 {
-    let answer = answer_over::<S>(alloc, job, operation, texts)?;
+    let answer = answer_over::<S, R>(rt, alloc, job, operation, texts)?;
     put_text(alloc, &answer, out)
 }
 
 /// Writes what an operation makes of texts over the semiring of a name.
-fn execute_named<K: Sink>(
+fn execute_named<R: Threads + Wait + Sync, K: Sink>(
+    rt: &R,
     alloc: Global,
     job: &Job,
     operation: Operation,
@@ -180,23 +187,26 @@ fn execute_named<K: Sink>(
     requires texts { length texts.now ≡ operand_count_of operation }
     requires works { K.has_failed out.old ≡ false }
     ensures whole { OnOk result ((t : List ℕ) × IsAnswerOver operation (arithmetic_of semiring) (bytes_of texts.now) t × Appends (K.written out.old) (K.written out.new) t) }
-    ensures fault { IfErr result (IsFaultOver operation (arithmetic_of semiring) (bytes_of texts.now)) }
+    ensures fault { IfErr result (IsFaultOver operation (arithmetic_of semiring) job.now.engine (bytes_of texts.now)) }
     ensures nothing { IfErr result (λ f. f ≢ JobFault.Output → Keeps (K.written out.old) (K.written out.new)) }
     ensures output { IsErrOf result JobFault.Output → (t : List ℕ) × IsAnswerOver operation (arithmetic_of semiring) (bytes_of texts.now) t × AppendsPrefix (K.written out.old) (K.written out.new) t }
     ensures failed { IsErrOf result JobFault.Output ↔ (K.has_failed out.new ≡ true) }
 {
     match semiring {
         SemiringName::PlusTimes => {
-            execute_over::<PlusTimes, K>(alloc, job, operation, texts, out)
+            execute_over::<PlusTimes, R, K>(rt, alloc, job, operation, texts, out)
         }
-        SemiringName::MinPlus => execute_over::<MinPlus, K>(alloc, job, operation, texts, out),
-        SemiringName::OrAnd => execute_over::<OrAnd, K>(alloc, job, operation, texts, out),
-        SemiringName::MaxMin => execute_over::<MaxMin, K>(alloc, job, operation, texts, out),
+        SemiringName::MinPlus => execute_over::<MinPlus, R, K>(
+            rt, alloc, job, operation, texts, out,
+        ),
+        SemiringName::OrAnd => execute_over::<OrAnd, R, K>(rt, alloc, job, operation, texts, out),
+        SemiringName::MaxMin => execute_over::<MaxMin, R, K>(rt, alloc, job, operation, texts, out),
     }
 }
 
 /// The levels of the graph of a text from a source.
-fn levels_of(
+fn levels_of<R: Threads + Wait + Sync>(
+    rt: &R,
     alloc: Global,
     job: &Job,
     source: u32,
@@ -205,17 +215,18 @@ fn levels_of(
     requires { 0 < length texts.now }
     ensures ok { IfOk result (λ column. IsWalkAnswer AreLevels or_and source (bytes_of texts.now) (vertex_text_of column)) }
     ensures column { IfOk result (λ column. column.shape.cols ≡ 1) }
-    ensures fault { IfErr result (IsWalkFault or_and source (bytes_of texts.now)) }
+    ensures fault { IfErr result (IsWalkFault or_and source job.now.engine (bytes_of texts.now)) }
     ensures unwritten { IfErr result (λ f. f ≢ JobFault.Output) }
 {
     let graph = read_text::<OrAnd>(alloc, texts, 0)?;
-    let column = levels(alloc, job.engine, &job.grid, &graph, source)?;
+    let column = levels(rt, alloc, job.engine, &job.grid, &graph, source)?;
     let _shape = column.shape();
     Ok(column)
 }
 
 /// The distances in the graph of a text from a source.
-fn distances_of(
+fn distances_of<R: Threads + Wait + Sync>(
+    rt: &R,
     alloc: Global,
     job: &Job,
     source: u32,
@@ -224,11 +235,11 @@ fn distances_of(
     requires { 0 < length texts.now }
     ensures ok { IfOk result (λ column. IsWalkAnswer AreDistances min_plus source (bytes_of texts.now) (vertex_text_of column)) }
     ensures column { IfOk result (λ column. column.shape.cols ≡ 1) }
-    ensures fault { IfErr result (IsWalkFault min_plus source (bytes_of texts.now)) }
+    ensures fault { IfErr result (IsWalkFault min_plus source job.now.engine (bytes_of texts.now)) }
     ensures unwritten { IfErr result (λ f. f ≢ JobFault.Output) }
 {
     let graph = read_text::<MinPlus>(alloc, texts, 0)?;
-    let column = distances(alloc, job.engine, &job.grid, &graph, source)?;
+    let column = distances(rt, alloc, job.engine, &job.grid, &graph, source)?;
     let _shape = column.shape();
     Ok(column)
 }
@@ -241,7 +252,8 @@ fn distances_of(
 /// The faults come in their order: the first text that is no matrix, then shapes that don't agree, a graph whose
 /// matrix isn't square or a source that is none of its vertices, then want of memory, then `Output`. Costs the
 /// reading, what is computed and the writing.
-pub fn execute<K: Sink>(
+pub fn execute<R: Threads + Wait + Sync, K: Sink>(
+    rt: &R,
     alloc: Global,
     job: &Job,
     texts: &[Vec<u8>],
@@ -250,7 +262,7 @@ pub fn execute<K: Sink>(
     requires texts { length texts.now ≡ vec_len job.now.files }
     requires works { K.has_failed out.old ≡ false }
     ensures whole { OnOk result ((t : List ℕ) × IsAnswer job.now.task (bytes_of texts.now) t × Appends (K.written out.old) (K.written out.new) t) }
-    ensures fault { IfErr result (IsFault job.now.task (bytes_of texts.now)) }
+    ensures fault { IfErr result (IsFault job.now.task job.now.engine (bytes_of texts.now)) }
     ensures nothing { IfErr result (λ f. f ≢ JobFault.Output → Keeps (K.written out.old) (K.written out.new)) }
     ensures output { IsErrOf result JobFault.Output → (t : List ℕ) × IsAnswer job.now.task (bytes_of texts.now) t × AppendsPrefix (K.written out.old) (K.written out.new) t }
     ensures failed { IsErrOf result JobFault.Output ↔ (K.has_failed out.new ≡ true) }
@@ -259,20 +271,21 @@ pub fn execute<K: Sink>(
         Task::Matrix {
             operation,
             semiring,
-        } => execute_named(alloc, job, operation, semiring, texts, out),
+        } => execute_named(rt, alloc, job, operation, semiring, texts, out),
         Task::Levels { source } => {
-            let column = levels_of(alloc, job, source, texts)?;
+            let column = levels_of(rt, alloc, job, source, texts)?;
             put_column(alloc, &column, out)
         }
         Task::Distances { source } => {
-            let column = distances_of(alloc, job, source, texts)?;
+            let column = distances_of(rt, alloc, job, source, texts)?;
             put_column(alloc, &column, out)
         }
     }
 }
 
 /// The status that the program ends with: 4 for a text that is no matrix, 5 for shapes that don't
-/// agree, a matrix that isn't square or a source that is no vertex, 6 for want of memory, 7 for output.
+/// agree, a matrix that isn't square or a source that is no vertex, 6 for want of memory and for
+/// ranks that weren't started, were left alone or lost a block, 7 for output.
 pub fn status(fault: &JobFault) -> u8
     ensures { result ≡ status_of fault.now }
 {
@@ -282,7 +295,12 @@ pub fn status(fault: &JobFault) -> u8
             _ => 4,
         },
         JobFault::Script(ScriptFault::Shapes | ScriptFault::NotSquare | ScriptFault::Source) => 5,
-        JobFault::Script(ScriptFault::Memory) => 6,
+        JobFault::Script(
+            ScriptFault::Memory
+            | ScriptFault::NotStarted(_)
+            | ScriptFault::Gone(_)
+            | ScriptFault::Lost(_),
+        ) => 6,
         JobFault::Memory => 6,
         JobFault::Output => 7,
     }

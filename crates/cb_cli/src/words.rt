@@ -16,7 +16,7 @@ use std::alloc::{AllocError, Global};
 use std::rt::Env;
 use std::{env, io};
 
-static ENGINES: [&str; 1] = ["plain"];
+static ENGINES: [&str; 2] = ["plain", "ranks"];
 
 static TESTS: [&str; 3] = ["below", "above", "equal"];
 
@@ -33,7 +33,7 @@ Exit status:
   3  a file can't be read
   4  a file is no matrix
   5  the shapes don't agree, a graph's matrix isn't square, or it has no such source
-  6  memory was refused
+  6  memory was refused, or a thread
   7  the answer can't be written"
         )
     };
@@ -140,8 +140,19 @@ fn engine_option<'a>(alloc: Global) -> Arg<'a> {
         .long("engine")
         .value_name("ENGINE")
         .value_parser(ENGINES.as_slice())
-        .default_value("plain")
-        .help("What runs the plan of the ranks")
+        .default_value("ranks")
+        .help(
+            "What runs the ranks: plain all of them on one thread, ranks each in a thread of its own",
+        )
+}
+
+fn lane_option<'a>(alloc: Global) -> Arg<'a> {
+    Arg::new(alloc, "lane")
+        .long("lane")
+        .value_name("N")
+        .value_parser(value_parser!(u32).range(1..=64))
+        .default_value("2")
+        .help("How many blocks may be on the way from a rank to another, 1 to 64")
 }
 
 fn mask_option<'a>(alloc: Global) -> Arg<'a> {
@@ -195,6 +206,7 @@ fn with_common<'a>(alloc: Global, command: Command<'a>) -> Result<Command<'a>, A
     command
         .arg(grid_option(alloc))?
         .arg(engine_option(alloc))?
+        .arg(lane_option(alloc))?
         .arg(help_option(alloc))
 }
 
@@ -325,6 +337,7 @@ fn files_of(
 fn engine_of(found: &ArgMatches<'_>) -> Option<Engine> {
     match found.get_str("engine")? {
         "plain" => Some(Engine::Plain),
+        "ranks" => Some(Engine::Ranks(found.get_one::<u32>("lane")? as usize)),
         _ => None,
     }
 }

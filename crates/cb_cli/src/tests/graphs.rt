@@ -1,7 +1,7 @@
 //! Levels and distances of the vertices of a graph, by `execute`.
 use crate::runs::{JobFault, status};
 use crate::sinks::WriterSink;
-use crate::tests::products::{run_into, writes_on_each_grid};
+use crate::tests::products::{run_into, writes_in_each_run};
 use crate::tests::sinks::Short;
 use cb_scripts::ScriptFault;
 use std::test::Fail;
@@ -16,17 +16,28 @@ const WEIGHTLESS: &str =
 const WIDE: &str = "%%MatrixMarket matrix coordinate integer general\n2 3 0\n";
 
 #[test]
-fn are_counted_from_a_source(rt: HostRuntime) {
+fn are_levels(rt: HostRuntime) {
     for (command, text, wanted) in [
         ("bfs a --source 1", CYCLE, "1 0\n2 1\n3 2\n"),
         ("bfs a --source 4", CYCLE, "4 0\n"),
         ("bfs a --source 2", WEIGHTLESS, "2 0\n3 1\n"),
+    ] {
+        assert!(rt;
+            writes_in_each_run(&rt, command, &[text], wanted.as_bytes()),
+            "{command}"
+        );
+    }
+}
+
+#[test]
+fn are_distances(rt: HostRuntime) {
+    for (command, text, wanted) in [
         ("relax a --source 1", WEIGHTLESS, "1 0\n2 0\n3 2\n"),
         ("relax a --source 3", WEIGHTLESS, "3 0\n"),
         ("relax a --source 1", CYCLE, "1 0\n2 1\n3 2\n"),
     ] {
         assert!(rt;
-            writes_on_each_grid(&rt, command, &[text], wanted.as_bytes()),
+            writes_in_each_run(&rt, command, &[text], wanted.as_bytes()),
             "{command}"
         );
     }
@@ -56,7 +67,7 @@ fn stop_where_the_writer_fails(rt: HostRuntime) {
     let whole = "1 0\n2 1\n3 2\n".as_bytes();
     for room in 0..12 {
         let mut out = Short::new(rt.alloc(), room, usize::MAX);
-        let fault = run_into(&rt, "bfs a --source 1", &[CYCLE], &mut out);
+        let fault = run_into(&rt, "bfs a --source 1 --engine plain", &[CYCLE], &mut out);
         assert!(rt; fault == Err(JobFault::Output), "{room}");
         assert!(rt; out.bytes() == &whole[..room], "{room}");
     }

@@ -37,6 +37,7 @@ const fn plus_times(operation: Operation) -> Task {
 fn reads_a_product(rt: HostRuntime) -> Result<(), Fail> {
     let job = job(rt.alloc(), "cbgrid multiply left.mtx right.mtx")?;
     assert!(rt; job.task == plus_times(Operation::Multiply));
+    assert!(rt; job.engine == Engine::Ranks(2));
     assert_eq!(rt; job.grid.side(), 2);
     assert_eq!(rt; job.files().len(), 2);
     assert!(rt; job.files()[0].as_str() == "left.mtx");
@@ -53,6 +54,23 @@ fn reads_the_options_of_a_product(rt: HostRuntime) -> Result<(), Fail> {
     assert_eq!(rt; job.grid.side(), 6);
     assert_eq!(rt; job.files().len(), 3);
     assert!(rt; job.files()[2].as_str() == "kept.mtx");
+    Ok(())
+}
+
+#[test]
+fn reads_each_engine(rt: HostRuntime) -> Result<(), Fail> {
+    let wanted = [
+        ("cbgrid transpose a --engine ranks", Engine::Ranks(2)),
+        ("cbgrid transpose a --lane 1", Engine::Ranks(1)),
+        (
+            "cbgrid bfs a --lane=64 --source 1 --engine ranks",
+            Engine::Ranks(64),
+        ),
+        ("cbgrid transpose a --engine plain --lane 64", Engine::Plain),
+    ];
+    for (line, engine) in wanted {
+        assert!(rt; job(rt.alloc(), line)?.engine == engine, "{line}");
+    }
     Ok(())
 }
 
@@ -152,6 +170,10 @@ fn refuses_what_is_not_offered(rt: HostRuntime) {
         "cbgrid multiply a b --grid two",
         "cbgrid multiply a b --engine",
         "cbgrid multiply a b --engine steam",
+        "cbgrid multiply a b --lane 0",
+        "cbgrid multiply a b --lane 65",
+        "cbgrid multiply a b --lane wide",
+        "cbgrid multiply a b --lane 1 --lane 2",
         "cbgrid multiply a b --mask",
         "cbgrid multiply a b --mask m --mask m",
         "cbgrid multiply a b --colour",
@@ -251,6 +273,21 @@ fn ends_with_a_status_and_prints_a_line(rt: HostRuntime) -> Result<(), Fail> {
             JobFault::Script(ScriptFault::Memory),
             6,
             "cbgrid: out of memory\n",
+        ),
+        (
+            JobFault::Script(ScriptFault::NotStarted(35)),
+            6,
+            "cbgrid: rank 35 not started\n",
+        ),
+        (
+            JobFault::Script(ScriptFault::Gone(0)),
+            6,
+            "cbgrid: rank 0 gone\n",
+        ),
+        (
+            JobFault::Script(ScriptFault::Lost(7)),
+            6,
+            "cbgrid: lost at rank 7\n",
         ),
         (JobFault::Memory, 6, "cbgrid: out of memory\n"),
         (JobFault::Output, 7, "cbgrid: can't write\n"),
