@@ -7,8 +7,9 @@ use Rattle.cb_layout.specs.Distributed.{Distributed}
 use Rattle.cb_market.specs.Reads.{Reads}
 use Rattle.cb_cli.specs.Files.{text_at}
 use Rattle.cb_market.specs.Text.{text_of}
-use Rattle.cb_cli.specs.Jobs.{file_count_of}
+use Rattle.cb_cli.specs.Jobs.{operand_count_of}
 use Rattle.cb_cli.specs.Answers.{matrix_at, IsMatrixText, AreMatrices, Agree, answer_of, IsAnswerOver, IsLateFault, IsFaultOver}
+use Rattle.cb_scripts.specs.declared.Engine.{Engine}
 use Rattle.cb_cli.specs.declared.jobs.Operation.{Operation}
 use Rattle.cb_cli.specs.declared.jobs.Operation.TheVariants as op_is
 use Rattle.cb_cli.specs.declared.runs.JobFault.{JobFault}
@@ -47,25 +48,25 @@ module _ (s : Arithmetic) (texts : List (List ℕ)) where
   pub before_third : (a b : Sparse) → Reads s (text_at texts 0) a → Reads s (text_at texts 1) b → (i : ℕ) → i < 2 → IsMatrixText s (text_at texts i)
   before_third a b is_a is_b i l = (matrix_at (a ∷ b ∷ []) i, both_read a b is_a is_b i l)
 
-  module _ (operation : Operation) (ms : List Sparse) (are : AreMatrices s texts ms) where
+  module _ (operation : Operation) (ms : List Sparse) (engine : Engine) (are : AreMatrices s texts ms) where
     -- the answer of the matrices is that of the texts
     pub answered : {E : Type 0} (r : Result Distributed E) → IfOk r (λ m. m.matrix ≡ answer_of operation s ms) → IfOk r (λ m. Agree operation ms) → IfOk r (λ m. IsAnswerOver operation s texts (text_of s m.matrix))
     answered (Ok m) h agree = (ms, are, agree, ap (text_of s) h)
     answered (Err e) h agree = h
 
-    met_late : (f : JobFault) → IsLateFault operation ms f → IsFaultOver operation s texts f
+    met_late : (f : JobFault) → IsLateFault operation ms engine f → IsFaultOver operation s engine texts f
     met_late (Read which fault) h = absurd h
     met_late (Script fault) h = (ms, are, h)
     met_late Memory h = (ms, are, h)
     met_late Output h = absurd h
 
     -- and why there is none is so too
-    pub refused : {X : Type 0} (r : Result X JobFault) → IfErr r (IsLateFault operation ms) → IfErr r (IsFaultOver operation s texts)
+    pub refused : {X : Type 0} (r : Result X JobFault) → IfErr r (IsLateFault operation ms engine) → IfErr r (IsFaultOver operation s engine texts)
     refused (Ok x) h = h
     refused (Err f) h = met_late f h
 
 -- an operation that doesn't read one or two files reads three
-pub three_left : (operation : Operation) (n : ℕ) → n ≡ file_count_of operation → n ≢ 1 → n ≢ 2 → n ≡ 3
+pub three_left : (operation : Operation) (n : ℕ) → n ≡ operand_count_of operation → n ≢ 1 → n ≢ 2 → n ≡ 3
 three_left op_is.Multiply n e a b = absurd (b e)
 three_left op_is.MultiplyMasked n e a b = e
 three_left op_is.MultiplyVector n e a b = absurd (b e)

@@ -1,24 +1,29 @@
 -- What a job answers, and when it is refused.
 use Rattle.std.specs.Prelude.{ℕ, ◌≡◌, ◌<◌, ◌⊎◌, List, length, slice_index_or}
 use Rattle.cb_semirings.specs.Arithmetic.{Arithmetic}
-use Rattle.cb_matrix.specs.Sparse.{Sparse}
+use Rattle.cb_semirings.specs.Tables.{min_plus, or_and}
+use Rattle.cb_matrix.specs.Sparse.{Sparse, IsMatrix}
 use Rattle.cb_matrix.specs.Values.{empty_matrix, product, product_shape}
 use Rattle.cb_matrix.specs.Operations.{masked, transposed, sum_of, times_of, pruned}
 use Rattle.cb_elementwise.specs.Passing.{passes}
 use Rattle.cb_market.specs.Faults as market
 use Rattle.cb_market.specs.Reads.{Reads}
-use Rattle.cb_market.specs.Text.{text_of}
+use Rattle.cb_market.specs.Text.{text_of, vertex_text_of}
 use Rattle.cb_market.specs.declared.Kind.{Kind}
 use Rattle.cb_market.specs.declared.Kind.TheVariants as kind_is
 use Rattle.cb_cli.specs.Files.{text_at}
 use Rattle.cb_cli.specs.Semirings.{arithmetic_of}
 use Rattle.cb_cli.specs.declared.jobs.Operation.{Operation}
 use Rattle.cb_cli.specs.declared.jobs.Operation.TheVariants.{Multiply, MultiplyMasked, MultiplyVector, Transpose, Add, Times, Prune}
+use Rattle.cb_cli.specs.declared.jobs.Task.{Task}
+use Rattle.cb_cli.specs.declared.jobs.Task.TheVariants.{Matrix, Levels, Distances}
+use Rattle.cb_scripts.specs.Walks.{AreLevels, AreDistances}
+use Rattle.cb_scripts.specs.Refusals.{IsGraphRefusal, IsRunRefusal}
+use Rattle.cb_scripts.specs.declared.Engine.{Engine}
 use Rattle.cb_scripts.specs.declared.ScriptFault.{ScriptFault}
 use Rattle.cb_scripts.specs.declared.ScriptFault.TheVariants as script_is
 use Rattle.cb_cli.specs.declared.runs.JobFault.{JobFault}
 use Rattle.cb_cli.specs.declared.runs.JobFault.TheVariants.{Read, Script, Memory, Output}
-use Rattle.cb_cli.specs.declared.semirings.SemiringName.{SemiringName}
 
 -- the text reads as some matrix
 abbrev pub IsMatrixText : Arithmetic → List ℕ → Type 0
@@ -57,11 +62,10 @@ answer_of Add s ms = sum_of s (matrix_at ms 0) (matrix_at ms 1)
 answer_of Times s ms = times_of s (matrix_at ms 0) (matrix_at ms 1)
 answer_of (Prune test) s ms = pruned s (passes test) (matrix_at ms 0)
 
--- why it makes nothing: their shapes don't agree, or, where they do, want of memory
-abbrev pub IsRefusal : Operation → List Sparse → ScriptFault → Type 0
-IsRefusal operation ms script_is.Shapes = ¬ Agree operation ms
-IsRefusal operation ms script_is.Memory = Agree operation ms
-IsRefusal operation ms _ = ⊥
+-- why it makes nothing: their shapes don't agree, or, where they do, a run of the engine that failed
+abbrev pub IsRefusal : Operation → List Sparse → Engine → ScriptFault → Type 0
+IsRefusal operation ms engine script_is.Shapes = ¬ Agree operation ms
+IsRefusal operation ms engine fault = Agree operation ms × IsRunRefusal engine fault
 
 -- the text that an operation over a semiring answers: that of what it makes of the matrices that the texts read as
 abbrev pub IsAnswerOver : Operation → Arithmetic → List (List ℕ) → List ℕ → Type 0
@@ -75,26 +79,52 @@ IsReadFault s texts (Read which fault) =
 IsReadFault s texts _ = ⊥
 
 -- why an operation answers nothing of its matrices: it is refused; or, where they agree, want of memory
-abbrev pub IsLateFault : Operation → List Sparse → JobFault → Type 0
-IsLateFault operation ms (Read which fault) = ⊥
-IsLateFault operation ms (Script fault) = IsRefusal operation ms fault
-IsLateFault operation ms Memory = Agree operation ms
-IsLateFault operation ms Output = ⊥
+abbrev pub IsLateFault : Operation → List Sparse → Engine → JobFault → Type 0
+IsLateFault operation ms engine (Read which fault) = ⊥
+IsLateFault operation ms engine (Script fault) = IsRefusal operation ms engine fault
+IsLateFault operation ms engine Memory = Agree operation ms
+IsLateFault operation ms engine Output = ⊥
 
 -- Why it answers nothing of texts: one of them is no matrix; else it is refused; and where neither holds, want of memory,
 -- or a sink that failed.
-abbrev pub IsFaultOver : Operation → Arithmetic → List (List ℕ) → JobFault → Type 0
-IsFaultOver operation s texts (Read which fault) = IsReadFault s texts (Read which fault)
-IsFaultOver operation s texts (Script fault) = (ms : List Sparse) × AreMatrices s texts ms × IsRefusal operation ms fault
-IsFaultOver operation s texts Memory = (ms : List Sparse) × AreMatrices s texts ms × Agree operation ms
-IsFaultOver operation s texts Output = (ms : List Sparse) × AreMatrices s texts ms × Agree operation ms
+abbrev pub IsFaultOver : Operation → Arithmetic → Engine → List (List ℕ) → JobFault → Type 0
+IsFaultOver operation s engine texts (Read which fault) = IsReadFault s texts (Read which fault)
+IsFaultOver operation s engine texts (Script fault) = (ms : List Sparse) × AreMatrices s texts ms × IsRefusal operation ms engine fault
+IsFaultOver operation s engine texts Memory = (ms : List Sparse) × AreMatrices s texts ms × Agree operation ms
+IsFaultOver operation s engine texts Output = (ms : List Sparse) × AreMatrices s texts ms × Agree operation ms
 
--- the same, over the semiring that a job names
-abbrev pub IsAnswer : Operation → SemiringName → List (List ℕ) → List ℕ → Type 0
-IsAnswer operation semiring texts answer = IsAnswerOver operation (arithmetic_of semiring) texts answer
+-- the matrix is square, and the source one of its vertices
+abbrev pub HasSource : Sparse → ℕ → Type 0
+HasSource a source = (a.shape.rows ≡ a.shape.cols) × (source < a.shape.rows)
 
-abbrev pub IsFault : Operation → SemiringName → List (List ℕ) → JobFault → Type 0
-IsFault operation semiring texts = IsFaultOver operation (arithmetic_of semiring) texts
+-- the vertex text of the column that is the answer
+abbrev pub IsVertexText : (Sparse → Type 0) → List ℕ → Type 0
+IsVertexText is_answer answer = (column : Sparse) × IsMatrix min_plus column × is_answer column × (answer ≡ vertex_text_of column)
+
+-- The text of what is counted from a source, levels or distances: in the graph of the matrix that the text reads as,
+-- of which the source is a vertex.
+abbrev pub IsWalkAnswer : (Sparse → ℕ → Sparse → Type 0) → Arithmetic → ℕ → List (List ℕ) → List ℕ → Type 0
+IsWalkAnswer are s source texts answer = (a : Sparse) × Reads s (text_at texts 0) a × HasSource a source × IsVertexText (are a source) answer
+
+-- Why there is none: the text is no matrix; else it isn't square, or the source is none of its vertices; and where it
+-- is one, a run of the engine that failed, want of memory, or a sink that failed.
+abbrev pub IsWalkFault : Arithmetic → ℕ → Engine → List (List ℕ) → JobFault → Type 0
+IsWalkFault s source engine texts (Read which fault) = IsReadFault s texts (Read which fault)
+IsWalkFault s source engine texts (Script fault) = (a : Sparse) × Reads s (text_at texts 0) a × IsGraphRefusal a source engine fault
+IsWalkFault s source engine texts Memory = (a : Sparse) × Reads s (text_at texts 0) a × HasSource a source
+IsWalkFault s source engine texts Output = (a : Sparse) × Reads s (text_at texts 0) a × HasSource a source
+
+-- What a task answers of texts: an operation over the semiring that it names, levels in or-and, distances in min-plus.
+abbrev pub IsAnswer : Task → List (List ℕ) → List ℕ → Type 0
+IsAnswer (Matrix operation semiring) = IsAnswerOver operation (arithmetic_of semiring)
+IsAnswer (Levels source) = IsWalkAnswer AreLevels or_and source
+IsAnswer (Distances source) = IsWalkAnswer AreDistances min_plus source
+
+-- why it answers nothing with an engine
+abbrev pub IsFault : Task → Engine → List (List ℕ) → JobFault → Type 0
+IsFault (Matrix operation semiring) = IsFaultOver operation (arithmetic_of semiring)
+IsFault (Levels source) = IsWalkFault or_and source
+IsFault (Distances source) = IsWalkFault min_plus source
 
 -- why an answer that there is has not gone out whole
 abbrev pub IsUnwritten : JobFault → Type 0
@@ -112,5 +142,8 @@ status_of (Script script_is.Shapes) = 5
 status_of (Script script_is.NotSquare) = 5
 status_of (Script script_is.Source) = 5
 status_of (Script script_is.Memory) = 6
+status_of (Script (script_is.NotStarted rank)) = 6
+status_of (Script (script_is.Gone rank)) = 6
+status_of (Script (script_is.Lost origin)) = 6
 status_of Memory = 6
 status_of Output = 7

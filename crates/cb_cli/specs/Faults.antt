@@ -1,6 +1,7 @@
 -- The line that a fault prints.
 use Rattle.std.specs.Prelude.{◌++◌, [], ℕ, List, codes, decimal, String, string_bytes, unwrap_or, option_map, slice_get}
 use Rattle.cb_market.specs.Kinds.{kind_text}
+use Rattle.cb_scripts.specs.declared.ScriptFault.{ScriptFault}
 use Rattle.cb_scripts.specs.declared.ScriptFault.TheVariants as script_is
 use Rattle.cb_cli.specs.declared.runs.JobFault.{JobFault}
 use Rattle.cb_cli.specs.declared.runs.JobFault.TheVariants.{Read, Script, Memory, Output}
@@ -13,13 +14,30 @@ name_at names i = unwrap_or (option_map string_bytes (slice_get names i)) []
 abbrev pub read_line_of : List ℕ → ℕ → List ℕ → List ℕ
 read_line_of name line text = codes "cbgrid: " ++ name ++ codes ":" ++ decimal line ++ codes ": " ++ text ++ codes "\n"
 
+-- no thread for a rank, a rank that was left alone, and a block that is lost; ranks are counted from 0
+abbrev pub not_started_line_of : ℕ → List ℕ
+not_started_line_of rank = codes "cbgrid: rank " ++ decimal rank ++ codes " not started\n"
+
+abbrev pub gone_line_of : ℕ → List ℕ
+gone_line_of rank = codes "cbgrid: rank " ++ decimal rank ++ codes " gone\n"
+
+abbrev pub lost_line_of : ℕ → List ℕ
+lost_line_of origin = codes "cbgrid: lost at rank " ++ decimal origin ++ codes "\n"
+
+-- the line of a script's fault
+abbrev pub script_line_of : ScriptFault → List ℕ
+script_line_of script_is.Shapes = codes "cbgrid: shapes don't agree\n"
+script_line_of script_is.NotSquare = codes "cbgrid: matrix not square\n"
+script_line_of script_is.Source = codes "cbgrid: no such source\n"
+script_line_of script_is.Memory = codes "cbgrid: out of memory\n"
+script_line_of (script_is.NotStarted rank) = not_started_line_of rank
+script_line_of (script_is.Gone rank) = gone_line_of rank
+script_line_of (script_is.Lost origin) = lost_line_of origin
+
 -- the line that the program prints for a fault, of the files with these names
 abbrev pub line_of : {A : Type 0} → List (String A) → JobFault → List ℕ
 line_of names (Read which fault) = read_line_of (name_at names which) fault.line (kind_text fault.kind)
-line_of names (Script script_is.Shapes) = codes "cbgrid: shapes don't agree\n"
-line_of names (Script script_is.NotSquare) = codes "cbgrid: matrix not square\n"
-line_of names (Script script_is.Source) = codes "cbgrid: no such source\n"
-line_of names (Script script_is.Memory) = codes "cbgrid: out of memory\n"
+line_of names (Script fault) = script_line_of fault
 line_of names Memory = codes "cbgrid: out of memory\n"
 line_of names Output = codes "cbgrid: can't write\n"
 

@@ -2,13 +2,21 @@
 use Rattle.std.specs.Prelude.{ℕ}
 use Rattle.cb_cli.specs.declared.jobs.Operation.{Operation}
 use Rattle.cb_cli.specs.declared.jobs.Operation.TheVariants.{Multiply, MultiplyMasked, MultiplyVector, Transpose, Add, Times, Prune}
+use Rattle.cb_cli.specs.declared.jobs.Task.{Task}
+use Rattle.cb_cli.specs.declared.jobs.Task.TheVariants.{Matrix, Levels, Distances}
 
--- how many files an operation reads
-abbrev pub file_count_of : Operation → ℕ
-file_count_of Multiply = 2
-file_count_of MultiplyMasked = 3
-file_count_of MultiplyVector = 2
-file_count_of Transpose = 1
-file_count_of Add = 2
-file_count_of Times = 2
-file_count_of (Prune test) = 1
+-- how many matrices an operation takes
+abbrev pub operand_count_of : Operation → ℕ
+operand_count_of Multiply = 2
+operand_count_of MultiplyMasked = 3
+operand_count_of MultiplyVector = 2
+operand_count_of Transpose = 1
+operand_count_of Add = 2
+operand_count_of Times = 2
+operand_count_of (Prune test) = 1
+
+-- how many files a task reads
+abbrev pub file_count_of : Task → ℕ
+file_count_of (Matrix operation semiring) = operand_count_of operation
+file_count_of (Levels source) = 1
+file_count_of (Distances source) = 1

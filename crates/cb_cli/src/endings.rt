@@ -14,6 +14,8 @@ use crate::runs::{JobFault, execute, status};
 use crate::sinks::{Sink, put_all};
 use std::alloc::{AllocError, Global};
 use std::process::{ExitCode, Termination};
+use std::sync::Wait;
+use std::thread::Threads;
 
 /// How a run ended.
 #[derive(Debug, Drop)]
@@ -92,7 +94,13 @@ fn unloaded(fault: LoadFault) -> Ending
 }
 
 /// Runs a job over its files, and writes its answer.
-fn job_ending<F: FileSource, K: Sink>(alloc: Global, job: &Job, files: &F, out: &mut K) -> Ending
+fn job_ending<R: Threads + Wait + Sync, F: FileSource, K: Sink>(
+    rt: &R,
+    alloc: Global,
+    job: &Job,
+    files: &F,
+    out: &mut K,
+) -> Ending
     requires { K.has_failed out.old ≡ false }
     ensures { IsJobEnding (F.holds files.now) (F.refuses files.now) job.now (K.written out.old) (K.written out.new) result }
 {
@@ -100,7 +108,7 @@ fn job_ending<F: FileSource, K: Sink>(alloc: Global, job: &Job, files: &F, out: 
         Ok(texts) => texts,
         Err(fault) => return unloaded(fault),
     };
-    match execute(alloc, job, texts.as_slice(), out) {
+    match execute(rt, alloc, job, texts.as_slice(), out) {
         Ok(()) => Ending::Done,
         Err(fault) => Ending::Fault(fault),
     }
@@ -137,7 +145,8 @@ fn tell<E: Sink>(alloc: Global, names: &[String], ending: &Ending, errors: &mut 
 /// The files are loaded in the job's order, before any of them is read, and the first fault ends the
 /// run. The status is that of the ending, and so is the text on `errors`, of which less may go out
 /// where memory is refused to it or the sink fails.
-pub fn run<F: FileSource, K: Sink, E: Sink>(
+pub fn run<R: Threads + Wait + Sync, F: FileSource, K: Sink, E: Sink>(
+    rt: &R,
     alloc: Global,
     asked: Result<Job, UsageFault>,
     files: &F,
@@ -150,7 +159,7 @@ pub fn run<F: FileSource, K: Sink, E: Sink>(
 {
     match asked {
         Ok(job) => {
-            let ending = job_ending(alloc, &job, files, out);
+            let ending = job_ending(rt, alloc, &job, files, out);
             tell(alloc, job.files(), &ending, errors);
             Status {
                 code: ending.status(),

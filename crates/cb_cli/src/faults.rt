@@ -1,6 +1,6 @@
 //! What a fault says.
 ghost use Rattle.std.specs.Prelude.{◌≡◌, IfOk};
-ghost use Rattle.cb_cli.specs.Faults.{line_of, name_at, read_line_of, unreadable_line_of};
+ghost use Rattle.cb_cli.specs.Faults.{line_of, name_at, read_line_of, not_started_line_of, gone_line_of, lost_line_of, script_line_of, unreadable_line_of};
 
 use crate::runs::JobFault;
 use cb_scripts::ScriptFault;
@@ -32,6 +32,45 @@ pub fn unreadable_line(alloc: Global, name: &str) -> Result<Vec<u8>, AllocError>
     Ok(text.into_bytes())
 }
 
+/// The line for a rank that no thread could be started for.
+fn not_started_line(alloc: Global, rank: u16) -> Result<Vec<u8>, AllocError>
+    ensures { IfOk result (λ v. v.items ≡ not_started_line_of rank) }
+{
+    let text = format!(in alloc; "cbgrid: rank {rank} not started\n")?;
+    Ok(text.into_bytes())
+}
+
+/// The line for a rank that came to a lane whose other rank was gone.
+fn gone_line(alloc: Global, rank: u16) -> Result<Vec<u8>, AllocError>
+    ensures { IfOk result (λ v. v.items ≡ gone_line_of rank) }
+{
+    let text = format!(in alloc; "cbgrid: rank {rank} gone\n")?;
+    Ok(text.into_bytes())
+}
+
+/// The line for a block of the answer that is lost, since memory was refused in this rank.
+fn lost_line(alloc: Global, origin: u16) -> Result<Vec<u8>, AllocError>
+    ensures { IfOk result (λ v. v.items ≡ lost_line_of origin) }
+{
+    let text = format!(in alloc; "cbgrid: lost at rank {origin}\n")?;
+    Ok(text.into_bytes())
+}
+
+/// The line for a script's fault.
+fn script_line(alloc: Global, fault: ScriptFault) -> Result<Vec<u8>, AllocError>
+    ensures { IfOk result (λ v. v.items ≡ script_line_of fault) }
+{
+    match fault {
+        ScriptFault::Shapes => Vec::from_slice(alloc, b"cbgrid: shapes don't agree\n"),
+        ScriptFault::NotSquare => Vec::from_slice(alloc, b"cbgrid: matrix not square\n"),
+        ScriptFault::Source => Vec::from_slice(alloc, b"cbgrid: no such source\n"),
+        ScriptFault::Memory => Vec::from_slice(alloc, b"cbgrid: out of memory\n"),
+        ScriptFault::NotStarted(rank) => not_started_line(alloc, rank),
+        ScriptFault::Gone(rank) => gone_line(alloc, rank),
+        ScriptFault::Lost(origin) => lost_line(alloc, origin),
+    }
+}
+
 /// The line that the program prints for a fault of a job whose files have these names. It ends by a
 /// line feed; a fault of a file names the file and the line.
 pub fn fault_line(alloc: Global, names: &[String], fault: &JobFault) -> Result<Vec<u8>, AllocError>
@@ -41,16 +80,7 @@ pub fn fault_line(alloc: Global, names: &[String], fault: &JobFault) -> Result<V
         JobFault::Read { which, fault } => {
             read_line(alloc, name_at(names, which), fault.line, fault.kind.text())
         }
-        JobFault::Script(ScriptFault::Shapes) => {
-            Vec::from_slice(alloc, b"cbgrid: shapes don't agree\n")
-        }
-        JobFault::Script(ScriptFault::NotSquare) => {
-            Vec::from_slice(alloc, b"cbgrid: matrix not square\n")
-        }
-        JobFault::Script(ScriptFault::Source) => {
-            Vec::from_slice(alloc, b"cbgrid: no such source\n")
-        }
-        JobFault::Script(ScriptFault::Memory) => Vec::from_slice(alloc, b"cbgrid: out of memory\n"),
+        JobFault::Script(fault) => script_line(alloc, fault),
         JobFault::Memory => Vec::from_slice(alloc, b"cbgrid: out of memory\n"),
         JobFault::Output => Vec::from_slice(alloc, b"cbgrid: can't write\n"),
     }

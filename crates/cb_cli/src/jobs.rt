@@ -9,36 +9,53 @@ use cb_scripts::Engine;
 use std::alloc::{AllocError, AllocFailed};
 use thiserror::Error;
 
-/// What is computed of the files.
+/// An operation on matrices over a semiring, whose answer is a matrix.
 #[derive(Clone, Copy, Debug, PartialEq, Eq)]
 pub enum Operation {
-    /// The product of the first file's matrix by the second's.
+    /// The product of the first matrix by the second.
     Multiply,
-    /// The same, kept where the third file's matrix has entries.
+    /// The same, kept where the third matrix has entries.
     MultiplyMasked,
-    /// The product of the first file's matrix by the second's, which is a vector.
+    /// The product of the first matrix by the second, which is a vector.
     MultiplyVector,
-    /// The transpose of the file's matrix.
+    /// The transpose of a matrix.
     Transpose,
-    /// The sum of two files' matrices, place by place.
+    /// The sum of two matrices, place by place.
     Add,
-    /// The product of two files' matrices, place by place.
+    /// The product of two matrices, place by place.
     Times,
-    /// The file's matrix without the entries whose value passes the test.
+    /// A matrix without the entries whose value passes the test.
     Prune(Test),
+}
+
+/// What is computed of the files. A source is a vertex of the graph of the file's matrix, counted from 0.
+#[derive(Clone, Copy, Debug, PartialEq, Eq)]
+pub enum Task {
+    /// What an operation makes of the files' matrices over a semiring.
+    Matrix {
+        operation: Operation,
+        semiring: SemiringName,
+    },
+    /// The least number of edges from the source to each vertex. The file is read in or-and.
+    Levels {
+        source: u32,
+    },
+    /// The least weight of a walk from the source to each vertex. The file is read in min-plus.
+    Distances {
+        source: u32,
+    },
 }
 
 /// A command line that was read.
 #[derive(Drop)]
 pub struct Job {
-    pub operation: Operation,
-    pub semiring: SemiringName,
+    pub task: Task,
     /// The ranks that compute it.
     pub grid: Grid,
     pub engine: Engine,
     /// The names of the files, in the order in which they are read.
     pub files: Vec<String>,
-    pub ghost file_count: { vec_len files ≡ file_count_of operation },
+    pub ghost file_count: { vec_len files ≡ file_count_of task },
 }
 
 impl Job {

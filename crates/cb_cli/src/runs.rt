@@ -2,25 +2,31 @@
 ghost use Rattle.std.specs.Prelude.{◌≡◌, ◌≢◌, ◌↔◌, ℕ, ◌<◌, List, length, vec_len, true, false, OnOk, IfOk, IfErr, IsErrOf};
 ghost use Rattle.std.specs.Io.KnownBytes.{Appends, Keeps};
 ghost use Rattle.cb_cli.specs.Sinks.{AppendsPrefix};
-ghost use Rattle.cb_cli.specs.Jobs.{file_count_of};
+ghost use Rattle.cb_cli.specs.Jobs.{operand_count_of};
 ghost use Rattle.cb_market.specs.Reads.{Reads};
-ghost use Rattle.cb_market.specs.Text.{text_of};
-ghost use Rattle.cb_cli.specs.Answers.{IsMatrixText, IsReadFault, IsLateFault, Agree, answer_of, IsRefusal, IsAnswerOver, IsFaultOver, IsAnswer, IsFault, status_of};
+ghost use Rattle.cb_market.specs.Text.{text_of, vertex_text_of};
+ghost use Rattle.cb_semirings.specs.Tables.{min_plus, or_and};
+ghost use Rattle.cb_scripts.specs.Walks.{AreLevels, AreDistances};
+ghost use Rattle.cb_cli.specs.Semirings.{arithmetic_of};
+ghost use Rattle.cb_cli.specs.Answers.{IsMatrixText, IsReadFault, IsLateFault, Agree, answer_of, IsRefusal, IsAnswerOver, IsFaultOver, IsWalkAnswer, IsWalkFault, IsAnswer, IsFault, status_of};
 ghost use Rattle.cb_cli.specs.Files.{bytes_of, text_at};
 
-use crate::jobs::{Job, Operation};
-use crate::pages::put_text;
+use crate::jobs::{Job, Operation, Task};
+use crate::pages::{put_column, put_text};
 use crate::semirings::SemiringName;
 use crate::sinks::Sink;
 use cb_layout::DistributedMatrix;
 use cb_market::{Kind, ReadFault, read};
 use cb_matrix::Matrix;
 use cb_scripts::{
-    ScriptFault, add_distributed, multiply_distributed, multiply_masked_distributed,
-    prune_distributed, times_distributed, transpose_distributed, vector_distributed,
+    ScriptFault, add_distributed, distances, levels, multiply_distributed,
+    multiply_masked_distributed, prune_distributed, times_distributed, transpose_distributed,
+    vector_distributed,
 };
 use cb_semirings::{MaxMin, MinPlus, OrAnd, PlusTimes, Semiring};
 use std::alloc::{AllocError, Global};
+use std::sync::Wait;
+use std::thread::Threads;
 use thiserror::Error;
 
 /// Why a job has no answer, in the order in which the reasons are looked for.
@@ -76,97 +82,178 @@ fn read_text<S: Semiring>(
     }
 }
 
-/// What the operation of a job makes of its matrices, on the job's grid.
-fn computed<S: Semiring>(
+/// What an operation makes of matrices, on the job's grid.
+fn computed<S: Semiring + Send + Sync, R: Threads + Wait + Sync>(
+    rt: &R,
     alloc: Global,
     job: &Job,
+    operation: Operation,
     operands: &[Matrix<S>],
 ) -> Result<DistributedMatrix<S>, ScriptFault>
-    requires { length operands.now ≡ file_count_of job.now.operation }
-    ensures ok { IfOk result (λ m. m.matrix ≡ answer_of job.now.operation S.arithmetic operands.now) }
-    ensures agree { IfOk result (λ m. Agree job.now.operation operands.now) }
-    ensures fault { IfErr result (IsRefusal job.now.operation operands.now) }
+    requires { length operands.now ≡ operand_count_of operation }
+    ensures ok { IfOk result (λ m. m.matrix ≡ answer_of operation S.arithmetic operands.now) }
+    ensures agree { IfOk result (λ m. Agree operation operands.now) }
+    ensures fault { IfErr result (IsRefusal operation operands.now job.now.engine) }
 {
     let (engine, grid, first) = (job.engine, &job.grid, &operands[0]);
-    match job.operation {
-        Operation::Multiply => multiply_distributed(alloc, engine, grid, first, &operands[1]),
+    match operation {
+        Operation::Multiply => multiply_distributed(rt, alloc, engine, grid, first, &operands[1]),
         Operation::MultiplyMasked => {
-            multiply_masked_distributed(alloc, engine, grid, first, &operands[1], &operands[2])
+            multiply_masked_distributed(rt, alloc, engine, grid, first, &operands[1], &operands[2])
         }
         Operation::MultiplyVector => {
-            vector_distributed(alloc, engine, grid, first, &operands[1])
+            vector_distributed(rt, alloc, engine, grid, first, &operands[1])
         }
-        Operation::Transpose => transpose_distributed(alloc, engine, grid, first),
-        Operation::Add => add_distributed(alloc, engine, grid, first, &operands[1]),
-        Operation::Times => times_distributed(alloc, engine, grid, first, &operands[1]),
-        Operation::Prune(test) => prune_distributed(alloc, engine, grid, first, test),
+        Operation::Transpose => transpose_distributed(rt, alloc, engine, grid, first),
+        Operation::Add => add_distributed(rt, alloc, engine, grid, first, &operands[1]),
+        Operation::Times => times_distributed(rt, alloc, engine, grid, first, &operands[1]),
+        Operation::Prune(test) => prune_distributed(rt, alloc, engine, grid, first, test),
     }
 }
 
 /// The same, or the fault of the job.
-fn answer<S: Semiring>(
+fn answer<S: Semiring + Send + Sync, R: Threads + Wait + Sync>(
+    rt: &R,
     alloc: Global,
     job: &Job,
+    operation: Operation,
     operands: &[Matrix<S>],
 ) -> Result<DistributedMatrix<S>, JobFault>
-    requires { length operands.now ≡ file_count_of job.now.operation }
-    ensures ok { IfOk result (λ m. m.matrix ≡ answer_of job.now.operation S.arithmetic operands.now) }
-    ensures agree { IfOk result (λ m. Agree job.now.operation operands.now) }
-    ensures fault { IfErr result (IsLateFault job.now.operation operands.now) }
+    requires { length operands.now ≡ operand_count_of operation }
+    ensures ok { IfOk result (λ m. m.matrix ≡ answer_of operation S.arithmetic operands.now) }
+    ensures agree { IfOk result (λ m. Agree operation operands.now) }
+    ensures fault { IfErr result (IsLateFault operation operands.now job.now.engine) }
 {
-    let answer = computed(alloc, job, operands)?;
+    let answer = computed(rt, alloc, job, operation, operands)?;
     Ok(answer)
 }
 
-/// The answer of a job over a semiring, on the job's grid.
-fn answer_over<S: Semiring>(
+/// What an operation makes of texts over a semiring, on the job's grid.
+fn answer_over<S: Semiring + Send + Sync, R: Threads + Wait + Sync>(
+    rt: &R,
     alloc: Global,
     job: &Job,
+    operation: Operation,
     texts: &[Vec<u8>],
 ) -> Result<DistributedMatrix<S>, JobFault>
-    requires { length texts.now ≡ vec_len job.now.files }
-    ensures ok { IfOk result (λ m. IsAnswerOver job.now.operation S.arithmetic (bytes_of texts.now) (text_of S.arithmetic m.matrix)) }
-    ensures fault { IfErr result (IsFaultOver job.now.operation S.arithmetic (bytes_of texts.now)) }
+    requires { length texts.now ≡ operand_count_of operation }
+    ensures ok { IfOk result (λ m. IsAnswerOver operation S.arithmetic (bytes_of texts.now) (text_of S.arithmetic m.matrix)) }
+    ensures fault { IfErr result (IsFaultOver operation S.arithmetic job.now.engine (bytes_of texts.now)) }
     ensures unwritten { IfErr result (λ f. f ≢ JobFault.Output) }
 {
     let first = read_text::<S>(alloc, texts, 0)?;
     if texts.len() == 1 {
-        return answer(alloc, job, &[first]);
+        return answer(rt, alloc, job, operation, &[first]);
     }
     let second = read_text::<S>(alloc, texts, 1)?;
     if texts.len() == 2 {
-        return answer(alloc, job, &[first, second]);
+        return answer(rt, alloc, job, operation, &[first, second]);
     }
     let third = read_text::<S>(alloc, texts, 2)?;
-    answer(alloc, job, &[first, second, third])
+    answer(rt, alloc, job, operation, &[first, second, third])
 }
 
-/// Writes the answer of a job over a semiring.
-fn execute_over<S: Semiring, K: Sink>(
+/// Writes what an operation makes of texts over a semiring.
+fn execute_over<S: Semiring + Send + Sync, R: Threads + Wait + Sync, K: Sink>(
+    rt: &R,
     alloc: Global,
     job: &Job,
+    operation: Operation,
     texts: &[Vec<u8>],
     out: &mut K,
 ) -> Result<(), JobFault>
-    requires texts { length texts.now ≡ vec_len job.now.files }
+    requires texts { length texts.now ≡ operand_count_of operation }
     requires works { K.has_failed out.old ≡ false }
-    ensures whole { OnOk result ((t : List ℕ) × IsAnswerOver job.now.operation S.arithmetic (bytes_of texts.now) t × Appends (K.written out.old) (K.written out.new) t) }
-    ensures fault { IfErr result (IsFaultOver job.now.operation S.arithmetic (bytes_of texts.now)) }
+    ensures whole { OnOk result ((t : List ℕ) × IsAnswerOver operation S.arithmetic (bytes_of texts.now) t × Appends (K.written out.old) (K.written out.new) t) }
+    ensures fault { IfErr result (IsFaultOver operation S.arithmetic job.now.engine (bytes_of texts.now)) }
     ensures nothing { IfErr result (λ f. f ≢ JobFault.Output → Keeps (K.written out.old) (K.written out.new)) }
-    ensures output { IsErrOf result JobFault.Output → (t : List ℕ) × IsAnswerOver job.now.operation S.arithmetic (bytes_of texts.now) t × AppendsPrefix (K.written out.old) (K.written out.new) t }
+    ensures output { IsErrOf result JobFault.Output → (t : List ℕ) × IsAnswerOver operation S.arithmetic (bytes_of texts.now) t × AppendsPrefix (K.written out.old) (K.written out.new) t }
     ensures failed { IsErrOf result JobFault.Output ↔ (K.has_failed out.new ≡ true) }
 {
-    let answer = answer_over::<S>(alloc, job, texts)?;
+    let answer = answer_over::<S, R>(rt, alloc, job, operation, texts)?;
     put_text(alloc, &answer, out)
 }
 
-/// Reads the texts of a job's files, in the job's order, and writes the text of its answer, page by page. All memory
-/// is taken before the first byte goes out: a fault other than `Output` has written nothing. At `Output` a beginning
-/// of the text has gone out, and the sink has failed; it has failed in no other case.
+/// Writes what an operation makes of texts over the semiring of a name.
+fn execute_named<R: Threads + Wait + Sync, K: Sink>(
+    rt: &R,
+    alloc: Global,
+    job: &Job,
+    operation: Operation,
+    semiring: SemiringName,
+    texts: &[Vec<u8>],
+    out: &mut K,
+) -> Result<(), JobFault>
+    requires texts { length texts.now ≡ operand_count_of operation }
+    requires works { K.has_failed out.old ≡ false }
+    ensures whole { OnOk result ((t : List ℕ) × IsAnswerOver operation (arithmetic_of semiring) (bytes_of texts.now) t × Appends (K.written out.old) (K.written out.new) t) }
+    ensures fault { IfErr result (IsFaultOver operation (arithmetic_of semiring) job.now.engine (bytes_of texts.now)) }
+    ensures nothing { IfErr result (λ f. f ≢ JobFault.Output → Keeps (K.written out.old) (K.written out.new)) }
+    ensures output { IsErrOf result JobFault.Output → (t : List ℕ) × IsAnswerOver operation (arithmetic_of semiring) (bytes_of texts.now) t × AppendsPrefix (K.written out.old) (K.written out.new) t }
+    ensures failed { IsErrOf result JobFault.Output ↔ (K.has_failed out.new ≡ true) }
+{
+    match semiring {
+        SemiringName::PlusTimes => {
+            execute_over::<PlusTimes, R, K>(rt, alloc, job, operation, texts, out)
+        }
+        SemiringName::MinPlus => execute_over::<MinPlus, R, K>(
+            rt, alloc, job, operation, texts, out,
+        ),
+        SemiringName::OrAnd => execute_over::<OrAnd, R, K>(rt, alloc, job, operation, texts, out),
+        SemiringName::MaxMin => execute_over::<MaxMin, R, K>(rt, alloc, job, operation, texts, out),
+    }
+}
+
+/// The levels of the graph of a text from a source.
+fn levels_of<R: Threads + Wait + Sync>(
+    rt: &R,
+    alloc: Global,
+    job: &Job,
+    source: u32,
+    texts: &[Vec<u8>],
+) -> Result<Matrix<MinPlus>, JobFault>
+    requires { 0 < length texts.now }
+    ensures ok { IfOk result (λ column. IsWalkAnswer AreLevels or_and source (bytes_of texts.now) (vertex_text_of column)) }
+    ensures column { IfOk result (λ column. column.shape.cols ≡ 1) }
+    ensures fault { IfErr result (IsWalkFault or_and source job.now.engine (bytes_of texts.now)) }
+    ensures unwritten { IfErr result (λ f. f ≢ JobFault.Output) }
+{
+    let graph = read_text::<OrAnd>(alloc, texts, 0)?;
+    let column = levels(rt, alloc, job.engine, &job.grid, &graph, source)?;
+    let _shape = column.shape();
+    Ok(column)
+}
+
+/// The distances in the graph of a text from a source.
+fn distances_of<R: Threads + Wait + Sync>(
+    rt: &R,
+    alloc: Global,
+    job: &Job,
+    source: u32,
+    texts: &[Vec<u8>],
+) -> Result<Matrix<MinPlus>, JobFault>
+    requires { 0 < length texts.now }
+    ensures ok { IfOk result (λ column. IsWalkAnswer AreDistances min_plus source (bytes_of texts.now) (vertex_text_of column)) }
+    ensures column { IfOk result (λ column. column.shape.cols ≡ 1) }
+    ensures fault { IfErr result (IsWalkFault min_plus source job.now.engine (bytes_of texts.now)) }
+    ensures unwritten { IfErr result (λ f. f ≢ JobFault.Output) }
+{
+    let graph = read_text::<MinPlus>(alloc, texts, 0)?;
+    let column = distances(rt, alloc, job.engine, &job.grid, &graph, source)?;
+    let _shape = column.shape();
+    Ok(column)
+}
+
+/// Reads the texts of a job's files, in the job's order, and writes the text of its answer: of a matrix page by page,
+/// of levels or distances a line for each vertex that has one. All memory is taken before the first byte goes out: a
+/// fault other than `Output` has written nothing. At `Output` a beginning of the text has gone out, and the sink has
+/// failed; it has failed in no other case.
 ///
-/// The faults come in their order: the first text that is no matrix, then shapes that don't agree,
-/// then want of memory, then `Output`. Costs the reading, the operation and the writing.
-pub fn execute<K: Sink>(
+/// The faults come in their order: the first text that is no matrix, then shapes that don't agree, a graph whose
+/// matrix isn't square or a source that is none of its vertices, then want of memory, then `Output`. Costs the
+/// reading, what is computed and the writing.
+pub fn execute<R: Threads + Wait + Sync, K: Sink>(
+    rt: &R,
     alloc: Global,
     job: &Job,
     texts: &[Vec<u8>],
@@ -174,22 +261,31 @@ pub fn execute<K: Sink>(
 ) -> Result<(), JobFault>
     requires texts { length texts.now ≡ vec_len job.now.files }
     requires works { K.has_failed out.old ≡ false }
-    ensures whole { OnOk result ((t : List ℕ) × IsAnswer job.now.operation job.now.semiring (bytes_of texts.now) t × Appends (K.written out.old) (K.written out.new) t) }
-    ensures fault { IfErr result (IsFault job.now.operation job.now.semiring (bytes_of texts.now)) }
+    ensures whole { OnOk result ((t : List ℕ) × IsAnswer job.now.task (bytes_of texts.now) t × Appends (K.written out.old) (K.written out.new) t) }
+    ensures fault { IfErr result (IsFault job.now.task job.now.engine (bytes_of texts.now)) }
     ensures nothing { IfErr result (λ f. f ≢ JobFault.Output → Keeps (K.written out.old) (K.written out.new)) }
-    ensures output { IsErrOf result JobFault.Output → (t : List ℕ) × IsAnswer job.now.operation job.now.semiring (bytes_of texts.now) t × AppendsPrefix (K.written out.old) (K.written out.new) t }
+    ensures output { IsErrOf result JobFault.Output → (t : List ℕ) × IsAnswer job.now.task (bytes_of texts.now) t × AppendsPrefix (K.written out.old) (K.written out.new) t }
     ensures failed { IsErrOf result JobFault.Output ↔ (K.has_failed out.new ≡ true) }
 {
-    match job.semiring {
-        SemiringName::PlusTimes => execute_over::<PlusTimes, K>(alloc, job, texts, out),
-        SemiringName::MinPlus => execute_over::<MinPlus, K>(alloc, job, texts, out),
-        SemiringName::OrAnd => execute_over::<OrAnd, K>(alloc, job, texts, out),
-        SemiringName::MaxMin => execute_over::<MaxMin, K>(alloc, job, texts, out),
+    match job.task {
+        Task::Matrix {
+            operation,
+            semiring,
+        } => execute_named(rt, alloc, job, operation, semiring, texts, out),
+        Task::Levels { source } => {
+            let column = levels_of(rt, alloc, job, source, texts)?;
+            put_column(alloc, &column, out)
+        }
+        Task::Distances { source } => {
+            let column = distances_of(rt, alloc, job, source, texts)?;
+            put_column(alloc, &column, out)
+        }
     }
 }
 
 /// The status that the program ends with: 4 for a text that is no matrix, 5 for shapes that don't
-/// agree, a matrix that isn't square or a source that is no vertex, 6 for want of memory, 7 for output.
+/// agree, a matrix that isn't square or a source that is no vertex, 6 for want of memory and for
+/// ranks that weren't started, were left alone or lost a block, 7 for output.
 pub fn status(fault: &JobFault) -> u8
     ensures { result ≡ status_of fault.now }
 {
@@ -199,7 +295,12 @@ pub fn status(fault: &JobFault) -> u8
             _ => 4,
         },
         JobFault::Script(ScriptFault::Shapes | ScriptFault::NotSquare | ScriptFault::Source) => 5,
-        JobFault::Script(ScriptFault::Memory) => 6,
+        JobFault::Script(
+            ScriptFault::Memory
+            | ScriptFault::NotStarted(_)
+            | ScriptFault::Gone(_)
+            | ScriptFault::Lost(_),
+        ) => 6,
         JobFault::Memory => 6,
         JobFault::Output => 7,
     }

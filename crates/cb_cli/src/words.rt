@@ -3,9 +3,9 @@
 ghost use Rattle.std.specs.Prelude.{◌≢◌, String, ◌≡◌, IfOk, IfSome, length, vec_len};
 ghost use Rattle.std.specs.declared.io.ErrorKind.TheVariants as io_is;
 ghost use Rattle.clap.specs.Words.{kind_of};
-ghost use Rattle.cb_cli.specs.Jobs.{file_count_of};
+ghost use Rattle.cb_cli.specs.Jobs.{operand_count_of, file_count_of};
 
-use crate::jobs::{Job, Operation, UsageFault};
+use crate::jobs::{Job, Operation, Task, UsageFault};
 use crate::semirings::{NAMES, SemiringName};
 use cb_elementwise::Test;
 use cb_layout::Grid;
@@ -16,22 +16,92 @@ use std::alloc::{AllocError, Global};
 use std::rt::Env;
 use std::{env, io};
 
-static ENGINES: [&str; 1] = ["plain"];
+static ENGINES: [&str; 2] = ["plain", "ranks"];
 
 static TESTS: [&str; 3] = ["below", "above", "equal"];
 
-/// What stands at the end of each help text.
-static AFTER_HELP: &str = "Example:
-  cbgrid multiply --semiring min-plus roads.mtx roads.mtx > two-roads.mtx
-
+/// What stands at the end of a help text: an example, and the statuses.
+macro_rules! after_help {
+    ($example:literal) => {
+        concat!(
+            "Example:\n  cbgrid ",
+            $example,
+            "\n
 Exit status:
   0  done
   2  the words are no command line
   3  a file can't be read
   4  a file is no matrix
-  5  the shapes don't agree
-  6  memory was refused
-  7  the answer can't be written";
+  5  the shapes don't agree, a graph's matrix isn't square, or it has no such source
+  6  memory was refused, or a thread
+  7  the answer can't be written"
+        )
+    };
+}
+
+/// A command: its word, what help says of it, and the names of its files.
+struct Outline {
+    name: &'static str,
+    about: &'static str,
+    after_help: &'static str,
+    files: &'static [&'static str],
+}
+
+const MULTIPLY: Outline = Outline {
+    name: "multiply",
+    about: "Write the product of two matrices",
+    after_help: after_help!("multiply --semiring min-plus roads.mtx roads.mtx > two-roads.mtx"),
+    files: &["A", "B"],
+};
+
+const SPMV: Outline = Outline {
+    name: "spmv",
+    about: "Write the product of a matrix and a vector, a matrix of one column",
+    after_help: after_help!("spmv links.mtx ranks.mtx > next-ranks.mtx"),
+    files: &["A", "x"],
+};
+
+const TRANSPOSE: Outline = Outline {
+    name: "transpose",
+    about: "Write the transpose of a matrix",
+    after_help: after_help!("transpose links.mtx > linked-from.mtx"),
+    files: &["A"],
+};
+
+const ADD: Outline = Outline {
+    name: "add",
+    about: "Write the sum of two matrices",
+    after_help: after_help!("add --semiring min-plus roads.mtx tracks.mtx > ways.mtx"),
+    files: &["A", "B"],
+};
+
+const TIMES: Outline = Outline {
+    name: "times",
+    about: "Write the product of two matrices place by place",
+    after_help: after_help!("times --semiring or-and roads.mtx tracks.mtx > both.mtx"),
+    files: &["A", "B"],
+};
+
+const PRUNE: Outline = Outline {
+    name: "prune",
+    about: "Write a matrix without the entries whose value passes a test",
+    after_help: after_help!("prune roads.mtx --test above --value 100 > short-roads.mtx"),
+    files: &["A"],
+};
+
+const BFS: Outline = Outline {
+    name: "bfs",
+    about: "Write how many edges lead from a source to each vertex, by breadth-first search",
+    after_help: after_help!("bfs roads.mtx --source 1 > steps.txt"),
+    files: &["A"],
+};
+
+const RELAX: Outline = Outline {
+    name: "relax",
+    about: "Write the distance of each vertex from a source, where edges have lengths",
+    after_help: after_help!("relax roads.mtx --source 1 > distances.txt"),
+    files: &["A"],
+};
 
 fn help_option<'a>(alloc: Global) -> Arg<'a> {
     Arg::new(alloc, "help")
@@ -70,8 +140,19 @@ fn engine_option<'a>(alloc: Global) -> Arg<'a> {
         .long("engine")
         .value_name("ENGINE")
         .value_parser(ENGINES.as_slice())
-        .default_value("plain")
-        .help("What runs the plan of the ranks")
+        .default_value("ranks")
+        .help(
+            "What runs the ranks: plain all of them on one thread, ranks each in a thread of its own",
+        )
+}
+
+fn lane_option<'a>(alloc: Global) -> Arg<'a> {
+    Arg::new(alloc, "lane")
+        .long("lane")
+        .value_name("N")
+        .value_parser(value_parser!(u32).range(1..=64))
+        .default_value("2")
+        .help("How many blocks may be on the way from a rank to another, 1 to 64")
 }
 
 fn mask_option<'a>(alloc: Global) -> Arg<'a> {
@@ -99,67 +180,88 @@ fn value_option<'a>(alloc: Global) -> Arg<'a> {
         .help("The number that values are compared to")
 }
 
-fn command<'a>(
-    alloc: Global,
-    name: &'a str,
-    about: &'a str,
-    files: &[&'a str],
-) -> Result<Command<'a>, AllocError> {
-    let mut command = Command::new(alloc, name)
-        .about(about)
-        .after_help(AFTER_HELP)
+fn source_option<'a>(alloc: Global) -> Arg<'a> {
+    Arg::new(alloc, "source")
+        .long("source")
+        .value_name("N")
+        .required(true)
+        .value_parser(value_parser!(u32).range(1..=2_147_483_647))
+        .help("The vertex to start from, counted from 1")
+}
+
+/// A command over its files, without options.
+fn command<'a>(alloc: Global, outline: &Outline) -> Result<Command<'a>, AllocError> {
+    let mut command = Command::new(alloc, outline.name)
+        .about(outline.about)
+        .after_help(outline.after_help)
         .disable_help_flag(true);
-    for name in files {
+    for name in outline.files {
         command = command.arg(file(alloc, name))?;
     }
+    Ok(command)
+}
+
+/// The options that every command takes.
+fn with_common<'a>(alloc: Global, command: Command<'a>) -> Result<Command<'a>, AllocError> {
     command
-        .arg(semiring_option(alloc))?
         .arg(grid_option(alloc))?
         .arg(engine_option(alloc))?
+        .arg(lane_option(alloc))?
         .arg(help_option(alloc))
 }
 
+/// A command over matrices over a semiring, with no options of its own.
+fn matrix_command<'a>(alloc: Global, outline: &Outline) -> Result<Command<'a>, AllocError> {
+    let command = command(alloc, outline)?.arg(semiring_option(alloc))?;
+    with_common(alloc, command)
+}
+
 fn multiply_command<'a>(alloc: Global) -> Result<Command<'a>, AllocError> {
-    let about = "Write the product of two matrices";
-    command(alloc, "multiply", about, &["A", "B"])?.arg(mask_option(alloc))
+    let command = command(alloc, &MULTIPLY)?
+        .arg(semiring_option(alloc))?
+        .arg(mask_option(alloc))?;
+    with_common(alloc, command)
 }
 
 fn prune_command<'a>(alloc: Global) -> Result<Command<'a>, AllocError> {
-    let about = "Write a matrix without the entries whose value passes a test";
-    command(alloc, "prune", about, &["A"])?
+    let command = command(alloc, &PRUNE)?
+        .arg(semiring_option(alloc))?
         .arg(test_option(alloc))?
-        .arg(value_option(alloc))
+        .arg(value_option(alloc))?;
+    with_common(alloc, command)
+}
+
+/// A command over the graph of a matrix, whose semiring it fixes.
+fn graph_command<'a>(alloc: Global, outline: &Outline) -> Result<Command<'a>, AllocError> {
+    let command = command(alloc, outline)?.arg(source_option(alloc))?;
+    with_common(alloc, command)
+}
+
+fn matrix_commands<'a>(alloc: Global, program: Command<'a>) -> Result<Command<'a>, AllocError> {
+    program
+        .subcommand(multiply_command(alloc)?)?
+        .subcommand(matrix_command(alloc, &SPMV)?)?
+        .subcommand(matrix_command(alloc, &TRANSPOSE)?)?
+        .subcommand(matrix_command(alloc, &ADD)?)?
+        .subcommand(matrix_command(alloc, &TIMES)?)?
+        .subcommand(prune_command(alloc)?)
+}
+
+fn graph_commands<'a>(alloc: Global, program: Command<'a>) -> Result<Command<'a>, AllocError> {
+    program
+        .subcommand(graph_command(alloc, &BFS)?)?
+        .subcommand(graph_command(alloc, &RELAX)?)
 }
 
 fn cbgrid<'a>(alloc: Global) -> Result<Command<'a>, AllocError> {
-    Command::new(alloc, "cbgrid")
+    let program = Command::new(alloc, "cbgrid")
         .about("Sparse matrices over semirings, read and written as Matrix Market files")
-        .after_help(AFTER_HELP)
+        .after_help(after_help!("multiply a.mtx b.mtx > product.mtx"))
         .subcommand_required(true)
         .disable_help_flag(true)
         .disable_help_subcommand(true)
-        .arg(help_option(alloc))?
-        .subcommand(multiply_command(alloc)?)?
-        .subcommand(command(
-            alloc,
-            "spmv",
-            "Write the product of a matrix and a vector, a matrix of one column",
-            &["A", "x"],
-        )?)?
-        .subcommand(command(
-            alloc,
-            "transpose",
-            "Write the transpose of a matrix",
-            &["A"],
-        )?)?
-        .subcommand(command(alloc, "add", "Write the sum of two matrices", &["A", "B"])?)?
-        .subcommand(command(
-            alloc,
-            "times",
-            "Write the product of two matrices place by place",
-            &["A", "B"],
-        )?)?
-        .subcommand(prune_command(alloc)?)
+        .arg(help_option(alloc))?;
+    graph_commands(alloc, matrix_commands(alloc, program)?)
 }
 
 fn usage(alloc: Global, text: &str) -> UsageFault
@@ -192,15 +294,25 @@ fn fault_of(alloc: Global, error: &clap::Error) -> UsageFault
     }
 }
 
-/// The arguments that name the files of an operation, in the order in which they are read.
-fn arguments(operation: Operation) -> &'static [&'static str]
-    ensures { length result.now ≡ file_count_of operation }
+/// The arguments that name the matrices of an operation, in the order in which they are read.
+fn operands(operation: Operation) -> &'static [&'static str]
+    ensures { length result.now ≡ operand_count_of operation }
 {
     match operation {
         Operation::Multiply | Operation::Add | Operation::Times => &["A", "B"],
         Operation::MultiplyMasked => &["A", "B", "mask"],
         Operation::MultiplyVector => &["A", "x"],
         Operation::Transpose | Operation::Prune(_) => &["A"],
+    }
+}
+
+/// The arguments that name the files of a task, in the order in which they are read.
+fn arguments(task: Task) -> &'static [&'static str]
+    ensures { length result.now ≡ file_count_of task }
+{
+    match task {
+        Task::Matrix { operation, .. } => operands(operation),
+        Task::Levels { .. } | Task::Distances { .. } => &["A"],
     }
 }
 
@@ -225,6 +337,7 @@ fn files_of(
 fn engine_of(found: &ArgMatches<'_>) -> Option<Engine> {
     match found.get_str("engine")? {
         "plain" => Some(Engine::Plain),
+        "ranks" => Some(Engine::Ranks(found.get_one::<u32>("lane")? as usize)),
         _ => None,
     }
 }
@@ -247,7 +360,12 @@ fn test_of(found: &ArgMatches<'_>) -> Option<Test> {
     }
 }
 
-/// The operation of a command.
+/// The vertex of `--source`, counted from 0.
+fn source_of(found: &ArgMatches<'_>) -> Option<u32> {
+    found.get_one::<u32>("source")?.checked_sub(1)
+}
+
+/// The operation of a command over matrices.
 fn operation_of(command: &str, found: &ArgMatches<'_>) -> Option<Operation> {
     match command {
         "multiply" if found.contains_id("mask") => Some(Operation::MultiplyMasked),
@@ -261,26 +379,38 @@ fn operation_of(command: &str, found: &ArgMatches<'_>) -> Option<Operation> {
     }
 }
 
+/// The task of a command.
+fn task_of(command: &str, found: &ArgMatches<'_>) -> Option<Task> {
+    match command {
+        "bfs" => Some(Task::Levels {
+            source: source_of(found)?,
+        }),
+        "relax" => Some(Task::Distances {
+            source: source_of(found)?,
+        }),
+        _ => Some(Task::Matrix {
+            operation: operation_of(command, found)?,
+            semiring: semiring_of(found)?,
+        }),
+    }
+}
+
 fn job_of(alloc: Global, matches: &ArgMatches<'_>) -> Result<Option<Job>, AllocError> {
     let Some((command, found)) = matches.subcommand() else {
         return Ok(None);
     };
-    let Some(operation) = operation_of(command, found) else {
-        return Ok(None);
-    };
-    let (Some(semiring), Some(grid), Some(engine)) = (
-        semiring_of(found),
+    let (Some(task), Some(grid), Some(engine)) = (
+        task_of(command, found),
         grid_of(found),
         engine_of(found),
     ) else {
         return Ok(None);
     };
-    let Some(files) = files_of(alloc, found, arguments(operation))? else {
+    let Some(files) = files_of(alloc, found, arguments(task))? else {
         return Ok(None);
     };
     Ok(Some(Job {
-        operation,
-        semiring,
+        task,
         grid,
         engine,
         files,
@@ -314,10 +444,10 @@ pub fn asked<R: Env + AllocGlobal>(rt: &R) -> Result<Job, UsageFault> {
 }
 
 /// Reads the words of a command line, of which the first is the program's name. A job names as many
-/// files as its operation reads. The words that are no job are a `UsageFault`, which holds the text
+/// files as its task reads. The words that are no job are a `UsageFault`, which holds the text
 /// to print. Costs what `clap` takes to build and to match the command line, under a millisecond.
 pub fn read_job(alloc: Global, words: &[String]) -> Result<Job, UsageFault>
-    ensures { IfOk result (λ job. vec_len job.files ≡ file_count_of job.operation) }
+    ensures { IfOk result (λ job. vec_len job.files ≡ file_count_of job.task) }
 {
     let matches = match cbgrid(alloc)?.try_get_matches_from(words) {
         Ok(matches) => matches,

@@ -7,7 +7,9 @@ use crate::tests::lines::job;
 use crate::tests::products::{FIRST, PRODUCT, SECOND};
 use crate::tests::sinks::Short;
 use std::alloc::Global;
+use std::sync::Wait;
 use std::test::Fail;
+use std::thread::Threads;
 
 /// Files by name. All others can't be read.
 #[derive(Drop)]
@@ -59,10 +61,12 @@ struct Outcome {
     code: u8,
 }
 
-fn outcome_of(alloc: Global, line: &str) -> Outcome {
+fn outcome_of<R: Threads + Wait + Sync + AllocGlobal>(rt: &R, line: &str) -> Outcome {
+    let alloc = rt.alloc();
     let mut out = WriterSink::new(Vec::new(alloc));
     let mut errors = WriterSink::new(Vec::new(alloc));
     let status = run(
+        rt,
         alloc,
         job(alloc, line),
         &Table::new(alloc),
@@ -103,7 +107,7 @@ fn are_told_apart(rt: HostRuntime) {
     ];
     for (files, out, errors, code) in rows {
         let line = format!(in rt.alloc(); "cbgrid multiply {files}").expect(&rt, "line");
-        let run = outcome_of(rt.alloc(), line.as_str());
+        let run = outcome_of(&rt, line.as_str());
         assert!(rt; run.out.as_slice() == out.as_bytes(), "{files}");
         assert!(rt; run.errors.as_slice() == errors.as_bytes(), "{files}");
         assert_eq!(rt; run.code, code, "{files}");
@@ -112,7 +116,7 @@ fn are_told_apart(rt: HostRuntime) {
 
 #[test]
 fn of_usage_are_told_on_standard_error(rt: HostRuntime) {
-    let run = outcome_of(rt.alloc(), "cbgrid multiply a.mtx");
+    let run = outcome_of(&rt, "cbgrid multiply a.mtx");
     assert!(rt; run.out.is_empty());
     assert!(rt; !run.errors.is_empty());
     assert_eq!(rt; run.code, 2);
@@ -121,7 +125,7 @@ fn of_usage_are_told_on_standard_error(rt: HostRuntime) {
 #[test]
 fn of_help_are_told_on_standard_output(rt: HostRuntime) {
     for line in ["cbgrid --help", "cbgrid multiply --help"] {
-        let run = outcome_of(rt.alloc(), line);
+        let run = outcome_of(&rt, line);
         assert!(rt; !run.out.is_empty());
         assert!(rt; run.errors.is_empty());
         assert_eq!(rt; run.code, 0);
@@ -135,6 +139,7 @@ fn are_refused_where_nothing_can_be_written(rt: HostRuntime) {
         let mut out = Short::new(alloc, 0, 1);
         let mut errors = WriterSink::new(Vec::new(alloc));
         let status = run(
+            &rt,
             alloc,
             job(alloc, line),
             &Table::new(alloc),
@@ -149,8 +154,13 @@ fn are_refused_where_nothing_can_be_written(rt: HostRuntime) {
 /// This test is also run with each of its allocations refused in turn.
 #[test]
 fn are_right_or_want_of_memory(rt: HostRuntime) {
-    let run = outcome_of(rt.alloc(), "cbgrid multiply a.mtx b.mtx");
-    let is_right = run.code == 0 && run.out.as_slice() == PRODUCT.as_bytes();
-    let is_refused = (run.code == 6 || run.code == 3) && run.out.is_empty();
-    assert!(rt; is_right || is_refused);
+    for line in [
+        "cbgrid multiply a.mtx b.mtx",
+        "cbgrid multiply a.mtx b.mtx --engine plain",
+    ] {
+        let run = outcome_of(&rt, line);
+        let is_right = run.code == 0 && run.out.as_slice() == PRODUCT.as_bytes();
+        let is_refused = (run.code == 6 || run.code == 3) && run.out.is_empty();
+        assert!(rt; is_right || is_refused);
+    }
 }

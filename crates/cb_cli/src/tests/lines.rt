@@ -1,6 +1,6 @@
 //! Command lines, and the lines of faults.
 use crate::faults::{fault_line, unreadable_line};
-use crate::jobs::{Job, Operation, UsageFault};
+use crate::jobs::{Job, Operation, Task, UsageFault};
 use crate::runs::{JobFault, status};
 use crate::semirings::SemiringName;
 use crate::words::read_job;
@@ -25,11 +25,19 @@ pub fn job(alloc: Global, line: &str) -> Result<Job, UsageFault> {
     read_job(alloc, words.as_slice())
 }
 
+/// An operation over plus-times.
+const fn plus_times(operation: Operation) -> Task {
+    Task::Matrix {
+        operation,
+        semiring: SemiringName::PlusTimes,
+    }
+}
+
 #[test]
 fn reads_a_product(rt: HostRuntime) -> Result<(), Fail> {
     let job = job(rt.alloc(), "cbgrid multiply left.mtx right.mtx")?;
-    assert!(rt; job.operation == Operation::Multiply);
-    assert!(rt; job.semiring == SemiringName::PlusTimes);
+    assert!(rt; job.task == plus_times(Operation::Multiply));
+    assert!(rt; job.engine == Engine::Ranks(2));
     assert_eq!(rt; job.grid.side(), 2);
     assert_eq!(rt; job.files().len(), 2);
     assert!(rt; job.files()[0].as_str() == "left.mtx");
@@ -41,11 +49,28 @@ fn reads_a_product(rt: HostRuntime) -> Result<(), Fail> {
 fn reads_the_options_of_a_product(rt: HostRuntime) -> Result<(), Fail> {
     let line = "cbgrid multiply --mask kept.mtx a.mtx --grid 6 b.mtx --engine plain";
     let job = job(rt.alloc(), line)?;
-    assert!(rt; job.operation == Operation::MultiplyMasked);
+    assert!(rt; job.task == plus_times(Operation::MultiplyMasked));
     assert!(rt; job.engine == Engine::Plain);
     assert_eq!(rt; job.grid.side(), 6);
     assert_eq!(rt; job.files().len(), 3);
     assert!(rt; job.files()[2].as_str() == "kept.mtx");
+    Ok(())
+}
+
+#[test]
+fn reads_each_engine(rt: HostRuntime) -> Result<(), Fail> {
+    let wanted = [
+        ("cbgrid transpose a --engine ranks", Engine::Ranks(2)),
+        ("cbgrid transpose a --lane 1", Engine::Ranks(1)),
+        (
+            "cbgrid bfs a --lane=64 --source 1 --engine ranks",
+            Engine::Ranks(64),
+        ),
+        ("cbgrid transpose a --engine plain --lane 64", Engine::Plain),
+    ];
+    for (line, engine) in wanted {
+        assert!(rt; job(rt.alloc(), line)?.engine == engine, "{line}");
+    }
     Ok(())
 }
 
@@ -67,7 +92,11 @@ fn reads_each_semiring(rt: HostRuntime) -> Result<(), Fail> {
         ),
     ];
     for (line, semiring) in wanted {
-        assert!(rt; job(rt.alloc(), line)?.semiring == semiring);
+        let task = Task::Matrix {
+            operation: Operation::Multiply,
+            semiring,
+        };
+        assert!(rt; job(rt.alloc(), line)?.task == task);
     }
     Ok(())
 }
@@ -93,7 +122,33 @@ fn reads_each_command(rt: HostRuntime) -> Result<(), Fail> {
         ),
     ];
     for (line, operation) in wanted {
-        assert!(rt; job(rt.alloc(), line)?.operation == operation, "{line}");
+        assert!(rt;
+            job(rt.alloc(), line)?.task == plus_times(operation),
+            "{line}"
+        );
+    }
+    Ok(())
+}
+
+#[test]
+fn reads_a_source(rt: HostRuntime) -> Result<(), Fail> {
+    let wanted = [
+        ("cbgrid bfs a --source 1", Task::Levels { source: 0 }),
+        (
+            "cbgrid bfs --source=2147483647 a",
+            Task::Levels {
+                source: 2_147_483_646,
+            },
+        ),
+        (
+            "cbgrid relax --source 9 a --grid 3",
+            Task::Distances { source: 8 },
+        ),
+    ];
+    for (line, task) in wanted {
+        let job = job(rt.alloc(), line)?;
+        assert!(rt; job.task == task, "{line}");
+        assert_eq!(rt; job.files().len(), 1);
     }
     Ok(())
 }
@@ -115,6 +170,10 @@ fn refuses_what_is_not_offered(rt: HostRuntime) {
         "cbgrid multiply a b --grid two",
         "cbgrid multiply a b --engine",
         "cbgrid multiply a b --engine steam",
+        "cbgrid multiply a b --lane 0",
+        "cbgrid multiply a b --lane 65",
+        "cbgrid multiply a b --lane wide",
+        "cbgrid multiply a b --lane 1 --lane 2",
         "cbgrid multiply a b --mask",
         "cbgrid multiply a b --mask m --mask m",
         "cbgrid multiply a b --colour",
@@ -132,6 +191,19 @@ fn refuses_what_is_not_offered(rt: HostRuntime) {
         "cbgrid prune a --test above --value some",
         "cbgrid prune a --test above --value 18446744073709551616",
         "cbgrid prune a --test above --test below --value 1",
+        "cbgrid bfs a",
+        "cbgrid bfs --source 1",
+        "cbgrid bfs a b --source 1",
+        "cbgrid bfs a --source 0",
+        "cbgrid bfs a --source 2147483648",
+        "cbgrid bfs a --source first",
+        "cbgrid bfs a --source 1 --source 1",
+        "cbgrid bfs a --source 1 --semiring or-and",
+        "cbgrid relax a",
+        "cbgrid relax a --source -1",
+        "cbgrid relax a --source 1 --semiring min-plus",
+        "cbgrid relax a --source 1 --mask m",
+        "cbgrid multiply a b --source 1",
         "cbgrid -h",
         "cbgrid help",
     ];
@@ -153,6 +225,8 @@ fn offers_help(rt: HostRuntime) {
         "cbgrid add --help",
         "cbgrid times --help",
         "cbgrid prune --help",
+        "cbgrid bfs --help",
+        "cbgrid relax --help",
     ] {
         assert!(rt;
             matches!(job(rt.alloc(), line), Err(UsageFault::Help(_))),
@@ -199,6 +273,21 @@ fn ends_with_a_status_and_prints_a_line(rt: HostRuntime) -> Result<(), Fail> {
             JobFault::Script(ScriptFault::Memory),
             6,
             "cbgrid: out of memory\n",
+        ),
+        (
+            JobFault::Script(ScriptFault::NotStarted(35)),
+            6,
+            "cbgrid: rank 35 not started\n",
+        ),
+        (
+            JobFault::Script(ScriptFault::Gone(0)),
+            6,
+            "cbgrid: rank 0 gone\n",
+        ),
+        (
+            JobFault::Script(ScriptFault::Lost(7)),
+            6,
+            "cbgrid: lost at rank 7\n",
         ),
         (JobFault::Memory, 6, "cbgrid: out of memory\n"),
         (JobFault::Output, 7, "cbgrid: can't write\n"),

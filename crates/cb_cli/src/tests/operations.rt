@@ -1,14 +1,21 @@
 //! The transpose, products by vectors, and operations place by place, by `execute`.
 use crate::runs::JobFault;
 use crate::sinks::WriterSink;
-use crate::tests::products::{FIRST, HEADER, SECOND, run_into, writes_on_each_grid};
+use crate::tests::products::{FIRST, HEADER, SECOND, run_into, writes_in_each_run};
 use cb_scripts::ScriptFault;
+use std::sync::Wait;
 use std::test::Fail;
+use std::thread::Threads;
 
-/// Whether a command writes the header of integers and these lines, on the grid of each side.
-fn writes(rt: &HostRuntime, command: &str, texts: &[&str], lines: &str) -> bool {
+/// Whether a command writes the header of integers and these lines, in each run.
+fn writes<R: Threads + Wait + Sync + AllocGlobal>(
+    rt: &R,
+    command: &str,
+    texts: &[&str],
+    lines: &str,
+) -> bool {
     match format!(in rt.alloc(); "{HEADER}{lines}") {
-        Ok(wanted) => writes_on_each_grid(rt, command, texts, wanted.as_bytes()),
+        Ok(wanted) => writes_in_each_run(rt, command, texts, wanted.as_bytes()),
         Err(_) => false,
     }
 }

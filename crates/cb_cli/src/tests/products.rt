@@ -8,7 +8,10 @@ use crate::tests::lines::words;
 use crate::words::read_job;
 use cb_market::{Kind, ReadFault};
 use cb_scripts::ScriptFault;
+use std::alloc::Global;
+use std::sync::Wait;
 use std::test::Fail;
+use std::thread::Threads;
 
 pub const HEADER: &str = "%%MatrixMarket matrix coordinate integer general\n";
 
@@ -23,8 +26,7 @@ pub const PRODUCT: &str =
 const PATTERN: &str = "%%MatrixMarket matrix coordinate pattern symmetric\n3 3 2\n2 1\n3 3\n";
 
 /// The job of `cbgrid COMMAND`, with `command` from the command's word on.
-fn job_of(rt: &HostRuntime, command: &str) -> Result<Job, JobFault> {
-    let alloc = rt.alloc();
+fn job_of(alloc: Global, command: &str) -> Result<Job, JobFault> {
     let Ok(line) = format!(in alloc; "cbgrid {command}") else {
         return Err(JobFault::Memory);
     };
@@ -38,8 +40,8 @@ fn job_of(rt: &HostRuntime, command: &str) -> Result<Job, JobFault> {
 }
 
 /// Runs a command over texts. What the test itself can't make is `Memory`.
-pub fn run_into<K: Sink>(
-    rt: &HostRuntime,
+pub fn run_into<R: Threads + Wait + Sync + AllocGlobal, K: Sink>(
+    rt: &R,
     command: &str,
     texts: &[&str],
     out: &mut K,
@@ -47,7 +49,7 @@ pub fn run_into<K: Sink>(
     requires { K.has_failed out.old ≡ false }
 {
     let alloc = rt.alloc();
-    let job = job_of(rt, command)?;
+    let job = job_of(alloc, command)?;
     let mut bytes = Vec::new(alloc);
     for text in texts {
         let Ok(text) = Vec::from_slice(alloc, text.as_bytes()) else {
@@ -60,20 +62,42 @@ pub fn run_into<K: Sink>(
     if bytes.len() != job.files().len() {
         return Err(JobFault::Memory);
     }
-    execute(alloc, &job, bytes.as_slice(), out)
+    execute(rt, alloc, &job, bytes.as_slice(), out)
 }
 
 /// The bytes that a command writes of some texts.
-fn answer(rt: &HostRuntime, command: &str, texts: &[&str]) -> Result<Vec<u8>, JobFault> {
+fn answer<R: Threads + Wait + Sync + AllocGlobal>(
+    rt: &R,
+    command: &str,
+    texts: &[&str],
+) -> Result<Vec<u8>, JobFault> {
     let mut out = WriterSink::new(Vec::new(rt.alloc()));
     run_into(rt, command, texts, &mut out)?;
     Ok(out.into_inner())
 }
 
-/// Whether a command writes just these bytes of some texts, on the grid of each side.
-pub fn writes_on_each_grid(rt: &HostRuntime, command: &str, texts: &[&str], wanted: &[u8]) -> bool {
-    for side in 1..=6 {
-        let Ok(command) = format!(in rt.alloc(); "{command} --grid {side}") else {
+/// The options of runs with each engine on grids of several sides. Ranks in threads are as many as the side squared.
+const RUNS: [&str; 9] = [
+    "--engine plain --grid 1",
+    "--engine plain --grid 2",
+    "--engine plain --grid 3",
+    "--engine plain --grid 4",
+    "--engine plain --grid 5",
+    "--engine plain --grid 6",
+    "--engine ranks --lane 1 --grid 1",
+    "--engine ranks --lane 1 --grid 2",
+    "--engine ranks --lane 1 --grid 4",
+];
+
+/// Whether a command writes just these bytes of some texts, in each run.
+pub fn writes_in_each_run<R: Threads + Wait + Sync + AllocGlobal>(
+    rt: &R,
+    command: &str,
+    texts: &[&str],
+    wanted: &[u8],
+) -> bool {
+    for options in RUNS {
+        let Ok(command) = format!(in rt.alloc(); "{command} {options}") else {
             return false;
         };
         match answer(rt, command.as_str(), texts) {
@@ -84,10 +108,16 @@ pub fn writes_on_each_grid(rt: &HostRuntime, command: &str, texts: &[&str], want
     true
 }
 
-/// Whether a command writes the header of integers and these lines, on the grid of each side.
-fn writes(rt: &HostRuntime, command: &str, first: &str, second: &str, lines: &str) -> bool {
+/// Whether a command writes the header of integers and these lines, in each run.
+fn writes<R: Threads + Wait + Sync + AllocGlobal>(
+    rt: &R,
+    command: &str,
+    first: &str,
+    second: &str,
+    lines: &str,
+) -> bool {
     match format!(in rt.alloc(); "{HEADER}{lines}") {
-        Ok(wanted) => writes_on_each_grid(rt, command, &[first, second], wanted.as_bytes()),
+        Ok(wanted) => writes_in_each_run(rt, command, &[first, second], wanted.as_bytes()),
         Err(_) => false,
     }
 }
@@ -96,14 +126,20 @@ fn writes(rt: &HostRuntime, command: &str, first: &str, second: &str, lines: &st
 fn multiplies_two_by_two(rt: HostRuntime) -> Result<(), Fail> {
     let texts = [FIRST, SECOND];
     assert!(rt; answer(&rt, "multiply a b", &texts)?.as_slice() == PRODUCT.as_bytes());
-    assert!(rt;
-        writes_on_each_grid(
-            &rt,
-            "multiply a b --engine plain",
-            &texts,
-            PRODUCT.as_bytes()
-        )
-    );
+    assert!(rt; writes_in_each_run(&rt, "multiply a b", &texts, PRODUCT.as_bytes()));
+    Ok(())
+}
+
+#[test]
+fn multiplies_two_by_two_over_each_lane(rt: HostRuntime) -> Result<(), Fail> {
+    let texts = [FIRST, SECOND];
+    for lane in [1, 2, 64] {
+        for side in 1..=6 {
+            let command = format!(in rt.alloc(); "multiply a b --lane {lane} --grid {side}")?;
+            let found = answer(&rt, command.as_str(), &texts)?;
+            assert!(rt; found.as_slice() == PRODUCT.as_bytes(), "{command}");
+        }
+    }
     Ok(())
 }
 
@@ -235,7 +271,7 @@ fn squares_a_symmetric_pattern(rt: HostRuntime) {
     let wanted = "%%MatrixMarket matrix coordinate pattern general\n3 3 3\n1 1\n2 2\n3 3\n";
     let texts = [PATTERN, PATTERN];
     assert!(rt;
-        writes_on_each_grid(
+        writes_in_each_run(
             &rt,
             "multiply a b --semiring or-and",
             &texts,
@@ -254,7 +290,7 @@ fn keeps_what_a_mask_has(rt: HostRuntime) -> Result<(), Fail> {
         let mask = format!(in alloc; "{HEADER}{mask}")?;
         let wanted = format!(in alloc; "{HEADER}{wanted}")?;
         let texts = [FIRST, SECOND, mask.as_str()];
-        assert!(rt; writes_on_each_grid(&rt, "multiply a b --mask m", &texts, wanted.as_bytes()));
+        assert!(rt; writes_in_each_run(&rt, "multiply a b --mask m", &texts, wanted.as_bytes()));
     }
     Ok(())
 }

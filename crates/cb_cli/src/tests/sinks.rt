@@ -7,6 +7,8 @@ use crate::tests::products::{FIRST, PRODUCT, SECOND, run_into};
 use std::alloc::Global;
 use std::test::Fail;
 
+const MULTIPLY: &str = "multiply a b --engine plain";
+
 /// A sink that takes at most `step` bytes at a put, and `room` in all: then it fails, or if `stops`
 /// answers that it took none.
 #[derive(Drop)]
@@ -67,7 +69,7 @@ impl Sink for Short {
 #[test]
 fn writes_ten_bytes_and_stops_where_the_writer_fails(rt: HostRuntime) -> Result<(), Fail> {
     let mut out = Short::new(rt.alloc(), 10, usize::MAX);
-    let fault = run_into(&rt, "multiply a b", &[FIRST, SECOND], &mut out);
+    let fault = run_into(&rt, MULTIPLY, &[FIRST, SECOND], &mut out);
     assert!(rt; fault == Err(JobFault::Output));
     assert!(rt; out.bytes.as_slice() == b"%%MatrixMa".as_slice());
     Ok(())
@@ -79,12 +81,12 @@ fn writes_as_much_as_the_writer_takes(rt: HostRuntime) -> Result<(), Fail> {
     assert_eq!(rt; whole.len(), 74);
     for room in 0..74 {
         let mut out = Short::new(rt.alloc(), room, usize::MAX);
-        let fault = run_into(&rt, "multiply a b", &[FIRST, SECOND], &mut out);
+        let fault = run_into(&rt, MULTIPLY, &[FIRST, SECOND], &mut out);
         assert!(rt; fault == Err(JobFault::Output), "{room}");
         assert!(rt; out.bytes.as_slice() == &whole[..room], "{room}");
     }
     let mut out = Short::new(rt.alloc(), 74, usize::MAX);
-    assert!(rt; run_into(&rt, "multiply a b", &[FIRST, SECOND], &mut out).is_ok());
+    assert!(rt; run_into(&rt, MULTIPLY, &[FIRST, SECOND], &mut out).is_ok());
     assert!(rt; out.bytes.as_slice() == whole);
     Ok(())
 }
@@ -92,7 +94,7 @@ fn writes_as_much_as_the_writer_takes(rt: HostRuntime) -> Result<(), Fail> {
 #[test]
 fn writes_to_a_writer_that_takes_a_byte_at_a_time(rt: HostRuntime) -> Result<(), Fail> {
     let mut out = Short::new(rt.alloc(), usize::MAX, 1);
-    assert!(rt; run_into(&rt, "multiply a b", &[FIRST, SECOND], &mut out).is_ok());
+    assert!(rt; run_into(&rt, MULTIPLY, &[FIRST, SECOND], &mut out).is_ok());
     assert!(rt; out.bytes.as_slice() == PRODUCT.as_bytes());
     Ok(())
 }
@@ -101,7 +103,7 @@ fn writes_to_a_writer_that_takes_a_byte_at_a_time(rt: HostRuntime) -> Result<(),
 fn fails_where_the_writer_takes_nothing(rt: HostRuntime) -> Result<(), Fail> {
     let mut out = Short::new(rt.alloc(), 0, 1);
     out.stops = true;
-    let fault = run_into(&rt, "multiply a b", &[FIRST, SECOND], &mut out);
+    let fault = run_into(&rt, MULTIPLY, &[FIRST, SECOND], &mut out);
     assert!(rt; fault == Err(JobFault::Output));
     assert!(rt; out.bytes.is_empty());
     Ok(())

@@ -1,4 +1,4 @@
-use Rattle.std.proofs.Common.{◌≡◌, ◌++◌, [], refl, ap, sym, ◌∙◌}
+use Rattle.std.proofs.Common.{◌++◌, [], refl, ap, sym, ◌∙◌}
 use Rattle.cb_cli.proofs.SinkLemmas.{appends_none, appends_page, prefix_page, on_err}
 use Rattle.cb_cli.proofs.pages.put_pages.Goals as goal
 

@@ -4,14 +4,5 @@ use Rattle.cb_cli.specs.Answers.{IsFault}
 use Rattle.cb_cli.specs.Files.{bytes_of}
 use Rattle.cb_cli.proofs.runs.execute.Goals as goal
 
-pub returns-in-PlusTimes-clause-fault : goal.returns-in-PlusTimes-clause-fault
-returns-in-PlusTimes-clause-fault g c = subst (λ s. IfErr c.execute_over.result (IsFault c.args.job.now.operation s (bytes_of c.args.texts.now))) (sym c.in-PlusTimes.is) c.execute_over.ensures.fault
-
-pub returns-in-MinPlus-clause-fault : goal.returns-in-MinPlus-clause-fault
-returns-in-MinPlus-clause-fault g c = subst (λ s. IfErr c.execute_over-in-MinPlus.result (IsFault c.args.job.now.operation s (bytes_of c.args.texts.now))) (sym c.in-MinPlus.is) c.execute_over-in-MinPlus.ensures.fault
-
-pub returns-in-OrAnd-clause-fault : goal.returns-in-OrAnd-clause-fault
-returns-in-OrAnd-clause-fault g c = subst (λ s. IfErr c.execute_over-in-OrAnd.result (IsFault c.args.job.now.operation s (bytes_of c.args.texts.now))) (sym c.in-OrAnd.is) c.execute_over-in-OrAnd.ensures.fault
-
-pub returns-in-MaxMin-clause-fault : goal.returns-in-MaxMin-clause-fault
-returns-in-MaxMin-clause-fault g c = subst (λ s. IfErr c.execute_over-in-MaxMin.result (IsFault c.args.job.now.operation s (bytes_of c.args.texts.now))) (sym c.in-MaxMin.is) c.execute_over-in-MaxMin.ensures.fault
+pub returns-in-Matrix-clause-fault : goal.returns-in-Matrix-clause-fault
+returns-in-Matrix-clause-fault g c = subst (λ t. IfErr c.execute_named.result (IsFault t c.args.job.now.engine (bytes_of c.args.texts.now))) (sym c.in-Matrix.is) c.execute_named.ensures.fault
