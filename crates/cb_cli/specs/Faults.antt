@@ -14,13 +14,15 @@ name_at names i = unwrap_or (option_map string_bytes (slice_get names i)) []
 abbrev pub read_line_of : List ℕ → ℕ → List ℕ → List ℕ
 read_line_of name line text = codes "cbgrid: " ++ name ++ codes ":" ++ decimal line ++ codes ": " ++ text ++ codes "\n"
 
--- no thread for a rank, a rank that was left alone, and a block that is lost; ranks are counted from 0
+-- no thread could be started for a rank, counted from 0
 abbrev pub not_started_line_of : ℕ → List ℕ
 not_started_line_of rank = codes "cbgrid: rank " ++ decimal rank ++ codes " not started\n"
 
+-- a rank was left alone by another
 abbrev pub gone_line_of : ℕ → List ℕ
 gone_line_of rank = codes "cbgrid: rank " ++ decimal rank ++ codes " gone\n"
 
+-- a block of the answer is lost, since memory was refused in this rank
 abbrev pub lost_line_of : ℕ → List ℕ
 lost_line_of origin = codes "cbgrid: lost at rank " ++ decimal origin ++ codes "\n"
 

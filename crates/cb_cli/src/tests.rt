@@ -3,5 +3,6 @@ mod endings;
 mod graphs;
 mod lines;
 mod operations;
+mod pages;
 mod products;
 mod sinks;
