@@ -1,5 +1,5 @@
 //! A world of ranks beside the same plan done act by act.
-ghost use Rattle.std.specs.Prelude.{◌≡◌, ◌<◌, IfOk};
+ghost use Rattle.std.specs.Prelude.{◌≡◌};
 
 use crate::kernels::{Counts, now};
 use cb_layout::Grid;
