@@ -77,6 +77,7 @@ pub fn fill<S: Semiring>(stores: &mut Vec<RankStore<S>>, slot: u16, blocks: Vec<
 ///
 /// `Memory` comes before any block is moved. `Lost` names the origin of the lost block of the least rank whose slot is
 /// lost; the blocks of the ranks before it are dropped.
+#[tactic(auto, using(crate::proofs::DrainedSlots::taken, crate::proofs::DrainedSlots::never_empty, crate::proofs::DrainedSlots::first_loss))]
 pub fn drain<S: Semiring>(
     alloc: Global,
     stores: &mut Vec<RankStore<S>>,
