@@ -12,12 +12,5 @@ fn main(rt: HostRuntime) -> Status {
     let mut out = WriterSink::new(io::writer(&rt));
     let mut errors = WriterSink::new(rt.stderr());
     let files = SystemFiles::new(&rt);
-    run(
-        &rt,
-        rt.alloc(),
-        asked(&rt),
-        &files,
-        &mut out,
-        &mut errors,
-    )
+    run(&rt, rt.alloc(), asked(&rt), &files, &mut out, &mut errors)
 }
