@@ -1,0 +1,69 @@
+-- Which lists of events a trace may hold. Legal is what the rules of lanes say, over letters whose loads aren't looked at.
+use Rattle.std.specs.Prelude.{◌≡◌, ◌≢◌, ℕ, ◌<◌, ◌≤◌, ◌==◌, List, [], map, filter, length, get_or, All, Unit}
+use Rattle.cb_letters.specs.declared.Letter.{Letter}
+use Rattle.cb_letters.specs.declared.Body.{Body}
+use Rattle.cb_letters.specs.declared.Body.TheVariants.{Sheet, Close}
+use Rattle.cb_letters.specs.Events.{Event, Sent, Got, AreLegal, MayFollow}
+use Rattle.cb_trace.specs.declared.events.Envelope.{Envelope}
+use Rattle.cb_trace.specs.declared.events.TraceEvent.{TraceEvent}
+use Rattle.cb_trace.specs.declared.events.TraceEvent.TheVariants.{Posted, Took, Closed, Ended}
+
+-- the letter in this envelope, with this body
+abbrev pub letter_in : Envelope → Body Unit → Letter Unit
+letter_in e body = record { from = e.from; to = e.to; number = e.number; tag = e.tag; body = body }
+
+-- what happened, in the words of lanes
+abbrev pub event_of : TraceEvent → Event Unit
+event_of (Posted e) = Sent e.from e.to (letter_in e (Sheet tt))
+event_of (Took e) = Got e.from e.to (letter_in e (Sheet tt))
+event_of (Closed e) = Sent e.from e.to (letter_in e Close)
+event_of (Ended e) = Got e.from e.to (letter_in e Close)
+
+abbrev pub envelope_of : TraceEvent → Envelope
+envelope_of (Posted e) = e
+envelope_of (Took e) = e
+envelope_of (Closed e) = e
+envelope_of (Ended e) = e
+
+-- the rank that did it: the sender posts and closes, the addressee takes and sees the end
+abbrev pub owner : TraceEvent → ℕ
+owner (Posted e) = e.from
+owner (Took e) = e.to
+owner (Closed e) = e.from
+owner (Ended e) = e.to
+
+-- the lane from this rank to that one is between two of so many ranks
+abbrev pub IsOnLane : ℕ → Envelope → Type 0
+IsOnLane ranks e = (e.from < ranks) × (e.to < ranks) × (e.from ≢ e.to)
+
+abbrev pub AreOnLanes : ℕ → List TraceEvent → Type 0
+AreOnLanes ranks es = All (λ e. IsOnLane ranks (envelope_of e)) es
+
+-- each event may follow those before it, by the rules of lanes
+abbrev pub AreLegalEvents : List TraceEvent → Type 0
+AreLegalEvents es = AreLegal (map event_of es)
+
+-- of how many ranks it is, how many events it has room for, and the events, oldest first
+pub record TraceView : Type 0 where
+  pub ranks : ℕ
+  pub room : ℕ
+  pub events : List TraceEvent
+
+-- what every trace keeps
+pub record IsTrace (t : TraceView) : Type 0 where
+  pub legal : AreLegalEvents t.events
+  pub lanes : AreOnLanes t.ranks t.events
+  pub room : length t.events ≤ t.room
+
+-- an event may be recorded next, but for the room: it is on a lane of the trace, and may follow what is there
+abbrev pub MayRecord : TraceView → TraceEvent → Type 0
+MayRecord t e = IsOnLane t.ranks (envelope_of e) × MayFollow (map event_of t.events) (event_of e)
+
+-- what one rank did, in order
+abbrev pub events_by : ℕ → List TraceEvent → List TraceEvent
+events_by rank es = filter (λ e. owner e == rank) es
+
+-- there is a log for each rank, and it has just what the trace has of that rank, in order
+pub record AreLogsOf (t : TraceView) (logs : List (List TraceEvent)) : Type 0 where
+  pub count : length logs ≡ t.ranks
+  pub each : (r : ℕ) → r < t.ranks → get_or logs r [] ≡ events_by r t.events

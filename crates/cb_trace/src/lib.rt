@@ -1,0 +1,20 @@
+//! A trace: the list of what ranks did at their ends of lanes, in an order that is legal at every moment.
+//!
+//! A [`TraceEvent`] says that a letter was posted or taken, or that a lane was closed or came to its end. What the
+//! letter carried isn't kept: its [`Envelope`] is. A [`Trace`] takes an event only where it may follow those that it
+//! has, by the rules of lanes: so each letter in it is taken at most once, by its addressee alone, for each sender in
+//! the order in which it was posted, and nothing is posted after a close. A [`SharedTrace`] is a trace that threads
+//! write to, one at a time.
+//!
+//! `specs/Traces` says which lists of events are legal.
+#![tactic(auto)]
+
+mod events;
+mod shared;
+#[cfg(test)]
+mod tests;
+mod traces;
+
+pub use events::{Envelope, TraceEvent};
+pub use shared::SharedTrace;
+pub use traces::{Trace, TraceRefusal};
