@@ -1,21 +1,19 @@
 -- Which event may come next, by what is kept of its lane.
-use Rattle.std.proofs.Common.{◌≡◌, ◌↔◌, ℕ, ◌+◌, ◌*◌, ◌<◌, ◌≤◌, ◌==◌, Bool, true, false, nat_lt, List, [], ◌∷◌, ◌++◌, length, map, get_or, slice_get, slice_set, Option, Some, refl, sym, ◌∙◌, ap, subst, arith}
+use Rattle.std.proofs.Common.{◌≡◌, ◌↔◌, ℕ, ◌+◌, ◌*◌, ◌<◌, ◌≤◌, ◌==◌, Bool, true, false, nat_lt, List, [], ◌∷◌, ◌++◌, length, map, get_or, slice_get, slice_set, Some, refl, sym, ◌∙◌, ap, subst, arith}
 use Rattle.std.specs.Option.{option_map}
 use Rattle.std.proofs.lemmas.Bool.{eq-eqb, eqb-true, ltb-true, lt-ltb}
 use Rattle.std.proofs.lemmas.List.{length-map, map-append}
 use Rattle.std.proofs.lemmas.Nat.{mul-add-lt}
 use Rattle.std.proofs.lemmas.Option.{slice_get_within, slice_get-map, slice_get_read, same_Some}
 use Rattle.cb_letters.specs.declared.Letter.{Letter}
-use Rattle.cb_letters.specs.declared.Body.{Body}
 use Rattle.cb_letters.specs.declared.Body.TheVariants.{Sheet, Close}
-use Rattle.cb_letters.specs.Letters.{is_close}
 use Rattle.cb_letters.specs.Events.{Event, Sent, Got, posts_on, takes_on, MayFollow}
 use Rattle.cb_trace.specs.declared.ends.LaneEnds.{LaneEnds}
 use Rattle.cb_trace.specs.declared.events.Envelope.{Envelope}
 use Rattle.cb_trace.specs.declared.events.TraceEvent.{TraceEvent}
 use Rattle.cb_trace.specs.declared.events.TraceEvent.TheVariants.{Posted, Took, Closed, Ended}
 use Rattle.cb_trace.specs.Traces.{letter_in, event_of, envelope_of, IsOnLane, TraceView, MayRecord}
-use Rattle.cb_trace.specs.Ends.{IsPost, AreEnds, AreLanes, lane_after, next_after, IsWithin}
+use Rattle.cb_trace.specs.Ends.{AreEnds, AreLanes, lane_after, next_after, IsWithin}
 use Rattle.cb_trace.proofs.Appended.{length-posts_on, length-takes_on}
 use Rattle.cb_trace.proofs.Posts.{IsPost-within}
 use Rattle.cb_trace.proofs.Chains.{AreLanes-post, AreLanes-take}

@@ -1,8 +1,8 @@
 -- Where letters were posted.
-use Rattle.std.proofs.Common.{◌≡◌, ℕ, ◌+◌, ◌<◌, ◌==◌, ◌&&◌, false, List, [], ◌∷◌, ◌++◌, length, slice_get, Some, ◌⊎◌, inl, inr, refl, sym, ◌∙◌, ap, arith}
+use Rattle.std.proofs.Common.{◌≡◌, ℕ, ◌<◌, List, [], ◌∷◌, ◌++◌, length, Some, ◌⊎◌, inl, inr, sym, ◌∙◌, ap}
 use Rattle.std.proofs.lemmas.Option.{slice_get_within}
 use Rattle.cb_letters.specs.declared.Letter.{Letter}
-use Rattle.cb_letters.specs.Events.{Event, Sent, Got, posts_on}
+use Rattle.cb_letters.specs.Events.{Event, Sent}
 use Rattle.cb_trace.specs.Ends.{IsPost}
 use Rattle.cb_trace.proofs.Appended.{slice_get-append, slice_get-last, slice_get-push}
 

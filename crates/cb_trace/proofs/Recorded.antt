@@ -1,6 +1,6 @@
 -- A trace with one event more.
-use Rattle.std.proofs.Common.{◌≡◌, ℕ, ◌+◌, ◌*◌, ◌<◌, ◌≤◌, List, [], ◌∷◌, ◌++◌, length, map, take, drop, set, get_or, inl, inr, refl, sym, ◌∙◌, ap, subst, arith}
-use Rattle.std.proofs.lemmas.List.{length-map, length-set, length_push, map-append, take_at}
+use Rattle.std.proofs.Common.{◌≡◌, ℕ, ◌+◌, ◌*◌, ◌<◌, List, [], ◌∷◌, ◌++◌, length, map, take, drop, set, get_or, inl, inr, refl, sym, ◌∙◌, ap, subst, arith}
+use Rattle.std.proofs.lemmas.List.{length-set, length_push, map-append, take_at}
 use Rattle.std.proofs.lemmas.Bool.{cases_eq, eq-eqb, ne_eqb}
 use Rattle.std.proofs.lemmas.List.Elements.{All-push}
 use Rattle.std.specs.Prelude.{if◌then◌else◌, slice_set, Bool}
@@ -9,7 +9,7 @@ use Rattle.cb_trace.specs.declared.ends.LaneEnds.{LaneEnds}
 use Rattle.cb_trace.specs.declared.events.Envelope.{Envelope}
 use Rattle.cb_trace.specs.declared.events.TraceEvent.{TraceEvent}
 use Rattle.cb_trace.specs.declared.events.TraceEvent.TheVariants.{Posted, Took, Closed, Ended}
-use Rattle.cb_trace.specs.Traces.{event_of, envelope_of, IsOnLane, AreLegalEvents, AreOnLanes, TraceView, IsTrace, MayRecord}
+use Rattle.cb_trace.specs.Traces.{event_of, envelope_of, IsOnLane, TraceView, IsTrace, MayRecord}
 use Rattle.cb_trace.specs.Ends.{AreEnds, AreLanes, lane_after, next_after, next_after_post}
 use Rattle.cb_trace.proofs.Appended.{AreLegalAfter-push}
 use Rattle.cb_trace.proofs.Next.{ends_of, AreLanes-record}

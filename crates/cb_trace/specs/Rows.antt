@@ -4,7 +4,6 @@ use Rattle.std.proofs.Common.{sym, ap}
 use Rattle.std.proofs.lemmas.Bool.{false≢true}
 use Rattle.std.proofs.lemmas.Option.{none-some, same_Some}
 use Rattle.cb_letters.specs.declared.Letter.{Letter}
-use Rattle.cb_letters.specs.declared.Body.{Body}
 use Rattle.cb_letters.specs.declared.Body.TheVariants.{Sheet, Close}
 use Rattle.cb_letters.specs.Letters.{is_close}
 use Rattle.cb_letters.specs.Events.{MayFollow}
