@@ -18,3 +18,4 @@ pub mod Held
 -- more. Faultless: the first fault, and entries in order pushed one after another.
 pub mod Pushed
 pub mod Faultless
+pub mod Csc
