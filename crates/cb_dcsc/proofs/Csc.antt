@@ -1,14 +1,14 @@
 -- Compressed columns (CSC) without the empty ones.
-use Rattle.std.proofs.Common.{◌≡◌, ◌≢◌, ℕ, zero, suc, ◌+◌, ◌-◌, ◌<◌, ◌≤◌, List, [], ◌∷◌, ◌++◌, length, take, drop, get_or, sym, refl, ap, ◌∙◌, ⊎_elim, arith, subst, length-take, length-drop}
-use Rattle.std.specs.Prelude.{All, AllPairs, slice_range}
+use Rattle.std.proofs.Common.{◌≡◌, ◌≢◌, ℕ, zero, suc, ◌+◌, ◌<◌, ◌≤◌, List, [], ◌∷◌, ◌++◌, length, get_or, sym, refl, ap, ◌∙◌, ⊎_elim, arith, subst, length-take, length-drop}
+use Rattle.std.specs.Prelude.{slice_range}
 use Rattle.std.proofs.lemmas.Bool.{cases_lt, cases_eq}
 use Rattle.std.proofs.lemmas.List.{append-nil, nil_from_length, get_or_append_left, get_or_push, length_push}
 use Rattle.std.proofs.lemmas.List.Elements.{All-nil, All-push, All-weaker}
 use Rattle.cb_semirings.specs.Arithmetic.{Arithmetic}
 use Rattle.cb_matrix.specs.declared.Entry.{Entry}
-use Rattle.cb_matrix.specs.Sparse.{Sparse, Extent, IsMatrix}
+use Rattle.cb_matrix.specs.Sparse.{Extent, IsMatrix}
 use Rattle.cb_matrix.proofs.Pairs.{AllPairs-nil, AllPairs-push}
-use Rattle.cb_dcsc.specs.Compressed.{entries_in, part, piece, pieces, all_entries, AreColumns, IsBlock, block_of, csc_column, csc_entries, csc_matrix, AreStarts, AreNonempty}
+use Rattle.cb_dcsc.specs.Compressed.{entries_in, part, piece, pieces, IsBlock, csc_column, csc_entries, csc_matrix, AreStarts, AreNonempty}
 use Rattle.cb_dcsc.proofs.Pieces.{pieces_same}
 use Rattle.cb_dcsc.proofs.Pushed.{no_range}
 

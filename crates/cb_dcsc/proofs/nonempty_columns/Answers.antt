@@ -1,5 +1,4 @@
-use Rattle.std.proofs.Common.{◌≡◌, ◌<◌, ◌+◌, [], ◌∷◌, ◌++◌, get_or, sym, ap, ◌∙◌, arith}
-use Rattle.cb_dcsc.specs.Compressed.{AreNonempty}
+use Rattle.std.proofs.Common.{◌≡◌, ◌+◌, [], ◌∷◌, ◌++◌, get_or, ap, ◌∙◌, arith}
 use Rattle.cb_dcsc.proofs.Csc.{none_nonempty, skipped, named}
 use Rattle.cb_dcsc.proofs.nonempty_columns.Goals as goal
 use Rattle.cb_dcsc.proofs.nonempty_columns.Goals.{then-all-column+in_ok-push-2+in_ok-push-3, else-all-column}

@@ -1,9 +1,9 @@
-use Rattle.std.proofs.Common.{vec_len, ◌≡◌, ◌<◌, ◌==◌, length, sym, ap, ◌∙◌, arith, refl}
-use Rattle.std.proofs.lemmas.Bool.{eqb-true, eqb-false}
+use Rattle.std.proofs.Common.{vec_len, ◌≡◌, sym, ap, ◌∙◌, arith}
+use Rattle.std.proofs.lemmas.Bool.{eqb-true}
 use Rattle.cb_matrix.specs.declared.Entry.{Entry}
 use Rattle.cb_matrix.specs.Sparse.{Sparse}
 use Rattle.std.specs.Prelude.{List}
-use Rattle.cb_dcsc.proofs.Csc.{no_rows, nonempty_block}
+use Rattle.cb_dcsc.proofs.Csc.{no_rows}
 use Rattle.cb_dcsc.proofs.Block.from_csc.Goals as goal
 
 pub returns-then-is_empty : goal.returns-then-is_empty
