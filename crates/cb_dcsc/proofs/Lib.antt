@@ -15,6 +15,8 @@ pub mod Numbers
 pub mod WholeColumn
 pub mod Held
 -- For this crate alone, beside the rest of Held, which is what the four lists say of the entries. Pushed: one entry
--- more. Faultless: the first fault, and entries in order pushed one after another.
+-- more. Faultless: the first fault, and entries in order pushed one after another. Csc: compressed columns
+-- without the empty ones.
 pub mod Pushed
 pub mod Faultless
+pub mod Csc

@@ -27,7 +27,8 @@ range-push xs x a b c l e f =
     let n = length_push xs x in
     range-end (xs ++ x ∷ []) a c (omega arith) ∙ drop-append-le a xs (x ∷ []) l ∙ ap (λ ys. ys ++ x ∷ []) (sym (range-end xs a b e))
 
-no_range : (xs : List ℕ) (a : ℕ) → slice_range xs a a ≡ []
+-- nothing is between a number and itself
+pub no_range : (xs : List ℕ) (a : ℕ) → slice_range xs a a ≡ []
 no_range xs a = let z : a - a ≡ 0 = omega arith in ap (λ n. take n (drop a xs)) z
 
 -- what holds of each element holds of each of a back of the list

@@ -1,5 +1,5 @@
 -- Doubly compressed columns: the columns that have entries, where each starts, and the rows and values of all.
-use Rattle.std.specs.Prelude.{◌≡◌, ℕ, zero, suc, ◌+◌, ◌<◌, List, [], ◌∷◌, ◌++◌, length, slice_index, slice_range, AllPairs}
+use Rattle.std.specs.Prelude.{◌≡◌, ℕ, zero, suc, ◌+◌, ◌<◌, ◌≤◌, List, [], ◌∷◌, ◌++◌, length, slice_index, slice_range, All, AllPairs}
 use Rattle.cb_semirings.specs.Arithmetic.{Arithmetic}
 use Rattle.cb_matrix.specs.declared.Entry.{Entry}
 use Rattle.cb_matrix.specs.Sparse.{Extent, Sparse, IsMatrix}
@@ -51,3 +51,33 @@ pub record IsBlock (s : Arithmetic) (shape : Extent) (columns starts rows values
 -- a column more, by its rows and values
 abbrev pub with_column : Sparse → ℕ → List ℕ → List ℕ → Sparse
 with_column m j is vs = record { shape = m.shape; entries = m.entries ++ entries_in j is vs }
+
+-- entries in compressed columns (CSC): column j has those from its start to the next column's
+abbrev pub csc_column : List ℕ → List ℕ → List ℕ → ℕ → List Entry
+csc_column starts rows values j = entries_in j (part starts rows j) (part starts values j)
+
+-- those of the first n columns
+abbrev pub csc_entries : List ℕ → List ℕ → List ℕ → ℕ → List Entry
+csc_entries starts rows values n = pieces (csc_column starts rows values) n
+
+-- the matrix of a shape whose columns are these
+abbrev pub csc_matrix : Extent → List ℕ → List ℕ → List ℕ → Sparse
+csc_matrix shape starts rows values = record { shape = shape; entries = csc_entries starts rows values shape.cols }
+
+-- Where each of n columns starts, and where the last one ends: from 0 on to all rows, and as many values.
+pub record AreStarts (n : ℕ) (starts rows values : List ℕ) : Type 0 where
+  pub count : length starts ≡ n + 1
+  pub first : slice_index starts 0 ≡ 0
+  pub rising : (j : ℕ) → j < n → slice_index starts j ≤ slice_index starts (j + 1)
+  pub last : slice_index starts n ≡ length rows
+  pub same_length : length values ≡ length rows
+
+-- The columns below n that have entries, and where each starts: without the empty ones, the entries are the same.
+pub record AreNonempty (n : ℕ) (all columns starts : List ℕ) : Type 0 where
+  pub ascending : AllPairs (λ c d. c < d) columns
+  pub below : All (λ c. c < n) columns
+  pub count : length starts ≡ length columns + 1
+  pub first : slice_index starts 0 ≡ 0
+  pub rising : (k : ℕ) → k < length columns → slice_index starts k < slice_index starts (k + 1)
+  pub last : slice_index starts (length columns) ≡ slice_index all n
+  pub entries : (rows values : List ℕ) → all_entries columns starts rows values ≡ csc_entries all rows values n

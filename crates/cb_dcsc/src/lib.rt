@@ -15,7 +15,7 @@
 
 ghost use Rattle.std.specs.Prelude.{◌≡◌, ◌≢◌, ◌↔◌, ℕ, ◌<◌, ◌≤◌, ◌+◌, ◌-◌, IsTrue, List, [], ◌∷◌, ◌++◌, length, All, AllPairs, Contains, IfOk, IsErrOf, OnOk, OnErr, Some, slice_index, slice_index_or, slice_range};
 ghost use Rattle.cb_semirings.specs.Arithmetic.{IsValue};
-ghost use Rattle.cb_dcsc.specs.Compressed.{opened, entries_in, with_column};
+ghost use Rattle.cb_dcsc.specs.Compressed.{opened, entries_in, with_column, csc_matrix, AreStarts, AreNonempty};
 
 mod faults;
 
@@ -249,6 +249,36 @@ impl<S: Semiring> Block<S> {
         Ok(block)
     }
 
+    /// The block of a matrix in compressed columns (CSC): where each column of the shape starts and the last one
+    /// ends, and the row and the value of each entry, by column and then by row. The lists of rows and of values are
+    /// given up, and become the block's.
+    ///
+    /// Costs a few instructions for each column of the shape, and no look at an entry.
+    pub fn from_csc(
+        alloc: Global,
+        shape: Shape,
+        starts: &[usize],
+        rows: Vec<u32>,
+        values: Vec<u64>,
+    ) -> Result<Self, AllocError>
+        requires starts { AreStarts shape.cols starts.now rows.items values.items }
+        requires matrix { IsMatrix S.arithmetic (csc_matrix shape starts.now rows.items values.items) }
+        ensures { IfOk result (λ m. m ≡ csc_matrix shape starts.now rows.items values.items) }
+    {
+        if rows.is_empty() {
+            return Ok(Block::empty(alloc, shape));
+        }
+        let (columns, starts) = nonempty_columns(alloc, shape.cols(), starts, rows.len())?;
+        Ok(Block {
+            shape,
+            columns,
+            starts,
+            rows,
+            values,
+            semiring: PhantomData,
+        })
+    }
+
     /// A copy of its own.
     pub fn try_clone(&self) -> Result<Self, AllocError>
         ensures { IfOk result (λ copy. copy ≡ self.now) }
@@ -423,6 +453,33 @@ fn start_column(
     columns.push_reserved(column);
     starts.push_reserved(end);
     Ok(())
+}
+
+/// The columns that have entries, and where each starts and the last one ends, of columns that follow one another.
+/// There are so many entries.
+fn nonempty_columns(
+    alloc: Global,
+    count: u32,
+    all: &[usize],
+    entries: usize,
+) -> Result<(Vec<u32>, Vec<usize>), AllocError>
+    requires count { length all.now ≡ count + 1 }
+    requires first { slice_index all.now 0 ≡ 0 }
+    requires rising { (j : ℕ) → j < count → slice_index all.now j ≤ slice_index all.now (j + 1) }
+    ensures { IfOk result (λ p. AreNonempty count all.now p.0.items p.1.items) }
+{
+    let room = entries.min(count as usize);
+    let mut columns = Vec::with_capacity(alloc, room)?;
+    let mut starts = Vec::with_capacity(alloc, room + 1)?;
+    starts.push(0)?;
+    for column in 0..count {
+        let end = all[column as usize + 1];
+        if all[column as usize] < end {
+            columns.push(column)?;
+            starts.push(end)?;
+        }
+    }
+    Ok((columns, starts))
 }
 
 #[cfg(test)]

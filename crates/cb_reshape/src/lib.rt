@@ -3,8 +3,8 @@
 //! None of these changes a value: each entry goes to another place or is left out. To cut and to place keep the
 //! order of the entries, by column and then by row, so that one walk over the columns does both (`parts`): it
 //! takes the entries in some rows and columns and moves them by a step. The columns and the rows to take are found
-//! by binary search, so that what is left out is not read. To transpose turns that order into another, and sorts:
-//! a list as long as a dimension, which a counting sort would need, is more than a block may cost.
+//! by binary search, so that what is left out is not read. To transpose turns that order into another: by a counting
+//! sort (`counting`), or, where a list as long as a dimension would be more than the block may cost, by comparisons.
 //!
 //! The operations are those of Buluç and Gilbert, The Combinatorial BLAS (Int. J. High Perform. Comput. Appl.
 //! 2011, section 4), by which a matrix is spread over a grid of processes and put together again.
@@ -12,29 +12,53 @@
 
 ghost use Rattle.std.specs.Prelude.{◌≡◌, ℕ, ◌≤◌, ◌+◌, ◌-◌, map, IfOk};
 ghost use Rattle.cb_matrix.specs.Operations.{transposed, cut, placed};
+ghost use Rattle.cb_matrix.specs.Sparse.{IsMatrix};
 ghost use Rattle.cb_reshape.specs.Exchange.{exchanged};
 
+mod counting;
 mod parts;
 #[cfg(test)]
 mod tests;
 
+use crate::counting::transpose_by_counting;
 use crate::parts::{Part, moved};
 use cb_dcsc::Block;
 use cb_matrix::{Entry, LIMIT, Shape, in_order};
 use cb_semirings::Semiring;
 use std::alloc::{AllocError, Global};
 
+/// How many rows for each entry the transpose counts at most.
+const ROWS_PER_ENTRY: usize = 4;
+
 /// The block with rows and columns exchanged.
 ///
-/// Costs a sort of the entries.
+/// Costs a few instructions for each entry. Where there are more than four rows for each entry, it costs a sort of
+/// the entries.
 pub fn transpose<S: Semiring>(alloc: Global, block: &Block<S>) -> Result<Block<S>, AllocError>
     ensures { IfOk result (λ turned. turned ≡ transposed S.arithmetic block.now) }
 {
-    let shape = block.shape();
+    let inner = block.shape();
+    let shape = shape_of(inner.cols(), inner.rows());
+    if inner.rows() as usize / ROWS_PER_ENTRY <= block.len() {
+        return transpose_by_counting(alloc, block, shape);
+    }
+    transpose_by_sorting(alloc, block, shape)
+}
+
+/// The transpose of a block, whose shape is given, by a sort of its entries.
+fn transpose_by_sorting<S: Semiring>(
+    alloc: Global,
+    block: &Block<S>,
+    shape: Shape,
+) -> Result<Block<S>, AllocError>
+    requires matrix { IsMatrix S.arithmetic block.now }
+    requires shape { shape ≡ record { rows = block.now.shape.cols; cols = block.now.shape.rows } }
+    ensures { IfOk result (λ turned. turned ≡ transposed S.arithmetic block.now) }
+{
     let mut entries = block.entries()?;
     exchange(&mut entries);
     let entries = in_order(entries)?;
-    Block::from_ordered(alloc, shape_of(shape.cols(), shape.rows()), &entries)
+    Block::from_ordered(alloc, shape, &entries)
 }
 
 /// The part of a block in some rows and columns, each from the first number up to the second, which is not in it.
