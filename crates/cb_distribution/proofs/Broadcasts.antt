@@ -11,7 +11,7 @@ use Rattle.cb_plan.specs.Checks.{Lanes}
 use Rattle.cb_plan.proofs.Effects.{split}
 use Rattle.cb_collectives.specs.Collectives.{is_member, member, AreDistinct, broadcast_acts}
 use Rattle.cb_collectives.proofs.Spread.{broadcast_spreads}
-use Rattle.cb_collectives.proofs.Passing.{broadcast_passes, broadcast_keeps_lanes}
+use Rattle.cb_collectives.proofs.BroadcastCheck.{broadcast_passes, broadcast_keeps_lanes}
 use Rattle.cb_distribution.specs.Flows.{Flows}
 use Rattle.cb_distribution.proofs.Flows.{flows_each}
 

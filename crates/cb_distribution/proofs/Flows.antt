@@ -15,7 +15,7 @@ use Rattle.cb_plan.specs.Checks.{Lanes, IsSound, Passes, lanes_after, none_shut,
 use Rattle.cb_plan.proofs.Passing.{passes-append, lanes_after-append, passes_check}
 use Rattle.cb_layout.proofs.Parts.{rank_of, row_below}
 use Rattle.cb_collectives.specs.Collectives.{shut_acts}
-use Rattle.cb_collectives.proofs.Closing.{shut_acts_pass, all_shut_after}
+use Rattle.cb_collectives.proofs.ShutCheck.{shut_acts_pass, all_shut_after}
 use Rattle.cb_distribution.specs.Distribution.{each_rank}
 use Rattle.cb_distribution.specs.Flows.{Flows}
 

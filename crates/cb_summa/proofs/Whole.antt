@@ -9,7 +9,7 @@ use Rattle.cb_plan.specs.Meaning.{meaning, two}
 use Rattle.cb_plan.specs.Algebras.{matrices}
 use Rattle.cb_plan.proofs.Effects.{meaning-append}
 use Rattle.cb_collectives.specs.Collectives.{shut_acts}
-use Rattle.cb_collectives.proofs.Shutting.{shut_nothing}
+use Rattle.cb_collectives.proofs.ShutMeaning.{shut_nothing}
 use Rattle.cb_distribution.specs.Distribution.{each_rank}
 use Rattle.cb_distribution.proofs.Everywhere.{each_here}
 use Rattle.cb_summa.specs.Summa.{product_acts, summa_acts, summa_masked_acts, mask_op, MakesProduct, MakesMaskedProduct, IsProductPlan, IsMaskedPlan, result_shape}

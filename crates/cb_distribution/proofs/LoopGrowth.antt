@@ -10,8 +10,8 @@ use Rattle.cb_plan.specs.Checks.{started, none_shut}
 use Rattle.cb_plan.specs.Plans.{PlanView}
 use Rattle.cb_plan.proofs.Ranges.{pushed, extended}
 use Rattle.cb_collectives.specs.Appends.{IsRefusal, IsTooLong, too_long}
-pub use Rattle.cb_collectives.proofs.Appending.{grew_none, grew_both}
-use Rattle.cb_collectives.proofs.Appending.{length_up_to}
+pub use Rattle.cb_collectives.proofs.PlanGrowth.{grew_none, grew_both}
+use Rattle.cb_collectives.proofs.PlanGrowth.{length_up_to}
 use Rattle.cb_distribution.specs.Flows.{Flows}
 use Rattle.cb_distribution.specs.Growth.{IsWithinLimit, Grew, no_memory}
 
