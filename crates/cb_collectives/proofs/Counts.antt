@@ -9,6 +9,7 @@ use Rattle.cb_plan.proofs.Effects.{split}
 use Rattle.cb_collectives.specs.Collectives.{is_member, place_of, turned, tree_move, tree_moves, copied_at, broadcast_acts, shut_lane, shut_from, shut_acts, member, AreDistinct, sent, gather_acts, sent_from, all_to_all_acts, added_from, reduce_acts}
 use Rattle.cb_collectives.proofs.Places.{place-below, turned_at-length, not_member, distinct_tail}
 
+-- a broadcast has a move to each member but the root, and a copy at the root where it is to another slot
 pub count_broadcast : (members : List ℕ) (root : ℕ) (tag : Tag) (slot into : ℕ) → is_member members root ≡ true → length (broadcast_acts members root tag slot into) ≡ length members - (if slot == into then 1 else 0)
 count_broadcast members root tag slot into there =
     let x = length-append (copied_at root slot into) (tree_moves (turned members root) tag slot into) in
@@ -41,6 +42,7 @@ shut_up_to ranks a (suc n) l =
     let z : suc n * (ranks - 1) ≡ (ranks - 1) + n * (ranks - 1) = grind arith in
     omega arith
 
+-- each lane between two ranks is shut once
 pub count_shut : (ranks : ℕ) → length (shut_acts ranks) ≡ ranks * (ranks - 1)
 count_shut ranks = shut_up_to ranks 0 ranks (omega arith)
 
@@ -61,6 +63,7 @@ exchanged_up_to members tag slot into a (suc n) =
     let z : suc n * length members ≡ length members + n * length members = grind arith in
     omega arith
 
+-- an exchange has an act for each pair of members
 pub count_all_to_all : (members : List ℕ) (tag : Tag) (slot into : ℕ) → length (all_to_all_acts members tag slot into) ≡ length members * length members
 count_all_to_all members tag slot into = exchanged_up_to members tag slot into 0 (length members)
 
@@ -89,6 +92,7 @@ others_added root tag slot into scratch (m ∷ ms) distinct h =
     let k = others_added root tag slot into scratch ms (distinct_tail m ms distinct) h' in
     rw t (omega arith))
 
+-- a reduction has a move or a copy for each member, and a sum for each but one
 pub count_reduce : (members : List ℕ) (root : ℕ) (tag : Tag) (slot into scratch : ℕ) → is_member members root ≡ true → AreDistinct members → length (reduce_acts members root tag slot into scratch) ≡ length members + (length members - 1)
 count_reduce members root tag slot into scratch there distinct =
     let h = others_added root tag slot into scratch members distinct there in omega arith

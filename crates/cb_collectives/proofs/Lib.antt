@@ -5,26 +5,26 @@
 -- Counts: how many acts each collective appends: `count_broadcast`, `count_gather`, `count_all_to_all`,
 --   `count_reduce`, `count_shut`.
 -- Spread: what a broadcast does to the slots, over blocks of any kind: `broadcast_spreads`.
--- Filling: what a sent slot does (`act_sent`), and what gather and all_to_all do (`gather_gathers`,
+-- SendMeaning: what a sent slot does (`act_sent`), and what gather and all_to_all do (`gather_gathers`,
 --   `all_to_all_exchanges`).
--- Summing, Totals: what reduce does (`reduce_sums`), and that its sum is the sum at each place (`members_add_up`).
--- Shutting: lanes that are shut change no slot: `shut_nothing`.
--- Passing: a broadcast passes the check (`broadcast_passes`) and shuts no lane (`broadcast_keeps_lanes`); a copy does
+-- ReduceMeaning, Totals: what reduce does (`reduce_sums`), and that its sum is the sum at each place (`members_add_up`).
+-- ShutMeaning: lanes that are shut change no slot: `shut_nothing`.
+-- BroadcastCheck: a broadcast passes the check (`broadcast_passes`) and shuts no lane (`broadcast_keeps_lanes`); a copy does
 --   (`copy_is_sound`).
--- Sending: slots that are sent one after the other pass the check (`sends_pass`) and shut no lane
+-- SendCheck: slots that are sent one after the other pass the check (`sends_pass`) and shut no lane
 --   (`sends_keep_lanes`); so do gather and all_to_all (`gather_passes`, `all_to_all_passes`).
--- Closing: the shutting of all lanes passes the check where they are open (`shut_acts_pass`), and shuts each
+-- ShutCheck: the shutting of all lanes passes the check where they are open (`shut_acts_pass`), and shuts each
 --   (`all_shut_after`).
--- Appending: how a plan grows: not at all (`grew_none`), and twice (`grew_both`); how long lists of acts are together
+-- PlanGrowth: how a plan grows: not at all (`grew_none`), and twice (`grew_both`); how long lists of acts are together
 --   (`length_up_to`). The rest is of the loops of this crate, which have room.
-pub mod Appending
+pub mod PlanGrowth
 pub mod Places
 pub mod Counts
 pub mod Spread
-pub mod Shutting
-pub mod Filling
-pub mod Summing
-pub mod Passing
-pub mod Closing
+pub mod ShutMeaning
+pub mod SendMeaning
+pub mod ReduceMeaning
+pub mod BroadcastCheck
+pub mod ShutCheck
 pub mod Totals
-pub mod Sending
+pub mod SendCheck

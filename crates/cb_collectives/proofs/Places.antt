@@ -44,6 +44,7 @@ turned-members members root r =
     ∙ sym (list_any-append (λ m. m == r) (take k members) (drop k members))
     ∙ ap (λ xs. is_member xs r) (take-append-drop k members)
 
+-- turning a list round keeps its length
 pub turned_at-length : (place : ℕ) (members : List ℕ) → length (turned_at place members) ≡ length members
 turned_at-length k members =
     length-append (drop k members) (take k members)
@@ -67,6 +68,7 @@ pub not_member : (m : ℕ) (ms : List ℕ) → AreDistinct (m ∷ ms) → is_mem
 not_member m ms distinct =
     split (is_member ms m) (λ t. let e : false ≡ true = rw t at distinct in absurd (cc e)) (λ f. f)
 
+-- the rest of a list without repetitions has none
 pub distinct_tail : (m : ℕ) (ms : List ℕ) → AreDistinct (m ∷ ms) → AreDistinct ms
 distinct_tail m ms distinct = rw (not_member m ms distinct) at distinct
 
@@ -142,6 +144,7 @@ at_turned k members p l m =
     let e : p - length (drop k members) ≡ k + p - length members = grind (arith, nat_tests) in
     rw t (get_or-append_right (drop k members) (take k members) p 0 b ∙ rw e (get_or-take k members (k + p - length members) 0 (omega arith))))
 
+-- the members of a turned list exist where those of the list do
 pub turned-below : (members : List ℕ) (root ranks : ℕ) → ((p : ℕ) → p < length members → member members p < ranks) → place_of members root < length members → (p : ℕ) → p < length (turned members root) → member (turned members root) p < ranks
 turned-below members root ranks below place p l =
     let k = place_of members root in
@@ -149,6 +152,7 @@ turned-below members root ranks below place p l =
     let m : p < length members = omega arith in
     rw (at_turned k members p place m) (below (turned_place k (length members) p) (turned_place-below k (length members) p place m))
 
+-- a turned list has no repetitions where the list has none
 pub turned-differ : (members : List ℕ) (root : ℕ) → AreDistinct members → place_of members root < length members → (p q : ℕ) → p < q → q < length (turned members root) → member (turned members root) p ≢ member (turned members root) q
 turned-differ members root distinct place p q l m e =
     let k = place_of members root in

@@ -9,7 +9,7 @@ use crate::steps::append;
 use cb_plan::{Act, Plan, PlanFault};
 
 /// Every lane between two ranks of the plan is shut, by sender and then by addressee.
-#[tactic(auto, using(crate::proofs::Shutting::shut_nothing, crate::proofs::Counts::count_shut))]
+#[tactic(auto, using(crate::proofs::ShutMeaning::shut_nothing, crate::proofs::Counts::count_shut))]
 pub fn shut_all(plan: &mut Plan) -> Result<(), PlanFault>
     ensures ranks { plan.new.ranks ≡ plan.old.ranks }
     ensures acts { plan.new.acts ≡ (if is_ok result then plan.old.acts ++ shut_acts plan.old.ranks else plan.old.acts) }

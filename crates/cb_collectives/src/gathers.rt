@@ -12,7 +12,7 @@ use cb_plan::{Plan, PlanFault, SLOTS};
 /// The `slot` of each member goes to the root: to slot `into` that of the first member, and so on.
 ///
 /// The slots that are set exist, and `slot` isn't one of them. Appends an act for each member.
-#[tactic(auto, using(crate::proofs::Filling::gather_gathers, crate::proofs::Counts::count_gather))]
+#[tactic(auto, using(crate::proofs::SendMeaning::gather_gathers, crate::proofs::Counts::count_gather))]
 pub fn gather(
     plan: &mut Plan,
     members: &[u16],

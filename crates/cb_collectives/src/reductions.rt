@@ -15,7 +15,7 @@ use cb_plan::{Act, Op, Plan, PlanFault};
 /// Slot `into` of the root becomes the sum of the `slot` of all members: the root's own first, and then the
 /// others in list order. Slot `scratch` of the root is left with anything. Over a semiring, each place of the sum
 /// has the sum of the members' values there. Appends 2n - 1 acts for n members.
-#[tactic(auto, using(crate::proofs::Summing::reduce_sums, crate::proofs::Totals::members_add_up, crate::proofs::Counts::count_reduce))]
+#[tactic(auto, using(crate::proofs::ReduceMeaning::reduce_sums, crate::proofs::Totals::members_add_up, crate::proofs::Counts::count_reduce))]
 pub fn reduce(
     plan: &mut Plan,
     members: &[u16],

@@ -11,7 +11,7 @@ use Rattle.cb_plan.specs.Checks.{Lanes}
 use Rattle.cb_plan.proofs.Effects.{split}
 use Rattle.cb_collectives.specs.Collectives.{is_member, member, AreDistinct, broadcast_acts}
 use Rattle.cb_collectives.proofs.Spread.{broadcast_spreads}
-use Rattle.cb_collectives.proofs.Passing.{broadcast_passes, broadcast_keeps_lanes}
+use Rattle.cb_collectives.proofs.BroadcastCheck.{broadcast_passes, broadcast_keeps_lanes}
 use Rattle.cb_distribution.specs.Flows.{Flows}
 use Rattle.cb_distribution.proofs.Flows.{flows_each}
 
@@ -37,5 +37,6 @@ module _ (ranks : ℕ) (shut : Lanes) (open_lanes : (s t : ℕ) → shut s t ≡
         ∙ split (is_member (group g) (root h)) (λ t. rw (t, f) (has h m)) (λ t. rw t (has h m)),
   )
 
+  -- all broadcasts, one after the other, pass the check and shut no lane
   pub groups_flow : (state : State Extent) → Roots state → Flows ranks shut state (flat_map (λ g. broadcast_acts (group g) (root g) tag slot into) (range_with_len 0 last))
   groups_flow state has = flows_each ranks shut (λ g. broadcast_acts (group g) (root g) tag slot into) (λ _ state. Roots state) last one_group 0 last state (omega arith) has

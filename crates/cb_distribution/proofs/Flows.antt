@@ -15,10 +15,11 @@ use Rattle.cb_plan.specs.Checks.{Lanes, IsSound, Passes, lanes_after, none_shut,
 use Rattle.cb_plan.proofs.Passing.{passes-append, lanes_after-append, passes_check}
 use Rattle.cb_layout.proofs.Parts.{rank_of, row_below}
 use Rattle.cb_collectives.specs.Collectives.{shut_acts}
-use Rattle.cb_collectives.proofs.Closing.{shut_acts_pass, all_shut_after}
+use Rattle.cb_collectives.proofs.ShutCheck.{shut_acts_pass, all_shut_after}
 use Rattle.cb_distribution.specs.Distribution.{each_rank}
 use Rattle.cb_distribution.specs.Flows.{Flows}
 
+-- two lists of acts, the second after what the first leaves
 pub flows-append : (ranks : ℕ) (shut : Lanes) (state : State Extent) (xs ys : List Act) → Flows ranks shut state xs → Flows ranks shut (meaning shapes xs state) ys → Flows ranks shut state (xs ++ ys)
 flows-append ranks shut state xs ys h k = record {
   passes = passes-append ranks state shut xs ys h.passes (subst (λ l. Passes ranks (meaning shapes xs state) l ys) (sym h.lanes) k.passes);
@@ -41,6 +42,7 @@ pub record CanWork (ranks rank : ℕ) (slots : ℕ → Option Extent) (op : Op) 
   pub filled : all_filled slots (operands_of op) ≡ true
   pub agree : shapes_agree slots op ≡ true
 
+-- an operation that has what it asks for is sound
 pub work_is_sound : (ranks rank : ℕ) (state : State Extent) (shut : Lanes) (op : Op) → CanWork ranks rank (state rank) op → IsSound ranks state shut (act_is.Work rank op)
 work_is_sound ranks rank state shut op h = record {
   ranks_exist = let l = h.exists in let x : nat_lt rank ranks ≡ true = grind (arith, nat_tests) in rw x refl;

@@ -73,6 +73,7 @@ module _ (q : ℕ) where
       let same = same_place q i p i r one.0 other.0 (sym one.1 ∙ e ∙ other.1) in
       omega (arith, same.1)
 
+  -- no rank stands in a row twice
   pub row_distinct : (i : ℕ) → i < q → AreDistinct (row_group q i)
   row_distinct i h = distinct_from_apart (row_group q i) (row_differs i h)
 
@@ -83,6 +84,7 @@ module _ (q : ℕ) where
       let m : p < q = omega arith in
       (m, get_or-map-range_with_len (λ i. i * q + j) 0 q p p 0 m (omega arith))
 
+  -- the members of a column are ranks
   pub column_exists : (j : ℕ) → j < q → (p : ℕ) → p < length (column_group q j) → get_or (column_group q j) p 0 < q * q
   column_exists j h p l = let at = column_at j p l in subst (λ x. x < q * q) (sym at.1) (rank_below q p j at.0 h)
 
@@ -93,5 +95,6 @@ module _ (q : ℕ) where
       let same = same_place q p j r j h h (sym one.1 ∙ e ∙ other.1) in
       omega (arith, same.0)
 
+  -- no rank stands in a column twice
   pub column_distinct : (j : ℕ) → j < q → AreDistinct (column_group q j)
   column_distinct j h = distinct_from_apart (column_group q j) (column_differs j h)

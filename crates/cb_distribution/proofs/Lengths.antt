@@ -27,6 +27,7 @@ each_at_most f c a (suc n) h =
     let g : suc n * c ≡ (n + 1) * c = ap (λ k. k * c) f in
     omega arith
 
+-- a broadcast has at most one act more than members
 pub broadcast_at_most : (members : List ℕ) (root : ℕ) (tag : Tag) (slot into : ℕ) → length (broadcast_acts members root tag slot into) ≤ 1 + length members
 broadcast_at_most members root tag slot into =
     let x = length-append (copied_at root slot into) (tree_moves (turned members root) tag slot into) in
@@ -36,11 +37,14 @@ broadcast_at_most members root tag slot into =
     omega arith
 
 module _ (q : ℕ) (few : q ≤ 6) where
+  -- a grid has at most 36 ranks
   pub squared : q * q ≤ 36
   squared = mul-le q q 6 6 few few
 
+  -- and so many acts at most has an operation at each rank
   pub each_rank_at_most : (op : ℕ → Op) → length (each_rank q op) ≤ 36
   each_rank_at_most op = let x = length-map-range_with_len (λ r. act_is.Work r (op r)) 0 (q * q) in let y = squared in omega arith
 
+  -- there are at most 1260 lanes to shut
   pub shut_at_most : length (shut_acts (q * q)) ≤ 1260
   shut_at_most = let x = count_shut (q * q) in let y = mul-le (q * q) (q * q - 1) 36 35 squared (let s = squared in omega arith) in omega arith

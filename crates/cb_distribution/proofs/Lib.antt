@@ -14,7 +14,7 @@
 -- Starts: starts that are listed rank by rank: what stands at the start (`starts_there`, `starts_elsewhere`), that
 --   they exist and name no slot twice (`all_starts`, `starts_once`); those of operands (`operands_there`,
 --   `operands_elsewhere`, `operands_exist`, `operands_once`).
--- Growing: plans that grow in loops, within the limit of a plan, are refused for want of memory alone.
+-- LoopGrowth: plans that grow in loops, within the limit of a plan, are refused for want of memory alone.
 -- Lengths: how many acts there are at most, on a grid of side 6 or less.
 pub mod Grid
 pub mod PartStarts
@@ -23,5 +23,5 @@ pub mod Groups
 pub mod Flows
 pub mod Broadcasts
 pub mod Starts
-pub mod Growing
+pub mod LoopGrowth
 pub mod Lengths

@@ -27,6 +27,7 @@ started_from-append (x ∷ xs) ys state = started_from-append xs ys (with_start 
 module _ (f : ℕ → List Start) (d : ℕ → ℕ → Option Extent → Option Extent)
     (own : (k r n : ℕ) (state : State Extent) → (k == r) ≡ false → started_from (f k) state r n ≡ state r n)
     (sets : (k n : ℕ) (state : State Extent) → started_from (f k) state k n ≡ d k n (state k n)) where
+  -- the starts of other ranks leave the slots of a rank as they were
   pub starts_elsewhere : (a m : ℕ) (state : State Extent) (r n : ℕ) → ((k : ℕ) → a ≤ k → k < a + m → k ≢ r) → started_from (flat_map f (range_with_len a m)) state r n ≡ state r n
   starts_elsewhere a zero state r n h = refl
   starts_elsewhere a (suc m) state r n h =
@@ -35,6 +36,7 @@ module _ (f : ℕ → List Start) (d : ℕ → ℕ → Option Extent → Option 
       ∙ starts_elsewhere (a + 1) m (started_from (f a) state) r n (λ k l b. h k (omega arith) (omega arith))
       ∙ own a r n state (grind (arith, nat_tests))
 
+  -- the starts of all ranks of a range change the slots of each by its own
   pub starts_there : (a m : ℕ) (state : State Extent) (r n : ℕ) → a ≤ r → r < a + m → started_from (flat_map f (range_with_len a m)) state r n ≡ d r n (state r n)
   starts_there a zero state r n l h = absurd (omega arith)
   starts_there a (suc m) state r n l h =
@@ -154,6 +156,7 @@ module _ (q : ℕ) where
       let below = (both_true (are_distinct (slots operands)) (all_below 256 (slots operands)) h).1 in
       all_starts Exists (starts_at q operands) 0 (q * q) (λ r l m. exist_at operands r (omega arith) below)
 
+  -- no slot of a rank is started twice
   pub operands_once : (operands : List Operand) → NamesSlots operands → AllPairs IsElsewhere (operand_starts q operands)
   operands_once operands h =
       let distinct = (both_true (are_distinct (slots operands)) (all_below 256 (slots operands)) h).0 in

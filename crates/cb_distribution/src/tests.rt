@@ -1,21 +1,9 @@
 //! Worked plans: what their acts and starts are, and that calls with ample memory succeed.
-ghost use Rattle.std.specs.Prelude.{◌≡◌, IfOk};
-
 use crate::{Operand, finish, operand_starts, work_everywhere, zero_everywhere};
 use cb_layout::Grid;
-use cb_matrix::Shape;
 use cb_plan::{Act, Op, Plan};
+use cb_samples::shape;
 use std::test::Fail;
-
-/// The shape of so many rows and columns.
-fn shape(rows: u32, cols: u32) -> Result<Shape, Fail>
-    ensures { IfOk result (λ shape. (shape.rows ≡ rows) × (shape.cols ≡ cols)) }
-{
-    match Shape::new(rows, cols) {
-        Some(shape) => Ok(shape),
-        None => Err("a shape".into()),
-    }
-}
 
 #[test]
 fn starts_by_ranks(rt: HostRuntime) -> Result<(), Fail> {

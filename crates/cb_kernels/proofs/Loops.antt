@@ -8,7 +8,7 @@ use Rattle.cb_plan.specs.declared.acts.Act.{Act}
 use Rattle.cb_plan.specs.declared.acts.Act.TheVariants as act_is
 use Rattle.cb_plan.specs.Plans.{PlanView}
 use Rattle.cb_distribution.specs.Growth.{IsWithinLimit, Grew}
-use Rattle.cb_distribution.proofs.Growing.{within_next, grew_next}
+use Rattle.cb_distribution.proofs.LoopGrowth.{within_next, grew_next}
 use Rattle.cb_kernels.specs.VectorPlans.{works}
 
 -- the acts of the next number, which are given by an equation

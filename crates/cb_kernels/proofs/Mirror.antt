@@ -15,9 +15,9 @@ use Rattle.cb_plan.proofs.Effects.{split, meaning-append}
 use Rattle.cb_layout.specs.Parts.{part_shape}
 use Rattle.cb_layout.proofs.Parts.{rank_of, row_below, rank_below}
 use Rattle.cb_collectives.specs.Collectives.{sent, shut_acts}
-use Rattle.cb_collectives.proofs.Filling.{act_sent}
-use Rattle.cb_collectives.proofs.Sending.{sends_keep_lanes, sends_pass}
-use Rattle.cb_collectives.proofs.Shutting.{shut_nothing}
+use Rattle.cb_collectives.proofs.SendMeaning.{act_sent}
+use Rattle.cb_collectives.proofs.SendCheck.{sends_keep_lanes, sends_pass}
+use Rattle.cb_collectives.proofs.ShutMeaning.{shut_nothing}
 use Rattle.cb_distribution.specs.Distribution.{tagged, each_rank, operand_starts}
 use Rattle.cb_distribution.specs.Flows.{Flows}
 use Rattle.cb_distribution.proofs.Everywhere.{each_here, each_elsewhere}

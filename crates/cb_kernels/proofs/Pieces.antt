@@ -13,7 +13,7 @@ use Rattle.cb_layout.specs.Parts.{row_group, column_group, part, part_start}
 use Rattle.cb_collectives.specs.Collectives.{is_member, member, place_of, exchanged}
 use Rattle.cb_collectives.proofs.Places.{place_of-member}
 use Rattle.cb_collectives.proofs.Spread.{broadcast_spreads}
-use Rattle.cb_collectives.proofs.Filling.{all_to_all_exchanges}
+use Rattle.cb_collectives.proofs.SendMeaning.{all_to_all_exchanges}
 use Rattle.cb_distribution.specs.Distribution.{tagged}
 use Rattle.cb_distribution.proofs.Grid.{in_row, in_column, row_distinct}
 use Rattle.cb_kernels.specs.VectorPlans.{piece_broadcast, part_broadcasts, piece_broadcasts, add_piece, product_ops, piece_cut, cut_ops, exchange, exchanges, next_summand, sum_ops}

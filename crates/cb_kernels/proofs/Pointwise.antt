@@ -17,7 +17,7 @@ use Rattle.cb_layout.specs.Parts.{part_shape, part_length}
 use Rattle.cb_layout.specs.Blocks.{block_of}
 use Rattle.cb_layout.proofs.Parts.{rank_below}
 use Rattle.cb_collectives.specs.Collectives.{shut_acts}
-use Rattle.cb_collectives.proofs.Shutting.{shut_nothing}
+use Rattle.cb_collectives.proofs.ShutMeaning.{shut_nothing}
 use Rattle.cb_distribution.specs.Distribution.{each_rank, operand_starts}
 use Rattle.cb_distribution.specs.Flows.{Flows}
 use Rattle.cb_distribution.proofs.Everywhere.{each_here, each_elsewhere}

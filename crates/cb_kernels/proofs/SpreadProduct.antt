@@ -12,7 +12,7 @@ use Rattle.cb_layout.specs.Blocks.{block_of}
 use Rattle.cb_layout.specs.Vectors.{piece_of}
 use Rattle.cb_layout.proofs.Parts.{rank_below}
 use Rattle.cb_collectives.specs.Collectives.{shut_acts}
-use Rattle.cb_collectives.proofs.Shutting.{shut_nothing}
+use Rattle.cb_collectives.proofs.ShutMeaning.{shut_nothing}
 use Rattle.cb_distribution.proofs.Grid.{at_place}
 use Rattle.cb_kernels.specs.VectorPlans.{column, each_works, piece_broadcasts, product_ops, cut_ops, exchanges, sum_ops, products_at, cuts_at, spread_product_acts, vector_acts, IsVectorPlan}
 use Rattle.cb_kernels.proofs.Programs.{after_ops, each_works_here, each_works_skip}

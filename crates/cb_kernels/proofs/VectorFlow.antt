@@ -17,8 +17,8 @@ use Rattle.cb_layout.specs.Parts.{row_group, column_group, part, part_start, par
 use Rattle.cb_layout.specs.Vectors.{piece_shape}
 use Rattle.cb_layout.proofs.Parts.{rank_of, row_below}
 use Rattle.cb_collectives.specs.Collectives.{member, sent_from}
-use Rattle.cb_collectives.proofs.Passing.{broadcast_passes, broadcast_keeps_lanes}
-use Rattle.cb_collectives.proofs.Sending.{sends_keep_lanes, all_to_all_passes}
+use Rattle.cb_collectives.proofs.BroadcastCheck.{broadcast_passes, broadcast_keeps_lanes}
+use Rattle.cb_collectives.proofs.SendCheck.{sends_keep_lanes, all_to_all_passes}
 use Rattle.cb_distribution.specs.Distribution.{tagged}
 use Rattle.cb_distribution.specs.Flows.{Flows}
 use Rattle.cb_distribution.proofs.Flows.{flows-append, flows_each}

@@ -7,6 +7,7 @@ ghost use Rattle.std.specs.Prelude.{◌≡◌, ◌<◌, ◌≤◌, ◌+◌, ◌-
 ghost use Rattle.std.specs.List.{range_with_len};
 ghost use Rattle.cb_plan.specs.Runnable.{IsRunnable};
 ghost use Rattle.cb_plan.specs.Plans.{IsElsewhere};
+ghost use Rattle.cb_plan.specs.declared.stores.TheConstants.{SLOTS};
 ghost use Rattle.cb_layout.specs.Parts.{part_length};
 ghost use Rattle.cb_layout.specs.Vectors.{piece_shape};
 ghost use Rattle.cb_distribution.specs.Growth.{IsWithinLimit, Grew, no_memory};
@@ -66,7 +67,7 @@ pub fn grid_vector(alloc: Global, grid: &Grid, a: Shape) -> Result<Planned, Plan
 /// The starts of the plan: rank by rank, its part of the matrix and its piece of the vector.
 fn vector_starts(alloc: Global, grid: &Grid, a: Shape) -> Result<Vec<Start>, AllocError>
     ensures starts { IfOk result (λ v. v.items ≡ vector_starts grid.now.side a) }
-    ensures exist { IfOk result (λ v. All (λ s. (s.rank < grid.now.side * grid.now.side) × (s.slot < 256)) v.items) }
+    ensures exist { IfOk result (λ v. All (λ s. (s.rank < grid.now.side * grid.now.side) × (s.slot < SLOTS)) v.items) }
     ensures once { IfOk result (λ v. AllPairs IsElsewhere v.items) }
 {
     let mut starts = Vec::new(alloc);

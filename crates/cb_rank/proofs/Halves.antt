@@ -29,6 +29,7 @@ take_is : (from : ℕ) (tag : Tag) (into : ℕ) (x : Option Extent) (h : Half) �
 take_is from tag into (Some v) h e = (v, refl, cc)
 take_is from tag into None h e = cc
 
+-- an act whose half at a rank is a Post is a Move from there
 pub is_post : (state : State Extent) (a : Act) (r to : ℕ) (tag : Tag) (slot : ℕ) → halves_of state a r ≡ half_is.Post to tag slot ∷ [] → (into : ℕ) × (a ≡ act_is.Move r to tag slot into)
 is_post state (act_is.Move from to' tag' slot' into') r to tag slot h =
     split (from == r)
@@ -38,6 +39,7 @@ is_post state (act_is.Work rank op) r to tag slot h = split (rank == r) (λ t. l
 is_post state (act_is.Shut from to') r to tag slot h =
     split (from == r) (λ t. let e = rw t at h in cc) (λ f. let e = rw f at h in split (to' == r) (λ t. let e2 = rw t at e in cc) (λ g. let e2 = rw g at e in cc))
 
+-- one whose half is a Take is a Move to there, of a slot that has the half's shape
 pub is_take : (state : State Extent) (a : Act) (r from : ℕ) (tag : Tag) (into : ℕ) (shape : Extent) → halves_of state a r ≡ half_is.Take from tag into shape ∷ [] → (slot : ℕ) × (a ≡ act_is.Move from r tag slot into) × (state from slot ≡ Some shape)
 is_take state (act_is.Move from' to' tag' slot' into') r from tag into shape h =
     split (from' == r)
@@ -56,6 +58,7 @@ is_take state (act_is.Work rank op) r from tag into shape h = split (rank == r) 
 is_take state (act_is.Shut from' to') r from tag into shape h =
     split (from' == r) (λ t. let e = rw t at h in cc) (λ f. let e = rw f at h in split (to' == r) (λ t. let e2 = rw t at e in cc) (λ g. let e2 = rw g at e in cc))
 
+-- one whose half is a Work is that operation at the rank
 pub is_work : (state : State Extent) (a : Act) (r : ℕ) (op : Op) → halves_of state a r ≡ half_is.Work op ∷ [] → a ≡ act_is.Work r op
 is_work state (act_is.Move from' to' tag' slot' into') r op h =
     split (from' == r) (λ t. let e = rw t at h in cc) (λ f. let e = rw f at h in split (to' == r) (λ t. let e2 = rw t at e in let k = (take_is from' tag' into' (state from' slot') (half_is.Work op) e2).2 in cc) (λ g. let e2 = rw g at e in cc))
@@ -63,6 +66,7 @@ is_work state (act_is.Work rank op') r op h = split (rank == r) (λ t. let e = r
 is_work state (act_is.Shut from' to') r op h =
     split (from' == r) (λ t. let e = rw t at h in cc) (λ f. let e = rw f at h in split (to' == r) (λ t. let e2 = rw t at e in cc) (λ g. let e2 = rw g at e in cc))
 
+-- one whose half is a Shut shuts the lane from there
 pub is_shut : (state : State Extent) (a : Act) (r to : ℕ) → halves_of state a r ≡ half_is.Shut to ∷ [] → a ≡ act_is.Shut r to
 is_shut state (act_is.Move from' to' tag' slot' into') r to h =
     split (from' == r) (λ t. let e = rw t at h in cc) (λ f. let e = rw f at h in split (to' == r) (λ t. let e2 = rw t at e in let k = (take_is from' tag' into' (state from' slot') (half_is.Shut to) e2).2 in cc) (λ g. let e2 = rw g at e in cc))
@@ -70,6 +74,7 @@ is_shut state (act_is.Work rank op') r to h = split (rank == r) (λ t. let e = r
 is_shut state (act_is.Shut from' to') r to h =
     split (from' == r) (λ t. let e = rw t at h in let same : from' ≡ r = grind (arith, nat_tests) in cc) (λ f. let e = rw f at h in split (to' == r) (λ t. let e2 = rw t at e in cc) (λ g. let e2 = rw g at e in cc))
 
+-- one whose half is an End shuts the lane to there
 pub is_end : (state : State Extent) (a : Act) (r from : ℕ) → halves_of state a r ≡ half_is.End from ∷ [] → a ≡ act_is.Shut from r
 is_end state (act_is.Move from' to' tag' slot' into') r from h =
     split (from' == r) (λ t. let e = rw t at h in cc) (λ f. let e = rw f at h in split (to' == r) (λ t. let e2 = rw t at e in let k = (take_is from' tag' into' (state from' slot') (half_is.End from) e2).2 in cc) (λ g. let e2 = rw g at e in cc))
@@ -77,6 +82,7 @@ is_end state (act_is.Work rank op') r from h = split (rank == r) (λ t. let e = 
 is_end state (act_is.Shut from' to') r from h =
     split (from' == r) (λ t. let e = rw t at h in cc) (λ f. let e = rw f at h in split (to' == r) (λ t. let e2 = rw t at e in let same : to' ≡ r = grind (arith, nat_tests) in cc) (λ g. let e2 = rw g at e in cc))
 
+-- what there is has a name
 pub some_of : {M : Type 0} (w : Option M) → IsSome w → (m : M) × (w ≡ Some m)
 some_of (Some m) h = (m, refl)
 some_of None h = cc
@@ -109,9 +115,11 @@ some_shaped : (x : Option Sparse) → is_some (one (λ (m : Sparse). m.shape) x)
 some_shaped (Some m) e = refl
 some_shaped None e = cc
 
+-- a slot that has a shape is filled
 pub some_by_shape : (v : Option Extent) (x : Option Sparse) → v ≡ one (λ (m : Sparse). m.shape) x → is_some v ≡ true → IsSome x
 some_by_shape v x e h = some_shaped x (ap is_some (sym e) ∙ h)
 
+-- slots that all have a shape are all filled
 pub all_some : (v : ℕ → Option Extent) (f : ℕ → Option Sparse) (ns : List ℕ) → ((n : ℕ) → v n ≡ one (λ (m : Sparse). m.shape) (f n)) → all_filled v ns ≡ true → AllSome f ns
 all_some v f [] e h = tt
 all_some v f (n ∷ ns) e h =

@@ -84,17 +84,20 @@ module _ (x : RankView) (h : Half) (is : IsRank x) (next : next_half x ≡ Some 
       let at : slot_at (slice_set x.slots t y) n ≡ slot_at x.slots n = get_or-set_other x.slots t n y slot_is.Empty ne in
       rw (at, other n ne) (is.shapes n))
 
+-- a rank is one after a Post, with at most one refusal more
 pub posts_on : (x : RankView) (to : ℕ) (tag : Tag) (slot refusals : ℕ) → IsRank x → next_half x ≡ Some (half_is.Post to tag slot) → refusals ≤ x.refusals + 1 → IsRank (onward x x.slots refusals)
 posts_on x to tag slot refusals is next few =
     let h : Half = half_is.Post to tag slot in
     let k = is_post (outline x h is next) (next_one x h is next).0 x.me to tag slot (next_one x h is next).2 in
     goes_on x h x.slots refusals is next few is.size (moved_away x h is next to tag slot k.0 k.1 (finds x h is next).1)
 
+-- and after a Shut
 pub shuts_on : (x : RankView) (to : ℕ) → IsRank x → next_half x ≡ Some (half_is.Shut to) → IsRank (onward x x.slots x.refusals)
 shuts_on x to is next =
     let h : Half = half_is.Shut to in
     goes_on x h x.slots x.refusals is next (omega arith) is.size (shut_here x h is next x.me to (is_shut (outline x h is next) (next_one x h is next).0 x.me to (next_one x h is next).2))
 
+-- and after an End
 pub ends_on : (x : RankView) (from : ℕ) → IsRank x → next_half x ≡ Some (half_is.End from) → IsRank (onward x x.slots x.refusals)
 ends_on x from is next =
     let h : Half = half_is.End from in
@@ -106,6 +109,7 @@ kind_shape shape (body_is.Sheet m) h = ap Some (sym h)
 kind_shape shape (body_is.Lost o) h = refl
 kind_shape shape body_is.Close h = absurd h
 
+-- and after a Take, whose slot has the half's shape or is lost
 pub takes_on : (x : RankView) (from : ℕ) (tag : Tag) (into : ℕ) (shape : Extent) (b : Body Sparse) → IsRank x → next_half x ≡ Some (half_is.Take from tag into shape) → HasKind shape b → IsRank (onward x (slice_set x.slots into (slot_of_body b)) x.refusals)
 takes_on x from tag into shape b is next kind =
     let h : Half = half_is.Take from tag into shape in
@@ -243,6 +247,7 @@ work_few : (s : Arithmetic) (me : ℕ) (op : Op) (slots : List (Slot Sparse)) (y
 work_few s me op slots y old new (inl e) = let k = e.1 in omega arith
 work_few s me op slots y old new (inr e) = let k = e.1 in omega arith
 
+-- and after a Work, whose slot has what the operation leaves or is lost
 pub works_on : (s : Arithmetic) (x : RankView) (op : Op) (y : Slot Sparse) (refusals : ℕ) → IsRank x → next_half x ≡ Some (half_is.Work op) → IsWork s x.me op x.slots y x.refusals refusals → IsRank (onward x (slice_set x.slots (target_of op) y) refusals)
 works_on s x op y refusals is next work =
     let h : Half = half_is.Work op in
@@ -311,6 +316,7 @@ short_program ranks shut (a ∷ acts) state r p =
     let all = length-append (halves_of state a r) (project_from (act shapes a state) acts r) in
     omega arith
 
+-- a program is no longer than the longest plan
 pub few_halves : (x : RankView) → IsRank x → length x.program ≤ 4294967295
 few_halves x is =
     let size = short_program x.plan.ranks none_shut x.plan.acts (started x.plan.starts) x.me (checked_passes x.plan.ranks 0 (started x.plan.starts) none_shut x.plan.acts is.checked.no_fault) in

@@ -20,6 +20,7 @@ use Rattle.cb_rank.specs.Ranks.{RankView, IsRank, next_half, shapes_at}
 use Rattle.cb_rank.proofs.View.{split, counted, one_half, meaning-next}
 use Rattle.cb_rank.proofs.Halves.{is_post, is_take, is_work, is_shut, is_end}
 
+-- an element past the first of two lists is one of the second
 pub slice_get_right : {A : Type 0} (xs ys : List A) (k : ℕ) → length xs ≤ k → slice_get (xs ++ ys) k ≡ slice_get ys (k - length xs)
 slice_get_right [] ys k h = let e : k - 0 ≡ k = omega arith in rw e refl
 slice_get_right (x ∷ xs) ys zero h = absurd (omega arith)
@@ -54,15 +55,19 @@ next_sound ranks shut (b ∷ acts) state r k a p is =
     (λ t. let same : Some b ≡ Some a = rw t at is in rw t (subst (λ x. IsSound ranks state shut x) (same_Some b a same) p.0))
     (λ f. let there : next_act acts r (k - count_of b r) ≡ Some a = rw f at is in rw f (next_sound ranks (shut_after b shut) acts (act shapes b state) r (k - count_of b r) a p.1 there))
 
+-- a sound Move is between two ranks
 pub apart_of : (ranks : ℕ) (state : State Extent) (shut : Lanes) (from to : ℕ) (tag : Tag) (slot into : ℕ) → IsSound ranks state shut (act_is.Move from to tag slot into) → from ≢ to
 apart_of ranks state shut from to tag slot into h = let e = h.apart in grind (arith, nat_tests)
 
+-- and so is a sound Shut
 pub apart_of_shut : (ranks : ℕ) (state : State Extent) (shut : Lanes) (from to : ℕ) → IsSound ranks state shut (act_is.Shut from to) → from ≢ to
 apart_of_shut ranks state shut from to h = let e = h.apart in grind (arith, nat_tests)
 
+-- both of two numbers are below a limit where a list of them is
 pub both_below : (ranks from to : ℕ) → all_below ranks (from ∷ to ∷ []) ≡ true → (from < ranks) × (to < ranks)
 both_below ranks from to e = let f = first_below ranks from (to ∷ []) e in (f.0, (first_below ranks to [] f.1).0)
 
+-- what isn't true is false
 pub not_true : (b : Bool) → not b ≡ true → b ≡ false
 not_true true e = cc
 not_true false e = refl
@@ -72,22 +77,27 @@ some_of_test (Some v) e = refl
 some_of_test None e = cc
 
 module _ (x : RankView) (h : Half) (is : IsRank x) (next : next_half x ≡ Some h) where
-  -- the acts before the half, the shapes that they leave, and the lanes
+  -- the acts before the half
   abbrev pub past : List Act
   past = before x.plan.acts x.me x.done
 
+  -- the shapes that they leave
   abbrev pub outline : State Extent
   outline = meaning shapes past (started x.plan.starts)
 
+  -- the lanes that they shut
   abbrev pub lanes : Lanes
   lanes = lanes_after past none_shut
 
+  -- the plan of a rank passes its check
   pub passes : Passes x.plan.ranks (started x.plan.starts) none_shut x.plan.acts
   passes = checked_passes x.plan.ranks 0 (started x.plan.starts) none_shut x.plan.acts is.checked.no_fault
 
+  -- the act of the next half, which is the only half of it that the rank has
   pub next_one : (a : Act) × (next_act x.plan.acts x.me x.done ≡ Some a) × (halves_of outline a x.me ≡ h ∷ [])
   next_one = act_of_half x.plan.ranks none_shut x.plan.acts (started x.plan.starts) x.me x.done h passes (rw is.program at next)
 
+  -- that act is sound after those before it
   pub next_passes : IsSound x.plan.ranks outline lanes next_one.0
   next_passes = next_sound x.plan.ranks none_shut x.plan.acts (started x.plan.starts) x.me x.done next_one.0 passes next_one.1
 

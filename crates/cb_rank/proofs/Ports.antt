@@ -130,6 +130,7 @@ pub record WaitsFor (x : RankView) (from : ℕ) : Type 0 where
   pub quiet : IsQuiet half
   pub other : (from < x.plan.ranks) × (from ≢ x.me)
 
+-- a rank that wants a letter or an end waits for it
 pub waits_for : (x : RankView) (from : ℕ) → IsRank x → (want_of (next_half x) ≡ want_is.Take from) ⊎ (want_of (next_half x) ≡ want_is.End from) → WaitsFor x from
 waits_for x from is (inl w) =
     let it = wants_take (next_half x) from w in

@@ -17,6 +17,7 @@ use Rattle.cb_plan.specs.Programs.{take_of, halves_of, project_from}
 use Rattle.cb_rank.specs.Ranks.{posted_to, is_shut_to, standing_by}
 use Rattle.cb_rank.proofs.View.{split, counted, one_half}
 
+-- letters posted by two lists of halves
 pub posted_to-append : (k : ℕ) (xs ys : List Half) → posted_to k (xs ++ ys) ≡ posted_to k xs + posted_to k ys
 posted_to-append k [] ys = omega arith
 posted_to-append k (half_is.Post to tag slot ∷ xs) ys = rw (posted_to-append k xs ys) (sym (add_assoc (if to == k then 1 else 0) (posted_to k xs) (posted_to k ys)))
@@ -29,6 +30,7 @@ pub or_assoc : (a b c : Bool) → (a || (b || c)) ≡ ((a || b) || c)
 or_assoc true b c = refl
 or_assoc false b c = refl
 
+-- a lane is shut by two lists of halves where one of them shuts it
 pub is_shut_to-append : (k : ℕ) (xs ys : List Half) → is_shut_to k (xs ++ ys) ≡ (is_shut_to k xs || is_shut_to k ys)
 is_shut_to-append k [] ys = refl
 is_shut_to-append k (half_is.Post to tag slot ∷ xs) ys = is_shut_to-append k xs ys
@@ -43,6 +45,7 @@ take-next [] k x e = cc
 take-next (y ∷ ys) zero x e = let same = same_Some y x e in rw same refl
 take-next (y ∷ ys) (suc k) x e = let n : suc k + 1 ≡ suc (k + 1) = omega arith in rw n (ap (λ zs. y ∷ zs) (take-next ys k x e))
 
+-- the front of two lists, past the end of the first
 pub take_past : {A : Type 0} (xs ys : List A) (k : ℕ) → length xs ≤ k → take k (xs ++ ys) ≡ xs ++ take (k - length xs) ys
 take_past [] ys k h = let e : k - 0 ≡ k = omega arith in rw e refl
 take_past (x ∷ xs) ys zero h = absurd (omega arith)
@@ -80,6 +83,7 @@ shut_by_halves state shut (act_is.Shut from to) r k =
     (λ t. rw t (split (to == k) (λ u. rw u (or_already (shut r k))) (λ u. rw u (or_nothing (shut r k)))))
     (λ f. rw f (split (to == r) (λ t. rw t (or_nothing (shut r k))) (λ g. rw g (or_nothing (shut r k)))))
 
+-- the front of a list without elements
 pub take_none : (n : ℕ) → take {A = Half} n [] ≡ []
 take_none zero = refl
 take_none (suc n) = refl

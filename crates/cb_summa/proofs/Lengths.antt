@@ -35,6 +35,7 @@ module _ (q : ℕ) (few : q ≤ 6) where
       let s = each_at_most (stage q) 120 0 q stage_at_most in
       omega arith
 
+  -- the plan of a product has at most 2100 acts
   pub summa_at_most : (a b : Extent) → length (summa_acts q a b) ≤ 2100
   summa_at_most a b =
       let x = length-append (product_acts q a b) (shut_acts (q * q)) in
@@ -42,6 +43,7 @@ module _ (q : ℕ) (few : q ≤ 6) where
       let z = shut_at_most q few in
       omega arith
 
+  -- and 36 more under a mask
   pub summa_masked_at_most : (a b : Extent) → length (summa_masked_acts q a b) ≤ 2136
   summa_masked_at_most a b =
       let x = length-append (product_acts q a b ++ each_rank q mask_op) (shut_acts (q * q)) in

@@ -19,6 +19,7 @@ module _ (s : Arithmetic) (q : ℕ) (p m : Sparse) (e : m.shape ≡ p.shape) (i 
   abbrev left : ℕ
   left = part_start q p.shape.cols j
 
+  -- a block of what a mask keeps is what its block keeps of a block
   pub masked_blocks : masked s (block_of s q p i j) (block_of s q m i j) ≡ block_of s q (masked s p m) i j
   masked_blocks =
       same_matrix_of s shape (λ x y. cond (has_entry s (block_of s q m i j) x y) (at s (block_of s q p i j) x y) s.zero) (λ x y. at s (masked s p m) (top + x) (left + y)) (λ x y k l.

@@ -27,18 +27,22 @@ pub record HasBlocks {M : Type 0} (q : ℕ) (left right : ℕ → ℕ → M) (k 
   pub b : (i j : ℕ) → i < q → j < q → state (i * q + j) (right_slot k) ≡ Some (right k j)
 
 module _ {M : Type 0} (ops : Algebra M) (q : ℕ) where
+  -- the broadcasts of stage k along the rows
   abbrev pub rows : ℕ → List Act
   rows k = flat_map (λ i. broadcast_acts (row_group q i) (i * q + k) (tagged (2 * k)) 0 (left_slot k)) (range_with_len 0 q)
 
+  -- and along the columns
   abbrev pub columns : ℕ → List Act
   columns k = flat_map (λ j. broadcast_acts (column_group q j) (k * q + j) (tagged (2 * k + 1)) 1 (right_slot k)) (range_with_len 0 q)
 
   yes : (i : ℕ) → (i == i) ≡ true
   yes i = grind (arith, nat_tests)
 
+  -- the root of each row is in it
   pub row_root : (k : ℕ) → k < q → (i : ℕ) → i < 0 + q → is_member (row_group q i) (i * q + k) ≡ true
   row_root k l i m = in_row q i k i l ∙ yes i
 
+  -- and that of each column
   pub column_root : (k : ℕ) → k < q → (j : ℕ) → j < 0 + q → is_member (column_group q j) (k * q + j) ≡ true
   column_root k l j m = in_column q k j j l (omega arith) (omega arith) ∙ yes j
 
@@ -168,6 +172,7 @@ module _ {M : Type 0} (ops : Algebra M) (q : ℕ) where
       ∙ stages_stay (k + 1) n one (omega arith) r x l
       ∙ stay
 
+  -- the products leave all slots from 7 on
   pub products_leave : (a b : Extent) (state : State M) → 0 < q → (r x : ℕ) → 7 ≤ x → meaning ops (product_acts q a b) state r x ≡ state r x
   products_leave a b state pos r x l =
       let one = meaning ops (each_rank q (zero_op q 2 (result_shape a b))) state in

@@ -9,7 +9,7 @@ use Rattle.cb_plan.specs.Meaning.{meaning, two}
 use Rattle.cb_plan.specs.Algebras.{matrices}
 use Rattle.cb_plan.proofs.Effects.{meaning-append}
 use Rattle.cb_collectives.specs.Collectives.{shut_acts}
-use Rattle.cb_collectives.proofs.Shutting.{shut_nothing}
+use Rattle.cb_collectives.proofs.ShutMeaning.{shut_nothing}
 use Rattle.cb_distribution.specs.Distribution.{each_rank}
 use Rattle.cb_distribution.proofs.Everywhere.{each_here}
 use Rattle.cb_summa.specs.Summa.{product_acts, summa_acts, summa_masked_acts, mask_op, MakesProduct, MakesMaskedProduct, IsProductPlan, IsMaskedPlan, result_shape}
@@ -40,12 +40,14 @@ module _ (s : Arithmetic) (laws : IsSemiring s) (q : ℕ) (pos : 0 < q) (a b : S
       ∙ ap (λ x. two ((matrices s).mask) (Some (block_of s q (product s a b) i j)) x) mask
       ∙ ap Some (masked_blocks s q (product s a b) m e i j)
 
+-- on the cuts of two matrices the acts mean the cuts of their product
 pub is_product_plan : (q : ℕ) → 0 < q → (left right : Extent) → left.cols ≡ right.rows → IsProductPlan (summa_acts q left right) q left right
 is_product_plan q pos left right agree s laws a b is_a is_b e f =
     subst (λ x. MakesProduct (summa_acts q left x) q s a b) f
     (subst (λ x. MakesProduct (summa_acts q x b.shape) q s a b) e
     (summa_makes_product s laws q pos a b is_a is_b (ap (λ x. x.cols) e ∙ agree ∙ sym (ap (λ x. x.rows) f))))
 
+-- and under a mask, of what the mask keeps of it
 pub is_masked_plan : (q : ℕ) → 0 < q → (left right : Extent) → left.cols ≡ right.rows → IsMaskedPlan (summa_masked_acts q left right) q left right
 is_masked_plan q pos left right agree s laws a b m is_a is_b is_m e f g =
     let h : m.shape ≡ result_shape a.shape b.shape = g ∙ sym (ap (λ x. result_shape x right) e) ∙ sym (ap (λ x. result_shape a.shape x) f) in

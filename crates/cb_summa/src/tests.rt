@@ -1,22 +1,10 @@
 //! Worked plans.
-ghost use Rattle.std.specs.Prelude.{◌≡◌, IfOk};
-
 use crate::{summa, summa_masked};
 use cb_layout::Grid;
-use cb_matrix::Shape;
 use cb_plan::{Act, Op, PlanFault, PlanFaultKind, Planned};
+use cb_samples::shape;
 use std::alloc::Global;
 use std::test::Fail;
-
-/// The shape of so many rows and columns.
-fn shape(rows: u32, cols: u32) -> Result<Shape, Fail>
-    ensures { IfOk result (λ shape. (shape.rows ≡ rows) × (shape.cols ≡ cols)) }
-{
-    match Shape::new(rows, cols) {
-        Some(shape) => Ok(shape),
-        None => Err("a shape".into()),
-    }
-}
 
 /// The plan of the product of two matrices of 2 by 2 on a grid of a side.
 fn two_by_two(alloc: Global, side: u32) -> Result<Planned, Fail> {

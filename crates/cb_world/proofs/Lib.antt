@@ -1,37 +1,37 @@
 -- What a world keeps, and why. The last six are what the proofs of `World`'s functions cite.
 -- Lanes: one lane at a post, at a take, and at a step elsewhere.
--- Moving: one half of one rank, as a running system sees it.
+-- SystemHalf: one half of one rank, as a running system sees it.
 -- Progress: where some rank isn't done, some rank can act, by the acts of the plan alone.
--- Stepping: one half of one rank keeps the agreement of the whole.
--- Counting: sums over the ranks.
+-- AgreementAfterHalf: one half of one rank keeps the agreement of the whole.
+-- RankSums: sums over the ranks.
 -- NextHalf: what a rank's next half finds: its lane open, and the letter that it wants or none (`finds_half`).
 -- OwnEnds: a rank's ends of its lanes are its ports, as `Rank::step` asks (`ports_of`).
--- Keeping: a world is one after each half (`does_keep`).
+-- WorldAfterHalf: a world is one after each half (`does_keep`).
 -- OneStep: a step of a rank through its ends is a step of the world, and no stray comes (`step_is`); where it is
 --   starved, its count rises (`starved_is`).
--- Going: one half less remains after each half (`does_lower`); what no step changes (`steps_stay`, `runs_stay`); runs
+-- Changes: one half less remains after each half (`does_lower`); what no step changes (`steps_stay`, `runs_stay`); runs
 --   go on (`runs_more`).
--- Acting: where no rank can act all is done (`someone_acts`); nothing remains just where all is done (`none_remains`,
+-- NoDeadlock: where no rank can act all is done (`someone_acts`); nothing remains just where all is done (`none_remains`,
 --   `all_done_by`); sums are small (`few_remain`, `few_refused`).
--- Beginning: a world in which nothing is done is one (`begins`).
--- Finishing: a world in which all is done is finished (`finishes`), and its stores are a table (`stores_are_table`)
+-- FirstState: a world in which nothing is done is one (`begins`).
+-- LastState: a world in which all is done is finished (`finishes`), and its stores are a table (`stores_are_table`)
 --   and hold what its plan means (`ends_in_meaning`).
 -- Boxes: the mailbox of a rank, read by its number, and the mailboxes as they are made.
 -- NewRanks: the ranks of a new world, made of their stores from the last on.
--- Asking: what a rank's next half asks of its lanes; a step as `World::step` leaves it.
+-- LaneNeeds: what a rank's next half asks of its lanes; a step as `World::step` leaves it.
 pub mod Lanes
-pub mod Moving
+pub mod SystemHalf
 pub mod Progress
-pub mod Stepping
-pub mod Counting
+pub mod AgreementAfterHalf
+pub mod RankSums
 pub mod NextHalf
 pub mod OwnEnds
-pub mod Keeping
+pub mod WorldAfterHalf
 pub mod OneStep
-pub mod Going
-pub mod Acting
-pub mod Beginning
-pub mod Finishing
+pub mod Changes
+pub mod NoDeadlock
+pub mod FirstState
+pub mod LastState
 pub mod Boxes
 pub mod NewRanks
-pub mod Asking
+pub mod LaneNeeds

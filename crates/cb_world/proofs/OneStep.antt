@@ -28,7 +28,7 @@ use Rattle.cb_world.specs.EndLaws as laws
 use Rattle.cb_world.specs.Worlds.{WorldView, IsWorld, no_rank, rank_of, next_of, lane_between, CanDo, CanAct}
 use Rattle.cb_world.specs.Steps.{with_rank, DoesIn, StepsBy, IsStarved}
 use Rattle.cb_world.proofs.NextHalf.{finds_half}
-use Rattle.cb_world.proofs.Keeping.{does_keep}
+use Rattle.cb_world.proofs.WorldAfterHalf.{does_keep}
 
 -- what the step of a rank came to: no stray, and the world after it
 pub record Came (s : Arithmetic) (w : WorldView) (r : ℕ) (answer : Answer) (after : WorldView) : Type 0 where

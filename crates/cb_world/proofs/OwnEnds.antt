@@ -25,7 +25,7 @@ use Rattle.cb_rank.proofs.Standing.{lanes_by_halves, posted_to-append, take_none
 use Rattle.cb_world.specs.Ends.{standing}
 use Rattle.cb_world.specs.Worlds.{WorldView, IsWorld, rank_of, lane_between, system_of}
 use Rattle.cb_world.proofs.Progress.{posts, posts_of, length-letters, queued_of_agrees}
-use Rattle.cb_world.proofs.Stepping.{kept_shut, letters_unmarked, unmarked}
+use Rattle.cb_world.proofs.AgreementAfterHalf.{kept_shut, letters_unmarked, unmarked}
 use Rattle.cb_world.proofs.NextHalf.{passes_of, program_of}
 
 -- the first of acts that pass do

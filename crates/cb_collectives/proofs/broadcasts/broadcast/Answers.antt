@@ -1,7 +1,7 @@
 use Rattle.std.proofs.Common.{rules, ◌≡◌, length, sym, ◌∙◌, arith}
 use Rattle.cb_collectives.specs.Appends.{HasRoom}
 use Rattle.cb_collectives.specs.Collectives.{turned, copied_at, tree_moves, broadcast_acts}
-use Rattle.cb_collectives.proofs.Appending.{room_left}
+use Rattle.cb_collectives.proofs.PlanGrowth.{room_left}
 use Rattle.cb_collectives.proofs.Counts.{count_broadcast}
 use Rattle.cb_collectives.proofs.Places.{place-below}
 use Rattle.cb_collectives.proofs.broadcasts.broadcast.Goals as goal

@@ -1,6 +1,6 @@
 use Rattle.std.proofs.Common.{arith}
 use Rattle.cb_collectives.specs.Collectives.{shut_from}
-use Rattle.cb_collectives.proofs.Appending.{appended_none, next_have_room, next_are_appended}
+use Rattle.cb_collectives.proofs.PlanGrowth.{appended_none, next_have_room, next_are_appended}
 use Rattle.cb_collectives.proofs.closings.shut_lanes.Goals as goal
 
 pub loop-from-init : goal.loop-from-init

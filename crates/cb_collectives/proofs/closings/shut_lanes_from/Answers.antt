@@ -1,6 +1,6 @@
 use Rattle.std.proofs.Common.{arith}
 use Rattle.cb_collectives.specs.Collectives.{shut_lane}
-use Rattle.cb_collectives.proofs.Appending.{appended_none, next_have_room, next_are_appended}
+use Rattle.cb_collectives.proofs.PlanGrowth.{appended_none, next_have_room, next_are_appended}
 use Rattle.cb_collectives.proofs.closings.shut_lanes_from.Goals as goal
 
 pub loop-to-init : goal.loop-to-init

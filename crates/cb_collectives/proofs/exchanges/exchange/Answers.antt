@@ -1,6 +1,6 @@
 use Rattle.std.proofs.Common.{◌+◌, length, arith}
 use Rattle.cb_collectives.specs.Collectives.{sent_from}
-use Rattle.cb_collectives.proofs.Appending.{appended_none, next_have_room, next_are_appended}
+use Rattle.cb_collectives.proofs.PlanGrowth.{appended_none, next_have_room, next_are_appended}
 use Rattle.cb_collectives.proofs.exchanges.exchange.Goals as goal
 
 pub loop-s-init : goal.loop-s-init

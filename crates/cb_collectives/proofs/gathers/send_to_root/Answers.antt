@@ -1,6 +1,6 @@
 use Rattle.std.proofs.Common.{◌+◌, length, refl, arith}
 use Rattle.cb_collectives.specs.Collectives.{member, sent}
-use Rattle.cb_collectives.proofs.Appending.{appended_none, next_has_room, next_appended}
+use Rattle.cb_collectives.proofs.PlanGrowth.{appended_none, next_has_room, next_appended}
 use Rattle.cb_collectives.proofs.gathers.send_to_root.Goals as goal
 
 pub loop-t-init : goal.loop-t-init

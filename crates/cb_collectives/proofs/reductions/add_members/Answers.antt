@@ -1,6 +1,6 @@
 use Rattle.std.proofs.Common.{refl}
 use Rattle.cb_collectives.specs.Collectives.{added_from}
-use Rattle.cb_collectives.proofs.Appending.{appended_none, element_has_room, element_is_appended}
+use Rattle.cb_collectives.proofs.PlanGrowth.{appended_none, element_has_room, element_is_appended}
 use Rattle.cb_collectives.proofs.reductions.add_members.Goals as goal
 
 pub loop-member-init : goal.loop-member-init

@@ -4,7 +4,7 @@ use Rattle.cb_plan.specs.declared.acts.Op.TheVariants as op_is
 use Rattle.cb_plan.specs.declared.acts.Act.TheVariants as act_is
 use Rattle.cb_collectives.specs.Appends.{HasRoom}
 use Rattle.cb_collectives.specs.Collectives.{added_from, reduce_acts}
-use Rattle.cb_collectives.proofs.Appending.{room_left}
+use Rattle.cb_collectives.proofs.PlanGrowth.{room_left}
 use Rattle.cb_collectives.proofs.Counts.{count_reduce}
 use Rattle.cb_collectives.proofs.reductions.reduce.Goals as goal
 

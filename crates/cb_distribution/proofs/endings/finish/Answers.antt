@@ -5,7 +5,7 @@ use Rattle.cb_plan.specs.Checks.{plan_fault}
 use Rattle.cb_collectives.specs.Collectives.{shut_acts}
 use Rattle.cb_collectives.specs.Appends.{IsRefusal}
 use Rattle.cb_distribution.proofs.Flows.{flows_check}
-use Rattle.cb_distribution.proofs.Growing.{only_memory}
+use Rattle.cb_distribution.proofs.LoopGrowth.{only_memory}
 use Rattle.cb_distribution.proofs.endings.finish.Goals as goal
 
 pub returns-in_err-shut_all-clause-fault : goal.returns-in_err-shut_all-clause-fault

@@ -1,7 +1,7 @@
 use Rattle.std.proofs.Common.{rules, ℕ, ◌*◌, length, length-append, [], ◌∷◌, ap, ◌∙◌, arith}
 use Rattle.cb_plan.specs.declared.acts.Act.{Act}
 use Rattle.cb_plan.specs.declared.acts.Act.TheVariants as act_is
-use Rattle.cb_distribution.proofs.Growing.{room_refused, grew_by_one}
+use Rattle.cb_distribution.proofs.LoopGrowth.{room_refused, grew_by_one}
 use Rattle.cb_distribution.proofs.works.work_everywhere.Goals as goal
 
 pub returns-in_err-make_room-clause-fault : goal.returns-in_err-make_room-clause-fault

@@ -6,7 +6,7 @@ use Rattle.cb_plan.specs.Plans.{PlanView}
 use Rattle.cb_collectives.specs.Collectives.{shut_acts}
 use Rattle.cb_distribution.specs.Distribution.{each_rank, operand_starts}
 use Rattle.cb_distribution.specs.Growth.{IsWithinLimit}
-use Rattle.cb_distribution.proofs.Growing.{grew_all, grown_flows, within_new, within_first, within_rest}
+use Rattle.cb_distribution.proofs.LoopGrowth.{grew_all, grown_flows, within_new, within_first, within_rest}
 use Rattle.cb_kernels.specs.Kernels.{placewise_acts}
 use Rattle.cb_kernels.proofs.Lengths.{placewise_at_most}
 use Rattle.cb_kernels.proofs.placewise.placewise.Goals as goal

@@ -8,7 +8,7 @@ use Rattle.cb_collectives.specs.Collectives.{shut_acts}
 use Rattle.cb_distribution.specs.declared.operands.Operand.{Operand}
 use Rattle.cb_distribution.specs.Distribution.{each_rank, operand_starts, NamesSlots}
 use Rattle.cb_distribution.specs.Growth.{IsWithinLimit, Grew}
-use Rattle.cb_distribution.proofs.Growing.{grew_all, grew_both, grown_flows, within_new, within_first, within_rest}
+use Rattle.cb_distribution.proofs.LoopGrowth.{grew_all, grew_both, grown_flows, within_new, within_first, within_rest}
 use Rattle.cb_kernels.specs.Kernels.{one_operand, mirror_acts, transpose_acts, IsTransposePlan}
 use Rattle.cb_kernels.proofs.Lengths.{transpose_at_most}
 use Rattle.cb_kernels.proofs.Mirror.{transpose_flow, is_transpose_plan}

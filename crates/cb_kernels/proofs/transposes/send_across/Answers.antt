@@ -2,7 +2,7 @@ use Rattle.std.proofs.Common.{rules, ℕ, ◌*◌, ◌++◌, length, length-appe
 use Rattle.cb_plan.specs.declared.acts.Act.{Act}
 use Rattle.cb_collectives.specs.Collectives.{sent}
 use Rattle.cb_distribution.specs.Distribution.{tagged}
-use Rattle.cb_distribution.proofs.Growing.{room_refused, grew_by_one}
+use Rattle.cb_distribution.proofs.LoopGrowth.{room_refused, grew_by_one}
 use Rattle.cb_kernels.specs.Kernels.{mirrored}
 use Rattle.cb_kernels.proofs.transposes.send_across.Goals as goal
 

@@ -2,7 +2,7 @@ use Rattle.std.proofs.Common.{◌≡◌, ◌-◌, List, [], ◌∷◌, sym, ap, 
 use Rattle.std.specs.List.{range_with_len, flat_map}
 use Rattle.cb_plan.specs.declared.acts.Act.{Act}
 use Rattle.cb_distribution.specs.Growth.{IsWithinLimit, Grew}
-use Rattle.cb_distribution.proofs.Growing.{within_next, grew_next}
+use Rattle.cb_distribution.proofs.LoopGrowth.{within_next, grew_next}
 use Rattle.cb_kernels.specs.VectorPlans.{works, next_summand}
 use Rattle.cb_kernels.proofs.Loops.{works_each}
 use Rattle.cb_kernels.proofs.vectors.add_others.Goals as goal

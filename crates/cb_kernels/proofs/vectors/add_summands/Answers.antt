@@ -1,6 +1,6 @@
 use Rattle.std.proofs.Common.{arith}
 use Rattle.cb_kernels.specs.VectorPlans.{works, sum_ops}
-use Rattle.cb_distribution.proofs.Growing.{within_next, grew_next}
+use Rattle.cb_distribution.proofs.LoopGrowth.{within_next, grew_next}
 use Rattle.cb_kernels.proofs.vectors.add_summands.Goals as goal
 
 pub add_up-requires : goal.add_up-requires

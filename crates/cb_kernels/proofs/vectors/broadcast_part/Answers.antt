@@ -4,7 +4,7 @@ use Rattle.cb_collectives.specs.Collectives.{broadcast_acts, is_member}
 use Rattle.cb_layout.specs.Parts.{column_group}
 use Rattle.cb_distribution.specs.Distribution.{tagged}
 use Rattle.cb_distribution.proofs.Grid.{in_column}
-use Rattle.cb_distribution.proofs.Growing.{refused_next, appended_next}
+use Rattle.cb_distribution.proofs.LoopGrowth.{refused_next, appended_next}
 use Rattle.cb_kernels.specs.VectorPlans.{piece_broadcast}
 use Rattle.cb_kernels.proofs.vectors.broadcast_part.Goals as goal
 

@@ -1,6 +1,6 @@
 use Rattle.std.proofs.Common.{arith}
 use Rattle.cb_kernels.specs.VectorPlans.{part_broadcasts}
-use Rattle.cb_distribution.proofs.Growing.{within_next, grew_next}
+use Rattle.cb_distribution.proofs.LoopGrowth.{within_next, grew_next}
 use Rattle.cb_kernels.proofs.vectors.broadcast_pieces.Goals as goal
 
 pub broadcast_part-requires-clause-limit : goal.broadcast_part-requires-clause-limit

@@ -4,7 +4,7 @@ use Rattle.cb_collectives.specs.Collectives.{all_to_all_acts, AreDistinct}
 use Rattle.cb_layout.specs.Parts.{row_group}
 use Rattle.cb_distribution.specs.Distribution.{tagged}
 use Rattle.cb_distribution.proofs.Grid.{row_distinct}
-use Rattle.cb_distribution.proofs.Growing.{refused_next, appended_next}
+use Rattle.cb_distribution.proofs.LoopGrowth.{refused_next, appended_next}
 use Rattle.cb_kernels.specs.VectorPlans.{exchange}
 use Rattle.cb_kernels.proofs.vectors.exchange_pieces.Goals as goal
 

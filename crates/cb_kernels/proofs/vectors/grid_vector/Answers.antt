@@ -6,7 +6,7 @@ use Rattle.cb_plan.specs.declared.acts.Act.{Act}
 use Rattle.cb_plan.specs.Plans.{PlanView}
 use Rattle.cb_collectives.specs.Collectives.{shut_acts}
 use Rattle.cb_distribution.specs.Growth.{IsWithinLimit, Grew}
-use Rattle.cb_distribution.proofs.Growing.{grew_all, grown_flows, within_new, within_first, within_rest}
+use Rattle.cb_distribution.proofs.LoopGrowth.{grew_all, grown_flows, within_new, within_first, within_rest}
 use Rattle.cb_kernels.specs.VectorPlans.{vector_starts, spread_product_acts, vector_acts, IsVectorPlan}
 use Rattle.cb_kernels.proofs.VectorLengths.{vector_at_most}
 use Rattle.cb_kernels.proofs.VectorStarts.{vector_flow}

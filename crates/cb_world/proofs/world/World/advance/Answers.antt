@@ -1,7 +1,7 @@
 -- A step of a rank through its ends is a step of the world, and no stray comes.
 use Rattle.std.proofs.Common.{refl, sym, ◌∙◌}
 use Rattle.std.proofs.Math.ListN.{length-set}
-use Rattle.cb_world.proofs.Asking.{rank_at, came_as, falls}
+use Rattle.cb_world.proofs.LaneNeeds.{rank_at, came_as, falls}
 use Rattle.cb_world.proofs.OneStep.{step_is, starved_is}
 use Rattle.cb_world.proofs.OwnEnds.{ports_of}
 use Rattle.cb_world.proofs.world.World.advance.Goals as goal

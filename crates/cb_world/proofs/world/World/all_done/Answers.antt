@@ -1,6 +1,6 @@
 use Rattle.std.proofs.Common.{sym, ◌∙◌}
-use Rattle.cb_world.proofs.Acting.{none_remains, all_done_by}
-use Rattle.cb_world.proofs.Asking.{zero_test}
+use Rattle.cb_world.proofs.NoDeadlock.{none_remains, all_done_by}
+use Rattle.cb_world.proofs.LaneNeeds.{zero_test}
 use Rattle.cb_world.proofs.world.World.all_done.Goals as goal
 
 pub returns-clause-done : goal.returns-clause-done

@@ -1,7 +1,7 @@
 -- The other rank of a lane exists, and is another; and the lane tells whether the half can be done.
 use Rattle.std.proofs.Common.{sym}
 use Rattle.cb_world.specs.Worlds.{no_rank}
-use Rattle.cb_world.proofs.Asking.{at_post, at_shut, at_take, at_end}
+use Rattle.cb_world.proofs.LaneNeeds.{at_post, at_shut, at_take, at_end}
 use Rattle.cb_world.proofs.world.World.can_act.Goals as goal
 
 pub has_room-requires-clause-to : goal.has_room-requires-clause-to

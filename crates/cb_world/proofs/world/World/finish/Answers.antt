@@ -1,8 +1,8 @@
 -- A rank that can act does a half, so less remains.
 use Rattle.std.proofs.Common.{[], ◌∷◌, ◌++◌}
 use Rattle.cb_world.specs.declared.events.Event.TheVariants.{Step}
-use Rattle.cb_world.proofs.Asking.{acts_lower, run_keeps}
-use Rattle.cb_world.proofs.Going.{finishes_run, finishes_more}
+use Rattle.cb_world.proofs.LaneNeeds.{acts_lower, run_keeps}
+use Rattle.cb_world.proofs.Changes.{finishes_run, finishes_more}
 use Rattle.cb_world.proofs.world.World.finish.Goals as goal
 
 pub loop-r-smaller : goal.loop-r-smaller

@@ -2,7 +2,7 @@
 use Rattle.std.proofs.Common.{sym, subst}
 use Rattle.cb_plan.specs.Tables.{IsTable}
 use Rattle.cb_world.specs.Worlds.{HoldsMeaning}
-use Rattle.cb_world.proofs.Finishing.{finishes, stores_are_table, ends_in_meaning}
+use Rattle.cb_world.proofs.LastState.{finishes, stores_are_table, ends_in_meaning}
 use Rattle.cb_world.proofs.world.World.into_stores.Goals as goal
 
 pub returns-clause-table : goal.returns-clause-table

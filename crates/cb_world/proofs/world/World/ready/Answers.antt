@@ -1,6 +1,6 @@
 -- None of the ranks that were asked can act, so all are done.
 use Rattle.std.proofs.Common.{arith}
-use Rattle.cb_world.proofs.Acting.{someone_acts}
+use Rattle.cb_world.proofs.NoDeadlock.{someone_acts}
 use Rattle.cb_world.proofs.world.World.ready.Goals as goal
 
 pub returns-clause-ready : goal.returns-clause-ready

@@ -3,8 +3,8 @@ use Rattle.std.proofs.Common.{◌≡◌, ◌<◌, length, get_or, ◌∙◌, ap,
 use Rattle.std.proofs.lemmas.List.Sums.{sum_by_more_le}
 use Rattle.cb_rank.specs.Ranks.{RankView}
 use Rattle.cb_world.specs.Worlds.{no_rank}
-use Rattle.cb_world.proofs.Acting.{few_refused}
-use Rattle.cb_world.proofs.Asking.{read_at}
+use Rattle.cb_world.proofs.NoDeadlock.{few_refused}
+use Rattle.cb_world.proofs.LaneNeeds.{read_at}
 use Rattle.cb_world.proofs.world.World.refusals.Goals as goal
 
 pub overflow_add-refusals : goal.overflow_add-refusals

@@ -5,8 +5,8 @@ use Rattle.cb_rank.proofs.Standing.{take-next}
 use Rattle.cb_world.specs.declared.events.Event.{Event}
 use Rattle.cb_world.specs.declared.events.Event.TheVariants.{Step}
 use Rattle.cb_world.specs.Steps.{RunsBy}
-use Rattle.cb_world.proofs.Asking.{run_keeps}
-use Rattle.cb_world.proofs.Going.{runs_more}
+use Rattle.cb_world.proofs.LaneNeeds.{run_keeps}
+use Rattle.cb_world.proofs.Changes.{runs_more}
 use Rattle.cb_world.proofs.world.World.run.Goals as goal
 
 pub loop-event-preserved : goal.loop-event-preserved

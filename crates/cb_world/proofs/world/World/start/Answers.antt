@@ -2,7 +2,7 @@
 use Rattle.std.proofs.Common.{refl, ap, subst, arith, vec_items}
 use Rattle.cb_world.specs.Starting.{AreNewBoxes}
 use Rattle.cb_world.specs.Worlds.{WorldView}
-use Rattle.cb_world.proofs.Beginning.{begins}
+use Rattle.cb_world.proofs.FirstState.{begins}
 use Rattle.cb_world.proofs.NewRanks.{new_world}
 use Rattle.cb_world.proofs.world.World.start.Goals as goal
 

@@ -28,7 +28,7 @@ use Rattle.cb_rank.proofs.View.{split, counted}
 use Rattle.cb_rank.proofs.Next.{both_below}
 use Rattle.cb_world.specs.Worlds.{WorldView, IsWorld, no_rank, rank_of, lane_between, system_of, AllDone, IsFinished, HoldsMeaning}
 use Rattle.cb_world.proofs.NextHalf.{passes_of, program_of}
-use Rattle.cb_world.proofs.Acting.{is_done_by, none_refused}
+use Rattle.cb_world.proofs.NoDeadlock.{is_done_by, none_refused}
 
 -- how many halves of the acts a rank does
 abbrev pub total : List Act → ℕ → ℕ

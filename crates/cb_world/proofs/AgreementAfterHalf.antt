@@ -23,7 +23,7 @@ use Rattle.cb_rank.proofs.View.{split, meaning-next, letters-next}
 use Rattle.cb_rank.proofs.Halves.{is_post, is_take, is_work, is_shut, is_end, copied, arrived_slot, AllSome, some_by_shape, all_some, worked}
 use Rattle.cb_rank.proofs.Next.{act_of_half, next_sound, apart_of, apart_of_shut, not_true}
 use Rattle.cb_world.proofs.Lanes.{slot_later, lane_still, lane_posts, lane_takes}
-use Rattle.cb_world.proofs.Moving.{Did, Moves}
+use Rattle.cb_world.proofs.SystemHalf.{Did, Moves}
 
 -- what a rank has posted or taken is the beginning of the lane
 pub letters_begin : {M : Type 0} (ops : Algebra M) (acts : List Act) (r k : ℕ) (state : State M) (s t : ℕ) → (rest : List (Tag × Cargo M)) × (letters ops (before acts r k) state s t ++ rest ≡ letters ops acts state s t)

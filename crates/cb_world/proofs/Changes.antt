@@ -21,7 +21,7 @@ use Rattle.cb_world.specs.Ends.{boxes_with, boxes_after}
 use Rattle.cb_world.specs.EndLaws.{same_length}
 use Rattle.cb_world.specs.Worlds.{WorldView, IsWorld, no_rank, rank_of, next_of, IsReady, remaining}
 use Rattle.cb_world.specs.Steps.{with_rank, letter_to, DoesIn, StepsBy, Steps, RunsBy, FinishesBy, rank_in}
-use Rattle.cb_world.proofs.Counting.{sum_of_set}
+use Rattle.cb_world.proofs.RankSums.{sum_of_set}
 
 -- a half changes one rank, which has done one half more, and the mailboxes
 record OneRank (r : ℕ) (w after : WorldView) : Type 0 where

@@ -16,7 +16,7 @@ use Rattle.cb_rank.proofs.View.{split}
 use Rattle.cb_rank.proofs.Keeping.{few_halves}
 use Rattle.cb_world.specs.Worlds.{WorldView, IsWorld, no_rank, rank_of, next_of, lane_between, system_of, CanDo, CanAct, AllDone, remaining, refusals_in}
 use Rattle.cb_world.proofs.Progress.{Can, someone_moves, queued_of_agrees}
-use Rattle.cb_world.proofs.Counting.{sum_is_none, none_of_sum, sum_is_below}
+use Rattle.cb_world.proofs.RankSums.{sum_is_none, none_of_sum, sum_is_below}
 use Rattle.cb_world.proofs.NextHalf.{passes_of, program_of}
 
 can_do : (w : WorldView) (r : ℕ) (h : Option Half) → Can w.capacity (λ p q. length (lane_between w p q).queue) r h → CanDo w r h

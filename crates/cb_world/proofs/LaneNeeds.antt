@@ -19,8 +19,8 @@ use Rattle.cb_world.specs.Steps.{DoesIn, Steps, StepsBy, RunsBy, rank_in}
 use Rattle.cb_world.specs.declared.events.Event.{Event}
 use Rattle.cb_world.specs.declared.events.Event.TheVariants as event_is
 use Rattle.cb_rank.proofs.View.{split}
-use Rattle.cb_world.proofs.Acting.{no_next}
-use Rattle.cb_world.proofs.Going.{does_lower, steps_stay, runs_stay}
+use Rattle.cb_world.proofs.NoDeadlock.{no_next}
+use Rattle.cb_world.proofs.Changes.{does_lower, steps_stay, runs_stay}
 use Rattle.cb_world.proofs.NextHalf.{finds_half}
 use Rattle.cb_world.proofs.OneStep.{Came}
 

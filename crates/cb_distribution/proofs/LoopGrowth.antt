@@ -10,8 +10,8 @@ use Rattle.cb_plan.specs.Checks.{started, none_shut}
 use Rattle.cb_plan.specs.Plans.{PlanView}
 use Rattle.cb_plan.proofs.Ranges.{pushed, extended}
 use Rattle.cb_collectives.specs.Appends.{IsRefusal, IsTooLong, too_long}
-pub use Rattle.cb_collectives.proofs.Appending.{grew_none, grew_both}
-use Rattle.cb_collectives.proofs.Appending.{length_up_to}
+pub use Rattle.cb_collectives.proofs.PlanGrowth.{grew_none, grew_both}
+use Rattle.cb_collectives.proofs.PlanGrowth.{length_up_to}
 use Rattle.cb_distribution.specs.Flows.{Flows}
 use Rattle.cb_distribution.specs.Growth.{IsWithinLimit, Grew, no_memory}
 
@@ -36,25 +36,30 @@ grew_last xs ys zs first now next (Err x) h e k = tt
 pub within_first : (xs ys : List Act) (plan : PlanView) → IsWithinLimit plan (xs ++ ys) → IsWithinLimit plan xs
 within_first xs ys plan l = let e = length-append xs ys in omega arith
 
+-- and the second, once the first is in the plan
 pub within_rest : (xs ys : List Act) (first now : PlanView) → IsWithinLimit first (xs ++ ys) → Grew xs first now → IsWithinLimit now ys
 within_rest xs ys first now l h = let e = length-append xs ys in let f = ap length h.acts_are ∙ length-append first.acts xs in omega arith
 
 -- a loop that extends the plan by a list of acts for each number
 module _ (f : ℕ → List Act) (i : ℕ) (first now : PlanView) where
+  -- the next number's acts are within the limit where all are
   pub within_next : (n : ℕ) → i < n → IsWithinLimit first (flat_map f (range_with_len 0 n)) → Grew (flat_map f (range_with_len 0 i)) first now → IsWithinLimit now (f i)
   within_next n l w h =
       let e = ap length h.acts_are ∙ length-append first.acts (flat_map f (range_with_len 0 i)) in
       let u = length_up_to f 0 n i i (omega arith) l in
       omega arith
 
+  -- after them the plan has the acts of one number more
   pub grew_next : (next : PlanView) → Grew (flat_map f (range_with_len 0 i)) first now → Grew (f i) now next → Grew (flat_map f (range_with_len 0 (i + 1))) first next
   grew_next next h k = record { ranks_are = k.ranks_are ∙ h.ranks_are; acts_are = extended f i first.acts now.acts next.acts h.acts_are k.acts_are }
 
   -- the same where the acts are given by an equation
   module _ (acts : List Act) (is : acts ≡ f i) where
+    -- they are refused for want of memory alone where all are within the limit
     pub refused_next : (n : ℕ) (e : PlanFault) → i < n → IsWithinLimit first (flat_map f (range_with_len 0 n)) → Grew (flat_map f (range_with_len 0 i)) first now → IsRefusal now acts e → e ≡ no_memory
     refused_next n e l w h r = only_memory now (f i) e (within_next n l w h) (subst (λ xs. IsRefusal now xs e) is r)
 
+    -- appended, they are the acts of one number more
     pub appended_next : (next : PlanView) → Grew (flat_map f (range_with_len 0 i)) first now → next.ranks ≡ now.ranks → next.acts ≡ now.acts ++ acts → Grew (flat_map f (range_with_len 0 (i + 1))) first next
     appended_next next h r k = grew_next next h (record { ranks_are = r; acts_are = k ∙ ap (λ xs. now.acts ++ xs) is })
 
