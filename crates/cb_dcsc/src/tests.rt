@@ -58,18 +58,6 @@ fn the_lists_of_a_vector_hold_one_column(rt: HostRuntime) -> Result<(), Fail> {
     Ok(())
 }
 
-/// Columns without entries, at the front, between others and at the end, are left out.
-#[test]
-fn compressed_columns_lose_the_empty_ones(rt: HostRuntime) -> Result<(), Fail> {
-    let alloc = rt.alloc();
-    let starts = [0, 0, 2, 2, 2, 3, 3];
-    let rows = [0, 2, 1].to_vec(alloc)?;
-    let values = [5, 6, 7].to_vec(alloc)?;
-    let block = Block::<PlusTimes>::from_csc(alloc, shape(4, 6)?, &starts, rows, values)?;
-    assert!(rt; has_lists(&block, &[1, 4], &[0, 2, 3], &[0, 2, 1], &[5, 6, 7]));
-    Ok(())
-}
-
 /// With ample memory each call that takes some succeeds.
 #[test]
 fn a_block_grows_by_entries(rt: HostRuntime) -> Result<(), Fail> {
