@@ -95,7 +95,7 @@ impl Grid {
         (usize::from(self.rank(i, j)), local)
     }
 
-    /// The part of a dimension that a place is in, and its place there.
+    /// The part of a dimension that a place is in, and its place there. In the first part nothing is divided.
     pub(crate) fn in_part(&self, d: u32, place: u32) -> (u32, u32)
         requires { place < d }
         ensures part { result.0 ≡ part_with self.now.side d place }
@@ -103,6 +103,9 @@ impl Grid {
         ensures within { result.0 < self.now.side }
     {
         let length = d.div_ceil(self.side());
+        if place < length {
+            return (0, place);
+        }
         (place / length, place % length)
     }
 }

@@ -41,6 +41,7 @@ fn is_on_diagonal(symmetry: Symmetry, row: u32, column: u32) -> bool
 }
 
 /// The place of an entry, by words that are numbers.
+#[inline(always)]
 fn place_of(
     symmetry: Symmetry,
     shape: Shape,
@@ -68,6 +69,7 @@ fn place_of(
 }
 
 /// The entry that three words write.
+#[inline(always)]
 fn integer_entry<S: Semiring>(
     symmetry: Symmetry,
     shape: Shape,
@@ -129,6 +131,7 @@ fn negative_of<S: Semiring>(value: u64) -> u64
 }
 
 /// Adds what an entry gives.
+#[inline(always)]
 fn give<S: Semiring>(
     entries: &mut Vec<Entry>,
     symmetry: Symmetry,

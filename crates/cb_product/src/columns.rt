@@ -57,6 +57,7 @@ impl<S: Semiring> Column<S> {
     }
 
     /// Stores an entry after all the others, unless its value is zero.
+    #[inline(always)]
     pub fn keep(&mut self, row: u32, value: u64) -> Result<(), AllocError>
         requires after { All (λ i. i < row) self.old.rows }
         requires value { IsValue S.arithmetic value }

@@ -1,9 +1,9 @@
 //! Marks of rows, a bit for each, in words of 64: what is marked is found again in order, 64 rows at a look.
-ghost use Rattle.std.specs.Prelude.{◌≡◌, ◌≢◌, ℕ, ◌<◌, ◌≤◌, ◌/◌, ◌^◌, length, All, IfSome, IfNone, slice_index};
+ghost use Rattle.std.specs.Prelude.{◌≡◌, ◌≢◌, ◌↔◌, IsTrue, ℕ, ◌<◌, ◌≤◌, ◌/◌, ◌^◌, length, All, IfSome, IfNone, slice_index};
 ghost use Rattle.cb_product.specs.Marks.{mark_of};
 
 /// Marks a row.
-pub(crate) fn mark(words: &mut [u64], row: usize)
+fn mark(words: &mut [u64], row: usize)
     requires { row / 64 < length words.old }
     ensures length { length words.new ≡ length words.old }
     ensures here { mark_of words.new row ≡ 1 }
@@ -11,6 +11,35 @@ pub(crate) fn mark(words: &mut [u64], row: usize)
     ensures words { (k : ℕ) → k ≢ row / 64 → slice_index words.new k ≡ slice_index words.old k }
 {
     words[row / 64] |= 1 << (row % 64);
+}
+
+/// Whether a row is marked.
+fn is_marked(words: &[u64], row: usize) -> bool
+    requires { row / 64 < length words.now }
+    ensures { IsTrue result ↔ (mark_of words.now row ≡ 1) }
+{
+    (words[row / 64] >> (row % 64)) % 2 == 1
+}
+
+/// Marks a row, and the word of its mark. A row that is marked is only looked at: many products come to one row.
+#[inline(always)]
+pub(crate) fn mark_row(marks: &mut [u64], groups: &mut [u64], row: usize)
+    requires room { row / 64 < length marks.old }
+    requires groups_room { row / 64 / 64 < length groups.old }
+    requires no_group { (n : ℕ) → mark_of groups.old n ≡ 0 → slice_index marks.old n ≡ 0 }
+    ensures length { length marks.new ≡ length marks.old }
+    ensures here { mark_of marks.new row ≡ 1 }
+    ensures others { (i : ℕ) → i ≢ row → mark_of marks.new i ≡ mark_of marks.old i }
+    ensures words { (k : ℕ) → k ≢ row / 64 → slice_index marks.new k ≡ slice_index marks.old k }
+    ensures groups_length { length groups.new ≡ length groups.old }
+    ensures group { mark_of groups.new (row / 64) ≡ 1 }
+    ensures other_groups { (n : ℕ) → n ≢ row / 64 → mark_of groups.new n ≡ mark_of groups.old n }
+{
+    if is_marked(marks, row) {
+        return;
+    }
+    mark(marks, row);
+    mark(groups, row / 64);
 }
 
 /// The first marked row from a row on.

@@ -13,7 +13,7 @@ ghost use Rattle.cb_product.specs.Terms.{IsTerm, terms_value};
 ghost use Rattle.cb_product.specs.Marks.{IsAccumulator};
 
 use crate::columns::Column;
-use crate::marks::{mark, next_marked, unmark_all};
+use crate::marks::{mark_row, next_marked, unmark_all};
 use crate::terms::Term;
 use cb_semirings::Semiring;
 use std::alloc::{AllocError, Global};
@@ -159,8 +159,7 @@ fn add_entries<S: Semiring>(
     for n in 0..rows.len() {
         let row = rows[n] as usize;
         sums[row] = S::add(sums[row], S::mul(values[n], scale));
-        mark(marks, row);
-        mark(groups, row / 64);
+        mark_row(marks, groups, row);
     }
 }
 

@@ -17,22 +17,25 @@ add-requires-clause-left_is_value g c =
     let long = inv.long in
     All-get_or (IsValue g.S.Semiring.arithmetic) c.loop-n.sums _ 0 (omega arith) inv.accumulator.values
 
-pub mark-requires : goal.mark-requires
-mark-requires g c =
+pub mark_row-requires-clause-room : goal.mark_row-requires-clause-room
+mark_row-requires-clause-room g c =
     let inv = c.loop-n.invariant in
     let lr = All-get_or (λ i. i < length c.args.sums.now) c.args.rows.now c.loop-n.n 0 c.loop-n-test.true c.requires.inside in
     let long = inv.long in
     let room = inv.accumulator.marked.room in
     omega arith
 
-pub mark-requires-in-loop-n : goal.mark-requires-in-loop-n
-mark-requires-in-loop-n g c =
+pub mark_row-requires-clause-groups_room : goal.mark_row-requires-clause-groups_room
+mark_row-requires-clause-groups_room g c =
     let inv = c.loop-n.invariant in
     let lr = All-get_or (λ i. i < length c.args.sums.now) c.args.rows.now c.loop-n.n 0 c.loop-n-test.true c.requires.inside in
     let long = inv.long in
     let room = inv.accumulator.marked.room in
     let groups_room = inv.accumulator.marked.groups_room in
     omega arith
+
+pub mark_row-requires-clause-no_group : goal.mark_row-requires-clause-no_group
+mark_row-requires-clause-no_group g c = c.loop-n.invariant.accumulator.marked.no_group
 
 pub loop-n-preserved : goal.loop-n-preserved
 loop-n-preserved g c =
@@ -53,7 +56,7 @@ loop-n-preserved g c =
       long = length-set c.loop-n.sums _ _ ∙ inv.long;
       accumulator = record {
         values = All-set (IsValue s) c.loop-n.sums _ _ (laws.add_value _ _ (All-get_or (IsValue s) c.loop-n.sums _ 0 lr inv.accumulator.values) product) inv.accumulator.values;
-        marked = marked_more s.zero c.loop-n.sums c.loop-n.marks c.loop-n.groups _ _ (get_or rows n 0) _ inv.accumulator.marked lr c.mark.ensures.length c.mark.ensures.here c.mark.ensures.others c.mark.ensures.words c.mark-in-loop-n.ensures.length c.mark-in-loop-n.ensures.here c.mark-in-loop-n.ensures.others;
+        marked = marked_more s.zero c.loop-n.sums c.loop-n.marks c.loop-n.groups _ _ (get_or rows n 0) _ inv.accumulator.marked lr c.mark_row.ensures.length c.mark_row.ensures.here c.mark_row.ensures.others c.mark_row.ensures.words c.mark_row.ensures.groups_length c.mark_row.ensures.group c.mark_row.ensures.other_groups;
       };
       sums = λ i li. entry_added s laws rows values k r.lengths r.values r.scale r.order n c.loop-n.sums _ l inv.accumulator.values lr inv.sums i (subst (λ m. i < m) (length-set c.loop-n.sums _ _) li);
     })
