@@ -13,13 +13,13 @@ use Rattle.cb_scripts.proofs.walks.nearest.Goals.{else-loop-round-test, then-loo
 
 pub column_of-requires-clause-finite : goal.column_of-requires-clause-finite
 column_of-requires-clause-finite g c =
-    subst (λ (e : Extent). AreNumbers e.rows c.in_ok-known.known) (sym c.column_shape-shape.ensures) (c.in_ok-known.ensures.finite c.args.graph.now.shape.rows c.requires.source)
+    subst (λ (e : Extent). AreNumbers e.rows c.in_ok-known.known) (sym c.column_shape-shape.ensures) (c.in_ok-known.ensures.finite c.args.graph.matrix.shape.rows c.requires.source)
 
 pub loop-round-init : goal.loop-round-init
 loop-round-init g c = record {
-  nearing = started c.args.graph.now c.args.source (number_at c.in_ok-known.known) (λ u. at min_plus c.in_ok-fell.fell u 0) c.in_ok-known.ensures.here c.in_ok-known.ensures.there c.in_ok-fell.ensures.values;
+  nearing = started c.args.graph.matrix c.args.source (number_at c.in_ok-known.known) (λ u. at min_plus c.in_ok-fell.fell u 0) c.in_ok-known.ensures.here c.in_ok-known.ensures.there c.in_ok-fell.ensures.values;
   shape = c.in_ok-fell.ensures.shape ∙ c.column_shape-shape.ensures;
-  finite = c.in_ok-known.ensures.finite c.args.graph.now.shape.rows c.requires.source;
+  finite = c.in_ok-known.ensures.finite c.args.graph.matrix.shape.rows c.requires.source;
   turned = c.in_ok-turned.ensures.ok;
 }
 
@@ -28,7 +28,7 @@ multiply_vector-requires-clause-side g c κs lives = ap (λ (m : Distributed). m
 
 pub multiply_vector-requires-clause-plan : goal.multiply_vector-requires-clause-plan
 multiply_vector-requires-clause-plan g c κs lives =
-    subst (λ (d : Extent). MultipliesVectors c.args.grid.now.side d c.in_ok-plan.plan)
+    subst (λ (d : Extent). MultipliesVectors c.grid-grid.result.side d c.in_ok-plan.plan)
     (c.shape.ensures.shape ∙ ap (λ (m : Distributed). m.matrix.shape) (c.in_ok-turned.ensures.ok ∙ sym c.loop-round.invariant.turned)) c.in_ok-plan.ensures
 
 pub multiply_vector-requires-clause-vector : goal.multiply_vector-requires-clause-vector
@@ -37,16 +37,16 @@ multiply_vector-requires-clause-vector g c κs lives = c.loop-round.invariant.sh
 pub take_lower-requires-clause-column : goal.take_lower-requires-clause-column
 take_lower-requires-clause-column g c =
     let turned = ap (λ (m : Distributed). m.matrix) c.loop-round.invariant.turned in
-    ap (λ (e : Extent). e.cols) (round_shape c.args.graph.now c.loop-round.fell c.in_ok-matrix.reached c.loop-round.turned.matrix c.requires.square c.loop-round.invariant.shape turned c.in_ok-matrix.ensures.product)
+    ap (λ (e : Extent). e.cols) (round_shape c.args.graph.matrix c.loop-round.fell c.in_ok-matrix.reached c.loop-round.turned.matrix c.requires.square c.loop-round.invariant.shape turned c.in_ok-matrix.ensures.product)
 
 pub take_lower-requires-clause-finite : goal.take_lower-requires-clause-finite
 take_lower-requires-clause-finite g c =
     let turned = ap (λ (m : Distributed). m.matrix) c.loop-round.invariant.turned in
-    subst (λ (e : Extent). AreNumbers e.rows c.loop-round.known) (sym (round_shape c.args.graph.now c.loop-round.fell c.in_ok-matrix.reached c.loop-round.turned.matrix c.requires.square c.loop-round.invariant.shape turned c.in_ok-matrix.ensures.product)) c.loop-round.invariant.finite
+    subst (λ (e : Extent). AreNumbers e.rows c.loop-round.known) (sym (round_shape c.args.graph.matrix c.loop-round.fell c.in_ok-matrix.reached c.loop-round.turned.matrix c.requires.square c.loop-round.invariant.shape turned c.in_ok-matrix.ensures.product)) c.loop-round.invariant.finite
 
 pub loop-round-preserved : goal.loop-round-preserved
 loop-round-preserved g c =
-    let a = c.args.graph.now in
+    let a = c.args.graph.matrix in
     let fell = c.loop-round.fell in
     let reached = c.in_ok-matrix.reached in
     let matrix = c.loop-round.turned.matrix in
@@ -63,7 +63,7 @@ loop-round-preserved g c =
 
 pub returns-clause-ok : goal.returns-clause-ok
 returns-clause-ok g c =
-    let a = c.args.graph.now in
+    let a = c.args.graph.matrix in
     let s = c.args.source in
     let d = number_at c.loop-round.known in
     let fell = c.loop-round.fell in
