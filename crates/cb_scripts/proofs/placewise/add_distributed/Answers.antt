@@ -9,7 +9,7 @@ use Rattle.cb_scripts.proofs.placewise.add_distributed.Goals as goal
 pub compute-requires-clause-sides : goal.compute-requires-clause-sides
 compute-requires-clause-sides g c κs lives =
     let over : c.args.left.side ≡ c.grid-grid.result.side = sym (ap (λ (g : Square). g.side) c.grid-grid.ensures) in
-    two_lie c.grid-grid.result.side 0 1 c.args.left c.args.right c.in-Ok-2.operands.items c.in-Ok-2.ensures.items over (c.requires.sides ∙ over)
+    two_lie c.grid-grid.result.side 0 1 c.args.left c.args.right c.in-Ok-vec.operands.items c.in-Ok-vec.ensures.items over (c.requires.sides ∙ over)
 
 pub compute-requires-clause-makes : goal.compute-requires-clause-makes
 compute-requires-clause-makes g c κs lives =
@@ -21,7 +21,7 @@ compute-requires-clause-makes g c κs lives =
     let b = c.args.right.matrix in
     let shape = c.shape-shape.ensures.shape in
     let agree : a.shape ≡ b.shape = found_equal c.shape-shape.result c.shape.result a.shape b.shape shape c.shape.ensures.shape c.if-ne.ensures in
-    let made = made_of s q c.in-Ok.planned c.shape-shape.result (sum_of s a b) c.in-Ok-2.operands.items ((0, c.args.left) ∷ (1, c.args.right) ∷ []) c.in-Ok-2.ensures.items
+    let made = made_of s q c.in-Ok.planned c.shape-shape.result (sum_of s a b) c.in-Ok-vec.operands.items ((0, c.args.left) ∷ (1, c.args.right) ∷ []) c.in-Ok-vec.ensures.items
     (rw shape (sum_made s laws q c.in-Ok.planned c.in-Ok.ensures.ranks c.in-Ok.ensures.runnable c.in-Ok.ensures.slot a c.shape-shape.ensures.matrix b c.shape.ensures.matrix agree (rw shape at c.in-Ok.ensures.starts) (rw shape at c.in-Ok.ensures.sum))) in
     (sum_of s a b, made)
 
@@ -35,6 +35,6 @@ returns-clause-ok g c =
     let b = c.args.right.matrix in
     let shape = c.shape-shape.ensures.shape in
     let agree : a.shape ≡ b.shape = found_equal c.shape-shape.result c.shape.result a.shape b.shape shape c.shape.ensures.shape c.if-ne.ensures in
-    let made = made_of s q c.in-Ok.planned c.shape-shape.result (sum_of s a b) c.in-Ok-2.operands.items ((0, c.args.left) ∷ (1, c.args.right) ∷ []) c.in-Ok-2.ensures.items
+    let made = made_of s q c.in-Ok.planned c.shape-shape.result (sum_of s a b) c.in-Ok-vec.operands.items ((0, c.args.left) ∷ (1, c.args.right) ∷ []) c.in-Ok-vec.ensures.items
     (rw shape (sum_made s laws q c.in-Ok.planned c.in-Ok.ensures.ranks c.in-Ok.ensures.runnable c.in-Ok.ensures.slot a c.shape-shape.ensures.matrix b c.shape.ensures.matrix agree (rw shape at c.in-Ok.ensures.starts) (rw shape at c.in-Ok.ensures.sum))) in
     this_made c.args.left.side over c.compute.result c.compute.ensures.ok (sum_of s a b) made

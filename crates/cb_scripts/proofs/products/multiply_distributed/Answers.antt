@@ -9,7 +9,7 @@ use Rattle.cb_scripts.proofs.products.multiply_distributed.Goals as goal
 pub compute-requires-clause-sides : goal.compute-requires-clause-sides
 compute-requires-clause-sides g c κs lives =
     let over : c.args.left.side ≡ c.grid-grid.result.side = sym (ap (λ (g : Square). g.side) c.grid-grid.ensures) in
-    two_lie c.grid-grid.result.side 0 1 c.args.left c.args.right c.in-Ok-2.operands.items c.in-Ok-2.ensures.items over (c.requires.sides ∙ over)
+    two_lie c.grid-grid.result.side 0 1 c.args.left c.args.right c.in-Ok-vec.operands.items c.in-Ok-vec.ensures.items over (c.requires.sides ∙ over)
 
 pub compute-requires-clause-makes : goal.compute-requires-clause-makes
 compute-requires-clause-makes g c κs lives =
@@ -19,7 +19,7 @@ compute-requires-clause-makes g c κs lives =
     let over : c.args.left.side ≡ q = sym (ap (λ (g : Square). g.side) c.grid-grid.ensures) in
     let a = c.args.left.matrix in
     let b = c.args.right.matrix in
-    let made = made_of s q c.in-Ok.planned c.with_columns_of-shape.result (product s a b) c.in-Ok-2.operands.items ((0, c.args.left) ∷ (1, c.args.right) ∷ []) c.in-Ok-2.ensures.items
+    let made = made_of s q c.in-Ok.planned c.with_columns_of-shape.result (product s a b) c.in-Ok-vec.operands.items ((0, c.args.left) ∷ (1, c.args.right) ∷ []) c.in-Ok-vec.ensures.items
     (product_found s laws q c.in-Ok.planned c.in-Ok.ensures.ranks c.in-Ok.ensures.runnable c.in-Ok.ensures.slot a b c.shape-a.ensures.matrix c.shape-b.ensures.matrix
     c.shape-a.result c.shape-b.result c.with_columns_of-shape.result c.shape-a.ensures.shape c.shape-b.ensures.shape c.with_columns_of-shape.ensures c.in-Ok.ensures.starts c.in-Ok.ensures.product) in
     (product s a b, made)
@@ -32,7 +32,7 @@ returns-clause-ok g c =
     let over : c.args.left.side ≡ q = sym (ap (λ (g : Square). g.side) c.grid-grid.ensures) in
     let a = c.args.left.matrix in
     let b = c.args.right.matrix in
-    let made = made_of s q c.in-Ok.planned c.with_columns_of-shape.result (product s a b) c.in-Ok-2.operands.items ((0, c.args.left) ∷ (1, c.args.right) ∷ []) c.in-Ok-2.ensures.items
+    let made = made_of s q c.in-Ok.planned c.with_columns_of-shape.result (product s a b) c.in-Ok-vec.operands.items ((0, c.args.left) ∷ (1, c.args.right) ∷ []) c.in-Ok-vec.ensures.items
     (product_found s laws q c.in-Ok.planned c.in-Ok.ensures.ranks c.in-Ok.ensures.runnable c.in-Ok.ensures.slot a b c.shape-a.ensures.matrix c.shape-b.ensures.matrix
     c.shape-a.result c.shape-b.result c.with_columns_of-shape.result c.shape-a.ensures.shape c.shape-b.ensures.shape c.with_columns_of-shape.ensures c.in-Ok.ensures.starts c.in-Ok.ensures.product) in
     this_made c.args.left.side over c.compute.result c.compute.ensures.ok (product s a b) made

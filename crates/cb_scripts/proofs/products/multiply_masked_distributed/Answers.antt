@@ -10,7 +10,7 @@ use Rattle.cb_scripts.proofs.products.multiply_masked_distributed.Goals as goal
 pub compute-requires-clause-sides : goal.compute-requires-clause-sides
 compute-requires-clause-sides g c κs lives =
     let over : c.args.left.side ≡ c.grid-grid.result.side = sym (ap (λ (g : Square). g.side) c.grid-grid.ensures) in
-    three_lie c.grid-grid.result.side 0 1 7 c.args.left c.args.right c.args.mask c.in-Ok-2.operands.items c.in-Ok-2.ensures.items over (c.requires.sides.0 ∙ over) (c.requires.sides.1 ∙ over)
+    three_lie c.grid-grid.result.side 0 1 7 c.args.left c.args.right c.args.mask c.in-Ok-vec.operands.items c.in-Ok-vec.ensures.items over (c.requires.sides.0 ∙ over) (c.requires.sides.1 ∙ over)
 
 pub compute-requires-clause-makes : goal.compute-requires-clause-makes
 compute-requires-clause-makes g c κs lives =
@@ -21,7 +21,7 @@ compute-requires-clause-makes g c κs lives =
     let a = c.args.left.matrix in
     let b = c.args.right.matrix in
     let m = c.args.mask.matrix in
-    let made = made_of s q c.in-Ok.planned c.with_columns_of-shape.result (masked s (product s a b) m) c.in-Ok-2.operands.items ((0, c.args.left) ∷ (1, c.args.right) ∷ (7, c.args.mask) ∷ []) c.in-Ok-2.ensures.items
+    let made = made_of s q c.in-Ok.planned c.with_columns_of-shape.result (masked s (product s a b) m) c.in-Ok-vec.operands.items ((0, c.args.left) ∷ (1, c.args.right) ∷ (7, c.args.mask) ∷ []) c.in-Ok-vec.ensures.items
     (masked_found s laws q c.in-Ok.planned c.in-Ok.ensures.ranks c.in-Ok.ensures.runnable c.in-Ok.ensures.slot a b c.shape-a.ensures.matrix c.shape-b.ensures.matrix m
     c.shape-a.result c.shape-b.result c.shape.result c.with_columns_of-shape.result c.shape.ensures.matrix c.shape-a.ensures.shape c.shape-b.ensures.shape c.shape.ensures.shape c.with_columns_of-shape.ensures c.if-ne.ensures c.in-Ok.ensures.starts c.in-Ok.ensures.product) in
     (masked s (product s a b) m, made)
@@ -35,7 +35,7 @@ returns-clause-ok g c =
     let a = c.args.left.matrix in
     let b = c.args.right.matrix in
     let m = c.args.mask.matrix in
-    let made = made_of s q c.in-Ok.planned c.with_columns_of-shape.result (masked s (product s a b) m) c.in-Ok-2.operands.items ((0, c.args.left) ∷ (1, c.args.right) ∷ (7, c.args.mask) ∷ []) c.in-Ok-2.ensures.items
+    let made = made_of s q c.in-Ok.planned c.with_columns_of-shape.result (masked s (product s a b) m) c.in-Ok-vec.operands.items ((0, c.args.left) ∷ (1, c.args.right) ∷ (7, c.args.mask) ∷ []) c.in-Ok-vec.ensures.items
     (masked_found s laws q c.in-Ok.planned c.in-Ok.ensures.ranks c.in-Ok.ensures.runnable c.in-Ok.ensures.slot a b c.shape-a.ensures.matrix c.shape-b.ensures.matrix m
     c.shape-a.result c.shape-b.result c.shape.result c.with_columns_of-shape.result c.shape.ensures.matrix c.shape-a.ensures.shape c.shape-b.ensures.shape c.shape.ensures.shape c.with_columns_of-shape.ensures c.if-ne.ensures c.in-Ok.ensures.starts c.in-Ok.ensures.product) in
     this_made c.args.left.side over c.compute.result c.compute.ensures.ok (masked s (product s a b) m) made

@@ -9,7 +9,7 @@ use Rattle.cb_scripts.proofs.transposes.transpose_distributed.Goals as goal
 pub compute-requires-clause-sides : goal.compute-requires-clause-sides
 compute-requires-clause-sides g c κs lives =
     let over : c.args.matrix.side ≡ c.grid-grid.result.side = sym (ap (λ (g : Square). g.side) c.grid-grid.ensures) in
-    one_lies c.grid-grid.result.side 0 c.args.matrix c.in-Ok-2.operands.items c.in-Ok-2.ensures.items over
+    one_lies c.grid-grid.result.side 0 c.args.matrix c.in-Ok-vec.operands.items c.in-Ok-vec.ensures.items over
 
 pub compute-requires-clause-makes : goal.compute-requires-clause-makes
 compute-requires-clause-makes g c κs lives =
@@ -20,7 +20,7 @@ compute-requires-clause-makes g c κs lives =
     let a = c.args.matrix.matrix in
     let shape = c.shape-shape.ensures.shape in
     let shaped : (transposed s a).shape ≡ c.turned.result = sym (c.turned.ensures ∙ (λ t. record { rows = (shape t).cols; cols = (shape t).rows })) in
-    let made = made_of s q c.in-Ok.planned c.turned.result (transposed s a) c.in-Ok-2.operands.items ((0, c.args.matrix) ∷ []) c.in-Ok-2.ensures.items
+    let made = made_of s q c.in-Ok.planned c.turned.result (transposed s a) c.in-Ok-vec.operands.items ((0, c.args.matrix) ∷ []) c.in-Ok-vec.ensures.items
     (transpose_made s laws q c.in-Ok.planned c.in-Ok.ensures.ranks c.in-Ok.ensures.runnable c.in-Ok.ensures.slot a c.shape-shape.ensures.matrix (rw shape at c.in-Ok.ensures.starts) (rw shape at c.in-Ok.ensures.transpose) c.turned.result shaped) in
     (transposed s a, made)
 
@@ -33,6 +33,6 @@ returns-clause-ok g c =
     let a = c.args.matrix.matrix in
     let shape = c.shape-shape.ensures.shape in
     let shaped : (transposed s a).shape ≡ c.turned.result = sym (c.turned.ensures ∙ (λ t. record { rows = (shape t).cols; cols = (shape t).rows })) in
-    let made = made_of s q c.in-Ok.planned c.turned.result (transposed s a) c.in-Ok-2.operands.items ((0, c.args.matrix) ∷ []) c.in-Ok-2.ensures.items
+    let made = made_of s q c.in-Ok.planned c.turned.result (transposed s a) c.in-Ok-vec.operands.items ((0, c.args.matrix) ∷ []) c.in-Ok-vec.ensures.items
     (transpose_made s laws q c.in-Ok.planned c.in-Ok.ensures.ranks c.in-Ok.ensures.runnable c.in-Ok.ensures.slot a c.shape-shape.ensures.matrix (rw shape at c.in-Ok.ensures.starts) (rw shape at c.in-Ok.ensures.transpose) c.turned.result shaped) in
     this_made c.args.matrix.side over c.compute.result c.compute.ensures.ok (transposed s a) made
