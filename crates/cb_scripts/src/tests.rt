@@ -14,13 +14,14 @@ use std::test::Fail;
 use std::thread::Threads;
 
 /// Each engine, with the sides of its grids: a run of ranks in threads starts as many as the side squared.
-pub const RUNS: [(Engine, u32); 14] = [
+pub const RUNS: [(Engine, u32); 15] = [
     (Engine::Plain, 1),
     (Engine::Plain, 2),
     (Engine::Plain, 3),
     (Engine::Plain, 4),
     (Engine::Plain, 5),
     (Engine::Plain, 6),
+    (Engine::Ranks(0), 2),
     (Engine::Ranks(1), 1),
     (Engine::Ranks(1), 2),
     (Engine::Ranks(1), 3),
@@ -213,6 +214,16 @@ fn refuses_shapes(rt: HostRuntime) -> Result<(), Fail> {
     Ok(())
 }
 
+/// Whether want of memory has this refusal with this engine.
+pub fn is_refusal(engine: Engine, fault: ScriptFault) -> bool {
+    match fault {
+        ScriptFault::Memory => true,
+        ScriptFault::NotStarted(_) => engine != Engine::Plain,
+        ScriptFault::Lost(_) => engine != Engine::Plain,
+        _ => false,
+    }
+}
+
 /// Whether an answer has just these entries, or is a refusal that want of memory has with this engine.
 pub fn is_right_or_refused<S: Semiring>(
     engine: Engine,
@@ -221,10 +232,7 @@ pub fn is_right_or_refused<S: Semiring>(
 ) -> bool {
     match answer {
         Ok(matrix) => matrix.entries() == wanted,
-        Err(ScriptFault::Memory) => true,
-        Err(ScriptFault::NotStarted(_)) => engine != Engine::Plain,
-        Err(ScriptFault::Lost(_)) => engine != Engine::Plain,
-        Err(_) => false,
+        Err(fault) => is_refusal(engine, fault),
     }
 }
 
