@@ -210,8 +210,8 @@ fn distances_of<R: Threads + Wait + Sync>(
 ///
 /// The faults come in their order: the first text that is no matrix, then shapes that don't agree, a graph whose
 /// matrix isn't square or a source that is none of its vertices, then want of memory, then `Output`. Costs the
-/// reading, what is computed and the writing. The memory of each text is given up once it is read: beside the texts
-/// that are still to be read it holds the operands, in their blocks, and the answer.
+/// reading, what is computed and the writing. Each text is given up once it is read, so that its memory is free for
+/// what is computed.
 pub fn execute<R: Threads + Wait + Sync, K: Sink>(
     rt: &R,
     alloc: Global,
