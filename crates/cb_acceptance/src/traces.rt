@@ -14,17 +14,25 @@ const KINDS: [(u32, [usize; 4]); 3] = [
 
 /// How many events of each kind a trace has.
 fn kinds_of(trace: &Trace) -> [usize; 4] {
-    let mut kinds = [0usize; 4];
-    for event in trace.events() {
-        let kind = match event {
-            TraceEvent::Posted(_) => 0,
-            TraceEvent::Took(_) => 1,
-            TraceEvent::Closed(_) => 2,
-            TraceEvent::Ended(_) => 3,
-        };
-        kinds[kind] = kinds[kind].saturating_add(1);
-    }
-    kinds
+    let events = trace.events();
+    [
+        events
+            .iter()
+            .filter(|event| matches!(event, TraceEvent::Posted(_)))
+            .count(),
+        events
+            .iter()
+            .filter(|event| matches!(event, TraceEvent::Took(_)))
+            .count(),
+        events
+            .iter()
+            .filter(|event| matches!(event, TraceEvent::Closed(_)))
+            .count(),
+        events
+            .iter()
+            .filter(|event| matches!(event, TraceEvent::Ended(_)))
+            .count(),
+    ]
 }
 
 /// Whether a new trace takes the same events, one after the other.

@@ -332,18 +332,10 @@ impl<'a, S: Semiring, R: Wait + Sync> Gate<S> for Scribe<'a, R> {
     }
 }
 
-/// Whether these places are those of a trace of so many events, each once.
-fn are_places(alloc: Global, all: &[&[usize]], len: usize) -> Option<bool> {
-    let mut came = vec![in alloc; false; len].ok()?;
-    for places in all {
-        for place in *places {
-            if *place >= len || came[*place] {
-                return Some(false);
-            }
-            came[*place] = true;
-        }
-    }
-    Some(came.iter().all(|came| *came))
+/// Whether two lists of places have those of a trace of so many events, each once.
+fn are_places(first: &[usize], second: &[usize], len: usize) -> bool {
+    first.len().saturating_add(second.len()) == len
+        && (0..len).all(|place| first.contains(&place) || second.contains(&place))
 }
 
 #[test]
@@ -361,10 +353,7 @@ fn each_rank_records_its_halves_as_it_does_them(rt: HostRuntime) -> Result<(), F
         assert_eq!(rt; (trace.ranks(), trace.len()), (2, 8));
         let [first, second] = gate.stories.map(|story| story.into_inner());
         assert!(rt; first.is_of(0, &trace) && second.is_of(1, &trace));
-        assert_eq!(rt;
-            are_places(alloc, &[&first.places, &second.places], trace.len()),
-            Some(true)
-        );
+        assert!(rt; are_places(&first.places, &second.places, trace.len()));
         assert_eq!(rt; value_at_0(&finished.stores(), 2), Some(6));
     }
     Ok(())
