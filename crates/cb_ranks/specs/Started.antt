@@ -1,6 +1,10 @@
--- Which rank and desk a thread was started with.
+-- Which rank, desk and recorder a thread was started with.
 use Rattle.cb_ranks.specs.Crews.{Member}
 use Rattle.cb_ranks.specs.declared.promises.Running.{Running}
 
-abbrev pub started : {S : Type 0} → Running S → Member
-started running = (running.thread.promise.rank.value, running.thread.promise.desk.value)
+module _ {S T : Type 0} where
+  abbrev pub started : Running S T → Member
+  started running = (running.thread.promise.rank.value, running.thread.promise.desk.value)
+
+  abbrev pub started_recorder : Running S T → T
+  started_recorder running = running.thread.promise.recorder.value

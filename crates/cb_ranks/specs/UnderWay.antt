@@ -1,5 +1,6 @@
 -- A rank in the midst of its program, over its desk.
-use Rattle.std.specs.Prelude.{◌≡◌, ℕ, length, Some}
+use Rattle.std.specs.Prelude.{◌≡◌, ℕ, [], ◌∷◌, length, Some, IfSome}
+use Rattle.std.specs.List.{FoldsTo}
 use Rattle.cb_semirings.specs.Arithmetic.{Arithmetic}
 use Rattle.cb_matrix.specs.Sparse.{Sparse}
 use Rattle.cb_letters.specs.Posted.{ends_closed}
@@ -7,11 +8,17 @@ use Rattle.cb_plan.specs.declared.acts.Half.{Half}
 use Rattle.cb_plan.specs.Checks.{lanes_after, none_shut}
 use Rattle.cb_plan.specs.Letters.{before}
 use Rattle.cb_lanes.specs.declared.desk.Desk.{Desk}
-use Rattle.cb_lanes.specs.Desks.{identity, taken_from}
+use Rattle.cb_lanes.specs.Desks.{identity, posted_to, taken_from}
 use Rattle.cb_lanes.specs.Numbers.{AreNumbered}
+use Rattle.cb_rank.specs.declared.wants.Arrival.{Arrival}
+use Rattle.cb_rank.specs.declared.wants.Arrival.TheVariants as arrival_is
+use Rattle.cb_trace.specs.declared.events.Envelope.{Envelope}
+use Rattle.cb_trace.specs.declared.events.TraceEvent.{TraceEvent}
+use Rattle.cb_trace.specs.declared.events.TraceEvent.TheVariants.{Took, Ended}
 use Rattle.cb_rank.specs.Halves.{DoesHalf}
 use Rattle.cb_rank.specs.Ranks.{RankView, next_half, onward}
 use Rattle.cb_ranks.specs.Runs.{course_of}
+use Rattle.cb_ranks.specs.Traced.{events_after, lengths}
 
 -- the desk is the rank's own among the ranks of its plan, and has taken the close marks of just those lanes that the acts before the rank's next half shut
 pub record IsUnderWay (x : RankView) (d : Desk Sparse) : Type 0 where
@@ -28,3 +35,12 @@ pub record DoesNext (s : Arithmetic) (x : RankView) (d : Desk Sparse) (y : RankV
   pub one_more : y ≡ onward x y.slots y.refusals
   pub rings : identity e ≡ identity d
   pub under_way : IsUnderWay y e
+
+-- a recorder was told of the rank's next half over its desk, and of nothing else
+abbrev pub TellsNext : {T : Type 0} → (T → TraceEvent → T → Type 0) → RankView → Desk Sparse → T → T → Type 0
+TellsNext tells x d old new = IfSome (next_half x) (λ half. FoldsTo tells old (events_after x.me (lengths (posted_to d)) (lengths (taken_from d)) (half ∷ [])) new)
+
+-- the event of what was taken, by the envelope that a close mark would have there: a letter's has the letter's tag
+abbrev pub arrival_event : {P : Type 0} → Envelope → Arrival P → TraceEvent
+arrival_event mark (arrival_is.Letter letter) = Took (record mark { tag = letter.tag })
+arrival_event mark (arrival_is.End from) = Ended mark

@@ -17,6 +17,9 @@ pub enum RunFault {
     /// This rank's program came to a lane whose other rank was gone. It is the least one.
     #[error("rank {0} was left alone")]
     Gone(u16),
+    /// The trace isn't what the ranks recorded: it refused an event, or doesn't match their own lists.
+    #[error("trace torn")]
+    TraceTorn,
 }
 
 impl From<AllocError> for RunFault {

@@ -14,6 +14,8 @@
 //!   dropped, and whoever waits for one of them finds it gone;
 //! - it joins every thread, and looks at both ends of each lane.
 //!
+//! [`run_traced`] does the same, and keeps a trace of what the ranks posted and took.
+//!
 //! What the threads leave follows from what each did by itself and from what the lanes keep: what was taken is a
 //! beginning of what was posted. How the threads were interleaved doesn't matter. That a run ends is not claimed.
 #![tactic(auto)]
@@ -22,14 +24,20 @@ mod crew;
 mod faults;
 mod finished;
 mod gates;
+mod logs;
 mod promises;
+mod recorders;
+mod rooms;
 mod runs;
 #[cfg(test)]
 mod tests;
 mod threads;
+mod traced;
 
+pub use crew::{Member, assemble};
 pub use faults::RunFault;
 pub use finished::Finished;
 pub use gates::{Gate, OpenGate};
 pub use runs::run_rank;
 pub use threads::run_threads;
+pub use traced::run_traced;

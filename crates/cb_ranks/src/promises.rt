@@ -1,7 +1,10 @@
 //! What a rank's thread promises to leave.
 ghost use Rattle.std.specs.Prelude.{◌≡◌, IfOk};
+ghost use Rattle.std.specs.List.{FoldsTo};
 ghost use Rattle.cb_ranks.specs.Runs.{Runs};
+ghost use Rattle.cb_ranks.specs.Traced.{program_events};
 
+use crate::recorders::Recorder;
 use cb_dcsc::Block;
 use cb_lanes::{Desk, Gone};
 use cb_rank::Rank;
@@ -9,21 +12,23 @@ use cb_semirings::Semiring;
 use std::snapshot::Snapshot;
 use std::thread::{Promise, PromisedHandle};
 
-/// What the thread of this rank and this desk promises: at its end the rank has run its program.
+/// What the thread of this rank, this desk and this recorder promises: at its end the rank has run its program, and
+/// the recorder was told of it.
 #[derive(Drop)]
-pub(crate) struct RunOf<S: Semiring> {
+pub(crate) struct RunOf<S: Semiring, T: Recorder> {
     pub(crate) rank: Snapshot<Rank<S>>,
     pub(crate) desk: Snapshot<Desk<Block<S>>>,
+    pub(crate) recorder: Snapshot<T>,
 }
 
-impl<S: Semiring> Promise<Result<(Rank<S>, Desk<Block<S>>), Gone>> for RunOf<S> {
-    ghost kept_by = { λ p r. IfOk r (λ done. Runs S.arithmetic p.rank.value p.desk.value done.0 done.1) };
+impl<S: Semiring, T: Recorder> Promise<Result<(Rank<S>, Desk<Block<S>>, T), Gone>> for RunOf<S, T> {
+    ghost kept_by = { λ p r. IfOk r (λ done. Runs S.arithmetic p.rank.value p.desk.value done.0 done.1 × FoldsTo T.tells p.recorder.value (program_events p.rank.value.me p.rank.value.program) done.2) };
 }
 
 /// The thread of a rank, which is still to be joined.
 #[derive(Drop)]
-pub(crate) struct Running<S: Semiring> {
+pub(crate) struct Running<S: Semiring, T: Recorder> {
     pub(crate) rank: u16,
-    pub(crate) thread: PromisedHandle<Result<(Rank<S>, Desk<Block<S>>), Gone>, RunOf<S>>,
+    pub(crate) thread: PromisedHandle<Result<(Rank<S>, Desk<Block<S>>, T), Gone>, RunOf<S, T>>,
     ghost own: { rank ≡ thread.promise.desk.value.me },
 }

@@ -1,15 +1,20 @@
 //! One rank on its caller's thread.
-ghost use Rattle.std.specs.Prelude.{◌≡◌, ◌≢◌, ◌⊎◌, None, IfOk, IfErr, OnOk};
+ghost use Rattle.std.specs.Prelude.{◌≡◌, ◌≢◌, ◌⊎◌, None, false, length, IfOk, IfErr, OnOk};
+ghost use Rattle.std.specs.List.{FoldsTo};
+ghost use Rattle.cb_lanes.specs.Desks.{is_stranger, posted_to, taken_from};
 ghost use Rattle.cb_rank.specs.Ranks.{IsRank, next_half, want_of};
 ghost use Rattle.cb_ranks.specs.Runs.{IsNewRun, IsOther, Runs};
-ghost use Rattle.cb_ranks.specs.UnderWay.{IsUnderWay, DoesNext};
+ghost use Rattle.cb_ranks.specs.Traced.{program_events};
+ghost use Rattle.cb_ranks.specs.UnderWay.{IsUnderWay, DoesNext, TellsNext, arrival_event};
 
 use crate::gates::Gate;
+use crate::recorders::{Recorder, Silent};
 use cb_dcsc::Block;
 use cb_lanes::{Desk, Gone};
-use cb_letters::Taken;
+use cb_letters::{Tag, Taken};
 use cb_rank::{Arrival, Rank, Supply, Want};
 use cb_semirings::Semiring;
+use cb_trace::{Envelope, TraceEvent};
 use std::sync::Wait;
 
 /// Does all halves of one rank, in order, on its caller's thread, and hands the rank and its desk back. It waits
@@ -27,53 +32,76 @@ pub fn run_rank<S: Semiring, R: Wait, G: Gate<S>>(
     ensures runs { IfOk result (λ r. Runs S.arithmetic rank desk r.0 r.1) }
     ensures gone { IfErr result (λ e. IsOther rank e.0) }
 {
-    let mut rank = rank;
-    let mut desk = desk;
-    while rank.want() != Want::Done {
-        gate.pass(desk.rank(), &rank);
-        do_half(rt, &mut rank, &mut desk)?;
-    }
+    let (rank, desk, Silent) = run(rt, rank, desk, gate, Silent)?;
     Ok((rank, desk))
 }
 
-/// Does the next half, as soon as it can be done.
-fn do_half<S: Semiring, R: Wait>(
+/// The same, with a recorder that is told of each event, and comes back.
+pub(crate) fn run<S: Semiring, R: Wait, G: Gate<S>, T: Recorder>(
+    rt: &R,
+    rank: Rank<S>,
+    desk: Desk<Block<S>>,
+    gate: &G,
+    recorder: T,
+) -> Result<(Rank<S>, Desk<Block<S>>, T), Gone>
+    requires { IsNewRun rank desk }
+    ensures runs { IfOk result (λ r. Runs S.arithmetic rank desk r.0 r.1) }
+    ensures told { IfOk result (λ r. FoldsTo T.tells recorder (program_events rank.me rank.program) r.2) }
+    ensures gone { IfErr result (λ e. IsOther rank e.0) }
+{
+    let mut rank = rank;
+    let mut desk = desk;
+    let mut recorder = recorder;
+    while rank.want() != Want::Done {
+        gate.pass(desk.rank(), &rank);
+        do_half(rt, &mut rank, &mut desk, &mut recorder)?;
+    }
+    Ok((rank, desk, recorder))
+}
+
+/// Does the next half, as soon as it can be done, and tells the recorder of it.
+fn do_half<S: Semiring, R: Wait, T: Recorder>(
     rt: &R,
     rank: &mut Rank<S>,
     desk: &mut Desk<Block<S>>,
+    recorder: &mut T,
 ) -> Result<(), Gone>
     requires more { next_half rank.old ≢ None }
     requires under_way { IsUnderWay rank.old desk.old }
     ensures next { OnOk result (DoesNext S.arithmetic rank.old desk.old rank.new desk.new) }
+    ensures told { OnOk result (TellsNext T.tells rank.old desk.old recorder.old recorder.new) }
     ensures gone { IfErr result (λ e. IsOther rank.old e.0) }
 {
     match rank.want() {
-        Want::Post(to) => post(rt, rank, desk, to),
-        Want::Take(from) => take(rt, rank, desk, from),
+        Want::Post(to) => post(rt, rank, desk, recorder, to),
+        Want::Take(from) => take(rt, rank, desk, recorder, from),
         Want::Work => {
             rank.work(Supply::Granted);
             Ok(())
         }
-        Want::Shut(to) => close(rt, rank, desk, to),
-        Want::End(from) => take(rt, rank, desk, from),
+        Want::Shut(to) => close(rt, rank, desk, recorder, to),
+        Want::End(from) => take(rt, rank, desk, recorder, from),
         Want::Done => unreachable!(),
     }
 }
 
 /// A Post. The lane is there and open, so the post is refused only where the other desk is gone.
-fn post<S: Semiring, R: Wait>(
+fn post<S: Semiring, R: Wait, T: Recorder>(
     rt: &R,
     rank: &mut Rank<S>,
     desk: &mut Desk<Block<S>>,
+    recorder: &mut T,
     to: u16,
 ) -> Result<(), Gone>
     requires rank { IsRank rank.old }
     requires want { want_of (next_half rank.old) ≡ Want.Post to }
     requires under_way { IsUnderWay rank.old desk.old }
     ensures next { OnOk result (DoesNext S.arithmetic rank.old desk.old rank.new desk.new) }
+    ensures told { OnOk result (TellsNext T.tells rank.old desk.old recorder.old recorder.new) }
     ensures gone { IfErr result (λ e. IsOther rank.old e.0) }
 {
     let (tag, body) = rank.outgoing(Supply::Granted);
+    recorder.tell(rt, TraceEvent::Posted(next_post(desk, to, tag)));
     let Ok(_number) = desk.post(rt, to, tag, body) else {
         return Err(Gone(to));
     };
@@ -81,46 +109,93 @@ fn post<S: Semiring, R: Wait>(
 }
 
 /// A Shut. It is refused as a Post is.
-fn close<S: Semiring, R: Wait>(
+fn close<S: Semiring, R: Wait, T: Recorder>(
     rt: &R,
     rank: &mut Rank<S>,
     desk: &mut Desk<Block<S>>,
+    recorder: &mut T,
     to: u16,
 ) -> Result<(), Gone>
     requires rank { IsRank rank.old }
     requires want { want_of (next_half rank.old) ≡ Want.Shut to }
     requires under_way { IsUnderWay rank.old desk.old }
     ensures next { OnOk result (DoesNext S.arithmetic rank.old desk.old rank.new desk.new) }
+    ensures told { OnOk result (TellsNext T.tells rank.old desk.old recorder.old recorder.new) }
     ensures gone { IfErr result (λ e. IsOther rank.old e.0) }
 {
     rank.shut();
+    recorder.tell(rt, TraceEvent::Closed(next_post(desk, to, Tag(0))));
     let Ok(_number) = desk.close(rt, to) else {
         return Err(Gone(to));
     };
     Ok(())
 }
 
+/// The envelope of what a desk posts next to another rank.
+fn next_post<P: Drop>(desk: &Desk<P>, to: u16, tag: Tag) -> Envelope
+    requires { is_stranger desk.now to ≡ false }
+    ensures { result ≡ record { from = desk.now.me; to = to; number = length (posted_to desk.now to); tag = tag } }
+{
+    Envelope {
+        from: desk.rank(),
+        to,
+        number: desk.posted(to),
+        tag,
+    }
+}
+
+/// The envelope of what a desk takes next from another rank.
+fn next_take<P: Drop>(desk: &Desk<P>, from: u16, tag: Tag) -> Envelope
+    requires { is_stranger desk.now from ≡ false }
+    ensures { result ≡ record { from = from; to = desk.now.me; number = length (taken_from desk.now from); tag = tag } }
+{
+    Envelope {
+        from,
+        to: desk.rank(),
+        number: desk.taken(from),
+        tag,
+    }
+}
+
+/// What is told of a take that brought this, by the envelope that a close mark would have there.
+fn event_of<P: Drop>(mark: Envelope, arrival: &Arrival<P>) -> TraceEvent
+    ensures { result ≡ arrival_event mark arrival.now }
+{
+    match arrival {
+        Arrival::Letter(letter) => TraceEvent::Took(Envelope {
+            tag: letter.tag,
+            ..mark
+        }),
+        Arrival::End(_) => TraceEvent::Ended(mark),
+    }
+}
+
 /// A Take or an End.
-fn take<S: Semiring, R: Wait>(
+fn take<S: Semiring, R: Wait, T: Recorder>(
     rt: &R,
     rank: &mut Rank<S>,
     desk: &mut Desk<Block<S>>,
+    recorder: &mut T,
     from: u16,
 ) -> Result<(), Gone>
     requires rank { IsRank rank.old }
     requires want { (want_of (next_half rank.old) ≡ Want.Take from) ⊎ (want_of (next_half rank.old) ≡ Want.End from) }
     requires under_way { IsUnderWay rank.old desk.old }
     ensures next { OnOk result (DoesNext S.arithmetic rank.old desk.old rank.new desk.new) }
+    ensures told { OnOk result (TellsNext T.tells rank.old desk.old recorder.old recorder.new) }
     ensures gone { IfErr result (λ e. IsOther rank.old e.0) }
 {
+    let mark = next_take(desk, from, Tag(0));
     let arrival = match desk.take(rt, from)? {
         Taken::Letter(letter) => Arrival::Letter(letter),
         Taken::End => Arrival::End(from),
         Taken::Empty => unreachable!(),
         Taken::Stranger => unreachable!(),
     };
+    let event = event_of(mark, &arrival);
     let Ok(()) = rank.accept(arrival) else {
         return Err(Gone(from));
     };
+    recorder.tell(rt, event);
     Ok(())
 }

@@ -1,12 +1,14 @@
 //! A thread for each rank, in one scope: started in order, and all joined before the scope ends.
-ghost use Rattle.std.specs.Prelude.{◌≡◌, ◌≤◌, [], map, IfOk, IfErr, IfSome, IfNone, vec_len, vec_capacity};
+ghost use Rattle.std.specs.Prelude.{◌≡◌, ◌≤◌, [], length, map, IfOk, IfErr, IfSome, IfNone, vec_len, vec_capacity};
 ghost use Rattle.std.specs.List.{AllZip};
 ghost use Rattle.cb_plan.specs.Stores.{Fits};
 ghost use Rattle.cb_ranks.specs.Crews.{AreNew, IsOneOf, Ran};
 ghost use Rattle.cb_ranks.specs.Faults.{IsFaultIn, IsFaultOf};
 ghost use Rattle.cb_ranks.specs.Finished.{HoldsMeaning};
+ghost use Rattle.cb_ranks.specs.Rooms.{IsRoomFor};
 ghost use Rattle.cb_ranks.specs.Runs.{IsNewRun};
-ghost use Rattle.cb_ranks.specs.Started.{started};
+ghost use Rattle.cb_ranks.specs.Started.{started, started_recorder};
+ghost use Rattle.cb_ranks.specs.Told.{HaveTold, HaveToldPlan};
 ghost use Rattle.cb_ranks.specs.Views.{finished_view};
 
 use crate::crew::{Member, Remains, assemble};
@@ -14,7 +16,9 @@ use crate::faults::RunFault;
 use crate::finished::Finished;
 use crate::gates::Gate;
 use crate::promises::{RunOf, Running};
-use crate::runs::run_rank;
+use crate::recorders::{Recorder, Silent};
+use crate::rooms::Room;
+use crate::runs::run;
 use cb_dcsc::Block;
 use cb_lanes::{Desk, Gone, settle};
 use cb_plan::{CheckedPlan, RankStore};
@@ -44,46 +48,74 @@ pub fn run_threads<S: Semiring + Send + Sync, R: Threads + Wait + Sync, G: Gate<
     ensures meaning { IfOk result (λ finished. HoldsMeaning S.arithmetic plan.now stores.items (finished_view finished)) }
     ensures fault { IfErr result (IsFaultOf plan.now.ranks) }
 {
+    let recorders = vec![in alloc; Silent; plan.ranks() as usize]?;
+    let (finished, _recorders) = run_told(rt, alloc, plan, stores, capacity, gate, recorders)?;
+    Ok(finished)
+}
+
+/// The same, with a recorder for each rank, which is told of its events.
+pub(crate) fn run_told<
+    S: Semiring + Send + Sync,
+    R: Threads + Wait + Sync,
+    G: Gate<S>,
+    T: Recorder,
+>(
+    rt: &R,
+    alloc: Global,
+    plan: &CheckedPlan,
+    stores: Vec<RankStore<S>>,
+    capacity: usize,
+    gate: &G,
+    recorders: Vec<T>,
+) -> Result<(Finished<S>, Vec<T>), RunFault>
+    requires fits { Fits plan.now.ranks plan.now.starts stores.items }
+    requires count { length recorders.items ≡ plan.now.ranks }
+    ensures meaning { IfOk result (λ done. HoldsMeaning S.arithmetic plan.now stores.items (finished_view done.0)) }
+    ensures told { IfOk result (λ done. HaveToldPlan T.tells plan.now recorders.items done.1.items) }
+    ensures fault { IfErr result (IsFaultOf plan.now.ranks) }
+{
     let ranks = plan.ranks() as usize;
     let crew = assemble(alloc, plan, stores, capacity)?;
-    let threads = Vec::with_capacity(alloc, ranks)?;
-    let room = Vec::with_capacity(alloc, ranks)?;
+    let room = Room::with_room(alloc, ranks)?;
     let remains = Remains::with_room(alloc, ranks)?;
-    let done = run_crew(rt, crew, threads, room, gate)?;
+    let (done, recorders) = run_crew(rt, crew, recorders, room, gate)?;
     let Remains {
         stores,
         refusals,
         desks,
     } = remains.take_from(done);
     let lanes = settle(desks);
-    Ok(Finished {
+    let finished = Finished {
         stores,
         refusals,
         lanes,
-    })
+    };
+    Ok((finished, recorders))
 }
 
 /// Starts a thread for one rank. Where there is none to be had, the rank and its desk are dropped here.
-fn start_one<'s, E, S: Semiring + Send + Sync + 's, R: Wait + Sync, G: Gate<S>>(
+fn start_one<'s, E, S: Semiring + Send + Sync + 's, R: Wait + Sync, G: Gate<S>, T: Recorder + 's>(
     scope: &Scope<'s, E>,
     rt: &'s R,
     rank: Rank<S>,
     desk: Desk<Block<S>>,
+    recorder: T,
     gate: &'s G,
-) -> Option<Running<S>>
+) -> Option<Running<S, T>>
     requires { IsNewRun rank desk }
-    ensures { IfSome result (λ running. started running ≡ (rank, desk)) }
+    ensures { IfSome result (λ running. (started running ≡ (rank, desk)) × (started_recorder running ≡ recorder)) }
 {
     let number = desk.rank();
     let promise = RunOf {
         rank: Snapshot::of(&rank),
         desk: Snapshot::of(&desk),
+        recorder: Snapshot::of(&recorder),
     };
     let started = scope.spawn_with(
         promise,
-        move || -> Result<(Rank<S>, Desk<Block<S>>), Gone>
+        move || -> Result<(Rank<S>, Desk<Block<S>>, T), Gone>
             requires { IsNewRun rank desk }
-        { run_rank(rt, rank, desk, gate) },
+        { run(rt, rank, desk, gate, recorder) },
     );
     let Ok(thread) = started else {
         return None;
@@ -96,23 +128,26 @@ fn start_one<'s, E, S: Semiring + Send + Sync + 's, R: Wait + Sync, G: Gate<S>>(
 
 /// Starts a thread for each rank, into the room for so many. Where there is none to be had, that rank is answered
 /// too, and it and the later ones are dropped: then whoever waits for one of them finds it gone.
-fn start_all<'s, E, S: Semiring + Send + Sync + 's, R: Wait + Sync, G: Gate<S>>(
+fn start_all<'s, E, S: Semiring + Send + Sync + 's, R: Wait + Sync, G: Gate<S>, T: Recorder + 's>(
     scope: &Scope<'s, E>,
     rt: &'s R,
     crew: Vec<Member<S>>,
-    room: Vec<Running<S>>,
+    recorders: Vec<T>,
+    room: Vec<Running<S, T>>,
     gate: &'s G,
-) -> (Vec<Running<S>>, Option<u16>)
+) -> (Vec<Running<S, T>>, Option<u16>)
     requires new { AreNew crew.items }
+    requires recorders { length recorders.items ≡ length crew.items }
     requires room { (room.items ≡ []) × (vec_len crew ≤ vec_capacity room) }
     ensures all { IfNone result.1 (map started result.0.items ≡ crew.items) }
+    ensures recorders { IfNone result.1 (map started_recorder result.0.items ≡ recorders.items) }
     ensures few { vec_len result.0 ≤ vec_len crew }
     ensures missing { IfSome result.1 (IsOneOf crew.items) }
 {
     let mut threads = room;
-    for (rank, desk) in crew {
+    for ((rank, desk), recorder) in crew.into_iter().zip(recorders) {
         let number = desk.rank();
-        let Some(thread) = start_one(scope, rt, rank, desk, gate) else {
+        let Some(thread) = start_one(scope, rt, rank, desk, recorder, gate) else {
             return (threads, Some(number));
         };
         threads.push_reserved(thread);
@@ -121,54 +156,69 @@ fn start_all<'s, E, S: Semiring + Send + Sync + 's, R: Wait + Sync, G: Gate<S>>(
 }
 
 /// Joins all threads, into the room for so many. The error is the first rank that answered `Gone`.
-fn join_all<S: Semiring, R: Threads>(
+fn join_all<S: Semiring, R: Threads, T: Recorder>(
     rt: &R,
-    threads: Vec<Running<S>>,
-    room: Vec<Member<S>>,
-) -> Result<Vec<Member<S>>, u16>
-    requires room { (room.items ≡ []) × (vec_len threads ≤ vec_capacity room) }
-    ensures ran { IfOk result (λ done. AllZip (Ran S.arithmetic) (map started threads.items) done.items) }
+    threads: Vec<Running<S, T>>,
+    members: Vec<Member<S>>,
+    recorders: Vec<T>,
+) -> Result<(Vec<Member<S>>, Vec<T>), u16>
+    requires members { (members.items ≡ []) × (vec_len threads ≤ vec_capacity members) }
+    requires recorders { (recorders.items ≡ []) × (vec_len threads ≤ vec_capacity recorders) }
+    ensures ran { IfOk result (λ done. AllZip (Ran S.arithmetic) (map started threads.items) done.0.items) }
+    ensures told { IfOk result (λ done. HaveTold T.tells (map started threads.items) (map started_recorder threads.items) done.1.items) }
     ensures gone { IfErr result (IsOneOf (map started threads.items)) }
 {
-    let mut done = room;
+    let mut members = members;
+    let mut recorders = recorders;
     let mut gone = None;
     for Running { rank, thread } in threads {
         match thread.join(rt) {
-            Ok(member) => done.push_reserved(member),
+            Ok((done, desk, recorder)) => {
+                members.push_reserved((done, desk));
+                recorders.push_reserved(recorder);
+            }
             Err(_) => gone = gone.or(Some(rank)),
         }
     }
     match gone {
-        None => Ok(done),
+        None => Ok((members, recorders)),
         Some(rank) => Err(rank),
     }
 }
 
-/// Runs each rank over its desk in a thread of its own, and takes them back. No memory is taken but for the threads.
-fn run_crew<S: Semiring + Send + Sync, R: Threads + Wait + Sync, G: Gate<S>>(
+/// Runs each rank over its desk in a thread of its own, and takes them back, each with its recorder. No memory is
+/// taken but for the threads.
+fn run_crew<S: Semiring + Send + Sync, R: Threads + Wait + Sync, G: Gate<S>, T: Recorder>(
     rt: &R,
     crew: Vec<Member<S>>,
-    threads: Vec<Running<S>>,
-    done: Vec<Member<S>>,
+    recorders: Vec<T>,
+    room: Room<S, T>,
     gate: &G,
-) -> Result<Vec<Member<S>>, RunFault>
+) -> Result<(Vec<Member<S>>, Vec<T>), RunFault>
     requires new { AreNew crew.items }
-    requires threads { (threads.items ≡ []) × (vec_len crew ≤ vec_capacity threads) }
-    requires done { (done.items ≡ []) × (vec_len crew ≤ vec_capacity done) }
-    ensures ran { IfOk result (λ done. AllZip (Ran S.arithmetic) crew.items done.items) }
+    requires recorders { length recorders.items ≡ length crew.items }
+    requires room { IsRoomFor (vec_len crew) room }
+    ensures ran { IfOk result (λ done. AllZip (Ran S.arithmetic) crew.items done.0.items) }
+    ensures told { IfOk result (λ done. HaveTold T.tells crew.items recorders.items done.1.items) }
     ensures fault { IfErr result (IsFaultIn crew.items) }
 {
+    let Room {
+        threads,
+        members,
+        told,
+    } = room;
     thread::scope(
         thread::scope_env(),
         rt,
-        move |scope| -> Result<Vec<Member<S>>, RunFault>
-            requires { AreNew crew.items × (threads.items ≡ []) × (vec_len crew ≤ vec_capacity threads) × (done.items ≡ []) × (vec_len crew ≤ vec_capacity done) }
-            ensures ran { IfOk result (λ ran. AllZip (Ran S.arithmetic) crew.items ran.items) }
+        move |scope| -> Result<(Vec<Member<S>>, Vec<T>), RunFault>
+            requires { AreNew crew.items × (length recorders.items ≡ length crew.items) × (threads.items ≡ []) × (vec_len crew ≤ vec_capacity threads) × (members.items ≡ []) × (vec_len crew ≤ vec_capacity members) × (told.items ≡ []) × (vec_len crew ≤ vec_capacity told) }
+            ensures ran { IfOk result (λ done. AllZip (Ran S.arithmetic) crew.items done.0.items) }
+            ensures told { IfOk result (λ done. HaveTold T.tells crew.items recorders.items done.1.items) }
             ensures fault { IfErr result (IsFaultIn crew.items) }
         {
-            let (threads, missing) = start_all(scope, rt, crew, threads, gate);
+            let (threads, missing) = start_all(scope, rt, crew, recorders, threads, gate);
             // Also where one is missing, so that no thread outlives the call.
-            let joined = join_all(rt, threads, done);
+            let joined = join_all(rt, threads, members, told);
             match (missing, joined) {
                 (Some(rank), _) => Err(RunFault::NotStarted(rank)),
                 (None, Err(rank)) => Err(RunFault::Gone(rank)),
