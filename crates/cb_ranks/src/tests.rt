@@ -302,6 +302,10 @@ impl Story {
         }
     }
 
+    fn record(&mut self, place: usize) {
+        self.agrees &= self.places.push(place).is_ok();
+    }
+
     /// Whether it agrees to the end, and the trace has an event of this rank at each of its places.
     fn is_of(&self, rank: u16, trace: &Trace) -> bool {
         self.agrees
@@ -315,20 +319,19 @@ impl Story {
 #[derive(Drop)]
 struct Scribe<'a, R: Wait> {
     rt: &'a R,
-    stories: [Mutex<Story>; 2],
+    of_0: Mutex<Story>,
+    of_1: Mutex<Story>,
 }
 
 impl<'a, S: Semiring, R: Wait + Sync> Gate<S> for Scribe<'a, R> {
     fn pass(&self, rank: u16, state: &Rank<S>) {
-        if rank < 2 {
-            self.stories[rank as usize].lock(self.rt).pass(state.want());
-        }
+        let mine = if rank == 0 { &self.of_0 } else { &self.of_1 };
+        mine.lock(self.rt).pass(state.want());
     }
 
     fn recorded(&self, rank: u16, place: usize) {
-        if rank < 2 {
-            let _ = self.stories[rank as usize].lock(self.rt).places.push(place);
-        }
+        let mine = if rank == 0 { &self.of_0 } else { &self.of_1 };
+        mine.lock(self.rt).record(place);
     }
 }
 
@@ -345,13 +348,15 @@ fn each_rank_records_its_halves_as_it_does_them(rt: HostRuntime) -> Result<(), F
         let (plan, stores) = planned(alloc).ok_or("a plan")?;
         let gate = Scribe {
             rt: &rt,
-            stories: [Mutex::new(Story::new(alloc)), Mutex::new(Story::new(alloc))],
+            of_0: Mutex::new(Story::new(alloc)),
+            of_1: Mutex::new(Story::new(alloc)),
         };
         let Ok((finished, trace)) = run_traced(&rt, alloc, &plan, stores, capacity, &gate) else {
             return Err("the run ends".into());
         };
         assert_eq!(rt; (trace.ranks(), trace.len()), (2, 8));
-        let [first, second] = gate.stories.map(|story| story.into_inner());
+        let Scribe { of_0, of_1, .. } = gate;
+        let (first, second) = (of_0.into_inner(), of_1.into_inner());
         assert!(rt; first.is_of(0, &trace) && second.is_of(1, &trace));
         assert!(rt; are_places(&first.places, &second.places, trace.len()));
         assert_eq!(rt; value_at_0(&finished.stores(), 2), Some(6));
