@@ -2,8 +2,8 @@
 //!
 //! A script scatters its operands over the grid, runs a checked plan over the ranks' slots, and gathers the
 //! blocks of the answer. The answer is the same on every grid, and with each [`Engine`]. The calls named
-//! `.._distributed` leave it in the blocks, for who needs no whole matrix, and those named `.._in_order` step the
-//! ranks one at a time, as they are told.
+//! `.._distributed` take matrices that lie over a grid and leave the answer in its blocks, for who needs no whole
+//! matrix, and those named `.._in_order` step the ranks one at a time, as they are told.
 #![tactic(auto)]
 
 ghost use Rattle.std.specs.Prelude.{◌≡◌};
@@ -34,15 +34,16 @@ use std::alloc::AllocError;
 use thiserror::Error;
 pub use transposes::{transpose, transpose_distributed};
 pub use vectors::{vector, vector_distributed};
-pub use walks::{distances, levels};
+pub use walks::{distances, distances_distributed, levels};
 
 /// What runs a plan.
 #[derive(Clone, Copy, Debug, PartialEq, Eq)]
 pub enum Engine {
     /// The acts one after the other, on the caller's thread.
     Plain,
-    /// Each rank in a thread of its own, over lanes for so many letters (1 to 64) from each rank to each other. What
-    /// memory a rank is refused for a block it goes on without, and the answer is refused only if it needs that block.
+    /// Each rank in a thread of its own, over lanes for so many letters, 1 to 64 (of which the nearest is taken for any
+    /// other number), from each rank to each other. What memory a rank is refused for a block it goes on without, and
+    /// the answer is refused only if it needs that block.
     Ranks(usize),
 }
 

@@ -1,5 +1,5 @@
 //! Products by ranks that are stepped one at a time, in an order that the caller gives.
-ghost use Rattle.std.specs.Prelude.{◌≡◌, ◌≤◌, ◌*◌, map, IfOk, IfErr};
+ghost use Rattle.std.specs.Prelude.{◌≡◌, ◌≤◌, ◌*◌, map, All, IfOk, IfErr};
 ghost use Rattle.cb_matrix.specs.Sparse.{Sparse};
 ghost use Rattle.cb_matrix.specs.Values.{product, product_shape};
 ghost use Rattle.cb_matrix.specs.Operations.{masked};
@@ -13,7 +13,7 @@ ghost use Rattle.cb_scripts.specs.Orders.{LostAtRanks, IsStepRefusal, IsOrderedR
 
 use crate::ScriptFault;
 use crate::stores::{drain, laid_out};
-use cb_layout::Grid;
+use cb_layout::{DistributedMatrix, Grid};
 use cb_matrix::{Matrix, Shape};
 use cb_plan::{CheckedPlan, Planned, RankStore, SLOTS};
 use cb_semirings::Semiring;
@@ -52,9 +52,13 @@ pub fn multiply_in_order<S: Semiring>(
     let Ok(planned) = summa(alloc, grid, a, b) else {
         return Err(ScriptFault::Memory);
     };
-    let operands = [(LEFT, left), (RIGHT, right)];
+    let left = DistributedMatrix::scatter(alloc, *grid, left)?;
+    let right = DistributedMatrix::scatter(alloc, *grid, right)?;
+    let Ok(operands) = vec![in alloc; (LEFT, left), (RIGHT, right)] else {
+        return Err(ScriptFault::Memory);
+    };
     let shape = a.with_columns_of(b);
-    compute_in_order(alloc, grid, capacity, planned, &operands, shape, order)
+    compute_in_order(alloc, grid, capacity, planned, operands, shape, order)
 }
 
 /// The product of two matrices, kept where a mask has entries, by ranks that are stepped one at a time, in this order.
@@ -81,24 +85,30 @@ pub fn multiply_masked_in_order<S: Semiring>(
     let Ok(planned) = summa_masked(alloc, grid, a, b) else {
         return Err(ScriptFault::Memory);
     };
-    let operands = [(LEFT, left), (RIGHT, right), (MASK, mask)];
-    compute_in_order(alloc, grid, capacity, planned, &operands, shape, order)
+    let left = DistributedMatrix::scatter(alloc, *grid, left)?;
+    let right = DistributedMatrix::scatter(alloc, *grid, right)?;
+    let mask = DistributedMatrix::scatter(alloc, *grid, mask)?;
+    let Ok(operands) = vec![in alloc; (LEFT, left), (RIGHT, right), (MASK, mask)] else {
+        return Err(ScriptFault::Memory);
+    };
+    compute_in_order(alloc, grid, capacity, planned, operands, shape, order)
 }
 
-/// The matrix of this shape that a plan makes of its operands, each of which is cut over the grid into its slot, by
-/// ranks that are stepped in this order.
+/// The matrix of this shape that a plan makes of its operands, the blocks of each of which are given to the ranks in
+/// its slot, by ranks that are stepped in this order.
 fn compute_in_order<S: Semiring>(
     alloc: Global,
     grid: &Grid,
     capacity: usize,
     planned: Planned,
-    operands: &[(u16, &Matrix<S>)],
+    operands: Vec<(u16, DistributedMatrix<S>)>,
     shape: Shape,
     order: &[Event],
 ) -> Result<Matrix<S>, ScriptFault>
-    requires makes { (answer : Sparse) × Makes S.arithmetic grid.now.side (map (λ o. (o.0, o.1.now)) operands.now) planned shape answer }
+    requires sides { All (λ o. o.1.side ≡ grid.now.side) operands.items }
+    requires makes { (answer : Sparse) × Makes S.arithmetic grid.now.side (map (λ o. (o.0, o.1.matrix)) operands.items) planned shape answer }
     requires capacity { (1 ≤ capacity) × (capacity ≤ 64) }
-    ensures ok { IfOk result (λ m. (answer : Sparse) → Makes S.arithmetic grid.now.side (map (λ o. (o.0, o.1.now)) operands.now) planned shape answer → m ≡ answer) }
+    ensures ok { IfOk result (λ m. (answer : Sparse) → Makes S.arithmetic grid.now.side (map (λ o. (o.0, o.1.matrix)) operands.items) planned shape answer → m ≡ answer) }
     ensures fault { IfErr result (IsStepRefusal (grid.now.side * grid.now.side)) }
 {
     let stores = laid_out(alloc, grid, operands)?;

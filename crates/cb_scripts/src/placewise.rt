@@ -30,32 +30,40 @@ pub fn add<S: Semiring + Send + Sync, R: Threads + Wait + Sync>(
     ensures agree { IfOk result (λ m. left.now.shape ≡ right.now.shape) }
     ensures fault { IfErr result (IsPlacewiseRefusal left.now right.now engine) }
 {
-    let answer = add_distributed(rt, alloc, engine, grid, left, right)?;
+    if left.shape() != right.shape() {
+        return Err(ScriptFault::Shapes);
+    }
+    let left = DistributedMatrix::scatter(alloc, *grid, left)?;
+    let right = DistributedMatrix::scatter(alloc, *grid, right)?;
+    let answer = add_distributed(rt, alloc, engine, left, right)?;
     Ok(answer.gather(alloc)?)
 }
 
-/// The sum of two matrices, left in the blocks of the grid. All else is as in [`add`].
+/// The sum of two matrices that lie over one grid, left in its blocks. Their blocks are given to the ranks. All else is as in [`add`].
 pub fn add_distributed<S: Semiring + Send + Sync, R: Threads + Wait + Sync>(
     rt: &R,
     alloc: Global,
     engine: Engine,
-    grid: &Grid,
-    left: &Matrix<S>,
-    right: &Matrix<S>,
+    left: DistributedMatrix<S>,
+    right: DistributedMatrix<S>,
 ) -> Result<DistributedMatrix<S>, ScriptFault>
-    ensures ok { IfOk result (λ m. m ≡ record { side = grid.now.side; matrix = sum_of S.arithmetic left.now right.now }) }
-    ensures agree { IfOk result (λ m. left.now.shape ≡ right.now.shape) }
-    ensures fault { IfErr result (IsPlacewiseRefusal left.now right.now engine) }
+    requires sides { right.side ≡ left.side }
+    ensures ok { IfOk result (λ m. m ≡ record { side = left.side; matrix = sum_of S.arithmetic left.matrix right.matrix }) }
+    ensures agree { IfOk result (λ m. left.matrix.shape ≡ right.matrix.shape) }
+    ensures fault { IfErr result (IsPlacewiseRefusal left.matrix right.matrix engine) }
 {
+    let grid = left.grid();
     let shape = left.shape();
     if shape != right.shape() {
         return Err(ScriptFault::Shapes);
     }
-    let Ok(planned) = grid_add(alloc, grid, shape) else {
+    let Ok(planned) = grid_add(alloc, &grid, shape) else {
         return Err(ScriptFault::Memory);
     };
-    let operands = [(LEFT, left), (RIGHT, right)];
-    compute(rt, alloc, engine, grid, planned, &operands, shape)
+    let Ok(operands) = vec![in alloc; (LEFT, left), (RIGHT, right)] else {
+        return Err(ScriptFault::Memory);
+    };
+    compute(rt, alloc, engine, &grid, planned, operands, shape)
 }
 
 /// The product of two matrices, place by place: only places where both have an entry can have one. This is the
@@ -74,32 +82,40 @@ pub fn times<S: Semiring + Send + Sync, R: Threads + Wait + Sync>(
     ensures agree { IfOk result (λ m. left.now.shape ≡ right.now.shape) }
     ensures fault { IfErr result (IsPlacewiseRefusal left.now right.now engine) }
 {
-    let answer = times_distributed(rt, alloc, engine, grid, left, right)?;
+    if left.shape() != right.shape() {
+        return Err(ScriptFault::Shapes);
+    }
+    let left = DistributedMatrix::scatter(alloc, *grid, left)?;
+    let right = DistributedMatrix::scatter(alloc, *grid, right)?;
+    let answer = times_distributed(rt, alloc, engine, left, right)?;
     Ok(answer.gather(alloc)?)
 }
 
-/// The product of two matrices, place by place, left in the blocks of the grid. All else is as in [`times`].
+/// The product, place by place, of two matrices that lie over one grid, left in its blocks. Their blocks are given to the ranks. All else is as in [`times`].
 pub fn times_distributed<S: Semiring + Send + Sync, R: Threads + Wait + Sync>(
     rt: &R,
     alloc: Global,
     engine: Engine,
-    grid: &Grid,
-    left: &Matrix<S>,
-    right: &Matrix<S>,
+    left: DistributedMatrix<S>,
+    right: DistributedMatrix<S>,
 ) -> Result<DistributedMatrix<S>, ScriptFault>
-    ensures ok { IfOk result (λ m. m ≡ record { side = grid.now.side; matrix = times_of S.arithmetic left.now right.now }) }
-    ensures agree { IfOk result (λ m. left.now.shape ≡ right.now.shape) }
-    ensures fault { IfErr result (IsPlacewiseRefusal left.now right.now engine) }
+    requires sides { right.side ≡ left.side }
+    ensures ok { IfOk result (λ m. m ≡ record { side = left.side; matrix = times_of S.arithmetic left.matrix right.matrix }) }
+    ensures agree { IfOk result (λ m. left.matrix.shape ≡ right.matrix.shape) }
+    ensures fault { IfErr result (IsPlacewiseRefusal left.matrix right.matrix engine) }
 {
+    let grid = left.grid();
     let shape = left.shape();
     if shape != right.shape() {
         return Err(ScriptFault::Shapes);
     }
-    let Ok(planned) = grid_times(alloc, grid, shape) else {
+    let Ok(planned) = grid_times(alloc, &grid, shape) else {
         return Err(ScriptFault::Memory);
     };
-    let operands = [(LEFT, left), (RIGHT, right)];
-    compute(rt, alloc, engine, grid, planned, &operands, shape)
+    let Ok(operands) = vec![in alloc; (LEFT, left), (RIGHT, right)] else {
+        return Err(ScriptFault::Memory);
+    };
+    compute(rt, alloc, engine, &grid, planned, operands, shape)
 }
 
 /// A matrix without the entries whose value, as a whole number, passes a test. It costs the entries.
@@ -114,26 +130,30 @@ pub fn prune<S: Semiring + Send + Sync, R: Threads + Wait + Sync>(
     ensures ok { IfOk result (λ m. m ≡ pruned S.arithmetic (passes test) matrix.now) }
     ensures fault { IfErr result (IsRunRefusal engine) }
 {
-    let answer = prune_distributed(rt, alloc, engine, grid, matrix, test)?;
+    let spread = DistributedMatrix::scatter(alloc, *grid, matrix)?;
+    let answer = prune_distributed(rt, alloc, engine, spread, test)?;
     Ok(answer.gather(alloc)?)
 }
 
-/// A matrix without the entries whose value passes a test, left in the blocks of the grid. All else is as in [`prune`].
+/// A matrix that lies over a grid, without the entries whose value passes a test, left in the grid's blocks. The
+/// blocks that it had are given to the ranks. All else is as in [`prune`].
 pub fn prune_distributed<S: Semiring + Send + Sync, R: Threads + Wait + Sync>(
     rt: &R,
     alloc: Global,
     engine: Engine,
-    grid: &Grid,
-    matrix: &Matrix<S>,
+    matrix: DistributedMatrix<S>,
     test: Test,
 ) -> Result<DistributedMatrix<S>, ScriptFault>
-    ensures ok { IfOk result (λ m. m ≡ record { side = grid.now.side; matrix = pruned S.arithmetic (passes test) matrix.now }) }
+    ensures ok { IfOk result (λ m. m ≡ record { side = matrix.side; matrix = pruned S.arithmetic (passes test) matrix.matrix }) }
     ensures fault { IfErr result (IsRunRefusal engine) }
 {
+    let grid = matrix.grid();
     let shape = matrix.shape();
-    let Ok(planned) = grid_prune(alloc, grid, shape, test) else {
+    let Ok(planned) = grid_prune(alloc, &grid, shape, test) else {
         return Err(ScriptFault::Memory);
     };
-    let operands = [(LEFT, matrix)];
-    compute(rt, alloc, engine, grid, planned, &operands, shape)
+    let Ok(operands) = vec![in alloc; (LEFT, matrix)] else {
+        return Err(ScriptFault::Memory);
+    };
+    compute(rt, alloc, engine, &grid, planned, operands, shape)
 }

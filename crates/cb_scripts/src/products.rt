@@ -30,43 +30,56 @@ pub fn multiply<S: Semiring + Send + Sync, R: Threads + Wait + Sync>(
     ensures agree { IfOk result (λ m. left.now.shape.cols ≡ right.now.shape.rows) }
     ensures fault { IfErr result (IsProductRefusal left.now right.now engine) }
 {
-    let product = multiply_distributed(rt, alloc, engine, grid, left, right)?;
+    if left.cols() != right.rows() {
+        return Err(ScriptFault::Shapes);
+    }
+    let left = DistributedMatrix::scatter(alloc, *grid, left)?;
+    let right = DistributedMatrix::scatter(alloc, *grid, right)?;
+    let product = multiply_distributed(rt, alloc, engine, left, right)?;
     Ok(product.gather(alloc)?)
 }
 
-/// The product of two matrices, by Sparse SUMMA, left in the blocks of the grid. All else is as in [`multiply`].
+/// The product of two matrices that lie over one grid, by Sparse SUMMA, left in its blocks. Their blocks are given to
+/// the ranks, and none is copied before it is sent. All else is as in [`multiply`].
 pub fn multiply_distributed<S: Semiring + Send + Sync, R: Threads + Wait + Sync>(
     rt: &R,
     alloc: Global,
     engine: Engine,
-    grid: &Grid,
-    left: &Matrix<S>,
-    right: &Matrix<S>,
+    left: DistributedMatrix<S>,
+    right: DistributedMatrix<S>,
 ) -> Result<DistributedMatrix<S>, ScriptFault>
-    ensures ok { IfOk result (λ m. m ≡ record { side = grid.now.side; matrix = product S.arithmetic left.now right.now }) }
-    ensures agree { IfOk result (λ m. left.now.shape.cols ≡ right.now.shape.rows) }
-    ensures fault { IfErr result (IsProductRefusal left.now right.now engine) }
+    requires sides { right.side ≡ left.side }
+    ensures ok { IfOk result (λ m. m ≡ record { side = left.side; matrix = product S.arithmetic left.matrix right.matrix }) }
+    ensures agree { IfOk result (λ m. left.matrix.shape.cols ≡ right.matrix.shape.rows) }
+    ensures fault { IfErr result (IsProductRefusal left.matrix right.matrix engine) }
 {
-    if left.cols() != right.rows() {
+    let grid = left.grid();
+    let (a, b) = (left.shape(), right.shape());
+    if a.cols() != b.rows() {
         return Err(ScriptFault::Shapes);
     }
     if left.is_empty() || right.is_empty() {
-        let empty = nothing(alloc, left, right);
-        return Ok(DistributedMatrix::scatter(alloc, *grid, &empty)?);
+        let empty = nothing(alloc, &left, &right);
+        return Ok(DistributedMatrix::scatter(alloc, grid, &empty)?);
     }
-    let (a, b) = (left.shape(), right.shape());
-    let Ok(planned) = summa(alloc, grid, a, b) else {
+    let Ok(planned) = summa(alloc, &grid, a, b) else {
         return Err(ScriptFault::Memory);
     };
-    let operands = [(LEFT, left), (RIGHT, right)];
+    let Ok(operands) = vec![in alloc; (LEFT, left), (RIGHT, right)] else {
+        return Err(ScriptFault::Memory);
+    };
     let shape = a.with_columns_of(b);
-    compute(rt, alloc, engine, grid, planned, &operands, shape)
+    compute(rt, alloc, engine, &grid, planned, operands, shape)
 }
 
 /// The product of two matrices of which one has no entries: it has none either.
-fn nothing<S: Semiring>(alloc: Global, left: &Matrix<S>, right: &Matrix<S>) -> Matrix<S>
-    requires { (left.now.entries ≡ []) ⊎ (right.now.entries ≡ []) }
-    ensures { result ≡ product S.arithmetic left.now right.now }
+fn nothing<S: Semiring>(
+    alloc: Global,
+    left: &DistributedMatrix<S>,
+    right: &DistributedMatrix<S>,
+) -> Matrix<S>
+    requires { (left.now.matrix.entries ≡ []) ⊎ (right.now.matrix.entries ≡ []) }
+    ensures { result ≡ product S.arithmetic left.now.matrix right.now.matrix }
 {
     let empty = Matrix::empty(alloc, left.shape().with_columns_of(right.shape()));
     let _shape = empty.shape();
@@ -90,33 +103,43 @@ pub fn multiply_masked<S: Semiring + Send + Sync, R: Threads + Wait + Sync>(
     ensures agree { IfOk result (λ m. (left.now.shape.cols ≡ right.now.shape.rows) × (mask.now.shape ≡ product_shape left.now right.now)) }
     ensures fault { IfErr result (IsMaskedRefusal left.now right.now mask.now engine) }
 {
-    let product = multiply_masked_distributed(rt, alloc, engine, grid, left, right, mask)?;
+    let shape = left.shape().with_columns_of(right.shape());
+    if left.cols() != right.rows() || mask.shape() != shape {
+        return Err(ScriptFault::Shapes);
+    }
+    let left = DistributedMatrix::scatter(alloc, *grid, left)?;
+    let right = DistributedMatrix::scatter(alloc, *grid, right)?;
+    let mask = DistributedMatrix::scatter(alloc, *grid, mask)?;
+    let product = multiply_masked_distributed(rt, alloc, engine, left, right, mask)?;
     Ok(product.gather(alloc)?)
 }
 
-/// The product of two matrices, kept where a mask has entries, left in the blocks of the grid. All else is as in
-/// [`multiply_masked`].
+/// The product of two matrices, kept where a mask has entries. The three lie over one grid, their blocks are given to
+/// the ranks, and the product is left in the grid's blocks. All else is as in [`multiply_masked`].
 pub fn multiply_masked_distributed<S: Semiring + Send + Sync, R: Threads + Wait + Sync>(
     rt: &R,
     alloc: Global,
     engine: Engine,
-    grid: &Grid,
-    left: &Matrix<S>,
-    right: &Matrix<S>,
-    mask: &Matrix<S>,
+    left: DistributedMatrix<S>,
+    right: DistributedMatrix<S>,
+    mask: DistributedMatrix<S>,
 ) -> Result<DistributedMatrix<S>, ScriptFault>
-    ensures ok { IfOk result (λ m. m ≡ record { side = grid.now.side; matrix = masked S.arithmetic (product S.arithmetic left.now right.now) mask.now }) }
-    ensures agree { IfOk result (λ m. (left.now.shape.cols ≡ right.now.shape.rows) × (mask.now.shape ≡ product_shape left.now right.now)) }
-    ensures fault { IfErr result (IsMaskedRefusal left.now right.now mask.now engine) }
+    requires sides { (right.side ≡ left.side) × (mask.side ≡ left.side) }
+    ensures ok { IfOk result (λ m. m ≡ record { side = left.side; matrix = masked S.arithmetic (product S.arithmetic left.matrix right.matrix) mask.matrix }) }
+    ensures agree { IfOk result (λ m. (left.matrix.shape.cols ≡ right.matrix.shape.rows) × (mask.matrix.shape ≡ product_shape left.matrix right.matrix)) }
+    ensures fault { IfErr result (IsMaskedRefusal left.matrix right.matrix mask.matrix engine) }
 {
+    let grid = left.grid();
     let (a, b) = (left.shape(), right.shape());
     let shape = a.with_columns_of(b);
     if a.cols() != b.rows() || mask.shape() != shape {
         return Err(ScriptFault::Shapes);
     }
-    let Ok(planned) = summa_masked(alloc, grid, a, b) else {
+    let Ok(planned) = summa_masked(alloc, &grid, a, b) else {
         return Err(ScriptFault::Memory);
     };
-    let operands = [(LEFT, left), (RIGHT, right), (MASK, mask)];
-    compute(rt, alloc, engine, grid, planned, &operands, shape)
+    let Ok(operands) = vec![in alloc; (LEFT, left), (RIGHT, right), (MASK, mask)] else {
+        return Err(ScriptFault::Memory);
+    };
+    compute(rt, alloc, engine, &grid, planned, operands, shape)
 }

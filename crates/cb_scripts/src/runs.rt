@@ -1,5 +1,5 @@
 //! A plan over the ranks' stores, and the matrix whose blocks it leaves.
-ghost use Rattle.std.specs.Prelude.{◌≡◌, ◌<◌, ◌*◌, map, IfOk, IfErr};
+ghost use Rattle.std.specs.Prelude.{◌≡◌, ◌<◌, ◌*◌, map, All, IfOk, IfErr};
 ghost use Rattle.cb_matrix.specs.Sparse.{Sparse};
 ghost use Rattle.cb_plan.specs.Algebras.{matrices};
 ghost use Rattle.cb_plan.specs.Meaning.{meaning};
@@ -14,7 +14,7 @@ ghost use Rattle.cb_scripts.specs.Refusals.{IsEngineRefusal, IsRunRefusal};
 use crate::stores::{drain, laid_out};
 use crate::{Engine, ScriptFault};
 use cb_layout::{DistributedMatrix, Grid};
-use cb_matrix::{Matrix, Shape};
+use cb_matrix::Shape;
 use cb_plan::{CheckedPlan, Planned, RankStore, SLOTS, run_plain};
 use cb_ranks::{OpenGate, run_threads};
 use cb_semirings::Semiring;
@@ -22,19 +22,20 @@ use std::alloc::Global;
 use std::sync::Wait;
 use std::thread::Threads;
 
-/// The matrix of this shape that a plan makes of its operands, each of which is cut over the grid into its slot. It
-/// is left in the blocks of the grid.
+/// The matrix of this shape that a plan makes of its operands, the blocks of each of which are given to the ranks in
+/// its slot. It is left in the blocks of the grid.
 pub fn compute<S: Semiring + Send + Sync, R: Threads + Wait + Sync>(
     rt: &R,
     alloc: Global,
     engine: Engine,
     grid: &Grid,
     planned: Planned,
-    operands: &[(u16, &Matrix<S>)],
+    operands: Vec<(u16, DistributedMatrix<S>)>,
     shape: Shape,
 ) -> Result<DistributedMatrix<S>, ScriptFault>
-    requires makes { (answer : Sparse) × Makes S.arithmetic grid.now.side (map (λ o. (o.0, o.1.now)) operands.now) planned shape answer }
-    ensures ok { IfOk result (λ m. (answer : Sparse) → Makes S.arithmetic grid.now.side (map (λ o. (o.0, o.1.now)) operands.now) planned shape answer → m ≡ record { side = grid.now.side; matrix = answer }) }
+    requires sides { All (λ o. o.1.side ≡ grid.now.side) operands.items }
+    requires makes { (answer : Sparse) × Makes S.arithmetic grid.now.side (map (λ o. (o.0, o.1.matrix)) operands.items) planned shape answer }
+    ensures ok { IfOk result (λ m. (answer : Sparse) → Makes S.arithmetic grid.now.side (map (λ o. (o.0, o.1.matrix)) operands.items) planned shape answer → m ≡ record { side = grid.now.side; matrix = answer }) }
     ensures fault { IfErr result (IsRunRefusal engine) }
 {
     let stores = laid_out(alloc, grid, operands)?;
@@ -105,7 +106,8 @@ impl Engine {
     {
         match self {
             Engine::Plain => Ok(run_plain(alloc, plan, stores)?),
-            Engine::Ranks(capacity) => {
+            Engine::Ranks(letters) => {
+                let capacity = letters.clamp(1, 64);
                 let finished = run_threads(rt, alloc, plan, stores, capacity, &OpenGate)?;
                 Ok(finished.stores())
             }

@@ -1,5 +1,5 @@
 //! The slots of the ranks: filled with blocks before a plan, and read after it.
-ghost use Rattle.std.specs.Prelude.{◌≡◌, ◌≢◌, ◌<◌, ◌*◌, ℕ, map, length, replicate, Some, IfOk, IfErr, OnOk};
+ghost use Rattle.std.specs.Prelude.{◌≡◌, ◌≢◌, ◌<◌, ◌*◌, ℕ, map, length, replicate, Some, All, IfOk, IfErr, OnOk};
 ghost use Rattle.cb_layout.specs.Blocks.{block_at};
 ghost use Rattle.cb_plan.specs.declared.stores.Slot.TheVariants.{Empty};
 ghost use Rattle.cb_plan.specs.Stores.{state_of};
@@ -9,8 +9,7 @@ ghost use Rattle.cb_scripts.specs.Slots.{Filled, HasOperands, HaveSlots, block_o
 
 use crate::ScriptFault;
 use cb_dcsc::Block;
-use cb_layout::Grid;
-use cb_matrix::Matrix;
+use cb_layout::{DistributedMatrix, Grid};
 use cb_plan::{RankStore, SLOTS, Slot};
 use cb_semirings::Semiring;
 use std::alloc::{AllocError, Global};
@@ -26,37 +25,31 @@ pub fn blank<S: Semiring>(alloc: Global, ranks: u16) -> Result<Vec<RankStore<S>>
     Ok(stores)
 }
 
-/// The stores of the ranks, with the block of each matrix in its slot, and nothing else.
+/// The stores of the ranks of a grid, with the blocks of each matrix in its slot, and nothing else. The blocks are
+/// moved, and none is copied.
 pub fn laid_out<S: Semiring>(
     alloc: Global,
     grid: &Grid,
-    operands: &[(u16, &Matrix<S>)],
+    operands: Vec<(u16, DistributedMatrix<S>)>,
 ) -> Result<Vec<RankStore<S>>, AllocError>
-    requires { HaveSlots (map (λ o. (o.0, o.1.now)) operands.now) }
-    ensures { IfOk result (λ v. HasOperands S.arithmetic grid.now.side (map (λ o. (o.0, o.1.now)) operands.now) v.items) }
+    requires slots { HaveSlots (map (λ o. (o.0, o.1.matrix)) operands.items) }
+    requires sides { All (λ o. o.1.side ≡ grid.now.side) operands.items }
+    ensures { IfOk result (λ v. HasOperands S.arithmetic grid.now.side (map (λ o. (o.0, o.1.matrix)) operands.items) v.items) }
 {
     let mut stores = blank(alloc, grid.ranks())?;
     for (slot, matrix) in operands {
-        distribute(alloc, grid, &mut stores, *slot, matrix)?;
+        distribute(&mut stores, slot, matrix);
     }
     Ok(stores)
 }
 
-/// Cuts a matrix over the grid, and puts the blocks into a slot of their ranks.
-fn distribute<S: Semiring>(
-    alloc: Global,
-    grid: &Grid,
-    stores: &mut Vec<RankStore<S>>,
-    slot: u16,
-    matrix: &Matrix<S>,
-) -> Result<(), AllocError>
+/// Moves the blocks of a matrix into a slot of their ranks.
+fn distribute<S: Semiring>(stores: &mut Vec<RankStore<S>>, slot: u16, matrix: DistributedMatrix<S>)
     requires slot { slot < SLOTS }
-    requires table { IsTable (grid.now.side * grid.now.side) SLOTS stores.old.items }
-    ensures { OnOk result (Filled (grid.now.side * grid.now.side) slot (block_of_rank S.arithmetic grid.now.side matrix.now) stores.old.items stores.new.items) }
+    requires table { IsTable (matrix.side * matrix.side) SLOTS stores.old.items }
+    ensures { Filled (matrix.side * matrix.side) slot (block_of_rank S.arithmetic matrix.side matrix.matrix) stores.old.items stores.new.items }
 {
-    let blocks = grid.scatter(alloc, matrix)?;
-    fill(stores, slot, blocks);
-    Ok(())
+    fill(stores, slot, matrix.into_blocks());
 }
 
 /// Moves one block into a slot of each rank.

@@ -14,13 +14,14 @@ use std::test::Fail;
 use std::thread::Threads;
 
 /// Each engine, with the sides of its grids: a run of ranks in threads starts as many as the side squared.
-pub const RUNS: [(Engine, u32); 14] = [
+pub const RUNS: [(Engine, u32); 15] = [
     (Engine::Plain, 1),
     (Engine::Plain, 2),
     (Engine::Plain, 3),
     (Engine::Plain, 4),
     (Engine::Plain, 5),
     (Engine::Plain, 6),
+    (Engine::Ranks(0), 2),
     (Engine::Ranks(1), 1),
     (Engine::Ranks(1), 2),
     (Engine::Ranks(1), 3),

@@ -24,27 +24,31 @@ pub fn transpose<S: Semiring + Send + Sync, R: Threads + Wait + Sync>(
     ensures ok { IfOk result (λ m. m ≡ transposed S.arithmetic matrix.now) }
     ensures fault { IfErr result (IsRunRefusal engine) }
 {
-    let answer = transpose_distributed(rt, alloc, engine, grid, matrix)?;
+    let spread = DistributedMatrix::scatter(alloc, *grid, matrix)?;
+    let answer = transpose_distributed(rt, alloc, engine, spread)?;
     Ok(answer.gather(alloc)?)
 }
 
-/// The transpose of a matrix, left in the blocks of the grid. All else is as in [`transpose`].
+/// The transpose of a matrix that lies over a grid, left in the grid's blocks. The blocks that it had are given to the
+/// ranks. All else is as in [`transpose`].
 pub fn transpose_distributed<S: Semiring + Send + Sync, R: Threads + Wait + Sync>(
     rt: &R,
     alloc: Global,
     engine: Engine,
-    grid: &Grid,
-    matrix: &Matrix<S>,
+    matrix: DistributedMatrix<S>,
 ) -> Result<DistributedMatrix<S>, ScriptFault>
-    ensures ok { IfOk result (λ m. m ≡ record { side = grid.now.side; matrix = transposed S.arithmetic matrix.now }) }
+    ensures ok { IfOk result (λ m. m ≡ record { side = matrix.side; matrix = transposed S.arithmetic matrix.matrix }) }
     ensures fault { IfErr result (IsRunRefusal engine) }
 {
+    let grid = matrix.grid();
     let shape = matrix.shape();
-    let Ok(planned) = grid_transpose(alloc, grid, shape) else {
+    let Ok(planned) = grid_transpose(alloc, &grid, shape) else {
         return Err(ScriptFault::Memory);
     };
-    let operands = [(LEFT, matrix)];
-    compute(rt, alloc, engine, grid, planned, &operands, turned(shape))
+    let Ok(operands) = vec![in alloc; (LEFT, matrix)] else {
+        return Err(ScriptFault::Memory);
+    };
+    compute(rt, alloc, engine, &grid, planned, operands, turned(shape))
 }
 
 /// As many rows as a shape has columns, and as many columns as it has rows.

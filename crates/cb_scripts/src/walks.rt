@@ -15,7 +15,7 @@ ghost use Rattle.cb_scripts.specs.Numbers.{number_at, AreNumbers, is_lower};
 use crate::rounds::{multiply_vector, vector_plan};
 use crate::transposes::transpose_distributed;
 use crate::{Engine, ScriptFault};
-use cb_layout::Grid;
+use cb_layout::{DistributedMatrix, Grid};
 use cb_matrix::{Entry, Matrix, Shape};
 use cb_semirings::{MinPlus, OrAnd};
 use std::alloc::{AllocError, Global};
@@ -121,8 +121,8 @@ fn known_from(alloc: Global, source: u32) -> Result<BTreeMap<u32, u64>, AllocErr
 }
 
 /// The shape of a column with a place for each vertex.
-fn column_shape(graph: &Matrix<MinPlus>) -> Shape
-    ensures { result ≡ record { rows = graph.now.shape.rows; cols = 1 } }
+fn column_shape(graph: &DistributedMatrix<MinPlus>) -> Shape
+    ensures { result ≡ record { rows = graph.now.matrix.shape.rows; cols = 1 } }
 {
     let rows = graph.shape().rows();
     Shape::new(rows, 1).unwrap()
@@ -133,27 +133,27 @@ fn nearest<R: Threads + Wait + Sync>(
     rt: &R,
     alloc: Global,
     engine: Engine,
-    grid: &Grid,
-    graph: &Matrix<MinPlus>,
+    graph: DistributedMatrix<MinPlus>,
     source: u32,
 ) -> Result<Matrix<MinPlus>, ScriptFault>
-    requires square { graph.now.shape.rows ≡ graph.now.shape.cols }
-    requires source { source < graph.now.shape.rows }
-    ensures ok { IfOk result (λ column. AreDistances graph.now source column) }
+    requires square { graph.matrix.shape.rows ≡ graph.matrix.shape.cols }
+    requires source { source < graph.matrix.shape.rows }
+    ensures ok { IfOk result (λ column. AreDistances graph.matrix source column) }
     ensures fault { IfErr result (IsRunRefusal engine) }
 {
-    let _shape = graph.shape();
-    let shape = column_shape(graph);
-    let mut turned = transpose_distributed(rt, alloc, engine, grid, graph)?;
-    let plan = vector_plan(alloc, grid, turned.shape())?;
+    let grid = graph.grid();
+    let vertices = graph.shape().rows();
+    let shape = column_shape(&graph);
+    let mut turned = transpose_distributed(rt, alloc, engine, graph)?;
+    let plan = vector_plan(alloc, &grid, turned.shape())?;
     let mut known = known_from(alloc, source)?;
     let mut fell = column_of(alloc, shape, &known)?;
-    for _round in 0..graph.rows() {
+    for _round in 0..vertices {
         let _shape = fell.shape();
         if fell.is_empty() {
             break;
         }
-        let (matrix, reached) = multiply_vector(rt, alloc, engine, grid, &plan, turned, &fell)?;
+        let (matrix, reached) = multiply_vector(rt, alloc, engine, &grid, &plan, turned, &fell)?;
         turned = matrix;
         fell = take_lower(alloc, &mut known, &reached)?;
     }
@@ -208,7 +208,31 @@ pub fn distances<R: Threads + Wait + Sync>(
     if source >= graph.rows() {
         return Err(ScriptFault::Source);
     }
-    nearest(rt, alloc, engine, grid, graph, source)
+    let spread = DistributedMatrix::scatter(alloc, *grid, graph)?;
+    nearest(rt, alloc, engine, spread, source)
+}
+
+/// The distance of each vertex from a source, of a graph whose matrix lies over a grid. The blocks of the matrix are
+/// given to the ranks. All else is as in [`distances`].
+pub fn distances_distributed<R: Threads + Wait + Sync>(
+    rt: &R,
+    alloc: Global,
+    engine: Engine,
+    graph: DistributedMatrix<MinPlus>,
+    source: u32,
+) -> Result<Matrix<MinPlus>, ScriptFault>
+    ensures ok { IfOk result (λ column. AreDistances graph.matrix source column) }
+    ensures agree { IfOk result (λ column. (graph.matrix.shape.rows ≡ graph.matrix.shape.cols) × (source < graph.matrix.shape.rows)) }
+    ensures fault { IfErr result (IsGraphRefusal graph.matrix source engine) }
+{
+    let shape = graph.shape();
+    if shape.rows() != shape.cols() {
+        return Err(ScriptFault::NotSquare);
+    }
+    if source >= shape.rows() {
+        return Err(ScriptFault::Source);
+    }
+    nearest(rt, alloc, engine, graph, source)
 }
 
 /// The level of each vertex from a source: the least number of entries of a walk. Vertices without a walk are not
@@ -234,5 +258,6 @@ pub fn levels<R: Threads + Wait + Sync>(
         return Err(ScriptFault::Source);
     }
     let weighted = unit_matrix(alloc, graph)?;
-    nearest(rt, alloc, engine, grid, &weighted, source)
+    let spread = DistributedMatrix::scatter(alloc, *grid, &weighted)?;
+    nearest(rt, alloc, engine, spread, source)
 }
