@@ -1,1 +1,3 @@
 pub mod Traces
+pub mod Ends
+pub mod Rows

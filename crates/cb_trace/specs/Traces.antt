@@ -1,5 +1,5 @@
 -- Which lists of events a trace may hold. Legal is what the rules of lanes say, over letters whose loads aren't looked at.
-use Rattle.std.specs.Prelude.{◌≡◌, ◌≢◌, ℕ, ◌<◌, ◌≤◌, ◌==◌, List, [], map, filter, length, get_or, All, Unit}
+use Rattle.std.specs.Prelude.{◌≡◌, ◌≢◌, ℕ, ◌<◌, ◌≤◌, ◌==◌, List, [], map, filter, length, get_or, All}
 use Rattle.cb_letters.specs.declared.Letter.{Letter}
 use Rattle.cb_letters.specs.declared.Body.{Body}
 use Rattle.cb_letters.specs.declared.Body.TheVariants.{Sheet, Close}

@@ -9,6 +9,7 @@
 //! `specs/Traces` says which lists of events are legal.
 #![tactic(auto)]
 
+mod ends;
 mod events;
 mod shared;
 #[cfg(test)]

@@ -1,8 +1,9 @@
 //! A legal list of events.
-ghost use Rattle.std.specs.Prelude.{◌≡◌, ◌<◌, ◌↔◌, ◌×◌, true, [], ◌∷◌, ◌++◌, length, get_or, IfOk, OnErr, IsErrOf};
-ghost use Rattle.cb_trace.specs.Traces.{AreLegalEvents, AreOnLanes, MayRecord, AreLogsOf};
+ghost use Rattle.std.specs.Prelude.{◌≡◌, ◌<◌, ◌↔◌, true, [], ◌∷◌, ◌++◌, ◌+◌, ◌*◌, length, map, get_or, IfOk, OnErr, IsErrOf};
+ghost use Rattle.cb_trace.specs.Traces.{AreLegalEvents, AreOnLanes, MayRecord, AreLogsOf, events_by};
 ghost use Rattle.cb_trace.specs.declared.traces.TraceRefusal.TheVariants.{Illegal, Room};
 
+use crate::ends::LaneEnds;
 use crate::events::{Envelope, TraceEvent};
 use std::alloc::{AllocError, Global};
 use std::marker::Model;
@@ -25,6 +26,10 @@ pub struct Trace {
     ranks: u16,
     room: usize,
     events: Vec<TraceEvent>,
+    /// At the place of a letter's post, the place at which the lane's next letter was posted.
+    next: Vec<usize>,
+    /// The lane from rank f to rank t has number f * ranks + t.
+    lanes: Vec<LaneEnds>,
 }
 
 impl Model for Trace {
@@ -32,11 +37,16 @@ impl Model for Trace {
 
     ghost Value = { TraceView };
 
-    ghost use Rattle.cb_trace.specs.Traces.{IsTrace};
+    ghost use Rattle.std.specs.Prelude.{◌≡◌, ◌≤◌, map, length, vec_capacity};
+    ghost use Rattle.cb_trace.specs.Traces.{IsTrace, event_of};
+    ghost use Rattle.cb_trace.specs.Ends.{AreLanes};
 
     ghost view = { λ t. record { ranks = t.ranks; room = t.room; events = t.events.items } };
 
-    ghost invariant = { λ t. IsTrace (record { ranks = t.ranks; room = t.room; events = t.events.items }) };
+    ghost invariant = { λ t. IsTrace (record { ranks = t.ranks; room = t.room; events = t.events.items })
+        × (t.room ≤ vec_capacity t.events)
+        × (length t.next.items ≡ t.room)
+        × AreLanes t.ranks (map event_of t.events.items) t.next.items t.lanes.items };
 }
 
 impl Trace {
@@ -45,10 +55,13 @@ impl Trace {
     pub fn with_room(alloc: Global, ranks: u16, room: usize) -> Result<Trace, AllocError>
         ensures { IfOk result (λ trace. trace ≡ record { ranks = ranks; room = room; events = [] }) }
     {
+        let lanes = ranks as usize * ranks as usize;
         Ok(Trace {
             ranks,
             room,
             events: Vec::with_capacity(alloc, room)?,
+            next: vec![in alloc; 0; room]?,
+            lanes: vec![in alloc; LaneEnds::NEW; lanes]?,
         })
     }
 
@@ -98,11 +111,51 @@ impl Trace {
         ensures illegal { IsErrOf result Illegal ↔ (MayRecord self.old event → ⊥) }
         ensures room { IsErrOf result Room ↔ (MayRecord self.old event × (length self.old.events ≡ self.old.room)) }
     {
-        if self.events.len() >= self.room {
+        if !self.may_record(&event) {
+            return Err(TraceRefusal::Illegal);
+        }
+        let place = self.events.len();
+        if place == self.room {
             return Err(TraceRefusal::Room);
         }
+        let lane = self.lane_of(&event.envelope());
+        self.lanes[lane].record(&event, place, &mut self.next);
         self.events.push_reserved(event);
         Ok(())
+    }
+
+    /// The number of the lane from one rank to another.
+    fn lane_of(&self, envelope: &Envelope) -> usize
+        ensures { result ≡ envelope.now.from * self.now.ranks + envelope.now.to }
+    {
+        envelope.from as usize * self.ranks as usize + envelope.to as usize
+    }
+
+    /// Whether this event may be recorded next, but for the room.
+    fn may_record(&self, event: &TraceEvent) -> bool
+        ensures { result ≡ true ↔ MayRecord self.now event.now }
+    {
+        let envelope = event.envelope();
+        let Envelope {
+            from,
+            to,
+            number,
+            tag,
+        } = envelope;
+        if from >= self.ranks || to >= self.ranks || from == to {
+            return false;
+        }
+        let lane = &self.lanes[self.lane_of(&envelope)];
+        match event {
+            TraceEvent::Posted(_) => lane.may_post(number),
+            TraceEvent::Closed(_) => lane.may_post(number) && tag.0 == 0,
+            TraceEvent::Took(_) => {
+                lane.taken < lane.posted && self.events[lane.oldest] == TraceEvent::Posted(envelope)
+            }
+            TraceEvent::Ended(_) => {
+                lane.taken < lane.posted && self.events[lane.oldest] == TraceEvent::Closed(envelope)
+            }
+        }
     }
 
     /// Whether these are the ranks' own lists of what they did, one for each rank in order: the events of each in the
@@ -110,6 +163,33 @@ impl Trace {
     pub fn matches(&self, logs: &[Vec<TraceEvent>]) -> bool
         ensures { result ≡ true ↔ AreLogsOf self.now (map (λ log. log.items) logs.now) }
     {
-        logs.len() == self.ranks as usize
+        if logs.len() != self.ranks as usize {
+            return false;
+        }
+        for rank in 0..self.ranks {
+            if !self.is_log_of(rank, &logs[rank as usize]) {
+                return false;
+            }
+        }
+        true
+    }
+
+    /// Whether this is the list of what a rank did.
+    fn is_log_of(&self, rank: u16, log: &[TraceEvent]) -> bool
+        ensures { result ≡ true ↔ (log.now ≡ events_by rank self.now.events) }
+    {
+        let mut rest = log;
+        for event in self.events() {
+            if event.rank() == rank {
+                let [first, others @ ..] = rest else {
+                    return false;
+                };
+                if first != event {
+                    return false;
+                }
+                rest = others;
+            }
+        }
+        rest.is_empty()
     }
 }
