@@ -1,10 +1,8 @@
 -- Matrices whose blocks stand in slots of the ranks: they fit the starts of a plan's operands, and are there.
-use Rattle.std.proofs.Common.{◌≡◌, ℕ, zero, suc, ◌+◌, ◌*◌, ◌<◌, ◌≤◌, false, List, [], ◌∷◌, ◌++◌, replicate, length, take, get_or, refl, sym, ap, subst, add-one, ⊎_elim, ◌∙◌, arith}
-use Rattle.std.specs.Prelude.{Some, ◌==◌, if◌then◌else◌, map}
+use Rattle.std.proofs.Common.{◌≡◌, ℕ, zero, suc, ◌+◌, ◌*◌, ◌<◌, ◌≤◌, false, List, [], ◌∷◌, ◌++◌, replicate, get_or, refl, sym, ap, ⊎_elim, ◌∙◌, arith}
+use Rattle.std.specs.Prelude.{Some, ◌==◌, if◌then◌else◌}
 use Rattle.std.proofs.lemmas.Bool.{cases_lt}
-use Rattle.std.proofs.lemmas.List.{get_or_past, get_or-map, length-map, map-append}
-use Rattle.std.proofs.lemmas.List.Elements.{All-get_or}
-use Rattle.std.proofs.Math.Seq.{take-suc}
+use Rattle.std.proofs.lemmas.List.{get_or_past}
 use Rattle.cb_semirings.specs.Arithmetic.{Arithmetic}
 use Rattle.cb_matrix.specs.Sparse.{Sparse}
 use Rattle.cb_layout.specs.Blocks.{block_of}
@@ -20,7 +18,7 @@ use Rattle.cb_plan.proofs.Effects.{split, same_state}
 use Rattle.cb_distribution.specs.Distribution.{operand_starts, HasParts}
 use Rattle.cb_distribution.proofs.Grid.{at_place}
 use Rattle.cb_distribution.proofs.Starts.{shape_with, operands_there, operands_elsewhere}
-use Rattle.cb_scripts.specs.Slots.{Filled, HasOperands, block_of_rank, slot_with, operands_of, HaveSlots}
+use Rattle.cb_scripts.specs.Slots.{Filled, HasOperands, block_of_rank, slot_with, operands_of}
 
 some_side : (q : ℕ) → 1 ≤ q * q → 0 < q
 some_side zero h = absurd (omega arith)
@@ -49,21 +47,6 @@ module _ (s : Arithmetic) (q : ℕ) where
         ∙ ap (λ x. if n == k then slot_is.Sheet (block_of_rank s q m r) else x) (h.cells r k l)
         ∙ sym (with_last r ps n m k slot_is.Empty);
   }
-
-  -- the same, the matrices being told by a list of something else
-  pub next_operand : {A : Type 0} (told : A → ℕ × Sparse) (xs : List A) (i : ℕ) (x : A) (old new : List (List (Slot Sparse))) → i < length xs → x ≡ get_or xs i x →
-      HasOperands s q (map told (take i xs)) old → Filled (q * q) (told x).0 (block_of_rank s q (told x).1) old new → HasOperands s q (map told (take (i + 1) xs)) new
-  next_operand told xs i x old new l is h filled =
-      let all = ap (λ k. take k xs) (add-one i) ∙ take-suc xs i x l ∙ ap (λ y. take i xs ++ y ∷ []) (sym is) in
-      subst (λ ps. HasOperands s q ps new)
-      (sym (ap (map told) all ∙ map-append told (take i xs) (x ∷ [])))
-      (one_operand_more (map told (take i xs)) (told x).0 (told x).1 old new h filled)
-
-  -- each goes to a slot that exists
-  pub operand_slot : {A : Type 0} (told : A → ℕ × Sparse) (xs : List A) (i : ℕ) (x : A) → i < length xs → x ≡ get_or xs i x → HaveSlots (map told xs) → (told x).0 < 256
-  operand_slot told xs i x l is h =
-      subst (λ (p : ℕ × Sparse). p.0 < 256) (get_or-map told xs i x (told x) l ∙ ap told (sym is))
-      (All-get_or (λ (p : ℕ × Sparse). p.0 < 256) (map told xs) i (told x) (subst (λ n. i < n) (sym (length-map xs told)) l) h)
 
   -- the shapes there are those that the starts say
   shape_there : (r : ℕ) (ps : List (ℕ × Sparse)) (k : ℕ) (x : Slot Sparse) → one (λ (m : Sparse). m.shape) (sheet_of (slot_with s q r ps k x)) ≡ shape_with q r (operands_of ps) k (one (λ (m : Sparse). m.shape) (sheet_of x))

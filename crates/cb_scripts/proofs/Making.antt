@@ -1,6 +1,6 @@
 -- What a plan makes of the matrices whose blocks stand in slots of the ranks.
 use Rattle.std.proofs.Common.{◌≡◌, ℕ, false, List, sym, ap, subst, ◌∙◌, arith}
-use Rattle.std.specs.Prelude.{not, ◌==◌, ◌&&◌, Result, Ok, Err, IfOk}
+use Rattle.std.specs.Prelude.{not, ◌==◌, ◌&&◌, Result, Ok, Err, IfOk, map}
 use Rattle.std.proofs.lemmas.Bool.Decides.{nat_tests}
 use Rattle.cb_semirings.specs.Arithmetic.{Arithmetic, IsSemiring}
 use Rattle.cb_matrix.specs.Sparse.{Sparse, Extent}
@@ -15,6 +15,7 @@ use Rattle.cb_scripts.specs.Slots.{HasOperands}
 use Rattle.cb_scripts.specs.Answers.{HasShapes, Makes, gathered}
 use Rattle.cb_scripts.proofs.Holdings.{operands_fit}
 use Rattle.cb_scripts.proofs.GatheredParts.{shapes_of_parts, gathered_parts, over_grid}
+use Rattle.cb_scripts.proofs.LaidOutOperands.{whole_matrix}
 
 -- shapes that a test found equal are
 pub found_equal : (d e a b : Extent) → d ≡ a → e ≡ b → false ≡ not ((d.rows == e.rows) && (d.cols == e.cols)) → a ≡ b
@@ -51,8 +52,12 @@ pub whichever_made : {E : Type 0} (s : Arithmetic) → IsSemiring s → (q : ℕ
 whichever_made s laws q operands planned shape stores has (Ok m) h = λ answer makes. h ∙ ap (over_grid q) (made_answer s q operands planned shape answer makes stores has laws)
 whichever_made s laws q operands planned shape stores has (Err e) h = h
 
--- and what is whichever answer it makes is this one
-pub this_made : {E : Type 0} {s : Arithmetic} {q : ℕ} {operands : List (ℕ × Sparse)} {planned : Planned} {shape : Extent} (r : Result Distributed E) →
-    IfOk r (λ m. (answer : Sparse) → Makes s q operands planned shape answer → m ≡ over_grid q answer) → (answer : Sparse) → Makes s q operands planned shape answer → IfOk r (λ m. m ≡ over_grid q answer)
-this_made (Ok m) h answer makes = h answer makes
-this_made (Err e) h answer makes = h
+-- and what is whichever answer it makes is this one, the side of the grid being named in another way
+pub this_made : {E : Type 0} {s : Arithmetic} {q : ℕ} {operands : List (ℕ × Sparse)} {planned : Planned} {shape : Extent} (side : ℕ) → side ≡ q → (r : Result Distributed E) →
+    IfOk r (λ m. (answer : Sparse) → Makes s q operands planned shape answer → m ≡ over_grid q answer) → (answer : Sparse) → Makes s q operands planned shape answer → IfOk r (λ m. m ≡ over_grid side answer)
+this_made side same (Ok m) h answer makes = h answer makes ∙ ap (λ n. over_grid n answer) (sym same)
+this_made side same (Err e) h answer makes = h
+
+-- what a plan makes of some matrices over a grid it makes of them under another name
+pub made_of : (s : Arithmetic) (q : ℕ) (planned : Planned) (shape : Extent) (answer : Sparse) (operands these : List (ℕ × Distributed)) → operands ≡ these → Makes s q (map whole_matrix these) planned shape answer → Makes s q (map whole_matrix operands) planned shape answer
+made_of s q planned shape answer operands these e h = subst (λ os. Makes s q (map whole_matrix os) planned shape answer) (sym e) h

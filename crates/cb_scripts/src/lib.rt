@@ -11,6 +11,8 @@ ghost use Rattle.cb_scripts.specs.declared.ScriptFault.TheVariants.{Memory};
 ghost use Rattle.cb_scripts.specs.Refusals.{fault_of_run};
 
 #[cfg(test)]
+mod grid_tests;
+#[cfg(test)]
 mod order_tests;
 mod orders;
 mod placewise;

@@ -39,7 +39,8 @@ pub fn add<S: Semiring + Send + Sync, R: Threads + Wait + Sync>(
     Ok(answer.gather(alloc)?)
 }
 
-/// The sum of two matrices that lie over one grid, left in its blocks. Their blocks are given to the ranks. All else is as in [`add`].
+/// The sum of two matrices that lie over one grid, left in its blocks. Their blocks are given to the ranks. All else is
+/// as in [`add`].
 pub fn add_distributed<S: Semiring + Send + Sync, R: Threads + Wait + Sync>(
     rt: &R,
     alloc: Global,
@@ -91,7 +92,8 @@ pub fn times<S: Semiring + Send + Sync, R: Threads + Wait + Sync>(
     Ok(answer.gather(alloc)?)
 }
 
-/// The product, place by place, of two matrices that lie over one grid, left in its blocks. Their blocks are given to the ranks. All else is as in [`times`].
+/// The product, place by place, of two matrices that lie over one grid, left in its blocks. Their blocks are given to
+/// the ranks. All else is as in [`times`].
 pub fn times_distributed<S: Semiring + Send + Sync, R: Threads + Wait + Sync>(
     rt: &R,
     alloc: Global,

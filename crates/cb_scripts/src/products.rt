@@ -17,7 +17,7 @@ use std::thread::Threads;
 /// The product of two matrices, by Sparse SUMMA over the grid.
 ///
 /// The first has as many columns as the second has rows, else the answer is `Shapes`, before memory is asked for.
-/// Where one of the two has no entries no plan is made, and the answer costs a block for each rank.
+/// Where one of the two has no entries no plan is made: it costs the entries of the other, and a block for each rank.
 pub fn multiply<S: Semiring + Send + Sync, R: Threads + Wait + Sync>(
     rt: &R,
     alloc: Global,
@@ -40,7 +40,7 @@ pub fn multiply<S: Semiring + Send + Sync, R: Threads + Wait + Sync>(
 }
 
 /// The product of two matrices that lie over one grid, by Sparse SUMMA, left in its blocks. Their blocks are given to
-/// the ranks, and none is copied before it is sent. All else is as in [`multiply`].
+/// the ranks without a copy. Where one has no entries it costs a block for each rank. All else is as in [`multiply`].
 pub fn multiply_distributed<S: Semiring + Send + Sync, R: Threads + Wait + Sync>(
     rt: &R,
     alloc: Global,

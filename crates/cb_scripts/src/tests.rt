@@ -214,6 +214,16 @@ fn refuses_shapes(rt: HostRuntime) -> Result<(), Fail> {
     Ok(())
 }
 
+/// Whether want of memory has this refusal with this engine.
+pub fn is_refusal(engine: Engine, fault: ScriptFault) -> bool {
+    match fault {
+        ScriptFault::Memory => true,
+        ScriptFault::NotStarted(_) => engine != Engine::Plain,
+        ScriptFault::Lost(_) => engine != Engine::Plain,
+        _ => false,
+    }
+}
+
 /// Whether an answer has just these entries, or is a refusal that want of memory has with this engine.
 pub fn is_right_or_refused<S: Semiring>(
     engine: Engine,
@@ -222,10 +232,7 @@ pub fn is_right_or_refused<S: Semiring>(
 ) -> bool {
     match answer {
         Ok(matrix) => matrix.entries() == wanted,
-        Err(ScriptFault::Memory) => true,
-        Err(ScriptFault::NotStarted(_)) => engine != Engine::Plain,
-        Err(ScriptFault::Lost(_)) => engine != Engine::Plain,
-        Err(_) => false,
+        Err(fault) => is_refusal(engine, fault),
     }
 }
 

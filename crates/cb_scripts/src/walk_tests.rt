@@ -1,6 +1,7 @@
 //! Worked graphs with each engine on grids of several sides.
 use crate::tests::{ENGINES, RUNS, entry, grid, is_right_or_refused, matrix};
-use crate::{Engine, ScriptFault, distances, levels, vector};
+use crate::{Engine, ScriptFault, distances, distances_distributed, levels, vector};
+use cb_layout::DistributedMatrix;
 use cb_matrix::Matrix;
 use cb_semirings::{MinPlus, OrAnd};
 use std::alloc::Global;
@@ -56,7 +57,11 @@ fn a_cycle_of_no_weight(rt: HostRuntime) -> Result<(), Fail> {
     let graph = cycle(rt.alloc()).ok_or("a graph")?;
     let wanted = [entry(0, 0, 0), entry(1, 0, 0), entry(2, 0, 2)];
     for (engine, side) in RUNS {
-        let found = distances(&rt, rt.alloc(), engine, &grid(side)?, &graph, 0)?;
+        let grid = grid(side)?;
+        let found = distances(&rt, rt.alloc(), engine, &grid, &graph, 0)?;
+        assert!(rt; found.entries() == wanted.as_slice());
+        let spread = DistributedMatrix::scatter(rt.alloc(), grid, &graph)?;
+        let found = distances_distributed(&rt, rt.alloc(), engine, spread, 0)?;
         assert!(rt; found.entries() == wanted.as_slice());
     }
     Ok(())

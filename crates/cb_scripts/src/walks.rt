@@ -184,6 +184,18 @@ fn unit_matrix(alloc: Global, graph: &Matrix<OrAnd>) -> Result<Matrix<MinPlus>, 
     Ok(Matrix::from_ordered(shape, entries))
 }
 
+/// The same over a grid. The list of its entries is given up.
+fn unit_graph(
+    alloc: Global,
+    grid: &Grid,
+    graph: &Matrix<OrAnd>,
+) -> Result<DistributedMatrix<MinPlus>, AllocError>
+    ensures { IfOk result (λ m. m ≡ record { side = grid.now.side; matrix = unit_weights graph.now }) }
+{
+    let weighted = unit_matrix(alloc, graph)?;
+    DistributedMatrix::scatter(alloc, *grid, &weighted)
+}
+
 /// The distance of each vertex from a source: the least weight of a walk, where a walk's weight is the sum of its
 /// entries' values, which stops at 2^64-1. Vertices without a walk, or with an infinite distance, are not stored.
 ///
@@ -257,7 +269,6 @@ pub fn levels<R: Threads + Wait + Sync>(
     if source >= shape.rows() {
         return Err(ScriptFault::Source);
     }
-    let weighted = unit_matrix(alloc, graph)?;
-    let spread = DistributedMatrix::scatter(alloc, *grid, &weighted)?;
-    nearest(rt, alloc, engine, spread, source)
+    let weighted = unit_graph(alloc, grid, graph)?;
+    nearest(rt, alloc, engine, weighted, source)
 }

@@ -5,5 +5,5 @@ use Rattle.cb_scripts.proofs.products.nothing.Goals as goal
 
 pub returns : goal.returns
 returns g c =
-    let shape : c.with_columns_of.result ≡ product_shape c.args.left.now c.args.right.now = c.with_columns_of.ensures ∙ (λ t. record { rows = (c.shape.ensures.shape t).rows; cols = (c.shape-2.ensures.shape t).cols }) in
-    product_vanishes g.S.Semiring.arithmetic g.met.S.Semiring.is_semiring c.args.left.now c.args.right.now c.shape.ensures.matrix c.shape-2.ensures.matrix c.requires c.empty-empty.result c.shape-shape.ensures.matrix (c.empty-empty.ensures ∙ ap empty_matrix shape)
+    let shape : c.with_columns_of.result ≡ product_shape c.args.left.now.matrix c.args.right.now.matrix = c.with_columns_of.ensures ∙ (λ t. record { rows = (c.shape.ensures.shape t).rows; cols = (c.shape-2.ensures.shape t).cols }) in
+    product_vanishes g.S.Semiring.arithmetic g.met.S.Semiring.is_semiring c.args.left.now.matrix c.args.right.now.matrix c.shape.ensures.matrix c.shape-2.ensures.matrix c.requires c.empty-empty.result c.shape-shape.ensures.matrix (c.empty-empty.ensures ∙ ap empty_matrix shape)

@@ -7,7 +7,7 @@ use Rattle.cb_scripts.proofs.stores.distribute.Goals as goal
 pub returns : goal.returns
 returns g c =
     let s = g.S.Semiring.arithmetic in
-    let q = c.args.grid.now.side in
-    let m = c.args.matrix.now in
-    let blocks = c.in_ok-blocks.blocks.items in
-    filled_with (q * q) c.args.slot (block_at blocks) (block_of_rank s q m) c.args.stores.now.items c.fill.new.stores.items (of_ranks s q m blocks c.in_ok-blocks.ensures.blocks) (rw c.requires.table.rows at c.fill.ensures)
+    let q = c.args.matrix.side in
+    let m = c.args.matrix.matrix in
+    let blocks = c.into_blocks.result.items in
+    filled_with (q * q) c.args.slot (block_at blocks) (block_of_rank s q m) c.args.stores.now.items c.fill.new.stores.items (of_ranks s q m blocks c.into_blocks.ensures.blocks) (rw c.requires.table.rows at c.fill.ensures)

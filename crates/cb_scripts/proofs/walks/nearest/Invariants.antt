@@ -10,8 +10,8 @@ use Rattle.cb_scripts.proofs.walks.nearest.Given as goal
 -- the known numbers near the least ones, and the matrix is the transposed graph
 abbrev pub invariant-loop-round : goal.invariant-loop-round
 invariant-loop-round g l = record {
-  nearing : Nearing l.fn.graph l.fn.source l._round (number_at l.known) (λ u. at min_plus l.fell u 0);
-  shape : l.fell.shape ≡ column_shape l.fn.graph;
-  finite : AreNumbers l.fn.graph.shape.rows l.known;
-  turned : l.turned ≡ record { side = l.fn.grid.side; matrix = transposed min_plus l.fn.graph };
+  nearing : Nearing l.fn.graph.matrix l.fn.source l._round (number_at l.known) (λ u. at min_plus l.fell u 0);
+  shape : l.fell.shape ≡ column_shape l.fn.graph.matrix;
+  finite : AreNumbers l.fn.graph.matrix.shape.rows l.known;
+  turned : l.turned ≡ record { side = l.fn.graph.side; matrix = transposed min_plus l.fn.graph.matrix };
 }
