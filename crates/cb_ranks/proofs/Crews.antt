@@ -95,7 +95,7 @@ place s (x ∷ xs) (y ∷ ys) (suc k) h l =
 slice_get_of : {X Y : Type 0} (f : X → Y) (xs : List X) (k : ℕ) (x : X) → slice_get xs k ≡ Some x → slice_get (map f xs) k ≡ Some (f x)
 slice_get_of f xs k x e = slice_get-map f xs k ∙ ap (option_map f) e
 
-get_or_of : {X Y : Type 0} (f : X → Y) (xs : List X) (k : ℕ) (x : X) (d : Y) → slice_get xs k ≡ Some x → get_or (map f xs) k d ≡ f x
+pub get_or_of : {X Y : Type 0} (f : X → Y) (xs : List X) (k : ℕ) (x : X) (d : Y) → slice_get xs k ≡ Some x → get_or (map f xs) k d ≡ f x
 get_or_of f xs k x d e = get_or_from_slice_get (map f xs) k (f x) d (slice_get_of f xs k x e)
 
 -- how far the ranks of a crew came

@@ -12,6 +12,8 @@
 -- Crews: the same of all ranks with their desks: `finishes_all`; `still_opening`, for `settle`; `is_crew` and `are_new`, ranks
 --   and desks before they run; `is_finished` and `sum_small`, the sum of refusals.
 -- Ending: what all ranks leave once their threads are joined and the lanes settled.
+-- Telling: recorders that are told of the events of a rank's halves, and of all ranks' programs.
+-- Tracing: lists that have all that was told, and a trace that they match.
 -- Example: two ranks that meet what the closing law asks for, one of them refused memory.
 pub mod Lanes
 pub mod Going
@@ -25,4 +27,6 @@ pub mod Acts
 pub mod Closing
 pub mod Crews
 pub mod Ending
+pub mod Telling
+pub mod Tracing
 mod Example

@@ -54,6 +54,7 @@ pub is_fault_of : (p : CheckedView) (first : List (List (Slot Sparse))) (crew : 
 is_fault_of p first crew fault_is.Memory is of_crew = absurd of_crew
 is_fault_of p first crew (fault_is.NotStarted r) is of_crew = one_is_rank p first crew r is of_crew
 is_fault_of p first crew (fault_is.Gone r) is of_crew = one_is_rank p first crew r is of_crew
+is_fault_of p first crew fault_is.TraceTorn is of_crew = absurd of_crew
 
 -- an error that is answered as it came
 pub err_is : {A E : Type 0} (P : E → Type 0) (x : E) (r : Result A E) → IsErrAnd r (λ e. e ≡ x) → P x → IfErr r P

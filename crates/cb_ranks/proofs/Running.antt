@@ -61,7 +61,8 @@ goes_on s x d y e z f run next =
       under_way = next.under_way;
     }
 
-none_past : {A : Type 0} (xs : List A) (k : ℕ) → slice_get xs k ≡ None → length xs ≤ k
+-- a list that has no element at a place ends before it
+pub none_past : {A : Type 0} (xs : List A) (k : ℕ) → slice_get xs k ≡ None → length xs ≤ k
 none_past [] k e = omega arith
 none_past (x ∷ xs) zero e = cc
 none_past (x ∷ xs) (suc k) e = let h = none_past xs k e in omega arith

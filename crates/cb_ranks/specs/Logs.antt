@@ -1,8 +1,19 @@
 -- The lists of events that the ranks of a traced run keep.
-use Rattle.std.specs.Prelude.{◌≡◌, false, List, [], All}
+use Rattle.std.specs.Prelude.{◌≡◌, false, List, [], ◌∷◌, ◌++◌}
+use Rattle.cb_trace.specs.declared.events.TraceEvent.{TraceEvent}
 use Rattle.cb_ranks.specs.declared.logs.Log.{Log}
 
 module _ {S G : Type 0} where
+  -- a log that isn't torn once it was told of an event wasn't torn before, and has the event as its last
+  abbrev pub Keeps : Log S G → TraceEvent → Log S G → Type 0
+  Keeps old event new = new.is_torn ≡ false → (old.is_torn ≡ false) × (new.events.items ≡ old.events.items ++ event ∷ [])
+
   -- nothing was told to any of them
   abbrev pub AreNewLogs : List (Log S G) → Type 0
-  AreNewLogs logs = All (λ log. (log.is_torn ≡ false) × (log.events.items ≡ [])) logs
+  AreNewLogs [] = Unit {0}
+  AreNewLogs (log ∷ logs) = ((log.is_torn ≡ false) × (log.events.items ≡ [])) × AreNewLogs logs
+
+  -- none of them is torn
+  abbrev pub AreWhole : List (Log S G) → Type 0
+  AreWhole [] = Unit {0}
+  AreWhole (log ∷ logs) = (log.is_torn ≡ false) × AreWhole logs

@@ -1,5 +1,5 @@
 -- What the recorders of a crew were told.
-use Rattle.std.specs.Prelude.{◌≡◌, ℕ, ◌<◌, List, [], ◌∷◌, length, get_or, Unit}
+use Rattle.std.specs.Prelude.{◌≡◌, ℕ, ◌<◌, List, [], ◌∷◌, length, Some, slice_get}
 use Rattle.std.specs.List.{FoldsTo}
 use Rattle.cb_plan.specs.Plans.{CheckedView}
 use Rattle.cb_plan.specs.Programs.{project}
@@ -11,10 +11,21 @@ module _ {T : Type 0} (tells : T → TraceEvent → T → Type 0) where
   -- each recorder was told of the events of its rank's program, in order, and of nothing else
   abbrev pub HaveTold : List Member → List T → List T → Type 0
   HaveTold [] [] [] = Unit {0}
+  HaveTold [] [] (new ∷ news) = ⊥
+  HaveTold [] (old ∷ olds) news = ⊥
+  HaveTold (m ∷ ms) [] news = ⊥
+  HaveTold (m ∷ ms) (old ∷ olds) [] = ⊥
   HaveTold (m ∷ ms) (old ∷ olds) (new ∷ news) = FoldsTo tells old (program_events m.0.me m.0.program) new × HaveTold ms olds news
-  HaveTold ms olds news = ⊥
 
-  -- there is a recorder for each rank of a plan, and it was told of the events of its rank's program, in order, and of nothing else
+  -- so was the recorder of this rank of a plan
+  pub record TellsRank (p : CheckedView) (olds news : List T) (r : ℕ) : Type 0 where
+    pub old : T
+    pub new : T
+    pub old_is : slice_get olds r ≡ Some old
+    pub new_is : slice_get news r ≡ Some new
+    pub told : FoldsTo tells old (program_events r (project p.starts p.acts r)) new
+
+  -- and that of each
   pub record HaveToldPlan (p : CheckedView) (olds news : List T) : Type 0 where
     pub count : length news ≡ p.ranks
-    pub each : (r : ℕ) (d : T) → r < p.ranks → FoldsTo tells (get_or olds r d) (program_events r (project p.starts p.acts r)) (get_or news r d)
+    pub each : (r : ℕ) → r < p.ranks → TellsRank p olds news r

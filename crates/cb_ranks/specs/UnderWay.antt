@@ -10,7 +10,11 @@ use Rattle.cb_plan.specs.Letters.{before}
 use Rattle.cb_lanes.specs.declared.desk.Desk.{Desk}
 use Rattle.cb_lanes.specs.Desks.{identity, posted_to, taken_from}
 use Rattle.cb_lanes.specs.Numbers.{AreNumbered}
+use Rattle.cb_rank.specs.declared.wants.Arrival.{Arrival}
+use Rattle.cb_rank.specs.declared.wants.Arrival.TheVariants as arrival_is
+use Rattle.cb_trace.specs.declared.events.Envelope.{Envelope}
 use Rattle.cb_trace.specs.declared.events.TraceEvent.{TraceEvent}
+use Rattle.cb_trace.specs.declared.events.TraceEvent.TheVariants.{Took, Ended}
 use Rattle.cb_rank.specs.Halves.{DoesHalf}
 use Rattle.cb_rank.specs.Ranks.{RankView, next_half, onward}
 use Rattle.cb_ranks.specs.Runs.{course_of}
@@ -35,3 +39,8 @@ pub record DoesNext (s : Arithmetic) (x : RankView) (d : Desk Sparse) (y : RankV
 -- a recorder was told of the rank's next half over its desk, and of nothing else
 abbrev pub TellsNext : {T : Type 0} → (T → TraceEvent → T → Type 0) → RankView → Desk Sparse → T → T → Type 0
 TellsNext tells x d old new = IfSome (next_half x) (λ half. FoldsTo tells old (events_after x.me (lengths (posted_to d)) (lengths (taken_from d)) (half ∷ [])) new)
+
+-- the event of what was taken, by the envelope that a close mark would have there: a letter's has the letter's tag
+abbrev pub arrival_event : {P : Type 0} → Envelope → Arrival P → TraceEvent
+arrival_event mark (arrival_is.Letter letter) = Took (record mark { tag = letter.tag })
+arrival_event mark (arrival_is.End from) = Ended mark

@@ -1,6 +1,6 @@
 //! The list that each rank of a traced run keeps of its own events, beside the trace that all share.
-ghost use Rattle.std.specs.Prelude.{◌≡◌, ◌≤◌, [], ◌∷◌, ◌++◌, length, map, All, false, IfOk, IfSome, vec_len, vec_capacity};
-ghost use Rattle.cb_ranks.specs.Logs.{AreNewLogs};
+ghost use Rattle.std.specs.Prelude.{◌≡◌, ◌≤◌, [], ◌∷◌, ◌++◌, length, map, false, IfOk, IfSome, vec_len, vec_capacity};
+ghost use Rattle.cb_ranks.specs.Logs.{AreNewLogs, AreWhole};
 
 use crate::gates::Gate;
 use crate::recorders::Recorder;
@@ -88,8 +88,8 @@ pub(crate) fn lists_of<S: Semiring, G: Gate<S>>(
     room: Vec<Vec<TraceEvent>>,
 ) -> Option<Vec<Vec<TraceEvent>>>
     requires room { (room.items ≡ []) × (vec_len logs ≤ vec_capacity room) }
-    ensures lists { IfSome result (λ lists. map (λ list. list.items) lists.items ≡ map (λ log. log.events.items) logs.items) }
-    ensures whole { IfSome result (λ _. All (λ log. log.is_torn ≡ false) logs.items) }
+    ensures lists { IfSome result (λ lists. map (λ list. list.items) lists.items ≡ map (λ log. log.events.items) logs.entry.items) }
+    ensures whole { IfSome result (λ _. AreWhole logs.entry.items) }
 {
     let mut lists = room;
     for log in logs {

@@ -1,5 +1,5 @@
 //! What a rank's thread promises to leave.
-ghost use Rattle.std.specs.Prelude.{◌≡◌, ◌×◌, IfOk};
+ghost use Rattle.std.specs.Prelude.{◌≡◌, IfOk};
 ghost use Rattle.std.specs.List.{FoldsTo};
 ghost use Rattle.cb_ranks.specs.Runs.{Runs};
 ghost use Rattle.cb_ranks.specs.Traced.{program_events};

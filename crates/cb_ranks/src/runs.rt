@@ -5,7 +5,7 @@ ghost use Rattle.cb_lanes.specs.Desks.{is_stranger, posted_to, taken_from};
 ghost use Rattle.cb_rank.specs.Ranks.{IsRank, next_half, want_of};
 ghost use Rattle.cb_ranks.specs.Runs.{IsNewRun, IsOther, Runs};
 ghost use Rattle.cb_ranks.specs.Traced.{program_events};
-ghost use Rattle.cb_ranks.specs.UnderWay.{IsUnderWay, DoesNext, TellsNext};
+ghost use Rattle.cb_ranks.specs.UnderWay.{IsUnderWay, DoesNext, TellsNext, arrival_event};
 
 use crate::gates::Gate;
 use crate::recorders::{Recorder, Silent};
@@ -157,6 +157,19 @@ fn next_take<P: Drop>(desk: &Desk<P>, from: u16, tag: Tag) -> Envelope
     }
 }
 
+/// What is told of a take that brought this, by the envelope that a close mark would have there.
+fn event_of<P: Drop>(mark: Envelope, arrival: &Arrival<P>) -> TraceEvent
+    ensures { result ≡ arrival_event mark arrival.now }
+{
+    match arrival {
+        Arrival::Letter(letter) => TraceEvent::Took(Envelope {
+            tag: letter.tag,
+            ..mark
+        }),
+        Arrival::End(_) => TraceEvent::Ended(mark),
+    }
+}
+
 /// A Take or an End.
 fn take<S: Semiring, R: Wait, T: Recorder>(
     rt: &R,
@@ -173,16 +186,13 @@ fn take<S: Semiring, R: Wait, T: Recorder>(
     ensures gone { IfErr result (λ e. IsOther rank.old e.0) }
 {
     let mark = next_take(desk, from, Tag(0));
-    let (event, arrival) = match desk.take(rt, from)? {
-        Taken::Letter(letter) => {
-            let tag = letter.tag;
-            let event = TraceEvent::Took(Envelope { tag, ..mark });
-            (event, Arrival::Letter(letter))
-        }
-        Taken::End => (TraceEvent::Ended(mark), Arrival::End(from)),
+    let arrival = match desk.take(rt, from)? {
+        Taken::Letter(letter) => Arrival::Letter(letter),
+        Taken::End => Arrival::End(from),
         Taken::Empty => unreachable!(),
         Taken::Stranger => unreachable!(),
     };
+    let event = event_of(mark, &arrival);
     let Ok(()) = rank.accept(arrival) else {
         return Err(Gone(from));
     };

@@ -4,14 +4,14 @@ ghost use Rattle.std.specs.Prelude.{◌≡◌, ◌<◌, IfOk, IfSome};
 ghost use Rattle.cb_plan.specs.Stores.{Fits};
 ghost use Rattle.cb_ranks.specs.Runs.{IsNewRun};
 
-use crate::crew::{Member, assemble};
-use crate::{Gate, OpenGate, RunFault, run_rank, run_threads};
+use crate::{Gate, Member, OpenGate, RunFault, assemble, run_rank, run_threads, run_traced};
 use cb_lanes::Gone;
 use cb_letters::Tag;
 use cb_plan::{Act, CheckedPlan, Op, Plan, RankStore, Slot, Start};
 use cb_rank::{Rank, Want};
 use cb_samples::{block, entry, shape};
 use cb_semirings::{PlusTimes, Semiring};
+use cb_trace::Trace;
 use std::alloc::Global;
 use std::sync::atomic::{AtomicU64, Ordering};
 use std::sync::{Mutex, Wait};
@@ -270,6 +270,113 @@ fn refused_memory_is_answered_or_counted(rt: HostRuntime) -> Result<(), Fail> {
             let refusals = finished.refusals();
             let doubled = value_at_0(&finished.stores(), 2);
             assert!(rt; (refusals, doubled) == (0, Some(6)) || (refusals, doubled) == (1, None));
+        }
+    }
+    Ok(())
+}
+
+/// What one of two ranks wanted and recorded in a traced run.
+#[derive(Drop)]
+struct Story {
+    /// The places at which it has recorded its events.
+    places: Vec<usize>,
+    /// How many halves other than Work it has wanted.
+    halves: usize,
+    /// At each of its passes it had recorded as many events as that.
+    agrees: bool,
+}
+
+impl Story {
+    fn new(alloc: Global) -> Story {
+        Story {
+            places: Vec::new(alloc),
+            halves: 0,
+            agrees: true,
+        }
+    }
+
+    fn pass(&mut self, want: Want) {
+        self.agrees &= self.places.len() == self.halves;
+        if want != Want::Work {
+            self.halves = self.halves.saturating_add(1);
+        }
+    }
+
+    fn record(&mut self, place: usize) {
+        self.agrees &= self.places.push(place).is_ok();
+    }
+
+    /// Whether it agrees to the end, and the trace has an event of this rank at each of its places.
+    fn is_of(&self, rank: u16, trace: &Trace) -> bool {
+        self.agrees
+            && self.places.len() == self.halves
+            && self.places.iter().all(|place| *place < trace.len()
+                && trace.event_at(*place).rank() == rank)
+    }
+}
+
+/// Keeps the stories of two ranks.
+#[derive(Drop)]
+struct Scribe<'a, R: Wait> {
+    rt: &'a R,
+    of_0: Mutex<Story>,
+    of_1: Mutex<Story>,
+}
+
+impl<'a, S: Semiring, R: Wait + Sync> Gate<S> for Scribe<'a, R> {
+    fn pass(&self, rank: u16, state: &Rank<S>) {
+        let mine = if rank == 0 { &self.of_0 } else { &self.of_1 };
+        mine.lock(self.rt).pass(state.want());
+    }
+
+    fn recorded(&self, rank: u16, place: usize) {
+        let mine = if rank == 0 { &self.of_0 } else { &self.of_1 };
+        mine.lock(self.rt).record(place);
+    }
+}
+
+/// Whether two lists of places have those of a trace of so many events, each once.
+fn are_places(first: &[usize], second: &[usize], len: usize) -> bool {
+    first.len().saturating_add(second.len()) == len
+        && (0..len).all(|place| first.contains(&place) || second.contains(&place))
+}
+
+#[test]
+fn each_rank_records_its_halves_as_it_does_them(rt: HostRuntime) -> Result<(), Fail> {
+    let alloc = rt.alloc();
+    for capacity in [1, 64] {
+        let (plan, stores) = planned(alloc).ok_or("a plan")?;
+        let gate = Scribe {
+            rt: &rt,
+            of_0: Mutex::new(Story::new(alloc)),
+            of_1: Mutex::new(Story::new(alloc)),
+        };
+        let Ok((finished, trace)) = run_traced(&rt, alloc, &plan, stores, capacity, &gate) else {
+            return Err("the run ends".into());
+        };
+        assert_eq!(rt; (trace.ranks(), trace.len()), (2, 8));
+        let Scribe { of_0, of_1, .. } = gate;
+        let (first, second) = (of_0.into_inner(), of_1.into_inner());
+        assert!(rt; first.is_of(0, &trace) && second.is_of(1, &trace));
+        assert!(rt; are_places(&first.places, &second.places, trace.len()));
+        assert_eq!(rt; value_at_0(&finished.stores(), 2), Some(6));
+    }
+    Ok(())
+}
+
+/// Passes whichever single growth is refused, as the test of a run without a trace.
+#[test]
+fn refused_memory_is_answered_or_counted_with_a_trace(rt: HostRuntime) -> Result<(), Fail> {
+    let Some((plan, stores)) = planned(rt.alloc()) else {
+        return Ok(());
+    };
+    match run_traced(&rt, rt.alloc(), &plan, stores, 2, &OpenGate) {
+        Err(fault) => assert_eq!(rt; fault, RunFault::Memory),
+        Ok((finished, trace)) => {
+            let refusals = finished.refusals();
+            let doubled = value_at_0(&finished.stores(), 2);
+            assert!(rt; (refusals, doubled) == (0, Some(6)) || (refusals, doubled) == (1, None));
+            assert_eq!(rt; trace.len(), 8);
         }
     }
     Ok(())

@@ -1,5 +1,5 @@
 //! A thread for each rank, in one scope: started in order, and all joined before the scope ends.
-ghost use Rattle.std.specs.Prelude.{◌≡◌, ◌≤◌, ◌×◌, [], length, map, IfOk, IfErr, IfSome, IfNone, vec_len, vec_capacity};
+ghost use Rattle.std.specs.Prelude.{◌≡◌, ◌≤◌, [], length, map, IfOk, IfErr, IfSome, IfNone, vec_len, vec_capacity};
 ghost use Rattle.std.specs.List.{AllZip};
 ghost use Rattle.cb_plan.specs.Stores.{Fits};
 ghost use Rattle.cb_ranks.specs.Crews.{AreNew, IsOneOf, Ran};
@@ -202,20 +202,20 @@ fn run_crew<S: Semiring + Send + Sync, R: Threads + Wait + Sync, G: Gate<S>, T: 
     ensures told { IfOk result (λ done. HaveTold T.tells crew.items recorders.items done.1.items) }
     ensures fault { IfErr result (IsFaultIn crew.items) }
 {
+    let Room {
+        threads,
+        members,
+        told,
+    } = room;
     thread::scope(
         thread::scope_env(),
         rt,
         move |scope| -> Result<(Vec<Member<S>>, Vec<T>), RunFault>
-            requires { AreNew crew.items × (length recorders.items ≡ length crew.items) × IsRoomFor (vec_len crew) room }
+            requires { AreNew crew.items × (length recorders.items ≡ length crew.items) × (threads.items ≡ []) × (vec_len crew ≤ vec_capacity threads) × (members.items ≡ []) × (vec_len crew ≤ vec_capacity members) × (told.items ≡ []) × (vec_len crew ≤ vec_capacity told) }
             ensures ran { IfOk result (λ done. AllZip (Ran S.arithmetic) crew.items done.0.items) }
             ensures told { IfOk result (λ done. HaveTold T.tells crew.items recorders.items done.1.items) }
             ensures fault { IfErr result (IsFaultIn crew.items) }
         {
-            let Room {
-                threads,
-                members,
-                told,
-            } = room;
             let (threads, missing) = start_all(scope, rt, crew, recorders, threads, gate);
             // Also where one is missing, so that no thread outlives the call.
             let joined = join_all(rt, threads, members, told);

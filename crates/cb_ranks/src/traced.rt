@@ -1,5 +1,5 @@
 //! A run in threads that keeps a trace.
-ghost use Rattle.std.specs.Prelude.{◌×◌, IfOk, IfErr};
+ghost use Rattle.std.specs.Prelude.{IfOk, IfErr};
 ghost use Rattle.cb_plan.specs.Stores.{Fits};
 ghost use Rattle.cb_ranks.specs.Faults.{IsTracedFaultOf};
 ghost use Rattle.cb_ranks.specs.Finished.{HoldsMeaning};

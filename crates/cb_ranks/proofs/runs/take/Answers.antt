@@ -3,8 +3,14 @@ use Rattle.cb_rank.specs.Ranks.{IsAwaited, next_half, onward, slots_with}
 use Rattle.cb_rank.proofs.Ports.{waits_for}
 use Rattle.cb_lanes.specs.Desks.{Takes}
 use Rattle.cb_ranks.proofs.Going.{is_lane, does_letter, does_mark}
+use Rattle.cb_ranks.proofs.Telling.{tells_arrival}
 use Rattle.cb_ranks.proofs.runs.take.Goals.{in-Letter, in-End}
 use Rattle.cb_ranks.proofs.runs.take.Goals as goal
+
+pub next_take-mark-requires : goal.next_take-mark-requires
+next_take-mark-requires g c =
+    let it = waits_for _ c.args.from c.requires.rank c.requires.want in
+    is_lane c.args.rank.now c.args.desk.now c.args.from c.requires.under_way it.other.0 it.other.1
 
 pub unreachable-requires-in-Stranger : goal.unreachable-requires-in-Stranger
 unreachable-requires-in-Stranger g c =
@@ -35,3 +41,8 @@ returns-clause-next g c =
           (subst (λ a. y ≡ onward x (slots_with (next_half x) a x.slots) x.refusals) w.arrival-is onto)
           (subst (λ t. Takes d from t e) w.in-End.is takes)
     ]
+
+pub returns-clause-told : goal.returns-clause-told
+returns-clause-told g c =
+    let told = subst (λ e. g.T.Recorder.tells c.args.recorder.now e c.tell.new.self) c.event_of-event.ensures c.tell.ensures in
+    tells_arrival g.T.Recorder.tells c.args.rank.now c.args.desk.now c.args.from _ _ _ _ c.requires.under_way c.requires.want (c.in-Ok.ensures.awaited.0 refl) c.next_take-mark.ensures told

@@ -1,13 +1,25 @@
-use Rattle.std.proofs.Common.{◌≡◌, ◌++◌, ◌∷◌, sym, ap, ◌∙◌, subst, map}
-use Rattle.std.specs.Vec.Iter.{into_iter_items}
+use Rattle.std.proofs.Common.{rules, length, ◌≡◌, ◌++◌, ◌∷◌, sym, ap, ◌∙◌, subst, map}
 use Rattle.cb_ranks.specs.Crews.{IsOneOf}
-use Rattle.cb_ranks.specs.Started.{started}
+use Rattle.cb_ranks.specs.Started.{started, started_recorder}
 use Rattle.cb_ranks.proofs.Others.{member_is_one}
+use Rattle.cb_ranks.proofs.Pairing.{nothing_left}
 use Rattle.cb_ranks.proofs.threads.start_all.Goals as goal
 
 pub returns-in_default-clause-missing : goal.returns-in_default-clause-missing
 returns-in_default-clause-missing g c =
-    let before = map (started {S = g.row.S.Denot}) c.loop-rank.threads.items in
-    let rest = into_iter_items c.next.new.self in
-    let all : before ++ (c.in-Some.rank, c.in-Some.desk) ∷ rest ≡ c.args.crew.items = ap (λ ms. before ++ ms) (sym c.in-Some.ensures.steps.0) ∙ c.loop-rank.invariant.all in
+    let before = map (started {S = g.row.S.Denot} {T = g.row.T.Denot}) c.loop-rank.threads.items in
+    let rest = c.next.new.self.a.rest.items in
+    let next : c.loop-rank.rank-iterator.a.rest.items ≡ (c.in-Some.rank, c.in-Some.desk) ∷ rest = search rules in
+    let all : before ++ (c.in-Some.rank, c.in-Some.desk) ∷ rest ≡ c.args.crew.items = ap (λ ms. before ++ ms) (sym next) ∙ c.loop-rank.invariant.all in
     rw c.rank-number.ensures (subst (λ ms. IsOneOf ms c.in-Some.desk.me) all (member_is_one before (c.in-Some.rank, c.in-Some.desk) rest))
+
+pub returns-clause-all : goal.returns-clause-all
+returns-clause-all g c =
+    let others : length c.loop-rank.rank-iterator.b.rest.items ≡ 0 = search rules in
+    let none : length c.loop-rank.rank-iterator.a.rest.items ≡ 0 = c.loop-rank.invariant.same ∙ others in
+    nothing_left (map (started {S = g.row.S.Denot} {T = g.row.T.Denot}) c.loop-rank.threads.items) c.loop-rank.rank-iterator.a.rest.items c.args.crew.items none c.loop-rank.invariant.all
+
+pub returns-clause-recorders : goal.returns-clause-recorders
+returns-clause-recorders g c =
+    let none : length c.loop-rank.rank-iterator.b.rest.items ≡ 0 = search rules in
+    nothing_left (map (started_recorder {S = g.row.S.Denot} {T = g.row.T.Denot}) c.loop-rank.threads.items) c.loop-rank.rank-iterator.b.rest.items c.args.recorders.items none c.loop-rank.invariant.recorders

@@ -1,0 +1,232 @@
+-- Recorders that are told of a rank's events, half by half, and those of a crew.
+use Rattle.std.proofs.Common.{◌≡◌, ℕ, zero, suc, ◌+◌, ◌<◌, ◌≤◌, List, [], ◌∷◌, ◌++◌, length, map, refl, sym, ◌∙◌, ap, subst, arith, length-append, append_assoc, append-nil, Option, Some, None, IfNone, inl, inr}
+use Rattle.std.specs.Prelude.{drop, get_or, slice_get, ◌==◌, IfSome, if◌then◌else◌}
+use Rattle.std.specs.List.{FoldsTo}
+use Rattle.std.proofs.lemmas.Option.{get_or_from_slice_get}
+use Rattle.cb_semirings.specs.Arithmetic.{Arithmetic}
+use Rattle.cb_matrix.specs.Sparse.{Sparse}
+use Rattle.cb_letters.specs.declared.Body.{Body}
+use Rattle.cb_letters.specs.declared.Letter.{Letter}
+use Rattle.cb_letters.specs.declared.Tag.{Tag}
+use Rattle.cb_letters.specs.Letters.{mark_tag}
+use Rattle.cb_lanes.specs.declared.desk.Desk.{Desk}
+use Rattle.cb_lanes.specs.Desks.{posted_to, taken_from}
+use Rattle.cb_plan.specs.declared.acts.Half.{Half}
+use Rattle.cb_plan.specs.declared.acts.Half.TheVariants as half_is
+use Rattle.cb_plan.specs.declared.stores.Slot.{Slot}
+use Rattle.cb_plan.specs.Plans.{CheckedView}
+use Rattle.cb_rank.specs.Halves.{Course, DoesHalf, with_letter}
+use Rattle.cb_plan.specs.declared.acts.Op.{Op}
+use Rattle.cb_rank.specs.declared.wants.Arrival.{Arrival}
+use Rattle.cb_rank.specs.declared.wants.Arrival.TheVariants as arrival_is
+use Rattle.cb_rank.specs.Ranks.{RankView, next_half, IsAwaited}
+use Rattle.cb_rank.specs.Steps.{HandsOut}
+use Rattle.cb_rank.proofs.Wanted.{wants_take, wants_end}
+use Rattle.cb_rank.proofs.View.{split}
+use Rattle.cb_trace.specs.declared.events.Envelope.{Envelope}
+use Rattle.cb_trace.specs.declared.events.TraceEvent.{TraceEvent}
+use Rattle.cb_trace.specs.declared.events.TraceEvent.TheVariants.{Posted, Took, Closed, Ended}
+use Rattle.cb_ranks.specs.Runs.{IsNewRun}
+use Rattle.cb_ranks.specs.UnderWay.{IsUnderWay, DoesNext, TellsNext, arrival_event}
+use Rattle.cb_ranks.specs.Traced.{lengths, one_more, events_after, program_events}
+use Rattle.cb_ranks.specs.Crews.{Member, IsCrew}
+use Rattle.cb_ranks.specs.Told.{HaveTold, TellsRank, HaveToldPlan}
+use Rattle.cb_ranks.proofs.Crews.{none_posted, none_taken}
+use Rattle.cb_ranks.proofs.Going.{WaitsOn}
+use Rattle.cb_ranks.proofs.Running.{HasRun, none_past}
+
+-- what is left of a list where this is its next element
+pub drop-next : {X : Type 0} (xs : List X) (k : ℕ) (x : X) → slice_get xs k ≡ Some x → drop k xs ≡ x ∷ drop (k + 1) xs
+drop-next [] k x e = cc
+drop-next (y ∷ ys) zero x e = cc
+drop-next (y ∷ ys) (suc k) x e = let n : suc k + 1 ≡ suc (k + 1) = omega arith in rw n (drop-next ys k x e)
+
+drop-past : {X : Type 0} (xs : List X) (k : ℕ) → length xs ≤ k → drop k xs ≡ []
+drop-past [] zero l = refl
+drop-past [] (suc k) l = refl
+drop-past (x ∷ xs) zero l = absurd (omega arith)
+drop-past (x ∷ xs) (suc k) l = drop-past xs k (omega arith)
+
+drop-none : {X : Type 0} (xs : List X) → drop 0 xs ≡ xs
+drop-none [] = refl
+drop-none (x ∷ xs) = refl
+
+abbrev with_tag : Envelope → Tag → Envelope
+with_tag e tag = record e { tag = tag }
+
+-- one letter more with one rank
+lengths_at : (lists : ℕ → List (Letter Sparse)) (k : ℕ) (x : Letter Sparse) (j : ℕ) → lengths (with_letter lists k x) j ≡ one_more (lengths lists) k j
+lengths_at lists k x j = split (k == j) (λ t. rw t (length-append (lists j) (x ∷ []))) (λ f. rw f refl)
+
+lengths_with : (lists : ℕ → List (Letter Sparse)) (k : ℕ) (x : Letter Sparse) → lengths (with_letter lists k x) ≡ one_more (lengths lists) k
+lengths_with lists k x = λ i j. lengths_at lists k x j i
+
+module _ {T : Type 0} (tells : T → TraceEvent → T → Type 0) where
+  one_event : (e : TraceEvent) (es : List TraceEvent) (t u last : T) → FoldsTo tells t (e ∷ []) u → FoldsTo tells u es last → FoldsTo tells t (e ∷ es) last
+  one_event e es t u last told rest = (told.0, told.1, subst (λ z. FoldsTo tells z es last) (sym told.2) rest)
+
+  -- a half, and then whatever the rest gives
+  half_told : (s : Arithmetic) (me : ℕ) (half : Half) (rest : List Half) (old new : Course) (t u last : T) → DoesHalf s me half old new
+      → FoldsTo tells t (events_after me (lengths old.posted) (lengths old.taken) (half ∷ [])) u
+      → FoldsTo tells u (events_after me (lengths new.posted) (lengths new.taken) rest) last
+      → FoldsTo tells t (events_after me (lengths old.posted) (lengths old.taken) (half ∷ rest)) last
+  half_told s me (half_is.Post to tag slot) rest old new t u last does told after =
+      let p : lengths new.posted ≡ one_more (lengths old.posted) to = ap (λ (c : Course). lengths c.posted) does.2 ∙ lengths_with old.posted to (record { from = me; to = to; number = length (old.posted to); tag = tag; body = does.0 }) in
+      let q : new.taken ≡ old.taken = ap (λ (c : Course). c.taken) does.2 in
+      one_event _ (events_after me (one_more (lengths old.posted) to) (lengths old.taken) rest) t u last told
+      (subst (λ f. FoldsTo tells u (events_after me f (lengths old.taken) rest) last) p (subst (λ z. FoldsTo tells u (events_after me (lengths new.posted) (lengths z) rest) last) q after))
+  half_told s me (half_is.Take from tag into shape) rest old new t u last does told after =
+      let p : lengths new.taken ≡ one_more (lengths old.taken) from = ap (λ (c : Course). lengths c.taken) does.3 ∙ lengths_with old.taken from does.0 in
+      let q : new.posted ≡ old.posted = ap (λ (c : Course). c.posted) does.3 in
+      one_event _ (events_after me (lengths old.posted) (one_more (lengths old.taken) from) rest) t u last told
+      (subst (λ f. FoldsTo tells u (events_after me (lengths old.posted) f rest) last) p (subst (λ z. FoldsTo tells u (events_after me (lengths z) (lengths new.taken) rest) last) q after))
+  half_told s me (half_is.Work op) rest old new t u last does told after =
+      let p : new.posted ≡ old.posted = ap (λ (c : Course). c.posted) does.2 in
+      let q : new.taken ≡ old.taken = ap (λ (c : Course). c.taken) does.2 in
+      subst (λ z. FoldsTo tells z (events_after me (lengths old.posted) (lengths old.taken) rest) last) (sym told)
+      (subst (λ z. FoldsTo tells u (events_after me (lengths z) (lengths old.taken) rest) last) p (subst (λ z. FoldsTo tells u (events_after me (lengths new.posted) (lengths z) rest) last) q after))
+  half_told s me (half_is.Shut to) rest old new t u last does told after =
+      let p : lengths new.posted ≡ one_more (lengths old.posted) to = ap (λ (c : Course). lengths c.posted) does ∙ lengths_with old.posted to _ in
+      let q : new.taken ≡ old.taken = ap (λ (c : Course). c.taken) does in
+      one_event _ (events_after me (one_more (lengths old.posted) to) (lengths old.taken) rest) t u last told
+      (subst (λ f. FoldsTo tells u (events_after me f (lengths old.taken) rest) last) p (subst (λ z. FoldsTo tells u (events_after me (lengths new.posted) (lengths z) rest) last) q after))
+  half_told s me (half_is.End from) rest old new t u last does told after =
+      let p : lengths new.taken ≡ one_more (lengths old.taken) from = ap (λ (c : Course). lengths c.taken) does.3 ∙ lengths_with old.taken from does.0 in
+      let q : new.posted ≡ old.posted = ap (λ (c : Course). c.posted) does.3 in
+      one_event _ (events_after me (lengths old.posted) (one_more (lengths old.taken) from) rest) t u last told
+      (subst (λ f. FoldsTo tells u (events_after me (lengths old.posted) f rest) last) p (subst (λ z. FoldsTo tells u (events_after me (lengths z) (lengths new.taken) rest) last) q after))
+
+  -- a Post is told of
+  pub tells_post : (x y : RankView) (d : Desk Sparse) (to : ℕ) (tag : Tag) (slot : ℕ) (t : Tag) (body : Body Sparse) (e : Envelope) (old new : T) → IsUnderWay x d → next_half x ≡ Some (half_is.Post to tag slot)
+      → HandsOut x (next_half x) t body y → e ≡ record { from = d.me; to = to; number = length (posted_to d to); tag = t } → tells old (Posted e) new → TellsNext tells x d old new
+  tells_post x y d to tag slot t body e old new was next hands is told =
+      let h = rw next at hands in
+      let same : e ≡ record { from = x.me; to = to; number = length (posted_to d to); tag = tag } = is ∙ rw (was.me, h.0) refl in
+      rw next (new, subst (λ z. tells old (Posted z) new) same told, refl)
+
+  -- a Shut is
+  pub tells_shut : (x : RankView) (d : Desk Sparse) (to : ℕ) (e : Envelope) (old new : T) → IsUnderWay x d → next_half x ≡ Some (half_is.Shut to)
+      → e ≡ record { from = d.me; to = to; number = length (posted_to d to); tag = mark_tag } → tells old (Closed e) new → TellsNext tells x d old new
+  tells_shut x d to e old new was next is told =
+      let same : e ≡ record { from = x.me; to = to; number = length (posted_to d to); tag = mark_tag } = is ∙ rw was.me refl in
+      rw next (new, subst (λ z. tells old (Closed z) new) same told, refl)
+
+  -- and so is what a Take or an End waits for
+  pub tells_arrival : (x : RankView) (d : Desk Sparse) (from : ℕ) (arrival : Arrival Sparse) (e : Envelope) (old new : T) → IsUnderWay x d → WaitsOn x from → IsAwaited (next_half x) x.me arrival
+      → e ≡ record { from = from; to = d.me; number = length (taken_from d from); tag = mark_tag } → tells old (arrival_event e arrival) new → TellsNext tells x d old new
+  tells_arrival x d from (arrival_is.Letter letter) e old new was (inl w) waits is told =
+      let it = wants_take (next_half x) from w in
+      let h = rw it.3 at waits in
+      let mark : Envelope = record { from = from; to = d.me; number = length (taken_from d from); tag = mark_tag } in
+      let due : Envelope = record { from = from; to = x.me; number = length (taken_from d from); tag = it.0 } in
+      let found : with_tag e letter.tag ≡ with_tag mark letter.tag = ap (λ (z : Envelope). with_tag z letter.tag) is in
+      let same : with_tag mark letter.tag ≡ due = rw (was.me, h.2) refl in
+      rw it.3 (new, subst (λ (z : Envelope). tells old (Took z) new) (found ∙ same) told, refl)
+  tells_arrival x d from (arrival_is.Letter letter) e old new was (inr w) waits is told = absurd (rw (wants_end (next_half x) from w) at waits)
+  tells_arrival x d from (arrival_is.End sender) e old new was (inl w) waits is told = absurd (rw (wants_take (next_half x) from w).3 at waits)
+  tells_arrival x d from (arrival_is.End sender) e old new was (inr w) waits is told =
+      let same : e ≡ record { from = from; to = x.me; number = length (taken_from d from); tag = mark_tag } = is ∙ rw was.me refl in
+      rw (wants_end (next_half x) from w) (new, subst (λ z. tells old (Ended z) new) same told, refl)
+
+  -- work isn't
+  pub tells_work : (x : RankView) (d : Desk Sparse) (op : Op) (old : T) → next_half x ≡ Some (half_is.Work op) → TellsNext tells x d old old
+  tells_work x d op old next = rw next refl
+
+  -- the events of the halves that a rank has still to do
+  abbrev pub left : RankView → Desk Sparse → List TraceEvent
+  left x d = events_after x.me (lengths (posted_to d)) (lengths (taken_from d)) (drop x.done x.program)
+
+  -- a recorder that a rank began with was told of all that the rank has done: whatever the rest gives, it has from all
+  abbrev pub HasTold : T → RankView → T → RankView → Desk Sparse → Type 0
+  HasTold first x now y e = (last : T) → FoldsTo tells now (left y e) last → FoldsTo tells first (program_events x.me x.program) last
+
+  -- a rank that begins
+  pub begins_told : (t : T) (x : RankView) (d : Desk Sparse) → IsNewRun x d → HasTold t x t x d
+  begins_told t x d new last h =
+      let p : lengths (posted_to d) ≡ (λ _. 0) = λ i k. (ap length (none_posted new.capacity x.plan.ranks x.me d new.desk k)) i in
+      let q : lengths (taken_from d) ≡ (λ _. 0) = λ i k. (ap length (none_taken new.capacity x.plan.ranks x.me d new.desk k)) i in
+      let r : drop x.done x.program ≡ x.program = ap (λ n. drop n x.program) new.undone ∙ drop-none x.program in
+      subst (λ hs. FoldsTo tells t (events_after x.me (λ _. 0) (λ _. 0) hs) last) r
+      (subst (λ f. FoldsTo tells t (events_after x.me f (λ _. 0) (drop x.done x.program)) last) p
+      (subst (λ f. FoldsTo tells t (events_after x.me (lengths (posted_to d)) f (drop x.done x.program)) last) q h))
+
+  -- and goes on
+  pub goes_on_told : (s : Arithmetic) (t : T) (x : RankView) (d : Desk Sparse) (u : T) (y : RankView) (e : Desk Sparse) (v : T) (z : RankView) (f : Desk Sparse) → HasRun s x d y e → HasTold t x u y e → DoesNext s y e z f → TellsNext tells y e u v → HasTold t x v z f
+  goes_on_told s t x d u y e v z f run told next tell last h =
+      let done : z.done ≡ y.done + 1 = ap (λ (w : RankView). w.done) next.one_more in
+      let me : z.me ≡ y.me = ap (λ (w : RankView). w.me) next.one_more in
+      let program : z.program ≡ y.program = ap (λ (w : RankView). w.program) next.one_more in
+      let more : drop y.done y.program ≡ next.half ∷ drop (y.done + 1) y.program = drop-next y.program y.done next.half next.next in
+      let one : FoldsTo tells u (events_after y.me (lengths (posted_to e)) (lengths (taken_from e)) (next.half ∷ [])) v = rw next.next at tell in
+      let after : FoldsTo tells v (events_after y.me (lengths (posted_to f)) (lengths (taken_from f)) (drop (y.done + 1) y.program)) last =
+      subst (λ n. FoldsTo tells v (events_after y.me (lengths (posted_to f)) (lengths (taken_from f)) (drop n y.program)) last) done
+      (subst (λ hs. FoldsTo tells v (events_after y.me (lengths (posted_to f)) (lengths (taken_from f)) (drop z.done hs)) last) program
+      (subst (λ m. FoldsTo tells v (events_after m (lengths (posted_to f)) (lengths (taken_from f)) (drop z.done z.program)) last) me h)) in
+      told last (subst (λ hs. FoldsTo tells u (events_after y.me (lengths (posted_to e)) (lengths (taken_from e)) hs) last) (sym more)
+      (half_told s y.me next.half (drop (y.done + 1) y.program) _ _ u v last next.does one after))
+
+  -- until it has done its program
+  pub ends_told : (t : T) (x : RankView) (u : T) (y : RankView) (e : Desk Sparse) → HasTold t x u y e → next_half y ≡ None → FoldsTo tells t (program_events x.me x.program) u
+  ends_told t x u y e told none =
+      told u (subst (λ hs. FoldsTo tells u (events_after y.me (lengths (posted_to e)) (lengths (taken_from e)) hs) u) (sym (drop-past y.program y.done (none_past y.program y.done none))) refl)
+
+  module _ {H : Type 0} (f : H → Member) (g : H → T) where
+    -- what came back so far, followed by whatever the rest gives, was told of all
+    abbrev pub Tell : List H → List H → List T → Type 0
+    Tell all rest done = (ys : List T) → HaveTold tells (map f rest) (map g rest) ys → HaveTold tells (map f all) (map g all) (done ++ ys)
+
+    -- where no rank was lost, one recorder more came back
+    pub told_more : (lost : Option ℕ) (all : List H) (done done' : List T) (rest rest' : List H) (x : H) (y : T)
+        → rest ≡ x ∷ rest' → done' ≡ done ++ y ∷ [] → FoldsTo tells (g x) (program_events (f x).0.me (f x).0.program) y
+        → IfNone lost (Tell all rest done) → IfNone lost (Tell all rest' done')
+    told_more (Some n) all done done' rest rest' x y e d r h = tt
+    told_more None all done done' rest rest' x y e d r h = λ ys z. rw (d, append_assoc) (h (y ∷ ys) (rw e (r, z)))
+
+    -- until all did
+    pub told_all : (lost : Option ℕ) (all : List H) (done : List T) (rest : List H)
+        → lost ≡ None → length rest ≡ 0 → IfNone lost (Tell all rest done) → HaveTold tells (map f all) (map g all) done
+    told_all (Some n) all done rest is none h = cc
+    told_all None all done [] is none h = rw append-nil at (h [] tt)
+    told_all None all done (x ∷ xs) is none h = absurd (omega arith)
+
+  told_count : (ms : List Member) (olds news : List T) → HaveTold tells ms olds news → length news ≡ length ms
+  told_count [] [] [] h = refl
+  told_count [] [] (n ∷ news) h = absurd h
+  told_count [] (o ∷ olds) news h = absurd h
+  told_count (m ∷ ms) [] news h = absurd h
+  told_count (m ∷ ms) (o ∷ olds) [] h = absurd h
+  told_count (m ∷ ms) (o ∷ olds) (n ∷ news) h = ap suc (told_count ms olds news h.1)
+
+  -- the k-th of them
+  record ToldAt (ms : List Member) (olds news : List T) (k : ℕ) : Type 0 where
+    member : Member
+    old : T
+    new : T
+    member_is : slice_get ms k ≡ Some member
+    old_is : slice_get olds k ≡ Some old
+    new_is : slice_get news k ≡ Some new
+    told : FoldsTo tells old (program_events member.0.me member.0.program) new
+
+  told_at : (ms : List Member) (olds news : List T) (k : ℕ) → HaveTold tells ms olds news → k < length ms → ToldAt ms olds news k
+  told_at [] [] [] k h l = absurd (omega arith)
+  told_at [] [] (n ∷ news) k h l = absurd h
+  told_at [] (o ∷ olds) news k h l = absurd h
+  told_at (m ∷ ms) [] news k h l = absurd h
+  told_at (m ∷ ms) (o ∷ olds) [] k h l = absurd h
+  told_at (m ∷ ms) (o ∷ olds) (n ∷ news) zero h l = record { member = m; old = o; new = n; member_is = refl; old_is = refl; new_is = refl; told = h.0 }
+  told_at (m ∷ ms) (o ∷ olds) (n ∷ news) (suc k) h l =
+      let it = told_at ms olds news k h.1 (omega arith) in
+      record { member = it.member; old = it.old; new = it.new; member_is = it.member_is; old_is = it.old_is; new_is = it.new_is; told = it.told }
+
+  -- the recorders of a plan's crew were told of its programs
+  pub tells_plan : (p : CheckedView) (first : List (List (Slot Sparse))) (crew : List Member) (olds news : List T) → IsCrew p first crew → HaveTold tells crew olds news → HaveToldPlan tells p olds news
+  tells_plan p first crew olds news is told = record {
+    count = told_count crew olds news told ∙ is.count;
+    each = λ r below.
+        let size = is.count in
+        let inside : r < length crew = omega arith in
+        let it = told_at crew olds news r told inside in
+        let here : get_or crew r it.member ≡ it.member = get_or_from_slice_get crew r it.member it.member it.member_is in
+        let rank = ap (λ (m : Member). m.0) (sym here) ∙ is.ranks r it.member inside in
+        record { old = it.old; new = it.new; old_is = it.old_is; new_is = it.new_is; told = subst (λ (x : RankView). FoldsTo tells it.old (program_events x.me x.program) it.new) rank it.told };
+  }

@@ -1,9 +1,0 @@
-use Rattle.std.proofs.Common.{◌-◌, length}
-use Rattle.cb_ranks.proofs.Running.{HasRun}
-use Rattle.cb_ranks.proofs.runs.run_rank.Given as goal
-
-abbrev pub invariant-loop-desk : goal.invariant-loop-desk
-invariant-loop-desk g l = HasRun g.S.Semiring.arithmetic l.fn.rank l.fn.desk l.rank l.desk
-
-abbrev pub decreases-loop-desk : goal.decreases-loop-desk
-decreases-loop-desk g l = length l.rank.program - l.rank.done
