@@ -72,21 +72,19 @@ abbrev pub IsAnswerOver : Operation → Arithmetic → List (List ℕ) → List 
 IsAnswerOver operation s texts answer =
     (ms : List Sparse) × AreMatrices s texts ms × Agree operation ms × (answer ≡ text_of s (answer_of operation s ms))
 
+-- why the text of a place is no matrix: its first fault, or want of memory with no fault before it
+abbrev pub IsTextFault : Arithmetic → ℕ → List ℕ → JobFault → Type 0
+IsTextFault s place text (Read which fault) = (which ≡ place) × market.IsAnswer (market.first_fault s text) fault
+IsTextFault s place text _ = ⊥
+
 -- The first text that is no matrix, with its first fault, or want of memory with no fault before it.
 abbrev pub IsReadFault : Arithmetic → List (List ℕ) → JobFault → Type 0
 IsReadFault s texts (Read which fault) =
     (which < length texts) × ((i : ℕ) → i < which → IsMatrixText s (text_at texts i)) × market.IsAnswer (market.first_fault s (text_at texts which)) fault
 IsReadFault s texts _ = ⊥
 
--- why an operation answers nothing of its matrices: it is refused; or, where they agree, want of memory
-abbrev pub IsLateFault : Operation → List Sparse → Engine → JobFault → Type 0
-IsLateFault operation ms engine (Read which fault) = ⊥
-IsLateFault operation ms engine (Script fault) = IsRefusal operation ms engine fault
-IsLateFault operation ms engine Memory = Agree operation ms
-IsLateFault operation ms engine Output = ⊥
-
--- Why it answers nothing of texts: one of them is no matrix; else it is refused; and where neither holds, want of memory,
--- or a sink that failed.
+-- Why an operation answers nothing of texts: one of them is no matrix; else it is refused; and where neither holds,
+-- want of memory, or a sink that failed.
 abbrev pub IsFaultOver : Operation → Arithmetic → Engine → List (List ℕ) → JobFault → Type 0
 IsFaultOver operation s engine texts (Read which fault) = IsReadFault s texts (Read which fault)
 IsFaultOver operation s engine texts (Script fault) = (ms : List Sparse) × AreMatrices s texts ms × IsRefusal operation ms engine fault

@@ -108,7 +108,7 @@ fn job_ending<R: Threads + Wait + Sync, F: FileSource, K: Sink>(
         Ok(texts) => texts,
         Err(fault) => return unloaded(fault),
     };
-    match execute(rt, alloc, job, texts.as_slice(), out) {
+    match execute(rt, alloc, job, texts, out) {
         Ok(()) => Ending::Done,
         Err(fault) => Ending::Fault(fault),
     }

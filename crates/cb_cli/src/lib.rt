@@ -4,9 +4,9 @@
 //! It goes through four steps, each a call of its own:
 //! 1. `read_job` reads the words of a command line, and answers a `Job`, a help text or a usage text.
 //! 2. `texts_of` loads the files that the job names, in the job's order, from a `FileSource`.
-//! 3. `execute` reads the texts, computes the answer and writes its text to a `Sink`. All memory
-//!    is taken before its first byte goes out, so every fault but a failed write leaves the sink as it
-//!    was, and after a failed write a beginning of the text has gone out.
+//! 3. `execute` reads the texts into the blocks of the grid, giving up each, computes the answer and writes
+//!    its text to a `Sink`. All memory is taken before its first byte goes out, so every fault but a failed
+//!    write leaves the sink as it was, and after a failed write a beginning of the text has gone out.
 //! 4. An `Ending` tells the status that the program ends with, and what it prints on standard error.
 //!
 //! The semiring is chosen while the program runs: `SemiringName` is the one table of names, and the
@@ -17,6 +17,7 @@ pub mod endings;
 pub mod faults;
 pub mod files;
 pub mod jobs;
+mod operands;
 mod pages;
 pub mod runs;
 pub mod semirings;

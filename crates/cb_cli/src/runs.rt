@@ -1,25 +1,25 @@
 //! Runs a job.
-ghost use Rattle.std.specs.Prelude.{◌≡◌, ◌≢◌, ◌↔◌, ℕ, ◌<◌, List, length, vec_len, true, false, OnOk, IfOk, IfErr, IsErrOf};
+ghost use Rattle.std.specs.Prelude.{◌≡◌, ◌≢◌, ◌↔◌, ℕ, List, vec_len, true, false, OnOk, IfOk, IfErr, IsErrOf};
 ghost use Rattle.std.specs.Io.KnownBytes.{Appends, Keeps};
 ghost use Rattle.cb_cli.specs.Sinks.{AppendsPrefix};
 ghost use Rattle.cb_cli.specs.Jobs.{operand_count_of};
-ghost use Rattle.cb_market.specs.Reads.{Reads};
 ghost use Rattle.cb_market.specs.Text.{text_of, vertex_text_of};
 ghost use Rattle.cb_semirings.specs.Tables.{min_plus, or_and};
 ghost use Rattle.cb_scripts.specs.Walks.{AreLevels, AreDistances};
 ghost use Rattle.cb_cli.specs.Semirings.{arithmetic_of};
-ghost use Rattle.cb_cli.specs.Answers.{IsMatrixText, IsReadFault, IsLateFault, Agree, answer_of, IsRefusal, IsAnswerOver, IsFaultOver, IsWalkAnswer, IsWalkFault, IsAnswer, IsFault, status_of};
-ghost use Rattle.cb_cli.specs.Files.{bytes_of, text_at};
+ghost use Rattle.cb_cli.specs.Answers.{IsAnswerOver, IsFaultOver, IsWalkAnswer, IsWalkFault, IsAnswer, IsFault, status_of};
+ghost use Rattle.cb_cli.specs.Files.{bytes_of};
 
 use crate::jobs::{Job, Operation, Task};
+use crate::operands::{read_graph, read_one, read_three, read_two, read_with_vector};
 use crate::pages::{put_column, put_text};
 use crate::semirings::SemiringName;
 use crate::sinks::Sink;
 use cb_layout::DistributedMatrix;
-use cb_market::{Kind, ReadFault, read};
+use cb_market::{Kind, ReadFault};
 use cb_matrix::Matrix;
 use cb_scripts::{
-    ScriptFault, add_distributed, distances, levels, multiply_distributed,
+    ScriptFault, add_distributed, distances_distributed, levels, multiply_distributed,
     multiply_masked_distributed, prune_distributed, times_distributed, transpose_distributed,
     vector_distributed,
 };
@@ -65,92 +65,51 @@ impl From<AllocError> for JobFault {
     }
 }
 
-/// The matrix of one of the texts, where those before it are matrices.
-fn read_text<S: Semiring>(
-    alloc: Global,
-    texts: &[Vec<u8>],
-    which: usize,
-) -> Result<Matrix<S>, JobFault>
-    requires some { which < length texts.now }
-    requires earlier { (i : ℕ) → i < which → IsMatrixText S.arithmetic (text_at (bytes_of texts.now) i) }
-    ensures ok { IfOk result (λ m. Reads S.arithmetic (text_at (bytes_of texts.now) which) m) }
-    ensures fault { IfErr result (IsReadFault S.arithmetic (bytes_of texts.now)) }
-{
-    match read::<S>(alloc, &texts[which]) {
-        Ok(matrix) => Ok(matrix),
-        Err(fault) => Err(JobFault::Read { which, fault }),
-    }
-}
-
-/// What an operation makes of matrices, on the job's grid.
-fn computed<S: Semiring + Send + Sync, R: Threads + Wait + Sync>(
-    rt: &R,
-    alloc: Global,
-    job: &Job,
-    operation: Operation,
-    operands: &[Matrix<S>],
-) -> Result<DistributedMatrix<S>, ScriptFault>
-    requires { length operands.now ≡ operand_count_of operation }
-    ensures ok { IfOk result (λ m. m.matrix ≡ answer_of operation S.arithmetic operands.now) }
-    ensures agree { IfOk result (λ m. Agree operation operands.now) }
-    ensures fault { IfErr result (IsRefusal operation operands.now job.now.engine) }
-{
-    let (engine, grid, first) = (job.engine, &job.grid, &operands[0]);
-    match operation {
-        Operation::Multiply => multiply_distributed(rt, alloc, engine, grid, first, &operands[1]),
-        Operation::MultiplyMasked => {
-            multiply_masked_distributed(rt, alloc, engine, grid, first, &operands[1], &operands[2])
-        }
-        Operation::MultiplyVector => {
-            vector_distributed(rt, alloc, engine, grid, first, &operands[1])
-        }
-        Operation::Transpose => transpose_distributed(rt, alloc, engine, grid, first),
-        Operation::Add => add_distributed(rt, alloc, engine, grid, first, &operands[1]),
-        Operation::Times => times_distributed(rt, alloc, engine, grid, first, &operands[1]),
-        Operation::Prune(test) => prune_distributed(rt, alloc, engine, grid, first, test),
-    }
-}
-
-/// The same, or the fault of the job.
-fn answer<S: Semiring + Send + Sync, R: Threads + Wait + Sync>(
-    rt: &R,
-    alloc: Global,
-    job: &Job,
-    operation: Operation,
-    operands: &[Matrix<S>],
-) -> Result<DistributedMatrix<S>, JobFault>
-    requires { length operands.now ≡ operand_count_of operation }
-    ensures ok { IfOk result (λ m. m.matrix ≡ answer_of operation S.arithmetic operands.now) }
-    ensures agree { IfOk result (λ m. Agree operation operands.now) }
-    ensures fault { IfErr result (IsLateFault operation operands.now job.now.engine) }
-{
-    let answer = computed(rt, alloc, job, operation, operands)?;
-    Ok(answer)
-}
-
-/// What an operation makes of texts over a semiring, on the job's grid.
+/// What an operation makes of texts over a semiring, on the job's grid. The operands lie in the blocks of the grid, and
+/// no list of their entries is kept, but for that of a vector.
 fn answer_over<S: Semiring + Send + Sync, R: Threads + Wait + Sync>(
     rt: &R,
     alloc: Global,
     job: &Job,
     operation: Operation,
-    texts: &[Vec<u8>],
+    texts: Vec<Vec<u8>>,
 ) -> Result<DistributedMatrix<S>, JobFault>
-    requires { length texts.now ≡ operand_count_of operation }
-    ensures ok { IfOk result (λ m. IsAnswerOver operation S.arithmetic (bytes_of texts.now) (text_of S.arithmetic m.matrix)) }
-    ensures fault { IfErr result (IsFaultOver operation S.arithmetic job.now.engine (bytes_of texts.now)) }
+    requires { vec_len texts ≡ operand_count_of operation }
+    ensures ok { IfOk result (λ m. IsAnswerOver operation S.arithmetic (bytes_of texts.items) (text_of S.arithmetic m.matrix)) }
+    ensures fault { IfErr result (IsFaultOver operation S.arithmetic job.now.engine (bytes_of texts.items)) }
     ensures unwritten { IfErr result (λ f. f ≢ JobFault.Output) }
 {
-    let first = read_text::<S>(alloc, texts, 0)?;
-    if texts.len() == 1 {
-        return answer(rt, alloc, job, operation, &[first]);
+    let (engine, grid) = (job.engine, &job.grid);
+    match operation {
+        Operation::Multiply => {
+            let (left, right) = read_two::<S>(alloc, grid, texts)?;
+            Ok(multiply_distributed(rt, alloc, engine, left, right)?)
+        }
+        Operation::MultiplyMasked => {
+            let (left, right, mask) = read_three::<S>(alloc, grid, texts)?;
+            Ok(multiply_masked_distributed(rt, alloc, engine, left, right, mask)?)
+        }
+        Operation::MultiplyVector => {
+            let (matrix, vector) = read_with_vector::<S>(alloc, grid, texts)?;
+            Ok(vector_distributed(rt, alloc, engine, matrix, &vector)?)
+        }
+        Operation::Transpose => {
+            let matrix = read_one::<S>(alloc, grid, texts)?;
+            Ok(transpose_distributed(rt, alloc, engine, matrix)?)
+        }
+        Operation::Add => {
+            let (left, right) = read_two::<S>(alloc, grid, texts)?;
+            Ok(add_distributed(rt, alloc, engine, left, right)?)
+        }
+        Operation::Times => {
+            let (left, right) = read_two::<S>(alloc, grid, texts)?;
+            Ok(times_distributed(rt, alloc, engine, left, right)?)
+        }
+        Operation::Prune(test) => {
+            let matrix = read_one::<S>(alloc, grid, texts)?;
+            Ok(prune_distributed(rt, alloc, engine, matrix, test)?)
+        }
     }
-    let second = read_text::<S>(alloc, texts, 1)?;
-    if texts.len() == 2 {
-        return answer(rt, alloc, job, operation, &[first, second]);
-    }
-    let third = read_text::<S>(alloc, texts, 2)?;
-    answer(rt, alloc, job, operation, &[first, second, third])
 }
 
 /// Writes what an operation makes of texts over a semiring.
@@ -159,15 +118,15 @@ fn execute_over<S: Semiring + Send + Sync, R: Threads + Wait + Sync, K: Sink>(
     alloc: Global,
     job: &Job,
     operation: Operation,
-    texts: &[Vec<u8>],
+    texts: Vec<Vec<u8>>,
     out: &mut K,
 ) -> Result<(), JobFault>
-    requires texts { length texts.now ≡ operand_count_of operation }
+    requires texts { vec_len texts ≡ operand_count_of operation }
     requires works { K.has_failed out.old ≡ false }
-    ensures whole { OnOk result ((t : List ℕ) × IsAnswerOver operation S.arithmetic (bytes_of texts.now) t × Appends (K.written out.old) (K.written out.new) t) }
-    ensures fault { IfErr result (IsFaultOver operation S.arithmetic job.now.engine (bytes_of texts.now)) }
+    ensures whole { OnOk result ((t : List ℕ) × IsAnswerOver operation S.arithmetic (bytes_of texts.items) t × Appends (K.written out.old) (K.written out.new) t) }
+    ensures fault { IfErr result (IsFaultOver operation S.arithmetic job.now.engine (bytes_of texts.items)) }
     ensures nothing { IfErr result (λ f. f ≢ JobFault.Output → Keeps (K.written out.old) (K.written out.new)) }
-    ensures output { IsErrOf result JobFault.Output → (t : List ℕ) × IsAnswerOver operation S.arithmetic (bytes_of texts.now) t × AppendsPrefix (K.written out.old) (K.written out.new) t }
+    ensures output { IsErrOf result JobFault.Output → (t : List ℕ) × IsAnswerOver operation S.arithmetic (bytes_of texts.items) t × AppendsPrefix (K.written out.old) (K.written out.new) t }
     ensures failed { IsErrOf result JobFault.Output ↔ (K.has_failed out.new ≡ true) }
 {
     let answer = answer_over::<S, R>(rt, alloc, job, operation, texts)?;
@@ -181,15 +140,15 @@ fn execute_named<R: Threads + Wait + Sync, K: Sink>(
     job: &Job,
     operation: Operation,
     semiring: SemiringName,
-    texts: &[Vec<u8>],
+    texts: Vec<Vec<u8>>,
     out: &mut K,
 ) -> Result<(), JobFault>
-    requires texts { length texts.now ≡ operand_count_of operation }
+    requires texts { vec_len texts ≡ operand_count_of operation }
     requires works { K.has_failed out.old ≡ false }
-    ensures whole { OnOk result ((t : List ℕ) × IsAnswerOver operation (arithmetic_of semiring) (bytes_of texts.now) t × Appends (K.written out.old) (K.written out.new) t) }
-    ensures fault { IfErr result (IsFaultOver operation (arithmetic_of semiring) job.now.engine (bytes_of texts.now)) }
+    ensures whole { OnOk result ((t : List ℕ) × IsAnswerOver operation (arithmetic_of semiring) (bytes_of texts.items) t × Appends (K.written out.old) (K.written out.new) t) }
+    ensures fault { IfErr result (IsFaultOver operation (arithmetic_of semiring) job.now.engine (bytes_of texts.items)) }
     ensures nothing { IfErr result (λ f. f ≢ JobFault.Output → Keeps (K.written out.old) (K.written out.new)) }
-    ensures output { IsErrOf result JobFault.Output → (t : List ℕ) × IsAnswerOver operation (arithmetic_of semiring) (bytes_of texts.now) t × AppendsPrefix (K.written out.old) (K.written out.new) t }
+    ensures output { IsErrOf result JobFault.Output → (t : List ℕ) × IsAnswerOver operation (arithmetic_of semiring) (bytes_of texts.items) t × AppendsPrefix (K.written out.old) (K.written out.new) t }
     ensures failed { IsErrOf result JobFault.Output ↔ (K.has_failed out.new ≡ true) }
 {
     match semiring {
@@ -210,15 +169,15 @@ fn levels_of<R: Threads + Wait + Sync>(
     alloc: Global,
     job: &Job,
     source: u32,
-    texts: &[Vec<u8>],
+    texts: Vec<Vec<u8>>,
 ) -> Result<Matrix<MinPlus>, JobFault>
-    requires { 0 < length texts.now }
-    ensures ok { IfOk result (λ column. IsWalkAnswer AreLevels or_and source (bytes_of texts.now) (vertex_text_of column)) }
+    requires { vec_len texts ≡ 1 }
+    ensures ok { IfOk result (λ column. IsWalkAnswer AreLevels or_and source (bytes_of texts.items) (vertex_text_of column)) }
     ensures column { IfOk result (λ column. column.shape.cols ≡ 1) }
-    ensures fault { IfErr result (IsWalkFault or_and source job.now.engine (bytes_of texts.now)) }
+    ensures fault { IfErr result (IsWalkFault or_and source job.now.engine (bytes_of texts.items)) }
     ensures unwritten { IfErr result (λ f. f ≢ JobFault.Output) }
 {
-    let graph = read_text::<OrAnd>(alloc, texts, 0)?;
+    let graph = read_graph::<OrAnd>(alloc, texts)?;
     let column = levels(rt, alloc, job.engine, &job.grid, &graph, source)?;
     let _shape = column.shape();
     Ok(column)
@@ -230,16 +189,16 @@ fn distances_of<R: Threads + Wait + Sync>(
     alloc: Global,
     job: &Job,
     source: u32,
-    texts: &[Vec<u8>],
+    texts: Vec<Vec<u8>>,
 ) -> Result<Matrix<MinPlus>, JobFault>
-    requires { 0 < length texts.now }
-    ensures ok { IfOk result (λ column. IsWalkAnswer AreDistances min_plus source (bytes_of texts.now) (vertex_text_of column)) }
+    requires { vec_len texts ≡ 1 }
+    ensures ok { IfOk result (λ column. IsWalkAnswer AreDistances min_plus source (bytes_of texts.items) (vertex_text_of column)) }
     ensures column { IfOk result (λ column. column.shape.cols ≡ 1) }
-    ensures fault { IfErr result (IsWalkFault min_plus source job.now.engine (bytes_of texts.now)) }
+    ensures fault { IfErr result (IsWalkFault min_plus source job.now.engine (bytes_of texts.items)) }
     ensures unwritten { IfErr result (λ f. f ≢ JobFault.Output) }
 {
-    let graph = read_text::<MinPlus>(alloc, texts, 0)?;
-    let column = distances(rt, alloc, job.engine, &job.grid, &graph, source)?;
+    let graph = read_one::<MinPlus>(alloc, &job.grid, texts)?;
+    let column = distances_distributed(rt, alloc, job.engine, graph, source)?;
     let _shape = column.shape();
     Ok(column)
 }
@@ -251,20 +210,21 @@ fn distances_of<R: Threads + Wait + Sync>(
 ///
 /// The faults come in their order: the first text that is no matrix, then shapes that don't agree, a graph whose
 /// matrix isn't square or a source that is none of its vertices, then want of memory, then `Output`. Costs the
-/// reading, what is computed and the writing.
+/// reading, what is computed and the writing. Each text is given up once it is read, so that its memory is free for
+/// what is computed.
 pub fn execute<R: Threads + Wait + Sync, K: Sink>(
     rt: &R,
     alloc: Global,
     job: &Job,
-    texts: &[Vec<u8>],
+    texts: Vec<Vec<u8>>,
     out: &mut K,
 ) -> Result<(), JobFault>
-    requires texts { length texts.now ≡ vec_len job.now.files }
+    requires texts { vec_len texts ≡ vec_len job.now.files }
     requires works { K.has_failed out.old ≡ false }
-    ensures whole { OnOk result ((t : List ℕ) × IsAnswer job.now.task (bytes_of texts.now) t × Appends (K.written out.old) (K.written out.new) t) }
-    ensures fault { IfErr result (IsFault job.now.task job.now.engine (bytes_of texts.now)) }
+    ensures whole { OnOk result ((t : List ℕ) × IsAnswer job.now.task (bytes_of texts.items) t × Appends (K.written out.old) (K.written out.new) t) }
+    ensures fault { IfErr result (IsFault job.now.task job.now.engine (bytes_of texts.items)) }
     ensures nothing { IfErr result (λ f. f ≢ JobFault.Output → Keeps (K.written out.old) (K.written out.new)) }
-    ensures output { IsErrOf result JobFault.Output → (t : List ℕ) × IsAnswer job.now.task (bytes_of texts.now) t × AppendsPrefix (K.written out.old) (K.written out.new) t }
+    ensures output { IsErrOf result JobFault.Output → (t : List ℕ) × IsAnswer job.now.task (bytes_of texts.items) t × AppendsPrefix (K.written out.old) (K.written out.new) t }
     ensures failed { IsErrOf result JobFault.Output ↔ (K.has_failed out.new ≡ true) }
 {
     match job.task {

@@ -62,7 +62,7 @@ pub fn run_into<R: Threads + Wait + Sync + AllocGlobal, K: Sink>(
     if bytes.len() != job.files().len() {
         return Err(JobFault::Memory);
     }
-    execute(rt, alloc, &job, bytes.as_slice(), out)
+    execute(rt, alloc, &job, bytes, out)
 }
 
 /// The bytes that a command writes of some texts.

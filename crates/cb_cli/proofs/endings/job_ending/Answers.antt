@@ -12,10 +12,9 @@ returns-in-Err g c =
     let fault = subst (λ names. IsUnloaded holds refuses names c.in-Err.fault) c.files.ensures c.in-Err.ensures.fault in
     subst (λ e. IsJobEnding holds refuses c.args.job.now old old e) (sym c.unloaded.ensures) (job_unloaded holds refuses c.args.job.now old c.in-Err.fault fault)
 
-pub returns : goal.returns
-returns g c =
+pub returns-in-Err-execute : goal.returns-in-Err-execute
+returns-in-Err-execute g c =
     let holds = g.F.FileSource.holds c.args.files.now in
     let loaded = subst (λ names. AreTexts holds names (bytes_of c.in-Ok.texts.items)) c.files.ensures c.in-Ok.ensures.texts in
-    let are = subst (λ texts. AreTexts holds c.args.job.now.files.items (bytes_of texts)) (sym c.as_slice.ensures.value) loaded in
     let told = c.in-Err-execute.ensures in
-    (bytes_of c.as_slice.result.now, are, told.fault, told.nothing, λ e. told.output (ap Err e))
+    (bytes_of c.in-Ok.texts.items, loaded, told.fault, told.nothing, λ e. told.output (ap Err e))
