@@ -6,9 +6,11 @@ ghost use Rattle.cb_matrix.specs.Operations.{masked};
 ghost use Rattle.cb_plan.specs.Algebras.{matrices};
 ghost use Rattle.cb_plan.specs.Meaning.{meaning};
 ghost use Rattle.cb_plan.specs.Stores.{state_of, Fits};
+ghost use Rattle.cb_plan.specs.Tables.{IsTable};
 ghost use Rattle.cb_ranks.specs.Traced.{HasProgram};
 ghost use Rattle.cb_trace.specs.Traces.{AreLegalEvents, AreOnLanes};
 ghost use Rattle.cb_scripts.specs.Answers.{HasShapes, Makes, gathered};
+ghost use Rattle.cb_scripts.specs.Losses.{LostOrMeans};
 ghost use Rattle.cb_scripts.specs.Traced.{AgreeUnder, IsProductTrace, IsTracedRefusal, IsTracedRunRefusal, checked_of, product_under};
 
 use crate::ScriptFault;
@@ -41,10 +43,10 @@ pub fn multiply_traced<S: Semiring + Send + Sync, R: Threads + Wait + Sync>(
     right: &Matrix<S>,
     mask: Option<&Matrix<S>>,
 ) -> Result<(Matrix<S>, Trace), ScriptFault>
-    ensures ok { IfOk result (λ done. done.0 ≡ product_under S.arithmetic left.now right.now (option_map (λ m. m.now) mask)) }
-    ensures agree { IfOk result (λ done. AgreeUnder left.now right.now (option_map (λ m. m.now) mask)) }
-    ensures trace { IfOk result (λ done. IsProductTrace S.arithmetic grid.now.side left.now right.now (option_map (λ m. m.now) mask) done.1) }
-    ensures fault { IfErr result (IsTracedRefusal left.now right.now (option_map (λ m. m.now) mask)) }
+    ensures ok { IfOk result (λ done. done.0 ≡ product_under S.arithmetic left.now right.now (option_map (λ m. m.now) mask.entry)) }
+    ensures agree { IfOk result (λ done. AgreeUnder left.now right.now (option_map (λ m. m.now) mask.entry)) }
+    ensures trace { IfOk result (λ done. IsProductTrace S.arithmetic grid.now.side left.now right.now (option_map (λ m. m.now) mask.entry) done.1) }
+    ensures fault { IfErr result (IsTracedRefusal left.now right.now (option_map (λ m. m.now) mask.entry)) }
 {
     let shape = left.shape().with_columns_of(right.shape());
     if left.cols() != right.rows() {
@@ -113,7 +115,7 @@ fn product_traced<S: Semiring + Send + Sync, R: Threads + Wait + Sync>(
         return Err(ScriptFault::Memory);
     };
     let shape = a.with_columns_of(b);
-    compute_traced(rt, alloc, capacity, &grid, planned, operands, shape)
+    compute(rt, alloc, capacity, &grid, planned, operands, shape)
 }
 
 /// The product of two matrices, kept where a mask has entries, with its trace. The three lie over one grid.
@@ -143,12 +145,12 @@ fn masked_traced<S: Semiring + Send + Sync, R: Threads + Wait + Sync>(
     let Ok(operands) = vec![in alloc; (LEFT, left), (RIGHT, right), (MASK, mask)] else {
         return Err(ScriptFault::Memory);
     };
-    compute_traced(rt, alloc, capacity, &grid, planned, operands, shape)
+    compute(rt, alloc, capacity, &grid, planned, operands, shape)
 }
 
 /// The matrix of this shape that a plan makes of its operands, whose blocks are given to the ranks in their slots, and
 /// the trace of the ranks. The matrix is left in the blocks of the grid.
-fn compute_traced<S: Semiring + Send + Sync, R: Threads + Wait + Sync>(
+fn compute<S: Semiring + Send + Sync, R: Threads + Wait + Sync>(
     rt: &R,
     alloc: Global,
     capacity: usize,
@@ -166,12 +168,12 @@ fn compute_traced<S: Semiring + Send + Sync, R: Threads + Wait + Sync>(
 {
     let stores = laid_out(alloc, grid, operands)?;
     let (plan, slot) = planned.into_checked();
-    round_traced(rt, alloc, capacity, grid, &plan, stores, slot, shape)
+    round(rt, alloc, capacity, grid, &plan, stores, slot, shape)
 }
 
 /// Runs a checked plan on stores that fit it, and answers the matrix of this shape whose blocks it leaves in a slot,
 /// and the trace of the ranks.
-fn round_traced<S: Semiring + Send + Sync, R: Threads + Wait + Sync>(
+fn round<S: Semiring + Send + Sync, R: Threads + Wait + Sync>(
     rt: &R,
     alloc: Global,
     capacity: usize,
@@ -190,10 +192,29 @@ fn round_traced<S: Semiring + Send + Sync, R: Threads + Wait + Sync>(
     ensures legal { IfOk result (λ done. AreLegalEvents done.1.events × AreOnLanes done.1.ranks done.1.events) }
     ensures fault { IfErr result IsTracedRunRefusal }
 {
+    let (mut stores, trace) = run(rt, alloc, capacity, plan, stores)?;
+    let blocks = drain(alloc, &mut stores, slot)?;
+    Ok((DistributedMatrix::from_blocks(*grid, shape, blocks), trace))
+}
+
+/// Runs a checked plan on stores that fit it, and answers what the ranks leave, and their trace. A slot may be lost where
+/// memory was refused to them.
+fn run<S: Semiring + Send + Sync, R: Threads + Wait + Sync>(
+    rt: &R,
+    alloc: Global,
+    capacity: usize,
+    plan: &CheckedPlan,
+    stores: Vec<RankStore<S>>,
+) -> Result<(Vec<RankStore<S>>, Trace), ScriptFault>
+    requires fits { Fits plan.now.ranks plan.now.starts stores.items }
+    ensures meaning { IfOk result (λ done. LostOrMeans (meaning (matrices S.arithmetic) plan.now.acts (state_of stores.items)) done.0.items) }
+    ensures table { IfOk result (λ done. IsTable plan.now.ranks SLOTS done.0.items) }
+    ensures program { IfOk result (λ done. HasProgram plan.now done.1) }
+    ensures legal { IfOk result (λ done. AreLegalEvents done.1.events × AreOnLanes done.1.ranks done.1.events) }
+    ensures fault { IfErr result IsTracedRunRefusal }
+{
     let capacity = capacity.clamp(1, 64);
     let (finished, trace) = run_traced(rt, alloc, plan, stores, capacity, &OpenGate)?;
-    let mut stores = finished.stores();
-    let blocks = drain(alloc, &mut stores, slot)?;
     let _len = trace.len();
-    Ok((DistributedMatrix::from_blocks(*grid, shape, blocks), trace))
+    Ok((finished.stores(), trace))
 }
