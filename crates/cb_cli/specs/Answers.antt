@@ -1,5 +1,5 @@
 -- What a job answers, and when it is refused.
-use Rattle.std.specs.Prelude.{ℕ, ◌≡◌, ◌<◌, ◌⊎◌, List, length, slice_index_or}
+use Rattle.std.specs.Prelude.{ℕ, ◌≡◌, ◌<◌, ◌⊎◌, ◌++◌, Bool, true, false, List, length, slice_index_or, Option, Some, None}
 use Rattle.cb_semirings.specs.Arithmetic.{Arithmetic}
 use Rattle.cb_semirings.specs.Tables.{min_plus, or_and}
 use Rattle.cb_matrix.specs.Sparse.{Sparse, IsMatrix}
@@ -11,12 +11,15 @@ use Rattle.cb_market.specs.Reads.{Reads}
 use Rattle.cb_market.specs.Text.{text_of, vertex_text_of}
 use Rattle.cb_market.specs.declared.Kind.{Kind}
 use Rattle.cb_market.specs.declared.Kind.TheVariants as kind_is
+use Rattle.cb_trace.specs.Traces.{TraceView}
 use Rattle.cb_cli.specs.Files.{text_at}
+use Rattle.cb_cli.specs.TraceTexts.{trace_text}
 use Rattle.cb_cli.specs.Semirings.{arithmetic_of}
 use Rattle.cb_cli.specs.declared.jobs.Operation.{Operation}
 use Rattle.cb_cli.specs.declared.jobs.Operation.TheVariants.{Multiply, MultiplyMasked, MultiplyVector, Transpose, Add, Times, Prune}
 use Rattle.cb_cli.specs.declared.jobs.Task.{Task}
-use Rattle.cb_cli.specs.declared.jobs.Task.TheVariants.{Matrix, Levels, Distances}
+use Rattle.cb_cli.specs.declared.jobs.Task.TheVariants.{Matrix, Traced, Levels, Distances}
+use Rattle.cb_scripts.specs.Traced.{product_under, AgreeUnder, IsProductTrace, IsTracedRefusal}
 use Rattle.cb_scripts.specs.Walks.{AreLevels, AreDistances}
 use Rattle.cb_scripts.specs.Refusals.{IsGraphRefusal, IsRunRefusal}
 use Rattle.cb_scripts.specs.declared.Engine.{Engine}
@@ -91,6 +94,29 @@ IsFaultOver operation s engine texts (Script fault) = (ms : List Sparse) × AreM
 IsFaultOver operation s engine texts Memory = (ms : List Sparse) × AreMatrices s texts ms × Agree operation ms
 IsFaultOver operation s engine texts Output = (ms : List Sparse) × AreMatrices s texts ms × Agree operation ms
 
+-- the third matrix, where a product is masked
+abbrev pub mask_of : Bool → List Sparse → Option Sparse
+mask_of true ms = Some (matrix_at ms 2)
+mask_of false ms = None
+
+-- What a traced product answers on a grid of this side: the text of the product of the matrices that the texts read as,
+-- and then a line for each event of a trace of the ranks that made it.
+pub record IsTracedAnswer (is_masked : Bool) (s : Arithmetic) (side : ℕ) (texts : List (List ℕ)) (answer : List ℕ) : Type 0 where
+  pub ms : List Sparse
+  pub are : AreMatrices s texts ms
+  pub agree : AgreeUnder (matrix_at ms 0) (matrix_at ms 1) (mask_of is_masked ms)
+  pub trace : TraceView
+  pub traced : IsProductTrace s side (matrix_at ms 0) (matrix_at ms 1) (mask_of is_masked ms) trace
+  pub whole : answer ≡ text_of s (product_under s (matrix_at ms 0) (matrix_at ms 1) (mask_of is_masked ms)) ++ trace_text trace.events
+
+-- Why it answers nothing: a text is no matrix; else it is refused; and where neither holds, want of memory, or a sink
+-- that failed.
+abbrev pub IsTracedFault : Bool → Arithmetic → List (List ℕ) → JobFault → Type 0
+IsTracedFault is_masked s texts (Read which fault) = IsReadFault s texts (Read which fault)
+IsTracedFault is_masked s texts (Script fault) = (ms : List Sparse) × AreMatrices s texts ms × IsTracedRefusal (matrix_at ms 0) (matrix_at ms 1) (mask_of is_masked ms) fault
+IsTracedFault is_masked s texts Memory = (ms : List Sparse) × AreMatrices s texts ms × AgreeUnder (matrix_at ms 0) (matrix_at ms 1) (mask_of is_masked ms)
+IsTracedFault is_masked s texts Output = (ms : List Sparse) × AreMatrices s texts ms × AgreeUnder (matrix_at ms 0) (matrix_at ms 1) (mask_of is_masked ms)
+
 -- the matrix is square, and the source one of its vertices
 abbrev pub HasSource : Sparse → ℕ → Type 0
 HasSource a source = (a.shape.rows ≡ a.shape.cols) × (source < a.shape.rows)
@@ -112,17 +138,20 @@ IsWalkFault s source engine texts (Script fault) = (a : Sparse) × Reads s (text
 IsWalkFault s source engine texts Memory = (a : Sparse) × Reads s (text_at texts 0) a × HasSource a source
 IsWalkFault s source engine texts Output = (a : Sparse) × Reads s (text_at texts 0) a × HasSource a source
 
--- What a task answers of texts: an operation over the semiring that it names, levels in or-and, distances in min-plus.
-abbrev pub IsAnswer : Task → List (List ℕ) → List ℕ → Type 0
-IsAnswer (Matrix operation semiring) = IsAnswerOver operation (arithmetic_of semiring)
-IsAnswer (Levels source) = IsWalkAnswer AreLevels or_and source
-IsAnswer (Distances source) = IsWalkAnswer AreDistances min_plus source
+-- What a task answers of texts on a grid of this side: an operation or a traced product over the semiring that it
+-- names, levels in or-and, distances in min-plus. The side matters to a trace alone.
+abbrev pub IsAnswer : Task → ℕ → List (List ℕ) → List ℕ → Type 0
+IsAnswer (Matrix operation semiring) side = IsAnswerOver operation (arithmetic_of semiring)
+IsAnswer (Traced semiring is_masked capacity) side = IsTracedAnswer is_masked (arithmetic_of semiring) side
+IsAnswer (Levels source) side = IsWalkAnswer AreLevels or_and source
+IsAnswer (Distances source) side = IsWalkAnswer AreDistances min_plus source
 
--- why it answers nothing with an engine
+-- why it answers nothing with an engine; a trace is of ranks in threads, whatever the engine
 abbrev pub IsFault : Task → Engine → List (List ℕ) → JobFault → Type 0
-IsFault (Matrix operation semiring) = IsFaultOver operation (arithmetic_of semiring)
-IsFault (Levels source) = IsWalkFault or_and source
-IsFault (Distances source) = IsWalkFault min_plus source
+IsFault (Matrix operation semiring) engine = IsFaultOver operation (arithmetic_of semiring) engine
+IsFault (Traced semiring is_masked capacity) engine = IsTracedFault is_masked (arithmetic_of semiring)
+IsFault (Levels source) engine = IsWalkFault or_and source engine
+IsFault (Distances source) engine = IsWalkFault min_plus source engine
 
 -- why an answer that there is has not gone out whole
 abbrev pub IsUnwritten : JobFault → Type 0
@@ -142,6 +171,7 @@ status_of (Script script_is.Source) = 5
 status_of (Script script_is.Memory) = 6
 status_of (Script (script_is.NotStarted rank)) = 6
 status_of (Script (script_is.Gone rank)) = 6
+status_of (Script script_is.TraceTorn) = 6
 status_of (Script (script_is.Lost origin)) = 6
 status_of Memory = 6
 status_of Output = 7

@@ -34,6 +34,7 @@ script_line_of script_is.Source = codes "cbgrid: no such source\n"
 script_line_of script_is.Memory = codes "cbgrid: out of memory\n"
 script_line_of (script_is.NotStarted rank) = not_started_line_of rank
 script_line_of (script_is.Gone rank) = gone_line_of rank
+script_line_of script_is.TraceTorn = codes "cbgrid: trace torn\n"
 script_line_of (script_is.Lost origin) = lost_line_of origin
 
 -- the line that the program prints for a fault, of the files with these names

@@ -4,6 +4,7 @@ pub mod Sinks
 pub mod Writers
 pub mod Faults
 pub mod Files
+pub mod TraceTexts
 pub mod Answers
 pub mod Endings
 pub mod Statuses

@@ -67,6 +67,7 @@ fn script_line(alloc: Global, fault: ScriptFault) -> Result<Vec<u8>, AllocError>
         ScriptFault::Memory => Vec::from_slice(alloc, b"cbgrid: out of memory\n"),
         ScriptFault::NotStarted(rank) => not_started_line(alloc, rank),
         ScriptFault::Gone(rank) => gone_line(alloc, rank),
+        ScriptFault::TraceTorn => Vec::from_slice(alloc, b"cbgrid: trace torn\n"),
         ScriptFault::Lost(origin) => lost_line(alloc, origin),
     }
 }

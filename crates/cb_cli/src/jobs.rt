@@ -36,6 +36,13 @@ pub enum Task {
         operation: Operation,
         semiring: SemiringName,
     },
+    /// The product of the first two matrices over a semiring, kept where the third has entries if it is masked, and a
+    /// trace of the ranks, each in a thread of its own over lanes for so many letters.
+    Traced {
+        semiring: SemiringName,
+        is_masked: bool,
+        capacity: usize,
+    },
     /// The least number of edges from the source to each vertex. The file is read in or-and.
     Levels {
         source: u32,

@@ -24,4 +24,6 @@ pub mod semirings;
 pub mod sinks;
 #[cfg(test)]
 mod tests;
+mod trace_lines;
+mod traced;
 pub mod words;

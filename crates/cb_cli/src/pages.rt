@@ -1,5 +1,5 @@
 //! Writes the text of an answer: of a matrix page by page, of a column of numbers at once.
-ghost use Rattle.std.specs.Prelude.{◌≡◌, ◌≢◌, ◌↔◌, true, false, OnOk, OnErr, IfErr, IsErrOf};
+ghost use Rattle.std.specs.Prelude.{◌≡◌, ◌≢◌, ◌↔◌, ◌++◌, true, false, OnOk, OnErr, IfErr, IsErrOf};
 ghost use Rattle.std.specs.Io.KnownBytes.{Appends, Keeps};
 ghost use Rattle.cb_market.specs.Text.{text_of, vertex_text_of};
 ghost use Rattle.cb_cli.specs.Answers.{IsUnwritten};
@@ -53,6 +53,28 @@ fn put_pages<S: Semiring, K: Sink>(
         put_all(out, page.written())?;
     }
     Ok(())
+}
+
+/// Writes the text of a matrix and some lines after it. The room for a page is taken first, and no memory after it: at
+/// `Memory` nothing has gone out, and at `Output` a beginning of the whole.
+pub fn put_text_and_lines<S: Semiring, K: Sink>(
+    alloc: Global,
+    matrix: &DistributedMatrix<S>,
+    lines: &[u8],
+    out: &mut K,
+) -> Result<(), JobFault>
+    requires { K.has_failed out.old ≡ false }
+    ensures whole { OnOk result (Appends (K.written out.old) (K.written out.new) (text_of S.arithmetic matrix.now.matrix ++ lines.now)) }
+    ensures fault { IfErr result IsUnwritten }
+    ensures nothing { IfErr result (λ f. f ≢ JobFault.Output → Keeps (K.written out.old) (K.written out.new)) }
+    ensures output { IsErrOf result JobFault.Output → AppendsPrefix (K.written out.old) (K.written out.new) (text_of S.arithmetic matrix.now.matrix ++ lines.now) }
+    ensures failed { IsErrOf result JobFault.Output ↔ (K.has_failed out.new ≡ true) }
+{
+    put_text(alloc, matrix, out)?;
+    match put_all(out, lines) {
+        Ok(()) => Ok(()),
+        Err(_) => Err(JobFault::Output),
+    }
 }
 
 /// Writes the vertex text of a column. All memory is taken first: at `Memory` nothing has gone out, and at `Output` a

@@ -15,6 +15,7 @@ use crate::operands::{read_graph, read_one, read_three, read_two, read_with_vect
 use crate::pages::{put_column, put_text};
 use crate::semirings::SemiringName;
 use crate::sinks::Sink;
+use crate::traced::execute_traced;
 use cb_layout::DistributedMatrix;
 use cb_market::{Kind, ReadFault};
 use cb_matrix::Matrix;
@@ -204,7 +205,8 @@ fn distances_of<R: Threads + Wait + Sync>(
 }
 
 /// Reads the texts of a job's files, in the job's order, and writes the text of its answer: of a matrix page by page,
-/// of levels or distances a line for each vertex that has one. All memory is taken before the first byte goes out: a
+/// of levels or distances a line for each vertex that has one, and after a traced product a line for each event of its
+/// trace. All memory is taken before the first byte goes out: a
 /// fault other than `Output` has written nothing. At `Output` a beginning of the text has gone out, and the sink has
 /// failed; it has failed in no other case.
 ///
@@ -221,10 +223,10 @@ pub fn execute<R: Threads + Wait + Sync, K: Sink>(
 ) -> Result<(), JobFault>
     requires texts { vec_len texts ≡ vec_len job.now.files }
     requires works { K.has_failed out.old ≡ false }
-    ensures whole { OnOk result ((t : List ℕ) × IsAnswer job.now.task (bytes_of texts.items) t × Appends (K.written out.old) (K.written out.new) t) }
+    ensures whole { OnOk result ((t : List ℕ) × IsAnswer job.now.task job.now.grid.side (bytes_of texts.items) t × Appends (K.written out.old) (K.written out.new) t) }
     ensures fault { IfErr result (IsFault job.now.task job.now.engine (bytes_of texts.items)) }
     ensures nothing { IfErr result (λ f. f ≢ JobFault.Output → Keeps (K.written out.old) (K.written out.new)) }
-    ensures output { IsErrOf result JobFault.Output → (t : List ℕ) × IsAnswer job.now.task (bytes_of texts.items) t × AppendsPrefix (K.written out.old) (K.written out.new) t }
+    ensures output { IsErrOf result JobFault.Output → (t : List ℕ) × IsAnswer job.now.task job.now.grid.side (bytes_of texts.items) t × AppendsPrefix (K.written out.old) (K.written out.new) t }
     ensures failed { IsErrOf result JobFault.Output ↔ (K.has_failed out.new ≡ true) }
 {
     match job.task {
@@ -232,6 +234,11 @@ pub fn execute<R: Threads + Wait + Sync, K: Sink>(
             operation,
             semiring,
         } => execute_named(rt, alloc, job, operation, semiring, texts, out),
+        Task::Traced {
+            semiring,
+            is_masked,
+            capacity,
+        } => execute_traced(rt, alloc, job, semiring, is_masked, capacity, texts, out),
         Task::Levels { source } => {
             let column = levels_of(rt, alloc, job, source, texts)?;
             put_column(alloc, &column, out)
@@ -245,7 +252,7 @@ pub fn execute<R: Threads + Wait + Sync, K: Sink>(
 
 /// The status that the program ends with: 4 for a text that is no matrix, 5 for shapes that don't
 /// agree, a matrix that isn't square or a source that is no vertex, 6 for want of memory and for
-/// ranks that weren't started, were left alone or lost a block, 7 for output.
+/// ranks that weren't started, were left alone, tore a trace or lost a block, 7 for output.
 pub fn status(fault: &JobFault) -> u8
     ensures { result ≡ status_of fault.now }
 {
@@ -259,6 +266,7 @@ pub fn status(fault: &JobFault) -> u8
             ScriptFault::Memory
             | ScriptFault::NotStarted(_)
             | ScriptFault::Gone(_)
+            | ScriptFault::TraceTorn
             | ScriptFault::Lost(_),
         ) => 6,
         JobFault::Memory => 6,

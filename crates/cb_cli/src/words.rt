@@ -162,6 +162,13 @@ fn mask_option<'a>(alloc: Global) -> Arg<'a> {
         .help("Keep the entries at the places where this matrix has one")
 }
 
+fn trace_option<'a>(alloc: Global) -> Arg<'a> {
+    Arg::new(alloc, "trace")
+        .long("trace")
+        .action(ArgAction::SetTrue)
+        .help("Print after the product what every rank did")
+}
+
 fn test_option<'a>(alloc: Global) -> Arg<'a> {
     Arg::new(alloc, "test")
         .long("test")
@@ -219,7 +226,8 @@ fn matrix_command<'a>(alloc: Global, outline: &Outline) -> Result<Command<'a>, A
 fn multiply_command<'a>(alloc: Global) -> Result<Command<'a>, AllocError> {
     let command = command(alloc, &MULTIPLY)?
         .arg(semiring_option(alloc))?
-        .arg(mask_option(alloc))?;
+        .arg(mask_option(alloc))?
+        .arg(trace_option(alloc))?;
     with_common(alloc, command)
 }
 
@@ -312,6 +320,13 @@ fn arguments(task: Task) -> &'static [&'static str]
 {
     match task {
         Task::Matrix { operation, .. } => operands(operation),
+        Task::Traced { is_masked, .. } => {
+            if is_masked {
+                &["A", "B", "mask"]
+            } else {
+                &["A", "B"]
+            }
+        }
         Task::Levels { .. } | Task::Distances { .. } => &["A"],
     }
 }
@@ -334,10 +349,15 @@ fn files_of(
     Ok(Some(files))
 }
 
+/// How many letters a lane is for.
+fn lane_of(found: &ArgMatches<'_>) -> Option<usize> {
+    Some(found.get_one::<u32>("lane")? as usize)
+}
+
 fn engine_of(found: &ArgMatches<'_>) -> Option<Engine> {
     match found.get_str("engine")? {
         "plain" => Some(Engine::Plain),
-        "ranks" => Some(Engine::Ranks(found.get_one::<u32>("lane")? as usize)),
+        "ranks" => Some(Engine::Ranks(lane_of(found)?)),
         _ => None,
     }
 }
@@ -382,6 +402,11 @@ fn operation_of(command: &str, found: &ArgMatches<'_>) -> Option<Operation> {
 /// The task of a command.
 fn task_of(command: &str, found: &ArgMatches<'_>) -> Option<Task> {
     match command {
+        "multiply" if found.get_flag("trace") => Some(Task::Traced {
+            semiring: semiring_of(found)?,
+            is_masked: found.contains_id("mask"),
+            capacity: lane_of(found)?,
+        }),
         "bfs" => Some(Task::Levels {
             source: source_of(found)?,
         }),
@@ -415,6 +440,25 @@ fn job_of(alloc: Global, matches: &ArgMatches<'_>) -> Result<Option<Job>, AllocE
         engine,
         files,
     }))
+}
+
+/// Whether a trace of ranks is asked for that are to run on one thread.
+fn is_trace_of_one_thread(matches: &ArgMatches<'_>) -> bool {
+    match matches.subcommand() {
+        Some(("multiply", found)) => {
+            found.get_flag("trace") && found.get_str("engine") == Some("plain")
+        }
+        _ => false,
+    }
+}
+
+/// Why such words are no job.
+fn trace_of_one_thread(alloc: Global) -> Result<UsageFault, AllocError> {
+    let error = multiply_command(alloc)?.bin_name("cbgrid multiply")?.error(
+        ErrorKind::ArgumentConflict,
+        "the argument '--trace' cannot be used with '--engine plain'",
+    )?;
+    Ok(fault_of(alloc, &error))
 }
 
 /// Why words that can't be had are no job: memory was refused to them, or one of them is no text.
@@ -453,6 +497,9 @@ pub fn read_job(alloc: Global, words: &[String]) -> Result<Job, UsageFault>
         Ok(matches) => matches,
         Err(error) => return Err(fault_of(alloc, &error)),
     };
+    if is_trace_of_one_thread(&matches) {
+        return Err(trace_of_one_thread(alloc)?);
+    }
     match job_of(alloc, &matches)? {
         Some(job) => Ok(job),
         None => Err(usage(alloc, "error: the command line can't be read\n")),

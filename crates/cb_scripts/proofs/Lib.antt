@@ -12,6 +12,8 @@ pub mod Making
 pub mod ProductPlans
 pub mod KernelPlans
 pub mod EmptyFactors
+-- TracedProducts: what ranks make that keep a trace, and the trace.
+pub mod TracedProducts
 -- Walks. WalkCosts: how they begin, grow and end, and what they cost. ShortWalks: for each walk a short one that
 -- costs no more. Nearing: numbers that near the least costs, round by round. TurnedProducts: a round is the product
 -- of the turned matrix. NearestRounds: the loop over rounds. UnitWeights: levels are distances where each entry

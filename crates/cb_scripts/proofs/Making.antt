@@ -41,7 +41,7 @@ module _ (s : Arithmetic) (q : ℕ) (operands : List (ℕ × Sparse)) (planned :
       subst (λ (d : Extent). HasShapes q d planned.result (meaning (matrices s) planned.plan.acts (state_of stores))) makes.shaped
       (shapes_of_parts s q answer planned.result (meaning (matrices s) planned.plan.acts (state_of stores)) (makes.parts stores has))
 
-  made_answer : IsSemiring s → gathered s q shape planned.result (meaning (matrices s) planned.plan.acts (state_of stores)) ≡ answer
+  pub made_answer : IsSemiring s → gathered s q shape planned.result (meaning (matrices s) planned.plan.acts (state_of stores)) ≡ answer
   made_answer laws =
       subst (λ (d : Extent). gathered s q d planned.result (meaning (matrices s) planned.plan.acts (state_of stores)) ≡ answer) makes.shaped
       (gathered_parts s q answer planned.result (meaning (matrices s) planned.plan.acts (state_of stores)) (makes.parts stores has) laws has.some makes.matrix)

@@ -11,3 +11,5 @@ pub mod Numbers
 pub mod SpreadVectors
 -- Orders: ranks that are stepped one at a time, in any order: what they lose, and why they leave no answer.
 pub mod Orders
+-- Traced: a product with a trace of the ranks that made it.
+pub mod Traced

@@ -8,13 +8,14 @@ use Rattle.cb_ranks.specs.declared.faults.RunFault.TheVariants as run_is
 use Rattle.cb_scripts.specs.declared.Engine.{Engine}
 use Rattle.cb_scripts.specs.declared.Engine.TheVariants.{Plain}
 use Rattle.cb_scripts.specs.declared.ScriptFault.{ScriptFault}
-use Rattle.cb_scripts.specs.declared.ScriptFault.TheVariants.{Shapes, NotSquare, Source, Memory, NotStarted, Gone, Lost}
+use Rattle.cb_scripts.specs.declared.ScriptFault.TheVariants.{Shapes, NotSquare, Source, Memory, NotStarted, Gone, TraceTorn, Lost}
 
 -- why ranks in threads have no answer, as a script says it
 abbrev pub fault_of_run : RunFault → ScriptFault
 fault_of_run run_is.Memory = Memory
 fault_of_run (run_is.NotStarted rank) = NotStarted rank
 fault_of_run (run_is.Gone rank) = Gone rank
+fault_of_run run_is.TraceTorn = TraceTorn
 
 -- why an engine doesn't come to the end of a plan: want of memory, or, unless it is the plain one, a rank that wasn't started or that was left alone
 abbrev pub IsEngineRefusal : Engine → ScriptFault → Type 0

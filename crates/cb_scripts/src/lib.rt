@@ -22,6 +22,9 @@ mod runs;
 mod stores;
 #[cfg(test)]
 mod tests;
+#[cfg(test)]
+mod trace_tests;
+mod traced;
 mod transposes;
 mod vectors;
 #[cfg(test)]
@@ -34,6 +37,7 @@ pub use placewise::{add, add_distributed, prune, prune_distributed, times, times
 pub use products::{multiply, multiply_distributed, multiply_masked, multiply_masked_distributed};
 use std::alloc::AllocError;
 use thiserror::Error;
+pub use traced::{multiply_traced, multiply_traced_distributed};
 pub use transposes::{transpose, transpose_distributed};
 pub use vectors::{vector, vector_distributed};
 pub use walks::{distances, distances_distributed, levels};
@@ -70,6 +74,9 @@ pub enum ScriptFault {
     /// This rank came to a lane whose other rank was gone.
     #[error("rank {0} gone")]
     Gone(u16),
+    /// The trace isn't what the ranks did. Only a call that keeps a trace answers it.
+    #[error("trace torn")]
+    TraceTorn,
     /// A block that the answer needs is lost, since memory was refused in this rank. Of several it is that of the least
     /// rank whose result is lost.
     #[error("lost at rank {0}")]
@@ -92,6 +99,7 @@ impl From<RunFault> for ScriptFault {
             RunFault::Memory => ScriptFault::Memory,
             RunFault::NotStarted(rank) => ScriptFault::NotStarted(rank),
             RunFault::Gone(rank) => ScriptFault::Gone(rank),
+            RunFault::TraceTorn => ScriptFault::TraceTorn,
         }
     }
 }

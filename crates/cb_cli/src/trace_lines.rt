@@ -1,0 +1,53 @@
+//! The lines that tell a trace.
+ghost use Rattle.std.specs.Prelude.{◌≡◌, ◌++◌, OnOk, IfOk, string_bytes};
+ghost use Rattle.cb_cli.specs.TraceTexts.{letter_line, mark_line, line_of_event, trace_text};
+
+use cb_trace::{Envelope, TraceEvent};
+use std::alloc::{AllocError, Global};
+
+/// Writes the line of a letter: what was done, the ranks that it goes from and to, its number and its tag.
+fn put_letter(text: &mut String, word: &str, envelope: Envelope) -> Result<(), AllocError>
+    ensures { OnOk result (string_bytes text.new ≡ string_bytes text.old ++ letter_line word.now envelope) }
+{
+    let Envelope {
+        from,
+        to,
+        number,
+        tag,
+    } = envelope;
+    let tag = tag.0;
+    write!(text, "% {word} {from} {to} {number} {tag}\n")
+}
+
+/// Writes the line of a close mark: all but the tag.
+fn put_mark(text: &mut String, word: &str, envelope: Envelope) -> Result<(), AllocError>
+    ensures { OnOk result (string_bytes text.new ≡ string_bytes text.old ++ mark_line word.now envelope) }
+{
+    let Envelope {
+        from, to, number, ..
+    } = envelope;
+    write!(text, "% {word} {from} {to} {number}\n")
+}
+
+/// Writes the line of an event.
+fn put_event(text: &mut String, event: &TraceEvent) -> Result<(), AllocError>
+    ensures { OnOk result (string_bytes text.new ≡ string_bytes text.old ++ line_of_event event.now) }
+{
+    match event {
+        TraceEvent::Posted(envelope) => put_letter(text, "posted", *envelope),
+        TraceEvent::Took(envelope) => put_letter(text, "took", *envelope),
+        TraceEvent::Closed(envelope) => put_mark(text, "closed", *envelope),
+        TraceEvent::Ended(envelope) => put_mark(text, "ended", *envelope),
+    }
+}
+
+/// The lines of these events, in their order, each ended by a line feed.
+pub fn trace_text(alloc: Global, events: &[TraceEvent]) -> Result<String, AllocError>
+    ensures { IfOk result (λ t. string_bytes t ≡ trace_text events.now) }
+{
+    let mut text = String::new(alloc);
+    for event in events {
+        put_event(&mut text, event)?;
+    }
+    Ok(text)
+}
