@@ -9,10 +9,22 @@ use std::test::Fail;
 
 /// How many events of each kind there are.
 fn counts(events: &[TraceEvent]) -> [usize; 4] {
-    let posted = events.iter().filter(|event| matches!(event, TraceEvent::Posted(_))).count();
-    let took = events.iter().filter(|event| matches!(event, TraceEvent::Took(_))).count();
-    let closed = events.iter().filter(|event| matches!(event, TraceEvent::Closed(_))).count();
-    let ended = events.iter().filter(|event| matches!(event, TraceEvent::Ended(_))).count();
+    let posted = events
+        .iter()
+        .filter(|event| matches!(event, TraceEvent::Posted(_)))
+        .count();
+    let took = events
+        .iter()
+        .filter(|event| matches!(event, TraceEvent::Took(_)))
+        .count();
+    let closed = events
+        .iter()
+        .filter(|event| matches!(event, TraceEvent::Closed(_)))
+        .count();
+    let ended = events
+        .iter()
+        .filter(|event| matches!(event, TraceEvent::Ended(_)))
+        .count();
     [posted, took, closed, ended]
 }
 
@@ -58,8 +70,9 @@ fn traces_over_each_grid(rt: HostRuntime) -> Result<(), Fail> {
         let grid = grid(side)?;
         for capacity in [1, 64] {
             for (mask, wanted) in [(None, &plain), (Some(&left), &kept)] {
-                let (product, trace) =
-                    multiply_traced(&rt, alloc, capacity, &grid, &left, &right, mask)?;
+                let (product, trace) = multiply_traced(
+                    &rt, alloc, capacity, &grid, &left, &right, mask,
+                )?;
                 assert!(rt; product.entries() == wanted.entries(), "{side}");
                 assert_eq!(rt; trace.ranks(), grid.ranks());
                 assert!(rt; are_numbered(alloc, &trace)?, "{side}");

@@ -23,6 +23,6 @@ returns-clause-ok g c =
     let q = c.args.grid.now.side in
     let stores = c.in_ok-stores.stores.items in
     let made =
-        subst (λ (p : CheckedView). IfOk c.round.result (λ d. d.0 ≡ over_grid q (gathered s q c.args.shape c.args.planned.result (meaning (matrices s) p.acts (state_of stores))))) c.into_checked-plan.ensures.plan
-        (subst (λ n. IfOk c.round.result (λ d. d.0 ≡ over_grid q (gathered s q c.args.shape n (meaning (matrices s) c.into_checked-plan.result.0.acts (state_of stores))))) c.into_checked-plan.ensures.slot c.round.ensures.ok) in
+    subst (λ (p : CheckedView). IfOk c.round.result (λ d. d.0 ≡ over_grid q (gathered s q c.args.shape c.args.planned.result (meaning (matrices s) p.acts (state_of stores))))) c.into_checked-plan.ensures.plan
+    (subst (λ n. IfOk c.round.result (λ d. d.0 ≡ over_grid q (gathered s q c.args.shape n (meaning (matrices s) c.into_checked-plan.result.0.acts (state_of stores))))) c.into_checked-plan.ensures.slot c.round.ensures.ok) in
     whichever_traced s laws q (map whole_matrix c.args.operands.items) c.args.planned c.args.shape stores c.in_ok-stores.ensures c.round.result made
