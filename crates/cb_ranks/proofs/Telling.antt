@@ -1,6 +1,6 @@
 -- Recorders that are told of a rank's events, half by half, and those of a crew.
 use Rattle.std.proofs.Common.{◌≡◌, ℕ, zero, suc, ◌+◌, ◌<◌, ◌≤◌, List, [], ◌∷◌, ◌++◌, length, map, refl, sym, ◌∙◌, ap, subst, arith, length-append, append_assoc, append-nil, Option, Some, None, IfNone, inl, inr}
-use Rattle.std.specs.Prelude.{drop, get_or, slice_get, ◌==◌, IfSome, if◌then◌else◌}
+use Rattle.std.specs.Prelude.{drop, get_or, slice_get, ◌==◌}
 use Rattle.std.specs.List.{FoldsTo}
 use Rattle.std.proofs.lemmas.Option.{get_or_from_slice_get}
 use Rattle.cb_semirings.specs.Arithmetic.{Arithmetic}
@@ -30,7 +30,7 @@ use Rattle.cb_ranks.specs.Runs.{IsNewRun}
 use Rattle.cb_ranks.specs.UnderWay.{IsUnderWay, DoesNext, TellsNext, arrival_event}
 use Rattle.cb_ranks.specs.Traced.{lengths, one_more, events_after, program_events}
 use Rattle.cb_ranks.specs.Crews.{Member, IsCrew}
-use Rattle.cb_ranks.specs.Told.{HaveTold, TellsRank, HaveToldPlan}
+use Rattle.cb_ranks.specs.Told.{HaveTold, HaveToldPlan}
 use Rattle.cb_ranks.proofs.Crews.{none_posted, none_taken}
 use Rattle.cb_ranks.proofs.Going.{WaitsOn}
 use Rattle.cb_ranks.proofs.Running.{HasRun, none_past}

@@ -1,5 +1,5 @@
 -- The ranks' own lists of a traced run, and the trace that they match.
-use Rattle.std.proofs.Common.{◌≡◌, ℕ, zero, suc, ◌<◌, false, List, [], ◌∷◌, ◌++◌, length, map, refl, sym, ◌∙◌, ap, subst, arith, append_assoc, append-nil}
+use Rattle.std.proofs.Common.{◌≡◌, ℕ, zero, suc, false, List, [], ◌∷◌, ◌++◌, length, map, refl, sym, ◌∙◌, ap, subst, arith, append_assoc, append-nil}
 use Rattle.std.specs.Prelude.{get_or, slice_get, Some}
 use Rattle.std.specs.List.{FoldsTo}
 use Rattle.std.proofs.lemmas.List.{length-map}
@@ -7,10 +7,10 @@ use Rattle.std.proofs.lemmas.Option.{same_Some}
 use Rattle.cb_plan.specs.Plans.{CheckedView}
 use Rattle.cb_plan.specs.Programs.{project}
 use Rattle.cb_trace.specs.declared.events.TraceEvent.{TraceEvent}
-use Rattle.cb_trace.specs.Traces.{TraceView, AreLogsOf, events_by}
+use Rattle.cb_trace.specs.Traces.{TraceView, AreLogsOf}
 use Rattle.cb_ranks.specs.declared.logs.Log.{Log}
 use Rattle.cb_ranks.specs.Logs.{AreNewLogs, AreWhole, Keeps}
-use Rattle.cb_ranks.specs.Told.{TellsRank, HaveToldPlan}
+use Rattle.cb_ranks.specs.Told.{HaveToldPlan}
 use Rattle.cb_ranks.specs.Traced.{program_events, HasProgram}
 use Rattle.cb_ranks.proofs.Crews.{get_or_of}
 
