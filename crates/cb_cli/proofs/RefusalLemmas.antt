@@ -5,7 +5,7 @@ use Rattle.cb_elementwise.specs.declared.Test.{Test}
 use Rattle.cb_scripts.specs.Refusals.{IsProductRefusal, IsMaskedRefusal, IsPlacewiseRefusal, IsVectorRefusal, IsRunRefusal}
 use Rattle.cb_scripts.specs.declared.Engine.{Engine}
 use Rattle.cb_scripts.specs.declared.ScriptFault.{ScriptFault}
-use Rattle.cb_scripts.specs.declared.ScriptFault.TheVariants.{Shapes, NotSquare, Source, Memory, NotStarted, Gone, Lost}
+use Rattle.cb_scripts.specs.declared.ScriptFault.TheVariants.{Shapes, NotSquare, Source, Memory, NotStarted, Gone, TraceTorn, Lost}
 use Rattle.cb_cli.specs.Answers.{IsRefusal}
 use Rattle.cb_cli.specs.declared.jobs.Operation.TheVariants as op_is
 
@@ -18,6 +18,7 @@ module _ (engine : Engine) where
   product_refused a b Memory h = h
   product_refused a b (NotStarted rank) h = h
   product_refused a b (Gone rank) h = h
+  product_refused a b TraceTorn h = h
   product_refused a b (Lost origin) h = h
 
   -- under a mask
@@ -28,6 +29,7 @@ module _ (engine : Engine) where
   masked_refused a b m Memory h = ((h.0, h.1), h.2)
   masked_refused a b m (NotStarted rank) h = ((h.0, h.1), h.2)
   masked_refused a b m (Gone rank) h = ((h.0, h.1), h.2)
+  masked_refused a b m TraceTorn h = ((h.0, h.1), h.2)
   masked_refused a b m (Lost origin) h = ((h.0, h.1), h.2)
 
   -- by a vector
@@ -38,6 +40,7 @@ module _ (engine : Engine) where
   vector_refused a x Memory h = ((h.0, h.1), h.2)
   vector_refused a x (NotStarted rank) h = ((h.0, h.1), h.2)
   vector_refused a x (Gone rank) h = ((h.0, h.1), h.2)
+  vector_refused a x TraceTorn h = ((h.0, h.1), h.2)
   vector_refused a x (Lost origin) h = ((h.0, h.1), h.2)
 
   -- of a transpose
@@ -48,6 +51,7 @@ module _ (engine : Engine) where
   transpose_refused a Memory h = (tt, h)
   transpose_refused a (NotStarted rank) h = (tt, h)
   transpose_refused a (Gone rank) h = (tt, h)
+  transpose_refused a TraceTorn h = (tt, h)
   transpose_refused a (Lost origin) h = (tt, h)
 
   -- of a sum
@@ -58,6 +62,7 @@ module _ (engine : Engine) where
   sum_refused a b Memory h = h
   sum_refused a b (NotStarted rank) h = h
   sum_refused a b (Gone rank) h = h
+  sum_refused a b TraceTorn h = h
   sum_refused a b (Lost origin) h = h
 
   -- of a product place by place
@@ -68,6 +73,7 @@ module _ (engine : Engine) where
   times_refused a b Memory h = h
   times_refused a b (NotStarted rank) h = h
   times_refused a b (Gone rank) h = h
+  times_refused a b TraceTorn h = h
   times_refused a b (Lost origin) h = h
 
   -- of entries dropped by a test
@@ -78,4 +84,5 @@ module _ (engine : Engine) where
   prune_refused test a Memory h = (tt, h)
   prune_refused test a (NotStarted rank) h = (tt, h)
   prune_refused test a (Gone rank) h = (tt, h)
+  prune_refused test a TraceTorn h = (tt, h)
   prune_refused test a (Lost origin) h = (tt, h)
