@@ -1,32 +1,37 @@
 //! The lines that tell a trace.
-ghost use Rattle.std.specs.Prelude.{◌≡◌, ◌++◌, OnOk, IfOk, string_bytes};
-ghost use Rattle.cb_cli.specs.TraceTexts.{letter_line, mark_line, line_of_event, trace_text};
+ghost use Rattle.std.specs.Prelude.{◌≡◌, ◌++◌, OnOk, IfOk, codes, decimal, string_bytes};
+ghost use Rattle.cb_cli.specs.TraceTexts.{event_words, line_of_event, trace_text};
 
 use cb_trace::{Envelope, TraceEvent};
 use std::alloc::{AllocError, Global};
 
-/// Writes the line of a letter: what was done, the ranks that it goes from and to, its number and its tag.
-fn put_letter(text: &mut String, word: &str, envelope: Envelope) -> Result<(), AllocError>
-    ensures { OnOk result (string_bytes text.new ≡ string_bytes text.old ++ letter_line word.now envelope) }
+/// Writes what was done, the ranks that the letter goes from and to, and its number.
+fn put_words(text: &mut String, word: &str, envelope: Envelope) -> Result<(), AllocError>
+    ensures { OnOk result (string_bytes text.new ≡ string_bytes text.old ++ event_words word.now envelope) }
 {
     let Envelope {
         from,
         to,
         number,
-        tag,
+        ..
     } = envelope;
-    let tag = tag.0;
-    write!(text, "% {word} {from} {to} {number} {tag}\n")
+    write!(text, "% {word} {from} {to} {number}")
 }
 
-/// Writes the line of a close mark: all but the tag.
-fn put_mark(text: &mut String, word: &str, envelope: Envelope) -> Result<(), AllocError>
-    ensures { OnOk result (string_bytes text.new ≡ string_bytes text.old ++ mark_line word.now envelope) }
+/// Writes the line of a letter, with its tag.
+fn put_letter(text: &mut String, word: &str, envelope: Envelope) -> Result<(), AllocError>
+    ensures { OnOk result (string_bytes text.new ≡ string_bytes text.old ++ event_words word.now envelope ++ codes " " ++ decimal envelope.tag.0 ++ codes "\n") }
 {
-    let Envelope {
-        from, to, number, ..
-    } = envelope;
-    write!(text, "% {word} {from} {to} {number}\n")
+    put_words(text, word, envelope)?;
+    write!(text, " {}\n", envelope.tag.0)
+}
+
+/// Writes the line of a close mark.
+fn put_mark(text: &mut String, word: &str, envelope: Envelope) -> Result<(), AllocError>
+    ensures { OnOk result (string_bytes text.new ≡ string_bytes text.old ++ event_words word.now envelope ++ codes "\n") }
+{
+    put_words(text, word, envelope)?;
+    write!(text, "\n")
 }
 
 /// Writes the line of an event.

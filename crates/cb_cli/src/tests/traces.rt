@@ -85,12 +85,7 @@ impl Lane {
 }
 
 /// Whether the lines tell of the lane between two ranks what may be, to its end.
-fn lane_is_right(
-    alloc: Global,
-    lines: &str,
-    from: usize,
-    to: usize,
-) -> Result<bool, AllocError> {
+fn lane_is_right(alloc: Global, lines: &str, from: usize, to: usize) -> Result<bool, AllocError> {
     let mut lane = Lane {
         posted: Vec::new(alloc),
         taken: 0,
@@ -229,7 +224,10 @@ fn are_refused_with_the_shapes(rt: HostRuntime) -> Result<(), Fail> {
     let wide = "%%MatrixMarket matrix coordinate integer general\n1 3 0\n";
     for (command, texts) in [
         ("multiply a b --trace", [FIRST, wide].as_slice()),
-        ("multiply a b --trace --mask m", [FIRST, SECOND, wide].as_slice()),
+        (
+            "multiply a b --trace --mask m",
+            [FIRST, SECOND, wide].as_slice(),
+        ),
     ] {
         let mut out = WriterSink::new(Vec::new(rt.alloc()));
         let fault = run_into(&rt, command, texts, &mut out);

@@ -1,8 +1,19 @@
-use Rattle.std.proofs.Common.{sym, subst}
-use Rattle.std.specs.Prelude.{IfErr}
-use Rattle.cb_cli.specs.Answers.{IsFault}
+use Rattle.std.proofs.Common.{ℕ, List, sym, subst}
+use Rattle.std.specs.Prelude.{IfErr, OnOk, IsErrOf}
+use Rattle.std.specs.Io.KnownBytes.{Appends}
+use Rattle.cb_cli.specs.Answers.{IsAnswer, IsFault}
+use Rattle.cb_cli.specs.Sinks.{AppendsPrefix}
+use Rattle.cb_cli.specs.declared.runs.JobFault.TheVariants.{Output}
 use Rattle.cb_cli.specs.Files.{bytes_of}
 use Rattle.cb_cli.proofs.runs.execute.Goals as goal
 
 pub returns-in-Matrix-clause-fault : goal.returns-in-Matrix-clause-fault
 returns-in-Matrix-clause-fault g c = subst (λ t. IfErr c.execute_named.result (IsFault t c.args.job.now.engine (bytes_of c.args.texts.items))) (sym c.in-Matrix.is) c.execute_named.ensures.fault
+
+pub returns-in-Traced-clause-whole : goal.returns-in-Traced-clause-whole
+returns-in-Traced-clause-whole g c =
+    subst (λ t. OnOk c.execute_traced.result ((x : List ℕ) × IsAnswer t c.args.job.now.grid.side (bytes_of c.args.texts.items) x × Appends (g.K.Sink.written c.args.out.now) (g.K.Sink.written c.execute_traced.new.out) x)) (sym c.in-Traced.is) c.execute_traced.ensures.whole
+
+pub returns-in-Traced-clause-output : goal.returns-in-Traced-clause-output
+returns-in-Traced-clause-output g c =
+    subst (λ t. IsErrOf c.execute_traced.result Output → (x : List ℕ) × IsAnswer t c.args.job.now.grid.side (bytes_of c.args.texts.items) x × AppendsPrefix (g.K.Sink.written c.args.out.now) (g.K.Sink.written c.execute_traced.new.out) x) (sym c.in-Traced.is) c.execute_traced.ensures.output
