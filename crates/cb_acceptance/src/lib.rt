@@ -17,5 +17,3 @@ mod losses;
 mod meetings;
 #[cfg(test)]
 mod own_threads;
-#[cfg(test)]
-mod traces;

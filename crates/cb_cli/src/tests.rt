@@ -6,4 +6,3 @@ mod operations;
 mod pages;
 mod products;
 mod sinks;
-mod traces;
