@@ -17,3 +17,5 @@ mod losses;
 mod meetings;
 #[cfg(test)]
 mod own_threads;
+#[cfg(test)]
+mod traces;

@@ -4,50 +4,51 @@ use crate::examples::{Held, kept, product_blocks, results, two_by_two};
 use cb_rank::Moved;
 use cb_semirings::PlusTimes;
 use cb_world::{Event, World};
-use std::alloc::AllocError;
+use std::alloc::{AllocError, Global};
 use std::test::Fail;
+
+/// Rank 0 posts its block of the first factor, and rank 1 takes it.
+const FIRST_LETTER: [(Event, Moved); 5] = [
+    (Event::Step(0), Moved::Worked),
+    (Event::Step(0), Moved::Worked),
+    (Event::Step(0), Moved::Posted),
+    (Event::Step(1), Moved::Worked),
+    (Event::Step(1), Moved::Took),
+];
+
+/// What the ranks leave of the product where these events follow the first letter, each answered so, memory is refused
+/// once, and the world then comes to its end.
+fn results_after(alloc: Global, events: &[(Event, Moved)]) -> Option<[Held; 4]> {
+    let mut world = product_world(alloc)?;
+    let as_said = answers(&mut world, &FIRST_LETTER) && answers(&mut world, events);
+    world.finish();
+    if !as_said || world.refusals() != 1 {
+        return None;
+    }
+    Some(results(&stores_of(world)?))
+}
 
 #[test]
 fn an_operation_without_memory_loses_the_product_of_its_rank(rt: HostRuntime) -> Result<(), Fail> {
-    let mut world = product_world(rt.alloc()).ok_or("a world")?;
-    let events = [
-        (Event::Step(0), Moved::Worked),
-        (Event::Step(0), Moved::Worked),
-        (Event::Step(0), Moved::Posted),
-        (Event::Step(1), Moved::Worked),
-        (Event::Step(1), Moved::Took),
-        (Event::Starve(1), Moved::Worked),
-    ];
-    assert!(rt; answers(&mut world, &events));
-    world.finish();
-    assert_eq!(rt; world.refusals(), 1);
+    let events = [(Event::Starve(1), Moved::Worked)];
     let [first, _, third, fourth] = product_blocks();
     assert_eq!(rt;
-        results(&stores_of(world).ok_or("some rank is not done")?),
-        [first, Held::LostAt(1), third, fourth]
+        results_after(rt.alloc(), &events),
+        Some([first, Held::LostAt(1), third, fourth])
     );
     Ok(())
 }
 
 #[test]
 fn a_post_without_memory_loses_the_product_of_its_addressee(rt: HostRuntime) -> Result<(), Fail> {
-    let mut world = product_world(rt.alloc()).ok_or("a world")?;
     let events = [
-        (Event::Step(0), Moved::Worked),
-        (Event::Step(0), Moved::Worked),
-        (Event::Step(0), Moved::Posted),
-        (Event::Step(1), Moved::Worked),
-        (Event::Step(1), Moved::Took),
         (Event::Step(1), Moved::Worked),
         (Event::Starve(1), Moved::Posted),
     ];
-    assert!(rt; answers(&mut world, &events));
-    world.finish();
-    assert_eq!(rt; world.refusals(), 1);
     let [first, second, third, _] = product_blocks();
     assert_eq!(rt;
-        results(&stores_of(world).ok_or("some rank is not done")?),
-        [first, second, third, Held::LostAt(1)]
+        results_after(rt.alloc(), &events),
+        Some([first, second, third, Held::LostAt(1)])
     );
     Ok(())
 }

@@ -1,64 +1,24 @@
 //! The ranks of a product with desks of the test's own, each on a thread of the test.
-ghost use Rattle.std.specs.Prelude.{◌≡◌, ℕ, ◌≤◌, ◌<◌, [], length, map, get_or, IfOk, IfSome};
-ghost use Rattle.cb_lanes.specs.Desks.{identity, AreOfOneOpening};
+ghost use Rattle.std.specs.Prelude.{◌≡◌, length, map, IfSome};
+ghost use Rattle.cb_lanes.specs.Desks.{identity};
 ghost use Rattle.cb_lanes.specs.Lanes.{rank_count};
-ghost use Rattle.cb_plan.specs.Stores.{Fits};
-ghost use Rattle.cb_rank.specs.Ranks.{new_rank};
-ghost use Rattle.cb_ranks.specs.Crews.{Member as MemberView, AreNew, IsCrew, desks_of};
+ghost use Rattle.cb_ranks.specs.Crews.{AreNew, desks_of};
 ghost use Rattle.cb_ranks.specs.Runs.{IsNewRun};
 
 use crate::examples::{product_blocks, results, two_by_two};
 use cb_dcsc::Block;
 use cb_lanes::{Desk, Gone, Settled, open, settle};
-use cb_plan::{CheckedPlan, RankStore};
-use cb_rank::Rank;
-use cb_ranks::{OpenGate, run_rank};
+use cb_plan::RankStore;
+use cb_ranks::{OpenGate, assemble, run_rank};
 use cb_semirings::PlusTimes;
-use std::alloc::{AllocError, Global};
+use std::alloc::Global;
 use std::sync::Wait;
 use std::test::Fail;
 use std::thread;
 use std::thread::Threads;
 
 /// A rank with its desk.
-type Member = (Rank<PlusTimes>, Desk<Block<PlusTimes>>);
-
-/// The ranks of a plan in order, each new, with its store and a new desk, over lanes for one letter.
-fn crew(
-    alloc: Global,
-    plan: &CheckedPlan,
-    stores: Vec<RankStore<PlusTimes>>,
-) -> Result<Vec<Member>, AllocError>
-    requires { Fits plan.now.ranks plan.now.starts stores.items }
-    ensures crew { IfOk result (λ crew. IsCrew plan.now stores.items crew.items) }
-    ensures new { IfOk result (λ crew. AreNew crew.items) }
-{
-    let desks = open(alloc, plan.ranks(), 1)?;
-    pair_up(alloc, plan, stores, desks)
-}
-
-/// Each rank of a plan, new, with its store and its desk.
-fn pair_up(
-    alloc: Global,
-    plan: &CheckedPlan,
-    stores: Vec<RankStore<PlusTimes>>,
-    desks: Vec<Desk<Block<PlusTimes>>>,
-) -> Result<Vec<Member>, AllocError>
-    requires fits { Fits plan.now.ranks plan.now.starts stores.items }
-    requires desks { (length desks.items ≡ plan.now.ranks) × (length desks.items ≤ 65535) }
-    ensures desks { IfOk result (λ crew. desks_of crew.items ≡ desks.items) }
-    ensures ranks { IfOk result (λ crew. (k : ℕ) (d : MemberView) → k < length crew.items → (get_or crew.items k d).0 ≡ new_rank plan.now k (get_or stores.items k [])) }
-{
-    let mut crew = Vec::with_capacity(alloc, desks.len())?;
-    for (store, desk) in stores.into_iter().zip(desks) {
-        let number = crew.len() as u16;
-        match Rank::start(alloc, plan, number, store) {
-            Ok(rank) => crew.push_reserved((rank, desk)),
-            Err((_store, refused)) => return Err(refused),
-        }
-    }
-    Ok(crew)
-}
+type Member = cb_ranks::Member<PlusTimes>;
 
 /// Runs two ranks, each on a thread.
 fn run_two<R: Threads + Wait + Sync>(
@@ -140,7 +100,7 @@ fn letters(lanes: &Settled<Block<PlusTimes>>) -> Option<u64>
 fn ranks_on_threads_of_the_test_leave_the_product(rt: HostRuntime) -> Result<(), Fail> {
     let alloc = rt.alloc();
     let (plan, stores) = two_by_two(alloc, 2).ok_or("a plan")?;
-    let crew = crew(alloc, &plan, stores)?;
+    let crew = assemble(alloc, &plan, stores, 1)?;
     let (stores, desks) = run_four(&rt, alloc, crew).ok_or("the runs end")?;
     assert_eq!(rt; letters(&settle(desks)), Some(20));
     assert_eq!(rt; results(&stores), product_blocks());

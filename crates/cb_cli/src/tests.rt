@@ -6,3 +6,4 @@ mod operations;
 mod pages;
 mod products;
 mod sinks;
+mod traces;

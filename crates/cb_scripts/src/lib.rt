@@ -22,6 +22,8 @@ mod runs;
 mod stores;
 #[cfg(test)]
 mod tests;
+#[cfg(test)]
+mod trace_tests;
 mod traced;
 mod transposes;
 mod vectors;

@@ -153,11 +153,19 @@ fn reads_a_source(rt: HostRuntime) -> Result<(), Fail> {
     Ok(())
 }
 
+/// The first of these lines that is taken, or refused for another reason than its words.
+fn taken(alloc: Global, lines: &[&'static str]) -> Option<&'static str> {
+    for line in lines {
+        if !matches!(job(alloc, line), Err(UsageFault::Usage(_))) {
+            return Some(line);
+        }
+    }
+    None
+}
+
 #[test]
-fn refuses_what_is_not_offered(rt: HostRuntime) {
+fn refuses_products_that_are_not_offered(rt: HostRuntime) {
     let lines = [
-        "cbgrid",
-        "cbgrid power a b",
         "cbgrid multiply",
         "cbgrid multiply a",
         "cbgrid multiply a b c",
@@ -179,18 +187,14 @@ fn refuses_what_is_not_offered(rt: HostRuntime) {
         "cbgrid multiply a b --colour",
         "cbgrid multiply a b -h",
         "cbgrid multiply a b --test above --value 1",
-        "cbgrid transpose",
-        "cbgrid transpose a b",
-        "cbgrid transpose a --mask m",
-        "cbgrid add a",
-        "cbgrid times a b c",
-        "cbgrid prune a",
-        "cbgrid prune a --test above",
-        "cbgrid prune a --value 1",
-        "cbgrid prune a --test over --value 1",
-        "cbgrid prune a --test above --value some",
-        "cbgrid prune a --test above --value 18446744073709551616",
-        "cbgrid prune a --test above --test below --value 1",
+        "cbgrid multiply a b --source 1",
+    ];
+    assert!(rt; taken(rt.alloc(), &lines).is_none());
+}
+
+#[test]
+fn refuses_graphs_that_are_not_offered(rt: HostRuntime) {
+    let lines = [
         "cbgrid bfs a",
         "cbgrid bfs --source 1",
         "cbgrid bfs a b --source 1",
@@ -203,16 +207,31 @@ fn refuses_what_is_not_offered(rt: HostRuntime) {
         "cbgrid relax a --source -1",
         "cbgrid relax a --source 1 --semiring min-plus",
         "cbgrid relax a --source 1 --mask m",
-        "cbgrid multiply a b --source 1",
+    ];
+    assert!(rt; taken(rt.alloc(), &lines).is_none());
+}
+
+#[test]
+fn refuses_what_else_is_not_offered(rt: HostRuntime) {
+    let lines = [
+        "cbgrid",
         "cbgrid -h",
         "cbgrid help",
+        "cbgrid power a b",
+        "cbgrid transpose",
+        "cbgrid transpose a b",
+        "cbgrid transpose a --mask m",
+        "cbgrid add a",
+        "cbgrid times a b c",
+        "cbgrid prune a",
+        "cbgrid prune a --test above",
+        "cbgrid prune a --value 1",
+        "cbgrid prune a --test over --value 1",
+        "cbgrid prune a --test above --value some",
+        "cbgrid prune a --test above --value 18446744073709551616",
+        "cbgrid prune a --test above --test below --value 1",
     ];
-    for line in lines {
-        assert!(rt;
-            matches!(job(rt.alloc(), line), Err(UsageFault::Usage(_))),
-            "{line}"
-        );
-    }
+    assert!(rt; taken(rt.alloc(), &lines).is_none());
 }
 
 #[test]
@@ -235,69 +254,53 @@ fn offers_help(rt: HostRuntime) {
     }
 }
 
-#[test]
-fn ends_with_a_status_and_prints_a_line(rt: HostRuntime) -> Result<(), Fail> {
-    let alloc = rt.alloc();
+/// Whether a fault of a job with the files `a.mtx` and `b.mtx` ends with this status, and prints this line.
+fn ends_so(alloc: Global, fault: &JobFault, number: u8, line: &str) -> Result<bool, AllocError> {
     let names = words(alloc, "a.mtx b.mtx")?;
+    let told = fault_line(alloc, names.as_slice(), fault)?;
+    Ok(status(fault) == number && told.as_slice() == line.as_bytes())
+}
+
+#[test]
+fn names_the_file_of_a_fault(rt: HostRuntime) -> Result<(), Fail> {
+    let alloc = rt.alloc();
     let fault = |which, line, kind| JobFault::Read {
         which,
         fault: ReadFault { line, kind },
     };
-    let wanted = [
+    let bad = fault(1, 7, Kind::BadNumber);
+    assert!(rt; ends_so(alloc, &bad, 4, "cbgrid: b.mtx:7: not a whole number\n")?);
+    let refused = fault(0, 3, Kind::Memory);
+    assert!(rt; ends_so(alloc, &refused, 6, "cbgrid: a.mtx:3: out of memory\n")?);
+    let told = unreadable_line(alloc, "a.mtx")?;
+    assert!(rt; told.as_slice() == b"cbgrid: a.mtx: can't be read\n".as_slice());
+    Ok(())
+}
+
+#[test]
+fn tells_why_there_is_no_answer(rt: HostRuntime) -> Result<(), Fail> {
+    let scripts = [
+        (ScriptFault::Shapes, 5, "cbgrid: shapes don't agree\n"),
+        (ScriptFault::NotSquare, 5, "cbgrid: matrix not square\n"),
+        (ScriptFault::Source, 5, "cbgrid: no such source\n"),
+        (ScriptFault::Memory, 6, "cbgrid: out of memory\n"),
         (
-            fault(1, 7, Kind::BadNumber),
-            4,
-            "cbgrid: b.mtx:7: not a whole number\n",
-        ),
-        (
-            fault(0, 3, Kind::Memory),
-            6,
-            "cbgrid: a.mtx:3: out of memory\n",
-        ),
-        (
-            JobFault::Script(ScriptFault::Shapes),
-            5,
-            "cbgrid: shapes don't agree\n",
-        ),
-        (
-            JobFault::Script(ScriptFault::NotSquare),
-            5,
-            "cbgrid: matrix not square\n",
-        ),
-        (
-            JobFault::Script(ScriptFault::Source),
-            5,
-            "cbgrid: no such source\n",
-        ),
-        (
-            JobFault::Script(ScriptFault::Memory),
-            6,
-            "cbgrid: out of memory\n",
-        ),
-        (
-            JobFault::Script(ScriptFault::NotStarted(35)),
+            ScriptFault::NotStarted(35),
             6,
             "cbgrid: rank 35 not started\n",
         ),
-        (
-            JobFault::Script(ScriptFault::Gone(0)),
-            6,
-            "cbgrid: rank 0 gone\n",
-        ),
-        (
-            JobFault::Script(ScriptFault::Lost(7)),
-            6,
-            "cbgrid: lost at rank 7\n",
-        ),
-        (JobFault::Memory, 6, "cbgrid: out of memory\n"),
-        (JobFault::Output, 7, "cbgrid: can't write\n"),
+        (ScriptFault::Gone(0), 6, "cbgrid: rank 0 gone\n"),
+        (ScriptFault::Lost(7), 6, "cbgrid: lost at rank 7\n"),
     ];
-    for (fault, number, line) in wanted {
-        assert_eq!(rt; status(&fault), number);
-        let told = fault_line(alloc, names.as_slice(), &fault)?;
-        assert!(rt; told.as_slice() == line.as_bytes(), "{line}");
+    for (fault, number, line) in scripts {
+        assert!(rt;
+            ends_so(rt.alloc(), &JobFault::Script(fault), number, line)?,
+            "{line}"
+        );
     }
-    let told = unreadable_line(alloc, "a.mtx")?;
-    assert!(rt; told.as_slice() == b"cbgrid: a.mtx: can't be read\n".as_slice());
+    let memory = "cbgrid: out of memory\n";
+    assert!(rt; ends_so(rt.alloc(), &JobFault::Memory, 6, memory)?);
+    let output = "cbgrid: can't write\n";
+    assert!(rt; ends_so(rt.alloc(), &JobFault::Output, 7, output)?);
     Ok(())
 }
