@@ -12,7 +12,7 @@ use Rattle.cb_plan.specs.declared.acts.Act.{Act}
 use Rattle.cb_plan.specs.Meaning.{State}
 use Rattle.cb_plan.specs.Algebras.{shapes}
 use Rattle.cb_plan.specs.Checks.{none_shut, lanes_after}
-use Rattle.cb_plan.proofs.Passing.{lanes_after-append}
+use Rattle.cb_plan.proofs.PassingActs.{lanes_after-append}
 use Rattle.cb_layout.specs.Parts.{row_group, column_group, part, part_start, part_length, part_shape}
 use Rattle.cb_layout.specs.Vectors.{piece_shape}
 use Rattle.cb_layout.proofs.Parts.{rank_of, row_below}

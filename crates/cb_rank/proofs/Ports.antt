@@ -13,11 +13,11 @@ use Rattle.cb_plan.specs.declared.stores.Slot.{Slot}
 use Rattle.cb_plan.specs.Checks.{none_shut, started}
 use Rattle.cb_rank.specs.declared.wants.Want.TheVariants as want_is
 use Rattle.cb_rank.specs.Ranks.{RankView, IsRank, ArePortsOf, want_of, next_half, onward, standing_by, posted_to, is_shut_to}
-use Rattle.cb_rank.proofs.View.{split}
-use Rattle.cb_rank.proofs.Next.{finds, lanes, passes}
-use Rattle.cb_rank.proofs.Keeping.{few_halves}
-use Rattle.cb_rank.proofs.Wanted.{wants_take, wants_end}
-use Rattle.cb_rank.proofs.Standing.{take-next, posted_to-append, is_shut_to-append, lanes_by_halves, is_open}
+use Rattle.cb_rank.proofs.OwnActs.{split}
+use Rattle.cb_rank.proofs.NextAct.{finds, lanes, passes}
+use Rattle.cb_rank.proofs.RankAfterHalf.{few_halves}
+use Rattle.cb_rank.proofs.WantedHalf.{wants_take, wants_end}
+use Rattle.cb_rank.proofs.LanesByHalves.{take-next, posted_to-append, is_shut_to-append, lanes_by_halves, is_open}
 
 abbrev done_halves : RankView → List Half
 done_halves x = take x.done x.program

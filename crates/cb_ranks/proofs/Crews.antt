@@ -28,8 +28,8 @@ use Rattle.cb_plan.specs.Programs.{project}
 use Rattle.cb_plan.specs.Stores.{state_of, sheet_of, is_lost, Fits}
 use Rattle.cb_plan.specs.Tables.{cell, IsTable}
 use Rattle.cb_plan.proofs.Effects.{same_state}
-use Rattle.cb_plan.proofs.Passing.{checked_passes}
-use Rattle.cb_plan.proofs.Running.{first_below}
+use Rattle.cb_plan.proofs.PassingActs.{checked_passes}
+use Rattle.cb_plan.proofs.ActOnStores.{first_below}
 use Rattle.cb_lanes.specs.declared.desk.Desk.{Desk}
 use Rattle.cb_lanes.specs.Desks.{identity, posted_to, taken_from, posted_in, taken_in, AreOfOneOpening, IsNewDesk, IsSettledLane}
 use Rattle.cb_lanes.specs.declared.settled.Settled.{Settled}
@@ -37,13 +37,13 @@ use Rattle.cb_lanes.specs.Lanes.{posted_on, taken_on}
 use Rattle.cb_rank.specs.Agreement.{IsSlotOf, AreLettersOf}
 use Rattle.cb_rank.specs.Halves.{Course, RunsTo}
 use Rattle.cb_rank.specs.Ranks.{RankView, new_rank}
-use Rattle.cb_rank.proofs.View.{quiet_act}
-use Rattle.cb_rank.proofs.Keeping.{few_halves}
+use Rattle.cb_rank.proofs.OwnActs.{quiet_act}
+use Rattle.cb_rank.proofs.RankAfterHalf.{few_halves}
 use Rattle.cb_ranks.specs.Runs.{course_of, IsNewRun}
 use Rattle.cb_ranks.specs.Crews.{Member, desks_of, stores_of, counts_of, AreNew, Ran, IsCrew}
 use Rattle.cb_ranks.specs.Finished.{FinishedView, IsFinished, HoldsMeaning}
 use Rattle.cb_ranks.proofs.Courses.{fresh, same_course}
-use Rattle.cb_ranks.proofs.Closing.{AreFinished, closes}
+use Rattle.cb_ranks.proofs.ClosingLaw.{AreFinished, closes}
 
 -- on a new desk nothing was posted to any number, nor taken
 pub none_posted : (c n k : ℕ) (d : Desk Sparse) → IsNewDesk c n k d → (j : ℕ) → posted_to d j ≡ []

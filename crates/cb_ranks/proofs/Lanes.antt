@@ -10,9 +10,9 @@ use Rattle.cb_plan.specs.declared.acts.Half.TheVariants as half_is
 use Rattle.cb_plan.specs.Checks.{IsSound, Lanes, shut_after, lanes_after, none_shut}
 use Rattle.cb_plan.specs.Letters.{count_of, before, next_act}
 use Rattle.cb_rank.specs.Ranks.{RankView, IsRank, next_half}
-use Rattle.cb_rank.proofs.View.{split, one_half}
+use Rattle.cb_rank.proofs.OwnActs.{split, one_half}
 use Rattle.cb_rank.proofs.Halves.{is_post, is_take, is_work, is_shut, is_end}
-use Rattle.cb_rank.proofs.Next.{finds, lanes, outline, next_one, next_passes, not_true}
+use Rattle.cb_rank.proofs.NextAct.{finds, lanes, outline, next_one, next_passes, not_true}
 
 -- an act that a rank has no half of shuts no lane to it
 quiet_shut : (a : Act) (shut : Lanes) (s r : ℕ) → count_of a r ≡ 0 → shut_after a shut s r ≡ shut s r

@@ -13,7 +13,7 @@ use Rattle.cb_layout.specs.Blocks.{block_at, block_of, glued}
 use Rattle.cb_layout.specs.Vectors.{piece_start, piece_shape, piece_of, glued_pieces}
 use Rattle.cb_layout.proofs.Parts.{rank_of, row_below, rank_below}
 use Rattle.cb_layout.proofs.Cuts.{glued_cut}
-use Rattle.cb_layout.proofs.Spread.{glued_pieces_cut}
+use Rattle.cb_layout.proofs.VectorPieces.{glued_pieces_cut}
 use Rattle.cb_plan.specs.declared.acts.Act.{Act}
 use Rattle.cb_plan.specs.declared.stores.Slot.{Slot}
 use Rattle.cb_plan.specs.declared.stores.Slot.TheVariants as slot_is

@@ -13,12 +13,12 @@ use Rattle.cb_rank.specs.declared.wants.Moved.{Moved}
 use Rattle.cb_rank.specs.declared.wants.Moved.TheVariants as moved_is
 use Rattle.cb_rank.specs.Steps.{Answer}
 use Rattle.cb_rank.specs.Ranks.{RankView, next_half, want_of}
-use Rattle.cb_rank.proofs.Wanted.{wants_post_to, wants_shut_to, wants_take, wants_work, wants_end, wants_nothing}
+use Rattle.cb_rank.proofs.WantedHalf.{wants_post_to, wants_shut_to, wants_take, wants_work, wants_end, wants_nothing}
 use Rattle.cb_world.specs.Worlds.{WorldView, IsWorld, no_rank, rank_of, next_of, lane_between, CanDo, CanAct, remaining}
 use Rattle.cb_world.specs.Steps.{DoesIn, Steps, StepsBy, RunsBy, rank_in}
 use Rattle.cb_world.specs.declared.events.Event.{Event}
 use Rattle.cb_world.specs.declared.events.Event.TheVariants as event_is
-use Rattle.cb_rank.proofs.View.{split}
+use Rattle.cb_rank.proofs.OwnActs.{split}
 use Rattle.cb_world.proofs.NoDeadlock.{no_next}
 use Rattle.cb_world.proofs.Changes.{does_lower, steps_stay, runs_stay}
 use Rattle.cb_world.proofs.NextHalf.{finds_half}

@@ -22,14 +22,14 @@ use Rattle.cb_plan.specs.Checks.{IsSound, Passes, lanes_after, none_shut, starte
 use Rattle.cb_plan.specs.Plans.{CheckedView}
 use Rattle.cb_plan.specs.Programs.{halves_of, project, project_from}
 use Rattle.cb_plan.specs.Stores.{state_of}
-use Rattle.cb_plan.proofs.Measured.{shapes_of_meaning}
-use Rattle.cb_plan.proofs.Passing.{checked_passes}
-use Rattle.cb_plan.proofs.Running.{first_below}
+use Rattle.cb_plan.proofs.ShapesOfMeaning.{shapes_of_meaning}
+use Rattle.cb_plan.proofs.PassingActs.{checked_passes}
+use Rattle.cb_plan.proofs.ActOnStores.{first_below}
 use Rattle.cb_rank.specs.Agreement.{IsBodyOf, AreLettersOf, ends_marked}
 use Rattle.cb_rank.specs.Halves.{HasKind}
-use Rattle.cb_rank.proofs.View.{letters-next}
+use Rattle.cb_rank.proofs.OwnActs.{letters-next}
 use Rattle.cb_rank.proofs.Halves.{is_post, is_take, is_work, is_shut, is_end}
-use Rattle.cb_rank.proofs.Next.{act_of_half, next_sound, apart_of, apart_of_shut, both_below, not_true}
+use Rattle.cb_rank.proofs.NextAct.{act_of_half, next_sound, apart_of, apart_of_shut, both_below, not_true}
 use Rattle.cb_world.specs.Worlds.{WorldView, IsWorld, HasRank, rank_of, next_of, lane_between, system_of}
 use Rattle.cb_world.proofs.Lanes.{first_waiting}
 use Rattle.cb_world.proofs.AgreementAfterHalf.{letters_begin, letters_unmarked, unmarked}

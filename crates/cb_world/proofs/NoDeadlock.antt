@@ -12,8 +12,8 @@ use Rattle.cb_plan.specs.Checks.{none_shut, started}
 use Rattle.cb_plan.specs.Programs.{project}
 use Rattle.cb_plan.specs.Stores.{state_of}
 use Rattle.cb_rank.specs.Ranks.{RankView, next_half}
-use Rattle.cb_rank.proofs.View.{split}
-use Rattle.cb_rank.proofs.Keeping.{few_halves}
+use Rattle.cb_rank.proofs.OwnActs.{split}
+use Rattle.cb_rank.proofs.RankAfterHalf.{few_halves}
 use Rattle.cb_world.specs.Worlds.{WorldView, IsWorld, no_rank, rank_of, next_of, lane_between, system_of, CanDo, CanAct, AllDone, remaining, refusals_in}
 use Rattle.cb_world.proofs.Progress.{Can, someone_moves, queued_of_agrees}
 use Rattle.cb_world.proofs.RankSums.{sum_is_none, none_of_sum, sum_is_below}

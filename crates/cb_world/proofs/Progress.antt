@@ -14,10 +14,10 @@ use Rattle.cb_plan.specs.Letters.{Cargo, count_of, before, letter_of, letters}
 use Rattle.cb_plan.specs.Algebras.{shapes}
 use Rattle.cb_plan.specs.Checks.{Lanes, IsSound, Passes, shut_after}
 use Rattle.cb_plan.specs.Programs.{take_of, halves_of, project_from}
-use Rattle.cb_plan.proofs.Running.{first_below}
+use Rattle.cb_plan.proofs.ActOnStores.{first_below}
 use Rattle.cb_rank.specs.Agreement.{AreLettersOf, Agrees, System}
-use Rattle.cb_rank.proofs.View.{split, some_shape, counted}
-use Rattle.cb_rank.proofs.Next.{slice_get_right, apart_of, apart_of_shut, both_below}
+use Rattle.cb_rank.proofs.OwnActs.{split, some_shape, counted}
+use Rattle.cb_rank.proofs.NextAct.{slice_get_right, apart_of, apart_of_shut, both_below}
 
 -- how many letters an act, and acts, put on a lane
 abbrev pub posts_of : Act → ℕ → ℕ → ℕ

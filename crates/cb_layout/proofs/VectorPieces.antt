@@ -18,9 +18,9 @@ use Rattle.cb_layout.specs.Tiles.{input_tiles, result_tiles, IsGathered, before_
 use Rattle.cb_layout.specs.Segments.{shifted}
 use Rattle.cb_layout.proofs.Parts.{row_of_rank, column_of_rank, rank_below, rank_of, row_below, part_below, start_there, place_below, own_below, own_part}
 use Rattle.cb_layout.proofs.Tiles.{IsTiling}
-use Rattle.cb_layout.proofs.Glued.{tile_is_cut}
-use Rattle.cb_layout.proofs.Scattered.{IsScattered, tile_is}
-use Rattle.cb_layout.proofs.Gathered.{placed_column, gathered_none, gathered_more, gathered_same, gathered_all}
+use Rattle.cb_layout.proofs.GluedTiles.{tile_is_cut}
+use Rattle.cb_layout.proofs.EntriesByTile.{IsScattered, tile_is}
+use Rattle.cb_layout.proofs.PlacedEntries.{placed_column, gathered_none, gathered_more, gathered_same, gathered_all}
 use Rattle.std.proofs.lemmas.Nat.{mod_below}
 
 module _ (q d : ℕ) (pos : 0 < q) where
