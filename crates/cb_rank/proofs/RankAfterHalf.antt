@@ -342,6 +342,7 @@ copy_is_open me slot_is.Empty body_is.Close old new c = absurd c
 copy_is_open me (slot_is.Sheet m) body_is.Close old new c = absurd c
 copy_is_open me (slot_is.Lost o) body_is.Close old new c = absurd c
 
+-- a truth value is, as a number, at most one
 pub bool_few : (b : Bool) → from_bool b ≤ 1
 bool_few true = omega arith
 bool_few false = omega arith
