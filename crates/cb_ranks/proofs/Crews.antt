@@ -53,6 +53,7 @@ none_posted c n k d new j =
     (λ (l : n ≤ j). let size = new.ranks in rw (get_or-eq_default d.outgoing.items None {n = j} (omega arith)) refl)
     (cases_lt j n)
 
+-- on a new desk nothing was taken from any number
 pub none_taken : (c n k : ℕ) (d : Desk Sparse) → IsNewDesk c n k d → (j : ℕ) → taken_from d j ≡ []
 none_taken c n k d new j =
     ⊎_elim
@@ -95,6 +96,7 @@ place s (x ∷ xs) (y ∷ ys) (suc k) h l =
 slice_get_of : {X Y : Type 0} (f : X → Y) (xs : List X) (k : ℕ) (x : X) → slice_get xs k ≡ Some x → slice_get (map f xs) k ≡ Some (f x)
 slice_get_of f xs k x e = slice_get-map f xs k ∙ ap (option_map f) e
 
+-- where a list has an element at a place, the list of images has its image there
 pub get_or_of : {X Y : Type 0} (f : X → Y) (xs : List X) (k : ℕ) (x : X) (d : Y) → slice_get xs k ≡ Some x → get_or (map f xs) k d ≡ f x
 get_or_of f xs k x d e = get_or_from_slice_get (map f xs) k (f x) d (slice_get_of f xs k x e)
 

@@ -203,6 +203,7 @@ does_end s x y d e from is was next onto takes =
       });
     }
 
+-- the next half waits for a letter from this rank, or for the end of the lane from it
 abbrev pub WaitsOn : RankView → ℕ → Type 0
 WaitsOn x from = (want_of (next_half x) ≡ want_is.Take from) ⊎ (want_of (next_half x) ≡ want_is.End from)
 
