@@ -40,12 +40,14 @@ NoMark [] = Unit {0}
 NoMark ((tag, Sheet m) ∷ ws) = NoMark ws
 NoMark ((tag, Mark) ∷ ws) = ⊥
 
+-- letters of which none is a mark do not end with one
 pub unmarked : {M : Type 0} (ws : List (Tag × Cargo M)) → NoMark ws → ends_marked ws ≡ false
 unmarked [] h = refl
 unmarked ((tag, Sheet m) ∷ []) h = refl
 unmarked ((tag, Sheet m) ∷ (v ∷ ws)) h = unmarked (v ∷ ws) h
 unmarked ((tag, Mark) ∷ ws) h = absurd h
 
+-- a lane that was shut is shut after an act too
 pub kept_shut : (a : Act) (shut : Lanes) (s t : ℕ) → shut s t ≡ true → shut_after a shut s t ≡ true
 kept_shut (act_is.Move from to tag slot into) shut s t e = e
 kept_shut (act_is.Work rank op) shut s t e = e

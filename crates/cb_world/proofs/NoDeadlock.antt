@@ -35,6 +35,7 @@ no_next w r past = let none : rank_of w r ≡ no_rank = get_or_past w.ranks r no
 done_next : (x : RankView) → length x.program ≤ x.done → next_half x ≡ None
 done_next x past = slice_get_past x.program x.done past
 
+-- a rank that has no next half has done its whole program
 pub is_done_by : (x : RankView) → next_half x ≡ None → length x.program ≤ x.done
 is_done_by x none =
     split (nat_lt x.done (length x.program))
@@ -67,6 +68,7 @@ someone_acts s w sound none r =
 pub none_remains : (w : WorldView) → AllDone w → remaining w ≡ 0
 none_remains w done = sum_is_none (λ x. length x.program - x.done) no_rank w.ranks (λ r l. let past = is_done_by (rank_of w r) (done r) in omega arith)
 
+-- where nothing remains, all is done
 pub all_done_by : (w : WorldView) → remaining w ≡ 0 → AllDone w
 all_done_by w none r =
     split (nat_lt r (length w.ranks))
@@ -79,6 +81,7 @@ few_remain s w sound =
     sum_is_below (λ x. length x.program - x.done) no_rank 4294967295 w.ranks (λ r l.
     let few = few_halves (rank_of w r) (sound.ranks r (let size = sound.sizes.0 in omega arith)).sound in omega arith)
 
+-- the refusals of all ranks are at most 2^32 - 1 for each of them
 pub few_refused : (s : Arithmetic) (w : WorldView) → IsWorld s w → refusals_in w ≤ length w.ranks * 4294967295
 few_refused s w sound =
     sum_is_below (λ x. x.refusals) no_rank 4294967295 w.ranks (λ r l.
