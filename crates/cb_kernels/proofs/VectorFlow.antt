@@ -234,6 +234,7 @@ module _ (q : ℕ) (pos : 0 < q) (few : q ≤ 6) (shape : Extent) where
         (has_summands shapes q few shape state block piece left right i t s (row_below q r l) (mod_below r q pos) k
         ∙ ap (λ (x : Extent). Some (shapes.cut (part q (part_length q shape.rows i) t) (0, 1) (shapes.mul_vec (block i s) x))) (assembled_shape q (column (part_length q shape.cols s)) (piece s) q))))
 
+    -- all acts of the product pass one after the other, and shut no lane
     pub spread_flow : Flow state (spread_product_acts q shape)
     spread_flow =
         let sums = each_works q (λ _. sum_ops q) in
