@@ -29,11 +29,11 @@ abbrev pub summed : {M : Type 0} → Algebra M → (ℕ → M) → ℕ → M
 summed ops block zero = block 0
 summed ops block (suc k) = ops.add (summed ops block k) (block (suc k))
 
--- a number passes the test whether it is that number
+-- the test whether two numbers are equal holds of a number and itself
 pub yes : (n : ℕ) → (n == n) ≡ true
 yes n = grind (arith, nat_tests)
 
--- and another number fails it
+-- and it fails for two that differ
 pub no : (m n : ℕ) → m ≢ n → (m == n) ≡ false
 no m n ne = grind (arith, nat_tests)
 

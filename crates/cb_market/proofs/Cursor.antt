@@ -213,7 +213,7 @@ word_none old start e h = sym (words_after_blanks old) ∙ ap (λ l. words (line
 pub word_none_after : (old start : List ℕ) → start ≡ after_blanks old → after_line start ≡ after_line old
 word_none_after old start e = ap after_line e ∙ line_after_blanks old
 
--- past the blanks the line's first word begins, and it is as long as what the rest is shorter by
+-- where the line goes on past the blanks, its first word is the bytes from there to where the word ends
 pub word_found : (old start new : List ℕ) → start ≡ after_blanks old → is_line_end start ≡ false → new ≡ after_word start → words (line_at old) ≡ take (length start - length new) start ∷ words (line_at new)
 word_found old start new e h f =
     let k : is_word_end start ≡ false = rw e (end_after_blanks old (rw e at h)) in

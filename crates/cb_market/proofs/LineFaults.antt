@@ -108,7 +108,7 @@ pub gives_more : (s : Arithmetic) (header : Header) (items new all : List Entry)
 gives_more s header items new all ls l more e h k =
     ap (λ xs. xs ++ given s header more) k ∙ append_assoc items (given_by s header.symmetry (entry_of s header l.1)) (given s header more) ∙ sym (ap (λ xs. items ++ given s header xs) h) ∙ e
 
--- want of entries is one fault where the lines have one number
+-- missing entries at lines of the same number are the same fault
 pub at_end : {m n : ℕ} → m ≡ n → record_at m MissingEntries ≡ record_at n MissingEntries
 at_end e = ap (λ k. record_at k MissingEntries) e
 
