@@ -40,9 +40,11 @@ module _ {A : Type 0} where
   pub one_text : {B : Type 0} (xs : Vec (Vec ℕ A) B) (t : Vec ℕ A) → vec_len xs ≡ 1 → t ≡ get_or xs.items 0 t → bytes_of xs.items ≡ t.items ∷ []
   one_text xs t n e = only_item xs.items t (sym xs.ok.0 ∙ n) e
 
+  -- the bytes of two texts, taken out of a list of two one after the other
   pub two_texts : {B : Type 0} (xs ys : Vec (Vec ℕ A) B) (t u : Vec ℕ A) → vec_len xs ≡ 2 → t ≡ get_or xs.items 0 t → ys.items ≡ remove xs.items 0 → u ≡ get_or ys.items 0 u → bytes_of xs.items ≡ t.items ∷ u.items ∷ []
   two_texts xs ys t u n e r f = two_items xs.items ys.items t u (sym xs.ok.0 ∙ n) e r f
 
+  -- the bytes of three, likewise
   pub three_texts : {B : Type 0} (xs ys zs : Vec (Vec ℕ A) B) (t u v : Vec ℕ A) → vec_len xs ≡ 3 → t ≡ get_or xs.items 0 t → ys.items ≡ remove xs.items 0 → u ≡ get_or ys.items 0 u → zs.items ≡ remove ys.items 0 → v ≡ get_or zs.items 0 v → bytes_of xs.items ≡ t.items ∷ u.items ∷ v.items ∷ []
   three_texts xs ys zs t u v n e r f q g = three_items xs.items ys.items zs.items t u v (sym xs.ok.0 ∙ n) e r f q g
 
@@ -97,8 +99,10 @@ module _ (s : Arithmetic) where
     pub first_told : (t : List ℕ) (ts : List (List ℕ)) → texts ≡ t ∷ ts → (f : JobFault) → IsTextFault s 0 t f → IsReadFault s texts f
     first_told t ts e f h = subst (λ xs. IsReadFault s xs f) (sym e) (at_place (t ∷ ts) 0 (omega arith) (before_first (t ∷ ts)) f h)
 
+    -- where the first text is a matrix, a fault of the second is what is told
     pub second_told : (t u : List ℕ) (ts : List (List ℕ)) → texts ≡ t ∷ u ∷ ts → IsMatrixText s t → (f : JobFault) → IsTextFault s 1 u f → IsReadFault s texts f
     second_told t u ts e is_t f h = subst (λ xs. IsReadFault s xs f) (sym e) (at_place (t ∷ u ∷ ts) 1 (omega arith) (before_second t (u ∷ ts) is_t) f h)
 
+    -- where the first two are matrices, a fault of the third is
     pub third_told : (t u v : List ℕ) (ts : List (List ℕ)) → texts ≡ t ∷ u ∷ v ∷ ts → IsMatrixText s t → IsMatrixText s u → (f : JobFault) → IsTextFault s 2 v f → IsReadFault s texts f
     third_told t u v ts e is_t is_u f h = subst (λ xs. IsReadFault s xs f) (sym e) (at_place (t ∷ u ∷ v ∷ ts) 2 (omega arith) (before_third t u (v ∷ ts) is_t is_u) f h)

@@ -46,6 +46,7 @@ shut_up_to ranks a (suc n) l =
 pub count_shut : (ranks : ℕ) → length (shut_acts ranks) ≡ ranks * (ranks - 1)
 count_shut ranks = shut_up_to ranks 0 ranks (omega arith)
 
+-- each member sends once to the root
 pub count_gather : (members : List ℕ) (root : ℕ) (tag : Tag) (slot into : ℕ) → length (gather_acts members root tag slot into) ≡ length members
 count_gather members root tag slot into =
     length-map-range_with_len (λ t. sent (member members t) root tag slot (into + t)) 0 (length members)

@@ -12,7 +12,7 @@ use Rattle.cb_plan.specs.Checks.{Lanes, IsSound, Passes, lanes_after, shut_after
 use Rattle.cb_plan.proofs.Effects.{split}
 use Rattle.cb_collectives.specs.Collectives.{member, sent, gather_acts, sent_from, all_to_all_acts}
 use Rattle.cb_collectives.proofs.SendMeaning.{act_sent}
-use Rattle.cb_plan.proofs.Passing.{passes-append}
+use Rattle.cb_plan.proofs.PassingActs.{passes-append}
 
 sent_keeps_lanes : (from to : ℕ) (tag : Tag) (slot into : ℕ) (shut : Lanes) → shut_after (sent from to tag slot into) shut ≡ shut
 sent_keeps_lanes from to tag slot into shut = split (from == to) (λ t. rw t refl) (λ t. rw t refl)

@@ -10,7 +10,7 @@ use Rattle.cb_plan.specs.Algebras.{shapes}
 use Rattle.cb_plan.specs.Checks.{Lanes, Passes, lanes_after, shut_after, all_hold, are_all_shut}
 use Rattle.cb_plan.proofs.Effects.{split}
 use Rattle.cb_collectives.specs.Collectives.{shut_lane, shut_from, shut_acts}
-use Rattle.cb_plan.proofs.Passing.{passes-append, lanes_after-append, shut_is_sound}
+use Rattle.cb_plan.proofs.PassingActs.{passes-append, lanes_after-append, shut_is_sound}
 
 module _ (ranks from : ℕ) (exists : from < ranks) where
   lanes_pass : (a n : ℕ) (state : State Extent) (shut : Lanes) → a + n ≤ ranks → ((t : ℕ) → a ≤ t → shut from t ≡ false) → Passes ranks state shut (flat_map (shut_lane from) (range_with_len a n))

@@ -32,12 +32,15 @@ module _ (s : Arithmetic) (q : ℕ) where
       ∙ ap (f (at s a (top + x) (left + y))) other
       ∙ sym (at-matrix_of s a.shape (λ x y. f (at s a x y) (at s b x y)) (top + x) (left + y) (omega arith) (omega arith)))
 
+  -- the sum of the blocks of two matrices at one place of the grid is the block of their sum
   pub sum_of_blocks : (a b : Sparse) → b.shape ≡ a.shape → (i j : ℕ) → sum_of s (block_of s q a i j) (block_of s q b i j) ≡ block_of s q (sum_of s a b) i j
   sum_of_blocks a b e i j = blocks_of_two s.add a b e i j
 
+  -- the product of such blocks, place by place, is the block of the product of the matrices, place by place
   pub times_of_blocks : (a b : Sparse) → b.shape ≡ a.shape → (i j : ℕ) → times_of s (block_of s q a i j) (block_of s q b i j) ≡ block_of s q (times_of s a b) i j
   times_of_blocks a b e i j = blocks_of_two s.mul a b e i j
 
+  -- a block without the entries that pass a test is the block of what is left of the matrix
   pub pruned_block : (test : ℕ → Bool) (a : Sparse) (i j : ℕ) → pruned s test (block_of s q a i j) ≡ block_of s q (pruned s test a) i j
   pruned_block test a i j = blocks_of_two (λ v _. cond (test v) s.zero v) a a (λ t. a.shape) i j
 

@@ -9,6 +9,7 @@ use Rattle.cb_distribution.proofs.Lengths.{squared, each_rank_at_most, shut_at_m
 use Rattle.cb_kernels.specs.Kernels.{placewise_acts, mirrored, mirror_acts, transpose_acts}
 
 module _ (q : ℕ) (few : q ≤ 6) where
+  -- on a grid of at most 6 by 6 an operation at each rank, with all lanes shut, is at most 1,296 acts
   pub placewise_at_most : (op : Op) → length (placewise_acts q op) ≤ 1296
   placewise_at_most op =
       let x = length-append (each_rank q (λ _. op)) (shut_acts (q * q)) in
@@ -16,6 +17,7 @@ module _ (q : ℕ) (few : q ≤ 6) where
       let z = shut_at_most q few in
       omega arith
 
+  -- a transpose is at most 1,332
   pub transpose_at_most : length (transpose_acts q) ≤ 1332
   transpose_at_most =
       let x = length-append (each_rank q (λ _. op_is.Transpose 0 1) ++ mirror_acts q) (shut_acts (q * q)) in

@@ -161,5 +161,6 @@ module _ (q : ℕ) (pos : 0 < q) (a : Extent) (state : State Extent) (left : (i 
         lanes = sends_keep_lanes (q * q) (tagged 0) none_shut (λ s t. refl) (λ k. k) (mirrored q) (λ _. 1) (λ _. 2) (q * q) exist 0 (q * q);
       })
 
+-- from the parts of an operand the acts of a transpose pass, and shut no lane
 pub transpose_flow : (q : ℕ) → 0 < q → (a : Extent) → Flows (q * q) none_shut (started (operand_starts q (one_operand a))) (each_rank q (λ _. op_is.Transpose 0 1) ++ mirror_acts q)
 transpose_flow q pos a = transpose_flow_from q pos a (started (operand_starts q (one_operand a))) (operand_parts q (one_operand a) 0 a (λ r. refl))

@@ -29,9 +29,11 @@ abbrev pub summed : {M : Type 0} → Algebra M → (ℕ → M) → ℕ → M
 summed ops block zero = block 0
 summed ops block (suc k) = ops.add (summed ops block k) (block (suc k))
 
+-- the test whether two numbers are equal holds of a number and itself
 pub yes : (n : ℕ) → (n == n) ≡ true
 yes n = grind (arith, nat_tests)
 
+-- and it fails for two that differ
 pub no : (m n : ℕ) → m ≢ n → (m == n) ≡ false
 no m n ne = grind (arith, nat_tests)
 
@@ -103,6 +105,7 @@ module _ {M : Type 0} (ops : Algebra M) (q : ℕ) where
   pub adds_skip : (whole : Extent) (x : ℕ) → 3 ≢ x → 4 ≢ x → (k : ℕ) (slots : ℕ → Option M) → after_ops ops (add_piece q whole k) slots x ≡ slots x
   adds_skip whole x ne nf k slots = rw (no 3 x ne, no 4 x nf) refl
 
+  -- slot 5 has the block of slot 0 times the vector that the pieces from slot 10 on make
   pub product_made : (whole : Extent) (piece : ℕ → M) (block : M) (slots : ℕ → Option M) → slots 0 ≡ Some block → ((t : ℕ) → t < q → slots (10 + t) ≡ Some (piece t)) →
       after_ops ops (product_ops q whole) slots 5 ≡ Some (ops.mul_vec block (assembled ops q whole piece q))
   product_made whole piece block slots left has =
@@ -142,9 +145,11 @@ module _ {M : Type 0} (ops : Algebra M) (q : ℕ) where
       let kept : next 5 ≡ slots 5 = rw (no (20 + a) 5 (let ne : 20 + a ≢ 5 = omega arith in ne)) refl in
       cuts_make rows (a + 1) m t next (grind (arith, nat_tests)) (omega arith) ∙ ap (one (ops.cut (part q rows t) (0, 1))) kept)
 
+  -- slot 20 + t has piece t of what is in slot 5
   pub pieces_cut : (rows t : ℕ) (slots : ℕ → Option M) → t < q → after_ops ops (cut_ops q rows) slots (20 + t) ≡ one (ops.cut (part q rows t) (0, 1)) (slots 5)
   pieces_cut rows t slots l = cuts_make rows 0 q t slots (omega arith) (omega arith)
 
+  -- slots below 20 stay
   pub cuts_skip : (rows : ℕ) (slots : ℕ → Option M) (x : ℕ) → x < 20 → after_ops ops (cut_ops q rows) slots x ≡ slots x
   cuts_skip rows slots x l = ops_skip ops (piece_cut q rows) x 0 q slots (λ k _. let ne : 20 + k ≢ x = omega arith in ne)
 
@@ -187,6 +192,7 @@ module _ {M : Type 0} (ops : Algebra M) (q : ℕ) where
         (λ g _ k ne st. exchange_elsewhere g st (omega arith) i t (30 + s) l ne)
         (λ g _ k ne st. exchange_elsewhere g st (omega arith) i s (20 + t) h ne)
 
+    -- slots below 30 stay
     pub exchanges_skip : (state : State M) (r x : ℕ) → x < 30 → meaning ops (exchanges q) state r x ≡ state r x
     exchanges_skip state r x l = each_skips ops (exchange q) r x 0 q state (λ g _ k st. exchange_skips g st (omega arith) r x l)
 
@@ -205,10 +211,12 @@ module _ {M : Type 0} (ops : Algebra M) (q : ℕ) where
       ∙ rw f refl in
       summands_add block (a + 1) m b next (omega arith) is (λ s l. rw (no 2 (30 + s) (let ne : 2 ≢ 30 + s = omega arith in ne)) (has s l))
 
+  -- slot 2 has the sum of the blocks from slot 30 on
   pub sum_made : (block : ℕ → M) (slots : ℕ → Option M) → ((s : ℕ) → s ≤ q - 1 → slots (30 + s) ≡ Some (block s)) → after_ops ops (sum_ops q) slots 2 ≡ Some (summed ops block (q - 1))
   sum_made block slots has =
       let next : ℕ → Option M = after_op ops (op_is.Copy 30 2) slots in
       summands_add block 0 (q - 1) (q - 1) next (omega arith) (has 0 (omega arith)) (λ s l. rw (no 2 (30 + s) (let ne : 2 ≢ 30 + s = omega arith in ne)) (has s l))
 
+  -- other slots stay
   pub sums_skip : (slots : ℕ → Option M) (x : ℕ) → 2 ≢ x → after_ops ops (sum_ops q) slots x ≡ slots x
   sums_skip slots x ne = ops_skip ops next_summand x 0 (q - 1) (after_op ops (op_is.Copy 30 2) slots) (λ k _. ne) ∙ rw (no 2 x ne) refl

@@ -45,18 +45,21 @@ leaves s q op state m two_is has = record {
       ap (λ x. x r 0) (placewise_means s q op state) ∙ each_elsewhere (matrices s) q (λ _. op) state r 0 ne;
 }
 
+-- an Add at each rank leaves the sum of two matrices
 pub is_sum_plan : (q : ℕ) (shape : Extent) → IsSumPlan (placewise_acts q (op_is.Add 0 1 2)) q shape
 is_sum_plan q shape s a b e f state has_a has_b = leaves s q (op_is.Add 0 1 2) state (sum_of s a b) refl (λ i j l h.
     ap (λ x. two (sum_of s) x (state (i * q + j) 1)) (has_a i j l h)
     ∙ ap (λ x. two (sum_of s) (Some (block_of s q a i j)) x) (has_b i j l h)
     ∙ ap Some (sum_of_blocks s q a b (f ∙ sym e) i j))
 
+-- a Times at each rank leaves their product, place by place
 pub is_times_plan : (q : ℕ) (shape : Extent) → IsTimesPlan (placewise_acts q (op_is.Times 0 1 2)) q shape
 is_times_plan q shape s a b e f state has_a has_b = leaves s q (op_is.Times 0 1 2) state (times_of s a b) refl (λ i j l h.
     ap (λ x. two (times_of s) x (state (i * q + j) 1)) (has_a i j l h)
     ∙ ap (λ x. two (times_of s) (Some (block_of s q a i j)) x) (has_b i j l h)
     ∙ ap Some (times_of_blocks s q a b (f ∙ sym e) i j))
 
+-- a Prune at each rank leaves what a matrix has without the entries that pass the test
 pub is_prune_plan : (q : ℕ) (shape : Extent) (test : Test) → IsPrunePlan (placewise_acts q (op_is.Prune 0 test 2)) q shape test
 is_prune_plan q shape test s a e state has_a = leaves s q (op_is.Prune 0 test 2) state (pruned s (passes test) a) refl (λ i j l h.
     ap (one (pruned s (passes test))) (has_a i j l h)
@@ -97,11 +100,14 @@ prunes_flow_from q pos a test state left = each_flows q pos none_shut (λ _. op_
 
 -- so from the operands they can
 module _ (q : ℕ) (pos : 0 < q) (a : Extent) where
+  -- each rank can add its parts of two operands
   pub sums_flow : Flows (q * q) none_shut (started (operand_starts q (two_operands a))) (each_rank q (λ _. op_is.Add 0 1 2))
   sums_flow = sums_flow_from q pos a (started (operand_starts q (two_operands a))) (operand_parts q (two_operands a) 0 a (λ r. refl)) (operand_parts q (two_operands a) 1 a (λ r. refl))
 
+  -- each can multiply them, place by place
   pub products_flow : Flows (q * q) none_shut (started (operand_starts q (two_operands a))) (each_rank q (λ _. op_is.Times 0 1 2))
   products_flow = products_flow_from q pos a (started (operand_starts q (two_operands a))) (operand_parts q (two_operands a) 0 a (λ r. refl)) (operand_parts q (two_operands a) 1 a (λ r. refl))
 
+  -- each can prune its part of one operand
   pub prunes_flow : (test : Test) → Flows (q * q) none_shut (started (operand_starts q (one_operand a))) (each_rank q (λ _. op_is.Prune 0 test 2))
   prunes_flow test = prunes_flow_from q pos a test (started (operand_starts q (one_operand a))) (operand_parts q (one_operand a) 0 a (λ r. refl))

@@ -58,6 +58,7 @@ module _ {M : Type 0} (ops : Algebra M) where
   after_ops [] slots = slots
   after_ops (op ∷ more) slots = after_ops more (after_op op slots)
 
+  -- the slots after two lists of operations, one after the other
   pub after_ops-append : (xs ys : List Op) (slots : ℕ → Option M) → after_ops (xs ++ ys) slots ≡ after_ops ys (after_ops xs slots)
   after_ops-append [] ys slots = refl
   after_ops-append (x ∷ xs) ys slots = after_ops-append xs ys (after_op x slots)
@@ -113,6 +114,7 @@ abbrev pub CanDo : ℕ → ℕ → (ℕ → Option Extent) → List Op → Type 
 CanDo ranks rank slots [] = Unit {0}
 CanDo ranks rank slots (op ∷ ops) = CanWork ranks rank slots op × CanDo ranks rank (after_op shapes op slots) ops
 
+-- two lists of operations find what they ask for where the first does, and the second after it
 pub can_do_both : (ranks rank : ℕ) (slots : ℕ → Option Extent) (xs ys : List Op) → CanDo ranks rank slots xs → CanDo ranks rank (after_ops shapes xs slots) ys → CanDo ranks rank slots (xs ++ ys)
 can_do_both ranks rank slots [] ys h k = k
 can_do_both ranks rank slots (x ∷ xs) ys h k = (h.0, can_do_both ranks rank (after_op shapes x slots) xs ys h.1 k)

@@ -21,15 +21,19 @@ use Rattle.cb_kernels.proofs.Assembly.{vector_part, part_assembled, pieces_make_
 
 -- the slots after each step
 module _ {M : Type 0} (ops : Algebra M) (q : ℕ) (few : q ≤ 6) (shape : Extent) (state : State M) where
+  -- once each rank has the pieces of the part of the vector that its column needs
   abbrev pub after_pieces : State M
   after_pieces = meaning ops (piece_broadcasts q) state
 
+  -- once each has multiplied its block by that part
   abbrev pub after_products : State M
   after_products = meaning ops (each_works q (products_at q shape)) after_pieces
 
+  -- once each has cut its product into pieces
   abbrev pub after_cuts : State M
   after_cuts = meaning ops (each_works q (cuts_at q shape)) after_products
 
+  -- once the ranks of each row have exchanged these pieces
   abbrev pub after_exchanges : State M
   after_exchanges = meaning ops (exchanges q) after_cuts
 
@@ -65,18 +69,22 @@ module _ {M : Type 0} (ops : Algebra M) (q : ℕ) (few : q ≤ 6) (shape : Exten
     abbrev pub product_piece : ℕ → ℕ → ℕ → M
     product_piece i t j = ops.cut (part q (part_length q shape.rows i) t) (0, 1) (block_product i j)
 
+    -- slot 0 has the rank's block
     pub has_left : (i j : ℕ) → i < q → j < q → after_pieces (i * q + j) 0 ≡ Some (block i j)
     has_left i j l m = pieces_skip ops q state (i * q + j) 0 (inl (omega arith)) ∙ left i j l m
 
+    -- slots from 10 on have the pieces that its column needs
     pub has_pieces : (i j t : ℕ) → i < q → j < q → t < q → after_pieces (i * q + j) (10 + t) ≡ Some (piece j t)
     has_pieces i j t l m h = pieces_come ops q state i j t l m h ∙ right t j h m
 
+    -- slot 5 has the product of the block and the part that they make
     pub has_product : (i j : ℕ) → i < q → j < q → after_products (i * q + j) 5 ≡ Some (block_product i j)
     has_product i j l m =
         ap (λ slots. slots 5) (each_works_here ops q (products_at q shape) after_pieces (i * q + j) (rank_below q i j l m))
         ∙ at_place (λ _ y. after_ops ops (product_ops q (column (part_length q shape.cols y))) (after_pieces (i * q + j)) 5) q i j m
         ∙ product_made ops q (column (part_length q shape.cols j)) (piece j) (block i j) (after_pieces (i * q + j)) (has_left i j l m) (λ t h. has_pieces i j t l m h)
 
+    -- slots from 20 on have the pieces of that product
     pub has_cuts : (i j t : ℕ) → i < q → j < q → t < q → after_cuts (i * q + j) (20 + t) ≡ Some (product_piece i t j)
     has_cuts i j t l m h =
         ap (λ slots. slots (20 + t)) (each_works_here ops q (cuts_at q shape) after_products (i * q + j) (rank_below q i j l m))
@@ -84,6 +92,7 @@ module _ {M : Type 0} (ops : Algebra M) (q : ℕ) (few : q ≤ 6) (shape : Exten
         ∙ pieces_cut ops q (part_length q shape.rows i) t (after_products (i * q + j)) h
         ∙ ap (one (ops.cut (part q (part_length q shape.rows i) t) (0, 1))) (has_product i j l m)
 
+    -- slots from 30 on have the rank's own piece of each product of its row
     pub has_summands : (i t j : ℕ) → i < q → t < q → j < q → after_exchanges (i * q + t) (30 + j) ≡ Some (product_piece i t j)
     has_summands i t j l h m = pieces_exchanged ops q few after_cuts i t j l h m ∙ has_cuts i j t l m h
 

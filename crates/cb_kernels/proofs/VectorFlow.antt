@@ -12,7 +12,7 @@ use Rattle.cb_plan.specs.declared.acts.Act.{Act}
 use Rattle.cb_plan.specs.Meaning.{State}
 use Rattle.cb_plan.specs.Algebras.{shapes}
 use Rattle.cb_plan.specs.Checks.{none_shut, lanes_after}
-use Rattle.cb_plan.proofs.Passing.{lanes_after-append}
+use Rattle.cb_plan.proofs.PassingActs.{lanes_after-append}
 use Rattle.cb_layout.specs.Parts.{row_group, column_group, part, part_start, part_length, part_shape}
 use Rattle.cb_layout.specs.Vectors.{piece_shape}
 use Rattle.cb_layout.proofs.Parts.{rank_of, row_below}
@@ -234,6 +234,7 @@ module _ (q : ℕ) (pos : 0 < q) (few : q ≤ 6) (shape : Extent) where
         (has_summands shapes q few shape state block piece left right i t s (row_below q r l) (mod_below r q pos) k
         ∙ ap (λ (x : Extent). Some (shapes.cut (part q (part_length q shape.rows i) t) (0, 1) (shapes.mul_vec (block i s) x))) (assembled_shape q (column (part_length q shape.cols s)) (piece s) q))))
 
+    -- all acts of the product pass one after the other, and shut no lane
     pub spread_flow : Flow state (spread_product_acts q shape)
     spread_flow =
         let sums = each_works q (λ _. sum_ops q) in

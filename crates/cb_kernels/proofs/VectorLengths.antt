@@ -62,6 +62,7 @@ module _ (q : ℕ) (few : q ≤ 6) where
       let h = each_at_most (exchange q) 36 0 q each in
       omega arith
 
+  -- on a grid of at most 6 by 6 the product with a vector, with all lanes shut, is at most 3,240 acts
   pub vector_at_most : (shape : Extent) → length (vector_acts q shape) ≤ 3240
   vector_at_most shape =
       let sums = each_works q (λ _. sum_ops q) in

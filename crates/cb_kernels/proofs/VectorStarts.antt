@@ -54,6 +54,7 @@ module _ (q : ℕ) (shape : Extent) where
       All-cons Exists (part_start_at q 0 r shape) (input_start_at q 1 r shape ∷ []) (h, omega arith)
       (All-cons Exists (input_start_at q 1 r shape) [] (h, omega arith) (All-nil Exists)))
 
+  -- no two of the starts name one slot
   pub vector_starts_once : AllPairs IsElsewhere (vector_starts q shape)
   vector_starts_once =
       starts_once (vector_starts_at q shape)

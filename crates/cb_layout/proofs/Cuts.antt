@@ -9,7 +9,7 @@ use Rattle.cb_layout.specs.Blocks.{block_of, block_at, part_with, place_in_part,
 use Rattle.cb_layout.proofs.Parts.{row_of_rank, column_of_rank, rank_below, rank_of, part_below, start_there, place_below, own_below, own_part}
 use Rattle.cb_layout.specs.Tiles.{block_tiles}
 use Rattle.cb_layout.proofs.Tiles.{IsTiling}
-use Rattle.cb_layout.proofs.Scattered.{IsScattered, tile_is}
+use Rattle.cb_layout.proofs.EntriesByTile.{IsScattered, tile_is}
 
 -- the blocks of a grid cut a shape into tiles
 pub block_tiling : (q : ℕ) (shape : Extent) → 0 < q → IsTiling shape (block_tiles q shape)

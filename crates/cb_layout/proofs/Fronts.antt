@@ -62,6 +62,7 @@ module _ (q : ℕ) (shape : Extent) (blocks : List Sparse) (f : Front) (front : 
       (λ (k : q ≤ i). let e = front.next.others i k least.row in let t = least.there in let s = least.some in absurd (omega arith))
       (cases_lt i q)
 
+  -- the block in the row of the least column has a column that is not done
   pub least_known : n < length cs
   least_known =
       ⊎_elim
@@ -72,14 +73,17 @@ module _ (q : ℕ) (shape : Extent) (blocks : List Sparse) (f : Front) (front : 
       absurd (omega arith))
       (cases_lt n (length cs))
 
+  -- the least column is the first of them
   pub least_is : c ≡ get_or cs n 0
   least_is = least.there ∙ front.next.rows i least_row ∙ get_or_default cs n 4294967295 0 least_known
 
   -- the front after it
   module _ (g : Front) (column : g.column ≡ f.column) (left : g.left ≡ f.left) (done : g.done ≡ set f.done i (n + 1)) (columns : g.columns ≡ set f.columns i (get_or cs (n + 1) 4294967295)) where
+    -- in that row the front after it has the block's next column, or 2^32 - 1 where no column is left
     pub next_own : get_or g.columns i 0 ≡ get_or cs (n + 1) 4294967295
     next_own = ap (λ xs. get_or xs i 0) columns ∙ get_or-set_same f.columns i (get_or cs (n + 1) 4294967295) 0 (let r = least.row in let s = front.six_columns in omega arith)
 
+    -- in each other row it has the column that was there
     pub next_other : (k : ℕ) → k ≢ i → get_or g.columns k 0 ≡ get_or f.columns k 0
     next_other k ne = ap (λ xs. get_or xs k 0) columns ∙ get_or-set_other f.columns i k (get_or cs (n + 1) 4294967295) 0 ne
 
@@ -89,6 +93,7 @@ module _ (q : ℕ) (shape : Extent) (blocks : List Sparse) (f : Front) (front : 
     done_other : (k : ℕ) → k ≢ i → get_or g.done k 0 ≡ get_or f.done k 0
     done_other k ne = ap (λ xs. get_or xs k 0) done ∙ get_or-set_other f.done i k (n + 1) 0 ne
 
+    -- the columns of the front after it are the next ones of the blocks
     pub are_next : AreNext q blocks g.column g.done g.columns
     are_next = record {
       rows = λ k l.

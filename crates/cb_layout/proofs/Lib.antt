@@ -5,26 +5,26 @@
 --   `row_below`; and the part of a dimension that has a place: `part_below`, `start_there`, `place_below`,
 --   `own_below`, `own_part`, `part_order`.
 -- Cuts: the blocks of a matrix: `block_tiling`, `block_is`, and `glued_cut`, that they glue to it.
--- Spread: the pieces of a vector: `input_tiling`, `result_tiling`, `piece_is`, and `glued_pieces_cut`, that they
+-- VectorPieces: the pieces of a vector: `input_tiling`, `result_tiling`, `piece_is`, and `glued_pieces_cut`, that they
 --   glue to it.
 pub mod Parts
 pub mod Cuts
-pub mod Spread
--- For this crate alone. Worked: what the definitions give in a few cases. Tiles: a shape cut into tiles, each place
--- in one of them. Scattered: a matrix in a list of entries for each tile. Gathered: entries of tiles with their
--- places in the whole. Glued: the matrix of which tiles are the cuts. Counted: the entries of a matrix, tile by
--- tile.
-pub mod Worked
+pub mod VectorPieces
+-- For this crate alone. SmallCases: what the definitions give in a few cases. Tiles: a shape cut into tiles, each
+-- place in one of them. EntriesByTile: a matrix in a list of entries for each tile. PlacedEntries: entries of tiles
+-- with their places in the whole. GluedTiles: the matrix of which tiles are the cuts. EntryCounts: the entries of a
+-- matrix, tile by tile.
+pub mod SmallCases
 pub mod Tiles
-pub mod Scattered
-pub mod Gathered
-pub mod Glued
-pub mod Counted
+pub mod EntriesByTile
+pub mod PlacedEntries
+pub mod GluedTiles
+pub mod EntryCounts
 -- A matrix walked where it stands, column by column. ColumnNumbers: the columns that have entries ascend. Splits: a
--- list of which a front is taken by one test. Fronts: the next column of each block. Whole: the blocks and the
--- matrix that they glue to. Remaining: the entries that are left.
+-- list of which a front is taken by one test. Fronts: the next column of each block. BlockColumns: the columns of the
+-- blocks, with their places in the matrix that they glue to. RemainingEntries: the entries that are left.
 pub mod ColumnNumbers
 pub mod Splits
 pub mod Fronts
-pub mod Whole
-pub mod Remaining
+pub mod BlockColumns
+pub mod RemainingEntries

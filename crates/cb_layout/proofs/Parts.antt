@@ -61,6 +61,7 @@ module _ (q d : ℕ) (pos : 0 < q) where
   next : (p : ℕ) → (p + 1) * b ≡ p * b + b
   next p = add-mul p 1 b ∙ ap (λ x. p * b + x) (one-mul b)
 
+  -- each place of the dimension is in one of the q parts
   pub part_below : (i : ℕ) → i < d → part_with q d i < q
   part_below i l =
       ⊎_elim
@@ -72,6 +73,7 @@ module _ (q d : ℕ) (pos : 0 < q) where
       absurd (omega arith))
       (cases_lt (part_with q d i) q)
 
+  -- the start of the part of a place, and the place in that part, add up to the place
   pub start_there : (i : ℕ) → i < d → part_start q d (part_with q d i) + place_in_part q d i ≡ i
   start_there i l =
       let w = whole i in
@@ -79,6 +81,7 @@ module _ (q d : ℕ) (pos : 0 < q) where
       let e : p * b ≡ b * p = omega arith in
       omega arith
 
+  -- the place in the part is below the part's length
   pub place_below : (i : ℕ) → i < d → place_in_part q d i < part_length q d (part_with q d i)
   place_below i l =
       let w = whole i in
@@ -88,9 +91,11 @@ module _ (q d : ℕ) (pos : 0 < q) where
       let m : place_in_part q d i < b = mod_below i b (some_places i l) in
       omega arith
 
+  -- each place of a part is a place of the dimension
   pub own_below : (p x : ℕ) → x < part_length q d p → part_start q d p + x < d
   own_below p x l = omega arith
 
+  -- the part of a place that is counted from the start of a part is that part
   pub own_part : (p x : ℕ) → x < part_length q d p → part_with q d (part_start q d p + x) ≡ p
   own_part p x l =
       let n = next p in

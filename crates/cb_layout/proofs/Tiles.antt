@@ -21,6 +21,7 @@ pub record IsTiling (shape : Extent) (t : Tiles) : Type 0 where
   pub own : (r x y : ℕ) → r < t.count → x < (t.size r).rows → y < (t.size r).cols → t.owner (t.top r + x) (t.left r + y) ≡ r
   pub inside : (r x y : ℕ) → r < t.count → x < (t.size r).rows → y < (t.size r).cols → (t.top r + x < shape.rows) × (t.left r + y < shape.cols)
 
+-- the tile that an entry is in
 abbrev pub owner_of : Tiles → Entry → ℕ
 owner_of t e = t.owner e.row e.column
 
@@ -33,9 +34,11 @@ unfoldable pub entries_of : Tiles → ℕ → List Entry → List Entry
 entries_of t r [] = []
 entries_of t r (e ∷ es) = cond (owner_of t e == r) (moved t e ∷ entries_of t r es) (entries_of t r es)
 
+-- the matrix of tile r
 abbrev pub tile_of : Tiles → List Entry → ℕ → Sparse
 tile_of t es r = record { shape = t.size r; entries = entries_of t r es }
 
+-- where there are no entries, a tile has none
 pub entries_of-none : (t : Tiles) (r : ℕ) → entries_of t r [] ≡ []
 unfolding entries_of
 entries_of-none t r = refl
@@ -49,6 +52,7 @@ entries_of-own t r (d ∷ es) e h = elim (owner_of t d == r) as (λ b. cond b (m
   | false ↦ entries_of-own t r es e h
 ]
 
+-- an entry of another tile leaves the entries of this one
 pub entries_of-other : (t : Tiles) (r : ℕ) (es : List Entry) (e : Entry) → owner_of t e ≢ r → entries_of t r (es ++ e ∷ []) ≡ entries_of t r es
 unfolding entries_of
 entries_of-other t r [] e h = let k : (owner_of t e == r) ≡ false = grind (arith, nat_tests) in rw k refl
@@ -78,6 +82,7 @@ module _ (shape : Extent) (t : Tiles) (is : IsTiling shape t) where
       let f : t.left r + t.column e.row e.column ≡ e.column = rw q at (is.columns e.row e.column l.0 l.1) in
       ⊎_elim (λ x. inl (omega arith)) (λ x. inr (omega arith, omega arith)) h
 
+  -- an entry of a tile, with its place there, is inside the tile
   pub moved_inside : (r : ℕ) (e : Entry) → IsInside shape e → owner_of t e ≡ r → IsInside (t.size r) (moved t e)
   moved_inside r e k p = (rw p at (is.row_below e.row e.column k.0 k.1), rw p at (is.column_below e.row e.column k.0 k.1))
 
@@ -96,6 +101,7 @@ module _ (shape : Extent) (t : Tiles) (is : IsTiling shape t) where
         | false ↦ λ _. rest
       ] refl
 
+  -- each tile of a matrix is a matrix
   pub tile_matrix : (s : Arithmetic) (m : Sparse) (r : ℕ) → m.shape ≡ shape → IsMatrix s m → IsMatrix s (tile_of t m.entries r)
   tile_matrix s m r e h =
       let inside : All (IsInside shape) m.entries = rw e at h.inside in

@@ -32,10 +32,12 @@ abbrev pub AllPass : List (Bool × Kind) → Type 0
 AllPass [] = Unit {0}
 AllPass (check ∷ checks) = (check.0 ≡ true) × AllPass checks
 
+-- where no check fails first, all pass
 pub all_pass : (checks : List (Bool × Kind)) → first_failed checks ≡ None → AllPass checks
 all_pass [] e = tt
 all_pass (check ∷ checks) e = let p = passes check.0 check.1 (first_failed checks) e in (p.0, all_pass checks p.1)
 
+-- where neither a line nor what comes after it has a first fault, both have none
 pub at_line_none : (n : ℕ) (fault : Option Kind) (rest : Option ReadFault) → at_line n fault rest ≡ None → (fault ≡ None) × (rest ≡ None)
 at_line_none n None rest e = (refl, e)
 at_line_none n (Some kind) rest e = cc
@@ -54,6 +56,7 @@ value_known : (s : Arithmetic) (numbers : ReadsNumbers s) (field : Field) (w : L
 value_known s numbers Integer w e = some_value s (value_in s w) (value_accepted s numbers w) e
 value_known s numbers Pattern w e = numbers.pattern_value
 
+-- a line without a fault has an entry whose value is one of the semiring
 pub entry_value : (s : Arithmetic) (numbers : ReadsNumbers s) (header : Header) (shape : Extent) (ws : List (List ℕ)) → entry_fault s header shape ws ≡ None → IsValue s (entry_of s header ws).value
 entry_value s numbers header shape ws e =
     let p = all_pass (entry_checks s header shape ws) e in
@@ -80,6 +83,7 @@ given_values s laws negatives Symmetric e h = ⊎_elim
     (cases_Bool (e.row == e.column))
 given_values s laws negatives SkewSymmetric e h = both (λ d. IsValue s d.value) e (mirrored (negative_of s e.value) e) h (negative_value s laws negatives e.value h)
 
+-- where the entries' lines have no fault, all that they give have values of the semiring
 pub entries_values : (s : Arithmetic) → IsSemiring s → ReadsNumbers s → HasNegatives s → (header : Header) (shape : Extent) (n left : ℕ) (ls : List (ℕ × List (List ℕ))) → entries_fault s header shape n left ls ≡ None → All (λ e. IsValue s e.value) (given s header ls)
 unfolding entries_fault
 entries_values s laws numbers negatives header shape n left [] e = All-nil _
@@ -109,6 +113,7 @@ given_inside s Symmetric shape e k h = ⊎_elim
     (cases_Bool (e.row == e.column))
 given_inside s SkewSymmetric shape e k h = both (IsInside shape) e (mirrored (negative_of s e.value) e) h (mirrored_inside shape (negative_of s e.value) e (eqb-true shape.rows shape.cols k) h)
 
+-- where they have none, all that they give are inside the shape
 pub entries_inside : (s : Arithmetic) (header : Header) (shape : Extent) (n left : ℕ) (ls : List (ℕ × List (List ℕ))) → is_shape header.symmetry shape ≡ true → entries_fault s header shape n left ls ≡ None → All (IsInside shape) (given s header ls)
 unfolding entries_fault
 entries_inside s header shape n left [] k e = All-nil _
@@ -128,6 +133,7 @@ body_none s header n ls f e h = inl (ap (body_fault s header n) e ∙ ap Some (s
 pub body_size : (s : Arithmetic) (header : Header) (n : ℕ) (ls : List (ℕ × List (List ℕ))) (l : ℕ × List (List ℕ)) (more : List (ℕ × List (List ℕ))) (f : ReadFault) → ls ≡ l ∷ more → (size_fault header l.1 ≡ Some f.kind) × (f.line ≡ l.0) → IsAnswer (body_fault s header n ls) f
 body_size s header n ls l more f e h = inl (ap (body_fault s header n) e ∙ ap (λ b. at_line l.0 b (entries_fault s header (size_of l.1).shape n (size_of l.1).count more)) h.0 ∙ ap (λ m. Some (record { line = m; kind = f.kind })) (sym h.1))
 
+-- behind a size line without a fault, the first fault of the body is that of its entries
 pub body_is : (s : Arithmetic) (header : Header) (n : ℕ) (ls : List (ℕ × List (List ℕ))) (l : ℕ × List (List ℕ)) (more : List (ℕ × List (List ℕ))) → ls ≡ l ∷ more → size_fault header l.1 ≡ None → body_fault s header n ls ≡ entries_fault s header (size_of l.1).shape n (size_of l.1).count more
 body_is s header n ls l more e h = ap (body_fault s header n) e ∙ ap (λ b. at_line l.0 b (entries_fault s header (size_of l.1).shape n (size_of l.1).count more)) h
 
@@ -139,6 +145,7 @@ first_step s (c ∷ text) h =
     let e : suc (length (lines (after_line (c ∷ text)))) + 1 ≡ 2 + length (lines (after_line (c ∷ text))) = omega arith in
     rw (lines_step c text) (ap (λ n. at_line 1 (header_fault s (begins_blank (line_at (c ∷ text))) (words (line_at (c ∷ text)))) (body_fault s (header_of (words (line_at (c ∷ text)))) n (kept_lines 2 (lines (after_line (c ∷ text)))))) e)
 
+-- the matrix of a text is that of its body, by the header on its first line
 pub matrix_step : (s : Arithmetic) (text : List ℕ) → 0 < length text → matrix_in s text ≡ body_matrix s (header_of (words (line_at text))) (kept_from 2 (after_line text))
 unfolding matrix_in kept_from
 matrix_step s [] h = absurd (omega arith)
@@ -153,6 +160,7 @@ pub read_empty : (s : Arithmetic) (text : List ℕ) → length text ≡ 0 → Is
 read_empty s [] e = inl (no_text s)
 read_empty s (c ∷ text) e = absurd (omega arith)
 
+-- a fault of the first line is the answer for the whole text
 pub read_header : (s : Arithmetic) (text start : List ℕ) (k : Kind) → 0 < length text → start ≡ text → header_fault s (begins_blank (line_at start)) (words (line_at start)) ≡ Some k → IsAnswer (first_fault s text) (record { line = 1; kind = k })
 read_header s text start k h e f = inl (rw (first_step s text h) (rw (rw e at f) refl))
 
@@ -160,6 +168,7 @@ read_header s text start k h e f = inl (rw (first_step s text h) (rw (rw e at f)
 body_first : (s : Arithmetic) (text start rest : List ℕ) (header : Header) (n : ℕ) → 0 < length text → start ≡ text → n ≡ 2 → rest ≡ after_line start → header_fault s (begins_blank (line_at start)) (words (line_at start)) ≡ None → header ≡ header_of (words (line_at start)) → first_fault s text ≡ body_fault s header (n + length (lines rest)) (kept_from n rest)
 body_first s text start rest header n h e f g k l = rw (first_step s text h) (rw (rw e at k) (rw (f, g, l, e) refl))
 
+-- where the first line has none, an answer for the body is one for the text
 pub read_fault : (s : Arithmetic) (text start rest : List ℕ) (header : Header) (n : ℕ) (fault : ReadFault) → 0 < length text → start ≡ text → n ≡ 2 → rest ≡ after_line start → header_fault s (begins_blank (line_at start)) (words (line_at start)) ≡ None → header ≡ header_of (words (line_at start)) → IsAnswer (body_fault s header (n + length (lines rest)) (kept_from n rest)) fault → IsAnswer (first_fault s text) fault
 read_fault s text start rest header n fault h e f g k l a = subst (λ (o : Option ReadFault). IsAnswer o fault) (sym (body_first s text start rest header n h e f g k l)) a
 
@@ -168,16 +177,19 @@ pub record IsText (s : Arithmetic) (text : List ℕ) (m : Sparse) : Type 0 where
   pub no_fault : first_fault s text ≡ None
   pub matrix : m ≡ matrix_in s text
 
+-- where neither the first line nor the body has a fault, the text has the matrix of its body
 pub read_ok : (s : Arithmetic) (text start rest : List ℕ) (header : Header) (n : ℕ) (m : Sparse) → 0 < length text → start ≡ text → n ≡ 2 → rest ≡ after_line start → header_fault s (begins_blank (line_at start)) (words (line_at start)) ≡ None → header ≡ header_of (words (line_at start)) → body_fault s header (n + length (lines rest)) (kept_from n rest) ≡ None → m ≡ body_matrix s header (kept_from n rest) → IsText s text m
 read_ok s text start rest header n m h e f g k l a b = record {
   no_fault = body_first s text start rest header n h e f g k l ∙ a;
   matrix = b ∙ sym (rw (matrix_step s text h) (rw (f, g, l, e) refl));
 }
 
+-- where an answer is Ok, what follows from two facts of it
 pub if_ok_both : {M E : Type 0} (r : Result M E) (A B C : M → Type 0) → ((m : M) → A m → B m → C m) → IfOk r A → IfOk r B → IfOk r C
 if_ok_both (Ok m) A B C f a b = f m a b
 if_ok_both (Err e) A B C f a b = tt
 
+-- where an answer is an error, what follows from a fact of it
 pub if_err : {M E : Type 0} (r : Result M E) (A B : E → Type 0) → ((e : E) → A e → B e) → IfErr r A → IfErr r B
 if_err (Ok m) A B f a = tt
 if_err (Err e) A B f a = f e a

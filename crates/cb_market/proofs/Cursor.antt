@@ -43,6 +43,7 @@ return_feed : (c d : ℕ) (rest : List ℕ) → (c == 10) ≡ true → without_r
 unfolding without_return
 return_feed c d rest e = rw e refl
 
+-- a line ends at a line feed
 pub line_end_feed : (d : ℕ) (rest : List ℕ) → (d == 10) ≡ true → is_line_end (d ∷ rest) ≡ true
 line_end_feed d [] e = rw e refl
 line_end_feed d (c ∷ rest) e = rw e refl
@@ -111,6 +112,7 @@ blank_more c (d ∷ rest) e = grind (arith, nat_tests)
 blank_no_feed : (c : ℕ) → is_blank c ≡ true → (c == 10) ≡ false
 blank_no_feed c e = grind (arith, nat_tests)
 
+-- a blank at the front of a line changes none of its words
 pub words_blank : (c : ℕ) (rest : List ℕ) → is_blank c ≡ true → words (line_at (c ∷ rest)) ≡ words (line_at rest)
 unfolding words
 words_blank c rest e = rw (blank_more c rest e) (rw e refl)
@@ -128,6 +130,7 @@ pub line_end_here : (rest : List ℕ) → is_line_end rest ≡ true → line_at 
 line_end_here [] e = refl
 line_end_here (c ∷ rest) e = rw e refl
 
+-- where a line ends, no word of it is left
 pub no_word : (rest : List ℕ) → is_line_end rest ≡ true → words (line_at rest) ≡ []
 unfolding words
 no_word rest e = rw (line_end_here rest e) refl
@@ -174,6 +177,7 @@ word_no_feed : (c : ℕ) (rest : List ℕ) → is_word_end (c ∷ rest) ≡ fals
 word_no_feed c [] e = grind (arith, nat_tests)
 word_no_feed c (d ∷ rest) e = grind (arith, nat_tests)
 
+-- past a word, the text after the line is the same
 pub line_after_word : (rest : List ℕ) → after_line (after_word rest) ≡ after_line rest
 line_after_word [] = refl
 line_after_word (c ∷ rest) = ⊎_elim (λ e. rw e refl) (λ e. let f : after_word (c ∷ rest) ≡ after_word rest = rw e refl in let g : after_line (c ∷ rest) ≡ after_line rest = rw (word_no_feed c rest e) refl in ap after_line f ∙ line_after_word rest ∙ sym g) (cases_Bool (is_word_end (c ∷ rest)))
@@ -196,6 +200,7 @@ end_after_blanks : (rest : List ℕ) → is_line_end (after_blanks rest) ≡ fal
 end_after_blanks [] h = h
 end_after_blanks (c ∷ rest) h = ⊎_elim (λ e. rw e (end_after_blanks rest (rw e at h))) (λ e. rw e (rw e (rw e at h))) (cases_Bool (is_blank c))
 
+-- where no word ends, the first word of the line is the one at the front, and the others come after it
 pub words_first : (rest : List ℕ) → is_word_end rest ≡ false → words (line_at rest) ≡ front_word rest ∷ words (line_at (after_word rest))
 words_first [] h = cc
 words_first (c ∷ rest) h = words_front c rest h
@@ -204,20 +209,25 @@ words_first (c ∷ rest) h = words_front c rest h
 pub word_none : (old start : List ℕ) → start ≡ after_blanks old → is_line_end start ≡ true → words (line_at old) ≡ []
 word_none old start e h = sym (words_after_blanks old) ∙ ap (λ l. words (line_at l)) (sym e) ∙ no_word start h
 
+-- past the blanks, the text after the line is the same
 pub word_none_after : (old start : List ℕ) → start ≡ after_blanks old → after_line start ≡ after_line old
 word_none_after old start e = ap after_line e ∙ line_after_blanks old
 
+-- where the line goes on past the blanks, its first word is the bytes from there to where the word ends
 pub word_found : (old start new : List ℕ) → start ≡ after_blanks old → is_line_end start ≡ false → new ≡ after_word start → words (line_at old) ≡ take (length start - length new) start ∷ words (line_at new)
 word_found old start new e h f =
     let k : is_word_end start ≡ false = rw e (end_after_blanks old (rw e at h)) in
     sym (words_after_blanks old) ∙ ap (λ l. words (line_at l)) (sym e) ∙ words_first start k ∙ ap (λ l. l ∷ words (line_at (after_word start))) (sym (word_taken start)) ∙ ap (λ l. take (length start - length l) start ∷ words (line_at l)) (sym f)
 
+-- past the blanks and a word, the text after the line is the same
 pub word_after : (old start new : List ℕ) → start ≡ after_blanks old → new ≡ after_word start → after_line new ≡ after_line old
 word_after old start new e f = ap after_line f ∙ line_after_word start ∙ word_none_after old start e
 
+-- no more text is left after a word than before it
 pub word_fits : (start new : List ℕ) → new ≡ after_word start → length new ≤ length start
 word_fits start new f = rw f (after_word-le start)
 
+-- the number of the word at the front is that of the bytes that were passed
 pub word_number : (start new : List ℕ) (m : Number) → new ≡ after_word start → m ≡ number_of (front_word start) → m ≡ number_of (take (length start - length new) start)
 word_number start new m f h = h ∙ ap number_of (sym (word_taken start)) ∙ ap (λ l. number_of (take (length start - length l) start)) (sym f)
 
@@ -231,18 +241,22 @@ pub kept_skipped : (n : ℕ) (rest : List ℕ) → 0 < length rest → is_skippe
 kept_skipped n [] h e = absurd (omega arith)
 kept_skipped n (c ∷ rest) h e = kept_more n c rest true e
 
+-- a line that isn't skipped is kept, with its number, before those that come after it
 pub kept_here : (n : ℕ) (rest : List ℕ) → 0 < length rest → is_skipped (words (line_at rest)) ≡ false → kept_from n rest ≡ (n, words (line_at rest)) ∷ kept_from (n + 1) (after_line rest)
 kept_here n [] h e = absurd (omega arith)
 kept_here n (c ∷ rest) h e = kept_more n c rest false e
 
+-- no line of an empty text is kept
 pub kept_none : (n : ℕ) → kept_from n [] ≡ []
 unfolding kept_from lines cut_lines
 kept_none n = refl
 
+-- an empty text has no lines
 pub no_lines : length (lines []) ≡ 0
 unfolding lines cut_lines
 no_lines = refl
 
+-- any other text has one line more than what comes after its first line
 pub lines_more : (rest : List ℕ) → 0 < length rest → length (lines rest) ≡ 1 + length (lines (after_line rest))
 lines_more [] h = absurd (omega arith)
 lines_more (c ∷ rest) h = rw (lines_step c rest) (omega arith)
@@ -251,6 +265,7 @@ after_line-le : (rest : List ℕ) → length (after_line rest) ≤ length rest
 after_line-le [] = omega arith
 after_line-le (c ∷ rest) = ⊎_elim (λ e. rw e (omega arith)) (λ e. rw e (omega (arith, after_line-le rest))) (cases_Bool (c == 10))
 
+-- what comes after a line of a text that isn't empty is shorter than the text
 pub after_line-lt : (rest : List ℕ) → 0 < length rest → length (after_line rest) < length rest
 after_line-lt [] h = absurd (omega arith)
 after_line-lt (c ∷ rest) h = ⊎_elim (λ e. rw e (omega arith)) (λ e. rw e (omega (arith, after_line-le rest))) (cases_Bool (c == 10))
@@ -267,9 +282,11 @@ lines-le_by (suc n) (c ∷ rest) h =
 pub lines-le : (rest : List ℕ) → length (lines rest) ≤ length rest
 lines-le rest = lines-le_by (length rest) rest (omega arith)
 
+-- a line whose first word is no comment is kept, with its number and words
 pub kept_word : (n m : ℕ) (old new w : List ℕ) → 0 < length old → m ≡ n → words (line_at old) ≡ w ∷ words (line_at new) → is_comment w ≡ false → after_line new ≡ after_line old → kept_from n old ≡ (m, w ∷ words (line_at new)) ∷ kept_from (m + 1) (after_line new)
 kept_word n m old new w h e f g k =
     rw (e, k, ← f) (kept_here n old h (rw f g))
 
+-- where a line is skipped, the lines that are kept are those of what comes after it
 pub kept_passed : (n m : ℕ) (old mid new : List ℕ) → 0 < length old → m ≡ n + 1 → after_line mid ≡ after_line old → new ≡ after_line mid → is_skipped (words (line_at old)) ≡ true → kept_from m new ≡ kept_from n old
 kept_passed n m old mid new h e f g k = rw (e, g, f) (sym (kept_skipped n old h k))

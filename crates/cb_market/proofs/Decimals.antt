@@ -111,6 +111,7 @@ numbers_words n [] rest h = rw (append_assoc (decimal n) (10 ∷ []) rest) (last
 numbers_words n (m ∷ ns) rest h =
     rw (append_assoc (decimal n) (32 ∷ number_line (m ∷ ns)) rest) (more_words n (number_line (m ∷ ns) ++ rest) h.0 ∙ ap (λ ws. decimal n ∷ ws) (numbers_words m ns rest h.1))
 
+-- after a line of numbers comes the text that follows it
 pub numbers_after : (n : ℕ) (ns rest : List ℕ) → AllSmall (n ∷ ns) → after_line (number_line (n ∷ ns) ++ rest) ≡ rest
 numbers_after n [] rest h =
     rw (append_assoc (decimal n) (10 ∷ []) rest) (after_line_digits (decimal n) (10 ∷ rest) (number_digits (decimal n) (number_decimal n h.0).0))

@@ -33,12 +33,14 @@ two_digits n h k =
     let f = one_digit (n / 10) (omega arith) in
     omega (arith, e, f)
 
+-- a number from 100 to 999 has three
 pub three_digits : (n : ℕ) → 100 ≤ n → n < 1000 → length (decimal n) ≡ 3
 three_digits n h k =
     let e = digit_more n (omega arith) (omega arith) in
     let f = two_digits (n / 10) (omega arith) (omega arith) in
     omega (arith, e, f)
 
+-- a number from 1,000 to 9,999 has four
 pub four_digits : (n : ℕ) → 1000 ≤ n → n < 10000 → length (decimal n) ≡ 4
 four_digits n h k =
     let e = digit_more n (omega arith) (omega arith) in

@@ -7,6 +7,7 @@ use Rattle.cb_market.specs.declared.words.Number.TheVariants.{NotWhole}
 use Rattle.cb_market.specs.Lines.{is_digit, all_digits, is_number, is_value_word, magnitude, number}
 use Rattle.cb_market.specs.Cursor.{is_word_end, front_word, after_word, front_digits, after_digits, after_sign, number_of, whole_number, if_small}
 
+-- no word ends at a digit
 pub digit_no_end : (c : ℕ) (rest : List ℕ) → is_digit c ≡ true → is_word_end (c ∷ rest) ≡ false
 digit_no_end c [] e = grind (arith, nat_tests)
 digit_no_end c (d ∷ rest) e = grind (arith, nat_tests)
@@ -102,12 +103,15 @@ pub number_whole : (old sign digits : List ℕ) (n : Option ℕ) → sign ≡ af
 number_whole old sign digits n e f h k g =
     ap whole_number (g ∙ ap (λ l. if_small (number (front_digits l))) e) ∙ sym (whole_is old digits (f ∙ ap after_digits e) (rw e at h) k)
 
+-- past a sign and digits, the text after the word is the same
 pub number_rest : (old sign digits : List ℕ) → sign ≡ after_sign old → digits ≡ after_digits sign → after_word digits ≡ after_word old
 number_rest old sign digits e f = ap after_word (f ∙ ap after_digits e) ∙ after_digits_word (after_sign old) ∙ after_sign_word old
 
+-- where the word ends behind its digits, what is left is the text after the word
 pub number_ended : (old sign digits : List ℕ) → sign ≡ after_sign old → digits ≡ after_digits sign → is_word_end digits ≡ true → digits ≡ after_word old
 number_ended old sign digits e f k = sym (ended digits k) ∙ number_rest old sign digits e f
 
+-- a word that has no digits, or goes on behind them, writes no whole number
 pub number_none : (old sign digits : List ℕ) → sign ≡ after_sign old → digits ≡ after_digits sign → (length sign ≤ length digits) ⊎ (is_word_end digits ≡ false) → NotWhole ≡ number_of (front_word old)
 number_none old sign digits e f h =
     let g = f ∙ ap after_digits e in

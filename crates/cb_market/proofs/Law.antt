@@ -281,6 +281,7 @@ lines_say s text n (line ∷ ls) m t e b =
     let p = at_line_none 1 (header_fault s (begins_blank line) (words line)) (body_fault s (header_of (words line)) n (kept_lines 2 ls)) e in
     body_says s text line ls (header_of (words line)) n (kept_lines 2 ls) m t (header_says s line p.0) (kept_words 2 ls) p.1 b
 
+-- a text that has no fault and this matrix reads as it
 pub text_says : (s : Arithmetic) (text : List ℕ) (m : Sparse) → IsText s text m → Reads s text m
 unfolding first_fault matrix_in
 text_says s text m h = lines_say s text (length (lines text) + 1) (lines text) m refl h.no_fault h.matrix

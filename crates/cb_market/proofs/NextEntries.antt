@@ -11,7 +11,7 @@ use Rattle.cb_market.specs.declared.header.Header.{Header}
 use Rattle.cb_market.specs.Lines.{kept_from}
 use Rattle.cb_market.specs.Checks.{given_by}
 use Rattle.cb_market.specs.Faults.{entries_fault, given, IsAnswer, IsNextEntry}
-use Rattle.cb_market.proofs.Faulted.{extra, passed, refused, gives_more, kept_numbers}
+use Rattle.cb_market.proofs.LineFaults.{extra, passed, refused, gives_more, kept_numbers}
 
 module _ (s : Arithmetic) (header : Header) (shape : Extent) (n left k : ℕ) (text : List ℕ) (m : ℕ) (rest : List ℕ) (all : Option ReadFault) where
   -- an entry too many

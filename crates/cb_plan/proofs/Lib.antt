@@ -3,31 +3,31 @@
 -- Effects: what lists of acts do: `split`, a statement by the two cases of a test; `same_state`, states are
 --   equal where their slots are; `meaning-append`, two lists of acts; `nothing_each`, lists of acts that
 --   change nothing; `each_works`, an operation at each rank of a range.
--- Measured: `shapes_of_meaning`, the shapes of what acts mean are what they mean for the shapes; `act_turns`
+-- ShapesOfMeaning: `shapes_of_meaning`, the shapes of what acts mean are what they mean for the shapes; `act_turns`
 --   and `meaning_turns`, the same of each map that turns one kind of block into another (`shape_turns`).
--- Sound: an act is sound just where no fault is found in it, `no_fault` and `is_no_fault`.
--- Passing: acts that pass: `passes-append` and `lanes_after-append`, of two lists; `move_is_sound` and
+-- SoundActs: an act is sound just where no fault is found in it, `no_fault` and `is_no_fault`.
+-- PassingActs: acts that pass: `passes-append` and `lanes_after-append`, of two lists; `move_is_sound` and
 --   `shut_is_sound`, of one act; `passes_check`, acts that pass and shut each lane have no fault, and the
 --   other way round `checked_passes` and `checked_shuts`.
 -- Ranges: lists over a range of numbers that grows, by an element (`pushed`) or by a list (`extended`).
 -- Cells: tables: `set_is_table` and `cell_after_set`, one place set; `blank_is_table` and `blank_cell`, one
 --   value everywhere.
--- Running: `read_at`, an element that was read by its number; `first_below`, numbers below a limit; the
+-- ActOnStores: `read_at`, an element that was read by its number; `first_below`, numbers below a limit; the
 --   blocks in the slots after one was set, `state_after_set` and `none_lost_after_set`.
 pub mod Effects
-pub mod Measured
-pub mod Sound
-pub mod Passing
+pub mod ShapesOfMeaning
+pub mod SoundActs
+pub mod PassingActs
 pub mod Ranges
 pub mod Cells
-pub mod Running
--- The steps of this crate's own proofs. Holds: loops over ranges. Faults: the check. Worked: a product added
--- in place. Plain: a plan that runs. Projected: a projection. Counted: slots that are not empty. Fitting: stores
--- that fit a plan, by their count.
-pub mod Holds
+pub mod ActOnStores
+-- The steps of this crate's own proofs. AllOfRange: loops over ranges. Faults: the check. SumInPlace: a product added
+-- in place. RunSteps: a plan that runs. ProjectionSteps: a projection. SlotCounts: slots that are not empty.
+-- FittingStores: stores that fit a plan, by their count.
+pub mod AllOfRange
 pub mod Faults
-pub mod Worked
-pub mod Plain
-pub mod Projected
-pub mod Counted
-pub mod Fitting
+pub mod SumInPlace
+pub mod RunSteps
+pub mod ProjectionSteps
+pub mod SlotCounts
+pub mod FittingStores

@@ -17,6 +17,7 @@ pub record IsColumnSoFar (s : Arithmetic) (f : ℕ → ℕ) (c : SparseColumn) (
   pub sums : (i : ℕ) → s.add (value_in s.zero c i) (rest i) ≡ f i
 
 module _ (s : Arithmetic) (laws : IsSemiring s) where
+  -- a sparse column has a value at each row
   pub column_value : (c : SparseColumn) → IsSparseColumn s c.rows c.values → (i : ℕ) → IsValue s (value_in s.zero c i)
   column_value c is i = row_value-value s laws c.rows c.values i is.are_values
 
@@ -54,6 +55,7 @@ module _ (s : Arithmetic) (laws : IsSemiring s) where
         sym (ap (s.add (row_value s.zero rows values i)) none ∙ add_zero s laws _ (old_value i))
 
     module _ (before : All (λ i. i < row) rows) where
+      -- with a value other than zero, in a row past all, it is a sparse column still
       pub kept_column : v ≢ s.zero → IsSparseColumn s (rows ++ row ∷ []) (values ++ v ∷ [])
       kept_column some = record {
         same_length = length_push values v ∙ ap (λ n. n + 1) is.same_length ∙ sym (length_push rows row);
@@ -62,6 +64,7 @@ module _ (s : Arithmetic) (laws : IsSemiring s) where
         not_zero = All-push (λ x. x ≢ s.zero) values v is.not_zero some;
       }
 
+      -- at each row it then has what it had, and what the new entry has there
       pub kept_sum : (i : ℕ) → row_value s.zero (rows ++ row ∷ []) (values ++ v ∷ []) i ≡ s.add (row_value s.zero rows values i) (one_value s.zero (row, v) i)
       kept_sum i = row_value-push s.zero rows values row v i is.same_length before ∙ ⊎_elim
           (λ (e : row ≡ i).

@@ -45,6 +45,7 @@ module _ (s : Arithmetic) (laws : IsSemiring s) (rows values : List ℕ) (same_l
   pub all_scaled : (i : ℕ) (hs : List Head) → All (IsHead s rows) hs → All (λ h. IsValue s (head_value s rows values i h)) hs
   all_scaled i hs k = All-weaker (IsHead s rows) (λ h. IsValue s (head_value s rows values i h)) (λ h is. value_of i h is.scale) hs k
 
+  -- what heads have left at a row is a value
   pub heads_value-value : (i : ℕ) (hs : List Head) → All (IsHead s rows) hs → IsValue s (heads_value s rows values i hs)
   heads_value-value i hs is = sum_value s laws (head_value s rows values i) hs (all_scaled i hs is)
 
@@ -178,6 +179,7 @@ module _ (s : Arithmetic) (laws : IsSemiring s) (rows values : List ℕ) (same_l
         new_heads : All (IsHead s rows) new
         new_heads = All-permutation (IsHead s rows) (on ∷ rest) new put (All-cons (IsHead s rows) on rest on_head others)
 
+        -- where the head goes on to its next entry, its product came out of the heads, and the new ones are left
         pub gives_on : Gives s rows values old (h.row, s.mul v h.scale) new
         unfolding total
         gives_on = record {
@@ -191,6 +193,7 @@ module _ (s : Arithmetic) (laws : IsSemiring s) (rows values : List ℕ) (same_l
           fewer = let a = counted in let b = left_same (on ∷ rest) new put in let d = sum_by-cons (λ (h : Head). h.end - h.at) on rest in omega arith;
         }
 
+        -- where its row was the least of all heads, no head has a lesser one after it went on
         pub least_on : All (λ k. h.row ≤ k.row) old → All (λ k. h.row ≤ k.row) new
         least_on least =
             let t = All-permutation (λ k. h.row ≤ k.row) old (h ∷ rest) taken least in
@@ -202,6 +205,7 @@ module _ (s : Arithmetic) (laws : IsSemiring s) (rows values : List ℕ) (same_l
 
     -- ---- the head is at its end
     module _ (done : h.end ≤ h.at + 1) (put : IsPermutation rest new) where
+      -- where the head is at its end, its product came out of the heads, and the others are left
       pub gives_last : Gives s rows values old (h.row, s.mul v h.scale) new
       unfolding total
       gives_last = record {
@@ -215,6 +219,7 @@ module _ (s : Arithmetic) (laws : IsSemiring s) (rows values : List ℕ) (same_l
         fewer = let a = counted in let b = left_same rest new put in let c = here.some in omega arith;
       }
 
+      -- where its row was the least of all heads, none of the others has a lesser one
       pub least_last : All (λ k. h.row ≤ k.row) old → All (λ k. h.row ≤ k.row) new
       least_last least = All-permutation (λ k. h.row ≤ k.row) rest new put (All-tail (λ k. h.row ≤ k.row) h rest (All-permutation (λ k. h.row ≤ k.row) old (h ∷ rest) taken least))
 
@@ -222,5 +227,6 @@ module _ (s : Arithmetic) (laws : IsSemiring s) (rows values : List ℕ) (same_l
 not_later : (a b : ℕ) → is_lt (nat_cmp b a) ≡ false → a ≤ b
 not_later a b h = grind (arith, nat_tests)
 
+-- no head has a lesser row than the greatest head
 pub least_row : (h : Head) (hs : List Head) → IsUpperBound by_row h hs → All (λ k. h.row ≤ k.row) hs
 least_row h hs b = All-weaker (λ k. is_lt (by_row h k) ≡ false) (λ k. h.row ≤ k.row) (λ k t. not_later h.row k.row t) hs (All-from_recursion (λ k. is_lt (by_row h k) ≡ false) hs b)

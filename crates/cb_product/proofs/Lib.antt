@@ -1,6 +1,6 @@
 pub mod RowValues
 pub mod ColumnSoFar
-pub mod Joined
+pub mod ScaledSum
 pub mod TermSums
 pub mod MarkBits
 pub mod RowSums

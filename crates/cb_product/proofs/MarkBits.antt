@@ -14,9 +14,11 @@ module _ (words : List ℕ) (row : ℕ) (l : row / 64 < length words) where
   abbrev marked : List ℕ
   marked = set words (row / 64) (bit_or (get_or words (row / 64) 0) (1 * 2 ^ (row % 64) % 18446744073709551616))
 
+  -- the row is marked
   pub mark_here : mark_of marked row ≡ 1
   mark_here = ap (λ w. bit_at w (row % 64)) (get_or-set_same words (row / 64) _ 0 l) ∙ bit_at_set_same w64 (get_or words (row / 64) 0) (row % 64) (omega arith)
 
+  -- the marks of other rows stay
   pub mark_others : (i : ℕ) → i ≢ row → mark_of marked i ≡ mark_of words i
   mark_others i n = ⊎_elim
       (λ (e : i / 64 ≡ row / 64).
@@ -48,6 +50,7 @@ module _ (w k : ℕ) (within : k < 64) where
 
 -- the first mark in a word
 module _ (words : List ℕ) (from : ℕ) (fits : get_or words (from / 64) 0 < 18446744073709551616) where
+  -- the marks in the word of this row, from the row on
   abbrev pub ahead : ℕ
   ahead = rest (get_or words (from / 64) 0) (from % 64) (omega arith)
 
@@ -67,9 +70,11 @@ module _ (words : List ℕ) (from : ℕ) (fits : get_or words (from / 64) 0 < 18
         (λ (l : from % 64 ≤ t). l)
         (cases_lt t (from % 64))
 
+    -- the lowest of them is of this row or a later one
     pub found_from : from ≤ at
     found_from = let b = not_below in omega arith
 
+    -- its row is marked
     pub found_marked : mark_of words at ≡ 1
     found_marked =
         let l = found.0 in
@@ -77,6 +82,7 @@ module _ (words : List ℕ) (from : ℕ) (fits : get_or words (from / 64) 0 < 18
         let r : at % 64 ≡ t = omega arith in
         (λ z. bit_at (get_or words (q z) 0) (r z)) ∙ sym (rest_from (get_or words (from / 64) 0) (from % 64) (omega arith) t not_below l) ∙ found.1
 
+    -- no row from this one up to that one has a mark
     pub found_first : (i : ℕ) → from ≤ i → i < at → mark_of words i ≡ 0
     found_first i a b =
         let l = found.0 in
@@ -91,9 +97,11 @@ none_in_first words from none i a b =
     let q : i / 64 ≡ from / 64 = omega arith in
     ap (λ n. bit_at (get_or words n 0) (i % 64)) q ∙ sym (rest_from (get_or words (from / 64) 0) (from % 64) (omega arith) (i % 64) (omega arith) (omega arith)) ∙ ap (λ w. bit_at w (i % 64)) none ∙ bit_at-zero (i % 64)
 
+-- a word that is zero marks none of its rows
 pub none_in_word : (words : List ℕ) (n : ℕ) → get_or words n 0 ≡ 0 → (i : ℕ) → i / 64 ≡ n → mark_of words i ≡ 0
 none_in_word words n none i q = ap (λ k. bit_at (get_or words k 0) (i % 64)) q ∙ ap (λ w. bit_at w (i % 64)) none ∙ bit_at-zero (i % 64)
 
+-- rows past the last word have no mark
 pub none_past : (words : List ℕ) (i : ℕ) → length words ≤ i / 64 → mark_of words i ≡ 0
 none_past words i l = ap (λ w. bit_at w (i % 64)) (get_or_past words (i / 64) 0 l) ∙ bit_at-zero (i % 64)
 
@@ -105,6 +113,7 @@ module _ (words : List ℕ) (from n : ℕ) (fits : get_or words n 0 < 1844674407
   later : (u < 64) × (bit_at (get_or words n 0) u ≡ 1) × ((i : ℕ) → i < u → bit_at (get_or words n 0) i ≡ 0)
   later = bit_at-trailing_zeros w64 (get_or words n 0) (let s = some in omega arith) fits
 
+  -- the row of the word's lowest bit is marked
   pub later_marked : mark_of words (n * 64 + u) ≡ 1
   later_marked =
       let l = later.0 in
@@ -112,6 +121,7 @@ module _ (words : List ℕ) (from n : ℕ) (fits : get_or words n 0 < 1844674407
       let r : (n * 64 + u) % 64 ≡ u = omega arith in
       (λ z. bit_at (get_or words (q z) 0) (r z)) ∙ later.1
 
+  -- no row from the first one up to that one has a mark
   pub later_first : (i : ℕ) → from ≤ i → i < n * 64 + u → mark_of words i ≡ 0
   later_first i a b =
       let l = later.0 in
@@ -155,6 +165,7 @@ marked_none z sums marks groups zeros none none_too limit long groups_long = rec
 module _ (z : ℕ) (sums marks groups marks' groups' : List ℕ) (row x : ℕ) (m : AreMarked z sums marks groups) (l : row < length sums)
     (long : length marks' ≡ length marks) (here : mark_of marks' row ≡ 1) (others : (i : ℕ) → i ≢ row → mark_of marks' i ≡ mark_of marks i) (words : (k : ℕ) → k ≢ row / 64 → get_or marks' k 0 ≡ get_or marks k 0)
     (groups_long : length groups' ≡ length groups) (groups_here : mark_of groups' (row / 64) ≡ 1) (groups_others : (i : ℕ) → i ≢ row / 64 → mark_of groups' i ≡ mark_of groups i) where
+  -- with a row's sum set, and the row and its word marked, the sums are marked still
   pub marked_more : AreMarked z (set sums row x) marks' groups'
   marked_more =
       let room = m.room in
@@ -247,6 +258,7 @@ module _ (z : ℕ) (sums new marks groups : List ℕ) (n : ℕ) (m : AreMarked z
 
 -- without marks of words there is no mark and no sum
 module _ (z : ℕ) (sums marks groups : List ℕ) (m : AreMarked z sums marks groups) (none : (k : ℕ) → get_or marks k 0 ≡ 0) where
+  -- where each word of marks is zero, so is each sum
   pub all_taken : (i : ℕ) → get_or sums i z ≡ z
   all_taken i = m.unmarked i (none_in_word marks (i / 64) (none (i / 64)) i refl)
 
@@ -271,15 +283,18 @@ module _ (w : ℕ) (fits : w < 18446744073709551616) (some : 0 < w) where
   abbrev low : ℕ
   low = trailing_zeros w64 w
 
+  -- the word without its lowest bit
   abbrev pub without_low : ℕ
   without_low = bit_and w (bit_not w64 (1 * 2 ^ low % 18446744073709551616))
 
   found_low : (low < 64) × (bit_at w low ≡ 1) × ((i : ℕ) → i < low → bit_at w i ≡ 0)
   found_low = bit_at-trailing_zeros w64 w some fits
 
+  -- the lowest bit is one of the 64
   pub low_within : low < 64
   low_within = found_low.0
 
+  -- the word has it
   pub low_set : bit_at w low ≡ 1
   low_set = found_low.1
 

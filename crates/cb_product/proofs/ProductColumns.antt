@@ -123,6 +123,7 @@ module _ (s : Arithmetic) (laws : IsSemiring s) (acc a b : Sparse) (r : IsMatrix
       (λ t. s.add (left t) (right t)) ∙ laws.zero_add s.zero laws.zero_value
 
   module _ (cs : List ℕ) (up : AllPairs (λ c d. c < d) cs) (within : All (λ c. c < b.shape.cols) cs) (acc_in : AreInColumns cs acc.entries) (b_in : AreInColumns cs b.entries) where
+    -- a matrix without entries has the sums of the columns before the first
     pub sum_start : (out : Sparse) → IsMatrix s out → out ≡ record { shape = acc.shape; entries = [] } → IsSumSoFar s acc a b cs 0 out
     sum_start out is e =
         let none : out.entries ≡ [] = ap (λ (m : Sparse). m.entries) e in
@@ -135,6 +136,7 @@ module _ (s : Arithmetic) (laws : IsSemiring s) (acc a b : Sparse) (r : IsMatrix
               ⊎_elim (λ (z : k ≡ 0). let w = ap (λ x. get_or cs x d) z in absurd (omega arith)) (λ (z : k ≡ 0 → ⊥). let nz : k ≢ 0 = z in let w : get_or cs 0 d < get_or cs k d = up 0 k d (omega arith) lk in absurd (omega arith)) (cases_eq k 0)));
         }
 
+    -- with the sum of the n-th column added, it has those of the columns up to that one
     pub sum_more : (old new : Sparse) (n j : ℕ) (f : ℕ → ℕ) → n < length cs → j ≡ get_or cs n 0 → IsSumSoFar s acc a b cs n old → AddsColumn s j f old new
         → ((i : ℕ) → f i ≡ s.add (at s acc i j) (column_sum s a i (rows_of (in_column j b.entries)) (values_of (in_column j b.entries))))
         → IsSumSoFar s acc a b cs (n + 1) new
@@ -175,6 +177,7 @@ module _ (s : Arithmetic) (laws : IsSemiring s) (acc a b : Sparse) (r : IsMatrix
               (cases_lt j c);
         }
 
+    -- past the last column it is the sum of the accumulator and the product
     pub sum_all : (out : Sparse) (n : ℕ) → acc.shape ≡ product_shape a b → length cs ≤ n → IsSumSoFar s acc a b cs n out → out ≡ sum_of s acc (product s a b)
     sum_all out n shape l h =
         let all : get_or cs n b.shape.cols ≡ b.shape.cols = get_or_past cs n b.shape.cols l in
@@ -195,6 +198,7 @@ sum_from_nothing s laws a b p q =
     same_matrix_of s (product_shape a b) (λ i j. s.add s.zero (at s (product s a b) i j)) (inner s a b)
     (λ i j li lj. ap (s.add s.zero) (at-matrix_of s (product_shape a b) (inner s a b) i j li lj) ∙ laws.zero_add (inner s a b i j) (inner_value s laws a b p q i j))
 
+-- where an answer is the sum of an accumulator without entries and the product, it is the product
 pub multiplied : {E : Type 0} (s : Arithmetic) → IsSemiring s → (acc a b : Sparse) (result : Result Sparse E) → IsMatrix s a → IsMatrix s b → acc ≡ empty_matrix (product_shape a b) → IfOk result (λ m. m ≡ sum_of s acc (product s a b)) → IfOk result (λ m. m ≡ product s a b)
 multiplied s laws acc a b (Ok m) p q e h = h ∙ ap (λ x. sum_of s x (product s a b)) e ∙ sum_from_nothing s laws a b p q
 multiplied s laws acc a b (Err x) p q e h = tt

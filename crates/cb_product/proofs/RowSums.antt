@@ -86,6 +86,7 @@ zero_stays z sums row i l h = ⊎_elim
 pub filled : (z n m : ℕ) (old xs : List ℕ) → old ≡ [] → xs ≡ take n old ++ replicate (n - m) z → All (λ x. x ≡ z) xs
 filled z n m old xs none e = rw e (All-append (λ x. x ≡ z) (take n old) (replicate (n - m) z) (All-take (λ x. x ≡ z) n old (rw none (All-nil (λ x. x ≡ z)))) (All-replicate (λ x. x ≡ z) (n - m) z refl))
 
+-- a list that is filled up to n elements has n
 pub filled_length : (z n m : ℕ) (old xs : List ℕ) → old ≡ [] → m ≡ 0 → xs ≡ take n old ++ replicate (n - m) z → length xs ≡ n
 filled_length z n m old xs none e f =
     let empty : length old ≡ 0 = ap length none in
@@ -103,6 +104,7 @@ module _ (s : Arithmetic) (laws : IsSemiring s) (a : Sparse) (is : IsMatrix s a)
       (λ t. s.add (absent_above s.zero a.shape.rows own_rows own_values i own.inside l t) (terms_past s laws (rows_of a.entries) (values_of a.entries) a.shape.rows i (all_rows_inside s a (rows_of a.entries) is refl) l ts terms t))
       ∙ laws.zero_add s.zero laws.zero_value
 
+  -- sums to which the accumulator's column is added, and then the terms, are what both have together at each row
   pub dense_sums : (zeros one two : List ℕ) → All (λ x. x ≡ s.zero) zeros → length zeros ≡ a.shape.rows → length one ≡ length zeros → length two ≡ length one
       → ((i : ℕ) → i < length zeros → get_or one i s.zero ≡ s.add (get_or zeros i s.zero) (s.mul (row_value s.zero own_rows own_values i) s.one))
       → ((i : ℕ) → i < length one → get_or two i s.zero ≡ s.add (get_or one i s.zero) (terms_value s (rows_of a.entries) (values_of a.entries) i ts))

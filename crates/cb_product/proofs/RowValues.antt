@@ -52,6 +52,7 @@ pub rest_after : (rows : List ℕ) (n d : ℕ) → AllPairs (λ i j. i < j) rows
 rest_after rows n d up l = AllPairs-head (λ i j. i < j) (get_or rows n d) (drop (n + 1) rows) (subst (AllPairs (λ i j. i < j)) (drop_more rows n d l) (AllPairs-drop (λ i j. i < j) n rows up))
 
 module _ (s : Arithmetic) (laws : IsSemiring s) where
+  -- what entries have at a row is a value, where theirs are
   pub row_value-value : (rs vs : List ℕ) (i : ℕ) → All (IsValue s) vs → IsValue s (row_value s.zero rs vs i)
   unfolding row_value
   row_value-value [] vs i h = laws.zero_value
@@ -62,6 +63,7 @@ module _ (s : Arithmetic) (laws : IsSemiring s) where
         | false ↦ row_value-value rs vs i (All-tail (IsValue s) v vs h)
       ]
 
+  -- so is what one entry has there
   pub one_value-value : (t : ℕ × ℕ) (i : ℕ) → IsValue s t.1 → IsValue s (one_value s.zero t i)
   one_value-value t i v = elim (t.0 == i) as (λ b. IsValue s (cond b t.1 s.zero)) [ true ↦ v | false ↦ laws.zero_value ]
 
@@ -75,15 +77,19 @@ module _ (s : Arithmetic) (laws : IsSemiring s) where
 
   -- the entries of a column from the n-th on, scaled
   module _ (rows values : List ℕ) (scale : ℕ) (same : length values ≡ length rows) (all : All (IsValue s) values) (is_scale : IsValue s scale) where
+    -- what they have at a row is a value
     pub rest_value-value : (n i : ℕ) → IsValue s (rest_value s.zero rows values n i)
     rest_value-value n i = row_value-value (drop n rows) (drop n values) i (All-drop (IsValue s) n values all)
 
+    -- it is one when it is scaled
     pub scaled_value : (n i : ℕ) → IsValue s (s.mul (rest_value s.zero rows values n i) scale)
     scaled_value n i = laws.mul_value _ _ (rest_value-value n i) is_scale
 
+    -- the n-th entry has a value
     pub nth_value : (n : ℕ) → n < length rows → IsValue s (get_or values n 0)
     nth_value n l = All-get_or (IsValue s) values n 0 (omega arith) all
 
+    -- it is one when it is scaled
     pub nth_product : (n : ℕ) → n < length rows → IsValue s (s.mul (get_or values n 0) scale)
     nth_product n l = laws.mul_value _ _ (nth_value n l) is_scale
 
@@ -105,6 +111,7 @@ module _ (s : Arithmetic) (laws : IsSemiring s) where
         rw t (sym (laws.zero_add (rest_value s.zero rows values (n + 1) i) (rest_value-value (n + 1) i))))
         (cases_eq r i)
 
+    -- what they have at a row, scaled, is what the n-th has there, scaled, and what those after it have
     pub scaled_split : (n i : ℕ) → AllPairs (λ i j. i < j) rows → n < length rows → s.mul (rest_value s.zero rows values n i) scale ≡ s.add (one_value s.zero (get_or rows n 0, s.mul (get_or values n 0) scale) i) (s.mul (rest_value s.zero rows values (n + 1) i) scale)
     scaled_split n i up l =
         ap (λ x. s.mul x scale) (rest_split n i up l)

@@ -70,6 +70,7 @@ module _ (s : Arithmetic) (laws : IsSemiring s) (rows values : List ℕ) (all_va
 
 -- ---- at a row past all rows terms have nothing
 module _ (s : Arithmetic) (laws : IsSemiring s) (rows values : List ℕ) (bound i : ℕ) (inside : All (λ r. r < bound) rows) (past : bound ≤ i) where
+  -- terms have nothing at a row past all rows of the left block
   pub terms_past : (ts : List Term) → All (IsTerm s rows) ts → terms_value s rows values i ts ≡ s.zero
   unfolding total
   terms_past [] is = refl

@@ -143,6 +143,7 @@ union_has_left left right items x y h all c m =
     let place = m.1 in
     subst (Contains items) (get_or_default left m.0 0 c place ∙ m.2) (h.has_left m.0 (omega arith) place)
 
+-- past the end of the second list its columns are all there
 pub union_has_right : (left right items : List ℕ) (x y : ℕ) → IsUnionSoFar left right items x y → length right ≤ y → (c : ℕ) → Contains right c → Contains items c
 union_has_right left right items x y h all c m =
     let place = m.1 in

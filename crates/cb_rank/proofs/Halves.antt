@@ -23,7 +23,7 @@ use Rattle.cb_plan.specs.Programs.{take_of, halves_of}
 use Rattle.cb_plan.specs.Stores.{sheet_of, slot_of, sheets_in}
 use Rattle.cb_rank.specs.Agreement.{IsSlotOf, IsBodyOf}
 use Rattle.cb_rank.specs.Halves.{slot_at, origin_of, first_lost, reads_of, loss_or_result, IsCopy, IsWork, slot_of_body}
-use Rattle.cb_rank.proofs.View.{split}
+use Rattle.cb_rank.proofs.OwnActs.{split}
 
 take_is : (from : ℕ) (tag : Tag) (into : ℕ) (x : Option Extent) (h : Half) → take_of from tag into x ≡ h ∷ [] → (v : Extent) × (x ≡ Some v) × (h ≡ half_is.Take from tag into v)
 take_is from tag into (Some v) h e = (v, refl, cc)

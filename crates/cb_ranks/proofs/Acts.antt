@@ -22,10 +22,10 @@ use Rattle.cb_plan.specs.Checks.{IsSound, Lanes, operands_of}
 use Rattle.cb_plan.specs.Letters.{Cargo, Sheet, Mark, letter_of}
 use Rattle.cb_plan.specs.Meaning.{State, act, one, result_of, target_of}
 use Rattle.cb_plan.specs.Programs.{halves_of, take_of}
-use Rattle.cb_plan.proofs.Running.{first_below}
+use Rattle.cb_plan.proofs.ActOnStores.{first_below}
 use Rattle.cb_rank.specs.Agreement.{IsSlotOf, IsBodyOf, AreLettersOf}
 use Rattle.cb_rank.specs.Halves.{Course, DoesHalf, RunsTo, slot_at, with_letter, slot_of_body}
-use Rattle.cb_rank.proofs.View.{split, some_shape}
+use Rattle.cb_rank.proofs.OwnActs.{split, some_shape}
 use Rattle.cb_rank.proofs.Halves.{all_some, some_by_shape, arrived_slot}
 use Rattle.cb_ranks.proofs.Results.{worked_by_end, copied_by_end}
 

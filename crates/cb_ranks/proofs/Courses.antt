@@ -13,7 +13,7 @@ use Rattle.cb_plan.specs.declared.acts.Half.TheVariants as half_is
 use Rattle.cb_plan.specs.declared.stores.Slot.{Slot}
 use Rattle.cb_plan.specs.declared.stores.Slot.TheVariants as slot_is
 use Rattle.cb_rank.specs.Halves.{Course, DoesHalf, RunsTo, with_letter, IsCopy, IsWork}
-use Rattle.cb_rank.proofs.View.{split}
+use Rattle.cb_rank.proofs.OwnActs.{split}
 
 -- a rank at its beginning, with these slots
 abbrev pub fresh : List (Slot Sparse) → Course

@@ -28,8 +28,8 @@ use Rattle.cb_plan.specs.Programs.{project}
 use Rattle.cb_plan.specs.Stores.{state_of, sheet_of, is_lost, Fits}
 use Rattle.cb_plan.specs.Tables.{cell, IsTable}
 use Rattle.cb_plan.proofs.Effects.{same_state}
-use Rattle.cb_plan.proofs.Passing.{checked_passes}
-use Rattle.cb_plan.proofs.Running.{first_below}
+use Rattle.cb_plan.proofs.PassingActs.{checked_passes}
+use Rattle.cb_plan.proofs.ActOnStores.{first_below}
 use Rattle.cb_lanes.specs.declared.desk.Desk.{Desk}
 use Rattle.cb_lanes.specs.Desks.{identity, posted_to, taken_from, posted_in, taken_in, AreOfOneOpening, IsNewDesk, IsSettledLane}
 use Rattle.cb_lanes.specs.declared.settled.Settled.{Settled}
@@ -37,13 +37,13 @@ use Rattle.cb_lanes.specs.Lanes.{posted_on, taken_on}
 use Rattle.cb_rank.specs.Agreement.{IsSlotOf, AreLettersOf}
 use Rattle.cb_rank.specs.Halves.{Course, RunsTo}
 use Rattle.cb_rank.specs.Ranks.{RankView, new_rank}
-use Rattle.cb_rank.proofs.View.{quiet_act}
-use Rattle.cb_rank.proofs.Keeping.{few_halves}
+use Rattle.cb_rank.proofs.OwnActs.{quiet_act}
+use Rattle.cb_rank.proofs.RankAfterHalf.{few_halves}
 use Rattle.cb_ranks.specs.Runs.{course_of, IsNewRun}
 use Rattle.cb_ranks.specs.Crews.{Member, desks_of, stores_of, counts_of, AreNew, Ran, IsCrew}
 use Rattle.cb_ranks.specs.Finished.{FinishedView, IsFinished, HoldsMeaning}
 use Rattle.cb_ranks.proofs.Courses.{fresh, same_course}
-use Rattle.cb_ranks.proofs.Closing.{AreFinished, closes}
+use Rattle.cb_ranks.proofs.ClosingLaw.{AreFinished, closes}
 
 -- on a new desk nothing was posted to any number, nor taken
 pub none_posted : (c n k : ℕ) (d : Desk Sparse) → IsNewDesk c n k d → (j : ℕ) → posted_to d j ≡ []
@@ -53,6 +53,7 @@ none_posted c n k d new j =
     (λ (l : n ≤ j). let size = new.ranks in rw (get_or-eq_default d.outgoing.items None {n = j} (omega arith)) refl)
     (cases_lt j n)
 
+-- on a new desk nothing was taken from any number
 pub none_taken : (c n k : ℕ) (d : Desk Sparse) → IsNewDesk c n k d → (j : ℕ) → taken_from d j ≡ []
 none_taken c n k d new j =
     ⊎_elim
@@ -95,6 +96,7 @@ place s (x ∷ xs) (y ∷ ys) (suc k) h l =
 slice_get_of : {X Y : Type 0} (f : X → Y) (xs : List X) (k : ℕ) (x : X) → slice_get xs k ≡ Some x → slice_get (map f xs) k ≡ Some (f x)
 slice_get_of f xs k x e = slice_get-map f xs k ∙ ap (option_map f) e
 
+-- where a list has an element at a place, the list of images has its image there
 pub get_or_of : {X Y : Type 0} (f : X → Y) (xs : List X) (k : ℕ) (x : X) (d : Y) → slice_get xs k ≡ Some x → get_or (map f xs) k d ≡ f x
 get_or_of f xs k x d e = get_or_from_slice_get (map f xs) k (f x) d (slice_get_of f xs k x e)
 

@@ -21,7 +21,7 @@ use Rattle.cb_plan.proofs.Cells.{blank_is_table, blank_cell}
 use Rattle.cb_plan.proofs.Effects.{same_state}
 use Rattle.cb_rank.specs.Halves.{Course, RunsTo, with_letter, slot_at}
 use Rattle.cb_ranks.proofs.Courses.{fresh}
-use Rattle.cb_ranks.proofs.Closing.{AreFinished, closes}
+use Rattle.cb_ranks.proofs.ClosingLaw.{AreFinished, closes}
 use mathlib.Core.List.{IsPrefix}
 
 abbrev shape : Extent

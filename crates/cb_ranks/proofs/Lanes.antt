@@ -10,9 +10,9 @@ use Rattle.cb_plan.specs.declared.acts.Half.TheVariants as half_is
 use Rattle.cb_plan.specs.Checks.{IsSound, Lanes, shut_after, lanes_after, none_shut}
 use Rattle.cb_plan.specs.Letters.{count_of, before, next_act}
 use Rattle.cb_rank.specs.Ranks.{RankView, IsRank, next_half}
-use Rattle.cb_rank.proofs.View.{split, one_half}
+use Rattle.cb_rank.proofs.OwnActs.{split, one_half}
 use Rattle.cb_rank.proofs.Halves.{is_post, is_take, is_work, is_shut, is_end}
-use Rattle.cb_rank.proofs.Next.{finds, lanes, outline, next_one, next_passes, not_true}
+use Rattle.cb_rank.proofs.NextAct.{finds, lanes, outline, next_one, next_passes, not_true}
 
 -- an act that a rank has no half of shuts no lane to it
 quiet_shut : (a : Act) (shut : Lanes) (s r : ℕ) → count_of a r ≡ 0 → shut_after a shut s r ≡ shut s r
@@ -64,17 +64,20 @@ module _ (x : RankView) (h : Half) (is : IsRank x) (next : next_half x ≡ Some 
   then_by : (b : Act) (k : ℕ) → (next_one x h is next).0 ≡ b → lanes_then x k ≡ shut_after b (lanes x h is next) k x.me
   then_by b k e = lanes-next x.plan.acts none_shut k x.me x.done (next_one x h is next).0 (next_one x h is next).1 ∙ ap (λ z. shut_after z (lanes x h is next) k x.me) e
 
+-- a Post shuts no lane to its rank
 pub lanes_post : (x : RankView) (to : ℕ) (tag : _) (slot : ℕ) → IsRank x → next_half x ≡ Some (half_is.Post to tag slot) → (k : ℕ) → lanes_then x k ≡ lanes_to x k
 lanes_post x to tag slot is next k =
     let h : Half = half_is.Post to tag slot in
     let it = is_post (outline x h is next) (next_one x h is next).0 x.me to tag slot (next_one x h is next).2 in
     then_by x h is next (act_is.Move x.me to tag slot it.0) k it.1
 
+-- a Work shuts none
 pub lanes_work : (x : RankView) (op : _) → IsRank x → next_half x ≡ Some (half_is.Work op) → (k : ℕ) → lanes_then x k ≡ lanes_to x k
 lanes_work x op is next k =
     let h : Half = half_is.Work op in
     then_by x h is next (act_is.Work x.me op) k (is_work (outline x h is next) (next_one x h is next).0 x.me op (next_one x h is next).2)
 
+-- a Shut shuts none to its own rank, as the lane that it shuts leads away from it
 pub lanes_shut : (x : RankView) (to : ℕ) → IsRank x → next_half x ≡ Some (half_is.Shut to) → (k : ℕ) → lanes_then x k ≡ lanes_to x k
 lanes_shut x to is next k =
     let h : Half = half_is.Shut to in

@@ -13,7 +13,7 @@ use Rattle.cb_plan.specs.Stores.{state_of, sheet_of, is_filled}
 use Rattle.cb_plan.specs.Tables.{IsTable, cell, cell_set}
 use Rattle.cb_plan.proofs.Cells.{set_is_table, cell_after_set}
 use Rattle.cb_plan.proofs.Effects.{split}
-use Rattle.cb_plan.proofs.Running.{read_at}
+use Rattle.cb_plan.proofs.ActOnStores.{read_at}
 use Rattle.cb_scripts.specs.Losses.{AreFilled, IsFirstLoss}
 
 -- the blocks of slot n of the first r ranks are out, and the other ranks and slots are as they were

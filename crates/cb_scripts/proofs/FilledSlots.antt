@@ -14,7 +14,7 @@ use Rattle.cb_plan.specs.declared.stores.Slot.TheVariants as slot_is
 use Rattle.cb_plan.specs.Tables.{cell, cell_set, IsTable}
 use Rattle.cb_plan.proofs.Cells.{set_is_table, cell_after_set}
 use Rattle.cb_plan.proofs.Effects.{split}
-use Rattle.cb_plan.proofs.Running.{read_at}
+use Rattle.cb_plan.proofs.ActOnStores.{read_at}
 use Rattle.cb_scripts.specs.Slots.{Filled, block_of_rank}
 
 -- the blocks that are left are the first ones; the ranks after them have theirs

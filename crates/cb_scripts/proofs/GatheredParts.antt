@@ -63,9 +63,11 @@ module _ (n : ℕ) (stores : List (List (Slot Sparse))) (blocks : List Sparse) (
       (λ (l : length stores ≤ r). get_or_past blocks r (empty_matrix (record { rows = 0; cols = 0 })) (omega arith) ∙ sym (ap block_or (none_meant r l)))
       (cases_lt r (length stores))
 
+  -- glued together, the blocks that were taken out are what is gathered from the state that is meant
   pub glued_gathered : (s : Arithmetic) (q : ℕ) (shape : Extent) → glued s q shape (λ i j. block_at blocks (i * q + j)) ≡ gathered s q shape n state
   glued_gathered s q shape = ap (glued s q shape) (λ t i j. same_block (i * q + j) t)
 
+  -- they have the shapes of the parts
   pub shapes_there : (q : ℕ) (shape : Extent) → length stores ≡ q * q → HasShapes q shape n state → (i j : ℕ) → i < q → j < q → (block_at blocks (i * q + j)).shape ≡ part_shape q shape i j
   shapes_there q shape ranks h i j l m =
       let inside = rank_below q i j l m in
@@ -75,8 +77,10 @@ module _ (n : ℕ) (stores : List (List (Slot Sparse))) (blocks : List Sparse) (
 
 -- the parts of a matrix have the shapes of its parts, and gathered they are the matrix
 module _ (s : Arithmetic) (q : ℕ) (m : Sparse) (n : ℕ) (state : State Sparse) (parts : (i j : ℕ) → i < q → j < q → state (i * q + j) n ≡ Some (block_of s q m i j)) where
+  -- where each rank has its part of a matrix in a slot, the slots have the shapes of the parts
   pub shapes_of_parts : HasShapes q m.shape n state
   shapes_of_parts i j l k = ap (one (λ (b : Sparse). b.shape)) (parts i j l k)
 
+  -- what is gathered from them is the matrix
   pub gathered_parts : IsSemiring s → 0 < q → IsMatrix s m → gathered s q m.shape n state ≡ m
   gathered_parts laws pos is = glued_cut s laws q pos m is (λ i j. block_or (state (i * q + j) n)) (λ i j l k. ap block_or (parts i j l k))

@@ -47,11 +47,13 @@ module _ (s : Arithmetic) (laws : IsSemiring s) (a : Sparse) (is_a : IsMatrix s 
 first_slot : (a : Sparse) → HaveSlots ((0, a) ∷ [])
 first_slot a = All-cons (λ (p : ℕ × Sparse). p.0 < 256) (0, a) [] (lit< tt) (All-nil (λ (p : ℕ × Sparse). p.0 < 256))
 
+-- matrices in slots 0 and 1 are in slots that exist
 pub both_slots : (a b : Sparse) → HaveSlots ((0, a) ∷ (1, b) ∷ [])
 both_slots a b = All-cons (λ (p : ℕ × Sparse). p.0 < 256) (0, a) ((1, b) ∷ []) (lit< tt) (All-cons (λ (p : ℕ × Sparse). p.0 < 256) (1, b) [] (lit< tt) (All-nil (λ (p : ℕ × Sparse). p.0 < 256)))
 
 -- each plan makes what it is named for of the matrices in slots 0 and 1
 module _ (s : Arithmetic) (laws : IsSemiring s) (q : ℕ) (planned : Planned) (ranks : planned.plan.ranks ≡ q * q) (runnable : IsRunnable planned) (slot : planned.result ≡ 2) (a : Sparse) (is_a : IsMatrix s a) where
+  -- a plan that transposes makes the transpose of the matrix in slot 0
   pub transpose_made : planned.starts.items ≡ operand_starts q (one_operand a.shape) → IsTransposePlan planned.plan.acts q a.shape → (shape : Extent) → (transposed s a).shape ≡ shape → Makes s q ((0, a) ∷ []) planned shape (transposed s a)
   transpose_made starts plan shape shaped = record {
     ranks = ranks;
@@ -63,6 +65,7 @@ module _ (s : Arithmetic) (laws : IsSemiring s) (q : ℕ) (planned : Planned) (r
     shaped = shaped;
   }
 
+  -- one that prunes makes what is left of it
   pub rest_made : (test : Test) → planned.starts.items ≡ operand_starts q (one_operand a.shape) → IsPrunePlan planned.plan.acts q a.shape test → Makes s q ((0, a) ∷ []) planned a.shape (pruned s (passes test) a)
   rest_made test starts plan = record {
     ranks = ranks;
@@ -78,6 +81,7 @@ module _ (s : Arithmetic) (laws : IsSemiring s) (q : ℕ) (planned : Planned) (r
     both_starts : planned.starts.items ≡ operand_starts q (record { slot = 0; shape = a.shape } ∷ record { slot = 1; shape = b.shape } ∷ [])
     both_starts = starts ∙ ap (λ (d : Extent). operand_starts q (record { slot = 0; shape = a.shape } ∷ record { slot = 1; shape = d } ∷ [])) agree
 
+    -- one that adds makes the sum of the matrices in slots 0 and 1
     pub sum_made : IsSumPlan planned.plan.acts q a.shape → Makes s q ((0, a) ∷ (1, b) ∷ []) planned a.shape (sum_of s a b)
     sum_made plan =
         let ps : List (ℕ × Sparse) = (0, a) ∷ (1, b) ∷ [] in
@@ -92,6 +96,7 @@ module _ (s : Arithmetic) (laws : IsSemiring s) (q : ℕ) (planned : Planned) (r
           shaped = refl;
         }
 
+    -- one that multiplies place by place makes their product, place by place
     pub times_made : IsTimesPlan planned.plan.acts q a.shape → Makes s q ((0, a) ∷ (1, b) ∷ []) planned a.shape (times_of s a b)
     times_made plan =
         let ps : List (ℕ × Sparse) = (0, a) ∷ (1, b) ∷ [] in

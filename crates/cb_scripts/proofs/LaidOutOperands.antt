@@ -45,6 +45,7 @@ module _ (s : Arithmetic) (q : ℕ) where
     pub next_slot : o.0 < 256
     next_slot = All-head (λ (p : ℕ × Sparse). p.0 < 256) (whole_matrix o) (map whole_matrix left) slots_of_both
 
+    -- the grid that the next one lies over has the side q
     pub next_side : o.1.side ≡ q
     next_side = All-head (λ (o : ℕ × Distributed). o.1.side ≡ q) o left (subst (LieOver q) first h.sides)
 
@@ -70,10 +71,12 @@ module _ (s : Arithmetic) (q : ℕ) where
 pub one_lies : (q n : ℕ) (a : Distributed) (operands : List (ℕ × Distributed)) → operands ≡ (n, a) ∷ [] → a.side ≡ q → LieOver q operands
 one_lies q n a operands e of_a = subst (LieOver q) (sym e) (All-cons (λ (o : ℕ × Distributed). o.1.side ≡ q) (n, a) [] of_a (All-nil (λ (o : ℕ × Distributed). o.1.side ≡ q)))
 
+-- two matrices that lie over the grid, as a list of operands
 pub two_lie : (q n k : ℕ) (a b : Distributed) (operands : List (ℕ × Distributed)) → operands ≡ (n, a) ∷ (k, b) ∷ [] → a.side ≡ q → b.side ≡ q → LieOver q operands
 two_lie q n k a b operands e of_a of_b =
     subst (LieOver q) (sym e) (All-cons (λ (o : ℕ × Distributed). o.1.side ≡ q) (n, a) ((k, b) ∷ []) of_a (one_lies q k b ((k, b) ∷ []) (λ _. (k, b) ∷ []) of_b))
 
+-- three matrices, likewise
 pub three_lie : (q n k l : ℕ) (a b m : Distributed) (operands : List (ℕ × Distributed)) → operands ≡ (n, a) ∷ (k, b) ∷ (l, m) ∷ [] → a.side ≡ q → b.side ≡ q → m.side ≡ q → LieOver q operands
 three_lie q n k l a b m operands e of_a of_b of_m =
     subst (LieOver q) (sym e) (All-cons (λ (o : ℕ × Distributed). o.1.side ≡ q) (n, a) ((k, b) ∷ (l, m) ∷ []) of_a (two_lie q k l b m ((k, b) ∷ (l, m) ∷ []) (λ _. (k, b) ∷ (l, m) ∷ []) of_b of_m))

@@ -72,15 +72,19 @@ number_fits n known h v =
 
 -- the entries of a column that are below what is known
 module _ (m : Sparse) (is : IsMatrix min_plus m) (one : m.shape.cols ≡ 1) (known : BTreeMap ℕ ℕ) (es : List Entry) (same : es ≡ filter (is_lower known) m.entries) where
+  -- they are the entries of a column of the same shape
   pub lower_matrix : IsMatrix min_plus (record { shape = m.shape; entries = es })
   lower_matrix = subst (λ (xs : List Entry). IsMatrix min_plus (record { shape = m.shape; entries = xs })) (sym same) (filtered_matrix min_plus m (is_lower known) is)
 
+  -- no two of them are in one row
   pub lower_apart : AllPairs (λ d e. d.row ≢ e.row) es
   lower_apart = rows_apart min_plus (record { shape = m.shape; entries = es }) lower_matrix one
 
+  -- all of them are in column 0
   pub lower_column : All (λ e. e.column ≡ 0) es
   lower_column = in_column min_plus (record { shape = m.shape; entries = es }) lower_matrix one
 
+  -- each is in a row of the column, and below infinity
   pub lower_finite : All (λ e. (e.row < m.shape.rows) × (e.value < infinite)) es
   lower_finite k d l = ((lower_matrix.inside k d l).0, let a = lower_matrix.values k d l in let b = lower_matrix.not_zero k d l in omega arith)
 
@@ -88,11 +92,14 @@ module _ (m : Sparse) (is : IsMatrix min_plus m) (one : m.shape.cols ≡ 1) (kno
     values : (z v : ℕ) → Lower known z v (fits v) (value_at z es v 0) (at min_plus m v 0)
     values z v = subst (λ (xs : List Entry). Lower known z v (fits v) (value_at z xs v 0) (at min_plus m v 0)) (sym same) (lower_value known z v (fits v) m.entries (rows_apart min_plus m is one) (in_column min_plus m is one))
 
+    -- put in the place of what is known, they give the lesser of what is known and the column's value
     pub lower_least : (v : ℕ) → value_at (number_at known v) es v 0 ≡ min (number_at known v) (at min_plus m v 0)
     lower_least v = let h = values (number_at known v) v in ⊎_elim (λ l. omega (arith, h.0 l)) (λ l. omega (arith, h.1 l)) (cases_lt (at min_plus m v 0) (number_at known v))
 
+    -- where the column's value is below what is known, they have it
     pub lower_new : (v : ℕ) → at min_plus m v 0 < number_at known v → value_at infinite es v 0 ≡ at min_plus m v 0
     lower_new v = (values infinite v).0
 
+    -- where it isn't, they have nothing
     pub lower_old : (v : ℕ) → number_at known v ≤ at min_plus m v 0 → value_at infinite es v 0 ≡ infinite
     lower_old v = (values infinite v).1

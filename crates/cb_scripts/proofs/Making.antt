@@ -33,14 +33,17 @@ in_slot s q operands planned m n slot h stores has =
 
 -- the stores fit the plan; the blocks that it leaves have the shapes of the answer's, and gathered they are the answer
 module _ (s : Arithmetic) (q : ℕ) (operands : List (ℕ × Sparse)) (planned : Planned) (shape : Extent) (answer : Sparse) (makes : Makes s q operands planned shape answer) (stores : List (List (Slot Sparse))) (has : HasOperands s q operands stores) where
+  -- the stores with the operands fit the plan
   pub made_fits : Fits planned.plan.ranks planned.starts.items stores
   made_fits = rw (makes.ranks, makes.starts) (operands_fit s q operands stores has)
 
+  -- the blocks that the plan leaves have the shapes of the answer's parts
   pub made_shapes : HasShapes q shape planned.result (meaning (matrices s) planned.plan.acts (state_of stores))
   made_shapes =
       subst (λ (d : Extent). HasShapes q d planned.result (meaning (matrices s) planned.plan.acts (state_of stores))) makes.shaped
       (shapes_of_parts s q answer planned.result (meaning (matrices s) planned.plan.acts (state_of stores)) (makes.parts stores has))
 
+  -- gathered, they are the answer
   pub made_answer : IsSemiring s → gathered s q shape planned.result (meaning (matrices s) planned.plan.acts (state_of stores)) ≡ answer
   made_answer laws =
       subst (λ (d : Extent). gathered s q d planned.result (meaning (matrices s) planned.plan.acts (state_of stores)) ≡ answer) makes.shaped

@@ -28,12 +28,15 @@ module _ (source x : ℕ) (none known : BTreeMap ℕ ℕ) (empty : none.entries 
         | inr p ↦ inr (λ e. p.1 (sym e), one q ∙ cond-false _ _ _ p.0 ∙ ap (λ (es : List (ℕ × ℕ)). lookup (λ (k : ℕ). is_eq (nat_cmp q k)) es) empty)
       ]
 
+  -- it has that number for the source
   pub one_here : number_at known source ≡ x
   one_here = ⊎_elim (λ (p : (source ≡ source) × (get nat_cmp known source ≡ Some x)). ap (λ o. unwrap_or o infinite) p.1) (λ (p : (source ≢ source) × (get nat_cmp known source ≡ None)). absurd (p.0 refl)) (one_cases source)
 
+  -- for each other vertex it has infinity
   pub one_there : (v : ℕ) → v ≢ source → number_at known v ≡ infinite
   one_there v n = ⊎_elim (λ (p : (v ≡ source) × (get nat_cmp known v ≡ Some x)). absurd (n p.0)) (λ (p : (v ≢ source) × (get nat_cmp known v ≡ None)). ap (λ o. unwrap_or o infinite) p.1) (one_cases v)
 
+  -- where the source is a vertex, and its number below infinity, all numbers of the map are such
   pub one_finite : (n : ℕ) → source < n → x < infinite → AreNumbers n known
   one_finite n l m v y found = ⊎_elim
       (λ (p : (v ≡ source) × (get nat_cmp known v ≡ Some x)). let e : x ≡ y = same_Some x y (sym p.1 ∙ found) in (omega (arith, p.0), omega arith))
@@ -59,6 +62,7 @@ nothing_fell a fell source k d h none = settled a source k d (λ u. at min_plus 
 pub every_round : (a fell : Sparse) (source k : ℕ) (d : ℕ → ℕ) → IsMatrix min_plus a → a.shape.rows ≡ a.shape.cols → source < a.shape.rows → Nearing a source k d (λ u. at min_plus fell u 0) → a.shape.rows ≤ k → IsNearest a source d
 every_round a fell source k d is square l h m = all_rounds a source k a.shape.rows d (λ u. at min_plus fell u 0) h m l (inside_square a is square)
 
+-- a column that has the least weights of walks has the distances
 pub distances_are : (a column : Sparse) (source : ℕ) (d : ℕ → ℕ) → IsNearest a source d → column.shape ≡ column_shape a → ((v : ℕ) → at min_plus column v 0 ≡ d v) → AreDistances a source column
 distances_are a column source d h shape values = record {
   shape = shape;
@@ -71,6 +75,7 @@ distances_are a column source d h shape values = record {
   none = λ v _ e walk is. omega (arith, values v, e, h.least v walk is);
 }
 
+-- the product of the transposed matrix and a column of its vertices is a column of its vertices
 pub round_shape : (a fell reached turned : Sparse) → a.shape.rows ≡ a.shape.cols → fell.shape ≡ column_shape a → turned ≡ transposed min_plus a → reached ≡ product min_plus turned fell → reached.shape ≡ column_shape a
 round_shape a fell reached turned square shape t r =
     ap (λ (m : Sparse). m.shape) r

@@ -49,6 +49,7 @@ module _ (shape : Extent) (one : shape.cols ≡ 1) (known : BTreeMap ℕ ℕ) (o
   each : (P : Entry → Type 0) → ((v x : ℕ) → v < shape.rows → x < infinite → P (number_entry (v, x))) → All P es
   each P h = subst (λ (xs : List Entry). All P xs) (sym same) (All-map P number_entry known.entries (All-weaker (λ (p : ℕ × ℕ). get nat_cmp known p.0 ≡ Some p.1) (λ (p : ℕ × ℕ). P (number_entry p)) (λ p e. let k = finite p.0 p.1 e in h p.0 p.1 k.0 k.1) known.entries (All-found nat_cmp_total known ordered)))
 
+  -- the numbers of a map, as the entries of a column, are a matrix
   pub column_matrix : IsMatrix min_plus (record { shape = shape; entries = es })
   column_matrix = record {
     ascending = subst (λ (xs : List Entry). AllPairs IsBefore xs) (sym same) (ascends known.entries ordered);
@@ -57,6 +58,7 @@ module _ (shape : Extent) (one : shape.cols ≡ 1) (known : BTreeMap ℕ ℕ) (o
     not_zero = each (λ e. e.value ≢ infinite) (λ v x _ l e. omega arith);
   }
 
+  -- at each vertex it has the vertex's number
   pub column_value : (v : ℕ) → value_at infinite es v 0 ≡ number_at known v
   column_value v = ap (λ (xs : List Entry). value_at infinite xs v 0) same ∙ value_of known.entries v
 

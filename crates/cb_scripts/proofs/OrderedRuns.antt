@@ -41,6 +41,7 @@ module _ (s : Arithmetic) (q : ℕ) (operands : List (ℕ × Sparse)) (planned :
     pub checked_ranks : p.ranks ≡ q * q
     checked_ranks = ap (λ (v : CheckedView). v.ranks) of_planned ∙ makes.ranks
 
+    -- the stores fit the checked plan
     pub checked_fits : Fits p.ranks p.starts first
     checked_fits = subst (λ (v : CheckedView). Fits v.ranks v.starts first) (sym of_planned) (made_fits s q operands planned shape answer makes first has)
 
@@ -69,9 +70,11 @@ module _ (s : Arithmetic) (q : ℕ) (operands : List (ℕ × Sparse)) (planned :
             let inside = rank_below q i j l k in
             meant_block (meant (i * q + j) n) (block_of s q answer i j) (block_at blocks (i * q + j)) (cell slot_is.Empty after (i * q + j) n) (parts i j l k) (holds (i * q + j) n) (are (i * q + j) (omega arith))
 
+        -- they have the shapes of the answer's parts
         pub left_shapes : (i j : ℕ) → i < q → j < q → (block_at blocks (i * q + j)).shape ≡ part_shape q shape i j
         left_shapes i j l k = ap (λ (b : Sparse). b.shape) (left_blocks i j l k) ∙ ap (λ (d : Extent). part_shape q d i j) makes.shaped
 
+        -- glued together, they are the answer
         pub left_answer : (m : Sparse) → m ≡ glued s q shape (λ i j. block_at blocks (i * q + j)) → IsSemiring s → m ≡ answer
         left_answer m is laws =
             is ∙ subst (λ (d : Extent). glued s q d (λ i j. block_at blocks (i * q + j)) ≡ answer) makes.shaped

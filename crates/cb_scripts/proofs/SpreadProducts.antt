@@ -13,7 +13,7 @@ use Rattle.cb_layout.specs.Blocks.{block_at, block_of, glued}
 use Rattle.cb_layout.specs.Vectors.{piece_start, piece_shape, piece_of, glued_pieces}
 use Rattle.cb_layout.proofs.Parts.{rank_of, row_below, rank_below}
 use Rattle.cb_layout.proofs.Cuts.{glued_cut}
-use Rattle.cb_layout.proofs.Spread.{glued_pieces_cut}
+use Rattle.cb_layout.proofs.VectorPieces.{glued_pieces_cut}
 use Rattle.cb_plan.specs.declared.acts.Act.{Act}
 use Rattle.cb_plan.specs.declared.stores.Slot.{Slot}
 use Rattle.cb_plan.specs.declared.stores.Slot.TheVariants as slot_is
@@ -98,6 +98,7 @@ module _ (s : Arithmetic) (q : ℕ) (a x : Sparse) (stores : List (List (Slot Sp
     left_meant : (i j : ℕ) → i < q → j < q → meaning (matrices s) acts (state_of stores) (i * q + j) 0 ≡ Some (block_of s q a i j)
     left_meant i j l m = leaves.kept (i * q + j) ∙ ap sheet_of (has.cells i j 0 l m)
 
+    -- no rank's slot 0 is empty afterwards
     pub left_filled : AreFilled 0 after
     left_filled r l = each_rank (λ r. is_filled (cell slot_is.Empty after r 0) ≡ true)
         (λ i j m n. lost_or_filled (meaning (matrices s) acts (state_of stores) (i * q + j) 0) (cell slot_is.Empty after (i * q + j) 0) (ran (i * q + j) 0) (rw (left_meant i j m n) refl)) r (omega arith)
@@ -110,9 +111,11 @@ module _ (s : Arithmetic) (q : ℕ) (a x : Sparse) (stores : List (List (Slot Sp
           let inside = rank_below q i j l m in
           same_Some _ _ (sym (block_meant (meaning (matrices s) acts (state_of stores) r 0) (cell slot_is.Empty after r 0) (block_at blocks r) (ran r 0) (out r (omega arith))) ∙ left_meant i j l m)
 
+      -- the blocks taken out of slot 0 have the shapes of the matrix's parts
       pub blocks_shaped : (i j : ℕ) → i < q → j < q → (block_at blocks (i * q + j)).shape ≡ part_shape q a.shape i j
       blocks_shaped i j l m = ap (λ b. b.shape) (same_blocks i j l m)
 
+      -- glued together, they are the matrix
       pub blocks_glued : glued s q a.shape (λ i j. block_at blocks (i * q + j)) ≡ a
       blocks_glued = glued_cut s laws q has.some a is_a (λ i j. block_at blocks (i * q + j)) same_blocks
 
@@ -124,6 +127,7 @@ module _ (s : Arithmetic) (q : ℕ) (a x : Sparse) (stores : List (List (Slot Sp
       result_left : (r : ℕ) → IsLostOr (meaning (matrices s) acts (state_of stores) r 2) (cell slot_is.Empty later r 2)
       result_left r = subst (λ (y : Slot Sparse). IsLostOr (meaning (matrices s) acts (state_of stores) r 2) y) (sym (others r 2 (let ne : 0 ≢ 2 = omega arith in ne))) (ran r 2)
 
+      -- no rank's slot 2 is empty either
       pub result_filled : length later ≡ q * q → AreFilled 2 later
       result_filled e r l = each_rank (λ r. is_filled (cell slot_is.Empty later r 2) ≡ true)
           (λ i t m n. lost_or_filled (meaning (matrices s) acts (state_of stores) (i * q + t) 2) (cell slot_is.Empty later (i * q + t) 2) (result_left (i * q + t)) (rw (result_meant i t m n) refl)) r (omega arith)
@@ -135,8 +139,10 @@ module _ (s : Arithmetic) (q : ℕ) (a x : Sparse) (stores : List (List (Slot Sp
             let inside = rank_below q i t l m in
             same_Some _ _ (sym (block_meant (meaning (matrices s) acts (state_of stores) r 2) (cell slot_is.Empty later r 2) (block_at pieces r) (result_left r) (out r (omega arith))) ∙ result_meant i t l m)
 
+        -- the blocks taken out of slot 2 have the shapes of the product's pieces
         pub pieces_shaped : (i t : ℕ) → i < q → t < q → (block_at pieces (i * q + t)).shape ≡ piece_shape q (product s a x).shape i t
         pieces_shaped i t l m = ap (λ b. b.shape) (same_pieces i t l m) ∙ piece_has_shape s q (product s a x) i t
 
+        -- glued together, they are the product
         pub pieces_glued : glued_pieces s q (product s a x).shape (λ i t. block_at pieces (i * q + t)) ≡ product s a x
         pieces_glued = glued_pieces_cut s laws q has.some (product s a x) (product_is_matrix s laws a x is_a is_x) (λ i t. block_at pieces (i * q + t)) same_pieces

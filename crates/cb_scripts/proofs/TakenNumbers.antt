@@ -23,13 +23,16 @@ pub record HasTaken (old now : BTreeMap ℕ ℕ) (es : List Entry) : Type 0 wher
   pub values : (v : ℕ) → number_at now v ≡ value_at (number_at old v) es v 0
   pub finite : (n : ℕ) → AreNumbers n old → All (λ e. (e.row < n) × (e.value < infinite)) es → AreNumbers n now
 
+-- with no entry taken, a map has what it had
 pub taken_none : (old : BTreeMap ℕ ℕ) → HasTaken old old []
 unfolding value_at
 taken_none old = record { values = λ v. refl; finite = λ n h _. h }
 
+-- an entry of another row is not at this one's place in the column
 pub other_row : (v : ℕ) (e : Entry) → v ≢ e.row → is_at v 0 e ≡ false
 other_row v e n = false_from_ne_true (is_at v 0 e) (λ t. n (is_at-parts e v 0 t).0)
 
+-- two numbers compare as equal and are, or neither
 pub eq_cases : (k q : ℕ) → ((is_eq (nat_cmp k q) ≡ true) × (k ≡ q)) ⊎ ((is_eq (nat_cmp k q) ≡ false) × (k ≢ q))
 eq_cases k q =
     ⊎_elim
@@ -62,6 +65,7 @@ module _ (es : List Entry) (i : ℕ) (d : Entry) (l : i < length es) (rows : All
   value_there : (z v : ℕ) → e.row ≢ v → value_at z (take (i + 1) es) v 0 ≡ value_at z (take i es) v 0
   value_there z v n = ap (λ (xs : List Entry). value_at z xs v 0) whole ∙ value_at-append_left z (take i es) (e ∷ []) v 0 (All-cons (λ x. is_at v 0 x ≡ false) e [] (other_row v e (λ h. n (sym h))) (All-nil (λ x. is_at v 0 x ≡ false)))
 
+  -- with the next entry's value put at its row, the map has taken one entry more
   pub taken_one : ((q : ℕ) → get nat_cmp next q ≡ cond (is_eq (nat_cmp e.row q)) (Some e.value) (get nat_cmp now q)) → HasTaken old next (take (i + 1) es)
   taken_one h = record {
     values = λ v.
@@ -83,15 +87,18 @@ module _ (es : List Entry) (i : ℕ) (d : Entry) (l : i < length es) (rows : All
 
 -- one entry more has been looked at
 module _ (known : BTreeMap ℕ ℕ) (es : List Entry) (i : ℕ) (d : Entry) (l : i < length es) (so_far now : List Entry) (before : so_far ≡ filter (is_lower known) (take i es)) where
+  -- an entry that is below what is known is added
   pub lower_kept : is_lower known (get_or es i d) ≡ true → now ≡ so_far ++ get_or es i d ∷ [] → now ≡ filter (is_lower known) (take (i + 1) es)
   lower_kept h e =
       e ∙ ap (λ (xs : List Entry). xs ++ get_or es i d ∷ []) before
       ∙ sym (filter_more (is_lower known) es i d l ∙ ap (λ (b : Bool). filter (is_lower known) (take i es) ++ cond b (get_or es i d ∷ []) []) h)
 
+  -- one that isn't is left out
   pub lower_passed : is_lower known (get_or es i d) ≡ false → now ≡ so_far → now ≡ filter (is_lower known) (take (i + 1) es)
   lower_passed h e =
       e ∙ before
       ∙ sym (filter_more (is_lower known) es i d l ∙ ap (λ (b : Bool). filter (is_lower known) (take i es) ++ cond b (get_or es i d ∷ []) []) h ∙ append-nil (filter (is_lower known) (take i es)))
 
+-- where no entry is left, all are taken
 pub all_taken : (old now : BTreeMap ℕ ℕ) (es : List Entry) (i : ℕ) → length es ≤ i → HasTaken old now (take i es) → HasTaken old now es
 all_taken old now es i l h = subst (λ (xs : List Entry). HasTaken old now xs) (take_all i es l) h

@@ -74,6 +74,7 @@ module _ (a x : Sparse) (is_a : IsMatrix min_plus a) (is_x : IsMatrix min_plus x
       (λ i j _ _. let h = total_stops (λ k. min (at min_plus (transposed min_plus a) i k + at min_plus x k j) infinite) 0 a.shape.rows in omega arith)).inside
       (λ m _. omega (arith, square))
 
+  -- the product of the turned matrix and a column is a round from that column
   pub is_round : IsRound a (λ u. at min_plus x u 0) (λ v. at min_plus (product min_plus (transposed min_plus a) x) v 0)
   unfolding y
   is_round = record {

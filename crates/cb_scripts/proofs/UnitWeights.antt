@@ -19,6 +19,7 @@ ascends : (es : List Entry) → AllPairs IsBefore es → AllPairs IsBefore (map 
 ascends [] h = AllPairs-nil IsBefore
 ascends (e ∷ es) h = AllPairs-cons IsBefore (unit_entry e) (map unit_entry es) (All-map (IsBefore (unit_entry e)) unit_entry es (AllPairs-head IsBefore e es h)) (ascends es (AllPairs-tail IsBefore e es h))
 
+-- with 1 in the place of each stored value, a matrix of bits is one of weights
 pub unit_matrix : (a : Sparse) → IsMatrix or_and a → IsMatrix min_plus (unit_weights a)
 unit_matrix a is = record {
   ascending = ascends a.entries is.ascending;
@@ -66,6 +67,7 @@ module _ (a : Sparse) (is : IsMatrix or_and a) (square : a.shape.rows ≡ a.shap
       sum-map (λ (p : ℕ × ℕ). at min_plus (unit_weights a) p.0 p.1) (pairs w)
       ∙ ones (λ (p : ℕ × ℕ). at min_plus (unit_weights a) p.0 p.1) (pairs w) (All-weaker (λ (p : ℕ × ℕ). at or_and a p.0 p.1 ≢ 0) (λ (p : ℕ × ℕ). at min_plus (unit_weights a) p.0 p.1 ≡ 1) (λ p n. (unit_at p.0 p.1).1 n) (pairs w) walk.stored)
 
+  -- its distances are the levels of the matrix of bits
   pub levels_are : (column : Sparse) → AreDistances (unit_weights a) source column → AreLevels a source column
   levels_are column h = record {
     shape = h.shape;

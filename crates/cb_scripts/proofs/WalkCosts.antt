@@ -46,9 +46,11 @@ last_front [] x v h = absurd (none-some v h)
 last_front (u ∷ us) x v h = h
 
 module _ (s : Arithmetic) (a : Sparse) where
+  -- a vertex alone is a walk from it to itself
   pub walk_here : (v : ℕ) → IsWalk s a v v (v ∷ [])
   walk_here v = record { begins = refl; ends = refl; stored = All-nil (λ (p : ℕ × ℕ). at s a p.0 p.1 ≢ s.zero) }
 
+  -- a walk goes on to a vertex to which its last one has an edge
   pub walk_more : (from u v : ℕ) (us : List ℕ) → IsWalk s a from u us → at s a u v ≢ s.zero → IsWalk s a from v (us ++ v ∷ [])
   walk_more from u v us w e = record {
     begins = first_more us from v w.begins;
@@ -56,6 +58,7 @@ module _ (s : Arithmetic) (a : Sparse) where
     stored = rw (pairs_more us u v w.ends) (All-push (λ (p : ℕ × ℕ). at s a p.0 p.1 ≢ s.zero) (pairs us) (u, v) w.stored e);
   }
 
+  -- a walk may begin one edge earlier
   pub walk_front : (x y v : ℕ) (us : List ℕ) → at s a x y ≢ s.zero → IsWalk s a y v us → IsWalk s a x v (x ∷ us)
   walk_front x y v us e w = record {
     begins = refl;
@@ -67,6 +70,7 @@ module _ (s : Arithmetic) (a : Sparse) where
   pub walk_edge : (from v x y : ℕ) (us : List ℕ) → IsWalk s a from v (x ∷ y ∷ us) → at s a x y ≢ s.zero
   walk_edge from v x y us w = All-head (λ (p : ℕ × ℕ). at s a p.0 p.1 ≢ s.zero) (x, y) (pairs (y ∷ us)) w.stored
 
+  -- without its first vertex it is a walk from the second
   pub walk_rest : (from v x y : ℕ) (us : List ℕ) → IsWalk s a from v (x ∷ y ∷ us) → IsWalk s a y v (y ∷ us)
   walk_rest from v x y us w = record {
     begins = refl;
@@ -74,6 +78,7 @@ module _ (s : Arithmetic) (a : Sparse) where
     stored = All-tail (λ (p : ℕ × ℕ). at s a p.0 p.1 ≢ s.zero) (x, y) (pairs (y ∷ us)) w.stored;
   }
 
+  -- a walk's first vertex is the one that it is from
   pub walk_first : (from v x : ℕ) (us : List ℕ) → IsWalk s a from v (x ∷ us) → x ≡ from
   walk_first from v x us w = same_Some x from w.begins
 
@@ -81,6 +86,7 @@ module _ (s : Arithmetic) (a : Sparse) where
   abbrev pub WalkCases : ℕ → ℕ → List ℕ → Type 0
   WalkCases from v w = ((from ≡ v) × (w ≡ v ∷ [])) ⊎ ((us : List ℕ) × (u : ℕ) × IsWalk s a from u us × (at s a u v ≢ s.zero) × (w ≡ us ++ v ∷ []))
 
+  -- each walk is one or the other
   pub walk_cases : (from v : ℕ) (w : List ℕ) → IsWalk s a from v w → WalkCases from v w
   walk_cases from v [] w = absurd (none-some from w.begins)
   walk_cases from v (x ∷ []) w = inl (sym (same_Some x from w.begins) ∙ same_Some x v w.ends, ap (λ (y : ℕ). y ∷ []) (same_Some x v w.ends))
@@ -92,12 +98,15 @@ module _ (s : Arithmetic) (a : Sparse) where
         | inr p ↦ inr (x ∷ p.0, p.1, subst (λ (z : ℕ). IsWalk s a z p.1 (x ∷ p.0)) is (walk_front x y p.1 p.0 e p.2), p.3, ap (λ (zs : List ℕ). x ∷ zs) p.4)
       ]
 
+-- a vertex more at the end costs the edge to it more
 pub cost_more : (a : Sparse) (us : List ℕ) (u v : ℕ) → last us ≡ Some u → cost a (us ++ v ∷ []) ≡ cost a us + at min_plus a u v
 cost_more a us u v h = cost_by a (us ++ v ∷ []) ∙ ap (sum_by (pair_cost a)) (pairs_more us u v h) ∙ sum_by_push (pair_cost a) (pairs us) (u, v) ∙ ap (λ (n : ℕ). n + at min_plus a u v) (sym (cost_by a us))
 
+-- a vertex more at the front costs the edge from it more
 pub cost_front : (a : Sparse) (us : List ℕ) (x y : ℕ) → first us ≡ Some y → cost a (x ∷ us) ≡ at min_plus a x y + cost a us
 cost_front a us x y h = cost_by a (x ∷ us) ∙ ap (sum_by (pair_cost a)) (pairs_front us x y h) ∙ sum_by-cons (pair_cost a) (x, y) (pairs us) ∙ ap (λ (n : ℕ). at min_plus a x y + n) (sym (cost_by a us))
 
+-- a vertex more at the end is one step more
 pub steps_more : (us : List ℕ) (u v : ℕ) → last us ≡ Some u → steps (us ++ v ∷ []) ≡ steps us + 1
 steps_more us u v h = ap length (pairs_more us u v h) ∙ length-append (pairs us) ((u, v) ∷ [])
 

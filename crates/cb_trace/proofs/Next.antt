@@ -45,6 +45,7 @@ module _ {P : Type 0} where
   pub few_posted : (past : List (Event P)) (next : List ℕ) (f t : ℕ) (l : LaneEnds) → AreEnds past next f t l → l.posted ≤ length past
   few_posted past next f t l a = let posted = a.posted in let few = length-posts_on f t past in omega arith
 
+  -- nor were more letters of a lane taken than there are events
   pub few_taken : (past : List (Event P)) (next : List ℕ) (f t : ℕ) (l : LaneEnds) → AreEnds past next f t l → l.taken ≤ length past
   few_taken past next f t l a = let taken = a.taken in let few = length-takes_on f t past in omega arith
 
@@ -61,6 +62,7 @@ ends_of ranks es next lanes v i l a from_in to_in at read =
     let here = subst (λ (k : ℕ). l ≡ get_or lanes k l) at read in
     a.each v.from v.to l from_in to_in (slice_get_read lanes (ranks * ranks) (v.from * ranks + v.to) l (sym a.count) (mul-add-lt v.from ranks v.to ranks from_in to_in) here)
 
+-- an event between two ranks is judged by what the table keeps of its lane
 pub IsJudged-at : (t : TraceView) (ranks room : ℕ) (es : List TraceEvent) (next : List ℕ) (lanes : List LaneEnds) (e : TraceEvent) (v : Envelope) (i : ℕ) (l : LaneEnds)
     → record { ranks = ranks; room = room; events = es } ≡ t → AreLanes ranks (map event_of es) next lanes → v ≡ envelope_of e → v.from < ranks → v.to < ranks → (v.from ≡ v.to → ⊥)
     → i ≡ v.from * t.ranks + v.to → l ≡ get_or lanes i l → IsJudged t e v next l
@@ -168,6 +170,7 @@ take_refused t e v w next l j is none =
       (λ may. lt-ltb l.taken l.posted (got (map event_of t.events) next v.from v.to l (letter_in v (Sheet tt)) j.ends may.1).0),
     )
 
+-- no mark may be taken where every letter was
 pub end_refused : (t : TraceView) (e : TraceEvent) (v w : Envelope) (next : List ℕ) (l : LaneEnds) → IsJudged t e v next l → e ≡ Ended w → l.posted ≤ l.taken → Tells (nat_lt l.taken l.posted) t e
 end_refused t e v w next l j is none =
     subst (λ (d : TraceEvent). Tells (nat_lt l.taken l.posted) t d) (ap Ended (j.envelope ∙ ap envelope_of is) ∙ sym is) (
@@ -197,6 +200,7 @@ AreLanes-event ranks past (Closed v) next lanes l a to_in ends m fits = AreLanes
 AreLanes-event ranks past (Took v) next lanes l a to_in ends m fits = AreLanes-take ranks past next lanes v.from v.to l (letter_in v (Sheet tt)) a to_in ends (got past next v.from v.to l (letter_in v (Sheet tt)) ends m).0
 AreLanes-event ranks past (Ended v) next lanes l a to_in ends m fits = AreLanes-take ranks past next lanes v.from v.to l (letter_in v Close) a to_in ends (got past next v.from v.to l (letter_in v Close) ends m).0
 
+-- with a legal event recorded, and its lane brought up to date, the lanes are kept still
 pub AreLanes-record : (ranks : ℕ) (es : List TraceEvent) (e : TraceEvent) (next : List ℕ) (lanes : List LaneEnds) (l : LaneEnds) → AreLanes ranks (map event_of es) next lanes → (envelope_of e).to < ranks
     → AreEnds (map event_of es) next (envelope_of e).from (envelope_of e).to l → MayFollow (map event_of es) (event_of e) → length es ≤ length next
     → AreLanes ranks (map event_of (es ++ e ∷ [])) (next_after e (length es) l next) (slice_set lanes ((envelope_of e).from * ranks + (envelope_of e).to) (lane_after e (length es) next l))

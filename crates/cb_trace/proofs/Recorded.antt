@@ -21,6 +21,7 @@ pub record IsNext (ranks : ℕ) (es : List TraceEvent) (e : TraceEvent) (next : 
   pub place : i ≡ (envelope_of e).from * ranks + (envelope_of e).to
   pub ends : AreEnds (map event_of es) next (envelope_of e).from (envelope_of e).to l
 
+-- an event that may be recorded follows, with what the table keeps of its lane
 pub IsNext-at : (t : TraceView) (ranks room : ℕ) (es : List TraceEvent) (next : List ℕ) (lanes : List LaneEnds) (e : TraceEvent) (v : Envelope) (i : ℕ) (l : LaneEnds)
     → record { ranks = ranks; room = room; events = es } ≡ t → AreLanes ranks (map event_of es) next lanes → v ≡ envelope_of e → MayRecord t e → i ≡ v.from * t.ranks + v.to → l ≡ get_or lanes i l → IsNext ranks es e next i l
 IsNext-at t ranks room es next lanes e v i l view a envelope may at read =

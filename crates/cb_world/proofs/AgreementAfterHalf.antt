@@ -16,12 +16,12 @@ use Rattle.cb_plan.specs.Letters.{Cargo, Sheet, Mark, count_of, before, next_act
 use Rattle.cb_plan.specs.Algebras.{matrices, shapes}
 use Rattle.cb_plan.specs.Checks.{Lanes, IsSound, Passes, shut_after, lanes_after, none_shut, operands_of}
 use Rattle.cb_plan.specs.Programs.{halves_of, project_from}
-use Rattle.cb_plan.proofs.Measured.{shapes_of_meaning}
+use Rattle.cb_plan.proofs.ShapesOfMeaning.{shapes_of_meaning}
 use Rattle.cb_rank.specs.Agreement.{IsSlotOf, System, LaneAgrees, Agrees, ends_marked}
 use Rattle.cb_rank.specs.Halves.{slot_at, slot_of_body}
-use Rattle.cb_rank.proofs.View.{split, meaning-next, letters-next}
+use Rattle.cb_rank.proofs.OwnActs.{split, meaning-next, letters-next}
 use Rattle.cb_rank.proofs.Halves.{is_post, is_take, is_work, is_shut, is_end, copied, arrived_slot, AllSome, some_by_shape, all_some, worked}
-use Rattle.cb_rank.proofs.Next.{act_of_half, next_sound, apart_of, apart_of_shut, not_true}
+use Rattle.cb_rank.proofs.NextAct.{act_of_half, next_sound, apart_of, apart_of_shut, not_true}
 use Rattle.cb_world.proofs.Lanes.{slot_later, lane_still, lane_posts, lane_takes}
 use Rattle.cb_world.proofs.SystemHalf.{Did, Moves}
 
@@ -40,12 +40,14 @@ NoMark [] = Unit {0}
 NoMark ((tag, Sheet m) ∷ ws) = NoMark ws
 NoMark ((tag, Mark) ∷ ws) = ⊥
 
+-- letters of which none is a mark do not end with one
 pub unmarked : {M : Type 0} (ws : List (Tag × Cargo M)) → NoMark ws → ends_marked ws ≡ false
 unmarked [] h = refl
 unmarked ((tag, Sheet m) ∷ []) h = refl
 unmarked ((tag, Sheet m) ∷ (v ∷ ws)) h = unmarked (v ∷ ws) h
 unmarked ((tag, Mark) ∷ ws) h = absurd h
 
+-- a lane that was shut is shut after an act too
 pub kept_shut : (a : Act) (shut : Lanes) (s t : ℕ) → shut s t ≡ true → shut_after a shut s t ≡ true
 kept_shut (act_is.Move from to tag slot into) shut s t e = e
 kept_shut (act_is.Work rank op) shut s t e = e

@@ -79,6 +79,7 @@ does_stay s w after r h did =
 same_stays : (w after : WorldView) → after ≡ w → Stays w after
 same_stays w after e = record { plan = ap (λ (x : WorldView). x.plan) e; first = ap (λ (x : WorldView). x.first) e; capacity = ap (λ (x : WorldView). x.capacity) e; ranks = ap (λ (x : WorldView). length x.ranks) e; boxes = ap (λ (x : WorldView). length x.boxes) e }
 
+-- what never changes stays in a step, whether its rank waits or does its half
 pub steps_stay : (s : Arithmetic) (w after : WorldView) (r : ℕ) (next : Option Half) (moved : Moved) → StepsBy s r next moved w after → Stays w after
 steps_stay s w after r None moved steps = same_stays w after steps.1
 steps_stay s w after r (Some h) moved (inl waits) = same_stays w after waits.2
@@ -87,6 +88,7 @@ steps_stay s w after r (Some h) moved (inr did) = does_stay s w after r h did.2
 stays_trans : (a b c : WorldView) → Stays a b → Stays b c → Stays a c
 stays_trans a b c x y = record { plan = y.plan ∙ x.plan; first = y.first ∙ x.first; capacity = y.capacity ∙ x.capacity; ranks = y.ranks ∙ x.ranks; boxes = y.boxes ∙ x.boxes }
 
+-- it stays in a run of any number of events
 pub runs_stay : (s : Arithmetic) (es : List Event) (w after : WorldView) → RunsBy s es w after → Stays w after
 runs_stay s [] w after runs = same_stays w after runs
 runs_stay s (e ∷ es) w after runs =

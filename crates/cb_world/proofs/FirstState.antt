@@ -15,8 +15,8 @@ use Rattle.cb_plan.specs.Tables.{cell}
 use Rattle.cb_rank.specs.Agreement.{IsSlotOf, LaneAgrees}
 use Rattle.cb_rank.specs.Halves.{slot_at}
 use Rattle.cb_rank.specs.Ranks.{RankView, IsRank}
-use Rattle.cb_rank.proofs.View.{split, meaning-before_next, letters-before_next}
-use Rattle.cb_rank.proofs.Keeping.{starts_as, fits_at}
+use Rattle.cb_rank.proofs.OwnActs.{split, meaning-before_next, letters-before_next}
+use Rattle.cb_rank.proofs.RankAfterHalf.{starts_as, fits_at}
 use Rattle.cb_mailbox.specs.Inbox.{Inbox, lane_from}
 use Rattle.cb_world.specs.Ends.{box_in}
 use Rattle.cb_world.specs.Worlds.{WorldView, IsWorld, IsNewWorld, no_rank, rank_of, lane_between, system_of}

@@ -13,12 +13,12 @@ use Rattle.cb_rank.specs.declared.wants.Moved.{Moved}
 use Rattle.cb_rank.specs.declared.wants.Moved.TheVariants as moved_is
 use Rattle.cb_rank.specs.Steps.{Answer}
 use Rattle.cb_rank.specs.Ranks.{RankView, next_half, want_of}
-use Rattle.cb_rank.proofs.Wanted.{wants_post_to, wants_shut_to, wants_take, wants_work, wants_end, wants_nothing}
+use Rattle.cb_rank.proofs.WantedHalf.{wants_post_to, wants_shut_to, wants_take, wants_work, wants_end, wants_nothing}
 use Rattle.cb_world.specs.Worlds.{WorldView, IsWorld, no_rank, rank_of, next_of, lane_between, CanDo, CanAct, remaining}
 use Rattle.cb_world.specs.Steps.{DoesIn, Steps, StepsBy, RunsBy, rank_in}
 use Rattle.cb_world.specs.declared.events.Event.{Event}
 use Rattle.cb_world.specs.declared.events.Event.TheVariants as event_is
-use Rattle.cb_rank.proofs.View.{split}
+use Rattle.cb_rank.proofs.OwnActs.{split}
 use Rattle.cb_world.proofs.NoDeadlock.{no_next}
 use Rattle.cb_world.proofs.Changes.{does_lower, steps_stay, runs_stay}
 use Rattle.cb_world.proofs.NextHalf.{finds_half}
@@ -33,6 +33,7 @@ pub record IsAt (w : WorldView) (r : ℕ) (x : RankView) : Type 0 where
   pub inside : r < w.plan.ranks
   pub read : x ≡ rank_of w r
 
+-- a rank that was read from the list of a world's ranks is the one of that number
 pub rank_at : (s : Arithmetic) (w : WorldView) (r : ℕ) (x : RankView) (len size : ℕ) → IsWorld s w → r < len → len ≡ size → size ≡ length w.ranks → x ≡ slice_index_or w.ranks r x → IsAt w r x
 rank_at s w r x len size sound below counted is_size read =
     let ranks = sound.sizes.0 in
@@ -61,6 +62,7 @@ module _ (s : Arithmetic) (w : WorldView) (sound : IsWorld s w) (r : ℕ) (x : R
   can : (half : Option Half) → next_of w r ≡ half → CanDo w r half ↔ CanAct w r
   can half e = (λ h. subst (CanDo w r) (sym e) h, λ h. subst (CanDo w r) e h)
 
+  -- a rank that wants to post can act just where the lane to the other rank has room
   pub at_post : (to : ℕ) → want_of (next_half x) ≡ want_is.Post to → AreTwo to × (HasRoom (lane_between w r to) ↔ CanAct w r)
   at_post to e =
       let it = wants_post_to (next_half x) to e in
@@ -71,6 +73,7 @@ module _ (s : Arithmetic) (w : WorldView) (sound : IsWorld s w) (r : ℕ) (x : R
       let b = can (Some half) is in
       (two to f.0 f.1, (λ h. b.0 (a.0 h), λ h. a.1 (b.1 h)))
 
+  -- one that wants to shut a lane can act just where that lane has room
   pub at_shut : (to : ℕ) → want_of (next_half x) ≡ want_is.Shut to → AreTwo to × (HasRoom (lane_between w r to) ↔ CanAct w r)
   at_shut to e =
       let half : Half = half_is.Shut to in
@@ -80,6 +83,7 @@ module _ (s : Arithmetic) (w : WorldView) (sound : IsWorld s w) (r : ℕ) (x : R
       let b = can (Some half) is in
       (two to f.0 f.1, (λ h. b.0 (a.0 h), λ h. a.1 (b.1 h)))
 
+  -- one that wants a letter can act just where one waits on the lane from the other rank
   pub at_take : (from : ℕ) → want_of (next_half x) ≡ want_is.Take from → AreTwo from × ((0 < length (lane_between w from r).queue) ↔ CanAct w r)
   at_take from e =
       let it = wants_take (next_half x) from e in
@@ -88,6 +92,7 @@ module _ (s : Arithmetic) (w : WorldView) (sound : IsWorld s w) (r : ℕ) (x : R
       let f = finds_half s w r half sound inside is in
       (two from f.0 (λ z. f.1 (sym z)), can (Some half) is)
 
+  -- one that wants the end of a lane can act just where a letter waits there
   pub at_end : (from : ℕ) → want_of (next_half x) ≡ want_is.End from → AreTwo from × ((0 < length (lane_between w from r).queue) ↔ CanAct w r)
   at_end from e =
       let half : Half = half_is.End from in
@@ -101,6 +106,7 @@ module _ (s : Arithmetic) (w : WorldView) (sound : IsWorld s w) (r : ℕ) (x : R
   pub at_done : want_of (next_half x) ≡ want_is.Done → ¬ CanAct w r
   at_done e c = (can None (next None (wants_nothing (next_half x) e))).1 c
 
+-- a number passes the test for zero just where it is zero
 pub zero_test : (n : ℕ) → IsTrue (n == 0) ↔ (n ≡ 0)
 zero_test n = (λ t. grind (arith, nat_tests), λ e. grind (arith, nat_tests))
 
@@ -149,5 +155,6 @@ step_keeps s event m w after steps =
     let stay = steps_stay s w after (rank_in event) (next_of w (rank_in event)) m steps.half in
     (stay.plan, stay.first)
 
+-- nor does a run of any number of events
 pub run_keeps : (s : Arithmetic) (events : List Event) (w after : WorldView) → RunsBy s events w after → Keeps w after
 run_keeps s events w after runs = let stay = runs_stay s events w after runs in (stay.plan, stay.first)

@@ -94,6 +94,7 @@ took r r' sent received received' whole after_sent after_received from to n queu
       (waiting, rw (er, ← same) (append_assoc received (v ∷ []) waiting ∙ ew), letters_later r r' from to (n + 1) waiting queue g m.3),
     )
 
+-- the letter at the head of a lane has the tag and the body that the plan says, and without it the lane agrees still
 pub lane_takes : {M : Type 0} (r r' : ℕ → ℕ) (sent received received' whole after_sent after_received : List (Tag × Cargo M)) (from to : ℕ) (l l' : Lane M) (w : Tag × Cargo M) (x : Letter M) → ((o : ℕ) → r o ≤ r' o) → sent ++ after_sent ≡ whole → received' ++ after_received ≡ whole → received' ≡ received ++ w ∷ [] → l.queue ≡ x ∷ l'.queue → l'.taken ≡ l.taken + 1 → l'.closed ≡ l.closed → LaneAgrees sent received r from to l → (x.tag ≡ w.0) × IsBodyOf r w.1 x.body × LaneAgrees sent received' r' from to l'
 lane_takes r r' sent received received' whole after_sent after_received from to l l' w x g s_whole r_whole er eq et ec h =
     let letters : AreLettersOf r from to l.taken h.waits.0 (x ∷ l'.queue) = subst (λ q. AreLettersOf r from to l.taken h.waits.0 q) eq h.waits.2 in

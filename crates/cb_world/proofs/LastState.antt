@@ -20,12 +20,12 @@ use Rattle.cb_plan.specs.Programs.{halves_of, project_from, project}
 use Rattle.cb_plan.specs.Stores.{state_of, sheet_of, is_lost}
 use Rattle.cb_plan.specs.Tables.{cell, IsTable}
 use Rattle.cb_plan.proofs.Effects.{same_state}
-use Rattle.cb_plan.proofs.Running.{first_below}
+use Rattle.cb_plan.proofs.ActOnStores.{first_below}
 use Rattle.cb_rank.specs.Agreement.{IsSlotOf, AreLettersOf}
 use Rattle.cb_rank.specs.Halves.{slot_at}
 use Rattle.cb_rank.specs.Ranks.{RankView}
-use Rattle.cb_rank.proofs.View.{split, counted}
-use Rattle.cb_rank.proofs.Next.{both_below}
+use Rattle.cb_rank.proofs.OwnActs.{split, counted}
+use Rattle.cb_rank.proofs.NextAct.{both_below}
 use Rattle.cb_world.specs.Worlds.{WorldView, IsWorld, no_rank, rank_of, lane_between, system_of, AllDone, IsFinished, HoldsMeaning}
 use Rattle.cb_world.proofs.NextHalf.{passes_of, program_of}
 use Rattle.cb_world.proofs.NoDeadlock.{is_done_by, none_refused}

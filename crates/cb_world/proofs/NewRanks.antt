@@ -12,6 +12,7 @@ use Rattle.cb_rank.specs.Ranks.{RankView, FitsAt, new_rank}
 use Rattle.cb_world.specs.Starting.{new_ranks, AreNewBoxes}
 use Rattle.cb_world.specs.Worlds.{WorldView, IsNewWorld, no_rank}
 
+-- a list of slots for each rank
 abbrev pub Stores : Type 0
 Stores = List (List (Slot Sparse))
 
@@ -60,6 +61,7 @@ store_fits p first before stores store ranks rest n fits are popped number =
     let here : get_or first n blank ≡ store = rw number (ap (λ xs. get_or xs (length stores) blank) (sym whole) ∙ last_store stores rest store blank) in
     subst (FitsAt p.starts n) here (fits_at p.ranks p.starts first n fits (omega arith))
 
+-- a new rank with the next store is one rank more, and that store is no longer left
 pub one_rank_more : (p : CheckedView) (first stores : Stores) (store : List (Slot Sparse)) (ranks : List RankView) (rest : Stores) → AreStarting p first (stores ++ store ∷ []) ranks rest → AreStarting p first stores (ranks ++ new_rank p (length stores) store ∷ []) (store ∷ rest)
 one_rank_more p first stores store ranks rest are = record {
   whole = sym (append_assoc stores (store ∷ []) rest) ∙ are.whole;

@@ -22,14 +22,14 @@ use Rattle.cb_plan.specs.Checks.{IsSound, Passes, lanes_after, none_shut, starte
 use Rattle.cb_plan.specs.Plans.{CheckedView}
 use Rattle.cb_plan.specs.Programs.{halves_of, project, project_from}
 use Rattle.cb_plan.specs.Stores.{state_of}
-use Rattle.cb_plan.proofs.Measured.{shapes_of_meaning}
-use Rattle.cb_plan.proofs.Passing.{checked_passes}
-use Rattle.cb_plan.proofs.Running.{first_below}
+use Rattle.cb_plan.proofs.ShapesOfMeaning.{shapes_of_meaning}
+use Rattle.cb_plan.proofs.PassingActs.{checked_passes}
+use Rattle.cb_plan.proofs.ActOnStores.{first_below}
 use Rattle.cb_rank.specs.Agreement.{IsBodyOf, AreLettersOf, ends_marked}
 use Rattle.cb_rank.specs.Halves.{HasKind}
-use Rattle.cb_rank.proofs.View.{letters-next}
+use Rattle.cb_rank.proofs.OwnActs.{letters-next}
 use Rattle.cb_rank.proofs.Halves.{is_post, is_take, is_work, is_shut, is_end}
-use Rattle.cb_rank.proofs.Next.{act_of_half, next_sound, apart_of, apart_of_shut, both_below, not_true}
+use Rattle.cb_rank.proofs.NextAct.{act_of_half, next_sound, apart_of, apart_of_shut, both_below, not_true}
 use Rattle.cb_world.specs.Worlds.{WorldView, IsWorld, HasRank, rank_of, next_of, lane_between, system_of}
 use Rattle.cb_world.proofs.Lanes.{first_waiting}
 use Rattle.cb_world.proofs.AgreementAfterHalf.{letters_begin, letters_unmarked, unmarked}
@@ -38,6 +38,7 @@ use Rattle.cb_world.proofs.AgreementAfterHalf.{letters_begin, letters_unmarked, 
 pub program_of : (w : WorldView) (r : ℕ) → HasRank w r → (rank_of w r).program ≡ project w.plan.starts w.plan.acts r
 program_of w r has = has.sound.program ∙ ap (λ (p : CheckedView). project p.starts p.acts (rank_of w r).me) has.plan ∙ ap (λ n. project w.plan.starts w.plan.acts n) has.number
 
+-- the acts of a world's plan pass the check
 pub passes_of : (s : Arithmetic) (w : WorldView) → IsWorld s w → Passes w.plan.ranks (started w.plan.starts) none_shut w.plan.acts
 passes_of s w h = checked_passes w.plan.ranks 0 (started w.plan.starts) none_shut w.plan.acts h.checked.no_fault
 
@@ -133,6 +134,7 @@ Finds w r (half_is.End from) =
     (from < w.plan.ranks) × (from ≢ r) × ((lane_between w from r).queue ≡ [] → (lane_between w from r).closed ≡ false)
     × ((x : Letter Sparse) (rest : List (Letter Sparse)) → (lane_between w from r).queue ≡ x ∷ rest → IsAddressed from r (lane_between w from r).taken x × (x.tag ≡ mark_tag) × (x.body ≡ body_is.Close))
 
+-- each rank of a sound world finds what its next half needs
 pub finds_half : (s : Arithmetic) (w : WorldView) (r : ℕ) (h : Half) (sound : IsWorld s w) (inside : r < w.plan.ranks) (next : next_of w r ≡ Some h) → Finds w r h
 finds_half s w r (half_is.Post to tag slot) sound inside next =
     let h : Half = half_is.Post to tag slot in

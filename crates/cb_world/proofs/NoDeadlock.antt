@@ -12,8 +12,8 @@ use Rattle.cb_plan.specs.Checks.{none_shut, started}
 use Rattle.cb_plan.specs.Programs.{project}
 use Rattle.cb_plan.specs.Stores.{state_of}
 use Rattle.cb_rank.specs.Ranks.{RankView, next_half}
-use Rattle.cb_rank.proofs.View.{split}
-use Rattle.cb_rank.proofs.Keeping.{few_halves}
+use Rattle.cb_rank.proofs.OwnActs.{split}
+use Rattle.cb_rank.proofs.RankAfterHalf.{few_halves}
 use Rattle.cb_world.specs.Worlds.{WorldView, IsWorld, no_rank, rank_of, next_of, lane_between, system_of, CanDo, CanAct, AllDone, remaining, refusals_in}
 use Rattle.cb_world.proofs.Progress.{Can, someone_moves, queued_of_agrees}
 use Rattle.cb_world.proofs.RankSums.{sum_is_none, none_of_sum, sum_is_below}
@@ -35,6 +35,7 @@ no_next w r past = let none : rank_of w r ≡ no_rank = get_or_past w.ranks r no
 done_next : (x : RankView) → length x.program ≤ x.done → next_half x ≡ None
 done_next x past = slice_get_past x.program x.done past
 
+-- a rank that has no next half has done its whole program
 pub is_done_by : (x : RankView) → next_half x ≡ None → length x.program ≤ x.done
 is_done_by x none =
     split (nat_lt x.done (length x.program))
@@ -67,6 +68,7 @@ someone_acts s w sound none r =
 pub none_remains : (w : WorldView) → AllDone w → remaining w ≡ 0
 none_remains w done = sum_is_none (λ x. length x.program - x.done) no_rank w.ranks (λ r l. let past = is_done_by (rank_of w r) (done r) in omega arith)
 
+-- where nothing remains, all is done
 pub all_done_by : (w : WorldView) → remaining w ≡ 0 → AllDone w
 all_done_by w none r =
     split (nat_lt r (length w.ranks))
@@ -79,6 +81,7 @@ few_remain s w sound =
     sum_is_below (λ x. length x.program - x.done) no_rank 4294967295 w.ranks (λ r l.
     let few = few_halves (rank_of w r) (sound.ranks r (let size = sound.sizes.0 in omega arith)).sound in omega arith)
 
+-- the refusals of all ranks are at most 2^32 - 1 for each of them
 pub few_refused : (s : Arithmetic) (w : WorldView) → IsWorld s w → refusals_in w ≤ length w.ranks * 4294967295
 few_refused s w sound =
     sum_is_below (λ x. x.refusals) no_rank 4294967295 w.ranks (λ r l.

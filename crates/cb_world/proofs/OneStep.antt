@@ -208,6 +208,7 @@ starved_by s w r (Some h) m answer after n is (inr did) can count refused = λ a
     moved_not_waiting h same in
     count ∙ refused asks went
 
+-- a rank that was starved at its step counts one refusal more, if it asked for memory and could act
 pub starved_is : (s : Arithmetic) (w : WorldView) (r : ℕ) (old x : RankView) (answer : Answer) (boxes : List (Inbox Sparse)) (m : Moved) → IsWorld s w → r < w.plan.ranks → old ≡ rank_of w r → answer ≡ Ok m → StepsBy s r (next_of w r) m w (with_rank w r x boxes)
     → IfSome (next_half old) (λ h. asks_memory old.slots h ≡ true → answer ≢ Ok moved_is.Waiting → x.refusals ≡ old.refusals + 1)
     → IsStarved (event_is.Starve r) w (with_rank w r x boxes)

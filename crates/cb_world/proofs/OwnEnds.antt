@@ -19,9 +19,9 @@ use Rattle.cb_plan.specs.Programs.{halves_of, project, project_from, take_of}
 use Rattle.cb_plan.specs.Stores.{state_of}
 use Rattle.cb_rank.specs.Agreement.{ends_marked}
 use Rattle.cb_rank.specs.Ranks.{ArePortsOf, is_shut_to, posted_to, standing_by}
-use Rattle.cb_rank.proofs.View.{split, counted, one_half}
-use Rattle.cb_rank.proofs.Next.{not_true}
-use Rattle.cb_rank.proofs.Standing.{lanes_by_halves, posted_to-append, take_none, take_past}
+use Rattle.cb_rank.proofs.OwnActs.{split, counted, one_half}
+use Rattle.cb_rank.proofs.NextAct.{not_true}
+use Rattle.cb_rank.proofs.LanesByHalves.{lanes_by_halves, posted_to-append, take_none, take_past}
 use Rattle.cb_world.specs.Ends.{standing}
 use Rattle.cb_world.specs.Worlds.{WorldView, IsWorld, rank_of, lane_between, system_of}
 use Rattle.cb_world.proofs.Progress.{posts, posts_of, length-letters, queued_of_agrees}

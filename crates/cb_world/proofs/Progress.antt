@@ -14,10 +14,10 @@ use Rattle.cb_plan.specs.Letters.{Cargo, count_of, before, letter_of, letters}
 use Rattle.cb_plan.specs.Algebras.{shapes}
 use Rattle.cb_plan.specs.Checks.{Lanes, IsSound, Passes, shut_after}
 use Rattle.cb_plan.specs.Programs.{take_of, halves_of, project_from}
-use Rattle.cb_plan.proofs.Running.{first_below}
+use Rattle.cb_plan.proofs.ActOnStores.{first_below}
 use Rattle.cb_rank.specs.Agreement.{AreLettersOf, Agrees, System}
-use Rattle.cb_rank.proofs.View.{split, some_shape, counted}
-use Rattle.cb_rank.proofs.Next.{slice_get_right, apart_of, apart_of_shut, both_below}
+use Rattle.cb_rank.proofs.OwnActs.{split, some_shape, counted}
+use Rattle.cb_rank.proofs.NextAct.{slice_get_right, apart_of, apart_of_shut, both_below}
 
 -- how many letters an act, and acts, put on a lane
 abbrev pub posts_of : Act → ℕ → ℕ → ℕ
@@ -25,6 +25,7 @@ posts_of (act_is.Move from to tag slot into) s t = if from == s && to == t then 
 posts_of (act_is.Work rank op) s t = 0
 posts_of (act_is.Shut from to) s t = if from == s && to == t then 1 else 0
 
+-- how many letters acts put on the lane from s to t
 abbrev pub posts : List Act → ℕ → ℕ → ℕ
 posts [] s t = 0
 posts (a ∷ acts) s t = posts_of a s t + posts acts s t
@@ -34,6 +35,7 @@ length-letter_of (act_is.Move from to tag slot into) state s t = grind (arith, n
 length-letter_of (act_is.Work rank op) state s t = refl
 length-letter_of (act_is.Shut from to) state s t = grind (arith, nat_tests)
 
+-- as many letters as that are on the lane
 pub length-letters : {M : Type 0} (ops : Algebra M) (acts : List Act) (state : State M) (s t : ℕ) → length (letters ops acts state s t) ≡ posts acts s t
 length-letters ops [] state s t = refl
 length-letters ops (a ∷ acts) state s t =
@@ -162,6 +164,7 @@ letters_length r from to n (w ∷ ws) (l ∷ ls) h = let e = letters_length r fr
 letters_length r from to n [] (l ∷ ls) h = absurd h
 letters_length r from to n (w ∷ ws) [] h = absurd h
 
+-- where a system agrees with the plan, as many letters wait on its lanes as the plan says
 pub queued_of_agrees : {M : Type 0} (ops : Algebra M) (acts : List Act) (first : State M) (now : System M) → Agrees ops acts first now → Queued acts now.done (λ s t. length (now.lane s t).queue)
 queued_of_agrees ops acts first now agrees s t ne =
     let h = agrees.lanes s t ne in

@@ -21,6 +21,7 @@ pub record OneSlot (r n : ℕ) (x : Slot Sparse) (now after : System Sparse) : T
   pub set : after.slots r n ≡ x
   pub stay : (k : ℕ) → n ≢ k → after.slots r k ≡ now.slots r k
 
+-- the lanes from other ranks stay, and those to other ranks
 pub record OtherLanesStay (from to : ℕ) (now after : System Sparse) : Type 0 where
   pub by_sender : (p q : ℕ) → p ≢ from → after.lane p q ≡ now.lane p q
   pub by_addressee : (p q : ℕ) → q ≢ to → after.lane p q ≡ now.lane p q
@@ -38,6 +39,7 @@ pub record Takes (from to : ℕ) (x : Letter Sparse) (now after : System Sparse)
   pub closed : (after.lane from to).closed ≡ (now.lane from to).closed
   pub others : OtherLanesStay from to now after
 
+-- what this half of rank r makes of a system: the letter that it posts or takes, and the slot that it sets
 abbrev pub Did : Arithmetic → ℕ → Half → System Sparse → System Sparse → Type 0
 Did s r (half_is.Post to tag slot) now after =
     (x : Letter Sparse) × (x.tag ≡ tag) × IsCopy r (now.slots r slot) x.body (now.refusals r) (after.refusals r) × Posts r to x now after × SlotsStay r now after

@@ -27,8 +27,8 @@ use Rattle.cb_plan.specs.Stores.{state_of}
 use Rattle.cb_rank.specs.Agreement.{System, Agrees}
 use Rattle.cb_rank.specs.Halves.{slot_at, slot_of_body, IsCopy, IsWork}
 use Rattle.cb_rank.specs.Ranks.{RankView, IsRank, onward}
-use Rattle.cb_rank.proofs.View.{split}
-use Rattle.cb_rank.proofs.Keeping.{posts_on, shuts_on, takes_on, ends_on, works_on}
+use Rattle.cb_rank.proofs.OwnActs.{split}
+use Rattle.cb_rank.proofs.RankAfterHalf.{posts_on, shuts_on, takes_on, ends_on, works_on}
 use Rattle.cb_world.specs.Ends.{box_in, with_lane_in, boxes_with, boxes_after}
 use Rattle.cb_world.specs.EndLaws.{same_length, box_here, box_there, lane_here, lane_by_addressee, lane_by_sender}
 use Rattle.cb_world.specs.Worlds.{WorldView, IsWorld, HasRank, HasBox, no_rank, rank_of, next_of, lane_between, system_of}

@@ -4,8 +4,8 @@ use Rattle.cb_matrix.specs.Sparse.{Sparse, IsMatrix}
 use Rattle.cb_layout.specs.Blocks.{block_of}
 use Rattle.cb_layout.specs.Distributed.{AreBlocks, glued_blocks}
 use Rattle.cb_layout.specs.Segments.{shifted}
-use Rattle.cb_layout.proofs.Gathered.{length-shifted}
-use Rattle.cb_layout.proofs.Whole.{whole_is_matrix, blocks_are_cuts}
+use Rattle.cb_layout.proofs.PlacedEntries.{length-shifted}
+use Rattle.cb_layout.proofs.BlockColumns.{whole_is_matrix, blocks_are_cuts}
 use Rattle.cb_layout.proofs.Grid.gather.Goals as goal
 
 pub loop-segment-smaller : goal.loop-segment-smaller

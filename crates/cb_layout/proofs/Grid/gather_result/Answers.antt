@@ -6,7 +6,7 @@ use Rattle.cb_matrix.specs.Sparse.{Sparse}
 use Rattle.cb_matrix.specs.Values.{empty_matrix}
 use Rattle.cb_layout.specs.Blocks.{block_at}
 use Rattle.cb_layout.specs.Vectors.{piece_start, piece_of, glued_pieces}
-use Rattle.cb_layout.proofs.Spread.{piece_fits, piece_more, pieces_all, pieces_are_cuts, some_side}
+use Rattle.cb_layout.proofs.VectorPieces.{piece_fits, piece_more, pieces_all, pieces_are_cuts, some_side}
 use Rattle.cb_layout.proofs.Grid.gather_result.Goals as goal
 
 pub append_column-requires-clause-fits : goal.append_column-requires-clause-fits

@@ -1,7 +1,7 @@
 use Rattle.std.proofs.Common.{◌+◌, ◌*◌}
 use Rattle.cb_matrix.specs.declared.Entry.{Entry}
 use Rattle.cb_layout.specs.Blocks.{block_at}
-use Rattle.cb_layout.proofs.Scattered.{scattered_none, scattered_more, scattered_all, rank_there, inside_there, order_there}
+use Rattle.cb_layout.proofs.EntriesByTile.{scattered_none, scattered_more, scattered_all, rank_there, inside_there, order_there}
 use Rattle.cb_layout.specs.Tiles.{block_tiles}
 use Rattle.cb_layout.proofs.Cuts.{block_tiling, block_is, glued_cut}
 use Rattle.cb_layout.proofs.Grid.scatter.Goals as goal

@@ -1,5 +1,5 @@
 use Rattle.std.proofs.Common.{take}
-use Rattle.cb_layout.proofs.Scattered.{IsScattered}
+use Rattle.cb_layout.proofs.EntriesByTile.{IsScattered}
 use Rattle.cb_layout.specs.Tiles.{block_tiles}
 use Rattle.cb_layout.proofs.Grid.scatter.Given as goal
 

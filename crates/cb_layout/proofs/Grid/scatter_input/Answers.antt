@@ -1,9 +1,9 @@
 use Rattle.std.proofs.Common.{◌+◌, ◌*◌}
 use Rattle.cb_matrix.specs.declared.Entry.{Entry}
 use Rattle.cb_layout.specs.Blocks.{block_at}
-use Rattle.cb_layout.proofs.Scattered.{scattered_none, scattered_more, scattered_all, rank_there, inside_there, order_there}
+use Rattle.cb_layout.proofs.EntriesByTile.{scattered_none, scattered_more, scattered_all, rank_there, inside_there, order_there}
 use Rattle.cb_layout.specs.Tiles.{input_tiles}
-use Rattle.cb_layout.proofs.Spread.{input_tiling, piece_is, glued_pieces_cut}
+use Rattle.cb_layout.proofs.VectorPieces.{input_tiling, piece_is, glued_pieces_cut}
 use Rattle.cb_layout.proofs.Grid.scatter_input.Goals as goal
 
 pub loop-entry-init : goal.loop-entry-init

@@ -2,7 +2,7 @@ use Rattle.std.proofs.Common.{◌≡◌, ℕ, ◌+◌, ◌<◌, ◌≤◌, ◌++
 use Rattle.std.proofs.lemmas.List.{take_all}
 use Rattle.cb_matrix.specs.declared.Entry.{Entry}
 use Rattle.cb_layout.specs.Segments.{shifted}
-use Rattle.cb_layout.proofs.Gathered.{shifted_none, shifted_more}
+use Rattle.cb_layout.proofs.PlacedEntries.{shifted_none, shifted_more}
 use Rattle.cb_layout.proofs.gather.append_column.Goals as goal
 
 pub loop-n-init : goal.loop-n-init

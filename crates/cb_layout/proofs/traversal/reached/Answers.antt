@@ -1,7 +1,7 @@
 use Rattle.std.proofs.Common.{◌≡◌, ℕ, ◌+◌, ◌<◌, ◌≤◌, [], get_or, ap, ◌∙◌, arith}
 use Rattle.cb_layout.specs.Segments.{entries_left}
 use Rattle.cb_layout.proofs.Fronts.{if_none}
-use Rattle.cb_layout.proofs.Remaining.{next_left, none_left}
+use Rattle.cb_layout.proofs.RemainingEntries.{next_left, none_left}
 use Rattle.cb_layout.proofs.traversal.reached.Goals as goal
 
 pub loop-column-preserved : goal.loop-column-preserved

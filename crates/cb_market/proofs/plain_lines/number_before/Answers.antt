@@ -1,5 +1,5 @@
 use Rattle.std.proofs.Common.{rules}
-use Rattle.cb_market.proofs.Plain.{short_word, short_is}
+use Rattle.cb_market.proofs.NumberLines.{short_word, short_is}
 use Rattle.cb_market.proofs.plain_lines.number_before.Goals as goal
 
 pub invariant_of-word : goal.invariant_of-word

@@ -1,4 +1,4 @@
-use Rattle.cb_market.proofs.Plain.{plain_is}
+use Rattle.cb_market.proofs.NumberLines.{plain_is}
 use Rattle.cb_market.proofs.plain_lines.plain_line.Goals as goal
 
 pub returns : goal.returns

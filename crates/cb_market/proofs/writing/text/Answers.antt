@@ -1,5 +1,5 @@
 use Rattle.std.proofs.Common.{rules, ◌≡◌}
-use Rattle.cb_market.proofs.Whole.{written}
+use Rattle.cb_market.proofs.MatrixRoundTrip.{written}
 use Rattle.cb_market.specs.Text.{text_of}
 use Rattle.cb_market.proofs.writing.text.Goals as goal
 

@@ -1,5 +1,5 @@
 use Rattle.cb_plan.specs.Algebras.{matrices}
-use Rattle.cb_plan.proofs.Running.{moved, worked}
+use Rattle.cb_plan.proofs.ActOnStores.{moved, worked}
 use Rattle.cb_plan.proofs.runs.run_act.Goals as goal
 
 pub returns-in_ok-block-in-Move-clause-none_lost : goal.returns-in_ok-block-in-Move-clause-none_lost

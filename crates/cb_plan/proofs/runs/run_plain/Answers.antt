@@ -1,5 +1,5 @@
 use Rattle.std.proofs.Common.{length, ◌<◌, arith}
-use Rattle.cb_plan.proofs.Plain.{next_is_sound, next_runs}
+use Rattle.cb_plan.proofs.RunSteps.{next_is_sound, next_runs}
 use Rattle.cb_plan.proofs.runs.run_plain.Goals as goal
 
 pub run_act-requires-clause-sound : goal.run_act-requires-clause-sound

@@ -1,7 +1,7 @@
 use Rattle.std.proofs.Common.{◌≡◌, ◌∙◌}
 use Rattle.cb_ranks.specs.Crews.{AreNew, IsCrew, desks_of}
 use Rattle.cb_ranks.proofs.Crews.{is_crew, are_new}
-use Rattle.cb_ranks.proofs.Pairing.{AreStarted, ok_both}
+use Rattle.cb_ranks.proofs.CrewSoFar.{AreStarted, ok_both}
 use Rattle.cb_ranks.proofs.crew.assemble.Goals as goal
 
 pub returns : goal.returns

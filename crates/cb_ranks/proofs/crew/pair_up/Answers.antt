@@ -1,9 +1,9 @@
 use Rattle.std.proofs.Common.{rules, ◌≡◌, ◌<◌, [], ◌∷◌, ◌++◌, length, sym, ◌∙◌, ap, subst, length-append}
 use Rattle.std.specs.Prelude.{drop, get_or}
 use Rattle.cb_rank.specs.Ranks.{FitsAt, new_rank}
-use Rattle.cb_rank.proofs.Keeping.{fits_at}
+use Rattle.cb_rank.proofs.RankAfterHalf.{fits_at}
 use Rattle.cb_ranks.specs.Crews.{desks_of}
-use Rattle.cb_ranks.proofs.Pairing.{drop_head, started_more, desks_grow, nothing_left}
+use Rattle.cb_ranks.proofs.CrewSoFar.{drop_head, started_more, desks_grow, nothing_left}
 use Rattle.cb_ranks.proofs.crew.pair_up.Goals as goal
 
 pub start-requires-clause-fits : goal.start-requires-clause-fits

@@ -1,7 +1,7 @@
 use Rattle.std.proofs.Common.{◌≡◌, ◌+◌, ◌≤◌, ◌++◌, length, vec_len, vec_capacity}
 use Rattle.std.specs.Prelude.{drop}
 use Rattle.cb_ranks.specs.Crews.{desks_of}
-use Rattle.cb_ranks.proofs.Pairing.{AreStarted}
+use Rattle.cb_ranks.proofs.CrewSoFar.{AreStarted}
 use Rattle.cb_ranks.proofs.crew.pair_up.Given as goal
 
 abbrev pub invariant-loop-store : goal.invariant-loop-store

@@ -1,7 +1,7 @@
-use Rattle.cb_rank.proofs.Wanted.{wants_shut_to}
-use Rattle.cb_ranks.proofs.Going.{is_lane, does_shut}
-use Rattle.cb_ranks.proofs.Others.{shuts_to_other}
-use Rattle.cb_ranks.proofs.Telling.{tells_shut}
+use Rattle.cb_rank.proofs.WantedHalf.{wants_shut_to}
+use Rattle.cb_ranks.proofs.HalfOverDesk.{is_lane, does_shut}
+use Rattle.cb_ranks.proofs.RanksInFaults.{shuts_to_other}
+use Rattle.cb_ranks.proofs.RecorderEvents.{tells_shut}
 use Rattle.cb_ranks.proofs.runs.close.Goals as goal
 
 pub next_post-requires : goal.next_post-requires

@@ -1,7 +1,7 @@
 use Rattle.std.proofs.Common.{sym, ◌∙◌}
-use Rattle.cb_rank.proofs.Wanted.{wants_work}
-use Rattle.cb_ranks.proofs.Going.{does_work}
-use Rattle.cb_ranks.proofs.Telling.{tells_work}
+use Rattle.cb_rank.proofs.WantedHalf.{wants_work}
+use Rattle.cb_ranks.proofs.HalfOverDesk.{does_work}
+use Rattle.cb_ranks.proofs.RecorderEvents.{tells_work}
 use Rattle.cb_ranks.proofs.runs.do_half.Goals as goal
 
 pub returns-in-Work-clause-next : goal.returns-in-Work-clause-next

@@ -1,7 +1,7 @@
-use Rattle.cb_rank.proofs.Wanted.{wants_post_to}
-use Rattle.cb_ranks.proofs.Going.{is_lane, does_post}
-use Rattle.cb_ranks.proofs.Others.{posts_to_other}
-use Rattle.cb_ranks.proofs.Telling.{tells_post}
+use Rattle.cb_rank.proofs.WantedHalf.{wants_post_to}
+use Rattle.cb_ranks.proofs.HalfOverDesk.{is_lane, does_post}
+use Rattle.cb_ranks.proofs.RanksInFaults.{posts_to_other}
+use Rattle.cb_ranks.proofs.RecorderEvents.{tells_post}
 use Rattle.cb_ranks.proofs.runs.post.Goals as goal
 
 pub next_post-requires : goal.next_post-requires

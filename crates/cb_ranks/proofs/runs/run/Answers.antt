@@ -1,8 +1,8 @@
 use Rattle.std.proofs.Common.{rules, ◌≡◌, sym, ◌∙◌}
 use Rattle.cb_rank.specs.declared.wants.Want.TheVariants as want_is
-use Rattle.cb_rank.proofs.Wanted.{wants_nothing}
-use Rattle.cb_ranks.proofs.Running.{begins, goes_on, ends}
-use Rattle.cb_ranks.proofs.Telling.{begins_told, goes_on_told, ends_told}
+use Rattle.cb_rank.proofs.WantedHalf.{wants_nothing}
+use Rattle.cb_ranks.proofs.RunSoFar.{begins, goes_on, ends}
+use Rattle.cb_ranks.proofs.RecorderEvents.{begins_told, goes_on_told, ends_told}
 use Rattle.cb_ranks.proofs.runs.run.Goals as goal
 
 pub loop-desk-init : goal.loop-desk-init

@@ -1,6 +1,6 @@
 use Rattle.std.proofs.Common.{◌-◌, length}
-use Rattle.cb_ranks.proofs.Running.{HasRun}
-use Rattle.cb_ranks.proofs.Telling.{HasTold}
+use Rattle.cb_ranks.proofs.RunSoFar.{HasRun}
+use Rattle.cb_ranks.proofs.RecorderEvents.{HasTold}
 use Rattle.cb_ranks.proofs.runs.run.Given as goal
 
 abbrev pub invariant-loop-desk : goal.invariant-loop-desk

@@ -2,8 +2,8 @@ use Rattle.std.proofs.Common.{◌≡◌, refl, subst}
 use Rattle.cb_rank.specs.Ranks.{IsAwaited, next_half, onward, slots_with}
 use Rattle.cb_rank.proofs.Ports.{waits_for}
 use Rattle.cb_lanes.specs.Desks.{Takes}
-use Rattle.cb_ranks.proofs.Going.{is_lane, does_letter, does_mark}
-use Rattle.cb_ranks.proofs.Telling.{tells_arrival}
+use Rattle.cb_ranks.proofs.HalfOverDesk.{is_lane, does_letter, does_mark}
+use Rattle.cb_ranks.proofs.RecorderEvents.{tells_arrival}
 use Rattle.cb_ranks.proofs.runs.take.Goals.{in-Letter, in-End}
 use Rattle.cb_ranks.proofs.runs.take.Goals as goal
 

@@ -1,8 +1,8 @@
 use Rattle.std.proofs.Common.{rules, ◌≡◌, length, inr}
 use Rattle.cb_ranks.specs.Crews.{Ran}
 use Rattle.cb_ranks.specs.Started.{started, started_recorder}
-use Rattle.cb_ranks.proofs.Joined.{joined_more, joined_all}
-use Rattle.cb_ranks.proofs.Telling.{told_more, told_all}
+use Rattle.cb_ranks.proofs.ThreadJoins.{joined_more, joined_all}
+use Rattle.cb_ranks.proofs.RecorderEvents.{told_more, told_all}
 use Rattle.cb_ranks.proofs.threads.join_all.Goals as goal
 
 pub loop-rank-preserved-in-Ok : goal.loop-rank-preserved-in-Ok

@@ -2,7 +2,7 @@ use Rattle.std.proofs.Common.{◌+◌, ◌≤◌, ◌++◌, map, vec_len, vec_ca
 use Rattle.std.specs.List.{AllZip}
 use Rattle.cb_ranks.specs.Crews.{Member, IsOneOf, Ran}
 use Rattle.cb_ranks.specs.Started.{started, started_recorder}
-use Rattle.cb_ranks.proofs.Telling.{Tell}
+use Rattle.cb_ranks.proofs.RecorderEvents.{Tell}
 use Rattle.cb_ranks.proofs.threads.join_all.Given as goal
 
 abbrev pub invariant-loop-rank : goal.invariant-loop-rank

@@ -3,9 +3,9 @@ use Rattle.std.proofs.lemmas.List.Elements.{length_all_zip}
 use Rattle.cb_ranks.specs.Crews.{Ran}
 use Rattle.cb_ranks.specs.Faults.{IsFaultOf}
 use Rattle.cb_ranks.proofs.Crews.{still_opening}
-use Rattle.cb_ranks.proofs.Ending.{ends_all, ends_counted}
-use Rattle.cb_ranks.proofs.Others.{is_fault_of, err_is}
-use Rattle.cb_ranks.proofs.Telling.{tells_plan}
+use Rattle.cb_ranks.proofs.JoinedCrew.{ends_all, ends_counted}
+use Rattle.cb_ranks.proofs.RanksInFaults.{is_fault_of, err_is}
+use Rattle.cb_ranks.proofs.RecorderEvents.{tells_plan}
 use Rattle.cb_ranks.proofs.threads.run_told.Goals as goal
 
 pub take_from-stores-requires-clause-room : goal.take_from-stores-requires-clause-room

@@ -1,8 +1,8 @@
 use Rattle.std.proofs.Common.{rules, length, ◌≡◌, ◌++◌, ◌∷◌, sym, ap, ◌∙◌, subst, map}
 use Rattle.cb_ranks.specs.Crews.{IsOneOf}
 use Rattle.cb_ranks.specs.Started.{started, started_recorder}
-use Rattle.cb_ranks.proofs.Others.{member_is_one}
-use Rattle.cb_ranks.proofs.Pairing.{nothing_left}
+use Rattle.cb_ranks.proofs.RanksInFaults.{member_is_one}
+use Rattle.cb_ranks.proofs.CrewSoFar.{nothing_left}
 use Rattle.cb_ranks.proofs.threads.start_all.Goals as goal
 
 pub returns-in_default-clause-missing : goal.returns-in_default-clause-missing

@@ -1,5 +1,5 @@
 use Rattle.std.proofs.Common.{rules, ◌≡◌, true}
-use Rattle.cb_ranks.proofs.Tracing.{has_program}
+use Rattle.cb_ranks.proofs.TracedLogs.{has_program}
 use Rattle.cb_ranks.proofs.traced.run_traced.Goals as goal
 
 pub returns-clause-trace : goal.returns-clause-trace

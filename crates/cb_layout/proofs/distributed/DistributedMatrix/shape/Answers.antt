@@ -1,7 +1,7 @@
 use Rattle.std.proofs.Common.{subst}
 use Rattle.cb_matrix.specs.Sparse.{IsMatrix}
 use Rattle.cb_layout.specs.Distributed.{Distributed}
-use Rattle.cb_layout.proofs.Whole.{whole_is_matrix}
+use Rattle.cb_layout.proofs.BlockColumns.{whole_is_matrix}
 use Rattle.cb_layout.proofs.distributed.DistributedMatrix.shape.Goals as goal
 
 pub returns-clause-matrix : goal.returns-clause-matrix

@@ -1,4 +1,4 @@
-use Rattle.cb_layout.proofs.Remaining.{all_left}
+use Rattle.cb_layout.proofs.RemainingEntries.{all_left}
 use Rattle.cb_layout.proofs.traversal.Segments.new.Goals as goal
 
 pub returns : goal.returns

@@ -12,8 +12,8 @@ use Rattle.cb_layout.specs.Fronts.{IsLeast, columns_in}
 use Rattle.cb_layout.specs.Segments.{entries_left}
 use Rattle.cb_layout.proofs.Parts.{rank_below}
 use Rattle.cb_layout.proofs.Fronts.{least_row, least_known, least_is, are_next}
-use Rattle.cb_layout.proofs.Whole.{column_inside, rows_inside, column_is, some_in}
-use Rattle.cb_layout.proofs.Remaining.{stepped_left}
+use Rattle.cb_layout.proofs.BlockColumns.{column_inside, rows_inside, column_is, some_in}
+use Rattle.cb_layout.proofs.RemainingEntries.{stepped_left}
 use Rattle.cb_layout.proofs.traversal.Segments.next_segment.Goals as goal
 
 pub overflow_add-column : goal.overflow_add-column

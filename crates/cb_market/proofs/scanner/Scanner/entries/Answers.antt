@@ -3,7 +3,7 @@ use Rattle.cb_market.specs.Lines.{lines}
 use Rattle.cb_market.specs.Checks.{given_by}
 use Rattle.cb_market.specs.Faults.{IsNextEntry}
 use Rattle.cb_market.proofs.NextEntries.{next_extra, next_refused, next_memory, next_passed, next_gives, at_ok}
-use Rattle.cb_market.proofs.Faulted.{missing, complete, at_end}
+use Rattle.cb_market.proofs.LineFaults.{missing, complete, at_end}
 use Rattle.cb_market.proofs.scanner.Scanner.entries.Goals as goal
 
 pub returns-then-left-eq0-clause-fault : goal.returns-then-left-eq0-clause-fault

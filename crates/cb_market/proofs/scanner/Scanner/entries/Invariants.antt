@@ -1,7 +1,7 @@
 use Rattle.std.proofs.Common.{length, ◌≡◌, ◌+◌, ◌++◌, ◌<◌, ◌≤◌, ◌^◌}
 use Rattle.cb_market.specs.Lines.{kept_from, lines}
 use Rattle.cb_market.specs.Faults.{given}
-use Rattle.cb_market.proofs.Faulted.{SameFault}
+use Rattle.cb_market.proofs.LineFaults.{SameFault}
 use Rattle.cb_market.proofs.scanner.Scanner.entries.Given as goal
 
 abbrev pub invariant-loop-line : goal.invariant-loop-line

@@ -4,7 +4,7 @@ use Rattle.cb_matrix.specs.Sparse.{IsInside}
 use Rattle.cb_market.specs.Lines.{lines, kept_from}
 use Rattle.cb_market.specs.Cursor.{after_line}
 use Rattle.cb_market.specs.Faults.{given}
-use Rattle.cb_market.proofs.Faulted.{no_room, kept_numbers}
+use Rattle.cb_market.proofs.LineFaults.{no_room, kept_numbers}
 use Rattle.cb_market.proofs.Bodies.{entries_values, entries_inside, added}
 use Rattle.cb_market.proofs.scanner.Scanner.matrix.Goals as goal
 

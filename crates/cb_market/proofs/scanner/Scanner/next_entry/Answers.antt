@@ -1,7 +1,7 @@
 use Rattle.std.proofs.Common.{◌∷◌, ◌∙◌}
 use Rattle.cb_market.specs.Lines.{words}
 use Rattle.cb_market.specs.Cursor.{line_at}
-use Rattle.cb_market.proofs.Plain.{next_by_words, entry_found}
+use Rattle.cb_market.proofs.NumberLines.{next_by_words, entry_found}
 use Rattle.cb_market.proofs.scanner.Scanner.next_entry.Goals as goal
 
 pub returns-clause-some : goal.returns-clause-some

@@ -1,7 +1,7 @@
 use Rattle.std.proofs.Common.{rules, [], ◌∷◌, subst}
 use Rattle.cb_market.specs.declared.header.Field.TheVariants.{Integer}
 use Rattle.cb_market.specs.Faults.{IsEntryOf}
-use Rattle.cb_market.proofs.Plain.{plain_lines, plain_next, entry_found, integer_header}
+use Rattle.cb_market.proofs.NumberLines.{plain_lines, plain_next, entry_found, integer_header}
 use Rattle.cb_market.proofs.scanner.Scanner.plain_entry.Goals as goal
 
 pub overflow_add-self : goal.overflow_add-self

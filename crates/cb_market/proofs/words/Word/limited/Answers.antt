@@ -1,5 +1,5 @@
 use Rattle.std.proofs.Common.{arith, ◌∙◌}
-use Rattle.cb_market.proofs.Written.{limited_whole, limited_none}
+use Rattle.cb_market.proofs.WordNumbers.{limited_whole, limited_none}
 use Rattle.cb_market.proofs.words.Word.limited.Goals as goal
 
 pub returns-in-Whole : goal.returns-in-Whole

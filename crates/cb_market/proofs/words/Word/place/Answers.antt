@@ -1,5 +1,5 @@
 use Rattle.std.proofs.Common.{arith, ◌∙◌}
-use Rattle.cb_market.proofs.Written.{place_whole, place_none}
+use Rattle.cb_market.proofs.WordNumbers.{place_whole, place_none}
 use Rattle.cb_market.proofs.words.Word.place.Goals as goal
 
 pub returns-in-Whole : goal.returns-in-Whole

@@ -1,5 +1,5 @@
 use Rattle.std.proofs.Common.{◌∙◌, ap}
-use Rattle.cb_market.proofs.Written.{value_whole, value_none}
+use Rattle.cb_market.proofs.WordNumbers.{value_whole, value_none}
 use Rattle.cb_market.proofs.words.Word.value.Goals as goal
 
 pub returns-in-Whole : goal.returns-in-Whole

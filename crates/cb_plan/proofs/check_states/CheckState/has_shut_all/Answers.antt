@@ -2,7 +2,7 @@ use Rattle.std.proofs.Common.{◌≡◌, true, ℕ, Bool, ◌∙◌, sym, ap, ar
 use Rattle.std.specs.Prelude.{◌==◌, ◌||◌}
 use Rattle.std.proofs.lemmas.Bool.Decides.{nat_tests}
 use Rattle.cb_plan.specs.Checks.{CheckState, lanes_in}
-use Rattle.cb_plan.proofs.Holds.{next_holds}
+use Rattle.cb_plan.proofs.AllOfRange.{next_holds}
 use Rattle.cb_plan.proofs.check_states.CheckState.has_shut_all.Goals as goal
 
 pub loop-to-preserved : goal.loop-to-preserved

@@ -3,7 +3,7 @@ use Rattle.std.specs.Prelude.{◌==◌, ◌||◌}
 use Rattle.std.specs.List.{range_with_len}
 use Rattle.std.proofs.lemmas.Bool.Decides.{nat_tests}
 use Rattle.cb_plan.specs.Checks.{CheckState, lanes_in, all_hold}
-use Rattle.cb_plan.proofs.Holds.{next_holds, one_fails}
+use Rattle.cb_plan.proofs.AllOfRange.{next_holds, one_fails}
 use Rattle.cb_plan.proofs.check_states.CheckState.is_all_shut.Goals as goal
 
 pub returns-then-not-has_shut_all : goal.returns-then-not-has_shut_all

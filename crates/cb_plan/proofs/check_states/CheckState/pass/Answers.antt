@@ -1,4 +1,4 @@
-use Rattle.cb_plan.proofs.Sound.{move_is_done, work_is_done, shape_is_made}
+use Rattle.cb_plan.proofs.SoundActs.{move_is_done, work_is_done, shape_is_made}
 use Rattle.cb_plan.proofs.check_states.CheckState.pass.Goals as goal
 
 pub returns-in-Move : goal.returns-in-Move

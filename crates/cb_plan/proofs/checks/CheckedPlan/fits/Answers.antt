@@ -1,6 +1,6 @@
 use Rattle.std.proofs.Common.{◌∙◌, sym, arith}
 use Rattle.std.proofs.lemmas.Bool.Decides.{nat_tests}
-use Rattle.cb_plan.proofs.Fitting.{fits_then, fits_else}
+use Rattle.cb_plan.proofs.FittingStores.{fits_then, fits_else}
 use Rattle.cb_plan.proofs.checks.CheckedPlan.fits.Goals as goal
 
 pub returns-then-all_stand : goal.returns-then-all_stand

@@ -1,5 +1,5 @@
 use Rattle.std.proofs.Common.{length, ◌<◌, arith}
-use Rattle.cb_plan.proofs.Projected.{act_is_sound, next_projects}
+use Rattle.cb_plan.proofs.ProjectionSteps.{act_is_sound, next_projects}
 use Rattle.cb_plan.proofs.checks.CheckedPlan.project.Goals as goal
 
 pub half_of-requires : goal.half_of-requires

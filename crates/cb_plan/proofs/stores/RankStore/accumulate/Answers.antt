@@ -1,5 +1,5 @@
 use Rattle.std.proofs.Common.{◌∙◌, sym}
-use Rattle.cb_plan.proofs.Worked.{accumulated, put_back}
+use Rattle.cb_plan.proofs.SumInPlace.{accumulated, put_back}
 use Rattle.cb_plan.proofs.stores.RankStore.accumulate.Goals as goal
 
 pub returns-in-Ok-clause-ok : goal.returns-in-Ok-clause-ok

@@ -3,7 +3,7 @@ use Rattle.std.proofs.lemmas.List.Elements.{All-nil}
 use Rattle.std.proofs.lemmas.Result.{on_ok_weaker}
 use Rattle.cb_product.proofs.RowValues.{one_value-value}
 use Rattle.cb_product.proofs.ColumnSoFar.{so_far_start, so_far_more}
-use Rattle.cb_product.proofs.Joined.{left_value, own_is, other_is, first_next, other_next, both_next, joined_all}
+use Rattle.cb_product.proofs.ScaledSum.{left_value, own_is, other_is, first_next, other_next, both_next, joined_all}
 use Rattle.cb_product.proofs.columns.Column.join.Goals as goal
 
 pub loop-x-init : goal.loop-x-init

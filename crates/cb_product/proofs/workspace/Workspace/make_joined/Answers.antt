@@ -5,7 +5,7 @@ use Rattle.cb_dcsc.specs.Columns.{rows_of, values_of}
 use Rattle.cb_dcsc.proofs.Lookup.{all_values}
 use Rattle.cb_product.specs.Terms.{IsTerm, terms_value}
 use Rattle.cb_product.proofs.ColumnSoFar.{so_far_more, so_far_all}
-use Rattle.cb_product.proofs.Joined.{joined_start}
+use Rattle.cb_product.proofs.ScaledSum.{joined_start}
 use Rattle.cb_product.proofs.TermSums.{matrix_values, term_value-value, terms_value-value, terms_value-rest, terms_value-end}
 use Rattle.cb_product.proofs.workspace.Workspace.make_joined.Goals as goal
 

@@ -1,5 +1,5 @@
 use Rattle.std.proofs.Common.{sym, ◌∙◌}
-use Rattle.cb_rank.proofs.Keeping.{slot_exists, accepts_on}
+use Rattle.cb_rank.proofs.RankAfterHalf.{slot_exists, accepts_on}
 use Rattle.cb_rank.proofs.ranks.Rank.accept.Goals as goal
 
 pub fill-requires-clause-inside : goal.fill-requires-clause-inside

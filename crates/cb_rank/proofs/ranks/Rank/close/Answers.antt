@@ -3,7 +3,7 @@ use Rattle.cb_letters.specs.Letters.{mark_tag}
 use Rattle.cb_letters.specs.Standing.{standing_refusal, next_letter}
 use Rattle.cb_letters.specs.declared.Body.TheVariants as body_is
 use Rattle.cb_rank.specs.Ranks.{ArePortsOf}
-use Rattle.cb_rank.proofs.Wanted.{wants_shut_to}
+use Rattle.cb_rank.proofs.WantedHalf.{wants_shut_to}
 use Rattle.cb_rank.proofs.Ports.{opens_shut, ports_stay, ports_shut}
 use Rattle.cb_rank.proofs.ranks.Rank.close.Goals as goal
 

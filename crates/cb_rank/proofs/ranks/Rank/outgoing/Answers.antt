@@ -1,8 +1,8 @@
 use Rattle.std.proofs.Common.{Some, sym, ◌∙◌, ap, arith}
 use Rattle.cb_plan.specs.declared.acts.Half.TheVariants as half_is
 use Rattle.cb_rank.specs.Ranks.{RankView}
-use Rattle.cb_rank.proofs.Next.{finds}
-use Rattle.cb_rank.proofs.Keeping.{posts_on, filled_slot, bool_few, hands_of}
+use Rattle.cb_rank.proofs.NextAct.{finds}
+use Rattle.cb_rank.proofs.RankAfterHalf.{posts_on, filled_slot, bool_few, hands_of}
 use Rattle.cb_rank.proofs.ranks.Rank.outgoing.Goals as goal
 
 pub copy_of-body-requires-clause-inside : goal.copy_of-body-requires-clause-inside

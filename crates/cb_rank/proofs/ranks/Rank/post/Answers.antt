@@ -1,8 +1,8 @@
 use Rattle.std.proofs.Common.{◌≡◌, None, refl, sym, ◌∙◌, ap, subst, inl}
 use Rattle.cb_letters.specs.Standing.{standing_refusal, next_letter}
 use Rattle.cb_rank.specs.Ranks.{ArePortsOf}
-use Rattle.cb_rank.proofs.Wanted.{wants_post_to}
-use Rattle.cb_rank.proofs.Keeping.{copy_is_open}
+use Rattle.cb_rank.proofs.WantedHalf.{wants_post_to}
+use Rattle.cb_rank.proofs.RankAfterHalf.{copy_is_open}
 use Rattle.cb_rank.proofs.Ports.{opens_post, ports_stay, ports_post}
 use Rattle.cb_rank.proofs.ranks.Rank.post.Goals as goal
 

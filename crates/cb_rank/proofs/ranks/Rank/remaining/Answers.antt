@@ -1,5 +1,5 @@
 use Rattle.std.proofs.Common.{arith}
-use Rattle.cb_rank.proofs.Keeping.{few_halves}
+use Rattle.cb_rank.proofs.RankAfterHalf.{few_halves}
 use Rattle.cb_rank.proofs.ranks.Rank.remaining.Goals as goal
 
 pub returns-clause-few : goal.returns-clause-few

@@ -1,5 +1,5 @@
-use Rattle.cb_rank.proofs.Wanted.{wants_shut}
-use Rattle.cb_rank.proofs.Keeping.{shuts_on}
+use Rattle.cb_rank.proofs.WantedHalf.{wants_shut}
+use Rattle.cb_rank.proofs.RankAfterHalf.{shuts_on}
 use Rattle.cb_rank.proofs.ranks.Rank.shut.Goals as goal
 
 pub invariant_of-self : goal.invariant_of-self

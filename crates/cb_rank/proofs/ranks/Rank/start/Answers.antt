@@ -1,4 +1,4 @@
-use Rattle.cb_rank.proofs.Keeping.{starts_as}
+use Rattle.cb_rank.proofs.RankAfterHalf.{starts_as}
 use Rattle.cb_rank.proofs.ranks.Rank.start.Goals as goal
 
 pub invariant_of-result : goal.invariant_of-result

@@ -3,7 +3,7 @@ use Rattle.cb_plan.specs.declared.acts.Half.TheVariants as half_is
 use Rattle.std.specs.Prelude.{slice_set}
 use Rattle.cb_plan.specs.Meaning.{target_of}
 use Rattle.cb_rank.specs.Ranks.{ArePortsOf}
-use Rattle.cb_rank.proofs.Wanted.{wants_work}
+use Rattle.cb_rank.proofs.WantedHalf.{wants_work}
 use Rattle.cb_rank.proofs.Ports.{ports_quiet}
 use Rattle.cb_rank.proofs.ranks.Rank.step.Goals as goal
 

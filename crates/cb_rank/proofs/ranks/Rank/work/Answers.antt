@@ -1,7 +1,7 @@
 use Rattle.std.proofs.Common.{Some, sym, ◌∙◌, ap}
 use Rattle.cb_plan.specs.declared.acts.Half.TheVariants as half_is
-use Rattle.cb_rank.proofs.Next.{finds}
-use Rattle.cb_rank.proofs.Keeping.{works_of}
+use Rattle.cb_rank.proofs.NextAct.{finds}
+use Rattle.cb_rank.proofs.RankAfterHalf.{works_of}
 use Rattle.cb_rank.proofs.ranks.Rank.work.Goals as goal
 
 pub operate-refused-requires-clause-slots : goal.operate-refused-requires-clause-slots

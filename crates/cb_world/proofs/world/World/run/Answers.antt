@@ -1,7 +1,7 @@
 -- One event more is run.
 use Rattle.std.proofs.Common.{take, get_or, sym, subst}
 use Rattle.std.proofs.lemmas.Option.{slice_get-get_or}
-use Rattle.cb_rank.proofs.Standing.{take-next}
+use Rattle.cb_rank.proofs.LanesByHalves.{take-next}
 use Rattle.cb_world.specs.declared.events.Event.{Event}
 use Rattle.cb_world.specs.declared.events.Event.TheVariants.{Step}
 use Rattle.cb_world.specs.Steps.{RunsBy}

@@ -25,19 +25,19 @@ use Rattle.cb_plan.specs.declared.acts.Start.{Start}
 use Rattle.cb_plan.specs.Checks.{Lanes, Passes, all_filled, none_shut, operands_of, shapes_agree, shut_after, started}
 use Rattle.cb_plan.specs.Plans.{CheckedView, IsChecked}
 use Rattle.cb_plan.specs.Programs.{halves_of, project_from}
-use Rattle.cb_plan.proofs.Passing.{checked_passes}
+use Rattle.cb_plan.proofs.PassingActs.{checked_passes}
 use Rattle.cb_plan.specs.Meaning.{State, act, one, two, three, needs_memory, result_of, target_of}
 use Rattle.cb_plan.specs.Stores.{Fits, sheet_of, sheets_in, shapes_in, slot_of, is_filled, is_lost}
-use Rattle.cb_plan.proofs.Running.{first_below}
-use Rattle.cb_plan.proofs.Measured.{shape_turns, act_turns}
+use Rattle.cb_plan.proofs.ActOnStores.{first_below}
+use Rattle.cb_plan.proofs.ShapesOfMeaning.{shape_turns, act_turns}
 use Rattle.cb_rank.specs.Halves.{slot_at, asks_memory, is_whole, first_lost, reads_of, loss_or_result, work_result, origin_of, IsCopy, IsWork, slot_of_body, HasKind}
 use Rattle.cb_rank.specs.declared.wants.Arrival.{Arrival}
 use Rattle.cb_rank.specs.declared.wants.Arrival.TheVariants as arrival_is
 use Rattle.cb_rank.specs.Ranks.{RankView, IsRank, HasShape, FitsAt, HasSlot, IsAwaited, next_half, new_rank, onward, shapes_at, slots_with}
 use Rattle.cb_rank.specs.Steps.{HandsOut, Works}
-use Rattle.cb_rank.proofs.View.{split, counted, one_half, meaning-before_next}
+use Rattle.cb_rank.proofs.OwnActs.{split, counted, one_half, meaning-before_next}
 use Rattle.cb_rank.proofs.Halves.{is_post, is_take, is_work, is_shut, is_end}
-use Rattle.cb_rank.proofs.Next.{next_one, outline, shapes_next, finds}
+use Rattle.cb_rank.proofs.NextAct.{next_one, outline, shapes_next, finds}
 
 -- the slots have the shapes that an act leaves at this rank
 abbrev pub HaveShapes : RankView → State Extent → Act → List (Slot Sparse) → Type 0
@@ -342,6 +342,7 @@ copy_is_open me slot_is.Empty body_is.Close old new c = absurd c
 copy_is_open me (slot_is.Sheet m) body_is.Close old new c = absurd c
 copy_is_open me (slot_is.Lost o) body_is.Close old new c = absurd c
 
+-- a truth value is, as a number, at most one
 pub bool_few : (b : Bool) → from_bool b ≤ 1
 bool_few true = omega arith
 bool_few false = omega arith

@@ -14,10 +14,10 @@ use Rattle.cb_plan.specs.Checks.{IsSound, Passes, Lanes, shut_after, lanes_after
 use Rattle.cb_plan.specs.Letters.{count_of, before, next_act}
 use Rattle.cb_plan.specs.Meaning.{State, act, meaning, target_of}
 use Rattle.cb_plan.specs.Programs.{halves_of, project_from}
-use Rattle.cb_plan.proofs.Passing.{checked_passes}
-use Rattle.cb_plan.proofs.Running.{first_below}
+use Rattle.cb_plan.proofs.PassingActs.{checked_passes}
+use Rattle.cb_plan.proofs.ActOnStores.{first_below}
 use Rattle.cb_rank.specs.Ranks.{RankView, IsRank, next_half, shapes_at}
-use Rattle.cb_rank.proofs.View.{split, counted, one_half, meaning-next}
+use Rattle.cb_rank.proofs.OwnActs.{split, counted, one_half, meaning-next}
 use Rattle.cb_rank.proofs.Halves.{is_post, is_take, is_work, is_shut, is_end}
 
 -- an element past the first of two lists is one of the second

@@ -13,7 +13,7 @@ use Rattle.cb_plan.specs.Checks.{none_shut, lanes_after}
 use Rattle.cb_plan.specs.Letters.{before}
 use Rattle.cb_rank.specs.Halves.{Course, DoesHalf, RunsTo}
 use Rattle.cb_rank.specs.Ranks.{RankView, IsRank, next_half, onward}
-use Rattle.cb_rank.proofs.Standing.{take-next}
+use Rattle.cb_rank.proofs.LanesByHalves.{take-next}
 use Rattle.cb_ranks.specs.Runs.{course_of, IsNewRun, Runs}
 use Rattle.cb_ranks.specs.UnderWay.{IsUnderWay, DoesNext}
 use Rattle.cb_ranks.proofs.Crews.{none_taken}

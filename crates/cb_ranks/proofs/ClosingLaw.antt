@@ -13,8 +13,8 @@ use Rattle.cb_plan.specs.Meaning.{State, act, images, meaning, one}
 use Rattle.cb_plan.specs.Programs.{halves_of, project_from}
 use Rattle.cb_plan.specs.Stores.{state_of}
 use Rattle.cb_plan.proofs.Effects.{same_state}
-use Rattle.cb_plan.proofs.Measured.{act_turns, shape_turns}
-use Rattle.cb_plan.proofs.Passing.{checked_passes}
+use Rattle.cb_plan.proofs.ShapesOfMeaning.{act_turns, shape_turns}
+use Rattle.cb_plan.proofs.PassingActs.{checked_passes}
 use Rattle.cb_plan.specs.declared.stores.Slot.{Slot}
 use Rattle.cb_plan.specs.Plans.{CheckedView, IsChecked}
 use Rattle.cb_plan.specs.Programs.{project}

@@ -21,8 +21,8 @@ use Rattle.cb_rank.specs.declared.wants.Arrival.{Arrival}
 use Rattle.cb_rank.specs.declared.wants.Arrival.TheVariants as arrival_is
 use Rattle.cb_rank.specs.Ranks.{RankView, next_half, IsAwaited}
 use Rattle.cb_rank.specs.Steps.{HandsOut}
-use Rattle.cb_rank.proofs.Wanted.{wants_take, wants_end}
-use Rattle.cb_rank.proofs.View.{split}
+use Rattle.cb_rank.proofs.WantedHalf.{wants_take, wants_end}
+use Rattle.cb_rank.proofs.OwnActs.{split}
 use Rattle.cb_trace.specs.declared.events.Envelope.{Envelope}
 use Rattle.cb_trace.specs.declared.events.TraceEvent.{TraceEvent}
 use Rattle.cb_trace.specs.declared.events.TraceEvent.TheVariants.{Posted, Took, Closed, Ended}
@@ -32,8 +32,8 @@ use Rattle.cb_ranks.specs.Traced.{lengths, one_more, events_after, program_event
 use Rattle.cb_ranks.specs.Crews.{Member, IsCrew}
 use Rattle.cb_ranks.specs.Told.{HaveTold, HaveToldPlan}
 use Rattle.cb_ranks.proofs.Crews.{none_posted, none_taken}
-use Rattle.cb_ranks.proofs.Going.{WaitsOn}
-use Rattle.cb_ranks.proofs.Running.{HasRun, none_past}
+use Rattle.cb_ranks.proofs.HalfOverDesk.{WaitsOn}
+use Rattle.cb_ranks.proofs.RunSoFar.{HasRun, none_past}
 
 -- what is left of a list where this is its next element
 pub drop-next : {X : Type 0} (xs : List X) (k : ℕ) (x : X) → slice_get xs k ≡ Some x → drop k xs ≡ x ∷ drop (k + 1) xs

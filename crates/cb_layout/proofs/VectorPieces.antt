@@ -18,9 +18,9 @@ use Rattle.cb_layout.specs.Tiles.{input_tiles, result_tiles, IsGathered, before_
 use Rattle.cb_layout.specs.Segments.{shifted}
 use Rattle.cb_layout.proofs.Parts.{row_of_rank, column_of_rank, rank_below, rank_of, row_below, part_below, start_there, place_below, own_below, own_part}
 use Rattle.cb_layout.proofs.Tiles.{IsTiling}
-use Rattle.cb_layout.proofs.Glued.{tile_is_cut}
-use Rattle.cb_layout.proofs.Scattered.{IsScattered, tile_is}
-use Rattle.cb_layout.proofs.Gathered.{placed_column, gathered_none, gathered_more, gathered_same, gathered_all}
+use Rattle.cb_layout.proofs.GluedTiles.{tile_is_cut}
+use Rattle.cb_layout.proofs.EntriesByTile.{IsScattered, tile_is}
+use Rattle.cb_layout.proofs.PlacedEntries.{placed_column, gathered_none, gathered_more, gathered_same, gathered_all}
 use Rattle.std.proofs.lemmas.Nat.{mod_below}
 
 module _ (q d : ℕ) (pos : 0 < q) where
@@ -142,11 +142,13 @@ module _ (s : Arithmetic) (q : ℕ) (pos : 0 < q) (shape : Extent) (one : shape.
     es_inside : All (IsInside (piece_shape q shape (r / q) (r % q))) es
     es_inside = subst (λ size. All (IsInside size) es) own_shape is_matrix.inside
 
+    -- the rows of a rank's piece, counted from the piece's start, are rows of the vector
     pub piece_fits : All (λ x. piece_start q shape.rows (r / q) (r % q) + x < shape.rows) (rows_of es)
     piece_fits =
         All-map (λ x. piece_start q shape.rows (r / q) (r % q) + x < shape.rows) (λ (e : Entry). e.row) es
         (All-weaker (IsInside (piece_shape q shape (r / q) (r % q))) (λ e. piece_start q shape.rows (r / q) (r % q) + e.row < shape.rows) (λ e k. own_row q shape.rows pos (r / q) (r % q) e.row k.0) es es_inside)
 
+    -- with the entries of one piece more, those of all ranks up to its own are gathered
     pub piece_more : (out new : List Entry) (start : ℕ) → start ≡ piece_start q shape.rows (r / q) (r % q)
         → new ≡ out ++ shifted start 0 (rows_of es) (values_of es)
         → IsGathered s shape (result_tiles q shape) (before_rank blocks r) out → IsGathered s shape (result_tiles q shape) (before_rank blocks (r + 1)) new
@@ -168,6 +170,7 @@ module _ (s : Arithmetic) (q : ℕ) (pos : 0 < q) (shape : Extent) (one : shape.
       ∙ (λ n. matrix_of s (piece_shape q shape (row_of_rank q i t k n) (column_of_rank q i t k n)) (λ x y. at s m (piece_start q shape.rows (row_of_rank q i t k n) (column_of_rank q i t k n) + x) (0 + y)))
       ∙ same_cut s q m i t
 
+  -- the entries of all pieces make the vector that the pieces glue to
   pub pieces_all : IsSemiring s → (out : List Entry) (n : ℕ) → n ≡ q * q → IsGathered s shape (result_tiles q shape) (before_rank blocks n) out → collected s shape out ≡ glued_pieces s q shape (λ i t. block_at blocks (i * q + t))
   pieces_all laws out n e h =
       gathered_all s laws shape (result_tiles q shape) (result_tiling q shape pos) (block_at blocks) (λ r l. matrices r (rw count l)) out

@@ -13,7 +13,7 @@ use Rattle.cb_plan.specs.Plans.{CheckedView, IsChecked, IsElsewhere}
 use Rattle.cb_plan.specs.Stores.{Fits, sheet_of, shapes_of, is_lost, is_filled, is_shape, stands, all_stand, count_filled, NoneLost}
 use Rattle.cb_plan.specs.Tables.{IsTable, cell, cell_set}
 use Rattle.cb_plan.proofs.Cells.{cell_after_set, set_is_table}
-use Rattle.cb_plan.proofs.Counted.{count_emptied, none_filled, all_empty}
+use Rattle.cb_plan.proofs.SlotCounts.{count_emptied, none_filled, all_empty}
 use Rattle.cb_plan.proofs.Effects.{split, same_state}
 
 pairs_head : {X : Type 0} (R : X → X → Type 0) (x : X) (xs : List X) → AllPairs R (x ∷ xs) → All (R x) xs

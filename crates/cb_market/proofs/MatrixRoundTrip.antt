@@ -17,7 +17,7 @@ use Rattle.cb_market.specs.Text.{text_of, header_line, size_line, number_line, e
 use Rattle.cb_market.proofs.Cursor.{kept_here, kept_none}
 use Rattle.cb_market.proofs.Decimals.{number_decimal, numbers_words, numbers_after, AllSmall}
 use Rattle.cb_market.specs.Reads.{Reads}
-use Rattle.cb_market.proofs.Again.{own_entries, entry_again, same_again, plain_header, entry_words, Fits}
+use Rattle.cb_market.proofs.EntryRoundTrip.{own_entries, entry_again, same_again, plain_header, entry_words, Fits}
 use Rattle.cb_market.proofs.Bodies.{first_step, matrix_step, body_is, IsText}
 use Rattle.cb_market.proofs.Law.{text_says}
 

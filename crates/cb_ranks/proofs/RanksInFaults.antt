@@ -8,8 +8,8 @@ use Rattle.cb_plan.specs.declared.stores.Slot.{Slot}
 use Rattle.cb_plan.specs.Plans.{CheckedView}
 use Rattle.cb_rank.specs.declared.wants.Want.TheVariants as want_is
 use Rattle.cb_rank.specs.Ranks.{RankView, IsRank, want_of, next_half}
-use Rattle.cb_rank.proofs.Next.{finds}
-use Rattle.cb_rank.proofs.Wanted.{wants_post_to, wants_shut_to}
+use Rattle.cb_rank.proofs.NextAct.{finds}
+use Rattle.cb_rank.proofs.WantedHalf.{wants_post_to, wants_shut_to}
 use Rattle.cb_ranks.specs.Crews.{Member, IsOneOf, IsCrew}
 use Rattle.cb_ranks.specs.declared.faults.RunFault.{RunFault}
 use Rattle.cb_ranks.specs.declared.faults.RunFault.TheVariants as fault_is

@@ -15,7 +15,7 @@ use Rattle.cb_plan.specs.Letters.{count_of, before}
 use Rattle.cb_plan.specs.Meaning.{State, act}
 use Rattle.cb_plan.specs.Programs.{take_of, halves_of, project_from}
 use Rattle.cb_rank.specs.Ranks.{posted_to, is_shut_to, standing_by}
-use Rattle.cb_rank.proofs.View.{split, counted, one_half}
+use Rattle.cb_rank.proofs.OwnActs.{split, counted, one_half}
 
 -- letters posted by two lists of halves
 pub posted_to-append : (k : ℕ) (xs ys : List Half) → posted_to k (xs ++ ys) ≡ posted_to k xs + posted_to k ys

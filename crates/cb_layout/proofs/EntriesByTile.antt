@@ -21,6 +21,7 @@ pub record IsScattered (t : Tiles) (es : List Entry) (blocks : List Sparse) : Ty
   pub count : length blocks ≡ t.count
   pub tiles : (r : ℕ) → r < t.count → block_at blocks r ≡ tile_of t es r
 
+-- blocks without entries have those of their tiles as long as no entry is taken
 pub scattered_none : (t : Tiles) (blocks : List Sparse) → blocks ≡ map (λ r. empty_matrix (t.size r)) (range_with_len 0 t.count) → IsScattered t [] blocks
 scattered_none t blocks h = record {
   count = ap length h ∙ length-map-range_with_len (λ r. empty_matrix (t.size r)) 0 t.count;
@@ -44,6 +45,7 @@ module _ (shape : Extent) (t : Tiles) (is : IsTiling shape t) (all : List Entry)
       let same : get_or (take k all) i d ≡ get_or all i x = get_or-take k all i d n ∙ get_or_default all i d x (omega arith) in
       subst (λ y. IsBefore y e) (sym same) (ascending i k x n l)
 
+  -- there is a block for the tile of the next entry
   pub rank_there : owner_of t e < length blocks
   rank_there = let c = so_far.count in let o = is.owned e.row e.column here.0 here.1 in rw c o
 
@@ -53,12 +55,15 @@ module _ (shape : Extent) (t : Tiles) (is : IsTiling shape t) (all : List Entry)
   block_is : block ≡ tile_of t (take k all) (owner_of t e)
   block_is = so_far.tiles (owner_of t e) (is.owned e.row e.column here.0 here.1)
 
+  -- at its place in its tile the next entry is inside that block
   pub inside_there : IsInside block.shape (moved t e)
   inside_there = subst (λ (m : Sparse). IsInside m.shape (moved t e)) (sym block_is) (moved_inside shape t is (owner_of t e) e here refl)
 
+  -- each entry that the block has so far comes before it
   pub order_there : All (λ d. IsBefore d (moved t e)) block.entries
   order_there = subst (λ (m : Sparse). All (λ d. IsBefore d (moved t e)) m.entries) (sym block_is) (tile_before shape t is (owner_of t e) (take k all) e (All-take (IsInside shape) k all inside) before here refl)
 
+  -- with the next entry added to its block, the blocks have the entries of their tiles among one entry more
   pub scattered_more : (new : List Sparse) → new ≡ set blocks (owner_of t e) (with_entry block (moved t e)) → IsScattered t (take (k + 1) all) new
   scattered_more new h = record {
     count = ap length h ∙ length-set blocks (owner_of t e) (with_entry block (moved t e)) ∙ so_far.count;

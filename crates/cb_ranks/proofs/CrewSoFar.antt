@@ -1,4 +1,4 @@
--- Pairing stores and desks, one after the other.
+-- A crew so far: stores and desks that are paired one after the other.
 use Rattle.std.proofs.Common.{◌≡◌, ℕ, zero, suc, ◌+◌, ◌<◌, ◌≤◌, List, [], ◌∷◌, ◌++◌, length, refl, sym, ◌∙◌, ap, subst, arith, length-append, append-nil, ⊎_elim}
 use Rattle.std.specs.Prelude.{get_or, drop, Result, Ok, Err, IfOk}
 use Rattle.std.proofs.lemmas.Bool.{cases_lt}

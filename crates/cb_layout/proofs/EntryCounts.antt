@@ -15,6 +15,7 @@ use Rattle.cb_layout.proofs.Tiles.{owner_of, entries_of}
 abbrev pub before : Tiles → ℕ → List Entry → List Entry
 before t n es = filter (λ e. nat_lt (owner_of t e) n) es
 
+-- there are no entries in the tiles below the first
 pub before_none : (t : Tiles) (es : List Entry) → length (before t 0 es) ≡ 0
 before_none t [] = refl
 before_none t (e ∷ es) = let f : nat_lt (owner_of t e) 0 ≡ false = grind (arith, nat_tests) in rw f (before_none t es)

@@ -27,9 +27,11 @@ module _ (s : Arithmetic) (laws : IsSemiring s) (own_rows own_values : List ℕ)
   pub left_value : (x y i : ℕ) → IsValue s (s.add (own x i) (other y i))
   left_value x y i = laws.add_value _ _ (own_value x i) (other_value y i)
 
+  -- each entry of the column has a value
   pub own_is : (x : ℕ) → x < length own_rows → IsValue s (get_or own_values x 0)
   own_is x l = nth_value s laws own_rows own_values s.one own_same own_all laws.one_value x l
 
+  -- each entry of the other one has one when it is scaled
   pub other_is : (y : ℕ) → y < length rows → IsValue s (s.mul (get_or values y 0) scale)
   other_is y l = nth_product s laws rows values scale same all is_scale y l
 

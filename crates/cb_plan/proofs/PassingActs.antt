@@ -11,8 +11,8 @@ use Rattle.cb_plan.specs.declared.plans.PlanFaultKind.TheVariants as kind_is
 use Rattle.cb_plan.specs.Meaning.{State, act, meaning}
 use Rattle.cb_plan.specs.Algebras.{shapes}
 use Rattle.cb_plan.specs.Checks.{Lanes, IsSound, Passes, lanes_after, shut_after, act_fault, fault_from, fault_or, are_all_shut}
-use Rattle.cb_plan.proofs.Sound.{is_no_fault, no_fault}
-use Rattle.cb_plan.proofs.Plain.{both_none}
+use Rattle.cb_plan.proofs.SoundActs.{is_no_fault, no_fault}
+use Rattle.cb_plan.proofs.RunSteps.{both_none}
 
 -- two lists of acts of which each passes where it stands
 pub passes-append : (ranks : ℕ) (state : State Extent) (shut : Lanes) (xs ys : List Act) → Passes ranks state shut xs → Passes ranks (meaning shapes xs state) (lanes_after xs shut) ys → Passes ranks state shut (xs ++ ys)

@@ -52,6 +52,7 @@ too_far limit n h e = grind (arith, nat_tests)
 pub place_whole : (w : List ℕ) (n : Number) (x limit : ℕ) → n ≡ number_of w → n ≡ Whole x → is_number w ≡ true → place_in limit x ≡ place_in limit (number w)
 place_whole w n x limit e f g = ap (place_in limit) ((whole w n x e f).2 ∙ (number_magnitude w g).0)
 
+-- a number that doesn't fit 64 bits names no place within a limit
 pub place_none : (w : List ℕ) (n : Number) (limit : ℕ) → limit < 2 ^ 64 → n ≡ number_of w → ((x : ℕ) → n ≡ Whole x → ⊥) → is_number w ≡ true → None ≡ place_in limit (number w)
 place_none w n limit l e f g =
     let m = number_magnitude w g in
@@ -61,6 +62,7 @@ place_none w n limit l e f g =
 pub value_whole : (s : Arithmetic) (w : List ℕ) (n : Number) (x : ℕ) → n ≡ number_of w → n ≡ Whole x → s.accept (is_negative w) x ≡ value_in s w
 value_whole s w n x e f = let h = whole w n x e f in rw (h.1, ← h.2) refl
 
+-- a word of a value whose number doesn't fit 64 bits has no value in the semiring
 pub value_none : (s : Arithmetic) (w : List ℕ) (n : Number) → n ≡ number_of w → ((x : ℕ) → n ≡ Whole x → ⊥) → is_value_word w ≡ true → None ≡ value_in s w
 value_none s w n e f g = rw (not_small w n e f g) refl
 
@@ -71,6 +73,7 @@ limited_whole w n x limit e f g = ap (small_in limit) ((whole w n x e f).2 ∙ (
 over_limit : (limit n : ℕ) → limit < 2 ^ 64 → nat_lt n (2 ^ 64) ≡ false → small_in limit n ≡ None
 over_limit limit n h e = grind (arith, nat_tests)
 
+-- a number that doesn't fit 64 bits is past every limit below 2^64
 pub limited_none : (w : List ℕ) (n : Number) (limit : ℕ) → limit < 2 ^ 64 → n ≡ number_of w → ((x : ℕ) → n ≡ Whole x → ⊥) → is_number w ≡ true → None ≡ small_in limit (number w)
 limited_none w n limit l e f g =
     let m = number_magnitude w g in

@@ -27,8 +27,8 @@ use Rattle.cb_rank.specs.Halves.{with_letter, slot_of_body}
 use Rattle.cb_rank.specs.declared.wants.Want.TheVariants as want_is
 use Rattle.cb_rank.specs.Ranks.{RankView, IsRank, next_half, want_of, onward, IsAwaited, slots_with}
 use Rattle.cb_rank.specs.Steps.{HandsOut, Works}
-use Rattle.cb_rank.proofs.View.{split}
-use Rattle.cb_rank.proofs.Wanted.{wants_take, wants_end}
+use Rattle.cb_rank.proofs.OwnActs.{split}
+use Rattle.cb_rank.proofs.WantedHalf.{wants_take, wants_end}
 use Rattle.cb_ranks.specs.Runs.{course_of}
 use Rattle.cb_ranks.specs.UnderWay.{IsUnderWay, DoesNext}
 use Rattle.cb_ranks.proofs.Courses.{same_course}
@@ -203,6 +203,7 @@ does_end s x y d e from is was next onto takes =
       });
     }
 
+-- the next half waits for a letter from this rank, or for the end of the lane from it
 abbrev pub WaitsOn : RankView → ℕ → Type 0
 WaitsOn x from = (want_of (next_half x) ≡ want_is.Take from) ⊎ (want_of (next_half x) ≡ want_is.End from)
 

@@ -14,10 +14,10 @@ use Rattle.cb_plan.specs.Stores.{state_of, shapes_of, NoneLost, Fits}
 use Rattle.cb_plan.specs.Plans.{CheckedView, IsChecked}
 use Rattle.cb_plan.specs.Tables.{IsTable}
 use Rattle.cb_plan.specs.Running.{Runs}
-use Rattle.cb_plan.proofs.Sound.{no_fault}
+use Rattle.cb_plan.proofs.SoundActs.{no_fault}
 use Rattle.cb_plan.proofs.Faults.{next_element, fault_here}
 use Rattle.cb_plan.proofs.Effects.{same_state}
-use Rattle.cb_plan.proofs.Measured.{act_turns, shape_turns}
+use Rattle.cb_plan.proofs.ShapesOfMeaning.{act_turns, shape_turns}
 
 -- no fault here, and none later
 pub both_none : (n : ℕ) (k : Option PlanFaultKind) (later : Option PlanFault) → fault_or n k later ≡ None → (k ≡ None) × (later ≡ None)

@@ -15,7 +15,7 @@ use Rattle.cb_layout.specs.declared.front.Front.{Front}
 use Rattle.cb_layout.proofs.Parts.{row_of_rank, column_of_rank, part_below, start_there, place_below, part_order}
 use Rattle.cb_layout.proofs.Fronts.{first_is_least, none_between, next_above, least_row, least_known, least_is, next_own, next_other}
 use Rattle.cb_layout.proofs.Splits.{filter_none, filter_all, filter_same, filter_split}
-use Rattle.cb_layout.proofs.Whole.{whole_is_matrix, columns_up, of_columns}
+use Rattle.cb_layout.proofs.BlockColumns.{whole_is_matrix, columns_up, of_columns}
 
 -- the test of an entry in part j, at place x of it, where column c of the grid is walked and a is its block's next
 abbrev test : ℕ → ℕ → ℕ → ℕ → Bool

@@ -22,8 +22,8 @@ use Rattle.cb_layout.specs.Tiles.{Tiles, block_tiles}
 use Rattle.cb_layout.proofs.Parts.{row_of_rank, column_of_rank, rank_below, rank_of, row_below, own_below, part_below, place_below}
 use Rattle.cb_layout.proofs.Tiles.{IsTiling, owner_of, moved, tile_of, entries_of, entries_of_back}
 use Rattle.cb_layout.proofs.Cuts.{block_tiling}
-use Rattle.cb_layout.proofs.Glued.{glued_is_matrix, tile_is_cut, tile_is_part}
-use Rattle.cb_layout.proofs.Counted.{before, before_none, before_more, before_all, entries_below}
+use Rattle.cb_layout.proofs.GluedTiles.{glued_is_matrix, tile_is_cut, tile_is_part}
+use Rattle.cb_layout.proofs.EntryCounts.{before, before_none, before_more, before_all, entries_below}
 use Rattle.cb_layout.proofs.ColumnNumbers.{columns_ascend}
 
 -- the entries of a column of a tile, with their places in the whole

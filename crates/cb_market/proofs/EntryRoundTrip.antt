@@ -17,7 +17,7 @@ use Rattle.cb_market.specs.declared.header.Symmetry.TheVariants.{General}
 use Rattle.cb_market.specs.Lines.{is_number, is_negative, is_digit, magnitude}
 use Rattle.cb_market.specs.Checks.{entry_fault, entry_of, value_in, is_within}
 use Rattle.cb_market.proofs.Decimals.{number_decimal}
-use Rattle.cb_market.proofs.Written.{number_magnitude}
+use Rattle.cb_market.proofs.WordNumbers.{number_magnitude}
 
 before_place : (e d : Entry) (i j : ℕ) → i ≡ e.row → j ≡ e.column → IsBefore e d → IsPlaceBefore i j d
 before_place e d i j p q h = ⊎_elim (λ (a : e.column < d.column). inl (omega arith)) (λ (a : (e.column ≡ d.column) × (e.row < d.row)). inr (omega arith, omega arith)) h
@@ -61,6 +61,7 @@ abbrev pub plain_header : Bool → Header
 plain_header true = record { field = Pattern; symmetry = General }
 plain_header false = record { field = Integer; symmetry = General }
 
+-- the words of an entry's line: the number of its row, of its column, and its value where values are written
 abbrev pub entry_words : Bool → Entry → List (List ℕ)
 entry_words true e = decimal (e.row + 1) ∷ decimal (e.column + 1) ∷ []
 entry_words false e = decimal (e.row + 1) ∷ decimal (e.column + 1) ∷ decimal e.value ∷ []
@@ -90,6 +91,7 @@ entry_again s numbers shape false e h m n =
     let j : is_within shape.cols (e.column + 1) ≡ true = grind (arith, nat_tests, h.column) in
     rw (a.0, b.0, (number_magnitude (decimal e.value) v.0).1, a.1, b.1, x) (rw (i, j) refl)
 
+-- the entry that these words write is that entry
 pub same_again : (s : Arithmetic) (numbers : ReadsNumbers s) (shape : Extent) (b : Bool) (e : Entry) → s.writes_pattern ≡ b → Fits s shape e → shape.rows < 2 ^ 31 → shape.cols < 2 ^ 31 → entry_of s (plain_header b) (entry_words b e) ≡ e
 same_again s numbers shape true e w h m n =
     let a = number_decimal (e.row + 1) (omega (arith, h.row)) in

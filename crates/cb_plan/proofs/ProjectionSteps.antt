@@ -11,7 +11,7 @@ use Rattle.cb_plan.specs.Plans.{CheckedView, IsChecked}
 use Rattle.cb_plan.specs.Checks.{CheckState, IsSound, IsStarted, DidAct, fault_from, shut_after, slots_in, lanes_in, started}
 use Rattle.cb_plan.specs.Programs.{Projects, half_list, halves_of, project, project_from}
 use Rattle.cb_plan.proofs.Faults.{next_element}
-use Rattle.cb_plan.proofs.Plain.{no_fault_next}
+use Rattle.cb_plan.proofs.RunSteps.{no_fault_next}
 
 -- nothing of a program is there before the first act
 pub first_projects : (p : CheckedView) (r : ℕ) (o : CheckState) → IsChecked p → IsStarted p.ranks p.starts o → Projects p.ranks p.starts p.acts r 0 o []

@@ -33,6 +33,7 @@ from_filter k n (w ∷ ws) h =
     let rest = from_filter k (n + 1) ws (omega (arith, h)) in
     ⊎_elim (λ (e : is_skipped w ≡ true). rw e rest) (λ (e : is_skipped w ≡ false). rw e (h, rest)) (cases_Bool (is_skipped w))
 
+-- the lines of a text that are kept have the number of its first line or a later one
 pub kept_numbers : (n : ℕ) (text : List ℕ) → From n (kept_from n text)
 unfolding kept_from
 kept_numbers n text = from_filter n n (map words (lines text)) (omega arith)
@@ -65,6 +66,7 @@ unfolding entries_fault
 missing s header shape n zero ls all f e z h k = absurd (z refl)
 missing s header shape n (suc left) ls all f e z h k = inl (sym e ∙ ap (entries_fault s header shape n (suc left)) h ∙ ap Some (sym k))
 
+-- where no line is left and no entry is wanted, there is no fault
 pub complete : (s : Arithmetic) (header : Header) (shape : Extent) (n left : ℕ) (ls : List (ℕ × List (List ℕ))) (all : Option ReadFault) → entries_fault s header shape n left ls ≡ all → left ≡ 0 → ls ≡ [] → all ≡ None
 unfolding entries_fault
 complete s header shape n left ls all e z h = sym e ∙ ap (λ i. entries_fault s header shape n i ls) z ∙ ap (entries_fault s header shape n zero) h
@@ -96,6 +98,7 @@ refused_at s header shape n left l more f h k a =
     (λ (e : (entry_fault s header shape l.1 ≡ None) × (f.kind ≡ Memory)). inr (e.1, if_some_before (entries_fault s header shape n (suc left) (l ∷ more)) l.0 f.line a.0 (after_memory s header shape n left l more h k e.0)))
     a.1
 
+-- an answer at the line of the next entry is one for all lines
 pub refused : (s : Arithmetic) (header : Header) (shape : Extent) (n left : ℕ) (ls : List (ℕ × List (List ℕ))) (l : ℕ × List (List ℕ)) (more : List (ℕ × List (List ℕ))) (all : Option ReadFault) (f : ReadFault) → entries_fault s header shape n left ls ≡ all → left ≢ 0 → ls ≡ l ∷ more → From (l.0 + 1) more → l.0 + 1 ≤ n → IsLineAnswer l.0 (entry_fault s header shape l.1) f → IsAnswer all f
 refused s header shape n zero ls l more all f e z h p q a = absurd (z refl)
 refused s header shape n (suc left) ls l more all f e z h p q a = subst (λ (o : Option ReadFault). IsAnswer o f) (sym (ap (entries_fault s header shape n (suc left)) h) ∙ e) (refused_at s header shape n left l more f p q a)
@@ -105,6 +108,7 @@ pub gives_more : (s : Arithmetic) (header : Header) (items new all : List Entry)
 gives_more s header items new all ls l more e h k =
     ap (λ xs. xs ++ given s header more) k ∙ append_assoc items (given_by s header.symmetry (entry_of s header l.1)) (given s header more) ∙ sym (ap (λ xs. items ++ given s header xs) h) ∙ e
 
+-- missing entries at lines of the same number are the same fault
 pub at_end : {m n : ℕ} → m ≡ n → record_at m MissingEntries ≡ record_at n MissingEntries
 at_end e = ap (λ k. record_at k MissingEntries) e
 
