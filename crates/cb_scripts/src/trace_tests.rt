@@ -28,6 +28,15 @@ fn counts(events: &[TraceEvent]) -> [usize; 4] {
     [posted, took, closed, ended]
 }
 
+/// Whether a lane's next letter has this number. Then it is counted.
+fn counts_on(counts: &mut Vec<u64>, lane: usize, number: u64) -> bool {
+    if lane >= counts.len() || counts[lane] != number {
+        return false;
+    }
+    counts[lane] = number.saturating_add(1);
+    true
+}
+
 /// Whether the letters of each lane are posted in the order of their numbers, from 0 on, and taken so, each of them.
 fn are_numbered(alloc: Global, trace: &Trace) -> Result<bool, AllocError> {
     let ranks = usize::from(trace.ranks());
@@ -36,13 +45,16 @@ fn are_numbered(alloc: Global, trace: &Trace) -> Result<bool, AllocError> {
     for event in trace.events() {
         let envelope = event.envelope();
         let lane = usize::from(envelope.from) * ranks + usize::from(envelope.to);
-        let counts = match event {
-            TraceEvent::Posted(_) | TraceEvent::Closed(_) => &mut posted,
-            TraceEvent::Took(_) | TraceEvent::Ended(_) => &mut taken,
+        let is_next = match event {
+            TraceEvent::Posted(_) | TraceEvent::Closed(_) => {
+                counts_on(&mut posted, lane, envelope.number)
+            }
+            TraceEvent::Took(_) | TraceEvent::Ended(_) => {
+                counts_on(&mut taken, lane, envelope.number)
+            }
         };
-        match counts.get_mut(lane) {
-            Some(next) if *next == envelope.number => *next = envelope.number.saturating_add(1),
-            _ => return Ok(false),
+        if !is_next {
+            return Ok(false);
         }
     }
     Ok(posted.as_slice() == taken.as_slice())
