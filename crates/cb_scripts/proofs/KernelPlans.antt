@@ -17,7 +17,7 @@ use Rattle.cb_kernels.specs.Kernels.{one_operand, two_operands, IsTransposePlan,
 use Rattle.cb_scripts.specs.Slots.{HaveSlots}
 use Rattle.cb_scripts.specs.Answers.{Makes}
 use Rattle.cb_scripts.proofs.Holdings.{parts_there}
-use Rattle.cb_scripts.proofs.Making.{in_slot}
+use Rattle.cb_scripts.proofs.MadeMatrices.{in_slot}
 
 -- what these operations make of matrices are matrices
 module _ (s : Arithmetic) (laws : IsSemiring s) (a : Sparse) (is_a : IsMatrix s a) where

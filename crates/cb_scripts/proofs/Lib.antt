@@ -1,27 +1,27 @@
 -- FilledSlots: a slot of every rank is filled, rank after rank. DrainedSlots: it is emptied, rank after rank.
 -- GatheredParts: the matrix whose parts stand in one slot. Holdings: matrices in slots of the ranks, and the starts
--- that they fit. LaidOutOperands: matrices over a grid are given to its ranks, one after the other. Making: what a
--- plan makes of them, gathered. ProductPlans, KernelPlans: what each plan makes. EmptyFactors: a product with a matrix
--- that has no entries.
+-- that they fit. LaidOutOperands: matrices over a grid are given to its ranks, one after the other. MadeMatrices:
+-- what a plan makes of them, gathered. ProductPlans, KernelPlans: what each plan makes. EmptyFactors: a product with
+-- a matrix that has no entries.
 pub mod FilledSlots
 pub mod DrainedSlots
 pub mod GatheredParts
 pub mod Holdings
 pub mod LaidOutOperands
-pub mod Making
+pub mod MadeMatrices
 pub mod ProductPlans
 pub mod KernelPlans
 pub mod EmptyFactors
 -- TracedProducts: what ranks make that keep a trace, and the trace.
 pub mod TracedProducts
 -- Walks. WalkCosts: how they begin, grow and end, and what they cost. ShortWalks: for each walk a short one that
--- costs no more. Nearing: numbers that near the least costs, round by round. TurnedProducts: a round is the product
--- of the turned matrix. NearestRounds: the loop over rounds. UnitWeights: levels are distances where each entry
--- weighs 1. OneColumn: there is one column of distances. TakenNumbers, LowerEntries, NumberColumns: the numbers
--- known so far, those that fall, and their column.
+-- costs no more. NumbersByRound: numbers that near the least costs, round by round. TurnedProducts: a round is the
+-- product of the turned matrix. NearestRounds: the loop over rounds. UnitWeights: levels are distances where each
+-- entry weighs 1. OneColumn: there is one column of distances. TakenNumbers, LowerEntries, NumberColumns: the
+-- numbers known so far, those that fall, and their column.
 pub mod WalkCosts
 pub mod ShortWalks
-pub mod Nearing
+pub mod NumbersByRound
 pub mod TurnedProducts
 pub mod TakenNumbers
 pub mod LowerEntries

@@ -16,7 +16,7 @@ use Rattle.cb_matrix.specs.Operations.{transposed}
 use Rattle.cb_scripts.specs.Numbers.{number_at, AreNumbers}
 use Rattle.cb_scripts.proofs.TakenNumbers.{eq_cases}
 use Rattle.cb_scripts.proofs.WalkCosts.{cost}
-use Rattle.cb_scripts.proofs.Nearing.{Nearing, IsRound, IsNearest, settled, all_rounds}
+use Rattle.cb_scripts.proofs.NumbersByRound.{Nearing, IsRound, IsNearest, settled, all_rounds}
 use Rattle.cb_scripts.proofs.TurnedProducts.{is_round, inside_square}
 
 -- a map with one number

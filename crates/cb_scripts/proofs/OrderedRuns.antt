@@ -20,7 +20,7 @@ use Rattle.cb_distribution.specs.Distribution.{HasParts}
 use Rattle.cb_scripts.specs.Answers.{Makes}
 use Rattle.cb_scripts.specs.Losses.{IsLostOr, LostOrMeans, AreFilled}
 use Rattle.cb_scripts.specs.Slots.{HasOperands}
-use Rattle.cb_scripts.proofs.Making.{made_fits}
+use Rattle.cb_scripts.proofs.MadeMatrices.{made_fits}
 
 -- where a block is meant to be, something is
 filled : (meant : Option Sparse) (m : Sparse) (x : Slot Sparse) → meant ≡ Some m → IsLostOr meant x → is_filled x ≡ true

@@ -18,7 +18,7 @@ use Rattle.cb_summa.specs.Summa.{factors, masked_factors, IsProductPlan, IsMaske
 use Rattle.cb_scripts.specs.Slots.{HaveSlots}
 use Rattle.cb_scripts.specs.Answers.{Makes}
 use Rattle.cb_scripts.proofs.Holdings.{parts_there}
-use Rattle.cb_scripts.proofs.Making.{found_equal, in_slot}
+use Rattle.cb_scripts.proofs.MadeMatrices.{found_equal, in_slot}
 use Rattle.cb_scripts.proofs.KernelPlans.{both_slots}
 
 -- slots 0, 1 and 7 exist

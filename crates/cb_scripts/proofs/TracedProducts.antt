@@ -16,7 +16,7 @@ use Rattle.cb_scripts.specs.Slots.{HasOperands}
 use Rattle.cb_scripts.specs.Answers.{Makes, gathered}
 use Rattle.cb_scripts.specs.Traced.{factors_under, product_under, checked_of, IsProductTrace}
 use Rattle.cb_scripts.proofs.GatheredParts.{over_grid}
-use Rattle.cb_scripts.proofs.Making.{made_answer}
+use Rattle.cb_scripts.proofs.MadeMatrices.{made_answer}
 
 -- the matrix that the ranks leave over the grid is whichever answer the plan makes
 pub whichever_traced : {E : Type 0} (s : Arithmetic) → IsSemiring s → (q : ℕ) (operands : List (ℕ × Sparse)) (planned : Planned) (shape : Extent) (stores : List (List (Slot Sparse))) → HasOperands s q operands stores → (r : Result (Distributed × TraceView) E) →

@@ -11,7 +11,7 @@ use Rattle.cb_matrix.proofs.Made.{at-matrix_of, at-outside, IsMatrix-matrix_of}
 use Rattle.cb_matrix.proofs.Totals.{value_at-value}
 use Rattle.cb_scripts.specs.Walks.{infinite}
 use Rattle.cb_matrix.specs.Operations.{transposed}
-use Rattle.cb_scripts.proofs.Nearing.{IsRound}
+use Rattle.cb_scripts.proofs.NumbersByRound.{IsRound}
 
 -- the least of some numbers is none above any, and one of them unless it is infinite
 pub total_low : (f : ℕ → ℕ) (a n k : ℕ) → a ≤ k → k < a + n → total min_plus (map f (range_with_len a n)) ≤ f k

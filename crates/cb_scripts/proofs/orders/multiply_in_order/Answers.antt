@@ -4,7 +4,7 @@ use Rattle.cb_matrix.specs.Values.{product}
 use Rattle.cb_layout.specs.Distributed.{Distributed}
 use Rattle.cb_scripts.proofs.GatheredParts.{over_grid}
 use Rattle.cb_scripts.proofs.LaidOutOperands.{whole_matrix, two_lie}
-use Rattle.cb_scripts.proofs.Making.{made_of}
+use Rattle.cb_scripts.proofs.MadeMatrices.{made_of}
 use Rattle.cb_scripts.proofs.OrderedRuns.{this_answer}
 use Rattle.cb_scripts.proofs.ProductPlans.{product_found}
 use Rattle.cb_scripts.proofs.orders.multiply_in_order.Goals as goal

@@ -1,6 +1,6 @@
 use Rattle.std.proofs.Common.{sym}
 use Rattle.cb_matrix.specs.Operations.{sum_of}
-use Rattle.cb_scripts.proofs.Making.{this_made}
+use Rattle.cb_scripts.proofs.MadeMatrices.{this_made}
 use Rattle.cb_scripts.proofs.placewise.add_distributed.Goals as goal
 
 pub compute-requires-clause-makes : goal.compute-requires-clause-makes

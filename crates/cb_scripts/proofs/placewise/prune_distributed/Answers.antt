@@ -1,7 +1,7 @@
 use Rattle.std.proofs.Common.{sym}
 use Rattle.cb_matrix.specs.Operations.{pruned}
 use Rattle.cb_elementwise.specs.Passing.{passes}
-use Rattle.cb_scripts.proofs.Making.{this_made}
+use Rattle.cb_scripts.proofs.MadeMatrices.{this_made}
 use Rattle.cb_scripts.proofs.placewise.prune_distributed.Goals as goal
 
 pub compute-requires-clause-makes : goal.compute-requires-clause-makes

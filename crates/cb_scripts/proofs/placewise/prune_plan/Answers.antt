@@ -2,7 +2,7 @@ use Rattle.std.proofs.Common.{◌≡◌, [], ◌∷◌, sym, ap}
 use Rattle.cb_matrix.specs.Operations.{pruned}
 use Rattle.cb_elementwise.specs.Passing.{passes}
 use Rattle.cb_layout.specs.Parts.{Square}
-use Rattle.cb_scripts.proofs.Making.{made_of}
+use Rattle.cb_scripts.proofs.MadeMatrices.{made_of}
 use Rattle.cb_scripts.proofs.KernelPlans.{rest_made}
 use Rattle.cb_scripts.proofs.LaidOutOperands.{one_lies}
 use Rattle.cb_scripts.proofs.placewise.prune_plan.Goals as goal

@@ -1,7 +1,7 @@
 use Rattle.std.proofs.Common.{◌≡◌, [], ◌∷◌, sym, ap, ◌∙◌}
 use Rattle.cb_matrix.specs.Operations.{times_of}
 use Rattle.cb_layout.specs.Parts.{Square}
-use Rattle.cb_scripts.proofs.Making.{found_equal, made_of}
+use Rattle.cb_scripts.proofs.MadeMatrices.{found_equal, made_of}
 use Rattle.cb_scripts.proofs.KernelPlans.{times_made}
 use Rattle.cb_scripts.proofs.LaidOutOperands.{two_lie}
 use Rattle.cb_scripts.proofs.placewise.times_plan.Goals as goal

@@ -1,7 +1,7 @@
 use Rattle.std.proofs.Common.{sym}
 use Rattle.cb_matrix.specs.Operations.{pruned}
 use Rattle.cb_elementwise.specs.Passing.{passes}
-use Rattle.cb_scripts.proofs.Making.{this_made}
+use Rattle.cb_scripts.proofs.MadeMatrices.{this_made}
 use Rattle.cb_scripts.proofs.plain.prune_distributed.Goals as goal
 
 pub compute_plain-requires-clause-makes : goal.compute_plain-requires-clause-makes

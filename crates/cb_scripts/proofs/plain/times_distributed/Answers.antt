@@ -1,6 +1,6 @@
 use Rattle.std.proofs.Common.{sym}
 use Rattle.cb_matrix.specs.Operations.{times_of}
-use Rattle.cb_scripts.proofs.Making.{this_made}
+use Rattle.cb_scripts.proofs.MadeMatrices.{this_made}
 use Rattle.cb_scripts.proofs.plain.times_distributed.Goals as goal
 
 pub compute_plain-requires-clause-makes : goal.compute_plain-requires-clause-makes

@@ -1,7 +1,7 @@
 use Rattle.std.proofs.Common.{◌≡◌, [], ◌∷◌, sym, ap, ◌∙◌}
 use Rattle.cb_matrix.specs.Values.{product}
 use Rattle.cb_layout.specs.Parts.{Square}
-use Rattle.cb_scripts.proofs.Making.{made_of}
+use Rattle.cb_scripts.proofs.MadeMatrices.{made_of}
 use Rattle.cb_scripts.proofs.ProductPlans.{product_found}
 use Rattle.cb_scripts.proofs.LaidOutOperands.{two_lie}
 use Rattle.cb_scripts.proofs.products.product_plan.Goals as goal

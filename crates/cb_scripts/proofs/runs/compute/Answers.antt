@@ -1,5 +1,5 @@
 use Rattle.std.specs.Prelude.{map}
-use Rattle.cb_scripts.proofs.Making.{made_fits, made_shapes, whichever_made}
+use Rattle.cb_scripts.proofs.MadeMatrices.{made_fits, made_shapes, whichever_made}
 use Rattle.cb_scripts.proofs.LaidOutOperands.{whole_matrix}
 use Rattle.cb_scripts.proofs.runs.compute.Goals as goal
 

@@ -7,7 +7,7 @@ use Rattle.cb_plan.specs.Stores.{state_of, Fits}
 use Rattle.cb_plan.specs.Tables.{IsTable}
 use Rattle.cb_scripts.specs.Answers.{HasShapes, gathered}
 use Rattle.cb_scripts.proofs.GatheredParts.{over_grid, whichever_meant}
-use Rattle.cb_scripts.proofs.Making.{made_fits, made_shapes, whichever_made}
+use Rattle.cb_scripts.proofs.MadeMatrices.{made_fits, made_shapes, whichever_made}
 use Rattle.cb_scripts.proofs.LaidOutOperands.{whole_matrix}
 use Rattle.cb_scripts.proofs.runs.compute_plain.Goals as goal
 

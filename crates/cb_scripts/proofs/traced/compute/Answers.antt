@@ -7,7 +7,7 @@ use Rattle.cb_plan.specs.Stores.{state_of, Fits}
 use Rattle.cb_scripts.specs.Answers.{gathered}
 use Rattle.cb_scripts.proofs.GatheredParts.{over_grid}
 use Rattle.cb_scripts.proofs.LaidOutOperands.{whole_matrix}
-use Rattle.cb_scripts.proofs.Making.{made_fits}
+use Rattle.cb_scripts.proofs.MadeMatrices.{made_fits}
 use Rattle.cb_scripts.proofs.TracedProducts.{whichever_traced}
 use Rattle.cb_scripts.proofs.traced.compute.Goals as goal
 

@@ -3,7 +3,7 @@ use Rattle.std.specs.Prelude.{Some}
 use Rattle.cb_matrix.specs.Values.{product}
 use Rattle.cb_matrix.specs.Operations.{masked}
 use Rattle.cb_layout.specs.Parts.{Square}
-use Rattle.cb_scripts.proofs.Making.{made_of}
+use Rattle.cb_scripts.proofs.MadeMatrices.{made_of}
 use Rattle.cb_scripts.proofs.ProductPlans.{masked_found}
 use Rattle.cb_scripts.proofs.TracedProducts.{this_traced, product_traced, shape_of_product}
 use Rattle.cb_scripts.proofs.traced.masked_traced.Goals as goal

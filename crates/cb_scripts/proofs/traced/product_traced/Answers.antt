@@ -2,7 +2,7 @@ use Rattle.std.proofs.Common.{◌≡◌, [], ◌∷◌, sym, ap}
 use Rattle.std.specs.Prelude.{None}
 use Rattle.cb_matrix.specs.Values.{product}
 use Rattle.cb_layout.specs.Parts.{Square}
-use Rattle.cb_scripts.proofs.Making.{made_of}
+use Rattle.cb_scripts.proofs.MadeMatrices.{made_of}
 use Rattle.cb_scripts.proofs.ProductPlans.{product_found}
 use Rattle.cb_scripts.proofs.TracedProducts.{this_traced, product_traced, shape_of_product}
 use Rattle.cb_scripts.proofs.traced.product_traced.Goals as goal

@@ -1,7 +1,7 @@
 use Rattle.std.proofs.Common.{◌≡◌, [], ◌∷◌, sym, ap, ◌∙◌}
 use Rattle.cb_matrix.specs.Operations.{transposed}
 use Rattle.cb_layout.specs.Parts.{Square}
-use Rattle.cb_scripts.proofs.Making.{made_of}
+use Rattle.cb_scripts.proofs.MadeMatrices.{made_of}
 use Rattle.cb_scripts.proofs.KernelPlans.{transpose_made}
 use Rattle.cb_scripts.proofs.LaidOutOperands.{one_lies}
 use Rattle.cb_scripts.proofs.transposes.transpose_plan.Goals as goal

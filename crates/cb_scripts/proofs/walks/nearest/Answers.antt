@@ -7,7 +7,7 @@ use Rattle.cb_kernels.specs.VectorPlans.{column}
 use Rattle.cb_scripts.specs.SpreadVectors.{MultipliesVectors}
 use Rattle.cb_scripts.specs.Walks.{column_shape}
 use Rattle.cb_scripts.specs.Numbers.{number_at, AreNumbers}
-use Rattle.cb_scripts.proofs.Nearing.{IsNearest, started, neared}
+use Rattle.cb_scripts.proofs.NumbersByRound.{IsNearest, started, neared}
 use Rattle.cb_scripts.proofs.NearestRounds.{round_of, round_shape, nothing_fell, every_round, distances_are}
 use Rattle.cb_scripts.proofs.walks.nearest.Goals as goal
 use Rattle.cb_scripts.proofs.walks.nearest.Goals.{else-loop-round-test, then-loop-round-test+then-is_empty}

@@ -4,7 +4,7 @@ use Rattle.cb_matrix.specs.Sparse.{at}
 use Rattle.cb_matrix.specs.Operations.{transposed}
 use Rattle.cb_scripts.specs.Walks.{column_shape}
 use Rattle.cb_scripts.specs.Numbers.{number_at, AreNumbers}
-use Rattle.cb_scripts.proofs.Nearing.{Nearing}
+use Rattle.cb_scripts.proofs.NumbersByRound.{Nearing}
 use Rattle.cb_scripts.proofs.walks.nearest.Given as goal
 
 -- the known numbers near the least ones, and the matrix is the transposed graph
