@@ -28,3 +28,5 @@ pub mod Splits
 pub mod Fronts
 pub mod Whole
 pub mod Remaining
+-- Grown: blocks that grow entry by entry.
+pub mod Grown
