@@ -21,6 +21,7 @@ use Rattle.cb_layout.specs.Segments.{shifted}
 use Rattle.cb_layout.specs.Tiles.{Tiles, block_tiles}
 use Rattle.cb_layout.proofs.Parts.{row_of_rank, column_of_rank, rank_below, rank_of, row_below, own_below, part_below, place_below}
 use Rattle.cb_layout.proofs.Tiles.{IsTiling, owner_of, moved, tile_of, entries_of, entries_of_back}
+use Rattle.cb_layout.proofs.EntriesByTile.{IsScattered}
 use Rattle.cb_layout.proofs.Cuts.{block_tiling}
 use Rattle.cb_layout.proofs.GluedTiles.{glued_is_matrix, tile_is_cut, tile_is_part}
 use Rattle.cb_layout.proofs.EntryCounts.{before, before_none, before_more, before_all, entries_below}
@@ -99,6 +100,10 @@ module _ (s : Arithmetic) (laws : IsSemiring s) (q : ℕ) (shape : Extent) (bloc
   -- each has the entries that stand in it
   block_is_part : (r : ℕ) → r < q * q → block_at blocks r ≡ tile_of t whole.entries r
   block_is_part r l = tile_is_part s laws shape t tiling (block_at blocks) sizes matrices r l
+
+  -- so they are the whole, in a list of entries for each block
+  pub are_scattered : IsScattered t whole.entries blocks
+  are_scattered = record { count = are.count; tiles = block_is_part }
 
   -- the columns with entries of a block ascend
   pub columns_up : (i j : ℕ) → i < q → j < q → AllPairs (λ c d. c < d) (columns_in q blocks j i)

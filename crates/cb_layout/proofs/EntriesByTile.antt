@@ -31,12 +31,57 @@ scattered_none t blocks h = record {
       ∙ ap (λ es. record { shape = t.size r; entries = es }) (sym (entries_of-none t r));
 }
 
+-- one entry more, after all the others
+module _ (shape : Extent) (t : Tiles) (is : IsTiling shape t) (es : List Entry) (inside : All (IsInside shape) es) (e : Entry) (here : IsInside shape e) (before : All (λ d. IsBefore d e) es) (blocks : List Sparse) (so_far : IsScattered t es blocks) where
+  -- there is a block for the tile of the entry
+  pub rank_of_one : owner_of t e < length blocks
+  rank_of_one = let c = so_far.count in let o = is.owned e.row e.column here.0 here.1 in rw c o
+
+  abbrev block : Sparse
+  block = block_at blocks (owner_of t e)
+
+  block_is : block ≡ tile_of t es (owner_of t e)
+  block_is = so_far.tiles (owner_of t e) (is.owned e.row e.column here.0 here.1)
+
+  -- at its place in its tile the entry is inside that block
+  pub inside_of_one : IsInside block.shape (moved t e)
+  inside_of_one = subst (λ (m : Sparse). IsInside m.shape (moved t e)) (sym block_is) (moved_inside shape t is (owner_of t e) e here refl)
+
+  -- each entry that the block has comes before it
+  pub order_of_one : All (λ d. IsBefore d (moved t e)) block.entries
+  order_of_one = subst (λ (m : Sparse). All (λ d. IsBefore d (moved t e)) m.entries) (sym block_is) (tile_before shape t is (owner_of t e) es e inside before here refl)
+
+  -- with the entry added to its block, the blocks have the entries of their tiles
+  pub scattered_one : (new : List Sparse) → new ≡ set blocks (owner_of t e) (with_entry block (moved t e)) → IsScattered t (es ++ e ∷ []) new
+  scattered_one new h = record {
+    count = ap length h ∙ length-set blocks (owner_of t e) (with_entry block (moved t e)) ∙ so_far.count;
+    tiles = λ r m.
+        let none : Sparse = empty_matrix (record { rows = 0; cols = 0 }) in
+        let one : Sparse = with_entry block (moved t e) in
+        let own : block_at (set blocks (owner_of t e) one) (owner_of t e) ≡ tile_of t (es ++ e ∷ []) (owner_of t e) =
+        get_or-set_same blocks (owner_of t e) one none rank_of_one
+        ∙ ap (λ (b : Sparse). with_entry b (moved t e)) block_is
+        ∙ ap (λ xs. record { shape = t.size (owner_of t e); entries = xs }) (sym (entries_of-own t (owner_of t e) es e refl)) in
+        ap (λ bs. block_at bs r) h
+        ∙ ⊎_elim
+        (λ (o : owner_of t e ≡ r). subst (λ n. block_at (set blocks (owner_of t e) one) n ≡ tile_of t (es ++ e ∷ []) n) o own)
+        (λ (o : owner_of t e ≢ r).
+        get_or-set_other blocks (owner_of t e) r one none (λ p. o (sym p))
+        ∙ so_far.tiles r m
+        ∙ ap (λ xs. record { shape = t.size r; entries = xs }) (sym (entries_of-other t r es e o)))
+        (cases_eq (owner_of t e) r);
+  }
+
+-- the kth entry, after those before it
 module _ (shape : Extent) (t : Tiles) (is : IsTiling shape t) (all : List Entry) (inside : All (IsInside shape) all) (ascending : AllPairs IsBefore all) (k : ℕ) (x : Entry) (l : k < length all) (blocks : List Sparse) (so_far : IsScattered t (take k all) blocks) where
   abbrev e : Entry
   e = get_or all k x
 
   here : IsInside shape e
   here = inside k x l
+
+  some_inside : All (IsInside shape) (take k all)
+  some_inside = All-take (IsInside shape) k all inside
 
   before : All (λ d. IsBefore d e) (take k all)
   before i d m =
@@ -47,43 +92,23 @@ module _ (shape : Extent) (t : Tiles) (is : IsTiling shape t) (all : List Entry)
 
   -- there is a block for the tile of the next entry
   pub rank_there : owner_of t e < length blocks
-  rank_there = let c = so_far.count in let o = is.owned e.row e.column here.0 here.1 in rw c o
+  rank_there = rank_of_one shape t is (take k all) some_inside e here before blocks so_far
 
-  abbrev block : Sparse
-  block = block_at blocks (owner_of t e)
-
-  block_is : block ≡ tile_of t (take k all) (owner_of t e)
-  block_is = so_far.tiles (owner_of t e) (is.owned e.row e.column here.0 here.1)
+  abbrev there : Sparse
+  there = block_at blocks (owner_of t e)
 
   -- at its place in its tile the next entry is inside that block
-  pub inside_there : IsInside block.shape (moved t e)
-  inside_there = subst (λ (m : Sparse). IsInside m.shape (moved t e)) (sym block_is) (moved_inside shape t is (owner_of t e) e here refl)
+  pub inside_there : IsInside there.shape (moved t e)
+  inside_there = inside_of_one shape t is (take k all) some_inside e here before blocks so_far
 
   -- each entry that the block has so far comes before it
-  pub order_there : All (λ d. IsBefore d (moved t e)) block.entries
-  order_there = subst (λ (m : Sparse). All (λ d. IsBefore d (moved t e)) m.entries) (sym block_is) (tile_before shape t is (owner_of t e) (take k all) e (All-take (IsInside shape) k all inside) before here refl)
+  pub order_there : All (λ d. IsBefore d (moved t e)) there.entries
+  order_there = order_of_one shape t is (take k all) some_inside e here before blocks so_far
 
   -- with the next entry added to its block, the blocks have the entries of their tiles among one entry more
-  pub scattered_more : (new : List Sparse) → new ≡ set blocks (owner_of t e) (with_entry block (moved t e)) → IsScattered t (take (k + 1) all) new
-  scattered_more new h = record {
-    count = ap length h ∙ length-set blocks (owner_of t e) (with_entry block (moved t e)) ∙ so_far.count;
-    tiles = λ r m.
-        let none : Sparse = empty_matrix (record { rows = 0; cols = 0 }) in
-        let one : Sparse = with_entry block (moved t e) in
-        let own : block_at (set blocks (owner_of t e) one) (owner_of t e) ≡ tile_of t (take k all ++ e ∷ []) (owner_of t e) =
-        get_or-set_same blocks (owner_of t e) one none rank_there
-        ∙ ap (λ (b : Sparse). with_entry b (moved t e)) block_is
-        ∙ ap (λ es. record { shape = t.size (owner_of t e); entries = es }) (sym (entries_of-own t (owner_of t e) (take k all) e refl)) in
-        ap (λ bs. block_at bs r) h
-        ∙ ⊎_elim
-        (λ (o : owner_of t e ≡ r). subst (λ n. block_at (set blocks (owner_of t e) one) n ≡ tile_of t (take k all ++ e ∷ []) n) o own)
-        (λ (o : owner_of t e ≢ r).
-        get_or-set_other blocks (owner_of t e) r one none (λ p. o (sym p))
-        ∙ so_far.tiles r m
-        ∙ ap (λ es. record { shape = t.size r; entries = es }) (sym (entries_of-other t r (take k all) e o)))
-        (cases_eq (owner_of t e) r)
-        ∙ ap (λ es. tile_of t es r) (sym (take_more all k x l));
-  }
+  pub scattered_more : (new : List Sparse) → new ≡ set blocks (owner_of t e) (with_entry there (moved t e)) → IsScattered t (take (k + 1) all) new
+  scattered_more new h =
+      subst (λ es. IsScattered t es new) (sym (take_more all k x l)) (scattered_one shape t is (take k all) some_inside e here before blocks so_far new h)
 
 -- all entries taken
 pub scattered_all : (t : Tiles) (all : List Entry) (k : ℕ) (blocks : List Sparse) → length all ≤ k → IsScattered t (take k all) blocks → IsScattered t all blocks

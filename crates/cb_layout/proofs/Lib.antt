@@ -28,3 +28,5 @@ pub mod Splits
 pub mod Fronts
 pub mod BlockColumns
 pub mod RemainingEntries
+-- GrownBlocks: blocks that grow entry by entry.
+pub mod GrownBlocks

@@ -1,14 +1,18 @@
 //! A matrix that lies over a grid of ranks.
-ghost use Rattle.std.specs.Prelude.{◌≡◌, ◌↔◌, ℕ, ◌<◌, ◌+◌, ◌*◌, [], length, IfOk, IsTrue};
-ghost use Rattle.cb_matrix.specs.Sparse.{IsMatrix};
+ghost use Rattle.std.specs.Prelude.{◌≡◌, ◌≢◌, ◌↔◌, ℕ, ◌<◌, ◌+◌, ◌*◌, [], length, All, IfOk, OnOk, OnErr, IsTrue};
+ghost use Rattle.cb_semirings.specs.Arithmetic.{IsValue};
+ghost use Rattle.cb_matrix.specs.Sparse.{IsMatrix, IsInside, IsBefore};
+ghost use Rattle.cb_matrix.specs.Values.{empty_matrix};
+ghost use Rattle.cb_dcsc.specs.Columns.{with_entry};
 ghost use Rattle.cb_layout.specs.Parts.{part_shape};
 ghost use Rattle.cb_layout.specs.Blocks.{block_at, block_of};
 ghost use Rattle.cb_layout.specs.Distributed.{AreBlocks, glued_blocks};
 
 use crate::gather::stored;
+use crate::scatter::deliver;
 use crate::{Grid, Segments};
 use cb_dcsc::Block;
-use cb_matrix::{Matrix, Shape};
+use cb_matrix::{Entry, Matrix, Shape};
 use cb_semirings::Semiring;
 use std::alloc::{AllocError, Global};
 use std::marker::Model;
@@ -61,6 +65,38 @@ impl<S: Semiring> DistributedMatrix<S> {
     {
         let blocks = grid.scatter(alloc, matrix)?;
         Ok(Self::from_blocks(grid, matrix.shape(), blocks))
+    }
+
+    /// The matrix of a shape without entries, over a grid, with room for so many entries, spread evenly. The cost is
+    /// that of one block for each rank.
+    pub fn with_room(
+        alloc: Global,
+        grid: Grid,
+        shape: Shape,
+        entries: usize,
+    ) -> Result<Self, AllocError>
+        ensures { IfOk result (λ m. m ≡ record { side = grid.side; matrix = empty_matrix shape }) }
+    {
+        let _side = grid.side();
+        let blocks = grid.empty_blocks(alloc, shape, grid.room(entries))?;
+        Ok(Self::from_blocks(grid, shape, blocks))
+    }
+
+    /// Stores one entry more, after all the others. On refusal the matrix is as it was. In constant time, but for the
+    /// growth of lists.
+    pub fn push(&mut self, entry: Entry) -> Result<(), AllocError>
+        requires inside { IsInside self.old.matrix.shape entry }
+        requires order { All (λ e. IsBefore e entry) self.old.matrix.entries }
+        requires value { IsValue S.arithmetic entry.value }
+        requires not_zero { entry.value ≢ S.arithmetic.zero }
+        ensures ok { OnOk result (self.new ≡ record { side = self.old.side; matrix = with_entry self.old.matrix entry }) }
+        ensures err { OnErr result (self.new ≡ self.old) }
+    {
+        let _limits = (self.shape.rows(), self.shape.cols());
+        let (rank, local) = self.grid.in_block(self.shape, entry);
+        deliver(&mut self.blocks, rank, local)?;
+        self.len += 1;
+        Ok(())
     }
 
     /// The whole matrix, in memory of its own. The cost is that of the stored entries.

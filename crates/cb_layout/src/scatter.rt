@@ -1,5 +1,5 @@
 //! A matrix cut into one block for each rank.
-ghost use Rattle.std.specs.Prelude.{◌≡◌, ◌≢◌, ℕ, ◌<◌, ◌≤◌, ◌+◌, ◌*◌, ◌/◌, ◌%◌, List, map, length, All, IfOk, OnOk, slice_set};
+ghost use Rattle.std.specs.Prelude.{◌≡◌, ◌≢◌, ℕ, ◌<◌, ◌≤◌, ◌+◌, ◌*◌, ◌/◌, ◌%◌, List, map, length, All, IfOk, OnOk, OnErr, slice_set};
 ghost use Rattle.std.specs.List.{range_with_len};
 ghost use Rattle.cb_semirings.specs.Arithmetic.{IsValue};
 ghost use Rattle.cb_matrix.specs.Sparse.{IsMatrix, IsInside, IsBefore};
@@ -30,10 +30,7 @@ impl Grid {
     {
         let _side = self.side();
         let shape = matrix.shape();
-        let each = matrix.len() / usize::from(self.ranks());
-        // Entries that are spread evenly give some blocks a little more than their share.
-        let room = each.saturating_add(each / 16);
-        let mut blocks = self.empty_blocks(alloc, shape, room)?;
+        let mut blocks = self.empty_blocks(alloc, shape, self.room(matrix.len()))?;
         for entry in matrix.entries() {
             let (rank, local) = self.in_block(shape, *entry);
             deliver(&mut blocks, rank, local)?;
@@ -41,8 +38,15 @@ impl Grid {
         Ok(blocks)
     }
 
+    /// Room in each block for so many entries in all: entries that are spread evenly give some blocks a little more
+    /// than their share.
+    pub(crate) fn room(&self, entries: usize) -> usize {
+        let each = entries / usize::from(self.ranks());
+        each.saturating_add(each / 16)
+    }
+
     /// A block without entries for each rank, with room for so many.
-    fn empty_blocks<S: Semiring>(
+    pub(crate) fn empty_blocks<S: Semiring>(
         &self,
         alloc: Global,
         shape: Shape,
@@ -80,7 +84,7 @@ impl Grid {
     }
 
     /// The rank that keeps an entry, and the entry with its place in that rank's block.
-    fn in_block(&self, shape: Shape, entry: Entry) -> (usize, Entry)
+    pub(crate) fn in_block(&self, shape: Shape, entry: Entry) -> (usize, Entry)
         requires { IsInside shape entry }
         ensures rank { result.0 ≡ part_with self.now.side shape.rows entry.row * self.now.side + part_with self.now.side shape.cols entry.column }
         ensures entry { result.1 ≡ record { row = place_in_part self.now.side shape.rows entry.row; column = place_in_part self.now.side shape.cols entry.column; value = entry.value } }
@@ -119,7 +123,7 @@ fn roomy<S: Semiring>(alloc: Global, shape: Shape, entries: usize) -> Result<Blo
     Ok(block)
 }
 
-/// Stores one entry more in one of the blocks, after all the others.
+/// Stores one entry more in one of the blocks, after all the others. On refusal the blocks are as they were.
 pub(crate) fn deliver<S: Semiring>(
     blocks: &mut Vec<Block<S>>,
     rank: usize,
@@ -130,7 +134,8 @@ pub(crate) fn deliver<S: Semiring>(
     requires order { All (λ e. IsBefore e entry) (block_at blocks.old.items rank).entries }
     requires value { IsValue S.arithmetic entry.value }
     requires not_zero { entry.value ≢ S.arithmetic.zero }
-    ensures { OnOk result (blocks.new.items ≡ slice_set blocks.old.items rank (with_entry (block_at blocks.old.items rank) entry)) }
+    ensures ok { OnOk result (blocks.new.items ≡ slice_set blocks.old.items rank (with_entry (block_at blocks.old.items rank) entry)) }
+    ensures err { OnErr result (blocks.new.items ≡ blocks.old.items) }
 {
     blocks[rank].push(entry)
 }

@@ -50,6 +50,22 @@ fn cut_and_glued(
     grid.gather(alloc, &blocks, whole.shape())
 }
 
+/// A matrix made anew over a grid, entry by entry.
+fn pushed(
+    alloc: Global,
+    grid: Grid,
+    whole: &Matrix<PlusTimes>,
+) -> Result<DistributedMatrix<PlusTimes>, AllocError>
+    ensures { IfOk result (λ m. m ≡ record { side = grid.side; matrix = whole.now }) }
+{
+    let shape = whole.shape();
+    let mut spread = DistributedMatrix::with_room(alloc, grid, shape, whole.len())?;
+    for entry in whole.entries() {
+        spread.push(*entry)?;
+    }
+    Ok(spread)
+}
+
 /// An input vector with a row for each rank, spread over them, and its pieces read as those of a result.
 fn turned(
     alloc: Global,
@@ -256,6 +272,48 @@ fn a_matrix_lies_over_each_grid(rt: HostRuntime) -> Result<(), Fail> {
     Ok(())
 }
 
+/// Entries pushed one by one make the matrix that they are, cut over the grid.
+#[test]
+fn a_matrix_grows_entry_by_entry(rt: HostRuntime) -> Result<(), Fail> {
+    let given = [
+        entry(1, 0, 4),
+        entry(6, 0, 5),
+        entry(0, 3, 6),
+        entry(6, 3, 7),
+    ];
+    let whole = matrix(rt.alloc(), 7, 5, &given).ok_or("no matrix")?;
+    for side in 1..=3 {
+        let grid = grid_of(side)?;
+        let wanted = DistributedMatrix::scatter(rt.alloc(), grid, &whole)?;
+        let spread = pushed(rt.alloc(), grid, &whole)?;
+        assert_eq!(rt; (spread.grid(), spread.shape()), (grid, whole.shape()));
+        assert_eq!(rt; spread.len(), 4, "side {side}");
+        let again = spread.gather(rt.alloc())?;
+        assert_eq!(rt; again.entries(), given.as_slice(), "side {side}");
+        for (own, other) in spread.blocks().iter().zip(wanted.blocks()) {
+            assert_eq!(rt; own.shape(), other.shape(), "side {side}");
+            assert_eq!(rt; own.column_numbers(), other.column_numbers(), "side {side}");
+            assert_eq!(rt; own.row_numbers(), other.row_numbers(), "side {side}");
+            assert_eq!(rt; own.values(), other.values(), "side {side}");
+        }
+    }
+    Ok(())
+}
+
+#[test]
+fn a_matrix_with_room_has_no_entries(rt: HostRuntime) -> Result<(), Fail> {
+    let grid = grid_of(2)?;
+    let spread: DistributedMatrix<PlusTimes> = DistributedMatrix::with_room(
+        rt.alloc(),
+        grid,
+        shape(3, 4)?,
+        9,
+    )?;
+    assert_eq!(rt; (spread.len(), spread.is_empty()), (0, true));
+    assert_eq!(rt; spread.blocks().len(), 4);
+    Ok(())
+}
+
 #[test]
 fn segments_of_a_matrix_on_four_ranks(rt: HostRuntime) -> Result<(), Fail> {
     let given = [
@@ -301,6 +359,9 @@ fn refused_memory_is_said(rt: HostRuntime) -> Result<(), Fail> {
         if let Ok(again) = spread.gather(rt.alloc()) {
             assert_eq!(rt; again.entries(), given.as_slice());
         }
+    }
+    if let Ok(spread) = pushed(rt.alloc(), grid, &whole) {
+        assert_eq!(rt; spread.len(), 3);
     }
     Ok(())
 }

@@ -52,7 +52,7 @@ loop-entry-preserved g c =
     let rank = rw (c.shape-shape.ensures.shape, c.entries-entry-items.ensures) at c.in_block-rank.ensures.rank in
     let local = rw (c.shape-shape.ensures.shape, c.entries-entry-items.ensures) at c.in_block-rank.ensures.entry in
     let within = rw c.entries-entry-items.ensures at c.loop-entry-test.true in
-    scattered_more m.shape (block_tiles q m.shape) (block_tiling q m.shape (rw c.side-side.ensures.value at c.side-side.ensures.some)) m.entries is.inside is.ascending c.loop-entry.entry-index x within c.loop-entry.blocks.items c.loop-entry.invariant _ (rw (rank, local) at c.in_ok-deliver.ensures)
+    scattered_more m.shape (block_tiles q m.shape) (block_tiling q m.shape (rw c.side-side.ensures.value at c.side-side.ensures.some)) m.entries is.inside is.ascending c.loop-entry.entry-index x within c.loop-entry.blocks.items c.loop-entry.invariant _ (rw (rank, local) at c.in_ok-deliver.ensures.ok)
 
 pub returns-clause-blocks : goal.returns-clause-blocks
 returns-clause-blocks g c i j l k =

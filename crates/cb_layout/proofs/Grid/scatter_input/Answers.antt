@@ -52,7 +52,7 @@ loop-entry-preserved g c =
     let rank = rw (c.shape-shape.ensures.shape, c.entries-entry-items.ensures) at c.in_piece-rank.ensures.rank in
     let local = rw (c.shape-shape.ensures.shape, c.entries-entry-items.ensures) at c.in_piece-rank.ensures.entry in
     let within = rw c.entries-entry-items.ensures at c.loop-entry-test.true in
-    scattered_more m.shape (input_tiles q m.shape) (input_tiling q m.shape (rw c.side-side.ensures.value at c.side-side.ensures.some)) m.entries is.inside is.ascending c.loop-entry.entry-index x within c.loop-entry.blocks.items c.loop-entry.invariant _ (rw (rank, local) at c.in_ok-deliver.ensures)
+    scattered_more m.shape (input_tiles q m.shape) (input_tiling q m.shape (rw c.side-side.ensures.value at c.side-side.ensures.some)) m.entries is.inside is.ascending c.loop-entry.entry-index x within c.loop-entry.blocks.items c.loop-entry.invariant _ (rw (rank, local) at c.in_ok-deliver.ensures.ok)
 
 pub returns-clause-pieces : goal.returns-clause-pieces
 returns-clause-pieces g c i j l k =
