@@ -15,7 +15,7 @@ fail() {
 sed -n 's/^ *\(cbgrid_[a-z0-9_]*\);$/\1/p' cbgrid.map | sort >"$out/names.map"
 nm -D --defined-only "$out/libcbgrid.so" | awk '{ print $3 }' | sort >"$out/names.so"
 cmp "$out/names.map" "$out/names.so" || fail "libcbgrid.so shows other names than cbgrid.map has"
-nm -g --defined-only "$out/libcbgrid.a" | awk 'NF == 3 { print $3 }' | sort >"$out/names.a"
+nm -g --defined-only "$out/libcbgrid.a" | awk '$2 ~ /^[A-Z]$/ { print $3 }' | sort >"$out/names.a"
 cmp "$out/names.map" "$out/names.a" || fail "libcbgrid.a shows other names than cbgrid.map has"
 sed -n 's/.*\(cbgrid_[a-z0-9_]*\)(.*/\1/p' cbgrid.h | sort -u >"$out/names.h"
 while read -r name; do
