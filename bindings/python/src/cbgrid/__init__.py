@@ -136,7 +136,7 @@ def _placed(call: Any, semiring: int, grid: int, operands: tuple, after: tuple =
     turned = like.format == "csr"
     unsigned = unsigned or _UNSIGNED[semiring]
     answer = _run(call, (semiring, _grid(grid)), operands, after, turned=turned, unsigned=unsigned)
-    made = _lists.matrix_of(answer, type(like), like.format, turned, like.dtype)
+    made = _lists.matrix_of(answer, like, turned)
     if semiring == _MIN_PLUS:
         _lists.check_signed(made.data)
     return made
@@ -196,7 +196,7 @@ def multiply(a: Matrix, b: Any, semiring: str = "plus-times", mask: Any = None, 
         call = library.cbgrid_multiply_masked
     number = _semiring(semiring)
     answer = _run(call, (number, _grid(grid)), operands, turned=turned, unsigned=_UNSIGNED[number])
-    made = _lists.matrix_of(answer, type(a), a.format, turned, a.dtype)
+    made = _lists.matrix_of(answer, a, turned)
     if number == _MIN_PLUS:
         _lists.check_signed(made.data)
     return made
@@ -440,8 +440,8 @@ def read(source: Any, semiring: str = "plus-times", format: str = "csc", dtype: 
     code = library.cbgrid_read(number, contents, len(contents), line, answer.columns)
     if code:
         raise error(code, line=line.value if code == FORMAT else None)
-    like = scipy.sparse.csc_array if format == "csc" else scipy.sparse.coo_array
-    made = _lists.matrix_of(answer, like, "csc" if format == "csc" else "coo", False, dtype)
+    like = (scipy.sparse.csc_array if format == "csc" else scipy.sparse.coo_array)((0, 0), dtype=dtype)
+    made = _lists.matrix_of(answer, like, turned=False)
     if number != 0:
         _lists.check_signed(made.data)
     return made.tocsr() if format == "csr" else made

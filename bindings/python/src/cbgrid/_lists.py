@@ -8,6 +8,7 @@ of a csr matrix. `turned` says that this is so.
 from __future__ import annotations
 
 import ctypes
+from copy import copy
 from typing import Any
 
 import numpy as np
@@ -15,7 +16,9 @@ import numpy as np
 from ._library import LENGTHS, LIMIT, ORDER, PLACE, TOO_LARGE, VALUE, Columns, error, library
 
 _DCSC, _CSC = 0, 1
-_COPIED = 4096  # bytes; a shorter list of an answer is copied, which is quicker than to lend it
+_COPIED = 1000  # elements; a list of an answer that has no more is copied, which is quicker than to show it
+_INT32, _INT64 = np.dtype(np.int32), np.dtype(np.int64)
+_DTYPES = frozenset((_INT64, np.dtype(np.uint64)))
 
 
 def check_matrix(matrix: Any, name: str) -> None:
@@ -24,14 +27,16 @@ def check_matrix(matrix: Any, name: str) -> None:
     if form not in ("csc", "csr", "coo") or len(matrix.shape) != 2:
         what = f"format {form}" if isinstance(form, str) else type(matrix).__name__
         raise TypeError(f"{name}: a csc, csr or coo matrix of scipy.sparse is wanted, not {what}")
-    check_dtype(matrix.dtype, name)
-    if max(matrix.shape) > LIMIT:
+    if matrix.dtype not in _DTYPES:
+        check_dtype(matrix.dtype, name)
+    nrows, ncols = matrix.shape
+    if nrows > LIMIT or ncols > LIMIT:
         raise error(TOO_LARGE)
 
 
 def check_dtype(dtype: np.dtype, name: str) -> None:
     """Raises where values are not whole numbers of 64 bits."""
-    if dtype.str not in ("<i8", "<u8"):
+    if dtype not in _DTYPES:
         raise TypeError(f"{name}: values of dtype int64 or uint64 are wanted, not {dtype} ({dtype.str})")
 
 
@@ -63,9 +68,18 @@ def _index32(array: np.ndarray, limit: int) -> np.ndarray:
     """Row numbers of 32 bits: those of scipy where they are."""
     if array.dtype.str == "<i4":
         return _plain(array)
-    if len(array) and (array.min() < 0 or array.max() >= limit):
+    if not _are_below(array, limit):
         raise error(PLACE)
     return array.astype(np.int32)
+
+
+def _are_below(numbers: np.ndarray, limit: int) -> bool:
+    """Whether all numbers are 0 or more and below a limit."""
+    if not len(numbers):
+        return True
+    if numbers.dtype in (_INT32, _INT64):  # read without a sign, negative numbers are above every limit
+        return numbers.view(f"u{numbers.itemsize}").max() < limit
+    return numbers.min() >= 0 and numbers.max() < limit
 
 
 def lend_lists(
@@ -105,7 +119,7 @@ def lend(matrix: Any, turned: bool, unsigned: bool, nonzero: bool = False) -> Co
     if form == "coo":
         return _lend_coordinates(matrix, turned, unsigned, nonzero)
     if form != ("csr" if turned else "csc"):
-        matrix = matrix.tocsr() if turned else matrix.tocsc()
+        matrix = _checked(matrix).tocsr() if turned else _checked(matrix).tocsc()
     nrows, ncols = reversed(matrix.shape) if turned else matrix.shape
     starts, rows, values = matrix.indptr, matrix.indices, matrix.data
     length = int(starts[-1]) if len(starts) else 0
@@ -132,12 +146,12 @@ def _lend_coordinates(matrix: Any, turned: bool, unsigned: bool, nonzero: bool) 
     if not len(rows) == len(columns) == len(matrix.data):
         raise error(LENGTHS)
     for numbers, limit in (rows, nrows), (columns, ncols):
-        if len(numbers) and (numbers.min() < 0 or numbers.max() >= limit):
+        if not _are_below(numbers, limit):
             raise error(PLACE)
     places, values = _in_order(columns.astype(np.int64) << 32 | rows, matrix.data)
     columns = places >> 32
     firsts = _firsts(columns)
-    starts = np.append(firsts, len(places)) if len(places) else firsts
+    starts = np.concatenate((firsts, (len(places),)))
     return lend_lists(
         nrows,
         ncols,
@@ -171,12 +185,18 @@ def in_order(matrix: Any) -> Any:
     """A copy of a csc or csr matrix in which rows ascend in each column, and none is doubled."""
     if isinstance(matrix, Columns) or matrix.format == "coo":
         return matrix
-    made = matrix.copy()
+    made = _checked(matrix).copy()
+    made.sum_duplicates()
+    return made
+
+
+def _checked(matrix: Any) -> Any:
+    """The matrix, once scipy may read its lists: its own calls would follow wrong starts and rows anywhere."""
+    made = copy(matrix)  # since the check puts other lists into a matrix
     try:
         made.check_format(full_check=True)
     except ValueError as fault:
         raise error(ORDER, str(fault)) from fault
-    made.sum_duplicates()
     return made
 
 
@@ -185,9 +205,10 @@ class _List:
 
     __slots__ = ("answer", "__array_interface__")
 
-    def __init__(self, answer: Answer, address: int, length: int, typestr: str) -> None:
+    def __init__(self, answer: Answer, address: int, length: int, dtype: np.dtype) -> None:
         self.answer = answer
-        self.__array_interface__ = {"data": (address, False), "shape": (length,), "typestr": typestr, "version": 3}
+        interface = {"data": (address, False), "shape": (length,), "typestr": dtype.str, "version": 3}
+        self.__array_interface__ = interface
 
 
 class Answer:
@@ -201,55 +222,65 @@ class Answer:
     def __del__(self, free: Any = library.cbgrid_free_columns) -> None:
         free(self.columns)
 
-    def array(self, address: int, length: int, typestr: str) -> np.ndarray:
-        size = length * int(typestr[2])
-        if size > _COPIED:
-            return np.asarray(_List(self, address, length, typestr))
-        made = np.empty(length, typestr)
-        if size:
-            ctypes.memmove(_address(made), address, size)
+    def _array(self, address: int, length: int, dtype: np.dtype) -> np.ndarray:
+        if length > _COPIED:
+            return np.asarray(_List(self, address, length, dtype))
+        made = np.empty(length, dtype)
+        if length:
+            ctypes.memmove(ctypes.addressof(ctypes.c_char.from_buffer(made)), address, length * dtype.itemsize)
         return made
 
-    def columns_stored(self) -> np.ndarray:
-        return self.array(self.columns.columns, self.columns.columns_len, "<i4")
+    def stored(self) -> np.ndarray:
+        return self._array(self.columns.columns, self.columns.columns_len, _INT32)
 
     def starts(self) -> np.ndarray:
-        return self.array(self.columns.starts64, self.columns.starts64_len, "<i8")
+        return self._array(self.columns.starts64, self.columns.starts64_len, _INT64)
 
     def rows(self) -> np.ndarray:
-        return self.array(self.columns.rows, self.columns.rows_len, "<i4")
+        return self._array(self.columns.rows, self.columns.rows_len, _INT32)
 
     def values(self, dtype: np.dtype) -> np.ndarray:
-        return self.array(self.columns.values, self.columns.values_len, dtype.str)
+        return self._array(self.columns.values, self.columns.values_len, dtype)
 
 
 def _compressed_starts(answer: Answer) -> np.ndarray:
     """The starts of all columns, from those of the columns that have entries."""
     ncols, stored = answer.columns.ncols, answer.columns.columns_len
-    dtype = np.int32 if answer.columns.rows_len <= LIMIT else np.int64
+    dtype = _INT32 if answer.columns.rows_len <= LIMIT else _INT64
     starts = answer.starts()
     if stored and stored == ncols:
         return starts.astype(dtype)
     made = np.zeros(ncols + 1, dtype)
     if stored:
-        made[1:][answer.columns_stored()] = starts[1:] - starts[:-1]
+        made[1:][answer.stored()] = starts[1:] - starts[:-1]
         np.add.accumulate(made, out=made)
     return made
 
 
-def matrix_of(answer: Answer, like: type, form: str, turned: bool, dtype: np.dtype) -> Any:
-    """The matrix of an answer: of the class `like`, whose format is `form`."""
+def matrix_of(answer: Answer, like: Any, turned: bool) -> Any:
+    """The matrix of an answer: of the class and dtype of a matrix."""
     nrows, ncols = answer.columns.nrows, answer.columns.ncols
-    shape = (ncols, nrows) if turned else (nrows, ncols)
-    rows, values = answer.rows(), answer.values(dtype)
-    if form != "coo":
-        made = like((values, rows, _compressed_starts(answer)), shape=shape)
-    else:
+    made = _bare(like, (ncols, nrows) if turned else (nrows, ncols))
+    rows, made.data = answer.rows(), answer.values(like.dtype)
+    if like.format == "coo":
         starts = answer.starts()
-        columns = np.repeat(answer.columns_stored(), starts[1:] - starts[:-1])
-        made = like((values, (columns, rows) if turned else (rows, columns)), shape=shape)
+        columns = np.repeat(answer.stored(), starts[1:] - starts[:-1])
+        made.row, made.col = (columns, rows) if turned else (rows, columns)
+    else:
+        made.indices, made.indptr = rows, _compressed_starts(answer)
     made.has_canonical_format = True
     return made
+
+
+def _bare(like: Any, shape: tuple[int, int]) -> Any:
+    """A matrix of the class of another, whose lists are still to be set.
+
+    It is a copy of the object: scipy's constructor looks at all lists, which takes longer than a small call.
+    """
+    made = copy(like)
+    if made.shape != shape:
+        made._shape = shape
+    return made if made.shape == shape else type(like)(shape, dtype=like.dtype)
 
 
 def lend_array(x: np.ndarray, turned: bool, unsigned: bool) -> Columns:
@@ -265,7 +296,7 @@ def lend_array(x: np.ndarray, turned: bool, unsigned: bool) -> Columns:
 
 def column_of(answer: Answer, turned: bool, dtype: np.dtype) -> tuple[np.ndarray, np.ndarray]:
     """The places of a column that have entries (of a row where `turned`), and the values there."""
-    return answer.columns_stored() if turned else answer.rows(), answer.values(dtype)
+    return answer.stored() if turned else answer.rows(), answer.values(dtype)
 
 
 def column_like(x: Any, length: int, places: np.ndarray, values: np.ndarray) -> Any:
