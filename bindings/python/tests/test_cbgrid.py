@@ -285,6 +285,7 @@ class Lists(Test):
         room = sp.csc_matrix(a)
         room.data, room.indices = np.append(room.data, [7, 7]), np.append(room.indices, [99, 99]).astype(np.int32)
         self.assert_same(cbgrid.multiply(room, room), a @ a, room)
+        self.assert_same(cbgrid.multiply(sp.csr_matrix(a), room), a @ a, sp.csr_matrix(a))
         unaligned = sp.csc_matrix(a)
         shifted = np.frombuffer(b"\0" + a.data.tobytes(), np.uint8)[1:].view(np.int64)
         self.assertFalse(shifted.flags.aligned)

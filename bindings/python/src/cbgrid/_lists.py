@@ -192,12 +192,15 @@ def in_order(matrix: Any) -> Any:
 
 def _checked(matrix: Any) -> Any:
     """The matrix, once scipy may read its lists: its own calls would follow wrong starts and rows anywhere."""
-    made = copy(matrix)  # since the check puts other lists into a matrix
-    try:
-        made.check_format(full_check=True)
-    except ValueError as fault:
-        raise error(ORDER, str(fault)) from fault
-    return made
+    sides = matrix.shape if matrix.format == "csr" else matrix.shape[::-1]
+    starts, rows = matrix.indptr, matrix.indices
+    if len(starts) != sides[0] + 1 or not 0 <= starts[-1] <= min(len(rows), len(matrix.data)):
+        raise error(LENGTHS)
+    if starts[0] != 0 or (starts[1:] < starts[:-1]).any():
+        raise error(ORDER)
+    if not _are_below(rows[: starts[-1]], sides[1]):
+        raise error(PLACE)
+    return matrix
 
 
 class _List:
