@@ -84,7 +84,7 @@ enum cbgrid_code {
     CBGRID_TEST = 3,         /* no such test */
     CBGRID_FORM = 4,         /* `kind` or `wide` is above 1 */
     CBGRID_TOO_LARGE = 5,    /* more rows or columns than CBGRID_LIMIT */
-    CBGRID_LENGTHS = 6,      /* the lengths of the lists don't agree, or not with the starts */
+    CBGRID_LENGTHS = 6,      /* the lists' lengths don't agree, or the starts don't go from 0 to that of rows */
     CBGRID_ORDER = 7,        /* starts descend, or columns, or rows in a column, don't ascend strictly */
     CBGRID_PLACE = 8,        /* an entry is outside the shape */
     CBGRID_VALUE = 9,        /* not a value of the semiring */

@@ -194,9 +194,9 @@ def _checked(matrix: Any) -> Any:
     """The matrix, once scipy may read its lists: its own calls would follow wrong starts and rows anywhere."""
     sides = matrix.shape if matrix.format == "csr" else matrix.shape[::-1]
     starts, rows = matrix.indptr, matrix.indices
-    if len(starts) != sides[0] + 1 or not 0 <= starts[-1] <= min(len(rows), len(matrix.data)):
+    if len(starts) != sides[0] + 1 or starts[0] != 0 or not 0 <= starts[-1] <= min(len(rows), len(matrix.data)):
         raise error(LENGTHS)
-    if starts[0] != 0 or (starts[1:] < starts[:-1]).any():
+    if (starts[1:] < starts[:-1]).any():
         raise error(ORDER)
     if not _are_below(rows[: starts[-1]], sides[1]):
         raise error(PLACE)
