@@ -22,6 +22,10 @@ while read -r name; do
     grep -qx "$name" "$out/names.h" || fail "cbgrid.h doesn't declare $name"
 done <"$out/names.map"
 
+if command -v "${CXX:-c++}" >/dev/null; then
+    "${CXX:-c++}" -x c++ -fsyntax-only -Wall -Wextra cbgrid.h || fail "cbgrid.h is no C++"
+fi
+
 # Every block is freed, and nothing is read past a list.
 if command -v valgrind >/dev/null; then
     valgrind --quiet --error-exitcode=9 --leak-check=full --show-leak-kinds=all "$out/check" --few >/dev/null ||

@@ -77,9 +77,7 @@ def _are_below(numbers: np.ndarray, limit: int) -> bool:
     """Whether all numbers are 0 or more and below a limit."""
     if not len(numbers):
         return True
-    if numbers.dtype in (_INT32, _INT64):  # read without a sign, negative numbers are above every limit
-        return numbers.view(f"u{numbers.itemsize}").max() < limit
-    return numbers.min() >= 0 and numbers.max() < limit
+    return bool(numbers.min() >= 0 and numbers.max() < limit)
 
 
 def lend_lists(
@@ -146,9 +144,11 @@ def _lend_coordinates(matrix: Any, turned: bool, unsigned: bool, nonzero: bool) 
     if not len(rows) == len(columns) == len(matrix.data):
         raise error(LENGTHS)
     for numbers, limit in (rows, nrows), (columns, ncols):
-        if not _are_below(numbers, limit):
+        if numbers.itemsize > 4 and not _are_below(numbers, limit):
             raise error(PLACE)
     places, values = _in_order(columns.astype(np.int64) << 32 | rows, matrix.data)
+    if len(places) and places[0] < 0:  # a negative row or column; of those that are too large the kernel tells
+        raise error(PLACE)
     columns = places >> 32
     firsts = _firsts(columns)
     starts = np.concatenate((firsts, (len(places),)))
@@ -164,14 +164,15 @@ def _lend_coordinates(matrix: Any, turned: bool, unsigned: bool, nonzero: bool) 
 
 def _firsts(sorted_numbers: np.ndarray) -> np.ndarray:
     """Where each number stands first."""
-    is_first = np.ones(len(sorted_numbers), bool)
+    is_first = np.empty(len(sorted_numbers), bool)
+    is_first[:1] = True
     np.not_equal(sorted_numbers[1:], sorted_numbers[:-1], out=is_first[1:])
     return np.flatnonzero(is_first)
 
 
 def _in_order(places: np.ndarray, values: np.ndarray) -> tuple[np.ndarray, np.ndarray]:
     """Places in order, each once, with the sum of the values given there: what doubled places mean in scipy."""
-    if (places[1:] > places[:-1]).all():
+    if np.logical_and.reduce(places[1:] > places[:-1]):
         return places, values
     order = np.argsort(places, kind="stable")
     places, values = places[order], values[order]
