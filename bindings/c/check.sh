@@ -1,7 +1,9 @@
 #!/bin/sh
-# Runs the tests of the C side over what make has built in a folder: check.sh OUT
+# Runs the tests of the C side over what make has built in a folder, with further libraries or none:
+# check.sh OUT [LIBS]
 set -e
 out=$1
+libs=$2
 fail() {
     echo "cbgrid for C: $*" >&2
     exit 1
@@ -21,6 +23,9 @@ sed -n 's/.*\(cbgrid_[a-z0-9_]*\)(.*/\1/p' cbgrid.h | sort -u >"$out/names.h"
 while read -r name; do
     grep -qx "$name" "$out/names.h" || fail "cbgrid.h doesn't declare $name"
 done <"$out/names.map"
+
+needed=$(readelf -d "$out/libcbgrid.so" | sed -n 's/.*(NEEDED).*\[\(.*\)\]/\1/p')
+[ -n "$libs" ] || [ "$needed" = libc.so.6 ] || fail "libcbgrid.so needs $needed"
 
 if command -v "${CXX:-c++}" >/dev/null; then
     "${CXX:-c++}" -x c++ -fsyntax-only -Wall -Wextra cbgrid.h || fail "cbgrid.h is no C++"
