@@ -1,0 +1,280 @@
+/*
+ * The C side of cbgrid: it looks for null pointers, puts a valid pointer in the place of a null one where a
+ * list is empty, calls, and frees. All else is the proved library's, crates/cb_ffi.
+ */
+#include "cbgrid.h"
+
+#include <stdlib.h>
+
+/* The layouts of crates/cb_ffi: there a slice is a pointer and then a length. */
+struct slice32 {
+    const uint32_t *at;
+    size_t len;
+};
+struct slice64 {
+    const uint64_t *at;
+    size_t len;
+};
+struct kernel_columns {
+    uint32_t nrows, ncols, kind, wide;
+    struct slice32 columns, starts32;
+    struct slice64 starts64;
+    struct slice32 rows;
+    struct slice64 values;
+};
+struct kernel_text {
+    struct {
+        const unsigned char *at;
+        size_t len;
+    } bytes;
+};
+
+#define SAME(field, inner) \
+    _Static_assert(offsetof(struct cbgrid_columns, field) == offsetof(struct kernel_columns, inner), #field)
+#define STANDS(field, offset, type) \
+    _Static_assert(offsetof(struct cbgrid_columns, field) == (offset), #field); \
+    _Static_assert(sizeof(((struct cbgrid_columns *)0)->field) == sizeof(type), #field)
+
+_Static_assert(sizeof(void *) == 8 && sizeof(size_t) == 8, "x86-64");
+_Static_assert(sizeof(struct slice32) == 16 && sizeof(struct slice64) == 16, "slices");
+_Static_assert(sizeof(struct cbgrid_columns) == 96 && sizeof(struct kernel_columns) == 96, "columns");
+_Static_assert(_Alignof(struct cbgrid_columns) == 8 && _Alignof(struct kernel_columns) == 8, "columns");
+STANDS(nrows, 0, uint32_t);
+STANDS(ncols, 4, uint32_t);
+STANDS(kind, 8, uint32_t);
+STANDS(wide, 12, uint32_t);
+STANDS(columns, 16, void *);
+STANDS(columns_len, 24, size_t);
+STANDS(starts32, 32, void *);
+STANDS(starts32_len, 40, size_t);
+STANDS(starts64, 48, void *);
+STANDS(starts64_len, 56, size_t);
+STANDS(rows, 64, void *);
+STANDS(rows_len, 72, size_t);
+STANDS(values, 80, void *);
+STANDS(values_len, 88, size_t);
+SAME(nrows, nrows);
+SAME(ncols, ncols);
+SAME(kind, kind);
+SAME(wide, wide);
+SAME(columns, columns.at);
+SAME(columns_len, columns.len);
+SAME(starts32, starts32.at);
+SAME(starts32_len, starts32.len);
+SAME(starts64, starts64.at);
+SAME(starts64_len, starts64.len);
+SAME(rows, rows.at);
+SAME(rows_len, rows.len);
+SAME(values, values.at);
+SAME(values_len, values.len);
+_Static_assert(sizeof(struct cbgrid_text) == 16 && sizeof(struct kernel_text) == 16, "text");
+_Static_assert(offsetof(struct cbgrid_text, bytes) == offsetof(struct kernel_text, bytes.at), "bytes");
+_Static_assert(offsetof(struct cbgrid_text, len) == offsetof(struct kernel_text, bytes.len), "len");
+
+/* The exports of crates/cb_ffi. A reference there is a pointer here that is never null. */
+typedef const struct cbgrid_columns *lent;
+uint32_t cbgrid_kernel_multiply(uint32_t semiring, uint32_t grid, lent a, lent b, struct cbgrid_columns *out);
+uint32_t cbgrid_kernel_multiply_masked(uint32_t semiring, uint32_t grid, lent a, lent b, lent mask,
+                                       struct cbgrid_columns *out);
+uint32_t cbgrid_kernel_vector(uint32_t semiring, uint32_t grid, lent a, lent x, struct cbgrid_columns *out);
+uint32_t cbgrid_kernel_transpose(uint32_t semiring, uint32_t grid, lent a, struct cbgrid_columns *out);
+uint32_t cbgrid_kernel_add(uint32_t semiring, uint32_t grid, lent a, lent b, struct cbgrid_columns *out);
+uint32_t cbgrid_kernel_times(uint32_t semiring, uint32_t grid, lent a, lent b, struct cbgrid_columns *out);
+uint32_t cbgrid_kernel_prune(uint32_t semiring, uint32_t grid, lent a, uint32_t test, uint64_t bound,
+                             struct cbgrid_columns *out);
+uint32_t cbgrid_kernel_levels(uint32_t grid, lent a, uint32_t source, struct cbgrid_columns *out);
+uint32_t cbgrid_kernel_distances(uint32_t grid, lent a, uint32_t source, struct cbgrid_columns *out);
+uint32_t cbgrid_kernel_read(uint32_t semiring, const unsigned char *text, size_t len, uint64_t *line,
+                            struct cbgrid_columns *out);
+uint32_t cbgrid_kernel_text(uint32_t semiring, lent a, struct cbgrid_text *out);
+
+/* What an empty list points to: a slice is never null. */
+static const uint64_t nothing = 0;
+#define NOTHING32 ((const uint32_t *)&nothing)
+
+/* A matrix without rows, columns and entries, as the proved calls take it. */
+static struct cbgrid_columns no_columns(void) {
+    struct cbgrid_columns none = {0, 0, CBGRID_DCSC, CBGRID_STARTS_64, NOTHING32, 0, NOTHING32, 0,
+                                  &nothing, 0, NOTHING32, 0, &nothing, 0};
+    return none;
+}
+
+/* Puts the lists of `from` that its `kind` and `wide` say to read into `to`, and empty ones for the others.
+ * Answers 0 where a list that is not empty is a null pointer. */
+static int lend(struct cbgrid_columns *to, lent from) {
+    if (!from) return 0;
+    *to = no_columns();
+    to->nrows = from->nrows, to->ncols = from->ncols;
+    to->kind = from->kind, to->wide = from->wide;
+    if (from->kind == CBGRID_DCSC && from->columns_len) {
+        to->columns = from->columns, to->columns_len = from->columns_len;
+    }
+    if (from->wide == CBGRID_STARTS_32 && from->starts32_len) {
+        to->starts32 = from->starts32, to->starts32_len = from->starts32_len;
+    }
+    if (from->wide == CBGRID_STARTS_64 && from->starts64_len) {
+        to->starts64 = from->starts64, to->starts64_len = from->starts64_len;
+    }
+    if (from->rows_len) to->rows = from->rows, to->rows_len = from->rows_len;
+    if (from->values_len) to->values = from->values, to->values_len = from->values_len;
+    return to->columns && to->starts32 && to->starts64 && to->rows && to->values;
+}
+
+/* Puts an answer where the caller wants it, which may be where an operand stands. */
+static int give(uint32_t code, struct cbgrid_columns made, struct cbgrid_columns *out) {
+    if (code == CBGRID_OK) *out = made;
+    return (int)code;
+}
+
+int cbgrid_multiply(uint32_t semiring, uint32_t grid, lent a, lent b, struct cbgrid_columns *out) {
+    struct cbgrid_columns left, right, made = no_columns();
+    if (!out || !lend(&left, a) || !lend(&right, b)) return CBGRID_NULL_POINTER;
+    return give(cbgrid_kernel_multiply(semiring, grid, &left, &right, &made), made, out);
+}
+
+int cbgrid_multiply_masked(uint32_t semiring, uint32_t grid, lent a, lent b, lent mask, struct cbgrid_columns *out) {
+    struct cbgrid_columns left, right, kept, made = no_columns();
+    if (!out || !lend(&left, a) || !lend(&right, b) || !lend(&kept, mask)) return CBGRID_NULL_POINTER;
+    return give(cbgrid_kernel_multiply_masked(semiring, grid, &left, &right, &kept, &made), made, out);
+}
+
+int cbgrid_vector(uint32_t semiring, uint32_t grid, lent a, lent x, struct cbgrid_columns *out) {
+    struct cbgrid_columns matrix, vector, made = no_columns();
+    if (!out || !lend(&matrix, a) || !lend(&vector, x)) return CBGRID_NULL_POINTER;
+    return give(cbgrid_kernel_vector(semiring, grid, &matrix, &vector, &made), made, out);
+}
+
+int cbgrid_transpose(uint32_t semiring, uint32_t grid, lent a, struct cbgrid_columns *out) {
+    struct cbgrid_columns matrix, made = no_columns();
+    if (!out || !lend(&matrix, a)) return CBGRID_NULL_POINTER;
+    return give(cbgrid_kernel_transpose(semiring, grid, &matrix, &made), made, out);
+}
+
+int cbgrid_add(uint32_t semiring, uint32_t grid, lent a, lent b, struct cbgrid_columns *out) {
+    struct cbgrid_columns left, right, made = no_columns();
+    if (!out || !lend(&left, a) || !lend(&right, b)) return CBGRID_NULL_POINTER;
+    return give(cbgrid_kernel_add(semiring, grid, &left, &right, &made), made, out);
+}
+
+int cbgrid_times(uint32_t semiring, uint32_t grid, lent a, lent b, struct cbgrid_columns *out) {
+    struct cbgrid_columns left, right, made = no_columns();
+    if (!out || !lend(&left, a) || !lend(&right, b)) return CBGRID_NULL_POINTER;
+    return give(cbgrid_kernel_times(semiring, grid, &left, &right, &made), made, out);
+}
+
+int cbgrid_prune(uint32_t semiring, uint32_t grid, lent a, uint32_t test, uint64_t bound, struct cbgrid_columns *out) {
+    struct cbgrid_columns matrix, made = no_columns();
+    if (!out || !lend(&matrix, a)) return CBGRID_NULL_POINTER;
+    return give(cbgrid_kernel_prune(semiring, grid, &matrix, test, bound, &made), made, out);
+}
+
+int cbgrid_levels(uint32_t grid, lent a, uint32_t source, struct cbgrid_columns *out) {
+    struct cbgrid_columns graph, made = no_columns();
+    if (!out || !lend(&graph, a)) return CBGRID_NULL_POINTER;
+    return give(cbgrid_kernel_levels(grid, &graph, source, &made), made, out);
+}
+
+int cbgrid_distances(uint32_t grid, lent a, uint32_t source, struct cbgrid_columns *out) {
+    struct cbgrid_columns graph, made = no_columns();
+    if (!out || !lend(&graph, a)) return CBGRID_NULL_POINTER;
+    return give(cbgrid_kernel_distances(grid, &graph, source, &made), made, out);
+}
+
+int cbgrid_read(uint32_t semiring, const void *text, size_t len, uint64_t *line, struct cbgrid_columns *out) {
+    struct cbgrid_columns made = no_columns();
+    uint64_t at = 0;
+    if (!out || (len && !text)) return CBGRID_NULL_POINTER;
+    const unsigned char *bytes = len ? (const unsigned char *)text : (const unsigned char *)&nothing;
+    uint32_t code = cbgrid_kernel_read(semiring, bytes, len, &at, &made);
+    if (line && code == CBGRID_FORMAT) *line = at;
+    return give(code, made, out);
+}
+
+int cbgrid_text(uint32_t semiring, lent a, struct cbgrid_text *out) {
+    struct cbgrid_columns matrix;
+    struct cbgrid_text made = {(const unsigned char *)&nothing, 0};
+    if (!out || !lend(&matrix, a)) return CBGRID_NULL_POINTER;
+    uint32_t code = cbgrid_kernel_text(semiring, &matrix, &made);
+    if (code == CBGRID_OK) *out = made;
+    return (int)code;
+}
+
+/* The lists of an answer are malloc's. One of length 0 points to nothing that was allocated. */
+static void give_back(const void *list, size_t len) {
+    if (len) free((void *)list);
+}
+
+void cbgrid_free_columns(struct cbgrid_columns *matrix) {
+    if (!matrix) return;
+    give_back(matrix->columns, matrix->columns_len);
+    give_back(matrix->starts32, matrix->starts32_len);
+    give_back(matrix->starts64, matrix->starts64_len);
+    give_back(matrix->rows, matrix->rows_len);
+    give_back(matrix->values, matrix->values_len);
+    *matrix = no_columns();
+}
+
+void cbgrid_free_text(struct cbgrid_text *text) {
+    if (!text) return;
+    give_back(text->bytes, text->len);
+    text->bytes = (const unsigned char *)&nothing;
+    text->len = 0;
+}
+
+struct cbgrid_columns cbgrid_dcsc32(uint32_t nrows, uint32_t ncols, const uint32_t *columns, size_t stored,
+                                    const uint32_t *starts, const uint32_t *rows, const uint64_t *values, size_t len) {
+    struct cbgrid_columns made = no_columns();
+    made.nrows = nrows, made.ncols = ncols, made.wide = CBGRID_STARTS_32;
+    made.columns = columns, made.columns_len = stored;
+    made.starts32 = starts, made.starts32_len = stored || starts ? stored + 1 : 0;
+    made.rows = rows, made.rows_len = len;
+    made.values = values, made.values_len = len;
+    return made;
+}
+
+struct cbgrid_columns cbgrid_dcsc64(uint32_t nrows, uint32_t ncols, const uint32_t *columns, size_t stored,
+                                    const uint64_t *starts, const uint32_t *rows, const uint64_t *values, size_t len) {
+    struct cbgrid_columns made = cbgrid_dcsc32(nrows, ncols, columns, stored, NOTHING32, rows, values, len);
+    made.wide = CBGRID_STARTS_64;
+    made.starts32_len = 0;
+    made.starts64 = starts, made.starts64_len = stored || starts ? stored + 1 : 0;
+    return made;
+}
+
+struct cbgrid_columns cbgrid_csc32(uint32_t nrows, uint32_t ncols, const uint32_t *starts, const uint32_t *rows,
+                                   const uint64_t *values, size_t len) {
+    struct cbgrid_columns made = cbgrid_dcsc32(nrows, ncols, NOTHING32, 0, starts, rows, values, len);
+    made.kind = CBGRID_CSC;
+    made.starts32_len = (size_t)ncols + 1;
+    return made;
+}
+
+struct cbgrid_columns cbgrid_csc64(uint32_t nrows, uint32_t ncols, const uint64_t *starts, const uint32_t *rows,
+                                   const uint64_t *values, size_t len) {
+    struct cbgrid_columns made = cbgrid_dcsc64(nrows, ncols, NOTHING32, 0, starts, rows, values, len);
+    made.kind = CBGRID_CSC;
+    made.starts64_len = (size_t)ncols + 1;
+    return made;
+}
+
+const char *cbgrid_message(int code) {
+    static const char *const messages[] = {
+        "done",
+        "no such semiring",
+        "grid side not 1 to 6",
+        "no such test",
+        "no such form of a matrix",
+        "more than 2147483647 rows or columns",
+        "lengths of the lists don't agree",
+        "starts, columns or rows don't ascend",
+        "entry outside the shape",
+        "not a value of the semiring",
+        "shapes don't agree",
+        "matrix not square",
+        "no such source",
+        "not a Matrix Market text of this profile",
+        "out of memory",
+        "null pointer",
+    };
+    return code >= 0 && (size_t)code < sizeof messages / sizeof *messages ? messages[code] : "no such code";
+}

@@ -1,0 +1,43 @@
+#!/bin/sh
+# Runs the tests of the C side over what make has built in a folder, with further libraries or none:
+# check.sh OUT [LIBS]
+set -e
+out=$1
+libs=$2
+fail() {
+    echo "cbgrid for C: $*" >&2
+    exit 1
+}
+
+"$out/check"
+
+"$out/example" | cmp - example.out || fail "the example prints something else than example.out"
+
+# The shared library shows the names of cbgrid.map and no others, and needs libc alone.
+sed -n 's/^ *\(cbgrid_[a-z0-9_]*\);$/\1/p' cbgrid.map | sort >"$out/names.map"
+nm -D --defined-only "$out/libcbgrid.so" | awk '{ print $3 }' | sort >"$out/names.so"
+cmp "$out/names.map" "$out/names.so" || fail "libcbgrid.so shows other names than cbgrid.map has"
+nm -g --defined-only "$out/libcbgrid.a" | awk '$2 ~ /^[A-Z]$/ { print $3 }' | sort >"$out/names.a"
+cmp "$out/names.map" "$out/names.a" || fail "libcbgrid.a shows other names than cbgrid.map has"
+sed -n 's/.*\(cbgrid_[a-z0-9_]*\)(.*/\1/p' cbgrid.h | sort -u >"$out/names.h"
+while read -r name; do
+    grep -qx "$name" "$out/names.h" || fail "cbgrid.h doesn't declare $name"
+done <"$out/names.map"
+
+needed=$(readelf -d "$out/libcbgrid.so" | sed -n 's/.*(NEEDED).*\[\(.*\)\]/\1/p')
+[ -n "$libs" ] || [ "$needed" = libc.so.6 ] || fail "libcbgrid.so needs $needed"
+
+if command -v "${CXX:-c++}" >/dev/null; then
+    "${CXX:-c++}" -x c++ -fsyntax-only -Wall -Wextra cbgrid.h || fail "cbgrid.h is no C++"
+fi
+
+# Every block is freed, and nothing is read past a list.
+if command -v valgrind >/dev/null; then
+    valgrind --quiet --error-exitcode=9 --leak-check=full --show-leak-kinds=all "$out/check" --few >/dev/null ||
+        fail "valgrind finds a fault"
+    valgrind --quiet --error-exitcode=9 --leak-check=full --show-leak-kinds=all "$out/example" >/dev/null ||
+        fail "valgrind finds a fault in the example"
+else
+    echo "valgrind isn't there: leaks are counted by the tests alone" >&2
+fi
+echo "cbgrid for C: all tests passed"

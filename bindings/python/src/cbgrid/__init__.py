@@ -1,0 +1,478 @@
+"""Sparse matrices over semirings, by a kernel that is proved to answer what its contracts say.
+
+All functions take matrices of `scipy.sparse` with values of dtype int64 or uint64, in the formats csc, csr
+and coo, and answer a matrix of the class, the format and the dtype of the first one, with its entries sorted,
+none doubled, and none that is the semiring's zero.
+
+==============  ================  ==============  =====================  ==============
+semiring        values            sum             product                zero
+==============  ================  ==============  =====================  ==============
+``plus-times``  0 to 2**64 - 1    modulo 2**64    modulo 2**64           0
+``min-plus``    0 to 2**64 - 1    the least       sum, at most 2**64-1   2**64 - 1
+``or-and``      0 and 1           or              and                    0
+``max-min``     0 to 2**64 - 1    the greatest    the least              0
+==============  ================  ==============  =====================  ==============
+
+A place that a matrix doesn't store has the semiring's zero, in every semiring; an entry that is stored with
+another value, 0 in ``min-plus`` say, is one. Places that are stored twice have the sum of what is stored there,
+as everywhere in scipy and in every semiring.
+
+**int64.** Arithmetic of ``plus-times`` is modulo 2**64, so answers for int64 are right modulo 2**64, signs
+included: they wrap as numpy's do. The other semirings compare values as whole numbers from 0 on, so a negative
+value is refused there, and an answer of ``min-plus`` that is above 2**63 - 1 raises OverflowError.
+
+**Formats.** The lists of csc matrices are read where they lie, with no copy, but that row numbers of 64 bits
+are copied to 32, and lists that aren't sorted are sorted in a copy. csr matrices are read so too, each as the
+csc of its transpose: the product of two is the transpose of the product of their transposes. A csc
+matrix beside a csr one, or a csr graph, is converted by scipy. coo matrices are sorted in a copy, and cost
+what their entries cost whatever their shape is; csc and csr take a list as long as one of their sides.
+
+**grid.** The side of the grid of blocks over which matrices are cut, 1 to 6. The answer is the same on each;
+1 is the quickest.
+
+**Errors.** What is refused raises a `CbgridValueError` (a ValueError) or a `CbgridMemoryError` (a MemoryError),
+both of them `CbgridError` with a code; a wrong type or dtype raises TypeError.
+
+**Threads.** Calls let go of the interpreter's lock, and any number may run at once, also on the same matrices,
+as long as nobody writes to them meanwhile.
+"""
+
+from __future__ import annotations
+
+import ctypes
+import operator
+import os
+from typing import Any, TypeVar
+
+import numpy as np
+import scipy.sparse
+
+from . import _lists
+from ._library import (
+    FORMAT,
+    GRID,
+    LIMIT,
+    ORDER,
+    SEMIRING,
+    SHAPES,
+    SOURCE,
+    TEST,
+    VALUE,
+    CbgridError,
+    CbgridMemoryError,
+    CbgridValueError,
+    Text,
+    error,
+    library,
+)
+
+__all__ = [
+    "CbgridError",
+    "CbgridMemoryError",
+    "CbgridValueError",
+    "add",
+    "bfs",
+    "multiply",
+    "prune",
+    "read",
+    "relax",
+    "spmv",
+    "text",
+    "times",
+    "transpose",
+]
+__version__ = "0.1.0"
+
+Matrix = TypeVar("Matrix")
+Vector = TypeVar("Vector")
+
+_SEMIRINGS = {"plus-times": 0, "min-plus": 1, "or-and": 2, "max-min": 3}
+_TESTS = {"below": 0, "above": 1, "equal": 2}
+_MIN_PLUS, _OR_AND = 1, 2
+_UNSIGNED = (False, True, False, True)  # in or-and the kernel refuses negative values itself
+
+
+def _semiring(name: str) -> int:
+    number = _SEMIRINGS.get(name)
+    if number is None:
+        raise error(SEMIRING)
+    return number
+
+
+def _grid(side: int) -> int:
+    side = operator.index(side)
+    if not 1 <= side <= 6:
+        raise error(GRID)
+    return side
+
+
+def _source(vertex: int) -> int:
+    vertex = operator.index(vertex)
+    if not 0 <= vertex < LIMIT:
+        raise error(SOURCE)
+    return vertex
+
+
+def _call(call: Any, before: tuple, operands: tuple, after: tuple, out: Any, **how: bool) -> None:
+    """Does a call. Operands are sorted in a copy only where the kernel finds that one of them isn't sorted."""
+    code = call(*before, *[_lists.lend(it, **how) for it in operands], *after, out)
+    if code == ORDER:
+        operands = tuple(_lists.in_order(it) for it in operands)
+        code = call(*before, *[_lists.lend(it, **how) for it in operands], *after, out)
+    if code:
+        raise error(code)
+
+
+def _run(call: Any, before: tuple, operands: tuple, after: tuple = (), **how: bool) -> _lists.Answer:
+    """Does a call that answers a matrix."""
+    answer = _lists.Answer()
+    _call(call, before, operands, after, answer.columns, **how)
+    return answer
+
+
+def _placed(call: Any, semiring: int, grid: int, operands: tuple, after: tuple = (), unsigned: bool = False) -> Any:
+    """An operation that is done on transposes where its first operand is a csr matrix."""
+    like = operands[0]
+    turned = like.format == "csr"
+    unsigned = unsigned or _UNSIGNED[semiring]
+    answer = _run(call, (semiring, _grid(grid)), operands, after, turned=turned, unsigned=unsigned)
+    made = _lists.matrix_of(answer, like, turned)
+    if semiring == _MIN_PLUS:
+        _lists.check_signed(made.data)
+    return made
+
+
+def _check_pair(a: Any, b: Any) -> None:
+    _lists.check_matrix(a, "a")
+    _lists.check_matrix(b, "b")
+    if a.dtype != b.dtype:
+        raise TypeError(f"a and b: values of one dtype are wanted, not {a.dtype} and {b.dtype}")
+
+
+def multiply(a: Matrix, b: Any, semiring: str = "plus-times", mask: Any = None, grid: int = 1) -> Matrix:
+    """Product of two matrices.
+
+    Parameters
+    ----------
+    a, b : csc, csr or coo matrix or array of scipy.sparse, of int64 or uint64
+        `a` has as many columns as `b` has rows. Both may be the same object.
+    semiring : {"plus-times", "min-plus", "or-and", "max-min"}
+        What adds and multiplies values.
+    mask : sparse matrix of the product's shape, optional
+        Keeps only the entries of the product at places where the mask has an entry. A stored value that is
+        the semiring's zero is none; which other value it has doesn't matter.
+    grid : int
+        The side of the grid of blocks, 1 to 6.
+
+    Returns
+    -------
+    sparse matrix
+        Of the class and dtype of `a`.
+
+    Raises
+    ------
+    CbgridValueError
+        The shapes don't agree, a value isn't one of the semiring, or an argument is none of those named.
+    CbgridMemoryError
+        Memory was refused.
+    OverflowError
+        An int64 answer of ``min-plus`` is above 2**63 - 1.
+
+    Examples
+    --------
+    >>> import numpy as np, scipy.sparse, cbgrid
+    >>> a = scipy.sparse.csc_array(np.array([[1, 2], [0, 3]]))
+    >>> cbgrid.multiply(a, a).toarray()
+    array([[1, 8],
+           [0, 9]])
+    """
+    _check_pair(a, b)
+    turned = a.format == "csr"
+    operands: tuple = (b, a) if turned else (a, b)
+    call = library.cbgrid_multiply
+    if mask is not None:
+        _lists.check_matrix(mask, "mask")
+        operands += (mask,)
+        call = library.cbgrid_multiply_masked
+    number = _semiring(semiring)
+    answer = _run(call, (number, _grid(grid)), operands, turned=turned, unsigned=_UNSIGNED[number])
+    made = _lists.matrix_of(answer, a, turned)
+    if number == _MIN_PLUS:
+        _lists.check_signed(made.data)
+    return made
+
+
+def spmv(a: Any, x: Vector, semiring: str = "plus-times", grid: int = 1) -> Vector:
+    """Product of a matrix and a vector.
+
+    Parameters
+    ----------
+    a : csc, csr or coo matrix or array of scipy.sparse, of int64 or uint64
+    x : numpy array of one dimension, or sparse matrix of one column, of the dtype of `a`
+        With as many elements as `a` has columns. A sparse `x` costs what its entries meet. In ``min-plus`` an
+        array has 2**64 - 1 where it has no entry, so it is of uint64.
+    semiring, grid
+        As in `multiply`.
+
+    Returns
+    -------
+    numpy array or sparse matrix of one column
+        As `x` is.
+
+    Raises
+    ------
+    CbgridValueError, CbgridMemoryError, OverflowError
+        As `multiply`.
+    """
+    _lists.check_matrix(a, "a")
+    number = _semiring(semiring)
+    is_array = isinstance(x, np.ndarray)
+    _check_vector(a, x, number, is_array)
+    turned, unsigned = a.format == "csr", _UNSIGNED[number]
+    column = _lists.lend_array(x, turned, unsigned) if is_array else x
+    call, operands = (library.cbgrid_multiply, (column, a)) if turned else (library.cbgrid_vector, (a, column))
+    answer = _run(call, (number, _grid(grid)), operands, turned=turned, unsigned=unsigned)
+    places, values = _lists.column_of(answer, turned, a.dtype)
+    if number == _MIN_PLUS:
+        _lists.check_signed(values)
+    if not is_array:
+        return _lists.column_like(x, a.shape[0], places, values)
+    made = np.full(a.shape[0], 2**64 - 1 if number == _MIN_PLUS else 0, x.dtype)
+    made[places] = values
+    return made
+
+
+def _check_vector(a: Any, x: Any, semiring: int, is_array: bool) -> None:
+    if is_array:
+        _lists.check_dtype(x.dtype, "x")
+    else:
+        _lists.check_matrix(x, "x")
+    if x.dtype != a.dtype:
+        raise TypeError(f"a and x: values of one dtype are wanted, not {a.dtype} and {x.dtype}")
+    if is_array and semiring == _MIN_PLUS and x.dtype.kind == "i":
+        raise TypeError("x: an array of int64 can't say infinity of min-plus: give uint64, or a sparse column")
+    if x.shape != ((a.shape[1],) if is_array else (a.shape[1], 1)):
+        raise error(SHAPES)
+
+
+def transpose(a: Matrix, semiring: str = "plus-times", grid: int = 1) -> Matrix:
+    """Transpose of a matrix, in the format of the matrix: unlike scipy's, that of a csc matrix is csc.
+
+    Parameters
+    ----------
+    a : csc, csr or coo matrix or array of scipy.sparse, of int64 or uint64
+    semiring, grid
+        As in `multiply`. Stored entries whose value is the semiring's zero are dropped.
+
+    Returns
+    -------
+    sparse matrix
+        Of the class and dtype of `a`.
+    """
+    _lists.check_matrix(a, "a")
+    return _placed(library.cbgrid_transpose, _semiring(semiring), grid, (a,))
+
+
+def add(a: Matrix, b: Any, semiring: str = "plus-times", grid: int = 1) -> Matrix:
+    """Sum of two matrices of one shape, place by place.
+
+    In ``min-plus`` the lesser of two values, in ``max-min`` the greater, in ``or-and`` the union. A place that
+    only one of them stores keeps its value.
+
+    Parameters
+    ----------
+    a, b, semiring, grid
+        As in `multiply`.
+
+    Returns
+    -------
+    sparse matrix
+        Of the class and dtype of `a`.
+    """
+    _check_pair(a, b)
+    return _placed(library.cbgrid_add, _semiring(semiring), grid, (a, b))
+
+
+def times(a: Matrix, b: Any, semiring: str = "plus-times", grid: int = 1) -> Matrix:
+    """Product of two matrices of one shape, place by place.
+
+    Only places that both store can have an entry. In ``or-and`` it is the intersection.
+
+    Parameters
+    ----------
+    a, b, semiring, grid
+        As in `multiply`.
+
+    Returns
+    -------
+    sparse matrix
+        Of the class and dtype of `a`.
+    """
+    _check_pair(a, b)
+    return _placed(library.cbgrid_times, _semiring(semiring), grid, (a, b))
+
+
+def prune(a: Matrix, test: str, value: int, semiring: str = "plus-times", grid: int = 1) -> Matrix:
+    """A matrix without the entries whose value passes a test.
+
+    Parameters
+    ----------
+    a : csc, csr or coo matrix or array of scipy.sparse, of int64 or uint64
+        For "below" and "above" without negative values.
+    test : {"below", "above", "equal"}
+        Drops values that are strictly below `value`, strictly above it, or equal to it.
+    value : int
+        0 to 2**64 - 1; with "equal" and int64 it may be negative.
+    semiring, grid
+        As in `multiply`.
+
+    Returns
+    -------
+    sparse matrix
+        Of the class and dtype of `a`.
+    """
+    _lists.check_matrix(a, "a")
+    number = _TESTS.get(test)
+    if number is None:
+        raise error(TEST)
+    bound = operator.index(value)
+    is_equal = test == "equal"
+    if not (-(2**63) if is_equal and a.dtype.kind == "i" else 0) <= bound < 2**64:
+        raise error(VALUE, "value not 0 to 2^64 - 1")
+    after = (number, bound % 2**64)
+    return _placed(library.cbgrid_prune, _semiring(semiring), grid, (a,), after, unsigned=not is_equal)
+
+
+def bfs(graph: Any, source: int, grid: int = 1) -> tuple[np.ndarray, np.ndarray]:
+    """Levels of the vertices of a graph, by breadth-first search.
+
+    Parameters
+    ----------
+    graph : csc, csr or coo matrix or array of scipy.sparse, of int64 or uint64
+        Square. An entry at row i and column j is an edge from i to j, whatever its value is; a stored 0 is
+        none.
+    source : int
+        The vertex to start from, counted from 0.
+    grid
+        As in `multiply`.
+
+    Returns
+    -------
+    vertices : numpy array of int32
+        The vertices that are reached, ascending, the source among them.
+    levels : numpy array of int64
+        The least number of edges that lead from the source to each of them.
+    """
+    _lists.check_matrix(graph, "graph")
+    answer = _walk(library.cbgrid_levels, graph, source, grid, nonzero=True)
+    return answer.rows(), answer.values(np.dtype(np.int64))
+
+
+def relax(graph: Any, source: int, grid: int = 1) -> tuple[np.ndarray, np.ndarray]:
+    """Distances of the vertices of a graph from a source.
+
+    Parameters
+    ----------
+    graph : csc, csr or coo matrix or array of scipy.sparse, of int64 or uint64
+        Square. An entry at row i and column j is an edge from i to j, and its value is the edge's length, from
+        0 on; a stored 0 is an edge of length 0.
+    source, grid
+        As in `bfs`.
+
+    Returns
+    -------
+    vertices : numpy array of int32
+        The vertices that are reached, ascending, the source among them.
+    distances : numpy array of the graph's dtype
+        The least sum of lengths of edges that lead from the source to each of them. A vertex at a distance of
+        2**64 - 1 or more isn't reached.
+
+    Raises
+    ------
+    CbgridValueError, CbgridMemoryError, OverflowError
+        As `multiply`.
+    """
+    _lists.check_matrix(graph, "graph")
+    answer = _walk(library.cbgrid_distances, graph, source, grid, nonzero=False)
+    distances = answer.values(graph.dtype)
+    _lists.check_signed(distances)
+    return answer.rows(), distances
+
+
+def _walk(call: Any, graph: Any, source: int, grid: int, nonzero: bool) -> _lists.Answer:
+    before, after = (_grid(grid),), (_source(source),)
+    return _run(call, before, (graph,), after, turned=False, unsigned=not nonzero, nonzero=nonzero)
+
+
+def read(source: Any, semiring: str = "plus-times", format: str = "csc", dtype: Any = np.uint64) -> Any:
+    """The matrix that a Matrix Market text reads as.
+
+    Parameters
+    ----------
+    source : bytes, str or os.PathLike
+        Bytes are the text itself; a str or a path names a file.
+    semiring : {"plus-times", "min-plus", "or-and", "max-min"}
+        Entries that name one place twice are added by its sum. In ``or-and`` every number but 0 is 1.
+    format : {"csc", "csr", "coo"}
+        The format of the answer. csc and csr take a list as long as one of the sides, coo doesn't.
+    dtype : {numpy.uint64, numpy.int64}
+        The dtype of the answer. For int64, values of ``plus-times`` are taken modulo 2**64, so that -1 is
+        read as -1; in the others a value above 2**63 - 1 raises OverflowError.
+
+    Returns
+    -------
+    csc_array, csr_array or coo_array
+
+    Raises
+    ------
+    CbgridValueError
+        With code 13 and `line`, where the text is none of the profile.
+    OSError
+        The file can't be read.
+    """
+    number = _semiring(semiring)
+    dtype = np.dtype(dtype)
+    _lists.check_dtype(dtype, "dtype")
+    if format not in ("csc", "csr", "coo"):
+        raise TypeError(f"format: csc, csr or coo is wanted, not {format}")
+    contents = _contents(source)
+    answer, line = _lists.Answer(), ctypes.c_uint64()
+    code = library.cbgrid_read(number, contents, len(contents), line, answer.columns)
+    if code:
+        raise error(code, line=line.value if code == FORMAT else None)
+    like = (scipy.sparse.csc_array if format == "csc" else scipy.sparse.coo_array)((0, 0), dtype=dtype)
+    made = _lists.matrix_of(answer, like, turned=False)
+    if number != 0:
+        _lists.check_signed(made.data)
+    return made.tocsr() if format == "csr" else made
+
+
+def _contents(source: Any) -> bytes:
+    if isinstance(source, (bytes, bytearray, memoryview)):
+        return bytes(source)
+    with open(os.fspath(source), "rb") as file:
+        return file.read()
+
+
+def text(matrix: Any, semiring: str = "plus-times") -> bytes:
+    """The Matrix Market text of a matrix: by column and then by row.
+
+    Parameters
+    ----------
+    matrix : csc, csr or coo matrix or array of scipy.sparse, of int64 or uint64
+        In ``plus-times`` negative values are written modulo 2**64, and read again as they were.
+    semiring
+        As in `read`. In ``or-and`` the text is a ``pattern`` file.
+
+    Returns
+    -------
+    bytes
+    """
+    _lists.check_matrix(matrix, "matrix")
+    number = _semiring(semiring)
+    made = Text()
+    _call(library.cbgrid_text, (number,), (matrix,), (), made, turned=False, unsigned=_UNSIGNED[number])
+    try:
+        return ctypes.string_at(made.bytes, made.len)
+    finally:
+        library.cbgrid_free_text(made)

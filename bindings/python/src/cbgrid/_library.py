@@ -1,0 +1,110 @@
+"""libcbgrid.so as ctypes sees it: the structs of cbgrid.h, its calls, and its codes as exceptions."""
+
+from __future__ import annotations
+
+import ctypes
+import os
+
+ORDER, PLACE, VALUE, FORMAT, MEMORY = 7, 8, 9, 13, 14
+SEMIRING, GRID, TEST, TOO_LARGE, LENGTHS, SHAPES, SOURCE = 1, 2, 3, 5, 6, 10, 12
+LIMIT = 2147483647
+
+
+class Columns(ctypes.Structure):
+    """`struct cbgrid_columns`. Keeps the arrays that it points into, where it is lent."""
+
+    _fields_ = [
+        ("nrows", ctypes.c_uint32),
+        ("ncols", ctypes.c_uint32),
+        ("kind", ctypes.c_uint32),
+        ("wide", ctypes.c_uint32),
+        ("columns", ctypes.c_void_p),
+        ("columns_len", ctypes.c_size_t),
+        ("starts32", ctypes.c_void_p),
+        ("starts32_len", ctypes.c_size_t),
+        ("starts64", ctypes.c_void_p),
+        ("starts64_len", ctypes.c_size_t),
+        ("rows", ctypes.c_void_p),
+        ("rows_len", ctypes.c_size_t),
+        ("values", ctypes.c_void_p),
+        ("values_len", ctypes.c_size_t),
+    ]
+    kept: tuple = ()
+
+
+class Text(ctypes.Structure):
+    """`struct cbgrid_text`."""
+
+    _fields_ = [("bytes", ctypes.c_void_p), ("len", ctypes.c_size_t)]
+
+
+_u32, _at = ctypes.c_uint32, ctypes.POINTER(Columns)
+_CALLS = {
+    "cbgrid_multiply": [_u32, _u32, _at, _at, _at],
+    "cbgrid_multiply_masked": [_u32, _u32, _at, _at, _at, _at],
+    "cbgrid_vector": [_u32, _u32, _at, _at, _at],
+    "cbgrid_transpose": [_u32, _u32, _at, _at],
+    "cbgrid_add": [_u32, _u32, _at, _at, _at],
+    "cbgrid_times": [_u32, _u32, _at, _at, _at],
+    "cbgrid_prune": [_u32, _u32, _at, _u32, ctypes.c_uint64, _at],
+    "cbgrid_levels": [_u32, _at, _u32, _at],
+    "cbgrid_distances": [_u32, _at, _u32, _at],
+    "cbgrid_read": [_u32, ctypes.c_char_p, ctypes.c_size_t, ctypes.POINTER(ctypes.c_uint64), _at],
+    "cbgrid_text": [_u32, _at, ctypes.POINTER(Text)],
+}
+
+
+def _load() -> ctypes.CDLL:
+    library = ctypes.CDLL(os.path.join(os.path.dirname(os.path.abspath(__file__)), "libcbgrid.so"))
+    for name, arguments in _CALLS.items():
+        function = getattr(library, name)
+        function.argtypes = arguments
+        function.restype = ctypes.c_int
+    for name, argument in ("cbgrid_free_columns", _at), ("cbgrid_free_text", ctypes.POINTER(Text)):
+        getattr(library, name).argtypes = [argument]
+        getattr(library, name).restype = None
+    library.cbgrid_message.argtypes = [ctypes.c_int]
+    library.cbgrid_message.restype = ctypes.c_char_p
+    return library
+
+
+library = _load()
+
+
+class CbgridError(Exception):
+    """A call that has no answer.
+
+    It is raised as a `CbgridValueError` or a `CbgridMemoryError`.
+
+    Attributes
+    ----------
+    code : int
+        The code of cbgrid.h, 1 to 15.
+    message : str
+        What the code says, in a few words.
+    line : int or None
+        For a text that is no matrix, the line of its first fault, counted from 1.
+    """
+
+    def __init__(self, code: int, message: str, line: int | None = None) -> None:
+        super().__init__(message if line is None else f"line {line}: {message}")
+        self.code = code
+        self.message = message
+        self.line = line
+
+    def __reduce__(self):
+        return type(self), (self.code, self.message, self.line)
+
+
+class CbgridValueError(CbgridError, ValueError):
+    """An argument is refused."""
+
+
+class CbgridMemoryError(CbgridError, MemoryError):
+    """Memory was refused."""
+
+
+def error(code: int, message: str | None = None, line: int | None = None) -> CbgridError:
+    """The exception of a code, with the library's message or a closer one."""
+    kind = CbgridMemoryError if code == MEMORY else CbgridValueError
+    return kind(code, message or library.cbgrid_message(code).decode("ascii"), line)
