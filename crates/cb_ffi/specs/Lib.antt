@@ -1,0 +1,4 @@
+-- Lists: a matrix in compressed columns, which lists are well formed and what matrix they are.
+-- Refusals: why a call has no answer.
+pub mod Lists
+pub mod Refusals
