@@ -2,12 +2,12 @@
 ghost use Rattle.std.specs.Prelude.{◌≡◌, ◌≢◌, ◌↔◌, IsTrue, ℕ, ◌<◌, ◌++◌, length, All, AllPairs, IfOk, OnOk};
 ghost use Rattle.cb_semirings.specs.Arithmetic.{IsValue};
 ghost use Rattle.cb_dcsc.specs.Compressed.{entries_in, pieces};
-ghost use Rattle.cb_ffi.specs.Lists.{matrix_of, listed_in, nonzero, shape_of, AreLists};
+ghost use Rattle.cb_ffi.specs.Lists.{matrix_of, listed_in, nonzero, AreLists};
 
 use crate::lists::Columns;
 use cb_dcsc::Block;
 use cb_layout::{DistributedMatrix, Grid};
-use cb_matrix::{Entry, Matrix, Shape};
+use cb_matrix::{Entry, Matrix};
 use cb_semirings::Semiring;
 use std::alloc::{AllocError, Global};
 
@@ -16,15 +16,13 @@ use std::alloc::{AllocError, Global};
 pub(crate) fn spread<S: Semiring>(
     alloc: Global,
     grid: Grid,
-    shape: Shape,
     lists: &Columns,
 ) -> Result<DistributedMatrix<S>, AllocError>
-    requires lists { AreLists S.arithmetic lists.now }
-    requires shape { shape ≡ shape_of lists.now }
+    requires { AreLists S.arithmetic lists.now }
     ensures { IfOk result (λ m. m ≡ record { side = grid.side; matrix = matrix_of S.arithmetic lists.now }) }
 {
-    let block = block_of::<S>(alloc, shape, lists)?;
-    let _shape = block.shape();
+    let block = block_of::<S>(alloc, lists)?;
+    let shape = block.shape();
     if grid.side() == 1 {
         let blocks = vec![in alloc; block]?;
         return Ok(DistributedMatrix::from_blocks(grid, shape, blocks));
@@ -42,15 +40,11 @@ pub(crate) fn matrix_of_block<S: Semiring>(block: &Block<S>) -> Result<Matrix<S>
 }
 
 /// The matrix of well-formed lists as one block.
-pub(crate) fn block_of<S: Semiring>(
-    alloc: Global,
-    shape: Shape,
-    lists: &Columns,
-) -> Result<Block<S>, AllocError>
-    requires lists { AreLists S.arithmetic lists.now }
-    requires shape { shape ≡ shape_of lists.now }
+pub(crate) fn block_of<S: Semiring>(alloc: Global, lists: &Columns) -> Result<Block<S>, AllocError>
+    requires { AreLists S.arithmetic lists.now }
     ensures { IfOk result (λ block. block ≡ matrix_of S.arithmetic lists.now) }
 {
+    let shape = lists.shape();
     let mut block = Block::empty(alloc, shape);
     block.reserve(lists.rows.len())?;
     for n in 0..lists.count() {

@@ -177,18 +177,27 @@ impl Columns {
         (self.kind != 0 || are_below(self.columns, self.ncols)) && are_below(self.rows, self.nrows)
     }
 
-    /// The shape, if the lists are those of a matrix over the semiring, and else the first fault. It costs a few
-    /// instructions for each stored column and for each entry, and no memory.
-    pub(crate) fn check<S: Semiring>(&self) -> Result<Shape, Fault>
-        ensures ok { IfOk result (λ shape. (shape ≡ shape_of self.now) × AreLists S.arithmetic self.now) }
+    /// The shape of the matrix.
+    pub(crate) fn shape(&self) -> Shape
+        requires { Fits self.now }
+        ensures { result ≡ shape_of self.now }
+    {
+        Shape::new(self.nrows, self.ncols).unwrap()
+    }
+
+    /// Whether the lists are those of a matrix over the semiring, or else the first fault. It costs a few instructions
+    /// for each stored column and for each entry, and no memory.
+    #[tactic(auto, unfolding(crate::specs::Refusals::matrix_faults))]
+    pub(crate) fn check<S: Semiring>(&self) -> Result<(), Fault>
+        ensures ok { IfOk result (λ _. AreLists S.arithmetic self.now) }
         ensures fault { IfErr result (matrix_faults S.arithmetic self.now (λ _. ⊥)) }
     {
         if !self.has_form() {
             return Err(Fault::Form);
         }
-        let Some(shape) = Shape::new(self.nrows, self.ncols) else {
+        if self.nrows > LIMIT || self.ncols > LIMIT {
             return Err(Fault::TooLarge);
-        };
+        }
         if !self.have_lengths() {
             return Err(Fault::Lengths);
         }
@@ -201,7 +210,7 @@ impl Columns {
         if !are_values::<S>(self.values) {
             return Err(Fault::Value);
         }
-        Ok(shape)
+        Ok(())
     }
 }
 

@@ -10,7 +10,6 @@ returns-then-side-eq1 g c =
     let s = g.S.Semiring.arithmetic in
     let b = c.in_ok-block.block in
     let one : c.args.grid.side ≡ 1 = search rules in
-    let shape : c.args.shape ≡ b.shape = c.requires.shape ∙ sym (ap (λ (m : Sparse). m.shape) c.in_ok-block.ensures) in
-    let whole : glued_blocks s c.args.grid.side c.args.shape c.in_ok-blocks.blocks.items ≡ b =
-    (λ t. glued_blocks s (one t) (shape t) c.in_ok-blocks.blocks.items) ∙ one_glued s g.met.S.Semiring.is_semiring b c.shape-shape.ensures.matrix _ c.in_ok-blocks.ensures.items in
+    let whole : glued_blocks s c.args.grid.side c.shape-shape.result c.in_ok-blocks.blocks.items ≡ b =
+    (λ t. glued_blocks s (one t) (c.shape-shape.ensures.shape t) c.in_ok-blocks.blocks.items) ∙ one_glued s g.met.S.Semiring.is_semiring b c.shape-shape.ensures.matrix _ c.in_ok-blocks.ensures.items in
     c.from_blocks.ensures ∙ (λ t. record { side = c.args.grid.side; matrix = (whole ∙ c.in_ok-block.ensures) t })

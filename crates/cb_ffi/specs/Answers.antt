@@ -1,0 +1,27 @@
+-- What a call answers.
+use Rattle.std.specs.Prelude.{◌≡◌, ◌≢◌, ℕ, ◌==◌, cond, Result, Ok, Err}
+use Rattle.cb_elementwise.specs.declared.rules.Test.{Test}
+use Rattle.cb_elementwise.specs.declared.rules.Test.TheVariants.{Below, Above, Equal}
+use Rattle.cb_ffi.specs.declared.faults.Fault.{Fault}
+use Rattle.cb_ffi.specs.declared.faults.Fault.TheVariants.{Memory}
+use Rattle.cb_ffi.specs.Refusals.{code_of}
+
+-- no fault is there but want of memory, which may come at any time
+pub record NoFault (faults : Fault → Type 0) : Type 0 where
+  pub memory : faults Memory
+  pub only : (f : Fault) → faults f → f ≡ Memory
+
+-- what is asked for, where there is no fault, or else the first fault
+abbrev pub IsAnswer : {X : Type 0} → (Fault → Type 0) → (X → Type 0) → Result X Fault → Type 0
+IsAnswer faults is (Ok x) = NoFault faults × is x
+IsAnswer faults is (Err f) = faults f
+
+-- The same, as C gets it: code 0 and what is asked for, or else the number of the first fault, and what was there before.
+pub record IsCall {X : Type 0} (faults : Fault → Type 0) (is : X → Type 0) (code : ℕ) (old new : X) : Type 0 where
+  pub answer : code ≡ 0 → NoFault faults × is new
+  pub fault : code ≢ 0 → (f : Fault) × (code ≡ code_of f) × faults f
+  pub unchanged : code ≢ 0 → new ≡ old
+
+-- the test of a number, 0 to 2, with its bound
+abbrev pub test_of : ℕ → ℕ → Test
+test_of n bound = cond (n == 0) (Below bound) (cond (n == 1) (Above bound) (Equal bound))
