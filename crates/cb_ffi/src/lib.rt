@@ -14,9 +14,10 @@ ghost use Rattle.std.specs.Prelude.{◌≡◌, ◌≢◌, IfOk, IfErr};
 ghost use Rattle.cb_matrix.specs.Values.{product};
 ghost use Rattle.cb_matrix.specs.Operations.{masked, transposed, sum_of, times_of, pruned};
 ghost use Rattle.cb_elementwise.specs.Passing.{passes};
+ghost use Rattle.cb_market.specs.Faults.{first_fault};
 ghost use Rattle.cb_ffi.specs.Lists.{matrix_of, HasLists};
-ghost use Rattle.cb_ffi.specs.Refusals.{arithmetic_of, code_of, over, product_faults, masked_faults, vector_faults, transpose_faults, placewise_faults, prune_faults};
-ghost use Rattle.cb_ffi.specs.Answers.{IsCall, test_of};
+ghost use Rattle.cb_ffi.specs.Refusals.{arithmetic_of, code_of, over, product_faults, masked_faults, vector_faults, transpose_faults, placewise_faults, prune_faults, read_faults, text_faults};
+ghost use Rattle.cb_ffi.specs.Answers.{IsCall, IsLine, IsRead, IsTextOf, test_of};
 
 mod checks;
 mod faults;
@@ -27,10 +28,12 @@ mod placewise;
 mod products;
 #[cfg(test)]
 mod tests;
+mod texts;
 
 pub use faults::Fault;
 pub use lists::Columns;
 use std::alloc::Global;
+pub use texts::Text;
 
 /// Puts an answer, or answers the number of the fault.
 fn put<T: Copy>(out: &mut T, answer: Result<T, Fault>) -> u32
@@ -153,4 +156,33 @@ pub extern "C" fn cbgrid_kernel_prune(
     ensures { IsCall (over semiring (λ s. prune_faults s grid a.now test)) (HasLists (pruned (arithmetic_of semiring) (passes (test_of test bound)) (matrix_of (arithmetic_of semiring) a.now))) result out.old out.new }
 {
     put(out, placewise::prune(alloc, semiring, grid, a, test, bound))
+}
+
+/// The matrix that a Matrix Market text reads as, over the semiring of a number. Where the text has a fault (code 13)
+/// `line` is its line, counted from 1, and else as it was.
+#[unsafe(no_mangle)]
+pub extern "C" fn cbgrid_kernel_read(
+    alloc: Global,
+    semiring: u32,
+    text: &[u8],
+    line: &mut u64,
+    out: &mut Columns,
+) -> u32
+    ensures call { IsCall (over semiring (λ s. read_faults s text.now)) (IsRead (arithmetic_of semiring) text.now) result out.old out.new }
+    ensures line { IsLine (first_fault (arithmetic_of semiring) text.now) result line.old line.new }
+{
+    put(out, texts::read_in(alloc, semiring, text, line))
+}
+
+/// The Matrix Market text of a matrix, over the semiring of a number.
+#[unsafe(no_mangle)]
+pub extern "C" fn cbgrid_kernel_text(
+    alloc: Global,
+    semiring: u32,
+    a: &Columns,
+    out: &mut Text,
+) -> u32
+    ensures { IsCall (over semiring (λ s. text_faults s a.now)) (IsTextOf (arithmetic_of semiring) a.now) result out.old out.new }
+{
+    put(out, texts::text_in(alloc, semiring, a))
 }
