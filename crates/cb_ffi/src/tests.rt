@@ -1,7 +1,8 @@
-//! Worked examples: each fault by its code, and products by both kinds of lists.
+//! Worked examples: each fault by its code, products by both kinds of lists, and texts.
 use crate::{
-    Columns, cbgrid_kernel_add, cbgrid_kernel_multiply, cbgrid_kernel_multiply_masked,
-    cbgrid_kernel_prune, cbgrid_kernel_times, cbgrid_kernel_transpose, cbgrid_kernel_vector,
+    Columns, Text, cbgrid_kernel_add, cbgrid_kernel_multiply, cbgrid_kernel_multiply_masked,
+    cbgrid_kernel_prune, cbgrid_kernel_read, cbgrid_kernel_text, cbgrid_kernel_times,
+    cbgrid_kernel_transpose, cbgrid_kernel_vector,
 };
 use std::test::Fail;
 
@@ -242,5 +243,50 @@ fn place_by_place(rt: HostRuntime) -> Result<(), Fail> {
     );
     assert_eq!(rt; masked.columns, [0].as_slice());
     assert_eq!(rt; masked.values, [5].as_slice());
+    Ok(())
+}
+
+#[test]
+fn a_text_is_read_and_written(rt: HostRuntime) -> Result<(), Fail> {
+    let alloc = rt.alloc();
+    let text = b"%%MatrixMarket matrix coordinate integer general\n2 3 2\n1 1 5\n2 3 6\n";
+    let mut line = 9;
+    let mut read = NONE;
+    assert_eq!(rt; cbgrid_kernel_read(alloc, 0, text, &mut line, &mut read), 0);
+    assert_eq!(rt; line, 9);
+    assert_eq!(rt; (read.nrows, read.ncols), (2, 3));
+    assert_eq!(rt; read.columns, [0, 2].as_slice());
+    assert_eq!(rt; read.values, [5, 6].as_slice());
+    let mut written = Text { bytes: &[] };
+    assert_eq!(rt; cbgrid_kernel_text(alloc, 0, &read, &mut written), 0);
+    assert_eq!(rt; written.bytes, text.as_slice());
+    Ok(())
+}
+
+#[test]
+fn a_text_with_a_fault_names_its_line(rt: HostRuntime) -> Result<(), Fail> {
+    let alloc = rt.alloc();
+    let text = b"%%MatrixMarket matrix coordinate integer general\n2 3 1\n1 4 5\n";
+    let mut line = 0;
+    let mut out = NAMED;
+    assert_eq!(rt; cbgrid_kernel_read(alloc, 0, text, &mut line, &mut out), 13);
+    assert_eq!(rt; line, 3);
+    assert_eq!(rt; out.values, [1, 2, 3].as_slice());
+    assert_eq!(rt; cbgrid_kernel_read(alloc, 4, text, &mut line, &mut out), 1);
+    assert_eq!(rt; line, 3);
+    Ok(())
+}
+
+#[test]
+fn infinity_is_not_stored_in_min_plus(rt: HostRuntime) -> Result<(), Fail> {
+    let alloc = rt.alloc();
+    let lists = Columns {
+        values: &[1, u64::MAX, 3],
+        ..NAMED
+    };
+    let mut out = NONE;
+    assert_eq!(rt; cbgrid_kernel_transpose(alloc, 1, 3, &lists, &mut out), 0);
+    assert_eq!(rt; out.rows, [0, 2].as_slice());
+    assert_eq!(rt; out.values, [1, 3].as_slice());
     Ok(())
 }
