@@ -1,6 +1,6 @@
 -- The matrix whose parts stand in one slot of the ranks.
 use Rattle.std.proofs.Common.{◌≡◌, ℕ, ◌+◌, ◌*◌, ◌/◌, ◌%◌, ◌<◌, ◌≤◌, true, false, List, [], length, get_or, refl, sym, ap, subst, ⊎_elim, ◌∙◌, arith}
-use Rattle.std.specs.Prelude.{Option, Some, None, IsSome}
+use Rattle.std.specs.Prelude.{Option, Some, None, IsSome, Result, Ok, Err, IfOk}
 use Rattle.std.proofs.lemmas.Bool.{cases_lt}
 use Rattle.std.proofs.lemmas.Nat.{mod_below}
 use Rattle.std.proofs.lemmas.List.{get_or_past}
@@ -80,3 +80,9 @@ module _ (s : Arithmetic) (q : ℕ) (m : Sparse) (n : ℕ) (state : State Sparse
 
   pub gathered_parts : IsSemiring s → 0 < q → IsMatrix s m → gathered s q m.shape n state ≡ m
   gathered_parts laws pos is = glued_cut s laws q pos m is (λ i j. block_or (state (i * q + j) n)) (λ i j l k. ap block_or (parts i j l k))
+
+-- what is gathered for whichever state was meant is gathered for this one
+pub whichever_meant : {E : Type 0} (s : Arithmetic) (q : ℕ) (shape : Extent) (n : ℕ) (stores : List (List (Slot Sparse))) (r : Result Distributed E) →
+    IfOk r (λ m. (meant : State Sparse) → LostOrMeans meant stores → m ≡ over_grid q (gathered s q shape n meant)) → (meant : State Sparse) → LostOrMeans meant stores → IfOk r (λ m. m ≡ over_grid q (gathered s q shape n meant))
+whichever_meant s q shape n stores (Ok m) h meant left = h meant left
+whichever_meant s q shape n stores (Err e) h meant left = h

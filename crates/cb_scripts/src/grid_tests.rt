@@ -2,7 +2,7 @@
 //! each allocation refused in turn.
 use crate::tests::{ENGINES, RUNS, entry, grid, is_refusal, matrix, operands};
 use crate::{
-    Engine, ScriptFault, add_distributed, multiply_distributed, multiply_masked_distributed,
+    Engine, ScriptFault, add_distributed, multiply_distributed, multiply_masked_distributed, plain,
     prune_distributed, times_distributed, transpose_distributed, vector_distributed,
 };
 use cb_elementwise::Test;
@@ -113,6 +113,60 @@ fn calls_over_each_grid(rt: HostRuntime) -> Result<(), Fail> {
             assert!(rt; is_made(call, answer.entries()));
         }
     }
+    Ok(())
+}
+
+/// Whether a call left these entries over a grid.
+fn is_left(
+    alloc: Global,
+    call: Call,
+    answer: DistributedMatrix<PlusTimes>,
+) -> Result<bool, ScriptFault> {
+    let whole = answer.gather(alloc)?;
+    Ok(is_made(call, whole.entries()))
+}
+
+#[test]
+fn calls_without_a_runtime(rt: HostRuntime) -> Result<(), Fail> {
+    let alloc = rt.alloc();
+    let Operands { left, right, .. } = given(alloc).ok_or("memory")?;
+    for side in 1..4 {
+        let grid = grid(side)?;
+        let a = DistributedMatrix::scatter(alloc, grid, &left)?;
+        let b = DistributedMatrix::scatter(alloc, grid, &right)?;
+        let product = plain::multiply_distributed(alloc, a, b)?;
+        assert!(rt; is_left(alloc, Call::Multiply, product)?);
+        let a = DistributedMatrix::scatter(alloc, grid, &left)?;
+        let b = DistributedMatrix::scatter(alloc, grid, &right)?;
+        let mask = DistributedMatrix::scatter(alloc, grid, &left)?;
+        let product = plain::multiply_masked_distributed(alloc, a, b, mask)?;
+        assert!(rt; is_left(alloc, Call::MultiplyMasked, product)?);
+    }
+    Ok(())
+}
+
+#[test]
+fn other_calls_without_a_runtime(rt: HostRuntime) -> Result<(), Fail> {
+    let alloc = rt.alloc();
+    let Operands { left, right, .. } = given(alloc).ok_or("memory")?;
+    let grid = grid(2)?;
+    let a = DistributedMatrix::scatter(alloc, grid, &left)?;
+    let b = DistributedMatrix::scatter(alloc, grid, &right)?;
+    assert!(rt; is_left(alloc, Call::Add, plain::add_distributed(alloc, a, b)?)?);
+    let a = DistributedMatrix::scatter(alloc, grid, &left)?;
+    let b = DistributedMatrix::scatter(alloc, grid, &right)?;
+    assert!(rt; is_left(alloc, Call::Times, plain::times_distributed(alloc, a, b)?)?);
+    let a = DistributedMatrix::scatter(alloc, grid, &left)?;
+    assert!(rt;
+        is_left(
+            alloc,
+            Call::Transpose,
+            plain::transpose_distributed(alloc, a)?
+        )?
+    );
+    let a = DistributedMatrix::scatter(alloc, grid, &left)?;
+    let rest = plain::prune_distributed(alloc, a, Test::Above(1))?;
+    assert!(rt; is_left(alloc, Call::Prune, rest)?);
     Ok(())
 }
 

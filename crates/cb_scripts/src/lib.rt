@@ -16,6 +16,7 @@ mod grid_tests;
 mod order_tests;
 mod orders;
 mod placewise;
+pub mod plain;
 mod products;
 mod rounds;
 mod runs;

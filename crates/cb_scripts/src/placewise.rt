@@ -1,10 +1,12 @@
 //! Sums and products place by place, and entries dropped by a test: no entry leaves its rank.
-ghost use Rattle.std.specs.Prelude.{◌≡◌, IfOk, IfErr};
+ghost use Rattle.std.specs.Prelude.{◌≡◌, map, All, IfOk, IfErr};
 ghost use Rattle.cb_matrix.specs.Operations.{sum_of, times_of, pruned};
 ghost use Rattle.cb_elementwise.specs.Passing.{passes};
+ghost use Rattle.cb_scripts.specs.declared.Engine.TheVariants.{Plain};
+ghost use Rattle.cb_scripts.specs.Answers.{Makes};
 ghost use Rattle.cb_scripts.specs.Refusals.{IsPlacewiseRefusal, IsRunRefusal};
 
-use crate::runs::compute;
+use crate::runs::{Prepared, compute};
 use crate::{Engine, ScriptFault};
 use cb_elementwise::Test;
 use cb_kernels::{LEFT, RIGHT, grid_add, grid_prune, grid_times};
@@ -53,6 +55,23 @@ pub fn add_distributed<S: Semiring + Send + Sync, R: Threads + Wait + Sync>(
     ensures agree { IfOk result (λ m. left.matrix.shape ≡ right.matrix.shape) }
     ensures fault { IfErr result (IsPlacewiseRefusal left.matrix right.matrix engine) }
 {
+    let (grid, planned, operands, shape) = add_plan(alloc, left, right)?;
+    compute(rt, alloc, engine, &grid, planned, operands, shape)
+}
+
+/// The plan of the sum of two matrices that lie over one grid, and what it is made of.
+pub(crate) fn add_plan<S: Semiring>(
+    alloc: Global,
+    left: DistributedMatrix<S>,
+    right: DistributedMatrix<S>,
+) -> Result<Prepared<S>, ScriptFault>
+    requires sides { right.side ≡ left.side }
+    ensures grid { IfOk result (λ p. p.0.side ≡ left.side) }
+    ensures sides { IfOk result (λ p. All (λ o. o.1.side ≡ p.0.side) p.2.items) }
+    ensures makes { IfOk result (λ p. Makes S.arithmetic p.0.side (map (λ o. (o.0, o.1.matrix)) p.2.items) p.1 p.3 (sum_of S.arithmetic left.matrix right.matrix)) }
+    ensures agree { IfOk result (λ p. left.matrix.shape ≡ right.matrix.shape) }
+    ensures fault { IfErr result (IsPlacewiseRefusal left.matrix right.matrix Plain) }
+{
     let grid = left.grid();
     let shape = left.shape();
     if shape != right.shape() {
@@ -64,7 +83,7 @@ pub fn add_distributed<S: Semiring + Send + Sync, R: Threads + Wait + Sync>(
     let Ok(operands) = vec![in alloc; (LEFT, left), (RIGHT, right)] else {
         return Err(ScriptFault::Memory);
     };
-    compute(rt, alloc, engine, &grid, planned, operands, shape)
+    Ok((grid, planned, operands, shape))
 }
 
 /// The product of two matrices, place by place: only places where both have an entry can have one. This is the
@@ -106,6 +125,23 @@ pub fn times_distributed<S: Semiring + Send + Sync, R: Threads + Wait + Sync>(
     ensures agree { IfOk result (λ m. left.matrix.shape ≡ right.matrix.shape) }
     ensures fault { IfErr result (IsPlacewiseRefusal left.matrix right.matrix engine) }
 {
+    let (grid, planned, operands, shape) = times_plan(alloc, left, right)?;
+    compute(rt, alloc, engine, &grid, planned, operands, shape)
+}
+
+/// The plan of the product, place by place, of two matrices that lie over one grid, and what it is made of.
+pub(crate) fn times_plan<S: Semiring>(
+    alloc: Global,
+    left: DistributedMatrix<S>,
+    right: DistributedMatrix<S>,
+) -> Result<Prepared<S>, ScriptFault>
+    requires sides { right.side ≡ left.side }
+    ensures grid { IfOk result (λ p. p.0.side ≡ left.side) }
+    ensures sides { IfOk result (λ p. All (λ o. o.1.side ≡ p.0.side) p.2.items) }
+    ensures makes { IfOk result (λ p. Makes S.arithmetic p.0.side (map (λ o. (o.0, o.1.matrix)) p.2.items) p.1 p.3 (times_of S.arithmetic left.matrix right.matrix)) }
+    ensures agree { IfOk result (λ p. left.matrix.shape ≡ right.matrix.shape) }
+    ensures fault { IfErr result (IsPlacewiseRefusal left.matrix right.matrix Plain) }
+{
     let grid = left.grid();
     let shape = left.shape();
     if shape != right.shape() {
@@ -117,7 +153,7 @@ pub fn times_distributed<S: Semiring + Send + Sync, R: Threads + Wait + Sync>(
     let Ok(operands) = vec![in alloc; (LEFT, left), (RIGHT, right)] else {
         return Err(ScriptFault::Memory);
     };
-    compute(rt, alloc, engine, &grid, planned, operands, shape)
+    Ok((grid, planned, operands, shape))
 }
 
 /// A matrix without the entries whose value, as a whole number, passes a test. It costs the entries.
@@ -149,6 +185,21 @@ pub fn prune_distributed<S: Semiring + Send + Sync, R: Threads + Wait + Sync>(
     ensures ok { IfOk result (λ m. m ≡ record { side = matrix.side; matrix = pruned S.arithmetic (passes test) matrix.matrix }) }
     ensures fault { IfErr result (IsRunRefusal engine) }
 {
+    let (grid, planned, operands, shape) = prune_plan(alloc, matrix, test)?;
+    compute(rt, alloc, engine, &grid, planned, operands, shape)
+}
+
+/// The plan of a matrix without the entries whose value passes a test, and what it is made of.
+pub(crate) fn prune_plan<S: Semiring>(
+    alloc: Global,
+    matrix: DistributedMatrix<S>,
+    test: Test,
+) -> Result<Prepared<S>, ScriptFault>
+    ensures grid { IfOk result (λ p. p.0.side ≡ matrix.side) }
+    ensures sides { IfOk result (λ p. All (λ o. o.1.side ≡ p.0.side) p.2.items) }
+    ensures makes { IfOk result (λ p. Makes S.arithmetic p.0.side (map (λ o. (o.0, o.1.matrix)) p.2.items) p.1 p.3 (pruned S.arithmetic (passes test) matrix.matrix)) }
+    ensures fault { IfErr result (IsRunRefusal Plain) }
+{
     let grid = matrix.grid();
     let shape = matrix.shape();
     let Ok(planned) = grid_prune(alloc, &grid, shape, test) else {
@@ -157,5 +208,5 @@ pub fn prune_distributed<S: Semiring + Send + Sync, R: Threads + Wait + Sync>(
     let Ok(operands) = vec![in alloc; (LEFT, matrix)] else {
         return Err(ScriptFault::Memory);
     };
-    compute(rt, alloc, engine, &grid, planned, operands, shape)
+    Ok((grid, planned, operands, shape))
 }

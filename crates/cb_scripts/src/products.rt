@@ -1,16 +1,18 @@
 //! Products of two matrices.
-ghost use Rattle.std.specs.Prelude.{◌≡◌, ◌⊎◌, [], IfOk, IfErr};
+ghost use Rattle.std.specs.Prelude.{◌≡◌, ◌⊎◌, [], map, All, IfOk, IfErr, IfSome};
 ghost use Rattle.cb_matrix.specs.Values.{product, product_shape};
 ghost use Rattle.cb_matrix.specs.Operations.{masked};
+ghost use Rattle.cb_scripts.specs.declared.Engine.TheVariants.{Plain};
+ghost use Rattle.cb_scripts.specs.Answers.{Makes};
 ghost use Rattle.cb_scripts.specs.Refusals.{IsProductRefusal, IsMaskedRefusal};
 
-use crate::runs::compute;
+use crate::runs::{Prepared, compute};
 use crate::{Engine, ScriptFault};
 use cb_layout::{DistributedMatrix, Grid};
 use cb_matrix::Matrix;
 use cb_semirings::Semiring;
 use cb_summa::{LEFT, MASK, RIGHT, summa, summa_masked};
-use std::alloc::Global;
+use std::alloc::{AllocError, Global};
 use std::sync::Wait;
 use std::thread::Threads;
 
@@ -53,23 +55,55 @@ pub fn multiply_distributed<S: Semiring + Send + Sync, R: Threads + Wait + Sync>
     ensures agree { IfOk result (λ m. left.matrix.shape.cols ≡ right.matrix.shape.rows) }
     ensures fault { IfErr result (IsProductRefusal left.matrix right.matrix engine) }
 {
-    let grid = left.grid();
-    let (a, b) = (left.shape(), right.shape());
-    if a.cols() != b.rows() {
+    if let Some(empty) = empty_product(alloc, &left, &right)? {
+        return Ok(empty);
+    }
+    let (grid, planned, operands, shape) = product_plan(alloc, left, right)?;
+    compute(rt, alloc, engine, &grid, planned, operands, shape)
+}
+
+/// The product of two matrices of which one has no entries, over their grid. Where both have some there is none.
+pub(crate) fn empty_product<S: Semiring>(
+    alloc: Global,
+    left: &DistributedMatrix<S>,
+    right: &DistributedMatrix<S>,
+) -> Result<Option<DistributedMatrix<S>>, ScriptFault>
+    ensures ok { IfOk result (λ o. IfSome o (λ m. m ≡ record { side = left.now.side; matrix = product S.arithmetic left.now.matrix right.now.matrix })) }
+    ensures agree { IfOk result (λ o. left.now.matrix.shape.cols ≡ right.now.matrix.shape.rows) }
+    ensures fault { IfErr result (IsProductRefusal left.now.matrix right.now.matrix Plain) }
+{
+    if left.shape().cols() != right.shape().rows() {
         return Err(ScriptFault::Shapes);
     }
     if left.is_empty() || right.is_empty() {
-        let empty = nothing(alloc, &left, &right);
-        return Ok(DistributedMatrix::scatter(alloc, grid, &empty)?);
+        let empty = nothing(alloc, left, right);
+        return Ok(Some(DistributedMatrix::scatter(alloc, left.grid(), &empty)?));
     }
+    Ok(None)
+}
+
+/// The plan of the product of two matrices that lie over one grid, and what it is made of.
+pub(crate) fn product_plan<S: Semiring>(
+    alloc: Global,
+    left: DistributedMatrix<S>,
+    right: DistributedMatrix<S>,
+) -> Result<Prepared<S>, AllocError>
+    requires sides { right.side ≡ left.side }
+    requires agree { left.matrix.shape.cols ≡ right.matrix.shape.rows }
+    ensures grid { IfOk result (λ p. p.0.side ≡ left.side) }
+    ensures sides { IfOk result (λ p. All (λ o. o.1.side ≡ p.0.side) p.2.items) }
+    ensures makes { IfOk result (λ p. Makes S.arithmetic p.0.side (map (λ o. (o.0, o.1.matrix)) p.2.items) p.1 p.3 (product S.arithmetic left.matrix right.matrix)) }
+{
+    let grid = left.grid();
+    let (a, b) = (left.shape(), right.shape());
     let Ok(planned) = summa(alloc, &grid, a, b) else {
-        return Err(ScriptFault::Memory);
+        return Err(AllocError);
     };
     let Ok(operands) = vec![in alloc; (LEFT, left), (RIGHT, right)] else {
-        return Err(ScriptFault::Memory);
+        return Err(AllocError);
     };
     let shape = a.with_columns_of(b);
-    compute(rt, alloc, engine, &grid, planned, operands, shape)
+    Ok((grid, planned, operands, shape))
 }
 
 /// The product of two matrices of which one has no entries: it has none either.
@@ -129,6 +163,25 @@ pub fn multiply_masked_distributed<S: Semiring + Send + Sync, R: Threads + Wait 
     ensures agree { IfOk result (λ m. (left.matrix.shape.cols ≡ right.matrix.shape.rows) × (mask.matrix.shape ≡ product_shape left.matrix right.matrix)) }
     ensures fault { IfErr result (IsMaskedRefusal left.matrix right.matrix mask.matrix engine) }
 {
+    let (grid, planned, operands, shape) = masked_plan(alloc, left, right, mask)?;
+    compute(rt, alloc, engine, &grid, planned, operands, shape)
+}
+
+/// The plan of the product of two matrices, kept where a mask has entries, and what it is made of. The three lie over
+/// one grid.
+pub(crate) fn masked_plan<S: Semiring>(
+    alloc: Global,
+    left: DistributedMatrix<S>,
+    right: DistributedMatrix<S>,
+    mask: DistributedMatrix<S>,
+) -> Result<Prepared<S>, ScriptFault>
+    requires sides { (right.side ≡ left.side) × (mask.side ≡ left.side) }
+    ensures grid { IfOk result (λ p. p.0.side ≡ left.side) }
+    ensures sides { IfOk result (λ p. All (λ o. o.1.side ≡ p.0.side) p.2.items) }
+    ensures makes { IfOk result (λ p. Makes S.arithmetic p.0.side (map (λ o. (o.0, o.1.matrix)) p.2.items) p.1 p.3 (masked S.arithmetic (product S.arithmetic left.matrix right.matrix) mask.matrix)) }
+    ensures agree { IfOk result (λ p. (left.matrix.shape.cols ≡ right.matrix.shape.rows) × (mask.matrix.shape ≡ product_shape left.matrix right.matrix)) }
+    ensures fault { IfErr result (IsMaskedRefusal left.matrix right.matrix mask.matrix Plain) }
+{
     let grid = left.grid();
     let (a, b) = (left.shape(), right.shape());
     let shape = a.with_columns_of(b);
@@ -141,5 +194,5 @@ pub fn multiply_masked_distributed<S: Semiring + Send + Sync, R: Threads + Wait 
     let Ok(operands) = vec![in alloc; (LEFT, left), (RIGHT, right), (MASK, mask)] else {
         return Err(ScriptFault::Memory);
     };
-    compute(rt, alloc, engine, &grid, planned, operands, shape)
+    Ok((grid, planned, operands, shape))
 }

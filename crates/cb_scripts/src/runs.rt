@@ -2,13 +2,13 @@
 ghost use Rattle.std.specs.Prelude.{◌≡◌, ◌<◌, ◌*◌, map, All, IfOk, IfErr};
 ghost use Rattle.cb_matrix.specs.Sparse.{Sparse};
 ghost use Rattle.cb_plan.specs.Algebras.{matrices};
-ghost use Rattle.cb_plan.specs.Meaning.{meaning};
+ghost use Rattle.cb_plan.specs.Meaning.{State, meaning};
 ghost use Rattle.cb_plan.specs.Runnable.{IsRunnable};
 ghost use Rattle.cb_plan.specs.Stores.{state_of, NoneLost, Fits};
 ghost use Rattle.cb_plan.specs.Tables.{IsTable};
 ghost use Rattle.cb_scripts.specs.declared.Engine.TheVariants.{Plain};
 ghost use Rattle.cb_scripts.specs.Answers.{HasShapes, Makes, gathered};
-ghost use Rattle.cb_scripts.specs.Losses.{LostOrMeans};
+ghost use Rattle.cb_scripts.specs.Losses.{IsDrainRefusal, LostOrMeans};
 ghost use Rattle.cb_scripts.specs.Refusals.{IsEngineRefusal, IsRunRefusal};
 
 use crate::stores::{drain, laid_out};
@@ -21,6 +21,9 @@ use cb_semirings::Semiring;
 use std::alloc::Global;
 use std::sync::Wait;
 use std::thread::Threads;
+
+/// What [`compute`] takes of a script: the grid, the plan, its operands with their slots, and the answer's shape.
+pub type Prepared<S> = (Grid, Planned, Vec<(u16, DistributedMatrix<S>)>, Shape);
 
 /// The matrix of this shape that a plan makes of its operands, the blocks of each of which are given to the ranks in
 /// its slot. It is left in the blocks of the grid.
@@ -83,7 +86,44 @@ pub fn round<S: Semiring + Send + Sync, R: Threads + Wait + Sync>(
     ensures ok { IfOk result (λ m. m ≡ record { side = grid.now.side; matrix = gathered S.arithmetic grid.now.side shape slot (meaning (matrices S.arithmetic) plan.now.acts (state_of stores.items)) }) }
     ensures fault { IfErr result (IsRunRefusal engine) }
 {
-    let mut stores = engine.run(rt, alloc, plan, stores)?;
+    let stores = engine.run(rt, alloc, plan, stores)?;
+    collect(alloc, grid, stores, slot, shape)
+}
+
+/// What [`compute`] makes, by the plain engine, which needs no runtime.
+pub fn compute_plain<S: Semiring>(
+    alloc: Global,
+    grid: &Grid,
+    planned: Planned,
+    operands: Vec<(u16, DistributedMatrix<S>)>,
+    shape: Shape,
+) -> Result<DistributedMatrix<S>, ScriptFault>
+    requires sides { All (λ o. o.1.side ≡ grid.now.side) operands.items }
+    requires makes { (answer : Sparse) × Makes S.arithmetic grid.now.side (map (λ o. (o.0, o.1.matrix)) operands.items) planned shape answer }
+    ensures ok { IfOk result (λ m. (answer : Sparse) → Makes S.arithmetic grid.now.side (map (λ o. (o.0, o.1.matrix)) operands.items) planned shape answer → m ≡ record { side = grid.now.side; matrix = answer }) }
+    ensures fault { IfErr result (IsRunRefusal Plain) }
+{
+    let stores = laid_out(alloc, grid, operands)?;
+    let (plan, slot) = planned.into_checked();
+    let stores = Engine::run_plain(alloc, &plan, stores)?;
+    collect(alloc, grid, stores, slot, shape)
+}
+
+/// The matrix of this shape whose blocks a run has left in a slot.
+fn collect<S: Semiring>(
+    alloc: Global,
+    grid: &Grid,
+    stores: Vec<RankStore<S>>,
+    slot: u16,
+    shape: Shape,
+) -> Result<DistributedMatrix<S>, ScriptFault>
+    requires slot { slot < SLOTS }
+    requires table { IsTable (grid.now.side * grid.now.side) SLOTS stores.items }
+    requires meant { (meant : State Sparse) × LostOrMeans meant stores.items × HasShapes grid.now.side shape slot meant }
+    ensures ok { IfOk result (λ m. (meant : State Sparse) → LostOrMeans meant stores.items → m ≡ record { side = grid.now.side; matrix = gathered S.arithmetic grid.now.side shape slot meant }) }
+    ensures fault { IfErr result (IsDrainRefusal slot stores.items) }
+{
+    let mut stores = stores;
     let blocks = drain(alloc, &mut stores, slot)?;
     Ok(DistributedMatrix::from_blocks(*grid, shape, blocks))
 }
@@ -105,12 +145,27 @@ impl Engine {
         ensures fault { IfErr result (IsEngineRefusal self) }
     {
         match self {
-            Engine::Plain => Ok(run_plain(alloc, plan, stores)?),
+            Engine::Plain => Engine::run_plain(alloc, plan, stores),
             Engine::Ranks(letters) => {
                 let capacity = letters.clamp(1, 64);
                 let finished = run_threads(rt, alloc, plan, stores, capacity, &OpenGate)?;
                 Ok(finished.stores())
             }
         }
+    }
+
+    /// What [`run`](Engine::run) answers of the plain engine, which needs no runtime.
+    pub(crate) fn run_plain<S: Semiring>(
+        alloc: Global,
+        plan: &CheckedPlan,
+        stores: Vec<RankStore<S>>,
+    ) -> Result<Vec<RankStore<S>>, ScriptFault>
+        requires fits { Fits plan.now.ranks plan.now.starts stores.items }
+        ensures meaning { IfOk result (λ after. LostOrMeans (meaning (matrices S.arithmetic) plan.now.acts (state_of stores.items)) after.items) }
+        ensures none_lost { IfOk result (λ after. NoneLost after.items) }
+        ensures table { IfOk result (λ after. IsTable plan.now.ranks SLOTS after.items) }
+        ensures fault { IfErr result (IsEngineRefusal Plain) }
+    {
+        Ok(run_plain(alloc, plan, stores)?)
     }
 }

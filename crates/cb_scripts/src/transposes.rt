@@ -1,9 +1,11 @@
 //! The transpose: blocks are sent across the diagonal of the grid.
-ghost use Rattle.std.specs.Prelude.{◌≡◌, IfOk, IfErr};
+ghost use Rattle.std.specs.Prelude.{◌≡◌, map, All, IfOk, IfErr};
 ghost use Rattle.cb_matrix.specs.Operations.{transposed};
+ghost use Rattle.cb_scripts.specs.declared.Engine.TheVariants.{Plain};
+ghost use Rattle.cb_scripts.specs.Answers.{Makes};
 ghost use Rattle.cb_scripts.specs.Refusals.{IsRunRefusal};
 
-use crate::runs::compute;
+use crate::runs::{Prepared, compute};
 use crate::{Engine, ScriptFault};
 use cb_kernels::{LEFT, grid_transpose};
 use cb_layout::{DistributedMatrix, Grid};
@@ -40,6 +42,20 @@ pub fn transpose_distributed<S: Semiring + Send + Sync, R: Threads + Wait + Sync
     ensures ok { IfOk result (λ m. m ≡ record { side = matrix.side; matrix = transposed S.arithmetic matrix.matrix }) }
     ensures fault { IfErr result (IsRunRefusal engine) }
 {
+    let (grid, planned, operands, shape) = transpose_plan(alloc, matrix)?;
+    compute(rt, alloc, engine, &grid, planned, operands, shape)
+}
+
+/// The plan of the transpose of a matrix that lies over a grid, and what it is made of.
+pub(crate) fn transpose_plan<S: Semiring>(
+    alloc: Global,
+    matrix: DistributedMatrix<S>,
+) -> Result<Prepared<S>, ScriptFault>
+    ensures grid { IfOk result (λ p. p.0.side ≡ matrix.side) }
+    ensures sides { IfOk result (λ p. All (λ o. o.1.side ≡ p.0.side) p.2.items) }
+    ensures makes { IfOk result (λ p. Makes S.arithmetic p.0.side (map (λ o. (o.0, o.1.matrix)) p.2.items) p.1 p.3 (transposed S.arithmetic matrix.matrix)) }
+    ensures fault { IfErr result (IsRunRefusal Plain) }
+{
     let grid = matrix.grid();
     let shape = matrix.shape();
     let Ok(planned) = grid_transpose(alloc, &grid, shape) else {
@@ -48,7 +64,7 @@ pub fn transpose_distributed<S: Semiring + Send + Sync, R: Threads + Wait + Sync
     let Ok(operands) = vec![in alloc; (LEFT, matrix)] else {
         return Err(ScriptFault::Memory);
     };
-    compute(rt, alloc, engine, &grid, planned, operands, turned(shape))
+    Ok((grid, planned, operands, turned(shape)))
 }
 
 /// As many rows as a shape has columns, and as many columns as it has rows.

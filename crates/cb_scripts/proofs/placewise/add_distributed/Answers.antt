@@ -1,40 +1,11 @@
-use Rattle.std.proofs.Common.{◌≡◌, [], ◌∷◌, sym, ap, ◌∙◌}
+use Rattle.std.proofs.Common.{sym}
 use Rattle.cb_matrix.specs.Operations.{sum_of}
-use Rattle.cb_layout.specs.Parts.{Square}
-use Rattle.cb_scripts.proofs.Making.{found_equal, this_made, made_of}
-use Rattle.cb_scripts.proofs.KernelPlans.{sum_made}
-use Rattle.cb_scripts.proofs.LaidOutOperands.{two_lie}
+use Rattle.cb_scripts.proofs.Making.{this_made}
 use Rattle.cb_scripts.proofs.placewise.add_distributed.Goals as goal
 
-pub compute-requires-clause-sides : goal.compute-requires-clause-sides
-compute-requires-clause-sides g c κs lives =
-    let over : c.args.left.side ≡ c.grid-grid.result.side = sym (ap (λ (g : Square). g.side) c.grid-grid.ensures) in
-    two_lie c.grid-grid.result.side 0 1 c.args.left c.args.right c.in-Ok-vec.operands.items c.in-Ok-vec.ensures.items over (c.requires.sides ∙ over)
-
 pub compute-requires-clause-makes : goal.compute-requires-clause-makes
-compute-requires-clause-makes g c κs lives =
-    let s = g.S.Semiring.arithmetic in
-    let laws = (g.met.S.Semiring g.world.𝓛 g.world.𝓜 g.world.𝓡 ((λ s x. x), (λ x. x), (λ x. x), λ x. x)).is_semiring in
-    let q = c.grid-grid.result.side in
-    let over : c.args.left.side ≡ q = sym (ap (λ (g : Square). g.side) c.grid-grid.ensures) in
-    let a = c.args.left.matrix in
-    let b = c.args.right.matrix in
-    let shape = c.shape-shape.ensures.shape in
-    let agree : a.shape ≡ b.shape = found_equal c.shape-shape.result c.shape.result a.shape b.shape shape c.shape.ensures.shape c.if-ne.ensures in
-    let made = made_of s q c.in-Ok.planned c.shape-shape.result (sum_of s a b) c.in-Ok-vec.operands.items ((0, c.args.left) ∷ (1, c.args.right) ∷ []) c.in-Ok-vec.ensures.items
-    (rw shape (sum_made s laws q c.in-Ok.planned c.in-Ok.ensures.ranks c.in-Ok.ensures.runnable c.in-Ok.ensures.slot a c.shape-shape.ensures.matrix b c.shape.ensures.matrix agree (rw shape at c.in-Ok.ensures.starts) (rw shape at c.in-Ok.ensures.sum))) in
-    (sum_of s a b, made)
+compute-requires-clause-makes g c κs lives = (sum_of g.S.Semiring.arithmetic c.args.left.matrix c.args.right.matrix, c.in_ok-grid.ensures.makes)
 
 pub returns-clause-ok : goal.returns-clause-ok
 returns-clause-ok g c =
-    let s = g.S.Semiring.arithmetic in
-    let laws = (g.met.S.Semiring g.world.𝓛 g.world.𝓜 g.world.𝓡 ((λ s x. x), (λ x. x), (λ x. x), λ x. x)).is_semiring in
-    let q = c.grid-grid.result.side in
-    let over : c.args.left.side ≡ q = sym (ap (λ (g : Square). g.side) c.grid-grid.ensures) in
-    let a = c.args.left.matrix in
-    let b = c.args.right.matrix in
-    let shape = c.shape-shape.ensures.shape in
-    let agree : a.shape ≡ b.shape = found_equal c.shape-shape.result c.shape.result a.shape b.shape shape c.shape.ensures.shape c.if-ne.ensures in
-    let made = made_of s q c.in-Ok.planned c.shape-shape.result (sum_of s a b) c.in-Ok-vec.operands.items ((0, c.args.left) ∷ (1, c.args.right) ∷ []) c.in-Ok-vec.ensures.items
-    (rw shape (sum_made s laws q c.in-Ok.planned c.in-Ok.ensures.ranks c.in-Ok.ensures.runnable c.in-Ok.ensures.slot a c.shape-shape.ensures.matrix b c.shape.ensures.matrix agree (rw shape at c.in-Ok.ensures.starts) (rw shape at c.in-Ok.ensures.sum))) in
-    this_made c.args.left.side over c.compute.result c.compute.ensures.ok (sum_of s a b) made
+    this_made c.args.left.side (sym c.in_ok-grid.ensures.grid) c.compute.result c.compute.ensures.ok (sum_of g.S.Semiring.arithmetic c.args.left.matrix c.args.right.matrix) c.in_ok-grid.ensures.makes

@@ -1,41 +1,12 @@
-use Rattle.std.proofs.Common.{◌≡◌, [], ◌∷◌, sym, ap, ◌∙◌}
+use Rattle.std.proofs.Common.{sym}
 use Rattle.cb_matrix.specs.Values.{product}
 use Rattle.cb_matrix.specs.Operations.{masked}
-use Rattle.cb_layout.specs.Parts.{Square}
-use Rattle.cb_scripts.proofs.Making.{this_made, made_of}
-use Rattle.cb_scripts.proofs.ProductPlans.{masked_found}
-use Rattle.cb_scripts.proofs.LaidOutOperands.{three_lie}
+use Rattle.cb_scripts.proofs.Making.{this_made}
 use Rattle.cb_scripts.proofs.products.multiply_masked_distributed.Goals as goal
 
-pub compute-requires-clause-sides : goal.compute-requires-clause-sides
-compute-requires-clause-sides g c κs lives =
-    let over : c.args.left.side ≡ c.grid-grid.result.side = sym (ap (λ (g : Square). g.side) c.grid-grid.ensures) in
-    three_lie c.grid-grid.result.side 0 1 7 c.args.left c.args.right c.args.mask c.in-Ok-vec.operands.items c.in-Ok-vec.ensures.items over (c.requires.sides.0 ∙ over) (c.requires.sides.1 ∙ over)
-
 pub compute-requires-clause-makes : goal.compute-requires-clause-makes
-compute-requires-clause-makes g c κs lives =
-    let s = g.S.Semiring.arithmetic in
-    let laws = (g.met.S.Semiring g.world.𝓛 g.world.𝓜 g.world.𝓡 ((λ s x. x), (λ x. x), (λ x. x), λ x. x)).is_semiring in
-    let q = c.grid-grid.result.side in
-    let over : c.args.left.side ≡ q = sym (ap (λ (g : Square). g.side) c.grid-grid.ensures) in
-    let a = c.args.left.matrix in
-    let b = c.args.right.matrix in
-    let m = c.args.mask.matrix in
-    let made = made_of s q c.in-Ok.planned c.with_columns_of-shape.result (masked s (product s a b) m) c.in-Ok-vec.operands.items ((0, c.args.left) ∷ (1, c.args.right) ∷ (7, c.args.mask) ∷ []) c.in-Ok-vec.ensures.items
-    (masked_found s laws q c.in-Ok.planned c.in-Ok.ensures.ranks c.in-Ok.ensures.runnable c.in-Ok.ensures.slot a b c.shape-a.ensures.matrix c.shape-b.ensures.matrix m
-    c.shape-a.result c.shape-b.result c.shape.result c.with_columns_of-shape.result c.shape.ensures.matrix c.shape-a.ensures.shape c.shape-b.ensures.shape c.shape.ensures.shape c.with_columns_of-shape.ensures c.if-ne.ensures c.in-Ok.ensures.starts c.in-Ok.ensures.product) in
-    (masked s (product s a b) m, made)
+compute-requires-clause-makes g c κs lives = (masked g.S.Semiring.arithmetic (product g.S.Semiring.arithmetic c.args.left.matrix c.args.right.matrix) c.args.mask.matrix, c.in_ok-grid.ensures.makes)
 
 pub returns-clause-ok : goal.returns-clause-ok
 returns-clause-ok g c =
-    let s = g.S.Semiring.arithmetic in
-    let laws = (g.met.S.Semiring g.world.𝓛 g.world.𝓜 g.world.𝓡 ((λ s x. x), (λ x. x), (λ x. x), λ x. x)).is_semiring in
-    let q = c.grid-grid.result.side in
-    let over : c.args.left.side ≡ q = sym (ap (λ (g : Square). g.side) c.grid-grid.ensures) in
-    let a = c.args.left.matrix in
-    let b = c.args.right.matrix in
-    let m = c.args.mask.matrix in
-    let made = made_of s q c.in-Ok.planned c.with_columns_of-shape.result (masked s (product s a b) m) c.in-Ok-vec.operands.items ((0, c.args.left) ∷ (1, c.args.right) ∷ (7, c.args.mask) ∷ []) c.in-Ok-vec.ensures.items
-    (masked_found s laws q c.in-Ok.planned c.in-Ok.ensures.ranks c.in-Ok.ensures.runnable c.in-Ok.ensures.slot a b c.shape-a.ensures.matrix c.shape-b.ensures.matrix m
-    c.shape-a.result c.shape-b.result c.shape.result c.with_columns_of-shape.result c.shape.ensures.matrix c.shape-a.ensures.shape c.shape-b.ensures.shape c.shape.ensures.shape c.with_columns_of-shape.ensures c.if-ne.ensures c.in-Ok.ensures.starts c.in-Ok.ensures.product) in
-    this_made c.args.left.side over c.compute.result c.compute.ensures.ok (masked s (product s a b) m) made
+    this_made c.args.left.side (sym c.in_ok-grid.ensures.grid) c.compute.result c.compute.ensures.ok (masked g.S.Semiring.arithmetic (product g.S.Semiring.arithmetic c.args.left.matrix c.args.right.matrix) c.args.mask.matrix) c.in_ok-grid.ensures.makes

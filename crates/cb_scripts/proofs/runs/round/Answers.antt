@@ -1,39 +1,18 @@
-use Rattle.std.proofs.Common.{◌≡◌, ◌*◌, length, ap, ◌∙◌}
-use Rattle.cb_matrix.specs.Sparse.{Sparse}
+use Rattle.std.proofs.Common.{subst}
 use Rattle.cb_plan.specs.Algebras.{matrices}
-use Rattle.cb_plan.specs.Meaning.{State, meaning}
+use Rattle.cb_plan.specs.Meaning.{meaning}
 use Rattle.cb_plan.specs.Stores.{state_of}
-use Rattle.cb_scripts.proofs.GatheredParts.{filled_there, shapes_there, glued_gathered, over_grid}
+use Rattle.cb_plan.specs.Tables.{IsTable}
+use Rattle.cb_scripts.proofs.GatheredParts.{whichever_meant}
 use Rattle.cb_scripts.proofs.runs.round.Goals as goal
 
-pub drain-requires-clause-filled : goal.drain-requires-clause-filled
-drain-requires-clause-filled g c =
-    let s = g.S.Semiring.arithmetic in
-    let q = c.args.grid.now.side in
-    let after = c.in_ok-stores.stores.items in
-    let state : State Sparse = meaning (matrices s) c.args.plan.now.acts (state_of c.args.stores.items) in
-    let ranks : length after ≡ q * q = c.in_ok-stores.ensures.table.rows ∙ c.requires.ranks in
-    filled_there q c.args.shape c.args.slot after state c.in_ok-stores.ensures.meaning ranks c.requires.shapes
+pub collect-requires-clause-table : goal.collect-requires-clause-table
+collect-requires-clause-table g c = subst (λ n. IsTable n 256 c.in_ok-stores.stores.items) c.requires.ranks c.in_ok-stores.ensures.table
 
-pub from_blocks-requires-clause-count : goal.from_blocks-requires-clause-count
-from_blocks-requires-clause-count g c = c.in_ok-blocks.ensures.count ∙ c.in_ok-stores.ensures.table.rows ∙ c.requires.ranks
-
-pub from_blocks-requires-clause-shapes : goal.from_blocks-requires-clause-shapes
-from_blocks-requires-clause-shapes g c i j l m =
-    let s = g.S.Semiring.arithmetic in
-    let q = c.args.grid.now.side in
-    let after = c.in_ok-stores.stores.items in
-    let blocks = c.in_ok-blocks.blocks.items in
-    let state : State Sparse = meaning (matrices s) c.args.plan.now.acts (state_of c.args.stores.items) in
-    let ranks : length after ≡ q * q = c.in_ok-stores.ensures.table.rows ∙ c.requires.ranks in
-    shapes_there c.args.slot after blocks c.in_ok-blocks.ensures.count c.in_ok-blocks.ensures.blocks state c.in_ok-stores.ensures.meaning q c.args.shape ranks c.requires.shapes i j l m
+pub collect-requires-clause-meant : goal.collect-requires-clause-meant
+collect-requires-clause-meant g c =
+    (meaning (matrices g.S.Semiring.arithmetic) c.args.plan.now.acts (state_of c.args.stores.items), c.in_ok-stores.ensures.meaning, c.requires.shapes)
 
 pub returns-clause-ok : goal.returns-clause-ok
 returns-clause-ok g c =
-    let s = g.S.Semiring.arithmetic in
-    let q = c.args.grid.now.side in
-    let after = c.in_ok-stores.stores.items in
-    let blocks = c.in_ok-blocks.blocks.items in
-    let state : State Sparse = meaning (matrices s) c.args.plan.now.acts (state_of c.args.stores.items) in
-    let same = glued_gathered c.args.slot after blocks c.in_ok-blocks.ensures.count c.in_ok-blocks.ensures.blocks state c.in_ok-stores.ensures.meaning s q c.args.shape in
-    c.from_blocks.ensures ∙ ap (over_grid q) same
+    whichever_meant g.S.Semiring.arithmetic c.args.grid.now.side c.args.shape c.args.slot c.in_ok-stores.stores.items c.collect.result c.collect.ensures.ok (meaning (matrices g.S.Semiring.arithmetic) c.args.plan.now.acts (state_of c.args.stores.items)) c.in_ok-stores.ensures.meaning
