@@ -7,8 +7,6 @@
 //! The lists of an answer are given away: each list that isn't empty is memory of the program's `malloc`, which the
 //! caller gives back by `free`.
 //!
-//! A grid has a side of 1 to 6. The answer is the same for each, and is worked out on one block.
-//!
 //! The semirings have the numbers 0 (plus-times), 1 (min-plus), 2 (or-and) and 3 (max-min).
 #![tactic(auto)]
 

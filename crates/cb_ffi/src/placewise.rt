@@ -8,21 +8,28 @@ ghost use Rattle.cb_ffi.specs.Answers.{IsAnswer, NoFault, test_of};
 
 use crate::checks::{check_placewise, check_prune, check_transpose};
 use crate::faults::Fault;
-use crate::incoming::block_of;
+use crate::incoming::spread;
 use crate::lists::Columns;
-use crate::outgoing::block_lists;
+use crate::outgoing::lists_of;
 use cb_elementwise::Test;
+use cb_layout::Grid;
 use cb_semirings::{MaxMin, MinPlus, OrAnd, PlusTimes, Semiring};
 use std::alloc::{AllocError, Global};
 
 /// The lists of the transpose of a matrix, of well-formed lists.
-fn transpose_lists<S: Semiring>(alloc: Global, a: &Columns) -> Result<Columns, AllocError>
+fn transpose_lists<S: Semiring>(
+    alloc: Global,
+    grid: Grid,
+    a: &Columns,
+) -> Result<Columns, AllocError>
     requires first { AreLists S.arithmetic a.now }
     ensures { IfOk result (HasLists (transposed S.arithmetic (matrix_of S.arithmetic a.now))) }
 {
-    let left = block_of::<S>(alloc, a)?;
-    let answer = cb_reshape::transpose(alloc, &left)?;
-    block_lists(alloc, &answer)
+    let left = spread::<S>(alloc, grid, a)?;
+    match cb_scripts::plain::transpose_distributed(alloc, left) {
+        Ok(answer) => lists_of(alloc, &answer),
+        Err(_refused) => Err(AllocError),
+    }
 }
 
 /// The lists of the transpose of a matrix, over a semiring.
@@ -31,8 +38,8 @@ fn transpose_over<S: Semiring>(alloc: Global, side: u32, a: &Columns) -> Result<
     ensures none { IfOk result (λ _. NoFault (transpose_faults S.arithmetic side a.now)) }
     ensures fault { IfErr result (transpose_faults S.arithmetic side a.now) }
 {
-    let _grid = check_transpose::<S>(side, a)?;
-    match transpose_lists::<S>(alloc, a) {
+    let grid = check_transpose::<S>(side, a)?;
+    match transpose_lists::<S>(alloc, grid, a) {
         Ok(lists) => Ok(lists),
         Err(_refused) => Err(Fault::Memory),
     }
@@ -57,16 +64,23 @@ pub(crate) fn transpose(
 }
 
 /// The lists of the sum at each place of two matrices of one shape, of well-formed lists.
-fn sum_lists<S: Semiring>(alloc: Global, a: &Columns, b: &Columns) -> Result<Columns, AllocError>
+fn sum_lists<S: Semiring>(
+    alloc: Global,
+    grid: Grid,
+    a: &Columns,
+    b: &Columns,
+) -> Result<Columns, AllocError>
     requires first { AreLists S.arithmetic a.now }
     requires second { AreLists S.arithmetic b.now }
     requires shapes { (a.now.nrows ≡ b.now.nrows) × (a.now.ncols ≡ b.now.ncols) }
     ensures { IfOk result (HasLists (sum_of S.arithmetic (matrix_of S.arithmetic a.now) (matrix_of S.arithmetic b.now))) }
 {
-    let left = block_of::<S>(alloc, a)?;
-    let right = block_of::<S>(alloc, b)?;
-    let answer = cb_elementwise::add(alloc, &left, &right)?;
-    block_lists(alloc, &answer)
+    let left = spread::<S>(alloc, grid, a)?;
+    let right = spread::<S>(alloc, grid, b)?;
+    match cb_scripts::plain::add_distributed(alloc, left, right) {
+        Ok(answer) => lists_of(alloc, &answer),
+        Err(_refused) => Err(AllocError),
+    }
 }
 
 /// The lists of the sum at each place of two matrices of one shape, over a semiring.
@@ -80,8 +94,8 @@ fn add_over<S: Semiring>(
     ensures none { IfOk result (λ _. NoFault (placewise_faults S.arithmetic side a.now b.now)) }
     ensures fault { IfErr result (placewise_faults S.arithmetic side a.now b.now) }
 {
-    let _grid = check_placewise::<S>(side, a, b)?;
-    match sum_lists::<S>(alloc, a, b) {
+    let grid = check_placewise::<S>(side, a, b)?;
+    match sum_lists::<S>(alloc, grid, a, b) {
         Ok(lists) => Ok(lists),
         Err(_refused) => Err(Fault::Memory),
     }
@@ -107,16 +121,23 @@ pub(crate) fn add(
 }
 
 /// The lists of the product at each place of two matrices of one shape, of well-formed lists.
-fn times_lists<S: Semiring>(alloc: Global, a: &Columns, b: &Columns) -> Result<Columns, AllocError>
+fn times_lists<S: Semiring>(
+    alloc: Global,
+    grid: Grid,
+    a: &Columns,
+    b: &Columns,
+) -> Result<Columns, AllocError>
     requires first { AreLists S.arithmetic a.now }
     requires second { AreLists S.arithmetic b.now }
     requires shapes { (a.now.nrows ≡ b.now.nrows) × (a.now.ncols ≡ b.now.ncols) }
     ensures { IfOk result (HasLists (times_of S.arithmetic (matrix_of S.arithmetic a.now) (matrix_of S.arithmetic b.now))) }
 {
-    let left = block_of::<S>(alloc, a)?;
-    let right = block_of::<S>(alloc, b)?;
-    let answer = cb_elementwise::times(alloc, &left, &right)?;
-    block_lists(alloc, &answer)
+    let left = spread::<S>(alloc, grid, a)?;
+    let right = spread::<S>(alloc, grid, b)?;
+    match cb_scripts::plain::times_distributed(alloc, left, right) {
+        Ok(answer) => lists_of(alloc, &answer),
+        Err(_refused) => Err(AllocError),
+    }
 }
 
 /// The lists of the product at each place of two matrices of one shape, over a semiring.
@@ -130,8 +151,8 @@ fn times_over<S: Semiring>(
     ensures none { IfOk result (λ _. NoFault (placewise_faults S.arithmetic side a.now b.now)) }
     ensures fault { IfErr result (placewise_faults S.arithmetic side a.now b.now) }
 {
-    let _grid = check_placewise::<S>(side, a, b)?;
-    match times_lists::<S>(alloc, a, b) {
+    let grid = check_placewise::<S>(side, a, b)?;
+    match times_lists::<S>(alloc, grid, a, b) {
         Ok(lists) => Ok(lists),
         Err(_refused) => Err(Fault::Memory),
     }
@@ -157,13 +178,20 @@ pub(crate) fn times(
 }
 
 /// The lists of a matrix without the entries whose value passes a test, of well-formed lists.
-fn pruned_lists<S: Semiring>(alloc: Global, a: &Columns, test: Test) -> Result<Columns, AllocError>
+fn pruned_lists<S: Semiring>(
+    alloc: Global,
+    grid: Grid,
+    a: &Columns,
+    test: Test,
+) -> Result<Columns, AllocError>
     requires first { AreLists S.arithmetic a.now }
     ensures { IfOk result (HasLists (pruned S.arithmetic (passes test) (matrix_of S.arithmetic a.now))) }
 {
-    let left = block_of::<S>(alloc, a)?;
-    let answer = cb_elementwise::prune(alloc, &left, test)?;
-    block_lists(alloc, &answer)
+    let left = spread::<S>(alloc, grid, a)?;
+    match cb_scripts::plain::prune_distributed(alloc, left, test) {
+        Ok(answer) => lists_of(alloc, &answer),
+        Err(_refused) => Err(AllocError),
+    }
 }
 
 /// The lists of a matrix without the entries whose value passes a test, over a semiring.
@@ -178,8 +206,8 @@ fn prune_over<S: Semiring>(
     ensures none { IfOk result (λ _. NoFault (prune_faults S.arithmetic side a.now test)) }
     ensures fault { IfErr result (prune_faults S.arithmetic side a.now test) }
 {
-    let (_grid, test) = check_prune::<S>(side, a, test, bound)?;
-    match pruned_lists::<S>(alloc, a, test) {
+    let (grid, test) = check_prune::<S>(side, a, test, bound)?;
+    match pruned_lists::<S>(alloc, grid, a, test) {
         Ok(lists) => Ok(lists),
         Err(_refused) => Err(Fault::Memory),
     }

@@ -8,15 +8,17 @@ ghost use Rattle.cb_ffi.specs.Answers.{IsAnswer, NoFault};
 
 use crate::checks::{check_masked, check_product, check_vector};
 use crate::faults::Fault;
-use crate::incoming::block_of;
+use crate::incoming::spread;
 use crate::lists::Columns;
-use crate::outgoing::block_lists;
+use crate::outgoing::lists_of;
+use cb_layout::Grid;
 use cb_semirings::{MaxMin, MinPlus, OrAnd, PlusTimes, Semiring};
 use std::alloc::{AllocError, Global};
 
 /// The lists of the product of two matrices, of well-formed lists.
 fn product_lists<S: Semiring>(
     alloc: Global,
+    grid: Grid,
     a: &Columns,
     b: &Columns,
 ) -> Result<Columns, AllocError>
@@ -25,10 +27,12 @@ fn product_lists<S: Semiring>(
     requires shapes { a.now.ncols ≡ b.now.nrows }
     ensures { IfOk result (HasLists (product S.arithmetic (matrix_of S.arithmetic a.now) (matrix_of S.arithmetic b.now))) }
 {
-    let left = block_of::<S>(alloc, a)?;
-    let right = block_of::<S>(alloc, b)?;
-    let answer = cb_product::multiply(alloc, &left, &right)?;
-    block_lists(alloc, &answer)
+    let left = spread::<S>(alloc, grid, a)?;
+    let right = spread::<S>(alloc, grid, b)?;
+    match cb_scripts::plain::multiply_distributed(alloc, left, right) {
+        Ok(answer) => lists_of(alloc, &answer),
+        Err(_refused) => Err(AllocError),
+    }
 }
 
 /// The lists of the product of two matrices, over a semiring.
@@ -42,8 +46,8 @@ fn multiply_over<S: Semiring>(
     ensures none { IfOk result (λ _. NoFault (product_faults S.arithmetic side a.now b.now)) }
     ensures fault { IfErr result (product_faults S.arithmetic side a.now b.now) }
 {
-    let _grid = check_product::<S>(side, a, b)?;
-    match product_lists::<S>(alloc, a, b) {
+    let grid = check_product::<S>(side, a, b)?;
+    match product_lists::<S>(alloc, grid, a, b) {
         Ok(lists) => Ok(lists),
         Err(_refused) => Err(Fault::Memory),
     }
@@ -71,6 +75,7 @@ pub(crate) fn multiply(
 /// The lists of the product of two matrices, kept where a mask has entries, of well-formed lists.
 fn masked_lists<S: Semiring>(
     alloc: Global,
+    grid: Grid,
     a: &Columns,
     b: &Columns,
     mask: &Columns,
@@ -81,11 +86,13 @@ fn masked_lists<S: Semiring>(
     requires shapes { AreMasked a.now b.now mask.now }
     ensures { IfOk result (HasLists (masked S.arithmetic (product S.arithmetic (matrix_of S.arithmetic a.now) (matrix_of S.arithmetic b.now)) (matrix_of S.arithmetic mask.now))) }
 {
-    let left = block_of::<S>(alloc, a)?;
-    let right = block_of::<S>(alloc, b)?;
-    let third = block_of::<S>(alloc, mask)?;
-    let answer = cb_elementwise::mask(alloc, &cb_product::multiply(alloc, &left, &right)?, &third)?;
-    block_lists(alloc, &answer)
+    let left = spread::<S>(alloc, grid, a)?;
+    let right = spread::<S>(alloc, grid, b)?;
+    let third = spread::<S>(alloc, grid, mask)?;
+    match cb_scripts::plain::multiply_masked_distributed(alloc, left, right, third) {
+        Ok(answer) => lists_of(alloc, &answer),
+        Err(_refused) => Err(AllocError),
+    }
 }
 
 /// The lists of the product of two matrices, kept where a mask has entries, over a semiring.
@@ -100,8 +107,8 @@ fn multiply_masked_over<S: Semiring>(
     ensures none { IfOk result (λ _. NoFault (masked_faults S.arithmetic side a.now b.now mask.now)) }
     ensures fault { IfErr result (masked_faults S.arithmetic side a.now b.now mask.now) }
 {
-    let _grid = check_masked::<S>(side, a, b, mask)?;
-    match masked_lists::<S>(alloc, a, b, mask) {
+    let grid = check_masked::<S>(side, a, b, mask)?;
+    match masked_lists::<S>(alloc, grid, a, b, mask) {
         Ok(lists) => Ok(lists),
         Err(_refused) => Err(Fault::Memory),
     }
@@ -128,16 +135,23 @@ pub(crate) fn multiply_masked(
 }
 
 /// The lists of the product of a matrix by a vector, which has one column, of well-formed lists.
-fn vector_lists<S: Semiring>(alloc: Global, a: &Columns, x: &Columns) -> Result<Columns, AllocError>
+fn vector_lists<S: Semiring>(
+    alloc: Global,
+    grid: Grid,
+    a: &Columns,
+    x: &Columns,
+) -> Result<Columns, AllocError>
     requires first { AreLists S.arithmetic a.now }
     requires second { AreLists S.arithmetic x.now }
     requires shapes { (a.now.ncols ≡ x.now.nrows) × (x.now.ncols ≡ 1) }
     ensures { IfOk result (HasLists (product S.arithmetic (matrix_of S.arithmetic a.now) (matrix_of S.arithmetic x.now))) }
 {
-    let left = block_of::<S>(alloc, a)?;
-    let right = block_of::<S>(alloc, x)?;
-    let answer = cb_product::multiply(alloc, &left, &right)?;
-    block_lists(alloc, &answer)
+    let left = spread::<S>(alloc, grid, a)?;
+    let right = spread::<S>(alloc, grid, x)?;
+    match cb_scripts::plain::multiply_distributed(alloc, left, right) {
+        Ok(answer) => lists_of(alloc, &answer),
+        Err(_refused) => Err(AllocError),
+    }
 }
 
 /// The lists of the product of a matrix by a vector, which has one column, over a semiring.
@@ -151,8 +165,8 @@ fn vector_over<S: Semiring>(
     ensures none { IfOk result (λ _. NoFault (vector_faults S.arithmetic side a.now x.now)) }
     ensures fault { IfErr result (vector_faults S.arithmetic side a.now x.now) }
 {
-    let _grid = check_vector::<S>(side, a, x)?;
-    match vector_lists::<S>(alloc, a, x) {
+    let grid = check_vector::<S>(side, a, x)?;
+    match vector_lists::<S>(alloc, grid, a, x) {
         Ok(lists) => Ok(lists),
         Err(_refused) => Err(Fault::Memory),
     }
