@@ -1,0 +1,53 @@
+-- What a call answers, from what its parts answer.
+use Rattle.std.proofs.Common.{◌≡◌, ◌≢◌, ℕ, sym, subst, refl, inl, inr, arith}
+use Rattle.std.specs.Prelude.{Option, Result, Ok, Err, IfOk, IfErr, ◌≤◌}
+use Rattle.cb_semirings.specs.Arithmetic.{Arithmetic}
+use Rattle.cb_ffi.specs.declared.faults.Fault.{Fault}
+use Rattle.cb_ffi.specs.declared.faults.Fault.TheVariants.{Semiring, Grid, Test, Form, TooLarge, Lengths, Order, Place, Value, Shapes, NotSquare, Source, Text, Memory}
+use Rattle.cb_ffi.specs.Refusals.{arithmetic_of, code_of, over, Unless}
+use Rattle.cb_ffi.specs.Answers.{NoFault, IsAnswer, IsCall, IsFaultLine, IsLine}
+use Rattle.cb_market.specs.declared.ReadFault.{ReadFault}
+use Rattle.cb_ffi.proofs.Firsts.{only}
+
+answered : {X : Type 0} (n : ℕ) → n ≤ 3 → (faults : Arithmetic → Fault → Type 0) (is : Arithmetic → X → Type 0) (r : Result X Fault)
+    → IfErr r (faults (arithmetic_of n)) → IfOk r (λ _. NoFault (faults (arithmetic_of n))) → IfOk r (is (arithmetic_of n)) → IsAnswer (over n faults) (is (arithmetic_of n)) r
+answered n l faults is (Ok x) h k m = (record { memory = inr (l, k.memory); only = λ f q. k.only f (only (n ≤ 3) Semiring (faults (arithmetic_of n)) f l q) }, m)
+answered n l faults is (Err f) h k m = inr (l, h)
+
+-- the answer over the semiring of a number
+pub chosen : {X : Type 0} (n k : ℕ) → n ≡ k → k ≤ 3 → (faults : Arithmetic → Fault → Type 0) (is : Arithmetic → X → Type 0) (r : Result X Fault)
+    → IfErr r (faults (arithmetic_of k)) → IfOk r (λ _. NoFault (faults (arithmetic_of k))) → IfOk r (is (arithmetic_of k)) → IsAnswer (over n faults) (is (arithmetic_of n)) r
+chosen n k e l faults is r a b c = subst (λ (m : ℕ). IsAnswer (over m faults) (is (arithmetic_of m)) r) (sym e) (answered k l faults is r a b c)
+
+-- the answer as C gets it
+pub call_of : {X : Type 0} (faults : Fault → Type 0) (is : X → Type 0) (r : Result X Fault) (code : ℕ) (old new : X) → IsAnswer faults is r
+    → IfOk r (λ x. (code ≡ 0) × (new ≡ x)) → IfErr r (λ f. (code ≡ code_of f) × (code ≢ 0) × (new ≡ old)) → IsCall faults is code old new
+call_of faults is (Ok x) code old new a h k = record {
+  answer = λ _. (a.0, subst is (sym h.1) a.1);
+  fault = λ n. absurd (n h.0);
+  unchanged = λ n. absurd (n h.0);
+}
+call_of faults is (Err f) code old new a h k = record {
+  answer = λ z. absurd (k.1 z);
+  fault = λ _. (f, k.0, a);
+  unchanged = λ _. k.2;
+}
+
+-- the line of a fault in a text, as C gets it
+pub line_of : {X : Type 0} (first : Option ReadFault) (r : Result X Fault) (code old new : ℕ) (was now : X) → IsFaultLine first r old new
+    → IfOk r (λ x. (code ≡ 0) × (now ≡ x)) → IfErr r (λ f. (code ≡ code_of f) × (code ≢ 0) × (now ≡ was)) → IsLine first code old new
+line_of first (Ok x) code old new was now a h k = let e = h.0 in record { text = λ z. absurd (omega arith); other = λ _. a }
+line_of first (Err Text) code old new was now a h k = record { text = λ _. a; other = λ n. absurd (n k.0) }
+line_of first (Err Semiring) code old new was now a h k = let e : code ≡ 1 = k.0 in record { text = λ z. absurd (omega arith); other = λ _. a }
+line_of first (Err Grid) code old new was now a h k = let e : code ≡ 2 = k.0 in record { text = λ z. absurd (omega arith); other = λ _. a }
+line_of first (Err Test) code old new was now a h k = let e : code ≡ 3 = k.0 in record { text = λ z. absurd (omega arith); other = λ _. a }
+line_of first (Err Form) code old new was now a h k = let e : code ≡ 4 = k.0 in record { text = λ z. absurd (omega arith); other = λ _. a }
+line_of first (Err TooLarge) code old new was now a h k = let e : code ≡ 5 = k.0 in record { text = λ z. absurd (omega arith); other = λ _. a }
+line_of first (Err Lengths) code old new was now a h k = let e : code ≡ 6 = k.0 in record { text = λ z. absurd (omega arith); other = λ _. a }
+line_of first (Err Order) code old new was now a h k = let e : code ≡ 7 = k.0 in record { text = λ z. absurd (omega arith); other = λ _. a }
+line_of first (Err Place) code old new was now a h k = let e : code ≡ 8 = k.0 in record { text = λ z. absurd (omega arith); other = λ _. a }
+line_of first (Err Value) code old new was now a h k = let e : code ≡ 9 = k.0 in record { text = λ z. absurd (omega arith); other = λ _. a }
+line_of first (Err Shapes) code old new was now a h k = let e : code ≡ 10 = k.0 in record { text = λ z. absurd (omega arith); other = λ _. a }
+line_of first (Err NotSquare) code old new was now a h k = let e : code ≡ 11 = k.0 in record { text = λ z. absurd (omega arith); other = λ _. a }
+line_of first (Err Source) code old new was now a h k = let e : code ≡ 12 = k.0 in record { text = λ z. absurd (omega arith); other = λ _. a }
+line_of first (Err Memory) code old new was now a h k = let e : code ≡ 14 = k.0 in record { text = λ z. absurd (omega arith); other = λ _. a }

@@ -1,0 +1,14 @@
+-- Rising: starts that don't descend.
+-- WellFormed: what well-formed lists have in each stored column, and their matrix, column by column.
+-- Nonzero: the entries of a column that aren't zero, one after another.
+-- Held: each matrix has lists in doubly compressed columns, and no others.
+-- Firsts: the first fault of a call.
+-- Calls: what a call answers.
+-- OneBlock: a grid of side 1 has the whole matrix as its only block.
+pub mod Rising
+pub mod WellFormed
+pub mod Nonzero
+pub mod Held
+pub mod OneBlock
+pub mod Firsts
+pub mod Calls

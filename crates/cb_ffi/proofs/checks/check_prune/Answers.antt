@@ -1,0 +1,55 @@
+use Rattle.std.proofs.Common.{rules, ◌≡◌, ◌≤◌, ◌<◌, ℕ, refl, inl, inr}
+use Rattle.std.specs.Prelude.{IfErr, IfOk}
+use Rattle.cb_ffi.specs.declared.faults.Fault.{Fault}
+use Rattle.cb_ffi.specs.declared.faults.Fault.TheVariants.{Semiring, Grid, Test, Shapes, NotSquare, Source, Memory}
+use Rattle.cb_ffi.specs.Lists.{AreLists}
+use Rattle.cb_ffi.specs.Refusals.{Unless, IsMemory, IsSide, AreMasked, matrix_faults, one_faults, two_faults, transpose_faults, product_faults, masked_faults, vector_faults, placewise_faults, prune_faults, graph_faults}
+use Rattle.cb_ffi.specs.Answers.{NoFault}
+use Rattle.cb_ffi.proofs.Firsts.{weaken, only, wider, matrix_after, matrix_only, matrix_wider, one_after, one_only, one_wider, two_after, two_only, two_first, two_wider, two_last, two_none}
+use Rattle.cb_ffi.proofs.checks.check_prune.Goals as goal
+
+pub returns-in_err-grid-clause-fault : goal.returns-in_err-grid-clause-fault
+unfolding prune_faults
+returns-in_err-grid-clause-fault g c =
+    let s = g.S.Semiring.arithmetic in
+    let side = c.args.side in
+    let a = c.args.a.now in
+    let test = c.args.test in
+    let h : IfErr c.from_residual.result (λ f. (f ≡ Grid) × (IsSide side → ⊥)) = search rules in
+    weaken _ (λ f. (f ≡ Grid) × (IsSide side → ⊥)) (Unless (IsSide side) Grid (Unless (test ≤ 2) Test (matrix_faults s a IsMemory))) (λ f k. inl k) h
+
+pub returns-in_err-test-clause-fault : goal.returns-in_err-test-clause-fault
+unfolding prune_faults
+returns-in_err-test-clause-fault g c =
+    let s = g.S.Semiring.arithmetic in
+    let side = c.args.side in
+    let a = c.args.a.now in
+    let test = c.args.test in
+    let h : IfErr c.from_residual-in_err-test.result (λ f. (f ≡ Test) × (test ≤ 2 → ⊥)) = search rules in
+    weaken _ (λ f. (f ≡ Test) × (test ≤ 2 → ⊥)) (Unless (IsSide side) Grid (Unless (test ≤ 2) Test (matrix_faults s a IsMemory))) (λ f k. inr (c.in_ok-grid.ensures.ok, inl k)) h
+
+pub returns-in_err-check-clause-fault : goal.returns-in_err-check-clause-fault
+unfolding prune_faults
+returns-in_err-check-clause-fault g c =
+    let s = g.S.Semiring.arithmetic in
+    let side = c.args.side in
+    let a = c.args.a.now in
+    let test = c.args.test in
+    let h : IfErr c.from_residual-in_err-check.result (matrix_faults s a (λ _. ⊥)) = search rules in
+    weaken _ (matrix_faults s a (λ _. ⊥)) (Unless (IsSide side) Grid (Unless (test ≤ 2) Test (matrix_faults s a IsMemory)))
+    (λ f k. inr (c.in_ok-grid.ensures.ok, inr (c.in_ok-test.ensures.ok.0, matrix_wider s a IsMemory f k))) h
+
+pub returns-clause-none : goal.returns-clause-none
+unfolding prune_faults
+returns-clause-none g c =
+    let s = g.S.Semiring.arithmetic in
+    let side = c.args.side in
+    let a = c.args.a.now in
+    let test = c.args.test in
+    let p = c.in_ok-grid.ensures.ok in
+    let q = c.in_ok-test.ensures.ok.0 in
+    let l : AreLists s a = search rules in
+    record {
+      memory = inr (p, inr (q, matrix_after s a IsMemory Memory l refl));
+      only = λ f h. matrix_only s a IsMemory f l (only (test ≤ 2) Test (matrix_faults s a IsMemory) f q (only (IsSide side) Grid (Unless (test ≤ 2) Test (matrix_faults s a IsMemory)) f p h));
+    }

@@ -1,0 +1,21 @@
+use Rattle.std.proofs.Common.{arith, refl}
+use Rattle.cb_ffi.specs.Refusals.{arithmetic_of, text_faults}
+use Rattle.cb_ffi.specs.Answers.{IsTextOf}
+use Rattle.cb_ffi.proofs.Calls.{chosen}
+use Rattle.cb_ffi.proofs.texts.text_in.Goals as goal
+
+pub returns-in-0 : goal.returns-in-0
+unfolding arithmetic_of
+returns-in-0 c = chosen c.args.semiring 0 c.in-0.is (omega arith) (λ s. text_faults s c.args.a.now) (λ s. IsTextOf s c.args.a.now) c.text_over.result c.text_over.ensures.fault c.text_over.ensures.none c.text_over.ensures.ok
+
+pub returns-in-1 : goal.returns-in-1
+unfolding arithmetic_of
+returns-in-1 c = chosen c.args.semiring 1 c.in-1.is (omega arith) (λ s. text_faults s c.args.a.now) (λ s. IsTextOf s c.args.a.now) c.text_over-in-1.result c.text_over-in-1.ensures.fault c.text_over-in-1.ensures.none c.text_over-in-1.ensures.ok
+
+pub returns-in-2 : goal.returns-in-2
+unfolding arithmetic_of
+returns-in-2 c = chosen c.args.semiring 2 c.in-2.is (omega arith) (λ s. text_faults s c.args.a.now) (λ s. IsTextOf s c.args.a.now) c.text_over-in-2.result c.text_over-in-2.ensures.fault c.text_over-in-2.ensures.none c.text_over-in-2.ensures.ok
+
+pub returns-in-3 : goal.returns-in-3
+unfolding arithmetic_of
+returns-in-3 c = chosen c.args.semiring 3 c.in-3.is (omega arith) (λ s. text_faults s c.args.a.now) (λ s. IsTextOf s c.args.a.now) c.text_over-in-3.result c.text_over-in-3.ensures.fault c.text_over-in-3.ensures.none c.text_over-in-3.ensures.ok

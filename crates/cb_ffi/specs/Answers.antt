@@ -1,0 +1,54 @@
+-- What a call answers.
+use Rattle.std.specs.Prelude.{◌≡◌, ◌≢◌, ℕ, ◌==◌, cond, List, Option, Some, Result, Ok, Err}
+use Rattle.cb_elementwise.specs.declared.rules.Test.{Test}
+use Rattle.cb_elementwise.specs.declared.rules.Test.TheVariants.{Below, Above, Equal}
+use Rattle.cb_semirings.specs.Arithmetic.{Arithmetic}
+use Rattle.cb_matrix.specs.Sparse.{Sparse}
+use Rattle.cb_market.specs.declared.ReadFault.{ReadFault}
+use Rattle.cb_market.specs.Reads.{Reads}
+use Rattle.cb_market.specs.Text.{text_of}
+use Rattle.cb_ffi.specs.declared.lists.Columns.{Columns}
+use Rattle.cb_ffi.specs.declared.texts.Text.{Text as Bytes}
+use Rattle.cb_ffi.specs.Lists.{matrix_of, HasLists}
+use Rattle.cb_ffi.specs.declared.faults.Fault.{Fault}
+use Rattle.cb_ffi.specs.declared.faults.Fault.TheVariants.{Text, Memory}
+use Rattle.cb_ffi.specs.Refusals.{code_of}
+
+-- no fault is there but want of memory, which may come at any time
+pub record NoFault (faults : Fault → Type 0) : Type 0 where
+  pub memory : faults Memory
+  pub only : (f : Fault) → faults f → f ≡ Memory
+
+-- what is asked for, where there is no fault, or else the first fault
+abbrev pub IsAnswer : {X : Type 0} → (Fault → Type 0) → (X → Type 0) → Result X Fault → Type 0
+IsAnswer faults is (Ok x) = NoFault faults × is x
+IsAnswer faults is (Err f) = faults f
+
+-- The same, as C gets it: code 0 and what is asked for, or else the number of the first fault, and what was there before.
+pub record IsCall {X : Type 0} (faults : Fault → Type 0) (is : X → Type 0) (code : ℕ) (old new : X) : Type 0 where
+  pub answer : code ≡ 0 → NoFault faults × is new
+  pub fault : code ≢ 0 → (f : Fault) × (code ≡ code_of f) × faults f
+  pub unchanged : code ≢ 0 → new ≡ old
+
+-- the test of a number, 0 to 2, with its bound
+abbrev pub test_of : ℕ → ℕ → Test
+test_of n bound = cond (n == 0) (Below bound) (cond (n == 1) (Above bound) (Equal bound))
+
+-- the text of the matrix of a
+abbrev pub IsTextOf : Arithmetic → Columns → Bytes → Type 0
+IsTextOf s a t = t.bytes.now ≡ text_of s (matrix_of s a)
+
+-- the lists of the matrix that a text reads as
+abbrev pub IsRead : Arithmetic → List ℕ → Columns → Type 0
+IsRead s text c = (m : Sparse) × Reads s text m × HasLists m c
+
+-- the line of the first fault of a text, where the answer is that it doesn't read, and else the number as it was
+abbrev pub IsFaultLine : {X : Type 0} → Option ReadFault → Result X Fault → ℕ → ℕ → Type 0
+IsFaultLine first (Ok x) old new = new ≡ old
+IsFaultLine first (Err Text) old new = (g : ReadFault) × (first ≡ Some g) × (new ≡ g.line)
+IsFaultLine first (Err f) old new = new ≡ old
+
+-- the same, as C gets it
+pub record IsLine (first : Option ReadFault) (code old new : ℕ) : Type 0 where
+  pub text : code ≡ code_of Text → (g : ReadFault) × (first ≡ Some g) × (new ≡ g.line)
+  pub other : code ≢ code_of Text → new ≡ old

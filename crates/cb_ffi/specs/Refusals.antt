@@ -1,0 +1,92 @@
+-- Why a call has no answer. Faults are looked for in an order; the first is answered.
+use Rattle.std.specs.Prelude.{◌≡◌, ◌≢◌, ℕ, ◌<◌, ◌≤◌, ◌⊎◌, ◌==◌, cond, List, None}
+use Rattle.cb_semirings.specs.Arithmetic.{Arithmetic}
+use Rattle.cb_semirings.specs.Tables.{plus_times, min_plus, or_and, max_min}
+use Rattle.cb_market.specs.Faults.{first_fault}
+use Rattle.cb_ffi.specs.declared.lists.Columns.{Columns}
+use Rattle.cb_ffi.specs.declared.faults.Fault.{Fault}
+use Rattle.cb_ffi.specs.declared.faults.Fault.TheVariants.{Semiring, Grid, Test, Form, TooLarge, Lengths, Order, Place, Value, Shapes, NotSquare, Source, Text, Memory}
+use Rattle.cb_ffi.specs.Lists.{HasForm, Fits, HaveLengths, AreOrdered, AreInside, AreValues, shape_of}
+
+-- the number of a fault
+abbrev pub code_of : Fault → ℕ
+code_of Semiring = 1
+code_of Grid = 2
+code_of Test = 3
+code_of Form = 4
+code_of TooLarge = 5
+code_of Lengths = 6
+code_of Order = 7
+code_of Place = 8
+code_of Value = 9
+code_of Shapes = 10
+code_of NotSquare = 11
+code_of Source = 12
+code_of Text = 13
+code_of Memory = 14
+
+-- the fault g where P doesn't hold, and else one of the faults that are looked for next
+abbrev pub Unless : Type 0 → Fault → (Fault → Type 0) → Fault → Type 0
+Unless P g next f = ((f ≡ g) × (P → ⊥)) ⊎ (P × next f)
+
+-- want of memory, where there is no other fault
+abbrev pub IsMemory : Fault → Type 0
+IsMemory f = f ≡ Memory
+
+-- the faults of a matrix, and of what comes after it
+unfoldable pub matrix_faults : Arithmetic → Columns → (Fault → Type 0) → Fault → Type 0
+matrix_faults s c next =
+    Unless (HasForm c) Form (Unless (Fits c) TooLarge (Unless (HaveLengths c) Lengths (Unless (AreOrdered c) Order (Unless (AreInside c) Place (Unless (AreValues s c) Value next)))))
+
+-- a grid has a side of 1 to 6
+abbrev pub IsSide : ℕ → Type 0
+IsSide side = (1 ≤ side) × (side ≤ 6)
+
+-- those of a side and a matrix, or two matrices
+unfoldable pub one_faults : Arithmetic → ℕ → Columns → (Fault → Type 0) → Fault → Type 0
+one_faults s side a next = Unless (IsSide side) Grid (matrix_faults s a next)
+
+unfoldable pub two_faults : Arithmetic → ℕ → Columns → Columns → (Fault → Type 0) → Fault → Type 0
+two_faults s side a b next = one_faults s side a (matrix_faults s b next)
+
+-- ---- the faults of each call, over one semiring
+unfoldable pub transpose_faults : Arithmetic → ℕ → Columns → Fault → Type 0
+transpose_faults s side a = one_faults s side a IsMemory
+
+unfoldable pub product_faults : Arithmetic → ℕ → Columns → Columns → Fault → Type 0
+product_faults s side a b = two_faults s side a b (Unless (a.ncols ≡ b.nrows) Shapes IsMemory)
+
+-- the mask m has the shape of the product
+abbrev pub AreMasked : Columns → Columns → Columns → Type 0
+AreMasked a b m = (a.ncols ≡ b.nrows) × (m.nrows ≡ a.nrows) × (m.ncols ≡ b.ncols)
+
+unfoldable pub masked_faults : Arithmetic → ℕ → Columns → Columns → Columns → Fault → Type 0
+masked_faults s side a b m = two_faults s side a b (matrix_faults s m (Unless (AreMasked a b m) Shapes IsMemory))
+
+unfoldable pub vector_faults : Arithmetic → ℕ → Columns → Columns → Fault → Type 0
+vector_faults s side a x = two_faults s side a x (Unless ((a.ncols ≡ x.nrows) × (x.ncols ≡ 1)) Shapes IsMemory)
+
+unfoldable pub placewise_faults : Arithmetic → ℕ → Columns → Columns → Fault → Type 0
+placewise_faults s side a b = two_faults s side a b (Unless ((a.nrows ≡ b.nrows) × (a.ncols ≡ b.ncols)) Shapes IsMemory)
+
+unfoldable pub prune_faults : Arithmetic → ℕ → Columns → ℕ → Fault → Type 0
+prune_faults s side a test = Unless (IsSide side) Grid (Unless (test ≤ 2) Test (matrix_faults s a IsMemory))
+
+unfoldable pub graph_faults : Arithmetic → ℕ → Columns → ℕ → Fault → Type 0
+graph_faults s side a source = one_faults s side a (Unless (a.nrows ≡ a.ncols) NotSquare (Unless (source < a.nrows) Source IsMemory))
+
+unfoldable pub text_faults : Arithmetic → Columns → Fault → Type 0
+text_faults s a = matrix_faults s a IsMemory
+
+-- a text with a fault; memory may be refused before that fault is found
+abbrev pub read_faults : Arithmetic → List ℕ → Fault → Type 0
+read_faults s text f = ((f ≡ Text) × (first_fault s text ≢ None)) ⊎ (f ≡ Memory)
+
+-- ---- over the semiring of a number
+-- the operations of a semiring: 0 plus-times, 1 min-plus, 2 or-and, 3 max-min
+unfoldable pub arithmetic_of : ℕ → Arithmetic
+arithmetic_of n = cond (n == 0) plus_times (cond (n == 1) min_plus (cond (n == 2) or_and max_min))
+
+-- those of a call over that semiring
+abbrev pub over : ℕ → (Arithmetic → Fault → Type 0) → Fault → Type 0
+over n faults = Unless (n ≤ 3) Semiring (faults (arithmetic_of n))

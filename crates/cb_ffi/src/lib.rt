@@ -1,0 +1,188 @@
+//! The kernel for programs in C: matrices in compressed columns, lent as lists and answered as lists.
+//!
+//! Each call takes matrices as [`Columns`], which it reads and neither changes nor keeps, and answers a code: 0 where
+//! `out` has the answer, and else the number of the first fault ([`Fault::code`]), and `out` is as it was. All faults
+//! are looked for before memory is asked for.
+//!
+//! The lists of an answer are given away: each list that isn't empty is memory of the program's `malloc`, which the
+//! caller gives back by `free`.
+//!
+//! The semirings have the numbers 0 (plus-times), 1 (min-plus), 2 (or-and) and 3 (max-min).
+#![tactic(auto)]
+
+ghost use Rattle.std.specs.Prelude.{◌≡◌, ◌≢◌, IfOk, IfErr};
+ghost use Rattle.cb_matrix.specs.Values.{product};
+ghost use Rattle.cb_matrix.specs.Operations.{masked, transposed, sum_of, times_of, pruned};
+ghost use Rattle.cb_elementwise.specs.Passing.{passes};
+ghost use Rattle.cb_market.specs.Faults.{first_fault};
+ghost use Rattle.cb_ffi.specs.Lists.{matrix_of, HasLists};
+ghost use Rattle.cb_ffi.specs.Refusals.{arithmetic_of, code_of, over, product_faults, masked_faults, vector_faults, transpose_faults, placewise_faults, prune_faults, read_faults, text_faults};
+ghost use Rattle.cb_ffi.specs.Answers.{IsCall, IsLine, IsRead, IsTextOf, test_of};
+
+mod checks;
+mod faults;
+mod incoming;
+mod lists;
+mod outgoing;
+mod placewise;
+mod products;
+#[cfg(test)]
+mod tests;
+mod texts;
+
+pub use faults::Fault;
+pub use lists::Columns;
+use std::alloc::Global;
+pub use texts::Text;
+
+/// Puts an answer, or answers the number of the fault.
+fn put<T: Copy>(out: &mut T, answer: Result<T, Fault>) -> u32
+    ensures ok { IfOk answer (λ x. (result ≡ 0) × (out.new ≡ x)) }
+    ensures refused { IfErr answer (λ f. (result ≡ code_of f) × (result ≢ 0) × (out.new ≡ out.old)) }
+{
+    match answer {
+        Ok(made) => {
+            *out = made;
+            0
+        }
+        Err(fault) => fault.code(),
+    }
+}
+
+/// The product of two matrices, over the semiring of a number and a grid of a side.
+#[unsafe(no_mangle)]
+pub extern "C" fn cbgrid_kernel_multiply(
+    alloc: Global,
+    semiring: u32,
+    grid: u32,
+    a: &Columns,
+    b: &Columns,
+    out: &mut Columns,
+) -> u32
+    ensures { IsCall (over semiring (λ s. product_faults s grid a.now b.now)) (HasLists (product (arithmetic_of semiring) (matrix_of (arithmetic_of semiring) a.now) (matrix_of (arithmetic_of semiring) b.now))) result out.old out.new }
+{
+    put(out, products::multiply(alloc, semiring, grid, a, b))
+}
+
+/// The product of two matrices, kept where a mask has entries, over the semiring of a number and a grid of a side.
+#[unsafe(no_mangle)]
+pub extern "C" fn cbgrid_kernel_multiply_masked(
+    alloc: Global,
+    semiring: u32,
+    grid: u32,
+    a: &Columns,
+    b: &Columns,
+    mask: &Columns,
+    out: &mut Columns,
+) -> u32
+    ensures { IsCall (over semiring (λ s. masked_faults s grid a.now b.now mask.now)) (HasLists (masked (arithmetic_of semiring) (product (arithmetic_of semiring) (matrix_of (arithmetic_of semiring) a.now) (matrix_of (arithmetic_of semiring) b.now)) (matrix_of (arithmetic_of semiring) mask.now))) result out.old out.new }
+{
+    put(
+        out,
+        products::multiply_masked(alloc, semiring, grid, a, b, mask),
+    )
+}
+
+/// The product of a matrix by a vector, which has one column, over the semiring of a number and a grid of a side.
+#[unsafe(no_mangle)]
+pub extern "C" fn cbgrid_kernel_vector(
+    alloc: Global,
+    semiring: u32,
+    grid: u32,
+    a: &Columns,
+    x: &Columns,
+    out: &mut Columns,
+) -> u32
+    ensures { IsCall (over semiring (λ s. vector_faults s grid a.now x.now)) (HasLists (product (arithmetic_of semiring) (matrix_of (arithmetic_of semiring) a.now) (matrix_of (arithmetic_of semiring) x.now))) result out.old out.new }
+{
+    put(out, products::vector(alloc, semiring, grid, a, x))
+}
+
+/// The transpose of a matrix, over the semiring of a number and a grid of a side.
+#[unsafe(no_mangle)]
+pub extern "C" fn cbgrid_kernel_transpose(
+    alloc: Global,
+    semiring: u32,
+    grid: u32,
+    a: &Columns,
+    out: &mut Columns,
+) -> u32
+    ensures { IsCall (over semiring (λ s. transpose_faults s grid a.now)) (HasLists (transposed (arithmetic_of semiring) (matrix_of (arithmetic_of semiring) a.now))) result out.old out.new }
+{
+    put(out, placewise::transpose(alloc, semiring, grid, a))
+}
+
+/// The sum at each place of two matrices of one shape, over the semiring of a number and a grid of a side.
+#[unsafe(no_mangle)]
+pub extern "C" fn cbgrid_kernel_add(
+    alloc: Global,
+    semiring: u32,
+    grid: u32,
+    a: &Columns,
+    b: &Columns,
+    out: &mut Columns,
+) -> u32
+    ensures { IsCall (over semiring (λ s. placewise_faults s grid a.now b.now)) (HasLists (sum_of (arithmetic_of semiring) (matrix_of (arithmetic_of semiring) a.now) (matrix_of (arithmetic_of semiring) b.now))) result out.old out.new }
+{
+    put(out, placewise::add(alloc, semiring, grid, a, b))
+}
+
+/// The product at each place of two matrices of one shape, over the semiring of a number and a grid of a side.
+#[unsafe(no_mangle)]
+pub extern "C" fn cbgrid_kernel_times(
+    alloc: Global,
+    semiring: u32,
+    grid: u32,
+    a: &Columns,
+    b: &Columns,
+    out: &mut Columns,
+) -> u32
+    ensures { IsCall (over semiring (λ s. placewise_faults s grid a.now b.now)) (HasLists (times_of (arithmetic_of semiring) (matrix_of (arithmetic_of semiring) a.now) (matrix_of (arithmetic_of semiring) b.now))) result out.old out.new }
+{
+    put(out, placewise::times(alloc, semiring, grid, a, b))
+}
+
+/// A matrix without the entries whose value passes a test, over the semiring of a number and a grid of a side.
+#[unsafe(no_mangle)]
+pub extern "C" fn cbgrid_kernel_prune(
+    alloc: Global,
+    semiring: u32,
+    grid: u32,
+    a: &Columns,
+    test: u32,
+    bound: u64,
+    out: &mut Columns,
+) -> u32
+    ensures { IsCall (over semiring (λ s. prune_faults s grid a.now test)) (HasLists (pruned (arithmetic_of semiring) (passes (test_of test bound)) (matrix_of (arithmetic_of semiring) a.now))) result out.old out.new }
+{
+    put(out, placewise::prune(alloc, semiring, grid, a, test, bound))
+}
+
+/// The matrix that a Matrix Market text reads as, over the semiring of a number. Where the text has a fault (code 13)
+/// `line` is its line, counted from 1, and else as it was.
+#[unsafe(no_mangle)]
+pub extern "C" fn cbgrid_kernel_read(
+    alloc: Global,
+    semiring: u32,
+    text: &[u8],
+    line: &mut u64,
+    out: &mut Columns,
+) -> u32
+    ensures call { IsCall (over semiring (λ s. read_faults s text.now)) (IsRead (arithmetic_of semiring) text.now) result out.old out.new }
+    ensures line { IsLine (first_fault (arithmetic_of semiring) text.now) result line.old line.new }
+{
+    put(out, texts::read_in(alloc, semiring, text, line))
+}
+
+/// The Matrix Market text of a matrix, over the semiring of a number.
+#[unsafe(no_mangle)]
+pub extern "C" fn cbgrid_kernel_text(
+    alloc: Global,
+    semiring: u32,
+    a: &Columns,
+    out: &mut Text,
+) -> u32
+    ensures { IsCall (over semiring (λ s. text_faults s a.now)) (IsTextOf (arithmetic_of semiring) a.now) result out.old out.new }
+{
+    put(out, texts::text_in(alloc, semiring, a))
+}

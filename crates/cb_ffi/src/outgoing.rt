@@ -1,0 +1,84 @@
+//! The lists of a matrix, given away.
+ghost use Rattle.std.specs.Prelude.{◌≡◌, ℕ, List, IfOk};
+ghost use Rattle.cb_dcsc.specs.Compressed.{all_entries, AreColumns};
+ghost use Rattle.cb_ffi.specs.Lists.{HasLists};
+
+use crate::lists::Columns;
+use cb_dcsc::Block;
+use cb_layout::DistributedMatrix;
+use cb_matrix::Matrix;
+use cb_semirings::Semiring;
+use std::alloc::{AllocError, Global};
+
+/// The lists of a matrix over a grid, given away. Its entries are copied once, and twice more where the grid has more
+/// than one rank.
+pub(crate) fn lists_of<S: Semiring>(
+    alloc: Global,
+    matrix: &DistributedMatrix<S>,
+) -> Result<Columns, AllocError>
+    ensures { IfOk result (HasLists matrix.now.matrix) }
+{
+    let _shape = matrix.shape();
+    if matrix.grid().side() == 1 {
+        return block_lists(alloc, &matrix.blocks()[0]);
+    }
+    let whole = matrix.gather(alloc)?;
+    matrix_lists(alloc, &whole)
+}
+
+/// The lists of a matrix by its entries.
+pub(crate) fn matrix_lists<S: Semiring>(
+    alloc: Global,
+    matrix: &Matrix<S>,
+) -> Result<Columns, AllocError>
+    ensures { IfOk result (HasLists matrix.now) }
+{
+    let block = Block::<S>::from_ordered(alloc, matrix.shape(), matrix.entries())?;
+    block_lists(alloc, &block)
+}
+
+/// The lists of a block, given away: they are never freed here.
+pub(crate) fn block_lists<S: Semiring>(
+    alloc: Global,
+    block: &Block<S>,
+) -> Result<Columns, AllocError>
+    ensures { IfOk result (HasLists block.now) }
+{
+    let shape = block.shape();
+    let starts = starts_of(alloc, block)?;
+    let columns = Vec::from_slice(alloc, block.column_numbers())?;
+    let rows = Vec::from_slice(alloc, block.row_numbers())?;
+    let values = Vec::from_slice(alloc, block.values())?;
+    Ok(Columns {
+        nrows: shape.rows(),
+        ncols: shape.cols(),
+        kind: 0,
+        wide: 1,
+        columns: columns.leak(),
+        starts32: &[],
+        starts64: starts.leak(),
+        rows: rows.leak(),
+        values: values.leak(),
+    })
+}
+
+/// Where each column that has entries starts, and where the last one ends; nothing of a block without entries.
+fn starts_of<S: Semiring>(alloc: Global, block: &Block<S>) -> Result<Vec<u64>, AllocError>
+    ensures { IfOk result (λ v. (columns starts rows values : List ℕ) → AreColumns columns starts rows values → all_entries columns starts rows values ≡ block.now.entries → v.items ≡ starts) }
+{
+    let _matrix = block.shape();
+    let _entries = block.len();
+    let columns = block.column_numbers().len();
+    if columns == 0 {
+        return Ok(Vec::new(alloc));
+    }
+    let mut starts = Vec::with_capacity(alloc, columns + 1)?;
+    let mut end = 0;
+    starts.push(end)?;
+    for n in 0..columns {
+        let (rows, _values) = block.nth_column(n);
+        end += rows.len() as u64;
+        starts.push(end)?;
+    }
+    Ok(starts)
+}

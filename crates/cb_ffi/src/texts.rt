@@ -1,0 +1,102 @@
+//! Matrix Market texts.
+ghost use Rattle.std.specs.Prelude.{◌≡◌, IfOk, IfErr};
+ghost use Rattle.cb_market.specs.Faults.{first_fault};
+ghost use Rattle.cb_ffi.specs.Lists.{AreLists};
+ghost use Rattle.cb_ffi.specs.Refusals.{arithmetic_of, over, read_faults, text_faults};
+ghost use Rattle.cb_ffi.specs.Answers.{IsAnswer, NoFault, IsTextOf, IsRead, IsFaultLine};
+
+use crate::checks::check_text;
+use crate::faults::Fault;
+use crate::incoming::{block_of, matrix_of_block};
+use crate::lists::Columns;
+use crate::outgoing::matrix_lists;
+use cb_market::{Kind, read, text};
+use cb_semirings::{MaxMin, MinPlus, OrAnd, PlusTimes, Semiring};
+use std::alloc::{AllocError, Global};
+
+/// The bytes of a text.
+#[repr(C)]
+#[derive(Clone, Copy)]
+pub struct Text {
+    pub bytes: &'static [u8],
+}
+
+/// The text of well-formed lists, given away.
+fn text_bytes<S: Semiring>(alloc: Global, a: &Columns) -> Result<Text, AllocError>
+    requires { AreLists S.arithmetic a.now }
+    ensures { IfOk result (IsTextOf S.arithmetic a.now) }
+{
+    let block = block_of::<S>(alloc, a)?;
+    let matrix = matrix_of_block(&block)?;
+    let bytes = text(alloc, &matrix)?;
+    Ok(Text {
+        bytes: bytes.leak(),
+    })
+}
+
+/// The text of a matrix, over a semiring.
+fn text_over<S: Semiring>(alloc: Global, a: &Columns) -> Result<Text, Fault>
+    ensures ok { IfOk result (IsTextOf S.arithmetic a.now) }
+    ensures none { IfOk result (λ _. NoFault (text_faults S.arithmetic a.now)) }
+    ensures fault { IfErr result (text_faults S.arithmetic a.now) }
+{
+    check_text::<S>(a)?;
+    match text_bytes::<S>(alloc, a) {
+        Ok(text) => Ok(text),
+        Err(_refused) => Err(Fault::Memory),
+    }
+}
+
+/// The text of a matrix, over the semiring of a number.
+pub(crate) fn text_in(alloc: Global, semiring: u32, a: &Columns) -> Result<Text, Fault>
+    ensures { IsAnswer (over semiring (λ s. text_faults s a.now)) (IsTextOf (arithmetic_of semiring) a.now) result }
+{
+    match semiring {
+        0 => text_over::<PlusTimes>(alloc, a),
+        1 => text_over::<MinPlus>(alloc, a),
+        2 => text_over::<OrAnd>(alloc, a),
+        3 => text_over::<MaxMin>(alloc, a),
+        _ => Err(Fault::Semiring),
+    }
+}
+
+/// The lists of the matrix that a text reads as, over a semiring. Where the text has a fault its line is put into `line`.
+fn read_over<S: Semiring>(alloc: Global, text: &[u8], line: &mut u64) -> Result<Columns, Fault>
+    ensures ok { IfOk result (IsRead S.arithmetic text.now) }
+    ensures none { IfOk result (λ _. NoFault (read_faults S.arithmetic text.now)) }
+    ensures fault { IfErr result (read_faults S.arithmetic text.now) }
+    ensures line { IsFaultLine (first_fault S.arithmetic text.now) result line.old line.new }
+{
+    match read::<S>(alloc, text) {
+        Ok(matrix) => match matrix_lists(alloc, &matrix) {
+            Ok(lists) => Ok(lists),
+            Err(_refused) => Err(Fault::Memory),
+        },
+        Err(fault) => match fault.kind {
+            Kind::Memory => Err(Fault::Memory),
+            _ => {
+                *line = fault.line;
+                Err(Fault::Text)
+            }
+        },
+    }
+}
+
+/// The lists of the matrix that a text reads as, over the semiring of a number.
+pub(crate) fn read_in(
+    alloc: Global,
+    semiring: u32,
+    text: &[u8],
+    line: &mut u64,
+) -> Result<Columns, Fault>
+    ensures answer { IsAnswer (over semiring (λ s. read_faults s text.now)) (IsRead (arithmetic_of semiring) text.now) result }
+    ensures line { IsFaultLine (first_fault (arithmetic_of semiring) text.now) result line.old line.new }
+{
+    match semiring {
+        0 => read_over::<PlusTimes>(alloc, text, line),
+        1 => read_over::<MinPlus>(alloc, text, line),
+        2 => read_over::<OrAnd>(alloc, text, line),
+        3 => read_over::<MaxMin>(alloc, text, line),
+        _ => Err(Fault::Semiring),
+    }
+}
