@@ -1,6 +1,6 @@
 -- The two statements about a text are one.
-use Rattle.std.proofs.Common.{◌≡◌, ℕ, suc, ◌+◌, ◌-◌, ◌≤◌, ◌<◌, Bool, true, false, not, Option, Some, None, List, [], ◌∷◌, ◌++◌, arith, length, sym, ap, ◌∙◌, refl, nat_le, zero, map, filter, subst, ⊎_elim}
-use Rattle.std.specs.Prelude.{◌==◌, ◌&&◌, is_some, unwrap_or, codes, flat_map, bytes_eq}
+use Rattle.std.proofs.Common.{◌≡◌, ℕ, suc, ◌+◌, ◌-◌, ◌≤◌, ◌<◌, Bool, true, false, not, Option, Some, None, List, [], ◌∷◌, ◌++◌, arith, length, sym, ap, ◌∙◌, refl, nat_le, zero, map, filter, subst, inr, ⊎_elim}
+use Rattle.std.specs.Prelude.{◌==◌, ◌&&◌, is_some, unwrap_or, codes, flat_map, bytes_eq, IfSome}
 use Rattle.std.specs.List.{enumerate_from}
 use Rattle.std.specs.Char.{to_ascii_lowercase}
 use Rattle.std.proofs.lemmas.Bool.{and_parts, eqb-true, eq-eqb, cases_Bool}
@@ -10,6 +10,8 @@ use Rattle.cb_semirings.specs.Arithmetic.{Arithmetic}
 use Rattle.cb_matrix.specs.declared.Entry.{Entry}
 use Rattle.cb_matrix.specs.Sparse.{Sparse, Extent}
 use Rattle.cb_matrix.specs.Values.{collected}
+use Rattle.cb_market.specs.declared.Kind.TheVariants.{Memory}
+use Rattle.cb_market.specs.declared.ReadFault.{ReadFault}
 use Rattle.cb_market.specs.declared.header.Header.{Header}
 use Rattle.cb_market.specs.declared.header.Field.{Field}
 use Rattle.cb_market.specs.declared.header.Field.TheVariants.{Integer, Pattern}
@@ -18,7 +20,7 @@ use Rattle.cb_market.specs.declared.header.Symmetry.TheVariants.{General, Symmet
 use Rattle.cb_market.specs.declared.size.Size.{Size}
 use Rattle.cb_market.specs.Lines.{is_number, number, lines, words, kept, kept_lines, is_skipped, begins_blank}
 use Rattle.cb_market.specs.Checks.{header_checks, header_fault, header_of, is_name, field_in, symmetry_in, is_supported, size_checks, size_fault, size_of, is_shape, entry_fault, entry_checks, entry_of, word, words_wanted, has_value, value_of, is_above, is_on_diagonal, is_within, given_by}
-use Rattle.cb_market.specs.Faults.{first_fault, lines_fault, body_fault, matrix_in, lines_matrix, body_matrix, entries_fault, given, at_line}
+use Rattle.cb_market.specs.Faults.{first_fault, lines_fault, body_fault, matrix_in, lines_matrix, body_matrix, entries_fault, given, at_line, IsAnswer}
 use Rattle.cb_market.specs.Reads.{IsName, field_name, symmetry_name, IsHeader, IsShape, IsSize, IsPlace, IsEntry, AreEntries, Reads, IsFaultOrMatrix}
 use Rattle.cb_market.proofs.Bodies.{all_pass, at_line_none, within_parts, IsText}
 
@@ -313,3 +315,7 @@ fault_or_matrix s text = record {
   never_both = λ m h. (text_said s text m h).no_fault;
   one_matrix = λ m n h k. (text_said s text m h).matrix ∙ sym (text_said s text n k).matrix;
 }
+
+-- a text that reads as a matrix has no fault before want of memory at its end
+pub end_memory : (s : Arithmetic) (text : List ℕ) (m : Sparse) (n : ℕ) → Reads s text m → IsAnswer (first_fault s text) (record { line = n; kind = Memory })
+end_memory s text m n h = inr (refl, subst (λ (o : Option ReadFault). IfSome o (λ f. n < f.line)) (sym (text_said s text m h).no_fault) tt)

@@ -13,3 +13,4 @@ pub mod Segments
 pub mod WrittenBytes
 mod NumberLines
 mod NextEntries
+mod Listed

@@ -3,7 +3,7 @@ use Rattle.std.proofs.Common.{◌≡◌, ◌≢◌, ℕ, ◌+◌, ◌-◌, ◌�
 use Rattle.std.specs.Prelude.{Result, Ok, Err, is_err, OnOk, false}
 use Rattle.cb_semirings.specs.Arithmetic.{Arithmetic}
 use Rattle.cb_matrix.specs.declared.Entry.{Entry}
-use Rattle.cb_matrix.specs.Sparse.{Extent}
+use Rattle.cb_matrix.specs.Sparse.{Extent, IsInside}
 use Rattle.cb_market.specs.declared.Kind.{Kind}
 use Rattle.cb_market.specs.declared.Kind.TheVariants.{ExtraEntry, Memory}
 use Rattle.cb_market.specs.declared.ReadFault.{ReadFault}
@@ -11,6 +11,7 @@ use Rattle.cb_market.specs.declared.header.Header.{Header}
 use Rattle.cb_market.specs.Lines.{kept_from}
 use Rattle.cb_market.specs.Checks.{given_by}
 use Rattle.cb_market.specs.Faults.{entries_fault, given, IsAnswer, IsNextEntry}
+use Rattle.cb_market.proofs.Bodies.{entry_inside}
 use Rattle.cb_market.proofs.LineFaults.{extra, passed, refused, gives_more, kept_numbers}
 
 module _ (s : Arithmetic) (header : Header) (shape : Extent) (n left k : ℕ) (text : List ℕ) (m : ℕ) (rest : List ℕ) (all : Option ReadFault) where
@@ -35,6 +36,10 @@ pub next_gives : (s : Arithmetic) (header : Header) (shape : Extent) (k : ℕ) (
 next_gives s header shape k text m rest items new all entry j i e h a =
     ap (λ b. new ++ given s header (kept_from b rest)) i
     ∙ gives_more s header items new all (kept_from k text) (m, h.line_words) (kept_from (m + 1) rest) e h.kept (a ∙ ap (λ d. items ++ given_by s header.symmetry d) h.found_is.1)
+
+-- it is inside the shape
+pub next_inside : (s : Arithmetic) (header : Header) (shape : Extent) (k : ℕ) (text : List ℕ) (m : ℕ) (rest : List ℕ) (entry : Entry) → IsNextEntry s header shape k text m (Ok entry) rest → IsInside shape entry
+next_inside s header shape k text m rest entry h = rw h.found_is.1 (entry_inside s header shape h.line_words h.found_is.0)
 
 -- what holds at Ok, where there was no error
 pub at_ok : {A E : Type 0} (r : Result A E) (P : Type 0) → is_err r ≡ false → OnOk r P → P

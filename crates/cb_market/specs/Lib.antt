@@ -7,3 +7,4 @@ pub mod Reads
 pub mod Text
 pub mod Rows
 pub mod Room
+pub mod Gathered

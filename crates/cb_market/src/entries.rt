@@ -1,13 +1,15 @@
 //! The entries of a text.
-ghost use Rattle.std.specs.Prelude.{◌≡◌, ◌+◌, ◌-◌, ◌*◌, ◌/◌, ◌^◌, ◌<◌, ◌≤◌, ◌++◌, IsTrue, IfOk, IfErr, OnOk, IfSome, OnSome, IfNone, [], ◌∷◌, length, vec_capacity, Some, None};
+ghost use Rattle.std.specs.Prelude.{◌≡◌, ◌+◌, ◌-◌, ◌*◌, ◌/◌, ◌^◌, ◌<◌, ◌≤◌, ◌++◌, IsTrue, IfOk, IfErr, OnOk, IfSome, OnSome, IfNone, [], ◌∷◌, length, Some, None};
 ghost use Rattle.cb_semirings.specs.Arithmetic.{IsValue};
+ghost use Rattle.cb_matrix.specs.Sparse.{IsInside};
 ghost use Rattle.cb_market.specs.declared.header.Field.TheVariants.{Integer, Pattern};
 ghost use Rattle.cb_market.specs.Lines.{is_number, number, words, lines, kept_from};
 ghost use Rattle.cb_market.specs.Cursor.{line_at, after_line};
-ghost use Rattle.cb_market.specs.Checks.{is_above, is_on_diagonal, place_fault, entry_fault, entry_of, mirrored, negative_of, given_by};
+ghost use Rattle.cb_market.specs.Checks.{is_shape, is_above, is_on_diagonal, place_fault, entry_fault, entry_of, mirrored, negative_of, given_by};
 ghost use Rattle.cb_market.specs.Room.{shortest_line, most_given, room_of};
 ghost use Rattle.cb_market.specs.Faults.{entries_fault, given, IsAnswer, IsLineOf, IsNextEntry};
 
+use crate::gathered::Gathered;
 use crate::header::{Field, Header, Symmetry};
 use crate::plain_lines::plain_line;
 use crate::scanner::Scanner;
@@ -133,23 +135,28 @@ fn negative_of<S: Semiring>(value: u64) -> u64
 /// Adds what an entry gives.
 #[inline(always)]
 fn give<S: Semiring>(
-    entries: &mut Vec<Entry>,
+    alloc: Global,
+    entries: &mut Gathered<S>,
     symmetry: Symmetry,
     entry: Entry,
 ) -> Result<(), AllocError>
-    requires { IsValue S.arithmetic entry.value }
-    ensures { OnOk result (entries.new.items ≡ entries.old.items ++ given_by S.arithmetic symmetry entry) }
+    requires value { IsValue S.arithmetic entry.value }
+    requires inside { IsInside entries.old.shape entry }
+    requires shape { IsTrue (is_shape symmetry entries.old.shape) }
+    ensures given { OnOk result (entries.new.entries ≡ entries.old.entries ++ given_by S.arithmetic symmetry entry) }
+    ensures side { entries.new.side ≡ entries.old.side }
+    ensures shape { entries.new.shape ≡ entries.old.shape }
 {
-    entries.push(entry)?;
+    entries.push(alloc, entry)?;
     match symmetry {
         Symmetry::General => {}
         Symmetry::Symmetric => {
             if entry.row != entry.column {
-                entries.push(mirrored(entry.value, entry))?;
+                entries.push(alloc, mirrored(entry.value, entry))?;
             }
         }
         Symmetry::SkewSymmetric => {
-            entries.push(mirrored(negative_of::<S>(entry.value), entry))?;
+            entries.push(alloc, mirrored(negative_of::<S>(entry.value), entry))?;
         }
     }
     Ok(())
@@ -176,20 +183,13 @@ fn most_given(symmetry: Symmetry) -> usize
     }
 }
 
-/// A list without entries. It has room for as many as are announced, but for no more than the text
-/// that follows can give: a short text that announces many takes no room for them.
-pub fn room_for_entries(
-    alloc: Global,
-    header: Header,
-    count: u32,
-    text: &[u8],
-) -> Result<Vec<Entry>, AllocError>
-    ensures empty { IfOk result (λ v. v.items ≡ []) }
-    ensures room { IfOk result (λ v. vec_capacity v ≡ room_of header count (length text.now)) }
+/// How many entries room is taken for: as many as are announced, but no more than the text that
+/// follows can give. A short text that announces many takes no room for them.
+pub fn room_for_entries(header: Header, count: u32, text: &[u8]) -> usize
+    ensures { result ≡ room_of header count (length text.now) }
 {
     let lines = (text.len() + 1) / shortest_line(header.field);
-    let room = most_given(header.symmetry) * lines.min(count as usize);
-    Vec::with_capacity(alloc, room)
+    most_given(header.symmetry) * lines.min(count as usize)
 }
 
 impl<'a> Scanner<'a> {
@@ -287,22 +287,27 @@ impl<'a> Scanner<'a> {
         Some((line, found))
     }
 
-    /// The entries of a text, from the line after its size on, added to a list.
+    /// The entries of a text, from the line after its size on, added to those that are gathered.
     pub fn entries<S: Semiring>(
         &mut self,
-        room: Vec<Entry>,
+        alloc: Global,
+        gathered: Gathered<S>,
         header: Header,
         size: Size,
-    ) -> Result<Vec<Entry>, ReadFault>
+    ) -> Result<Gathered<S>, ReadFault>
         requires lines { self.old.line + length (lines self.old.rest.now) < 2 ^ 64 }
-        requires room { vec_capacity room ≡ room_of header size.count (length self.old.rest.now) }
-        ensures none { IfOk result (λ v. entries_fault S.arithmetic header size.shape (self.old.line + length (lines self.old.rest.now)) size.count (kept_from self.old.line self.old.rest.now) ≡ None) }
-        ensures given { IfOk result (λ v. v.items ≡ room.items ++ given S.arithmetic header (kept_from self.old.line self.old.rest.now)) }
-        ensures line { IfOk result (λ v. self.new.line ≡ self.old.line + length (lines self.old.rest.now)) }
+        requires room { gathered.room ≡ room_of header size.count (length self.old.rest.now) }
+        requires same_shape { gathered.shape ≡ size.shape }
+        requires shape { IsTrue (is_shape header.symmetry size.shape) }
+        ensures none { IfOk result (λ g. entries_fault S.arithmetic header size.shape (self.old.line + length (lines self.old.rest.now)) size.count (kept_from self.old.line self.old.rest.now) ≡ None) }
+        ensures given { IfOk result (λ g. g.entries ≡ gathered.entries ++ given S.arithmetic header (kept_from self.old.line self.old.rest.now)) }
+        ensures side { IfOk result (λ g. g.side ≡ gathered.side) }
+        ensures shape { IfOk result (λ g. g.shape ≡ size.shape) }
+        ensures line { IfOk result (λ g. self.new.line ≡ self.old.line + length (lines self.old.rest.now)) }
         ensures fault { IfErr result (IsAnswer (entries_fault S.arithmetic header size.shape (self.old.line + length (lines self.old.rest.now)) size.count (kept_from self.old.line self.old.rest.now))) }
         ensures place { IfErr result (IsLineOf self.old.line self.old.rest.now) }
     {
-        let mut entries = room;
+        let mut entries = gathered;
         let mut left = size.count;
         loop {
             let Some((line, found)) = self.next_entry::<S>(header, size.shape) else {
@@ -318,7 +323,7 @@ impl<'a> Scanner<'a> {
                 Ok(entry) => entry,
                 Err(kind) => return Err(ReadFault { line, kind }),
             };
-            if give::<S>(&mut entries, header.symmetry, entry).is_err() {
+            if give::<S>(alloc, &mut entries, header.symmetry, entry).is_err() {
                 return Err(ReadFault {
                     line,
                     kind: Kind::Memory,

@@ -88,6 +88,7 @@ pub struct ReadFault {
 }
 
 mod entries;
+mod gathered;
 mod header;
 mod pages;
 mod plain_lines;

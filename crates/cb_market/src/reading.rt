@@ -1,6 +1,5 @@
 //! Reading a text.
-ghost use Rattle.std.specs.Prelude.{◌≡◌, ◌+◌, ◌^◌, ◌<◌, ◌≤◌, IfOk, IfErr, IsTrue, length, None, ◌==◌};
-ghost use Rattle.std.specs.List.{count_by};
+ghost use Rattle.std.specs.Prelude.{◌≡◌, ◌+◌, ◌^◌, ◌<◌, ◌≤◌, IfOk, IfErr, IsTrue, length, None};
 ghost use Rattle.cb_market.specs.Lines.{lines, kept_from};
 ghost use Rattle.cb_matrix.specs.Values.{collected};
 ghost use Rattle.cb_market.specs.Checks.{is_shape};
@@ -9,6 +8,7 @@ ghost use Rattle.cb_market.specs.Faults.{entries_fault, given, body_fault, body_
 ghost use Rattle.cb_market.specs.Reads.{Reads, IsFaultOrMatrix};
 
 use crate::entries::room_for_entries;
+use crate::gathered::Gathered;
 use crate::header::Header;
 use crate::scanner::Scanner;
 use crate::size::Size;
@@ -20,10 +20,18 @@ use std::alloc::Global;
 
 impl<'a> Scanner<'a> {
     /// The size and the entries of a text, from its second line on.
-    fn body<S: Semiring>(&mut self, alloc: Global, header: Header) -> Result<Matrix<S>, ReadFault>
+    fn body<S: Semiring>(
+        &mut self,
+        alloc: Global,
+        grid: Grid,
+        in_blocks: bool,
+        header: Header,
+    ) -> Result<Gathered<S>, ReadFault>
         requires { self.old.line + length (lines self.old.rest.now) < 2 ^ 64 }
         ensures none { IfOk result (λ _. body_fault S.arithmetic header (self.old.line + length (lines self.old.rest.now)) (kept_from self.old.line self.old.rest.now) ≡ None) }
-        ensures matrix { IfOk result (λ m. m ≡ body_matrix S.arithmetic header (kept_from self.old.line self.old.rest.now)) }
+        ensures matrix { IfOk result (λ g. collected S.arithmetic g.shape g.entries ≡ body_matrix S.arithmetic header (kept_from self.old.line self.old.rest.now)) }
+        ensures side { IfOk result (λ g. g.side ≡ grid.side) }
+        ensures end { IfOk result (λ _. self.new.line ≡ self.old.line + length (lines self.old.rest.now)) }
         ensures fault { IfErr result (IsAnswer (body_fault S.arithmetic header (self.old.line + length (lines self.old.rest.now)) (kept_from self.old.line self.old.rest.now))) }
         ensures place { IfErr result (IsLineOf self.old.line self.old.rest.now) }
     {
@@ -31,47 +39,51 @@ impl<'a> Scanner<'a> {
             return Err(self.fault(Kind::BadSize));
         };
         let size = self.size_line(header, &first)?;
-        self.matrix(alloc, header, size)
+        self.gathered(alloc, grid, in_blocks, header, size)
     }
 
-    /// The matrix of the entries, from the end of the size line on.
-    fn matrix<S: Semiring>(
+    /// The entries, from the end of the size line on.
+    fn gathered<S: Semiring>(
         &mut self,
         alloc: Global,
+        grid: Grid,
+        in_blocks: bool,
         header: Header,
         size: Size,
-    ) -> Result<Matrix<S>, ReadFault>
+    ) -> Result<Gathered<S>, ReadFault>
         requires lines { self.old.line + 1 + length (lines (after_line self.old.rest.now)) < 2 ^ 64 }
         requires shape { IsTrue (is_shape header.symmetry size.shape) }
         ensures none { IfOk result (λ _. entries_fault S.arithmetic header size.shape (self.old.line + 1 + length (lines (after_line self.old.rest.now))) size.count (kept_from (self.old.line + 1) (after_line self.old.rest.now)) ≡ None) }
-        ensures matrix { IfOk result (λ m. m ≡ collected S.arithmetic size.shape (given S.arithmetic header (kept_from (self.old.line + 1) (after_line self.old.rest.now)))) }
+        ensures shape { IfOk result (λ g. g.shape ≡ size.shape) }
+        ensures given { IfOk result (λ g. g.entries ≡ given S.arithmetic header (kept_from (self.old.line + 1) (after_line self.old.rest.now))) }
+        ensures side { IfOk result (λ g. g.side ≡ grid.side) }
+        ensures end { IfOk result (λ _. self.new.line ≡ self.old.line + 1 + length (lines (after_line self.old.rest.now))) }
         ensures fault { IfErr result (IsAnswer (entries_fault S.arithmetic header size.shape (self.old.line + 1 + length (lines (after_line self.old.rest.now))) size.count (kept_from (self.old.line + 1) (after_line self.old.rest.now)))) }
         ensures place { IfErr result (λ f. (self.old.line ≤ f.line) × (f.line ≤ self.old.line + 1 + length (lines (after_line self.old.rest.now)))) }
     {
-        let shape = size.shape;
         let refused = self.fault(Kind::Memory);
         self.next_line();
-        let Ok(room) = room_for_entries(alloc, header, size.count, self.rest) else {
+        let room = room_for_entries(header, size.count, self.rest);
+        let Ok(start) = Gathered::start(alloc, grid, size.shape, room, in_blocks) else {
             return Err(refused);
         };
-        let entries = self.entries::<S>(room, header, size)?;
-        let Ok(matrix) = Matrix::collect(shape, entries) else {
-            return Err(self.fault(Kind::Memory));
-        };
-        Ok(matrix)
+        self.entries::<S>(alloc, start, header, size)
     }
 }
 
-/// The matrix that a text reads as, or its first fault. A place's value is the sum of what the
-/// entries give there; a sum of zero is not stored.
-///
-/// Memory is answered with the line at which it was refused, and only where no fault stands before
-/// that line or at it; the line past the last is that of what is looked for at the end. One pass over the bytes; then the entries are sorted and added in place.
-pub fn read<S: Semiring>(alloc: Global, text: &[u8]) -> Result<Matrix<S>, ReadFault>
-    ensures ok { IfOk result (λ m. Reads S.arithmetic text.now m) }
+/// The entries of a text, over a grid or in a list, and the number of the line past its last; or its
+/// first fault.
+fn gathered<S: Semiring>(
+    alloc: Global,
+    grid: Grid,
+    in_blocks: bool,
+    text: &[u8],
+) -> Result<(Gathered<S>, u64), ReadFault>
+    ensures ok { IfOk result (λ p. Reads S.arithmetic text.now (collected S.arithmetic p.0.shape p.0.entries)) }
+    ensures side { IfOk result (λ p. p.0.side ≡ grid.side) }
+    ensures end { IfOk result (λ p. p.1 ≡ 1 + length (lines text.now)) }
     ensures fault { IfErr result (IsAnswer (first_fault S.arithmetic text.now)) }
     ensures line { IfErr result (IsLineOf 1 text.now) }
-    ensures law { IsFaultOrMatrix S.arithmetic text.now }
 {
     if text.is_empty() {
         return Err(ReadFault {
@@ -85,13 +97,38 @@ pub fn read<S: Semiring>(alloc: Global, text: &[u8]) -> Result<Matrix<S>, ReadFa
         Err(kind) => return Err(ReadFault { line: 1, kind }),
     };
     scanner.next_line();
-    scanner.body::<S>(alloc, header)
+    let entries = scanner.body::<S>(alloc, grid, in_blocks, header)?;
+    Ok((entries, scanner.line))
+}
+
+/// The matrix that a text reads as, or its first fault. A place's value is the sum of what the
+/// entries give there; a sum of zero is not stored.
+///
+/// Memory is answered with the line at which it was refused, and only where no fault stands before
+/// that line or at it; the line past the last is that of what is looked for at the end. One pass over the bytes; then the entries are sorted and added in place.
+pub fn read<S: Semiring>(alloc: Global, text: &[u8]) -> Result<Matrix<S>, ReadFault>
+    ensures ok { IfOk result (λ m. Reads S.arithmetic text.now m) }
+    ensures fault { IfErr result (IsAnswer (first_fault S.arithmetic text.now)) }
+    ensures line { IfErr result (IsLineOf 1 text.now) }
+    ensures law { IsFaultOrMatrix S.arithmetic text.now }
+{
+    let Ok(grid) = Grid::new(1) else {
+        unreachable!();
+    };
+    let (entries, line) = gathered::<S>(alloc, grid, false, text)?;
+    match entries.into_matrix(alloc) {
+        Ok(matrix) => Ok(matrix),
+        Err(_refused) => Err(ReadFault {
+            line,
+            kind: Kind::Memory,
+        }),
+    }
 }
 
 /// The matrix that a text reads as, in the blocks of a grid, or its first fault. All else is as in [`read`].
 ///
-/// The list of all entries is given up once the blocks have them: who keeps the matrix in its blocks never has it
-/// twice but while it is read.
+/// Entries that ascend by column and then row, none of them zero, go straight into the blocks. Any
+/// others are listed, sorted and added as in [`read`], and the list is given up once the blocks have them.
 pub fn read_distributed<S: Semiring>(
     alloc: Global,
     grid: &Grid,
@@ -103,26 +140,12 @@ pub fn read_distributed<S: Semiring>(
     ensures line { IfErr result (IsLineOf 1 text.now) }
     ensures law { IsFaultOrMatrix S.arithmetic text.now }
 {
-    let matrix = read::<S>(alloc, text)?;
-    match DistributedMatrix::scatter(alloc, *grid, &matrix) {
+    let (entries, line) = gathered::<S>(alloc, *grid, true, text)?;
+    match entries.into_blocks(alloc) {
         Ok(blocks) => Ok(blocks),
         Err(_refused) => Err(ReadFault {
-            line: line_past_last(text),
+            line,
             kind: Kind::Memory,
         }),
     }
-}
-
-/// The number of the line past the last, or of the last one where no line feed ends it.
-fn line_past_last(text: &[u8]) -> u64
-    ensures { (1 ≤ result) × (result ≤ 1 + length (lines text.now)) }
-{
-    line_feeds(text) as u64 + 1
-}
-
-/// How many line feeds a text has.
-fn line_feeds(text: &[u8]) -> usize
-    ensures { result ≡ count_by (λ c. c == 10) text.now }
-{
-    text.iter().filter(|byte| **byte == b'\n').count()
 }

@@ -2,7 +2,7 @@ use Rattle.std.proofs.Common.{rules, arith, ◌∙◌, ◌≡◌, ◌≢◌, ◌
 use Rattle.cb_market.specs.Lines.{lines}
 use Rattle.cb_market.specs.Checks.{given_by}
 use Rattle.cb_market.specs.Faults.{IsNextEntry}
-use Rattle.cb_market.proofs.NextEntries.{next_extra, next_refused, next_memory, next_passed, next_gives, at_ok}
+use Rattle.cb_market.proofs.NextEntries.{next_extra, next_refused, next_memory, next_passed, next_gives, next_inside, at_ok}
 use Rattle.cb_market.proofs.LineFaults.{missing, complete, at_end}
 use Rattle.cb_market.proofs.scanner.Scanner.entries.Goals as goal
 
@@ -30,12 +30,14 @@ loop-line-preserved g c =
     let some : c.loop-line.left ≢ 0 = search rules in
     let next = subst (λ r. IsNextEntry s c.args.header c.args.size.shape c.loop-line.self.line c.loop-line.self.rest.now c.in-Some.line r c.next_entry.new.self.rest.now) c.in-Ok.is c.in-Some.ensures.some in
     let line : c.next_entry.new.self.line ≡ c.in-Some.line + 1 = c.in-Some.ensures.line in
-    let added = at_ok c.give.result (c.give.new.entries.items ≡ c.loop-line.entries.items ++ given_by s c.args.header.symmetry c.in-Ok.entry) (search rules) c.give.ensures in
+    let added = at_ok c.give.result (c.give.new.entries.entries ≡ c.loop-line.entries.entries ++ given_by s c.args.header.symmetry c.in-Ok.entry) (search rules) c.give.ensures.given in
     record {
       faults = next_passed s c.args.header c.args.size.shape (c.args.self.now.line + length (lines c.args.self.now.rest.now)) c.loop-line.left c.loop-line.self.line c.loop-line.self.rest.now c.in-Some.line c.next_entry.new.self.rest.now _ c.in-Ok.entry c.next_entry.new.self.line line c.loop-line.invariant.faults some next;
-      gives = next_gives s c.args.header c.args.size.shape c.loop-line.self.line c.loop-line.self.rest.now c.in-Some.line c.next_entry.new.self.rest.now c.loop-line.entries.items c.give.new.entries.items _ c.in-Ok.entry c.next_entry.new.self.line line c.loop-line.invariant.gives next added;
+      gives = next_gives s c.args.header c.args.size.shape c.loop-line.self.line c.loop-line.self.rest.now c.in-Some.line c.next_entry.new.self.rest.now c.loop-line.entries.entries c.give.new.entries.entries _ c.in-Ok.entry c.next_entry.new.self.line line c.loop-line.invariant.gives next added;
       count = omega (arith, line, c.in-Some.ensures.some.count, c.loop-line.invariant.count);
       later = omega (arith, line, c.in-Some.ensures.some.later, c.loop-line.invariant.later);
+      side = c.give.ensures.side ∙ c.loop-line.invariant.side;
+      shape = c.give.ensures.shape ∙ c.loop-line.invariant.shape;
       room = omega (arith, line, c.in-Some.ensures.some.count, c.loop-line.invariant.room);
     }
 
@@ -46,3 +48,12 @@ returns-then-left-ne0-clause-fault g c =
 
 pub returns-clause-none : goal.returns-clause-none
 returns-clause-none g c = complete g.S.Semiring.arithmetic c.args.header c.args.size.shape _ c.loop-line.left _ _ c.loop-line.invariant.faults (search rules) c.in_default.ensures.none
+
+pub give-requires-clause-inside : goal.give-requires-clause-inside
+give-requires-clause-inside g c =
+    let s = g.S.Semiring.arithmetic in
+    let next = subst (λ r. IsNextEntry s c.args.header c.args.size.shape c.loop-line.self.line c.loop-line.self.rest.now c.in-Some.line r c.next_entry.new.self.rest.now) c.in-Ok.is c.in-Some.ensures.some in
+    rw c.loop-line.invariant.shape (next_inside s c.args.header c.args.size.shape c.loop-line.self.line c.loop-line.self.rest.now c.in-Some.line c.next_entry.new.self.rest.now c.in-Ok.entry next)
+
+pub give-requires-clause-shape : goal.give-requires-clause-shape
+give-requires-clause-shape g c = rw c.loop-line.invariant.shape c.requires.shape

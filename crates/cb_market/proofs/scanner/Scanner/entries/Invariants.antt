@@ -7,9 +7,11 @@ use Rattle.cb_market.proofs.scanner.Scanner.entries.Given as goal
 abbrev pub invariant-loop-line : goal.invariant-loop-line
 invariant-loop-line g l = record {
   faults : SameFault g.S.Semiring.arithmetic l.header l.fn.size.shape (l.initial.self.line + length (lines l.initial.self.rest.now)) l.fn.size.count (kept_from l.initial.self.line l.initial.self.rest.now) l.left (kept_from l.self.line l.self.rest.now);
-  gives : l.entries.items ++ given g.S.Semiring.arithmetic l.header (kept_from l.self.line l.self.rest.now) ≡ l.initial.entries.items ++ given g.S.Semiring.arithmetic l.header (kept_from l.initial.self.line l.initial.self.rest.now);
+  gives : l.entries.entries ++ given g.S.Semiring.arithmetic l.header (kept_from l.self.line l.self.rest.now) ≡ l.initial.entries.entries ++ given g.S.Semiring.arithmetic l.header (kept_from l.initial.self.line l.initial.self.rest.now);
   count : l.self.line + length (lines l.self.rest.now) ≡ l.initial.self.line + length (lines l.initial.self.rest.now);
   later : l.initial.self.line ≤ l.self.line;
+  side : l.entries.side ≡ l.initial.entries.side;
+  shape : l.entries.shape ≡ l.fn.size.shape;
   room : l.self.line + length (lines l.self.rest.now) < 2 ^ 64;
 }
 

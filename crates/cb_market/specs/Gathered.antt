@@ -1,0 +1,24 @@
+-- The entries of a text as they are gathered, and where they are kept.
+use Rattle.std.specs.Prelude.{◌≡◌, ℕ, ◌+◌, ◌*◌, ◌^◌, ◌<◌, Bool, true, false, List, [], All}
+use Rattle.cb_semirings.specs.Arithmetic.{Arithmetic, IsValue}
+use Rattle.cb_matrix.specs.declared.Entry.{Entry}
+use Rattle.cb_matrix.specs.Sparse.{Extent, Sparse, IsInside}
+
+-- The side of a grid, a shape, how many entries room is taken for, and those that came, in order.
+pub record Listed : Type 0 where
+  pub side : ℕ
+  pub shape : Extent
+  pub room : ℕ
+  pub entries : List Entry
+
+-- the number of a place, by column and then by row
+abbrev pub place_number : Entry → ℕ
+place_number e = e.column * 2 ^ 32 + e.row
+
+-- The blocks have all entries, whose numbers are below a bound; or the list has all.
+pub record IsGathered (s : Arithmetic) (blocks : Sparse) (list : List Entry) (ascends : Bool) (bound : ℕ) : Type 0 where
+  pub in_blocks : ascends ≡ true → list ≡ []
+  pub in_list : ascends ≡ false → blocks.entries ≡ []
+  pub below : All (λ e. place_number e < bound) blocks.entries
+  pub inside : All (IsInside blocks.shape) list
+  pub values : All (λ e. IsValue s e.value) list

@@ -1,0 +1,135 @@
+//! The entries of a text, as they are read.
+ghost use Rattle.std.specs.Prelude.{◌≡◌, ◌+◌, ◌*◌, ◌^◌, ◌++◌, [], ◌∷◌, IfOk, OnOk};
+ghost use Rattle.cb_semirings.specs.Arithmetic.{IsValue};
+ghost use Rattle.cb_matrix.specs.Sparse.{IsInside};
+ghost use Rattle.cb_matrix.specs.Values.{collected};
+ghost use Rattle.cb_market.specs.Gathered.{place_number};
+
+use cb_layout::{DistributedMatrix, Grid};
+use cb_matrix::{Entry, Matrix, Shape};
+use cb_semirings::Semiring;
+use std::alloc::{AllocError, Global};
+use std::marker::Model;
+
+/// The entries of a text: in the blocks of a grid as long as they ascend by column and then row and
+/// none is zero, and else in a list.
+#[derive(Drop)]
+pub struct Gathered<S: Semiring> {
+    blocks: DistributedMatrix<S>,
+    list: Vec<Entry>,
+    /// Whether the blocks have all entries, and not the list.
+    ascends: bool,
+    /// Above the number of each place in the blocks.
+    bound: u64,
+    /// How many entries room is taken for.
+    room: usize,
+}
+
+impl<S: Semiring> Model for Gathered<S> {
+    ghost use Rattle.std.specs.Prelude.{◌++◌};
+    ghost use Rattle.cb_market.specs.Gathered.{Listed, IsGathered};
+
+    ghost Value = { Listed };
+
+    ghost view = { λ a. record { side = a.blocks.side; shape = a.blocks.matrix.shape; room = a.room; entries = a.blocks.matrix.entries ++ a.list.items } };
+
+    ghost invariant = { λ a. IsGathered S.arithmetic a.blocks.matrix a.list.items a.ascends a.bound };
+}
+
+/// The number of a place, by column and then by row.
+fn place_number(entry: Entry) -> u64
+    ensures { result ≡ place_number entry }
+{
+    u64::from(entry.column) * (1 << 32) + u64::from(entry.row)
+}
+
+/// The entries of a matrix over a grid in a list, with room for so many.
+fn listed<S: Semiring>(
+    alloc: Global,
+    blocks: &DistributedMatrix<S>,
+    room: usize,
+) -> Result<Vec<Entry>, AllocError>
+    ensures { IfOk result (λ v. v.items ≡ blocks.now.matrix.entries) }
+{
+    let matrix = blocks.gather(alloc)?;
+    let mut list = Vec::with_capacity(alloc, room)?;
+    list.extend_from_slice(matrix.entries())?;
+    Ok(list)
+}
+
+impl<S: Semiring> Gathered<S> {
+    /// No entries, and room for so many: in the blocks of a grid, or else in a list.
+    pub fn start(
+        alloc: Global,
+        grid: Grid,
+        shape: Shape,
+        room: usize,
+        in_blocks: bool,
+    ) -> Result<Self, AllocError>
+        ensures { IfOk result (λ g. g ≡ record { side = grid.side; shape = shape; room = room; entries = [] }) }
+    {
+        let (in_grid, in_list) = if in_blocks { (room, 0) } else { (0, room) };
+        let blocks = DistributedMatrix::with_room(alloc, grid, shape, in_grid)?;
+        let list = Vec::with_capacity(alloc, in_list)?;
+        Ok(Gathered {
+            blocks,
+            list,
+            ascends: in_blocks,
+            bound: 0,
+            room,
+        })
+    }
+
+    /// Adds an entry after all the others. In constant time, but for the growth of lists, and for the
+    /// one entry that ends an ascent: it moves all the others into the list.
+    pub fn push(&mut self, alloc: Global, entry: Entry) -> Result<(), AllocError>
+        requires inside { IsInside self.old.shape entry }
+        requires value { IsValue S.arithmetic entry.value }
+        ensures entries { OnOk result (self.new.entries ≡ self.old.entries ++ entry ∷ []) }
+        ensures side { self.new.side ≡ self.old.side }
+        ensures shape { self.new.shape ≡ self.old.shape }
+    {
+        if !self.ascends {
+            self.list.push(entry)?;
+            return Ok(());
+        }
+        let shape = self.blocks.shape();
+        let place = place_number(entry);
+        if self.bound <= place && entry.value != S::zero() {
+            self.blocks.push(entry)?;
+            self.bound = place + 1;
+            return Ok(());
+        }
+        let mut list = listed(alloc, &self.blocks, self.room)?;
+        list.push(entry)?;
+        self.blocks = DistributedMatrix::with_room(alloc, self.blocks.grid(), shape, 0)?;
+        self.list = list;
+        self.ascends = false;
+        Ok(())
+    }
+
+    /// The matrix that has at each place the sum of the values given there.
+    pub fn into_matrix(self, alloc: Global) -> Result<Matrix<S>, AllocError>
+        ensures { IfOk result (λ m. m ≡ collected S.arithmetic self.shape self.entries) }
+    {
+        let shape = self.blocks.shape();
+        if self.ascends {
+            self.blocks.gather(alloc)
+        } else {
+            Matrix::collect(shape, self.list)
+        }
+    }
+
+    /// The same, in the blocks of the grid.
+    pub fn into_blocks(self, alloc: Global) -> Result<DistributedMatrix<S>, AllocError>
+        ensures { IfOk result (λ m. m ≡ record { side = self.side; matrix = collected S.arithmetic self.shape self.entries }) }
+    {
+        let shape = self.blocks.shape();
+        if self.ascends {
+            return Ok(self.blocks);
+        }
+        let grid = self.blocks.grid();
+        let matrix = Matrix::collect(shape, self.list)?;
+        DistributedMatrix::scatter(alloc, grid, &matrix)
+    }
+}
