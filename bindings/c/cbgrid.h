@@ -1,9 +1,9 @@
 /*
- * cbgrid: products of sparse matrices over semirings, and what graph programs do with them.
+ * cbgrid: products, sums, transposes, prunes and texts of sparse matrices over semirings.
  *
- * Matrices are lent as lists of compressed columns, and answers come back as such lists. Nothing is
- * copied on the way in: a call reads the caller's lists where they lie, checks them, and never writes
- * to them.
+ * Matrices are lent as lists of compressed columns, and answers come back as such lists. A call reads the
+ * caller's lists where they lie, checks them, and copies their entries once into a block of its own, from
+ * which it works. The caller's lists need not be converted first, and nothing is written to them.
  *
  *     uint32_t starts[] = {0, 1, 3}, rows[] = {0, 0, 1};
  *     uint64_t values[] = {1, 2, 3};
@@ -12,7 +12,7 @@
  *     if (code) fprintf(stderr, "%s\n", cbgrid_message(code));
  *     else cbgrid_free_columns(&square);
  *
- * Counting. Rows, columns and vertices count from 0; the lines and the entries of a text count from 1,
+ * Counting. Rows and columns count from 0; the lines and the entries of a text count from 1,
  * as in every Matrix Market text. Lengths are numbers of elements, but the length of a text, which is
  * in bytes.
  *
@@ -89,8 +89,8 @@ enum cbgrid_code {
     CBGRID_PLACE = 8,        /* an entry is outside the shape */
     CBGRID_VALUE = 9,        /* not a value of the semiring */
     CBGRID_SHAPES = 10,      /* the shapes of the operands don't agree */
-    CBGRID_NOT_SQUARE = 11,  /* a graph's matrix has not as many columns as rows */
-    CBGRID_SOURCE = 12,      /* the graph has no such vertex */
+    CBGRID_NOT_SQUARE = 11,  /* kept for calls on graphs: no call answers it */
+    CBGRID_SOURCE = 12,      /* kept for calls on graphs: no call answers it */
     CBGRID_FORMAT = 13,      /* not a Matrix Market text of the profile (docs/FORMAT.md) */
     CBGRID_MEMORY = 14,      /* malloc refused memory */
     CBGRID_NULL_POINTER = 15 /* an argument, or a list that is not empty, is a null pointer */
@@ -163,9 +163,9 @@ struct cbgrid_columns cbgrid_dcsc64(uint32_t nrows, uint32_t ncols, const uint32
                                     const uint64_t *starts, const uint32_t *rows, const uint64_t *values, size_t len);
 
 /*
- * In all calls below `semiring` is one of enum cbgrid_semiring, and `grid` is the side of the grid of
- * blocks over which the matrices are cut, 1 to 6. The answer is the same on every grid; 1 is the quickest
- * on one thread.
+ * In all calls below `semiring` is one of enum cbgrid_semiring, and `grid` is the side of a grid, 1 to 6,
+ * else CBGRID_GRID. The side is checked, and the answer is the same for each: it is worked out by the plain
+ * engine, on the caller's thread. Side 1 is the quickest; another may cost more time and memory.
  *
  * Codes that each of them may answer: CBGRID_SEMIRING, CBGRID_GRID, CBGRID_FORM to CBGRID_VALUE,
  * CBGRID_MEMORY, CBGRID_NULL_POINTER. Others are named beside the call.
@@ -203,17 +203,6 @@ int cbgrid_times(uint32_t semiring, uint32_t grid, const struct cbgrid_columns *
  * Values are compared as whole numbers from 0 to 2^64 - 1. */
 int cbgrid_prune(uint32_t semiring, uint32_t grid, const struct cbgrid_columns *a, uint32_t test, uint64_t bound,
                  struct cbgrid_columns *out);
-
-/* How many edges lead at least from the source to each vertex (breadth-first search). a is square, else
- * CBGRID_NOT_SQUARE, over OR_AND: an entry at row i and column j is an edge from i to j. The answer is a
- * matrix of one column over MIN_PLUS, with an entry for each vertex that is reached; the source has level 0.
- * CBGRID_SOURCE where the source is not below a's rows. */
-int cbgrid_levels(uint32_t grid, const struct cbgrid_columns *a, uint32_t source, struct cbgrid_columns *out);
-
-/* The least sum of the values of edges that lead from the source to each vertex. The same as cbgrid_levels,
- * but that a is over MIN_PLUS: the value of an entry is the length of its edge. A vertex at distance
- * 2^64 - 1 or more has no entry. */
-int cbgrid_distances(uint32_t grid, const struct cbgrid_columns *a, uint32_t source, struct cbgrid_columns *out);
 
 /* The matrix that `len` bytes of a Matrix Market text read as, in the profile of docs/FORMAT.md, else
  * CBGRID_FORMAT. At CBGRID_FORMAT alone, and where `line` is no null pointer, it gets the line of the text's

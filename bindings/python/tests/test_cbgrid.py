@@ -8,7 +8,6 @@ import unittest
 
 import numpy as np
 import scipy.sparse as sp
-from scipy.sparse import csgraph
 
 import cbgrid
 
@@ -153,30 +152,6 @@ class AgainstScipy(Test):
             self.assertEqual(got.dtype, a.dtype)
             self.assertTrue(np.array_equal(got, want.toarray()[:, 0]))
 
-    def test_levels(self):
-        for turn in range(ROUNDS // 4):
-            n = int(self.rng.integers(1, 40))
-            graph = random_matrix(self.rng, n, n, int(self.rng.integers(0, 3 * n)), 1, 9, kind=CLASSES[turn % 6])
-            source = int(self.rng.integers(n))
-            hops = csgraph.dijkstra(sp.csr_matrix(graph).astype(float), unweighted=True, indices=source)
-            vertices, levels = cbgrid.bfs(graph, source, grid=1 + turn % 6)
-            self.assertTrue(np.array_equal(vertices, np.flatnonzero(np.isfinite(hops))))
-            self.assertTrue(np.array_equal(levels, hops[vertices]))
-            reached = csgraph.breadth_first_order(sp.csr_matrix(graph), source, return_predecessors=False)
-            self.assertTrue(np.array_equal(np.sort(reached), vertices))
-
-    def test_distances(self):
-        for turn in range(ROUNDS // 4):
-            n = int(self.rng.integers(1, 40))
-            count, dtype = int(self.rng.integers(0, 3 * n)), DTYPES[turn % 2]
-            graph = random_matrix(self.rng, n, n, count, 1, 50, dtype, CLASSES[turn % 6])
-            source = int(self.rng.integers(n))
-            want = csgraph.dijkstra(sp.csr_matrix(graph).astype(float), indices=source)
-            vertices, distances = cbgrid.relax(graph, source, grid=1 + turn % 6)
-            self.assertEqual(distances.dtype, dtype)
-            self.assertTrue(np.array_equal(vertices, np.flatnonzero(np.isfinite(want))))
-            self.assertTrue(np.array_equal(distances, want[vertices]))
-
 
 class AgainstDenseSums(Test):
     def test_semirings(self):
@@ -240,8 +215,6 @@ class Lists(Test):
             self.assertEqual((square.row.tolist(), square.col.tolist(), square.data.tolist()), ([last], [last], [9]))
             turned = cbgrid.transpose(a, grid=grid)
             self.assertEqual((turned.row.tolist(), turned.col.tolist()), ([7, last], [0, last]))
-        self.assertEqual([it.tolist() for it in cbgrid.bfs(a, 0)], [[0, 7], [0, 1]])
-        self.assertEqual([it.tolist() for it in cbgrid.relax(a, last)], [[last], [0]])
         self.assertEqual(cbgrid.read(cbgrid.text(a), format="coo").col.tolist(), [7, last])
         wide = sp.csc_matrix((np.array([2]), np.array([LIMIT - 1]), np.array([0, 1])), shape=(LIMIT, 1))
         self.assertEqual(cbgrid.add(wide, wide).data.tolist(), [4])
@@ -296,7 +269,7 @@ class Lists(Test):
             array.flags.writeable = False
         self.assert_same(cbgrid.multiply(frozen, frozen), a @ a, frozen)
 
-    def test_nothing_is_copied(self):
+    def test_lists_are_lent_where_they_lie(self):
         a = random_matrix(self.rng, 300, 300, 5000)
         for kind in sp.csc_matrix, sp.csr_matrix:
             from cbgrid import _lists
@@ -367,11 +340,6 @@ class Refused(Test):
             self.assert_refused(10, cbgrid.times, left, square)
             self.assert_refused(10, cbgrid.spmv, left, np.zeros(3, np.int64))
             self.assert_refused(10, cbgrid.spmv, left, square)
-            self.assert_refused(11, cbgrid.bfs, left, 0)
-            self.assert_refused(11, cbgrid.relax, abs(left), 0)
-            for source in -1, 4, 2**31, 2**32, 2**70:
-                self.assert_refused(12, cbgrid.bfs, kind(square), source)
-                self.assert_refused(12, cbgrid.relax, abs(kind(square)), source)
         for grid in 0, 7, -1, 2**32 + 1:
             self.assert_refused(2, cbgrid.multiply, square, square, grid=grid)
         self.assert_refused(1, cbgrid.multiply, square, square, "plus")
@@ -387,8 +355,6 @@ class Refused(Test):
                 self.assert_refused(9, call, a, a, semiring)
             self.assert_refused(9, cbgrid.spmv, a, a[:, 0], semiring)
             self.assert_refused(9, cbgrid.text, a, semiring)
-        self.assert_refused(9, cbgrid.relax, a, 0)
-        self.assertEqual(cbgrid.bfs(a, 0)[1].tolist(), [0, 1])
         self.assert_refused(9, cbgrid.prune, a, "below", 1)
         self.assert_refused(9, cbgrid.prune, a, "above", 1)
         self.assertEqual(cbgrid.prune(a, "equal", -2).data.tolist(), [1, 3])
@@ -444,7 +410,7 @@ class Refused(Test):
                 # scipy would have to convert it.
                 self.assertRaises(cbgrid.CbgridValueError, cbgrid.multiply, whole.asformat("csr"), bad)
                 self.assertRaises(cbgrid.CbgridValueError, cbgrid.multiply, whole.asformat("csc"), bad)
-                self.assertRaises(cbgrid.CbgridValueError, cbgrid.bfs, bad, 0)
+                self.assertRaises(cbgrid.CbgridValueError, cbgrid.text, bad)
         for lists in {"row": [0, 1, 3, 0, 2]}, {"col": [0, 0, 1, -1, 2]}:
             self.assert_refused(8, cbgrid.transpose, torn(sp.coo_matrix, **lists))
         self.assert_refused(6, cbgrid.transpose, torn(sp.coo_matrix, data=[1, 2]))

@@ -21,14 +21,16 @@ as everywhere in scipy and in every semiring.
 included: they wrap as numpy's do. The other semirings compare values as whole numbers from 0 on, so a negative
 value is refused there, and an answer of ``min-plus`` that is above 2**63 - 1 raises OverflowError.
 
-**Formats.** The lists of csc matrices are read where they lie, with no copy, but that row numbers of 64 bits
-are copied to 32, and lists that aren't sorted are sorted in a copy. csr matrices are read so too, each as the
-csc of its transpose: the product of two is the transpose of the product of their transposes. A csc
-matrix beside a csr one, or a csr graph, is converted by scipy. coo matrices are sorted in a copy, and cost
-what their entries cost whatever their shape is; csc and csr take a list as long as one of their sides.
+**Formats.** The lists of csc matrices are lent as they lie: the kernel reads and checks them there, copies
+their entries once into a block of its own, and writes nothing to them. Nothing is converted before, but that
+row numbers of 64 bits are copied to 32, and lists that aren't sorted are sorted in a copy. csr matrices are
+lent so too, each as the csc of its transpose: the product of two is the transpose of the product of their
+transposes. A csc matrix beside a csr one, and a csr matrix whose text is wanted, are converted by scipy. coo
+matrices are sorted in a copy, and cost what their entries cost whatever their shape is; csc and csr take a
+list as long as one of their sides.
 
-**grid.** The side of the grid of blocks over which matrices are cut, 1 to 6. The answer is the same on each;
-1 is the quickest.
+**grid.** The side of a grid, 1 to 6. The side is checked, and the answer is the same for each: it is worked
+out by the plain engine, on the caller's thread. Side 1 is the quickest.
 
 **Errors.** What is refused raises a `CbgridValueError` (a ValueError) or a `CbgridMemoryError` (a MemoryError),
 both of them `CbgridError` with a code; a wrong type or dtype raises TypeError.
@@ -51,11 +53,9 @@ from . import _lists
 from ._library import (
     FORMAT,
     GRID,
-    LIMIT,
     ORDER,
     SEMIRING,
     SHAPES,
-    SOURCE,
     TEST,
     VALUE,
     CbgridError,
@@ -71,11 +71,9 @@ __all__ = [
     "CbgridMemoryError",
     "CbgridValueError",
     "add",
-    "bfs",
     "multiply",
     "prune",
     "read",
-    "relax",
     "spmv",
     "text",
     "times",
@@ -88,7 +86,7 @@ Vector = TypeVar("Vector")
 
 _SEMIRINGS = {"plus-times": 0, "min-plus": 1, "or-and": 2, "max-min": 3}
 _TESTS = {"below": 0, "above": 1, "equal": 2}
-_MIN_PLUS, _OR_AND = 1, 2
+_MIN_PLUS = 1
 _UNSIGNED = (False, True, False, True)  # in or-and the kernel refuses negative values itself
 
 
@@ -104,13 +102,6 @@ def _grid(side: int) -> int:
     if not 1 <= side <= 6:
         raise error(GRID)
     return side
-
-
-def _source(vertex: int) -> int:
-    vertex = operator.index(vertex)
-    if not 0 <= vertex < LIMIT:
-        raise error(SOURCE)
-    return vertex
 
 
 def _call(call: Any, before: tuple, operands: tuple, after: tuple, out: Any, **how: bool) -> None:
@@ -162,7 +153,7 @@ def multiply(a: Matrix, b: Any, semiring: str = "plus-times", mask: Any = None, 
         Keeps only the entries of the product at places where the mask has an entry. A stored value that is
         the semiring's zero is none; which other value it has doesn't matter.
     grid : int
-        The side of the grid of blocks, 1 to 6.
+        The side of a grid, 1 to 6. The answer is the same for each, and 1 is the quickest.
 
     Returns
     -------
@@ -341,67 +332,6 @@ def prune(a: Matrix, test: str, value: int, semiring: str = "plus-times", grid: 
         raise error(VALUE, "value not 0 to 2^64 - 1")
     after = (number, bound % 2**64)
     return _placed(library.cbgrid_prune, _semiring(semiring), grid, (a,), after, unsigned=not is_equal)
-
-
-def bfs(graph: Any, source: int, grid: int = 1) -> tuple[np.ndarray, np.ndarray]:
-    """Levels of the vertices of a graph, by breadth-first search.
-
-    Parameters
-    ----------
-    graph : csc, csr or coo matrix or array of scipy.sparse, of int64 or uint64
-        Square. An entry at row i and column j is an edge from i to j, whatever its value is; a stored 0 is
-        none.
-    source : int
-        The vertex to start from, counted from 0.
-    grid
-        As in `multiply`.
-
-    Returns
-    -------
-    vertices : numpy array of int32
-        The vertices that are reached, ascending, the source among them.
-    levels : numpy array of int64
-        The least number of edges that lead from the source to each of them.
-    """
-    _lists.check_matrix(graph, "graph")
-    answer = _walk(library.cbgrid_levels, graph, source, grid, nonzero=True)
-    return answer.rows(), answer.values(np.dtype(np.int64))
-
-
-def relax(graph: Any, source: int, grid: int = 1) -> tuple[np.ndarray, np.ndarray]:
-    """Distances of the vertices of a graph from a source.
-
-    Parameters
-    ----------
-    graph : csc, csr or coo matrix or array of scipy.sparse, of int64 or uint64
-        Square. An entry at row i and column j is an edge from i to j, and its value is the edge's length, from
-        0 on; a stored 0 is an edge of length 0.
-    source, grid
-        As in `bfs`.
-
-    Returns
-    -------
-    vertices : numpy array of int32
-        The vertices that are reached, ascending, the source among them.
-    distances : numpy array of the graph's dtype
-        The least sum of lengths of edges that lead from the source to each of them. A vertex at a distance of
-        2**64 - 1 or more isn't reached.
-
-    Raises
-    ------
-    CbgridValueError, CbgridMemoryError, OverflowError
-        As `multiply`.
-    """
-    _lists.check_matrix(graph, "graph")
-    answer = _walk(library.cbgrid_distances, graph, source, grid, nonzero=False)
-    distances = answer.values(graph.dtype)
-    _lists.check_signed(distances)
-    return answer.rows(), distances
-
-
-def _walk(call: Any, graph: Any, source: int, grid: int, nonzero: bool) -> _lists.Answer:
-    before, after = (_grid(grid),), (_source(source),)
-    return _run(call, before, (graph,), after, turned=False, unsigned=not nonzero, nonzero=nonzero)
 
 
 def read(source: Any, semiring: str = "plus-times", format: str = "csc", dtype: Any = np.uint64) -> Any:
