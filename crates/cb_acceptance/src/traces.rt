@@ -1,8 +1,11 @@
 //! The traces of a product's ranks in threads.
 use crate::examples::{grid, leave, product, two_by_two};
-use cb_ranks::{OpenGate, run_traced};
+use cb_rank::{Rank, Want};
+use cb_ranks::{Gate, OpenGate, run_traced};
+use cb_semirings::Semiring;
 use cb_trace::{Trace, TraceEvent};
-use std::alloc::Global;
+use std::alloc::{AllocError, Global};
+use std::sync::{Mutex, Wait};
 use std::test::Fail;
 
 /// The side of a grid, and how many events of each kind there are of a product on it: posted, taken, closed and ended.
@@ -65,6 +68,113 @@ fn traced_ranks_leave_the_product_and_a_legal_trace(rt: HostRuntime) -> Result<(
                 Some(true)
             );
         }
+    }
+    Ok(())
+}
+
+/// What one rank wanted and recorded in a traced run.
+#[derive(Drop)]
+struct Story {
+    /// The places at which it has recorded its events.
+    places: Vec<usize>,
+    /// How many halves other than Work it has wanted.
+    halves: usize,
+    /// At each of its passes it had recorded as many events as that.
+    agrees: bool,
+}
+
+impl Story {
+    fn new(alloc: Global) -> Story {
+        Story {
+            places: Vec::new(alloc),
+            halves: 0,
+            agrees: true,
+        }
+    }
+
+    fn pass(&mut self, want: Want) {
+        self.agrees &= self.places.len() == self.halves;
+        if want != Want::Work {
+            self.halves = self.halves.saturating_add(1);
+        }
+    }
+
+    fn record(&mut self, place: usize) {
+        self.agrees &= self.places.push(place).is_ok();
+    }
+
+    /// Whether it agrees to the end, and the trace has an event of this rank at each of its places.
+    fn is_of(&self, rank: usize, trace: &Trace) -> bool {
+        self.agrees
+            && self.places.len() == self.halves
+            && self.places.iter().all(|place| *place < trace.len()
+                && usize::from(trace.event_at(*place).rank()) == rank)
+    }
+}
+
+/// Keeps the story of each rank.
+#[derive(Drop)]
+struct Scribe<'a, R: Wait> {
+    rt: &'a R,
+    stories: Vec<Mutex<Story>>,
+}
+
+impl<'a, S: Semiring, R: Wait + Sync> Gate<S> for Scribe<'a, R> {
+    fn pass(&self, rank: u16, state: &Rank<S>) {
+        if let Some(story) = self.stories.get(usize::from(rank)) {
+            story.lock(self.rt).pass(state.want());
+        }
+    }
+
+    fn recorded(&self, rank: u16, place: usize) {
+        if let Some(story) = self.stories.get(usize::from(rank)) {
+            story.lock(self.rt).record(place);
+        }
+    }
+}
+
+/// The story of each of so many ranks, before they run.
+fn stories(alloc: Global, ranks: u16) -> Result<Vec<Mutex<Story>>, AllocError> {
+    let mut stories = Vec::new(alloc);
+    for _ in 0..ranks {
+        stories.push(Mutex::new(Story::new(alloc)))?;
+    }
+    Ok(stories)
+}
+
+/// The places of all stories, if each is that of its rank.
+fn places_of(
+    alloc: Global,
+    stories: Vec<Mutex<Story>>,
+    trace: &Trace,
+) -> Result<Option<Vec<usize>>, AllocError> {
+    let mut places = Vec::new(alloc);
+    for (rank, story) in stories.into_iter().enumerate() {
+        let story = story.into_inner();
+        if !story.is_of(rank, trace) {
+            return Ok(None);
+        }
+        places.extend_from_slice(&story.places)?;
+    }
+    Ok(Some(places))
+}
+
+#[test]
+fn each_of_four_ranks_records_its_halves_as_it_does_them(rt: HostRuntime) -> Result<(), Fail> {
+    let alloc = rt.alloc();
+    for capacity in [1, 64] {
+        let (plan, stores) = two_by_two(alloc, 2).ok_or("a plan")?;
+        let scribe = Scribe {
+            rt: &rt,
+            stories: stories(alloc, 4)?,
+        };
+        let Ok((_finished, trace)) = run_traced(&rt, alloc, &plan, stores, capacity, &scribe) else {
+            return Err("the run ends".into());
+        };
+        let Scribe { stories, .. } = scribe;
+        let places = places_of(alloc, stories, &trace)?.ok_or("a rank tells another story")?;
+        assert_eq!(rt; (trace.len(), places.len()), (40, 40));
+        assert!(rt; (0..40).all(|place| places.contains(&place)));
     }
     Ok(())
 }
