@@ -1,26 +1,21 @@
 -- The faults and the matrix of a whole text.
-use Rattle.std.proofs.Common.{◌≡◌, ℕ, zero, suc, ◌+◌, ◌-◌, ◌<◌, ◌^◌, Bool, cond, true, false, nat_lt, Option, Some, None, List, [], ◌∷◌, ◌++◌, arith, length, sym, ap, ◌∙◌, refl, inl, ⊎_elim, subst}
-use Rattle.std.specs.Prelude.{codes, bytes_eq, IfSome, IfOk, IfErr, Result, Ok, Err, All, is_some, unwrap_or, ◌==◌, position}
-use Rattle.std.specs.List.{position_or_len}
-use Rattle.std.proofs.lemmas.Bool.{cases_Bool, and_parts, eqb-true}
+use Rattle.std.proofs.Common.{◌≡◌, ℕ, suc, ◌+◌, ◌-◌, ◌<◌, ◌^◌, Bool, cond, true, false, nat_lt, Option, Some, None, List, [], ◌∷◌, arith, length, sym, ap, ◌∙◌, refl, inl, ⊎_elim, subst}
+use Rattle.std.specs.Prelude.{codes, bytes_eq, IfSome, is_some, unwrap_or}
+use Rattle.std.proofs.lemmas.Bool.{cases_Bool, and_parts}
 use Rattle.std.proofs.lemmas.Bool.Decides.{nat_tests}
 use borrow.Author.Tests.{ltb-true}
-use Rattle.std.proofs.lemmas.List.Elements.{All-nil, All-cons, All-append, All-head, All-tail}
-use Rattle.cb_semirings.specs.Arithmetic.{Arithmetic, IsValue, IsSemiring, ReadsNumbers, HasNegatives}
-use Rattle.cb_matrix.specs.declared.Entry.{Entry}
-use Rattle.cb_matrix.specs.Sparse.{Extent, Sparse, IsInside, is_outside}
+use Rattle.cb_semirings.specs.Arithmetic.{Arithmetic, IsValue, ReadsNumbers}
+use Rattle.cb_matrix.specs.Sparse.{Extent, Sparse, IsInside}
 use Rattle.cb_market.specs.declared.Kind.{Kind}
-use Rattle.cb_market.specs.declared.Kind.TheVariants.{BadHeader, BadSize}
+use Rattle.cb_market.specs.declared.Kind.TheVariants.{BadHeader}
 use Rattle.cb_market.specs.declared.ReadFault.{ReadFault}
 use Rattle.cb_market.specs.declared.header.Header.{Header}
 use Rattle.cb_market.specs.declared.header.Field.{Field}
 use Rattle.cb_market.specs.declared.header.Field.TheVariants.{Integer, Pattern}
-use Rattle.cb_market.specs.declared.header.Symmetry.{Symmetry}
-use Rattle.cb_market.specs.declared.header.Symmetry.TheVariants.{General, Symmetric, SkewSymmetric}
 use Rattle.cb_market.specs.Lines.{kept_from, kept_lines, lines, words, begins_blank, cut_lines, is_negative, magnitude, number}
 use Rattle.cb_market.specs.Cursor.{line_at, after_line}
-use Rattle.cb_market.specs.Checks.{is_read, entry_fault, entry_checks, entry_of, given_by, header_fault, header_of, size_of, size_fault, value_of, value_in, word, first_failed, negative_of, mirrored, is_shape, is_within}
-use Rattle.cb_market.specs.Faults.{entries_fault, given, IsAnswer, at_line, body_fault, body_matrix, first_fault, matrix_in}
+use Rattle.cb_market.specs.Checks.{is_read, entry_fault, entry_checks, entry_of, header_fault, header_of, size_of, size_fault, value_of, value_in, word, first_failed, is_within}
+use Rattle.cb_market.specs.Faults.{entries_fault, IsAnswer, at_line, body_fault, body_matrix, first_fault, matrix_in}
 use Rattle.cb_market.proofs.Cursor.{lines_step}
 
 -- checks that pass
@@ -62,36 +57,6 @@ entry_value s numbers header shape ws e =
     let p = all_pass (entry_checks s header shape ws) e in
     value_known s numbers header.field (word 2 ws) p.1.1.1.1.1.0
 
-some_negative : (s : Arithmetic) (x : ℕ) (o : Option ℕ) → IfSome o (λ y. IsValue s y × (s.add x y ≡ s.zero)) → IsValue s s.zero → IsValue s (unwrap_or o s.zero)
-some_negative s x (Some y) h z = h.0
-some_negative s x None h z = z
-
-negative_value : (s : Arithmetic) → IsSemiring s → HasNegatives s → (x : ℕ) → IsValue s x → IsValue s (negative_of s x)
-negative_value s laws negatives x h = some_negative s x (s.negative x) (negatives.negative_adds x h) laws.zero_value
-
-both : (P : Entry → Type 0) (d e : Entry) → P d → P e → All P (d ∷ e ∷ [])
-both P d e h k = All-cons P d (e ∷ []) h (All-cons P e [] k (All-nil _))
-
-alone : (P : Entry → Type 0) (e : Entry) → P e → All P (e ∷ [])
-alone P e h = All-cons P e [] h (All-nil _)
-
-given_values : (s : Arithmetic) → IsSemiring s → HasNegatives s → (symmetry : Symmetry) (e : Entry) → IsValue s e.value → All (λ d. IsValue s d.value) (given_by s symmetry e)
-given_values s laws negatives General e h = alone (λ d. IsValue s d.value) e h
-given_values s laws negatives Symmetric e h = ⊎_elim
-    (λ (k : (e.row == e.column) ≡ true). rw k (alone (λ d. IsValue s d.value) e h))
-    (λ (k : (e.row == e.column) ≡ false). rw k (both (λ d. IsValue s d.value) e (mirrored e.value e) h h))
-    (cases_Bool (e.row == e.column))
-given_values s laws negatives SkewSymmetric e h = both (λ d. IsValue s d.value) e (mirrored (negative_of s e.value) e) h (negative_value s laws negatives e.value h)
-
--- where the entries' lines have no fault, all that they give have values of the semiring
-pub entries_values : (s : Arithmetic) → IsSemiring s → ReadsNumbers s → HasNegatives s → (header : Header) (shape : Extent) (n left : ℕ) (ls : List (ℕ × List (List ℕ))) → entries_fault s header shape n left ls ≡ None → All (λ e. IsValue s e.value) (given s header ls)
-unfolding entries_fault
-entries_values s laws numbers negatives header shape n left [] e = All-nil _
-entries_values s laws numbers negatives header shape n zero (l ∷ ls) e = cc
-entries_values s laws numbers negatives header shape n (suc left) (l ∷ ls) e =
-    let p = at_line_none l.0 (entry_fault s header shape l.1) (entries_fault s header shape n left ls) e in
-    All-append (λ d. IsValue s d.value) (given_by s header.symmetry (entry_of s header l.1)) (given s header ls) (given_values s laws negatives header.symmetry (entry_of s header l.1) (entry_value s numbers header shape l.1 p.0)) (entries_values s laws numbers negatives header shape n left ls p.1)
-
 -- places
 pub within_parts : (limit n : ℕ) → is_within limit n ≡ true → (n ≡ (n - 1) + 1) × (n - 1 < limit)
 within_parts limit n e = (grind (arith, nat_tests), grind (arith, nat_tests))
@@ -102,36 +67,9 @@ entry_inside s header shape ws e =
     let within = and_parts (is_within shape.rows (number (word 0 ws))) (is_within shape.cols (number (word 1 ws))) p.1.1.0 in
     ((within_parts shape.rows (number (word 0 ws)) within.0).1, (within_parts shape.cols (number (word 1 ws)) within.1).1)
 
-mirrored_inside : (shape : Extent) (v : ℕ) (e : Entry) → shape.rows ≡ shape.cols → IsInside shape e → IsInside shape (mirrored v e)
-mirrored_inside shape v e k h = (omega (arith, k, h.1), omega (arith, k, h.0))
-
-given_inside : (s : Arithmetic) (symmetry : Symmetry) (shape : Extent) (e : Entry) → is_shape symmetry shape ≡ true → IsInside shape e → All (IsInside shape) (given_by s symmetry e)
-given_inside s General shape e k h = alone (IsInside shape) e h
-given_inside s Symmetric shape e k h = ⊎_elim
-    (λ (f : (e.row == e.column) ≡ true). rw f (alone (IsInside shape) e h))
-    (λ (f : (e.row == e.column) ≡ false). rw f (both (IsInside shape) e (mirrored e.value e) h (mirrored_inside shape e.value e (eqb-true shape.rows shape.cols k) h)))
-    (cases_Bool (e.row == e.column))
-given_inside s SkewSymmetric shape e k h = both (IsInside shape) e (mirrored (negative_of s e.value) e) h (mirrored_inside shape (negative_of s e.value) e (eqb-true shape.rows shape.cols k) h)
-
--- where they have none, all that they give are inside the shape
-pub entries_inside : (s : Arithmetic) (header : Header) (shape : Extent) (n left : ℕ) (ls : List (ℕ × List (List ℕ))) → is_shape header.symmetry shape ≡ true → entries_fault s header shape n left ls ≡ None → All (IsInside shape) (given s header ls)
-unfolding entries_fault
-entries_inside s header shape n left [] k e = All-nil _
-entries_inside s header shape n zero (l ∷ ls) k e = cc
-entries_inside s header shape n (suc left) (l ∷ ls) k e =
-    let p = at_line_none l.0 (entry_fault s header shape l.1) (entries_fault s header shape n left ls) e in
-    All-append (IsInside shape) (given_by s header.symmetry (entry_of s header l.1)) (given s header ls) (given_inside s header.symmetry shape (entry_of s header l.1) k (entry_inside s header shape l.1 p.0)) (entries_inside s header shape n left ls k p.1)
-
 -- the header of a text
 pub header_ok : (s : Arithmetic) (line b o f w y : List ℕ) (h : Header) → begins_blank line ≡ false → words line ≡ b ∷ o ∷ f ∷ w ∷ y ∷ [] → bytes_eq b (codes "%%MatrixMarket") ≡ true → is_read s ([] ∷ o ∷ f ∷ w ∷ y ∷ []) ≡ true → h ≡ header_of ([] ∷ o ∷ f ∷ w ∷ y ∷ []) → (header_fault s (begins_blank line) (words line) ≡ None) × (h ≡ header_of (words line))
 header_ok s line b o f w y h starts e banner known is = (rw (starts, e) (rw banner (rw known refl)), rw e is)
-
--- the body of a text
-pub body_none : (s : Arithmetic) (header : Header) (n : ℕ) (ls : List (ℕ × List (List ℕ))) (f : ReadFault) → ls ≡ [] → f ≡ record { line = n; kind = BadSize } → IsAnswer (body_fault s header n ls) f
-body_none s header n ls f e h = inl (ap (body_fault s header n) e ∙ ap Some (sym h))
-
-pub body_size : (s : Arithmetic) (header : Header) (n : ℕ) (ls : List (ℕ × List (List ℕ))) (l : ℕ × List (List ℕ)) (more : List (ℕ × List (List ℕ))) (f : ReadFault) → ls ≡ l ∷ more → (size_fault header l.1 ≡ Some f.kind) × (f.line ≡ l.0) → IsAnswer (body_fault s header n ls) f
-body_size s header n ls l more f e h = inl (ap (body_fault s header n) e ∙ ap (λ b. at_line l.0 b (entries_fault s header (size_of l.1).shape n (size_of l.1).count more)) h.0 ∙ ap (λ m. Some (record { line = m; kind = f.kind })) (sym h.1))
 
 -- behind a size line without a fault, the first fault of the body is that of its entries
 pub body_is : (s : Arithmetic) (header : Header) (n : ℕ) (ls : List (ℕ × List (List ℕ))) (l : ℕ × List (List ℕ)) (more : List (ℕ × List (List ℕ))) → ls ≡ l ∷ more → size_fault header l.1 ≡ None → body_fault s header n ls ≡ entries_fault s header (size_of l.1).shape n (size_of l.1).count more
@@ -183,37 +121,3 @@ read_ok s text start rest header n m h e f g k l a b = record {
   no_fault = body_first s text start rest header n h e f g k l ∙ a;
   matrix = b ∙ sym (rw (matrix_step s text h) (rw (f, g, l, e) refl));
 }
-
--- where an answer is Ok, what follows from two facts of it
-pub if_ok_both : {M E : Type 0} (r : Result M E) (A B C : M → Type 0) → ((m : M) → A m → B m → C m) → IfOk r A → IfOk r B → IfOk r C
-if_ok_both (Ok m) A B C f a b = f m a b
-if_ok_both (Err e) A B C f a b = tt
-
--- where an answer is an error, what follows from a fact of it
-pub if_err : {M E : Type 0} (r : Result M E) (A B : E → Type 0) → ((e : E) → A e → B e) → IfErr r A → IfErr r B
-if_err (Ok m) A B f a = tt
-if_err (Err e) A B f a = f e a
-
--- entries that are inside have no first one outside
-inside_bool : (shape : Extent) (e : Entry) → IsInside shape e → is_outside shape e ≡ false
-inside_bool shape e h =
-    let i : nat_lt e.row shape.rows ≡ true = grind (arith, nat_tests, h.0) in
-    let j : nat_lt e.column shape.cols ≡ true = grind (arith, nat_tests, h.1) in
-    rw (i, j) refl
-
-none_outside : (shape : Extent) (es : List Entry) → All (IsInside shape) es → position_or_len (is_outside shape) es ≡ length es
-none_outside shape [] h = refl
-none_outside shape (e ∷ es) h = rw (inside_bool shape e (All-head (IsInside shape) e es h)) (omega (arith, none_outside shape es (All-tail (IsInside shape) e es h)))
-
-not_below : (n : ℕ) → nat_lt n n ≡ false
-not_below n = grind (arith, nat_tests)
-
-no_first : (shape : Extent) (es : List Entry) → All (IsInside shape) es → position (is_outside shape) es ≡ None
-no_first shape es h = rw (none_outside shape es h) (rw (not_below (length es)) refl)
-
-pub no_place : (shape : Extent) (es : List Entry) (n : ℕ) → All (IsInside shape) es → position (is_outside shape) es ≡ Some n → ⊥
-no_place shape es n h e = cc (sym e ∙ no_first shape es h)
-
--- what holds of entries that are added to a list without entries
-pub added : (P : Entry → Type 0) (items room more : List Entry) → items ≡ room ++ more → room ≡ [] → All P more → All P items
-added P items room more e f h = subst (λ (es : List Entry). All P es) (sym (e ∙ ap (λ (es : List Entry). es ++ more) f)) h
