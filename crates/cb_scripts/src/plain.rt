@@ -202,5 +202,6 @@ fn nearest(
         turned = matrix;
         search = search.advance(alloc, &reached)?;
     }
-    Ok(search.column(alloc)?)
+    let column = search.column(alloc)?;
+    Ok(column)
 }

@@ -6,7 +6,7 @@
 ghost use Rattle.std.specs.Prelude.{◌≡◌, ◌≢◌, ◌↔◌, ℕ, ◌+◌, ◌<◌, ◌≤◌, min, filter, [], All, AllPairs, IfOk, OnOk, IsTrue};
 ghost use Rattle.std.specs.BTreeMap.{BTreeMap};
 ghost use Rattle.cb_semirings.specs.Tables.{min_plus};
-ghost use Rattle.cb_matrix.specs.Sparse.{Sparse, at, value_at};
+ghost use Rattle.cb_matrix.specs.Sparse.{Sparse, IsMatrix, at, value_at};
 ghost use Rattle.cb_matrix.specs.Values.{product};
 ghost use Rattle.cb_matrix.specs.Operations.{transposed};
 ghost use Rattle.cb_scripts.specs.Walks.{infinite, AreDistances};
@@ -38,7 +38,7 @@ impl Search {
         requires source { source < graph.now.matrix.shape.rows }
         ensures { IfOk result (λ search. IsSearch graph.now.matrix source 0 search) }
     {
-        let shape = Shape::new(graph.shape().rows(), 1).unwrap();
+        let shape = column_shape(graph);
         let known = known_from(alloc, source)?;
         let fell = column_of(alloc, shape, &known)?;
         Ok(Search { known, fell })
@@ -56,6 +56,7 @@ impl Search {
         requires round { (a : Sparse) × (source : ℕ) × (k : ℕ) × IsSearch a source k self × (reached.now ≡ product min_plus (transposed min_plus a) self.fell) }
         ensures { IfOk result (λ next. (a : Sparse) (source k : ℕ) → IsSearch a source k self → reached.now ≡ product min_plus (transposed min_plus a) self.fell → IsSearch a source (k + 1) next) }
     {
+        let _shape = self.fell.shape();
         let mut known = self.known;
         let fell = take_lower(alloc, &mut known, reached)?;
         Ok(Search { known, fell })
@@ -68,6 +69,15 @@ impl Search {
     {
         column_of(alloc, self.fell.shape(), &self.known)
     }
+}
+
+/// The shape of a column with a place for each vertex.
+fn column_shape(graph: &DistributedMatrix<MinPlus>) -> Shape
+    ensures shape { result ≡ record { rows = graph.now.matrix.shape.rows; cols = 1 } }
+    ensures matrix { IsMatrix min_plus graph.now.matrix }
+{
+    let rows = graph.shape().rows();
+    Shape::new(rows, 1).unwrap()
 }
 
 /// The number known of a vertex.

@@ -44,7 +44,26 @@ fn nearest<R: Threads + Wait + Sync>(
         turned = matrix;
         search = search.advance(alloc, &reached)?;
     }
-    Ok(search.column(alloc)?)
+    let column = search.column(alloc)?;
+    Ok(column)
+}
+
+/// The least number of entries of a walk from the source to each vertex.
+fn fewest<R: Threads + Wait + Sync>(
+    rt: &R,
+    alloc: Global,
+    engine: Engine,
+    graph: DistributedMatrix<OrAnd>,
+    source: u32,
+) -> Result<Matrix<MinPlus>, ScriptFault>
+    requires square { graph.matrix.shape.rows ≡ graph.matrix.shape.cols }
+    requires source { source < graph.matrix.shape.rows }
+    ensures ok { IfOk result (λ column. AreLevels graph.matrix source column) }
+    ensures fault { IfErr result (IsRunRefusal engine) }
+{
+    let _rows = graph.shape().rows();
+    let weighted = weighted(alloc, graph)?;
+    nearest(rt, alloc, engine, weighted, source)
 }
 
 /// Each entry with the value 1.
@@ -157,8 +176,7 @@ pub fn levels<R: Threads + Wait + Sync>(
         return Err(ScriptFault::Source);
     }
     let spread = DistributedMatrix::scatter(alloc, *grid, graph)?;
-    let weighted = weighted(alloc, spread)?;
-    nearest(rt, alloc, engine, weighted, source)
+    fewest(rt, alloc, engine, spread, source)
 }
 
 /// The level of each vertex from a source, of a graph whose matrix lies over a grid. The blocks of the matrix are given
@@ -181,6 +199,5 @@ pub fn levels_distributed<R: Threads + Wait + Sync>(
     if source >= shape.rows() {
         return Err(ScriptFault::Source);
     }
-    let weighted = weighted(alloc, graph)?;
-    nearest(rt, alloc, engine, weighted, source)
+    fewest(rt, alloc, engine, graph, source)
 }
