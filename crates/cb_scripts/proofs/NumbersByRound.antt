@@ -5,8 +5,9 @@ use Rattle.std.proofs.lemmas.Bool.{cases_eq, cases_lt}
 use Rattle.std.proofs.lemmas.Option.{none-some, same_Some}
 use Rattle.cb_semirings.specs.Tables.{min_plus}
 use Rattle.cb_matrix.specs.Sparse.{Sparse, at}
-use Rattle.cb_scripts.specs.Walks.{IsWalk, steps, infinite}
-use Rattle.cb_scripts.proofs.WalkCosts.{cost, cost_front, cost_more, steps_more, walk_here, walk_more, walk_rest, walk_first, walk_cases}
+use Rattle.cb_scripts.specs.Walks.{IsWalk, steps, cost, infinite}
+use Rattle.cb_scripts.specs.Searches.{Nearing}
+use Rattle.cb_scripts.proofs.WalkCosts.{cost_front, cost_more, steps_more, walk_here, walk_more, walk_rest, walk_first, walk_cases}
 use Rattle.cb_scripts.proofs.ShortWalks.{short_walk}
 
 -- What the product of the turned matrix by x is.
@@ -16,15 +17,8 @@ pub record IsRound (a : Sparse) (x y : ℕ → ℕ) : Type 0 where
   pub some : (v : ℕ) → y v ≢ infinite → (u : ℕ) × (y v ≡ x u + at min_plus a u v)
 
 module _ (a : Sparse) (source : ℕ) where
-  -- After k rounds: each number is the cost of a walk, at most that of each walk of at most k steps, and can still lower others only where it stands in x, the numbers that fell in the last round.
-  pub record Nearing (k : ℕ) (d x : ℕ → ℕ) : Type 0 where
-    pub fits : (v : ℕ) → d v ≤ infinite
-    pub reached : (v : ℕ) → d v ≢ infinite → (walk : List ℕ) × IsWalk min_plus a source v walk × (cost a walk ≡ d v)
-    pub within : (v : ℕ) (walk : List ℕ) → IsWalk min_plus a source v walk → steps walk ≤ k → d v ≤ cost a walk
-    pub fell : (u : ℕ) → (x u ≡ d u) ⊎ ((x u ≡ infinite) × ((v : ℕ) → d v ≤ d u + at min_plus a u v))
-
   -- at first only the source has a number
-  pub started : (d x : ℕ → ℕ) → d source ≡ 0 → ((v : ℕ) → v ≢ source → d v ≡ infinite) → ((u : ℕ) → x u ≡ d u) → Nearing 0 d x
+  pub started : (d x : ℕ → ℕ) → d source ≡ 0 → ((v : ℕ) → v ≢ source → d v ≡ infinite) → ((u : ℕ) → x u ≡ d u) → Nearing a source 0 d x
   started d x here there all = record {
     fits = λ v. ⊎_elim (λ (e : v ≡ source). let z : d v ≡ 0 = ap d e ∙ here in omega arith) (λ (n : v ≡ source → ⊥). let z = there v n in omega arith) (cases_eq v source);
     reached = λ v h. ⊎_elim
@@ -38,7 +32,7 @@ module _ (a : Sparse) (source : ℕ) where
     fell = λ u. inl (all u);
   }
 
-  module _ (k : ℕ) (d x y e z : ℕ → ℕ) (before : Nearing k d x) (round : IsRound a x y) (least : (v : ℕ) → e v ≡ min (d v) (y v)) (new : (v : ℕ) → y v < d v → z v ≡ y v) (old : (v : ℕ) → d v ≤ y v → z v ≡ infinite) where
+  module _ (k : ℕ) (d x y e z : ℕ → ℕ) (before : Nearing a source k d x) (round : IsRound a x y) (least : (v : ℕ) → e v ≡ min (d v) (y v)) (new : (v : ℕ) → y v < d v → z v ≡ y v) (old : (v : ℕ) → d v ≤ y v → z v ≡ infinite) where
     after_fits : (v : ℕ) → e v ≤ infinite
     after_fits v = omega (arith, least v, before.fits v)
 
@@ -90,7 +84,7 @@ module _ (a : Sparse) (source : ℕ) where
         ]
 
     -- one round more
-    pub neared : Nearing (k + 1) e z
+    pub neared : Nearing a source (k + 1) e z
     neared = record { fits = after_fits; reached = after_reached; within = after_within; fell = after_fell }
 
   -- d has at each vertex the least cost of all walks to it
@@ -108,7 +102,7 @@ module _ (a : Sparse) (source : ℕ) where
       omega (arith, e, h x y, cost_front a (y ∷ ys) x y refl, closed d h y to (y ∷ ys) (walk_rest min_plus a from to x y ys w))
 
   -- nothing fell in the last round
-  pub settled : (k : ℕ) (d x : ℕ → ℕ) → Nearing k d x → ((v : ℕ) → x v ≡ infinite) → IsNearest d
+  pub settled : (k : ℕ) (d x : ℕ → ℕ) → Nearing a source k d x → ((v : ℕ) → x v ≡ infinite) → IsNearest d
   settled k d x h none = record {
     fits = h.fits;
     reached = h.reached;
@@ -119,7 +113,7 @@ module _ (a : Sparse) (source : ℕ) where
   }
 
   -- there were as many rounds as vertices
-  pub all_rounds : (k n : ℕ) (d x : ℕ → ℕ) → Nearing k d x → n ≤ k → source < n → ((i j : ℕ) → at min_plus a i j ≢ min_plus.zero → j < n) → IsNearest d
+  pub all_rounds : (k n : ℕ) (d x : ℕ → ℕ) → Nearing a source k d x → n ≤ k → source < n → ((i j : ℕ) → at min_plus a i j ≢ min_plus.zero → j < n) → IsNearest d
   all_rounds k n d x h m l edges = record {
     fits = h.fits;
     reached = h.reached;

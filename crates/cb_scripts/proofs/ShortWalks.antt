@@ -12,8 +12,8 @@ use Rattle.cb_plan.proofs.Effects.{split}
 use Rattle.cb_semirings.specs.Tables.{min_plus}
 use Rattle.cb_matrix.specs.Sparse.{Sparse, at}
 use Rattle.cb_matrix.proofs.Pairs.{AllPairs-tail, AllPairs-cons, AllPairs-nil}
-use Rattle.cb_scripts.specs.Walks.{IsWalk, steps}
-use Rattle.cb_scripts.proofs.WalkCosts.{cost, cost_front, walk_front, walk_edge, walk_rest, walk_first, steps_length}
+use Rattle.cb_scripts.specs.Walks.{IsWalk, steps, cost}
+use Rattle.cb_scripts.proofs.WalkCosts.{cost_front, walk_front, walk_edge, walk_rest, walk_first, steps_length}
 
 below_limit : (m q : ℕ) (xs : List ℕ) → All (λ x. x < m) xs → list_any (λ x. q == x) xs ≡ true → q < m
 below_limit m q [] all h = absurd (grind (arith, nat_tests))

@@ -1,6 +1,6 @@
 -- A matrix over a grid times a vector that is spread over its ranks: the slots before the plan, and after it.
 use Rattle.std.proofs.Common.{◌≡◌, ◌≢◌, ℕ, ◌+◌, ◌-◌, ◌*◌, ◌/◌, ◌%◌, ◌<◌, ◌≤◌, true, false, List, [], length, replicate, get_or, refl, sym, ap, subst, ⊎_elim, ◌∙◌, arith}
-use Rattle.std.specs.Prelude.{Some, None, ◌==◌, if◌then◌else◌}
+use Rattle.std.specs.Prelude.{Option, Some, None, ◌==◌, if◌then◌else◌}
 use Rattle.std.proofs.lemmas.Bool.{cases_lt}
 use Rattle.std.proofs.lemmas.Nat.{mod_below}
 use Rattle.std.proofs.lemmas.List.{get_or_past}
@@ -21,7 +21,7 @@ use Rattle.cb_plan.specs.Algebras.{matrices}
 use Rattle.cb_plan.specs.Checks.{started}
 use Rattle.cb_plan.specs.Meaning.{meaning, one}
 use Rattle.cb_plan.specs.Stores.{state_of, sheet_of, is_lost, is_filled, shapes_of, Fits}
-use Rattle.cb_plan.specs.Tables.{cell}
+use Rattle.cb_plan.specs.Tables.{cell, IsTable}
 use Rattle.cb_plan.proofs.Cells.{blank_cell}
 use Rattle.cb_plan.proofs.Effects.{split, same_state}
 use Rattle.cb_distribution.proofs.Grid.{at_place}
@@ -29,7 +29,7 @@ use Rattle.cb_kernels.specs.VectorPlans.{column, vector_starts, IsVectorPlan, Le
 use Rattle.cb_kernels.proofs.VectorStarts.{vector_starts_there, vector_starts_elsewhere}
 use Rattle.cb_scripts.specs.Slots.{Filled}
 use Rattle.cb_scripts.specs.Losses.{IsLostOr, LostOrMeans, AreFilled}
-use Rattle.cb_scripts.specs.SpreadVectors.{HasSpread}
+use Rattle.cb_scripts.specs.SpreadVectors.{HasSpread, HasProduct}
 use Rattle.cb_scripts.proofs.GatheredParts.{lost_or_filled, block_meant}
 use Rattle.cb_scripts.proofs.ProductPlans.{product_is_matrix}
 
@@ -90,59 +90,67 @@ module _ (s : Arithmetic) (q : ℕ) (a x : Sparse) (stores : List (List (Slot Sp
         (cases_lt r (q * q));
   }
 
-  module _ (laws : IsSemiring s) (is_a : IsMatrix s a) (is_x : IsMatrix s x) (vector : x.shape ≡ column a.shape.cols) (acts : List Act) (plan : IsVectorPlan acts q a.shape)
-      (after : List (List (Slot Sparse))) (ranks : length after ≡ q * q) (ran : LostOrMeans (meaning (matrices s) acts (state_of stores)) after) where
-    leaves : LeavesResult s q acts (state_of stores) (product s a x)
-    leaves = plan s laws a x is_a is_x refl vector (state_of stores) (λ i j l m. ap sheet_of (has.cells i j 0 l m)) (λ t j l m. ap sheet_of (has.cells t j 1 l m))
+  -- a run of the plan leaves the matrix and its product
+  pub has_product : IsSemiring s → IsMatrix s a → IsMatrix s x → x.shape ≡ column a.shape.cols → (acts : List Act) → IsVectorPlan acts q a.shape →
+      (after : List (List (Slot Sparse))) → IsTable (q * q) 256 after → LostOrMeans (meaning (matrices s) acts (state_of stores)) after → HasProduct s q a (product s a x) after
+  has_product laws is_a is_x vector acts plan after table ran =
+      let leaves : LeavesResult s q acts (state_of stores) (product s a x) = plan s laws a x is_a is_x refl vector (state_of stores) (λ i j l m. ap sheet_of (has.cells i j 0 l m)) (λ t j l m. ap sheet_of (has.cells t j 1 l m)) in
+      record {
+        some = has.some;
+        table = table;
+        matrix = is_a;
+        column = product_is_matrix s laws a x is_a is_x;
+        parts = λ i j l m. subst (λ (o : Option Sparse). IsLostOr o (cell slot_is.Empty after (i * q + j) 0)) (leaves.kept (i * q + j) ∙ ap sheet_of (has.cells i j 0 l m)) (ran (i * q + j) 0);
+        pieces = λ i t l m. subst (λ (o : Option Sparse). IsLostOr o (cell slot_is.Empty after (i * q + t) 2)) (leaves.pieces i t l m) (ran (i * q + t) 2);
+      }
 
-    left_meant : (i j : ℕ) → i < q → j < q → meaning (matrices s) acts (state_of stores) (i * q + j) 0 ≡ Some (block_of s q a i j)
-    left_meant i j l m = leaves.kept (i * q + j) ∙ ap sheet_of (has.cells i j 0 l m)
+module _ (s : Arithmetic) (q : ℕ) (a y : Sparse) (stores : List (List (Slot Sparse))) (has : HasProduct s q a y stores) where
+  -- what holds of each place holds of each rank
+  of_ranks : (P : ℕ → Type 0) → ((i j : ℕ) → i < q → j < q → P (i * q + j)) → (r : ℕ) → r < length stores → P r
+  of_ranks P h r l =
+      let inside : r < q * q = omega (arith, has.table.rows) in
+      subst P (rank_of q r) (h (r / q) (r % q) (row_below q r inside) (mod_below r q has.some))
 
-    -- no rank's slot 0 is empty afterwards
-    pub left_filled : AreFilled 0 after
-    left_filled r l = each_rank (λ r. is_filled (cell slot_is.Empty after r 0) ≡ true)
-        (λ i j m n. lost_or_filled (meaning (matrices s) acts (state_of stores) (i * q + j) 0) (cell slot_is.Empty after (i * q + j) 0) (ran (i * q + j) 0) (rw (left_meant i j m n) refl)) r (omega arith)
+  -- no rank's slot 0 is empty
+  pub parts_filled : AreFilled 0 stores
+  parts_filled = of_ranks (λ r. is_filled (cell slot_is.Empty stores r 0) ≡ true) (λ i j l m. lost_or_filled (Some (block_of s q a i j)) (cell slot_is.Empty stores (i * q + j) 0) (has.parts i j l m) refl)
 
-    -- the parts of the matrix come out again
-    module _ (blocks : List Sparse) (out : (r : ℕ) → r < length after → state_of after r 0 ≡ Some (block_at blocks r)) where
-      same_blocks : (i j : ℕ) → i < q → j < q → block_at blocks (i * q + j) ≡ block_of s q a i j
-      same_blocks i j l m =
-          let r = i * q + j in
-          let inside = rank_below q i j l m in
-          same_Some _ _ (sym (block_meant (meaning (matrices s) acts (state_of stores) r 0) (cell slot_is.Empty after r 0) (block_at blocks r) (ran r 0) (out r (omega arith))) ∙ left_meant i j l m)
+  -- the parts of the matrix come out again
+  module _ (blocks : List Sparse) (out : (r : ℕ) → r < length stores → state_of stores r 0 ≡ Some (block_at blocks r)) where
+    same_blocks : (i j : ℕ) → i < q → j < q → block_at blocks (i * q + j) ≡ block_of s q a i j
+    same_blocks i j l m =
+        let r = i * q + j in
+        let inside = rank_below q i j l m in
+        same_Some _ _ (sym (block_meant (Some (block_of s q a i j)) (cell slot_is.Empty stores r 0) (block_at blocks r) (has.parts i j l m) (out r (omega (arith, has.table.rows)))))
 
-      -- the blocks taken out of slot 0 have the shapes of the matrix's parts
-      pub blocks_shaped : (i j : ℕ) → i < q → j < q → (block_at blocks (i * q + j)).shape ≡ part_shape q a.shape i j
-      blocks_shaped i j l m = ap (λ b. b.shape) (same_blocks i j l m)
+    -- the blocks taken out of slot 0 have the shapes of the matrix's parts
+    pub blocks_shaped : (i j : ℕ) → i < q → j < q → (block_at blocks (i * q + j)).shape ≡ part_shape q a.shape i j
+    blocks_shaped i j l m = ap (λ b. b.shape) (same_blocks i j l m)
 
-      -- glued together, they are the matrix
-      pub blocks_glued : glued s q a.shape (λ i j. block_at blocks (i * q + j)) ≡ a
-      blocks_glued = glued_cut s laws q has.some a is_a (λ i j. block_at blocks (i * q + j)) same_blocks
+    -- glued together, they are the matrix
+    pub blocks_glued : IsSemiring s → glued s q a.shape (λ i j. block_at blocks (i * q + j)) ≡ a
+    blocks_glued laws = glued_cut s laws q has.some a has.matrix (λ i j. block_at blocks (i * q + j)) same_blocks
 
-    -- and so do the pieces of the product
-    module _ (later : List (List (Slot Sparse))) (others : (r n : ℕ) → 0 ≢ n → cell slot_is.Empty later r n ≡ cell slot_is.Empty after r n) where
-      result_meant : (i t : ℕ) → i < q → t < q → meaning (matrices s) acts (state_of stores) (i * q + t) 2 ≡ Some (piece_of s q (product s a x) i t)
-      result_meant i t l m = leaves.pieces i t l m
+  -- and so do the pieces of the product
+  module _ (later : List (List (Slot Sparse))) (count : length later ≡ length stores) (others : (r n : ℕ) → 0 ≢ n → cell slot_is.Empty later r n ≡ cell slot_is.Empty stores r n) where
+    pieces_left : (i t : ℕ) → i < q → t < q → IsLostOr (Some (piece_of s q y i t)) (cell slot_is.Empty later (i * q + t) 2)
+    pieces_left i t l m = subst (λ (x : Slot Sparse). IsLostOr (Some (piece_of s q y i t)) x) (sym (others (i * q + t) 2 (let ne : 0 ≢ 2 = omega arith in ne))) (has.pieces i t l m)
 
-      result_left : (r : ℕ) → IsLostOr (meaning (matrices s) acts (state_of stores) r 2) (cell slot_is.Empty later r 2)
-      result_left r = subst (λ (y : Slot Sparse). IsLostOr (meaning (matrices s) acts (state_of stores) r 2) y) (sym (others r 2 (let ne : 0 ≢ 2 = omega arith in ne))) (ran r 2)
+    -- no rank's slot 2 is empty either
+    pub pieces_filled : AreFilled 2 later
+    pieces_filled r l = of_ranks (λ r. is_filled (cell slot_is.Empty later r 2) ≡ true) (λ i t m n. lost_or_filled (Some (piece_of s q y i t)) (cell slot_is.Empty later (i * q + t) 2) (pieces_left i t m n) refl) r (omega arith)
 
-      -- no rank's slot 2 is empty either
-      pub result_filled : length later ≡ q * q → AreFilled 2 later
-      result_filled e r l = each_rank (λ r. is_filled (cell slot_is.Empty later r 2) ≡ true)
-          (λ i t m n. lost_or_filled (meaning (matrices s) acts (state_of stores) (i * q + t) 2) (cell slot_is.Empty later (i * q + t) 2) (result_left (i * q + t)) (rw (result_meant i t m n) refl)) r (omega arith)
+    module _ (pieces : List Sparse) (out : (r : ℕ) → r < length later → state_of later r 2 ≡ Some (block_at pieces r)) where
+      same_pieces : (i t : ℕ) → i < q → t < q → block_at pieces (i * q + t) ≡ piece_of s q y i t
+      same_pieces i t l m =
+          let r = i * q + t in
+          let inside = rank_below q i t l m in
+          same_Some _ _ (sym (block_meant (Some (piece_of s q y i t)) (cell slot_is.Empty later r 2) (block_at pieces r) (pieces_left i t l m) (out r (omega (arith, has.table.rows)))))
 
-      module _ (pieces : List Sparse) (count : length later ≡ q * q) (out : (r : ℕ) → r < length later → state_of later r 2 ≡ Some (block_at pieces r)) where
-        same_pieces : (i t : ℕ) → i < q → t < q → block_at pieces (i * q + t) ≡ piece_of s q (product s a x) i t
-        same_pieces i t l m =
-            let r = i * q + t in
-            let inside = rank_below q i t l m in
-            same_Some _ _ (sym (block_meant (meaning (matrices s) acts (state_of stores) r 2) (cell slot_is.Empty later r 2) (block_at pieces r) (result_left r) (out r (omega arith))) ∙ result_meant i t l m)
+      -- the blocks taken out of slot 2 have the shapes of the product's pieces
+      pub pieces_shaped : (i t : ℕ) → i < q → t < q → (block_at pieces (i * q + t)).shape ≡ piece_shape q y.shape i t
+      pieces_shaped i t l m = ap (λ b. b.shape) (same_pieces i t l m) ∙ piece_has_shape s q y i t
 
-        -- the blocks taken out of slot 2 have the shapes of the product's pieces
-        pub pieces_shaped : (i t : ℕ) → i < q → t < q → (block_at pieces (i * q + t)).shape ≡ piece_shape q (product s a x).shape i t
-        pieces_shaped i t l m = ap (λ b. b.shape) (same_pieces i t l m) ∙ piece_has_shape s q (product s a x) i t
-
-        -- glued together, they are the product
-        pub pieces_glued : glued_pieces s q (product s a x).shape (λ i t. block_at pieces (i * q + t)) ≡ product s a x
-        pieces_glued = glued_pieces_cut s laws q has.some (product s a x) (product_is_matrix s laws a x is_a is_x) (λ i t. block_at pieces (i * q + t)) same_pieces
+      -- glued together, they are the product
+      pub pieces_glued : IsSemiring s → glued_pieces s q y.shape (λ i t. block_at pieces (i * q + t)) ≡ y
+      pieces_glued laws = glued_pieces_cut s laws q has.some y has.column (λ i t. block_at pieces (i * q + t)) same_pieces

@@ -1,17 +1,19 @@
 -- Levels are distances in the matrix whose stored entries are 1.
-use Rattle.std.proofs.Common.{◌≡◌, ◌≢◌, ℕ, ◌^◌, ◌<◌, ◌≤◌, Bool, true, false, cond, List, [], ◌∷◌, length, map, refl, ◌∙◌, arith}
-use Rattle.std.specs.Prelude.{All, AllPairs}
+use Rattle.std.proofs.Common.{◌≡◌, ◌≢◌, ℕ, ◌^◌, ◌<◌, ◌≤◌, Bool, true, false, cond, List, [], ◌∷◌, length, map, refl, subst, ◌∙◌, arith}
+use Rattle.std.specs.Prelude.{All, AllPairs, Result, IfOk}
 use Rattle.std.specs.List.{sum_by}
 use Rattle.std.proofs.lemmas.List.Sums.{sum-map, sum_by-cons}
 use Rattle.std.proofs.lemmas.List.Elements.{All-head, All-tail, All-map, All-weaker}
+use Rattle.std.proofs.lemmas.Result.{IfOk-weaker}
 use Rattle.cb_semirings.specs.Tables.{min_plus, or_and}
 use Rattle.cb_matrix.specs.declared.Entry.{Entry}
 use Rattle.cb_matrix.specs.Sparse.{Sparse, IsMatrix, IsBefore, IsInside, at, value_at, is_at}
 use Rattle.cb_matrix.proofs.Pairs.{AllPairs-cons, AllPairs-nil, AllPairs-head, AllPairs-tail}
-use Rattle.cb_scripts.specs.Walks.{IsWalk, pairs, steps, weight, infinite}
+use Rattle.cb_layout.specs.Distributed.{Distributed}
+use Rattle.cb_scripts.specs.Walks.{IsWalk, pairs, steps, cost, weight, infinite}
 use Rattle.cb_scripts.specs.Walks.{AreLevels, AreDistances}
 use Rattle.cb_scripts.specs.Walks.{unit_entry, unit_weights}
-use Rattle.cb_scripts.proofs.WalkCosts.{cost}
+use Rattle.cb_scripts.proofs.GatheredParts.{over_grid}
 use Rattle.cb_scripts.proofs.ShortWalks.{short_walk}
 use Rattle.cb_scripts.proofs.TurnedProducts.{inside_square}
 
@@ -83,3 +85,9 @@ module _ (a : Sparse) (is : IsMatrix or_and a) (square : a.shape.rows ≡ a.shap
         let p : (us : List ℕ) × IsWalk min_plus (unit_weights a) source v us × (steps us < a.shape.rows) × (cost (unit_weights a) us ≤ cost (unit_weights a) u) = short_walk (unit_weights a) a.shape.rows (inside_square (unit_weights a) (unit_matrix a is) square) source v u l (to_unit v u k) in
         omega (arith, fits, p.2, unit_cost v p.0 (from_unit v p.0 p.1), h.none v m e p.0 p.1);
   }
+
+-- distances in the matrix over a grid whose stored entries weigh 1 are levels
+pub levels_found : {E : Type 0} (a : Sparse) (side source : ℕ) (weighted : Distributed) (r : Result Sparse E) → IsMatrix or_and a → a.shape.rows ≡ a.shape.cols → a.shape.rows < infinite → source < a.shape.rows → weighted ≡ over_grid side (unit_weights a) →
+    IfOk r (λ column. AreDistances weighted.matrix source column) → IfOk r (λ column. AreLevels a source column)
+levels_found a side source weighted r is square fits l w = IfOk-weaker r (λ column. AreDistances weighted.matrix source column) (λ column. AreLevels a source column)
+    (λ column h. levels_are a is square fits source l column (subst (λ (m : Distributed). AreDistances m.matrix source column) w h))

@@ -8,15 +8,11 @@ use Rattle.std.proofs.lemmas.Option.{none-some, same_Some}
 use Rattle.cb_semirings.specs.Arithmetic.{Arithmetic}
 use Rattle.cb_semirings.specs.Tables.{min_plus}
 use Rattle.cb_matrix.specs.Sparse.{Sparse, at}
-use Rattle.cb_scripts.specs.Walks.{pairs, first, last, IsWalk, steps}
+use Rattle.cb_scripts.specs.Walks.{pairs, first, last, IsWalk, steps, cost}
 
 -- the value of a pair
 abbrev pub pair_cost : Sparse → ℕ × ℕ → ℕ
 pair_cost a p = at min_plus a p.0 p.1
-
--- the values of the pairs, added
-abbrev pub cost : Sparse → List ℕ → ℕ
-cost a walk = sum (map (λ (p : ℕ × ℕ). at min_plus a p.0 p.1) (pairs walk))
 
 cost_by : (a : Sparse) (walk : List ℕ) → cost a walk ≡ sum_by (pair_cost a) (pairs walk)
 cost_by a walk = sum-map (pair_cost a) (pairs walk)

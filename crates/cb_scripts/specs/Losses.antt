@@ -36,3 +36,9 @@ abbrev pub IsDrainRefusal : ℕ → List (List (Slot Sparse)) → ScriptFault �
 IsDrainRefusal n stores Memory = Unit {0}
 IsDrainRefusal n stores (Lost origin) = IsFirstLoss n stores origin
 IsDrainRefusal n stores _ = ⊥
+
+-- why blocks can't be handed out: want of memory, or one that is lost
+abbrev pub IsLossRefusal : List (List (Slot Sparse)) → ScriptFault → Type 0
+IsLossRefusal stores Memory = Unit {0}
+IsLossRefusal stores (Lost origin) = (r : ℕ) × (n : ℕ) × (cell slot_is.Empty stores r n ≡ slot_is.Lost origin)
+IsLossRefusal stores _ = ⊥

@@ -37,9 +37,13 @@ infinite = 2 ^ 64 - 1
 abbrev pub steps : List ℕ → ℕ
 steps walk = length (pairs walk)
 
--- its weight: the values of its pairs, added, and stopped at infinity
+-- its cost: the values of its pairs, added
+abbrev pub cost : Sparse → List ℕ → ℕ
+cost a walk = sum (map (λ (p : ℕ × ℕ). at min_plus a p.0 p.1) (pairs walk))
+
+-- its weight: its cost, stopped at infinity
 abbrev pub weight : Sparse → List ℕ → ℕ
-weight a walk = min (sum (map (λ p. at min_plus a p.0 p.1) (pairs walk))) infinite
+weight a walk = min (cost a walk) infinite
 
 -- there is a walk that counts n, and no walk counts less
 pub record IsLeast (s : Arithmetic) (a : Sparse) (from to : ℕ) (count : List ℕ → ℕ) (n : ℕ) : Type 0 where

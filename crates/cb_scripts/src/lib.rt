@@ -20,6 +20,7 @@ pub mod plain;
 mod products;
 mod rounds;
 mod runs;
+mod searches;
 mod stores;
 #[cfg(test)]
 mod tests;
@@ -41,7 +42,7 @@ use thiserror::Error;
 pub use traced::{multiply_traced, multiply_traced_distributed};
 pub use transposes::{transpose, transpose_distributed};
 pub use vectors::{vector, vector_distributed};
-pub use walks::{distances, distances_distributed, levels};
+pub use walks::{distances, distances_distributed, levels, levels_distributed};
 
 /// What runs a plan.
 #[derive(Clone, Copy, Debug, PartialEq, Eq)]

@@ -2,21 +2,26 @@
 //!
 //! Each call is the one of its name in this crate with [`Engine::Plain`](crate::Engine::Plain), and answers and
 //! refuses as that does.
-ghost use Rattle.std.specs.Prelude.{◌≡◌, IfOk, IfErr};
+ghost use Rattle.std.specs.Prelude.{◌≡◌, ◌<◌, IfOk, IfErr};
 ghost use Rattle.cb_matrix.specs.Values.{product, product_shape};
 ghost use Rattle.cb_matrix.specs.Operations.{masked, pruned, sum_of, times_of, transposed};
 ghost use Rattle.cb_elementwise.specs.Passing.{passes};
 ghost use Rattle.cb_scripts.specs.declared.Engine.TheVariants.{Plain};
-ghost use Rattle.cb_scripts.specs.Refusals.{IsMaskedRefusal, IsPlacewiseRefusal, IsProductRefusal, IsRunRefusal};
+ghost use Rattle.cb_scripts.specs.Refusals.{IsGraphRefusal, IsMaskedRefusal, IsPlacewiseRefusal, IsProductRefusal, IsRunRefusal, IsVectorRefusal};
+ghost use Rattle.cb_scripts.specs.Walks.{AreDistances, AreLevels};
 
 use crate::ScriptFault;
 use crate::placewise::{add_plan, prune_plan, times_plan};
 use crate::products::{empty_product, masked_plan, product_plan};
+use crate::rounds::{multiply_vector_plain, vector_plan};
 use crate::runs::compute_plain;
+use crate::searches::Search;
 use crate::transposes::transpose_plan;
+use crate::walks::weighted;
 use cb_elementwise::Test;
 use cb_layout::DistributedMatrix;
-use cb_semirings::Semiring;
+use cb_matrix::Matrix;
+use cb_semirings::{MinPlus, OrAnd, Semiring};
 use std::alloc::Global;
 
 /// The product of two matrices that lie over one grid, as [`multiply_distributed`](crate::multiply_distributed).
@@ -109,4 +114,94 @@ pub fn prune_distributed<S: Semiring>(
 {
     let (grid, planned, operands, shape) = prune_plan(alloc, matrix, test)?;
     compute_plain(alloc, &grid, planned, operands, shape)
+}
+
+/// The product of a matrix that lies over a grid and a vector, as [`vector_distributed`](crate::vector_distributed).
+pub fn vector_distributed<S: Semiring>(
+    alloc: Global,
+    matrix: DistributedMatrix<S>,
+    vector: &Matrix<S>,
+) -> Result<DistributedMatrix<S>, ScriptFault>
+    ensures ok { IfOk result (λ m. m ≡ record { side = matrix.side; matrix = product S.arithmetic matrix.matrix vector.now }) }
+    ensures agree { IfOk result (λ m. (matrix.matrix.shape.cols ≡ vector.now.shape.rows) × (vector.now.shape.cols ≡ 1)) }
+    ensures fault { IfErr result (IsVectorRefusal matrix.matrix vector.now Plain) }
+{
+    let grid = matrix.grid();
+    let (a, x) = (matrix.shape(), vector.shape());
+    if a.cols() != x.rows() || x.cols() != 1 {
+        return Err(ScriptFault::Shapes);
+    }
+    let plan = vector_plan(alloc, &grid, a)?;
+    let (_, product) = multiply_vector_plain(alloc, &grid, &plan, matrix, vector)?;
+    Ok(DistributedMatrix::scatter(alloc, grid, &product)?)
+}
+
+/// The distance of each vertex from a source, as [`distances_distributed`](crate::distances_distributed).
+pub fn distances_distributed(
+    alloc: Global,
+    graph: DistributedMatrix<MinPlus>,
+    source: u32,
+) -> Result<Matrix<MinPlus>, ScriptFault>
+    ensures ok { IfOk result (λ column. AreDistances graph.matrix source column) }
+    ensures agree { IfOk result (λ column. (graph.matrix.shape.rows ≡ graph.matrix.shape.cols) × (source < graph.matrix.shape.rows)) }
+    ensures fault { IfErr result (IsGraphRefusal graph.matrix source Plain) }
+{
+    let shape = graph.shape();
+    if shape.rows() != shape.cols() {
+        return Err(ScriptFault::NotSquare);
+    }
+    if source >= shape.rows() {
+        return Err(ScriptFault::Source);
+    }
+    nearest(alloc, graph, source)
+}
+
+/// The level of each vertex from a source, as [`levels_distributed`](crate::levels_distributed).
+pub fn levels_distributed(
+    alloc: Global,
+    graph: DistributedMatrix<OrAnd>,
+    source: u32,
+) -> Result<Matrix<MinPlus>, ScriptFault>
+    ensures ok { IfOk result (λ column. AreLevels graph.matrix source column) }
+    ensures agree { IfOk result (λ column. (graph.matrix.shape.rows ≡ graph.matrix.shape.cols) × (source < graph.matrix.shape.rows)) }
+    ensures fault { IfErr result (IsGraphRefusal graph.matrix source Plain) }
+{
+    let shape = graph.shape();
+    if shape.rows() != shape.cols() {
+        return Err(ScriptFault::NotSquare);
+    }
+    if source >= shape.rows() {
+        return Err(ScriptFault::Source);
+    }
+    let weighted = weighted(alloc, graph)?;
+    nearest(alloc, weighted, source)
+}
+
+/// The least weight of a walk from the source to each vertex.
+fn nearest(
+    alloc: Global,
+    graph: DistributedMatrix<MinPlus>,
+    source: u32,
+) -> Result<Matrix<MinPlus>, ScriptFault>
+    requires square { graph.matrix.shape.rows ≡ graph.matrix.shape.cols }
+    requires source { source < graph.matrix.shape.rows }
+    ensures ok { IfOk result (λ column. AreDistances graph.matrix source column) }
+    ensures fault { IfErr result (IsRunRefusal Plain) }
+{
+    let grid = graph.grid();
+    let vertices = graph.shape().rows();
+    let mut search = Search::begin(alloc, &graph, source)?;
+    let mut turned = transpose_distributed(alloc, graph)?;
+    let plan = vector_plan(alloc, &grid, turned.shape())?;
+    for _round in 0..vertices {
+        let fell = search.fell();
+        if fell.is_empty() {
+            break;
+        }
+        let (matrix, reached) = multiply_vector_plain(alloc, &grid, &plan, turned, fell)?;
+        turned = matrix;
+        search = search.advance(alloc, &reached)?;
+    }
+    let column = search.column(alloc)?;
+    Ok(column)
 }

@@ -1,9 +1,12 @@
 //! A matrix that lies over a grid times a vector, again and again, by a plan that is made once.
 ghost use Rattle.std.specs.Prelude.{◌≡◌, IfOk, IfErr};
+ghost use Rattle.cb_matrix.specs.Sparse.{Sparse};
 ghost use Rattle.cb_matrix.specs.Values.{product};
 ghost use Rattle.cb_kernels.specs.VectorPlans.{column};
+ghost use Rattle.cb_scripts.specs.declared.Engine.TheVariants.{Plain};
+ghost use Rattle.cb_scripts.specs.Losses.{IsLossRefusal};
 ghost use Rattle.cb_scripts.specs.Refusals.{IsRunRefusal};
-ghost use Rattle.cb_scripts.specs.SpreadVectors.{HasSpread, MultipliesVectors};
+ghost use Rattle.cb_scripts.specs.SpreadVectors.{HasProduct, HasSpread, MultipliesVectors};
 
 use crate::stores::{blank, drain, fill};
 use crate::{Engine, ScriptFault};
@@ -46,11 +49,53 @@ pub fn multiply_vector<S: Semiring + Send + Sync, R: Threads + Wait + Sync>(
 {
     let (a, x) = (matrix.shape(), vector.shape());
     let stores = spread(alloc, grid, matrix, vector)?;
-    let mut stores = engine.run(rt, alloc, plan, stores)?;
+    let stores = engine.run(rt, alloc, plan, stores)?;
+    collect(alloc, grid, stores, a, a.with_columns_of(x))
+}
+
+/// The same by the plain engine, which needs no runtime.
+pub fn multiply_vector_plain<S: Semiring>(
+    alloc: Global,
+    grid: &Grid,
+    plan: &CheckedPlan,
+    matrix: DistributedMatrix<S>,
+    vector: &Matrix<S>,
+) -> Result<(DistributedMatrix<S>, Matrix<S>), ScriptFault>
+    requires side { matrix.side ≡ grid.now.side }
+    requires plan { MultipliesVectors grid.now.side matrix.matrix.shape plan.now }
+    requires vector { vector.now.shape ≡ column matrix.matrix.shape.cols }
+    ensures product { IfOk result (λ p. p.1 ≡ product S.arithmetic matrix.matrix vector.now) }
+    ensures same { IfOk result (λ p. p.0 ≡ matrix) }
+    ensures fault { IfErr result (IsRunRefusal Plain) }
+{
+    let (a, x) = (matrix.shape(), vector.shape());
+    let stores = spread(alloc, grid, matrix, vector)?;
+    let stores = Engine::run_plain(alloc, plan, stores)?;
+    collect(alloc, grid, stores, a, a.with_columns_of(x))
+}
+
+/// The matrix of the one shape and the column of the other, whose parts and pieces a run has left.
+fn collect<S: Semiring>(
+    alloc: Global,
+    grid: &Grid,
+    stores: Vec<RankStore<S>>,
+    shape: Shape,
+    made: Shape,
+) -> Result<(DistributedMatrix<S>, Matrix<S>), ScriptFault>
+    requires column { made.cols ≡ 1 }
+    requires left { (a : Sparse) × (y : Sparse) × (a.shape ≡ shape) × (y.shape ≡ made) × HasProduct S.arithmetic grid.now.side a y stores.items }
+    ensures product { IfOk result (λ p. (a y : Sparse) → a.shape ≡ shape → y.shape ≡ made → HasProduct S.arithmetic grid.now.side a y stores.items → p.1 ≡ y) }
+    ensures same { IfOk result (λ p. (a y : Sparse) → a.shape ≡ shape → y.shape ≡ made → HasProduct S.arithmetic grid.now.side a y stores.items → p.0 ≡ record { side = grid.now.side; matrix = a }) }
+    ensures fault { IfErr result (IsLossRefusal stores.items) }
+{
+    let mut stores = stores;
     let blocks = drain(alloc, &mut stores, LEFT)?;
     let pieces = drain(alloc, &mut stores, RESULT)?;
-    let product = grid.gather_result(alloc, &pieces, a.with_columns_of(x))?;
-    Ok((DistributedMatrix::from_blocks(*grid, a, blocks), product))
+    let product = grid.gather_result(alloc, &pieces, made)?;
+    Ok((
+        DistributedMatrix::from_blocks(*grid, shape, blocks),
+        product,
+    ))
 }
 
 /// The stores of the ranks, with the parts of a matrix in slot 0 and the pieces of a vector in slot 1.

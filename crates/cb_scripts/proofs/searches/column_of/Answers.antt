@@ -4,7 +4,7 @@ use Rattle.std.proofs.lemmas.Map.Iter.{rest_all}
 use Rattle.cb_semirings.specs.Tables.{min_plus}
 use Rattle.cb_matrix.specs.Sparse.{Sparse, at}
 use Rattle.cb_scripts.proofs.NumberColumns.{all_listed, column_matrix, column_value}
-use Rattle.cb_scripts.proofs.walks.column_of.Goals as goal
+use Rattle.cb_scripts.proofs.searches.column_of.Goals as goal
 
 pub from_ordered-requires : goal.from_ordered-requires
 from_ordered-requires c =

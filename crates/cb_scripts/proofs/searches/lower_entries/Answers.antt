@@ -1,8 +1,8 @@
 use Rattle.std.proofs.Common.{ap, ◌∙◌, sym}
 use Rattle.cb_matrix.specs.declared.Entry.{Entry}
 use Rattle.cb_scripts.proofs.TakenNumbers.{lower_kept, lower_passed}
-use Rattle.cb_scripts.proofs.walks.lower_entries.Goals as goal
-use Rattle.cb_scripts.proofs.walks.lower_entries.Goals.{then-is_lower+in_ok-push, else-is_lower}
+use Rattle.cb_scripts.proofs.searches.lower_entries.Goals as goal
+use Rattle.cb_scripts.proofs.searches.lower_entries.Goals.{then-is_lower+in_ok-push, else-is_lower}
 
 pub loop-entry-preserved : goal.loop-entry-preserved
 loop-entry-preserved c =

@@ -4,7 +4,7 @@ use Rattle.cb_semirings.specs.Tables.{min_plus}
 use Rattle.cb_matrix.specs.Sparse.{Sparse, Extent, IsMatrix, at}
 use Rattle.cb_scripts.specs.Numbers.{is_lower}
 use Rattle.cb_scripts.proofs.LowerEntries.{number_fits, lower_apart, lower_column, lower_matrix, lower_finite, lower_least, lower_new, lower_old}
-use Rattle.cb_scripts.proofs.walks.take_lower.Goals as goal
+use Rattle.cb_scripts.proofs.searches.take_lower.Goals as goal
 
 pub take_over-requires-clause-rows : goal.take_over-requires-clause-rows
 take_over-requires-clause-rows c =

@@ -1,6 +1,6 @@
 use Rattle.cb_matrix.specs.declared.Entry.{Entry}
 use Rattle.cb_scripts.proofs.TakenNumbers.{taken_none, taken_one, all_taken}
-use Rattle.cb_scripts.proofs.walks.take_over.Goals as goal
+use Rattle.cb_scripts.proofs.searches.take_over.Goals as goal
 
 pub loop-entry-init : goal.loop-entry-init
 loop-entry-init c = taken_none c.args.known.now

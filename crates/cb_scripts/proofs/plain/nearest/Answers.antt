@@ -1,0 +1,50 @@
+use Rattle.std.proofs.Common.{◌≡◌, ◌∙◌, inl, inr, sym, ap, arith, subst}
+use Rattle.cb_matrix.specs.Sparse.{Sparse, Extent}
+use Rattle.cb_layout.specs.Parts.{Square}
+use Rattle.cb_layout.specs.Distributed.{Distributed}
+use Rattle.cb_kernels.specs.VectorPlans.{column}
+use Rattle.cb_scripts.specs.SpreadVectors.{MultipliesVectors}
+use Rattle.cb_scripts.specs.Searches.{HasEnded}
+use Rattle.cb_scripts.proofs.NearestRounds.{reached_by}
+use Rattle.cb_scripts.proofs.plain.nearest.Goals as goal
+use Rattle.cb_scripts.proofs.plain.nearest.Goals.{else-loop-round-test, then-loop-round-test+then-is_empty}
+
+pub loop-round-init : goal.loop-round-init
+loop-round-init c = record { search = c.in_ok-search.ensures; turned = c.in_ok-turned.ensures.ok }
+
+pub multiply_vector_plain-requires-clause-side : goal.multiply_vector_plain-requires-clause-side
+multiply_vector_plain-requires-clause-side c = ap (λ (m : Distributed). m.side) c.loop-round.invariant.turned ∙ sym (ap (λ (g : Square). g.side) c.grid-grid.ensures)
+
+pub multiply_vector_plain-requires-clause-plan : goal.multiply_vector_plain-requires-clause-plan
+multiply_vector_plain-requires-clause-plan c =
+    subst (λ (d : Extent). MultipliesVectors c.grid-grid.result.side d c.in_ok-plan.plan)
+    (c.shape-2.ensures.shape ∙ ap (λ (m : Distributed). m.matrix.shape) (c.in_ok-turned.ensures.ok ∙ sym c.loop-round.invariant.turned)) c.in_ok-plan.ensures
+
+pub multiply_vector_plain-requires-clause-vector : goal.multiply_vector_plain-requires-clause-vector
+multiply_vector_plain-requires-clause-vector c =
+    ap (λ (m : Sparse). m.shape) c.fell-fell.ensures ∙ c.loop-round.invariant.search.shape ∙ ap (λ (m : Distributed). column m.matrix.shape.cols) (sym c.loop-round.invariant.turned)
+
+pub advance-requires : goal.advance-requires
+advance-requires c =
+    record {
+      round = (c.args.graph.matrix, c.args.source, c.loop-round._round, c.loop-round.invariant.search, reached_by c.args.graph.matrix c.args.graph.side c.loop-round.turned c.fell-fell.result.now c.loop-round.search.fell c.in_ok-matrix.reached c.loop-round.invariant.turned c.fell-fell.ensures c.in_ok-matrix.ensures.product);
+    }
+
+pub loop-round-preserved : goal.loop-round-preserved
+loop-round-preserved c = record {
+  search = c.in_ok-search-2.ensures c.args.graph.matrix c.args.source c.loop-round._round c.loop-round.invariant.search (reached_by c.args.graph.matrix c.args.graph.side c.loop-round.turned c.fell-fell.result.now c.loop-round.search.fell c.in_ok-matrix.reached c.loop-round.invariant.turned c.fell-fell.ensures c.in_ok-matrix.ensures.product);
+  turned = c.in_ok-matrix.ensures.same ∙ c.loop-round.invariant.turned;
+}
+
+pub column-requires : goal.column-requires
+column-requires c = record { search = (c.args.graph.matrix, c.args.source, c.loop-round._round, c.loop-round.invariant.search) }
+
+pub returns-clause-ok : goal.returns-clause-ok
+returns-clause-ok c =
+    let a = c.args.graph.matrix in
+    let vertices : c.rows-vertices.result ≡ a.shape.rows = c.rows-vertices.ensures.value ∙ ap (λ (e : Extent). e.rows) c.shape.ensures.shape in
+    let ended : HasEnded a c.loop-round._round c.loop-round.search = elim c.loop-round-test.branch as (λ _. HasEnded a c.loop-round._round c.loop-round.search) [
+      | else-loop-round-test w ↦ inr (omega (arith, w.loop-round-test.false))
+      | then-loop-round-test+then-is_empty w ↦ inl (ap (λ (m : Sparse). m.entries) (sym w.fell-fell.ensures) ∙ w.is_empty.ensures.0 w.if-is_empty.true)
+    ] in
+    c.in_ok-column.ensures a c.args.source c.loop-round._round c.loop-round.invariant.search ended

@@ -1,0 +1,51 @@
+use Rattle.std.proofs.Common.{◌≡◌, sym, subst, ap, ◌∙◌}
+use Rattle.std.proofs.lemmas.Result.{IfOk-weaker}
+use Rattle.cb_matrix.specs.Sparse.{Sparse}
+use Rattle.cb_matrix.specs.Values.{product, product_shape}
+use Rattle.cb_layout.specs.Distributed.{Distributed}
+use Rattle.cb_plan.specs.Tables.{IsTable}
+use Rattle.cb_scripts.specs.SpreadVectors.{HasProduct}
+use Rattle.cb_scripts.proofs.SpreadProducts.{spread_fits, has_product}
+use Rattle.cb_scripts.proofs.rounds.multiply_vector_plain.Goals as goal
+
+pub run_plain-requires : goal.run_plain-requires
+run_plain-requires g c =
+    record { fits = rw (c.requires.plan.ranks, c.requires.plan.starts) (spread_fits g.S.Semiring.arithmetic c.args.grid.now.side c.args.matrix.matrix c.args.vector.now c.in_ok-stores.stores.items c.in_ok-stores.ensures c.requires.vector) }
+
+pub collect-requires-clause-left : goal.collect-requires-clause-left
+collect-requires-clause-left g c =
+    let laws = g.met.S.Semiring.is_semiring in
+    let s = g.S.Semiring.arithmetic in
+    let a = c.args.matrix.matrix in
+    let has = has_product s c.args.grid.now.side a c.args.vector.now c.in_ok-stores.stores.items c.in_ok-stores.ensures laws c.shape-a.ensures.matrix c.shape-x.ensures.matrix c.requires.vector
+    c.args.plan.now.acts c.requires.plan.means c.in_ok-stores-2.stores.items (subst (λ n. IsTable n 256 c.in_ok-stores-2.stores.items) c.requires.plan.ranks c.in_ok-stores-2.ensures.table) c.in_ok-stores-2.ensures.meaning in
+    let made : product_shape a c.args.vector.now ≡ c.with_columns_of.result = sym (c.with_columns_of.ensures ∙ (λ k. record { rows = (c.shape-a.ensures.shape k).rows; cols = (c.shape-x.ensures.shape k).cols })) in
+    (a, product s a c.args.vector.now, sym c.shape-a.ensures.shape, made, has)
+
+pub returns-clause-product : goal.returns-clause-product
+returns-clause-product g c =
+    let laws = g.met.S.Semiring.is_semiring in
+    let s = g.S.Semiring.arithmetic in
+    let a = c.args.matrix.matrix in
+    let has = has_product s c.args.grid.now.side a c.args.vector.now c.in_ok-stores.stores.items c.in_ok-stores.ensures laws c.shape-a.ensures.matrix c.shape-x.ensures.matrix c.requires.vector
+    c.args.plan.now.acts c.requires.plan.means c.in_ok-stores-2.stores.items (subst (λ n. IsTable n 256 c.in_ok-stores-2.stores.items) c.requires.plan.ranks c.in_ok-stores-2.ensures.table) c.in_ok-stores-2.ensures.meaning in
+    let made : product_shape a c.args.vector.now ≡ c.with_columns_of.result = sym (c.with_columns_of.ensures ∙ (λ k. record { rows = (c.shape-a.ensures.shape k).rows; cols = (c.shape-x.ensures.shape k).cols })) in
+    IfOk-weaker c.collect.result
+    (λ (p : Distributed × Sparse). (a y : Sparse) → a.shape ≡ c.shape-a.result → y.shape ≡ c.with_columns_of.result → HasProduct s c.args.grid.now.side a y c.in_ok-stores-2.stores.items → p.1 ≡ y)
+    (λ (p : Distributed × Sparse). p.1 ≡ product s a c.args.vector.now)
+    (λ p h. h a (product s a c.args.vector.now) (sym c.shape-a.ensures.shape) made has)
+    c.collect.ensures.product
+
+pub returns-clause-same : goal.returns-clause-same
+returns-clause-same g c =
+    let laws = g.met.S.Semiring.is_semiring in
+    let s = g.S.Semiring.arithmetic in
+    let a = c.args.matrix.matrix in
+    let has = has_product s c.args.grid.now.side a c.args.vector.now c.in_ok-stores.stores.items c.in_ok-stores.ensures laws c.shape-a.ensures.matrix c.shape-x.ensures.matrix c.requires.vector
+    c.args.plan.now.acts c.requires.plan.means c.in_ok-stores-2.stores.items (subst (λ n. IsTable n 256 c.in_ok-stores-2.stores.items) c.requires.plan.ranks c.in_ok-stores-2.ensures.table) c.in_ok-stores-2.ensures.meaning in
+    let made : product_shape a c.args.vector.now ≡ c.with_columns_of.result = sym (c.with_columns_of.ensures ∙ (λ k. record { rows = (c.shape-a.ensures.shape k).rows; cols = (c.shape-x.ensures.shape k).cols })) in
+    IfOk-weaker c.collect.result
+    (λ (p : Distributed × Sparse). (a y : Sparse) → a.shape ≡ c.shape-a.result → y.shape ≡ c.with_columns_of.result → HasProduct s c.args.grid.now.side a y c.in_ok-stores-2.stores.items → p.0 ≡ record { side = c.args.grid.now.side; matrix = a })
+    (λ (p : Distributed × Sparse). p.0 ≡ c.args.matrix)
+    (λ p h. h a (product s a c.args.vector.now) (sym c.shape-a.ensures.shape) made has ∙ ap (λ n. record { side = n; matrix = a }) (sym c.requires.side))
+    c.collect.ensures.same

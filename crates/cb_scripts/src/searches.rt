@@ -1,0 +1,178 @@
+//! A search for the least weights of walks from one vertex of a graph, round by round.
+//!
+//! The numbers known so far near the least ones. A round multiplies the transposed matrix by the numbers that fell in
+//! the round before, in min-plus, and takes over what is lower. It ends when none falls, at the latest after as many
+//! rounds as there are vertices.
+ghost use Rattle.std.specs.Prelude.{◌≡◌, ◌≢◌, ◌↔◌, ℕ, ◌+◌, ◌<◌, ◌≤◌, min, filter, [], All, AllPairs, IfOk, OnOk, IsTrue};
+ghost use Rattle.std.specs.BTreeMap.{BTreeMap};
+ghost use Rattle.cb_semirings.specs.Tables.{min_plus};
+ghost use Rattle.cb_matrix.specs.Sparse.{Sparse, IsMatrix, at, value_at};
+ghost use Rattle.cb_matrix.specs.Values.{product};
+ghost use Rattle.cb_matrix.specs.Operations.{transposed};
+ghost use Rattle.cb_scripts.specs.Walks.{infinite, AreDistances};
+ghost use Rattle.cb_scripts.specs.Numbers.{number_at, AreNumbers, is_lower};
+ghost use Rattle.cb_scripts.specs.Searches.{HasEnded, IsSearch};
+
+use cb_layout::DistributedMatrix;
+use cb_matrix::{Entry, Matrix, Shape};
+use cb_semirings::MinPlus;
+use std::alloc::{AllocError, Global};
+use std::collections::BTreeMap;
+
+/// The numbers of the vertices as they are known so far.
+#[derive(Drop)]
+pub struct Search {
+    known: BTreeMap<u32, u64>,
+    /// Those that fell in the last round, in a column.
+    fell: Matrix<MinPlus>,
+}
+
+impl Search {
+    /// At first the source has the number 0.
+    pub fn begin(
+        alloc: Global,
+        graph: &DistributedMatrix<MinPlus>,
+        source: u32,
+    ) -> Result<Self, AllocError>
+        requires square { graph.now.matrix.shape.rows ≡ graph.now.matrix.shape.cols }
+        requires source { source < graph.now.matrix.shape.rows }
+        ensures { IfOk result (λ search. IsSearch graph.now.matrix source 0 search) }
+    {
+        let shape = column_shape(graph);
+        let known = known_from(alloc, source)?;
+        let fell = column_of(alloc, shape, &known)?;
+        Ok(Search { known, fell })
+    }
+
+    /// The numbers that fell in the last round.
+    pub fn fell(&self) -> &Matrix<MinPlus>
+        ensures { result.now ≡ self.now.fell }
+    {
+        &self.fell
+    }
+
+    /// One round more: what it reached, where that is lower, is taken over.
+    pub fn advance(self, alloc: Global, reached: &Matrix<MinPlus>) -> Result<Self, AllocError>
+        requires round { (a : Sparse) × (source : ℕ) × (k : ℕ) × IsSearch a source k self × (reached.now ≡ product min_plus (transposed min_plus a) self.fell) }
+        ensures { IfOk result (λ next. (a : Sparse) (source k : ℕ) → IsSearch a source k self → reached.now ≡ product min_plus (transposed min_plus a) self.fell → IsSearch a source (k + 1) next) }
+    {
+        let _shape = self.fell.shape();
+        let mut known = self.known;
+        let fell = take_lower(alloc, &mut known, reached)?;
+        Ok(Search { known, fell })
+    }
+
+    /// The numbers as a column.
+    pub fn column(&self, alloc: Global) -> Result<Matrix<MinPlus>, AllocError>
+        requires search { (a : Sparse) × (source : ℕ) × (k : ℕ) × IsSearch a source k self.now }
+        ensures { IfOk result (λ column. (a : Sparse) (source k : ℕ) → IsSearch a source k self.now → HasEnded a k self.now → AreDistances a source column) }
+    {
+        column_of(alloc, self.fell.shape(), &self.known)
+    }
+}
+
+/// The shape of a column with a place for each vertex.
+fn column_shape(graph: &DistributedMatrix<MinPlus>) -> Shape
+    ensures shape { result ≡ record { rows = graph.now.matrix.shape.rows; cols = 1 } }
+    ensures matrix { IsMatrix min_plus graph.now.matrix }
+{
+    let rows = graph.shape().rows();
+    Shape::new(rows, 1).unwrap()
+}
+
+/// The number known of a vertex.
+fn number_of(known: &BTreeMap<u32, u64>, vertex: u32) -> u64
+    ensures { result ≡ number_at known.now vertex }
+{
+    known.get(&vertex).copied().unwrap_or(u64::MAX)
+}
+
+/// Whether an entry is below what is known of its row.
+fn is_lower(known: &BTreeMap<u32, u64>, entry: &Entry) -> bool
+    ensures { result ≡ is_lower known.now entry.now }
+{
+    entry.value < number_of(known, entry.row)
+}
+
+/// The entries below what is known of their rows.
+fn lower_entries(
+    alloc: Global,
+    known: &BTreeMap<u32, u64>,
+    entries: &[Entry],
+) -> Result<Vec<Entry>, AllocError>
+    ensures { IfOk result (λ v. v.items ≡ filter (is_lower known.now) entries.now) }
+{
+    let mut lower = Vec::new(alloc);
+    for entry in entries {
+        if is_lower(known, entry) {
+            lower.push(*entry)?;
+        }
+    }
+    Ok(lower)
+}
+
+/// Takes over the entries' values.
+fn take_over(known: &mut BTreeMap<u32, u64>, entries: &[Entry]) -> Result<(), AllocError>
+    requires rows { AllPairs (λ d e. d.row ≢ e.row) entries.now }
+    requires column { All (λ e. e.column ≡ 0) entries.now }
+    ensures values { OnOk result ((v : ℕ) → number_at known.new v ≡ value_at (number_at known.old v) entries.now v 0) }
+    ensures finite { OnOk result ((n : ℕ) → AreNumbers n known.old → All (λ e. (e.row < n) × (e.value < infinite)) entries.now → AreNumbers n known.new) }
+{
+    for entry in entries {
+        known.insert(entry.row, entry.value)?;
+    }
+    Ok(())
+}
+
+/// Takes over the values below those known, and answers their entries.
+fn take_lower(
+    alloc: Global,
+    known: &mut BTreeMap<u32, u64>,
+    reached: &Matrix<MinPlus>,
+) -> Result<Matrix<MinPlus>, AllocError>
+    requires column { reached.now.shape.cols ≡ 1 }
+    requires finite { AreNumbers reached.now.shape.rows known.old }
+    ensures finite { OnOk result (AreNumbers reached.now.shape.rows known.new) }
+    ensures least { OnOk result ((v : ℕ) → number_at known.new v ≡ min (number_at known.old v) (at min_plus reached.now v 0)) }
+    ensures shape { IfOk result (λ fell. fell.shape ≡ reached.now.shape) }
+    ensures new { IfOk result (λ fell. (v : ℕ) → at min_plus reached.now v 0 < number_at known.old v → at min_plus fell v 0 ≡ at min_plus reached.now v 0) }
+    ensures old { IfOk result (λ fell. (v : ℕ) → number_at known.old v ≤ at min_plus reached.now v 0 → at min_plus fell v 0 ≡ infinite) }
+{
+    let shape = reached.shape();
+    let lower = lower_entries(alloc, known, reached.entries())?;
+    take_over(known, &lower)?;
+    Ok(Matrix::from_ordered(shape, lower))
+}
+
+/// The known numbers as a column.
+fn column_of(
+    alloc: Global,
+    shape: Shape,
+    known: &BTreeMap<u32, u64>,
+) -> Result<Matrix<MinPlus>, AllocError>
+    requires column { shape.cols ≡ 1 }
+    requires finite { AreNumbers shape.rows known.now }
+    ensures shape { IfOk result (λ m. m.shape ≡ shape) }
+    ensures values { IfOk result (λ m. (v : ℕ) → at min_plus m v 0 ≡ number_at known.now v) }
+{
+    let mut entries = Vec::with_capacity(alloc, known.len())?;
+    for (vertex, number) in known {
+        entries.push(Entry {
+            row: *vertex,
+            column: 0,
+            value: *number,
+        })?;
+    }
+    Ok(Matrix::from_ordered(shape, entries))
+}
+
+/// What is known at first: the source has the number 0.
+fn known_from(alloc: Global, source: u32) -> Result<BTreeMap<u32, u64>, AllocError>
+    ensures here { IfOk result (λ known. number_at known source ≡ 0) }
+    ensures there { IfOk result (λ known. (v : ℕ) → v ≢ source → number_at known v ≡ infinite) }
+    ensures finite { IfOk result (λ known. (n : ℕ) → source < n → AreNumbers n known) }
+{
+    let mut known = BTreeMap::new(alloc);
+    known.insert(source, 0)?;
+    Ok(known)
+}
