@@ -90,6 +90,18 @@ fn unit_matrix(alloc: Global, graph: &Matrix<OrAnd>) -> Result<Matrix<MinPlus>, 
 }
 
 /// The same over a grid.
+fn unit_graph(
+    alloc: Global,
+    grid: &Grid,
+    graph: &Matrix<OrAnd>,
+) -> Result<DistributedMatrix<MinPlus>, AllocError>
+    ensures { IfOk result (λ m. m ≡ record { side = grid.now.side; matrix = unit_weights graph.now }) }
+{
+    let weighted = unit_matrix(alloc, graph)?;
+    DistributedMatrix::scatter(alloc, *grid, &weighted)
+}
+
+/// The matrix over the same grid in which each stored entry weighs 1.
 pub(crate) fn weighted(
     alloc: Global,
     graph: DistributedMatrix<OrAnd>,
@@ -98,8 +110,7 @@ pub(crate) fn weighted(
 {
     let grid = graph.grid();
     let whole = graph.gather(alloc)?;
-    let weighted = unit_matrix(alloc, &whole)?;
-    DistributedMatrix::scatter(alloc, grid, &weighted)
+    unit_graph(alloc, &grid, &whole)
 }
 
 /// The distance of each vertex from a source: the least weight of a walk, where a walk's weight is the sum of its
@@ -175,12 +186,12 @@ pub fn levels<R: Threads + Wait + Sync>(
     if source >= shape.rows() {
         return Err(ScriptFault::Source);
     }
-    let spread = DistributedMatrix::scatter(alloc, *grid, graph)?;
-    fewest(rt, alloc, engine, spread, source)
+    let weighted = unit_graph(alloc, grid, graph)?;
+    nearest(rt, alloc, engine, weighted, source)
 }
 
-/// The level of each vertex from a source, of a graph whose matrix lies over a grid. The blocks of the matrix are given
-/// to the ranks. All else is as in [`levels`].
+/// The level of each vertex from a source, of a graph whose matrix lies over a grid. A copy of its entries, each with
+/// the weight 1, is given to the ranks. All else is as in [`levels`].
 pub fn levels_distributed<R: Threads + Wait + Sync>(
     rt: &R,
     alloc: Global,
