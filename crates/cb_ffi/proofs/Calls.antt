@@ -19,11 +19,6 @@ pub chosen : {X : Type 0} (n k : ℕ) → n ≡ k → k ≤ 3 → (faults : Arit
     → IfErr r (faults (arithmetic_of k)) → IfOk r (λ _. NoFault (faults (arithmetic_of k))) → IfOk r (is (arithmetic_of k)) → IsAnswer (over n faults) (is (arithmetic_of n)) r
 chosen n k e l faults is r a b c = subst (λ (m : ℕ). IsAnswer (over m faults) (is (arithmetic_of m)) r) (sym e) (answered k l faults is r a b c)
 
--- the answer of a call that has one semiring
-pub answer_of : {X : Type 0} (faults : Fault → Type 0) (is : X → Type 0) (r : Result X Fault) → IfErr r faults → IfOk r (λ _. NoFault faults) → IfOk r is → IsAnswer faults is r
-answer_of faults is (Ok x) h k m = (k, m)
-answer_of faults is (Err f) h k m = h
-
 -- the answer as C gets it
 pub call_of : {X : Type 0} (faults : Fault → Type 0) (is : X → Type 0) (r : Result X Fault) (code : ℕ) (old new : X) → IsAnswer faults is r
     → IfOk r (λ x. (code ≡ 0) × (new ≡ x)) → IfErr r (λ f. (code ≡ code_of f) × (code ≢ 0) × (new ≡ old)) → IsCall faults is code old new
