@@ -82,6 +82,8 @@ uint32_t cbgrid_kernel_add(uint32_t semiring, uint32_t grid, lent a, lent b, str
 uint32_t cbgrid_kernel_times(uint32_t semiring, uint32_t grid, lent a, lent b, struct cbgrid_columns *out);
 uint32_t cbgrid_kernel_prune(uint32_t semiring, uint32_t grid, lent a, uint32_t test, uint64_t bound,
                              struct cbgrid_columns *out);
+uint32_t cbgrid_kernel_levels(uint32_t grid, lent a, uint32_t source, struct cbgrid_columns *out);
+uint32_t cbgrid_kernel_distances(uint32_t grid, lent a, uint32_t source, struct cbgrid_columns *out);
 uint32_t cbgrid_kernel_read(uint32_t semiring, const unsigned char *text, size_t len, uint64_t *line,
                             struct cbgrid_columns *out);
 uint32_t cbgrid_kernel_text(uint32_t semiring, lent a, struct cbgrid_text *out);
@@ -164,6 +166,18 @@ int cbgrid_prune(uint32_t semiring, uint32_t grid, lent a, uint32_t test, uint64
     struct cbgrid_columns matrix, made = no_columns();
     if (!out || !lend(&matrix, a)) return CBGRID_NULL_POINTER;
     return give(cbgrid_kernel_prune(semiring, grid, &matrix, test, bound, &made), made, out);
+}
+
+int cbgrid_levels(uint32_t grid, lent a, uint32_t source, struct cbgrid_columns *out) {
+    struct cbgrid_columns graph, made = no_columns();
+    if (!out || !lend(&graph, a)) return CBGRID_NULL_POINTER;
+    return give(cbgrid_kernel_levels(grid, &graph, source, &made), made, out);
+}
+
+int cbgrid_distances(uint32_t grid, lent a, uint32_t source, struct cbgrid_columns *out) {
+    struct cbgrid_columns graph, made = no_columns();
+    if (!out || !lend(&graph, a)) return CBGRID_NULL_POINTER;
+    return give(cbgrid_kernel_distances(grid, &graph, source, &made), made, out);
 }
 
 int cbgrid_read(uint32_t semiring, const void *text, size_t len, uint64_t *line, struct cbgrid_columns *out) {

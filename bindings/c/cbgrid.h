@@ -1,5 +1,6 @@
 /*
- * cbgrid: products, sums, transposes, prunes and texts of sparse matrices over semirings.
+ * cbgrid: products, sums, transposes, prunes and texts of sparse matrices over semirings, and levels and
+ * distances in the graphs of square ones.
  *
  * Matrices are lent as lists of compressed columns, and answers come back as such lists. A call reads the
  * caller's lists where they lie, checks them, and copies their entries once into a block of its own, from
@@ -12,7 +13,7 @@
  *     if (code) fprintf(stderr, "%s\n", cbgrid_message(code));
  *     else cbgrid_free_columns(&square);
  *
- * Counting. Rows and columns count from 0; the lines and the entries of a text count from 1,
+ * Counting. Rows, columns and vertices count from 0; the lines and the entries of a text count from 1,
  * as in every Matrix Market text. Lengths are numbers of elements, but the length of a text, which is
  * in bytes.
  *
@@ -89,8 +90,8 @@ enum cbgrid_code {
     CBGRID_PLACE = 8,        /* an entry is outside the shape */
     CBGRID_VALUE = 9,        /* not a value of the semiring */
     CBGRID_SHAPES = 10,      /* the shapes of the operands don't agree */
-    CBGRID_NOT_SQUARE = 11,  /* kept for calls on graphs: no call answers it */
-    CBGRID_SOURCE = 12,      /* kept for calls on graphs: no call answers it */
+    CBGRID_NOT_SQUARE = 11,  /* a graph's matrix has not as many columns as rows */
+    CBGRID_SOURCE = 12,      /* the graph has no such vertex */
     CBGRID_FORMAT = 13,      /* not a Matrix Market text of the profile (docs/FORMAT.md) */
     CBGRID_MEMORY = 14,      /* malloc refused memory */
     CBGRID_NULL_POINTER = 15 /* an argument, or a list that is not empty, is a null pointer */
@@ -163,12 +164,12 @@ struct cbgrid_columns cbgrid_dcsc64(uint32_t nrows, uint32_t ncols, const uint32
                                     const uint64_t *starts, const uint32_t *rows, const uint64_t *values, size_t len);
 
 /*
- * In all calls below `semiring` is one of enum cbgrid_semiring, and `grid` is the side of a grid, 1 to 6,
+ * In the calls below `semiring` is one of enum cbgrid_semiring, and `grid` is the side of a grid, 1 to 6,
  * else CBGRID_GRID. The side is checked, and the answer is the same for each: it is worked out by the plain
  * engine, on the caller's thread. Side 1 is the quickest; another may cost more time and memory.
  *
- * Codes that each of them may answer: CBGRID_SEMIRING, CBGRID_GRID, CBGRID_FORM to CBGRID_VALUE,
- * CBGRID_MEMORY, CBGRID_NULL_POINTER. Others are named beside the call.
+ * Codes that each of them may answer: CBGRID_SEMIRING where it is given a semiring, CBGRID_GRID,
+ * CBGRID_FORM to CBGRID_VALUE, CBGRID_MEMORY, CBGRID_NULL_POINTER. Others are named beside the call.
  */
 
 /* The product of a and b, which has at row i and column j the sum over k of a(i, k) times b(k, j).
@@ -203,6 +204,19 @@ int cbgrid_times(uint32_t semiring, uint32_t grid, const struct cbgrid_columns *
  * Values are compared as whole numbers from 0 to 2^64 - 1. */
 int cbgrid_prune(uint32_t semiring, uint32_t grid, const struct cbgrid_columns *a, uint32_t test, uint64_t bound,
                  struct cbgrid_columns *out);
+
+/* How many edges lead at least from the source to each vertex of a graph (breadth-first search). a is
+ * square, else CBGRID_NOT_SQUARE, over OR_AND: an entry at row i and column j is an edge from i to j.
+ * CBGRID_SOURCE where the source is not below a's rows. The answer is a matrix of one column over MIN_PLUS,
+ * with an entry for each vertex that is reached; the source has level 0, and a stored 0 is an entry like any
+ * other there. Costs a transpose of a, and in each round the entries of the vertices whose number fell in the
+ * round before. */
+int cbgrid_levels(uint32_t grid, const struct cbgrid_columns *a, uint32_t source, struct cbgrid_columns *out);
+
+/* The least sum of the values of edges that lead from the source to each vertex of a graph. The same as
+ * cbgrid_levels, but that a is over MIN_PLUS: the value of an entry is the length of its edge. A vertex at
+ * a distance of 2^64 - 1 or more has no entry. */
+int cbgrid_distances(uint32_t grid, const struct cbgrid_columns *a, uint32_t source, struct cbgrid_columns *out);
 
 /* The matrix that `len` bytes of a Matrix Market text read as, in the profile of docs/FORMAT.md, else
  * CBGRID_FORMAT. At CBGRID_FORMAT alone, and where `line` is no null pointer, it gets the line of the text's

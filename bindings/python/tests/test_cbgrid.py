@@ -8,6 +8,7 @@ import unittest
 
 import numpy as np
 import scipy.sparse as sp
+from scipy.sparse import csgraph
 
 import cbgrid
 
@@ -152,6 +153,30 @@ class AgainstScipy(Test):
             self.assertEqual(got.dtype, a.dtype)
             self.assertTrue(np.array_equal(got, want.toarray()[:, 0]))
 
+    def test_levels(self):
+        for turn in range(ROUNDS):
+            n = int(self.rng.integers(1, 40))
+            graph = random_matrix(self.rng, n, n, int(self.rng.integers(0, 3 * n)), 1, 9, kind=CLASSES[turn % 6])
+            source = int(self.rng.integers(n))
+            hops = csgraph.dijkstra(sp.csr_matrix(graph).astype(float), unweighted=True, indices=source)
+            vertices, levels = cbgrid.bfs(graph, source, grid=1 + turn % 6)
+            self.assertTrue(np.array_equal(vertices, np.flatnonzero(np.isfinite(hops))))
+            self.assertTrue(np.array_equal(levels, hops[vertices]))
+            reached = csgraph.breadth_first_order(sp.csr_matrix(graph), source, return_predecessors=False)
+            self.assertTrue(np.array_equal(np.sort(reached), vertices))
+
+    def test_distances(self):
+        for turn in range(ROUNDS):
+            n = int(self.rng.integers(1, 40))
+            count, dtype = int(self.rng.integers(0, 3 * n)), DTYPES[turn % 2]
+            graph = random_matrix(self.rng, n, n, count, 1, 50, dtype, CLASSES[turn % 6])
+            source = int(self.rng.integers(n))
+            want = csgraph.dijkstra(sp.csr_matrix(graph).astype(float), indices=source)
+            vertices, distances = cbgrid.relax(graph, source, grid=1 + turn % 6)
+            self.assertEqual(distances.dtype, dtype)
+            self.assertTrue(np.array_equal(vertices, np.flatnonzero(np.isfinite(want))))
+            self.assertTrue(np.array_equal(distances, want[vertices]))
+
 
 class AgainstDenseSums(Test):
     def test_semirings(self):
@@ -215,6 +240,8 @@ class Lists(Test):
             self.assertEqual((square.row.tolist(), square.col.tolist(), square.data.tolist()), ([last], [last], [9]))
             turned = cbgrid.transpose(a, grid=grid)
             self.assertEqual((turned.row.tolist(), turned.col.tolist()), ([7, last], [0, last]))
+        self.assertEqual([it.tolist() for it in cbgrid.bfs(a, 0)], [[0, 7], [0, 1]])
+        self.assertEqual([it.tolist() for it in cbgrid.relax(a, last)], [[last], [0]])
         self.assertEqual(cbgrid.read(cbgrid.text(a), format="coo").col.tolist(), [7, last])
         wide = sp.csc_matrix((np.array([2]), np.array([LIMIT - 1]), np.array([0, 1])), shape=(LIMIT, 1))
         self.assertEqual(cbgrid.add(wide, wide).data.tolist(), [4])
@@ -340,6 +367,11 @@ class Refused(Test):
             self.assert_refused(10, cbgrid.times, left, square)
             self.assert_refused(10, cbgrid.spmv, left, np.zeros(3, np.int64))
             self.assert_refused(10, cbgrid.spmv, left, square)
+            self.assert_refused(11, cbgrid.bfs, left, 0)
+            self.assert_refused(11, cbgrid.relax, abs(left), 0)
+            for source in -1, 4, 2**31, 2**32, 2**70:
+                self.assert_refused(12, cbgrid.bfs, kind(square), source)
+                self.assert_refused(12, cbgrid.relax, abs(kind(square)), source)
         for grid in 0, 7, -1, 2**32 + 1:
             self.assert_refused(2, cbgrid.multiply, square, square, grid=grid)
         self.assert_refused(1, cbgrid.multiply, square, square, "plus")
@@ -355,6 +387,8 @@ class Refused(Test):
                 self.assert_refused(9, call, a, a, semiring)
             self.assert_refused(9, cbgrid.spmv, a, a[:, 0], semiring)
             self.assert_refused(9, cbgrid.text, a, semiring)
+        self.assert_refused(9, cbgrid.relax, a, 0)
+        self.assertEqual(cbgrid.bfs(a, 0)[1].tolist(), [0, 1])
         self.assert_refused(9, cbgrid.prune, a, "below", 1)
         self.assert_refused(9, cbgrid.prune, a, "above", 1)
         self.assertEqual(cbgrid.prune(a, "equal", -2).data.tolist(), [1, 3])
@@ -411,6 +445,8 @@ class Refused(Test):
                 self.assertRaises(cbgrid.CbgridValueError, cbgrid.multiply, whole.asformat("csr"), bad)
                 self.assertRaises(cbgrid.CbgridValueError, cbgrid.multiply, whole.asformat("csc"), bad)
                 self.assertRaises(cbgrid.CbgridValueError, cbgrid.text, bad)
+                self.assertRaises(cbgrid.CbgridValueError, cbgrid.bfs, bad, 0)
+                self.assertRaises(cbgrid.CbgridValueError, cbgrid.relax, bad, 0)
         for lists in {"row": [0, 1, 3, 0, 2]}, {"col": [0, 0, 1, -1, 2]}:
             self.assert_refused(8, cbgrid.transpose, torn(sp.coo_matrix, **lists))
         self.assert_refused(6, cbgrid.transpose, torn(sp.coo_matrix, data=[1, 2]))

@@ -3,10 +3,12 @@ use Rattle.std.specs.Prelude.{◌≡◌, ◌≢◌, ℕ, ◌==◌, cond, List, O
 use Rattle.cb_elementwise.specs.declared.rules.Test.{Test}
 use Rattle.cb_elementwise.specs.declared.rules.Test.TheVariants.{Below, Above, Equal}
 use Rattle.cb_semirings.specs.Arithmetic.{Arithmetic}
-use Rattle.cb_matrix.specs.Sparse.{Sparse}
+use Rattle.cb_semirings.specs.Tables.{min_plus, or_and}
+use Rattle.cb_matrix.specs.Sparse.{Sparse, IsMatrix}
 use Rattle.cb_market.specs.declared.ReadFault.{ReadFault}
 use Rattle.cb_market.specs.Reads.{Reads}
 use Rattle.cb_market.specs.Text.{text_of}
+use Rattle.cb_scripts.specs.Walks.{AreLevels, AreDistances}
 use Rattle.cb_ffi.specs.declared.lists.Columns.{Columns}
 use Rattle.cb_ffi.specs.declared.texts.Text.{Text as Bytes}
 use Rattle.cb_ffi.specs.Lists.{matrix_of, HasLists}
@@ -41,6 +43,14 @@ IsTextOf s a t = t.bytes.now ≡ text_of s (matrix_of s a)
 -- the lists of the matrix that a text reads as
 abbrev pub IsRead : Arithmetic → List ℕ → Columns → Type 0
 IsRead s text c = (m : Sparse) × Reads s text m × HasLists m c
+
+-- The lists of the column of levels from a source in the graph of a, and those of the column of distances. Which column
+-- that is the number of each vertex determines, since it is a matrix of min-plus: nothing infinite is stored.
+abbrev pub HasLevels : Columns → ℕ → Columns → Type 0
+HasLevels a source c = (column : Sparse) × IsMatrix min_plus column × AreLevels (matrix_of or_and a) source column × HasLists column c
+
+abbrev pub HasDistances : Columns → ℕ → Columns → Type 0
+HasDistances a source c = (column : Sparse) × IsMatrix min_plus column × AreDistances (matrix_of min_plus a) source column × HasLists column c
 
 -- the line of the first fault of a text, where the answer is that it doesn't read, and else the number as it was
 abbrev pub IsFaultLine : {X : Type 0} → Option ReadFault → Result X Fault → ℕ → ℕ → Type 0

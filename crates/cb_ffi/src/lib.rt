@@ -11,13 +11,14 @@
 #![tactic(auto)]
 
 ghost use Rattle.std.specs.Prelude.{◌≡◌, ◌≢◌, IfOk, IfErr};
+ghost use Rattle.cb_semirings.specs.Tables.{min_plus, or_and};
 ghost use Rattle.cb_matrix.specs.Values.{product};
 ghost use Rattle.cb_matrix.specs.Operations.{masked, transposed, sum_of, times_of, pruned};
 ghost use Rattle.cb_elementwise.specs.Passing.{passes};
 ghost use Rattle.cb_market.specs.Faults.{first_fault};
 ghost use Rattle.cb_ffi.specs.Lists.{matrix_of, HasLists};
-ghost use Rattle.cb_ffi.specs.Refusals.{arithmetic_of, code_of, over, product_faults, masked_faults, vector_faults, transpose_faults, placewise_faults, prune_faults, read_faults, text_faults};
-ghost use Rattle.cb_ffi.specs.Answers.{IsCall, IsLine, IsRead, IsTextOf, test_of};
+ghost use Rattle.cb_ffi.specs.Refusals.{arithmetic_of, code_of, over, product_faults, masked_faults, vector_faults, transpose_faults, placewise_faults, prune_faults, graph_faults, read_faults, text_faults};
+ghost use Rattle.cb_ffi.specs.Answers.{HasDistances, HasLevels, IsCall, IsLine, IsRead, IsTextOf, test_of};
 
 mod checks;
 mod faults;
@@ -29,6 +30,7 @@ mod products;
 #[cfg(test)]
 mod tests;
 mod texts;
+mod walks;
 
 pub use faults::Fault;
 pub use lists::Columns;
@@ -156,6 +158,38 @@ pub extern "C" fn cbgrid_kernel_prune(
     ensures { IsCall (over semiring (λ s. prune_faults s grid a.now test)) (HasLists (pruned (arithmetic_of semiring) (passes (test_of test bound)) (matrix_of (arithmetic_of semiring) a.now))) result out.old out.new }
 {
     put(out, placewise::prune(alloc, semiring, grid, a, test, bound))
+}
+
+/// The level of each vertex of a graph from a source: how many entries a walk has at least, where an entry (i, j) of the
+/// square matrix, over or-and, is an edge from i to j. The answer is one column over min-plus, with an entry for each
+/// vertex that has a walk; the source has level 0. The work is done over a grid of a side.
+#[unsafe(no_mangle)]
+pub extern "C" fn cbgrid_kernel_levels(
+    alloc: Global,
+    grid: u32,
+    graph: &Columns,
+    source: u32,
+    out: &mut Columns,
+) -> u32
+    ensures { IsCall (graph_faults or_and grid graph.now source) (HasLevels graph.now source) result out.old out.new }
+{
+    put(out, walks::levels(alloc, grid, graph, source))
+}
+
+/// The distance of each vertex of a graph from a source: the least sum of the values of a walk's entries, of a square
+/// matrix over min-plus. All else is as in [`cbgrid_kernel_levels`], but that a vertex at a distance of 2^64-1 or more
+/// has no entry.
+#[unsafe(no_mangle)]
+pub extern "C" fn cbgrid_kernel_distances(
+    alloc: Global,
+    grid: u32,
+    graph: &Columns,
+    source: u32,
+    out: &mut Columns,
+) -> u32
+    ensures { IsCall (graph_faults min_plus grid graph.now source) (HasDistances graph.now source) result out.old out.new }
+{
+    put(out, walks::distances(alloc, grid, graph, source))
 }
 
 /// The matrix that a Matrix Market text reads as, over the semiring of a number. Where the text has a fault (code 13)

@@ -1,9 +1,10 @@
-//! Worked examples: each fault by its code, products by both kinds of lists, and texts.
+//! Worked examples: each fault by its code, products by both kinds of lists, graphs, and texts.
 use crate::{
-    Columns, Text, cbgrid_kernel_add, cbgrid_kernel_multiply, cbgrid_kernel_multiply_masked,
-    cbgrid_kernel_prune, cbgrid_kernel_read, cbgrid_kernel_text, cbgrid_kernel_times,
-    cbgrid_kernel_transpose, cbgrid_kernel_vector,
+    Columns, Text, cbgrid_kernel_add, cbgrid_kernel_distances, cbgrid_kernel_levels,
+    cbgrid_kernel_multiply, cbgrid_kernel_multiply_masked, cbgrid_kernel_prune, cbgrid_kernel_read,
+    cbgrid_kernel_text, cbgrid_kernel_times, cbgrid_kernel_transpose, cbgrid_kernel_vector,
 };
+use std::alloc::Global;
 use std::test::Fail;
 
 /// A matrix of three columns of which the first and the last have entries: (0, 0, 1), (1, 0, 2), (1, 2, 3).
@@ -110,91 +111,99 @@ fn a_shape_costs_nothing(rt: HostRuntime) -> Result<(), Fail> {
     Ok(())
 }
 
-#[test]
-fn each_fault_has_its_code(rt: HostRuntime) -> Result<(), Fail> {
-    let alloc = rt.alloc();
-    let cases = [
-        (Columns { kind: 2, ..NAMED }, 4),
-        (Columns { wide: 2, ..NAMED }, 4),
-        (
-            Columns {
-                nrows: 2_147_483_648,
-                ..NAMED
-            },
-            5,
-        ),
-        (
-            Columns {
-                starts64: &[0, 2],
-                ..NAMED
-            },
-            6,
-        ),
-        (
-            Columns {
-                starts64: &[1, 2, 3],
-                ..NAMED
-            },
-            6,
-        ),
-        (
-            Columns {
-                starts64: &[0, 2, 2],
-                ..NAMED
-            },
-            6,
-        ),
-        (
-            Columns {
-                values: &[1, 2],
-                ..NAMED
-            },
-            6,
-        ),
-        (
-            Columns {
-                starts64: &[0, 4, 3],
-                ..NAMED
-            },
-            7,
-        ),
-        (
-            Columns {
-                columns: &[2, 0],
-                ..NAMED
-            },
-            7,
-        ),
-        (
-            Columns {
-                rows: &[1, 1, 1],
-                ..NAMED
-            },
-            7,
-        ),
-        (
-            Columns {
-                columns: &[0, 3],
-                ..NAMED
-            },
-            8,
-        ),
-        (
-            Columns {
-                rows: &[0, 2, 1],
-                ..NAMED
-            },
-            8,
-        ),
-    ];
-    for (lists, code) in cases {
+/// Whether each of some lists is refused by a code, and the answer is as it was.
+fn are_refused(alloc: Global, cases: &[Columns], code: u32) -> bool {
+    for lists in cases {
         let mut out = NAMED;
-        assert_eq!(rt;
-            cbgrid_kernel_transpose(alloc, 0, 1, &lists, &mut out),
-            code
-        );
-        assert_eq!(rt; out.values, [1, 2, 3].as_slice());
+        let answered = cbgrid_kernel_transpose(alloc, 0, 1, lists, &mut out);
+        if answered != code || out.values != NAMED.values {
+            return false;
+        }
     }
+    true
+}
+
+#[test]
+fn lists_of_no_form_and_of_no_size(rt: HostRuntime) -> Result<(), Fail> {
+    let forms = [Columns { kind: 2, ..NAMED }, Columns { wide: 2, ..NAMED }];
+    let sizes = [
+        Columns {
+            nrows: 2_147_483_648,
+            ..NAMED
+        },
+        Columns {
+            ncols: 2_147_483_648,
+            ..NAMED
+        },
+    ];
+    assert!(rt; are_refused(rt.alloc(), &forms, 4));
+    assert!(rt; are_refused(rt.alloc(), &sizes, 5));
+    Ok(())
+}
+
+#[test]
+fn lists_whose_lengths_disagree(rt: HostRuntime) -> Result<(), Fail> {
+    let cases = [
+        Columns {
+            starts64: &[0, 2],
+            ..NAMED
+        },
+        Columns {
+            starts64: &[1, 2, 3],
+            ..NAMED
+        },
+        Columns {
+            starts64: &[0, 2, 2],
+            ..NAMED
+        },
+        Columns {
+            values: &[1, 2],
+            ..NAMED
+        },
+    ];
+    assert!(rt; are_refused(rt.alloc(), &cases, 6));
+    Ok(())
+}
+
+#[test]
+fn lists_out_of_order(rt: HostRuntime) -> Result<(), Fail> {
+    let cases = [
+        Columns {
+            starts64: &[0, 4, 3],
+            ..NAMED
+        },
+        Columns {
+            columns: &[2, 0],
+            ..NAMED
+        },
+        Columns {
+            rows: &[1, 1, 1],
+            ..NAMED
+        },
+    ];
+    assert!(rt; are_refused(rt.alloc(), &cases, 7));
+    Ok(())
+}
+
+#[test]
+fn lists_outside_the_shape(rt: HostRuntime) -> Result<(), Fail> {
+    let cases = [
+        Columns {
+            columns: &[0, 3],
+            ..NAMED
+        },
+        Columns {
+            rows: &[0, 2, 1],
+            ..NAMED
+        },
+    ];
+    assert!(rt; are_refused(rt.alloc(), &cases, 8));
+    Ok(())
+}
+
+#[test]
+fn numbers_values_and_shapes_have_their_codes(rt: HostRuntime) -> Result<(), Fail> {
+    let alloc = rt.alloc();
     let mut out = NAMED;
     assert_eq!(rt; cbgrid_kernel_transpose(alloc, 2, 1, &NAMED, &mut out), 9);
     assert_eq!(rt; cbgrid_kernel_transpose(alloc, 4, 0, &NAMED, &mut out), 1);
@@ -243,6 +252,89 @@ fn place_by_place(rt: HostRuntime) -> Result<(), Fail> {
     );
     assert_eq!(rt; masked.columns, [0].as_slice());
     assert_eq!(rt; masked.values, [5].as_slice());
+    Ok(())
+}
+
+/// Edges from 0 to 1 of length 7, from 0 to 2 of length 2, and from 2 to 1 of length 4. None leads to 3 or from there.
+const GRAPH: Columns = Columns {
+    nrows: 4,
+    ncols: 4,
+    columns: &[1, 2],
+    rows: &[0, 2, 0],
+    values: &[7, 4, 2],
+    ..NAMED
+};
+
+#[test]
+fn distances_in_a_graph(rt: HostRuntime) -> Result<(), Fail> {
+    let alloc = rt.alloc();
+    for grid in 1..7 {
+        let mut out = NONE;
+        assert_eq!(rt;
+            cbgrid_kernel_distances(alloc, grid, &GRAPH, 0, &mut out),
+            0
+        );
+        assert_eq!(rt; (out.nrows, out.ncols, out.kind, out.wide), (4, 1, 0, 1));
+        assert_eq!(rt; out.columns, [0].as_slice());
+        assert_eq!(rt; out.starts64, [0, 3].as_slice());
+        assert_eq!(rt; out.rows, [0, 1, 2].as_slice());
+        assert_eq!(rt; out.values, [0, 6, 2].as_slice());
+    }
+    Ok(())
+}
+
+#[test]
+fn levels_in_a_graph(rt: HostRuntime) -> Result<(), Fail> {
+    let alloc = rt.alloc();
+    let graph = Columns {
+        values: &[1, 1, 1],
+        ..GRAPH
+    };
+    for grid in 1..7 {
+        let mut out = NONE;
+        assert_eq!(rt; cbgrid_kernel_levels(alloc, grid, &graph, 0, &mut out), 0);
+        assert_eq!(rt; (out.nrows, out.ncols), (4, 1));
+        assert_eq!(rt; out.rows, [0, 1, 2].as_slice());
+        assert_eq!(rt; out.values, [0, 1, 1].as_slice());
+        assert_eq!(rt; cbgrid_kernel_levels(alloc, grid, &graph, 3, &mut out), 0);
+        assert_eq!(rt; out.rows, [3].as_slice());
+        assert_eq!(rt; out.values, [0].as_slice());
+    }
+    Ok(())
+}
+
+#[test]
+fn each_fault_of_a_graph_has_its_code(rt: HostRuntime) -> Result<(), Fail> {
+    let alloc = rt.alloc();
+    let torn = Columns { kind: 2, ..GRAPH };
+    let long = Columns { nrows: 5, ..GRAPH };
+    let units = Columns {
+        values: &[1, 1, 1],
+        ..long
+    };
+    let cases = [
+        (0, torn, 0, 2),
+        (7, torn, 0, 2),
+        (1, torn, 9, 4),
+        (2, units, 9, 11),
+        (3, Columns { nrows: 4, ..units }, 4, 12),
+    ];
+    for (grid, graph, source, code) in cases {
+        let mut out = NAMED;
+        assert_eq!(rt;
+            cbgrid_kernel_levels(alloc, grid, &graph, source, &mut out),
+            code
+        );
+        assert_eq!(rt;
+            cbgrid_kernel_distances(alloc, grid, &graph, source, &mut out),
+            code
+        );
+        assert_eq!(rt; out.values, [1, 2, 3].as_slice());
+    }
+    let mut out = NAMED;
+    assert_eq!(rt; cbgrid_kernel_levels(alloc, 1, &GRAPH, 0, &mut out), 9);
+    assert_eq!(rt; cbgrid_kernel_distances(alloc, 1, &long, 0, &mut out), 11);
+    assert_eq!(rt; out.values, [1, 2, 3].as_slice());
     Ok(())
 }
 

@@ -1,8 +1,8 @@
 """Sparse matrices over semirings, by a kernel that is proved to answer what its contracts say.
 
 All functions take matrices of `scipy.sparse` with values of dtype int64 or uint64, in the formats csc, csr
-and coo, and answer a matrix of the class, the format and the dtype of the first one, with its entries sorted,
-none doubled, and none that is the semiring's zero.
+and coo. An answer that is a matrix has the class, the format and the dtype of the first one, with its entries
+sorted, none doubled, and none that is the semiring's zero; `bfs` and `relax` answer arrays.
 
 ==============  ================  ==============  =====================  ==============
 semiring        values            sum             product                zero
@@ -25,9 +25,9 @@ value is refused there, and an answer of ``min-plus`` that is above 2**63 - 1 ra
 their entries once into a block of its own, and writes nothing to them. Nothing is converted before, but that
 row numbers of 64 bits are copied to 32, and lists that aren't sorted are sorted in a copy. csr matrices are
 lent so too, each as the csc of its transpose: the product of two is the transpose of the product of their
-transposes. A csc matrix beside a csr one, and a csr matrix whose text is wanted, are converted by scipy. coo
-matrices are sorted in a copy, and cost what their entries cost whatever their shape is; csc and csr take a
-list as long as one of their sides.
+transposes. A csc matrix beside a csr one, a csr graph, and a csr matrix whose text is wanted, are converted by
+scipy. coo matrices are sorted in a copy, and cost what their entries cost whatever their shape is; csc and csr
+take a list as long as one of their sides.
 
 **grid.** The side of a grid, 1 to 6. The side is checked, and the answer is the same for each: it is worked
 out by the plain engine, on the caller's thread. Side 1 is the quickest.
@@ -53,9 +53,11 @@ from . import _lists
 from ._library import (
     FORMAT,
     GRID,
+    LIMIT,
     ORDER,
     SEMIRING,
     SHAPES,
+    SOURCE,
     TEST,
     VALUE,
     CbgridError,
@@ -71,9 +73,11 @@ __all__ = [
     "CbgridMemoryError",
     "CbgridValueError",
     "add",
+    "bfs",
     "multiply",
     "prune",
     "read",
+    "relax",
     "spmv",
     "text",
     "times",
@@ -102,6 +106,13 @@ def _grid(side: int) -> int:
     if not 1 <= side <= 6:
         raise error(GRID)
     return side
+
+
+def _source(vertex: int) -> int:
+    vertex = operator.index(vertex)
+    if not 0 <= vertex < LIMIT:
+        raise error(SOURCE)
+    return vertex
 
 
 def _call(call: Any, before: tuple, operands: tuple, after: tuple, out: Any, **how: bool) -> None:
@@ -332,6 +343,93 @@ def prune(a: Matrix, test: str, value: int, semiring: str = "plus-times", grid: 
         raise error(VALUE, "value not 0 to 2^64 - 1")
     after = (number, bound % 2**64)
     return _placed(library.cbgrid_prune, _semiring(semiring), grid, (a,), after, unsigned=not is_equal)
+
+
+def bfs(graph: Any, source: int, grid: int = 1) -> tuple[np.ndarray, np.ndarray]:
+    """Levels of the vertices of a graph, by breadth-first search.
+
+    Parameters
+    ----------
+    graph : csc, csr or coo matrix or array of scipy.sparse, of int64 or uint64
+        Square. An entry at row i and column j is an edge from i to j, whatever its value is; a stored 0 is
+        none.
+    source : int
+        The vertex to start from, counted from 0.
+    grid
+        As in `multiply`.
+
+    Returns
+    -------
+    vertices : numpy array of int32
+        The vertices that are reached, ascending, the source among them.
+    levels : numpy array of int64
+        The least number of edges that lead from the source to each of them.
+
+    Raises
+    ------
+    CbgridValueError
+        The graph isn't square, the source is no vertex, or `grid` is none.
+    CbgridMemoryError
+        Memory was refused.
+
+    Examples
+    --------
+    >>> import numpy as np, scipy.sparse, cbgrid
+    >>> roads = scipy.sparse.csr_array(np.array([[0, 7, 2], [0, 0, 0], [0, 4, 0]]))
+    >>> cbgrid.bfs(roads, 2)
+    (array([1, 2], dtype=int32), array([1, 0]))
+    """
+    _lists.check_matrix(graph, "graph")
+    answer = _walk(library.cbgrid_levels, graph, source, grid, nonzero=True)
+    return answer.rows(), answer.values(np.dtype(np.int64))
+
+
+def relax(graph: Any, source: int, grid: int = 1) -> tuple[np.ndarray, np.ndarray]:
+    """Distances of the vertices of a graph from a source.
+
+    Parameters
+    ----------
+    graph : csc, csr or coo matrix or array of scipy.sparse, of int64 or uint64
+        Square. An entry at row i and column j is an edge from i to j, and its value is the edge's length, from
+        0 on; a stored 0 is an edge of length 0.
+    source, grid
+        As in `bfs`.
+
+    Returns
+    -------
+    vertices : numpy array of int32
+        The vertices that are reached, ascending, the source among them.
+    distances : numpy array of the graph's dtype
+        The least sum of lengths of edges that lead from the source to each of them. A vertex at a distance of
+        2**64 - 1 or more isn't reached.
+
+    Raises
+    ------
+    CbgridValueError
+        The graph isn't square, a length is negative, the source is no vertex, or `grid` is none.
+    CbgridMemoryError
+        Memory was refused.
+    OverflowError
+        A distance in a graph of int64 is above 2**63 - 1.
+
+    Examples
+    --------
+    >>> import numpy as np, scipy.sparse, cbgrid
+    >>> roads = scipy.sparse.csr_array(np.array([[0, 7, 2], [0, 0, 0], [0, 4, 0]]))
+    >>> cbgrid.relax(roads, 0)
+    (array([0, 1, 2], dtype=int32), array([0, 6, 2]))
+    """
+    _lists.check_matrix(graph, "graph")
+    answer = _walk(library.cbgrid_distances, graph, source, grid, nonzero=False)
+    distances = answer.values(graph.dtype)
+    _lists.check_signed(distances)
+    return answer.rows(), distances
+
+
+def _walk(call: Any, graph: Any, source: int, grid: int, nonzero: bool) -> _lists.Answer:
+    """Does a call that walks a graph. `nonzero` lends each value that isn't 0 as 1."""
+    before, after = (_grid(grid),), (_source(source),)
+    return _run(call, before, (graph,), after, turned=False, unsigned=not nonzero, nonzero=nonzero)
 
 
 def read(source: Any, semiring: str = "plus-times", format: str = "csc", dtype: Any = np.uint64) -> Any:

@@ -6,7 +6,7 @@ import ctypes
 import os
 
 ORDER, PLACE, VALUE, FORMAT, MEMORY = 7, 8, 9, 13, 14
-SEMIRING, GRID, TEST, TOO_LARGE, LENGTHS, SHAPES = 1, 2, 3, 5, 6, 10
+SEMIRING, GRID, TEST, TOO_LARGE, LENGTHS, SHAPES, SOURCE = 1, 2, 3, 5, 6, 10, 12
 LIMIT = 2147483647
 
 
@@ -47,6 +47,8 @@ _CALLS = {
     "cbgrid_add": [_u32, _u32, _at, _at, _at],
     "cbgrid_times": [_u32, _u32, _at, _at, _at],
     "cbgrid_prune": [_u32, _u32, _at, _u32, ctypes.c_uint64, _at],
+    "cbgrid_levels": [_u32, _at, _u32, _at],
+    "cbgrid_distances": [_u32, _at, _u32, _at],
     "cbgrid_read": [_u32, ctypes.c_char_p, ctypes.c_size_t, ctypes.POINTER(ctypes.c_uint64), _at],
     "cbgrid_text": [_u32, _at, ctypes.POINTER(Text)],
 }

@@ -106,13 +106,16 @@ def lend_lists(
     return lent
 
 
-def lend(matrix: Any, turned: bool, unsigned: bool) -> Columns:
-    """Lends a matrix, or its transpose where `turned`. `unsigned` refuses negative values."""
+def lend(matrix: Any, turned: bool, unsigned: bool, nonzero: bool = False) -> Columns:
+    """Lends a matrix, or its transpose where `turned`.
+
+    `unsigned` refuses negative values. `nonzero` lends 1 for each value that isn't 0.
+    """
     if isinstance(matrix, Columns):
         return matrix
     form = matrix.format
     if form == "coo":
-        return _lend_coordinates(matrix, turned, unsigned)
+        return _lend_coordinates(matrix, turned, unsigned, nonzero)
     if form != ("csr" if turned else "csc"):
         matrix = _checked(matrix).tocsr() if turned else _checked(matrix).tocsc()
     nrows, ncols = reversed(matrix.shape) if turned else matrix.shape
@@ -122,17 +125,19 @@ def lend(matrix: Any, turned: bool, unsigned: bool) -> Columns:
         rows, values = rows[:length], values[:length]
     if starts.dtype.str not in ("<i4", "<i8"):
         starts = starts.astype(np.int64)
-    values = _lent_values(values, unsigned)
+    values = _lent_values(values, unsigned, nonzero)
     return lend_lists(nrows, ncols, None, _plain(starts), _index32(rows, nrows), values)
 
 
-def _lent_values(values: np.ndarray, unsigned: bool) -> np.ndarray:
+def _lent_values(values: np.ndarray, unsigned: bool, nonzero: bool) -> np.ndarray:
+    if nonzero:
+        return (values != 0).astype(np.uint64)
     if unsigned:
         check_unsigned(values)
     return _plain(values)
 
 
-def _lend_coordinates(matrix: Any, turned: bool, unsigned: bool) -> Columns:
+def _lend_coordinates(matrix: Any, turned: bool, unsigned: bool, nonzero: bool) -> Columns:
     """Lends a coo matrix in doubly compressed columns: what it costs doesn't depend on its shape."""
     nrows, ncols = reversed(matrix.shape) if turned else matrix.shape
     rows, columns = (matrix.col, matrix.row) if turned else (matrix.row, matrix.col)
@@ -153,7 +158,7 @@ def _lend_coordinates(matrix: Any, turned: bool, unsigned: bool) -> Columns:
         columns[firsts].astype(np.uint32),
         starts.astype(np.int64),
         (places & 0xFFFFFFFF).astype(np.uint32),
-        _lent_values(values, unsigned),
+        _lent_values(values, unsigned, nonzero),
     )
 
 
