@@ -148,8 +148,15 @@ fn calls_without_a_runtime(rt: HostRuntime) -> Result<(), Fail> {
 #[test]
 fn other_calls_without_a_runtime(rt: HostRuntime) -> Result<(), Fail> {
     let alloc = rt.alloc();
-    let Operands { left, right, .. } = given(alloc).ok_or("memory")?;
+    let Operands {
+        left,
+        right,
+        column,
+    } = given(alloc).ok_or("memory")?;
     let grid = grid(2)?;
+    let a = DistributedMatrix::scatter(alloc, grid, &left)?;
+    let product = plain::vector_distributed(alloc, a, &column)?;
+    assert!(rt; is_left(alloc, Call::Vector, product)?);
     let a = DistributedMatrix::scatter(alloc, grid, &left)?;
     let b = DistributedMatrix::scatter(alloc, grid, &right)?;
     assert!(rt; is_left(alloc, Call::Add, plain::add_distributed(alloc, a, b)?)?);

@@ -1,6 +1,9 @@
 //! Worked graphs with each engine on grids of several sides.
 use crate::tests::{ENGINES, RUNS, entry, grid, is_right_or_refused, matrix};
-use crate::{Engine, ScriptFault, distances, distances_distributed, levels, vector};
+use crate::{
+    Engine, ScriptFault, distances, distances_distributed, levels, levels_distributed, plain,
+    vector,
+};
 use cb_layout::DistributedMatrix;
 use cb_matrix::Matrix;
 use cb_semirings::{MinPlus, OrAnd};
@@ -49,6 +52,46 @@ fn levels_of_a_path(rt: HostRuntime) -> Result<(), Fail> {
         let found = levels(&rt, rt.alloc(), engine, &grid(side)?, &graph, 0)?;
         assert!(rt; found.entries() == wanted.as_slice());
     }
+    Ok(())
+}
+
+#[test]
+fn levels_of_a_path_over_a_grid(rt: HostRuntime) -> Result<(), Fail> {
+    let graph = path(rt.alloc()).ok_or("a graph")?;
+    let wanted = [entry(0, 0, 0), entry(1, 0, 1), entry(2, 0, 2)];
+    for (engine, side) in RUNS {
+        let spread = DistributedMatrix::scatter(rt.alloc(), grid(side)?, &graph)?;
+        let found = levels_distributed(&rt, rt.alloc(), engine, spread, 0)?;
+        assert!(rt; found.entries() == wanted.as_slice());
+    }
+    Ok(())
+}
+
+#[test]
+fn walks_without_a_runtime(rt: HostRuntime) -> Result<(), Fail> {
+    let alloc = rt.alloc();
+    let roads = path(alloc).ok_or("a graph")?;
+    let weighted = cycle(alloc).ok_or("a graph")?;
+    for side in 1..7 {
+        let spread = DistributedMatrix::scatter(alloc, grid(side)?, &roads)?;
+        let found = plain::levels_distributed(alloc, spread, 0)?;
+        let wanted = [entry(0, 0, 0), entry(1, 0, 1), entry(2, 0, 2)];
+        assert!(rt; found.entries() == wanted.as_slice());
+        let spread = DistributedMatrix::scatter(alloc, grid(side)?, &weighted)?;
+        let found = plain::distances_distributed(alloc, spread, 0)?;
+        let wanted = [entry(0, 0, 0), entry(1, 0, 0), entry(2, 0, 2)];
+        assert!(rt; found.entries() == wanted.as_slice());
+    }
+    Ok(())
+}
+
+#[test]
+fn a_source_that_is_no_vertex_without_a_runtime(rt: HostRuntime) -> Result<(), Fail> {
+    let alloc = rt.alloc();
+    let graph = path(alloc).ok_or("a graph")?;
+    let spread = DistributedMatrix::scatter(alloc, grid(2)?, &graph)?;
+    let answer = plain::levels_distributed(alloc, spread, 4);
+    assert!(rt; matches!(answer, Err(ScriptFault::Source)));
     Ok(())
 }
 
