@@ -4,11 +4,9 @@
 -- Held: each matrix has lists in doubly compressed columns, and no others.
 -- Firsts: the first fault of a call.
 -- Calls: what a call answers.
--- OneBlock: a grid of side 1 has the whole matrix as its only block.
 pub mod Rising
 pub mod WellFormed
 pub mod Nonzero
 pub mod Held
-pub mod OneBlock
 pub mod Firsts
 pub mod Calls

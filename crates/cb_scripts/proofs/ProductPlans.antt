@@ -82,9 +82,15 @@ module _ (s : Arithmetic) (laws : IsSemiring s) (q : ℕ) (planned : Planned) (r
       }
 
   -- the same, where the shapes have other names
+  pub masked_agreed : (m : Sparse) (d e shape : Extent) → IsMatrix s m → d ≡ a.shape → e ≡ b.shape → shape ≡ product_shape a b → m.shape ≡ product_shape a b →
+      planned.starts.items ≡ operand_starts q (masked_factors d e) → IsMaskedPlan planned.plan.acts q d e → Makes s q ((0, a) ∷ (1, b) ∷ (7, m) ∷ []) planned shape (masked s (product s a b) m)
+  masked_agreed m d e shape is_m of_a of_b same agree starts plan =
+      rw same (masked_made m is_m agree (rw (of_a, of_b) at starts) (rw (of_a, of_b) at plan))
+
+  -- and where a test found that the shapes agree
   pub masked_found : (m : Sparse) (d e f shape : Extent) → IsMatrix s m → d ≡ a.shape → e ≡ b.shape → f ≡ m.shape → shape ≡ record { rows = d.rows; cols = e.cols } → false ≡ not ((f.rows == shape.rows) && (f.cols == shape.cols)) →
       planned.starts.items ≡ operand_starts q (masked_factors d e) → IsMaskedPlan planned.plan.acts q d e → Makes s q ((0, a) ∷ (1, b) ∷ (7, m) ∷ []) planned shape (masked s (product s a b) m)
   masked_found m d e f shape is_m of_a of_b of_m of_both equal starts plan =
       let same : shape ≡ product_shape a b = of_both ∙ (λ t. record { rows = (of_a t).rows; cols = (of_b t).cols }) in
       let agree : m.shape ≡ product_shape a b = found_equal f shape m.shape (product_shape a b) of_m same equal in
-      rw same (masked_made m is_m agree (rw (of_a, of_b) at starts) (rw (of_a, of_b) at plan))
+      masked_agreed m d e shape is_m of_a of_b same agree starts plan

@@ -11,7 +11,7 @@ ghost use Rattle.cb_scripts.specs.Refusals.{IsMaskedRefusal, IsPlacewiseRefusal,
 
 use crate::ScriptFault;
 use crate::placewise::{add_plan, prune_plan, times_plan};
-use crate::products::{empty_product, masked_plan, product_plan};
+use crate::products::{empty_product, masked_of_one, masked_plan, product_of_one, product_plan};
 use crate::runs::compute_plain;
 use crate::transposes::transpose_plan;
 use cb_elementwise::Test;
@@ -33,6 +33,9 @@ pub fn multiply_distributed<S: Semiring>(
     if let Some(empty) = empty_product(alloc, &left, &right)? {
         return Ok(empty);
     }
+    if left.grid().side() == 1 {
+        return Ok(product_of_one(alloc, left, right)?);
+    }
     let (grid, planned, operands, shape) = product_plan(alloc, left, right)?;
     compute_plain(alloc, &grid, planned, operands, shape)
 }
@@ -50,6 +53,9 @@ pub fn multiply_masked_distributed<S: Semiring>(
     ensures agree { IfOk result (λ m. (left.matrix.shape.cols ≡ right.matrix.shape.rows) × (mask.matrix.shape ≡ product_shape left.matrix right.matrix)) }
     ensures fault { IfErr result (IsMaskedRefusal left.matrix right.matrix mask.matrix Plain) }
 {
+    if left.grid().side() == 1 {
+        return masked_of_one(alloc, left, right, mask);
+    }
     let (grid, planned, operands, shape) = masked_plan(alloc, left, right, mask)?;
     compute_plain(alloc, &grid, planned, operands, shape)
 }

@@ -1,5 +1,6 @@
 //! Products of two matrices.
 ghost use Rattle.std.specs.Prelude.{◌≡◌, ◌⊎◌, [], map, All, IfOk, IfErr, IfSome};
+ghost use Rattle.cb_matrix.specs.Sparse.{IsMatrix};
 ghost use Rattle.cb_matrix.specs.Values.{product, product_shape};
 ghost use Rattle.cb_matrix.specs.Operations.{masked};
 ghost use Rattle.cb_scripts.specs.declared.Engine.TheVariants.{Plain};
@@ -8,8 +9,9 @@ ghost use Rattle.cb_scripts.specs.Refusals.{IsProductRefusal, IsMaskedRefusal};
 
 use crate::runs::{Prepared, compute};
 use crate::{Engine, ScriptFault};
+use cb_dcsc::Block;
 use cb_layout::{DistributedMatrix, Grid};
-use cb_matrix::Matrix;
+use cb_matrix::{Matrix, Shape};
 use cb_semirings::Semiring;
 use cb_summa::{LEFT, MASK, RIGHT, summa, summa_masked};
 use std::alloc::{AllocError, Global};
@@ -42,7 +44,8 @@ pub fn multiply<S: Semiring + Send + Sync, R: Threads + Wait + Sync>(
 }
 
 /// The product of two matrices that lie over one grid, by Sparse SUMMA, left in its blocks. Their blocks are given to
-/// the ranks without a copy. Where one has no entries it costs a block for each rank. All else is as in [`multiply`].
+/// the ranks without a copy. Where one has no entries it costs a block for each rank. On a grid of one rank the plain
+/// engine multiplies the two blocks, without a plan. All else is as in [`multiply`].
 pub fn multiply_distributed<S: Semiring + Send + Sync, R: Threads + Wait + Sync>(
     rt: &R,
     alloc: Global,
@@ -57,6 +60,9 @@ pub fn multiply_distributed<S: Semiring + Send + Sync, R: Threads + Wait + Sync>
 {
     if let Some(empty) = empty_product(alloc, &left, &right)? {
         return Ok(empty);
+    }
+    if engine == Engine::Plain && left.grid().side() == 1 {
+        return Ok(product_of_one(alloc, left, right)?);
     }
     let (grid, planned, operands, shape) = product_plan(alloc, left, right)?;
     compute(rt, alloc, engine, &grid, planned, operands, shape)
@@ -106,6 +112,45 @@ pub(crate) fn product_plan<S: Semiring>(
     Ok((grid, planned, operands, shape))
 }
 
+/// The product of two matrices over the grid of one rank: that of their blocks, without a plan.
+pub(crate) fn product_of_one<S: Semiring>(
+    alloc: Global,
+    left: DistributedMatrix<S>,
+    right: DistributedMatrix<S>,
+) -> Result<DistributedMatrix<S>, AllocError>
+    requires side { left.side ≡ 1 }
+    requires sides { right.side ≡ left.side }
+    requires agree { left.matrix.shape.cols ≡ right.matrix.shape.rows }
+    ensures { IfOk result (λ m. m ≡ record { side = left.side; matrix = product S.arithmetic left.matrix right.matrix }) }
+{
+    let grid = left.grid();
+    let product = cb_product::multiply(alloc, only_block(&left), only_block(&right))?;
+    of_one(alloc, grid, product)
+}
+
+/// The only block of a matrix over the grid of one rank, which is the whole matrix.
+fn only_block<S: Semiring>(matrix: &DistributedMatrix<S>) -> &Block<S>
+    requires { matrix.now.side ≡ 1 }
+    ensures { result.now ≡ matrix.now.matrix }
+{
+    let _shape = matrix.shape();
+    &matrix.blocks()[0]
+}
+
+/// The matrix over the grid of one rank that has this block.
+fn of_one<S: Semiring>(
+    alloc: Global,
+    grid: Grid,
+    block: Block<S>,
+) -> Result<DistributedMatrix<S>, AllocError>
+    requires { grid.side ≡ 1 }
+    ensures { IfOk result (λ m. m ≡ record { side = grid.side; matrix = block }) }
+{
+    let shape = block.shape();
+    let blocks = vec![in alloc; block]?;
+    Ok(DistributedMatrix::from_blocks(grid, shape, blocks))
+}
+
 /// The product of two matrices of which one has no entries: it has none either.
 fn nothing<S: Semiring>(
     alloc: Global,
@@ -149,7 +194,8 @@ pub fn multiply_masked<S: Semiring + Send + Sync, R: Threads + Wait + Sync>(
 }
 
 /// The product of two matrices, kept where a mask has entries. The three lie over one grid, their blocks are given to
-/// the ranks, and the product is left in the grid's blocks. All else is as in [`multiply_masked`].
+/// the ranks, and the product is left in the grid's blocks. On a grid of one rank the plain engine multiplies the two
+/// blocks, without a plan. All else is as in [`multiply_masked`].
 pub fn multiply_masked_distributed<S: Semiring + Send + Sync, R: Threads + Wait + Sync>(
     rt: &R,
     alloc: Global,
@@ -163,8 +209,32 @@ pub fn multiply_masked_distributed<S: Semiring + Send + Sync, R: Threads + Wait 
     ensures agree { IfOk result (λ m. (left.matrix.shape.cols ≡ right.matrix.shape.rows) × (mask.matrix.shape ≡ product_shape left.matrix right.matrix)) }
     ensures fault { IfErr result (IsMaskedRefusal left.matrix right.matrix mask.matrix engine) }
 {
+    if engine == Engine::Plain && left.grid().side() == 1 {
+        return masked_of_one(alloc, left, right, mask);
+    }
     let (grid, planned, operands, shape) = masked_plan(alloc, left, right, mask)?;
     compute(rt, alloc, engine, &grid, planned, operands, shape)
+}
+
+/// The product of two matrices over the grid of one rank, kept where a mask has entries: that of their blocks, without
+/// a plan.
+pub(crate) fn masked_of_one<S: Semiring>(
+    alloc: Global,
+    left: DistributedMatrix<S>,
+    right: DistributedMatrix<S>,
+    mask: DistributedMatrix<S>,
+) -> Result<DistributedMatrix<S>, ScriptFault>
+    requires side { left.side ≡ 1 }
+    requires sides { (right.side ≡ left.side) × (mask.side ≡ left.side) }
+    ensures ok { IfOk result (λ m. m ≡ record { side = left.side; matrix = masked S.arithmetic (product S.arithmetic left.matrix right.matrix) mask.matrix }) }
+    ensures agree { IfOk result (λ m. (left.matrix.shape.cols ≡ right.matrix.shape.rows) × (mask.matrix.shape ≡ product_shape left.matrix right.matrix)) }
+    ensures fault { IfErr result (IsMaskedRefusal left.matrix right.matrix mask.matrix Plain) }
+{
+    masked_shape(&left, &right, &mask)?;
+    let grid = left.grid();
+    let product = cb_product::multiply(alloc, only_block(&left), only_block(&right))?;
+    let kept = cb_elementwise::mask(alloc, &product, only_block(&mask))?;
+    Ok(of_one(alloc, grid, kept)?)
 }
 
 /// The plan of the product of two matrices, kept where a mask has entries, and what it is made of. The three lie over
@@ -182,17 +252,32 @@ pub(crate) fn masked_plan<S: Semiring>(
     ensures agree { IfOk result (λ p. (left.matrix.shape.cols ≡ right.matrix.shape.rows) × (mask.matrix.shape ≡ product_shape left.matrix right.matrix)) }
     ensures fault { IfErr result (IsMaskedRefusal left.matrix right.matrix mask.matrix Plain) }
 {
+    let shape = masked_shape(&left, &right, &mask)?;
     let grid = left.grid();
-    let (a, b) = (left.shape(), right.shape());
-    let shape = a.with_columns_of(b);
-    if a.cols() != b.rows() || mask.shape() != shape {
-        return Err(ScriptFault::Shapes);
-    }
-    let Ok(planned) = summa_masked(alloc, &grid, a, b) else {
+    let Ok(planned) = summa_masked(alloc, &grid, left.shape(), right.shape()) else {
         return Err(ScriptFault::Memory);
     };
     let Ok(operands) = vec![in alloc; (LEFT, left), (RIGHT, right), (MASK, mask)] else {
         return Err(ScriptFault::Memory);
     };
     Ok((grid, planned, operands, shape))
+}
+
+/// The shape of the product of two matrices, which their mask must have. It says that the mask is a matrix, too.
+fn masked_shape<S: Semiring>(
+    left: &DistributedMatrix<S>,
+    right: &DistributedMatrix<S>,
+    mask: &DistributedMatrix<S>,
+) -> Result<Shape, ScriptFault>
+    ensures shape { IfOk result (λ d. d ≡ product_shape left.now.matrix right.now.matrix) }
+    ensures matrix { IfOk result (λ d. IsMatrix S.arithmetic mask.now.matrix) }
+    ensures agree { IfOk result (λ d. (left.now.matrix.shape.cols ≡ right.now.matrix.shape.rows) × (mask.now.matrix.shape ≡ product_shape left.now.matrix right.now.matrix)) }
+    ensures fault { IfErr result (IsMaskedRefusal left.now.matrix right.now.matrix mask.now.matrix Plain) }
+{
+    let (a, b) = (left.shape(), right.shape());
+    let shape = a.with_columns_of(b);
+    if a.cols() != b.rows() || mask.shape() != shape {
+        return Err(ScriptFault::Shapes);
+    }
+    Ok(shape)
 }

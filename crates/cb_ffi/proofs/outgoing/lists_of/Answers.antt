@@ -5,7 +5,7 @@ use Rattle.std.proofs.lemmas.List.{get_or_read}
 use Rattle.cb_matrix.specs.Values.{empty_matrix}
 use Rattle.cb_layout.specs.Blocks.{block_at, block_of}
 use Rattle.cb_ffi.specs.Lists.{HasLists}
-use Rattle.cb_ffi.proofs.OneBlock.{one_block}
+use Rattle.cb_scripts.proofs.OneBlock.{one_block}
 use Rattle.cb_ffi.proofs.outgoing.lists_of.Goals as goal
 
 pub returns-then-side-eq1 : goal.returns-then-side-eq1

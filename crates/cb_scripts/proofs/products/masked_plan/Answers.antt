@@ -3,7 +3,7 @@ use Rattle.cb_matrix.specs.Values.{product}
 use Rattle.cb_matrix.specs.Operations.{masked}
 use Rattle.cb_layout.specs.Parts.{Square}
 use Rattle.cb_scripts.proofs.MadeMatrices.{made_of}
-use Rattle.cb_scripts.proofs.ProductPlans.{masked_found}
+use Rattle.cb_scripts.proofs.ProductPlans.{masked_agreed}
 use Rattle.cb_scripts.proofs.LaidOutOperands.{three_lie}
 use Rattle.cb_scripts.proofs.products.masked_plan.Goals as goal
 
@@ -21,10 +21,9 @@ returns-clause-makes g c =
     let a = c.args.left.matrix in
     let b = c.args.right.matrix in
     let m = c.args.mask.matrix in
-    let made = made_of s q c.in-Ok.planned c.with_columns_of-shape.result (masked s (product s a b) m) c.in-Ok-vec.operands.items ((0, c.args.left) ∷ (1, c.args.right) ∷ (7, c.args.mask) ∷ []) c.in-Ok-vec.ensures.items
-    (masked_found s laws q c.in-Ok.planned c.in-Ok.ensures.ranks c.in-Ok.ensures.runnable c.in-Ok.ensures.slot a b c.shape-a.ensures.matrix c.shape-b.ensures.matrix m
-    c.shape-a.result c.shape-b.result c.shape.result c.with_columns_of-shape.result c.shape.ensures.matrix c.shape-a.ensures.shape c.shape-b.ensures.shape c.shape.ensures.shape c.with_columns_of-shape.ensures c.if-ne.ensures c.in-Ok.ensures.starts c.in-Ok.ensures.product) in
-    made
+    made_of s q c.in-Ok.planned c.in_ok-shape.shape (masked s (product s a b) m) c.in-Ok-vec.operands.items ((0, c.args.left) ∷ (1, c.args.right) ∷ (7, c.args.mask) ∷ []) c.in-Ok-vec.ensures.items
+    (masked_agreed s laws q c.in-Ok.planned c.in-Ok.ensures.ranks c.in-Ok.ensures.runnable c.in-Ok.ensures.slot a b c.shape.ensures.matrix c.shape-2.ensures.matrix m
+    c.shape.result c.shape-2.result c.in_ok-shape.shape c.in_ok-shape.ensures.matrix c.shape.ensures.shape c.shape-2.ensures.shape c.in_ok-shape.ensures.shape c.in_ok-shape.ensures.agree.1 c.in-Ok.ensures.starts c.in-Ok.ensures.product)
 
 pub returns-clause-grid : goal.returns-clause-grid
 returns-clause-grid g c = ap (λ (g : Square). g.side) c.grid-grid.ensures

@@ -1,0 +1,12 @@
+use Rattle.std.proofs.Common.{◌≡◌, ◌∙◌, ◌+◌, ◌*◌, ◌<◌, ◌∷◌, [], sym, ap, subst, arith}
+use Rattle.cb_layout.specs.Distributed.{glued_blocks}
+use Rattle.cb_scripts.proofs.OneBlock.{one_glued, one_shape}
+use Rattle.cb_scripts.proofs.products.of_one.Goals as goal
+
+pub returns : goal.returns
+returns g c =
+    let s = g.S.Semiring.arithmetic in
+    let b = c.args.block in
+    let whole : glued_blocks s c.args.grid.side c.shape-shape.result c.in_ok-blocks.blocks.items ≡ b =
+    (λ t. glued_blocks s (c.requires t) (c.shape-shape.ensures.shape t) c.in_ok-blocks.blocks.items) ∙ one_glued s g.met.S.Semiring.is_semiring b c.shape-shape.ensures.matrix c.in_ok-blocks.blocks.items c.in_ok-blocks.ensures.items in
+    c.from_blocks.ensures ∙ (λ t. record { side = c.args.grid.side; matrix = whole t })
