@@ -17,7 +17,7 @@ pub mod OneBlock
 pub mod TracedProducts
 -- Walks. WalkCosts: how they begin, grow and end, and what they cost. ShortWalks: for each walk a short one that
 -- costs no more. NumbersByRound: numbers that near the least costs, round by round. TurnedProducts: a round is the
--- product of the turned matrix. NearestRounds: the loop over rounds. UnitWeights: levels are distances where each
+-- product of the turned matrix. NearestRounds: a search, from its start to its end. UnitWeights: levels are distances where each
 -- entry weighs 1. OneColumn: there is one column of distances. TakenNumbers, LowerEntries, NumberColumns: the
 -- numbers known so far, those that fall, and their column.
 pub mod WalkCosts
