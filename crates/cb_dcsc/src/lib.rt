@@ -293,6 +293,29 @@ impl<S: Semiring> Block<S> {
         })
     }
 
+    /// The same block over another semiring, whose values its values are too. Nothing is copied.
+    pub fn recast<T: Semiring>(self) -> Block<T>
+        requires values { All (λ e. IsValue T.arithmetic e.value × (e.value ≢ T.arithmetic.zero)) self.entries }
+        ensures { result ≡ self }
+    {
+        let Block {
+            shape,
+            columns,
+            starts,
+            rows,
+            values,
+            ..
+        } = self;
+        Block {
+            shape,
+            columns,
+            starts,
+            rows,
+            values,
+            semiring: PhantomData,
+        }
+    }
+
     /// Takes room for this many entries more, and for as many columns as they can stand in, so that storing
     /// them moves none.
     pub fn reserve(&mut self, entries: usize) -> Result<(), AllocError>

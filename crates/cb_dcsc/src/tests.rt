@@ -3,10 +3,12 @@ ghost use Rattle.std.specs.Prelude.{◌≡◌, IfOk};
 
 use crate::{Block, BlockFault};
 use cb_matrix::{Entry, LIMIT, Shape};
-use cb_semirings::{MinPlus, PlusTimes};
+use cb_semirings::{MinPlus, OrAnd, PlusTimes};
 use std::test::Fail;
 
-const fn entry(row: u32, column: u32, value: u64) -> Entry {
+const fn entry(row: u32, column: u32, value: u64) -> Entry
+    ensures { result ≡ record { row = row; column = column; value = value } }
+{
     Entry { row, column, value }
 }
 
@@ -144,6 +146,25 @@ fn a_column_is_stored_whole(rt: HostRuntime) -> Result<(), Fail> {
     block.push_column(5, &[], &[])?;
     block.push_column(900, &[0, 2], &[7, 8])?;
     assert!(rt; has_lists(&block, &[3, 900], &[0, 1, 3], &[1, 0, 2], &[6, 7, 8]));
+    Ok(())
+}
+
+/// A block of or-and is one of min-plus.
+fn taken_over(block: Block<OrAnd>) -> Block<MinPlus>
+    ensures { result ≡ block }
+{
+    let _shape = block.shape();
+    block.recast()
+}
+
+#[test]
+fn a_block_is_taken_over_to_another_semiring(rt: HostRuntime) -> Result<(), Fail> {
+    let given = [entry(0, 3, 1), entry(2, 3, 1), entry(1, 900, 1)];
+    let block = Block::<OrAnd>::from_sorted(rt.alloc(), shape(4, 1000)?, &given)?;
+    let other = taken_over(block);
+    assert_eq!(rt; other.shape(), shape(4, 1000)?);
+    assert_eq!(rt; other.entries()?.as_slice(), given.as_slice());
+    assert_eq!(rt; (other.get(1, 900), other.get(0, 0)), (1, u64::MAX));
     Ok(())
 }
 

@@ -28,5 +28,6 @@ pub mod Splits
 pub mod Fronts
 pub mod BlockColumns
 pub mod RemainingEntries
--- GrownBlocks: blocks that grow entry by entry.
+-- GrownBlocks: blocks that grow entry by entry. Recasts: blocks taken over to another semiring.
 pub mod GrownBlocks
+pub mod Recasts

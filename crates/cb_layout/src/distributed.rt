@@ -152,10 +152,39 @@ impl<S: Semiring> DistributedMatrix<S> {
         self.blocks
     }
 
+    /// The same matrix over another semiring, whose values its values are too. No entry is copied: it takes memory
+    /// for one block's header for each rank.
+    pub fn recast<T: Semiring>(self, alloc: Global) -> Result<DistributedMatrix<T>, AllocError>
+        requires values { All (λ e. IsValue T.arithmetic e.value × (e.value ≢ T.arithmetic.zero)) self.matrix.entries }
+        ensures { IfOk result (λ m. m ≡ self) }
+    {
+        Ok(DistributedMatrix {
+            grid: self.grid,
+            shape: self.shape,
+            len: self.len,
+            blocks: recast_blocks(alloc, self.blocks)?,
+        })
+    }
+
     /// The stored entries, column by column: of each column the segments in its blocks, from the first row on.
     pub fn segments(&self) -> Segments<'_, S>
         ensures { result ≡ self.now.matrix.entries }
     {
         Segments::new(self.grid, self.shape, &self.blocks)
     }
+}
+
+/// The same blocks over another semiring, whose values their values are too.
+fn recast_blocks<S: Semiring, T: Semiring>(
+    alloc: Global,
+    blocks: Vec<Block<S>>,
+) -> Result<Vec<Block<T>>, AllocError>
+    requires { All (λ b. All (λ e. IsValue T.arithmetic e.value × (e.value ≢ T.arithmetic.zero)) b.entries) blocks.items }
+    ensures { IfOk result (λ v. v.items ≡ blocks.items) }
+{
+    let mut recast = Vec::with_capacity(alloc, blocks.len())?;
+    for block in blocks {
+        recast.push(block.recast())?;
+    }
+    Ok(recast)
 }

@@ -5,7 +5,7 @@ use crate::{DistributedMatrix, Grid, Side};
 use cb_dcsc::Block;
 use cb_matrix::{Entry, LIMIT, Matrix};
 use cb_samples::{are_values, entry, shape};
-use cb_semirings::PlusTimes;
+use cb_semirings::{MinPlus, OrAnd, PlusTimes};
 use std::alloc::{AllocError, Global};
 use std::test::Fail;
 
@@ -311,6 +311,38 @@ fn a_matrix_with_room_has_no_entries(rt: HostRuntime) -> Result<(), Fail> {
     )?;
     assert_eq!(rt; (spread.len(), spread.is_empty()), (0, true));
     assert_eq!(rt; spread.blocks().len(), 4);
+    Ok(())
+}
+
+/// A matrix of or-and is one of min-plus.
+fn taken_over(
+    alloc: Global,
+    spread: DistributedMatrix<OrAnd>,
+) -> Result<DistributedMatrix<MinPlus>, AllocError>
+    ensures { IfOk result (λ m. m ≡ spread) }
+{
+    let _shape = spread.shape();
+    spread.recast(alloc)
+}
+
+#[test]
+fn a_matrix_is_taken_over_to_another_semiring(rt: HostRuntime) -> Result<(), Fail> {
+    let given = [
+        entry(1, 0, 1),
+        entry(6, 0, 1),
+        entry(0, 3, 1),
+        entry(6, 3, 1),
+    ];
+    let whole = Matrix::<OrAnd>::from_entries(rt.alloc(), shape(7, 5)?, &given)?;
+    for side in 1..=3 {
+        let grid = grid_of(side)?;
+        let spread = DistributedMatrix::scatter(rt.alloc(), grid, &whole)?;
+        let other = taken_over(rt.alloc(), spread)?;
+        assert_eq!(rt; (other.grid(), other.shape()), (grid, whole.shape()));
+        assert_eq!(rt; other.len(), 4, "side {side}");
+        let again = other.gather(rt.alloc())?;
+        assert_eq!(rt; again.entries(), given.as_slice(), "side {side}");
+    }
     Ok(())
 }
 

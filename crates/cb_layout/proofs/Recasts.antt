@@ -1,0 +1,40 @@
+-- Blocks over a grid, taken over to another semiring, whose values their values are too.
+use Rattle.std.proofs.Common.{◌≡◌, ◌≢◌, ℕ, List, subst}
+use Rattle.std.specs.Prelude.{All}
+use Rattle.std.proofs.lemmas.List.Elements.{All-weaker}
+use Rattle.std.proofs.lemmas.List.{get_or_default}
+use Rattle.cb_semirings.specs.Arithmetic.{Arithmetic, IsSemiring, IsValue}
+use Rattle.cb_matrix.specs.declared.Entry.{Entry}
+use Rattle.cb_matrix.specs.Sparse.{Extent, Sparse, IsMatrix}
+use Rattle.cb_matrix.specs.Values.{empty_matrix}
+use Rattle.cb_layout.specs.Distributed.{AreBlocks, glued_blocks}
+use Rattle.cb_layout.proofs.BlockColumns.{whole_is_matrix, are_scattered}
+use Rattle.cb_layout.proofs.GrownBlocks.{blocks_of}
+
+-- Its value is one of the semiring, and other than zero.
+abbrev pub IsStored : Arithmetic → Entry → Type 0
+IsStored t e = IsValue t e.value × (e.value ≢ t.zero)
+
+module _ (s t : Arithmetic) (laws : IsSemiring s) (others : IsSemiring t) (q : ℕ) (shape : Extent) (blocks : List Sparse) (are : AreBlocks s q shape blocks)
+    (values : All (IsStored t) (glued_blocks s q shape blocks).entries) where
+  abbrev whole : Sparse
+  whole = glued_blocks s q shape blocks
+
+  whole_there : IsMatrix t whole
+  whole_there = let m = whole_is_matrix s laws q shape blocks are in record {
+    ascending = m.ascending;
+    inside = m.inside;
+    values = All-weaker (IsStored t) (λ e. IsValue t e.value) (λ e h. h.0) whole.entries values;
+    not_zero = All-weaker (IsStored t) (λ e. e.value ≢ t.zero) (λ e h. h.1) whole.entries values;
+  }
+
+  -- they are blocks there too, and glue to the same matrix
+  pub blocks_there : AreBlocks t q shape blocks × (glued_blocks t q shape blocks ≡ whole)
+  blocks_there = blocks_of t others q are.some are.few whole whole_there blocks (are_scattered s laws q shape blocks are)
+
+  -- the values of each are values there
+  pub values_there : All (λ (b : Sparse). All (IsStored t) b.entries) blocks
+  values_there r x l =
+      let own = blocks_there.0.matrices r l in
+      subst (λ (b : Sparse). All (IsStored t) b.entries) (get_or_default blocks r (empty_matrix (record { rows = 0; cols = 0 })) x l)
+      (λ k e m. (own.values k e m, own.not_zero k e m))
