@@ -39,19 +39,6 @@ fn read_blocks<S: Semiring>(
     }
 }
 
-/// The matrix of the only text.
-pub fn read_graph<S: Semiring>(
-    alloc: Global,
-    mut texts: Vec<Vec<u8>>,
-) -> Result<Matrix<S>, JobFault>
-    requires { vec_len texts ≡ 1 }
-    ensures ok { IfOk result (λ m. Reads S.arithmetic (text_at (bytes_of texts.items) 0) m) }
-    ensures fault { IfErr result (IsReadFault S.arithmetic (bytes_of texts.items)) }
-{
-    let text = texts.remove(0);
-    read_text(alloc, 0, text)
-}
-
 /// The matrix of the only text, in the blocks of a grid.
 pub fn read_one<S: Semiring>(
     alloc: Global,

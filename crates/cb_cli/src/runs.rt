@@ -11,7 +11,7 @@ ghost use Rattle.cb_cli.specs.Answers.{IsAnswerOver, IsFaultOver, IsWalkAnswer, 
 ghost use Rattle.cb_cli.specs.Files.{bytes_of};
 
 use crate::jobs::{Job, Operation, Task};
-use crate::operands::{read_graph, read_one, read_three, read_two, read_with_vector};
+use crate::operands::{read_one, read_three, read_two, read_with_vector};
 use crate::pages::{put_column, put_text};
 use crate::semirings::SemiringName;
 use crate::sinks::Sink;
@@ -20,7 +20,7 @@ use cb_layout::DistributedMatrix;
 use cb_market::{Kind, ReadFault};
 use cb_matrix::Matrix;
 use cb_scripts::{
-    ScriptFault, add_distributed, distances_distributed, levels, multiply_distributed,
+    ScriptFault, add_distributed, distances_distributed, levels_distributed, multiply_distributed,
     multiply_masked_distributed, prune_distributed, times_distributed, transpose_distributed,
     vector_distributed,
 };
@@ -178,8 +178,8 @@ fn levels_of<R: Threads + Wait + Sync>(
     ensures fault { IfErr result (IsWalkFault or_and source job.now.engine (bytes_of texts.items)) }
     ensures unwritten { IfErr result (λ f. f ≢ JobFault.Output) }
 {
-    let graph = read_graph::<OrAnd>(alloc, texts)?;
-    let column = levels(rt, alloc, job.engine, &job.grid, &graph, source)?;
+    let graph = read_one::<OrAnd>(alloc, &job.grid, texts)?;
+    let column = levels_distributed(rt, alloc, job.engine, graph, source)?;
     let _shape = column.shape();
     Ok(column)
 }

@@ -4,7 +4,6 @@ use Rattle.std.specs.Prelude.{◌≡◌, ◌≢◌, ℕ, ◌-◌, ◌^◌, ◌<�
 use Rattle.std.specs.List.{sum}
 use Rattle.cb_semirings.specs.Arithmetic.{Arithmetic}
 use Rattle.cb_semirings.specs.Tables.{min_plus, or_and}
-use Rattle.cb_matrix.specs.declared.Entry.{Entry}
 use Rattle.cb_matrix.specs.Sparse.{Sparse, Extent, at}
 
 -- the neighbouring pairs of a list, in order
@@ -66,11 +65,3 @@ pub record AreDistances (a : Sparse) (source : ℕ) (column : Sparse) : Type 0 w
   pub shape : column.shape ≡ column_shape a
   pub distances : (v : ℕ) → v < a.shape.rows → at min_plus column v 0 ≢ infinite → IsLeast min_plus a source v (weight a) (at min_plus column v 0)
   pub none : (v : ℕ) → v < a.shape.rows → at min_plus column v 0 ≡ infinite → (walk : List ℕ) → IsWalk min_plus a source v walk → weight a walk ≡ infinite
-
--- an entry that weighs 1
-abbrev pub unit_entry : Entry → Entry
-unit_entry e = record { row = e.row; column = e.column; value = 1 }
-
--- the matrix in which each stored entry weighs 1
-abbrev pub unit_weights : Sparse → Sparse
-unit_weights a = record { shape = a.shape; entries = map unit_entry a.entries }

@@ -2,8 +2,9 @@
 //! from one of them.
 //!
 //! Both scripts are one [search](crate::searches). In a level each edge weighs 1.
-ghost use Rattle.std.specs.Prelude.{◌≡◌, ◌<◌, map, IfOk, IfErr};
-ghost use Rattle.cb_scripts.specs.Walks.{AreLevels, AreDistances, unit_entry, unit_weights};
+ghost use Rattle.std.specs.Prelude.{◌≡◌, ℕ, ◌<◌, IfOk, IfErr};
+ghost use Rattle.cb_matrix.specs.Sparse.{Sparse};
+ghost use Rattle.cb_scripts.specs.Walks.{AreLevels, AreDistances};
 ghost use Rattle.cb_scripts.specs.Refusals.{IsGraphRefusal, IsRunRefusal};
 
 use crate::rounds::{multiply_vector, vector_plan};
@@ -11,7 +12,7 @@ use crate::searches::Search;
 use crate::transposes::transpose_distributed;
 use crate::{Engine, ScriptFault};
 use cb_layout::{DistributedMatrix, Grid};
-use cb_matrix::{Entry, Matrix};
+use cb_matrix::Matrix;
 use cb_semirings::{MinPlus, OrAnd};
 use std::alloc::{AllocError, Global};
 use std::sync::Wait;
@@ -61,56 +62,21 @@ fn fewest<R: Threads + Wait + Sync>(
     ensures ok { IfOk result (λ column. AreLevels graph.matrix source column) }
     ensures fault { IfErr result (IsRunRefusal engine) }
 {
-    let _rows = graph.shape().rows();
     let weighted = weighted(alloc, graph)?;
     nearest(rt, alloc, engine, weighted, source)
 }
 
-/// Each entry with the value 1.
-fn unit_entries(alloc: Global, entries: &[Entry]) -> Result<Vec<Entry>, AllocError>
-    ensures { IfOk result (λ v. v.items ≡ map unit_entry entries.now) }
-{
-    entries
-        .iter()
-        .map(|entry| Entry {
-            row: entry.row,
-            column: entry.column,
-            value: 1,
-        })
-        .collect(alloc)
-}
-
-/// The matrix in which each stored entry weighs 1.
-fn unit_matrix(alloc: Global, graph: &Matrix<OrAnd>) -> Result<Matrix<MinPlus>, AllocError>
-    ensures { IfOk result (λ m. m ≡ unit_weights graph.now) }
-{
-    let shape = graph.shape();
-    let entries = unit_entries(alloc, graph.entries())?;
-    Ok(Matrix::from_ordered(shape, entries))
-}
-
-/// The same over a grid.
-fn unit_graph(
-    alloc: Global,
-    grid: &Grid,
-    graph: &Matrix<OrAnd>,
-) -> Result<DistributedMatrix<MinPlus>, AllocError>
-    ensures { IfOk result (λ m. m ≡ record { side = grid.now.side; matrix = unit_weights graph.now }) }
-{
-    let weighted = unit_matrix(alloc, graph)?;
-    DistributedMatrix::scatter(alloc, *grid, &weighted)
-}
-
-/// The matrix over the same grid in which each stored entry weighs 1.
+/// The matrix over the same grid as one of weights, in which distances are levels: each stored value is 1 already. No
+/// entry is copied.
 pub(crate) fn weighted(
     alloc: Global,
     graph: DistributedMatrix<OrAnd>,
 ) -> Result<DistributedMatrix<MinPlus>, AllocError>
-    ensures { IfOk result (λ m. m ≡ record { side = graph.side; matrix = unit_weights graph.matrix }) }
+    ensures same { IfOk result (λ m. m ≡ graph) }
+    ensures levels { IfOk result (λ m. (source : ℕ) (column : Sparse) → graph.matrix.shape.rows ≡ graph.matrix.shape.cols → source < graph.matrix.shape.rows → AreDistances m.matrix source column → AreLevels graph.matrix source column) }
 {
-    let grid = graph.grid();
-    let whole = graph.gather(alloc)?;
-    unit_graph(alloc, &grid, &whole)
+    let _rows = graph.shape().rows();
+    graph.recast(alloc)
 }
 
 /// The distance of each vertex from a source: the least weight of a walk, where a walk's weight is the sum of its
@@ -186,12 +152,12 @@ pub fn levels<R: Threads + Wait + Sync>(
     if source >= shape.rows() {
         return Err(ScriptFault::Source);
     }
-    let weighted = unit_graph(alloc, grid, graph)?;
-    nearest(rt, alloc, engine, weighted, source)
+    let spread = DistributedMatrix::scatter(alloc, *grid, graph)?;
+    fewest(rt, alloc, engine, spread, source)
 }
 
-/// The level of each vertex from a source, of a graph whose matrix lies over a grid. A copy of its entries, each with
-/// the weight 1, is given to the ranks. All else is as in [`levels`].
+/// The level of each vertex from a source, of a graph whose matrix lies over a grid. The blocks of the matrix are
+/// given to the ranks. All else is as in [`levels`].
 pub fn levels_distributed<R: Threads + Wait + Sync>(
     rt: &R,
     alloc: Global,
