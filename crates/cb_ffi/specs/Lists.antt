@@ -1,5 +1,5 @@
 -- A matrix in compressed columns, as C lends it and gets it.
-use Rattle.std.specs.Prelude.{◌≡◌, ℕ, ◌+◌, ◌<◌, ◌≤◌, ◌==◌, ◌⊎◌, not, cond, List, filter, length, slice_index, All, AllPairs}
+use Rattle.std.specs.Prelude.{◌≡◌, ℕ, ◌+◌, ◌<◌, ◌≤◌, ◌==◌, ◌⊎◌, not, cond, List, [], filter, length, slice_index, All, AllPairs}
 use Rattle.cb_semirings.specs.Arithmetic.{Arithmetic, IsValue}
 use Rattle.cb_matrix.specs.declared.Entry.{Entry}
 use Rattle.cb_matrix.specs.declared.TheConstants.{LIMIT}
@@ -83,10 +83,12 @@ pub record AreLists (s : Arithmetic) (c : Columns) : Type 0 where
   pub inside : AreInside c
   pub values : AreValues s c
 
--- The lists of a matrix as an answer has them: named columns that all have entries, starts of 64 bits, and no zeros.
+-- The lists of a matrix as an answer has them: named columns that all have entries, starts of 64 bits and none of 32,
+-- and no zeros.
 pub record HasLists (m : Sparse) (c : Columns) : Type 0 where
   pub shape : shape_of c ≡ m.shape
   pub kind : c.kind ≡ 0
   pub wide : c.wide ≡ 1
+  pub no_starts32 : c.starts32.now ≡ []
   pub columns : AreColumns c.columns.now c.starts64.now c.rows.now c.values.now
   pub entries : all_entries c.columns.now c.starts64.now c.rows.now c.values.now ≡ m.entries

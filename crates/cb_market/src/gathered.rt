@@ -88,6 +88,7 @@ impl<S: Semiring> Gathered<S> {
         ensures entries { OnOk result (self.new.entries ≡ self.old.entries ++ entry ∷ []) }
         ensures side { self.new.side ≡ self.old.side }
         ensures shape { self.new.shape ≡ self.old.shape }
+        ensures room { self.new.room ≡ self.old.room }
     {
         if !self.ascends {
             self.list.push(entry)?;

@@ -1,5 +1,5 @@
 -- A search over rounds: its start, a round, its end.
-use Rattle.std.proofs.Common.{◌≡◌, ◌≢◌, ℕ, ◌+◌, ◌<◌, ◌≤◌, cond, ◌⊎◌, inl, inr, ⊎_elim, List, [], ◌∷◌, subst, sym, refl, ap, ◌∙◌, arith}
+use Rattle.std.proofs.Common.{◌≡◌, ◌≢◌, ℕ, ◌+◌, ◌<◌, ◌≤◌, cond, ◌⊎◌, inl, inr, ⊎_elim, List, [], subst, sym, refl, ap, ◌∙◌, arith}
 use Rattle.std.specs.Prelude.{Some, None, min, unwrap_or, Result, Ok, Err, IfOk}
 use Rattle.std.specs.Ordering.{nat_cmp, is_eq}
 use Rattle.std.specs.BTreeMap.{BTreeMap, get}

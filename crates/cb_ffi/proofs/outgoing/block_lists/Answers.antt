@@ -14,4 +14,4 @@ returns g c =
     (λ cs ss rs vs lists view. c.leak-2.ensures.value ∙ c.in_ok-starts.ensures cs ss rs vs lists view) in
     let rows = c.rows.ensures.value ∙ ap (λ (x : Extent). x.rows) c.shape-shape.ensures.shape in
     let cols = c.cols.ensures.value ∙ ap (λ (x : Extent). x.cols) c.shape-shape.ensures.shape in
-    record { shape = λ t. record { rows = rows t; cols = cols t }; kind = refl; wide = refl; columns = are.0; entries = are.1 }
+    record { shape = λ t. record { rows = rows t; cols = cols t }; kind = refl; wide = refl; no_starts32 = refl; columns = are.0; entries = are.1 }

@@ -1,6 +1,6 @@
-use Rattle.std.proofs.Common.{◌≡◌, ◌∙◌, ◌+◌, ◌*◌, ◌<◌, ◌∷◌, [], sym, ap, subst, arith}
+use Rattle.std.proofs.Common.{◌≡◌, ◌∙◌}
 use Rattle.cb_layout.specs.Distributed.{glued_blocks}
-use Rattle.cb_scripts.proofs.OneBlock.{one_glued, one_shape}
+use Rattle.cb_scripts.proofs.OneBlock.{one_glued}
 use Rattle.cb_scripts.proofs.products.of_one.Goals as goal
 
 pub returns : goal.returns

@@ -1,4 +1,4 @@
-use Rattle.std.proofs.Common.{◌≡◌, ◌*◌, length, ap, ◌∙◌}
+use Rattle.std.proofs.Common.{ap, ◌∙◌}
 use Rattle.cb_scripts.proofs.GatheredParts.{filled_there, shapes_there, glued_gathered, over_grid}
 use Rattle.cb_scripts.proofs.runs.collect.Goals as goal
 

@@ -1,4 +1,4 @@
-use Rattle.std.proofs.Common.{◌∙◌, sym, ap, subst}
+use Rattle.std.proofs.Common.{sym, ap, subst}
 use Rattle.cb_matrix.specs.Sparse.{Extent}
 use Rattle.cb_scripts.specs.Numbers.{AreNumbers}
 use Rattle.cb_scripts.proofs.NearestRounds.{reached_shape, search_advanced}
