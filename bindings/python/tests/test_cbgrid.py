@@ -390,8 +390,8 @@ class Coordinates(Test):
 
     def test_any_order_with_doubled_places(self):
         for turn in range(600):
-            sides = (6, 6), (40, 40), (LIMIT, 3), (3, LIMIT), (LIMIT, LIMIT)
-            nrows, ncols = sides[turn % 5]
+            sides = (6, 6), (40, 40), (5, 1000), (5, 1001), (LIMIT, 3), (3, LIMIT), (LIMIT, LIMIT)
+            nrows, ncols = sides[self.rng.integers(len(sides))]
             count = int(self.rng.integers(0, 3000 if turn % 50 == 0 else 30))
             rows, columns = self.rng.integers(0, nrows, count), self.rng.integers(0, ncols, count)
             if count and turn % 3 == 0:

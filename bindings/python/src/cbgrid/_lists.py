@@ -155,7 +155,7 @@ def _ones(values: np.ndarray) -> np.ndarray:
 
 
 def _lend_coordinates(matrix: Any, turned: bool, unsigned: bool, nonzero: bool, summed: bool) -> Columns:
-    """Lends a coo matrix in doubly compressed columns: what it costs doesn't depend on its shape."""
+    """Lends a coo matrix: in doubly compressed columns, unless it has few, so its shape doesn't tell in the cost."""
     nrows, ncols = reversed(matrix.shape) if turned else matrix.shape
     rows, columns = (matrix.col, matrix.row) if turned else (matrix.row, matrix.col)
     if not len(rows) == len(columns) == len(matrix.data):
@@ -169,8 +169,15 @@ def _lend_coordinates(matrix: Any, turned: bool, unsigned: bool, nonzero: bool, 
         if not (_are_below(rows, nrows) and _are_below(columns, ncols)):
             raise error(PLACE)
         check_unsigned(values)
+    if nonzero:
+        values = _ones(values)
+    if ncols <= _SHORT:
+        starts = columns.searchsorted(np.arange(ncols + 1, dtype=np.uint32))
+        if starts[-1] != len(columns):
+            raise error(PLACE)
+        return _lend_lists(nrows, ncols, None, starts, rows, values)
     starts = _starts(columns)
-    return _lend_lists(nrows, ncols, columns[starts[:-1]], starts, rows, _ones(values) if nonzero else values)
+    return _lend_lists(nrows, ncols, columns[starts[:-1]], starts, rows, values)
 
 
 def _in_order(rows: np.ndarray, columns: np.ndarray, values: np.ndarray, summed: bool) -> tuple[np.ndarray, ...]:
