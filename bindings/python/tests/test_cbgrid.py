@@ -302,7 +302,7 @@ class Lists(Test):
             from cbgrid import _lists
 
             matrix = kind(a)
-            lent = _lists.lend(matrix, kind is sp.csr_matrix, False)
+            lent = _lists.lend(matrix, 0, kind is sp.csr_matrix, False)
             for address, array in zip((lent.starts32, lent.rows, lent.values), (matrix.indptr, matrix.indices, matrix.data)):
                 self.assertEqual(address, array.ctypes.data)
 
@@ -353,6 +353,183 @@ class Lists(Test):
         for it in threads:
             it.join()
         self.assertEqual(failed, [])
+
+
+def coordinates(rows, columns, values, shape, kind=sp.coo_array, dtype=np.int32):
+    """A coo matrix of these very lists."""
+    made = kind(shape, dtype=values.dtype)
+    made.row, made.col, made.data = np.array(rows, dtype), np.array(columns, dtype), values
+    return made
+
+
+def sums(matrix):
+    """What a coo matrix has at each place, modulo 2^64, column by column: in Python's own numbers."""
+    made = {}
+    for row, column, value in zip(matrix.row.tolist(), matrix.col.tolist(), matrix.data.tolist()):
+        made[column, row] = (made.get((column, row), 0) + value) % 2**64
+    return [(row, column, made[column, row]) for column, row in sorted(made) if made[column, row]]
+
+
+class Coordinates(Test):
+    def entries(self, got):
+        self.assertEqual(got.format, "coo")
+        return list(zip(got.row.tolist(), got.col.tolist(), got.data.view(np.uint64).tolist()))
+
+    def assert_summed(self, a):
+        """That a matrix is read as its sums in order, and left as it is."""
+        before = a.row, a.col, a.data, a.row.tolist(), a.col.tolist(), a.data.tolist()
+        none = type(a)(a.shape, dtype=a.dtype)
+        want = sums(a)
+        self.assertEqual(self.entries(cbgrid.add(a, none)), want)
+        self.assertEqual(self.entries(cbgrid.add(none, a)), want)
+        turned = sorted(((column, row, value) for row, column, value in want), key=lambda it: it[1::-1])
+        self.assertEqual(self.entries(cbgrid.transpose(a)), turned)
+        for now, then in zip((a.row, a.col, a.data), before):
+            self.assertIs(now, then)
+        self.assertEqual((a.row.tolist(), a.col.tolist(), a.data.tolist()), before[3:])
+
+    def test_any_order_with_doubled_places(self):
+        for turn in range(600):
+            sides = (6, 6), (40, 40), (5, 1000), (5, 1001), (LIMIT, 3), (3, LIMIT), (LIMIT, LIMIT)
+            nrows, ncols = sides[self.rng.integers(len(sides))]
+            count = int(self.rng.integers(0, 3000 if turn % 50 == 0 else 30))
+            rows, columns = self.rng.integers(0, nrows, count), self.rng.integers(0, ncols, count)
+            if count and turn % 3 == 0:
+                again = self.rng.integers(0, (count + 1) // 2, count)
+                rows, columns = rows[again], columns[again]
+            if turn % 4 == 0:
+                order = np.lexsort((rows, columns))
+                rows, columns = rows[order], columns[order]
+            values = self.rng.integers(-(2**63), 2**63, count) if turn % 7 else self.rng.integers(-1, 2, count)
+            values, width = values.astype(DTYPES[turn % 2]), (np.int32, np.int64)[turn // 2 % 2]
+            self.assert_summed(coordinates(rows, columns, values, (nrows, ncols), dtype=width))
+
+    def test_both_halves_of_a_place_count(self):
+        last = LIMIT - 1
+        rows, columns = [last, 0, last, 0, 1, 0, last], [0, 1, last, last, 0, 0, 1]
+        a = coordinates(rows, columns, np.arange(1, 8), (LIMIT, LIMIT))
+        want = [(0, 0, 6), (1, 0, 5), (last, 0, 1), (0, 1, 2), (last, 1, 7), (0, last, 4), (last, last, 3)]
+        self.assertEqual(sums(a), want)
+        self.assert_summed(a)
+        # A row and a column whose bits would meet if a half ran over.
+        self.assert_summed(coordinates([2**16, 2**30, 1, 2**15], [1, 0, 2**16, 2], np.arange(1, 5), (LIMIT, LIMIT)))
+
+    def test_long_lists(self):
+        for count in 999, 1000, 1001, 1002, 5000:
+            columns, rows = np.divmod(np.arange(count), 37)
+            values, shape = self.rng.integers(-(2**63), 2**63, count), (40, 200)
+            self.assert_summed(coordinates(rows, columns, values, shape))
+            self.assert_summed(coordinates(rows[::-1], columns[::-1], values, shape))
+            turn = self.rng.permutation(count)
+            self.assert_summed(coordinates(rows[turn], columns[turn], values, shape))
+            rows[-1], columns[-1] = rows[-2], columns[-2]
+            self.assert_summed(coordinates(rows, columns, values, shape))
+
+    def test_doubled_places_that_cancel(self):
+        a = coordinates([1, 0, 1, 0, 1], [0, 1, 0, 1, 0], np.array([5, 2**63 - 1, -7, 1, 2]), (2, 2))
+        self.assertEqual(sums(a), [(0, 1, 2**63)])
+        self.assert_summed(a)
+        self.assertEqual(cbgrid.multiply(a, a).nnz, 0)
+        self.assertEqual(cbgrid.bfs(a, 0)[0].tolist(), [0, 1])
+        self.assertEqual(cbgrid.bfs(a, 1)[0].tolist(), [1])
+        wrapped = coordinates([0, 0], [0, 0], np.array([2**63, 2**63], np.uint64), (1, 1))
+        self.assertEqual(sums(wrapped), [])
+        self.assert_summed(wrapped)
+        self.assertEqual(cbgrid.text(wrapped), cbgrid.text(sp.csc_array((1, 1), dtype=np.uint64)))
+
+    def test_values_are_refused_by_their_sums(self):
+        for kind in sp.coo_array, sp.coo_matrix:
+            a = coordinates([0, 0, 1], [1, 1, 0], np.array([-1, 3, 4]), (2, 2), kind)
+            self.assertEqual([it.tolist() for it in cbgrid.relax(a, 0)], [[0, 1], [0, 2]])
+            self.assertEqual(cbgrid.transpose(a, "max-min").toarray().tolist(), [[0, 4], [2, 0]])
+            self.assertEqual(cbgrid.prune(a, "below", 3).data.tolist(), [4])
+            one = coordinates([0, 0], [0, 0], np.array([-1, 2]), (1, 1), kind)
+            self.assertEqual(cbgrid.multiply(one, one, "or-and").data.tolist(), [1])
+            none = coordinates([0, 0], [0, 0], np.array([-1, 1]), (1, 1), kind)
+            self.assertEqual(cbgrid.multiply(none, none, "or-and").nnz, 0)
+            for values in [1, -2], [2**62, 2**62]:
+                below = coordinates([0, 0], [0, 0], np.array(values), (1, 1), kind)
+                for semiring in "min-plus", "max-min", "or-and":
+                    self.assert_refused(9, cbgrid.transpose, below, semiring)
+                self.assert_refused(9, cbgrid.relax, below, 0)
+
+    def test_stored_zeros(self):
+        a = coordinates([0, 1, 0], [0, 0, 1], np.array([0, 3, 0], np.uint64), (2, 2))
+        self.assert_summed(a)
+        self.assertEqual(cbgrid.transpose(a).nnz, 1)
+        self.assertEqual(self.entries(cbgrid.transpose(a, "min-plus")), [(0, 0, 0), (1, 0, 0), (0, 1, 3)])
+        self.assertEqual([it.tolist() for it in cbgrid.relax(a, 0)], [[0, 1], [0, 0]])
+        self.assertEqual(cbgrid.bfs(a, 0)[0].tolist(), [0])
+
+    def test_empty(self):
+        for shape in (0, 0), (0, 3), (3, 0), (LIMIT, LIMIT):
+            for width in np.int32, np.int64:
+                for dtype in DTYPES:
+                    self.assert_summed(coordinates([], [], np.zeros(0, dtype), shape, dtype=width))
+        nothing = coordinates([], [], np.zeros(0, np.int64), (3, 3))
+        twice = coordinates([0, 0], [0, 0], np.array([1, 1]), (3, 3))
+        self.assertEqual(cbgrid.multiply(nothing, twice).nnz, 0)  # the kernel finds the second out of order
+        self.assertEqual(cbgrid.add(nothing, twice).data.tolist(), [2])
+
+    def test_beside_other_formats(self):
+        for turn in range(200):
+            m, k, n = random_shape(self.rng)
+            lists = [self.rng.integers(0, it, 60) for it in (m, k, k, n)]
+            a = coordinates(lists[0], lists[1], self.rng.integers(-9, 9, 60), (m, k))
+            b = coordinates(lists[2], lists[3], self.rng.integers(-9, 9, 60), (k, n))
+            for left, right in (a, b.tocsr()), (a, b.tocsc()), (a.tocsr(), b), (a.tocsc(), b), (a, b):
+                self.assert_same(cbgrid.multiply(left, right), sp.csc_matrix(a) @ sp.csc_matrix(b), left)
+
+    def test_what_is_outside_the_shape(self):
+        for width in np.int32, np.int64:
+            for row, column in (-1, 0), (0, -1), (2, 0), (0, 3), (-1, -1), (-(2**31), 0), (0, -(2**31)), (LIMIT, LIMIT):
+                for rows, columns in ([0, row, 1], [0, column, 2]), ([row, row, 1], [column, column, 2]):
+                    bad = coordinates(rows, columns, np.array([1, 2, 3]), (2, 3), dtype=width)
+                    self.assert_refused(8, cbgrid.transpose, bad)
+                    self.assert_refused(8, cbgrid.transpose, bad, "min-plus")
+                    bad.data = -bad.data
+                    self.assert_refused(8, cbgrid.transpose, bad, "min-plus")
+        for row in 2**32, 2**31, -(2**32), 2**62, -(2**63):
+            for rows, columns in ([row], [0]), ([0], [row]):
+                self.assert_refused(8, cbgrid.transpose, coordinates(rows, columns, np.array([1]), (2, 3), dtype=np.int64))
+        self.assertRaises(TypeError, cbgrid.transpose, coordinates([0.5], [0], np.array([1]), (2, 3), dtype=np.float64))
+
+
+class Transposed(Test):
+    """Matrices that the kernel transposes first: graphs and texts of csr, and operands of csc beside csr."""
+
+    def test_graphs(self):
+        for turn in range(300):
+            n, count = int(self.rng.integers(1, 30)), int(self.rng.integers(0, 60))
+            a = random_matrix(self.rng, n, n, count, -2 if turn % 2 else 0, 5)
+            graph = sp.csr_array(a)
+            source = int(self.rng.integers(n))
+            for left, right in zip(cbgrid.bfs(graph, source), cbgrid.bfs(a, source)):
+                self.assertTrue(np.array_equal(left, right))
+            if turn % 2 == 0:
+                for left, right in zip(cbgrid.relax(graph, source), cbgrid.relax(a, source)):
+                    self.assertTrue(np.array_equal(left, right))
+            self.assertEqual(cbgrid.text(graph), cbgrid.text(a))
+
+    def test_unsorted_and_doubled(self):
+        lists = np.array([1, 2, 3, 4, 5]), np.array([2, 0, 0, 1, 1]), np.array([0, 3, 5, 5])
+        a, b = sp.csr_array(lists, shape=(3, 3)), sp.csc_array(lists, shape=(3, 3))
+        want = sp.csc_array(a.toarray())
+        self.assertEqual([it.tolist() for it in cbgrid.bfs(a, 0)], [[0, 2], [0, 1]])
+        self.assertEqual([it.tolist() for it in cbgrid.relax(a, 0)], [it.tolist() for it in cbgrid.relax(want, 0)])
+        self.assertEqual(cbgrid.text(a), cbgrid.text(want))
+        self.assert_same(cbgrid.multiply(a, b), want @ want.T, a)
+        self.assert_same(cbgrid.multiply(b, a, mask=a), (want.T @ want).multiply(want != 0), b)
+        self.assertEqual(a.indices.tolist(), [2, 0, 0, 1, 1])
+
+    def test_zeros_of_the_semiring(self):
+        a = sp.csr_array((np.array([0, 7], np.uint64), np.array([1, 0]), np.array([0, 1, 2])), shape=(2, 2))
+        self.assertEqual([it.tolist() for it in cbgrid.relax(a, 0)], [[0, 1], [0, 0]])
+        self.assertEqual(cbgrid.bfs(a, 0)[0].tolist(), [0])
+        self.assertEqual(cbgrid.multiply(a.tocsc(), a, "min-plus").toarray().tolist(), [[7, 0], [0, 7]])
+        a.data[0] = INFINITY
+        self.assertEqual(cbgrid.relax(a, 0)[0].tolist(), [0])
+        self.assertEqual(cbgrid.add(a.tocsc(), a).data.tolist(), [14, 2**64 - 2])
 
 
 class Refused(Test):

@@ -25,9 +25,9 @@ value is refused there, and an answer of ``min-plus`` that is above 2**63 - 1 ra
 their entries once into a block of its own, and writes nothing to them. Nothing is converted before, but that
 row numbers of 64 bits are copied to 32, and lists that aren't sorted are sorted in a copy. csr matrices are
 lent so too, each as the csc of its transpose: the product of two is the transpose of the product of their
-transposes. A csc matrix beside a csr one, a csr graph, and a csr matrix whose text is wanted, are converted by
-scipy. coo matrices are sorted in a copy, and cost what their entries cost whatever their shape is; csc and csr
-take a list as long as one of their sides.
+transposes. A csc matrix beside a csr one, a csr graph, and a csr matrix whose text is wanted, are transposed by
+the kernel first. coo matrices are sorted in a copy, and cost what their entries cost whatever their shape is; csc
+and csr take a list as long as one of their sides.
 
 **grid.** The side of a grid, 1 to 6. The side is checked, and the answer is the same for each: it is worked
 out by the plain engine, on the caller's thread. Side 1 is the quickest.
@@ -90,7 +90,7 @@ Vector = TypeVar("Vector")
 
 _SEMIRINGS = {"plus-times": 0, "min-plus": 1, "or-and": 2, "max-min": 3}
 _TESTS = {"below": 0, "above": 1, "equal": 2}
-_MIN_PLUS = 1
+_MIN_PLUS, _OR_AND = 1, 2
 _UNSIGNED = (False, True, False, True)  # in or-and the kernel refuses negative values itself
 
 
@@ -115,17 +115,22 @@ def _source(vertex: int) -> int:
     return vertex
 
 
-def _call(call: Any, before: tuple, operands: tuple, after: tuple, out: Any, **how: bool) -> None:
-    """Does a call. Operands are sorted in a copy only where the kernel finds that one of them isn't sorted."""
-    code = call(*before, *[_lists.lend(it, **how) for it in operands], *after, out)
+def _lent(operands: tuple, **how: int) -> list:
+    """Lends operands, the first one once where it stands for others too."""
+    first = _lists.lend(operands[0], **how)
+    return [first, *[first if it is operands[0] else _lists.lend(it, **how) for it in operands[1:]]]
+
+
+def _call(call: Any, before: tuple, operands: tuple, after: tuple, out: Any, **how: int) -> None:
+    """Does a call. Operands are put in order in a copy only where the kernel finds that one of them isn't."""
+    code = call(*before, *_lent(operands, **how), *after, out)
     if code == ORDER:
-        operands = tuple(_lists.in_order(it) for it in operands)
-        code = call(*before, *[_lists.lend(it, **how) for it in operands], *after, out)
+        code = call(*before, *_lent(operands, in_order=True, **how), *after, out)
     if code:
         raise error(code)
 
 
-def _run(call: Any, before: tuple, operands: tuple, after: tuple = (), **how: bool) -> _lists.Answer:
+def _run(call: Any, before: tuple, operands: tuple, after: tuple = (), **how: int) -> _lists.Answer:
     """Does a call that answers a matrix."""
     answer = _lists.Answer()
     _call(call, before, operands, after, answer.columns, **how)
@@ -137,7 +142,7 @@ def _placed(call: Any, semiring: int, grid: int, operands: tuple, after: tuple =
     like = operands[0]
     turned = like.format == "csr"
     unsigned = unsigned or _UNSIGNED[semiring]
-    answer = _run(call, (semiring, _grid(grid)), operands, after, turned=turned, unsigned=unsigned)
+    answer = _run(call, (semiring, _grid(grid)), operands, after, semiring=semiring, turned=turned, unsigned=unsigned)
     made = _lists.matrix_of(answer, like, turned)
     if semiring == _MIN_PLUS:
         _lists.check_signed(made.data)
@@ -197,7 +202,8 @@ def multiply(a: Matrix, b: Any, semiring: str = "plus-times", mask: Any = None, 
         operands += (mask,)
         call = library.cbgrid_multiply_masked
     number = _semiring(semiring)
-    answer = _run(call, (number, _grid(grid)), operands, turned=turned, unsigned=_UNSIGNED[number])
+    unsigned = _UNSIGNED[number]
+    answer = _run(call, (number, _grid(grid)), operands, semiring=number, turned=turned, unsigned=unsigned)
     made = _lists.matrix_of(answer, a, turned)
     if number == _MIN_PLUS:
         _lists.check_signed(made.data)
@@ -233,13 +239,15 @@ def spmv(a: Any, x: Vector, semiring: str = "plus-times", grid: int = 1) -> Vect
     turned, unsigned = a.format == "csr", _UNSIGNED[number]
     column = _lists.lend_array(x, turned, unsigned) if is_array else x
     call, operands = (library.cbgrid_multiply, (column, a)) if turned else (library.cbgrid_vector, (a, column))
-    answer = _run(call, (number, _grid(grid)), operands, turned=turned, unsigned=unsigned)
+    answer = _run(call, (number, _grid(grid)), operands, semiring=number, turned=turned, unsigned=unsigned)
     places, values = _lists.column_of(answer, turned, a.dtype)
     if number == _MIN_PLUS:
         _lists.check_signed(values)
     if not is_array:
         return _lists.column_like(x, a.shape[0], places, values)
-    made = np.full(a.shape[0], 2**64 - 1 if number == _MIN_PLUS else 0, x.dtype)
+    made = np.zeros(a.shape[0], x.dtype)
+    if number == _MIN_PLUS:
+        made.fill(2**64 - 1)
     made[places] = values
     return made
 
@@ -427,9 +435,10 @@ def relax(graph: Any, source: int, grid: int = 1) -> tuple[np.ndarray, np.ndarra
 
 
 def _walk(call: Any, graph: Any, source: int, grid: int, nonzero: bool) -> _lists.Answer:
-    """Does a call that walks a graph. `nonzero` lends each value that isn't 0 as 1."""
-    before, after = (_grid(grid),), (_source(source),)
-    return _run(call, before, (graph,), after, turned=False, unsigned=not nonzero, nonzero=nonzero)
+    """Does a call that walks a graph, over or-and where `nonzero`, which lends each value that isn't 0 as 1."""
+    before, after, semiring = (_grid(grid),), (_source(source),), _OR_AND if nonzero else _MIN_PLUS
+    how = {"semiring": semiring, "turned": False, "unsigned": not nonzero, "nonzero": nonzero}
+    return _run(call, before, (graph,), after, **how)
 
 
 def read(source: Any, semiring: str = "plus-times", format: str = "csc", dtype: Any = np.uint64) -> Any:
@@ -499,7 +508,8 @@ def text(matrix: Any, semiring: str = "plus-times") -> bytes:
     _lists.check_matrix(matrix, "matrix")
     number = _semiring(semiring)
     made = Text()
-    _call(library.cbgrid_text, (number,), (matrix,), (), made, turned=False, unsigned=_UNSIGNED[number])
+    how = {"semiring": number, "turned": False, "unsigned": _UNSIGNED[number]}
+    _call(library.cbgrid_text, (number,), (matrix,), (), made, **how)
     try:
         return ctypes.string_at(made.bytes, made.len)
     finally:

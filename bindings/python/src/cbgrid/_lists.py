@@ -7,8 +7,7 @@ of a csr matrix. `turned` says that this is so.
 
 from __future__ import annotations
 
-import ctypes
-from copy import copy
+from ctypes import addressof, c_char, memmove
 from typing import Any
 
 import numpy as np
@@ -16,8 +15,10 @@ import numpy as np
 from ._library import LENGTHS, LIMIT, ORDER, PLACE, TOO_LARGE, VALUE, Columns, error, library
 
 _DCSC, _CSC = 0, 1
-_COPIED = 1000  # elements; a list of an answer that has no more is copied, which is quicker than to show it
+_SHORT = 1000  # elements: a list that has no more is copied or sorted quicker than it is shown or looked at
+_from_buffer = c_char.from_buffer
 _INT32, _INT64 = np.dtype(np.int32), np.dtype(np.int64)
+_SIGNED = frozenset((_INT32, _INT64))
 _DTYPES = frozenset((_INT64, np.dtype(np.uint64)))
 
 
@@ -40,37 +41,39 @@ def check_dtype(dtype: np.dtype, name: str) -> None:
         raise TypeError(f"{name}: values of dtype int64 or uint64 are wanted, not {dtype} ({dtype.str})")
 
 
+def _has_negative(values: np.ndarray) -> bool:
+    return values.dtype.kind == "i" and len(values) > 0 and bool(values.min() < 0)
+
+
 def check_unsigned(values: np.ndarray) -> None:
     """Raises where one of the values is negative."""
-    if values.dtype.kind == "i" and len(values) and values.min() < 0:
+    if _has_negative(values):
         raise error(VALUE, "negative value, where values are read as 0 to 2^64 - 1")
 
 
 def check_signed(values: np.ndarray) -> None:
     """Raises where an answer for int64 operands is too large for int64."""
-    if values.dtype.kind == "i" and len(values) and values.min() < 0:
+    if _has_negative(values):
         raise OverflowError("a value of the answer is above 2^63 - 1: use uint64")
 
 
-def _address(array: np.ndarray) -> int:
-    if array.flags.carray and len(array):
-        return ctypes.addressof(ctypes.c_char.from_buffer(array))
-    return array.ctypes.data
-
-
-def _plain(array: np.ndarray) -> np.ndarray:
-    """The array, or where it isn't aligned or has gaps a copy."""
+def _placed(array: np.ndarray) -> tuple[np.ndarray, int | None]:
+    """The array, or where it isn't aligned or has gaps a copy, and where its elements lie."""
     flags = array.flags
-    return array if flags.c_contiguous and flags.aligned else np.require(array.copy(), requirements="CA")
+    if not flags.carray:  # which asks for an array that may be written to, too
+        if flags.c_contiguous and flags.aligned:
+            return array, array.ctypes.data
+        array = array.copy()
+    return array, addressof(_from_buffer(array)) if len(array) else None
 
 
 def _index32(array: np.ndarray, limit: int) -> np.ndarray:
     """Row numbers of 32 bits: those of scipy where they are."""
-    if array.dtype.str == "<i4":
-        return _plain(array)
+    if array.dtype == _INT32:
+        return array
     if not _are_below(array, limit):
         raise error(PLACE)
-    return array.astype(np.int32)
+    return array.astype(np.int32, casting="same_kind")
 
 
 def _are_below(numbers: np.ndarray, limit: int) -> bool:
@@ -80,115 +83,139 @@ def _are_below(numbers: np.ndarray, limit: int) -> bool:
     return bool(numbers.min() >= 0 and numbers.max() < limit)
 
 
-def lend_lists(
+def _lend_lists(
     nrows: int, ncols: int, columns: np.ndarray | None, starts: np.ndarray, rows: np.ndarray, values: np.ndarray
 ) -> Columns:
-    """Lends arrays that are plain: `columns` None for csc, `starts` of 32 or of 64 bits."""
-    address, length = _address(starts), len(starts)
-    wide = starts.itemsize == 8
-    lent = Columns(
-        nrows,
-        ncols,
-        _CSC if columns is None else _DCSC,
-        wide,
-        None if columns is None else _address(columns),
-        0 if columns is None else len(columns),
-        None if wide else address,
-        0 if wide else length,
-        address if wide else None,
-        length if wide else 0,
-        _address(rows),
-        len(rows),
-        _address(values),
-        len(values),
-    )
+    """Lends lists: `columns` None for csc, `starts` of 32 or of 64 bits."""
+    lent = Columns(nrows, ncols, _CSC if columns is None else _DCSC, starts.itemsize == 8)
+    starts, address = _placed(starts)
+    if lent.wide:
+        lent.starts64, lent.starts64_len = address, len(starts)
+    else:
+        lent.starts32, lent.starts32_len = address, len(starts)
+    if columns is not None:
+        columns, lent.columns = _placed(columns)
+        lent.columns_len = len(columns)
+    rows, lent.rows = _placed(rows)
+    values, lent.values = _placed(values)
+    lent.rows_len, lent.values_len = len(rows), len(values)
     lent.kept = (columns, starts, rows, values)
     return lent
 
 
-def lend(matrix: Any, turned: bool, unsigned: bool, nonzero: bool = False) -> Columns:
+def lend(
+    matrix: Any, semiring: int, turned: bool, unsigned: bool, nonzero: bool = False, in_order: bool = False
+) -> Columns:
     """Lends a matrix, or its transpose where `turned`.
 
-    `unsigned` refuses negative values. `nonzero` lends 1 for each value that isn't 0.
+    `unsigned` refuses negative values. `nonzero` lends 1 for each value that isn't 0. With `in_order` rows ascend in
+    each column, and none is doubled; without it the kernel may find that this isn't so.
     """
     if isinstance(matrix, Columns):
         return matrix
     form = matrix.format
     if form == "coo":
-        return _lend_coordinates(matrix, turned, unsigned, nonzero)
+        return _lend_coordinates(matrix, turned, unsigned, nonzero, in_order)
     if form != ("csr" if turned else "csc"):
-        matrix = _checked(matrix).tocsr() if turned else _checked(matrix).tocsc()
+        return _lend_transposed(matrix, semiring, turned, unsigned, nonzero, in_order)
+    if in_order:
+        matrix = _checked(matrix).copy()
+        matrix.sum_duplicates()
     nrows, ncols = reversed(matrix.shape) if turned else matrix.shape
     starts, rows, values = matrix.indptr, matrix.indices, matrix.data
     length = int(starts[-1]) if len(starts) else 0
     if length != len(rows) or length != len(values):  # scipy lets lists be longer than their last start
         rows, values = rows[:length], values[:length]
-    if starts.dtype.str not in ("<i4", "<i8"):
+    if starts.dtype not in _SIGNED:
         starts = starts.astype(np.int64)
-    values = _lent_values(values, unsigned, nonzero)
-    return lend_lists(nrows, ncols, None, _plain(starts), _index32(rows, nrows), values)
-
-
-def _lent_values(values: np.ndarray, unsigned: bool, nonzero: bool) -> np.ndarray:
-    if nonzero:
-        return (values != 0).astype(np.uint64)
     if unsigned:
         check_unsigned(values)
-    return _plain(values)
+    return _lend_lists(nrows, ncols, None, starts, _index32(rows, nrows), _ones(values) if nonzero else values)
 
 
-def _lend_coordinates(matrix: Any, turned: bool, unsigned: bool, nonzero: bool) -> Columns:
-    """Lends a coo matrix in doubly compressed columns: what it costs doesn't depend on its shape."""
+def _lend_transposed(
+    matrix: Any, semiring: int, turned: bool, unsigned: bool, nonzero: bool, in_order: bool
+) -> Columns:
+    """Lends a csr matrix by columns, or a csc one by rows where `turned`: the kernel's own transpose of it."""
+    answer = Answer()
+    lent = lend(matrix, semiring, not turned, unsigned, nonzero, in_order)
+    code = library.cbgrid_transpose(semiring, 1, lent, answer.columns)
+    if code == ORDER and not in_order:
+        return _lend_transposed(matrix, semiring, turned, unsigned, nonzero, True)
+    if code:
+        raise error(code)
+    made = Columns.from_buffer_copy(answer.columns)
+    made.kept = (answer,)
+    return made
+
+
+def _ones(values: np.ndarray) -> np.ndarray:
+    """1 for each value that isn't 0."""
+    return (values != 0).astype(np.uint64)
+
+
+def _lend_coordinates(matrix: Any, turned: bool, unsigned: bool, nonzero: bool, summed: bool) -> Columns:
+    """Lends a coo matrix: in doubly compressed columns, unless it has few, so its shape doesn't tell in the cost."""
     nrows, ncols = reversed(matrix.shape) if turned else matrix.shape
     rows, columns = (matrix.col, matrix.row) if turned else (matrix.row, matrix.col)
     if not len(rows) == len(columns) == len(matrix.data):
         raise error(LENGTHS)
-    for numbers, limit in (rows, nrows), (columns, ncols):
-        if numbers.itemsize > 4 and not _are_below(numbers, limit):
+    # As numbers without a sign negative ones are outside of every shape, and the kernel tells of all that are.
+    rows, columns = _index32(rows, nrows).view(np.uint32), _index32(columns, ncols).view(np.uint32)
+    rows, columns, values = _in_order(rows, columns, matrix.data, summed)
+    if unsigned and _has_negative(values):
+        if not summed:  # a sum may have a negative part
+            return _lend_coordinates(matrix, turned, unsigned, nonzero, True)
+        if not (_are_below(rows, nrows) and _are_below(columns, ncols)):
             raise error(PLACE)
-    places, values = _in_order(columns.astype(np.int64) << 32 | rows, matrix.data)
-    if len(places) and places[0] < 0:  # a negative row or column; of those that are too large the kernel tells
-        raise error(PLACE)
-    columns = places >> 32
-    firsts = _firsts(columns)
-    starts = np.concatenate((firsts, (len(places),)))
-    return lend_lists(
-        nrows,
-        ncols,
-        columns[firsts].astype(np.uint32),
-        starts.astype(np.int64),
-        (places & 0xFFFFFFFF).astype(np.uint32),
-        _lent_values(values, unsigned, nonzero),
-    )
+        check_unsigned(values)
+    if nonzero:
+        values = _ones(values)
+    if ncols <= _SHORT:
+        starts = columns.searchsorted(np.arange(ncols + 1, dtype=np.uint32))
+        if starts[-1] != len(columns):
+            raise error(PLACE)
+        return _lend_lists(nrows, ncols, None, starts, rows, values)
+    starts = _starts(columns)
+    return _lend_lists(nrows, ncols, columns[starts[:-1]], starts, rows, values)
 
 
-def _firsts(sorted_numbers: np.ndarray) -> np.ndarray:
-    """Where each number stands first."""
-    is_first = np.empty(len(sorted_numbers), bool)
-    is_first[:1] = True
-    np.not_equal(sorted_numbers[1:], sorted_numbers[:-1], out=is_first[1:])
-    return np.flatnonzero(is_first)
+def _in_order(rows: np.ndarray, columns: np.ndarray, values: np.ndarray, summed: bool) -> tuple[np.ndarray, ...]:
+    """Coordinates and values column by column, and in each by row.
+
+    Where `summed`, and in long lists, each place stands once, with the sum of the values given there: what doubled
+    places mean in scipy.
+    """
+    if len(values) <= _SHORT:
+        order = np.lexsort((rows, columns))
+    else:
+        places = _places(rows, columns)
+        if (places[1:] > places[:-1]).all():
+            return rows, columns, values
+        order = places.argsort()
+        summed = True  # to look is quick beside the sort, which isn't to be done again
+    rows, columns, values = rows[order], columns[order], values[order]
+    if not summed:
+        return rows, columns, values
+    firsts = _starts(_places(rows, columns))[:-1]
+    return rows[firsts], columns[firsts], np.add.reduceat(values, firsts)
 
 
-def _in_order(places: np.ndarray, values: np.ndarray) -> tuple[np.ndarray, np.ndarray]:
-    """Places in order, each once, with the sum of the values given there: what doubled places mean in scipy."""
-    if np.logical_and.reduce(places[1:] > places[:-1]):
-        return places, values
-    order = np.argsort(places, kind="stable")
-    places, values = places[order], values[order]
-    firsts = _firsts(places)
-    if len(firsts) == len(places):
-        return places, values
-    return places[firsts], np.add.reduceat(values, firsts)
+def _places(rows: np.ndarray, columns: np.ndarray) -> np.ndarray:
+    """Numbers of 64 bits that are in order where entries are: of column and row."""
+    places = np.empty(len(rows), np.uint64)
+    halves = places.view(np.uint32)
+    halves[::2] = rows
+    halves[1::2] = columns
+    return places
 
 
-def in_order(matrix: Any) -> Any:
-    """A copy of a csc or csr matrix in which rows ascend in each column, and none is doubled."""
-    if isinstance(matrix, Columns) or matrix.format == "coo":
-        return matrix
-    made = _checked(matrix).copy()
-    made.sum_duplicates()
-    return made
+def _starts(numbers: np.ndarray) -> np.ndarray:
+    """Where each of the numbers, which are in order, stands first, and then how many they are."""
+    is_start = np.empty(len(numbers) + 1, bool)
+    is_start[0] = is_start[-1] = True
+    np.not_equal(numbers[1:], numbers[:-1], out=is_start[1:-1])
+    return is_start.nonzero()[0]
 
 
 def _checked(matrix: Any) -> Any:
@@ -227,11 +254,11 @@ class Answer:
         free(self.columns)
 
     def _array(self, address: int, length: int, dtype: np.dtype) -> np.ndarray:
-        if length > _COPIED:
+        if length > _SHORT:
             return np.asarray(_List(self, address, length, dtype))
         made = np.empty(length, dtype)
         if length:
-            ctypes.memmove(ctypes.addressof(ctypes.c_char.from_buffer(made)), address, length * dtype.itemsize)
+            memmove(addressof(_from_buffer(made)), address, made.nbytes)
         return made
 
     def stored(self) -> np.ndarray:
@@ -268,7 +295,7 @@ def matrix_of(answer: Answer, like: Any, turned: bool) -> Any:
     rows, made.data = answer.rows(), answer.values(like.dtype)
     if like.format == "coo":
         starts = answer.starts()
-        columns = np.repeat(answer.stored(), starts[1:] - starts[:-1])
+        columns = answer.stored().repeat(starts[1:] - starts[:-1])
         made.row, made.col = (columns, rows) if turned else (rows, columns)
     else:
         made.indices, made.indptr = rows, _compressed_starts(answer)
@@ -281,10 +308,12 @@ def _bare(like: Any, shape: tuple[int, int]) -> Any:
 
     It is a copy of the object: scipy's constructor looks at all lists, which takes longer than a small call.
     """
-    made = copy(like)
+    kind = type(like)
+    made = kind.__new__(kind)
+    made.__dict__.update(like.__dict__)
     if made.shape != shape:
         made._shape = shape
-    return made if made.shape == shape else type(like)(shape, dtype=like.dtype)
+    return made if made.shape == shape else kind(shape, dtype=like.dtype)
 
 
 def lend_array(x: np.ndarray, turned: bool, unsigned: bool) -> Columns:
@@ -294,8 +323,8 @@ def lend_array(x: np.ndarray, turned: bool, unsigned: bool) -> Columns:
         check_unsigned(x)
     numbers = np.arange(length + 1, dtype=np.int32)
     if turned:
-        return lend_lists(1, length, None, numbers, np.zeros(length, np.int32), _plain(x))
-    return lend_lists(length, 1, None, numbers[[0, length]], numbers[:length], _plain(x))
+        return _lend_lists(1, length, None, numbers, np.zeros(length, np.int32), x)
+    return _lend_lists(length, 1, None, np.array((0, length), np.int32), numbers[:length], x)
 
 
 def column_of(answer: Answer, turned: bool, dtype: np.dtype) -> tuple[np.ndarray, np.ndarray]:
@@ -305,11 +334,15 @@ def column_of(answer: Answer, turned: bool, dtype: np.dtype) -> tuple[np.ndarray
 
 def column_like(x: Any, length: int, places: np.ndarray, values: np.ndarray) -> Any:
     """A sparse column of the class of x."""
-    if x.format == "csc":
-        return type(x)((values, places, np.array([0, len(places)], np.int32)), shape=(length, 1))
+    made = _bare(x, (length, 1))
+    made.data = values
     if x.format == "coo":
-        return type(x)((values, (places, np.zeros_like(places))), shape=(length, 1))
-    starts = np.zeros(length + 1, np.int32)
-    starts[1:][places] = 1
-    np.add.accumulate(starts, out=starts)
-    return type(x)((values, np.zeros_like(places), starts), shape=(length, 1))
+        made.row, made.col = places, np.zeros_like(places)
+    elif x.format == "csc":
+        made.indices, made.indptr = places, np.array([0, len(places)], np.int32)
+    else:
+        starts = np.zeros(length + 1, np.int32)
+        starts[1:][places] = 1
+        made.indices, made.indptr = np.zeros_like(places), starts.cumsum(dtype=np.int32)
+    made.has_canonical_format = True
+    return made

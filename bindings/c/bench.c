@@ -1,0 +1,68 @@
+/*
+ * Times the product of a matrix by itself, over lists and over the semiring plus-times: bench FILE [RUNS]
+ *
+ * FILE is a Matrix Market text. Prints the entries of the matrix and of the product, and the medians of RUNS
+ * products (10 by default) and of freeing their answers, in microseconds of the clock.
+ */
+#include <stdio.h>
+#include <stdlib.h>
+#include <time.h>
+
+#include "cbgrid.h"
+
+static double now(void) {
+    struct timespec at;
+    timespec_get(&at, TIME_UTC);
+    return (double)at.tv_sec * 1e6 + (double)at.tv_nsec / 1e3;
+}
+
+static int compare(const void *a, const void *b) {
+    double x = *(const double *)a, y = *(const double *)b;
+    return (x > y) - (x < y);
+}
+
+static double median(double *times, size_t count) {
+    qsort(times, count, sizeof *times, compare);
+    return (times[(count - 1) / 2] + times[count / 2]) / 2;
+}
+
+/* The bytes of a file, or a null pointer. */
+static char *contents(const char *name, size_t *len) {
+    FILE *file = fopen(name, "rb");
+    char *bytes = NULL;
+    if (!file) return NULL;
+    long end = fseek(file, 0, SEEK_END) ? -1 : ftell(file);
+    rewind(file);
+    *len = end < 0 ? 0 : (size_t)end;
+    if (end >= 0) bytes = malloc(*len + 1);
+    if (bytes && fread(bytes, 1, *len, file) != *len) free(bytes), bytes = NULL;
+    fclose(file);
+    return bytes;
+}
+
+int main(int argc, char **argv) {
+    size_t runs = argc > 2 ? strtoul(argv[2], NULL, 10) : 10, len = 0;
+    char *text = argc > 1 ? contents(argv[1], &len) : NULL;
+    double *products = calloc(runs, sizeof *products), *frees = calloc(runs, sizeof *frees);
+    if (!text || !runs || !products || !frees) return fprintf(stderr, "usage: bench FILE [RUNS]\n"), 2;
+
+    struct cbgrid_columns matrix, product;
+    int code = cbgrid_read(CBGRID_PLUS_TIMES, text, len, NULL, &matrix);
+    free(text);
+    size_t made = 0;
+    for (size_t n = 0; n < runs && !code; n++) {
+        double start = now();
+        code = cbgrid_multiply(CBGRID_PLUS_TIMES, 1, &matrix, &matrix, &product);
+        double end = now();
+        if (code) break;
+        made = product.rows_len;
+        cbgrid_free_columns(&product);
+        products[n] = end - start, frees[n] = now() - end;
+    }
+    if (code) return fprintf(stderr, "%s\n", cbgrid_message(code)), 1;
+    printf("%zu entries, %zu entries made\n", matrix.rows_len, made);
+    printf("%.0f us a product, %.0f us to free it\n", median(products, runs), median(frees, runs));
+    cbgrid_free_columns(&matrix);
+    free(products), free(frees);
+    return 0;
+}
