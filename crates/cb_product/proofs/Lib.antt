@@ -9,3 +9,5 @@ pub mod HeapStep
 pub mod StoredColumn
 pub mod ProductColumns
 pub mod Union
+-- AbsentColumns: a column whose number is not among a matrix's has no entries.
+pub mod AbsentColumns

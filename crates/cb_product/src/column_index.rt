@@ -2,7 +2,7 @@
 //!
 //! Buluç and Gilbert, On the Representation and Multiplication of Hypersparse Matrices (IPDPS 2008, section 4.1), index
 //! chunks of columns. Here a column is hashed instead, so that columns which stand close together are no worse.
-ghost use Rattle.std.specs.Prelude.{◌≡◌, ◌≤◌, length, slice_range};
+ghost use Rattle.std.specs.Prelude.{◌≡◌, ◌≢◌, ◌<◌, ◌≤◌, IsTrue, All, AllPairs, length, slice_range};
 ghost use Rattle.cb_dcsc.specs.Columns.{in_column};
 
 use cb_dcsc::Block;
@@ -13,6 +13,8 @@ use std::alloc::{AllocError, Global};
 /// there, the column is searched for.
 #[derive(Drop)]
 pub(crate) struct ColumnIndex {
+    /// Where each column has a place of its own: how many columns that have entries are before it. Else: at which place
+    /// a column of this hash stands.
     places: Vec<u32>,
     /// By how many bits a hash is shifted to give the index of a place. 0: each column has a place of its own.
     shift: u32,
@@ -34,20 +36,29 @@ impl ColumnIndex {
             shift: 0,
         };
         if cols / 4 < asked.min(columns) {
-            index.places.resize(cols, 0)?;
+            index.rank(block.column_numbers(), cols)?;
         } else if columns / 4 < asked {
             let bits = (columns as u64).saturating_mul(4).leading_zeros();
             index.shift = bits.saturating_sub(32).max(1).min(31);
             index.places.resize(1 << (32 - index.shift), 0)?;
-        } else {
-            return Ok(index);
+            index.hash(block.column_numbers());
         }
-        index.fill(block.column_numbers());
         Ok(index)
     }
 
-    /// Notes the place of each column.
-    fn fill(&mut self, columns: &[u32]) {
+    /// Notes for each column of the shape how many of these columns are before it.
+    fn rank(&mut self, columns: &[u32], cols: usize) -> Result<(), AllocError> {
+        self.places.reserve(cols)?;
+        let mut place = 0u32;
+        for column in columns {
+            self.places.resize(*column as usize + 1, place)?;
+            place = place.saturating_add(1);
+        }
+        self.places.resize(cols, place)
+    }
+
+    /// Notes the place of each of these columns under its hash.
+    fn hash(&mut self, columns: &[u32]) {
         let mut place = 0u32;
         for column in columns {
             let at = self.slot(*column);
@@ -79,6 +90,9 @@ impl ColumnIndex {
         if place < block.columns() && block.column_number(place) == column {
             return block.nth_range(place);
         }
+        if is_missing(block.column_numbers(), place, column) {
+            return (0, 0);
+        }
         block.range(column)
     }
 
@@ -96,4 +110,14 @@ impl ColumnIndex {
         }
         count
     }
+}
+
+/// Whether the columns at a place and before it tell that a column isn't among these, which ascend.
+fn is_missing(columns: &[u32], place: usize, column: u32) -> bool
+    requires { AllPairs (λ c d. c < d) columns.now }
+    ensures { IsTrue result → All (λ c. c ≢ column) columns.now }
+{
+    place <= columns.len()
+        && (place == 0 || columns[place - 1] < column)
+        && (place == columns.len() || column < columns[place])
 }
