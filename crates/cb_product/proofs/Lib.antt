@@ -11,3 +11,5 @@ pub mod ProductColumns
 pub mod Union
 -- AbsentColumns: a column whose number is not among a matrix's has no entries.
 pub mod AbsentColumns
+-- OwnColumn: a column of the accumulator to which no term is added.
+pub mod OwnColumn
