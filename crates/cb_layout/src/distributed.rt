@@ -153,7 +153,7 @@ impl<S: Semiring> DistributedMatrix<S> {
     }
 
     /// The same matrix over another semiring, whose values its values are too. No entry is copied: it takes memory
-    /// for one block's header for each rank.
+    /// for one block's header for each rank. Where that is refused the matrix is given up.
     pub fn recast<T: Semiring>(self, alloc: Global) -> Result<DistributedMatrix<T>, AllocError>
         requires values { All (λ e. IsValue T.arithmetic e.value × (e.value ≢ T.arithmetic.zero)) self.matrix.entries }
         ensures { IfOk result (λ m. m ≡ self) }
