@@ -9,5 +9,5 @@ pub mod HeapStep
 pub mod StoredColumn
 pub mod ProductColumns
 pub mod Union
--- AbsentColumns: a column whose number is not among a matrix's has no entries.
+-- AbsentColumns: a column whose number isn't among those that entries stand in has none of them.
 pub mod AbsentColumns

@@ -1,6 +1,6 @@
 -- The product, column by column.
 use Rattle.std.proofs.Common.{◌≡◌, ◌≢◌, ℕ, ◌+◌, ◌<◌, ◌≤◌, true, false, cond, inl, inr, Result, Ok, Err, List, [], ◌∷◌, length, map, get_or, sym, refl, ap, ◌∙◌, ⊎_elim, arith, subst}
-use Rattle.std.specs.Prelude.{IfOk, All, AllPairs, Contains, ◌==◌}
+use Rattle.std.specs.Prelude.{IfOk, All, AllPairs, ◌==◌}
 use Rattle.std.specs.List.{range_with_len}
 use Rattle.std.proofs.lemmas.Bool.{cases_Bool, cases_eq, cases_lt, eqb-true, eqb-false}
 use Rattle.std.proofs.lemmas.List.{get_or_default, get_or_past}
@@ -14,11 +14,11 @@ use Rattle.cb_matrix.proofs.Made.{NoneAt, value_at-none, at-matrix_of, same_matr
 use Rattle.cb_matrix.proofs.Equal.{matrix_is}
 use Rattle.cb_matrix.proofs.Totals.{add_zero, total_value, total-add, total-single, total-zero, total-same, each_value, value_at-value}
 use Rattle.cb_dcsc.specs.Columns.{in_column, rows_of, values_of}
-use Rattle.cb_dcsc.proofs.Pieces.{in_column-none}
 use Rattle.cb_dcsc.specs.Columns.{row_value}
 use Rattle.cb_dcsc.proofs.Lookup.{column_value}
 use Rattle.cb_product.specs.InColumns.{AreInColumns}
 use Rattle.cb_product.specs.Terms.{column_sum}
+use Rattle.cb_product.proofs.AbsentColumns.{other_columns, nothing_there}
 use Rattle.cb_product.proofs.StoredColumn.{AddsColumn, none_of_column}
 use Rattle.cb_matrix.specs.Operations.{sum_of}
 
@@ -101,10 +101,6 @@ inner s a b i j = total s (map (λ k. s.mul (at s a i k) (at s b k j)) (range_wi
 inner_value : (s : Arithmetic) → IsSemiring s → (a b : Sparse) → IsMatrix s a → IsMatrix s b → (i j : ℕ) → IsValue s (inner s a b i j)
 inner_value s laws a b p q i j = total_value s laws _ (each_value s laws (λ k. s.mul (at s a i k) (at s b k j)) (λ k. laws.mul_value _ _ (value_at-value s laws a.entries i k p.values) (value_at-value s laws b.entries k j q.values)) (range_with_len 0 a.shape.cols))
 
--- a column that no entry stands in
-other_columns : (columns : List ℕ) (es : List Entry) (j : ℕ) → AreInColumns columns es → All (λ c. c ≢ j) columns → All (λ e. e.column ≢ j) es
-other_columns columns es j stand h = All-weaker (λ e. Contains columns e.column) (λ e. e.column ≢ j) (λ e c same. h c.0 e.column c.1 (c.2 ∙ same)) es stand
-
 no_entry_at : (es : List Entry) (i j : ℕ) → All (λ e. e.column ≢ j) es → NoneAt i j es
 no_entry_at es i j h = All-weaker (λ e. e.column ≢ j) (λ e. is_at i j e ≡ false) (λ e n. ⊎_elim (λ (t : is_at i j e ≡ true). absurd (n (sym (is_at-parts e i j t).1))) (λ (f : is_at i j e ≡ false). f) (cases_Bool (is_at i j e))) es h
 
@@ -117,7 +113,7 @@ module _ (s : Arithmetic) (laws : IsSemiring s) (acc a b : Sparse) (r : IsMatrix
   absent_sum : (columns : List ℕ) (i j : ℕ) → AreInColumns columns acc.entries → AreInColumns columns b.entries → All (λ c. c ≢ j) columns → accumulated s acc a b i j ≡ s.zero
   unfolding column_sum
   absent_sum columns i j acc_in b_in h =
-      let none : in_column j b.entries ≡ [] = in_column-none j b.entries (other_columns columns b.entries j b_in h) in
+      let none : in_column j b.entries ≡ [] = sym (nothing_there j b.entries columns b_in h) in
       let left : at s acc i j ≡ s.zero = value_at-none s.zero acc.entries i j (no_entry_at acc.entries i j (other_columns columns acc.entries j acc_in h)) in
       let right : inner s a b i j ≡ s.zero = sym (stored_sum i j) ∙ ap (λ es. column_sum s a i (rows_of es) (values_of es)) none in
       (λ t. s.add (left t) (right t)) ∙ laws.zero_add s.zero laws.zero_value
