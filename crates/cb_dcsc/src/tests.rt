@@ -168,6 +168,16 @@ fn a_block_is_taken_over_to_another_semiring(rt: HostRuntime) -> Result<(), Fail
     Ok(())
 }
 
+#[test]
+fn a_block_gives_its_lists_away(rt: HostRuntime) -> Result<(), Fail> {
+    let block = Block::<PlusTimes>::from_sorted(rt.alloc(), shape(4, 1000)?, &spread())?;
+    let (columns, rows, values) = block.into_lists();
+    assert_eq!(rt; columns.as_slice(), [3, 900].as_slice());
+    assert_eq!(rt; rows.as_slice(), [0, 2, 1].as_slice());
+    assert_eq!(rt; values.as_slice(), [5, 6, 7].as_slice());
+    Ok(())
+}
+
 /// Each call that takes memory, one after another. Where memory is refused a call says so and nothing else
 /// (`rt try --test --fail-alloc N`, for each N in turn).
 #[test]

@@ -7,7 +7,7 @@ of a csr matrix. `turned` says that this is so.
 
 from __future__ import annotations
 
-from ctypes import addressof, c_char, memmove
+from ctypes import addressof, c_char, string_at
 from typing import Any
 
 import numpy as np
@@ -16,6 +16,7 @@ from ._library import LENGTHS, LIMIT, ORDER, PLACE, TOO_LARGE, VALUE, Columns, e
 
 _DCSC, _CSC = 0, 1
 _SHORT = 1000  # elements: a list that has no more is copied or sorted quicker than it is shown or looked at
+_NUMBERS = np.arange(_SHORT + 1, dtype=np.uint32)
 _from_buffer = c_char.from_buffer
 _INT32, _INT64 = np.dtype(np.int32), np.dtype(np.int64)
 _SIGNED = frozenset((_INT32, _INT64))
@@ -57,14 +58,20 @@ def check_signed(values: np.ndarray) -> None:
         raise OverflowError("a value of the answer is above 2^63 - 1: use uint64")
 
 
-def _placed(array: np.ndarray) -> tuple[np.ndarray, int | None]:
-    """The array, or where it isn't aligned or has gaps a copy, and where its elements lie."""
+def _placed(array: np.ndarray) -> np.ndarray:
+    """The array, or where it isn't aligned or has gaps a copy."""
     flags = array.flags
-    if not flags.carray:  # which asks for an array that may be written to, too
-        if flags.c_contiguous and flags.aligned:
-            return array, array.ctypes.data
-        array = array.copy()
-    return array, addressof(_from_buffer(array)) if len(array) else None
+    return array if flags.carray or flags.c_contiguous and flags.aligned else array.copy()
+
+
+def _address(array: np.ndarray) -> int | None:
+    """Where the elements of an array lie, which is aligned and has no gaps."""
+    if not len(array):
+        return None
+    try:
+        return addressof(_from_buffer(array))
+    except TypeError:  # the array may not be written to
+        return array.ctypes.data
 
 
 def _index32(array: np.ndarray, limit: int) -> np.ndarray:
@@ -88,17 +95,14 @@ def _lend_lists(
 ) -> Columns:
     """Lends lists: `columns` None for csc, `starts` of 32 or of 64 bits."""
     lent = Columns(nrows, ncols, _CSC if columns is None else _DCSC, starts.itemsize == 8)
-    starts, address = _placed(starts)
     if lent.wide:
-        lent.starts64, lent.starts64_len = address, len(starts)
+        lent.starts64, lent.starts64_len = _address(starts), len(starts)
     else:
-        lent.starts32, lent.starts32_len = address, len(starts)
+        lent.starts32, lent.starts32_len = _address(starts), len(starts)
     if columns is not None:
-        columns, lent.columns = _placed(columns)
-        lent.columns_len = len(columns)
-    rows, lent.rows = _placed(rows)
-    values, lent.values = _placed(values)
-    lent.rows_len, lent.values_len = len(rows), len(values)
+        lent.columns, lent.columns_len = _address(columns), len(columns)
+    lent.rows, lent.rows_len = _address(rows), len(rows)
+    lent.values, lent.values_len = _address(values), len(values)
     lent.kept = (columns, starts, rows, values)
     return lent
 
@@ -130,7 +134,8 @@ def lend(
         starts = starts.astype(np.int64)
     if unsigned:
         check_unsigned(values)
-    return _lend_lists(nrows, ncols, None, starts, _index32(rows, nrows), _ones(values) if nonzero else values)
+    rows, values = _placed(_index32(rows, nrows)), _ones(values) if nonzero else _placed(values)
+    return _lend_lists(nrows, ncols, None, _placed(starts), rows, values)
 
 
 def _lend_transposed(
@@ -172,8 +177,8 @@ def _lend_coordinates(matrix: Any, turned: bool, unsigned: bool, nonzero: bool, 
     if nonzero:
         values = _ones(values)
     if ncols <= _SHORT:
-        starts = columns.searchsorted(np.arange(ncols + 1, dtype=np.uint32))
-        if starts[-1] != len(columns):
+        starts = columns.searchsorted(_NUMBERS[: ncols + 1])
+        if starts.item(-1) != len(columns):
             raise error(PLACE)
         return _lend_lists(nrows, ncols, None, starts, rows, values)
     starts = _starts(columns)
@@ -191,7 +196,7 @@ def _in_order(rows: np.ndarray, columns: np.ndarray, values: np.ndarray, summed:
     else:
         places = _places(rows, columns)
         if (places[1:] > places[:-1]).all():
-            return rows, columns, values
+            return _placed(rows), _placed(columns), _placed(values)
         order = places.argsort()
         summed = True  # to look is quick beside the sort, which isn't to be done again
     rows, columns, values = rows[order], columns[order], values[order]
@@ -256,10 +261,9 @@ class Answer:
     def _array(self, address: int, length: int, dtype: np.dtype) -> np.ndarray:
         if length > _SHORT:
             return np.asarray(_List(self, address, length, dtype))
-        made = np.empty(length, dtype)
-        if length:
-            memmove(addressof(_from_buffer(made)), address, made.nbytes)
-        return made
+        if not length:
+            return np.empty(0, dtype)
+        return np.frombuffer(bytearray(string_at(address, length * dtype.itemsize)), dtype)  # a bytearray may be written to
 
     def stored(self) -> np.ndarray:
         return self._array(self.columns.columns, self.columns.columns_len, _INT32)
@@ -321,6 +325,7 @@ def lend_array(x: np.ndarray, turned: bool, unsigned: bool) -> Columns:
     length = len(x)
     if unsigned:
         check_unsigned(x)
+    x = _placed(x)
     numbers = np.arange(length + 1, dtype=np.int32)
     if turned:
         return _lend_lists(1, length, None, numbers, np.zeros(length, np.int32), x)
