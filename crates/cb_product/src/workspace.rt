@@ -1,9 +1,9 @@
 //! One column of a product, made in the way that costs least.
 ghost use Rattle.std.specs.Prelude.{◌≡◌, ℕ, All, IfOk, OnOk};
 ghost use Rattle.cb_matrix.specs.Sparse.{IsMatrix};
-ghost use Rattle.cb_dcsc.specs.Columns.{rows_of};
+ghost use Rattle.cb_dcsc.specs.Columns.{rows_of, values_of, row_value};
 ghost use Rattle.cb_product.specs.SparseColumn.{AreEntries, value_in};
-ghost use Rattle.cb_product.specs.Terms.{IsTerm, sum_with};
+ghost use Rattle.cb_product.specs.Terms.{IsTerm, term_value, sum_with};
 
 use crate::columns::Column;
 use crate::heads::merge;
@@ -39,8 +39,8 @@ impl<S: Semiring> Workspace<S> {
         })
     }
 
-    /// Makes the sum of a column of the accumulator and of terms: by the sparse accumulator where that is said to pay,
-    /// else by joining a few terms one after another, or many by a heap.
+    /// Makes the sum of a column of the accumulator and of terms: one term is joined with it. More are added by the
+    /// sparse accumulator where that is said to pay, else a few are joined one after another, or many merged by a heap.
     pub fn make(
         &mut self,
         left: &Block<S>,
@@ -56,6 +56,9 @@ impl<S: Semiring> Workspace<S> {
         ensures zeros { OnOk result (All (λ x. x ≡ S.arithmetic.zero) self.new.sums) }
         ensures column { OnOk result ((i : ℕ) → value_in S.arithmetic.zero self.new.made i ≡ sum_with S.arithmetic left.now own_rows.now own_values.now terms.now i) }
     {
+        if let [term] = terms {
+            return self.make_of_one(left, term, own_rows, own_values);
+        }
         if dense {
             return self.make_dense(left, terms, own_rows, own_values);
         }
@@ -67,6 +70,29 @@ impl<S: Semiring> Workspace<S> {
         let (merged_rows, merged_values) = self.spare.entries();
         self.made
             .join(own_rows, own_values, merged_rows, merged_values, S::one())
+    }
+
+    /// Makes it of one term.
+    fn make_of_one(
+        &mut self,
+        left: &Block<S>,
+        term: &Term,
+        own_rows: &[u32],
+        own_values: &[u64],
+    ) -> Result<(), AllocError>
+        requires left { IsMatrix S.arithmetic left.now }
+        requires term { IsTerm S.arithmetic (rows_of left.now.entries) term.now }
+        requires own { AreEntries S.arithmetic left.now.shape.rows own_rows.now own_values.now }
+        ensures sums { self.new.sums ≡ self.old.sums }
+        ensures column { OnOk result ((i : ℕ) → value_in S.arithmetic.zero self.new.made i ≡ S.arithmetic.add (row_value S.arithmetic.zero own_rows.now own_values.now i) (term_value S.arithmetic (rows_of left.now.entries) (values_of left.now.entries) i term.now)) }
+    {
+        self.made.join(
+            own_rows,
+            own_values,
+            &left.row_numbers()[term.at..term.end],
+            &left.values()[term.at..term.end],
+            term.scale,
+        )
     }
 
     /// Makes it by the sparse accumulator.
