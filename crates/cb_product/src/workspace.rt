@@ -1,9 +1,9 @@
 //! One column of a product, made in the way that costs least.
-ghost use Rattle.std.specs.Prelude.{◌≡◌, ℕ, All, IfOk, OnOk};
+ghost use Rattle.std.specs.Prelude.{◌≡◌, ℕ, length, All, IfOk, OnOk};
 ghost use Rattle.cb_matrix.specs.Sparse.{IsMatrix};
-ghost use Rattle.cb_dcsc.specs.Columns.{rows_of, values_of, row_value};
+ghost use Rattle.cb_dcsc.specs.Columns.{rows_of};
 ghost use Rattle.cb_product.specs.SparseColumn.{AreEntries, value_in};
-ghost use Rattle.cb_product.specs.Terms.{IsTerm, term_value, sum_with};
+ghost use Rattle.cb_product.specs.Terms.{IsTerm, sum_with};
 
 use crate::columns::Column;
 use crate::heads::merge;
@@ -56,8 +56,8 @@ impl<S: Semiring> Workspace<S> {
         ensures zeros { OnOk result (All (λ x. x ≡ S.arithmetic.zero) self.new.sums) }
         ensures column { OnOk result ((i : ℕ) → value_in S.arithmetic.zero self.new.made i ≡ sum_with S.arithmetic left.now own_rows.now own_values.now terms.now i) }
     {
-        if let [term] = terms {
-            return self.make_of_one(left, term, own_rows, own_values);
+        if terms.len() == 1 {
+            return self.make_of_one(left, terms, own_rows, own_values);
         }
         if dense {
             return self.make_dense(left, terms, own_rows, own_values);
@@ -72,25 +72,28 @@ impl<S: Semiring> Workspace<S> {
             .join(own_rows, own_values, merged_rows, merged_values, S::one())
     }
 
-    /// Makes it of one term.
+    /// Makes it by joining the only term.
     fn make_of_one(
         &mut self,
         left: &Block<S>,
-        term: &Term,
+        terms: &[Term],
         own_rows: &[u32],
         own_values: &[u64],
     ) -> Result<(), AllocError>
+        requires one { length terms.now ≡ 1 }
         requires left { IsMatrix S.arithmetic left.now }
-        requires term { IsTerm S.arithmetic (rows_of left.now.entries) term.now }
+        requires terms { All (IsTerm S.arithmetic (rows_of left.now.entries)) terms.now }
         requires own { AreEntries S.arithmetic left.now.shape.rows own_rows.now own_values.now }
         ensures sums { self.new.sums ≡ self.old.sums }
-        ensures column { OnOk result ((i : ℕ) → value_in S.arithmetic.zero self.new.made i ≡ S.arithmetic.add (row_value S.arithmetic.zero own_rows.now own_values.now i) (term_value S.arithmetic (rows_of left.now.entries) (values_of left.now.entries) i term.now)) }
+        ensures column { OnOk result ((i : ℕ) → value_in S.arithmetic.zero self.new.made i ≡ sum_with S.arithmetic left.now own_rows.now own_values.now terms.now i) }
     {
+        let term = terms[0];
+        let (rows, values) = (left.row_numbers(), left.values());
         self.made.join(
             own_rows,
             own_values,
-            &left.row_numbers()[term.at..term.end],
-            &left.values()[term.at..term.end],
+            &rows[term.at..term.end],
+            &values[term.at..term.end],
             term.scale,
         )
     }

@@ -1,5 +1,6 @@
 use Rattle.std.proofs.Common.{◌<◌, ap, refl, subst, sym, ◌∙◌}
 use Rattle.std.specs.Prelude.{All}
+use Rattle.std.proofs.lemmas.Bool.{eqb-true}
 use Rattle.std.proofs.lemmas.List.{get_or_default}
 use Rattle.cb_matrix.specs.Sparse.{Extent}
 use Rattle.cb_dcsc.specs.Columns.{rows_of, values_of}
@@ -55,8 +56,8 @@ push_column-requires-clause-not_zero g c =
     let column = own_sparse g.S.Semiring.arithmetic c.args.accumulator.now c.shape.ensures.matrix _ _ _ own.ensures.rows own.ensures.values in
     column.not_zero
 
-pub loop-column-preserved-then-terms : goal.loop-column-preserved-then-terms
-loop-column-preserved-then-terms g c =
+pub loop-column-preserved-then-is_empty : goal.loop-column-preserved-then-is_empty
+loop-column-preserved-then-is_empty g c =
     let s = g.S.Semiring.arithmetic in
     let laws = g.met.S.Semiring.is_semiring in
     let r = c.requires in
@@ -66,7 +67,8 @@ loop-column-preserved-then-terms g c =
     let here = get_or_default c.args.columns.now c.loop-column.column-index c.args.right.now.shape.cols 0 c.loop-column-test.true in
     let before = subst (λ n. All (λ e. e.column < n) c.loop-column.out.entries) here c.loop-column.invariant.so_far.before in
     let column = own_sparse s c.args.accumulator.now c.shape.ensures.matrix _ _ _ own.ensures.rows own.ensures.values in
-    let none = λ i. sym (sums i) ∙ terms_value-end s laws (rows_of left.entries) (values_of left.entries) (matrix_values s laws left c.shape-left_shape.ensures.matrix) i 0 _ c.if-terms.true in
+    let none_left = let e = eqb-true _ 0 (sym c.is_empty.ensures ∙ c.if-is_empty.true) in omega (arith, e) in
+    let none = λ i. sym (sums i) ∙ terms_value-end s laws (rows_of left.entries) (values_of left.entries) (matrix_values s laws left c.shape-left_shape.ensures.matrix) i 0 _ none_left in
     let alone = own_alone s c.args.accumulator.now c.shape.ensures.matrix _ _ _ own.ensures.rows own.ensures.values laws _ none in
     let adds = column_adds s _ _ _ _ column alone c.loop-column.out _ before c.in_ok-push_column.ensures.ok c.in_ok-push_column.ensures.matrix in
     record {
@@ -74,8 +76,8 @@ loop-column-preserved-then-terms g c =
       zeros = c.loop-column.invariant.zeros;
     }
 
-pub push_column-2-requires-clause-rows : goal.push_column-2-requires-clause-rows
-push_column-2-requires-clause-rows g c =
+pub push_column-requires-in-loop-column-clause-rows : goal.push_column-requires-in-loop-column-clause-rows
+push_column-requires-in-loop-column-clause-rows g c =
     let s = g.S.Semiring.arithmetic in
     let laws = g.met.S.Semiring.is_semiring in
     let left = c.args.left.now in
@@ -91,8 +93,8 @@ push_column-2-requires-clause-rows g c =
     let column = rw c.deref.ensures.value at c.in_ok-make.ensures.column in
     rw (c.entries.ensures.rows, shape) (column_inside s 0 _ _ _ c.entries.ensures.column column left.shape.rows (λ i l. sum_past s laws left c.shape-left_shape.ensures.matrix _ _ own_entries _ c.in_ok-products.ensures.terms i l))
 
-pub push_column-2-requires-clause-before : goal.push_column-2-requires-clause-before
-push_column-2-requires-clause-before g c =
+pub push_column-requires-in-loop-column-clause-before : goal.push_column-requires-in-loop-column-clause-before
+push_column-requires-in-loop-column-clause-before g c =
     let here = get_or_default c.args.columns.now c.loop-column.column-index c.args.right.now.shape.cols 0 c.loop-column-test.true in
     subst (λ n. All (λ e. e.column < n) c.loop-column.out.entries) here c.loop-column.invariant.so_far.before
 

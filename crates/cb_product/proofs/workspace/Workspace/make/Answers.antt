@@ -14,6 +14,3 @@ returns-clause-column g c =
     let joined = rw (c.entries.ensures.rows, c.entries.ensures.values, c.one.ensures) at c.join.ensures in
     let merged = rw (c.row_numbers-rows.ensures, c.values-values.ensures) at c.in_ok-merge.ensures in
     on_ok_weaker c.join.result (λ h i. h i ∙ ap (s.add (row_value s.zero c.args.own_rows.now c.args.own_values.now i)) (g.met.S.Semiring.is_semiring.mul_one _ (column_value s g.met.S.Semiring.is_semiring _ c.entries.ensures.column i) ∙ merged i)) joined
-
-pub returns-then-terms-clause-column : goal.returns-then-terms-clause-column
-returns-then-terms-clause-column g c = search
