@@ -1,4 +1,4 @@
-use Rattle.std.proofs.Common.{◌<◌, ap, refl, subst, sym, ◌∙◌}
+use Rattle.std.proofs.Common.{ℕ, ◌<◌, ap, arith, refl, subst, sym, ◌∙◌}
 use Rattle.std.specs.Prelude.{All}
 use Rattle.std.proofs.lemmas.Bool.{eqb-true}
 use Rattle.std.proofs.lemmas.List.{get_or_default}
@@ -68,7 +68,7 @@ loop-column-preserved-then-is_empty g c =
     let before = subst (λ n. All (λ e. e.column < n) c.loop-column.out.entries) here c.loop-column.invariant.so_far.before in
     let column = own_sparse s c.args.accumulator.now c.shape.ensures.matrix _ _ _ own.ensures.rows own.ensures.values in
     let none_left = let e = eqb-true _ 0 (sym c.is_empty.ensures ∙ c.if-is_empty.true) in omega (arith, e) in
-    let none = λ i. sym (sums i) ∙ terms_value-end s laws (rows_of left.entries) (values_of left.entries) (matrix_values s laws left c.shape-left_shape.ensures.matrix) i 0 _ none_left in
+    let none = λ (i : ℕ). sym (sums i) ∙ terms_value-end s laws (rows_of left.entries) (values_of left.entries) (matrix_values s laws left c.shape-left_shape.ensures.matrix) i 0 _ none_left in
     let alone = own_alone s c.args.accumulator.now c.shape.ensures.matrix _ _ _ own.ensures.rows own.ensures.values laws _ none in
     let adds = column_adds s _ _ _ _ column alone c.loop-column.out _ before c.in_ok-push_column.ensures.ok c.in_ok-push_column.ensures.matrix in
     record {
