@@ -67,8 +67,8 @@ loop-column-preserved-then-is_empty g c =
     let here = get_or_default c.args.columns.now c.loop-column.column-index c.args.right.now.shape.cols 0 c.loop-column-test.true in
     let before = subst (λ n. All (λ e. e.column < n) c.loop-column.out.entries) here c.loop-column.invariant.so_far.before in
     let column = own_sparse s c.args.accumulator.now c.shape.ensures.matrix _ _ _ own.ensures.rows own.ensures.values in
-    let none_left = let e = eqb-true _ 0 (sym c.is_empty.ensures ∙ c.if-is_empty.true) in omega (arith, e) in
-    let none = λ (i : ℕ). sym (sums i) ∙ terms_value-end s laws (rows_of left.entries) (values_of left.entries) (matrix_values s laws left c.shape-left_shape.ensures.matrix) i 0 _ none_left in
+    let length_is = eqb-true _ 0 (sym c.is_empty.ensures ∙ c.if-is_empty.true) in
+    let none = λ (i : ℕ). sym (sums i) ∙ terms_value-end s laws (rows_of left.entries) (values_of left.entries) (matrix_values s laws left c.shape-left_shape.ensures.matrix) i 0 _ (omega (arith, length_is)) in
     let alone = own_alone s c.args.accumulator.now c.shape.ensures.matrix _ _ _ own.ensures.rows own.ensures.values laws _ none in
     let adds = column_adds s _ _ _ _ column alone c.loop-column.out _ before c.in_ok-push_column.ensures.ok c.in_ok-push_column.ensures.matrix in
     record {
