@@ -11,3 +11,5 @@ pub mod ProductColumns
 pub mod Union
 -- AbsentColumns: a column whose number isn't among those that entries stand in has none of them.
 pub mod AbsentColumns
+-- OwnColumn: a column of the accumulator to which no term is added.
+pub mod OwnColumn

@@ -49,6 +49,13 @@ module _ (s : Arithmetic) (laws : IsSemiring s) (rows values : List ℕ) (all_va
   unfolding total
   terms_value-end i n ts l = ap (terms_value s rows values i) (drop_all n ts l)
 
+  -- one term alone
+  pub terms_value-one : (i : ℕ) (ts : List Term) (d : Term) → length ts ≡ 1 → IsValue s (get_or ts 0 d).scale → terms_value s rows values i ts ≡ term_value s rows values i (get_or ts 0 d)
+  terms_value-one i ts d e v =
+      terms_value-rest i 0 ts d (omega (arith, e))
+      ∙ ap (s.add (term_value s rows values i (get_or ts 0 d))) (terms_value-end i 1 ts (omega (arith, e)))
+      ∙ add_zero s laws (term_value s rows values i (get_or ts 0 d)) (term_value-value i (get_or ts 0 d) v)
+
   -- ---- terms added to sums of rows
   -- one term more
   pub term_added : (ts : List Term) (n : ℕ) (d : Term) (old new : List ℕ) (T : ℕ → ℕ) → n < length ts → All (IsTerm s rows) ts → All (IsValue s) old → length new ≡ length old

@@ -1,8 +1,10 @@
 //! Products of blocks, column by column.
 //!
 //! Column j of a product is a sum of terms: columns k of the left block, each scaled by an entry (k, j) of the right.
-//! With an accumulator, its own column is added. A column is made in one of three ways, all under one contract:
+//! With an accumulator, its own column is added. Where there are no terms, that column is copied as it is. Any other is
+//! made in one of four ways, all under one contract:
 //!
+//! - by joining the one term that there is with it: time for the entries of both;
 //! - by the sparse accumulator, an array with a place for each row, where its entries are many for the rows: time
 //!   (products), plus the words of marks that are looked at;
 //! - by joining a few terms one after another: time (products) times (terms);
@@ -121,6 +123,10 @@ fn accumulate<S: Semiring>(
         let (rows, values) = columns::of_next(right, &mut next, *column);
         let products = gather(&mut terms, left, &index, rows, values)?;
         let (own_rows, own_values) = columns::of_next(accumulator, &mut own_next, *column);
+        if terms.is_empty() {
+            out.push_column(*column, own_rows, own_values)?;
+            continue;
+        }
         let entries = products.saturating_add(own_rows.len());
         seen = seen.saturating_add(entries);
         let dense = is_dense(left_shape.rows(), entries, seen);

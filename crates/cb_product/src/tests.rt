@@ -140,6 +140,75 @@ fn products_that_are_added(rt: HostRuntime) -> Result<(), Fail> {
     Ok(())
 }
 
+/// The first column of the product has one term, the second none, the third names a column without entries, and in the
+/// last, of two terms, a sum comes to zero.
+#[test]
+fn columns_without_terms_stay_as_they_are(rt: HostRuntime) -> Result<(), Fail> {
+    let left = [entry(1, 0, 2), entry(4, 0, 3), entry(2, 2, 5)];
+    let right = [
+        entry(0, 0, 10),
+        entry(1, 2, 7),
+        entry(0, 3, 1),
+        entry(2, 3, 1),
+    ];
+    let own = [
+        entry(0, 0, 1),
+        entry(4, 0, 6),
+        entry(3, 1, 8),
+        entry(5, 1, 9),
+        entry(1, 2, 4),
+        entry(2, 2, u64::MAX),
+        entry(2, 3, u64::MAX - 4),
+    ];
+    let wanted = [
+        entry(0, 0, 1),
+        entry(1, 0, 20),
+        entry(4, 0, 36),
+        entry(3, 1, 8),
+        entry(5, 1, 9),
+        entry(1, 2, 4),
+        entry(2, 2, u64::MAX),
+        entry(1, 3, 2),
+        entry(4, 3, 3),
+    ];
+    for rows in [6, LIMIT] {
+        let sum = added(rt.alloc(), [rows, 3, 4], &left, &right, &own)?;
+        assert_eq!(rt; sum.as_slice(), wanted.as_slice());
+    }
+    Ok(())
+}
+
+/// One column scaled by 2, by 3 and by 1, and joined with a column of which it makes a row zero, with none, and with
+/// one of other rows. 2 times 2^63 is zero.
+#[test]
+fn one_term_is_joined(rt: HostRuntime) -> Result<(), Fail> {
+    let left = [entry(0, 0, 1), entry(2, 0, 1 << 63), entry(5, 0, 7)];
+    let right = [entry(0, 0, 2), entry(0, 1, 3), entry(0, 2, 1)];
+    let own = [
+        entry(2, 0, 4),
+        entry(5, 0, u64::MAX - 13),
+        entry(1, 2, 6),
+        entry(7, 2, 9),
+    ];
+    let wanted = [
+        entry(0, 0, 2),
+        entry(2, 0, 4),
+        entry(0, 1, 3),
+        entry(2, 1, 1 << 63),
+        entry(5, 1, 21),
+        entry(0, 2, 1),
+        entry(1, 2, 6),
+        entry(2, 2, 1 << 63),
+        entry(5, 2, 7),
+        entry(7, 2, 9),
+    ];
+    for rows in [8, LIMIT] {
+        let sum = added(rt.alloc(), [rows, 1, 3], &left, &right, &own)?;
+        assert_eq!(rt; sum.as_slice(), wanted.as_slice());
+    }
+    Ok(())
+}
+
 #[test]
 fn blocks_without_rows_columns_or_entries_have_empty_products(rt: HostRuntime) -> Result<(), Fail> {
     for sides in [[0, 0, 0], [0, 3, 2], [2, 0, 3], [2, 3, 0], [2, 3, 4]] {
@@ -248,8 +317,9 @@ fn plain(
     ))
 }
 
-/// Among 5,000 rows the columns are made by the sparse accumulator, among 2,147,483,647 the first by the heap and the
-/// others by joining. Both ways, and with an accumulator too, the answer is that of the plain product.
+/// Among 5,000 rows the first two columns are made by the sparse accumulator, among 2,147,483,647 one by the heap and
+/// one by joining. The third has one term, and the last has none. In each way, and with an accumulator too, the answer
+/// is that of the plain product.
 #[test]
 fn each_way_gives_the_plain_product(rt: HostRuntime) -> Result<(), Fail> {
     let right = named(rt.alloc())?;
@@ -308,14 +378,19 @@ fn sum_or_start(
 #[test]
 fn a_refused_product_hands_the_accumulator_back(rt: HostRuntime) {
     let left = [entry(0, 0, 1), entry(0, 1, 2), entry(1, 1, 3)];
-    let right = [entry(0, 0, 10), entry(1, 0, 100)];
-    let own = [entry(0, 0, 5), entry(1, 0, 5)];
-    let sums = [entry(0, 0, 215), entry(1, 0, 305)];
+    let right = [entry(0, 0, 10), entry(1, 0, 100), entry(0, 2, 3)];
+    let own = [entry(0, 0, 5), entry(1, 0, 5), entry(1, 1, 7)];
+    let sums = [
+        entry(0, 0, 215),
+        entry(1, 0, 305),
+        entry(1, 1, 7),
+        entry(0, 2, 3),
+    ];
     for rows in [2, LIMIT] {
-        let Ok((is_sum, found)) = sum_or_start(rt.alloc(), [rows, 2, 1], &left, &right, &own) else {
+        let Ok((is_sum, found)) = sum_or_start(rt.alloc(), [rows, 2, 3], &left, &right, &own) else {
             continue;
         };
-        let wanted = if is_sum { sums } else { own };
-        assert_eq!(rt; found.as_slice(), wanted.as_slice());
+        let wanted: &[Entry] = if is_sum { &sums } else { &own };
+        assert_eq!(rt; found.as_slice(), wanted);
     }
 }

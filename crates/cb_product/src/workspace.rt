@@ -1,5 +1,5 @@
 //! One column of a product, made in the way that costs least.
-ghost use Rattle.std.specs.Prelude.{◌≡◌, ℕ, All, IfOk, OnOk};
+ghost use Rattle.std.specs.Prelude.{◌≡◌, ℕ, length, All, IfOk, OnOk};
 ghost use Rattle.cb_matrix.specs.Sparse.{IsMatrix};
 ghost use Rattle.cb_dcsc.specs.Columns.{rows_of};
 ghost use Rattle.cb_product.specs.SparseColumn.{AreEntries, value_in};
@@ -39,8 +39,8 @@ impl<S: Semiring> Workspace<S> {
         })
     }
 
-    /// Makes the sum of a column of the accumulator and of terms: by the sparse accumulator where that is said to pay,
-    /// else by joining a few terms one after another, or many by a heap.
+    /// Makes the sum of a column of the accumulator and of terms: one term is joined with it. More are added by the
+    /// sparse accumulator where that is said to pay, else a few are joined one after another, or many merged by a heap.
     pub fn make(
         &mut self,
         left: &Block<S>,
@@ -56,6 +56,9 @@ impl<S: Semiring> Workspace<S> {
         ensures zeros { OnOk result (All (λ x. x ≡ S.arithmetic.zero) self.new.sums) }
         ensures column { OnOk result ((i : ℕ) → value_in S.arithmetic.zero self.new.made i ≡ sum_with S.arithmetic left.now own_rows.now own_values.now terms.now i) }
     {
+        if terms.len() == 1 {
+            return self.make_of_one(left, terms, own_rows, own_values);
+        }
         if dense {
             return self.make_dense(left, terms, own_rows, own_values);
         }
@@ -67,6 +70,32 @@ impl<S: Semiring> Workspace<S> {
         let (merged_rows, merged_values) = self.spare.entries();
         self.made
             .join(own_rows, own_values, merged_rows, merged_values, S::one())
+    }
+
+    /// Makes it by joining the only term.
+    fn make_of_one(
+        &mut self,
+        left: &Block<S>,
+        terms: &[Term],
+        own_rows: &[u32],
+        own_values: &[u64],
+    ) -> Result<(), AllocError>
+        requires one { length terms.now ≡ 1 }
+        requires left { IsMatrix S.arithmetic left.now }
+        requires terms { All (IsTerm S.arithmetic (rows_of left.now.entries)) terms.now }
+        requires own { AreEntries S.arithmetic left.now.shape.rows own_rows.now own_values.now }
+        ensures sums { self.new.sums ≡ self.old.sums }
+        ensures column { OnOk result ((i : ℕ) → value_in S.arithmetic.zero self.new.made i ≡ sum_with S.arithmetic left.now own_rows.now own_values.now terms.now i) }
+    {
+        let term = terms[0];
+        let (rows, values) = (left.row_numbers(), left.values());
+        self.made.join(
+            own_rows,
+            own_values,
+            &rows[term.at..term.end],
+            &values[term.at..term.end],
+            term.scale,
+        )
     }
 
     /// Makes it by the sparse accumulator.

@@ -1,10 +1,14 @@
-use Rattle.std.proofs.Common.{◌<◌, ap, refl, subst, ◌∙◌}
+use Rattle.std.proofs.Common.{ℕ, ◌<◌, ap, arith, refl, subst, sym, ◌∙◌}
 use Rattle.std.specs.Prelude.{All}
+use Rattle.std.proofs.lemmas.Bool.{eqb-true}
 use Rattle.std.proofs.lemmas.List.{get_or_default}
 use Rattle.cb_matrix.specs.Sparse.{Extent}
+use Rattle.cb_dcsc.specs.Columns.{rows_of, values_of}
 use Rattle.cb_dcsc.proofs.Lookup.{rows_inside, as_long}
 use Rattle.cb_product.specs.SparseColumn.{AreEntries}
 use Rattle.cb_product.proofs.ProductColumns.{sum_start, sum_more, sum_all, own_column}
+use Rattle.cb_product.proofs.TermSums.{matrix_values, terms_value-end}
+use Rattle.cb_product.proofs.OwnColumn.{own_sparse, own_alone}
 use Rattle.cb_product.proofs.RowSums.{sum_past}
 use Rattle.cb_product.proofs.StoredColumn.{column_inside, column_adds}
 use Rattle.cb_product.proofs.accumulate.Goals as goal
@@ -30,8 +34,50 @@ make-requires-clause-own g c =
       are_values = own.ensures.are_values;
     }
 
+pub push_column-requires-clause-lengths : goal.push_column-requires-clause-lengths
+push_column-requires-clause-lengths g c =
+    let own = c.of_next-in-loop-column in
+    as_long c.args.accumulator.now.entries _ _ _ own.ensures.rows own.ensures.values
+
 pub push_column-requires-clause-rows : goal.push_column-requires-clause-rows
 push_column-requires-clause-rows g c =
+    let own = c.of_next-in-loop-column in
+    let rows = ap (λ (e : Extent). e.rows) c.loop-column.invariant.so_far.shape in
+    subst (λ n. All (λ i. i < n) own.result.0.now) (sym rows) (rows_inside g.S.Semiring.arithmetic c.args.accumulator.now _ _ c.shape.ensures.matrix own.ensures.rows)
+
+pub push_column-requires-clause-before : goal.push_column-requires-clause-before
+push_column-requires-clause-before g c =
+    let here = get_or_default c.args.columns.now c.loop-column.column-index c.args.right.now.shape.cols 0 c.loop-column-test.true in
+    subst (λ n. All (λ e. e.column < n) c.loop-column.out.entries) here c.loop-column.invariant.so_far.before
+
+pub push_column-requires-clause-not_zero : goal.push_column-requires-clause-not_zero
+push_column-requires-clause-not_zero g c =
+    let own = c.of_next-in-loop-column in
+    let column = own_sparse g.S.Semiring.arithmetic c.args.accumulator.now c.shape.ensures.matrix _ _ _ own.ensures.rows own.ensures.values in
+    column.not_zero
+
+pub loop-column-preserved-then-is_empty : goal.loop-column-preserved-then-is_empty
+loop-column-preserved-then-is_empty g c =
+    let s = g.S.Semiring.arithmetic in
+    let laws = g.met.S.Semiring.is_semiring in
+    let r = c.requires in
+    let left = c.args.left.now in
+    let own = c.of_next-in-loop-column in
+    let sums = rw (c.of_next.ensures.rows, c.of_next.ensures.values) at c.in_ok-products.ensures.sums in
+    let here = get_or_default c.args.columns.now c.loop-column.column-index c.args.right.now.shape.cols 0 c.loop-column-test.true in
+    let before = subst (λ n. All (λ e. e.column < n) c.loop-column.out.entries) here c.loop-column.invariant.so_far.before in
+    let column = own_sparse s c.args.accumulator.now c.shape.ensures.matrix _ _ _ own.ensures.rows own.ensures.values in
+    let length_is = eqb-true _ 0 (sym c.is_empty.ensures ∙ c.if-is_empty.true) in
+    let none = λ (i : ℕ). sym (sums i) ∙ terms_value-end s laws (rows_of left.entries) (values_of left.entries) (matrix_values s laws left c.shape-left_shape.ensures.matrix) i 0 _ (omega (arith, length_is)) in
+    let alone = own_alone s c.args.accumulator.now c.shape.ensures.matrix _ _ _ own.ensures.rows own.ensures.values laws _ none in
+    let adds = column_adds s _ _ _ _ column alone c.loop-column.out _ before c.in_ok-push_column.ensures.ok c.in_ok-push_column.ensures.matrix in
+    record {
+      so_far = sum_more s laws c.args.accumulator.now left c.args.right.now c.shape.ensures.matrix c.shape-left_shape.ensures.matrix c.shape-right_shape.ensures.matrix r.agree c.args.columns.now r.ascending r.within r.accumulator_columns r.right_columns _ _ c.loop-column.column-index _ _ c.loop-column-test.true refl c.loop-column.invariant.so_far adds (λ i. refl);
+      zeros = c.loop-column.invariant.zeros;
+    }
+
+pub push_column-requires-in-loop-column-clause-rows : goal.push_column-requires-in-loop-column-clause-rows
+push_column-requires-in-loop-column-clause-rows g c =
     let s = g.S.Semiring.arithmetic in
     let laws = g.met.S.Semiring.is_semiring in
     let left = c.args.left.now in
@@ -47,8 +93,8 @@ push_column-requires-clause-rows g c =
     let column = rw c.deref.ensures.value at c.in_ok-make.ensures.column in
     rw (c.entries.ensures.rows, shape) (column_inside s 0 _ _ _ c.entries.ensures.column column left.shape.rows (λ i l. sum_past s laws left c.shape-left_shape.ensures.matrix _ _ own_entries _ c.in_ok-products.ensures.terms i l))
 
-pub push_column-requires-clause-before : goal.push_column-requires-clause-before
-push_column-requires-clause-before g c =
+pub push_column-requires-in-loop-column-clause-before : goal.push_column-requires-in-loop-column-clause-before
+push_column-requires-in-loop-column-clause-before g c =
     let here = get_or_default c.args.columns.now c.loop-column.column-index c.args.right.now.shape.cols 0 c.loop-column-test.true in
     subst (λ n. All (λ e. e.column < n) c.loop-column.out.entries) here c.loop-column.invariant.so_far.before
 
@@ -61,9 +107,9 @@ loop-column-preserved g c =
     let own = own_column s c.args.accumulator.now _ _ _ c.of_next-in-loop-column.ensures.rows c.of_next-in-loop-column.ensures.values in
     let here = get_or_default c.args.columns.now c.loop-column.column-index c.args.right.now.shape.cols 0 c.loop-column-test.true in
     let before = subst (λ n. All (λ e. e.column < n) c.loop-column.out.entries) here c.loop-column.invariant.so_far.before in
-    let stored = rw (c.entries.ensures.rows, c.entries.ensures.values) at c.in_ok-push_column.ensures.ok in
+    let stored = rw (c.entries.ensures.rows, c.entries.ensures.values) at c.in_ok-push_column-2.ensures.ok in
     let column = rw c.deref.ensures.value at c.in_ok-make.ensures.column in
-    let adds = column_adds s _ _ _ _ c.entries.ensures.column column c.loop-column.out _ before stored c.in_ok-push_column.ensures.matrix in
+    let adds = column_adds s _ _ _ _ c.entries.ensures.column column c.loop-column.out _ before stored c.in_ok-push_column-2.ensures.matrix in
     record {
       so_far = sum_more s laws c.args.accumulator.now c.args.left.now c.args.right.now c.shape.ensures.matrix c.shape-left_shape.ensures.matrix c.shape-right_shape.ensures.matrix r.agree c.args.columns.now r.ascending r.within r.accumulator_columns r.right_columns _ _ c.loop-column.column-index _ _ c.loop-column-test.true refl c.loop-column.invariant.so_far adds (λ i. λ t. s.add (own i t) (sums i t));
       zeros = c.in_ok-make.ensures.zeros;
