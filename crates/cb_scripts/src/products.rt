@@ -129,7 +129,7 @@ pub(crate) fn product_of_one<S: Semiring>(
 }
 
 /// The only block of a matrix over the grid of one rank, which is the whole matrix.
-fn only_block<S: Semiring>(matrix: &DistributedMatrix<S>) -> &Block<S>
+pub(crate) fn only_block<S: Semiring>(matrix: &DistributedMatrix<S>) -> &Block<S>
     requires { matrix.now.side ≡ 1 }
     ensures { result.now ≡ matrix.now.matrix }
 {

@@ -8,8 +8,10 @@ ghost use Rattle.cb_scripts.specs.Losses.{IsLossRefusal};
 ghost use Rattle.cb_scripts.specs.Refusals.{IsRunRefusal};
 ghost use Rattle.cb_scripts.specs.SpreadVectors.{HasProduct, HasSpread, MultipliesVectors};
 
+use crate::products::only_block;
 use crate::stores::{blank, drain, fill};
 use crate::{Engine, ScriptFault};
+use cb_dcsc::Block;
 use cb_kernels::{LEFT, RESULT, RIGHT, grid_vector};
 use cb_layout::{DistributedMatrix, Grid};
 use cb_matrix::{Matrix, Shape};
@@ -30,7 +32,8 @@ pub fn vector_plan(alloc: Global, grid: &Grid, shape: Shape) -> Result<CheckedPl
     Ok(plan)
 }
 
-/// The product of a matrix and a vector, by a plan for matrices of its shape. The matrix is given back as it was.
+/// The product of a matrix and a vector, by a plan for matrices of its shape. The matrix is given back as it was. On a
+/// grid of one rank the plain engine multiplies the block and the vector, without the plan.
 pub fn multiply_vector<S: Semiring + Send + Sync, R: Threads + Wait + Sync>(
     rt: &R,
     alloc: Global,
@@ -47,6 +50,10 @@ pub fn multiply_vector<S: Semiring + Send + Sync, R: Threads + Wait + Sync>(
     ensures same { IfOk result (λ p. p.0 ≡ matrix) }
     ensures fault { IfErr result (IsRunRefusal engine) }
 {
+    if engine == Engine::Plain && grid.side() == 1 {
+        let product = vector_of_one(alloc, &matrix, vector)?;
+        return Ok((matrix, product));
+    }
     let (a, x) = (matrix.shape(), vector.shape());
     let stores = spread(alloc, grid, matrix, vector)?;
     let stores = engine.run(rt, alloc, plan, stores)?;
@@ -68,10 +75,30 @@ pub fn multiply_vector_plain<S: Semiring>(
     ensures same { IfOk result (λ p. p.0 ≡ matrix) }
     ensures fault { IfErr result (IsRunRefusal Plain) }
 {
+    if grid.side() == 1 {
+        let product = vector_of_one(alloc, &matrix, vector)?;
+        return Ok((matrix, product));
+    }
     let (a, x) = (matrix.shape(), vector.shape());
     let stores = spread(alloc, grid, matrix, vector)?;
     let stores = Engine::run_plain(alloc, plan, stores)?;
     collect(alloc, grid, stores, a, a.with_columns_of(x))
+}
+
+/// The product of a matrix over the grid of one rank and a vector: that of its block.
+fn vector_of_one<S: Semiring>(
+    alloc: Global,
+    matrix: &DistributedMatrix<S>,
+    vector: &Matrix<S>,
+) -> Result<Matrix<S>, AllocError>
+    requires side { matrix.now.side ≡ 1 }
+    requires agree { matrix.now.matrix.shape.cols ≡ vector.now.shape.rows }
+    ensures { IfOk result (λ m. m ≡ product S.arithmetic matrix.now.matrix vector.now) }
+{
+    let column = Block::from_ordered(alloc, vector.shape(), vector.entries())?;
+    let product = cb_product::multiply(alloc, only_block(matrix), &column)?;
+    let entries = product.entries()?;
+    Ok(Matrix::from_ordered(product.shape(), entries))
 }
 
 /// The matrix of the one shape and the column of the other, whose parts and pieces a run has left.
