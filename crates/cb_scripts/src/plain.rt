@@ -17,7 +17,7 @@ use crate::rounds::{multiply_vector_plain, vector_plan};
 use crate::runs::compute_plain;
 use crate::searches::Search;
 use crate::transposes::transpose_plan;
-use crate::walks::weighted;
+use crate::walks::{check_graph, weighted};
 use cb_elementwise::Test;
 use cb_layout::DistributedMatrix;
 use cb_matrix::Matrix;
@@ -152,13 +152,7 @@ pub fn distances_distributed(
     ensures agree { IfOk result (λ column. (graph.matrix.shape.rows ≡ graph.matrix.shape.cols) × (source < graph.matrix.shape.rows)) }
     ensures fault { IfErr result (IsGraphRefusal graph.matrix source Plain) }
 {
-    let shape = graph.shape();
-    if shape.rows() != shape.cols() {
-        return Err(ScriptFault::NotSquare);
-    }
-    if source >= shape.rows() {
-        return Err(ScriptFault::Source);
-    }
+    check_graph(&graph, source)?;
     nearest(alloc, graph, source)
 }
 
@@ -172,13 +166,7 @@ pub fn levels_distributed(
     ensures agree { IfOk result (λ column. (graph.matrix.shape.rows ≡ graph.matrix.shape.cols) × (source < graph.matrix.shape.rows)) }
     ensures fault { IfErr result (IsGraphRefusal graph.matrix source Plain) }
 {
-    let shape = graph.shape();
-    if shape.rows() != shape.cols() {
-        return Err(ScriptFault::NotSquare);
-    }
-    if source >= shape.rows() {
-        return Err(ScriptFault::Source);
-    }
+    check_graph(&graph, source)?;
     let weighted = weighted(alloc, graph)?;
     nearest(alloc, weighted, source)
 }

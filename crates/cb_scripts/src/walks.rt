@@ -2,8 +2,9 @@
 //! from one of them.
 //!
 //! Both scripts are one [search](crate::searches). In a level each edge weighs 1.
-ghost use Rattle.std.specs.Prelude.{◌≡◌, ℕ, ◌<◌, IfOk, IfErr};
+ghost use Rattle.std.specs.Prelude.{◌≡◌, ℕ, ◌<◌, IfOk, IfErr, OnOk};
 ghost use Rattle.cb_matrix.specs.Sparse.{Sparse};
+ghost use Rattle.cb_scripts.specs.declared.Engine.TheVariants.{Plain};
 ghost use Rattle.cb_scripts.specs.Walks.{AreLevels, AreDistances};
 ghost use Rattle.cb_scripts.specs.Refusals.{IsGraphRefusal, IsRunRefusal};
 
@@ -13,7 +14,7 @@ use crate::transposes::transpose_distributed;
 use crate::{Engine, ScriptFault};
 use cb_layout::{DistributedMatrix, Grid};
 use cb_matrix::Matrix;
-use cb_semirings::{MinPlus, OrAnd};
+use cb_semirings::{MinPlus, OrAnd, Semiring};
 use std::alloc::{AllocError, Global};
 use std::sync::Wait;
 use std::thread::Threads;
@@ -79,6 +80,40 @@ pub(crate) fn weighted(
     graph.recast(alloc)
 }
 
+/// Refuses a matrix that isn't square, then a source that is none of its vertices.
+pub(crate) fn check_graph<S: Semiring>(
+    graph: &DistributedMatrix<S>,
+    source: u32,
+) -> Result<(), ScriptFault>
+    ensures square { OnOk result (graph.now.matrix.shape.rows ≡ graph.now.matrix.shape.cols) }
+    ensures source { OnOk result (source < graph.now.matrix.shape.rows) }
+    ensures fault { IfErr result (IsGraphRefusal graph.now.matrix source Plain) }
+{
+    let shape = graph.shape();
+    if shape.rows() != shape.cols() {
+        return Err(ScriptFault::NotSquare);
+    }
+    if source >= shape.rows() {
+        return Err(ScriptFault::Source);
+    }
+    Ok(())
+}
+
+/// The same of a matrix by its entries.
+fn check_entries<S: Semiring>(graph: &Matrix<S>, source: u32) -> Result<(), ScriptFault>
+    ensures square { OnOk result (graph.now.shape.rows ≡ graph.now.shape.cols) }
+    ensures source { OnOk result (source < graph.now.shape.rows) }
+    ensures fault { IfErr result (IsGraphRefusal graph.now source Plain) }
+{
+    if graph.rows() != graph.cols() {
+        return Err(ScriptFault::NotSquare);
+    }
+    if source >= graph.rows() {
+        return Err(ScriptFault::Source);
+    }
+    Ok(())
+}
+
 /// The distance of each vertex from a source: the least weight of a walk, where a walk's weight is the sum of its
 /// entries' values, which stops at 2^64-1. Vertices without a walk, or with an infinite distance, are not stored.
 ///
@@ -97,12 +132,7 @@ pub fn distances<R: Threads + Wait + Sync>(
     ensures agree { IfOk result (λ column. (graph.now.shape.rows ≡ graph.now.shape.cols) × (source < graph.now.shape.rows)) }
     ensures fault { IfErr result (IsGraphRefusal graph.now source engine) }
 {
-    if graph.rows() != graph.cols() {
-        return Err(ScriptFault::NotSquare);
-    }
-    if source >= graph.rows() {
-        return Err(ScriptFault::Source);
-    }
+    check_entries(graph, source)?;
     let spread = DistributedMatrix::scatter(alloc, *grid, graph)?;
     nearest(rt, alloc, engine, spread, source)
 }
@@ -120,13 +150,7 @@ pub fn distances_distributed<R: Threads + Wait + Sync>(
     ensures agree { IfOk result (λ column. (graph.matrix.shape.rows ≡ graph.matrix.shape.cols) × (source < graph.matrix.shape.rows)) }
     ensures fault { IfErr result (IsGraphRefusal graph.matrix source engine) }
 {
-    let shape = graph.shape();
-    if shape.rows() != shape.cols() {
-        return Err(ScriptFault::NotSquare);
-    }
-    if source >= shape.rows() {
-        return Err(ScriptFault::Source);
-    }
+    check_graph(&graph, source)?;
     nearest(rt, alloc, engine, graph, source)
 }
 
@@ -145,13 +169,7 @@ pub fn levels<R: Threads + Wait + Sync>(
     ensures agree { IfOk result (λ column. (graph.now.shape.rows ≡ graph.now.shape.cols) × (source < graph.now.shape.rows)) }
     ensures fault { IfErr result (IsGraphRefusal graph.now source engine) }
 {
-    let shape = graph.shape();
-    if shape.rows() != shape.cols() {
-        return Err(ScriptFault::NotSquare);
-    }
-    if source >= shape.rows() {
-        return Err(ScriptFault::Source);
-    }
+    check_entries(graph, source)?;
     let spread = DistributedMatrix::scatter(alloc, *grid, graph)?;
     fewest(rt, alloc, engine, spread, source)
 }
@@ -169,12 +187,6 @@ pub fn levels_distributed<R: Threads + Wait + Sync>(
     ensures agree { IfOk result (λ column. (graph.matrix.shape.rows ≡ graph.matrix.shape.cols) × (source < graph.matrix.shape.rows)) }
     ensures fault { IfErr result (IsGraphRefusal graph.matrix source engine) }
 {
-    let shape = graph.shape();
-    if shape.rows() != shape.cols() {
-        return Err(ScriptFault::NotSquare);
-    }
-    if source >= shape.rows() {
-        return Err(ScriptFault::Source);
-    }
+    check_graph(&graph, source)?;
     fewest(rt, alloc, engine, graph, source)
 }
