@@ -316,6 +316,22 @@ impl<S: Semiring> Block<S> {
         }
     }
 
+    /// The lists of the block, given away without a copy: the columns that have entries, ascending, and the row and the
+    /// value of each entry, by column and then by row.
+    pub fn into_lists(self) -> (Vec<u32>, Vec<u32>, Vec<u64>)
+        ensures columns { result.0.items ≡ columns_with_entries self.entries }
+        ensures rows { result.1.items ≡ rows_of self.entries }
+        ensures values { result.2.items ≡ values_of self.entries }
+    {
+        let Block {
+            columns,
+            rows,
+            values,
+            ..
+        } = self;
+        (columns, rows, values)
+    }
+
     /// Takes room for this many entries more, and for as many columns as they can stand in, so that storing
     /// them moves none.
     pub fn reserve(&mut self, entries: usize) -> Result<(), AllocError>

@@ -10,17 +10,18 @@ use cb_matrix::Matrix;
 use cb_semirings::Semiring;
 use std::alloc::{AllocError, Global};
 
-/// The lists of a matrix over a grid, given away. Its entries are copied once, and twice more where the grid has more
-/// than one rank.
+/// The lists of a matrix over a grid, given away: those of its block, or, where the grid has more than one rank, of
+/// its entries, which are copied twice.
 pub(crate) fn lists_of<S: Semiring>(
     alloc: Global,
-    matrix: &DistributedMatrix<S>,
+    matrix: DistributedMatrix<S>,
 ) -> Result<Columns, AllocError>
-    ensures { IfOk result (HasLists matrix.now.matrix) }
+    ensures { IfOk result (HasLists matrix.matrix) }
 {
     let _shape = matrix.shape();
     if matrix.grid().side() == 1 {
-        return block_lists(alloc, &matrix.blocks()[0]);
+        let mut blocks = matrix.into_blocks();
+        return block_lists(alloc, blocks.remove(0));
     }
     let whole = matrix.gather(alloc)?;
     matrix_lists(alloc, &whole)
@@ -34,21 +35,19 @@ pub(crate) fn matrix_lists<S: Semiring>(
     ensures { IfOk result (HasLists matrix.now) }
 {
     let block = Block::<S>::from_ordered(alloc, matrix.shape(), matrix.entries())?;
-    block_lists(alloc, &block)
+    block_lists(alloc, block)
 }
 
-/// The lists of a block, given away: they are never freed here.
+/// The lists of a block, given away without a copy: they are never freed here.
 pub(crate) fn block_lists<S: Semiring>(
     alloc: Global,
-    block: &Block<S>,
+    block: Block<S>,
 ) -> Result<Columns, AllocError>
-    ensures { IfOk result (HasLists block.now) }
+    ensures { IfOk result (HasLists block) }
 {
     let shape = block.shape();
-    let starts = starts_of(alloc, block)?;
-    let columns = Vec::from_slice(alloc, block.column_numbers())?;
-    let rows = Vec::from_slice(alloc, block.row_numbers())?;
-    let values = Vec::from_slice(alloc, block.values())?;
+    let starts = starts_of(alloc, &block)?;
+    let (columns, rows, values) = block.into_lists();
     Ok(Columns {
         nrows: shape.rows(),
         ncols: shape.cols(),
