@@ -1,5 +1,6 @@
 //! The lists of a matrix, given away.
 ghost use Rattle.std.specs.Prelude.{◌≡◌, ℕ, List, IfOk};
+ghost use Rattle.cb_dcsc.specs.Columns.{columns_with_entries, rows_of, values_of};
 ghost use Rattle.cb_dcsc.specs.Compressed.{all_entries, AreColumns};
 ghost use Rattle.cb_ffi.specs.Lists.{HasLists};
 
@@ -38,7 +39,7 @@ pub(crate) fn matrix_lists<S: Semiring>(
     block_lists(alloc, block)
 }
 
-/// The lists of a block, given away without a copy: they are never freed here.
+/// The lists of a block, given away without a copy: they are never freed here. They may have room for more.
 pub(crate) fn block_lists<S: Semiring>(
     alloc: Global,
     block: Block<S>,
@@ -47,7 +48,7 @@ pub(crate) fn block_lists<S: Semiring>(
 {
     let shape = block.shape();
     let starts = starts_of(alloc, &block)?;
-    let (columns, rows, values) = block.into_lists();
+    let (columns, rows, values) = lists_in(alloc, block);
     Ok(Columns {
         nrows: shape.rows(),
         ncols: shape.cols(),
@@ -59,6 +60,19 @@ pub(crate) fn block_lists<S: Semiring>(
         rows: rows.leak(),
         values: values.leak(),
     })
+}
+
+/// The columns, rows and values of a block. Those of one without entries are new lists without any room, since who
+/// gets an empty list has nothing to free.
+fn lists_in<S: Semiring>(alloc: Global, block: Block<S>) -> (Vec<u32>, Vec<u32>, Vec<u64>)
+    ensures columns { result.0.items ≡ columns_with_entries block.entries }
+    ensures rows { result.1.items ≡ rows_of block.entries }
+    ensures values { result.2.items ≡ values_of block.entries }
+{
+    if block.len() == 0 {
+        return (Vec::new(alloc), Vec::new(alloc), Vec::new(alloc));
+    }
+    block.into_lists()
 }
 
 /// Where each column that has entries starts, and where the last one ends; nothing of a block without entries.
