@@ -1,10 +1,10 @@
 -- What a call answers, from what its parts answer.
-use Rattle.std.proofs.Common.{◌≡◌, ◌≢◌, ℕ, sym, subst, refl, inl, inr, arith}
+use Rattle.std.proofs.Common.{◌≡◌, ◌≢◌, ℕ, sym, subst, inr, arith}
 use Rattle.std.specs.Prelude.{Option, Result, Ok, Err, IfOk, IfErr, ◌≤◌}
 use Rattle.cb_semirings.specs.Arithmetic.{Arithmetic}
 use Rattle.cb_ffi.specs.declared.faults.Fault.{Fault}
 use Rattle.cb_ffi.specs.declared.faults.Fault.TheVariants.{Semiring, Grid, Test, Form, TooLarge, Lengths, Order, Place, Value, Shapes, NotSquare, Source, Text, Memory}
-use Rattle.cb_ffi.specs.Refusals.{arithmetic_of, code_of, over, Unless}
+use Rattle.cb_ffi.specs.Refusals.{arithmetic_of, code_of, over}
 use Rattle.cb_ffi.specs.Answers.{NoFault, IsAnswer, IsCall, IsFaultLine, IsLine}
 use Rattle.cb_market.specs.declared.ReadFault.{ReadFault}
 use Rattle.cb_ffi.proofs.Firsts.{only}

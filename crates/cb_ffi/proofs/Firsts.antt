@@ -1,10 +1,10 @@
 -- The first fault of a call: how it comes from that of its parts.
-use Rattle.std.proofs.Common.{◌≡◌, ℕ, refl, inl, inr, ⊎_elim}
-use Rattle.std.specs.Prelude.{Result, Ok, Err, IfErr, ◌≤◌}
+use Rattle.std.proofs.Common.{ℕ, refl, inl, inr, ⊎_elim}
+use Rattle.std.specs.Prelude.{Result, Ok, Err, IfErr}
 use Rattle.cb_semirings.specs.Arithmetic.{Arithmetic}
 use Rattle.cb_ffi.specs.declared.lists.Columns.{Columns}
 use Rattle.cb_ffi.specs.declared.faults.Fault.{Fault}
-use Rattle.cb_ffi.specs.declared.faults.Fault.TheVariants.{Semiring, Grid, Test, Form, TooLarge, Lengths, Order, Place, Value, Memory}
+use Rattle.cb_ffi.specs.declared.faults.Fault.TheVariants.{Grid, Form, TooLarge, Lengths, Order, Place, Value, Memory}
 use Rattle.cb_ffi.specs.Lists.{AreLists, HasForm, Fits, HaveLengths, AreOrdered, AreInside, AreValues}
 use Rattle.cb_ffi.specs.Refusals.{Unless, IsMemory, IsSide, matrix_faults, one_faults, two_faults}
 use Rattle.cb_ffi.specs.Answers.{NoFault}

@@ -7,7 +7,7 @@ use Rattle.std.proofs.lemmas.List.Elements.{All-get_or}
 use Rattle.cb_semirings.specs.Arithmetic.{Arithmetic, IsValue}
 use Rattle.cb_matrix.specs.declared.Entry.{Entry}
 use Rattle.cb_matrix.specs.Sparse.{Sparse, Extent, IsMatrix, IsInside, IsBefore}
-use Rattle.cb_dcsc.specs.Compressed.{opened, block_of, all_entries, part, AreColumns, IsBlock}
+use Rattle.cb_dcsc.specs.Compressed.{opened, block_of, all_entries, AreColumns, IsBlock}
 use Rattle.cb_dcsc.specs.Columns.{with_entry, columns_with_entries, in_column, rows_of, values_of}
 use Rattle.cb_dcsc.proofs.Held.{no_lists, no_block, columns_are, rows_are, values_are, count_is, start_within, length-part, is_nth, nth_column_rows}
 use Rattle.cb_dcsc.proofs.Faultless.{next_after}

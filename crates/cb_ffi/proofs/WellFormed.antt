@@ -1,8 +1,8 @@
 -- What well-formed lists have in each stored column, and their matrix, column by column.
-use Rattle.std.proofs.Common.{◌≡◌, ◌≢◌, ℕ, suc, ◌+◌, ◌-◌, ◌<◌, ◌≤◌, List, [], ◌++◌, length, get_or, min, refl, sym, ap, ◌∙◌, ⊎_elim, inl, inr, arith, length-take, length-drop}
-use Rattle.std.specs.Prelude.{All, AllPairs, ◌⊎◌, ◌==◌, not}
+use Rattle.std.proofs.Common.{◌≡◌, ◌≢◌, ℕ, suc, ◌+◌, ◌-◌, ◌<◌, List, ◌++◌, length, get_or, refl, sym, ap, ◌∙◌, ⊎_elim, inl, inr, arith, length-take, length-drop}
+use Rattle.std.specs.Prelude.{All, ◌⊎◌, ◌==◌, not}
 use Rattle.std.proofs.lemmas.Bool.{cases_eq}
-use Rattle.std.proofs.lemmas.List.Elements.{All-take, All-drop, All-filter, All-weaker, All-get_or, filter-append}
+use Rattle.std.proofs.lemmas.List.Elements.{All-take, All-drop, All-filter, All-weaker, filter-append}
 use Rattle.cb_semirings.specs.Arithmetic.{Arithmetic, IsValue}
 use Rattle.cb_matrix.specs.declared.Entry.{Entry}
 use Rattle.cb_matrix.specs.Sparse.{Sparse, Extent}

@@ -6,7 +6,7 @@ use Rattle.cb_market.specs.Faults.{first_fault}
 use Rattle.cb_ffi.specs.declared.lists.Columns.{Columns}
 use Rattle.cb_ffi.specs.declared.faults.Fault.{Fault}
 use Rattle.cb_ffi.specs.declared.faults.Fault.TheVariants.{Semiring, Grid, Test, Form, TooLarge, Lengths, Order, Place, Value, Shapes, NotSquare, Source, Text, Memory}
-use Rattle.cb_ffi.specs.Lists.{HasForm, Fits, HaveLengths, AreOrdered, AreInside, AreValues, shape_of}
+use Rattle.cb_ffi.specs.Lists.{HasForm, Fits, HaveLengths, AreOrdered, AreInside, AreValues}
 
 -- the number of a fault
 abbrev pub code_of : Fault → ℕ

@@ -1,5 +1,6 @@
 //! The lists of a matrix, given away.
 ghost use Rattle.std.specs.Prelude.{◌≡◌, ℕ, List, IfOk};
+ghost use Rattle.cb_dcsc.specs.Columns.{columns_with_entries, rows_of, values_of};
 ghost use Rattle.cb_dcsc.specs.Compressed.{all_entries, AreColumns};
 ghost use Rattle.cb_ffi.specs.Lists.{HasLists};
 
@@ -10,17 +11,18 @@ use cb_matrix::Matrix;
 use cb_semirings::Semiring;
 use std::alloc::{AllocError, Global};
 
-/// The lists of a matrix over a grid, given away. Its entries are copied once, and twice more where the grid has more
-/// than one rank.
+/// The lists of a matrix over a grid, given away: those of its block, or, where the grid has more than one rank, of
+/// its entries, which are copied twice.
 pub(crate) fn lists_of<S: Semiring>(
     alloc: Global,
-    matrix: &DistributedMatrix<S>,
+    matrix: DistributedMatrix<S>,
 ) -> Result<Columns, AllocError>
-    ensures { IfOk result (HasLists matrix.now.matrix) }
+    ensures { IfOk result (HasLists matrix.matrix) }
 {
     let _shape = matrix.shape();
     if matrix.grid().side() == 1 {
-        return block_lists(alloc, &matrix.blocks()[0]);
+        let mut blocks = matrix.into_blocks();
+        return block_lists(alloc, blocks.remove(0));
     }
     let whole = matrix.gather(alloc)?;
     matrix_lists(alloc, &whole)
@@ -34,21 +36,19 @@ pub(crate) fn matrix_lists<S: Semiring>(
     ensures { IfOk result (HasLists matrix.now) }
 {
     let block = Block::<S>::from_ordered(alloc, matrix.shape(), matrix.entries())?;
-    block_lists(alloc, &block)
+    block_lists(alloc, block)
 }
 
-/// The lists of a block, given away: they are never freed here.
+/// The lists of a block, given away without a copy: they are never freed here. They may have room for more.
 pub(crate) fn block_lists<S: Semiring>(
     alloc: Global,
-    block: &Block<S>,
+    block: Block<S>,
 ) -> Result<Columns, AllocError>
-    ensures { IfOk result (HasLists block.now) }
+    ensures { IfOk result (HasLists block) }
 {
     let shape = block.shape();
-    let starts = starts_of(alloc, block)?;
-    let columns = Vec::from_slice(alloc, block.column_numbers())?;
-    let rows = Vec::from_slice(alloc, block.row_numbers())?;
-    let values = Vec::from_slice(alloc, block.values())?;
+    let starts = starts_of(alloc, &block)?;
+    let (columns, rows, values) = lists_in(alloc, block);
     Ok(Columns {
         nrows: shape.rows(),
         ncols: shape.cols(),
@@ -60,6 +60,19 @@ pub(crate) fn block_lists<S: Semiring>(
         rows: rows.leak(),
         values: values.leak(),
     })
+}
+
+/// The columns, rows and values of a block. Those of one without entries are new lists without any room, since who
+/// gets an empty list has nothing to free.
+fn lists_in<S: Semiring>(alloc: Global, block: Block<S>) -> (Vec<u32>, Vec<u32>, Vec<u64>)
+    ensures columns { result.0.items ≡ columns_with_entries block.entries }
+    ensures rows { result.1.items ≡ rows_of block.entries }
+    ensures values { result.2.items ≡ values_of block.entries }
+{
+    if block.len() == 0 {
+        return (Vec::new(alloc), Vec::new(alloc), Vec::new(alloc));
+    }
+    block.into_lists()
 }
 
 /// Where each column that has entries starts, and where the last one ends; nothing of a block without entries.

@@ -27,7 +27,7 @@ fn transpose_lists<S: Semiring>(
 {
     let left = spread::<S>(alloc, grid, a)?;
     match cb_scripts::plain::transpose_distributed(alloc, left) {
-        Ok(answer) => lists_of(alloc, &answer),
+        Ok(answer) => lists_of(alloc, answer),
         Err(_refused) => Err(AllocError),
     }
 }
@@ -78,7 +78,7 @@ fn sum_lists<S: Semiring>(
     let left = spread::<S>(alloc, grid, a)?;
     let right = spread::<S>(alloc, grid, b)?;
     match cb_scripts::plain::add_distributed(alloc, left, right) {
-        Ok(answer) => lists_of(alloc, &answer),
+        Ok(answer) => lists_of(alloc, answer),
         Err(_refused) => Err(AllocError),
     }
 }
@@ -135,7 +135,7 @@ fn times_lists<S: Semiring>(
     let left = spread::<S>(alloc, grid, a)?;
     let right = spread::<S>(alloc, grid, b)?;
     match cb_scripts::plain::times_distributed(alloc, left, right) {
-        Ok(answer) => lists_of(alloc, &answer),
+        Ok(answer) => lists_of(alloc, answer),
         Err(_refused) => Err(AllocError),
     }
 }
@@ -189,7 +189,7 @@ fn pruned_lists<S: Semiring>(
 {
     let left = spread::<S>(alloc, grid, a)?;
     match cb_scripts::plain::prune_distributed(alloc, left, test) {
-        Ok(answer) => lists_of(alloc, &answer),
+        Ok(answer) => lists_of(alloc, answer),
         Err(_refused) => Err(AllocError),
     }
 }

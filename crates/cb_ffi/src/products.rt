@@ -30,7 +30,7 @@ fn product_lists<S: Semiring>(
     let left = spread::<S>(alloc, grid, a)?;
     let right = spread::<S>(alloc, grid, b)?;
     match cb_scripts::plain::multiply_distributed(alloc, left, right) {
-        Ok(answer) => lists_of(alloc, &answer),
+        Ok(answer) => lists_of(alloc, answer),
         Err(_refused) => Err(AllocError),
     }
 }
@@ -90,7 +90,7 @@ fn masked_lists<S: Semiring>(
     let right = spread::<S>(alloc, grid, b)?;
     let third = spread::<S>(alloc, grid, mask)?;
     match cb_scripts::plain::multiply_masked_distributed(alloc, left, right, third) {
-        Ok(answer) => lists_of(alloc, &answer),
+        Ok(answer) => lists_of(alloc, answer),
         Err(_refused) => Err(AllocError),
     }
 }
@@ -149,7 +149,7 @@ fn vector_lists<S: Semiring>(
     let left = spread::<S>(alloc, grid, a)?;
     let right = spread::<S>(alloc, grid, x)?;
     match cb_scripts::plain::multiply_distributed(alloc, left, right) {
-        Ok(answer) => lists_of(alloc, &answer),
+        Ok(answer) => lists_of(alloc, answer),
         Err(_refused) => Err(AllocError),
     }
 }

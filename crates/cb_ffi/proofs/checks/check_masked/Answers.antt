@@ -1,11 +1,9 @@
-use Rattle.std.proofs.Common.{rules, ◌≡◌, ◌≤◌, ◌<◌, ℕ, refl, inl, inr}
-use Rattle.std.specs.Prelude.{IfErr, IfOk}
-use Rattle.cb_ffi.specs.declared.faults.Fault.{Fault}
-use Rattle.cb_ffi.specs.declared.faults.Fault.TheVariants.{Semiring, Grid, Test, Shapes, NotSquare, Source, Memory}
+use Rattle.std.proofs.Common.{rules, refl, inl, inr}
+use Rattle.std.specs.Prelude.{IfErr}
+use Rattle.cb_ffi.specs.declared.faults.Fault.TheVariants.{Shapes, Memory}
 use Rattle.cb_ffi.specs.Lists.{AreLists}
-use Rattle.cb_ffi.specs.Refusals.{Unless, IsMemory, IsSide, AreMasked, matrix_faults, one_faults, two_faults, transpose_faults, product_faults, masked_faults, vector_faults, placewise_faults, prune_faults, graph_faults}
-use Rattle.cb_ffi.specs.Answers.{NoFault}
-use Rattle.cb_ffi.proofs.Firsts.{weaken, only, wider, matrix_after, matrix_only, matrix_wider, one_after, one_only, one_wider, two_after, two_only, two_first, two_wider, two_last, two_none}
+use Rattle.cb_ffi.specs.Refusals.{Unless, IsMemory, AreMasked, matrix_faults, two_faults, masked_faults}
+use Rattle.cb_ffi.proofs.Firsts.{weaken, only, matrix_after, matrix_only, matrix_wider, two_after, two_only, two_wider}
 use Rattle.cb_ffi.proofs.checks.check_masked.Goals as goal
 
 pub returns-in_err-grid-clause-fault : goal.returns-in_err-grid-clause-fault

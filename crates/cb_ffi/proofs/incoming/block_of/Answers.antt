@@ -1,11 +1,8 @@
-use Rattle.std.proofs.Common.{◌≡◌, ◌<◌, ◌≤◌, ◌+◌, ap, ◌∙◌, sym, subst, arith}
-use Rattle.std.specs.Prelude.{All, AllPairs}
-use Rattle.cb_semirings.specs.Arithmetic.{IsValue}
-use Rattle.cb_matrix.specs.declared.Entry.{Entry}
+use Rattle.std.proofs.Common.{◌<◌, ap, ◌∙◌, arith}
 use Rattle.cb_matrix.specs.Sparse.{Sparse, Extent}
 use Rattle.cb_matrix.specs.Values.{empty_matrix}
-use Rattle.cb_ffi.specs.Lists.{count, column, rows_in, values_in, shape_of}
-use Rattle.cb_ffi.proofs.WellFormed.{rows_below, values_are, as_many, column_there, columns_before, none_listed, more_listed}
+use Rattle.cb_ffi.specs.Lists.{count, shape_of}
+use Rattle.cb_ffi.proofs.WellFormed.{rows_below, values_are, columns_before, none_listed, more_listed}
 use Rattle.cb_ffi.proofs.incoming.block_of.Goals as goal
 
 pub loop-n-init : goal.loop-n-init

@@ -1,9 +1,9 @@
-use Rattle.std.proofs.Common.{rules, ◌≡◌, ◌≢◌, ◌<◌, ◌+◌, get_or, ap, ◌∙◌, sym, subst, arith}
+use Rattle.std.proofs.Common.{rules, get_or, ap, ◌∙◌, sym, subst}
 use Rattle.cb_matrix.specs.declared.Entry.{Entry}
 use Rattle.cb_matrix.specs.Sparse.{Sparse, IsBefore}
 use Rattle.cb_dcsc.specs.Columns.{with_entry}
 use Rattle.std.specs.Prelude.{All}
-use Rattle.cb_ffi.proofs.Nonzero.{whole_column, kept, kept_none, kept_all, stored, dropped, comes_after}
+use Rattle.cb_ffi.proofs.Nonzero.{whole_column, kept_none, stored, dropped, comes_after}
 use Rattle.cb_ffi.proofs.incoming.push_nonzero.Goals as goal
 use Rattle.cb_ffi.proofs.incoming.push_nonzero.Goals.{then-values-n+in_ok-push, else-values-n}
 

@@ -1,8 +1,6 @@
-use Rattle.std.proofs.Common.{rules, ◌≡◌, ◌∙◌, ℕ, ◌+◌, ◌*◌, ◌<◌, List, [], ◌∷◌, sym, refl, ap, subst, arith}
-use Rattle.cb_matrix.specs.Sparse.{Sparse, Extent}
+use Rattle.std.proofs.Common.{rules, ◌≡◌, ◌∙◌}
 use Rattle.cb_layout.specs.Distributed.{glued_blocks}
-use Rattle.cb_ffi.specs.Lists.{matrix_of}
-use Rattle.cb_scripts.proofs.OneBlock.{one_glued, one_shape}
+use Rattle.cb_scripts.proofs.OneBlock.{one_glued}
 use Rattle.cb_ffi.proofs.incoming.spread.Goals as goal
 
 pub returns-then-side-eq1 : goal.returns-then-side-eq1

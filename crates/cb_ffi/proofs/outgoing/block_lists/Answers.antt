@@ -1,4 +1,4 @@
-use Rattle.std.proofs.Common.{◌≡◌, ◌∙◌, sym, refl, ap, List}
+use Rattle.std.proofs.Common.{◌∙◌, refl, ap}
 use Rattle.cb_matrix.specs.Sparse.{Extent}
 use Rattle.cb_ffi.proofs.Held.{lists_are}
 use Rattle.cb_ffi.proofs.outgoing.block_lists.Goals as goal
@@ -6,11 +6,11 @@ use Rattle.cb_ffi.proofs.outgoing.block_lists.Goals as goal
 pub returns : goal.returns
 returns g c =
     let s = g.S.Semiring.arithmetic in
-    let m = c.args.block.now in
+    let m = c.args.block in
     let are = lists_are s m c.shape-shape.ensures.matrix _ _ _ _
-    (c.leak.ensures.value ∙ c.in_ok-columns.ensures.items ∙ c.column_numbers.ensures.numbers)
-    (c.leak-3.ensures.value ∙ c.in_ok-rows.ensures.items ∙ c.row_numbers.ensures)
-    (c.leak-4.ensures.value ∙ c.in_ok-values.ensures.items ∙ c.values.ensures)
+    (c.leak.ensures.value ∙ c.lists_in-columns.ensures.columns)
+    (c.leak-3.ensures.value ∙ c.lists_in-columns.ensures.rows)
+    (c.leak-4.ensures.value ∙ c.lists_in-columns.ensures.values)
     (λ cs ss rs vs lists view. c.leak-2.ensures.value ∙ c.in_ok-starts.ensures cs ss rs vs lists view) in
     let rows = c.rows.ensures.value ∙ ap (λ (x : Extent). x.rows) c.shape-shape.ensures.shape in
     let cols = c.cols.ensures.value ∙ ap (λ (x : Extent). x.cols) c.shape-shape.ensures.shape in

@@ -1,9 +1,7 @@
-use Rattle.std.proofs.Common.{arith, refl}
-use Rattle.cb_matrix.specs.Operations.{transposed, sum_of, times_of, pruned}
-use Rattle.cb_elementwise.specs.Passing.{passes}
+use Rattle.std.proofs.Common.{arith}
+use Rattle.cb_matrix.specs.Operations.{sum_of}
 use Rattle.cb_ffi.specs.Lists.{matrix_of, HasLists}
 use Rattle.cb_ffi.specs.Refusals.{arithmetic_of, placewise_faults}
-use Rattle.cb_ffi.specs.Answers.{test_of}
 use Rattle.cb_ffi.proofs.Calls.{chosen}
 use Rattle.cb_ffi.proofs.placewise.add.Goals as goal
 

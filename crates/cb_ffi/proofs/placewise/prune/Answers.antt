@@ -1,5 +1,5 @@
-use Rattle.std.proofs.Common.{arith, refl}
-use Rattle.cb_matrix.specs.Operations.{transposed, sum_of, times_of, pruned}
+use Rattle.std.proofs.Common.{arith}
+use Rattle.cb_matrix.specs.Operations.{pruned}
 use Rattle.cb_elementwise.specs.Passing.{passes}
 use Rattle.cb_ffi.specs.Lists.{matrix_of, HasLists}
 use Rattle.cb_ffi.specs.Refusals.{arithmetic_of, prune_faults}

@@ -1,9 +1,7 @@
-use Rattle.std.proofs.Common.{arith, refl}
+use Rattle.std.proofs.Common.{arith}
 use Rattle.cb_matrix.specs.Values.{product}
-use Rattle.cb_matrix.specs.Operations.{masked}
 use Rattle.cb_ffi.specs.Lists.{matrix_of, HasLists}
 use Rattle.cb_ffi.specs.Refusals.{arithmetic_of, product_faults}
-use Rattle.cb_ffi.specs.Answers.{test_of}
 use Rattle.cb_ffi.proofs.Calls.{chosen}
 use Rattle.cb_ffi.proofs.products.multiply.Goals as goal
 

@@ -1,4 +1,4 @@
-use Rattle.std.proofs.Common.{ℕ, arith, refl, subst, sym}
+use Rattle.std.proofs.Common.{ℕ, arith, subst, sym}
 use Rattle.cb_market.specs.Faults.{first_fault}
 use Rattle.cb_ffi.specs.Refusals.{arithmetic_of, read_faults}
 use Rattle.cb_ffi.specs.Answers.{IsRead, IsFaultLine}

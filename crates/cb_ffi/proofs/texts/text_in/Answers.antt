@@ -1,4 +1,4 @@
-use Rattle.std.proofs.Common.{arith, refl}
+use Rattle.std.proofs.Common.{arith}
 use Rattle.cb_ffi.specs.Refusals.{arithmetic_of, text_faults}
 use Rattle.cb_ffi.specs.Answers.{IsTextOf}
 use Rattle.cb_ffi.proofs.Calls.{chosen}

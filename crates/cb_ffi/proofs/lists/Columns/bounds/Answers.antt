@@ -1,4 +1,4 @@
-use Rattle.std.proofs.Common.{◌+◌, ◌<◌, ◌≤◌, get_or, sym, arith}
+use Rattle.std.proofs.Common.{◌+◌, arith}
 use Rattle.cb_ffi.specs.Lists.{starts, count}
 use Rattle.cb_ffi.proofs.Rising.{below_last}
 use Rattle.cb_ffi.proofs.lists.Columns.bounds.Goals as goal

@@ -1,5 +1,5 @@
-use Rattle.std.proofs.Common.{rules, ◌≤◌, inl, inr, refl}
-use Rattle.cb_ffi.specs.Lists.{HasForm, Fits, HaveLengths, AreOrdered, AreInside, AreValues}
+use Rattle.std.proofs.Common.{rules, inl, inr, refl}
+use Rattle.cb_ffi.specs.Lists.{HasForm, Fits, HaveLengths, AreOrdered, AreInside}
 use Rattle.cb_ffi.specs.Refusals.{matrix_faults}
 use Rattle.cb_ffi.proofs.lists.Columns.check.Goals as goal
 

@@ -1,5 +1,5 @@
-use Rattle.std.proofs.Common.{rules, ◌≡◌, ℕ, ◌+◌, ◌<◌, ◌≤◌, subst, ⊎_elim, sym, arith}
-use Rattle.std.specs.Prelude.{AllPairs, List}
+use Rattle.std.proofs.Common.{rules, ◌≡◌, ◌<◌, ◌≤◌, subst, ⊎_elim, arith}
+use Rattle.std.specs.Prelude.{AllPairs}
 use Rattle.std.proofs.lemmas.Bool.{cases_lt}
 use Rattle.cb_ffi.specs.Lists.{rows_in}
 use Rattle.cb_ffi.proofs.lists.Columns.rows_ascend.Goals as goal
