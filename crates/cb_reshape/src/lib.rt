@@ -30,6 +30,12 @@ use std::alloc::{AllocError, Global};
 /// How many rows for each entry the transpose counts at most.
 const ROWS_PER_ENTRY: usize = 4;
 
+/// By how many bands of rows the transpose goes at most: each costs a walk over the block.
+const BANDS: usize = 8;
+
+/// How many entries a band has at least, but for the last: fewer stay in the caches as they are.
+const ENTRIES_PER_BAND: usize = 1 << 18;
+
 /// The block with rows and columns exchanged.
 ///
 /// Costs a few instructions for each entry. Where there are more than four rows for each entry, it costs a sort of
@@ -40,7 +46,8 @@ pub fn transpose<S: Semiring>(alloc: Global, block: &Block<S>) -> Result<Block<S
     let inner = block.shape();
     let shape = shape_of(inner.cols(), inner.rows());
     if inner.rows() as usize / ROWS_PER_ENTRY <= block.len() {
-        return transpose_by_counting(alloc, block, shape);
+        let band = (block.len() / BANDS + 1).max(ENTRIES_PER_BAND);
+        return transpose_by_counting(alloc, block, shape, band);
     }
     transpose_by_sorting(alloc, block, shape)
 }
