@@ -30,16 +30,16 @@ use std::alloc::{AllocError, Global};
 /// How many rows for each entry the transpose counts at most.
 const ROWS_PER_ENTRY: usize = 4;
 
-/// By how many bands of rows the transpose goes at most: each costs a walk over the block.
+/// In how many bands of rows the transpose places the entries at most: each costs a walk over the block.
 const BANDS: usize = 8;
 
-/// How many entries a band has at least, but for the last: fewer stay in the caches as they are.
+/// How many entries a band has at least, unless it is the last: the places of so many stay in the caches.
 const ENTRIES_PER_BAND: usize = 1 << 18;
 
 /// The block with rows and columns exchanged.
 ///
-/// Costs a few instructions for each entry. Where there are more than four rows for each entry, it costs a sort of
-/// the entries.
+/// Costs a few instructions for each entry, and where there are more than 262,144 entries, up to eight walks over
+/// them. Where there are more than four rows for each entry, it costs a sort of the entries.
 pub fn transpose<S: Semiring>(alloc: Global, block: &Block<S>) -> Result<Block<S>, AllocError>
     ensures { IfOk result (λ turned. turned ≡ transposed S.arithmetic block.now) }
 {
