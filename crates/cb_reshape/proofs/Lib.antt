@@ -1,10 +1,12 @@
 -- Exchanged: entries whose rows and columns are exchanged, in order. Counts: how many numbers are below a bound, and
--- their sums. ByRow: entries placed row by row. Turned: these are the transpose.
+-- their sums. ByRow: entries placed row by row. Bands: which are placed while a band is.
+-- Turned: entries row by row are the transpose.
 -- FirstFrom: where the numbers from a bound on begin. PartOfColumn, PartOfBlock: the part of one column, and of all
 -- columns one after another. PartValues: the value at each place of a part that was moved.
 mod Exchanged
 mod Counts
 mod ByRow
+mod Bands
 mod Turned
 mod FirstFrom
 mod PartOfColumn

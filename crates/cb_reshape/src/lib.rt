@@ -30,17 +30,24 @@ use std::alloc::{AllocError, Global};
 /// How many rows for each entry the transpose counts at most.
 const ROWS_PER_ENTRY: usize = 4;
 
+/// In how many bands of rows the transpose places the entries at most: each costs a walk over the block.
+const BANDS: usize = 8;
+
+/// How many entries a band has at least, unless it is the last: the places of so many stay in the caches.
+const ENTRIES_PER_BAND: usize = 1 << 18;
+
 /// The block with rows and columns exchanged.
 ///
-/// Costs a few instructions for each entry. Where there are more than four rows for each entry, it costs a sort of
-/// the entries.
+/// Costs a few instructions for each entry, and where there are more than 262,144 entries, up to eight walks over
+/// them. Where there are more than four rows for each entry, it costs a sort of the entries.
 pub fn transpose<S: Semiring>(alloc: Global, block: &Block<S>) -> Result<Block<S>, AllocError>
     ensures { IfOk result (λ turned. turned ≡ transposed S.arithmetic block.now) }
 {
     let inner = block.shape();
     let shape = shape_of(inner.cols(), inner.rows());
     if inner.rows() as usize / ROWS_PER_ENTRY <= block.len() {
-        return transpose_by_counting(alloc, block, shape);
+        let band = (block.len() / BANDS + 1).max(ENTRIES_PER_BAND);
+        return transpose_by_counting(alloc, block, shape, band);
     }
     transpose_by_sorting(alloc, block, shape)
 }

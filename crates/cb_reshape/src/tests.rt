@@ -1,7 +1,8 @@
 //! Worked examples, with ample memory and with each allocation refused in turn.
 ghost use Rattle.std.specs.Prelude.{◌≡◌, IfOk};
 
-use crate::{cut, place, transpose};
+use crate::counting::transpose_by_counting;
+use crate::{cut, place, shape_of, transpose, transpose_by_sorting};
 use cb_dcsc::Block;
 use cb_matrix::LIMIT;
 use cb_samples::{SampleFault, block, entry, shape};
@@ -71,6 +72,21 @@ fn transposing_orders_by_what_was_the_row(rt: HostRuntime) -> Result<(), Fail> {
     assert_eq!(rt; turned.column_numbers(), [0, 1, 2, 3].as_slice());
     assert_eq!(rt; turned.row_numbers(), [1, 0, 1, 4, 1, 3, 1, 2].as_slice());
     assert_eq!(rt; turned.values(), [2, 1, 3, 8, 4, 7, 5, 6].as_slice());
+    Ok(())
+}
+
+/// A band of no entry is one row, and the largest has all rows.
+#[test]
+fn bands_of_any_size_give_what_a_sort_gives(rt: HostRuntime) -> Result<(), Fail> {
+    let alloc = rt.alloc();
+    let a = scattered(alloc)?;
+    let inner = a.shape();
+    let shape = shape_of(inner.cols(), inner.rows());
+    let sorted = transpose_by_sorting(alloc, &a, shape)?.entries()?;
+    for band in [0, 1, 2, 3, 4, 7, 8, 9, usize::MAX] {
+        let turned = transpose_by_counting(alloc, &a, shape, band)?;
+        assert_eq!(rt; turned.entries()?.as_slice(), sorted.as_slice());
+    }
     Ok(())
 }
 
