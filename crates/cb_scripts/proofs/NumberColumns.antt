@@ -16,7 +16,7 @@ use Rattle.std.proofs.lemmas.Map.Views.{All-found}
 use Rattle.std.proofs.lemmas.List.Elements.{All-cons, All-nil, All-map, All-weaker}
 use Rattle.cb_semirings.specs.Tables.{min_plus}
 use Rattle.cb_matrix.specs.declared.Entry.{Entry}
-use Rattle.cb_matrix.specs.Sparse.{Sparse, Extent, IsMatrix, IsBefore, IsInside, at, value_at}
+use Rattle.cb_matrix.specs.Sparse.{Sparse, Extent, IsMatrix, IsBefore, IsInside, value_at}
 use Rattle.cb_matrix.specs.Values.{column_of, columns_of, matrix_of}
 use Rattle.cb_matrix.proofs.Made.{IsMatrix-matrix_of, at-matrix_of, at-outside}
 use Rattle.cb_matrix.proofs.Pairs.{AllPairs-cons, AllPairs-nil}
