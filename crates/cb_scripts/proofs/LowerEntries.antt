@@ -1,9 +1,10 @@
 -- Entries below what is known of their rows.
-use Rattle.std.proofs.Common.{◌≡◌, ◌≢◌, ℕ, ◌<◌, ◌≤◌, Bool, true, false, cond, ⊎_elim, List, [], ◌∷◌, subst, sym, refl, ◌∙◌, arith}
+use Rattle.std.proofs.Common.{◌≡◌, ◌≢◌, ℕ, ◌<◌, ◌≤◌, Bool, true, false, cond, ⊎_elim, List, [], ◌∷◌, length, subst, sym, refl, ◌∙◌, arith}
 use Rattle.std.specs.Prelude.{filter, All, AllPairs, min, Some, None, unwrap_or}
 use Rattle.std.specs.Ordering.{nat_cmp}
-use Rattle.std.specs.BTreeMap.{BTreeMap, get}
+use Rattle.std.specs.BTreeMap.{get}
 use Rattle.std.proofs.lemmas.Bool.{ltb-true, ltb-false, cases_eq, cases_lt, cond-true, cond-false}
+use Rattle.std.proofs.lemmas.List.{get_or_past}
 use Rattle.std.proofs.lemmas.List.Elements.{All-head, All-tail, All-weaker, All-filter}
 use Rattle.std.proofs.lemmas.List.Kept.{AllPairs-filter}
 use Rattle.cb_semirings.specs.Arithmetic.{Arithmetic, IsValue}
@@ -13,6 +14,8 @@ use Rattle.cb_matrix.specs.Sparse.{Sparse, IsMatrix, IsBefore, IsInside, value_a
 use Rattle.cb_matrix.proofs.Made.{NoneAt, value_at-none}
 use Rattle.cb_matrix.proofs.Places.{is_at-own}
 use Rattle.cb_matrix.proofs.Pairs.{AllPairs-head, AllPairs-tail}
+use Rattle.cb_scripts.specs.declared.numbers.Numbers.{Numbers}
+use Rattle.cb_scripts.specs.declared.numbers.Numbers.TheVariants.{Dense, Tree}
 use Rattle.cb_scripts.specs.Walks.{infinite}
 use Rattle.cb_scripts.specs.Numbers.{number_at, is_lower, AreNumbers}
 use Rattle.cb_scripts.proofs.TakenNumbers.{other_row}
@@ -35,7 +38,7 @@ module _ (s : Arithmetic) (m : Sparse) (is : IsMatrix s m) (one : m.shape.cols �
   rows_apart i j d l k e = ⊎_elim (λ h. let a = in_column i d (omega arith) in let b = in_column j d k in omega arith) (λ h. omega (arith, h.1)) (is.ascending i j d l k)
 
 -- what passes the test of being lower is at its places, and nothing else is there
-module _ (known : BTreeMap ℕ ℕ) (z v : ℕ) (fits : number_at known v ≤ infinite) where
+module _ (known : Numbers) (z v : ℕ) (fits : number_at known v ≤ infinite) where
   abbrev Lower : ℕ → ℕ → Type 0
   Lower below now = (now < number_at known v → below ≡ now) × (number_at known v ≤ now → below ≡ z)
 
@@ -63,15 +66,20 @@ module _ (known : BTreeMap ℕ ℕ) (z v : ℕ) (fits : number_at known v ≤ in
       (cases_eq e.row v)
 
 -- a number is at most infinite
-pub number_fits : (n : ℕ) (known : BTreeMap ℕ ℕ) → AreNumbers n known → (v : ℕ) → number_at known v ≤ infinite
-number_fits n known h v =
-    elim (get nat_cmp known v) as (λ o. get nat_cmp known v ≡ o → unwrap_or o infinite ≤ infinite) [
+pub number_fits : (n : ℕ) (known : Numbers) → AreNumbers n known → (v : ℕ) → number_at known v ≤ infinite
+number_fits n (Dense list) h v =
+    ⊎_elim
+    (λ (l : v < length list.items). h.1 v infinite l)
+    (λ (l : length list.items ≤ v). let e = get_or_past list.items v infinite l in omega (arith, e))
+    (cases_lt v (length list.items))
+number_fits n (Tree tree) h v =
+    elim (get nat_cmp tree v) as (λ o. get nat_cmp tree v ≡ o → unwrap_or o infinite ≤ infinite) [
       | None ↦ λ _. omega arith
       | Some x ↦ λ e. let k = (h v x e).1 in omega arith
     ] refl
 
 -- the entries of a column that are below what is known
-module _ (m : Sparse) (is : IsMatrix min_plus m) (one : m.shape.cols ≡ 1) (known : BTreeMap ℕ ℕ) (es : List Entry) (same : es ≡ filter (is_lower known) m.entries) where
+module _ (m : Sparse) (is : IsMatrix min_plus m) (one : m.shape.cols ≡ 1) (known : Numbers) (es : List Entry) (same : es ≡ filter (is_lower known) m.entries) where
   -- they are the entries of a column of the same shape
   pub lower_matrix : IsMatrix min_plus (record { shape = m.shape; entries = es })
   lower_matrix = subst (λ (xs : List Entry). IsMatrix min_plus (record { shape = m.shape; entries = xs })) (sym same) (filtered_matrix min_plus m (is_lower known) is)

@@ -1,11 +1,6 @@
 -- A search over rounds: its start, a round, its end.
-use Rattle.std.proofs.Common.{◌≡◌, ◌≢◌, ℕ, ◌+◌, ◌<◌, ◌≤◌, cond, ◌⊎◌, inl, inr, ⊎_elim, List, [], subst, sym, refl, ap, ◌∙◌, arith}
-use Rattle.std.specs.Prelude.{Some, None, min, unwrap_or, Result, Ok, Err, IfOk}
-use Rattle.std.specs.Ordering.{nat_cmp, is_eq}
-use Rattle.std.specs.BTreeMap.{BTreeMap, get}
-use Rattle.std.specs.Map.{lookup}
-use Rattle.std.proofs.lemmas.Bool.{cond-true, cond-false}
-use Rattle.std.proofs.lemmas.Option.{none-some, same_Some}
+use Rattle.std.proofs.Common.{◌≡◌, ◌≢◌, ℕ, ◌+◌, ◌<◌, ◌≤◌, ⊎_elim, List, [], subst, sym, ap, ◌∙◌, arith}
+use Rattle.std.specs.Prelude.{min, Result, Ok, Err, IfOk}
 use Rattle.cb_semirings.specs.Tables.{min_plus}
 use Rattle.cb_matrix.specs.declared.Entry.{Entry}
 use Rattle.cb_matrix.specs.Sparse.{Sparse, Extent, IsMatrix, at, value_at}
@@ -18,33 +13,8 @@ use Rattle.cb_scripts.specs.declared.searches.Search.{Search}
 use Rattle.cb_scripts.specs.Searches.{HasEnded, IsSearch}
 use Rattle.cb_layout.specs.Distributed.{Distributed}
 use Rattle.cb_scripts.proofs.GatheredParts.{over_grid}
-use Rattle.cb_scripts.proofs.TakenNumbers.{eq_cases}
 use Rattle.cb_scripts.proofs.NumbersByRound.{IsRound, IsNearest, started, neared, settled, all_rounds}
 use Rattle.cb_scripts.proofs.TurnedProducts.{is_round, inside_square}
-
--- a map with one number
-module _ (source x : ℕ) (none known : BTreeMap ℕ ℕ) (empty : none.entries ≡ []) (one : (q : ℕ) → get nat_cmp known q ≡ cond (is_eq (nat_cmp source q)) (Some x) (get nat_cmp none q)) where
-  one_cases : (q : ℕ) → ((q ≡ source) × (get nat_cmp known q ≡ Some x)) ⊎ ((q ≢ source) × (get nat_cmp known q ≡ None))
-  one_cases q =
-      elim (eq_cases source q) as (λ _. ((q ≡ source) × (get nat_cmp known q ≡ Some x)) ⊎ ((q ≢ source) × (get nat_cmp known q ≡ None))) [
-        | inl p ↦ inl (sym p.1, one q ∙ cond-true _ _ _ p.0)
-        | inr p ↦ inr (λ e. p.1 (sym e), one q ∙ cond-false _ _ _ p.0 ∙ ap (λ (es : List (ℕ × ℕ)). lookup (λ (k : ℕ). is_eq (nat_cmp q k)) es) empty)
-      ]
-
-  -- it has that number for the source
-  pub one_here : number_at known source ≡ x
-  one_here = ⊎_elim (λ (p : (source ≡ source) × (get nat_cmp known source ≡ Some x)). ap (λ o. unwrap_or o infinite) p.1) (λ (p : (source ≢ source) × (get nat_cmp known source ≡ None)). absurd (p.0 refl)) (one_cases source)
-
-  -- for each other vertex it has infinity
-  pub one_there : (v : ℕ) → v ≢ source → number_at known v ≡ infinite
-  one_there v n = ⊎_elim (λ (p : (v ≡ source) × (get nat_cmp known v ≡ Some x)). absurd (n p.0)) (λ (p : (v ≢ source) × (get nat_cmp known v ≡ None)). ap (λ o. unwrap_or o infinite) p.1) (one_cases v)
-
-  -- where the source is a vertex, and its number below infinity, all numbers of the map are such
-  pub one_finite : (n : ℕ) → source < n → x < infinite → AreNumbers n known
-  one_finite n l m v y found = ⊎_elim
-      (λ (p : (v ≡ source) × (get nat_cmp known v ≡ Some x)). let e : x ≡ y = same_Some x y (sym p.1 ∙ found) in (omega (arith, p.0), omega arith))
-      (λ (p : (v ≢ source) × (get nat_cmp known v ≡ None)). absurd (none-some y (sym p.1 ∙ found)))
-      (one_cases v)
 
 -- at first the source has the number 0, and no other vertex has one
 pub search_begun : (a : Sparse) (source : ℕ) (search : Search) → IsMatrix min_plus a → a.shape.rows ≡ a.shape.cols → source < a.shape.rows → number_at search.known source ≡ 0 → ((v : ℕ) → v ≢ source → number_at search.known v ≡ infinite) →

@@ -1,6 +1,6 @@
 -- The known numbers as a column.
-use Rattle.std.proofs.Common.{◌≡◌, ◌≢◌, ℕ, ◌^◌, ◌<◌, inl, inr, List, [], ◌∷◌, ◌++◌, map, subst, sym, refl, ap, ◌∙◌, arith}
-use Rattle.std.specs.Prelude.{All, AllPairs, unwrap_or}
+use Rattle.std.proofs.Common.{◌≡◌, ◌≢◌, ℕ, ◌+◌, ◌^◌, ◌<◌, ◌≤◌, Bool, cond, ⊎_elim, inl, inr, length, get_or, add-one, List, [], ◌∷◌, ◌++◌, map, subst, sym, refl, ap, ◌∙◌, arith}
+use Rattle.std.specs.Prelude.{All, AllPairs, unwrap_or, slice_index_or, ◌==◌}
 use Rattle.std.specs.Prelude.{Some}
 use Rattle.std.specs.Ordering.{nat_cmp, is_eq}
 use Rattle.std.specs.declared.cmp.Ordering.TheVariants.{Less}
@@ -8,20 +8,23 @@ use Rattle.std.specs.BTreeMap.{BTreeMap, IsOrdered, get}
 use Rattle.std.specs.List.{AllByRecursion}
 use Rattle.std.specs.List.Sorted.{IsStrictlySortedBy}
 use Rattle.std.specs.Map.{keys_of, lookup}
-use Rattle.std.proofs.lemmas.Bool.{cond-true, cond-false}
+use Rattle.std.proofs.lemmas.Bool.{cond-true, cond-false, eq-eqb, cases_lt}
 use Rattle.std.proofs.lemmas.Cmp.{nat_cmp_total}
 use Rattle.std.proofs.lemmas.Bool.Decides.{nat_tests}
-use Rattle.std.proofs.lemmas.List.{append-nil}
+use Rattle.std.proofs.lemmas.List.{append-nil, get_or_default, get_or_past}
 use Rattle.std.proofs.lemmas.Map.Views.{All-found}
 use Rattle.std.proofs.lemmas.List.Elements.{All-cons, All-nil, All-map, All-weaker}
 use Rattle.cb_semirings.specs.Tables.{min_plus}
 use Rattle.cb_matrix.specs.declared.Entry.{Entry}
-use Rattle.cb_matrix.specs.Sparse.{Extent, IsMatrix, IsBefore, IsInside, value_at}
+use Rattle.cb_matrix.specs.Sparse.{Sparse, Extent, IsMatrix, IsBefore, IsInside, value_at}
+use Rattle.cb_matrix.specs.Values.{column_of, columns_of, matrix_of}
+use Rattle.cb_matrix.proofs.Made.{IsMatrix-matrix_of, at-matrix_of, at-outside}
 use Rattle.cb_matrix.proofs.Pairs.{AllPairs-cons, AllPairs-nil}
 use Rattle.cb_matrix.proofs.Places.{is_at-own}
+use Rattle.cb_scripts.specs.declared.numbers.Numbers.TheVariants.{Tree}
 use Rattle.cb_scripts.specs.Walks.{infinite}
 use Rattle.cb_scripts.specs.Numbers.{number_at, AreNumbers, number_entry}
-use Rattle.cb_scripts.proofs.TakenNumbers.{eq_cases, other_row}
+use Rattle.cb_scripts.proofs.TakenNumbers.{eq_cases, ne-eqb, other_row}
 
 less_from : (x y : ℕ) → nat_cmp x y ≡ Less → x < y
 less_from x y h = grind (arith, nat_tests)
@@ -45,7 +48,7 @@ value_of (p ∷ ps) v =
       | inr h ↦ cond-false _ _ _ (other_row v (number_entry p) h.1) ∙ value_of ps v ∙ sym (ap (λ o. unwrap_or o infinite) (cond-false _ _ _ h.0))
     ]
 
-module _ (shape : Extent) (one : shape.cols ≡ 1) (known : BTreeMap ℕ ℕ) (ordered : IsOrdered nat_cmp known) (finite : AreNumbers shape.rows known) (es : List Entry) (same : es ≡ map number_entry known.entries) where
+module _ (shape : Extent) (one : shape.cols ≡ 1) (known : BTreeMap ℕ ℕ) (ordered : IsOrdered nat_cmp known) (finite : AreNumbers shape.rows (Tree known)) (es : List Entry) (same : es ≡ map number_entry known.entries) where
   each : (P : Entry → Type 0) → ((v x : ℕ) → v < shape.rows → x < infinite → P (number_entry (v, x))) → All P es
   each P h = subst (λ (xs : List Entry). All P xs) (sym same) (All-map P number_entry known.entries (All-weaker (λ (p : ℕ × ℕ). get nat_cmp known p.0 ≡ Some p.1) (λ (p : ℕ × ℕ). P (number_entry p)) (λ p e. let k = finite p.0 p.1 e in h p.0 p.1 k.0 k.1) known.entries (All-found nat_cmp_total known ordered)))
 
@@ -59,9 +62,72 @@ module _ (shape : Extent) (one : shape.cols ≡ 1) (known : BTreeMap ℕ ℕ) (o
   }
 
   -- at each vertex it has the vertex's number
-  pub column_value : (v : ℕ) → value_at infinite es v 0 ≡ number_at known v
+  pub column_value : (v : ℕ) → value_at infinite es v 0 ≡ number_at (Tree known) v
   column_value v = ap (λ (xs : List Entry). value_at infinite xs v 0) same ∙ value_of known.entries v
 
 -- when the map has been gone through
 pub all_listed : (known : BTreeMap ℕ ℕ) (es : List Entry) (left : List (ℕ × ℕ)) → es ++ map number_entry left ≡ map number_entry known.entries → left ≡ [] → es ≡ map number_entry known.entries
 all_listed known es left h none = sym (append-nil es) ∙ ap (λ (ps : List (ℕ × ℕ)). es ++ map number_entry ps) (sym none) ∙ h
+
+-- the first places of a list, an entry of a column for each number that isn't infinite
+abbrev pub first_numbers : List ℕ → ℕ → List Entry
+first_numbers list i = column_of infinite (λ v _. slice_index_or list v infinite) 0 i
+
+-- none at first
+pub first_none : (list : List ℕ) → first_numbers list 0 ≡ []
+unfolding column_of
+first_none list = refl
+
+next_number : (list : List ℕ) (i : ℕ) → first_numbers list (i + 1) ≡ first_numbers list i ++ cond (slice_index_or list i infinite == infinite) [] (number_entry (i, slice_index_or list i infinite) ∷ [])
+unfolding column_of
+next_number list i = ap (first_numbers list) (add-one i)
+
+module _ (list : List ℕ) (i d : ℕ) (l : i < length list) (es now : List Entry) (before : es ≡ first_numbers list i) where
+  value : get_or list i d ≡ slice_index_or list i infinite
+  value = get_or_default list i d infinite l
+
+  -- a finite number is added
+  pub number_kept : get_or list i d ≢ infinite → now ≡ es ++ number_entry (i, get_or list i d) ∷ [] → now ≡ first_numbers list (i + 1)
+  number_kept n e =
+      e ∙ ap (λ (xs : List Entry). xs ++ number_entry (i, get_or list i d) ∷ []) before ∙ ap (λ (x : ℕ). first_numbers list i ++ number_entry (i, x) ∷ []) value
+      ∙ sym (next_number list i ∙ ap (λ (b : Bool). first_numbers list i ++ cond b [] (number_entry (i, slice_index_or list i infinite) ∷ [])) (ne-eqb (slice_index_or list i infinite) infinite (λ q. n (value ∙ q))))
+
+  -- an infinite one is left out
+  pub number_passed : get_or list i d ≡ infinite → now ≡ es → now ≡ first_numbers list (i + 1)
+  number_passed n e =
+      e ∙ before
+      ∙ sym (next_number list i ∙ ap (λ (b : Bool). first_numbers list i ++ cond b [] (number_entry (i, slice_index_or list i infinite) ∷ [])) (eq-eqb (slice_index_or list i infinite) infinite (sym value ∙ n)) ∙ append-nil (first_numbers list i))
+
+-- a number in a list is at most infinite
+pub listed_fits : (list : List ℕ) → ((i : ℕ) → slice_index_or list i 0 < 2 ^ 64) → (v : ℕ) → slice_index_or list v infinite ≤ infinite
+listed_fits list small v =
+    ⊎_elim
+    (λ (l : v < length list). let e = get_or_default list v 0 infinite l in let h = small v in omega (arith, e))
+    (λ (l : length list ≤ v). let e = get_or_past list v infinite l in omega (arith, e))
+    (cases_lt v (length list))
+
+module _ (shape : Extent) (one : shape.cols ≡ 1) (list : List ℕ) (small : (i : ℕ) → slice_index_or list i 0 < 2 ^ 64) (len : length list ≡ shape.rows) (i : ℕ) (end : shape.rows ≤ i) (far : i ≤ shape.rows) (es : List Entry) (same : es ≡ first_numbers list i) where
+  abbrev numbers : Sparse
+  numbers = matrix_of min_plus shape (λ v _. slice_index_or list v infinite)
+
+  list_is : IsMatrix min_plus numbers
+  list_is = IsMatrix-matrix_of min_plus shape (λ v _. slice_index_or list v infinite) (λ v _ _ _. let h = listed_fits list small v in omega arith)
+
+  list_entries : es ≡ numbers.entries
+  unfolding columns_of
+  list_entries =
+      let h : i ≡ shape.rows = omega arith in
+      same ∙ ap (first_numbers list) h ∙ ap (λ (n : ℕ). columns_of infinite (λ v _. slice_index_or list v infinite) shape.rows n) (sym one)
+
+  -- when the list has been gone through, the entries are a matrix
+  pub list_matrix : IsMatrix min_plus (record { shape = shape; entries = es })
+  list_matrix = subst (λ (xs : List Entry). IsMatrix min_plus (record { shape = shape; entries = xs })) (sym list_entries) list_is
+
+  -- at each vertex it has the vertex's number
+  pub list_value : (v : ℕ) → value_at infinite es v 0 ≡ slice_index_or list v infinite
+  list_value v =
+      ap (λ (xs : List Entry). value_at infinite xs v 0) list_entries
+      ∙ ⊎_elim
+      (λ (l : v < shape.rows). at-matrix_of min_plus shape (λ v _. slice_index_or list v infinite) v 0 l (omega arith))
+      (λ (l : shape.rows ≤ v). at-outside infinite shape numbers.entries v 0 list_is.inside (λ k _. omega arith) ∙ sym (get_or_past list v infinite (omega arith)))
+      (cases_lt v shape.rows)

@@ -1,20 +1,24 @@
--- The least numbers known so far, by vertex.
-use Rattle.std.specs.Prelude.{◌≡◌, ℕ, ◌<◌, Bool, Some, unwrap_or, nat_lt}
+-- The least numbers known so far, by vertex: in a list with a place for each, or in a tree of those that are finite.
+use Rattle.std.specs.Prelude.{◌≡◌, ℕ, ◌<◌, ◌≤◌, Bool, Some, unwrap_or, nat_lt, length, slice_index_or, All}
 use Rattle.std.specs.Ordering.{nat_cmp}
-use Rattle.std.specs.BTreeMap.{BTreeMap, get}
+use Rattle.std.specs.BTreeMap.{get}
 use Rattle.cb_matrix.specs.declared.Entry.{Entry}
+use Rattle.cb_scripts.specs.declared.numbers.Numbers.{Numbers}
+use Rattle.cb_scripts.specs.declared.numbers.Numbers.TheVariants.{Dense, Tree}
 use Rattle.cb_scripts.specs.Walks.{infinite}
 
 -- the number known of a vertex, or else infinity
-abbrev pub number_at : BTreeMap ℕ ℕ → ℕ → ℕ
-number_at known v = unwrap_or (get nat_cmp known v) infinite
+abbrev pub number_at : Numbers → ℕ → ℕ
+number_at (Dense list) v = slice_index_or list.items v infinite
+number_at (Tree tree) v = unwrap_or (get nat_cmp tree v) infinite
 
--- each number is finite, and that of a vertex below n
-abbrev pub AreNumbers : ℕ → BTreeMap ℕ ℕ → Type 0
-AreNumbers n known = (v x : ℕ) → get nat_cmp known v ≡ Some x → (v < n) × (x < infinite)
+-- numbers of n vertices: a list has a place for each, and each number of a tree is finite and that of a vertex below n
+abbrev pub AreNumbers : ℕ → Numbers → Type 0
+AreNumbers n (Dense list) = (length list.items ≡ n) × All (λ x. x ≤ infinite) list.items
+AreNumbers n (Tree tree) = (v x : ℕ) → get nat_cmp tree v ≡ Some x → (v < n) × (x < infinite)
 
 -- whether an entry is below what is known of its row
-abbrev pub is_lower : BTreeMap ℕ ℕ → Entry → Bool
+abbrev pub is_lower : Numbers → Entry → Bool
 is_lower known e = nat_lt e.value (number_at known e.row)
 
 -- a vertex and its number, as an entry of a column

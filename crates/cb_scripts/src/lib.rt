@@ -13,6 +13,9 @@ ghost use Rattle.cb_scripts.specs.Refusals.{fault_of_run};
 #[cfg(test)]
 mod grid_tests;
 #[cfg(test)]
+mod number_tests;
+mod numbers;
+#[cfg(test)]
 mod order_tests;
 mod orders;
 mod placewise;

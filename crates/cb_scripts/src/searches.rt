@@ -4,7 +4,6 @@
 //! the round before, in min-plus, and takes over what is lower. It ends when none falls, at the latest after as many
 //! rounds as there are vertices.
 ghost use Rattle.std.specs.Prelude.{◌≡◌, ◌≢◌, ◌↔◌, ℕ, ◌+◌, ◌<◌, ◌≤◌, min, filter, [], All, AllPairs, IfOk, OnOk, IsTrue};
-ghost use Rattle.std.specs.BTreeMap.{BTreeMap};
 ghost use Rattle.cb_semirings.specs.Tables.{min_plus};
 ghost use Rattle.cb_matrix.specs.Sparse.{Sparse, IsMatrix, at, value_at};
 ghost use Rattle.cb_matrix.specs.Values.{product};
@@ -13,16 +12,16 @@ ghost use Rattle.cb_scripts.specs.Walks.{infinite, AreDistances};
 ghost use Rattle.cb_scripts.specs.Numbers.{number_at, AreNumbers, is_lower};
 ghost use Rattle.cb_scripts.specs.Searches.{HasEnded, IsSearch};
 
+use crate::numbers::Numbers;
 use cb_layout::DistributedMatrix;
 use cb_matrix::{Entry, Matrix, Shape};
 use cb_semirings::MinPlus;
 use std::alloc::{AllocError, Global};
-use std::collections::BTreeMap;
 
 /// The numbers of the vertices as they are known so far.
 #[derive(Drop)]
 pub struct Search {
-    known: BTreeMap<u32, u64>,
+    known: Numbers,
     /// Those that fell in the last round, in a column.
     fell: Matrix<MinPlus>,
 }
@@ -39,8 +38,8 @@ impl Search {
         ensures { IfOk result (λ search. IsSearch graph.now.matrix source 0 search) }
     {
         let shape = column_shape(graph);
-        let known = known_from(alloc, source)?;
-        let fell = column_of(alloc, shape, &known)?;
+        let known = Numbers::begin(alloc, shape.rows(), graph.len(), source)?;
+        let fell = known.column(alloc, shape)?;
         Ok(Search { known, fell })
     }
 
@@ -67,7 +66,7 @@ impl Search {
         requires search { (a : Sparse) × (source : ℕ) × (k : ℕ) × IsSearch a source k self.now }
         ensures { IfOk result (λ column. (a : Sparse) (source k : ℕ) → IsSearch a source k self.now → HasEnded a k self.now → AreDistances a source column) }
     {
-        column_of(alloc, self.fell.shape(), &self.known)
+        self.known.column(alloc, self.fell.shape())
     }
 }
 
@@ -80,24 +79,17 @@ fn column_shape(graph: &DistributedMatrix<MinPlus>) -> Shape
     Shape::new(rows, 1).unwrap()
 }
 
-/// The number known of a vertex.
-fn number_of(known: &BTreeMap<u32, u64>, vertex: u32) -> u64
-    ensures { result ≡ number_at known.now vertex }
-{
-    known.get(&vertex).copied().unwrap_or(u64::MAX)
-}
-
 /// Whether an entry is below what is known of its row.
-fn is_lower(known: &BTreeMap<u32, u64>, entry: &Entry) -> bool
+fn is_lower(known: &Numbers, entry: &Entry) -> bool
     ensures { result ≡ is_lower known.now entry.now }
 {
-    entry.value < number_of(known, entry.row)
+    entry.value < known.number_of(entry.row)
 }
 
 /// The entries below what is known of their rows.
 fn lower_entries(
     alloc: Global,
-    known: &BTreeMap<u32, u64>,
+    known: &Numbers,
     entries: &[Entry],
 ) -> Result<Vec<Entry>, AllocError>
     ensures { IfOk result (λ v. v.items ≡ filter (is_lower known.now) entries.now) }
@@ -112,14 +104,15 @@ fn lower_entries(
 }
 
 /// Takes over the entries' values.
-fn take_over(known: &mut BTreeMap<u32, u64>, entries: &[Entry]) -> Result<(), AllocError>
+fn take_over(known: &mut Numbers, entries: &[Entry]) -> Result<(), AllocError>
+    requires numbers { (n : ℕ) × AreNumbers n known.old × All (λ e. (e.row < n) × (e.value < infinite)) entries.now }
     requires rows { AllPairs (λ d e. d.row ≢ e.row) entries.now }
     requires column { All (λ e. e.column ≡ 0) entries.now }
     ensures values { OnOk result ((v : ℕ) → number_at known.new v ≡ value_at (number_at known.old v) entries.now v 0) }
     ensures finite { OnOk result ((n : ℕ) → AreNumbers n known.old → All (λ e. (e.row < n) × (e.value < infinite)) entries.now → AreNumbers n known.new) }
 {
     for entry in entries {
-        known.insert(entry.row, entry.value)?;
+        known.set(entry.row, entry.value)?;
     }
     Ok(())
 }
@@ -127,7 +120,7 @@ fn take_over(known: &mut BTreeMap<u32, u64>, entries: &[Entry]) -> Result<(), Al
 /// Takes over the values below those known, and answers their entries.
 fn take_lower(
     alloc: Global,
-    known: &mut BTreeMap<u32, u64>,
+    known: &mut Numbers,
     reached: &Matrix<MinPlus>,
 ) -> Result<Matrix<MinPlus>, AllocError>
     requires column { reached.now.shape.cols ≡ 1 }
@@ -142,37 +135,4 @@ fn take_lower(
     let lower = lower_entries(alloc, known, reached.entries())?;
     take_over(known, &lower)?;
     Ok(Matrix::from_ordered(shape, lower))
-}
-
-/// The known numbers as a column.
-fn column_of(
-    alloc: Global,
-    shape: Shape,
-    known: &BTreeMap<u32, u64>,
-) -> Result<Matrix<MinPlus>, AllocError>
-    requires column { shape.cols ≡ 1 }
-    requires finite { AreNumbers shape.rows known.now }
-    ensures shape { IfOk result (λ m. m.shape ≡ shape) }
-    ensures values { IfOk result (λ m. (v : ℕ) → at min_plus m v 0 ≡ number_at known.now v) }
-{
-    let mut entries = Vec::with_capacity(alloc, known.len())?;
-    for (vertex, number) in known {
-        entries.push(Entry {
-            row: *vertex,
-            column: 0,
-            value: *number,
-        })?;
-    }
-    Ok(Matrix::from_ordered(shape, entries))
-}
-
-/// What is known at first: the source has the number 0.
-fn known_from(alloc: Global, source: u32) -> Result<BTreeMap<u32, u64>, AllocError>
-    ensures here { IfOk result (λ known. number_at known source ≡ 0) }
-    ensures there { IfOk result (λ known. (v : ℕ) → v ≢ source → number_at known v ≡ infinite) }
-    ensures finite { IfOk result (λ known. (n : ℕ) → source < n → AreNumbers n known) }
-{
-    let mut known = BTreeMap::new(alloc);
-    known.insert(source, 0)?;
-    Ok(known)
 }

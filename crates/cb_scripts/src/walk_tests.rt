@@ -44,6 +44,12 @@ fn winding_path(alloc: Global) -> Option<Matrix<MinPlus>> {
     matrix(alloc, 6, 6, &entries)
 }
 
+/// A path 0, 63, 1 in a graph of many vertices for its entries.
+fn sparse_path(alloc: Global) -> Option<Matrix<OrAnd>> {
+    let entries = [entry(63, 1, 1), entry(0, 63, 1)];
+    matrix(alloc, 64, 64, &entries)
+}
+
 #[test]
 fn levels_of_a_path(rt: HostRuntime) -> Result<(), Fail> {
     let graph = path(rt.alloc()).ok_or("a graph")?;
@@ -62,6 +68,17 @@ fn levels_of_a_path_over_a_grid(rt: HostRuntime) -> Result<(), Fail> {
     for (engine, side) in RUNS {
         let spread = DistributedMatrix::scatter(rt.alloc(), grid(side)?, &graph)?;
         let found = levels_distributed(&rt, rt.alloc(), engine, spread, 0)?;
+        assert!(rt; found.entries() == wanted.as_slice());
+    }
+    Ok(())
+}
+
+#[test]
+fn levels_of_a_path_among_many_vertices(rt: HostRuntime) -> Result<(), Fail> {
+    let graph = sparse_path(rt.alloc()).ok_or("a graph")?;
+    let wanted = [entry(0, 0, 0), entry(1, 0, 2), entry(63, 0, 1)];
+    for (engine, side) in RUNS {
+        let found = levels(&rt, rt.alloc(), engine, &grid(side)?, &graph, 0)?;
         assert!(rt; found.entries() == wanted.as_slice());
     }
     Ok(())
@@ -146,6 +163,9 @@ fn refused_memory_is_said_by_walks(rt: HostRuntime) -> Result<(), Fail> {
     let (Some(graph), Some(weighted)) = (path(alloc), cycle(alloc)) else {
         return Ok(());
     };
+    let Some(sparse) = sparse_path(alloc) else {
+        return Ok(());
+    };
     let grid = grid(2)?;
     for engine in ENGINES {
         let wanted = [entry(0, 0, 0), entry(1, 0, 1), entry(2, 0, 2)];
@@ -153,6 +173,9 @@ fn refused_memory_is_said_by_walks(rt: HostRuntime) -> Result<(), Fail> {
         assert!(rt; is_right_or_refused(engine, answer, &wanted));
         let wanted = [entry(0, 0, 0), entry(1, 0, 0), entry(2, 0, 2)];
         let answer = distances(&rt, alloc, engine, &grid, &weighted, 0);
+        assert!(rt; is_right_or_refused(engine, answer, &wanted));
+        let wanted = [entry(0, 0, 0), entry(1, 0, 2), entry(63, 0, 1)];
+        let answer = levels(&rt, alloc, engine, &grid, &sparse, 0);
         assert!(rt; is_right_or_refused(engine, answer, &wanted));
     }
     Ok(())

@@ -14,6 +14,13 @@ pub take_over-requires-clause-column : goal.take_over-requires-clause-column
 take_over-requires-clause-column c =
     lower_column c.args.reached.now c.shape-shape.ensures.matrix c.requires.column c.args.known.now c.deref.result.now (c.deref.ensures.value ∙ c.in_ok-lower.ensures ∙ ap (filter (is_lower c.args.known.now)) c.entries.ensures)
 
+pub take_over-requires-clause-numbers : goal.take_over-requires-clause-numbers
+take_over-requires-clause-numbers c = (
+  c.args.reached.now.shape.rows,
+  c.requires.finite,
+  lower_finite c.args.reached.now c.shape-shape.ensures.matrix c.requires.column c.args.known.now c.deref.result.now (c.deref.ensures.value ∙ c.in_ok-lower.ensures ∙ ap (filter (is_lower c.args.known.now)) c.entries.ensures),
+)
+
 pub from_ordered-requires : goal.from_ordered-requires
 from_ordered-requires c =
     subst (λ (s : Extent). IsMatrix min_plus (record { shape = s; entries = c.in_ok-lower.lower.items })) (sym c.shape-shape.ensures.shape)

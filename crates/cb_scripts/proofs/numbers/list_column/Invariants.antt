@@ -1,0 +1,6 @@
+use Rattle.std.proofs.Common.{◌≡◌}
+use Rattle.cb_scripts.proofs.NumberColumns.{first_numbers}
+use Rattle.cb_scripts.proofs.numbers.list_column.Given as goal
+
+abbrev pub invariant-loop-vertex : goal.invariant-loop-vertex
+invariant-loop-vertex l = l.entries.items ≡ first_numbers l.list l.vertex
