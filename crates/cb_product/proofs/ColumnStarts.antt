@@ -84,7 +84,7 @@ among j (e ∷ es) =
     let rest = among j es in
     elim (e.column == j) as (λ b. (e.column == j) ≡ b → All (λ x. x.column ≡ j → Contains (cond b (e ∷ in_column j es) (in_column j es)) x) (e ∷ es)) [
       | true ↦ λ t. All-cons (λ x. x.column ≡ j → Contains (e ∷ in_column j es) x) e es (λ _. Contains-get_or (e ∷ in_column j es) 0 e (omega arith))
-        (All-weaker (λ x. x.column ≡ j → Contains (in_column j es) x) (λ x. x.column ≡ j → Contains (e ∷ in_column j es) x) (λ x h same. Contains-append_right (e ∷ []) (in_column j es) x (h same)) es rest)
+          (All-weaker (λ x. x.column ≡ j → Contains (in_column j es) x) (λ x. x.column ≡ j → Contains (e ∷ in_column j es) x) (λ x h same. Contains-append_right (e ∷ []) (in_column j es) x (h same)) es rest)
       | false ↦ λ f. All-cons (λ x. x.column ≡ j → Contains (in_column j es) x) e es (λ same. absurd (eqb-false e.column j f same)) rest
     ] refl
 

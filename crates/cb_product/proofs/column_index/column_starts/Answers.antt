@@ -1,4 +1,4 @@
-use Rattle.std.proofs.Common.{◌≡◌, ap, get_or, sym, ◌∙◌}
+use Rattle.std.proofs.Common.{ap, get_or, sym, ◌∙◌}
 use Rattle.cb_dcsc.specs.Columns.{in_column}
 use Rattle.cb_matrix.specs.Sparse.{Extent}
 use Rattle.cb_product.proofs.ColumnStarts.{starts_none, starts_more, starts_all}
