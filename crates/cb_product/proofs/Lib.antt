@@ -13,3 +13,6 @@ pub mod Union
 pub mod AbsentColumns
 -- OwnColumn: a column of the accumulator to which no term is added.
 pub mod OwnColumn
+-- ColumnStarts: where the entries of each column start among all: `column_from_starts`, `starts_none`, `starts_more`,
+--   `starts_all`.
+pub mod ColumnStarts

@@ -1,105 +1,82 @@
-//! Where the columns of the left block stand: the AUX index of doubly compressed columns, made for one product.
+//! Where the columns of the left block stand: an index that is made for one product.
 //!
-//! Buluç and Gilbert, On the Representation and Multiplication of Hypersparse Matrices (IPDPS 2008, section 4.1), index
-//! chunks of columns. Here a column is hashed instead, so that columns which stand close together are no worse.
-ghost use Rattle.std.specs.Prelude.{◌≡◌, ◌≢◌, ◌<◌, ◌≤◌, IsTrue, All, AllPairs, length, slice_range};
+//! Where the shape has few columns for the entries it is the column pointers of compressed sparse columns (CSC), so that
+//! two numbers side by side tell all of a column. Else it is the AUX index of doubly compressed columns. Buluç and
+//! Gilbert, On the Representation and Multiplication of Hypersparse Matrices (IPDPS 2008, section 4.1), index chunks of
+//! columns there. Here a column is hashed instead, so that columns which stand close together are no worse.
+ghost use Rattle.std.specs.Prelude.{◌≡◌, ◌<◌, ◌≤◌, ◌^◌, All, IfOk, length, slice_range};
 ghost use Rattle.cb_dcsc.specs.Columns.{in_column};
+ghost use Rattle.cb_product.specs.ColumnStarts.{AreColumnStarts, Tells};
 
 use cb_dcsc::Block;
 use cb_semirings::Semiring;
 use std::alloc::{AllocError, Global};
 
-/// Tells at which place among a block's columns one may stand. What it tells is looked at: where another column stands
-/// there, the column is searched for.
+/// Tells where the entries of a block's columns stand.
 #[derive(Drop)]
-pub(crate) struct ColumnIndex {
-    /// Where each column has a place of its own: how many columns that have entries are before it. Else: at which place
-    /// a column of this hash stands.
-    places: Vec<u32>,
-    /// By how many bits a hash is shifted to give the index of a place. 0: each column has a place of its own.
-    shift: u32,
+pub(crate) enum ColumnIndex {
+    /// Where the entries of each column of the shape start among all, and where the last one's end. A column without
+    /// entries starts where it ends.
+    Starts(Vec<u32>),
+    /// At which place among the columns that have entries a column of this hash may stand, and by how many bits a hash
+    /// is shifted. This is looked at: where another column stands there, the column is searched for.
+    Hashed { places: Vec<u32>, shift: u32 },
+    /// Nothing: columns are searched for.
+    Searched,
 }
 
 impl ColumnIndex {
-    /// The index of a block that will be asked for so many columns: a place for each column of the shape, where at most
+    /// The index of a block that will be asked for so many columns: a start for each column of the shape, where at most
     /// four of them come to each column that has entries and to each that will be asked for; else four to eight places
     /// for each column that has entries, where at most four of these come to each that will be asked for; else none.
+    /// Starts have 32 bits, so of 2^32 entries and more there are none.
     pub fn new<S: Semiring>(
         alloc: Global,
         block: &Block<S>,
         asked: usize,
-    ) -> Result<ColumnIndex, AllocError> {
+    ) -> Result<ColumnIndex, AllocError>
+        ensures { IfOk result (λ index. Tells index block.now) }
+    {
         let cols = block.shape().cols() as usize;
         let columns = block.columns();
-        let mut index = ColumnIndex {
-            places: Vec::new(alloc),
-            shift: 0,
-        };
-        if cols / 4 < asked.min(columns) {
-            index.rank(block.column_numbers(), cols)?;
-        } else if columns / 4 < asked {
+        if cols / 4 < asked.min(columns) && block.len() <= u32::MAX as usize {
+            let starts = column_starts(alloc, block)?;
+            return Ok(ColumnIndex::Starts(starts));
+        }
+        if columns / 4 < asked {
             let bits = (columns as u64).saturating_mul(4).leading_zeros();
-            index.shift = bits.saturating_sub(32).max(1).min(31);
-            index.places.resize(1 << (32 - index.shift), 0)?;
-            index.hash(block.column_numbers());
+            let shift = bits.saturating_sub(32).max(1).min(31);
+            let places = hashed(alloc, block.column_numbers(), shift)?;
+            return Ok(ColumnIndex::Hashed { places, shift });
         }
-        Ok(index)
-    }
-
-    /// Notes for each column of the shape how many of these columns are before it.
-    fn rank(&mut self, columns: &[u32], cols: usize) -> Result<(), AllocError> {
-        self.places.reserve(cols)?;
-        let mut place = 0u32;
-        for column in columns {
-            self.places.resize(*column as usize + 1, place)?;
-            place = place.saturating_add(1);
-        }
-        self.places.resize(cols, place)
-    }
-
-    /// Notes the place of each of these columns under its hash.
-    fn hash(&mut self, columns: &[u32]) {
-        let mut place = 0u32;
-        for column in columns {
-            let at = self.slot(*column);
-            if let Some(slot) = self.places.get_mut(at) {
-                *slot = place;
-            }
-            place = place.saturating_add(1);
-        }
-    }
-
-    /// Where the place of a column is noted.
-    fn slot(&self, column: u32) -> usize {
-        if self.shift == 0 {
-            return column as usize;
-        }
-        (column.wrapping_mul(2_654_435_769) >> (self.shift % 32)) as usize
+        Ok(ColumnIndex::Searched)
     }
 
     /// Where the entries of a column of this block stand among all.
     pub fn range<S: Semiring>(&self, block: &Block<S>, column: u32) -> (usize, usize)
+        requires told { Tells self.now block.now }
+        requires inside { column < block.now.shape.cols }
         ensures order { result.0 ≤ result.1 }
         ensures within { result.1 ≤ length block.now.entries }
         ensures entries { slice_range block.now.entries result.0 result.1 ≡ in_column column block.now.entries }
     {
-        let place = match self.places.get(self.slot(column)) {
-            Some(place) => *place as usize,
-            None => 0,
-        };
-        if place < block.columns() && block.column_number(place) == column {
-            return block.nth_range(place);
+        match self {
+            ColumnIndex::Starts(starts) => {
+                let j = column as usize;
+                (starts[j] as usize, starts[j + 1] as usize)
+            }
+            ColumnIndex::Hashed { places, shift } => range_at(block, column, places, *shift),
+            ColumnIndex::Searched => block.range(column),
         }
-        if is_missing(block.column_numbers(), place, column) {
-            return (0, 0);
-        }
-        block.range(column)
     }
 
-    /// How many products there are of this block's entries and of entries of a right block in these rows: counted where
-    /// each column has a place, else as many as the columns have on average.
-    pub fn products<S: Semiring>(&self, block: &Block<S>, rows: &[u32]) -> usize {
-        if self.shift > 0 {
+    /// How many products there are of this block's entries and of entries of a right block in these rows: as many as
+    /// the columns have on average where they are hashed, else counted.
+    pub fn products<S: Semiring>(&self, block: &Block<S>, rows: &[u32]) -> usize
+        requires told { Tells self.now block.now }
+        requires inside { All (λ i. i < block.now.shape.cols) rows.now }
+    {
+        if let ColumnIndex::Hashed { .. } = self {
             let average = (block.len() / block.columns().max(1)).saturating_add(1);
             return rows.len().saturating_mul(average);
         }
@@ -112,12 +89,60 @@ impl ColumnIndex {
     }
 }
 
-/// Whether the columns at a place and before it tell that a column isn't among these, which ascend.
-fn is_missing(columns: &[u32], place: usize, column: u32) -> bool
-    requires { AllPairs (λ c d. c < d) columns.now }
-    ensures { IsTrue result → All (λ c. c ≢ column) columns.now }
+/// Where the entries of each column of the shape start among all, and where the last one's end.
+fn column_starts<S: Semiring>(alloc: Global, block: &Block<S>) -> Result<Vec<u32>, AllocError>
+    requires { length block.now.entries < 2 ^ 32 }
+    ensures { IfOk result (λ starts. AreColumnStarts block.now starts.items) }
 {
-    place <= columns.len()
-        && (place == 0 || columns[place - 1] < column)
-        && (place == columns.len() || column < columns[place])
+    let cols = block.shape().cols() as usize;
+    let mut starts = Vec::new(alloc);
+    starts.reserve(cols + 1)?;
+    let columns = block.column_numbers();
+    for n in 0..columns.len() {
+        let (start, _) = block.nth_range(n);
+        starts.resize(columns[n] as usize + 1, start as u32)?;
+    }
+    starts.resize(cols + 1, block.len() as u32)?;
+    Ok(starts)
+}
+
+/// The place of each of these columns, under its hash.
+fn hashed(alloc: Global, columns: &[u32], shift: u32) -> Result<Vec<u32>, AllocError>
+    requires { shift < 32 }
+{
+    let mut places = Vec::new(alloc);
+    places.resize(1 << (32 - shift), 0)?;
+    let mut place = 0u32;
+    for column in columns {
+        if let Some(slot) = places.get_mut(slot(*column, shift)) {
+            *slot = place;
+        }
+        place = place.saturating_add(1);
+    }
+    Ok(places)
+}
+
+/// Under which hash the place of a column is noted.
+fn slot(column: u32, shift: u32) -> usize {
+    (column.wrapping_mul(2_654_435_769) >> (shift % 32)) as usize
+}
+
+/// Where the entries of a column stand among all, by the place that is noted under its hash, or else by a search.
+fn range_at<S: Semiring>(
+    block: &Block<S>,
+    column: u32,
+    places: &[u32],
+    shift: u32,
+) -> (usize, usize)
+    ensures order { result.0 ≤ result.1 }
+    ensures within { result.1 ≤ length block.now.entries }
+    ensures entries { slice_range block.now.entries result.0 result.1 ≡ in_column column block.now.entries }
+{
+    if let Some(place) = places.get(slot(column, shift)) {
+        let place = *place as usize;
+        if place < block.columns() && block.column_number(place) == column {
+            return block.nth_range(place);
+        }
+    }
+    block.range(column)
 }

@@ -1,8 +1,9 @@
 //! The terms that a column of a product is the sum of.
-ghost use Rattle.std.specs.Prelude.{◌≡◌, ℕ, length, All, OnOk};
+ghost use Rattle.std.specs.Prelude.{◌≡◌, ℕ, ◌<◌, length, All, OnOk};
 ghost use Rattle.cb_semirings.specs.Arithmetic.{IsValue};
 ghost use Rattle.cb_matrix.specs.Sparse.{IsMatrix};
 ghost use Rattle.cb_dcsc.specs.Columns.{rows_of, values_of};
+ghost use Rattle.cb_product.specs.ColumnStarts.{Tells};
 ghost use Rattle.cb_product.specs.Terms.{IsTerm, terms_value, column_sum};
 
 use crate::column_index::ColumnIndex;
@@ -30,6 +31,8 @@ pub(crate) fn gather<S: Semiring>(
     requires lengths { length values.now ≡ length rows.now }
     requires values { All (IsValue S.arithmetic) values.now }
     requires matrix { IsMatrix S.arithmetic left.now }
+    requires told { Tells index.now left.now }
+    requires inside { All (λ i. i < left.now.shape.cols) rows.now }
     ensures terms { OnOk result (All (IsTerm S.arithmetic (rows_of left.now.entries)) terms.new.items) }
     ensures sums { OnOk result ((i : ℕ) → terms_value S.arithmetic (rows_of left.now.entries) (values_of left.now.entries) i terms.new.items ≡ column_sum S.arithmetic left.now i rows.now values.now) }
 {

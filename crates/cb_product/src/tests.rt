@@ -1,4 +1,5 @@
 //! Worked examples, with ample memory and with each allocation refused in turn.
+use crate::column_index::ColumnIndex;
 use crate::{multiply, multiply_into};
 use cb_matrix::{Entry, LIMIT, Matrix};
 use cb_samples::{SampleFault, are_values, block, entry, shape};
@@ -214,6 +215,67 @@ fn blocks_without_rows_columns_or_entries_have_empty_products(rt: HostRuntime) -
     for sides in [[0, 0, 0], [0, 3, 2], [2, 0, 3], [2, 3, 0], [2, 3, 4]] {
         let found = product::<PlusTimes>(rt.alloc(), sides, &[], &[])?;
         assert_eq!(rt; found.len(), 0);
+    }
+    Ok(())
+}
+
+/// Entries in columns 1, 3, 4 and 6, and in none before, between and behind them.
+fn gapped() -> [Entry; 5] {
+    [
+        entry(1, 1, 10),
+        entry(0, 3, 30),
+        entry(2, 3, 31),
+        entry(4, 4, 40),
+        entry(3, 6, 60),
+    ]
+}
+
+/// Which index the block of these entries has where so many columns are asked for.
+fn index_of(alloc: Global, cols: u32, asked: usize) -> Result<&'static str, SampleFault> {
+    let left = block::<PlusTimes>(alloc, 5, cols, &gapped())?;
+    Ok(match ColumnIndex::new(alloc, &left, asked)? {
+        ColumnIndex::Starts(_) => "starts",
+        ColumnIndex::Hashed { .. } => "hashed",
+        ColumnIndex::Searched => "searched",
+    })
+}
+
+/// Eight columns are asked for: all by one column of the right block where the index has starts or is hashed, and each
+/// by a block of its own where columns are searched for.
+#[test]
+fn each_index_finds_columns_with_and_without_entries(rt: HostRuntime) -> Result<(), Fail> {
+    let alloc = rt.alloc();
+    let mut all = Vec::new(alloc);
+    for column in 0..8 {
+        all.push(entry(column, 0, 1))?;
+    }
+    assert_eq!(rt; index_of(alloc, 8, all.len())?, "starts");
+    assert_eq!(rt; index_of(alloc, LIMIT, all.len())?, "hashed");
+    assert_eq!(rt; index_of(alloc, 8, 1)?, "searched");
+    let wanted = [
+        entry(0, 0, 30),
+        entry(1, 0, 10),
+        entry(2, 0, 31),
+        entry(3, 0, 60),
+        entry(4, 0, 40),
+    ];
+    for cols in [8, LIMIT] {
+        let found = product::<PlusTimes>(alloc, [5, cols, 1], &gapped(), &all)?;
+        assert_eq!(rt; found.as_slice(), wanted.as_slice());
+    }
+    let own: [&[Entry]; 8] = [
+        &[],
+        &[entry(1, 0, 10)],
+        &[],
+        &[entry(0, 0, 30), entry(2, 0, 31)],
+        &[entry(4, 0, 40)],
+        &[],
+        &[entry(3, 0, 60)],
+        &[],
+    ];
+    for (one, wanted) in all.iter().zip(&own) {
+        let found = product::<PlusTimes>(alloc, [5, 8, 1], &gapped(), &[*one])?;
+        assert_eq!(rt; found.as_slice(), *wanted);
     }
     Ok(())
 }

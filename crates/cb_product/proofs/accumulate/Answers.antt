@@ -4,7 +4,7 @@ use Rattle.std.proofs.lemmas.Bool.{eqb-true}
 use Rattle.std.proofs.lemmas.List.{get_or_default}
 use Rattle.cb_matrix.specs.Sparse.{Extent}
 use Rattle.cb_dcsc.specs.Columns.{rows_of, values_of}
-use Rattle.cb_dcsc.proofs.Lookup.{rows_inside, as_long}
+use Rattle.cb_dcsc.proofs.Lookup.{all_rows_inside, rows_inside, as_long}
 use Rattle.cb_product.specs.SparseColumn.{AreEntries}
 use Rattle.cb_product.proofs.ProductColumns.{sum_start, sum_more, sum_all, own_column}
 use Rattle.cb_product.proofs.TermSums.{matrix_values, terms_value-end}
@@ -20,7 +20,21 @@ loop-column-init g c =
     record {
       so_far = rw c.reserve.ensures.same (sum_start s g.met.S.Semiring.is_semiring c.args.accumulator.now c.args.left.now c.args.right.now c.shape.ensures.matrix c.shape-left_shape.ensures.matrix c.shape-right_shape.ensures.matrix r.agree c.args.columns.now r.ascending r.within r.accumulator_columns r.right_columns _ c.empty-out.ensures.matrix (c.empty-out.ensures.value ∙ ap (λ (e : Extent). record { shape = e; entries = _ }) c.shape.ensures.shape));
       zeros = c.in_ok-work.ensures;
+      told = c.in_ok-index.ensures;
     }
+
+pub products-products-requires-clause-inside : goal.products-products-requires-clause-inside
+products-products-requires-clause-inside g c =
+    let rows = all_rows_inside g.S.Semiring.arithmetic c.args.right.now _ c.shape-right_shape.ensures.matrix c.row_numbers.ensures in
+    subst (λ n. All (λ i. i < n) c.row_numbers.result.now) (sym c.requires.agree) rows
+
+pub gather-requires-clause-told : goal.gather-requires-clause-told
+gather-requires-clause-told g c = c.loop-column.invariant.told
+
+pub gather-requires-clause-inside : goal.gather-requires-clause-inside
+gather-requires-clause-inside g c =
+    let rows = rows_inside g.S.Semiring.arithmetic c.args.right.now _ _ c.shape-right_shape.ensures.matrix c.of_next.ensures.rows in
+    subst (λ n. All (λ i. i < n) c.of_next.result.0.now) (sym c.requires.agree) rows
 
 pub make-requires-clause-own : goal.make-requires-clause-own
 make-requires-clause-own g c =
@@ -74,6 +88,7 @@ loop-column-preserved-then-is_empty g c =
     record {
       so_far = sum_more s laws c.args.accumulator.now left c.args.right.now c.shape.ensures.matrix c.shape-left_shape.ensures.matrix c.shape-right_shape.ensures.matrix r.agree c.args.columns.now r.ascending r.within r.accumulator_columns r.right_columns _ _ c.loop-column.column-index _ _ c.loop-column-test.true refl c.loop-column.invariant.so_far adds (λ i. refl);
       zeros = c.loop-column.invariant.zeros;
+      told = c.loop-column.invariant.told;
     }
 
 pub push_column-requires-in-loop-column-clause-rows : goal.push_column-requires-in-loop-column-clause-rows
@@ -113,6 +128,7 @@ loop-column-preserved g c =
     record {
       so_far = sum_more s laws c.args.accumulator.now c.args.left.now c.args.right.now c.shape.ensures.matrix c.shape-left_shape.ensures.matrix c.shape-right_shape.ensures.matrix r.agree c.args.columns.now r.ascending r.within r.accumulator_columns r.right_columns _ _ c.loop-column.column-index _ _ c.loop-column-test.true refl c.loop-column.invariant.so_far adds (λ i. λ t. s.add (own i t) (sums i t));
       zeros = c.in_ok-make.ensures.zeros;
+      told = c.loop-column.invariant.told;
     }
 
 pub returns : goal.returns

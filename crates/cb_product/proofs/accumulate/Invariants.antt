@@ -1,5 +1,6 @@
 use Rattle.std.proofs.Common.{◌≡◌}
 use Rattle.std.specs.Prelude.{All}
+use Rattle.cb_product.specs.ColumnStarts.{Tells}
 use Rattle.cb_product.proofs.ProductColumns.{IsSumSoFar}
 use Rattle.cb_product.proofs.accumulate.Given as goal
 
@@ -8,4 +9,5 @@ invariant-loop-column g l =
     record {
       so_far : IsSumSoFar g.S.Semiring.arithmetic l.accumulator l.left l.right l.columns l.column-index l.out;
       zeros : All (λ x. x ≡ g.S.Semiring.arithmetic.zero) l.work.sums;
+      told : Tells l.index l.left;
     }
