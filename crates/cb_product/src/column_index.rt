@@ -29,7 +29,7 @@ impl ColumnIndex {
     /// The index of a block that will be asked for so many columns: a start for each column of the shape, where at most
     /// four of them come to each column that has entries and to each that will be asked for; else four to eight places
     /// for each column that has entries, where at most four of these come to each that will be asked for; else none.
-    /// Starts have 32 bits, so of 2^32 entries and more there are none.
+    /// Starts have 32 bits, so a block of 2^32 entries or more has none.
     pub fn new<S: Semiring>(
         alloc: Global,
         block: &Block<S>,
@@ -106,7 +106,7 @@ fn column_starts<S: Semiring>(alloc: Global, block: &Block<S>) -> Result<Vec<u32
     Ok(starts)
 }
 
-/// The place of each of these columns, under its hash.
+/// The place of each of these columns, noted at its hash.
 fn hashed(alloc: Global, columns: &[u32], shift: u32) -> Result<Vec<u32>, AllocError>
     requires { shift < 32 }
 {
@@ -122,12 +122,12 @@ fn hashed(alloc: Global, columns: &[u32], shift: u32) -> Result<Vec<u32>, AllocE
     Ok(places)
 }
 
-/// Under which hash the place of a column is noted.
+/// Where the place of a column is noted: at its hash, which is shifted by so many bits.
 fn slot(column: u32, shift: u32) -> usize {
     (column.wrapping_mul(2_654_435_769) >> (shift % 32)) as usize
 }
 
-/// Where the entries of a column stand among all, by the place that is noted under its hash, or else by a search.
+/// Where the entries of a column stand among all, by the place that is noted at its hash, or else by a search.
 fn range_at<S: Semiring>(
     block: &Block<S>,
     column: u32,
