@@ -1,5 +1,5 @@
 //! Columns of a product as they are made, and the sum of two.
-ghost use Rattle.std.specs.Prelude.{◌≡◌, ℕ, ◌<◌, ◌≤◌, List, [], length, drop, All, AllPairs, Contains, IfOk, OnOk, slice_index};
+ghost use Rattle.std.specs.Prelude.{◌≡◌, ◌≢◌, IsTrue, ℕ, ◌<◌, ◌≤◌, List, [], length, drop, All, AllPairs, Contains, IfOk, OnOk, slice_index};
 ghost use Rattle.cb_semirings.specs.Arithmetic.{IsValue};
 ghost use Rattle.cb_dcsc.specs.Columns.{in_column, rows_of, values_of, row_value};
 ghost use Rattle.cb_product.specs.SparseColumn.{IsSparseColumn, value_in, rest_value, one_value};
@@ -140,8 +140,9 @@ impl<S: Semiring> Column<S> {
     }
 }
 
-/// The rows and values of a column, which is the next of those that have entries, or is looked for: who goes
-/// through all columns of a block in order searches for none.
+/// The rows and values of a column, which is the next of those that have entries, or stands before it, or is looked
+/// for: who goes through all columns of a block in order searches for none.
+#[inline(always)]
 pub(crate) fn of_next<'a, S: Semiring>(
     block: &'a Block<S>,
     next: &mut usize,
@@ -153,11 +154,26 @@ pub(crate) fn of_next<'a, S: Semiring>(
     ensures are_values { All (IsValue S.arithmetic) result.1.now }
 {
     let n = *next;
-    if n < block.columns() && block.column_number(n) == column {
+    let columns = block.column_numbers();
+    if n < columns.len() && columns[n] == column {
         *next = n + 1;
         return block.nth_column(n);
     }
+    if is_missing(columns, n, column) {
+        return (&[], &[]);
+    }
     block.column(column)
+}
+
+/// Whether the nth of these columns, which ascend, and the one before it tell that a column isn't among them.
+#[inline(always)]
+fn is_missing(columns: &[u32], n: usize, column: u32) -> bool
+    requires { AllPairs (λ c d. c < d) columns.now }
+    ensures { IsTrue result → All (λ c. c ≢ column) columns.now }
+{
+    n <= columns.len()
+        && (n == 0 || columns[n - 1] < column)
+        && (n == columns.len() || column < columns[n])
 }
 
 /// The columns of either list, ascending, each once: both are gone through once.

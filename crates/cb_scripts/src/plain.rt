@@ -16,7 +16,7 @@ use crate::products::{empty_product, masked_of_one, masked_plan, product_of_one,
 use crate::rounds::{multiply_vector_plain, vector_plan};
 use crate::runs::compute_plain;
 use crate::searches::Search;
-use crate::transposes::transpose_plan;
+use crate::transposes::{transpose_of_one, transpose_plan};
 use crate::walks::{check_graph, weighted};
 use cb_elementwise::Test;
 use cb_layout::DistributedMatrix;
@@ -73,6 +73,9 @@ pub fn transpose_distributed<S: Semiring>(
     ensures ok { IfOk result (λ m. m ≡ record { side = matrix.side; matrix = transposed S.arithmetic matrix.matrix }) }
     ensures fault { IfErr result (IsRunRefusal Plain) }
 {
+    if matrix.grid().side() == 1 {
+        return Ok(transpose_of_one(alloc, matrix)?);
+    }
     let (grid, planned, operands, shape) = transpose_plan(alloc, matrix)?;
     compute_plain(alloc, &grid, planned, operands, shape)
 }

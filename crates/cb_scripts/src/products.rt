@@ -138,7 +138,7 @@ pub(crate) fn only_block<S: Semiring>(matrix: &DistributedMatrix<S>) -> &Block<S
 }
 
 /// The matrix over the grid of one rank that has this block.
-fn of_one<S: Semiring>(
+pub(crate) fn of_one<S: Semiring>(
     alloc: Global,
     grid: Grid,
     block: Block<S>,

@@ -5,13 +5,14 @@ ghost use Rattle.cb_scripts.specs.declared.Engine.TheVariants.{Plain};
 ghost use Rattle.cb_scripts.specs.Answers.{Makes};
 ghost use Rattle.cb_scripts.specs.Refusals.{IsRunRefusal};
 
+use crate::products::{of_one, only_block};
 use crate::runs::{Prepared, compute};
 use crate::{Engine, ScriptFault};
 use cb_kernels::{LEFT, grid_transpose};
 use cb_layout::{DistributedMatrix, Grid};
 use cb_matrix::{Matrix, Shape};
 use cb_semirings::Semiring;
-use std::alloc::Global;
+use std::alloc::{AllocError, Global};
 use std::sync::Wait;
 use std::thread::Threads;
 
@@ -32,7 +33,7 @@ pub fn transpose<S: Semiring + Send + Sync, R: Threads + Wait + Sync>(
 }
 
 /// The transpose of a matrix that lies over a grid, left in the grid's blocks. The blocks that it had are given to the
-/// ranks. All else is as in [`transpose`].
+/// ranks. On a grid of one rank the plain engine transposes the block, without a plan. All else is as in [`transpose`].
 pub fn transpose_distributed<S: Semiring + Send + Sync, R: Threads + Wait + Sync>(
     rt: &R,
     alloc: Global,
@@ -42,8 +43,23 @@ pub fn transpose_distributed<S: Semiring + Send + Sync, R: Threads + Wait + Sync
     ensures ok { IfOk result (λ m. m ≡ record { side = matrix.side; matrix = transposed S.arithmetic matrix.matrix }) }
     ensures fault { IfErr result (IsRunRefusal engine) }
 {
+    if engine == Engine::Plain && matrix.grid().side() == 1 {
+        return Ok(transpose_of_one(alloc, matrix)?);
+    }
     let (grid, planned, operands, shape) = transpose_plan(alloc, matrix)?;
     compute(rt, alloc, engine, &grid, planned, operands, shape)
+}
+
+/// The transpose of a matrix over the grid of one rank: that of its block.
+pub(crate) fn transpose_of_one<S: Semiring>(
+    alloc: Global,
+    matrix: DistributedMatrix<S>,
+) -> Result<DistributedMatrix<S>, AllocError>
+    requires { matrix.side ≡ 1 }
+    ensures { IfOk result (λ m. m ≡ record { side = matrix.side; matrix = transposed S.arithmetic matrix.matrix }) }
+{
+    let turned = cb_reshape::transpose(alloc, only_block(&matrix))?;
+    of_one(alloc, matrix.grid(), turned)
 }
 
 /// The plan of the transpose of a matrix that lies over a grid, and what it is made of.
