@@ -165,6 +165,7 @@ impl<S: Semiring> Block<S> {
     }
 
     /// The rows and values of the nth column that has entries.
+    #[inline(always)]
     pub fn nth_column(&self, n: usize) -> (&[u32], &[u64])
         requires { n < length (columns_with_entries self.now.entries) }
         ensures rows { result.0.now ≡ rows_of (in_column (slice_index (columns_with_entries self.now.entries) n) self.now.entries) }
@@ -375,6 +376,7 @@ impl<S: Semiring> Block<S> {
 
     /// Stores a whole column after all the others, by its rows, which ascend, and the value at each. A column
     /// without rows is not stored. On refusal the block is as it was.
+    #[inline(always)]
     pub fn push_column(
         &mut self,
         column: u32,
@@ -431,6 +433,7 @@ fn part_of(starts: &[usize], index: usize) -> usize
 }
 
 /// The nth part of a list, from its start to the next.
+#[inline(always)]
 fn part<'a, T: Copy>(starts: &[usize], items: &'a [T], n: usize) -> &'a [T]
     requires place { n + 1 < length starts.now }
     requires rising { slice_index starts.now n ≤ slice_index starts.now (n + 1) }
@@ -473,6 +476,7 @@ fn ends_with(numbers: &[u32], number: u32) -> bool
 }
 
 /// Names one column more, and where its part ends.
+#[inline(always)]
 fn start_column(
     columns: &mut Vec<u32>,
     starts: &mut Vec<usize>,

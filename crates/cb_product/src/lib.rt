@@ -55,7 +55,7 @@ pub fn multiply<S: Semiring>(
 }
 
 /// An accumulator plus the product of two blocks. On refusal the accumulator comes back as it was. Its entries are
-/// copied, so it takes time for these too.
+/// copied, so it takes time for these too, unless one of the two blocks has no entries.
 ///
 /// The columns of the left block are as many as the rows of the right, and the accumulator has the product's
 /// shape.
@@ -70,6 +70,10 @@ pub fn multiply_into<S: Semiring>(
     ensures ok { IfOk result (λ m. m ≡ sum_of S.arithmetic accumulator (product S.arithmetic left.now right.now)) }
     ensures err { IfErr result (λ e. e.0 ≡ accumulator) }
 {
+    if left.len() == 0 || right.len() == 0 {
+        let _shapes = (left.shape(), right.shape(), accumulator.shape());
+        return Ok(accumulator);
+    }
     match added(alloc, left, right, &accumulator) {
         Ok(sum) => Ok(sum),
         Err(error) => Err((accumulator, error)),
@@ -112,8 +116,10 @@ fn accumulate<S: Semiring>(
     let mut out = Block::empty(alloc, accumulator.shape());
     let index = ColumnIndex::new(alloc, left, right.len())?;
     let products = index.products(left, right.row_numbers());
+    let places = columns.len().saturating_mul(left_shape.rows() as usize);
+    let most = products.min(places);
     // Where memory is refused for what may come, there can still be enough for what comes.
-    let _ = out.reserve(room(left.len(), right.len(), accumulator.len(), products));
+    let _ = out.reserve(room(left.len(), right.len(), accumulator.len(), most));
     let mut work = Workspace::new(alloc)?;
     let mut terms = Vec::new(alloc);
     let mut next = 0;

@@ -100,10 +100,21 @@ fn three_columns_meet_in_one_row(rt: HostRuntime) -> Result<(), Fail> {
     Ok(())
 }
 
-/// Two by two, where a sum comes to zero; and a tall accumulator, which is merged in.
+/// Two by two, where a sum comes to zero; blocks without entries, by which nothing is added; and a tall accumulator,
+/// which is merged in.
 #[test]
 fn products_that_are_added(rt: HostRuntime) -> Result<(), Fail> {
-    let cases: [([u32; 3], [&[Entry]; 3], &[Entry]); 2] = [
+    let cases: [([u32; 3], [&[Entry]; 3], &[Entry]); 4] = [
+        (
+            [2, 2, 2],
+            [&[], &[entry(1, 0, 4)], &[entry(0, 1, 7)]],
+            &[entry(0, 1, 7)],
+        ),
+        (
+            [2, 2, 2],
+            [&[entry(0, 0, 1)], &[], &[entry(0, 1, 7)]],
+            &[entry(0, 1, 7)],
+        ),
         (
             [2, 2, 2],
             [

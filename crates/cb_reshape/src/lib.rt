@@ -34,11 +34,11 @@ const ROWS_PER_ENTRY: usize = 4;
 const BANDS: usize = 8;
 
 /// How many entries a band has at least, unless it is the last: the places of so many stay in the caches.
-const ENTRIES_PER_BAND: usize = 1 << 18;
+const ENTRIES_PER_BAND: usize = 1 << 19;
 
 /// The block with rows and columns exchanged.
 ///
-/// Costs a few instructions for each entry, and where there are more than 262,144 entries, up to eight walks over
+/// Costs a few instructions for each entry, and where there are more than 524,288 entries, up to eight walks over
 /// them. Where there are more than four rows for each entry, it costs a sort of the entries.
 pub fn transpose<S: Semiring>(alloc: Global, block: &Block<S>) -> Result<Block<S>, AllocError>
     ensures { IfOk result (λ turned. turned ≡ transposed S.arithmetic block.now) }

@@ -1,8 +1,8 @@
 -- FilledSlots: a slot of every rank is filled, rank after rank. DrainedSlots: it is emptied, rank after rank.
 -- GatheredParts: the matrix whose parts stand in one slot. Holdings: matrices in slots of the ranks, and the starts
 -- that they fit. LaidOutOperands: matrices over a grid are given to its ranks, one after the other. MadeMatrices:
--- what a plan makes of them, gathered. ProductPlans, KernelPlans: what each plan makes. EmptyFactors: a product with
--- a matrix that has no entries. OneBlock: a grid of side 1 has the whole matrix as its only block.
+-- what a plan makes of them, gathered. ProductPlans, KernelPlans: what each plan makes. OneBlock: a grid of side 1 has
+-- the whole matrix as its only block.
 pub mod FilledSlots
 pub mod DrainedSlots
 pub mod GatheredParts
@@ -11,7 +11,6 @@ pub mod LaidOutOperands
 pub mod MadeMatrices
 pub mod ProductPlans
 pub mod KernelPlans
-pub mod EmptyFactors
 pub mod OneBlock
 -- TracedProducts: what ranks make that keep a trace, and the trace.
 pub mod TracedProducts

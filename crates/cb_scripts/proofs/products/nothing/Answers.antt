@@ -1,6 +1,6 @@
 use Rattle.std.proofs.Common.{◌≡◌, ap, ◌∙◌}
 use Rattle.cb_matrix.specs.Values.{empty_matrix, product_shape}
-use Rattle.cb_scripts.proofs.EmptyFactors.{product_vanishes}
+use Rattle.cb_product.proofs.EmptyFactors.{product_vanishes}
 use Rattle.cb_scripts.proofs.products.nothing.Goals as goal
 
 pub returns : goal.returns
