@@ -2,7 +2,7 @@
 //!
 //! Each call takes matrices as [`Columns`], which it reads and neither changes nor keeps, and answers a code: 0 where
 //! `out` has the answer, and else the number of the first fault ([`Fault::code`]), and `out` is as it was. All faults
-//! are looked for before memory is asked for.
+//! are looked for before memory is asked for, but for those of a text, which are found as it is read.
 //!
 //! The lists of an answer are given away: each list that isn't empty is memory of the program's `malloc`, which the
 //! caller gives back by `free`.

@@ -53,6 +53,7 @@ impl ColumnIndex {
     }
 
     /// Where the entries of a column of this block stand among all.
+    #[inline(always)]
     pub fn range<S: Semiring>(&self, block: &Block<S>, column: u32) -> (usize, usize)
         requires told { Tells self.now block.now }
         requires inside { column < block.now.shape.cols }

@@ -1,7 +1,6 @@
 use Rattle.std.proofs.Common.{◌≡◌, ◌<◌, ℕ, ap, ◌∙◌, arith}
 use Rattle.std.proofs.lemmas.Result.{IfOk-weaker}
 use Rattle.cb_matrix.specs.Sparse.{Sparse, Extent}
-use Rattle.cb_layout.specs.Distributed.{Distributed}
 use Rattle.cb_scripts.specs.Walks.{infinite, AreLevels, AreDistances}
 use Rattle.cb_scripts.proofs.UnitWeights.{levels_found, weights_stored}
 use Rattle.cb_scripts.proofs.walks.weighted.Goals as goal
