@@ -18,7 +18,7 @@ use Rattle.cb_dcsc.specs.Columns.{row_value}
 use Rattle.cb_dcsc.proofs.Lookup.{column_value}
 use Rattle.cb_product.specs.InColumns.{AreInColumns}
 use Rattle.cb_product.specs.Terms.{column_sum}
-use Rattle.cb_product.proofs.AbsentColumns.{other_columns, nothing_there}
+use Rattle.cb_product.proofs.AbsentColumns.{all_columns, nothing_there}
 use Rattle.cb_product.proofs.StoredColumn.{AddsColumn, none_of_column}
 use Rattle.cb_matrix.specs.Operations.{sum_of}
 
@@ -114,7 +114,7 @@ module _ (s : Arithmetic) (laws : IsSemiring s) (acc a b : Sparse) (r : IsMatrix
   unfolding column_sum
   absent_sum columns i j acc_in b_in h =
       let none : in_column j b.entries ≡ [] = sym (nothing_there j b.entries columns b_in h) in
-      let left : at s acc i j ≡ s.zero = value_at-none s.zero acc.entries i j (no_entry_at acc.entries i j (other_columns columns acc.entries j acc_in h)) in
+      let left : at s acc i j ≡ s.zero = value_at-none s.zero acc.entries i j (no_entry_at acc.entries i j (all_columns (λ c. c ≢ j) columns acc.entries acc_in h)) in
       let right : inner s a b i j ≡ s.zero = sym (stored_sum i j) ∙ ap (λ es. column_sum s a i (rows_of es) (values_of es)) none in
       (λ t. s.add (left t) (right t)) ∙ laws.zero_add s.zero laws.zero_value
 

@@ -6,11 +6,14 @@
 //! columns there. Here a column is hashed instead, so that columns which stand close together are no worse.
 ghost use Rattle.std.specs.Prelude.{◌≡◌, ◌<◌, ◌≤◌, ◌^◌, All, IfOk, length, slice_range};
 ghost use Rattle.cb_dcsc.specs.Columns.{in_column};
-ghost use Rattle.cb_product.specs.ColumnStarts.{AreColumnStarts, Tells};
+ghost use Rattle.cb_product.specs.ColumnStarts.{AreColumnStarts, IsNoted, Tells, slot_of};
 
 use cb_dcsc::Block;
 use cb_semirings::Semiring;
 use std::alloc::{AllocError, Global};
+
+/// Stands in each slot at whose hash no column has entries.
+const NONE: u32 = u32::MAX;
 
 /// Tells where the entries of a block's columns stand.
 #[derive(Drop)]
@@ -18,8 +21,9 @@ pub(crate) enum ColumnIndex {
     /// Where the entries of each column of the shape start among all, and where the last one's end. A column without
     /// entries starts where it ends.
     Starts(Vec<u32>),
-    /// At which place among the columns that have entries a column of this hash may stand, and by how many bits a hash
-    /// is shifted. This is looked at: where another column stands there, the column is searched for.
+    /// At which place among the columns that have entries a column of this hash may stand, or `NONE` where none of them
+    /// has this hash, and by how many bits a hash is shifted. A place is looked at: where another column stands there,
+    /// the column is searched for. A column at whose hash stands `NONE` has no entries, and costs one look.
     Hashed { places: Vec<u32>, shift: u32 },
     /// Nothing: columns are searched for.
     Searched,
@@ -110,13 +114,14 @@ fn column_starts<S: Semiring>(alloc: Global, block: &Block<S>) -> Result<Vec<u32
 /// The place of each of these columns, noted at its hash.
 fn hashed(alloc: Global, columns: &[u32], shift: u32) -> Result<Vec<u32>, AllocError>
     requires { shift < 32 }
+    ensures { IfOk result (λ places. All (IsNoted places.items shift) columns.now) }
 {
     let mut places = Vec::new(alloc);
-    places.resize(1 << (32 - shift), 0)?;
+    places.resize(1 << (32 - shift), NONE)?;
     let mut place = 0u32;
     for column in columns {
-        if let Some(slot) = places.get_mut(slot(*column, shift)) {
-            *slot = place;
+        if let Some(noted) = places.get_mut(slot(*column, shift)) {
+            *noted = place.min(NONE - 1);
         }
         place = place.saturating_add(1);
     }
@@ -124,22 +129,28 @@ fn hashed(alloc: Global, columns: &[u32], shift: u32) -> Result<Vec<u32>, AllocE
 }
 
 /// Where the place of a column is noted: at its hash, which is shifted by so many bits.
-fn slot(column: u32, shift: u32) -> usize {
+fn slot(column: u32, shift: u32) -> usize
+    ensures { result ≡ slot_of column shift }
+{
     (column.wrapping_mul(2_654_435_769) >> (shift % 32)) as usize
 }
 
-/// Where the entries of a column stand among all, by the place that is noted at its hash, or else by a search.
+/// Where the entries of a column stand among all, by what is noted at its hash, or else by a search.
 fn range_at<S: Semiring>(
     block: &Block<S>,
     column: u32,
     places: &[u32],
     shift: u32,
 ) -> (usize, usize)
+    requires { All (λ e. IsNoted places.now shift e.column) block.now.entries }
     ensures order { result.0 ≤ result.1 }
     ensures within { result.1 ≤ length block.now.entries }
     ensures entries { slice_range block.now.entries result.0 result.1 ≡ in_column column block.now.entries }
 {
     if let Some(place) = places.get(slot(column, shift)) {
+        if *place == NONE {
+            return (0, 0);
+        }
         let place = *place as usize;
         if place < block.columns() && block.column_number(place) == column {
             return block.nth_range(place);

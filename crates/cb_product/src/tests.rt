@@ -291,6 +291,27 @@ fn each_index_finds_columns_with_and_without_entries(rt: HostRuntime) -> Result<
     Ok(())
 }
 
+/// The left block has entries in every 200,000,000th column, and every 25,000,000th is asked for: one in eight of these
+/// has an entry. The index is hashed.
+#[test]
+fn columns_that_are_not_in_the_left_block_add_nothing(rt: HostRuntime) -> Result<(), Fail> {
+    let alloc = rt.alloc();
+    let mut left = Vec::new(alloc);
+    let mut wanted = Vec::new(alloc);
+    for n in 0..8u32 {
+        let value = u64::from(n) + 1;
+        left.push(entry(n, n.wrapping_mul(200_000_000), value))?;
+        wanted.push(entry(n, 5, value.wrapping_mul(3)))?;
+    }
+    let mut right = Vec::new(alloc);
+    for n in 0..64u32 {
+        right.push(entry(n.wrapping_mul(25_000_000), 5, 3))?;
+    }
+    let found = product::<PlusTimes>(alloc, [LIMIT; 3], &left, &right)?;
+    assert_eq!(rt; found.as_slice(), wanted.as_slice());
+    Ok(())
+}
+
 /// Rows at both ends of the words that mark them, and one that is named twice. The first columns are joined, the last
 /// are summed.
 #[test]
