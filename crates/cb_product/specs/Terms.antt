@@ -1,5 +1,5 @@
 -- A column of a product as a sum of terms: columns of the left block, each scaled by an entry of the right.
-use Rattle.std.specs.Prelude.{ℕ, ◌<◌, ◌≤◌, List, [], ◌∷◌, length, map, AllPairs, slice_range}
+use Rattle.std.specs.Prelude.{◌≡◌, ℕ, ◌<◌, ◌≤◌, List, [], ◌∷◌, length, map, AllPairs, slice_range, slice_index}
 use Rattle.cb_semirings.specs.Arithmetic.{Arithmetic, IsValue}
 use Rattle.cb_matrix.specs.Sparse.{Sparse, at}
 use Rattle.cb_matrix.specs.Values.{total}
@@ -20,10 +20,11 @@ column_sum s a i [] vs = s.zero
 column_sum s a i (k ∷ ks) [] = s.zero
 column_sum s a i (k ∷ ks) (v ∷ vs) = s.add (s.mul (at s a i k) v) (column_sum s a i ks vs)
 
--- a term has entries, and their rows ascend
+-- a term has entries, its row is that of the first, and their rows ascend
 pub record IsTerm (s : Arithmetic) (rows : List ℕ) (t : Term) : Type 0 where
   pub some : t.at < t.end
   pub within : t.end ≤ length rows
+  pub row : t.row ≡ slice_index rows t.at
   pub ascending : AllPairs (λ i j. i < j) (slice_range rows t.at t.end)
   pub scale : IsValue s t.scale
 

@@ -115,7 +115,7 @@ fn heads_of<S: Semiring>(
     let mut heads = BinaryHeap::new(alloc);
     for term in terms {
         heads.push(Head {
-            row: rows[term.at],
+            row: term.row,
             at: term.at,
             end: term.end,
             scale: term.scale,

@@ -11,9 +11,11 @@ use cb_dcsc::Block;
 use cb_semirings::Semiring;
 use std::alloc::AllocError;
 
-/// A column of the left block, by where its entries stand among all, and the factor that scales it.
+/// A column of the left block, by where its entries stand among all, the row of the first of them, and the factor that
+/// scales it.
 #[derive(Clone, Copy)]
 pub(crate) struct Term {
+    pub row: u32,
     pub at: usize,
     pub end: usize,
     pub scale: u64,
@@ -21,6 +23,9 @@ pub(crate) struct Term {
 
 /// The terms of a column of the product: one for each entry of the right block's column that names a column of the
 /// left with entries. Answers how many products they have.
+///
+/// The columns lie far apart: reading the first row of each here, where none waits for another, has the memory fetch all
+/// of them at once.
 pub(crate) fn gather<S: Semiring>(
     terms: &mut Vec<Term>,
     left: &Block<S>,
@@ -37,11 +42,13 @@ pub(crate) fn gather<S: Semiring>(
     ensures sums { OnOk result ((i : ℕ) → terms_value S.arithmetic (rows_of left.now.entries) (values_of left.now.entries) i terms.new.items ≡ column_sum S.arithmetic left.now i rows.now values.now) }
 {
     terms.clear();
+    let left_rows = left.row_numbers();
     let mut products = 0usize;
     for n in 0..rows.len() {
         let (at, end) = index.range(left, rows[n]);
         if at < end {
             terms.push(Term {
+                row: left_rows[at],
                 at,
                 end,
                 scale: values[n],

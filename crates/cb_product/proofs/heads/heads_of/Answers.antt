@@ -25,7 +25,8 @@ loop-term-preserved g c =
     let l = c.loop-term-test.true in
     let inv = c.loop-term.invariant in
     let moved = c.in_ok-push.ensures.permutation in
-    let head = head_of_term s rows _ _ (All-get_or (IsTerm s rows) terms n _ l c.requires) refl in
+    let term = All-get_or (IsTerm s rows) terms n _ l c.requires in
+    let head = head_of_term s rows _ _ term term.row in
     record {
       heads = All-permutation (IsHead s rows) _ _ moved (All-cons (IsHead s rows) _ _ head inv.heads);
       order = c.in_ok-push.ensures.heap_order inv.order;

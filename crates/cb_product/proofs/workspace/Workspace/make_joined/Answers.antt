@@ -1,8 +1,9 @@
-use Rattle.std.proofs.Common.{◌+◌, refl, drop}
+use Rattle.std.proofs.Common.{◌+◌, refl, drop, get_or}
 use Rattle.std.proofs.lemmas.List.Elements.{All-take, All-drop, All-get_or}
 use Rattle.cb_semirings.specs.Arithmetic.{IsValue}
 use Rattle.cb_dcsc.specs.Columns.{rows_of, values_of}
 use Rattle.cb_dcsc.proofs.Lookup.{all_values}
+use Rattle.cb_product.specs.declared.terms.Term.{Term}
 use Rattle.cb_product.specs.Terms.{IsTerm, terms_value}
 use Rattle.cb_product.proofs.ColumnSoFar.{so_far_more, so_far_all}
 use Rattle.cb_product.proofs.ScaledSum.{joined_start}
@@ -31,12 +32,13 @@ loop-term-preserved g c =
     let l = c.loop-term-test.true in
     let inv = c.loop-term.invariant in
     let all = matrix_values s laws a c.requires.left in
-    let term = All-get_or (IsTerm s (rows_of a.entries)) ts n _ l c.requires.terms in
+    let d : Term = record { row = 0; at = 0; end = 0; scale = 0 } in
+    let term = All-get_or (IsTerm s (rows_of a.entries)) ts n d l c.requires.terms in
     let step = rw (c.entries.ensures.rows, c.entries.ensures.values, c.swap.ensures.y_after, c.row_numbers-rows.ensures, c.values-values.ensures) at c.in_ok-join.ensures in
     record {
       sums = inv.sums;
       so_far = so_far_more s laws _ c.loop-term.self.made c.join.new.self _ _ _ inv.so_far (λ i. terms_value-rest s laws (rows_of a.entries) (values_of a.entries) all i n ts _ l)
-          (λ i. term_value-value s laws (rows_of a.entries) (values_of a.entries) all i _ term.scale)
+          (λ i. term_value-value s laws (rows_of a.entries) (values_of a.entries) all i (get_or ts n d) term.scale)
           (λ i. terms_value-value s laws (rows_of a.entries) (values_of a.entries) all i (drop (n + 1) ts) (All-drop (IsTerm s (rows_of a.entries)) (n + 1) ts c.requires.terms)) step;
     }
 
