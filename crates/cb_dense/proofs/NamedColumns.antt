@@ -49,16 +49,17 @@ rows_ascend s x is one es are n m c d l k =
 
 -- ---- the sum of the columns that are left
 module _ (s : Arithmetic) (laws : IsSemiring s) (a : Sparse) (is : IsMatrix s a) (es : List Entry) (values_are : All (λ e. IsValue s e.value) es) where
-  -- it is a value
+  -- what entries name is a value
   named_value : (i : ℕ) (xs : List Entry) → All (λ e. IsValue s e.value) xs → IsValue s (named_sum s a i xs)
   unfolding column_sum
   named_value i [] h = laws.zero_value
   named_value i (x ∷ xs) h = laws.add_value _ _ (laws.mul_value _ x.value (value_at-value s laws a.entries i x.row is.values) (All-head (λ (e : Entry). IsValue s e.value) x xs h)) (named_value i xs (All-tail (λ (e : Entry). IsValue s e.value) x xs h))
 
+  -- so it is for those from the n-th on
   left_value : (n i : ℕ) → IsValue s (named_sum s a i (drop n es))
   left_value n i = named_value i (drop n es) (All-drop (λ (e : Entry). IsValue s e.value) n es values_are)
 
-  -- the column of one entry, and those of the entries after it
+  -- these name the column of the n-th, and what those after it name
   left_split : (n i : ℕ) (d : Entry) → n < length es → named_sum s a i (drop n es) ≡ s.add (s.mul (at s a i (get_or es n d).row) (get_or es n d).value) (named_sum s a i (drop (n + 1) es))
   unfolding column_sum
   left_split n i d l = ap (named_sum s a i) (drop_more es n d l)
@@ -67,6 +68,7 @@ module _ (s : Arithmetic) (laws : IsSemiring s) (a : Sparse) (is : IsMatrix s a)
     abbrev e : Entry
     e = get_or es n d
 
+    -- an entry's value is one
     scale_value : IsValue s e.value
     scale_value = All-get_or (λ (x : Entry). IsValue s x.value) es n d l values_are
 

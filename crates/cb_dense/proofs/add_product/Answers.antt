@@ -30,11 +30,12 @@ loop-entry-preserved g c =
     let numbers = c.column_numbers-columns.ensures in
     let columns = c.column_numbers-columns.result.now in
     let next = c.advance-next.ensures in
-    let entry : Entry = get_or es n (record { row = 0; column = 0; value = 0 }) in
+    let d : Entry = record { row = 0; column = 0; value = 0 } in
+    let entry : Entry = get_or es n d in
     let values : All (λ e. IsValue s e.value) es = rw c.entries-entries.ensures vector_is.values in
-    let before : (k m : ℕ) (d : Entry) → k < c.advance-next.result → n + 1 ≤ m → m < length es → get_or columns k 0 < (get_or es m d).row = λ k m d b o w.
+    let before : (k m : ℕ) (d : Entry) → k < c.advance-next.result → n + 1 ≤ m → m < length es → get_or columns k 0 < (get_or es m d).row = λ k m f b o w.
     let earlier = next.before k b in
-    let later = rows_ascend s c.args.vector.now vector_is c.requires.column es c.entries-entries.ensures n m (record { row = 0; column = 0; value = 0 }) d (omega arith) w in
+    let later = rows_ascend s c.args.vector.now vector_is c.requires.column es c.entries-entries.ensures n m d f (omega arith) w in
     omega arith in
     elim c.if-next-columns.branch [
       | then-next-columns+then-columns-next w ↦
