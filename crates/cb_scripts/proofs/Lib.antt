@@ -2,7 +2,8 @@
 -- GatheredParts: the matrix whose parts stand in one slot. Holdings: matrices in slots of the ranks, and the starts
 -- that they fit. LaidOutOperands: matrices over a grid are given to its ranks, one after the other. MadeMatrices:
 -- what a plan makes of them, gathered. ProductPlans, KernelPlans: what each plan makes. OneBlock: a grid of side 1 has
--- the whole matrix as its only block.
+-- the whole matrix as its only block. RankBlocks: the blocks of a matrix in the order of the ranks' numbers.
+-- StoredSegments: the entries of a matrix over a grid, stored in one block. PanelProducts: products panel by panel.
 pub mod FilledSlots
 pub mod DrainedSlots
 pub mod GatheredParts
@@ -12,6 +13,9 @@ pub mod MadeMatrices
 pub mod ProductPlans
 pub mod KernelPlans
 pub mod OneBlock
+pub mod RankBlocks
+pub mod StoredSegments
+pub mod PanelProducts
 -- TracedProducts: what ranks make that keep a trace, and the trace.
 pub mod TracedProducts
 -- Walks. WalkCosts: how they begin, grow and end, and what they cost. ShortWalks: for each walk a short one that

@@ -14,3 +14,5 @@ pub mod SpreadVectors
 pub mod Orders
 -- Traced: a product with a trace of the ranks that made it.
 pub mod Traced
+-- Panels: the rows, or the columns, of one part of a matrix over a grid.
+pub mod Panels

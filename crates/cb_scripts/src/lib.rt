@@ -18,6 +18,7 @@ mod numbers;
 #[cfg(test)]
 mod order_tests;
 mod orders;
+mod panels;
 mod placewise;
 pub mod plain;
 mod products;
@@ -50,7 +51,8 @@ pub use walks::{distances, distances_distributed, levels, levels_distributed};
 /// What runs a plan.
 #[derive(Clone, Copy, Debug, PartialEq, Eq)]
 pub enum Engine {
-    /// The acts one after the other, on the caller's thread.
+    /// The caller's thread alone. A product of two matrices is made panel by panel; of all else the acts of its plan are
+    /// done one after the other.
     Plain,
     /// Each rank in a thread of its own, over lanes for so many letters, 1 to 64 (of which the nearest is taken for any
     /// other number), from each rank to each other. What memory a rank is refused for a block it goes on without, and

@@ -12,7 +12,7 @@ ghost use Rattle.cb_scripts.specs.Walks.{AreDistances, AreLevels};
 
 use crate::ScriptFault;
 use crate::placewise::{add_plan, prune_plan, times_plan};
-use crate::products::{empty_product, masked_of_one, masked_plan, product_of_one, product_plan};
+use crate::products::{empty_product, masked_of_one, masked_plan, product_without_plan};
 use crate::rounds::{multiply_vector_plain, vector_plan};
 use crate::runs::compute_plain;
 use crate::searches::Search;
@@ -38,11 +38,7 @@ pub fn multiply_distributed<S: Semiring>(
     if let Some(empty) = empty_product(alloc, &left, &right)? {
         return Ok(empty);
     }
-    if left.grid().side() == 1 {
-        return Ok(product_of_one(alloc, left, right)?);
-    }
-    let (grid, planned, operands, shape) = product_plan(alloc, left, right)?;
-    compute_plain(alloc, &grid, planned, operands, shape)
+    Ok(product_without_plan(alloc, left, right)?)
 }
 
 /// The product of two matrices, kept where a mask has entries, as

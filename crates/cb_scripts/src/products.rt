@@ -7,6 +7,7 @@ ghost use Rattle.cb_scripts.specs.declared.Engine.TheVariants.{Plain};
 ghost use Rattle.cb_scripts.specs.Answers.{Makes};
 ghost use Rattle.cb_scripts.specs.Refusals.{IsProductRefusal, IsMaskedRefusal};
 
+use crate::panels::product_by_panels;
 use crate::runs::{Prepared, compute};
 use crate::{Engine, ScriptFault};
 use cb_dcsc::Block;
@@ -18,7 +19,8 @@ use std::alloc::{AllocError, Global};
 use std::sync::Wait;
 use std::thread::Threads;
 
-/// The product of two matrices, by Sparse SUMMA over the grid.
+/// The product of two matrices over the grid: by Sparse SUMMA where its ranks run in threads, and panel by panel on
+/// the caller's thread.
 ///
 /// The first has as many columns as the second has rows, else the answer is `Shapes`, before memory is asked for.
 /// Where one of the two has no entries no plan is made: it costs the entries of the other, and a block for each rank.
@@ -43,9 +45,10 @@ pub fn multiply<S: Semiring + Send + Sync, R: Threads + Wait + Sync>(
     Ok(product.gather(alloc)?)
 }
 
-/// The product of two matrices that lie over one grid, by Sparse SUMMA, left in its blocks. Their blocks are given to
-/// the ranks without a copy. Where one has no entries it costs a block for each rank. On a grid of one rank the plain
-/// engine multiplies the two blocks, without a plan. All else is as in [`multiply`].
+/// The product of two matrices that lie over one grid, left in its blocks. Ranks in threads make it by Sparse SUMMA, and
+/// are given the blocks of the two without a copy. The plain engine needs no plan: it copies the entries of the two into
+/// panels of rows and of columns, and multiplies these; on a grid of one rank it multiplies the two blocks as they are.
+/// Where one of the two has no entries it costs a block for each rank. All else is as in [`multiply`].
 pub fn multiply_distributed<S: Semiring + Send + Sync, R: Threads + Wait + Sync>(
     rt: &R,
     alloc: Global,
@@ -61,8 +64,8 @@ pub fn multiply_distributed<S: Semiring + Send + Sync, R: Threads + Wait + Sync>
     if let Some(empty) = empty_product(alloc, &left, &right)? {
         return Ok(empty);
     }
-    if engine == Engine::Plain && left.grid().side() == 1 {
-        return Ok(product_of_one(alloc, left, right)?);
+    if engine == Engine::Plain {
+        return Ok(product_without_plan(alloc, left, right)?);
     }
     let (grid, planned, operands, shape) = product_plan(alloc, left, right)?;
     compute(rt, alloc, engine, &grid, planned, operands, shape)
@@ -112,8 +115,24 @@ pub(crate) fn product_plan<S: Semiring>(
     Ok((grid, planned, operands, shape))
 }
 
-/// The product of two matrices over the grid of one rank: that of their blocks, without a plan.
-pub(crate) fn product_of_one<S: Semiring>(
+/// The product of two matrices that lie over one grid, on the caller's thread: nobody has to be sent a block.
+pub(crate) fn product_without_plan<S: Semiring>(
+    alloc: Global,
+    left: DistributedMatrix<S>,
+    right: DistributedMatrix<S>,
+) -> Result<DistributedMatrix<S>, AllocError>
+    requires sides { right.side ≡ left.side }
+    requires agree { left.matrix.shape.cols ≡ right.matrix.shape.rows }
+    ensures { IfOk result (λ m. m ≡ record { side = left.side; matrix = product S.arithmetic left.matrix right.matrix }) }
+{
+    if left.grid().side() == 1 {
+        return product_of_one(alloc, left, right);
+    }
+    product_by_panels(alloc, left, right)
+}
+
+/// The product of two matrices over the grid of one rank: that of their blocks.
+fn product_of_one<S: Semiring>(
     alloc: Global,
     left: DistributedMatrix<S>,
     right: DistributedMatrix<S>,

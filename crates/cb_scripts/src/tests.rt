@@ -112,6 +112,17 @@ fn multiplies_two_by_two(rt: HostRuntime) -> Result<(), Fail> {
 }
 
 #[test]
+fn multiplies_wide_matrices(rt: HostRuntime) -> Result<(), Fail> {
+    let left = [entry(0, 0, 1), entry(1, 2, 2)];
+    let right = [entry(2, 1, 5), entry(0, 6, 3)];
+    let left = matrix::<PlusTimes>(rt.alloc(), 2, 3, &left).ok_or("memory")?;
+    let right = matrix(rt.alloc(), 3, 7, &right).ok_or("memory")?;
+    let wanted = [entry(1, 1, 10), entry(0, 6, 3)];
+    assert!(rt; makes(&rt, rt.alloc(), &left, &right, &wanted)?);
+    Ok(())
+}
+
+#[test]
 fn multiplies_in_max_min(rt: HostRuntime) -> Result<(), Fail> {
     let (left, right) = operands::<MaxMin>(rt.alloc()).ok_or("memory")?;
     let wanted = [entry(0, 0, 2), entry(1, 0, 3), entry(0, 1, 1)];
