@@ -18,17 +18,8 @@ use Rattle.cb_distribution.proofs.PartStarts.{start_within, map_below}
 use Rattle.cb_scripts.specs.Panels.{row_panel, column_panel}
 use Rattle.cb_scripts.specs.Slots.{block_of_rank}
 
--- rows and columns of a matrix m whose shape is d, and a range that is part i of one of the two
+-- rows and columns of a matrix m whose shape is d, and a range that is part i of the columns
 module _ (s : Arithmetic) (q : ℕ) (m : Sparse) (d : Extent) (rows cols : ℕ) (range : ℕ × ℕ) (i : ℕ) (shape : d ≡ m.shape) (all_rows : rows ≡ d.rows) (all_cols : cols ≡ d.cols) where
-  -- what is cut out of all columns is a panel of rows
-  pub row_panel_is : range.0 ≡ part_start q rows i → range.1 ≡ part_start q rows (i + 1) → cut s range (0, cols) m ≡ row_panel s q m i
-  row_panel_is start end =
-      let height : rows ≡ m.shape.rows = all_rows ∙ ap (λ (e : Extent). e.rows) shape in
-      let width : cols ≡ m.shape.cols = all_cols ∙ ap (λ (e : Extent). e.cols) shape in
-      let first : range.0 ≡ part_start q m.shape.rows i = start ∙ ap (λ n. part_start q n i) height in
-      let last : range.1 ≡ part_start q m.shape.rows (i + 1) = end ∙ ap (λ n. part_start q n (i + 1)) height in
-      λ t. cut s (first t, last t) (0, width t) m
-
   -- what is cut out of all rows is a panel of columns
   pub column_panel_is : range.0 ≡ part_start q cols i → range.1 ≡ part_start q cols (i + 1) → cut s (0, rows) range m ≡ column_panel s q m i
   column_panel_is start end =

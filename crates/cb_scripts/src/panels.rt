@@ -4,12 +4,13 @@
 //! part, and all rows. The block of rank (i, j) of a product is panel i of the left matrix's rows times panel j of the
 //! right matrix's columns. On one thread nobody has to be sent a block, so each block of the product is made at once,
 //! where a plan copies the operands' blocks to the ranks of a row and a column, and its sums from stage to stage.
-ghost use Rattle.std.specs.Prelude.{◌≡◌, ◌<◌, ◌+◌, ◌*◌, ◌++◌, map, length, All, IfOk, OnOk};
+ghost use Rattle.std.specs.Prelude.{◌≡◌, ◌<◌, ◌≤◌, ◌+◌, ◌*◌, ◌++◌, map, length, All, IfOk, OnOk};
 ghost use Rattle.std.specs.List.{range_with_len};
 ghost use Rattle.cb_matrix.specs.Sparse.{IsMatrix};
 ghost use Rattle.cb_matrix.specs.Values.{product};
+ghost use Rattle.cb_layout.specs.Blocks.{block_of};
 ghost use Rattle.cb_layout.specs.Segments.{shifted};
-ghost use Rattle.cb_scripts.specs.Panels.{column_panel};
+ghost use Rattle.cb_scripts.specs.Panels.{row_panel, column_panel, AppendsBlock};
 ghost use Rattle.cb_scripts.specs.Slots.{block_of_rank};
 
 use cb_dcsc::Block;
@@ -21,8 +22,9 @@ use std::alloc::{AllocError, Global};
 
 /// The product of two matrices that lie over one grid, on the caller's thread, without a plan.
 ///
-/// Each entry of the two is copied twice, into one block and from there into its panel; of the left matrix there is
-/// one panel at a time. Then it costs the products of the panels, of which each is a block of the answer.
+/// The columns of the left matrix's blocks are copied into panels of rows, of which there is one at a time. Each entry of
+/// the right matrix is copied twice, into one block and from there into its panel. Then it costs the products of the
+/// panels, of which each is a block of the answer.
 pub(crate) fn product_by_panels<S: Semiring>(
     alloc: Global,
     left: DistributedMatrix<S>,
@@ -35,9 +37,8 @@ pub(crate) fn product_by_panels<S: Semiring>(
     let grid = left.grid();
     let _side = grid.side();
     let shape = left.shape().with_columns_of(right.shape());
-    let left = whole(alloc, left)?;
     let right = whole(alloc, right)?;
-    let blocks = product_blocks(alloc, grid, left, right)?;
+    let blocks = product_blocks(alloc, grid, &left, right)?;
     Ok(DistributedMatrix::from_blocks(grid, shape, blocks))
 }
 
@@ -83,25 +84,78 @@ fn append_entries<S: Semiring>(
     Ok(())
 }
 
-/// The block of each rank of the product of two matrices, in the order of their numbers.
+/// The block of each rank of the product of two matrices, in the order of their numbers. The first lies over the grid.
 fn product_blocks<S: Semiring>(
     alloc: Global,
     grid: Grid,
-    left: Block<S>,
+    left: &DistributedMatrix<S>,
     right: Block<S>,
 ) -> Result<Vec<Block<S>>, AllocError>
-    requires agree { left.shape.cols ≡ right.shape.rows }
-    ensures { IfOk result (λ blocks. blocks.items ≡ map (block_of_rank S.arithmetic grid.side (product S.arithmetic left right)) (range_with_len 0 (grid.side * grid.side))) }
+    requires side { left.now.side ≡ grid.side }
+    requires agree { left.now.matrix.shape.cols ≡ right.shape.rows }
+    ensures { IfOk result (λ blocks. blocks.items ≡ map (block_of_rank S.arithmetic grid.side (product S.arithmetic left.now.matrix right)) (range_with_len 0 (grid.side * grid.side))) }
 {
-    let shape = left.shape();
     let columns = column_panels(alloc, grid, right)?;
     let mut blocks = Vec::with_capacity(alloc, usize::from(grid.ranks()))?;
     for part in 0..grid.side() {
-        let range = grid.range(shape.rows(), part);
-        let rows = cut(alloc, &left, range, (0, shape.cols()))?;
+        let rows = row_panel(alloc, left, part)?;
         append_products(alloc, &mut blocks, &rows, &columns)?;
     }
     Ok(blocks)
+}
+
+/// The panel of the rows of one part, with all columns: the blocks of a row of ranks, side by side. Its columns are
+/// copied, each at once.
+pub(crate) fn row_panel<S: Semiring>(
+    alloc: Global,
+    matrix: &DistributedMatrix<S>,
+    part: u32,
+) -> Result<Block<S>, AllocError>
+    requires { part < matrix.now.side }
+    ensures { IfOk result (λ panel. panel ≡ row_panel S.arithmetic matrix.now.side matrix.now.matrix part) }
+{
+    let grid = matrix.grid();
+    let shape = matrix.shape();
+    let side = grid.side();
+    let rows = block_of(matrix, part, 0).shape();
+    let mut panel = Block::empty(alloc, rows.with_columns_of(shape));
+    panel.reserve(matrix.len() / side as usize)?;
+    for k in 0..side {
+        let (left, _) = grid.range(shape.cols(), k);
+        append_block(&mut panel, left, block_of(matrix, part, k))?;
+    }
+    Ok(panel)
+}
+
+/// The block of the rank in a row and a column of the grid.
+fn block_of<S: Semiring>(matrix: &DistributedMatrix<S>, row: u32, column: u32) -> &Block<S>
+    requires row { row < matrix.now.side }
+    requires column { column < matrix.now.side }
+    ensures { result.now ≡ block_of S.arithmetic matrix.now.side matrix.now.matrix row column }
+{
+    let rank = matrix.grid().rank(row, column);
+    &matrix.blocks()[usize::from(rank)]
+}
+
+/// Stores the entries of a block after all others, its columns counted from `left`.
+fn append_block<S: Semiring>(
+    panel: &mut Block<S>,
+    left: u32,
+    block: &Block<S>,
+) -> Result<(), AllocError>
+    requires rows { panel.old.shape.rows ≡ block.now.shape.rows }
+    requires fits { left + block.now.shape.cols ≤ panel.old.shape.cols }
+    requires before { All (λ e. e.column < left) panel.old.entries }
+    ensures { OnOk result (AppendsBlock S.arithmetic left block.now panel.old panel.new) }
+{
+    // For the proof alone: both are matrices, and the columns' numbers are small.
+    let _shapes = (panel.shape().cols(), block.shape());
+    let columns = block.column_numbers();
+    for n in 0..columns.len() {
+        let (rows, values) = block.nth_column(n);
+        panel.push_column(left + columns[n], rows, values)?;
+    }
+    Ok(())
 }
 
 /// The panel of each part of a matrix's columns. The matrix is given up.

@@ -7,4 +7,4 @@ use Rattle.cb_scripts.proofs.panels.product_blocks.Given as goal
 -- the blocks of the ranks in the rows so far
 abbrev pub invariant-loop-part : goal.invariant-loop-part
 invariant-loop-part g l =
-    l.blocks.items ≡ map (block_of_rank g.S.Semiring.arithmetic l.fn.grid.side (product g.S.Semiring.arithmetic l.fn.left l.fn.right)) (range_with_len 0 (l.part * l.fn.grid.side))
+    l.blocks.items ≡ map (block_of_rank g.S.Semiring.arithmetic l.fn.grid.side (product g.S.Semiring.arithmetic l.fn.left.matrix l.fn.right)) (range_with_len 0 (l.part * l.fn.grid.side))
