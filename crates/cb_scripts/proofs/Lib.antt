@@ -26,6 +26,7 @@ pub mod TurnedProducts
 pub mod TakenNumbers
 pub mod LowerEntries
 pub mod NumberColumns
+pub mod FallenNumbers
 pub mod NearestRounds
 pub mod UnitWeights
 pub mod OneColumn

@@ -10,6 +10,7 @@ ghost use Rattle.std.specs.Prelude.{◌≡◌};
 ghost use Rattle.cb_scripts.specs.declared.ScriptFault.TheVariants.{Memory};
 ghost use Rattle.cb_scripts.specs.Refusals.{fault_of_run};
 
+mod dense;
 #[cfg(test)]
 mod grid_tests;
 #[cfg(test)]
@@ -21,6 +22,7 @@ mod orders;
 mod placewise;
 pub mod plain;
 mod products;
+mod relaxations;
 mod rounds;
 mod runs;
 mod searches;
