@@ -33,6 +33,7 @@ pub mod TurnedProducts
 pub mod TakenNumbers
 pub mod LowerEntries
 pub mod NumberColumns
+pub mod FallenNumbers
 pub mod NearestRounds
 pub mod UnitWeights
 pub mod OneColumn

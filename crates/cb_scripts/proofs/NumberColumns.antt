@@ -69,34 +69,30 @@ module _ (shape : Extent) (one : shape.cols ≡ 1) (known : BTreeMap ℕ ℕ) (o
 pub all_listed : (known : BTreeMap ℕ ℕ) (es : List Entry) (left : List (ℕ × ℕ)) → es ++ map number_entry left ≡ map number_entry known.entries → left ≡ [] → es ≡ map number_entry known.entries
 all_listed known es left h none = sym (append-nil es) ∙ ap (λ (ps : List (ℕ × ℕ)). es ++ map number_entry ps) (sym none) ∙ h
 
--- the first places of a list, an entry of a column for each number that isn't infinite
-abbrev pub first_numbers : List ℕ → ℕ → List Entry
-first_numbers list i = column_of infinite (λ v _. slice_index_or list v infinite) 0 i
+-- the first places of a column, an entry for each number that isn't infinite
+abbrev pub first_numbers : (ℕ → ℕ) → ℕ → List Entry
+first_numbers f i = column_of infinite (λ v _. f v) 0 i
 
 -- none at first
-pub first_none : (list : List ℕ) → first_numbers list 0 ≡ []
+pub first_none : (f : ℕ → ℕ) → first_numbers f 0 ≡ []
 unfolding column_of
-first_none list = refl
+first_none f = refl
 
-next_number : (list : List ℕ) (i : ℕ) → first_numbers list (i + 1) ≡ first_numbers list i ++ cond (slice_index_or list i infinite == infinite) [] (number_entry (i, slice_index_or list i infinite) ∷ [])
+next_number : (f : ℕ → ℕ) (i : ℕ) → first_numbers f (i + 1) ≡ first_numbers f i ++ cond (f i == infinite) [] (number_entry (i, f i) ∷ [])
 unfolding column_of
-next_number list i = ap (first_numbers list) (add-one i)
+next_number f i = ap (first_numbers f) (add-one i)
 
-module _ (list : List ℕ) (i d : ℕ) (l : i < length list) (es now : List Entry) (before : es ≡ first_numbers list i) where
-  value : get_or list i d ≡ slice_index_or list i infinite
-  value = get_or_default list i d infinite l
-
+module _ (f : ℕ → ℕ) (i : ℕ) (es now : List Entry) (before : es ≡ first_numbers f i) where
   -- a finite number is added
-  pub number_kept : get_or list i d ≢ infinite → now ≡ es ++ number_entry (i, get_or list i d) ∷ [] → now ≡ first_numbers list (i + 1)
-  number_kept n e =
-      e ∙ ap (λ (xs : List Entry). xs ++ number_entry (i, get_or list i d) ∷ []) before ∙ ap (λ (x : ℕ). first_numbers list i ++ number_entry (i, x) ∷ []) value
-      ∙ sym (next_number list i ∙ ap (λ (b : Bool). first_numbers list i ++ cond b [] (number_entry (i, slice_index_or list i infinite) ∷ [])) (ne-eqb (slice_index_or list i infinite) infinite (λ q. n (value ∙ q))))
+  pub number_kept : (x : ℕ) → x ≡ f i → x ≢ infinite → now ≡ es ++ number_entry (i, x) ∷ [] → now ≡ first_numbers f (i + 1)
+  number_kept x value n e =
+      e ∙ ap (λ (xs : List Entry). xs ++ number_entry (i, x) ∷ []) before ∙ ap (λ (y : ℕ). first_numbers f i ++ number_entry (i, y) ∷ []) value
+      ∙ sym (next_number f i ∙ ap (λ (b : Bool). first_numbers f i ++ cond b [] (number_entry (i, f i) ∷ [])) (ne-eqb (f i) infinite (λ q. n (value ∙ q))))
 
   -- an infinite one is left out
-  pub number_passed : get_or list i d ≡ infinite → now ≡ es → now ≡ first_numbers list (i + 1)
+  pub number_passed : f i ≡ infinite → now ≡ es → now ≡ first_numbers f (i + 1)
   number_passed n e =
-      e ∙ before
-      ∙ sym (next_number list i ∙ ap (λ (b : Bool). first_numbers list i ++ cond b [] (number_entry (i, slice_index_or list i infinite) ∷ [])) (eq-eqb (slice_index_or list i infinite) infinite (sym value ∙ n)) ∙ append-nil (first_numbers list i))
+      e ∙ before ∙ sym (next_number f i ∙ ap (λ (b : Bool). first_numbers f i ++ cond b [] (number_entry (i, f i) ∷ [])) (eq-eqb (f i) infinite n) ∙ append-nil (first_numbers f i))
 
 -- a number in a list is at most infinite
 pub listed_fits : (list : List ℕ) → ((i : ℕ) → slice_index_or list i 0 < 2 ^ 64) → (v : ℕ) → slice_index_or list v infinite ≤ infinite
@@ -106,28 +102,32 @@ listed_fits list small v =
     (λ (l : length list ≤ v). let e = get_or_past list v infinite l in omega (arith, e))
     (cases_lt v (length list))
 
-module _ (shape : Extent) (one : shape.cols ≡ 1) (list : List ℕ) (small : (i : ℕ) → slice_index_or list i 0 < 2 ^ 64) (len : length list ≡ shape.rows) (i : ℕ) (end : shape.rows ≤ i) (far : i ≤ shape.rows) (es : List Entry) (same : es ≡ first_numbers list i) where
+-- past its end it is infinite
+pub listed_past : (list : List ℕ) (n : ℕ) → length list ≡ n → (v : ℕ) → n ≤ v → slice_index_or list v infinite ≡ infinite
+listed_past list n len v l = get_or_past list v infinite (omega arith)
+
+module _ (shape : Extent) (one : shape.cols ≡ 1) (f : ℕ → ℕ) (fits : (v : ℕ) → f v ≤ infinite) (past : (v : ℕ) → shape.rows ≤ v → f v ≡ infinite) (i : ℕ) (end : shape.rows ≤ i) (far : i ≤ shape.rows) (es : List Entry) (same : es ≡ first_numbers f i) where
   abbrev numbers : Sparse
-  numbers = matrix_of min_plus shape (λ v _. slice_index_or list v infinite)
+  numbers = matrix_of min_plus shape (λ v _. f v)
 
-  list_is : IsMatrix min_plus numbers
-  list_is = IsMatrix-matrix_of min_plus shape (λ v _. slice_index_or list v infinite) (λ v _ _ _. let h = listed_fits list small v in omega arith)
+  numbers_are : IsMatrix min_plus numbers
+  numbers_are = IsMatrix-matrix_of min_plus shape (λ v _. f v) (λ v _ _ _. let h = fits v in omega arith)
 
-  list_entries : es ≡ numbers.entries
+  all_entries : es ≡ numbers.entries
   unfolding columns_of
-  list_entries =
+  all_entries =
       let h : i ≡ shape.rows = omega arith in
-      same ∙ ap (first_numbers list) h ∙ ap (λ (n : ℕ). columns_of infinite (λ v _. slice_index_or list v infinite) shape.rows n) (sym one)
+      same ∙ ap (first_numbers f) h ∙ ap (λ (n : ℕ). columns_of infinite (λ v _. f v) shape.rows n) (sym one)
 
-  -- when the list has been gone through, the entries are a matrix
-  pub list_matrix : IsMatrix min_plus (record { shape = shape; entries = es })
-  list_matrix = subst (λ (xs : List Entry). IsMatrix min_plus (record { shape = shape; entries = xs })) (sym list_entries) list_is
+  -- when all places have been gone through, the entries are a matrix
+  pub numbers_matrix : IsMatrix min_plus (record { shape = shape; entries = es })
+  numbers_matrix = subst (λ (xs : List Entry). IsMatrix min_plus (record { shape = shape; entries = xs })) (sym all_entries) numbers_are
 
   -- at each vertex it has the vertex's number
-  pub list_value : (v : ℕ) → value_at infinite es v 0 ≡ slice_index_or list v infinite
-  list_value v =
-      ap (λ (xs : List Entry). value_at infinite xs v 0) list_entries
+  pub numbers_value : (v : ℕ) → value_at infinite es v 0 ≡ f v
+  numbers_value v =
+      ap (λ (xs : List Entry). value_at infinite xs v 0) all_entries
       ∙ ⊎_elim
-      (λ (l : v < shape.rows). at-matrix_of min_plus shape (λ v _. slice_index_or list v infinite) v 0 l (omega arith))
-      (λ (l : shape.rows ≤ v). at-outside infinite shape numbers.entries v 0 list_is.inside (λ k _. omega arith) ∙ sym (get_or_past list v infinite (omega arith)))
+      (λ (l : v < shape.rows). at-matrix_of min_plus shape (λ v _. f v) v 0 l (omega arith))
+      (λ (l : shape.rows ≤ v). at-outside infinite shape numbers.entries v 0 numbers_are.inside (λ k _. omega arith) ∙ sym (past v l))
       (cases_lt v shape.rows)

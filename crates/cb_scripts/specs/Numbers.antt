@@ -1,5 +1,5 @@
 -- The least numbers known so far, by vertex: in a list with a place for each, or in a tree of those that are finite.
-use Rattle.std.specs.Prelude.{◌≡◌, ℕ, ◌<◌, ◌≤◌, Bool, Some, unwrap_or, nat_lt, length, slice_index_or, All}
+use Rattle.std.specs.Prelude.{◌≡◌, ℕ, ◌<◌, ◌≤◌, Bool, cond, Some, unwrap_or, nat_lt, List, length, slice_index_or, All}
 use Rattle.std.specs.Ordering.{nat_cmp}
 use Rattle.std.specs.BTreeMap.{get}
 use Rattle.cb_matrix.specs.declared.Entry.{Entry}
@@ -24,3 +24,7 @@ is_lower known e = nat_lt e.value (number_at known e.row)
 -- a vertex and its number, as an entry of a column
 abbrev pub number_entry : ℕ × ℕ → Entry
 number_entry p = record { row = p.0; column = 0; value = p.1 }
+
+-- the number of a vertex in a list, where it is below what it was before
+abbrev pub fallen : List ℕ → List ℕ → ℕ → ℕ
+fallen before now v = cond (nat_lt (slice_index_or now v infinite) (slice_index_or before v infinite)) (slice_index_or now v infinite) infinite

@@ -22,6 +22,7 @@ mod panels;
 mod placewise;
 pub mod plain;
 mod products;
+mod relaxations;
 mod rounds;
 mod runs;
 mod searches;

@@ -15,7 +15,7 @@ use crate::placewise::{add_plan, prune_plan, times_plan};
 use crate::products::{empty_product, masked_of_one, masked_plan, product_without_plan};
 use crate::rounds::{multiply_vector_plain, vector_plan};
 use crate::runs::compute_plain;
-use crate::searches::Search;
+use crate::searches::{Search, nearest_of_one};
 use crate::transposes::{transpose_of_one, transpose_plan};
 use crate::walks::{check_graph, weighted};
 use cb_elementwise::Test;
@@ -181,6 +181,9 @@ fn nearest(
     ensures ok { IfOk result (λ column. AreDistances graph.matrix source column) }
     ensures fault { IfErr result (IsRunRefusal Plain) }
 {
+    if graph.grid().side() == 1 {
+        return Ok(nearest_of_one(alloc, graph, source)?);
+    }
     let grid = graph.grid();
     let vertices = graph.shape().rows();
     let mut search = Search::begin(alloc, &graph, source)?;

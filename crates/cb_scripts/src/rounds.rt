@@ -51,7 +51,7 @@ pub fn multiply_vector<S: Semiring + Send + Sync, R: Threads + Wait + Sync>(
     ensures fault { IfErr result (IsRunRefusal engine) }
 {
     if engine == Engine::Plain && grid.side() == 1 {
-        let product = vector_of_one(alloc, &matrix, vector)?;
+        let product = vector_product(alloc, only_block(&matrix), vector)?;
         return Ok((matrix, product));
     }
     let (a, x) = (matrix.shape(), vector.shape());
@@ -76,7 +76,7 @@ pub fn multiply_vector_plain<S: Semiring>(
     ensures fault { IfErr result (IsRunRefusal Plain) }
 {
     if grid.side() == 1 {
-        let product = vector_of_one(alloc, &matrix, vector)?;
+        let product = vector_product(alloc, only_block(&matrix), vector)?;
         return Ok((matrix, product));
     }
     let (a, x) = (matrix.shape(), vector.shape());
@@ -85,18 +85,17 @@ pub fn multiply_vector_plain<S: Semiring>(
     collect(alloc, grid, stores, a, a.with_columns_of(x))
 }
 
-/// The product of a matrix over the grid of one rank and a vector: that of its block.
-fn vector_of_one<S: Semiring>(
+/// The product of a block and a vector.
+pub(crate) fn vector_product<S: Semiring>(
     alloc: Global,
-    matrix: &DistributedMatrix<S>,
+    block: &Block<S>,
     vector: &Matrix<S>,
 ) -> Result<Matrix<S>, AllocError>
-    requires side { matrix.now.side ≡ 1 }
-    requires agree { matrix.now.matrix.shape.cols ≡ vector.now.shape.rows }
-    ensures { IfOk result (λ m. m ≡ product S.arithmetic matrix.now.matrix vector.now) }
+    requires { block.now.shape.cols ≡ vector.now.shape.rows }
+    ensures { IfOk result (λ m. m ≡ product S.arithmetic block.now vector.now) }
 {
     let column = Block::from_ordered(alloc, vector.shape(), vector.entries())?;
-    let product = cb_product::multiply(alloc, only_block(matrix), &column)?;
+    let product = cb_product::multiply(alloc, block, &column)?;
     let entries = product.entries()?;
     Ok(Matrix::from_ordered(product.shape(), entries))
 }

@@ -3,20 +3,31 @@
 //! The numbers known so far near the least ones. A round multiplies the transposed matrix by the numbers that fell in
 //! the round before, in min-plus, and takes over what is lower. It ends when none falls, at the latest after as many
 //! rounds as there are vertices.
+//!
+//! On the grid of one rank the transposed matrix is one block. There a round makes no product where the numbers are in a
+//! list and many of them fell: it [relaxes the edges](crate::relaxations) in the list itself.
 ghost use Rattle.std.specs.Prelude.{◌≡◌, ◌≢◌, ◌↔◌, ℕ, ◌+◌, ◌<◌, ◌≤◌, min, filter, [], All, AllPairs, IfOk, OnOk, IsTrue};
 ghost use Rattle.cb_semirings.specs.Tables.{min_plus};
 ghost use Rattle.cb_matrix.specs.Sparse.{Sparse, IsMatrix, at, value_at};
-ghost use Rattle.cb_matrix.specs.Values.{product};
+ghost use Rattle.cb_matrix.specs.Values.{product, product_shape};
 ghost use Rattle.cb_matrix.specs.Operations.{transposed};
 ghost use Rattle.cb_scripts.specs.Walks.{infinite, AreDistances};
 ghost use Rattle.cb_scripts.specs.Numbers.{number_at, AreNumbers, is_lower};
 ghost use Rattle.cb_scripts.specs.Searches.{HasEnded, IsSearch};
 
 use crate::numbers::Numbers;
+use crate::products::only_block;
+use crate::relaxations::relax_list;
+use crate::rounds::vector_product;
+use crate::transposes::transpose_of_one;
+use cb_dcsc::Block;
 use cb_layout::DistributedMatrix;
 use cb_matrix::{Entry, Matrix, Shape};
 use cb_semirings::MinPlus;
 use std::alloc::{AllocError, Global};
+
+/// For how many vertices at most, for each that fell, a round walks a list of the numbers of all.
+const VERTICES_PER_FALLEN: usize = 32;
 
 /// The numbers of the vertices as they are known so far.
 #[derive(Drop)]
@@ -58,6 +69,19 @@ impl Search {
         let _shape = self.fell.shape();
         let mut known = self.known;
         let fell = take_lower(alloc, &mut known, reached)?;
+        Ok(Search { known, fell })
+    }
+
+    /// One round more, on the transposed matrix as one block. Where the numbers are in a list, and at least one vertex
+    /// in 32 fell, the edges are relaxed in the list, at a few instructions for each vertex; else what is reached is a
+    /// product.
+    pub fn round(self, alloc: Global, edges: &Block<MinPlus>) -> Result<Self, AllocError>
+        requires round { (a : Sparse) × (source : ℕ) × (k : ℕ) × IsSearch a source k self × (edges.now ≡ transposed min_plus a) }
+        ensures { IfOk result (λ next. (a : Sparse) (source k : ℕ) → IsSearch a source k self → edges.now ≡ transposed min_plus a → IsSearch a source (k + 1) next) }
+    {
+        let _shape = self.fell.shape();
+        let mut known = self.known;
+        let fell = relax(alloc, &mut known, edges, &self.fell)?;
         Ok(Search { known, fell })
     }
 
@@ -135,4 +159,56 @@ fn take_lower(
     let lower = lower_entries(alloc, known, reached.entries())?;
     take_over(known, &lower)?;
     Ok(Matrix::from_ordered(shape, lower))
+}
+
+/// Takes over what one round reaches from the numbers that fell, where it is below what is known, and answers the
+/// numbers that fall.
+fn relax(
+    alloc: Global,
+    known: &mut Numbers,
+    edges: &Block<MinPlus>,
+    fell: &Matrix<MinPlus>,
+) -> Result<Matrix<MinPlus>, AllocError>
+    requires agree { edges.now.shape.cols ≡ fell.now.shape.rows }
+    requires column { fell.now.shape.cols ≡ 1 }
+    requires finite { AreNumbers edges.now.shape.rows known.old }
+    ensures finite { OnOk result (AreNumbers edges.now.shape.rows known.new) }
+    ensures least { OnOk result ((v : ℕ) → number_at known.new v ≡ min (number_at known.old v) (at min_plus (product min_plus edges.now fell.now) v 0)) }
+    ensures shape { IfOk result (λ m. m.shape ≡ product_shape edges.now fell.now) }
+    ensures new { IfOk result (λ m. (v : ℕ) → at min_plus (product min_plus edges.now fell.now) v 0 < number_at known.old v → at min_plus m v 0 ≡ at min_plus (product min_plus edges.now fell.now) v 0) }
+    ensures old { IfOk result (λ m. (v : ℕ) → number_at known.old v ≤ at min_plus (product min_plus edges.now fell.now) v 0 → at min_plus m v 0 ≡ infinite) }
+{
+    if let Numbers::Dense(list) = known {
+        if list.len() / VERTICES_PER_FALLEN <= fell.len() {
+            return relax_list(alloc, list, edges, fell);
+        }
+    }
+    let reached = vector_product(alloc, edges, fell)?;
+    take_lower(alloc, known, &reached)
+}
+
+/// The least weight of a walk from the source to each vertex, by the plain engine on the grid of one rank: the matrix
+/// is transposed as one block.
+pub(crate) fn nearest_of_one(
+    alloc: Global,
+    graph: DistributedMatrix<MinPlus>,
+    source: u32,
+) -> Result<Matrix<MinPlus>, AllocError>
+    requires side { graph.side ≡ 1 }
+    requires square { graph.matrix.shape.rows ≡ graph.matrix.shape.cols }
+    requires source { source < graph.matrix.shape.rows }
+    ensures { IfOk result (λ column. AreDistances graph.matrix source column) }
+{
+    let vertices = graph.shape().rows();
+    let mut search = Search::begin(alloc, &graph, source)?;
+    let turned = transpose_of_one(alloc, graph)?;
+    let edges = only_block(&turned);
+    for _round in 0..vertices {
+        let fell = search.fell();
+        if fell.is_empty() {
+            break;
+        }
+        search = search.round(alloc, edges)?;
+    }
+    search.column(alloc)
 }

@@ -5,9 +5,9 @@ use crate::{
     vector,
 };
 use cb_layout::DistributedMatrix;
-use cb_matrix::Matrix;
+use cb_matrix::{Entry, Matrix};
 use cb_semirings::{MinPlus, OrAnd};
-use std::alloc::Global;
+use std::alloc::{AllocError, Global};
 use std::test::Fail;
 
 /// A path from vertex 0 to 2, and an edge from 3 to itself.
@@ -48,6 +48,52 @@ fn winding_path(alloc: Global) -> Option<Matrix<MinPlus>> {
 fn sparse_path(alloc: Global) -> Option<Matrix<OrAnd>> {
     let entries = [entry(63, 1, 1), entry(0, 63, 1)];
     matrix(alloc, 64, 64, &entries)
+}
+
+/// A path from vertex 0 to 20, an edge of this weight from there to each vertex from 21 to 59, one from each of these to
+/// the vertex 40 further, and one from the last back to 60. Along the path one number falls in a round, and then 39 do,
+/// of 100 vertices.
+fn fan(alloc: Global, weight: u64) -> Result<Vec<Entry>, AllocError> {
+    let mut edges = Vec::new(alloc);
+    for vertex in 0..20 {
+        edges.push(entry(vertex, vertex + 1, 1))?;
+    }
+    for vertex in 21..60 {
+        edges.push(entry(20, vertex, weight))?;
+        edges.push(entry(vertex, vertex + 40, 1))?;
+    }
+    edges.push(entry(99, 60, 1))?;
+    Ok(edges)
+}
+
+/// Whether these are the numbers of the vertices of that graph.
+fn are_of_fan(weight: u64, found: &[Entry]) -> bool {
+    let number = |vertex: u32| match vertex {
+        0..=20 => u64::from(vertex),
+        21..=59 => weight.saturating_add(20),
+        60 => weight.saturating_add(22),
+        _ => weight.saturating_add(21),
+    };
+    found.len() == 100
+        && found.iter().all(|entry| entry.column == 0 && entry.value == number(entry.row))
+}
+
+#[test]
+fn many_numbers_fall_in_a_round(rt: HostRuntime) -> Result<(), Fail> {
+    let alloc = rt.alloc();
+    let graph = matrix::<OrAnd>(alloc, 100, 100, &fan(alloc, 1)?).ok_or("a graph")?;
+    let mut edges = fan(alloc, 5)?;
+    // Vertices 59 and 99 fall twice: a heavier walk of fewer edges reaches them first.
+    edges.push(entry(0, 59, 90))?;
+    let weighted = matrix::<MinPlus>(alloc, 100, 100, &edges).ok_or("a graph")?;
+    for side in 1..3 {
+        let grid = grid(side)?;
+        let found = levels(&rt, alloc, Engine::Plain, &grid, &graph, 0)?;
+        assert!(rt; are_of_fan(1, found.entries()));
+        let found = distances(&rt, alloc, Engine::Plain, &grid, &weighted, 0)?;
+        assert!(rt; are_of_fan(5, found.entries()));
+    }
+    Ok(())
 }
 
 #[test]
@@ -166,8 +212,12 @@ fn refused_memory_is_said_by_walks(rt: HostRuntime) -> Result<(), Fail> {
     let Some(sparse) = sparse_path(alloc) else {
         return Ok(());
     };
-    let grid = grid(2)?;
-    for engine in ENGINES {
+    for (engine, side) in [
+        (Engine::Plain, 1),
+        (Engine::Plain, 2),
+        (Engine::Ranks(1), 2),
+    ] {
+        let grid = grid(side)?;
         let wanted = [entry(0, 0, 0), entry(1, 0, 1), entry(2, 0, 2)];
         let answer = levels(&rt, alloc, engine, &grid, &graph, 0);
         assert!(rt; is_right_or_refused(engine, answer, &wanted));

@@ -9,7 +9,7 @@ ghost use Rattle.cb_scripts.specs.Walks.{AreLevels, AreDistances};
 ghost use Rattle.cb_scripts.specs.Refusals.{IsGraphRefusal, IsRunRefusal};
 
 use crate::rounds::{multiply_vector, vector_plan};
-use crate::searches::Search;
+use crate::searches::{Search, nearest_of_one};
 use crate::transposes::transpose_distributed;
 use crate::{Engine, ScriptFault};
 use cb_layout::{DistributedMatrix, Grid};
@@ -32,6 +32,9 @@ fn nearest<R: Threads + Wait + Sync>(
     ensures ok { IfOk result (λ column. AreDistances graph.matrix source column) }
     ensures fault { IfErr result (IsRunRefusal engine) }
 {
+    if engine == Engine::Plain && graph.grid().side() == 1 {
+        return Ok(nearest_of_one(alloc, graph, source)?);
+    }
     let grid = graph.grid();
     let vertices = graph.shape().rows();
     let mut search = Search::begin(alloc, &graph, source)?;
@@ -118,8 +121,10 @@ fn check_entries<S: Semiring>(graph: &Matrix<S>, source: u32) -> Result<(), Scri
 /// entries' values, which stops at 2^64-1. Vertices without a walk, or with an infinite distance, are not stored.
 ///
 /// Refused are `NotSquare`, then `Source` for one that is no vertex, before memory is asked for. The matrix is
-/// transposed once. A round is one run of the engine, and costs what the entries of the vertices that fell in the
-/// round before cost; there are at most as many as vertices.
+/// transposed once. A round costs what the entries of the vertices that fell in the round before cost; there are at
+/// most as many as vertices. It is one run of the engine, but for the plain one on a grid of one rank: that takes the
+/// block itself, and where at least one vertex in 32 fell, it may relax the edges in a list of the numbers of all, which
+/// costs a few instructions for each vertex and makes no product.
 pub fn distances<R: Threads + Wait + Sync>(
     rt: &R,
     alloc: Global,
