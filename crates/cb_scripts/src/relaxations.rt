@@ -10,8 +10,8 @@ ghost use Rattle.cb_matrix.specs.Values.{product, product_shape};
 ghost use Rattle.cb_scripts.specs.Walks.{infinite};
 ghost use Rattle.cb_scripts.specs.Numbers.{fallen};
 
-use cb_dense::add_product;
 use cb_dcsc::Block;
+use cb_dense::add_product;
 use cb_matrix::{Entry, Matrix, Shape};
 use cb_semirings::MinPlus;
 use std::alloc::{AllocError, Global};
