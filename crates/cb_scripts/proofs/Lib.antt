@@ -4,7 +4,7 @@
 -- what a plan makes of them, gathered. ProductPlans, KernelPlans: what each plan makes. OneBlock: a grid of side 1 has
 -- the whole matrix as its only block. RankBlocks: the blocks of a matrix in the order of the ranks' numbers.
 -- StoredSegments: the entries of a matrix over a grid, stored in one block. AppendedBlocks, RowPanels: the blocks of a
--- row of ranks, side by side. PanelProducts: products panel by panel.
+-- row of ranks, side by side. PanelProducts: products panel by panel. MaskedBlocks: what masks leave of the blocks.
 pub mod FilledSlots
 pub mod DrainedSlots
 pub mod GatheredParts
@@ -19,6 +19,7 @@ pub mod StoredSegments
 pub mod AppendedBlocks
 pub mod RowPanels
 pub mod PanelProducts
+pub mod MaskedBlocks
 -- TracedProducts: what ranks make that keep a trace, and the trace.
 pub mod TracedProducts
 -- Walks. WalkCosts: how they begin, grow and end, and what they cost. ShortWalks: for each walk a short one that

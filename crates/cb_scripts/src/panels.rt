@@ -8,6 +8,7 @@ ghost use Rattle.std.specs.Prelude.{◌≡◌, ◌<◌, ◌≤◌, ◌+◌, ◌*
 ghost use Rattle.std.specs.List.{range_with_len};
 ghost use Rattle.cb_matrix.specs.Sparse.{IsMatrix};
 ghost use Rattle.cb_matrix.specs.Values.{product};
+ghost use Rattle.cb_matrix.specs.Operations.{masked};
 ghost use Rattle.cb_layout.specs.Blocks.{block_of};
 ghost use Rattle.cb_layout.specs.Segments.{shifted};
 ghost use Rattle.cb_scripts.specs.Panels.{row_panel, column_panel, AppendsBlock};
@@ -189,4 +190,29 @@ fn append_products<S: Semiring>(
         blocks.push(cb_product::multiply(alloc, rows, panel)?)?;
     }
     Ok(())
+}
+
+/// The entries of a matrix over a grid at the places where a mask over the same grid has an entry.
+///
+/// It costs the entries of the two, and one block more for each rank.
+pub(crate) fn masked_by_blocks<S: Semiring>(
+    alloc: Global,
+    matrix: &DistributedMatrix<S>,
+    mask: &DistributedMatrix<S>,
+) -> Result<DistributedMatrix<S>, AllocError>
+    requires sides { mask.now.side ≡ matrix.now.side }
+    requires shapes { mask.now.matrix.shape ≡ matrix.now.matrix.shape }
+    ensures { IfOk result (λ m. m ≡ record { side = matrix.now.side; matrix = masked S.arithmetic matrix.now.matrix mask.now.matrix }) }
+{
+    let grid = matrix.grid();
+    let _side = grid.side();
+    let shape = matrix.shape();
+    let blocks = matrix.blocks();
+    let masks = mask.blocks();
+    let mut kept = Vec::with_capacity(alloc, blocks.len())?;
+    for rank in 0..blocks.len() {
+        let block = cb_elementwise::mask(alloc, &blocks[rank], &masks[rank])?;
+        kept.push(block)?;
+    }
+    Ok(DistributedMatrix::from_blocks(grid, shape, kept))
 }

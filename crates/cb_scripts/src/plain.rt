@@ -12,7 +12,7 @@ ghost use Rattle.cb_scripts.specs.Walks.{AreDistances, AreLevels};
 
 use crate::ScriptFault;
 use crate::placewise::{add_plan, prune_plan, times_plan};
-use crate::products::{empty_product, masked_of_one, masked_plan, product_without_plan};
+use crate::products::{empty_product, masked_without_plan, product_without_plan};
 use crate::rounds::{multiply_vector_plain, vector_plan};
 use crate::runs::compute_plain;
 use crate::searches::{Search, nearest_of_one};
@@ -54,11 +54,7 @@ pub fn multiply_masked_distributed<S: Semiring>(
     ensures agree { IfOk result (λ m. (left.matrix.shape.cols ≡ right.matrix.shape.rows) × (mask.matrix.shape ≡ product_shape left.matrix right.matrix)) }
     ensures fault { IfErr result (IsMaskedRefusal left.matrix right.matrix mask.matrix Plain) }
 {
-    if left.grid().side() == 1 {
-        return masked_of_one(alloc, left, right, mask);
-    }
-    let (grid, planned, operands, shape) = masked_plan(alloc, left, right, mask)?;
-    compute_plain(alloc, &grid, planned, operands, shape)
+    masked_without_plan(alloc, left, right, mask)
 }
 
 /// The transpose of a matrix that lies over a grid, as [`transpose_distributed`](crate::transpose_distributed).

@@ -7,7 +7,7 @@ ghost use Rattle.cb_scripts.specs.declared.Engine.TheVariants.{Plain};
 ghost use Rattle.cb_scripts.specs.Answers.{Makes};
 ghost use Rattle.cb_scripts.specs.Refusals.{IsProductRefusal, IsMaskedRefusal};
 
-use crate::panels::product_by_panels;
+use crate::panels::{masked_by_blocks, product_by_panels};
 use crate::runs::{Prepared, compute};
 use crate::{Engine, ScriptFault};
 use cb_dcsc::Block;
@@ -92,7 +92,7 @@ pub(crate) fn empty_product<S: Semiring>(
 }
 
 /// The plan of the product of two matrices that lie over one grid, and what it is made of.
-pub(crate) fn product_plan<S: Semiring>(
+fn product_plan<S: Semiring>(
     alloc: Global,
     left: DistributedMatrix<S>,
     right: DistributedMatrix<S>,
@@ -184,7 +184,8 @@ fn nothing<S: Semiring>(
     empty
 }
 
-/// The product of two matrices, kept where a mask has entries, by Sparse SUMMA over the grid.
+/// The product of two matrices over the grid, kept where a mask has entries: by Sparse SUMMA where its ranks run in
+/// threads, and panel by panel on the caller's thread.
 ///
 /// The first has as many columns as the second has rows, and the mask has the product's shape, else the answer is
 /// `Shapes`, before memory is asked for. What value the mask has at an entry doesn't matter.
@@ -212,9 +213,10 @@ pub fn multiply_masked<S: Semiring + Send + Sync, R: Threads + Wait + Sync>(
     Ok(product.gather(alloc)?)
 }
 
-/// The product of two matrices, kept where a mask has entries. The three lie over one grid, their blocks are given to
-/// the ranks, and the product is left in the grid's blocks. On a grid of one rank the plain engine multiplies the two
-/// blocks, without a plan. All else is as in [`multiply_masked`].
+/// The product of two matrices, kept where a mask has entries. The three lie over one grid, and the product is left in
+/// its blocks. Ranks in threads are given the blocks of the three without a copy. The plain engine makes the product as
+/// [`multiply_distributed`] does, and then keeps of each block what the mask's block covers. All else is as in
+/// [`multiply_masked`].
 pub fn multiply_masked_distributed<S: Semiring + Send + Sync, R: Threads + Wait + Sync>(
     rt: &R,
     alloc: Global,
@@ -228,37 +230,33 @@ pub fn multiply_masked_distributed<S: Semiring + Send + Sync, R: Threads + Wait 
     ensures agree { IfOk result (λ m. (left.matrix.shape.cols ≡ right.matrix.shape.rows) × (mask.matrix.shape ≡ product_shape left.matrix right.matrix)) }
     ensures fault { IfErr result (IsMaskedRefusal left.matrix right.matrix mask.matrix engine) }
 {
-    if engine == Engine::Plain && left.grid().side() == 1 {
-        return masked_of_one(alloc, left, right, mask);
+    if engine == Engine::Plain {
+        return masked_without_plan(alloc, left, right, mask);
     }
     let (grid, planned, operands, shape) = masked_plan(alloc, left, right, mask)?;
     compute(rt, alloc, engine, &grid, planned, operands, shape)
 }
 
-/// The product of two matrices over the grid of one rank, kept where a mask has entries: that of their blocks, without
-/// a plan.
-pub(crate) fn masked_of_one<S: Semiring>(
+/// The product of two matrices, kept where a mask has entries, on the caller's thread. The three lie over one grid.
+pub(crate) fn masked_without_plan<S: Semiring>(
     alloc: Global,
     left: DistributedMatrix<S>,
     right: DistributedMatrix<S>,
     mask: DistributedMatrix<S>,
 ) -> Result<DistributedMatrix<S>, ScriptFault>
-    requires side { left.side ≡ 1 }
     requires sides { (right.side ≡ left.side) × (mask.side ≡ left.side) }
     ensures ok { IfOk result (λ m. m ≡ record { side = left.side; matrix = masked S.arithmetic (product S.arithmetic left.matrix right.matrix) mask.matrix }) }
     ensures agree { IfOk result (λ m. (left.matrix.shape.cols ≡ right.matrix.shape.rows) × (mask.matrix.shape ≡ product_shape left.matrix right.matrix)) }
     ensures fault { IfErr result (IsMaskedRefusal left.matrix right.matrix mask.matrix Plain) }
 {
     masked_shape(&left, &right, &mask)?;
-    let grid = left.grid();
-    let product = cb_product::multiply(alloc, only_block(&left), only_block(&right))?;
-    let kept = cb_elementwise::mask(alloc, &product, only_block(&mask))?;
-    Ok(of_one(alloc, grid, kept)?)
+    let product = product_without_plan(alloc, left, right)?;
+    Ok(masked_by_blocks(alloc, &product, &mask)?)
 }
 
 /// The plan of the product of two matrices, kept where a mask has entries, and what it is made of. The three lie over
 /// one grid.
-pub(crate) fn masked_plan<S: Semiring>(
+fn masked_plan<S: Semiring>(
     alloc: Global,
     left: DistributedMatrix<S>,
     right: DistributedMatrix<S>,
