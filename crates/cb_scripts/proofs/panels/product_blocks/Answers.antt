@@ -20,9 +20,8 @@ cut-requires-clause-rows_inside g c =
 
 pub append_products-requires : goal.append_products-requires
 append_products-requires g c =
-    panels_agree g.S.Semiring.arithmetic c.args.left c.args.right c.requires.agree c.args.grid.side c.loop-part.part c.in_ok-rows.rows c.deref.result.now
-    (c.in_ok-rows.ensures ∙ row_panel_is g.S.Semiring.arithmetic c.args.grid.side c.args.left c.shape-shape.result c.rows.result c.cols.result c.range-range.result c.loop-part.part c.shape-shape.ensures.shape c.rows.ensures.value c.cols.ensures.value c.range-range.ensures.start c.range-range.ensures.end)
-    (c.deref.ensures.value ∙ c.in_ok-columns.ensures)
+    let cols = c.cols.ensures.value ∙ ap (λ (e : Extent). e.cols) c.shape-shape.ensures.shape in
+    panels_agree g.S.Semiring.arithmetic c.args.left c.args.right c.requires.agree c.args.grid.side c.range-range.result c.cols.result c.in_ok-rows.rows c.deref.result.now cols c.in_ok-rows.ensures (c.deref.ensures.value ∙ c.in_ok-columns.ensures)
 
 pub loop-part-preserved : goal.loop-part-preserved
 loop-part-preserved g c =
