@@ -1,5 +1,5 @@
 -- The known numbers as a column.
-use Rattle.std.proofs.Common.{◌≡◌, ◌≢◌, ℕ, ◌+◌, ◌^◌, ◌<◌, ◌≤◌, Bool, cond, ⊎_elim, inl, inr, length, get_or, add-one, List, [], ◌∷◌, ◌++◌, map, subst, sym, refl, ap, ◌∙◌, arith}
+use Rattle.std.proofs.Common.{◌≡◌, ◌≢◌, ℕ, ◌+◌, ◌^◌, ◌<◌, ◌≤◌, Bool, cond, ⊎_elim, inl, inr, length, add-one, List, [], ◌∷◌, ◌++◌, map, subst, sym, refl, ap, ◌∙◌, arith}
 use Rattle.std.specs.Prelude.{All, AllPairs, unwrap_or, slice_index_or, ◌==◌}
 use Rattle.std.specs.Prelude.{Some}
 use Rattle.std.specs.Ordering.{nat_cmp, is_eq}

@@ -77,16 +77,17 @@ module _ (s : Arithmetic) (a b : Sparse) (agree : a.shape.cols ≡ b.shape.rows)
         let first : product s (row_panel s q a i) (column_panel s q b k) ≡ block_of_rank s q (product s a b) r = product_of_panels i k ∙ sym (ap (block_of_rank s q (product s a b)) e ∙ own) in
         λ t. first t ∷ products_of_panels i (k + 1) n (r + 1) (omega arith) (omega arith) t
 
-    each_agrees : (i k n : ℕ) → All (λ (panel : Sparse). (row_panel s q a i).shape.cols ≡ panel.shape.rows) (map (column_panel s q b) (range_with_len k n))
-    each_agrees i k zero = All-nil (λ (panel : Sparse). (row_panel s q a i).shape.cols ≡ panel.shape.rows)
-    each_agrees i k (suc n) =
-        All-cons (λ (panel : Sparse). (row_panel s q a i).shape.cols ≡ panel.shape.rows) (column_panel s q b k) (map (column_panel s q b) (range_with_len (k + 1) n)) (ap (λ (d : ℕ). d - 0) agree) (each_agrees i (k + 1) n)
+    each_agrees : (k n : ℕ) → All (λ (panel : Sparse). a.shape.cols - 0 ≡ panel.shape.rows) (map (column_panel s q b) (range_with_len k n))
+    each_agrees k zero = All-nil (λ (panel : Sparse). a.shape.cols - 0 ≡ panel.shape.rows)
+    each_agrees k (suc n) =
+        All-cons (λ (panel : Sparse). a.shape.cols - 0 ≡ panel.shape.rows) (column_panel s q b k) (map (column_panel s q b) (range_with_len (k + 1) n)) (ap (λ (d : ℕ). d - 0) agree) (each_agrees (k + 1) n)
 
-    -- a panel of rows has as many columns as each panel of columns has rows
-    pub panels_agree : (i : ℕ) (rows : Sparse) (panels : List Sparse) → rows ≡ row_panel s q a i → panels ≡ map (column_panel s q b) (range_with_len 0 q) → All (λ (panel : Sparse). rows.shape.cols ≡ panel.shape.rows) panels
-    panels_agree i rows panels own are =
-        subst (λ (r : Sparse). All (λ (panel : Sparse). r.shape.cols ≡ panel.shape.rows) panels) (sym own)
-        (subst (λ (ps : List Sparse). All (λ (panel : Sparse). (row_panel s q a i).shape.cols ≡ panel.shape.rows) ps) (sym are) (each_agrees i 0 q))
+    -- what is cut out of all columns of a has as many columns as each panel of columns of b has rows
+    pub panels_agree : (range : ℕ × ℕ) (rows : Sparse) (panels : List Sparse) → rows ≡ cut s range (0, a.shape.cols) a → panels ≡ map (column_panel s q b) (range_with_len 0 q) → All (λ (panel : Sparse). rows.shape.cols ≡ panel.shape.rows) panels
+    panels_agree range rows panels own are =
+        let width : rows.shape.cols ≡ a.shape.cols - 0 = ap (λ (m : Sparse). m.shape.cols) own in
+        subst (λ (d : ℕ). All (λ (panel : Sparse). d ≡ panel.shape.rows) panels) (sym width)
+        (subst (λ (ps : List Sparse). All (λ (panel : Sparse). a.shape.cols - 0 ≡ panel.shape.rows) ps) (sym are) (each_agrees 0 q))
 
     -- the blocks of one row of ranks come after those of the rows before it
     pub next_products : (i : ℕ) (rows : Sparse) (panels old new : List Sparse) → rows ≡ row_panel s q a i → panels ≡ map (column_panel s q b) (range_with_len 0 q) → old ≡ map (block_of_rank s q (product s a b)) (range_with_len 0 (i * q)) → new ≡ old ++ map (product s rows) panels

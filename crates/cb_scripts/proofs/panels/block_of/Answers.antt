@@ -1,4 +1,4 @@
-use Rattle.std.proofs.Common.{◌≡◌, ◌+◌, ◌*◌, ◌<◌, ◌∙◌, ap, arith, length, subst}
+use Rattle.std.proofs.Common.{◌≡◌, ◌+◌, ◌*◌, ◌<◌, ◌∙◌, ap, arith, length}
 use Rattle.std.proofs.lemmas.List.{get_or_read}
 use Rattle.cb_matrix.specs.Sparse.{Sparse}
 use Rattle.cb_matrix.specs.Values.{empty_matrix}

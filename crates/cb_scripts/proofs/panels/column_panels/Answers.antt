@@ -1,4 +1,4 @@
-use Rattle.std.proofs.Common.{◌≤◌, ◌+◌, ap, ◌∙◌, arith}
+use Rattle.std.proofs.Common.{◌+◌, ap, ◌∙◌, arith}
 use Rattle.cb_matrix.specs.Sparse.{Extent}
 use Rattle.cb_distribution.proofs.PartStarts.{start_rises, start_within}
 use Rattle.cb_scripts.proofs.PanelProducts.{column_panel_is, next_panel}

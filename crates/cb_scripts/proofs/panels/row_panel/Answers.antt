@@ -1,4 +1,4 @@
-use Rattle.std.proofs.Common.{◌≡◌, ◌+◌, ◌-◌, ◌<◌, ◌∙◌, sym, ap, arith, refl, subst}
+use Rattle.std.proofs.Common.{◌≡◌, ◌<◌, ◌∙◌, sym, ap, arith, subst}
 use Rattle.std.specs.Prelude.{All}
 use Rattle.cb_matrix.specs.Sparse.{Sparse, Extent, IsMatrix}
 use Rattle.cb_layout.specs.Parts.{Square, part_start, part_length}

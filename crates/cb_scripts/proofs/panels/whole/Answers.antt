@@ -1,4 +1,4 @@
-use Rattle.std.proofs.Common.{◌≡◌, ◌++◌, sym, ap, ◌∙◌, append-nil}
+use Rattle.std.proofs.Common.{◌++◌, sym, ap, ◌∙◌, append-nil}
 use Rattle.cb_matrix.specs.Sparse.{Sparse}
 use Rattle.cb_layout.specs.Segments.{shifted}
 use Rattle.cb_scripts.proofs.StoredSegments.{fewer_left, segment_fits, segment_stored}

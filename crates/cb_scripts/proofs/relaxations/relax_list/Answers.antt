@@ -1,8 +1,8 @@
-use Rattle.std.proofs.Common.{◌≡◌, ◌<◌, ◌≤◌, ℕ, ◌∙◌, List, length, sym, ap, arith}
+use Rattle.std.proofs.Common.{◌≡◌, ◌<◌, ◌≤◌, ℕ, ◌∙◌, List, length, ap, arith}
 use Rattle.std.specs.Prelude.{slice_index_or}
 use Rattle.std.proofs.lemmas.Result.{IfOk-weaker}
 use Rattle.cb_semirings.specs.Tables.{min_plus}
-use Rattle.cb_matrix.specs.Sparse.{Sparse, Extent, at}
+use Rattle.cb_matrix.specs.Sparse.{Sparse, at}
 use Rattle.cb_matrix.specs.Values.{product}
 use Rattle.cb_scripts.specs.Walks.{infinite}
 use Rattle.cb_scripts.specs.Numbers.{fallen}
