@@ -115,12 +115,12 @@ module _ (s : Arithmetic) (laws : IsSemiring s) (a : Sparse) (is : IsMatrix s a)
     values_there : slice_range vs from to ≡ values_of (in_column k a.entries)
     values_there = range-map (λ (e : Entry). e.value) from to a.entries ∙ ap values_of there
 
-    scaled_column : (row scale i : ℕ) → term_value s ks vs i (record { row = row; at = from; end = to; scale = scale }) ≡ s.mul (at s a i k) scale
-    scaled_column row scale i = ap (λ x. s.mul x scale) (ap (λ rs. row_value s.zero rs (slice_range vs from to) i) rows_there ∙ ap (λ ws. row_value s.zero (rows_of (in_column k a.entries)) ws i) values_there ∙ column_value s.zero a.entries i k)
+    scaled_column : (row scale ends i : ℕ) → term_value s ks vs i (record { row = row; at = from; end = to; scale = scale; ends = ends }) ≡ s.mul (at s a i k) scale
+    scaled_column row scale ends i = ap (λ x. s.mul x scale) (ap (λ rs. row_value s.zero rs (slice_range vs from to) i) rows_there ∙ ap (λ ws. row_value s.zero (rows_of (in_column k a.entries)) ws i) values_there ∙ column_value s.zero a.entries i k)
 
     -- the column's entries make a term
-    pub new_term : (row scale : ℕ) → row ≡ get_or ks from 0 → from < to → to ≤ length a.entries → IsValue s scale → IsTerm s ks (record { row = row; at = from; end = to; scale = scale })
-    new_term row scale e l m v = record {
+    pub new_term : (row scale ends : ℕ) → row ≡ get_or ks from 0 → from < to → to ≤ length a.entries → IsValue s scale → IsTerm s ks (record { row = row; at = from; end = to; scale = scale; ends = ends })
+    new_term row scale ends e l m v = record {
       some = l;
       row = e;
       within = let n = length-map a.entries (λ (e : Entry). e.row) in omega arith;
@@ -158,12 +158,12 @@ module _ (s : Arithmetic) (laws : IsSemiring s) (a : Sparse) (is : IsMatrix s a)
     sum_split i = ap (λ rs. column_sum s a i rs (drop n values)) (drop_more rows n 0 l) ∙ ap (column_sum s a i (k ∷ drop (n + 1) rows)) (drop_more values n 0 (omega arith))
 
     -- its column has entries
-    pub gathered_more : (row : ℕ) (T : ℕ → ℕ) → ((i : ℕ) → s.add (terms_value s ks vs i old) (column_sum s a i (drop n rows) (drop n values)) ≡ T i)
-        → (i : ℕ) → s.add (terms_value s ks vs i (old ++ record { row = row; at = from; end = to; scale = v } ∷ [])) (column_sum s a i (drop (n + 1) rows) (drop (n + 1) values)) ≡ T i
-    gathered_more row T so_far i =
+    pub gathered_more : (row ends : ℕ) (T : ℕ → ℕ) → ((i : ℕ) → s.add (terms_value s ks vs i old) (column_sum s a i (drop n rows) (drop n values)) ≡ T i)
+        → (i : ℕ) → s.add (terms_value s ks vs i (old ++ record { row = row; at = from; end = to; scale = v; ends = ends } ∷ [])) (column_sum s a i (drop (n + 1) rows) (drop (n + 1) values)) ≡ T i
+    gathered_more row ends T so_far i =
         let rest = column_sum s a i (drop (n + 1) rows) (drop (n + 1) values) in
-        let whole : terms_value s ks vs i (old ++ record { row = row; at = from; end = to; scale = v } ∷ []) ≡ s.add (terms_value s ks vs i old) (s.mul (at s a i k) v) =
-        terms_value-push s laws ks vs matrix_values i old (record { row = row; at = from; end = to; scale = v }) terms v_value ∙ ap (s.add (terms_value s ks vs i old)) (scaled_column k from to there row v i) in
+        let whole : terms_value s ks vs i (old ++ record { row = row; at = from; end = to; scale = v; ends = ends } ∷ []) ≡ s.add (terms_value s ks vs i old) (s.mul (at s a i k) v) =
+        terms_value-push s laws ks vs matrix_values i old (record { row = row; at = from; end = to; scale = v; ends = ends }) terms v_value ∙ ap (s.add (terms_value s ks vs i old)) (scaled_column k from to there row v ends i) in
         ap (λ x. s.add x rest) whole
         ∙ laws.add_assoc (terms_value s ks vs i old) (s.mul (at s a i k) v) rest (terms_value-value s laws ks vs matrix_values i old terms) (here_value i) (rest_value i)
         ∙ ap (s.add (terms_value s ks vs i old)) (sym (sum_split i)) ∙ so_far i

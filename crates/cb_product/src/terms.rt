@@ -19,13 +19,26 @@ pub(crate) struct Term {
     pub at: usize,
     pub end: usize,
     pub scale: u64,
+    /// What [`both_ends`] reads of the column. Nothing is made of it.
+    pub ends: u64,
+}
+
+/// Reads the last row of a column, and the values at both of its ends: with its first row, that is all of a short column
+/// fetched. There are as many rows as values, and some.
+#[inline(always)]
+fn both_ends(rows: &[u32], values: &[u64]) -> u64
+    requires some { 0 < length rows.now }
+    requires lengths { length values.now ≡ length rows.now }
+{
+    let last = rows.len() - 1;
+    u64::from(rows[last]) ^ values[0] ^ values[last]
 }
 
 /// The terms of a column of the product: one for each entry of the right block's column that names a column of the
 /// left with entries. Answers how many products they have.
 ///
-/// The columns lie far apart: reading the first row of each here, where none waits for another, has the memory fetch all
-/// of them at once.
+/// The columns lie far apart: reading both ends of each here, where none waits for another, has the memory fetch all of
+/// them at once.
 pub(crate) fn gather<S: Semiring>(
     terms: &mut Vec<Term>,
     left: &Block<S>,
@@ -42,7 +55,7 @@ pub(crate) fn gather<S: Semiring>(
     ensures sums { OnOk result ((i : ℕ) → terms_value S.arithmetic (rows_of left.now.entries) (values_of left.now.entries) i terms.new.items ≡ column_sum S.arithmetic left.now i rows.now values.now) }
 {
     terms.clear();
-    let left_rows = left.row_numbers();
+    let (left_rows, left_values) = (left.row_numbers(), left.values());
     let mut products = 0usize;
     for n in 0..rows.len() {
         let (at, end) = index.range(left, rows[n]);
@@ -52,6 +65,7 @@ pub(crate) fn gather<S: Semiring>(
                 at,
                 end,
                 scale: values[n],
+                ends: both_ends(&left_rows[at..end], &left_values[at..end]),
             })?;
             products = products.saturating_add(end - at);
         }

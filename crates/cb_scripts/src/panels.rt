@@ -31,7 +31,6 @@ pub(crate) fn product_by_panels<S: Semiring>(
     left: DistributedMatrix<S>,
     right: DistributedMatrix<S>,
 ) -> Result<DistributedMatrix<S>, AllocError>
-    requires sides { right.side ≡ left.side }
     requires agree { left.matrix.shape.cols ≡ right.matrix.shape.rows }
     ensures { IfOk result (λ m. m ≡ record { side = left.side; matrix = product S.arithmetic left.matrix right.matrix }) }
 {

@@ -26,10 +26,10 @@ loop-n-preserved g c =
     elim c.if-at-end.branch [
       | then-at-end+in_ok-push w ↦
           let v = v_value s laws a is c.args.rows.now c.args.values.now c.requires.lengths c.requires.values n c.loop-n-test.true _ inv.terms _ _ there in
-          let term = new_term s laws a is _ c.range-at.result.0 c.range-at.result.1 there _ _ (ap (λ rs. get_or rs c.range-at.result.0 0) c.row_numbers-left_rows.ensures) w.if-at-end.true c.range-at.ensures.within v in
+          let term = new_term s laws a is _ c.range-at.result.0 c.range-at.result.1 there _ _ _ (ap (λ rs. get_or rs c.range-at.result.0 0) c.row_numbers-left_rows.ensures) w.if-at-end.true c.range-at.ensures.within v in
           rw (w.terms-is, w.in_ok-push.ensures.items) (record {
             terms = All-push (IsTerm s (rows_of a.entries)) _ _ inv.terms term;
-            sums = gathered_more s laws a is c.args.rows.now c.args.values.now c.requires.lengths c.requires.values n c.loop-n-test.true _ inv.terms _ _ there _ (λ i. column_sum s a i c.args.rows.now c.args.values.now) inv.sums;
+            sums = gathered_more s laws a is c.args.rows.now c.args.values.now c.requires.lengths c.requires.values n c.loop-n-test.true _ inv.terms _ _ there _ _ (λ i. column_sum s a i c.args.rows.now c.args.values.now) inv.sums;
           })
       | else-at-end w ↦
           rw w.terms-is (record {

@@ -32,7 +32,7 @@ loop-term-preserved g c =
     let l = c.loop-term-test.true in
     let inv = c.loop-term.invariant in
     let all = matrix_values s laws a c.requires.left in
-    let d : Term = record { row = 0; at = 0; end = 0; scale = 0 } in
+    let d : Term = record { row = 0; at = 0; end = 0; scale = 0; ends = 0 } in
     let term = All-get_or (IsTerm s (rows_of a.entries)) ts n d l c.requires.terms in
     let step = rw (c.entries.ensures.rows, c.entries.ensures.values, c.swap.ensures.y_after, c.row_numbers-rows.ensures, c.values-values.ensures) at c.in_ok-join.ensures in
     record {

@@ -17,7 +17,7 @@ returns-clause-column g c =
     let s = g.S.Semiring.arithmetic in
     let a = c.args.left.now in
     let ts = c.args.terms.now in
-    let d : Term = record { row = 0; at = 0; end = 0; scale = 0 } in
+    let d : Term = record { row = 0; at = 0; end = 0; scale = 0; ends = 0 } in
     let one = c.requires.one in
     let term = All-get_or (IsTerm s (rows_of a.entries)) ts 0 d (omega (arith, one)) c.requires.terms in
     let sum = λ (i : ℕ). terms_value-one s g.met.S.Semiring.is_semiring (rows_of a.entries) (values_of a.entries) (matrix_values s g.met.S.Semiring.is_semiring a c.requires.left) i ts d one term.scale in
