@@ -4,9 +4,11 @@ ghost use Rattle.cb_ffi.specs.declared.faults.Fault.TheVariants as fault_is;
 ghost use Rattle.cb_ffi.specs.Lists.{AreLists};
 ghost use Rattle.cb_ffi.specs.Refusals.{IsSide, AreMasked, one_faults, two_faults, transpose_faults, product_faults, masked_faults, vector_faults, placewise_faults, prune_faults, graph_faults, text_faults};
 ghost use Rattle.cb_ffi.specs.Answers.{NoFault, test_of};
+ghost use Rattle.cb_ffi.specs.Requests.{faults_of, IsSound};
 
 use crate::faults::Fault;
 use crate::lists::Columns;
+use crate::requests::Request;
 use cb_elementwise::Test;
 use cb_layout::Grid;
 use cb_semirings::Semiring;
@@ -47,7 +49,7 @@ fn check_two<S: Semiring>(side: u32, a: &Columns, b: &Columns) -> Result<Grid, F
 }
 
 /// The grid of a call that needs one matrix alone.
-pub(crate) fn check_transpose<S: Semiring>(side: u32, a: &Columns) -> Result<Grid, Fault>
+fn check_transpose<S: Semiring>(side: u32, a: &Columns) -> Result<Grid, Fault>
     ensures lists { IfOk result (λ _. AreLists S.arithmetic a.now) }
     ensures none { IfOk result (λ _. NoFault (transpose_faults S.arithmetic side a.now)) }
     ensures fault { IfErr result (transpose_faults S.arithmetic side a.now) }
@@ -56,7 +58,7 @@ pub(crate) fn check_transpose<S: Semiring>(side: u32, a: &Columns) -> Result<Gri
 }
 
 /// The grid of a product, where the first matrix has as many columns as the second has rows.
-pub(crate) fn check_product<S: Semiring>(side: u32, a: &Columns, b: &Columns) -> Result<Grid, Fault>
+fn check_product<S: Semiring>(side: u32, a: &Columns, b: &Columns) -> Result<Grid, Fault>
     ensures first { IfOk result (λ _. AreLists S.arithmetic a.now) }
     ensures second { IfOk result (λ _. AreLists S.arithmetic b.now) }
     ensures shapes { IfOk result (λ _. a.now.ncols ≡ b.now.nrows) }
@@ -71,7 +73,7 @@ pub(crate) fn check_product<S: Semiring>(side: u32, a: &Columns, b: &Columns) ->
 }
 
 /// The grid of a product under a mask, where the mask has the product's shape.
-pub(crate) fn check_masked<S: Semiring>(
+fn check_masked<S: Semiring>(
     side: u32,
     a: &Columns,
     b: &Columns,
@@ -93,7 +95,7 @@ pub(crate) fn check_masked<S: Semiring>(
 }
 
 /// The grid of a product by a vector, where it has one column, and as many rows as the matrix has columns.
-pub(crate) fn check_vector<S: Semiring>(side: u32, a: &Columns, x: &Columns) -> Result<Grid, Fault>
+fn check_vector<S: Semiring>(side: u32, a: &Columns, x: &Columns) -> Result<Grid, Fault>
     ensures first { IfOk result (λ _. AreLists S.arithmetic a.now) }
     ensures second { IfOk result (λ _. AreLists S.arithmetic x.now) }
     ensures shapes { IfOk result (λ _. (a.now.ncols ≡ x.now.nrows) × (x.now.ncols ≡ 1)) }
@@ -108,11 +110,7 @@ pub(crate) fn check_vector<S: Semiring>(side: u32, a: &Columns, x: &Columns) -> 
 }
 
 /// The grid of a sum or a product place by place, of two matrices of one shape.
-pub(crate) fn check_placewise<S: Semiring>(
-    side: u32,
-    a: &Columns,
-    b: &Columns,
-) -> Result<Grid, Fault>
+fn check_placewise<S: Semiring>(side: u32, a: &Columns, b: &Columns) -> Result<Grid, Fault>
     ensures first { IfOk result (λ _. AreLists S.arithmetic a.now) }
     ensures second { IfOk result (λ _. AreLists S.arithmetic b.now) }
     ensures shapes { IfOk result (λ _. (a.now.nrows ≡ b.now.nrows) × (a.now.ncols ≡ b.now.ncols)) }
@@ -135,35 +133,46 @@ pub(crate) fn check_text<S: Semiring>(a: &Columns) -> Result<(), Fault>
     a.check::<S>()
 }
 
-/// The test of a number, with its bound.
-fn test_of(number: u32, bound: u64) -> Result<Test, Fault>
-    ensures ok { IfOk result (λ test. (number ≤ 2) × (test ≡ test_of number bound)) }
-    ensures fault { IfErr result (λ f. (f ≡ fault_is.Test) × (number ≤ 2 → ⊥)) }
+/// The test of a number, 0 to 2, with its bound.
+pub(crate) fn test_of(number: u32, bound: u64) -> Test
+    ensures { result ≡ test_of number bound }
 {
     match number {
-        0 => Ok(Test::Below(bound)),
-        1 => Ok(Test::Above(bound)),
-        2 => Ok(Test::Equal(bound)),
-        _ => Err(Fault::Test),
+        0 => Test::Below(bound),
+        1 => Test::Above(bound),
+        _ => Test::Equal(bound),
     }
 }
 
-/// The grid and the test by which a matrix is pruned.
-pub(crate) fn check_prune<S: Semiring>(
-    side: u32,
-    a: &Columns,
-    test: u32,
-    bound: u64,
-) -> Result<(Grid, Test), Fault>
+/// The grid of a call that prunes a matrix, where the test has a number.
+fn check_prune<S: Semiring>(side: u32, a: &Columns, test: u32) -> Result<Grid, Fault>
     ensures lists { IfOk result (λ _. AreLists S.arithmetic a.now) }
-    ensures test { IfOk result (λ t. t.1 ≡ test_of test bound) }
     ensures none { IfOk result (λ _. NoFault (prune_faults S.arithmetic side a.now test)) }
     ensures fault { IfErr result (prune_faults S.arithmetic side a.now test) }
 {
     let grid = grid_of(side)?;
-    let test = test_of(test, bound)?;
+    if test > 2 {
+        return Err(Fault::Test);
+    }
     a.check::<S>()?;
-    Ok((grid, test))
+    Ok(grid)
+}
+
+/// The grid of a side, where what a request lends is well formed and fits.
+pub(crate) fn check<S: Semiring>(side: u32, request: Request) -> Result<Grid, Fault>
+    ensures sound { IfOk result (λ _. IsSound S.arithmetic request.entry) }
+    ensures none { IfOk result (λ _. NoFault (faults_of S.arithmetic side request.entry)) }
+    ensures fault { IfErr result (faults_of S.arithmetic side request.entry) }
+{
+    match request {
+        Request::Multiply(a, b) => check_product::<S>(side, a, b),
+        Request::MultiplyMasked(a, b, mask) => check_masked::<S>(side, a, b, mask),
+        Request::Vector(a, x) => check_vector::<S>(side, a, x),
+        Request::Transpose(a) => check_transpose::<S>(side, a),
+        Request::Add(a, b) => check_placewise::<S>(side, a, b),
+        Request::Times(a, b) => check_placewise::<S>(side, a, b),
+        Request::Prune(a, test, _bound) => check_prune::<S>(side, a, test),
+    }
 }
 
 /// The grid of a walk from a source, in the graph of a square matrix.

@@ -25,8 +25,7 @@ mod faults;
 mod incoming;
 mod lists;
 mod outgoing;
-mod placewise;
-mod products;
+mod requests;
 #[cfg(test)]
 mod tests;
 mod texts;
@@ -34,6 +33,7 @@ mod walks;
 
 pub use faults::Fault;
 pub use lists::Columns;
+use requests::{Request, answer};
 use std::alloc::Global;
 pub use texts::Text;
 
@@ -63,7 +63,7 @@ pub extern "C" fn cbgrid_kernel_multiply(
 ) -> u32
     ensures { IsCall (over semiring (λ s. product_faults s grid a.now b.now)) (HasLists (product (arithmetic_of semiring) (matrix_of (arithmetic_of semiring) a.now) (matrix_of (arithmetic_of semiring) b.now))) result out.old out.new }
 {
-    put(out, products::multiply(alloc, semiring, grid, a, b))
+    put(out, answer(alloc, semiring, grid, Request::Multiply(a, b)))
 }
 
 /// The product of two matrices, kept where a mask has entries, over the semiring of a number and a grid of a side.
@@ -79,10 +79,8 @@ pub extern "C" fn cbgrid_kernel_multiply_masked(
 ) -> u32
     ensures { IsCall (over semiring (λ s. masked_faults s grid a.now b.now mask.now)) (HasLists (masked (arithmetic_of semiring) (product (arithmetic_of semiring) (matrix_of (arithmetic_of semiring) a.now) (matrix_of (arithmetic_of semiring) b.now)) (matrix_of (arithmetic_of semiring) mask.now))) result out.old out.new }
 {
-    put(
-        out,
-        products::multiply_masked(alloc, semiring, grid, a, b, mask),
-    )
+    let request = Request::MultiplyMasked(a, b, mask);
+    put(out, answer(alloc, semiring, grid, request))
 }
 
 /// The product of a matrix by a vector, which has one column, over the semiring of a number and a grid of a side.
@@ -97,7 +95,7 @@ pub extern "C" fn cbgrid_kernel_vector(
 ) -> u32
     ensures { IsCall (over semiring (λ s. vector_faults s grid a.now x.now)) (HasLists (product (arithmetic_of semiring) (matrix_of (arithmetic_of semiring) a.now) (matrix_of (arithmetic_of semiring) x.now))) result out.old out.new }
 {
-    put(out, products::vector(alloc, semiring, grid, a, x))
+    put(out, answer(alloc, semiring, grid, Request::Vector(a, x)))
 }
 
 /// The transpose of a matrix, over the semiring of a number and a grid of a side.
@@ -111,7 +109,7 @@ pub extern "C" fn cbgrid_kernel_transpose(
 ) -> u32
     ensures { IsCall (over semiring (λ s. transpose_faults s grid a.now)) (HasLists (transposed (arithmetic_of semiring) (matrix_of (arithmetic_of semiring) a.now))) result out.old out.new }
 {
-    put(out, placewise::transpose(alloc, semiring, grid, a))
+    put(out, answer(alloc, semiring, grid, Request::Transpose(a)))
 }
 
 /// The sum at each place of two matrices of one shape, over the semiring of a number and a grid of a side.
@@ -126,7 +124,7 @@ pub extern "C" fn cbgrid_kernel_add(
 ) -> u32
     ensures { IsCall (over semiring (λ s. placewise_faults s grid a.now b.now)) (HasLists (sum_of (arithmetic_of semiring) (matrix_of (arithmetic_of semiring) a.now) (matrix_of (arithmetic_of semiring) b.now))) result out.old out.new }
 {
-    put(out, placewise::add(alloc, semiring, grid, a, b))
+    put(out, answer(alloc, semiring, grid, Request::Add(a, b)))
 }
 
 /// The product at each place of two matrices of one shape, over the semiring of a number and a grid of a side.
@@ -141,7 +139,7 @@ pub extern "C" fn cbgrid_kernel_times(
 ) -> u32
     ensures { IsCall (over semiring (λ s. placewise_faults s grid a.now b.now)) (HasLists (times_of (arithmetic_of semiring) (matrix_of (arithmetic_of semiring) a.now) (matrix_of (arithmetic_of semiring) b.now))) result out.old out.new }
 {
-    put(out, placewise::times(alloc, semiring, grid, a, b))
+    put(out, answer(alloc, semiring, grid, Request::Times(a, b)))
 }
 
 /// A matrix without the entries whose value passes a test, over the semiring of a number and a grid of a side.
@@ -157,7 +155,8 @@ pub extern "C" fn cbgrid_kernel_prune(
 ) -> u32
     ensures { IsCall (over semiring (λ s. prune_faults s grid a.now test)) (HasLists (pruned (arithmetic_of semiring) (passes (test_of test bound)) (matrix_of (arithmetic_of semiring) a.now))) result out.old out.new }
 {
-    put(out, placewise::prune(alloc, semiring, grid, a, test, bound))
+    let request = Request::Prune(a, test, bound);
+    put(out, answer(alloc, semiring, grid, request))
 }
 
 /// The level of each vertex of a graph from a source: how many entries a walk has at least, where an entry (i, j) of the

@@ -41,10 +41,7 @@ fn text_over<S: Semiring>(alloc: Global, a: &Columns) -> Result<Text, Fault>
     ensures fault { IfErr result (text_faults S.arithmetic a.now) }
 {
     check_text::<S>(a)?;
-    match text_bytes::<S>(alloc, a) {
-        Ok(text) => Ok(text),
-        Err(_refused) => Err(Fault::Memory),
-    }
+    Ok(text_bytes::<S>(alloc, a)?)
 }
 
 /// The text of a matrix, over the semiring of a number.
@@ -68,10 +65,7 @@ fn read_over<S: Semiring>(alloc: Global, text: &[u8], line: &mut u64) -> Result<
     ensures line { IsFaultLine (first_fault S.arithmetic text.now) result line.old line.new }
 {
     match read::<S>(alloc, text) {
-        Ok(matrix) => match matrix_lists(alloc, &matrix) {
-            Ok(lists) => Ok(lists),
-            Err(_refused) => Err(Fault::Memory),
-        },
+        Ok(matrix) => Ok(matrix_lists(alloc, &matrix)?),
         Err(fault) => match fault.kind {
             Kind::Memory => Err(Fault::Memory),
             _ => {

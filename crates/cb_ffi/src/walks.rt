@@ -45,10 +45,7 @@ pub(crate) fn levels(
     ensures { IsAnswer (graph_faults or_and side graph.now source) (HasLevels graph.now source) result }
 {
     let grid = check_graph::<OrAnd>(side, graph, source)?;
-    match level_lists(alloc, grid, graph, source) {
-        Ok(lists) => Ok(lists),
-        Err(_refused) => Err(Fault::Memory),
-    }
+    Ok(level_lists(alloc, grid, graph, source)?)
 }
 
 /// The lists of the distance of each vertex from a source, of well-formed lists.
@@ -81,8 +78,5 @@ pub(crate) fn distances(
     ensures { IsAnswer (graph_faults min_plus side graph.now source) (HasDistances graph.now source) result }
 {
     let grid = check_graph::<MinPlus>(side, graph, source)?;
-    match distance_lists(alloc, grid, graph, source) {
-        Ok(lists) => Ok(lists),
-        Err(_refused) => Err(Fault::Memory),
-    }
+    Ok(distance_lists(alloc, grid, graph, source)?)
 }

@@ -52,8 +52,9 @@ pub use walks::{distances, distances_distributed, levels, levels_distributed};
 /// What runs a plan.
 #[derive(Clone, Copy, Debug, PartialEq, Eq)]
 pub enum Engine {
-    /// The caller's thread alone. A product of two matrices, masked or not, is made panel by panel. Of all else the acts of
-    /// its plan are done one after the other, or, where a grid of one rank needs no plan, the work itself.
+    /// The caller's thread alone. A product of two matrices, masked or not, is made panel by panel, and a graph is searched
+    /// in one block. Of all else the acts of its plan are done one after the other, or, where a grid of one rank needs no
+    /// plan, the work itself.
     Plain,
     /// Each rank in a thread of its own, over lanes for so many letters, 1 to 64 (of which the nearest is taken for any
     /// other number), from each rank to each other. What memory a rank is refused for a block it goes on without, and

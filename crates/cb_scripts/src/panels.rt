@@ -43,7 +43,10 @@ pub(crate) fn product_by_panels<S: Semiring>(
 }
 
 /// A matrix that lies over a grid, as one block. Its own blocks are given up.
-fn whole<S: Semiring>(alloc: Global, matrix: DistributedMatrix<S>) -> Result<Block<S>, AllocError>
+pub(crate) fn whole<S: Semiring>(
+    alloc: Global,
+    matrix: DistributedMatrix<S>,
+) -> Result<Block<S>, AllocError>
     ensures { IfOk result (λ block. block ≡ matrix.matrix) }
 {
     let mut block = Block::empty(alloc, matrix.shape());

@@ -15,7 +15,7 @@ use crate::placewise::{add_plan, prune_plan, times_plan};
 use crate::products::{empty_product, masked_without_plan, product_without_plan};
 use crate::rounds::{multiply_vector_plain, vector_plan};
 use crate::runs::compute_plain;
-use crate::searches::{Search, nearest_of_one};
+use crate::searches::nearest_without_plan;
 use crate::transposes::{transpose_of_one, transpose_plan};
 use crate::walks::{check_graph, weighted};
 use cb_elementwise::Test;
@@ -148,7 +148,7 @@ pub fn distances_distributed(
     ensures fault { IfErr result (IsGraphRefusal graph.matrix source Plain) }
 {
     check_graph(&graph, source)?;
-    nearest(alloc, graph, source)
+    Ok(nearest_without_plan(alloc, graph, source)?)
 }
 
 /// The level of each vertex from a source, as [`levels_distributed`](crate::levels_distributed).
@@ -163,37 +163,5 @@ pub fn levels_distributed(
 {
     check_graph(&graph, source)?;
     let weighted = weighted(alloc, graph)?;
-    nearest(alloc, weighted, source)
-}
-
-/// The least weight of a walk from the source to each vertex.
-fn nearest(
-    alloc: Global,
-    graph: DistributedMatrix<MinPlus>,
-    source: u32,
-) -> Result<Matrix<MinPlus>, ScriptFault>
-    requires square { graph.matrix.shape.rows ≡ graph.matrix.shape.cols }
-    requires source { source < graph.matrix.shape.rows }
-    ensures ok { IfOk result (λ column. AreDistances graph.matrix source column) }
-    ensures fault { IfErr result (IsRunRefusal Plain) }
-{
-    if graph.grid().side() == 1 {
-        return Ok(nearest_of_one(alloc, graph, source)?);
-    }
-    let grid = graph.grid();
-    let vertices = graph.shape().rows();
-    let mut search = Search::begin(alloc, &graph, source)?;
-    let mut turned = transpose_distributed(alloc, graph)?;
-    let plan = vector_plan(alloc, &grid, turned.shape())?;
-    for _round in 0..vertices {
-        let fell = search.fell();
-        if fell.is_empty() {
-            break;
-        }
-        let (matrix, reached) = multiply_vector_plain(alloc, &grid, &plan, turned, fell)?;
-        turned = matrix;
-        search = search.advance(alloc, &reached)?;
-    }
-    let column = search.column(alloc)?;
-    Ok(column)
+    Ok(nearest_without_plan(alloc, weighted, source)?)
 }

@@ -4,8 +4,8 @@
 //! the round before, in min-plus, and takes over what is lower. It ends when none falls, at the latest after as many
 //! rounds as there are vertices.
 //!
-//! On the grid of one rank the transposed matrix is one block. There a round makes no product where the numbers are in a
-//! list and many of them fell: it [relaxes the edges](crate::relaxations) in the list itself.
+//! With the plain engine the transposed matrix is one block, whatever the grid. There a round makes no product where the
+//! numbers are in a list and many of them fell: it [relaxes the edges](crate::relaxations) in the list itself.
 ghost use Rattle.std.specs.Prelude.{◌≡◌, ◌≢◌, ◌↔◌, ℕ, ◌+◌, ◌<◌, ◌≤◌, min, filter, [], All, AllPairs, IfOk, OnOk, IsTrue};
 ghost use Rattle.cb_semirings.specs.Tables.{min_plus};
 ghost use Rattle.cb_matrix.specs.Sparse.{Sparse, IsMatrix, at, value_at};
@@ -16,10 +16,9 @@ ghost use Rattle.cb_scripts.specs.Numbers.{number_at, AreNumbers, is_lower};
 ghost use Rattle.cb_scripts.specs.Searches.{HasEnded, IsSearch};
 
 use crate::numbers::Numbers;
-use crate::products::only_block;
 use crate::relaxations::relax_list;
 use crate::rounds::vector_product;
-use crate::transposes::transpose_of_one;
+use crate::transposes::transposed_block;
 use cb_dcsc::Block;
 use cb_layout::DistributedMatrix;
 use cb_matrix::{Entry, Matrix, Shape};
@@ -187,28 +186,26 @@ fn relax(
     take_lower(alloc, known, &reached)
 }
 
-/// The least weight of a walk from the source to each vertex, by the plain engine on the grid of one rank: the matrix
-/// is transposed as one block.
-pub(crate) fn nearest_of_one(
+/// The least weight of a walk from the source to each vertex, on the caller's thread, without a plan: the matrix is
+/// transposed as one block.
+pub(crate) fn nearest_without_plan(
     alloc: Global,
     graph: DistributedMatrix<MinPlus>,
     source: u32,
 ) -> Result<Matrix<MinPlus>, AllocError>
-    requires side { graph.side ≡ 1 }
     requires square { graph.matrix.shape.rows ≡ graph.matrix.shape.cols }
     requires source { source < graph.matrix.shape.rows }
     ensures { IfOk result (λ column. AreDistances graph.matrix source column) }
 {
     let vertices = graph.shape().rows();
     let mut search = Search::begin(alloc, &graph, source)?;
-    let turned = transpose_of_one(alloc, graph)?;
-    let edges = only_block(&turned);
+    let edges = transposed_block(alloc, graph)?;
     for _round in 0..vertices {
         let fell = search.fell();
         if fell.is_empty() {
             break;
         }
-        search = search.round(alloc, edges)?;
+        search = search.round(alloc, &edges)?;
     }
     search.column(alloc)
 }

@@ -5,9 +5,11 @@ ghost use Rattle.cb_scripts.specs.declared.Engine.TheVariants.{Plain};
 ghost use Rattle.cb_scripts.specs.Answers.{Makes};
 ghost use Rattle.cb_scripts.specs.Refusals.{IsRunRefusal};
 
+use crate::panels::whole;
 use crate::products::{of_one, only_block};
 use crate::runs::{Prepared, compute};
 use crate::{Engine, ScriptFault};
+use cb_dcsc::Block;
 use cb_kernels::{LEFT, grid_transpose};
 use cb_layout::{DistributedMatrix, Grid};
 use cb_matrix::{Matrix, Shape};
@@ -58,8 +60,24 @@ pub(crate) fn transpose_of_one<S: Semiring>(
     requires { matrix.side ≡ 1 }
     ensures { IfOk result (λ m. m ≡ record { side = matrix.side; matrix = transposed S.arithmetic matrix.matrix }) }
 {
-    let turned = cb_reshape::transpose(alloc, only_block(&matrix))?;
-    of_one(alloc, matrix.grid(), turned)
+    let grid = matrix.grid();
+    let turned = transposed_block(alloc, matrix)?;
+    of_one(alloc, grid, turned)
+}
+
+/// The transpose of a matrix that lies over a grid, as one block. On more ranks than one the entries are first copied
+/// into one block.
+pub(crate) fn transposed_block<S: Semiring>(
+    alloc: Global,
+    matrix: DistributedMatrix<S>,
+) -> Result<Block<S>, AllocError>
+    ensures { IfOk result (λ block. block ≡ transposed S.arithmetic matrix.matrix) }
+{
+    if matrix.grid().side() == 1 {
+        return cb_reshape::transpose(alloc, only_block(&matrix));
+    }
+    let block = whole(alloc, matrix)?;
+    cb_reshape::transpose(alloc, &block)
 }
 
 /// The plan of the transpose of a matrix that lies over a grid, and what it is made of.

@@ -86,11 +86,15 @@ fn many_numbers_fall_in_a_round(rt: HostRuntime) -> Result<(), Fail> {
     // Vertices 59 and 99 fall twice: a heavier walk of fewer edges reaches them first.
     edges.push(entry(0, 59, 90))?;
     let weighted = matrix::<MinPlus>(alloc, 100, 100, &edges).ok_or("a graph")?;
-    for side in 1..3 {
+    for (engine, side) in [
+        (Engine::Plain, 1),
+        (Engine::Plain, 2),
+        (Engine::Ranks(2), 2),
+    ] {
         let grid = grid(side)?;
-        let found = levels(&rt, alloc, Engine::Plain, &grid, &graph, 0)?;
+        let found = levels(&rt, alloc, engine, &grid, &graph, 0)?;
         assert!(rt; are_of_fan(1, found.entries()));
-        let found = distances(&rt, alloc, Engine::Plain, &grid, &weighted, 0)?;
+        let found = distances(&rt, alloc, engine, &grid, &weighted, 0)?;
         assert!(rt; are_of_fan(5, found.entries()));
     }
     Ok(())

@@ -9,7 +9,7 @@ ghost use Rattle.cb_scripts.specs.Walks.{AreLevels, AreDistances};
 ghost use Rattle.cb_scripts.specs.Refusals.{IsGraphRefusal, IsRunRefusal};
 
 use crate::rounds::{multiply_vector, vector_plan};
-use crate::searches::{Search, nearest_of_one};
+use crate::searches::{Search, nearest_without_plan};
 use crate::transposes::transpose_distributed;
 use crate::{Engine, ScriptFault};
 use cb_layout::{DistributedMatrix, Grid};
@@ -32,8 +32,8 @@ fn nearest<R: Threads + Wait + Sync>(
     ensures ok { IfOk result (λ column. AreDistances graph.matrix source column) }
     ensures fault { IfErr result (IsRunRefusal engine) }
 {
-    if engine == Engine::Plain && graph.grid().side() == 1 {
-        return Ok(nearest_of_one(alloc, graph, source)?);
+    if engine == Engine::Plain {
+        return Ok(nearest_without_plan(alloc, graph, source)?);
     }
     let grid = graph.grid();
     let vertices = graph.shape().rows();
@@ -122,9 +122,10 @@ fn check_entries<S: Semiring>(graph: &Matrix<S>, source: u32) -> Result<(), Scri
 ///
 /// Refused are `NotSquare`, then `Source` for one that is no vertex, before memory is asked for. The matrix is
 /// transposed once. A round costs what the entries of the vertices that fell in the round before cost; there are at
-/// most as many as vertices. It is one run of the engine, but for the plain one on a grid of one rank: that takes the
-/// block itself, and where at least one vertex in 32 fell, it may relax the edges in a list of the numbers of all, which
-/// costs a few instructions for each vertex and makes no product.
+/// most as many as vertices. With ranks in threads each round is one run of them. The plain engine searches in one
+/// block, into which the entries are copied where the grid has more ranks than one; there, where at least one vertex in
+/// 32 fell, a round may relax the edges in a list of the numbers of all, which costs a few instructions for each vertex
+/// and makes no product.
 pub fn distances<R: Threads + Wait + Sync>(
     rt: &R,
     alloc: Global,

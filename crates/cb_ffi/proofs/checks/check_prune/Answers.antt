@@ -16,15 +16,11 @@ returns-in_err-grid-clause-fault g c =
     let h : IfErr c.from_residual.result (λ f. (f ≡ Grid) × (IsSide side → ⊥)) = search rules in
     weaken _ (λ f. (f ≡ Grid) × (IsSide side → ⊥)) (Unless (IsSide side) Grid (Unless (test ≤ 2) Test (matrix_faults s a IsMemory))) (λ f k. inl k) h
 
-pub returns-in_err-test-clause-fault : goal.returns-in_err-test-clause-fault
+pub returns-then-test-gt2-clause-fault : goal.returns-then-test-gt2-clause-fault
 unfolding prune_faults
-returns-in_err-test-clause-fault g c =
-    let s = g.S.Semiring.arithmetic in
-    let side = c.args.side in
-    let a = c.args.a.now in
-    let test = c.args.test in
-    let h : IfErr c.from_residual-in_err-test.result (λ f. (f ≡ Test) × (test ≤ 2 → ⊥)) = search rules in
-    weaken _ (λ f. (f ≡ Test) × (test ≤ 2 → ⊥)) (Unless (IsSide side) Grid (Unless (test ≤ 2) Test (matrix_faults s a IsMemory))) (λ f k. inr (c.in_ok-grid.ensures.ok, inl k)) h
+returns-then-test-gt2-clause-fault g c =
+    let n : c.args.test ≤ 2 → ⊥ = search rules in
+    inr (c.in_ok-grid.ensures.ok, inl (refl, n))
 
 pub returns-in_err-check-clause-fault : goal.returns-in_err-check-clause-fault
 unfolding prune_faults
@@ -33,9 +29,10 @@ returns-in_err-check-clause-fault g c =
     let side = c.args.side in
     let a = c.args.a.now in
     let test = c.args.test in
+    let q : test ≤ 2 = search rules in
     let h : IfErr c.from_residual-in_err-check.result (matrix_faults s a (λ _. ⊥)) = search rules in
     weaken _ (matrix_faults s a (λ _. ⊥)) (Unless (IsSide side) Grid (Unless (test ≤ 2) Test (matrix_faults s a IsMemory)))
-    (λ f k. inr (c.in_ok-grid.ensures.ok, inr (c.in_ok-test.ensures.ok.0, matrix_wider s a IsMemory f k))) h
+    (λ f k. inr (c.in_ok-grid.ensures.ok, inr (q, matrix_wider s a IsMemory f k))) h
 
 pub returns-clause-none : goal.returns-clause-none
 unfolding prune_faults
@@ -45,7 +42,7 @@ returns-clause-none g c =
     let a = c.args.a.now in
     let test = c.args.test in
     let p = c.in_ok-grid.ensures.ok in
-    let q = c.in_ok-test.ensures.ok.0 in
+    let q : test ≤ 2 = search rules in
     let l : AreLists s a = search rules in
     record {
       memory = inr (p, inr (q, matrix_after s a IsMemory Memory l refl));

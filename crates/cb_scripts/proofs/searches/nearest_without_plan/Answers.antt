@@ -1,19 +1,18 @@
 use Rattle.std.proofs.Common.{◌≡◌, ℕ, ◌∙◌, inl, inr, sym, ap, arith}
 use Rattle.std.proofs.lemmas.Result.{IfOk-weaker}
 use Rattle.cb_matrix.specs.Sparse.{Sparse, Extent}
-use Rattle.cb_layout.specs.Distributed.{Distributed}
 use Rattle.cb_scripts.specs.Searches.{HasEnded, IsSearch}
 use Rattle.cb_scripts.specs.Walks.{AreDistances}
-use Rattle.cb_scripts.proofs.searches.nearest_of_one.Goals as goal
-use Rattle.cb_scripts.proofs.searches.nearest_of_one.Goals.{else-loop-round-test, then-loop-round-test+then-is_empty}
+use Rattle.cb_scripts.proofs.searches.nearest_without_plan.Goals as goal
+use Rattle.cb_scripts.proofs.searches.nearest_without_plan.Goals.{else-loop-round-test, then-loop-round-test+then-is_empty}
 
 pub round-requires : goal.round-requires
 round-requires c =
-    record { round = (c.args.graph.matrix, c.args.source, c.loop-round._round, c.loop-round.invariant, c.only_block-edges.ensures ∙ ap (λ (m : Distributed). m.matrix) c.in_ok-turned.ensures) }
+    record { round = (c.args.graph.matrix, c.args.source, c.loop-round._round, c.loop-round.invariant, c.in_ok-edges.ensures) }
 
 pub loop-round-preserved : goal.loop-round-preserved
 loop-round-preserved c =
-    c.in_ok-search-2.ensures c.args.graph.matrix c.args.source c.loop-round._round c.loop-round.invariant (c.only_block-edges.ensures ∙ ap (λ (m : Distributed). m.matrix) c.in_ok-turned.ensures)
+    c.in_ok-search-2.ensures c.args.graph.matrix c.args.source c.loop-round._round c.loop-round.invariant c.in_ok-edges.ensures
 
 pub column-requires : goal.column-requires
 column-requires c = record { search = (c.args.graph.matrix, c.args.source, c.loop-round._round, c.loop-round.invariant) }

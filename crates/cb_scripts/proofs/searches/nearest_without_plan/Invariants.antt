@@ -1,5 +1,5 @@
 use Rattle.cb_scripts.specs.Searches.{IsSearch}
-use Rattle.cb_scripts.proofs.searches.nearest_of_one.Given as goal
+use Rattle.cb_scripts.proofs.searches.nearest_without_plan.Given as goal
 
 -- each round is one of a search
 abbrev pub invariant-loop-round : goal.invariant-loop-round
