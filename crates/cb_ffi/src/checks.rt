@@ -171,7 +171,7 @@ pub(crate) fn check<S: Semiring>(side: u32, request: Request) -> Result<Grid, Fa
         Request::Transpose(a) => check_transpose::<S>(side, a),
         Request::Add(a, b) => check_placewise::<S>(side, a, b),
         Request::Times(a, b) => check_placewise::<S>(side, a, b),
-        Request::Prune(a, test, _bound) => check_prune::<S>(side, a, test),
+        Request::Prune { a, test, .. } => check_prune::<S>(side, a, test),
     }
 }
 

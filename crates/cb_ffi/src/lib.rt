@@ -155,7 +155,7 @@ pub extern "C" fn cbgrid_kernel_prune(
 ) -> u32
     ensures { IsCall (over semiring (λ s. prune_faults s grid a.now test)) (HasLists (pruned (arithmetic_of semiring) (passes (test_of test bound)) (matrix_of (arithmetic_of semiring) a.now))) result out.old out.new }
 {
-    let request = Request::Prune(a, test, bound);
+    let request = Request::Prune { a, test, bound };
     put(out, answer(alloc, semiring, grid, request))
 }
 

@@ -31,7 +31,11 @@ pub(crate) enum Request<'a> {
     /// The product at each place of two matrices of one shape.
     Times(&'a Columns, &'a Columns),
     /// A matrix without the entries whose value passes the test of a number, with its bound.
-    Prune(&'a Columns, u32, u64),
+    Prune {
+        a: &'a Columns,
+        test: u32,
+        bound: u64,
+    },
 }
 
 /// The matrix that is asked for, over a grid, where all that is lent is well formed and fits.
@@ -66,7 +70,7 @@ fn compute<S: Semiring>(
             let left = spread(alloc, grid, a)?;
             plain::times_distributed(alloc, left, spread(alloc, grid, b)?)
         }
-        Request::Prune(a, test, bound) => {
+        Request::Prune { a, test, bound } => {
             plain::prune_distributed(alloc, spread(alloc, grid, a)?, test_of(test, bound))
         }
     }
