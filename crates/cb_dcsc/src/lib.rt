@@ -13,7 +13,7 @@
 //! of `cb_matrix` is, and walk it by its columns, each lent as two slices.
 #![tactic(auto)]
 
-ghost use Rattle.std.specs.Prelude.{◌≡◌, ◌≢◌, ◌↔◌, ℕ, ◌<◌, ◌≤◌, ◌+◌, ◌-◌, IsTrue, List, [], ◌∷◌, ◌++◌, length, All, AllPairs, Contains, IfOk, IsErrOf, OnOk, OnErr, Some, slice_index, slice_index_or, slice_range};
+ghost use Rattle.std.specs.Prelude.{◌≡◌, ◌≢◌, ◌↔◌, ℕ, ◌<◌, ◌≤◌, ◌+◌, ◌-◌, IsTrue, List, [], ◌∷◌, ◌++◌, length, All, AllPairs, Contains, IfOk, IsErrOf, OnOk, OnErr, Some, vec_len, vec_capacity, slice_index, slice_index_or, slice_range};
 ghost use Rattle.cb_semirings.specs.Arithmetic.{IsValue};
 ghost use Rattle.cb_dcsc.specs.Compressed.{opened, entries_in, with_column, csc_matrix, AreStarts, AreNonempty};
 
@@ -339,10 +339,11 @@ impl<S: Semiring> Block<S> {
         ensures same { self.new ≡ self.old }
     {
         let columns = entries.min(self.shape.cols() as usize);
-        if columns > 0 {
-            self.columns.reserve(columns)?;
-            self.starts.reserve(columns + 1)?;
+        if columns == 0 {
+            return Ok(());
         }
+        self.columns.reserve(columns)?;
+        self.starts.reserve(columns + 1)?;
         self.rows.reserve(entries)?;
         self.values.reserve(entries)?;
         Ok(())
@@ -402,8 +403,8 @@ impl<S: Semiring> Block<S> {
         self.values.reserve(rows.len())?;
         let end = len + rows.len();
         start_column(&mut self.columns, &mut self.starts, column, end)?;
-        self.rows.extend_from_slice(rows)?;
-        self.values.extend_from_slice(values)?;
+        extend_reserved(&mut self.rows, rows);
+        extend_reserved(&mut self.values, values);
         Ok(())
     }
 }
@@ -498,6 +499,18 @@ fn start_column(
     Ok(())
 }
 
+/// Appends items to a list that has room for them.
+#[inline(always)]
+fn extend_reserved<T: Copy>(list: &mut Vec<T>, items: &[T])
+    requires { vec_len list.old + length items.now ≤ vec_capacity list.old }
+    ensures { list.new.items ≡ list.old.items ++ items.now }
+{
+    match list.extend_from_slice(items) {
+        Ok(()) => {}
+        Err(_) => unreachable!(),
+    }
+}
+
 /// The columns that have entries, and where each starts and the last one ends, of columns that follow one another.
 /// There are so many entries.
 fn nonempty_columns(
@@ -524,6 +537,3 @@ fn nonempty_columns(
     }
     Ok((columns, starts))
 }
-
-#[cfg(test)]
-mod tests;

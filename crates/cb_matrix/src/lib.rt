@@ -18,8 +18,6 @@ ghost use Rattle.cb_semirings.specs.Arithmetic.{IsValue};
 
 mod collect;
 mod ordered;
-#[cfg(test)]
-mod tests;
 
 use cb_semirings::Semiring;
 pub use collect::in_order;

@@ -71,6 +71,3 @@ pub fn block<S: Semiring>(
     }
     Ok(Block::from_sorted(alloc, shape(rows, cols)?, entries)?)
 }
-
-#[cfg(test)]
-mod tests;

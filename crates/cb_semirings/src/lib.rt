@@ -20,8 +20,6 @@ mod max_min;
 mod min_plus;
 mod or_and;
 mod plus_times;
-#[cfg(test)]
-mod tests;
 
 pub use max_min::MaxMin;
 pub use min_plus::MinPlus;

@@ -86,3 +86,21 @@ returns-clause-matrix g c =
     (c.push_reserved-2.ensures.items ∙ ap (λ xs. xs ++ c.args.entry.row ∷ []) c.in_ok-reserve.ensures.items)
     (c.push_reserved-3.ensures.items ∙ ap (λ xs. xs ++ c.args.entry.value ∷ []) c.in_ok-reserve-2.ensures.items)
     other _ _ c.len-len.result (omega arith) c.in_ok-start_column.ensures.columns c.in_ok-start_column.ensures.starts).0.matrix
+
+pub invariant_of-self : goal.invariant_of-self
+invariant_of-self g c = rw c.in_err-reserve.ensures.items c.self.invariant
+
+pub returns-in_err-reserve-clause-matrix : goal.returns-in_err-reserve-clause-matrix
+returns-in_err-reserve-clause-matrix g c = rw c.in_err-reserve.ensures.items c.self.invariant.matrix
+
+pub invariant_of-self-in_err-reserve-2 : goal.invariant_of-self-in_err-reserve-2
+invariant_of-self-in_err-reserve-2 g c = rw (c.in_ok-reserve.ensures.items, c.in_err-reserve-2.ensures.items) c.self.invariant
+
+pub returns-in_err-reserve-2-clause-matrix : goal.returns-in_err-reserve-2-clause-matrix
+returns-in_err-reserve-2-clause-matrix g c = rw (c.in_ok-reserve.ensures.items, c.in_err-reserve-2.ensures.items) c.self.invariant.matrix
+
+pub invariant_of-self-in_err-start_column : goal.invariant_of-self-in_err-start_column
+invariant_of-self-in_err-start_column g c = rw (c.in_err-start_column.ensures.columns_stay, c.in_err-start_column.ensures.starts_stay, c.in_ok-reserve.ensures.items, c.in_ok-reserve-2.ensures.items) c.self.invariant
+
+pub returns-in_err-start_column-clause-matrix : goal.returns-in_err-start_column-clause-matrix
+returns-in_err-start_column-clause-matrix g c = rw (c.in_err-start_column.ensures.columns_stay, c.in_err-start_column.ensures.starts_stay, c.in_ok-reserve.ensures.items, c.in_ok-reserve-2.ensures.items) c.self.invariant.matrix

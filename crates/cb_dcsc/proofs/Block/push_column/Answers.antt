@@ -15,8 +15,8 @@ invariant_of-self-2 g c =
     let count = c.len-len.ensures in
     (column_pushed g.S.Semiring.arithmetic v.shape _ _ _ _ c.self.invariant _ c.self.view_is c.args.column r.before c.args.rows.now c.args.values.now _ _ _ _ _ (λ z. false≢true (sym c.if-is_empty.false ∙ (c.is_empty.ensures ∙ ap (λ n. n == 0) z))) r.lengths r.ascending r.rows r.column r.values r.not_zero
     c.in_ok-start_column.ensures.columns c.in_ok-start_column.ensures.starts (omega arith)
-    (c.in_ok-extend_from_slice.ensures.items ∙ ap (λ xs. xs ++ c.args.rows.now) c.in_ok-reserve.ensures.items)
-    (c.in_ok-extend_from_slice-2.ensures.items ∙ ap (λ xs. xs ++ c.args.values.now) c.in_ok-reserve-2.ensures.items)).0
+    (c.extend_reserved.ensures ∙ ap (λ xs. xs ++ c.args.rows.now) c.in_ok-reserve.ensures.items)
+    (c.extend_reserved-2.ensures ∙ ap (λ xs. xs ++ c.args.values.now) c.in_ok-reserve-2.ensures.items)).0
 
 pub returns-clause-ok : goal.returns-clause-ok
 returns-clause-ok g c =
@@ -26,8 +26,8 @@ returns-clause-ok g c =
     let count = c.len-len.ensures in
     (column_pushed g.S.Semiring.arithmetic v.shape _ _ _ _ c.self.invariant _ c.self.view_is c.args.column r.before c.args.rows.now c.args.values.now _ _ _ _ _ (λ z. false≢true (sym c.if-is_empty.false ∙ (c.is_empty.ensures ∙ ap (λ n. n == 0) z))) r.lengths r.ascending r.rows r.column r.values r.not_zero
     c.in_ok-start_column.ensures.columns c.in_ok-start_column.ensures.starts (omega arith)
-    (c.in_ok-extend_from_slice.ensures.items ∙ ap (λ xs. xs ++ c.args.rows.now) c.in_ok-reserve.ensures.items)
-    (c.in_ok-extend_from_slice-2.ensures.items ∙ ap (λ xs. xs ++ c.args.values.now) c.in_ok-reserve-2.ensures.items)).1
+    (c.extend_reserved.ensures ∙ ap (λ xs. xs ++ c.args.rows.now) c.in_ok-reserve.ensures.items)
+    (c.extend_reserved-2.ensures ∙ ap (λ xs. xs ++ c.args.values.now) c.in_ok-reserve-2.ensures.items)).1
 
 pub returns-clause-matrix : goal.returns-clause-matrix
 returns-clause-matrix g c =
@@ -37,5 +37,23 @@ returns-clause-matrix g c =
     let count = c.len-len.ensures in
     (column_pushed g.S.Semiring.arithmetic v.shape _ _ _ _ c.self.invariant _ c.self.view_is c.args.column r.before c.args.rows.now c.args.values.now _ _ _ _ _ (λ z. false≢true (sym c.if-is_empty.false ∙ (c.is_empty.ensures ∙ ap (λ n. n == 0) z))) r.lengths r.ascending r.rows r.column r.values r.not_zero
     c.in_ok-start_column.ensures.columns c.in_ok-start_column.ensures.starts (omega arith)
-    (c.in_ok-extend_from_slice.ensures.items ∙ ap (λ xs. xs ++ c.args.rows.now) c.in_ok-reserve.ensures.items)
-    (c.in_ok-extend_from_slice-2.ensures.items ∙ ap (λ xs. xs ++ c.args.values.now) c.in_ok-reserve-2.ensures.items)).0.matrix
+    (c.extend_reserved.ensures ∙ ap (λ xs. xs ++ c.args.rows.now) c.in_ok-reserve.ensures.items)
+    (c.extend_reserved-2.ensures ∙ ap (λ xs. xs ++ c.args.values.now) c.in_ok-reserve-2.ensures.items)).0.matrix
+
+pub invariant_of-self : goal.invariant_of-self
+invariant_of-self g c = rw c.in_err-reserve.ensures.items c.self.invariant
+
+pub returns-in_err-reserve-clause-matrix : goal.returns-in_err-reserve-clause-matrix
+returns-in_err-reserve-clause-matrix g c = rw c.in_err-reserve.ensures.items c.self.invariant.matrix
+
+pub invariant_of-self-in_err-reserve-2 : goal.invariant_of-self-in_err-reserve-2
+invariant_of-self-in_err-reserve-2 g c = rw (c.in_ok-reserve.ensures.items, c.in_err-reserve-2.ensures.items) c.self.invariant
+
+pub returns-in_err-reserve-2-clause-matrix : goal.returns-in_err-reserve-2-clause-matrix
+returns-in_err-reserve-2-clause-matrix g c = rw (c.in_ok-reserve.ensures.items, c.in_err-reserve-2.ensures.items) c.self.invariant.matrix
+
+pub invariant_of-self-in_err-start_column : goal.invariant_of-self-in_err-start_column
+invariant_of-self-in_err-start_column g c = rw (c.in_err-start_column.ensures.columns_stay, c.in_err-start_column.ensures.starts_stay, c.in_ok-reserve.ensures.items, c.in_ok-reserve-2.ensures.items) c.self.invariant
+
+pub returns-in_err-start_column-clause-matrix : goal.returns-in_err-start_column-clause-matrix
+returns-in_err-start_column-clause-matrix g c = rw (c.in_err-start_column.ensures.columns_stay, c.in_err-start_column.ensures.starts_stay, c.in_ok-reserve.ensures.items, c.in_ok-reserve-2.ensures.items) c.self.invariant.matrix

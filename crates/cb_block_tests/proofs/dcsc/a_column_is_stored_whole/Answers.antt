@@ -3,7 +3,7 @@ use Rattle.std.specs.Prelude.{All}
 use Rattle.std.proofs.lemmas.List.Elements.{All-nil}
 use Rattle.cb_matrix.specs.Sparse.{Sparse}
 use Rattle.cb_dcsc.proofs.WholeColumn.{column_before}
-use Rattle.cb_dcsc.proofs.tests.a_column_is_stored_whole.Goals as goal
+use Rattle.cb_block_tests.proofs.dcsc.a_column_is_stored_whole.Goals as goal
 
 pub push_column-requires-2-clause-before : goal.push_column-requires-2-clause-before
 push_column-requires-2-clause-before g c =

@@ -1,6 +1,6 @@
 //! What is written out is what is made, or is said to be none.
-use crate::{SampleFault, block, entry};
 use cb_dcsc::BlockFault;
+use cb_samples::{SampleFault, block, entry};
 use cb_semirings::{OrAnd, PlusTimes};
 use std::test::Fail;
 

@@ -1,5 +1,5 @@
 //! The tables of the semirings, at values from outside.
-use crate::{MaxMin, MinPlus, OrAnd, PlusTimes, Semiring};
+use cb_semirings::{MaxMin, MinPlus, OrAnd, PlusTimes, Semiring};
 
 const TOP: u64 = u64::MAX;
 

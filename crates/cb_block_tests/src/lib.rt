@@ -1,0 +1,15 @@
+//! What the calls of the libraries of blocks answer, at values from outside: semirings, matrices, doubly compressed
+//! blocks and the kernels over them.
+//!
+//! Each module holds the tests of one library, through its public calls alone. Those named for refused memory accept
+//! the right answer or the error for want of memory; the others need ample memory.
+#![tactic(auto)]
+
+#[cfg(test)]
+mod dcsc;
+#[cfg(test)]
+mod matrix;
+#[cfg(test)]
+mod samples;
+#[cfg(test)]
+mod semirings;
