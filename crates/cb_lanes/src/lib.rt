@@ -35,6 +35,3 @@ pub use opening::open;
 pub use settled::Settled;
 pub use settling::settle;
 pub use waiting::{Gone, WaitRefusal};
-
-#[cfg(test)]
-mod tests;

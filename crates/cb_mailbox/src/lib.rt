@@ -17,8 +17,6 @@
 
 mod calls;
 mod queue;
-#[cfg(test)]
-mod tests;
 
 ghost use Rattle.std.specs.Prelude.{ℕ, ◌≡◌, ◌<◌, length, Some, None, IfOk, IfErr, OnErr, IsTrue, true, false, ◌↔◌, if◌then◌else◌};
 ghost use Rattle.cb_letters.specs.Letters.{is_close, mark_tag};

@@ -12,8 +12,6 @@
 mod ends;
 mod events;
 mod shared;
-#[cfg(test)]
-mod tests;
 mod traces;
 
 pub use events::{Envelope, TraceEvent};

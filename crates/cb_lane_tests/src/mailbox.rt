@@ -1,9 +1,11 @@
 //! The worked examples of a mailbox, by their answers.
+ghost use Rattle.std.specs.Prelude.{◌≡◌, ◌<◌, All, length, false};
+ghost use Rattle.cb_mailbox.specs.Inbox.{is_stranger};
 ghost use Rattle.cb_mailbox.specs.Run.{IsPostable};
 
-use crate::{Answer, Call, Mailbox};
 use cb_letters::{Body, Letter, PostRefusal, Tag, Taken};
-use std::alloc::AllocError;
+use cb_mailbox::{Answer, Call, Mailbox};
+use std::alloc::{AllocError, Global};
 use std::test::Fail;
 
 fn post(from: u16, sheet: u64) -> Call<u64>
@@ -30,9 +32,26 @@ fn refused(refusal: PostRefusal, sheet: u64) -> Answer<u64> {
     Answer::Refused(refusal, Some(Body::Sheet(sheet)))
 }
 
+/// Whether rank `me` of `ranks`, with queues of two places, answers so to these calls.
+fn answers_so(
+    alloc: Global,
+    me: u16,
+    ranks: u16,
+    calls: Vec<Call<u64>>,
+    expected: Vec<Answer<u64>>,
+) -> Result<bool, AllocError>
+    requires me { me < ranks }
+    requires postable { All IsPostable calls.items }
+{
+    let mut mailbox = Mailbox::open(alloc, me, ranks, 2)?;
+    match mailbox.run(alloc, calls) {
+        Ok(answers) => Ok(answers == expected),
+        Err((_calls, refused)) => Err(refused),
+    }
+}
+
 #[test]
 fn one_sender_fills_its_queue_and_closes(rt: HostRuntime) -> Result<(), Fail> {
-    let mut mailbox = Mailbox::open(rt.alloc(), 0, 2, 2)?;
     let calls = vec![in rt.alloc();
         post(1, 10),
         post(1, 11),
@@ -47,9 +66,6 @@ fn one_sender_fills_its_queue_and_closes(rt: HostRuntime) -> Result<(), Fail> {
         Call::Take { from: 1 },
         Call::Take { from: 1 },
     ]?;
-    let answers = mailbox
-        .run(rt.alloc(), calls)
-        .map_err(|(_, refused)| refused)?;
     let expected = vec![in rt.alloc();
         Answer::Posted(0),
         Answer::Posted(1),
@@ -64,13 +80,12 @@ fn one_sender_fills_its_queue_and_closes(rt: HostRuntime) -> Result<(), Fail> {
         Answer::Took(Taken::End),
         Answer::Took(Taken::End),
     ]?;
-    assert_eq!(rt; answers, expected);
+    assert!(rt; answers_so(rt.alloc(), 0, 2, calls, expected)?);
     Ok(())
 }
 
 #[test]
 fn two_senders_have_a_queue_each(rt: HostRuntime) -> Result<(), Fail> {
-    let mut mailbox = Mailbox::open(rt.alloc(), 2, 3, 2)?;
     let calls = vec![in rt.alloc();
         post(0, 10),
         post(1, 11),
@@ -82,9 +97,6 @@ fn two_senders_have_a_queue_each(rt: HostRuntime) -> Result<(), Fail> {
         Call::Take { from: 9 },
         Call::Take { from: 2 },
     ]?;
-    let answers = mailbox
-        .run(rt.alloc(), calls)
-        .map_err(|(_, refused)| refused)?;
     let expected = vec![in rt.alloc();
         Answer::Posted(0),
         Answer::Posted(0),
@@ -96,32 +108,54 @@ fn two_senders_have_a_queue_each(rt: HostRuntime) -> Result<(), Fail> {
         Answer::Took(Taken::Stranger),
         Answer::Took(Taken::Stranger),
     ]?;
-    assert_eq!(rt; answers, expected);
+    assert!(rt; answers_so(rt.alloc(), 2, 3, calls, expected)?);
     Ok(())
+}
+
+/// How the lane of a sender stands: whether its queue has room, how many letters were posted and taken, and whether
+/// it is drained.
+fn standing(mailbox: &Mailbox<u64>, from: u16) -> (bool, u64, u64, bool)
+    requires { is_stranger mailbox.now from ≡ false }
+{
+    (
+        mailbox.room(from),
+        mailbox.posted(from),
+        mailbox.taken(from),
+        mailbox.drained(from),
+    )
+}
+
+/// Whether the counts of the lane from rank 1 follow the calls that fill its one place, with a letter and then with
+/// the mark, and empty it.
+fn counts_follow(mailbox: &mut Mailbox<u64>) -> bool
+    requires { (mailbox.old.me ≡ 0) × (length mailbox.old.lanes ≡ 2) }
+{
+    let new = standing(mailbox, 1) == (true, 0, 0, false);
+    if mailbox.post(1, Tag(7), Body::Lost(1)) != Ok(0) {
+        return false;
+    }
+    let full = standing(mailbox, 1) == (false, 1, 0, false);
+    if mailbox.close(1) != Err(PostRefusal::Full) {
+        return false;
+    }
+    let stranger = (PostRefusal::Stranger, Body::Sheet(5));
+    if mailbox.post(0, Tag(7), Body::Sheet(5)) != Err(stranger) {
+        return false;
+    }
+    if !matches!(mailbox.take(1), Taken::Letter(_)) || mailbox.close(1) != Ok(1) {
+        return false;
+    }
+    let closed = standing(mailbox, 1) == (false, 2, 1, false);
+    if mailbox.take(1) != Taken::End {
+        return false;
+    }
+    new && full && closed && standing(mailbox, 1) == (true, 2, 2, true)
 }
 
 #[test]
 fn counts_and_room_follow_the_calls(rt: HostRuntime) -> Result<(), Fail> {
     let mut mailbox = Mailbox::open(rt.alloc(), 0, 2, 1)?;
-    assert!(rt; mailbox.room(1) && !mailbox.drained(1));
-    assert_eq!(rt; mailbox.post(1, Tag(7), Body::Lost(1)), Ok(0));
-    assert!(rt; !mailbox.room(1));
-    assert_eq!(rt; mailbox.close(1), Err(PostRefusal::Full));
-    assert_eq!(rt;
-        mailbox.post(0, Tag(7), Body::Sheet(5)),
-        Err((PostRefusal::Stranger, Body::Sheet(5)))
-    );
-    assert!(rt; matches!(mailbox.take(1), Taken::Letter(_)));
-    assert_eq!(rt; mailbox.close(1), Ok(1));
-    assert_eq!(rt;
-        (mailbox.posted(1), mailbox.taken(1), mailbox.drained(1)),
-        (2, 1, false)
-    );
-    assert_eq!(rt; mailbox.take(1), Taken::End);
-    assert_eq!(rt;
-        (mailbox.posted(1), mailbox.taken(1), mailbox.drained(1)),
-        (2, 2, true)
-    );
+    assert!(rt; counts_follow(&mut mailbox));
     Ok(())
 }
 

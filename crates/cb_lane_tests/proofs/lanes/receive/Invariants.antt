@@ -1,6 +1,6 @@
 use Rattle.std.proofs.Common.{◌≡◌, ◌≤◌}
 use Rattle.cb_lanes.specs.Desks.{identity}
-use Rattle.cb_lanes.proofs.tests.receive.Given as goal
+use Rattle.cb_lane_tests.proofs.lanes.receive.Given as goal
 
 abbrev pub invariant-loop : goal.invariant-loop
 invariant-loop g l = record {

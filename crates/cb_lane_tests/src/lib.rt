@@ -1,0 +1,9 @@
+//! Worked examples of mailboxes, of lanes between threads and of traces, run through their public calls alone.
+#![tactic(auto)]
+
+#[cfg(test)]
+mod lanes;
+#[cfg(test)]
+mod mailbox;
+#[cfg(test)]
+mod trace;
