@@ -5,3 +5,5 @@ pub mod Inboxes
 pub mod Runs
 pub mod Balance
 pub mod Legality
+pub mod LaneSteps
+pub mod Exchanges

@@ -1,6 +1,7 @@
 //! Calls of a mailbox as values, and a whole list of them.
 ghost use Rattle.std.specs.Prelude.{◌≡◌, All, IfOk, OnOk, IfErr};
 ghost use Rattle.cb_mailbox.specs.Run.{IsPostable, answer, after, answers_to, after_all, events, IsBalanced, IsNew};
+ghost use Rattle.cb_mailbox.specs.Exchanges.{AreTakenOnce, AreForAddressee, AreInPostingOrder, NothingAcceptedAfterClose, HasGivenOutAll};
 ghost use Rattle.cb_letters.specs.Events.{AreLegal};
 
 use crate::Mailbox;
@@ -37,10 +38,16 @@ impl<P: Drop> Mailbox<P> {
         requires { All IsPostable calls.items }
         ensures answers { IfOk result (λ answers. answers.items ≡ answers_to self.old calls.items) }
         ensures after { OnOk result (self.new ≡ after_all self.old calls.items) }
+        ensures once { IfOk result (λ answers. AreTakenOnce self.old self.new calls.items answers.items) }
+        ensures addressee { IfOk result (λ answers. AreForAddressee self.old calls.items answers.items) }
+        ensures order { IfOk result (λ answers. AreInPostingOrder self.old self.new calls.items answers.items) }
+        ensures closed { IfOk result (λ answers. NothingAcceptedAfterClose self.old calls.items answers.items) }
+        ensures drained { IfOk result (λ answers. HasGivenOutAll self.old self.new calls.items answers.items) }
         ensures lanes { OnOk result (IsBalanced self.old self.new (events self.old calls.items)) }
         ensures legal { OnOk result (IsNew self.old → AreLegal (events self.old calls.items)) }
         ensures err { IfErr result (λ e. (e.0 ≡ calls) × (self.new ≡ self.old)) }
     {
+        let _lanes = &self.lanes;
         let mut answers = match Vec::with_capacity(alloc, calls.len()) {
             Ok(answers) => answers,
             Err(refused) => return Err((calls, refused)),
