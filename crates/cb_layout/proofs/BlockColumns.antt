@@ -1,5 +1,5 @@
 -- Blocks over a grid, and the whole matrix that they glue to.
-use Rattle.std.proofs.Common.{◌≡◌, ◌≢◌, ℕ, zero, suc, ◌+◌, ◌*◌, ◌/◌, ◌%◌, ◌<◌, ◌≤◌, true, false, cond, List, [], ◌∷◌, length, map, take, get_or, filter, refl, sym, ap, subst, ⊎_elim, ◌∙◌, arith}
+use Rattle.std.proofs.Common.{◌≡◌, ◌≢◌, ℕ, zero, suc, ◌+◌, ◌*◌, ◌/◌, ◌%◌, ◌<◌, ◌≤◌, true, false, cond, List, [], ◌∷◌, length, take, get_or, filter, refl, sym, ap, subst, ⊎_elim, ◌∙◌, arith}
 use Rattle.std.specs.Prelude.{All, AllPairs, ◌==◌, ◌&&◌, sum_by}
 use Rattle.std.proofs.lemmas.Bool.{cases_lt, eqb-true, eqb-false}
 use Rattle.std.proofs.lemmas.Nat.{mod_below}
@@ -14,12 +14,12 @@ use Rattle.cb_dcsc.specs.Columns.{in_column, columns_with_entries, rows_of, valu
 use Rattle.cb_dcsc.specs.Compressed.{entries_in}
 use Rattle.cb_dcsc.proofs.Numbers.{columns_all, entries_all}
 use Rattle.cb_layout.specs.Parts.{part_start, part_length, part_shape}
-use Rattle.cb_layout.specs.Blocks.{block_at, block_of, part_with, place_in_part}
+use Rattle.cb_layout.specs.Blocks.{block_at, block_of, place_in_part}
 use Rattle.cb_layout.specs.Distributed.{AreBlocks, glued_blocks}
 use Rattle.cb_layout.specs.Fronts.{columns_in}
 use Rattle.cb_layout.specs.Segments.{shifted}
 use Rattle.cb_layout.specs.Tiles.{Tiles, block_tiles}
-use Rattle.cb_layout.proofs.Parts.{row_of_rank, column_of_rank, rank_below, rank_of, row_below, own_below, part_below, place_below}
+use Rattle.cb_layout.proofs.Parts.{row_of_rank, column_of_rank, rank_below, rank_of, row_below, own_below}
 use Rattle.cb_layout.proofs.Tiles.{IsTiling, owner_of, moved, tile_of, entries_of, entries_of_back}
 use Rattle.cb_layout.proofs.EntriesByTile.{IsScattered}
 use Rattle.cb_layout.proofs.Cuts.{block_tiling}

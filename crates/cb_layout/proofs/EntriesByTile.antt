@@ -6,7 +6,7 @@ use Rattle.std.proofs.lemmas.Bool.{cases_eq}
 use Rattle.std.proofs.lemmas.List.{take_more, take_all, get_or-take, get_or_default, get_or-set_same, get_or-set_other, length-set}
 use Rattle.std.proofs.lemmas.List.FromFn.{length-map-range_with_len, get_or-map-range_with_len}
 use Rattle.std.proofs.lemmas.List.Elements.{All-take}
-use Rattle.cb_semirings.specs.Arithmetic.{Arithmetic, IsSemiring}
+use Rattle.cb_semirings.specs.Arithmetic.{Arithmetic, IsSemiring, IsValue}
 use Rattle.cb_matrix.specs.declared.Entry.{Entry}
 use Rattle.cb_matrix.specs.Sparse.{Extent, Sparse, IsMatrix, at, IsBefore, IsInside}
 use Rattle.cb_matrix.specs.Values.{matrix_of, empty_matrix}
@@ -109,6 +109,43 @@ module _ (shape : Extent) (t : Tiles) (is : IsTiling shape t) (all : List Entry)
   pub scattered_more : (new : List Sparse) → new ≡ set blocks (owner_of t e) (with_entry there (moved t e)) → IsScattered t (take (k + 1) all) new
   scattered_more new h =
       subst (λ es. IsScattered t es new) (sym (take_more all k x l)) (scattered_one shape t is (take k all) some_inside e here before blocks so_far new h)
+
+-- what is owed where an entry is delivered to its block
+pub record IsOwed (s : Arithmetic) (blocks : List Sparse) (n : ℕ) (e : Entry) : Type 0 where
+  pub rank : n < length blocks
+  pub inside : IsInside (block_at blocks n).shape e
+  pub order : All (λ d. IsBefore d e) (block_at blocks n).entries
+  pub value : IsValue s e.value
+  pub not_zero : e.value ≢ s.zero
+
+-- the next entry of a matrix, at its rank and with its place there, where the entries are read from a slice
+module _ (s : Arithmetic) (m : Sparse) (is : IsMatrix s m) (t : Tiles) (tiling : IsTiling m.shape t) (entries : List Entry) (same : entries ≡ m.entries) (k : ℕ) (l : k < length entries) (blocks : List Sparse) (so_far : IsScattered t (take k m.entries) blocks)
+    (x : Entry) (rank : ℕ) (local : Entry) (here : rank ≡ owner_of t (get_or entries k x)) (place : local ≡ moved t (get_or entries k x)) where
+  within : k < length m.entries
+  within = subst (λ es. k < length es) same l
+
+  here_of : rank ≡ owner_of t (get_or m.entries k x)
+  here_of = here ∙ ap (λ es. owner_of t (get_or es k x)) same
+
+  place_of : local ≡ moved t (get_or m.entries k x)
+  place_of = place ∙ ap (λ es. moved t (get_or es k x)) same
+
+  pub next_is_owed : IsOwed s blocks rank local
+  next_is_owed =
+      subst (λ n. IsOwed s blocks n local) (sym here_of)
+      (subst (λ e. IsOwed s blocks (owner_of t (get_or m.entries k x)) e) (sym place_of) (record {
+        rank = rank_there m.shape t tiling m.entries is.inside is.ascending k x within blocks so_far;
+        inside = inside_there m.shape t tiling m.entries is.inside is.ascending k x within blocks so_far;
+        order = order_there m.shape t tiling m.entries is.inside is.ascending k x within blocks so_far;
+        value = is.values k x within;
+        not_zero = is.not_zero k x within;
+      }))
+
+  -- with it the blocks have the entries of their tiles among one entry more
+  pub next_is_scattered : (new : List Sparse) → new ≡ set blocks rank (with_entry (block_at blocks rank) local) → IsScattered t (take (k + 1) m.entries) new
+  next_is_scattered new h =
+      scattered_more m.shape t tiling m.entries is.inside is.ascending k x within blocks so_far new
+      (h ∙ (λ i. set blocks (here_of i) (with_entry (block_at blocks (here_of i)) (place_of i))))
 
 -- all entries taken
 pub scattered_all : (t : Tiles) (all : List Entry) (k : ℕ) (blocks : List Sparse) → length all ≤ k → IsScattered t (take k all) blocks → IsScattered t all blocks

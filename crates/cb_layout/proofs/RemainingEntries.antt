@@ -1,5 +1,5 @@
 -- The entries that are left while the matrix that blocks glue to is walked.
-use Rattle.std.proofs.Common.{◌≡◌, ◌≢◌, ℕ, ◌+◌, ◌*◌, ◌/◌, ◌%◌, ◌<◌, ◌≤◌, ◌⊎◌, inl, inr, true, false, Bool, List, [], ◌++◌, length, get_or, set, filter, refl, sym, ap, ⊎_elim, ◌∙◌, arith}
+use Rattle.std.proofs.Common.{◌≡◌, ◌≢◌, ℕ, ◌+◌, ◌*◌, ◌/◌, ◌%◌, ◌<◌, ◌≤◌, ◌⊎◌, inl, inr, true, false, Bool, List, [], ◌++◌, length, get_or, set, filter, sym, ap, ⊎_elim, ◌∙◌, arith}
 use Rattle.std.specs.Prelude.{All, AllPairs, ◌==◌, ◌&&◌, ◌||◌, nat_lt, nat_le}
 use Rattle.std.proofs.lemmas.Bool.{cases_lt, cases_eq, cases_order, cases_Bool, eqb-true, and_parts}
 use Rattle.std.proofs.lemmas.Bool.Decides.{nat_tests}
@@ -7,7 +7,7 @@ use Rattle.cb_semirings.specs.Arithmetic.{Arithmetic, IsSemiring}
 use Rattle.cb_matrix.specs.declared.Entry.{Entry}
 use Rattle.cb_matrix.specs.Sparse.{Extent, Sparse, IsBefore, IsInside}
 use Rattle.cb_layout.specs.Parts.{part_start, part_length}
-use Rattle.cb_layout.specs.Blocks.{block_at, part_with, place_in_part}
+use Rattle.cb_layout.specs.Blocks.{part_with, place_in_part}
 use Rattle.cb_layout.specs.Distributed.{AreBlocks, glued_blocks}
 use Rattle.cb_layout.specs.Fronts.{columns_in, IsLeast, IsFront}
 use Rattle.cb_layout.specs.Segments.{is_left, entries_left}

@@ -19,7 +19,7 @@ use std::marker::Model;
 
 /// A matrix whose blocks are kept by the ranks of a grid: the distributed sparse matrix of The Combinatorial BLAS.
 /// In contracts it is the side of its grid and the whole matrix, which its blocks glue to.
-#[derive(Debug, Drop)]
+#[derive(Drop)]
 pub struct DistributedMatrix<S: Semiring> {
     grid: Grid,
     shape: Shape,

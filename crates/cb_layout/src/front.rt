@@ -1,5 +1,6 @@
 //! How far the blocks in one column of the grid are walked, column by column.
 ghost use Rattle.std.specs.Prelude.{◌≡◌, ℕ, List, ◌<◌, ◌≤◌, ◌+◌, ◌*◌, length, IfSome, IfNone, ◌⊎◌, slice_index, slice_index_or, slice_set};
+ghost use Rattle.cb_layout.specs.Blocks.{block_at};
 ghost use Rattle.cb_layout.specs.Fronts.{IsFront, IsLeast, AreNext};
 
 use crate::Grid;
@@ -11,7 +12,7 @@ use cb_semirings::Semiring;
 pub(crate) const NO_COLUMN: u32 = u32::MAX;
 
 /// A column of the grid, and how far each of its blocks is walked.
-#[derive(Clone, Copy, Debug)]
+#[derive(Clone, Copy)]
 pub(crate) struct Front {
     /// Which column of the grid.
     pub column: u32,
@@ -85,10 +86,25 @@ fn first_columns<S: Semiring>(grid: Grid, blocks: &[Block<S>], column: u32) -> [
 {
     let mut columns = [NO_COLUMN; 6];
     for i in 0..grid.side() {
-        let block = &blocks[usize::from(grid.rank(i, column))];
+        let block = block_in(grid, blocks, i, column);
         columns[i as usize] = nth_or_none(block.column_numbers(), 0);
     }
     columns
+}
+
+/// The block in a row and a column of the grid.
+pub(crate) fn block_in<'a, S: Semiring>(
+    grid: Grid,
+    blocks: &'a [Block<S>],
+    row: u32,
+    column: u32,
+) -> &'a Block<S>
+    requires row { row < grid.side }
+    requires column { column < grid.side }
+    requires count { length blocks.now ≡ grid.side * grid.side }
+    ensures { result.now ≡ block_at blocks.now (row * grid.side + column) }
+{
+    &blocks[usize::from(grid.rank(row, column))]
 }
 
 /// The nth of the columns that have entries, or that there is none.

@@ -18,8 +18,6 @@ mod distributed;
 mod front;
 mod gather;
 mod scatter;
-#[cfg(test)]
-mod tests;
 mod traversal;
 mod vectors;
 

@@ -5,7 +5,7 @@ ghost use Rattle.cb_layout.specs.Fronts.{IsFront};
 ghost use Rattle.cb_layout.specs.Segments.{shifted, entries_left};
 
 use crate::Grid;
-use crate::front::Front;
+use crate::front::{Front, block_in};
 use cb_dcsc::Block;
 use cb_matrix::{Entry, LIMIT, Shape};
 use cb_semirings::Semiring;
@@ -13,7 +13,7 @@ use std::alloc::AllocError;
 use std::marker::Model;
 
 /// The entries of one column that stand in one block.
-#[derive(Clone, Copy, Debug)]
+#[derive(Clone, Copy)]
 pub struct Segment<'a> {
     /// The column in the whole matrix.
     pub column: u32,
@@ -74,11 +74,12 @@ impl<'a, S: Semiring> Segments<'a, S> {
         ensures inside { IfSome result (λ g. (g.column < LIMIT) × All (λ i. g.top + i < LIMIT) g.rows.now) }
     {
         self.front = reached(self.grid, self.shape, self.blocks, self.front);
-        let (row, column) = self.front.first?;
+        let Some((row, column)) = self.front.first else {
+            return None;
+        };
+        let block = block_in(self.grid, self.blocks, row, self.front.column);
         let top = self.tops[row as usize];
         let column = self.front.left + column;
-        let blocks = self.blocks;
-        let block = &blocks[usize::from(self.grid.rank(row, self.front.column))];
         let n = self.front.done[row as usize];
         self.front = self.front.stepped(row, block.column_numbers());
         let (rows, values) = block.nth_column(n);

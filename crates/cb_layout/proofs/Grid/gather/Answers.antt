@@ -1,4 +1,5 @@
-use Rattle.std.proofs.Common.{◌≡◌, ℕ, ◌+◌, ◌*◌, ◌<◌, ◌≤◌, List, ◌++◌, length, ap, sym, subst, ◌∙◌, arith, append-nil, length-append}
+use Rattle.std.proofs.Common.{◌≡◌, ◌+◌, ◌<◌, List, ◌++◌, length, ap, sym, subst, ◌∙◌, arith, append-nil, append_assoc, length-append}
+use Rattle.std.proofs.lemmas.List.Elements.{All-weaker}
 use Rattle.cb_matrix.specs.declared.Entry.{Entry}
 use Rattle.cb_matrix.specs.Sparse.{Sparse, IsMatrix}
 use Rattle.cb_layout.specs.Blocks.{block_of}
@@ -7,6 +8,31 @@ use Rattle.cb_layout.specs.Segments.{shifted}
 use Rattle.cb_layout.proofs.PlacedEntries.{length-shifted}
 use Rattle.cb_layout.proofs.BlockColumns.{whole_is_matrix, blocks_are_cuts}
 use Rattle.cb_layout.proofs.Grid.gather.Goals as goal
+
+pub new-segments-requires : goal.new-segments-requires
+new-segments-requires g c =
+    let side = c.side-side.ensures.value in
+    let some = c.side-side.ensures.some in
+    let few = c.side-side.ensures.limit in
+    record { some = omega arith; few = omega arith; count = c.requires.count; shapes = c.requires.shapes; matrices = c.stored.ensures.matrices }
+
+pub append_segment-requires-clause-lengths : goal.append_segment-requires-clause-lengths
+append_segment-requires-clause-lengths g c = c.in-Some.ensures.lengths
+
+pub append_segment-requires-clause-fits : goal.append_segment-requires-clause-fits
+append_segment-requires-clause-fits g c =
+    let x = c.in-Some.segment in
+    All-weaker (λ i. x.top + i < 2147483647) (λ i. x.top + i < 4294967296) (λ i h. omega arith) x.rows.now c.in-Some.ensures.inside.1
+
+pub loop-segment-preserved : goal.loop-segment-preserved
+loop-segment-preserved g c =
+    let x = c.in-Some.segment in
+    let so_far = c.loop-segment.entries.items in
+    let front : List Entry = shifted x.top x.column x.rows.now x.values.now in
+    ap (λ es. es ++ c.next_segment.new.self) c.in_ok-append_segment-in-Some.ensures
+    ∙ append_assoc so_far front c.next_segment.new.self
+    ∙ ap (λ es. so_far ++ es) (sym c.in-Some.ensures.some)
+    ∙ c.loop-segment.invariant
 
 pub loop-segment-smaller : goal.loop-segment-smaller
 loop-segment-smaller g c =

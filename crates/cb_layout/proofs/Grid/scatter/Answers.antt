@@ -1,7 +1,8 @@
-use Rattle.std.proofs.Common.{◌+◌, ◌*◌}
+use Rattle.std.proofs.Common.{◌≡◌, ◌+◌, ◌*◌, get_or, ap, ◌∙◌}
 use Rattle.cb_matrix.specs.declared.Entry.{Entry}
 use Rattle.cb_layout.specs.Blocks.{block_at}
-use Rattle.cb_layout.proofs.EntriesByTile.{scattered_none, scattered_more, scattered_all, rank_there, inside_there, order_there}
+use Rattle.cb_layout.proofs.EntriesByTile.{scattered_none, scattered_all, next_is_owed, next_is_scattered}
+use Rattle.cb_layout.proofs.Tiles.{owner_of, moved}
 use Rattle.cb_layout.specs.Tiles.{block_tiles}
 use Rattle.cb_layout.proofs.Cuts.{block_tiling, block_is, glued_cut}
 use Rattle.cb_layout.proofs.Grid.scatter.Goals as goal
@@ -15,44 +16,73 @@ pub deliver-requires-clause-rank : goal.deliver-requires-clause-rank
 deliver-requires-clause-rank g c =
     let q = c.args.self.now.side in
     let m = c.args.matrix.now in
-    let is = c.shape-shape.ensures.matrix in
     let x : Entry = record { row = 0; column = 0; value = 0 } in
-    let rank = rw (c.shape-shape.ensures.shape, c.entries-entry-items.ensures) at c.in_block-rank.ensures.rank in
-    let within = rw c.entries-entry-items.ensures at c.loop-entry-test.true in
-    rw rank (rank_there m.shape (block_tiles q m.shape) (block_tiling q m.shape (rw c.side-side.ensures.value at c.side-side.ensures.some)) m.entries is.inside is.ascending c.loop-entry.entry-index x within c.loop-entry.blocks.items c.loop-entry.invariant)
+    let entries = c.entries-entry-items.result.now in
+    let shape = c.shape-shape.ensures.shape in
+    let entry = get_or entries c.loop-entry.entry-index x in
+    let here : c.in_block-rank.result.0 ≡ owner_of (block_tiles q m.shape) entry = c.in_block-rank.ensures.rank ∙ ap (λ e. owner_of (block_tiles q e) entry) shape in
+    let place : c.in_block-rank.result.1 ≡ moved (block_tiles q m.shape) entry = c.in_block-rank.ensures.entry ∙ ap (λ e. moved (block_tiles q e) entry) shape in
+    (next_is_owed g.S.Semiring.arithmetic m c.shape-shape.ensures.matrix (block_tiles q m.shape) (block_tiling q m.shape (rw c.side-side.ensures.value at c.side-side.ensures.some)) entries c.entries-entry-items.ensures c.loop-entry.entry-index c.loop-entry-test.true c.loop-entry.blocks.items c.loop-entry.invariant x _ _ here place).rank
 
 pub deliver-requires-clause-inside : goal.deliver-requires-clause-inside
 deliver-requires-clause-inside g c =
     let q = c.args.self.now.side in
     let m = c.args.matrix.now in
-    let is = c.shape-shape.ensures.matrix in
     let x : Entry = record { row = 0; column = 0; value = 0 } in
-    let rank = rw (c.shape-shape.ensures.shape, c.entries-entry-items.ensures) at c.in_block-rank.ensures.rank in
-    let local = rw (c.shape-shape.ensures.shape, c.entries-entry-items.ensures) at c.in_block-rank.ensures.entry in
-    let within = rw c.entries-entry-items.ensures at c.loop-entry-test.true in
-    rw (rank, local) (inside_there m.shape (block_tiles q m.shape) (block_tiling q m.shape (rw c.side-side.ensures.value at c.side-side.ensures.some)) m.entries is.inside is.ascending c.loop-entry.entry-index x within c.loop-entry.blocks.items c.loop-entry.invariant)
+    let entries = c.entries-entry-items.result.now in
+    let shape = c.shape-shape.ensures.shape in
+    let entry = get_or entries c.loop-entry.entry-index x in
+    let here : c.in_block-rank.result.0 ≡ owner_of (block_tiles q m.shape) entry = c.in_block-rank.ensures.rank ∙ ap (λ e. owner_of (block_tiles q e) entry) shape in
+    let place : c.in_block-rank.result.1 ≡ moved (block_tiles q m.shape) entry = c.in_block-rank.ensures.entry ∙ ap (λ e. moved (block_tiles q e) entry) shape in
+    (next_is_owed g.S.Semiring.arithmetic m c.shape-shape.ensures.matrix (block_tiles q m.shape) (block_tiling q m.shape (rw c.side-side.ensures.value at c.side-side.ensures.some)) entries c.entries-entry-items.ensures c.loop-entry.entry-index c.loop-entry-test.true c.loop-entry.blocks.items c.loop-entry.invariant x _ _ here place).inside
 
 pub deliver-requires-clause-order : goal.deliver-requires-clause-order
 deliver-requires-clause-order g c =
     let q = c.args.self.now.side in
     let m = c.args.matrix.now in
-    let is = c.shape-shape.ensures.matrix in
     let x : Entry = record { row = 0; column = 0; value = 0 } in
-    let rank = rw (c.shape-shape.ensures.shape, c.entries-entry-items.ensures) at c.in_block-rank.ensures.rank in
-    let local = rw (c.shape-shape.ensures.shape, c.entries-entry-items.ensures) at c.in_block-rank.ensures.entry in
-    let within = rw c.entries-entry-items.ensures at c.loop-entry-test.true in
-    rw (rank, local) (order_there m.shape (block_tiles q m.shape) (block_tiling q m.shape (rw c.side-side.ensures.value at c.side-side.ensures.some)) m.entries is.inside is.ascending c.loop-entry.entry-index x within c.loop-entry.blocks.items c.loop-entry.invariant)
+    let entries = c.entries-entry-items.result.now in
+    let shape = c.shape-shape.ensures.shape in
+    let entry = get_or entries c.loop-entry.entry-index x in
+    let here : c.in_block-rank.result.0 ≡ owner_of (block_tiles q m.shape) entry = c.in_block-rank.ensures.rank ∙ ap (λ e. owner_of (block_tiles q e) entry) shape in
+    let place : c.in_block-rank.result.1 ≡ moved (block_tiles q m.shape) entry = c.in_block-rank.ensures.entry ∙ ap (λ e. moved (block_tiles q e) entry) shape in
+    (next_is_owed g.S.Semiring.arithmetic m c.shape-shape.ensures.matrix (block_tiles q m.shape) (block_tiling q m.shape (rw c.side-side.ensures.value at c.side-side.ensures.some)) entries c.entries-entry-items.ensures c.loop-entry.entry-index c.loop-entry-test.true c.loop-entry.blocks.items c.loop-entry.invariant x _ _ here place).order
+
+pub deliver-requires-clause-value : goal.deliver-requires-clause-value
+deliver-requires-clause-value g c =
+    let q = c.args.self.now.side in
+    let m = c.args.matrix.now in
+    let x : Entry = record { row = 0; column = 0; value = 0 } in
+    let entries = c.entries-entry-items.result.now in
+    let shape = c.shape-shape.ensures.shape in
+    let entry = get_or entries c.loop-entry.entry-index x in
+    let here : c.in_block-rank.result.0 ≡ owner_of (block_tiles q m.shape) entry = c.in_block-rank.ensures.rank ∙ ap (λ e. owner_of (block_tiles q e) entry) shape in
+    let place : c.in_block-rank.result.1 ≡ moved (block_tiles q m.shape) entry = c.in_block-rank.ensures.entry ∙ ap (λ e. moved (block_tiles q e) entry) shape in
+    (next_is_owed g.S.Semiring.arithmetic m c.shape-shape.ensures.matrix (block_tiles q m.shape) (block_tiling q m.shape (rw c.side-side.ensures.value at c.side-side.ensures.some)) entries c.entries-entry-items.ensures c.loop-entry.entry-index c.loop-entry-test.true c.loop-entry.blocks.items c.loop-entry.invariant x _ _ here place).value
+
+pub deliver-requires-clause-not_zero : goal.deliver-requires-clause-not_zero
+deliver-requires-clause-not_zero g c =
+    let q = c.args.self.now.side in
+    let m = c.args.matrix.now in
+    let x : Entry = record { row = 0; column = 0; value = 0 } in
+    let entries = c.entries-entry-items.result.now in
+    let shape = c.shape-shape.ensures.shape in
+    let entry = get_or entries c.loop-entry.entry-index x in
+    let here : c.in_block-rank.result.0 ≡ owner_of (block_tiles q m.shape) entry = c.in_block-rank.ensures.rank ∙ ap (λ e. owner_of (block_tiles q e) entry) shape in
+    let place : c.in_block-rank.result.1 ≡ moved (block_tiles q m.shape) entry = c.in_block-rank.ensures.entry ∙ ap (λ e. moved (block_tiles q e) entry) shape in
+    (next_is_owed g.S.Semiring.arithmetic m c.shape-shape.ensures.matrix (block_tiles q m.shape) (block_tiling q m.shape (rw c.side-side.ensures.value at c.side-side.ensures.some)) entries c.entries-entry-items.ensures c.loop-entry.entry-index c.loop-entry-test.true c.loop-entry.blocks.items c.loop-entry.invariant x _ _ here place).not_zero
 
 pub loop-entry-preserved : goal.loop-entry-preserved
 loop-entry-preserved g c =
     let q = c.args.self.now.side in
     let m = c.args.matrix.now in
-    let is = c.shape-shape.ensures.matrix in
     let x : Entry = record { row = 0; column = 0; value = 0 } in
-    let rank = rw (c.shape-shape.ensures.shape, c.entries-entry-items.ensures) at c.in_block-rank.ensures.rank in
-    let local = rw (c.shape-shape.ensures.shape, c.entries-entry-items.ensures) at c.in_block-rank.ensures.entry in
-    let within = rw c.entries-entry-items.ensures at c.loop-entry-test.true in
-    scattered_more m.shape (block_tiles q m.shape) (block_tiling q m.shape (rw c.side-side.ensures.value at c.side-side.ensures.some)) m.entries is.inside is.ascending c.loop-entry.entry-index x within c.loop-entry.blocks.items c.loop-entry.invariant _ (rw (rank, local) at c.in_ok-deliver.ensures.ok)
+    let entries = c.entries-entry-items.result.now in
+    let shape = c.shape-shape.ensures.shape in
+    let entry = get_or entries c.loop-entry.entry-index x in
+    let here : c.in_block-rank.result.0 ≡ owner_of (block_tiles q m.shape) entry = c.in_block-rank.ensures.rank ∙ ap (λ e. owner_of (block_tiles q e) entry) shape in
+    let place : c.in_block-rank.result.1 ≡ moved (block_tiles q m.shape) entry = c.in_block-rank.ensures.entry ∙ ap (λ e. moved (block_tiles q e) entry) shape in
+    next_is_scattered g.S.Semiring.arithmetic m c.shape-shape.ensures.matrix (block_tiles q m.shape) (block_tiling q m.shape (rw c.side-side.ensures.value at c.side-side.ensures.some)) entries c.entries-entry-items.ensures c.loop-entry.entry-index c.loop-entry-test.true c.loop-entry.blocks.items c.loop-entry.invariant x _ _ here place _ c.in_ok-deliver.ensures.ok
 
 pub returns-clause-blocks : goal.returns-clause-blocks
 returns-clause-blocks g c i j l k =

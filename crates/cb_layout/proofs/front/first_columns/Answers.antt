@@ -1,12 +1,9 @@
-use Rattle.std.proofs.Common.{◌≡◌, ◌≢◌, ℕ, zero, suc, ◌+◌, ◌*◌, ◌<◌, ◌≤◌, length, get_or, set, refl, ap, sym, ⊎_elim, ◌∙◌, arith}
+use Rattle.std.proofs.Common.{◌≡◌, ◌≢◌, ◌<◌, get_or, set, ap, sym, ⊎_elim, ◌∙◌, arith}
 use Rattle.std.proofs.lemmas.Bool.{cases_eq}
-use Rattle.std.proofs.lemmas.List.{get_or_read, get_or-set_same, get_or-set_other, length-set}
+use Rattle.std.proofs.lemmas.List.{get_or-set_same, get_or-set_other, length-set}
 use Rattle.cb_matrix.specs.Sparse.{Sparse}
-use Rattle.cb_matrix.specs.Values.{empty_matrix}
 use Rattle.cb_dcsc.specs.Columns.{columns_with_entries}
-use Rattle.cb_layout.specs.Blocks.{block_at}
 use Rattle.cb_layout.specs.Fronts.{columns_in}
-use Rattle.cb_layout.proofs.Parts.{rank_below}
 use Rattle.cb_layout.proofs.front.first_columns.Goals as goal
 
 pub loop-i-preserved : goal.loop-i-preserved
@@ -19,11 +16,7 @@ loop-i-preserved g c =
     let side = c.side-i-end.ensures.value in
     let limit = c.side-i-end.ensures.limit in
     let row : i < q = let t = c.loop-i-test.true in omega arith in
-    let none : Sparse = empty_matrix (record { rows = 0; cols = 0 }) in
-    let rank : c.from.result ≡ i * q + j = c.from.ensures ∙ c.rank.ensures in
-    let below : c.from.result < length bs = let l = rank_below q i j row column in let k = c.requires.count in omega arith in
-    let read : c.index-blocks-from.result ≡ block_at bs (i * q + j) = get_or_read bs c.from.result c.index-blocks-from.result below c.index-blocks-from.is none ∙ ap (block_at bs) rank in
-    let own : c.column_numbers.result.now ≡ columns_in q bs j i = c.column_numbers.ensures.numbers ∙ ap (λ (b : Sparse). columns_with_entries b.entries) read in
+    let own : c.column_numbers.result.now ≡ columns_in q bs j i = c.column_numbers.ensures.numbers ∙ ap (λ (b : Sparse). columns_with_entries b.entries) c.block_in-block.ensures in
     let now : c.nth_or_none.result ≡ get_or (columns_in q bs j i) 0 4294967295 = c.nth_or_none.ensures ∙ ap (λ xs. get_or xs 0 4294967295) own in
     let xs = c.loop-i.columns in
     let six = c.loop-i.invariant.0 in (

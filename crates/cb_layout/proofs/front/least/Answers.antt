@@ -1,4 +1,4 @@
-use Rattle.std.proofs.Common.{rules, ◌≡◌, ℕ, get_or, refl, arith}
+use Rattle.std.proofs.Common.{rules, get_or, refl, arith}
 use Rattle.cb_layout.proofs.Fronts.{IsLeastIn, least_one, least_either}
 use Rattle.cb_layout.proofs.front.least.Goals as goal
 

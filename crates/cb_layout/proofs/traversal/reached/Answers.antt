@@ -1,4 +1,4 @@
-use Rattle.std.proofs.Common.{◌≡◌, ℕ, ◌+◌, ◌<◌, ◌≤◌, [], get_or, ap, ◌∙◌, arith}
+use Rattle.std.proofs.Common.{◌≡◌, ℕ, ◌<◌, [], get_or, ◌∙◌, arith}
 use Rattle.cb_layout.specs.Segments.{entries_left}
 use Rattle.cb_layout.proofs.Fronts.{if_none}
 use Rattle.cb_layout.proofs.RemainingEntries.{next_left, none_left}

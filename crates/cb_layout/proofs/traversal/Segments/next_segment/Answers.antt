@@ -1,20 +1,33 @@
-use Rattle.std.proofs.Common.{◌≡◌, ℕ, ◌+◌, ◌*◌, ◌<◌, ◌≤◌, List, ◌++◌, length, get_or, set, ap, sym, subst, ◌∙◌, arith}
+use Rattle.std.proofs.Common.{◌≡◌, ◌+◌, ◌*◌, ◌<◌, List, ◌++◌, length, get_or, set, ap, sym, subst, ◌∙◌, arith}
 use Rattle.std.specs.Prelude.{All}
-use Rattle.std.proofs.lemmas.List.{get_or_read, length-set, length-map}
+use Rattle.std.proofs.lemmas.List.{length-set, length-map}
 use Rattle.std.proofs.lemmas.List.Elements.{All-weaker}
 use Rattle.cb_matrix.specs.declared.Entry.{Entry}
 use Rattle.cb_matrix.specs.Sparse.{Sparse}
-use Rattle.cb_matrix.specs.Values.{empty_matrix}
 use Rattle.cb_dcsc.specs.Columns.{in_column, columns_with_entries, rows_of, values_of}
 use Rattle.cb_layout.specs.Parts.{part_start}
 use Rattle.cb_layout.specs.Blocks.{block_at}
 use Rattle.cb_layout.specs.Fronts.{IsLeast, columns_in}
 use Rattle.cb_layout.specs.Segments.{entries_left}
-use Rattle.cb_layout.proofs.Parts.{rank_below}
 use Rattle.cb_layout.proofs.Fronts.{least_row, least_known, least_is, are_next}
 use Rattle.cb_layout.proofs.BlockColumns.{column_inside, rows_inside, column_is, some_in}
 use Rattle.cb_layout.proofs.RemainingEntries.{stepped_left}
 use Rattle.cb_layout.proofs.traversal.Segments.next_segment.Goals as goal
+
+pub reached-self-inside-requires-clause-blocks : goal.reached-self-inside-requires-clause-blocks
+reached-self-inside-requires-clause-blocks g c = c.self.invariant.are_blocks
+
+pub reached-self-inside-requires-clause-front : goal.reached-self-inside-requires-clause-front
+reached-self-inside-requires-clause-front g c = c.self.invariant.front
+
+pub invariant_of-self : goal.invariant_of-self
+invariant_of-self g c = record {
+  are_blocks = c.self.invariant.are_blocks;
+  front = c.reached-self-inside.ensures.front;
+  limit = c.self.invariant.limit;
+  six = c.self.invariant.six;
+  begin = c.self.invariant.begin;
+}
 
 pub overflow_add-column : goal.overflow_add-column
 overflow_add-column g c =
@@ -26,9 +39,9 @@ overflow_add-column g c =
     let are = c.self.invariant.are_blocks in
     let f = c.reached-self-inside.result in
     let front = c.reached-self-inside.ensures.front in
-    let i = c.in_ok-row.row in
-    let x = c.in_ok-row.column in
-    let least : IsLeast f.columns i x = rw c.in_ok-row.was at front.some in
+    let i = c.in-Some.row in
+    let x = c.in-Some.column in
+    let least : IsLeast f.columns i x = rw c.in-Some.is at front.some in
     let row : i < q = least_row q shape bs f front i x least in
     let known : get_or f.done i 0 < length (columns_in q bs f.column i) = least_known q shape bs f front i x least in
     let number : x ≡ get_or (columns_in q bs f.column i) (get_or f.done i 0) 0 = least_is q shape bs f front i x least in
@@ -37,26 +50,61 @@ overflow_add-column g c =
     let limit = front.limit in
     omega arith
 
-pub bounds-blocks-from : goal.bounds-blocks-from
-bounds-blocks-from g c =
-    let s = g.S.Semiring.arithmetic in
-    let laws = g.met.S.Semiring.is_semiring in
+pub block_in-block-requires-clause-row : goal.block_in-block-requires-clause-row
+block_in-block-requires-clause-row g c =
     let q = c.self.inside.grid.side in
     let shape = c.self.inside.shape in
     let bs = c.self.inside.blocks.now in
-    let are = c.self.invariant.are_blocks in
     let f = c.reached-self-inside.result in
     let front = c.reached-self-inside.ensures.front in
-    let i = c.in_ok-row.row in
-    let x = c.in_ok-row.column in
-    let least : IsLeast f.columns i x = rw c.in_ok-row.was at front.some in
-    let row : i < q = least_row q shape bs f front i x least in
-    let known : get_or f.done i 0 < length (columns_in q bs f.column i) = least_known q shape bs f front i x least in
-    let number : x ≡ get_or (columns_in q bs f.column i) (get_or f.done i 0) 0 = least_is q shape bs f front i x least in
-    let rank : c.from.result ≡ i * q + f.column = c.from.ensures ∙ c.rank.ensures in
-    let l = rank_below q i f.column row front.column in
-    let k = are.count in
+    let least : IsLeast f.columns c.in-Some.row c.in-Some.column = rw c.in-Some.is at front.some in
+    least_row q shape bs f front c.in-Some.row c.in-Some.column least
+
+pub block_in-block-requires-clause-column : goal.block_in-block-requires-clause-column
+block_in-block-requires-clause-column g c = c.reached-self-inside.ensures.front.column
+
+pub block_in-block-requires-clause-count : goal.block_in-block-requires-clause-count
+block_in-block-requires-clause-count g c = c.self.invariant.are_blocks.count
+
+pub bounds-self-inside-row : goal.bounds-self-inside-row
+bounds-self-inside-row g c =
+    let q = c.self.inside.grid.side in
+    let shape = c.self.inside.shape in
+    let bs = c.self.inside.blocks.now in
+    let f = c.reached-self-inside.result in
+    let front = c.reached-self-inside.ensures.front in
+    let least : IsLeast f.columns c.in-Some.row c.in-Some.column = rw c.in-Some.is at front.some in
+    let row = least.row in
+    let six = c.self.invariant.six in
     omega arith
+
+pub bounds-self-inside-row-2 : goal.bounds-self-inside-row-2
+bounds-self-inside-row-2 g c =
+    let q = c.self.inside.grid.side in
+    let shape = c.self.inside.shape in
+    let bs = c.self.inside.blocks.now in
+    let f = c.reached-self-inside.result in
+    let front = c.reached-self-inside.ensures.front in
+    let least : IsLeast f.columns c.in-Some.row c.in-Some.column = rw c.in-Some.is at front.some in
+    let row = least.row in
+    let six = front.six_done in
+    omega arith
+
+pub stepped-self-inside-requires-clause-row : goal.stepped-self-inside-requires-clause-row
+stepped-self-inside-requires-clause-row g c =
+    let q = c.self.inside.grid.side in
+    let shape = c.self.inside.shape in
+    let bs = c.self.inside.blocks.now in
+    let f = c.reached-self-inside.result in
+    let front = c.reached-self-inside.ensures.front in
+    let least : IsLeast f.columns c.in-Some.row c.in-Some.column = rw c.in-Some.is at front.some in
+    least.row
+
+pub stepped-self-inside-requires-clause-six_done : goal.stepped-self-inside-requires-clause-six_done
+stepped-self-inside-requires-clause-six_done g c = c.reached-self-inside.ensures.front.six_done
+
+pub stepped-self-inside-requires-clause-six_columns : goal.stepped-self-inside-requires-clause-six_columns
+stepped-self-inside-requires-clause-six_columns g c = c.reached-self-inside.ensures.front.six_columns
 
 pub stepped-self-inside-requires-clause-some : goal.stepped-self-inside-requires-clause-some
 stepped-self-inside-requires-clause-some g c =
@@ -68,16 +116,13 @@ stepped-self-inside-requires-clause-some g c =
     let are = c.self.invariant.are_blocks in
     let f = c.reached-self-inside.result in
     let front = c.reached-self-inside.ensures.front in
-    let i = c.in_ok-row.row in
-    let x = c.in_ok-row.column in
-    let least : IsLeast f.columns i x = rw c.in_ok-row.was at front.some in
+    let i = c.in-Some.row in
+    let x = c.in-Some.column in
+    let least : IsLeast f.columns i x = rw c.in-Some.is at front.some in
     let row : i < q = least_row q shape bs f front i x least in
     let known : get_or f.done i 0 < length (columns_in q bs f.column i) = least_known q shape bs f front i x least in
     let number : x ≡ get_or (columns_in q bs f.column i) (get_or f.done i 0) 0 = least_is q shape bs f front i x least in
-    let none : Sparse = empty_matrix (record { rows = 0; cols = 0 }) in
-    let rank : c.from.result ≡ i * q + f.column = c.from.ensures ∙ c.rank.ensures in
-    let below : c.from.result < length bs = let l = rank_below q i f.column row front.column in let k = are.count in omega arith in
-    let read : c.index-blocks-from.result ≡ block_at bs (i * q + f.column) = get_or_read bs c.from.result c.index-blocks-from.result below c.index-blocks-from.is none ∙ ap (block_at bs) rank in
+    let read : c.block_in-block.result.now ≡ block_at bs (i * q + f.column) = c.block_in-block.ensures in
     let own : c.column_numbers.result.now ≡ columns_in q bs f.column i = c.column_numbers.ensures.numbers ∙ ap (λ (b : Sparse). columns_with_entries b.entries) read in
     subst (λ xs. get_or f.done i 0 < length xs) (sym own) known
 
@@ -91,16 +136,13 @@ nth_column-requires g c =
     let are = c.self.invariant.are_blocks in
     let f = c.reached-self-inside.result in
     let front = c.reached-self-inside.ensures.front in
-    let i = c.in_ok-row.row in
-    let x = c.in_ok-row.column in
-    let least : IsLeast f.columns i x = rw c.in_ok-row.was at front.some in
+    let i = c.in-Some.row in
+    let x = c.in-Some.column in
+    let least : IsLeast f.columns i x = rw c.in-Some.is at front.some in
     let row : i < q = least_row q shape bs f front i x least in
     let known : get_or f.done i 0 < length (columns_in q bs f.column i) = least_known q shape bs f front i x least in
     let number : x ≡ get_or (columns_in q bs f.column i) (get_or f.done i 0) 0 = least_is q shape bs f front i x least in
-    let none : Sparse = empty_matrix (record { rows = 0; cols = 0 }) in
-    let rank : c.from.result ≡ i * q + f.column = c.from.ensures ∙ c.rank.ensures in
-    let below : c.from.result < length bs = let l = rank_below q i f.column row front.column in let k = are.count in omega arith in
-    let read : c.index-blocks-from.result ≡ block_at bs (i * q + f.column) = get_or_read bs c.from.result c.index-blocks-from.result below c.index-blocks-from.is none ∙ ap (block_at bs) rank in
+    let read : c.block_in-block.result.now ≡ block_at bs (i * q + f.column) = c.block_in-block.ensures in
     subst (λ (b : Sparse). get_or f.done i 0 < length (columns_with_entries b.entries)) (sym read) known
 
 pub invariant_of-self-2 : goal.invariant_of-self-2
@@ -113,16 +155,13 @@ invariant_of-self-2 g c =
     let are = c.self.invariant.are_blocks in
     let f = c.reached-self-inside.result in
     let front = c.reached-self-inside.ensures.front in
-    let i = c.in_ok-row.row in
-    let x = c.in_ok-row.column in
-    let least : IsLeast f.columns i x = rw c.in_ok-row.was at front.some in
+    let i = c.in-Some.row in
+    let x = c.in-Some.column in
+    let least : IsLeast f.columns i x = rw c.in-Some.is at front.some in
     let row : i < q = least_row q shape bs f front i x least in
     let known : get_or f.done i 0 < length (columns_in q bs f.column i) = least_known q shape bs f front i x least in
     let number : x ≡ get_or (columns_in q bs f.column i) (get_or f.done i 0) 0 = least_is q shape bs f front i x least in
-    let none : Sparse = empty_matrix (record { rows = 0; cols = 0 }) in
-    let rank : c.from.result ≡ i * q + f.column = c.from.ensures ∙ c.rank.ensures in
-    let below : c.from.result < length bs = let l = rank_below q i f.column row front.column in let k = are.count in omega arith in
-    let read : c.index-blocks-from.result ≡ block_at bs (i * q + f.column) = get_or_read bs c.from.result c.index-blocks-from.result below c.index-blocks-from.is none ∙ ap (block_at bs) rank in
+    let read : c.block_in-block.result.now ≡ block_at bs (i * q + f.column) = c.block_in-block.ensures in
     let own : c.column_numbers.result.now ≡ columns_in q bs f.column i = c.column_numbers.ensures.numbers ∙ ap (λ (b : Sparse). columns_with_entries b.entries) read in
     let n = get_or f.done i 0 in
     let g' = c.stepped-self-inside.result in
@@ -155,16 +194,13 @@ returns-clause-some g c =
     let are = c.self.invariant.are_blocks in
     let f = c.reached-self-inside.result in
     let front = c.reached-self-inside.ensures.front in
-    let i = c.in_ok-row.row in
-    let x = c.in_ok-row.column in
-    let least : IsLeast f.columns i x = rw c.in_ok-row.was at front.some in
+    let i = c.in-Some.row in
+    let x = c.in-Some.column in
+    let least : IsLeast f.columns i x = rw c.in-Some.is at front.some in
     let row : i < q = least_row q shape bs f front i x least in
     let known : get_or f.done i 0 < length (columns_in q bs f.column i) = least_known q shape bs f front i x least in
     let number : x ≡ get_or (columns_in q bs f.column i) (get_or f.done i 0) 0 = least_is q shape bs f front i x least in
-    let none : Sparse = empty_matrix (record { rows = 0; cols = 0 }) in
-    let rank : c.from.result ≡ i * q + f.column = c.from.ensures ∙ c.rank.ensures in
-    let below : c.from.result < length bs = let l = rank_below q i f.column row front.column in let k = are.count in omega arith in
-    let read : c.index-blocks-from.result ≡ block_at bs (i * q + f.column) = get_or_read bs c.from.result c.index-blocks-from.result below c.index-blocks-from.is none ∙ ap (block_at bs) rank in
+    let read : c.block_in-block.result.now ≡ block_at bs (i * q + f.column) = c.block_in-block.ensures in
     let own : c.column_numbers.result.now ≡ columns_in q bs f.column i = c.column_numbers.ensures.numbers ∙ ap (λ (b : Sparse). columns_with_entries b.entries) read in
     let n = get_or f.done i 0 in
     let g' = c.stepped-self-inside.result in
@@ -181,6 +217,18 @@ returns-clause-some g c =
     (sym (column_is s laws q shape bs are i f.column row front.column (get_or (columns_in q bs f.column i) n 0) (get_or c.self.inside.tops i 0) (f.left + x) c.nth_column.result.0.now c.nth_column.result.1.now
     (c.self.invariant.begin i row) (λ t. front.left t + number t) rows values))
 
+pub returns-clause-lengths : goal.returns-clause-lengths
+returns-clause-lengths g c =
+    let q = c.self.inside.grid.side in
+    let bs = c.self.inside.blocks.now in
+    let f = c.reached-self-inside.result in
+    let i = c.in-Some.row in
+    let read : c.block_in-block.result.now ≡ block_at bs (i * q + f.column) = c.block_in-block.ensures in
+    let es : List Entry = in_column (get_or (columns_in q bs f.column i) (get_or f.done i 0) 0) (block_at bs (i * q + f.column)).entries in
+    let rows : c.nth_column.result.0.now ≡ rows_of es = c.nth_column.ensures.rows ∙ ap (λ (b : Sparse). rows_of (in_column (get_or (columns_with_entries b.entries) (get_or f.done i 0) 0) b.entries)) read in
+    let values : c.nth_column.result.1.now ≡ values_of es = c.nth_column.ensures.values ∙ ap (λ (b : Sparse). values_of (in_column (get_or (columns_with_entries b.entries) (get_or f.done i 0) 0) b.entries)) read in
+    ap length values ∙ length-map es (λ (e : Entry). e.value) ∙ sym (length-map es (λ (e : Entry). e.row)) ∙ sym (ap length rows)
+
 pub returns-clause-entries : goal.returns-clause-entries
 returns-clause-entries g c =
     let s = g.S.Semiring.arithmetic in
@@ -191,16 +239,13 @@ returns-clause-entries g c =
     let are = c.self.invariant.are_blocks in
     let f = c.reached-self-inside.result in
     let front = c.reached-self-inside.ensures.front in
-    let i = c.in_ok-row.row in
-    let x = c.in_ok-row.column in
-    let least : IsLeast f.columns i x = rw c.in_ok-row.was at front.some in
+    let i = c.in-Some.row in
+    let x = c.in-Some.column in
+    let least : IsLeast f.columns i x = rw c.in-Some.is at front.some in
     let row : i < q = least_row q shape bs f front i x least in
     let known : get_or f.done i 0 < length (columns_in q bs f.column i) = least_known q shape bs f front i x least in
     let number : x ≡ get_or (columns_in q bs f.column i) (get_or f.done i 0) 0 = least_is q shape bs f front i x least in
-    let none : Sparse = empty_matrix (record { rows = 0; cols = 0 }) in
-    let rank : c.from.result ≡ i * q + f.column = c.from.ensures ∙ c.rank.ensures in
-    let below : c.from.result < length bs = let l = rank_below q i f.column row front.column in let k = are.count in omega arith in
-    let read : c.index-blocks-from.result ≡ block_at bs (i * q + f.column) = get_or_read bs c.from.result c.index-blocks-from.result below c.index-blocks-from.is none ∙ ap (block_at bs) rank in
+    let read : c.block_in-block.result.now ≡ block_at bs (i * q + f.column) = c.block_in-block.ensures in
     let rows : c.nth_column.result.0.now ≡ rows_of (in_column (get_or (columns_in q bs f.column i) (get_or f.done i 0) 0) (block_at bs (i * q + f.column)).entries) =
     c.nth_column.ensures.rows ∙ ap (λ (b : Sparse). rows_of (in_column (get_or (columns_with_entries b.entries) (get_or f.done i 0) 0) b.entries)) read in
     let some = some_in (block_at bs (i * q + f.column)).entries (get_or f.done i 0) known in
@@ -217,16 +262,13 @@ returns-clause-inside g c =
     let are = c.self.invariant.are_blocks in
     let f = c.reached-self-inside.result in
     let front = c.reached-self-inside.ensures.front in
-    let i = c.in_ok-row.row in
-    let x = c.in_ok-row.column in
-    let least : IsLeast f.columns i x = rw c.in_ok-row.was at front.some in
+    let i = c.in-Some.row in
+    let x = c.in-Some.column in
+    let least : IsLeast f.columns i x = rw c.in-Some.is at front.some in
     let row : i < q = least_row q shape bs f front i x least in
     let known : get_or f.done i 0 < length (columns_in q bs f.column i) = least_known q shape bs f front i x least in
     let number : x ≡ get_or (columns_in q bs f.column i) (get_or f.done i 0) 0 = least_is q shape bs f front i x least in
-    let none : Sparse = empty_matrix (record { rows = 0; cols = 0 }) in
-    let rank : c.from.result ≡ i * q + f.column = c.from.ensures ∙ c.rank.ensures in
-    let below : c.from.result < length bs = let l = rank_below q i f.column row front.column in let k = are.count in omega arith in
-    let read : c.index-blocks-from.result ≡ block_at bs (i * q + f.column) = get_or_read bs c.from.result c.index-blocks-from.result below c.index-blocks-from.is none ∙ ap (block_at bs) rank in
+    let read : c.block_in-block.result.now ≡ block_at bs (i * q + f.column) = c.block_in-block.ensures in
     let rows : c.nth_column.result.0.now ≡ rows_of (in_column (get_or (columns_in q bs f.column i) (get_or f.done i 0) 0) (block_at bs (i * q + f.column)).entries) =
     c.nth_column.ensures.rows ∙ ap (λ (b : Sparse). rows_of (in_column (get_or (columns_with_entries b.entries) (get_or f.done i 0) 0) b.entries)) read in
     let inside = column_inside s laws q shape bs are i f.column row front.column (get_or f.done i 0) known in

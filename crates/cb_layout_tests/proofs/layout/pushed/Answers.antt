@@ -4,7 +4,7 @@ use Rattle.std.proofs.lemmas.List.{get_or-take, get_or_default}
 use Rattle.cb_matrix.specs.declared.Entry.{Entry}
 use Rattle.cb_matrix.specs.Sparse.{IsBefore}
 use Rattle.cb_layout.specs.Distributed.{Distributed}
-use Rattle.cb_layout.proofs.tests.pushed.Goals as goal
+use Rattle.cb_layout_tests.proofs.layout.pushed.Goals as goal
 
 pub push-requires-clause-order : goal.push-requires-clause-order
 push-requires-clause-order c =

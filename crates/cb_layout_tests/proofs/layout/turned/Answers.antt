@@ -7,7 +7,7 @@ use Rattle.cb_matrix.specs.Sparse.{Sparse, Extent}
 use Rattle.cb_layout.specs.Parts.{part_length}
 use Rattle.cb_layout.specs.Blocks.{block_at}
 use Rattle.cb_layout.specs.Vectors.{piece_start, piece_shape}
-use Rattle.cb_layout.proofs.tests.turned.Goals as goal
+use Rattle.cb_layout_tests.proofs.layout.turned.Goals as goal
 
 only_multiple : (q b d : ℕ) → 0 < q → d * q ≤ b * q → b * q < d * q + q → b ≡ d
 only_multiple q b d pos low high =

@@ -1,5 +1,5 @@
 use Rattle.std.proofs.Common.{◌≡◌, take}
-use Rattle.cb_layout.proofs.tests.pushed.Given as goal
+use Rattle.cb_layout_tests.proofs.layout.pushed.Given as goal
 
 -- the matrix of the entries so far
 abbrev pub invariant-loop-entry : goal.invariant-loop-entry
