@@ -31,6 +31,3 @@ pub use operands::Operands;
 pub use plans::{MOST_ACTS, Plan, PlanFault, PlanFaultKind, Planned};
 pub use runs::run_plain;
 pub use stores::{RankStore, SLOTS, Slot};
-
-#[cfg(test)]
-mod tests;

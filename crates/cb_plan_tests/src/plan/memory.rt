@@ -1,6 +1,6 @@
 //! Memory that was taken before, and memory that is refused.
-use super::{checked, fault, plan_of, row_at_0, small, two_stores};
-use crate::{CheckedPlan, Plan, PlanFaultKind, Slot, run_plain};
+use crate::plan::{checked, fault, plan_of, row_at_0, small, two_stores};
+use cb_plan::{CheckedPlan, Plan, PlanFaultKind, Slot, run_plain};
 use cb_samples::entry;
 use std::test::Fail;
 

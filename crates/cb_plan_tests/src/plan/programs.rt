@@ -1,6 +1,6 @@
 //! The programs of two ranks.
-use super::{TAG, checked};
-use crate::Half;
+use crate::plan::{TAG, checked};
+use cb_plan::Half;
 use cb_samples::shape;
 use std::test::Fail;
 

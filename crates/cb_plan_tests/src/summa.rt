@@ -1,8 +1,8 @@
-//! Worked plans.
-use crate::{summa, summa_masked};
+//! The plans of products over grids.
 use cb_layout::Grid;
 use cb_plan::{Act, Op, PlanFault, PlanFaultKind, Planned};
 use cb_samples::shape;
+use cb_summa::{summa, summa_masked};
 use std::alloc::Global;
 use std::test::Fail;
 
@@ -24,20 +24,13 @@ fn letters(planned: &Planned) -> usize {
 }
 
 #[test]
-fn acts_on_grids(rt: HostRuntime) -> Result<(), Fail> {
-    for (side, count) in [(2, 40), (4, 448), (5, 1000), (6, 1944)] {
+fn acts_and_letters_on_grids(rt: HostRuntime) -> Result<(), Fail> {
+    let counts = [(2, 40, 20), (4, 448, 336), (5, 1000, 800), (6, 1944, 1620)];
+    for (side, acts, posted) in counts {
         let planned = two_by_two(rt.alloc(), side)?;
-        assert_eq!(rt; planned.plan.len(), count);
+        assert_eq!(rt; planned.plan.len(), acts);
+        assert_eq!(rt; letters(&planned), posted);
         assert!(rt; planned.result == 2);
-    }
-    Ok(())
-}
-
-#[test]
-fn letters_on_grids(rt: HostRuntime) -> Result<(), Fail> {
-    for (side, count) in [(2, 20), (4, 336), (5, 800), (6, 1620)] {
-        let planned = two_by_two(rt.alloc(), side)?;
-        assert_eq!(rt; letters(&planned), count);
     }
     Ok(())
 }

@@ -1,8 +1,8 @@
-//! Worked examples, with ample memory and with each allocation refused in turn.
+//! Plans of two ranks, with ample memory and with each allocation refused in turn.
 ghost use Rattle.std.specs.Prelude.{◌≡◌, IfOk, IfSome, length};
 
-use crate::{Act, CheckedPlan, Plan, PlanFault, PlanFaultKind, RankStore, Start};
 use cb_letters::Tag;
+use cb_plan::{Act, CheckedPlan, Plan, PlanFault, PlanFaultKind, RankStore, Start};
 use cb_samples::{SampleFault, block, entry, shape};
 use cb_semirings::PlusTimes;
 use std::alloc::Global;

@@ -1,6 +1,6 @@
 //! Stores, and whether they have what the starts of a plan say.
-use super::checked;
-use crate::RankStore;
+use crate::plan::checked;
+use cb_plan::RankStore;
 use cb_samples::block;
 use cb_semirings::PlusTimes;
 use std::test::Fail;
