@@ -8,8 +8,9 @@ use cb_kernels::{
     LEFT, RESULT, RIGHT, grid_add, grid_prune, grid_times, grid_transpose, grid_vector,
 };
 use cb_layout::Grid;
+use cb_local::run_plain;
 use cb_matrix::{Entry, Matrix, Shape};
-use cb_plan::{PlanFault, PlanFaultKind, Planned, RankStore, SLOTS, Slot, run_plain};
+use cb_plan::{PlanFault, PlanFaultKind, Planned, RankStore, SLOTS, Slot};
 use cb_samples::{are_values, entry, shape};
 use cb_semirings::PlusTimes;
 use std::alloc::Global;

@@ -1,6 +1,7 @@
 //! Memory that was taken before, and memory that is refused.
 use crate::plan::{checked, fault, plan_of, row_at_0, small, two_stores};
-use cb_plan::{CheckedPlan, Plan, PlanFaultKind, Slot, run_plain};
+use cb_local::run_plain;
+use cb_plan::{CheckedPlan, Plan, PlanFaultKind, Slot};
 use cb_samples::entry;
 use std::test::Fail;
 

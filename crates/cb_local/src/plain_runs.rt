@@ -6,9 +6,8 @@ ghost use Rattle.cb_plan.specs.Checks.{Lanes, IsSound};
 ghost use Rattle.cb_plan.specs.Stores.{state_of, shapes_of, NoneLost, Fits};
 ghost use Rattle.cb_plan.specs.Tables.{IsTable};
 
-use crate::acts::Act;
-use crate::checks::CheckedPlan;
-use crate::stores::{RankStore, SLOTS};
+use crate::kernels::work;
+use cb_plan::{Act, CheckedPlan, RankStore, SLOTS};
 use cb_semirings::Semiring;
 use std::alloc::{AllocError, Global};
 
@@ -58,7 +57,7 @@ fn run_act<S: Semiring>(
             stores[*to as usize].set(*into, block);
         }
         Act::Work { rank, op } => {
-            stores[*rank as usize].work(alloc, op)?;
+            work(alloc, &mut stores[*rank as usize], op)?;
         }
         Act::Shut { .. } => {}
     }

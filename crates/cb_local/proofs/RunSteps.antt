@@ -1,36 +1,21 @@
 -- The steps of a plan that runs.
-use Rattle.std.proofs.Common.{◌≡◌, ℕ, ◌+◌, ◌<◌, List, length, get_or, drop, refl, sym, ap, ◌∙◌, arith}
-use Rattle.std.specs.Prelude.{Option, Some, None}
+use Rattle.std.proofs.Common.{◌≡◌, ℕ, ◌+◌, ◌<◌, List, length, get_or, drop, refl, sym, ap, ◌∙◌}
+use Rattle.std.specs.Prelude.{None}
 use Rattle.cb_semirings.specs.Arithmetic.{Arithmetic}
-use Rattle.cb_matrix.specs.Sparse.{Sparse, Extent}
+use Rattle.cb_matrix.specs.Sparse.{Sparse}
 use Rattle.cb_plan.specs.declared.acts.Act.{Act}
-use Rattle.cb_plan.specs.declared.plans.PlanFault.{PlanFault}
-use Rattle.cb_plan.specs.declared.plans.PlanFaultKind.{PlanFaultKind}
 use Rattle.cb_plan.specs.declared.stores.Slot.{Slot}
-use Rattle.cb_plan.specs.Meaning.{State, images, act, meaning}
+use Rattle.cb_plan.specs.Meaning.{images, act, meaning}
 use Rattle.cb_plan.specs.Algebras.{matrices, shapes}
-use Rattle.cb_plan.specs.Checks.{Lanes, IsSound, act_fault, fault_or, fault_from, shut_after, none_shut}
+use Rattle.cb_plan.specs.Checks.{Lanes, IsSound, fault_from, shut_after, none_shut}
 use Rattle.cb_plan.specs.Stores.{state_of, shapes_of, NoneLost, Fits}
 use Rattle.cb_plan.specs.Plans.{CheckedView, IsChecked}
 use Rattle.cb_plan.specs.Tables.{IsTable}
-use Rattle.cb_plan.specs.Running.{Runs}
-use Rattle.cb_plan.proofs.SoundActs.{no_fault}
-use Rattle.cb_plan.proofs.Faults.{next_element, fault_here}
+use Rattle.cb_plan.proofs.Faults.{next_element}
 use Rattle.cb_plan.proofs.Effects.{same_state}
+use Rattle.cb_plan.proofs.PassingActs.{no_fault_next}
 use Rattle.cb_plan.proofs.ShapesOfMeaning.{act_turns, shape_turns}
-
--- no fault here, and none later
-pub both_none : (n : ℕ) (k : Option PlanFaultKind) (later : Option PlanFault) → fault_or n k later ≡ None → (k ≡ None) × (later ≡ None)
-both_none n None later h = (refl, h)
-both_none n (Some k) later h = absurd (grind arith)
-
--- the next act has no fault, nor have those after it
-pub no_fault_next : (ranks i : ℕ) (state : State Extent) (shut : Lanes) (acts : List Act) (a : Act) → i < length acts → a ≡ get_or acts i a → fault_from ranks i state shut (drop i acts) ≡ None →
-    IsSound ranks state shut a × (fault_from ranks (i + 1) (act shapes a state) (shut_after a shut) (drop (i + 1) acts) ≡ None)
-no_fault_next ranks i state shut acts a l e h =
-    let parts = both_none i (act_fault ranks state shut a) (fault_from ranks (i + 1) (act shapes a state) (shut_after a shut) (drop (i + 1) acts))
-    (sym (ap (fault_from ranks i state shut) (next_element acts i a l e) ∙ fault_here ranks i state shut a (drop (i + 1) acts)) ∙ h) in
-    (no_fault ranks state shut a parts.0, parts.1)
+use Rattle.cb_local.specs.Running.{Runs}
 
 -- a checked plan on stores that fit runs, before its first act
 pub first_runs : (s : Arithmetic) (p : CheckedView) (first : List (List (Slot Sparse))) → IsChecked p → Fits p.ranks p.starts first → Runs s p.ranks p.acts 0 first first

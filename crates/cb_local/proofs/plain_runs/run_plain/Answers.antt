@@ -1,6 +1,6 @@
 use Rattle.std.proofs.Common.{length, ◌<◌, arith}
-use Rattle.cb_plan.proofs.RunSteps.{next_is_sound, next_runs}
-use Rattle.cb_plan.proofs.runs.run_plain.Goals as goal
+use Rattle.cb_local.proofs.RunSteps.{next_is_sound, next_runs}
+use Rattle.cb_local.proofs.plain_runs.run_plain.Goals as goal
 
 pub run_act-requires-clause-sound : goal.run_act-requires-clause-sound
 run_act-requires-clause-sound g c =
