@@ -3,8 +3,9 @@ ghost use Rattle.std.specs.Prelude.{◌≡◌};
 
 use crate::kernels::{Counts, now};
 use cb_layout::Grid;
+use cb_local::run_plain;
 use cb_matrix::Matrix;
-use cb_plan::{CheckedPlan, RankStore, Slot, run_plain};
+use cb_plan::{CheckedPlan, RankStore, Slot};
 use cb_semirings::PlusTimes;
 use cb_summa::{LEFT, RESULT, RIGHT, summa};
 use cb_world::World;

@@ -19,6 +19,3 @@ pub use exchanges::all_to_all;
 pub use gathers::gather;
 pub use reductions::reduce;
 pub use steps::send;
-
-#[cfg(test)]
-mod tests;

@@ -11,8 +11,6 @@
 
 mod endings;
 mod operands;
-#[cfg(test)]
-mod tests;
 mod works;
 
 pub use endings::finish;

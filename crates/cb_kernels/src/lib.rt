@@ -11,8 +11,6 @@
 #![tactic(auto)]
 
 mod placewise;
-#[cfg(test)]
-mod tests;
 mod transposes;
 mod vectors;
 

@@ -10,7 +10,7 @@ use Rattle.cb_plan.specs.declared.plans.PlanFaultKind.{PlanFaultKind}
 use Rattle.cb_plan.specs.declared.plans.PlanFaultKind.TheVariants as kind_is
 use Rattle.cb_plan.specs.Meaning.{State, act}
 use Rattle.cb_plan.specs.Algebras.{shapes}
-use Rattle.cb_plan.specs.Checks.{Lanes, CheckState, SetSlot, DidAct, slots_in, lanes_in, started_from, act_fault, fault_or, fault_from, shut_after, are_all_shut, fault_in}
+use Rattle.cb_plan.specs.Checks.{Lanes, CheckState, SetSlot, DidAct, slots_in, lanes_in, started_from, started, act_fault, fault_or, fault_from, shut_after, are_all_shut, fault_in, plan_fault, IsStarted}
 
 -- the elements from one on begin with it
 pub next_element : {X : Type 0} (xs : List X) (i : ℕ) (x : X) → i < length xs → x ≡ get_or xs i x → drop i xs ≡ x ∷ drop (i + 1) xs
@@ -77,3 +77,10 @@ pub at_end : (acts : List Act) (i n ranks : ℕ) (o : CheckState) (x : Option Pl
 at_end acts i n ranks o x r m l h =
     ap (λ n. if are_all_shut o.ranks (lanes_in o.shut) then None else Some (record { act = n; kind = kind_is.NotShut })) m
     ∙ fault_at_end acts i o x l (ap (λ ranks. fault_from ranks i (slots_in o.slots) (lanes_in o.shut) (drop i acts)) r ∙ h)
+
+-- before the first act, the first fault of the acts is that of the plan
+pub from_start : (ranks : ℕ) (starts : List Start) (acts : List Act) (o : CheckState) (x : Option PlanFault) → IsStarted ranks starts o → x ≡ fault_from o.ranks 0 (slots_in o.slots) (lanes_in o.shut) acts → x ≡ plan_fault ranks starts acts
+from_start ranks starts acts o x is h =
+    h ∙ ap (λ r. fault_from r 0 (slots_in o.slots) (lanes_in o.shut) acts) is.ranks_are
+    ∙ ap (λ slots. fault_from ranks 0 slots (lanes_in o.shut) acts) is.slots
+    ∙ ap (λ shut. fault_from ranks 0 (started starts) shut acts) is.shut

@@ -6,9 +6,10 @@
 -- ShapesOfMeaning: `shapes_of_meaning`, the shapes of what acts mean are what they mean for the shapes; `act_turns`
 --   and `meaning_turns`, the same of each map that turns one kind of block into another (`shape_turns`).
 -- SoundActs: an act is sound just where no fault is found in it, `no_fault` and `is_no_fault`.
--- PassingActs: acts that pass: `passes-append` and `lanes_after-append`, of two lists; `move_is_sound` and
---   `shut_is_sound`, of one act; `passes_check`, acts that pass and shut each lane have no fault, and the
---   other way round `checked_passes` and `checked_shuts`.
+-- PassingActs: acts that pass: `no_fault_next`, the next act where there is no fault; `passes-append` and
+--   `lanes_after-append`, of two lists; `move_is_sound` and `shut_is_sound`, of one act; `passes_check`, acts that
+--   pass and shut each lane have no fault, and the other way round `checked_passes` and `checked_shuts`.
+-- Faults: `next_element`, what is left of a list from the next element on.
 -- Ranges: lists over a range of numbers that grows, by an element (`pushed`) or by a list (`extended`).
 -- Cells: tables: `set_is_table` and `cell_after_set`, one place set; `blank_is_table` and `blank_cell`, one
 --   value everywhere.
@@ -21,13 +22,10 @@ pub mod PassingActs
 pub mod Ranges
 pub mod Cells
 pub mod ActOnStores
--- The steps of this crate's own proofs. AllOfRange: loops over ranges. Faults: the check. SumInPlace: a product added
--- in place. RunSteps: a plan that runs. ProjectionSteps: a projection. SlotCounts: slots that are not empty.
--- FittingStores: stores that fit a plan, by their count.
-pub mod AllOfRange
 pub mod Faults
-pub mod SumInPlace
-pub mod RunSteps
+-- The steps of this crate's own proofs. AllOfRange: loops over ranges. ProjectionSteps: a projection. SlotCounts:
+-- slots that are not empty. FittingStores: stores that fit a plan, by their count.
+pub mod AllOfRange
 pub mod ProjectionSteps
 pub mod SlotCounts
 pub mod FittingStores

@@ -1,5 +1,5 @@
 -- Acts that pass the check.
-use Rattle.std.proofs.Common.{◌≡◌, ◌≢◌, ℕ, ◌+◌, ◌<◌, Bool, true, false, List, [], ◌∷◌, ◌++◌, refl, ap, ◌∙◌, arith}
+use Rattle.std.proofs.Common.{◌≡◌, ◌≢◌, ℕ, ◌+◌, ◌<◌, Bool, true, false, List, [], ◌∷◌, ◌++◌, length, get_or, drop, refl, sym, ap, ◌∙◌, arith}
 use Rattle.std.specs.Prelude.{Option, Some, None, ◌==◌, nat_lt, if◌then◌else◌}
 use Rattle.std.proofs.lemmas.Bool.Decides.{nat_tests}
 use Rattle.cb_letters.specs.declared.Tag.{Tag}
@@ -7,12 +7,26 @@ use Rattle.cb_matrix.specs.Sparse.{Extent}
 use Rattle.cb_plan.specs.declared.acts.Act.{Act}
 use Rattle.cb_plan.specs.declared.acts.Act.TheVariants as act_is
 use Rattle.cb_plan.specs.declared.plans.PlanFault.{PlanFault}
+use Rattle.cb_plan.specs.declared.plans.PlanFaultKind.{PlanFaultKind}
 use Rattle.cb_plan.specs.declared.plans.PlanFaultKind.TheVariants as kind_is
 use Rattle.cb_plan.specs.Meaning.{State, act, meaning}
 use Rattle.cb_plan.specs.Algebras.{shapes}
 use Rattle.cb_plan.specs.Checks.{Lanes, IsSound, Passes, lanes_after, shut_after, act_fault, fault_from, fault_or, are_all_shut}
 use Rattle.cb_plan.proofs.SoundActs.{is_no_fault, no_fault}
-use Rattle.cb_plan.proofs.RunSteps.{both_none}
+use Rattle.cb_plan.proofs.Faults.{next_element, fault_here}
+
+-- no fault here, and none later
+pub both_none : (n : ℕ) (k : Option PlanFaultKind) (later : Option PlanFault) → fault_or n k later ≡ None → (k ≡ None) × (later ≡ None)
+both_none n None later h = (refl, h)
+both_none n (Some k) later h = absurd (grind arith)
+
+-- the next act has no fault, nor have those after it
+pub no_fault_next : (ranks i : ℕ) (state : State Extent) (shut : Lanes) (acts : List Act) (a : Act) → i < length acts → a ≡ get_or acts i a → fault_from ranks i state shut (drop i acts) ≡ None →
+    IsSound ranks state shut a × (fault_from ranks (i + 1) (act shapes a state) (shut_after a shut) (drop (i + 1) acts) ≡ None)
+no_fault_next ranks i state shut acts a l e h =
+    let parts = both_none i (act_fault ranks state shut a) (fault_from ranks (i + 1) (act shapes a state) (shut_after a shut) (drop (i + 1) acts))
+    (sym (ap (fault_from ranks i state shut) (next_element acts i a l e) ∙ fault_here ranks i state shut a (drop (i + 1) acts)) ∙ h) in
+    (no_fault ranks state shut a parts.0, parts.1)
 
 -- two lists of acts of which each passes where it stands
 pub passes-append : (ranks : ℕ) (state : State Extent) (shut : Lanes) (xs ys : List Act) → Passes ranks state shut xs → Passes ranks (meaning shapes xs state) (lanes_after xs shut) ys → Passes ranks state shut (xs ++ ys)

@@ -1,7 +1,7 @@
 -- Meaning: what acts do, over blocks of any kind. Algebras: on matrices, and on shapes alone.
 -- Plans: what contracts see of a plan. Checks: the first fault of a plan. Programs: the halves of each rank.
 -- Letters: what a plan posts on each lane. Tables: rows of equal length. Stores: the slots of the ranks.
--- Running: a plan that runs. Runnable: a plan that can run as it is. Rows: worked plans.
+-- Runnable: a plan that can run as it is. Rows: worked plans.
 pub mod Meaning
 pub mod Algebras
 pub mod Plans
@@ -10,6 +10,5 @@ pub mod Checks
 pub mod Programs
 pub mod Letters
 pub mod Stores
-pub mod Running
 pub mod Runnable
 pub mod Rows

@@ -35,8 +35,8 @@ project_from state (a ∷ acts) r = halves_of state a r ++ project_from (act sha
 abbrev pub project : List Start → List Act → ℕ → List Half
 project starts acts r = project_from (started starts) acts r
 
--- what is there of a program after the first i acts, with what the check knows then
-pub record Projects (ranks : ℕ) (starts : List Start) (acts : List Act) (r i : ℕ) (o : CheckState) (halves : List Half) : Type 0 where
+-- what is there of a program after the first i acts, with what the check knows then; whole has all its halves
+pub record Projects (ranks : ℕ) (acts : List Act) (r i : ℕ) (o : CheckState) (halves whole : List Half) : Type 0 where
   pub ranks_are : o.ranks ≡ ranks
   pub no_fault : fault_from ranks i (slots_in o.slots) (lanes_in o.shut) (drop i acts) ≡ None
-  pub so_far : halves ++ project_from (slots_in o.slots) (drop i acts) r ≡ project starts acts r
+  pub so_far : halves ++ project_from (slots_in o.slots) (drop i acts) r ≡ whole

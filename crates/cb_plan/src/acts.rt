@@ -5,7 +5,7 @@ use cb_matrix::Shape;
 
 /// An operation on the slots of one rank. Its operands are read before its slot is set, so one slot may stand in
 /// it twice.
-#[derive(Clone, Copy, Debug, PartialEq, Eq, Drop)]
+#[derive(Clone, Copy, Drop)]
 pub enum Op {
     /// The block of a shape without entries.
     Zero {
@@ -104,7 +104,7 @@ impl Op {
 }
 
 /// One act of a plan.
-#[derive(Clone, Copy, Debug, PartialEq, Eq, Drop)]
+#[derive(Clone, Copy, Drop)]
 pub enum Act {
     /// A copy of slot `slot` of rank `from` goes to slot `into` of rank `to`, in a letter with this tag.
     Move {
@@ -127,7 +127,7 @@ pub enum Act {
 }
 
 /// What one rank does of an act.
-#[derive(Clone, Copy, Debug, PartialEq, Eq, Drop)]
+#[derive(Clone, Copy, Drop)]
 pub enum Half {
     /// It posts a copy of a slot.
     Post {
@@ -155,7 +155,7 @@ pub enum Half {
 }
 
 /// A block of this shape stands in this slot before the first act.
-#[derive(Clone, Copy, Debug, PartialEq, Eq, Drop)]
+#[derive(Clone, Copy, Drop)]
 pub struct Start {
     pub rank: u16,
     pub slot: u16,

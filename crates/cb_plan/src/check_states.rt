@@ -1,5 +1,5 @@
 //! What the check knows of all slots and lanes between two acts.
-ghost use Rattle.std.specs.Prelude.{◌≡◌, ◌<◌, ◌+◌, ◌-◌, ℕ, true, None, Some, Ok, Err, length, All, IfOk, IsTrue, IsSome, is_some, [], ◌∷◌, ◌&&◌, if◌then◌else◌, nat_le};
+ghost use Rattle.std.specs.Prelude.{◌≡◌, ◌<◌, ◌+◌, ◌-◌, ℕ, true, None, Some, Ok, Err, length, All, IfOk, IsTrue, IsSome, is_some, [], ◌∷◌, ◌&&◌, ◌==◌, if◌then◌else◌, nat_le};
 ghost use Rattle.cb_plan.specs.Checks.{CheckState as CheckStateView, IsCheckState, IsBlank, DidAct, IsStarted, SetSlot, fault_in, slots_in, lanes_in, all_below, all_filled, ranks_of, slots_of, operands_of, is_apart, reads_filled, shapes_agree, act_agrees, is_open, same_shape};
 ghost use Rattle.cb_plan.specs.Meaning.{target_of, result_of};
 ghost use Rattle.cb_plan.specs.Algebras.{shapes};
@@ -156,14 +156,11 @@ impl CheckState {
     {
         match op {
             Op::Zero { shape, .. } => Ok(Some(shape)),
-            Op::MulAdd { a, b, acc } => {
-                let (a, b) = (self.shape(rank, a), self.shape(rank, b));
-                let acc = self.shape(rank, acc);
-                let agree = a.cols() == b.rows()
-                    && acc.rows() == a.rows()
-                    && acc.cols() == b.cols();
-                demanded(agree, acc)
-            }
+            Op::MulAdd { a, b, acc } => sum_with_product(
+                self.shape(rank, a),
+                self.shape(rank, b),
+                self.shape(rank, acc),
+            ),
             Op::Add { a, b, .. } => self.common_shape(rank, a, b),
             Op::Times { a, b, .. } => self.common_shape(rank, a, b),
             Op::Mask { a, m, .. } => self.common_shape(rank, a, m),
@@ -171,10 +168,7 @@ impl CheckState {
                 let a = self.shape(rank, a);
                 Ok(Shape::new(a.cols(), a.rows()))
             }
-            Op::MulVec { a, x, .. } => {
-                let (a, x) = (self.shape(rank, a), self.shape(rank, x));
-                demanded(a.cols() == x.rows() && x.cols() == 1, a.with_columns_of(x))
-            }
+            Op::MulVec { a, x, .. } => vector_product(self.shape(rank, a), self.shape(rank, x)),
             Op::Cut { a, rows, cols, .. } => part_of(self.shape(rank, a), rows, cols),
             Op::Place { a, shape, at, .. } => {
                 demanded(is_place(self.shape(rank, a), shape, at), shape)
@@ -195,6 +189,21 @@ fn demanded(holds: bool, shape: Shape) -> Result<Option<Shape>, PlanFaultKind>
     } else {
         Err(PlanFaultKind::Shape)
     }
+}
+
+/// The shape of a block to which the product of two others can be added.
+fn sum_with_product(a: Shape, b: Shape, acc: Shape) -> Result<Option<Shape>, PlanFaultKind>
+    ensures { result ≡ (if (a.cols == b.rows) && (acc.rows == a.rows) && (acc.cols == b.cols) then Ok (Some acc) else Err PlanFaultKind.Shape) }
+{
+    let agree = a.cols() == b.rows() && acc.rows() == a.rows() && acc.cols() == b.cols();
+    demanded(agree, acc)
+}
+
+/// The shape of the product of a block and a vector, where they have one.
+fn vector_product(a: Shape, x: Shape) -> Result<Option<Shape>, PlanFaultKind>
+    ensures { result ≡ (if (a.cols == x.rows) && (x.cols == 1) then Ok (Some (record { rows = a.rows; cols = x.cols })) else Err PlanFaultKind.Shape) }
+{
+    demanded(a.cols() == x.rows() && x.cols() == 1, a.with_columns_of(x))
 }
 
 /// The shape of these rows and columns of a shape, where it has them.
@@ -332,7 +341,7 @@ impl CheckState {
 }
 
 impl CheckState {
-    ghost use Rattle.std.specs.Prelude.{◌==◌, ◌||◌};
+    ghost use Rattle.std.specs.Prelude.{◌||◌};
     ghost use Rattle.std.specs.List.{range_with_len};
     ghost use Rattle.cb_plan.specs.Checks.{all_hold, are_all_shut};
 

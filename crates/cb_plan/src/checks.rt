@@ -112,20 +112,32 @@ fn first_fault(
     ensures { IfOk result (λ fault. fault ≡ plan_fault ranks starts.now acts.now) }
 {
     let mut state = CheckState::started(alloc, ranks, starts)?;
-    let mut number = 0;
-    for act in acts {
-        if let Some(kind) = state.fault_of(act) {
-            return Ok(Some(PlanFault { act: number, kind }));
+    Ok(state.fault_among(acts))
+}
+
+impl CheckState {
+    ghost use Rattle.cb_plan.specs.Checks.{fault_from, slots_in, lanes_in};
+
+    /// The first fault of the acts from here on, if they have one.
+    fn fault_among(&mut self, acts: &[Act]) -> Option<PlanFault>
+        requires { length acts.now ≤ MOST_ACTS }
+        ensures { result ≡ fault_from self.old.ranks 0 (slots_in self.old.slots) (lanes_in self.old.shut) acts.now }
+    {
+        let mut number = 0;
+        for act in acts {
+            if let Some(kind) = self.fault_of(act) {
+                return Some(PlanFault { act: number, kind });
+            }
+            self.pass(act);
+            number += 1;
         }
-        state.pass(act);
-        number += 1;
-    }
-    if state.is_all_shut() {
-        Ok(None)
-    } else {
-        Ok(Some(PlanFault {
-            act: number,
-            kind: PlanFaultKind::NotShut,
-        }))
+        if self.is_all_shut() {
+            None
+        } else {
+            Some(PlanFault {
+                act: number,
+                kind: PlanFaultKind::NotShut,
+            })
+        }
     }
 }

@@ -8,20 +8,18 @@
 //! A [`Plan`] grows act by act. [`CheckedPlan::check`] finds its first fault, and does for this what the plan
 //! means, on the shapes of the blocks alone: in a plan that passes no operation meets an empty slot or a shape
 //! that it can't take, and each lane is shut once, after its last letter. A plan that its maker proves to run
-//! (`specs/Runnable`) isn't looked at again: [`Planned::into_checked`]. [`run_plain`] does a checked plan on
-//! one thread, on stores that it [`fits`](CheckedPlan::fits). [`CheckedPlan::project`] gives the program of each
-//! rank, for ranks that run apart; `specs/Letters` says what they post to each other.
+//! (`specs/Runnable`) isn't looked at again: [`Planned::into_checked`]. A checked plan is done on stores that it
+//! [`fits`](CheckedPlan::fits): by one thread, or by ranks that run apart. [`CheckedPlan::project`] gives the
+//! program of each of them; `specs/Letters` says what they post to each other.
 #![tactic(auto)]
 
 mod acts;
 mod check_states;
 mod checks;
 mod fits;
-mod kernels;
 mod operands;
 mod plans;
 mod programs;
-mod runs;
 mod stores;
 mod tables;
 
@@ -29,8 +27,4 @@ pub use acts::{Act, Half, Op, Start};
 pub use checks::CheckedPlan;
 pub use operands::Operands;
 pub use plans::{MOST_ACTS, Plan, PlanFault, PlanFaultKind, Planned};
-pub use runs::run_plain;
 pub use stores::{RankStore, SLOTS, Slot};
-
-#[cfg(test)]
-mod tests;

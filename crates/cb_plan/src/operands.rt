@@ -5,7 +5,7 @@ use crate::acts::Op;
 use std::marker::Model;
 
 /// The slots that an operation reads, in the order of its fields: three at most.
-#[derive(Debug, Drop)]
+#[derive(Drop)]
 pub struct Operands {
     slots: [u16; 3],
     count: usize,

@@ -19,10 +19,7 @@ impl CheckedPlan {
     {
         let mut state = CheckState::started(alloc, self.ranks(), self.starts())?;
         let mut halves = Vec::new(alloc);
-        for act in self.acts() {
-            append_half(&mut halves, state.half_of(act, rank))?;
-            state.pass(act);
-        }
+        state.append_halves(self.acts(), rank, &mut halves)?;
         Ok(halves)
     }
 }
@@ -40,6 +37,26 @@ fn append_half(halves: &mut Vec<Half>, half: Option<Half>) -> Result<(), AllocEr
 }
 
 impl CheckState {
+    ghost use Rattle.cb_plan.specs.Checks.{fault_from};
+    ghost use Rattle.cb_plan.specs.Programs.{project_from};
+
+    /// Appends what a rank does of the acts from here on, which have no fault.
+    fn append_halves(
+        &mut self,
+        acts: &[Act],
+        rank: u16,
+        halves: &mut Vec<Half>,
+    ) -> Result<(), AllocError>
+        requires { fault_from self.old.ranks 0 (slots_in self.old.slots) (lanes_in self.old.shut) acts.now ≡ None }
+        ensures { OnOk result (halves.new.items ≡ halves.old.items ++ project_from (slots_in self.old.slots) acts.now rank) }
+    {
+        for act in acts {
+            append_half(halves, self.half_of(act, rank))?;
+            self.pass(act);
+        }
+        Ok(())
+    }
+
     /// What a rank does of an act that has no fault here.
     fn half_of(&self, act: &Act, rank: u16) -> Option<Half>
         requires { IsSound self.now.ranks (slots_in self.now.slots) (lanes_in self.now.shut) act.now }

@@ -16,7 +16,7 @@ use std::mem;
 pub const SLOTS: u16 = 256;
 
 /// A slot of a rank, for blocks of any kind.
-#[derive(Debug, Drop)]
+#[derive(Drop)]
 pub enum Slot<B> {
     /// Nothing is there.
     Empty,
@@ -36,7 +36,7 @@ impl<B> Slot<B> {
 }
 
 /// The slots of a rank, `SLOTS` of them.
-#[derive(Debug, Drop)]
+#[derive(Drop)]
 pub struct RankStore<S: Semiring> {
     slots: Vec<Slot<Block<S>>>,
 }
@@ -71,7 +71,7 @@ impl<S: Semiring> RankStore<S> {
     }
 
     /// Puts anything into a slot.
-    pub(crate) fn set(&mut self, n: u16, slot: Slot<Block<S>>)
+    pub fn set(&mut self, n: u16, slot: Slot<Block<S>>)
         requires { n < SLOTS }
         ensures value { self.new ≡ slice_set self.old n slot }
         ensures size { length self.old ≡ SLOTS }

@@ -9,6 +9,7 @@ ghost use Rattle.cb_rank.specs.Ranks.{HasShape};
 
 use crate::wants::Supply;
 use cb_dcsc::Block;
+use cb_local::work;
 use cb_plan::{Op, RankStore, SLOTS, Slot};
 use cb_semirings::Semiring;
 use std::alloc::Global;
@@ -44,7 +45,7 @@ pub(crate) fn operate<S: Semiring>(
         store.put_lost(op.target(), origin);
         return false;
     }
-    if supply == Supply::Refused || store.work(alloc, op).is_err() {
+    if supply == Supply::Refused || work(alloc, store, op).is_err() {
         store.put_lost(op.target(), me);
         return true;
     }

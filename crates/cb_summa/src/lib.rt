@@ -22,8 +22,6 @@ ghost use Rattle.cb_summa.specs.Summa.{summa_acts, factors, IsProductPlan};
 
 mod masked;
 mod products;
-#[cfg(test)]
-mod tests;
 
 use cb_distribution::{Operand, finish, operand_starts};
 use cb_layout::Grid;

@@ -1,21 +1,15 @@
-use Rattle.std.proofs.Common.{length, ◌<◌, arith}
-use Rattle.cb_plan.proofs.ProjectionSteps.{act_is_sound, next_projects}
+use Rattle.std.proofs.Common.{◌++◌, ◌∙◌, ap}
+use Rattle.cb_plan.specs.Checks.{slots_in}
+use Rattle.cb_plan.specs.Programs.{project_from}
+use Rattle.cb_plan.proofs.ProjectionSteps.{no_fault_at_start}
 use Rattle.cb_plan.proofs.checks.CheckedPlan.project.Goals as goal
 
-pub half_of-requires : goal.half_of-requires
-half_of-requires c =
-    let e = c.acts-act-items.ensures.acts in
-    let l : c.loop-act.act-index < length c.acts-act-items.result.now = omega arith in
-    act_is_sound c.args.self.now.ranks c.args.self.now.starts c.args.self.now.acts c.args.rank c.loop-act.act-index c.loop-act.state c.loop-act.halves.items c.loop-act.invariant c.act-item.result (rw e at l) (rw e at c.act-item.is)
+pub append_halves-requires : goal.append_halves-requires
+append_halves-requires c =
+    let is = rw (c.ranks.ensures.ranks, c.starts.ensures.starts) at c.in_ok-state.ensures in
+    rw c.acts.ensures.acts (no_fault_at_start c.args.self.now c.in_ok-state.state c.acts.ensures.checked is)
 
-pub pass-requires : goal.pass-requires
-pass-requires c =
-    let e = c.acts-act-items.ensures.acts in
-    let l : c.loop-act.act-index < length c.acts-act-items.result.now = omega arith in
-    act_is_sound c.args.self.now.ranks c.args.self.now.starts c.args.self.now.acts c.args.rank c.loop-act.act-index c.loop-act.state c.loop-act.halves.items c.loop-act.invariant c.act-item.result (rw e at l) (rw e at c.act-item.is)
-
-pub loop-act-preserved : goal.loop-act-preserved
-loop-act-preserved c =
-    let e = c.acts-act-items.ensures.acts in
-    let l : c.loop-act.act-index < length c.acts-act-items.result.now = omega arith in
-    next_projects c.args.self.now.ranks c.args.self.now.starts c.args.self.now.acts c.args.rank c.loop-act.act-index c.loop-act.state c.loop-act.halves.items c.loop-act.invariant c.act-item.result (rw e at l) (rw e at c.act-item.is) c.half_of.result c.pass.new.self c.append_half.new.halves.items c.half_of.ensures c.pass.ensures c.in_ok-append_half.ensures
+pub returns : goal.returns
+returns c =
+    let is = rw (c.ranks.ensures.ranks, c.starts.ensures.starts) at c.in_ok-state.ensures in
+    c.in_ok-append_halves.ensures ∙ ap (λ xs. xs ++ project_from (slots_in c.in_ok-state.state.slots) c.acts.result.now c.args.rank) c.new-halves.ensures.items ∙ ap (λ acts. project_from (slots_in c.in_ok-state.state.slots) acts c.args.rank) c.acts.ensures.acts ∙ ap (λ slots. project_from slots c.args.self.now.acts c.args.rank) is.slots

@@ -1,0 +1,5 @@
+-- The steps of this crate's own proofs. SumInPlace: a product added in place. DoneActs: one act, done on the stores
+-- of all ranks. RunSteps: a plan that runs.
+pub mod SumInPlace
+pub mod DoneActs
+pub mod RunSteps

@@ -1,0 +1,2 @@
+-- Running: a plan that runs on one thread.
+pub mod Running

@@ -1,0 +1,299 @@
+//! The plans over grids of every side, run act by act.
+ghost use Rattle.std.specs.Prelude.{◌<◌, IfOk};
+ghost use Rattle.cb_plan.specs.Runnable.{IsRunnable};
+
+use cb_dcsc::Block;
+use cb_elementwise::Test;
+use cb_kernels::{
+    LEFT, RESULT, RIGHT, grid_add, grid_prune, grid_times, grid_transpose, grid_vector,
+};
+use cb_layout::Grid;
+use cb_local::run_plain;
+use cb_matrix::{Entry, Matrix, Shape};
+use cb_plan::{PlanFault, PlanFaultKind, Planned, RankStore, SLOTS, Slot};
+use cb_samples::{are_values, entry, shape};
+use cb_semirings::PlusTimes;
+use std::alloc::Global;
+use std::test::Fail;
+
+const SIDES: [u32; 6] = [1, 2, 3, 4, 5, 6];
+
+/// What is done over a grid.
+#[derive(Clone, Copy)]
+enum Kernel {
+    Transpose,
+    Add,
+    Times,
+    Prune(Test),
+    Vector,
+}
+
+/// Its plan, where the first operand has this shape.
+fn plan_of(kernel: Kernel, alloc: Global, grid: &Grid, shape: Shape) -> Result<Planned, PlanFault>
+    ensures { IfOk result (λ p. IsRunnable p) }
+{
+    match kernel {
+        Kernel::Transpose => grid_transpose(alloc, grid, shape),
+        Kernel::Add => grid_add(alloc, grid, shape),
+        Kernel::Times => grid_times(alloc, grid, shape),
+        Kernel::Prune(test) => grid_prune(alloc, grid, shape, test),
+        Kernel::Vector => grid_vector(alloc, grid, shape),
+    }
+}
+
+/// The matrix of a shape with these entries.
+fn matrix(alloc: Global, shape: Shape, entries: &[Entry]) -> Result<Matrix<PlusTimes>, Fail> {
+    if !are_values::<PlusTimes>(entries) {
+        return Err("values".into());
+    }
+    Ok(Matrix::from_entries(alloc, shape, entries).map_err(|_| "a matrix")?)
+}
+
+/// A store for each rank, with nothing in it.
+fn no_blocks(alloc: Global, grid: &Grid) -> Result<Vec<RankStore<PlusTimes>>, Fail> {
+    let mut stores = Vec::new(alloc);
+    for _ in 0..grid.ranks() {
+        stores.push(RankStore::new(alloc)?)?;
+    }
+    Ok(stores)
+}
+
+/// Puts one block into a slot of each rank.
+fn fill(stores: &mut [RankStore<PlusTimes>], slot: u16, blocks: Vec<Block<PlusTimes>>)
+    requires { slot < SLOTS }
+{
+    for (store, block) in stores.iter_mut().zip(blocks) {
+        store.put(slot, block);
+    }
+}
+
+/// A kernel, the shape of its operands, their entries, and the shape and the entries of what it makes of them.
+type Example<'a> = (Kernel, Shape, &'a [&'a [Entry]], Shape, &'a [Entry]);
+
+/// The stores of the ranks, with the blocks of the operands in slots 0, 1 and so on.
+fn stores(
+    alloc: Global,
+    grid: &Grid,
+    shape: Shape,
+    operands: &[&[Entry]],
+) -> Result<Vec<RankStore<PlusTimes>>, Fail> {
+    let mut stores = no_blocks(alloc, grid)?;
+    for (operand, slot) in operands.iter().zip([LEFT, RIGHT]) {
+        let operand = matrix(alloc, shape, operand)?;
+        fill(&mut stores, slot, grid.scatter(alloc, &operand)?);
+    }
+    Ok(stores)
+}
+
+/// The stores after a plan that leaves its result in its slot.
+fn after(
+    alloc: Global,
+    planned: Planned,
+    stores: Vec<RankStore<PlusTimes>>,
+) -> Result<Vec<RankStore<PlusTimes>>, Fail>
+    requires { IsRunnable planned }
+{
+    let (plan, slot) = planned.into_checked();
+    if slot != RESULT || !plan.fits(&stores) {
+        return Err("stores".into());
+    }
+    Ok(run_plain(alloc, &plan, stores)?)
+}
+
+/// Whether two blocks are the same.
+fn are_same(found: &Block<PlusTimes>, wanted: &Block<PlusTimes>) -> Result<bool, Fail> {
+    Ok(found.shape() == wanted.shape() && found.entries()? == wanted.entries()?)
+}
+
+/// Whether the ranks of a grid have these blocks as their results.
+fn leave(stores: &[RankStore<PlusTimes>], blocks: &[Block<PlusTimes>]) -> Result<bool, Fail> {
+    for (store, block) in stores.iter().zip(blocks.iter()) {
+        let Slot::Sheet(found) = store.slot(RESULT) else {
+            return Ok(false);
+        };
+        if !are_same(found, block)? {
+            return Ok(false);
+        }
+    }
+    Ok(stores.len() == blocks.len())
+}
+
+/// Whether a kernel makes what is said on the grid of a side.
+fn makes(alloc: Global, side: u32, example: &Example<'_>) -> Result<bool, Fail> {
+    let (kernel, shape, operands, result, wanted) = *example;
+    let grid = Grid::new(side).map_err(|_| "a side")?;
+    let Ok(planned) = plan_of(kernel, alloc, &grid, shape) else {
+        return Err("a plan".into());
+    };
+    let stores = stores(alloc, &grid, shape, operands)?;
+    let after = after(alloc, planned, stores)?;
+    let wanted = matrix(alloc, result, wanted)?;
+    leave(&after, &grid.scatter(alloc, &wanted)?)
+}
+
+/// The number of the first example that isn't made, and the side of the grid where it isn't.
+fn wrong_example(alloc: Global, examples: &[Example<'_>]) -> Result<Option<(usize, u32)>, Fail> {
+    for (number, example) in examples.iter().enumerate() {
+        for side in SIDES {
+            if !makes(alloc, side, example)? {
+                return Ok(Some((number, side)));
+            }
+        }
+    }
+    Ok(None)
+}
+
+/// The transpose, the sum and the product place by place, and entries dropped.
+#[test]
+fn each_kernel_makes_its_result_on_each_grid(rt: HostRuntime) -> Result<(), Fail> {
+    let (a, wide, tall, flat) = (shape(4, 3)?, shape(3, 5)?, shape(5, 3)?, shape(2, 7)?);
+    let examples: [Example<'_>; 4] = [
+        (
+            Kernel::Transpose,
+            wide,
+            &[&[entry(2, 0, 6), entry(1, 1, 5), entry(0, 4, 7)]],
+            tall,
+            &[entry(4, 0, 7), entry(1, 1, 5), entry(0, 2, 6)],
+        ),
+        (
+            Kernel::Add,
+            a,
+            &[
+                &[entry(0, 0, 7), entry(3, 2, 5)],
+                &[entry(0, 0, 1), entry(2, 1, 9)],
+            ],
+            a,
+            &[entry(0, 0, 8), entry(2, 1, 9), entry(3, 2, 5)],
+        ),
+        (
+            Kernel::Times,
+            a,
+            &[
+                &[entry(0, 0, 7), entry(3, 2, 5)],
+                &[entry(0, 0, 2), entry(2, 1, 9)],
+            ],
+            a,
+            &[entry(0, 0, 14)],
+        ),
+        (
+            Kernel::Prune(Test::Below(6)),
+            flat,
+            &[&[entry(0, 0, 7), entry(1, 2, 5), entry(1, 6, 9)]],
+            flat,
+            &[entry(0, 0, 7), entry(1, 6, 9)],
+        ),
+    ];
+    assert_eq!(rt; wrong_example(rt.alloc(), &examples)?, None);
+    Ok(())
+}
+
+/// The stores of the ranks, with the blocks of a matrix in slot 0 and the pieces of a vector in slot 1.
+fn vector_stores(
+    alloc: Global,
+    grid: &Grid,
+    a: &Matrix<PlusTimes>,
+    x: &Matrix<PlusTimes>,
+) -> Result<Vec<RankStore<PlusTimes>>, Fail> {
+    if x.cols() != 1 {
+        return Err("a vector".into());
+    }
+    let mut stores = no_blocks(alloc, grid)?;
+    fill(&mut stores, LEFT, grid.scatter(alloc, a)?);
+    fill(&mut stores, RIGHT, grid.scatter_input(alloc, x)?);
+    Ok(stores)
+}
+
+/// The ranks and values of the entries of the results, rank by rank.
+fn values_of(alloc: Global, stores: &[RankStore<PlusTimes>]) -> Result<Vec<[u64; 2]>, Fail> {
+    let mut found = Vec::new(alloc);
+    for (rank, store) in stores.iter().enumerate() {
+        let Slot::Sheet(piece) = store.slot(RESULT) else {
+            return Err("a sheet".into());
+        };
+        for n in 0..piece.len() {
+            found.push([rank as u64, piece.entry_at(n).value])?;
+        }
+    }
+    Ok(found)
+}
+
+/// The ranks and values of the entries of a matrix times a vector, on the grid of a side.
+fn spread_product(
+    alloc: Global,
+    side: u32,
+    a: &Matrix<PlusTimes>,
+    x: &Matrix<PlusTimes>,
+) -> Result<Vec<[u64; 2]>, Fail> {
+    let grid = Grid::new(side).map_err(|_| "a side")?;
+    let Ok(planned) = plan_of(Kernel::Vector, alloc, &grid, a.shape()) else {
+        return Err("a plan".into());
+    };
+    let stores = vector_stores(alloc, &grid, a, x)?;
+    values_of(alloc, &after(alloc, planned, stores)?)
+}
+
+/// A matrix of 6 by 5 times a vector, whatever the grid: the values of the product from its first row on.
+fn six_by_five(alloc: Global, side: u32) -> Result<[u64; 3], Fail> {
+    let a = [
+        entry(0, 0, 1),
+        entry(2, 1, 4),
+        entry(0, 3, 2),
+        entry(1, 3, 3),
+        entry(4, 4, 5),
+    ];
+    let a = matrix(alloc, shape(6, 5)?, &a)?;
+    let x = [entry(0, 0, 7), entry(1, 0, 6), entry(3, 0, 5)];
+    let x = matrix(alloc, shape(5, 1)?, &x)?;
+    match spread_product(alloc, side, &a, &x)?.as_slice() {
+        [[_, first], [_, second], [_, third]] => Ok([*first, *second, *third]),
+        _ => Err("three entries".into()),
+    }
+}
+
+#[test]
+fn multiplies_a_vector(rt: HostRuntime) -> Result<(), Fail> {
+    for side in SIDES {
+        assert_eq!(rt; six_by_five(rt.alloc(), side)?, [17, 15, 24]);
+    }
+    Ok(())
+}
+
+/// Each of the two parts of the result has one row, which is in the first of its pieces.
+#[test]
+fn multiplies_by_pieces(rt: HostRuntime) -> Result<(), Fail> {
+    let alloc = rt.alloc();
+    let a = [entry(0, 0, 1), entry(0, 1, 2), entry(1, 1, 3)];
+    let a = matrix(alloc, shape(2, 2)?, &a)?;
+    let x = matrix(alloc, shape(2, 1)?, &[entry(0, 0, 5), entry(1, 0, 7)])?;
+    let found = spread_product(alloc, 2, &a, &x)?;
+    assert_eq!(rt; found.as_slice(), [[0, 19], [2, 21]].as_slice());
+    Ok(())
+}
+
+/// Whether a plan has so many acts, or was refused for want of memory.
+fn has_acts_or_no_memory(planned: Result<Planned, PlanFault>, acts: usize) -> bool {
+    match planned {
+        Ok(planned) => planned.plan.len() == acts,
+        Err(fault) => fault.act == 0 && fault.kind == PlanFaultKind::Memory,
+    }
+}
+
+/// It passes whichever single allocation is refused (`rt try --test --fail-alloc N`, for each N in turn): the
+/// call says so, or its plan is the right one.
+#[test]
+fn refused_memory_is_said(rt: HostRuntime) -> Result<(), Fail> {
+    let alloc = rt.alloc();
+    let grid = Grid::new(2).map_err(|_| "a side")?;
+    let shape = shape(3, 5)?;
+    let counts = [
+        (Kernel::Transpose, 20),
+        (Kernel::Add, 16),
+        (Kernel::Times, 16),
+        (Kernel::Prune(Test::Above(3)), 16),
+        (Kernel::Vector, 68),
+    ];
+    for (kernel, acts) in counts {
+        assert!(rt; has_acts_or_no_memory(plan_of(kernel, alloc, &grid, shape), acts));
+    }
+    Ok(())
+}

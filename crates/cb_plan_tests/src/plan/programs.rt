@@ -1,0 +1,46 @@
+//! The programs of two ranks.
+use crate::plan::checked;
+use cb_letters::Tag;
+use cb_plan::Half;
+use std::test::Fail;
+
+/// Whether a program posts slot 0 to rank 1, and then both lanes are at their end.
+fn posts(program: &[Half]) -> bool {
+    matches!(
+        program,
+        [
+            Half::Post {
+                to: 1,
+                tag: Tag(0),
+                slot: 0
+            },
+            Half::Shut { to: 1 },
+            Half::End { from: 1 },
+        ]
+    )
+}
+
+/// Whether a program takes a block of 1 by 2 from rank 0 into slot 3, and then both lanes are at their end.
+fn takes(program: &[Half]) -> bool {
+    match program {
+        [
+            Half::Take {
+                from: 0,
+                tag: Tag(0),
+                into: 3,
+                shape,
+            },
+            Half::End { from: 0 },
+            Half::Shut { to: 0 },
+        ] => shape.rows() == 1 && shape.cols() == 2,
+        _ => false,
+    }
+}
+
+#[test]
+fn each_rank_has_its_halves(rt: HostRuntime) -> Result<(), Fail> {
+    let plan = checked(rt.alloc()).ok_or("no plan")?;
+    assert!(rt; posts(&plan.project(rt.alloc(), 0)?));
+    assert!(rt; takes(&plan.project(rt.alloc(), 1)?));
+    Ok(())
+}
