@@ -11,7 +11,7 @@ use Rattle.cb_trace.specs.Traces.{TraceView, AreLogsOf}
 use Rattle.cb_ranks.specs.declared.logs.Log.{Log}
 use Rattle.cb_ranks.specs.Logs.{AreNewLogs, AreWhole, Keeps}
 use Rattle.cb_ranks.specs.Told.{HaveToldPlan}
-use Rattle.cb_ranks.specs.Traced.{program_events, HasProgram}
+use Rattle.cb_ranks.specs.Traced.{program_events, AreOfProgram, HasProgram}
 use Rattle.cb_ranks.proofs.Crews.{get_or_of}
 
 module _ {S G : Type 0} where
@@ -38,15 +38,23 @@ module _ {S G : Type 0} where
       let here = h.1 rest.0 in
       (here.0, rw (rest.1, here.1, append_assoc) refl)
 
-  -- logs that are whole, and that a trace matches, give it the program of the plan
-  pub has_program : (p : CheckedView) (olds news : List (Log S G)) (lists : List (List TraceEvent)) (t : TraceView) → AreNewLogs olds → HaveToldPlan Keeps p olds news
-      → AreWhole news → lists ≡ map (λ (l : Log S G). l.events.items) news → AreLogsOf t lists → HasProgram p t
-  has_program p olds news lists t begun told whole same logs = record {
-    ranks = sym logs.count ∙ ap length same ∙ length-map news (λ (l : Log S G). l.events.items) ∙ told.count;
+  -- logs that are whole have the program of the plan that they were told of
+  pub of_program : (p : CheckedView) (olds news : List (Log S G)) (lists : List (List TraceEvent)) → AreNewLogs olds → HaveToldPlan Keeps p olds news
+      → AreWhole news → lists ≡ map (λ (l : Log S G). l.events.items) news → AreOfProgram p lists
+  of_program p olds news lists begun told whole same = record {
+    count = ap length same ∙ length-map news (λ (l : Log S G). l.events.items) ∙ told.count;
     each = λ r below.
         let it = told.each r below in
         let kept = log_after (program_events r (project p.starts p.acts r)) it.old it.new it.told (whole_at news r it.new whole it.new_is) in
         let none : it.old.events.items ≡ [] = new_at olds r it.old begun it.old_is in
-        let size : t.ranks ≡ p.ranks = sym logs.count ∙ ap length same ∙ length-map news (λ (l : Log S G). l.events.items) ∙ told.count in
-        sym (logs.each r (omega arith)) ∙ ap (λ ls. get_or ls r []) same ∙ get_or_of (λ (l : Log S G). l.events.items) news r it.new [] it.new_is ∙ kept.1 ∙ ap (λ es. es ++ program_events r (project p.starts p.acts r)) none;
+        ap (λ ls. get_or ls r []) same ∙ get_or_of (λ (l : Log S G). l.events.items) news r it.new [] it.new_is ∙ kept.1 ∙ ap (λ es. es ++ program_events r (project p.starts p.acts r)) none;
   }
+
+-- and so has a trace that they match
+pub has_program : (p : CheckedView) (lists : List (List TraceEvent)) (t : TraceView) → AreOfProgram p lists → AreLogsOf t lists → HasProgram p t
+has_program p lists t own logs =
+    let size : t.ranks ≡ p.ranks = sym logs.count ∙ own.count in
+    record {
+      ranks = size;
+      each = λ r below. sym (logs.each r (omega arith)) ∙ own.each r below;
+    }

@@ -1,5 +1,5 @@
 -- The events of a rank's program, and a trace that has just those of all ranks.
-use Rattle.std.specs.Prelude.{◌≡◌, ℕ, ◌+◌, ◌<◌, ◌==◌, if◌then◌else◌, List, [], ◌∷◌, length}
+use Rattle.std.specs.Prelude.{◌≡◌, ℕ, ◌+◌, ◌<◌, ◌==◌, if◌then◌else◌, List, [], ◌∷◌, length, get_or}
 use Rattle.cb_matrix.specs.Sparse.{Sparse}
 use Rattle.cb_letters.specs.declared.Letter.{Letter}
 use Rattle.cb_letters.specs.Letters.{mark_tag}
@@ -35,6 +35,11 @@ events_after me posted taken (half_is.End from ∷ halves) =
 -- the events of a whole program
 abbrev pub program_events : ℕ → List Half → List TraceEvent
 program_events me halves = events_after me (λ _. 0) (λ _. 0) halves
+
+-- one list of events for each rank of the plan: what the rank's program does at its lanes, in order
+pub record AreOfProgram (p : CheckedView) (lists : List (List TraceEvent)) : Type 0 where
+  pub count : length lists ≡ p.ranks
+  pub each : (r : ℕ) → r < p.ranks → get_or lists r [] ≡ program_events r (project p.starts p.acts r)
 
 -- the trace has the program of the plan: it is of the plan's ranks, and what it has of each is what the rank's program does at its lanes, in order
 pub record HasProgram (p : CheckedView) (t : TraceView) : Type 0 where

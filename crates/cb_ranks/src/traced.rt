@@ -1,9 +1,9 @@
 //! A run in threads that keeps a trace.
-ghost use Rattle.std.specs.Prelude.{IfOk, IfErr};
+ghost use Rattle.std.specs.Prelude.{map, IfOk, IfErr};
 ghost use Rattle.cb_plan.specs.Stores.{Fits};
 ghost use Rattle.cb_ranks.specs.Faults.{IsTracedFaultOf};
 ghost use Rattle.cb_ranks.specs.Finished.{HoldsMeaning};
-ghost use Rattle.cb_ranks.specs.Traced.{HasProgram};
+ghost use Rattle.cb_ranks.specs.Traced.{AreOfProgram, HasProgram};
 ghost use Rattle.cb_ranks.specs.Views.{finished_view};
 
 use crate::faults::RunFault;
@@ -13,7 +13,7 @@ use crate::logs::{Log, events_of, lists_of};
 use crate::threads::run_told;
 use cb_plan::{CheckedPlan, RankStore};
 use cb_semirings::Semiring;
-use cb_trace::{SharedTrace, Trace};
+use cb_trace::{SharedTrace, Trace, TraceEvent};
 use std::alloc::Global;
 use std::sync::Wait;
 use std::thread::Threads;
@@ -39,17 +39,36 @@ pub fn run_traced<S: Semiring + Send + Sync, R: Threads + Wait + Sync, G: Gate<S
     ensures trace { IfOk result (λ done. HasProgram plan.now done.1) }
     ensures fault { IfErr result (IsTracedFaultOf plan.now.ranks) }
 {
-    let trace = Trace::with_room(alloc, plan.ranks(), events_of(plan))?;
-    let trace = SharedTrace::new(trace);
-    let logs = Log::open(alloc, plan, &trace, gate)?;
-    let room = Vec::with_capacity(alloc, logs.len())?;
-    let (finished, logs) = run_told(rt, alloc, plan, stores, capacity, gate, logs)?;
-    let Some(lists) = lists_of(logs, room) else {
-        return Err(RunFault::TraceTorn);
-    };
+    let trace = SharedTrace::new(Trace::with_room(alloc, plan.ranks(), events_of(plan))?);
+    let (finished, lists) = run_logged(rt, alloc, plan, stores, capacity, gate, &trace)?;
     let trace = trace.into_trace();
     if !trace.matches(&lists) {
         return Err(RunFault::TraceTorn);
     }
     Ok((finished, trace))
+}
+
+/// The same over a trace that is there, with room for all events: the ranks' own lists of what they recorded come with
+/// what they leave.
+fn run_logged<S: Semiring + Send + Sync, R: Threads + Wait + Sync, G: Gate<S>>(
+    rt: &R,
+    alloc: Global,
+    plan: &CheckedPlan,
+    stores: Vec<RankStore<S>>,
+    capacity: usize,
+    gate: &G,
+    trace: &SharedTrace,
+) -> Result<(Finished<S>, Vec<Vec<TraceEvent>>), RunFault>
+    requires { Fits plan.now.ranks plan.now.starts stores.items }
+    ensures meaning { IfOk result (λ done. HoldsMeaning S.arithmetic plan.now stores.items (finished_view done.0)) }
+    ensures lists { IfOk result (λ done. AreOfProgram plan.now (map (λ list. list.items) done.1.items)) }
+    ensures fault { IfErr result (IsTracedFaultOf plan.now.ranks) }
+{
+    let logs = Log::open(alloc, plan, trace, gate)?;
+    let room = Vec::with_capacity(alloc, logs.len())?;
+    let (finished, logs) = run_told(rt, alloc, plan, stores, capacity, gate, logs)?;
+    let Some(lists) = lists_of(logs, room) else {
+        return Err(RunFault::TraceTorn);
+    };
+    Ok((finished, lists))
 }
