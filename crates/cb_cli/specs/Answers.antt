@@ -20,7 +20,7 @@ use Rattle.cb_cli.specs.declared.jobs.Operation.TheVariants.{Multiply, MultiplyM
 use Rattle.cb_cli.specs.declared.jobs.Task.{Task}
 use Rattle.cb_cli.specs.declared.jobs.Task.TheVariants.{Matrix, Traced, Levels, Distances}
 use Rattle.cb_scripts.specs.Traced.{product_under, AgreeUnder, IsProductTrace, IsTracedRefusal}
-use Rattle.cb_scripts.specs.Walks.{AreLevels, AreDistances}
+use Rattle.cb_searches.specs.Walks.{AreLevels, AreDistances}
 use Rattle.cb_scripts.specs.Refusals.{IsGraphRefusal, IsRunRefusal}
 use Rattle.cb_scripts.specs.declared.Engine.{Engine}
 use Rattle.cb_scripts.specs.declared.ScriptFault.{ScriptFault}

@@ -5,7 +5,7 @@ ghost use Rattle.cb_cli.specs.Sinks.{AppendsPrefix};
 ghost use Rattle.cb_cli.specs.Jobs.{operand_count_of};
 ghost use Rattle.cb_market.specs.Text.{text_of, vertex_text_of};
 ghost use Rattle.cb_semirings.specs.Tables.{min_plus, or_and};
-ghost use Rattle.cb_scripts.specs.Walks.{AreLevels, AreDistances};
+ghost use Rattle.cb_searches.specs.Walks.{AreLevels, AreDistances};
 ghost use Rattle.cb_cli.specs.Semirings.{arithmetic_of};
 ghost use Rattle.cb_cli.specs.Answers.{IsAnswerOver, IsFaultOver, IsWalkAnswer, IsWalkFault, IsAnswer, IsFault, status_of};
 ghost use Rattle.cb_cli.specs.Files.{bytes_of};

@@ -8,7 +8,7 @@ use Rattle.cb_matrix.specs.Sparse.{Sparse, IsMatrix}
 use Rattle.cb_market.specs.declared.ReadFault.{ReadFault}
 use Rattle.cb_market.specs.Reads.{Reads}
 use Rattle.cb_market.specs.Text.{text_of}
-use Rattle.cb_scripts.specs.Walks.{AreLevels, AreDistances}
+use Rattle.cb_searches.specs.Walks.{AreLevels, AreDistances}
 use Rattle.cb_ffi.specs.declared.lists.Columns.{Columns}
 use Rattle.cb_ffi.specs.declared.texts.Text.{Text as Bytes}
 use Rattle.cb_ffi.specs.Lists.{matrix_of, HasLists}

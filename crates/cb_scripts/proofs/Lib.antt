@@ -22,22 +22,6 @@ pub mod PanelProducts
 pub mod MaskedBlocks
 -- TracedProducts: what ranks make that keep a trace, and the trace.
 pub mod TracedProducts
--- Walks. WalkCosts: how they begin, grow and end, and what they cost. ShortWalks: for each walk a short one that
--- costs no more. NumbersByRound: numbers that near the least costs, round by round. TurnedProducts: a round is the
--- product of the turned matrix. NearestRounds: a search, from its start to its end. UnitWeights: levels are distances where each
--- entry weighs 1. OneColumn: there is one column of distances. TakenNumbers, LowerEntries, NumberColumns: the
--- numbers known so far, those that fall, and their column.
-pub mod WalkCosts
-pub mod ShortWalks
-pub mod NumbersByRound
-pub mod TurnedProducts
-pub mod TakenNumbers
-pub mod LowerEntries
-pub mod NumberColumns
-pub mod FallenNumbers
-pub mod NearestRounds
-pub mod UnitWeights
-pub mod OneColumn
 -- SpreadProducts: a matrix over a grid times a vector.
 pub mod SpreadProducts
 -- OrderedRuns: what ranks leave that were stepped in some order, gathered.

@@ -4,11 +4,7 @@ pub mod Refusals
 pub mod Slots
 pub mod Answers
 pub mod Losses
--- Walks: walks in a graph, levels and distances. Numbers: the least numbers known so far. Searches: how they near the
--- least costs of walks. SpreadVectors: a matrix and a vector in the slots of the ranks.
-pub mod Walks
-pub mod Numbers
-pub mod Searches
+-- SpreadVectors: a matrix and a vector in the slots of the ranks.
 pub mod SpreadVectors
 -- Orders: ranks that are stepped one at a time, in any order: what they lose, and why they leave no answer.
 pub mod Orders

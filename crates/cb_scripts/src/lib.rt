@@ -10,32 +10,17 @@ ghost use Rattle.std.specs.Prelude.{◌≡◌};
 ghost use Rattle.cb_scripts.specs.declared.ScriptFault.TheVariants.{Memory};
 ghost use Rattle.cb_scripts.specs.Refusals.{fault_of_run};
 
-#[cfg(test)]
-mod grid_tests;
-#[cfg(test)]
-mod number_tests;
-mod numbers;
-#[cfg(test)]
-mod order_tests;
 mod orders;
 mod panels;
 mod placewise;
 pub mod plain;
 mod products;
-mod relaxations;
 mod rounds;
 mod runs;
-mod searches;
 mod stores;
-#[cfg(test)]
-mod tests;
-#[cfg(test)]
-mod trace_tests;
 mod traced;
 mod transposes;
 mod vectors;
-#[cfg(test)]
-mod walk_tests;
 mod walks;
 
 use cb_ranks::RunFault;

@@ -8,16 +8,15 @@ ghost use Rattle.cb_matrix.specs.Operations.{masked, pruned, sum_of, times_of, t
 ghost use Rattle.cb_elementwise.specs.Passing.{passes};
 ghost use Rattle.cb_scripts.specs.declared.Engine.TheVariants.{Plain};
 ghost use Rattle.cb_scripts.specs.Refusals.{IsGraphRefusal, IsMaskedRefusal, IsPlacewiseRefusal, IsProductRefusal, IsRunRefusal, IsVectorRefusal};
-ghost use Rattle.cb_scripts.specs.Walks.{AreDistances, AreLevels};
+ghost use Rattle.cb_searches.specs.Walks.{AreDistances, AreLevels};
 
 use crate::ScriptFault;
 use crate::placewise::{add_plan, prune_plan, times_plan};
 use crate::products::{empty_product, masked_without_plan, product_without_plan};
 use crate::rounds::{multiply_vector_plain, vector_plan};
 use crate::runs::compute_plain;
-use crate::searches::nearest_without_plan;
 use crate::transposes::{transpose_of_one, transpose_plan};
-use crate::walks::{check_graph, weighted};
+use crate::walks::{check_graph, nearest_without_plan, weighted};
 use cb_elementwise::Test;
 use cb_layout::DistributedMatrix;
 use cb_matrix::Matrix;

@@ -11,11 +11,11 @@ ghost use Rattle.cb_scripts.specs.SpreadVectors.{HasProduct, HasSpread, Multipli
 use crate::products::only_block;
 use crate::stores::{blank, drain, fill};
 use crate::{Engine, ScriptFault};
-use cb_dcsc::Block;
 use cb_kernels::{LEFT, RESULT, RIGHT, grid_vector};
 use cb_layout::{DistributedMatrix, Grid};
 use cb_matrix::{Matrix, Shape};
 use cb_plan::{CheckedPlan, RankStore};
+use cb_searches::vector_product;
 use cb_semirings::Semiring;
 use std::alloc::{AllocError, Global};
 use std::sync::Wait;
@@ -83,21 +83,6 @@ pub fn multiply_vector_plain<S: Semiring>(
     let stores = spread(alloc, grid, matrix, vector)?;
     let stores = Engine::run_plain(alloc, plan, stores)?;
     collect(alloc, grid, stores, a, a.with_columns_of(x))
-}
-
-/// The product of a block and a vector.
-pub(crate) fn vector_product<S: Semiring>(
-    alloc: Global,
-    block: &Block<S>,
-    vector: &Matrix<S>,
-) -> Result<Matrix<S>, AllocError>
-    requires { block.now.shape.cols ≡ vector.now.shape.rows }
-    ensures { IfOk result (λ m. m ≡ product S.arithmetic block.now vector.now) }
-{
-    let column = Block::from_ordered(alloc, vector.shape(), vector.entries())?;
-    let product = cb_product::multiply(alloc, block, &column)?;
-    let entries = product.entries()?;
-    Ok(Matrix::from_ordered(product.shape(), entries))
 }
 
 /// The matrix of the one shape and the column of the other, whose parts and pieces a run has left.

@@ -1,19 +1,19 @@
 //! The graph of a square matrix, in which a stored entry (i, j) is an edge from i to j: how far its vertices are
 //! from one of them.
 //!
-//! Both scripts are one [search](crate::searches). In a level each edge weighs 1.
+//! Both scripts are one [search](cb_searches::Search). In a level each edge weighs 1.
 ghost use Rattle.std.specs.Prelude.{◌≡◌, ℕ, ◌<◌, IfOk, IfErr, OnOk};
 ghost use Rattle.cb_matrix.specs.Sparse.{Sparse};
 ghost use Rattle.cb_scripts.specs.declared.Engine.TheVariants.{Plain};
-ghost use Rattle.cb_scripts.specs.Walks.{AreLevels, AreDistances};
+ghost use Rattle.cb_searches.specs.Walks.{AreLevels, AreDistances};
 ghost use Rattle.cb_scripts.specs.Refusals.{IsGraphRefusal, IsRunRefusal};
 
 use crate::rounds::{multiply_vector, vector_plan};
-use crate::searches::{Search, nearest_without_plan};
-use crate::transposes::transpose_distributed;
+use crate::transposes::{transpose_distributed, transposed_block};
 use crate::{Engine, ScriptFault};
 use cb_layout::{DistributedMatrix, Grid};
 use cb_matrix::Matrix;
+use cb_searches::Search;
 use cb_semirings::{MinPlus, OrAnd, Semiring};
 use std::alloc::{AllocError, Global};
 use std::sync::Wait;
@@ -36,11 +36,11 @@ fn nearest<R: Threads + Wait + Sync>(
         return Ok(nearest_without_plan(alloc, graph, source)?);
     }
     let grid = graph.grid();
-    let vertices = graph.shape().rows();
-    let mut search = Search::begin(alloc, &graph, source)?;
+    let shape = graph.shape();
+    let mut search = Search::begin(alloc, shape, graph.len(), source)?;
     let mut turned = transpose_distributed(rt, alloc, engine, graph)?;
     let plan = vector_plan(alloc, &grid, turned.shape())?;
-    for _round in 0..vertices {
+    for _round in 0..shape.rows() {
         let fell = search.fell();
         if fell.is_empty() {
             break;
@@ -51,6 +51,22 @@ fn nearest<R: Threads + Wait + Sync>(
     }
     let column = search.column(alloc)?;
     Ok(column)
+}
+
+/// The least weight of a walk from the source to each vertex, on the caller's thread, without a plan: the matrix is
+/// transposed as one block.
+pub(crate) fn nearest_without_plan(
+    alloc: Global,
+    graph: DistributedMatrix<MinPlus>,
+    source: u32,
+) -> Result<Matrix<MinPlus>, AllocError>
+    requires square { graph.matrix.shape.rows ≡ graph.matrix.shape.cols }
+    requires source { source < graph.matrix.shape.rows }
+    ensures { IfOk result (λ column. AreDistances graph.matrix source column) }
+{
+    let _shape = graph.shape();
+    let edges = transposed_block(alloc, graph)?;
+    cb_searches::nearest(alloc, &edges, source)
 }
 
 /// The least number of entries of a walk from the source to each vertex.

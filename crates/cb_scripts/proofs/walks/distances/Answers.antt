@@ -2,7 +2,7 @@ use Rattle.std.proofs.Common.{subst}
 use Rattle.std.specs.Prelude.{IfOk}
 use Rattle.cb_matrix.specs.Sparse.{Sparse}
 use Rattle.cb_layout.specs.Distributed.{Distributed}
-use Rattle.cb_scripts.specs.Walks.{AreDistances}
+use Rattle.cb_searches.specs.Walks.{AreDistances}
 use Rattle.cb_scripts.proofs.walks.distances.Goals as goal
 
 pub returns-clause-ok : goal.returns-clause-ok

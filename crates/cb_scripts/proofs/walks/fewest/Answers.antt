@@ -1,5 +1,5 @@
 use Rattle.std.proofs.lemmas.Result.{IfOk-weaker}
-use Rattle.cb_scripts.specs.Walks.{AreLevels, AreDistances}
+use Rattle.cb_searches.specs.Walks.{AreLevels, AreDistances}
 use Rattle.cb_scripts.proofs.walks.fewest.Goals as goal
 
 pub returns-clause-ok : goal.returns-clause-ok

@@ -1,7 +1,7 @@
 use Rattle.std.proofs.Common.{◌≡◌}
 use Rattle.cb_semirings.specs.Tables.{min_plus}
 use Rattle.cb_matrix.specs.Operations.{transposed}
-use Rattle.cb_scripts.specs.Searches.{IsSearch}
+use Rattle.cb_searches.specs.Searches.{IsSearch}
 use Rattle.cb_scripts.proofs.walks.nearest.Given as goal
 
 -- each round is one of a search, and the matrix is the transposed graph

@@ -1,8 +1,9 @@
-use Rattle.std.proofs.Common.{◌≡◌, ◌<◌, ℕ, ap, ◌∙◌, arith}
+use Rattle.std.proofs.Common.{◌≡◌, ◌<◌, ℕ, ap, subst, ◌∙◌, arith}
 use Rattle.std.proofs.lemmas.Result.{IfOk-weaker}
 use Rattle.cb_matrix.specs.Sparse.{Sparse, Extent}
-use Rattle.cb_scripts.specs.Walks.{infinite, AreLevels, AreDistances}
-use Rattle.cb_scripts.proofs.UnitWeights.{levels_found, weights_stored}
+use Rattle.cb_layout.specs.Distributed.{Distributed}
+use Rattle.cb_searches.specs.Walks.{infinite, AreLevels, AreDistances}
+use Rattle.cb_searches.proofs.UnitWeights.{levels_are, weights_stored}
 use Rattle.cb_scripts.proofs.walks.weighted.Goals as goal
 
 pub recast-requires : goal.recast-requires
@@ -15,4 +16,4 @@ returns-clause-levels c =
     let fits : a.shape.rows < infinite = omega (arith, c.rows-rows.ensures.limit) in
     IfOk-weaker c.recast.result (λ m. m ≡ c.args.graph)
     (λ m. (source : ℕ) (column : Sparse) → a.shape.rows ≡ a.shape.cols → source < a.shape.rows → AreDistances m.matrix source column → AreLevels a source column)
-    (λ m same. levels_found c.args.graph m c.shape.ensures.matrix fits same) c.recast.ensures
+    (λ m same source column square l h. levels_are a c.shape.ensures.matrix square fits source l column (subst (λ (m : Distributed). AreDistances m.matrix source column) same h)) c.recast.ensures

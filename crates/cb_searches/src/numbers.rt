@@ -1,0 +1,142 @@
+//! The numbers of the vertices of a graph, as a search knows them.
+//!
+//! A list with a place for each vertex answers at once, but costs memory and time for each vertex, and a graph may have
+//! many more vertices than entries. So there it is a tree of the vertices that have a number.
+ghost use Rattle.std.specs.Prelude.{◌≡◌, ◌≢◌, ℕ, ◌<◌, ◌==◌, cond, length, slice_index_or, IfOk, OnOk};
+ghost use Rattle.cb_semirings.specs.Tables.{min_plus};
+ghost use Rattle.cb_matrix.specs.Sparse.{at};
+ghost use Rattle.cb_searches.specs.Walks.{infinite};
+ghost use Rattle.cb_searches.specs.Numbers.{number_at, AreNumbers};
+ghost use Rattle.cb_searches.specs.declared.numbers.Numbers.TheVariants.{Tree};
+
+use cb_matrix::{Entry, Matrix, Shape};
+use cb_semirings::MinPlus;
+use std::alloc::{AllocError, Global};
+use std::collections::BTreeMap;
+
+/// How many vertices for each entry a list has places for at most.
+const VERTICES_PER_ENTRY: usize = 4;
+
+/// The numbers of the vertices of a graph as they are known so far: infinite where none is.
+#[derive(Drop)]
+pub(crate) enum Numbers {
+    /// That of each vertex.
+    Dense(Vec<u64>),
+    /// Those that aren't infinite.
+    Tree(BTreeMap<u32, u64>),
+}
+
+impl Numbers {
+    /// What is known at first in a graph of so many vertices and entries: the source has the number 0.
+    pub fn begin(
+        alloc: Global,
+        vertices: u32,
+        entries: usize,
+        source: u32,
+    ) -> Result<Self, AllocError>
+        requires { source < vertices }
+        ensures here { IfOk result (λ known. number_at known source ≡ 0) }
+        ensures there { IfOk result (λ known. (v : ℕ) → v ≢ source → number_at known v ≡ infinite) }
+        ensures numbers { IfOk result (λ known. AreNumbers vertices known) }
+    {
+        let mut known = Self::unknown(alloc, vertices, entries)?;
+        known.set(source, 0)?;
+        Ok(known)
+    }
+
+    /// No number is known.
+    fn unknown(alloc: Global, vertices: u32, entries: usize) -> Result<Self, AllocError>
+        ensures infinite { IfOk result (λ known. (v : ℕ) → number_at known v ≡ infinite) }
+        ensures numbers { IfOk result (λ known. AreNumbers vertices known) }
+    {
+        let vertices = vertices as usize;
+        if vertices / VERTICES_PER_ENTRY <= entries {
+            Ok(Numbers::Dense(vec![in alloc; u64::MAX; vertices]?))
+        } else {
+            Ok(Numbers::Tree(BTreeMap::new(alloc)))
+        }
+    }
+
+    /// The number of a vertex.
+    pub fn number_of(&self, vertex: u32) -> u64
+        ensures { result ≡ number_at self.now vertex }
+    {
+        match self {
+            Numbers::Dense(list) => list.get(vertex as usize).copied().unwrap_or(u64::MAX),
+            Numbers::Tree(tree) => tree.get(&vertex).copied().unwrap_or(u64::MAX),
+        }
+    }
+
+    /// Gives a vertex a number.
+    pub fn set(&mut self, vertex: u32, number: u64) -> Result<(), AllocError>
+        requires vertex { (n : ℕ) × AreNumbers n self.old × (vertex < n) }
+        ensures values { OnOk result ((v : ℕ) → number_at self.new v ≡ cond (v == vertex) number (number_at self.old v)) }
+        ensures numbers { OnOk result ((n : ℕ) → AreNumbers n self.old → vertex < n → number < infinite → AreNumbers n self.new) }
+    {
+        match self {
+            Numbers::Dense(list) => list[vertex as usize] = number,
+            Numbers::Tree(tree) => {
+                tree.insert(vertex, number)?;
+            }
+        }
+        Ok(())
+    }
+
+    /// Those that aren't infinite as a column. Costs a few instructions for each place of the list, or for each vertex
+    /// in the tree.
+    pub fn column(&self, alloc: Global, shape: Shape) -> Result<Matrix<MinPlus>, AllocError>
+        requires column { shape.cols ≡ 1 }
+        requires numbers { AreNumbers shape.rows self.now }
+        ensures shape { IfOk result (λ m. m.shape ≡ shape) }
+        ensures values { IfOk result (λ m. (v : ℕ) → at min_plus m v 0 ≡ number_at self.now v) }
+    {
+        match self {
+            Numbers::Dense(list) => list_column(alloc, shape, list),
+            Numbers::Tree(tree) => tree_column(alloc, shape, tree),
+        }
+    }
+}
+
+/// The numbers of a list that aren't infinite, as a column.
+fn list_column(alloc: Global, shape: Shape, list: &[u64]) -> Result<Matrix<MinPlus>, AllocError>
+    requires column { shape.cols ≡ 1 }
+    requires length { length list.now ≡ shape.rows }
+    ensures shape { IfOk result (λ m. m.shape ≡ shape) }
+    ensures values { IfOk result (λ m. (v : ℕ) → at min_plus m v 0 ≡ slice_index_or list.now v infinite) }
+{
+    let count = list.iter().filter(|number| **number != u64::MAX).count();
+    let mut entries = Vec::with_capacity(alloc, count)?;
+    for vertex in 0..shape.rows() {
+        let value = list[vertex as usize];
+        if value != u64::MAX {
+            entries.push(Entry {
+                row: vertex,
+                column: 0,
+                value,
+            })?;
+        }
+    }
+    Ok(Matrix::from_ordered(shape, entries))
+}
+
+/// The numbers of a tree as a column.
+fn tree_column(
+    alloc: Global,
+    shape: Shape,
+    tree: &BTreeMap<u32, u64>,
+) -> Result<Matrix<MinPlus>, AllocError>
+    requires column { shape.cols ≡ 1 }
+    requires numbers { AreNumbers shape.rows (Tree tree.now) }
+    ensures shape { IfOk result (λ m. m.shape ≡ shape) }
+    ensures values { IfOk result (λ m. (v : ℕ) → at min_plus m v 0 ≡ number_at (Tree tree.now) v) }
+{
+    let mut entries = Vec::with_capacity(alloc, tree.len())?;
+    for (vertex, number) in tree {
+        entries.push(Entry {
+            row: *vertex,
+            column: 0,
+            value: *number,
+        })?;
+    }
+    Ok(Matrix::from_ordered(shape, entries))
+}

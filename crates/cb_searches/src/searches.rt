@@ -1,0 +1,222 @@
+//! A search for the least weights of walks from one vertex of a graph, round by round.
+//!
+//! The numbers known so far near the least ones. A round multiplies the transposed matrix by the numbers that fell in
+//! the round before, in min-plus, and takes over what is lower. It ends when none falls, at the latest after as many
+//! rounds as there are vertices.
+//!
+//! Where the transposed matrix is one block, a round makes no product where the numbers are in a list and many of them fell:
+//! it [relaxes the edges](crate::relaxations) in the list itself.
+ghost use Rattle.std.specs.Prelude.{◌≡◌, ◌≢◌, ◌↔◌, ℕ, ◌+◌, ◌<◌, ◌≤◌, min, filter, [], All, AllPairs, IfOk, OnOk, IsTrue};
+ghost use Rattle.cb_semirings.specs.Tables.{min_plus};
+ghost use Rattle.cb_matrix.specs.Sparse.{Sparse, IsMatrix, at, value_at};
+ghost use Rattle.cb_matrix.specs.Values.{product, product_shape};
+ghost use Rattle.cb_matrix.specs.Operations.{transposed};
+ghost use Rattle.cb_searches.specs.Walks.{infinite, AreDistances};
+ghost use Rattle.cb_searches.specs.Numbers.{number_at, AreNumbers, is_lower};
+ghost use Rattle.cb_searches.specs.Searches.{HasEnded, IsSearch};
+
+use crate::numbers::Numbers;
+use crate::relaxations::relax_list;
+use cb_dcsc::Block;
+use cb_matrix::{Entry, Matrix, Shape};
+use cb_semirings::{MinPlus, Semiring};
+use std::alloc::{AllocError, Global};
+
+/// For how many vertices at most, for each that fell, a round walks a list of the numbers of all.
+const VERTICES_PER_FALLEN: usize = 32;
+
+/// The numbers of the vertices as they are known so far.
+#[derive(Drop)]
+pub struct Search {
+    known: Numbers,
+    /// Those that fell in the last round, in a column.
+    fell: Matrix<MinPlus>,
+}
+
+impl Search {
+    /// At first the source has the number 0, in the graph of a square matrix of this shape with so many entries. Memory is
+    /// that of a number for each vertex, or less, where there are many more vertices than entries.
+    pub fn begin(
+        alloc: Global,
+        shape: Shape,
+        entries: usize,
+        source: u32,
+    ) -> Result<Self, AllocError>
+        requires { source < shape.rows }
+        ensures { IfOk result (λ search. (a : Sparse) → IsMatrix min_plus a → a.shape ≡ shape → a.shape.rows ≡ a.shape.cols → IsSearch a source 0 search) }
+    {
+        let shape = column_shape(shape);
+        let known = Numbers::begin(alloc, shape.rows(), entries, source)?;
+        let fell = known.column(alloc, shape)?;
+        Ok(Search { known, fell })
+    }
+
+    /// The numbers that fell in the last round.
+    pub fn fell(&self) -> &Matrix<MinPlus>
+        ensures { result.now ≡ self.now.fell }
+    {
+        &self.fell
+    }
+
+    /// One round more: what it reached, where that is lower, is taken over.
+    pub fn advance(self, alloc: Global, reached: &Matrix<MinPlus>) -> Result<Self, AllocError>
+        requires round { (a : Sparse) × (source : ℕ) × (k : ℕ) × IsSearch a source k self × (reached.now ≡ product min_plus (transposed min_plus a) self.fell) }
+        ensures { IfOk result (λ next. (a : Sparse) (source k : ℕ) → IsSearch a source k self → reached.now ≡ product min_plus (transposed min_plus a) self.fell → IsSearch a source (k + 1) next) }
+    {
+        let _shape = self.fell.shape();
+        let mut known = self.known;
+        let fell = take_lower(alloc, &mut known, reached)?;
+        Ok(Search { known, fell })
+    }
+
+    /// One round more, on the transposed matrix as one block. Where the numbers are in a list, and at least one vertex
+    /// in 32 fell, the edges are relaxed in the list, at a few instructions for each vertex; else what is reached is a
+    /// product.
+    pub fn round(self, alloc: Global, edges: &Block<MinPlus>) -> Result<Self, AllocError>
+        requires round { (a : Sparse) × (source : ℕ) × (k : ℕ) × IsSearch a source k self × (edges.now ≡ transposed min_plus a) }
+        ensures { IfOk result (λ next. (a : Sparse) (source k : ℕ) → IsSearch a source k self → edges.now ≡ transposed min_plus a → IsSearch a source (k + 1) next) }
+    {
+        let _shape = self.fell.shape();
+        let mut known = self.known;
+        let fell = relax(alloc, &mut known, edges, &self.fell)?;
+        Ok(Search { known, fell })
+    }
+
+    /// The numbers as a column.
+    pub fn column(&self, alloc: Global) -> Result<Matrix<MinPlus>, AllocError>
+        requires search { (a : Sparse) × (source : ℕ) × (k : ℕ) × IsSearch a source k self.now }
+        ensures { IfOk result (λ column. (a : Sparse) (source k : ℕ) → IsSearch a source k self.now → HasEnded a k self.now → AreDistances a source column) }
+    {
+        self.known.column(alloc, self.fell.shape())
+    }
+}
+
+/// The shape of a column with a place for each row.
+fn column_shape(shape: Shape) -> Shape
+    ensures { result ≡ record { rows = shape.rows; cols = 1 } }
+{
+    Shape::new(shape.rows(), 1).unwrap()
+}
+
+/// Whether an entry is below what is known of its row.
+fn is_lower(known: &Numbers, entry: &Entry) -> bool
+    ensures { result ≡ is_lower known.now entry.now }
+{
+    entry.value < known.number_of(entry.row)
+}
+
+/// The entries below what is known of their rows.
+fn lower_entries(
+    alloc: Global,
+    known: &Numbers,
+    entries: &[Entry],
+) -> Result<Vec<Entry>, AllocError>
+    ensures { IfOk result (λ v. v.items ≡ filter (is_lower known.now) entries.now) }
+{
+    let mut lower = Vec::new(alloc);
+    for entry in entries {
+        if is_lower(known, entry) {
+            lower.push(*entry)?;
+        }
+    }
+    Ok(lower)
+}
+
+/// Takes over the entries' values.
+fn take_over(known: &mut Numbers, entries: &[Entry]) -> Result<(), AllocError>
+    requires numbers { (n : ℕ) × AreNumbers n known.old × All (λ e. (e.row < n) × (e.value < infinite)) entries.now }
+    requires rows { AllPairs (λ d e. d.row ≢ e.row) entries.now }
+    requires column { All (λ e. e.column ≡ 0) entries.now }
+    ensures values { OnOk result ((v : ℕ) → number_at known.new v ≡ value_at (number_at known.old v) entries.now v 0) }
+    ensures finite { OnOk result ((n : ℕ) → AreNumbers n known.old → All (λ e. (e.row < n) × (e.value < infinite)) entries.now → AreNumbers n known.new) }
+{
+    for entry in entries {
+        known.set(entry.row, entry.value)?;
+    }
+    Ok(())
+}
+
+/// Takes over the values below those known, and answers their entries.
+fn take_lower(
+    alloc: Global,
+    known: &mut Numbers,
+    reached: &Matrix<MinPlus>,
+) -> Result<Matrix<MinPlus>, AllocError>
+    requires column { reached.now.shape.cols ≡ 1 }
+    requires finite { AreNumbers reached.now.shape.rows known.old }
+    ensures finite { OnOk result (AreNumbers reached.now.shape.rows known.new) }
+    ensures least { OnOk result ((v : ℕ) → number_at known.new v ≡ min (number_at known.old v) (at min_plus reached.now v 0)) }
+    ensures shape { IfOk result (λ fell. fell.shape ≡ reached.now.shape) }
+    ensures new { IfOk result (λ fell. (v : ℕ) → at min_plus reached.now v 0 < number_at known.old v → at min_plus fell v 0 ≡ at min_plus reached.now v 0) }
+    ensures old { IfOk result (λ fell. (v : ℕ) → number_at known.old v ≤ at min_plus reached.now v 0 → at min_plus fell v 0 ≡ infinite) }
+{
+    let shape = reached.shape();
+    let lower = lower_entries(alloc, known, reached.entries())?;
+    take_over(known, &lower)?;
+    Ok(Matrix::from_ordered(shape, lower))
+}
+
+/// Takes over what one round reaches from the numbers that fell, where it is below what is known, and answers the
+/// numbers that fall.
+fn relax(
+    alloc: Global,
+    known: &mut Numbers,
+    edges: &Block<MinPlus>,
+    fell: &Matrix<MinPlus>,
+) -> Result<Matrix<MinPlus>, AllocError>
+    requires agree { edges.now.shape.cols ≡ fell.now.shape.rows }
+    requires column { fell.now.shape.cols ≡ 1 }
+    requires finite { AreNumbers edges.now.shape.rows known.old }
+    ensures finite { OnOk result (AreNumbers edges.now.shape.rows known.new) }
+    ensures least { OnOk result ((v : ℕ) → number_at known.new v ≡ min (number_at known.old v) (at min_plus (product min_plus edges.now fell.now) v 0)) }
+    ensures shape { IfOk result (λ m. m.shape ≡ product_shape edges.now fell.now) }
+    ensures new { IfOk result (λ m. (v : ℕ) → at min_plus (product min_plus edges.now fell.now) v 0 < number_at known.old v → at min_plus m v 0 ≡ at min_plus (product min_plus edges.now fell.now) v 0) }
+    ensures old { IfOk result (λ m. (v : ℕ) → number_at known.old v ≤ at min_plus (product min_plus edges.now fell.now) v 0 → at min_plus m v 0 ≡ infinite) }
+{
+    if let Numbers::Dense(list) = known {
+        if list.len() / VERTICES_PER_FALLEN <= fell.len() {
+            return relax_list(alloc, list, edges, fell);
+        }
+    }
+    let reached = vector_product(alloc, edges, fell)?;
+    take_lower(alloc, known, &reached)
+}
+
+/// The product of a block and a vector, a column of as many rows as the block has columns.
+pub fn vector_product<S: Semiring>(
+    alloc: Global,
+    block: &Block<S>,
+    vector: &Matrix<S>,
+) -> Result<Matrix<S>, AllocError>
+    requires { block.now.shape.cols ≡ vector.now.shape.rows }
+    ensures { IfOk result (λ m. m ≡ product S.arithmetic block.now vector.now) }
+{
+    let column = Block::from_ordered(alloc, vector.shape(), vector.entries())?;
+    let product = cb_product::multiply(alloc, block, &column)?;
+    let entries = product.entries()?;
+    Ok(Matrix::from_ordered(product.shape(), entries))
+}
+
+/// The least weight of a walk from the source to each vertex of the graph of a square matrix, of which this is the
+/// transposed one, as one block.
+pub fn nearest(
+    alloc: Global,
+    edges: &Block<MinPlus>,
+    source: u32,
+) -> Result<Matrix<MinPlus>, AllocError>
+    requires graph { (a : Sparse) × IsMatrix min_plus a × (a.shape.rows ≡ a.shape.cols) × (edges.now ≡ transposed min_plus a) }
+    requires source { source < edges.now.shape.cols }
+    ensures { IfOk result (λ column. (a : Sparse) → IsMatrix min_plus a → a.shape.rows ≡ a.shape.cols → edges.now ≡ transposed min_plus a → AreDistances a source column) }
+{
+    let shape = edges.shape();
+    let vertices = shape.rows();
+    let mut search = Search::begin(alloc, shape, edges.len(), source)?;
+    for _round in 0..vertices {
+        let fell = search.fell();
+        if fell.is_empty() {
+            break;
+        }
+        search = search.round(alloc, edges)?;
+    }
+    search.column(alloc)
+}
