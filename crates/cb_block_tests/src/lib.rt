@@ -8,8 +8,18 @@
 #[cfg(test)]
 mod dcsc;
 #[cfg(test)]
+mod dense;
+#[cfg(test)]
+mod elementwise;
+#[cfg(test)]
 mod matrix;
+#[cfg(test)]
+mod product;
+#[cfg(test)]
+mod reshape;
 #[cfg(test)]
 mod samples;
 #[cfg(test)]
 mod semirings;
+#[cfg(test)]
+mod spmspv;

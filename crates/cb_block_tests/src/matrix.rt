@@ -2,11 +2,11 @@
 use cb_matrix::{Entry, EntryFault, LIMIT, Matrix, ProductFault, Shape};
 use cb_samples::{are_values, entry, shape};
 use cb_semirings::{MaxMin, MinPlus, OrAnd, PlusTimes, Semiring};
-use std::alloc::Global;
+use std::alloc::{AllocError, Global};
 use std::test::Fail;
 
 /// The matrix of so many rows and columns with the sums of these entries.
-fn matrix<S: Semiring>(
+pub(crate) fn matrix<S: Semiring>(
     alloc: Global,
     rows: u32,
     cols: u32,
@@ -18,7 +18,19 @@ fn matrix<S: Semiring>(
     Ok(Matrix::from_entries(alloc, shape(rows, cols)?, entries)?)
 }
 
-/// Whether the product of two matrices of these sides (rows, inner side, columns) has its shape and these entries.
+/// The product of two matrices of these sides: rows, inner side, columns.
+fn product<S: Semiring>(
+    alloc: Global,
+    sides: [u32; 3],
+    left: &[Entry],
+    right: &[Entry],
+) -> Result<Matrix<S>, Fail> {
+    let a = matrix::<S>(alloc, sides[0], sides[1], left)?;
+    let b = matrix::<S>(alloc, sides[1], sides[2], right)?;
+    Ok(Matrix::plain_product(alloc, &a, &b)?)
+}
+
+/// Whether that product has its shape and these entries.
 fn is_product<S: Semiring>(
     alloc: Global,
     sides: [u32; 3],
@@ -26,10 +38,9 @@ fn is_product<S: Semiring>(
     right: &[Entry],
     wanted: &[Entry],
 ) -> Result<bool, Fail> {
-    let a = matrix::<S>(alloc, sides[0], sides[1], left)?;
-    let b = matrix::<S>(alloc, sides[1], sides[2], right)?;
-    let product = Matrix::plain_product(alloc, &a, &b)?;
-    Ok(product.shape() == shape(sides[0], sides[2])? && product.entries() == wanted)
+    let outer = shape(sides[0], sides[2])?;
+    let made = product::<S>(alloc, sides, left, right)?;
+    Ok(made.shape() == outer && made.entries() == wanted)
 }
 
 /// Two by two; matrices without rows and columns; three sides that differ; the largest sides, which cost what the
@@ -71,10 +82,7 @@ fn plain_products_of_plus_times(rt: HostRuntime) -> Result<(), Fail> {
         ),
     ];
     for (sides, left, right, wanted) in cases {
-        assert!(rt;
-            is_product::<PlusTimes>(rt.alloc(), sides, left, right, wanted)?,
-            "{sides:?}"
-        );
+        assert!(rt; is_product::<PlusTimes>(rt.alloc(), sides, left, right, wanted)?);
     }
     Ok(())
 }
@@ -85,10 +93,7 @@ fn plain_products_of_min_plus(rt: HostRuntime) -> Result<(), Fail> {
     let far = [entry(0, 0, u64::MAX - 1)];
     for (step, wanted) in [(1, [].as_slice()), (0, far.as_slice())] {
         let right = [entry(0, 0, step)];
-        assert!(rt;
-            is_product::<MinPlus>(rt.alloc(), [1; 3], &far, &right, wanted)?,
-            "{step}"
-        );
+        assert!(rt; is_product::<MinPlus>(rt.alloc(), [1; 3], &far, &right, wanted)?);
     }
     Ok(())
 }
@@ -106,55 +111,69 @@ fn plain_products_of_relations_and_capacities(rt: HostRuntime) -> Result<(), Fai
     Ok(())
 }
 
-/// Whether these entries make the matrix of one row and two columns with those, by each call that makes one of them,
-/// and its copy too.
-fn adds_up_to<S: Semiring>(alloc: Global, given: &[Entry], wanted: &[Entry]) -> Result<bool, Fail> {
+/// Whether a matrix and its copy have these entries.
+fn has_entries<S: Semiring>(made: &Matrix<S>, wanted: &[Entry]) -> Result<bool, AllocError> {
+    let copy = made.try_clone()?;
+    Ok(copy.shape() == made.shape() && made.entries() == wanted && copy.entries() == wanted)
+}
+
+/// Whether entries make a matrix with these, or why they make none.
+fn slice_makes<S: Semiring>(
+    alloc: Global,
+    shape: Shape,
+    given: &[Entry],
+    wanted: &[Entry],
+) -> Result<bool, EntryFault> {
     if !are_values::<S>(given) {
         return Ok(false);
     }
+    let made = Matrix::<S>::from_entries(alloc, shape, given)?;
+    Ok(has_entries(&made, wanted)?)
+}
+
+/// The same of a list that is given up.
+fn list_makes<S: Semiring>(
+    alloc: Global,
+    shape: Shape,
+    given: &[Entry],
+    wanted: &[Entry],
+) -> Result<bool, EntryFault> {
+    if !are_values::<S>(given) {
+        return Ok(false);
+    }
+    let made = Matrix::<S>::from_vec(shape, given.to_vec(alloc)?)?;
+    Ok(has_entries(&made, wanted)?)
+}
+
+/// Whether entries, as a slice and as a list, make a matrix of one row and two columns with this one.
+fn both_make<S: Semiring>(alloc: Global, given: &[Entry], wanted: Entry) -> Result<bool, Fail> {
     let sides = shape(1, 2)?;
-    let sum = Matrix::<S>::from_entries(alloc, sides, given)?;
-    let same = Matrix::<S>::from_vec(sides, given.to_vec(alloc)?)?;
-    let copy = sum.try_clone()?;
     Ok(
-        copy.shape() == sides
-            && sum.entries() == wanted
-            && same.entries() == wanted
-            && copy.entries() == wanted,
+        slice_makes::<S>(alloc, sides, given, &[wanted])?
+            && list_makes::<S>(alloc, sides, given, &[wanted])?,
     )
 }
 
 #[test]
 fn doubles_are_added_by_the_semiring(rt: HostRuntime) -> Result<(), Fail> {
-    let alloc = rt.alloc();
     let twice = [entry(0, 0, 3), entry(0, 0, 4)];
-    assert!(rt; adds_up_to::<PlusTimes>(alloc, &twice, &[entry(0, 0, 7)])?);
-    assert!(rt; adds_up_to::<MinPlus>(alloc, &twice, &[entry(0, 0, 3)])?);
     let ones = [entry(0, 0, 1), entry(0, 0, 1)];
-    assert!(rt; adds_up_to::<OrAnd>(alloc, &ones, &[entry(0, 0, 1)])?);
+    assert!(rt; both_make::<PlusTimes>(rt.alloc(), &twice, entry(0, 0, 7))?);
+    assert!(rt; both_make::<MinPlus>(rt.alloc(), &twice, entry(0, 0, 3))?);
+    assert!(rt; both_make::<OrAnd>(rt.alloc(), &ones, entry(0, 0, 1))?);
     Ok(())
-}
-
-/// The fault of entries that make no matrix of two by two, by each call that takes entries.
-fn faults(alloc: Global, given: &[Entry]) -> Result<[Option<EntryFault>; 2], Fail> {
-    let side = shape(2, 2)?;
-    if !are_values::<PlusTimes>(given) {
-        return Err("a value out of range".into());
-    }
-    let list = given.to_vec(alloc)?;
-    Ok([
-        Matrix::<PlusTimes>::from_entries(alloc, side, given).err(),
-        Matrix::<PlusTimes>::from_vec(side, list).err(),
-    ])
 }
 
 #[test]
 fn the_first_entry_outside_is_named(rt: HostRuntime) -> Result<(), Fail> {
     let given = [entry(0, 0, 3), entry(0, 2, 4), entry(2, 0, 5)];
-    assert_eq!(rt;
-        faults(rt.alloc(), &given)?,
-        [Some(EntryFault::Place(1)); 2]
-    );
+    let side = shape(2, 2)?;
+    for made in [
+        slice_makes::<PlusTimes>(rt.alloc(), side, &given, &given),
+        list_makes::<PlusTimes>(rt.alloc(), side, &given, &given),
+    ] {
+        assert_eq!(rt; made, Err(EntryFault::Place(1)));
+    }
     assert_eq!(rt; Shape::new(LIMIT, LIMIT + 1), None);
     Ok(())
 }
@@ -195,8 +214,7 @@ fn entries_are_counted_by_column_and_then_by_row(rt: HostRuntime) -> Result<(), 
     let given = [entry(2, 1, 6), entry(0, 1, 5), entry(1, 3, 7)];
     let matrix = matrix::<MinPlus>(rt.alloc(), 3, 4, &given)?;
     assert!(rt; matrix.len() == 3);
-    assert_eq!(rt; matrix.entry_at(0), entry(0, 1, 5));
-    assert_eq!(rt; matrix.entry_at(2), entry(1, 3, 7));
+    assert!(rt; matrix.entry_at(0) == entry(0, 1, 5) && matrix.entry_at(2) == entry(1, 3, 7));
     Ok(())
 }
 
@@ -210,21 +228,13 @@ fn mixed_diagonal() -> [Entry; 24] {
     given
 }
 
-/// Whether each call that makes a matrix of entries, and a copy, has the 24 entries of the diagonal; or why one of them
-/// was refused.
-fn has_diagonal(alloc: Global, side: Shape, given: &[Entry]) -> Result<bool, EntryFault> {
-    if !are_values::<PlusTimes>(given) {
-        return Ok(false);
+/// The same in order.
+fn diagonal() -> [Entry; 24] {
+    let mut ordered = [entry(0, 0, 1); 24];
+    for index in 0..24u32 {
+        ordered[index as usize] = entry(index, index, 1);
     }
-    let matrix = Matrix::<PlusTimes>::from_entries(alloc, side, given)?;
-    let same = Matrix::<PlusTimes>::from_vec(side, given.to_vec(alloc)?)?;
-    let copy = matrix.try_clone()?;
-    Ok(
-        matrix.entries().last() == Some(&entry(23, 23, 1))
-            && matrix.len() == 24
-            && same.entries() == matrix.entries()
-            && copy.entries() == matrix.entries(),
-    )
+    ordered
 }
 
 /// Whether the product of the diagonal with itself is the diagonal; or why it was refused.
@@ -242,14 +252,14 @@ fn is_its_square(alloc: Global, side: Shape, given: &[Entry]) -> Result<bool, Pr
 /// Each call that takes memory, one after another. Where memory is refused a call says so, and nothing else.
 #[test]
 fn refused_memory_is_said(rt: HostRuntime) -> Result<(), Fail> {
-    let (side, given) = (shape(24, 24)?, mixed_diagonal());
-    match has_diagonal(rt.alloc(), side, &given) {
-        Ok(holds) => assert!(rt; holds),
-        Err(fault) => assert_eq!(rt; fault, EntryFault::Memory),
+    let (side, given, wanted) = (shape(24, 24)?, mixed_diagonal(), diagonal());
+    for made in [
+        slice_makes::<PlusTimes>(rt.alloc(), side, &given, &wanted),
+        list_makes::<PlusTimes>(rt.alloc(), side, &given, &wanted),
+    ] {
+        assert!(rt; made == Ok(true) || made == Err(EntryFault::Memory));
     }
-    match is_its_square(rt.alloc(), side, &given) {
-        Ok(holds) => assert!(rt; holds),
-        Err(fault) => assert_eq!(rt; fault, ProductFault::Memory),
-    }
+    let square = is_its_square(rt.alloc(), side, &given);
+    assert!(rt; square == Ok(true) || square == Err(ProductFault::Memory));
     Ok(())
 }

@@ -18,39 +18,50 @@ fn each_semiring_has_its_zero_and_one(rt: HostRuntime) {
 
 #[test]
 fn sums_and_products_are_those_of_the_tables(rt: HostRuntime) {
-    assert_eq!(rt; PlusTimes::add(TOP, 3), 2);
-    assert_eq!(rt; PlusTimes::mul(1 << 32, 1 << 32), 0);
-    assert_eq!(rt; MinPlus::add(3, 4), 3);
-    assert_eq!(rt; MinPlus::mul(TOP - 1, 1), TOP);
-    assert_eq!(rt; MinPlus::mul(TOP, 4), TOP);
-    assert_eq!(rt; OrAnd::add(1, 0), 1);
-    assert_eq!(rt; OrAnd::mul(1, 0), 0);
-    assert_eq!(rt; MaxMin::add(3, 4), 4);
-    assert_eq!(rt; MaxMin::mul(3, 4), 3);
+    for (found, wanted) in [
+        (PlusTimes::add(TOP, 3), 2),
+        (PlusTimes::mul(1 << 32, 1 << 32), 0),
+        (MinPlus::add(3, 4), 3),
+        (MinPlus::mul(TOP - 1, 1), TOP),
+        (MinPlus::mul(TOP, 4), TOP),
+        (OrAnd::add(1, 0), 1),
+        (OrAnd::mul(1, 0), 0),
+        (MaxMin::add(3, 4), 4),
+        (MaxMin::mul(3, 4), 3),
+    ] {
+        assert_eq!(rt; found, wanted);
+    }
 }
 
 #[test]
 fn numbers_of_files_are_taken_by_the_range_of_the_semiring(rt: HostRuntime) {
-    let taken = [
+    for (negative, magnitude, plus_times, min_plus, or_and, max_min) in [
         (true, 1, Some(TOP), None, Some(1), None),
         (true, 0, Some(0), Some(0), Some(0), Some(0)),
         (false, 7, Some(7), Some(7), Some(1), Some(7)),
         (false, TOP, Some(TOP), None, Some(1), Some(TOP)),
-    ];
-    for (negative, magnitude, plus_times, min_plus, or_and, max_min) in taken {
-        assert_eq!(rt; PlusTimes::accept(negative, magnitude), plus_times);
-        assert_eq!(rt; MinPlus::accept(negative, magnitude), min_plus);
-        assert_eq!(rt; OrAnd::accept(negative, magnitude), or_and);
-        assert_eq!(rt; MaxMin::accept(negative, magnitude), max_min);
+    ] {
+        for (taken, wanted) in [
+            (PlusTimes::accept(negative, magnitude), plus_times),
+            (MinPlus::accept(negative, magnitude), min_plus),
+            (OrAnd::accept(negative, magnitude), or_and),
+            (MaxMin::accept(negative, magnitude), max_min),
+        ] {
+            assert!(rt; taken == wanted);
+        }
     }
 }
 
 #[test]
 fn only_plus_times_has_negatives(rt: HostRuntime) {
-    assert_eq!(rt; PlusTimes::negative(5), Some(TOP - 4));
-    assert_eq!(rt; PlusTimes::negative(0), Some(0));
-    assert_eq!(rt; MinPlus::negative(5), None);
-    assert_eq!(rt; OrAnd::negative(1), None);
-    assert_eq!(rt; MaxMin::negative(5), None);
+    for (found, wanted) in [
+        (PlusTimes::negative(5), Some(TOP - 4)),
+        (PlusTimes::negative(0), Some(0)),
+        (MinPlus::negative(5), None),
+        (OrAnd::negative(1), None),
+        (MaxMin::negative(5), None),
+    ] {
+        assert!(rt; found == wanted);
+    }
     assert!(rt; OrAnd::is_value(1) && !OrAnd::is_value(2));
 }

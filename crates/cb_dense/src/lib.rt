@@ -80,6 +80,3 @@ fn add_column<S: Semiring>(sums: &mut [u64], rows: &[u32], values: &[u64], scale
         sums[row] = S::add(sums[row], S::mul(values[n], scale));
     }
 }
-
-#[cfg(test)]
-mod tests;

@@ -18,8 +18,6 @@ ghost use Rattle.cb_elementwise.specs.Passing.{passes};
 mod cursors;
 mod joins;
 mod rules;
-#[cfg(test)]
-mod tests;
 
 use crate::joins::joined;
 use crate::rules::{Product, Restriction, Sum};

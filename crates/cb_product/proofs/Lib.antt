@@ -18,3 +18,5 @@ pub mod OwnColumn
 -- ColumnStarts: where the entries of each column start among all: `column_from_starts`, `starts_none`, `starts_more`,
 --   `starts_all`.
 pub mod ColumnStarts
+-- Written: a vector that was lent as a slice and written to: `written`.
+mod Written

@@ -1,5 +1,5 @@
 //! Columns of a product as they are made, and the sum of two.
-ghost use Rattle.std.specs.Prelude.{◌≡◌, ◌≢◌, IsTrue, ℕ, ◌<◌, ◌≤◌, List, [], length, drop, All, AllPairs, Contains, IfOk, OnOk, slice_index};
+ghost use Rattle.std.specs.Prelude.{◌≡◌, ◌≢◌, ◌↔◌, IsTrue, ℕ, ◌<◌, ◌≤◌, List, [], length, drop, All, AllPairs, Contains, IfOk, OnOk, slice_index};
 ghost use Rattle.cb_semirings.specs.Arithmetic.{IsValue};
 ghost use Rattle.cb_dcsc.specs.Columns.{in_column, rows_of, values_of, row_value};
 ghost use Rattle.cb_product.specs.SparseColumn.{IsSparseColumn, value_in, rest_value, one_value};
@@ -66,7 +66,7 @@ impl<S: Semiring> Column<S> {
     {
         // For the proof alone: what an entry that isn't stored would add to are values.
         let _entries = self.entries();
-        if value == S::zero() {
+        if is_zero::<S>(value) {
             return Ok(());
         }
         self.rows.reserve(1)?;
@@ -138,6 +138,14 @@ impl<S: Semiring> Column<S> {
         self.append(own_rows, own_values, S::one(), x)?;
         self.append(rows, values, scale, y)
     }
+}
+
+/// Whether a value is the zero, which is not stored.
+#[inline(always)]
+fn is_zero<S: Semiring>(value: u64) -> bool
+    ensures { IsTrue result ↔ (value ≡ S.arithmetic.zero) }
+{
+    value == S::zero()
 }
 
 /// The rows and values of a column, which is the next of those that have entries, or stands before it, or is looked

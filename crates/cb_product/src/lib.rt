@@ -19,13 +19,15 @@
 //! Sci. Comput. 2012, section 4.2).
 #![tactic(auto)]
 
-ghost use Rattle.std.specs.Prelude.{◌≡◌, ◌<◌, All, AllPairs, IfOk, IfErr};
-ghost use Rattle.cb_matrix.specs.Values.{product, product_shape};
+ghost use Rattle.std.specs.Prelude.{◌≡◌, ◌<◌, All, AllPairs, IfOk, IfErr, OnOk};
+ghost use Rattle.cb_matrix.specs.Sparse.{IsMatrix};
+ghost use Rattle.cb_matrix.specs.Values.{product, product_shape, empty_matrix};
 ghost use Rattle.cb_matrix.specs.Operations.{sum_of};
+ghost use Rattle.cb_product.specs.ColumnStarts.{Tells};
 ghost use Rattle.cb_product.specs.InColumns.{AreInColumns};
 
 use crate::column_index::ColumnIndex;
-use crate::terms::gather;
+use crate::terms::{Term, gather};
 use crate::workspace::Workspace;
 use cb_dcsc::Block;
 use cb_semirings::Semiring;
@@ -111,23 +113,55 @@ fn accumulate<S: Semiring>(
     requires right_columns { AreInColumns columns.now right.now.entries }
     ensures { IfOk result (λ m. m ≡ sum_of S.arithmetic accumulator.now (product S.arithmetic left.now right.now)) }
 {
-    let left_shape = left.shape();
-    let right_shape = right.shape();
-    let mut out = Block::empty(alloc, accumulator.shape());
     let index = ColumnIndex::new(alloc, left, right.len())?;
-    let products = index.products(left, right.row_numbers());
-    let places = columns.len().saturating_mul(left_shape.rows() as usize);
-    let most = products.min(places);
-    // Where memory is refused for what may come, there can still be enough for what comes.
-    let _ = out.reserve(room(left.len(), right.len(), accumulator.len(), most));
+    let mut out = with_room(alloc, left, right, accumulator, columns.len(), &index);
     let mut work = Workspace::new(alloc)?;
     let mut terms = Vec::new(alloc);
+    make_columns(
+        left,
+        right,
+        accumulator,
+        columns,
+        &index,
+        &mut work,
+        &mut terms,
+        &mut out,
+    )?;
+    Ok(out)
+}
+
+/// Makes the columns of the sum one after another, and stores them in a block without entries.
+fn make_columns<S: Semiring>(
+    left: &Block<S>,
+    right: &Block<S>,
+    accumulator: &Block<S>,
+    columns: &[u32],
+    index: &ColumnIndex,
+    work: &mut Workspace<S>,
+    terms: &mut Vec<Term>,
+    out: &mut Block<S>,
+) -> Result<(), AllocError>
+    requires agree { left.now.shape.cols ≡ right.now.shape.rows }
+    requires shape { accumulator.now.shape ≡ product_shape left.now right.now }
+    requires ascending { AllPairs (λ c d. c < d) columns.now }
+    requires within { All (λ c. c < right.now.shape.cols) columns.now }
+    requires accumulator_columns { AreInColumns columns.now accumulator.now.entries }
+    requires right_columns { AreInColumns columns.now right.now.entries }
+    requires told { Tells index.now left.now }
+    requires zeros { All (λ x. x ≡ S.arithmetic.zero) work.old.sums }
+    requires empty { out.old ≡ empty_matrix accumulator.now.shape }
+    requires matrix { IsMatrix S.arithmetic out.old }
+    ensures { OnOk result (out.new ≡ sum_of S.arithmetic accumulator.now (product S.arithmetic left.now right.now)) }
+{
+    let left_shape = left.shape();
+    let right_shape = right.shape();
+    let own_shape = accumulator.shape();
     let mut next = 0;
     let mut own_next = 0;
     let mut seen = 0usize;
     for column in columns {
         let (rows, values) = columns::of_next(right, &mut next, *column);
-        let products = gather(&mut terms, left, &index, rows, values)?;
+        let products = gather(terms, left, index, rows, values)?;
         let (own_rows, own_values) = columns::of_next(accumulator, &mut own_next, *column);
         if terms.is_empty() {
             out.push_column(*column, own_rows, own_values)?;
@@ -136,11 +170,35 @@ fn accumulate<S: Semiring>(
         let entries = products.saturating_add(own_rows.len());
         seen = seen.saturating_add(entries);
         let dense = is_dense(left_shape.rows(), entries, seen);
-        work.make(left, &terms, own_rows, own_values, dense)?;
+        work.make(left, terms, own_rows, own_values, dense)?;
         let (made_rows, made_values) = work.made.entries();
         out.push_column(*column, made_rows, made_values)?;
     }
-    Ok(out)
+    Ok(())
+}
+
+/// A block without entries, of the accumulator's shape, with room for what may come to stand in so many columns.
+fn with_room<S: Semiring>(
+    alloc: Global,
+    left: &Block<S>,
+    right: &Block<S>,
+    accumulator: &Block<S>,
+    columns: usize,
+    index: &ColumnIndex,
+) -> Block<S>
+    requires agree { left.now.shape.cols ≡ right.now.shape.rows }
+    requires told { Tells index.now left.now }
+    ensures value { result ≡ empty_matrix accumulator.now.shape }
+    ensures matrix { IsMatrix S.arithmetic result }
+{
+    let right_shape = right.shape();
+    let mut out = Block::empty(alloc, accumulator.shape());
+    let products = index.products(left, right.row_numbers());
+    let places = columns.saturating_mul(left.shape().rows() as usize);
+    let most = products.min(places);
+    // Where memory is refused for what may come, there can still be enough for what comes.
+    let _ = out.reserve(room(left.len(), right.len(), accumulator.len(), most));
+    out
 }
 
 /// For how many entries room is taken at once: for all that may come, but no more than for a fixed multiple of what
@@ -159,6 +217,3 @@ fn is_dense(rows: u32, entries: usize, seen: usize) -> bool {
     let rows = rows as usize;
     rows / 16384 <= entries && rows / 4 <= seen
 }
-
-#[cfg(test)]
-mod tests;

@@ -17,8 +17,6 @@ ghost use Rattle.cb_reshape.specs.Exchange.{exchanged};
 
 mod counting;
 mod parts;
-#[cfg(test)]
-mod tests;
 
 use crate::counting::transpose_by_counting;
 use crate::parts::{Part, moved};

@@ -31,6 +31,3 @@ pub fn times_vector<S: Semiring>(
 {
     multiply(alloc, matrix, vector)
 }
-
-#[cfg(test)]
-mod tests;

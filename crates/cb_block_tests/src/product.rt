@@ -1,8 +1,9 @@
 //! Worked examples, with ample memory and with each allocation refused in turn.
-use crate::column_index::ColumnIndex;
-use crate::{multiply, multiply_into};
+use crate::matrix::matrix;
+use cb_dcsc::BlockFault;
 use cb_matrix::{Entry, LIMIT, Matrix};
-use cb_samples::{SampleFault, are_values, block, entry, shape};
+use cb_product::{multiply, multiply_into};
+use cb_samples::{SampleFault, block, entry};
 use cb_semirings::{MinPlus, OrAnd, PlusTimes, Semiring};
 use std::alloc::Global;
 use std::test::Fail;
@@ -100,19 +101,36 @@ fn three_columns_meet_in_one_row(rt: HostRuntime) -> Result<(), Fail> {
     Ok(())
 }
 
-/// Two by two, where a sum comes to zero; and blocks without entries, by which nothing is added.
+/// Two by two, where a sum comes to zero; blocks without entries, by which nothing is added; and a tall accumulator,
+/// which is merged in, and whose own columns come along.
 #[test]
 fn products_that_are_added(rt: HostRuntime) -> Result<(), Fail> {
-    let cases: [([&[Entry]; 3], &[Entry]); 3] = [
+    let own = [
+        entry(7, 0, 1),
+        entry(5, 1, 1),
+        entry(8, 1, 1),
+        entry(3, 2, 1),
+    ];
+    let tall = [
+        entry(7, 0, 1),
+        entry(5, 1, 21),
+        entry(8, 1, 1),
+        entry(9, 1, 430),
+        entry(3, 2, 1),
+    ];
+    let cases: [([u32; 3], [&[Entry]; 3], &[Entry]); 4] = [
         (
+            [2, 2, 2],
             [&[], &[entry(1, 0, 4)], &[entry(0, 1, 7)]],
             &[entry(0, 1, 7)],
         ),
         (
+            [2, 2, 2],
             [&[entry(0, 0, 1)], &[], &[entry(0, 1, 7)]],
             &[entry(0, 1, 7)],
         ),
         (
+            [2, 2, 2],
             [
                 &[entry(0, 0, 1), entry(0, 1, 2), entry(1, 1, 3)],
                 &[entry(1, 0, 4), entry(0, 1, 1)],
@@ -120,34 +138,20 @@ fn products_that_are_added(rt: HostRuntime) -> Result<(), Fail> {
             ],
             &[entry(0, 0, 8), entry(1, 0, 12), entry(1, 1, 5)],
         ),
+        (
+            [LIMIT, 2, 3],
+            [
+                &[entry(5, 0, 2), entry(9, 0, 3), entry(9, 1, 4)],
+                &[entry(0, 1, 10), entry(1, 1, 100)],
+                &own,
+            ],
+            &tall,
+        ),
     ];
-    for ([left, right, own], wanted) in cases {
-        let sum = added(rt.alloc(), [2, 2, 2], left, right, own)?;
+    for (sides, [left, right, own], wanted) in cases {
+        let sum = added(rt.alloc(), sides, left, right, own)?;
         assert_eq!(rt; sum.as_slice(), wanted);
     }
-    Ok(())
-}
-
-/// A tall accumulator is merged in, and its own columns come along.
-#[test]
-fn products_that_are_added_to_a_tall_accumulator(rt: HostRuntime) -> Result<(), Fail> {
-    let left = [entry(5, 0, 2), entry(9, 0, 3), entry(9, 1, 4)];
-    let right = [entry(0, 1, 10), entry(1, 1, 100)];
-    let own = [
-        entry(7, 0, 1),
-        entry(5, 1, 1),
-        entry(8, 1, 1),
-        entry(3, 2, 1),
-    ];
-    let sum = added(rt.alloc(), [LIMIT, 2, 3], &left, &right, &own)?;
-    let wanted = [
-        entry(7, 0, 1),
-        entry(5, 1, 21),
-        entry(8, 1, 1),
-        entry(9, 1, 430),
-        entry(3, 2, 1),
-    ];
-    assert_eq!(rt; sum.as_slice(), wanted.as_slice());
     Ok(())
 }
 
@@ -240,18 +244,8 @@ fn gapped() -> [Entry; 5] {
     ]
 }
 
-/// Which index the block of these entries has where so many columns are asked for.
-fn index_of(alloc: Global, cols: u32, asked: usize) -> Result<&'static str, SampleFault> {
-    let left = block::<PlusTimes>(alloc, 5, cols, &gapped())?;
-    Ok(match ColumnIndex::new(alloc, &left, asked)? {
-        ColumnIndex::Starts(_) => "starts",
-        ColumnIndex::Hashed { .. } => "hashed",
-        ColumnIndex::Searched => "searched",
-    })
-}
-
-/// Eight columns are asked for: all by one column of the right block where the index has starts or is hashed, and each
-/// by a block of its own where columns are searched for.
+/// Eight columns are asked for, all by one column of the right block: of 8 columns the index has starts, and of
+/// 2,147,483,647 it is hashed. Then each is asked for by a block of its own, and searched for.
 #[test]
 fn each_index_finds_columns_with_and_without_entries(rt: HostRuntime) -> Result<(), Fail> {
     let alloc = rt.alloc();
@@ -259,9 +253,6 @@ fn each_index_finds_columns_with_and_without_entries(rt: HostRuntime) -> Result<
     for column in 0..8 {
         all.push(entry(column, 0, 1))?;
     }
-    assert_eq!(rt; index_of(alloc, 8, all.len())?, "starts");
-    assert_eq!(rt; index_of(alloc, LIMIT, all.len())?, "hashed");
-    assert_eq!(rt; index_of(alloc, 8, 1)?, "searched");
     let wanted = [
         entry(0, 0, 30),
         entry(1, 0, 10),
@@ -377,37 +368,31 @@ fn named(alloc: Global) -> Result<Vec<Entry>, Fail> {
     Ok(entries)
 }
 
-/// The matrix of plus-times that has the sums of these entries.
-fn matrix(
-    alloc: Global,
-    rows: u32,
-    cols: u32,
-    entries: &[Entry],
-) -> Result<Matrix<PlusTimes>, Fail> {
-    if !are_values::<PlusTimes>(entries) {
-        return Err("a value out of range".into());
-    }
-    Ok(Matrix::from_entries(alloc, shape(rows, cols)?, entries)?)
-}
-
-/// The entries of the product by its definition, row by column, and of that product added to a block.
+/// The entries of the product by its definition, row by column.
 fn plain(
     alloc: Global,
     sides: [u32; 3],
     left: &[Entry],
     right: &[Entry],
-    own: &[Entry],
-) -> Result<(Vec<Entry>, Vec<Entry>), Fail> {
-    let a = matrix(alloc, sides[0], sides[1], left)?;
-    let b = matrix(alloc, sides[1], sides[2], right)?;
+) -> Result<Vec<Entry>, Fail> {
+    let a = matrix::<PlusTimes>(alloc, sides[0], sides[1], left)?;
+    let b = matrix::<PlusTimes>(alloc, sides[1], sides[2], right)?;
     let product = Matrix::plain_product(alloc, &a, &b)?;
-    let mut both = product.entries().to_vec(alloc)?;
-    both.extend_from_slice(own)?;
-    let sum = matrix(alloc, sides[0], sides[2], &both)?;
-    Ok((
-        product.entries().to_vec(alloc)?,
-        sum.entries().to_vec(alloc)?,
-    ))
+    Ok(product.entries().to_vec(alloc)?)
+}
+
+/// The entries of the sum of two matrices of so many rows and columns.
+fn plain_sum(
+    alloc: Global,
+    rows: u32,
+    cols: u32,
+    left: &[Entry],
+    right: &[Entry],
+) -> Result<Vec<Entry>, Fail> {
+    let mut both = left.to_vec(alloc)?;
+    both.extend_from_slice(right)?;
+    let sum = matrix::<PlusTimes>(alloc, rows, cols, &both)?;
+    Ok(sum.entries().to_vec(alloc)?)
 }
 
 /// Among 5,000 rows the first two columns are made by the sparse accumulator, among 2,147,483,647 one by the heap and
@@ -425,11 +410,12 @@ fn each_way_gives_the_plain_product(rt: HostRuntime) -> Result<(), Fail> {
     for rows in [5000, LIMIT] {
         let (alloc, sides) = (rt.alloc(), [rows, 30, 4]);
         let left = spread(alloc, rows)?;
-        let (wanted, wanted_sum) = plain(alloc, sides, &left, &right, &own)?;
+        let wanted = plain(alloc, sides, &left, &right)?;
         let found = product::<PlusTimes>(alloc, sides, &left, &right)?;
         assert_eq!(rt; found.as_slice(), wanted.as_slice());
+        let wanted = plain_sum(alloc, rows, 4, &found, &own)?;
         let sum = added(alloc, sides, &left, &right, &own)?;
-        assert_eq!(rt; sum.as_slice(), wanted_sum.as_slice());
+        assert_eq!(rt; sum.as_slice(), wanted.as_slice());
     }
     Ok(())
 }
@@ -440,12 +426,11 @@ fn each_way_gives_the_plain_product(rt: HostRuntime) -> Result<(), Fail> {
 fn a_refused_product_answers_memory(rt: HostRuntime) {
     let left = [entry(0, 0, 1), entry(0, 1, 2), entry(1, 1, 3)];
     let right = [entry(0, 0, 10), entry(1, 0, 100)];
+    let sums = [entry(0, 0, 210), entry(1, 0, 300)];
     for rows in [2, LIMIT] {
-        if let Ok(found) = product::<PlusTimes>(rt.alloc(), [rows, 2, 1], &left, &right) {
-            assert_eq!(rt;
-                found.as_slice(),
-                [entry(0, 0, 210), entry(1, 0, 300)].as_slice()
-            );
+        match product::<PlusTimes>(rt.alloc(), [rows, 2, 1], &left, &right) {
+            Ok(found) => assert_eq!(rt; found.as_slice(), sums.as_slice()),
+            Err(fault) => assert_eq!(rt; fault, SampleFault::Block(BlockFault::Memory)),
         }
     }
 }

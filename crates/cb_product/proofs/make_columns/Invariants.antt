@@ -2,7 +2,7 @@ use Rattle.std.proofs.Common.{◌≡◌}
 use Rattle.std.specs.Prelude.{All}
 use Rattle.cb_product.specs.ColumnStarts.{Tells}
 use Rattle.cb_product.proofs.ProductColumns.{IsSumSoFar}
-use Rattle.cb_product.proofs.accumulate.Given as goal
+use Rattle.cb_product.proofs.make_columns.Given as goal
 
 abbrev pub invariant-loop-column : goal.invariant-loop-column
 invariant-loop-column g l =

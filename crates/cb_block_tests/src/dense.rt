@@ -1,7 +1,7 @@
 //! Worked examples.
 ghost use Rattle.std.specs.Prelude.{◌≡◌, IfOk};
 
-use crate::add_product;
+use cb_dense::add_product;
 use cb_matrix::{Entry, LIMIT, Matrix};
 use cb_samples::{are_values, block, entry, shape};
 use cb_semirings::{MinPlus, PlusTimes, Semiring};

@@ -11,22 +11,17 @@ use Rattle.cb_product.proofs.TermSums.{matrix_values, terms_value-end}
 use Rattle.cb_product.proofs.OwnColumn.{own_sparse, own_alone}
 use Rattle.cb_product.proofs.RowSums.{sum_past}
 use Rattle.cb_product.proofs.StoredColumn.{column_inside, column_adds}
-use Rattle.cb_product.proofs.accumulate.Goals as goal
+use Rattle.cb_product.proofs.make_columns.Goals as goal
 
 pub loop-column-init : goal.loop-column-init
 loop-column-init g c =
     let s = g.S.Semiring.arithmetic in
     let r = c.requires in
     record {
-      so_far = rw c.reserve.ensures.same (sum_start s g.met.S.Semiring.is_semiring c.args.accumulator.now c.args.left.now c.args.right.now c.shape.ensures.matrix c.shape-left_shape.ensures.matrix c.shape-right_shape.ensures.matrix r.agree c.args.columns.now r.ascending r.within r.accumulator_columns r.right_columns _ c.empty-out.ensures.matrix (c.empty-out.ensures.value ∙ ap (λ (e : Extent). record { shape = e; entries = _ }) c.shape.ensures.shape));
-      zeros = c.in_ok-work.ensures;
-      told = c.in_ok-index.ensures;
+      so_far = sum_start s g.met.S.Semiring.is_semiring c.args.accumulator.now c.args.left.now c.args.right.now c.shape-own_shape.ensures.matrix c.shape-left_shape.ensures.matrix c.shape-right_shape.ensures.matrix r.agree c.args.columns.now r.ascending r.within r.accumulator_columns r.right_columns _ c.requires.matrix c.requires.empty;
+      zeros = c.requires.zeros;
+      told = c.requires.told;
     }
-
-pub products-products-requires-clause-inside : goal.products-products-requires-clause-inside
-products-products-requires-clause-inside g c =
-    let rows = all_rows_inside g.S.Semiring.arithmetic c.args.right.now _ c.shape-right_shape.ensures.matrix c.row_numbers.ensures in
-    subst (λ n. All (λ i. i < n) c.row_numbers.result.now) (sym c.requires.agree) rows
 
 pub gather-requires-clause-told : goal.gather-requires-clause-told
 gather-requires-clause-told g c = c.loop-column.invariant.told
@@ -44,7 +39,7 @@ make-requires-clause-own g c =
     record {
       same_length = as_long c.args.accumulator.now.entries _ _ _ own.ensures.rows own.ensures.values;
       ascending = own.ensures.ascending;
-      inside = subst (λ n. All (λ i. i < n) own.result.0.now) shape (rows_inside s c.args.accumulator.now _ _ c.shape.ensures.matrix own.ensures.rows);
+      inside = subst (λ n. All (λ i. i < n) own.result.0.now) shape (rows_inside s c.args.accumulator.now _ _ c.shape-own_shape.ensures.matrix own.ensures.rows);
       are_values = own.ensures.are_values;
     }
 
@@ -57,7 +52,7 @@ pub push_column-requires-clause-rows : goal.push_column-requires-clause-rows
 push_column-requires-clause-rows g c =
     let own = c.of_next-in-loop-column in
     let rows = ap (λ (e : Extent). e.rows) c.loop-column.invariant.so_far.shape in
-    subst (λ n. All (λ i. i < n) own.result.0.now) (sym rows) (rows_inside g.S.Semiring.arithmetic c.args.accumulator.now _ _ c.shape.ensures.matrix own.ensures.rows)
+    subst (λ n. All (λ i. i < n) own.result.0.now) (sym rows) (rows_inside g.S.Semiring.arithmetic c.args.accumulator.now _ _ c.shape-own_shape.ensures.matrix own.ensures.rows)
 
 pub push_column-requires-clause-before : goal.push_column-requires-clause-before
 push_column-requires-clause-before g c =
@@ -67,7 +62,7 @@ push_column-requires-clause-before g c =
 pub push_column-requires-clause-not_zero : goal.push_column-requires-clause-not_zero
 push_column-requires-clause-not_zero g c =
     let own = c.of_next-in-loop-column in
-    let column = own_sparse g.S.Semiring.arithmetic c.args.accumulator.now c.shape.ensures.matrix _ _ _ own.ensures.rows own.ensures.values in
+    let column = own_sparse g.S.Semiring.arithmetic c.args.accumulator.now c.shape-own_shape.ensures.matrix _ _ _ own.ensures.rows own.ensures.values in
     column.not_zero
 
 pub loop-column-preserved-then-is_empty : goal.loop-column-preserved-then-is_empty
@@ -80,13 +75,13 @@ loop-column-preserved-then-is_empty g c =
     let sums = rw (c.of_next.ensures.rows, c.of_next.ensures.values) at c.in_ok-products.ensures.sums in
     let here = get_or_default c.args.columns.now c.loop-column.column-index c.args.right.now.shape.cols 0 c.loop-column-test.true in
     let before = subst (λ n. All (λ e. e.column < n) c.loop-column.out.entries) here c.loop-column.invariant.so_far.before in
-    let column = own_sparse s c.args.accumulator.now c.shape.ensures.matrix _ _ _ own.ensures.rows own.ensures.values in
+    let column = own_sparse s c.args.accumulator.now c.shape-own_shape.ensures.matrix _ _ _ own.ensures.rows own.ensures.values in
     let length_is = eqb-true _ 0 (sym c.is_empty.ensures ∙ c.if-is_empty.true) in
     let none = λ (i : ℕ). sym (sums i) ∙ terms_value-end s laws (rows_of left.entries) (values_of left.entries) (matrix_values s laws left c.shape-left_shape.ensures.matrix) i 0 _ (omega (arith, length_is)) in
-    let alone = own_alone s c.args.accumulator.now c.shape.ensures.matrix _ _ _ own.ensures.rows own.ensures.values laws _ none in
+    let alone = own_alone s c.args.accumulator.now c.shape-own_shape.ensures.matrix _ _ _ own.ensures.rows own.ensures.values laws _ none in
     let adds = column_adds s _ _ _ _ column alone c.loop-column.out _ before c.in_ok-push_column.ensures.ok c.in_ok-push_column.ensures.matrix in
     record {
-      so_far = sum_more s laws c.args.accumulator.now left c.args.right.now c.shape.ensures.matrix c.shape-left_shape.ensures.matrix c.shape-right_shape.ensures.matrix r.agree c.args.columns.now r.ascending r.within r.accumulator_columns r.right_columns _ _ c.loop-column.column-index _ _ c.loop-column-test.true refl c.loop-column.invariant.so_far adds (λ i. refl);
+      so_far = sum_more s laws c.args.accumulator.now left c.args.right.now c.shape-own_shape.ensures.matrix c.shape-left_shape.ensures.matrix c.shape-right_shape.ensures.matrix r.agree c.args.columns.now r.ascending r.within r.accumulator_columns r.right_columns _ _ c.loop-column.column-index _ _ c.loop-column-test.true refl c.loop-column.invariant.so_far adds (λ i. refl);
       zeros = c.loop-column.invariant.zeros;
       told = c.loop-column.invariant.told;
     }
@@ -102,7 +97,7 @@ push_column-requires-in-loop-column-clause-rows g c =
     let own_entries : AreEntries s left.shape.rows own.result.0.now own.result.1.now = record {
       same_length = as_long c.args.accumulator.now.entries _ _ _ own.ensures.rows own.ensures.values;
       ascending = own.ensures.ascending;
-      inside = subst (λ n. All (λ i. i < n) own.result.0.now) rows (rows_inside s c.args.accumulator.now _ _ c.shape.ensures.matrix own.ensures.rows);
+      inside = subst (λ n. All (λ i. i < n) own.result.0.now) rows (rows_inside s c.args.accumulator.now _ _ c.shape-own_shape.ensures.matrix own.ensures.rows);
       are_values = own.ensures.are_values;
     } in
     let column = rw c.deref.ensures.value at c.in_ok-make.ensures.column in
@@ -126,7 +121,7 @@ loop-column-preserved g c =
     let column = rw c.deref.ensures.value at c.in_ok-make.ensures.column in
     let adds = column_adds s _ _ _ _ c.entries.ensures.column column c.loop-column.out _ before stored c.in_ok-push_column-2.ensures.matrix in
     record {
-      so_far = sum_more s laws c.args.accumulator.now c.args.left.now c.args.right.now c.shape.ensures.matrix c.shape-left_shape.ensures.matrix c.shape-right_shape.ensures.matrix r.agree c.args.columns.now r.ascending r.within r.accumulator_columns r.right_columns _ _ c.loop-column.column-index _ _ c.loop-column-test.true refl c.loop-column.invariant.so_far adds (λ i. λ t. s.add (own i t) (sums i t));
+      so_far = sum_more s laws c.args.accumulator.now c.args.left.now c.args.right.now c.shape-own_shape.ensures.matrix c.shape-left_shape.ensures.matrix c.shape-right_shape.ensures.matrix r.agree c.args.columns.now r.ascending r.within r.accumulator_columns r.right_columns _ _ c.loop-column.column-index _ _ c.loop-column-test.true refl c.loop-column.invariant.so_far adds (λ i. λ t. s.add (own i t) (sums i t));
       zeros = c.in_ok-make.ensures.zeros;
       told = c.loop-column.invariant.told;
     }
@@ -135,4 +130,4 @@ pub returns : goal.returns
 returns g c =
     let s = g.S.Semiring.arithmetic in
     let r = c.requires in
-    sum_all s g.met.S.Semiring.is_semiring c.args.accumulator.now c.args.left.now c.args.right.now c.shape.ensures.matrix c.shape-left_shape.ensures.matrix c.shape-right_shape.ensures.matrix r.agree c.args.columns.now r.ascending r.within r.accumulator_columns r.right_columns c.loop-column.out c.loop-column.column-index r.shape c.loop-column-test.false c.loop-column.invariant.so_far
+    sum_all s g.met.S.Semiring.is_semiring c.args.accumulator.now c.args.left.now c.args.right.now c.shape-own_shape.ensures.matrix c.shape-left_shape.ensures.matrix c.shape-right_shape.ensures.matrix r.agree c.args.columns.now r.ascending r.within r.accumulator_columns r.right_columns c.loop-column.out c.loop-column.column-index r.shape c.loop-column-test.false c.loop-column.invariant.so_far
