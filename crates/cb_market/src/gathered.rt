@@ -43,17 +43,19 @@ fn place_number(entry: Entry) -> u64
     u64::from(entry.column) * (1 << 32) + u64::from(entry.row)
 }
 
-/// The entries of a matrix over a grid in a list, with room for so many.
+/// The entries of a matrix over a grid and one after them in a list, with room for so many.
 fn listed<S: Semiring>(
     alloc: Global,
     blocks: &DistributedMatrix<S>,
     room: usize,
+    last: Entry,
 ) -> Result<Vec<Entry>, AllocError>
-    ensures { IfOk result (λ v. v.items ≡ blocks.now.matrix.entries) }
+    ensures { IfOk result (λ v. v.items ≡ blocks.now.matrix.entries ++ last ∷ []) }
 {
     let matrix = blocks.gather(alloc)?;
     let mut list = Vec::with_capacity(alloc, room)?;
     list.extend_from_slice(matrix.entries())?;
+    list.push(last)?;
     Ok(list)
 }
 
@@ -101,8 +103,7 @@ impl<S: Semiring> Gathered<S> {
             self.bound = place + 1;
             return Ok(());
         }
-        let mut list = listed(alloc, &self.blocks, self.room)?;
-        list.push(entry)?;
+        let list = listed(alloc, &self.blocks, self.room, entry)?;
         self.blocks = DistributedMatrix::with_room(alloc, self.blocks.grid(), shape, 0)?;
         self.list = list;
         self.ascends = false;

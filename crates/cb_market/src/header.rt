@@ -11,14 +11,14 @@ use crate::words::Word;
 use cb_semirings::Semiring;
 
 /// Whether entries have values.
-#[derive(Clone, Copy, Debug, PartialEq, Eq)]
+#[derive(Clone, Copy)]
 pub enum Field {
     Integer,
     Pattern,
 }
 
 /// Whether an entry stands for the mirrored place too.
-#[derive(Clone, Copy, Debug, PartialEq, Eq)]
+#[derive(Clone, Copy)]
 pub enum Symmetry {
     General,
     Symmetric,
@@ -27,7 +27,7 @@ pub enum Symmetry {
 }
 
 /// What the first line says.
-#[derive(Clone, Copy, Debug, PartialEq, Eq)]
+#[derive(Clone, Copy)]
 pub struct Header {
     pub field: Field,
     pub symmetry: Symmetry,

@@ -103,6 +103,3 @@ pub use pages::Page;
 pub use reading::{read, read_distributed};
 pub use text_pages::TextPages;
 pub use writing::{text, vertex_text};
-
-#[cfg(test)]
-mod tests;

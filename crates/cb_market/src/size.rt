@@ -11,7 +11,7 @@ use crate::{Kind, ReadFault};
 use cb_matrix::Shape;
 
 /// What the size line says.
-#[derive(Clone, Copy, Debug, PartialEq, Eq)]
+#[derive(Clone, Copy)]
 pub struct Size {
     pub shape: Shape,
     /// How many entries follow.

@@ -8,7 +8,7 @@ use cb_matrix::LIMIT;
 use cb_semirings::Semiring;
 
 /// The number that a word writes by digits alone, after a sign or none.
-#[derive(Clone, Copy, Debug, PartialEq, Eq)]
+#[derive(Clone, Copy)]
 pub enum Number {
     NotWhole,
     /// At least 2^64.

@@ -1,5 +1,5 @@
 use Rattle.std.proofs.Common.{length}
-use Rattle.cb_market.proofs.tests.pages.joined.Given as goal
+use Rattle.cb_market_tests.proofs.pages.joined.Given as goal
 
 abbrev pub decreases-loop-pages : goal.decreases-loop-pages
 decreases-loop-pages g l = length l.pages

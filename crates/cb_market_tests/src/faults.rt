@@ -1,6 +1,6 @@
 //! The first faults of texts.
-use crate::Kind::*;
-use crate::{Kind, ReadFault, read};
+use cb_market::Kind::*;
+use cb_market::{Kind, ReadFault, read};
 use cb_semirings::{MaxMin, MinPlus, OrAnd, PlusTimes, Semiring};
 use std::alloc::Global;
 use std::fmt::InlineText;
@@ -144,22 +144,53 @@ fn of_entries(rt: HostRuntime) {
     }
 }
 
+/// Whether this is the first fault of a text, or that it has none.
+fn is_fault<S: Semiring>(alloc: Global, text: &[u8], wanted: Option<(u64, Kind)>) -> bool {
+    fault::<S>(alloc, text) == wanted
+}
+
 #[test]
 fn of_other_semirings(rt: HostRuntime) {
     let alloc = rt.alloc();
     let minus = b"%%MatrixMarket matrix coordinate integer general\n1 1 1\n1 1 -1\n";
-    assert_eq!(&rt; fault::<MinPlus>(alloc, minus), Some((3, ValueRange)));
-    assert_eq!(&rt; fault::<MaxMin>(alloc, minus), Some((3, ValueRange)));
+    assert!(&rt; is_fault::<MinPlus>(alloc, minus, Some((3, ValueRange))));
+    assert!(&rt; is_fault::<MaxMin>(alloc, minus, Some((3, ValueRange))));
     let top =
         b"%%MatrixMarket matrix coordinate integer general\n1 1 1\n1 1 18446744073709551615\n";
-    assert_eq!(&rt; fault::<MinPlus>(alloc, top), Some((3, ValueRange)));
-    assert_eq!(&rt; fault::<MaxMin>(alloc, top), None);
+    assert!(&rt; is_fault::<MinPlus>(alloc, top, Some((3, ValueRange))));
+    assert!(&rt; is_fault::<MaxMin>(alloc, top, None));
     let above = b"%%MatrixMarket matrix coordinate pattern symmetric\n3 3 1\n2 3\n";
-    assert_eq!(&rt; fault::<OrAnd>(alloc, above), Some((3, AboveDiagonal)));
+    assert!(&rt; is_fault::<OrAnd>(alloc, above, Some((3, AboveDiagonal))));
     let skew = b"%%MatrixMarket matrix coordinate integer skew-symmetric\n2 2 1\n2 1 3\n";
-    assert_eq!(&rt; fault::<MinPlus>(alloc, skew), Some((1, Unsupported)));
-    assert_eq!(&rt; fault::<OrAnd>(alloc, skew), Some((1, Unsupported)));
-    assert_eq!(&rt; fault::<MaxMin>(alloc, skew), Some((1, Unsupported)));
+    assert!(&rt; is_fault::<MinPlus>(alloc, skew, Some((1, Unsupported))));
+    assert!(&rt; is_fault::<OrAnd>(alloc, skew, Some((1, Unsupported))));
+    assert!(&rt; is_fault::<MaxMin>(alloc, skew, Some((1, Unsupported))));
+}
+
+/// The one value of a matrix of one row and one column that a text reads as, or its first fault.
+fn value(alloc: Global, text: &[u8]) -> Result<Option<u64>, (u64, Kind)> {
+    match read::<PlusTimes>(alloc, text) {
+        Ok(matrix) => {
+            if matrix.rows() != 1 || matrix.cols() != 1 {
+                return Ok(None);
+            }
+            Ok(Some(matrix.get(0, 0)))
+        }
+        Err(fault) => Err((fault.line, fault.kind)),
+    }
+}
+
+/// What the first bytes of a text of 62 bytes read as.
+fn of_beginning(length: usize) -> Result<Option<u64>, (u64, Kind)> {
+    match length {
+        0..=41 => Err((1, BadHeader)),
+        42..=47 => Err((1, Unsupported)),
+        48..=53 => Err((2, BadSize)),
+        54..=55 => Err((3, MissingEntries)),
+        56..=59 => Err((3, BadLine)),
+        60 => Ok(Some(1)),
+        _ => Ok(Some(12)),
+    }
 }
 
 /// Each beginning of a text is read or refused.
@@ -168,24 +199,15 @@ fn of_every_prefix(rt: HostRuntime) {
     let text = b"%%MatrixMarket matrix coordinate integer general\n1 1 1\n1 1 12\n";
     assert_eq!(&rt; text.len(), 62);
     for length in 0..=text.len() {
-        let wanted = match length {
-            0..=41 => Err((1, BadHeader)),
-            42..=47 => Err((1, Unsupported)),
-            48..=53 => Err((2, BadSize)),
-            54..=55 => Err((3, MissingEntries)),
-            56..=59 => Err((3, BadLine)),
-            60 => Ok(1),
-            _ => Ok(12),
-        };
-        let found = match read::<PlusTimes>(rt.alloc(), &text[..length]) {
-            Ok(matrix) => {
-                assert!(&rt; matrix.rows() == 1 && matrix.cols() == 1);
-                Ok(matrix.get(0, 0))
-            }
-            Err(fault) => Err((fault.line, fault.kind)),
-        };
-        assert_eq!(&rt; found, wanted, "the first {length} bytes");
+        let found = value(rt.alloc(), &text[..length]);
+        assert_eq!(&rt; found, of_beginning(length), "the first {length} bytes");
     }
+}
+
+/// Whether a kind of fault is shown as these words.
+fn is_shown_as(kind: Kind, words: &str) -> bool {
+    let shown: InlineText<64> = InlineText::of(kind);
+    shown.as_str() == words
 }
 
 #[test]
@@ -207,8 +229,7 @@ fn in_words(rt: HostRuntime) {
         (OnDiagonal, "entry on the diagonal"),
     ];
     for row in rows {
-        let shown: InlineText<64> = InlineText::of(row.0);
-        assert_eq!(&rt; shown.as_str(), row.1);
+        assert!(&rt; is_shown_as(row.0, row.1), "{}", row.1);
     }
     let fault = ReadFault {
         line: 3,
