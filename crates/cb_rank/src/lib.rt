@@ -20,8 +20,6 @@
 mod operations;
 mod ranks;
 mod steps;
-#[cfg(test)]
-mod tests;
 mod wants;
 
 pub use ranks::Rank;

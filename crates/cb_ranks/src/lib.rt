@@ -29,8 +29,6 @@ mod promises;
 mod recorders;
 mod rooms;
 mod runs;
-#[cfg(test)]
-mod tests;
 mod threads;
 mod traced;
 

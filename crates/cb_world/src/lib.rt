@@ -15,8 +15,6 @@
 mod ends;
 mod events;
 mod starting;
-#[cfg(test)]
-mod tests;
 mod world;
 
 pub use events::Event;

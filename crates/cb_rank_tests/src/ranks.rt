@@ -1,15 +1,15 @@
 //! Two ranks on threads of their own: what they leave, what the gate sees, and what is answered where one of them is
 //! gone or memory is refused.
-ghost use Rattle.std.specs.Prelude.{◌≡◌, ◌<◌, IfOk, IfSome};
-ghost use Rattle.cb_plan.specs.Stores.{Fits};
+ghost use Rattle.std.specs.Prelude.{◌<◌, IfOk};
 ghost use Rattle.cb_ranks.specs.Runs.{IsNewRun};
 
-use crate::{Gate, Member, OpenGate, RunFault, assemble, run_rank, run_threads, run_traced};
+use crate::plans::{Held, contents_at, contents_of, doubling};
 use cb_lanes::Gone;
-use cb_letters::Tag;
-use cb_plan::{Act, CheckedPlan, Op, Plan, RankStore, Slot, Start};
+use cb_plan::SLOTS;
 use cb_rank::{Rank, Want};
-use cb_samples::{block, entry, shape};
+use cb_ranks::{
+    Finished, Gate, Member, OpenGate, RunFault, assemble, run_rank, run_threads, run_traced,
+};
 use cb_semirings::{PlusTimes, Semiring};
 use cb_trace::Trace;
 use std::alloc::Global;
@@ -19,108 +19,28 @@ use std::test::Fail;
 use std::thread;
 use std::thread::Threads;
 
-/// A move between two ranks.
-const fn send(from: u16, to: u16, tag: u32, slot: u16, into: u16) -> Act {
-    Act::Move {
-        from,
-        to,
-        tag: Tag(tag),
-        slot,
-        into,
-    }
-}
-
-/// Rank 0 sends its 3 to rank 1, which doubles it and sends that back.
-fn acts() -> [Act; 5] {
-    [
-        send(0, 1, 5, 0, 0),
-        Act::Work {
-            rank: 1,
-            op: Op::Add {
-                a: 0,
-                b: 0,
-                into: 1,
-            },
-        },
-        send(1, 0, 6, 1, 2),
-        Act::Shut { from: 0, to: 1 },
-        Act::Shut { from: 1, to: 0 },
-    ]
-}
-
-/// The plan of these acts, where memory for it is to be had.
-fn plan(alloc: Global) -> Option<CheckedPlan> {
-    let mut plan = Plan::new(alloc, 2);
-    for act in acts() {
-        plan.push(act).ok()?;
-    }
-    let three = Start {
-        rank: 0,
-        slot: 0,
-        shape: shape(1, 1).ok()?,
-    };
-    CheckedPlan::check(alloc, plan, &[three]).ok()
-}
-
-/// The plan with stores that fit it.
-fn planned(alloc: Global) -> Option<(CheckedPlan, Vec<RankStore<PlusTimes>>)>
-    ensures { IfSome result (λ p. Fits p.0.ranks p.0.starts p.1.items) }
-{
-    let plan = plan(alloc)?;
-    let mut first = RankStore::new(alloc).ok()?;
-    first.put(0, block(alloc, 1, 1, &[entry(0, 0, 3)]).ok()?);
-    let second = RankStore::new(alloc).ok()?;
-    let stores = vec![in alloc; first, second].ok()?;
-    if plan.fits(&stores) {
-        Some((plan, stores))
-    } else {
-        None
-    }
-}
-
-/// Its two ranks, new, with new desks for one letter a lane.
+/// The two ranks of the doubling of 3, new, with new desks for one letter a lane.
 fn pair(alloc: Global) -> Result<(Member<PlusTimes>, Member<PlusTimes>), Fail>
     ensures first { IfOk result (λ p. IsNewRun p.0.0 p.0.1) }
     ensures second { IfOk result (λ p. IsNewRun p.1.0 p.1.1) }
 {
-    let (plan, stores) = planned(alloc).ok_or("a plan")?;
+    let (plan, stores) = doubling(alloc, 3).ok_or("a plan")?;
     let mut crew = assemble(alloc, &plan, stores, 1)?.into_iter();
     let first = crew.next().ok_or("two ranks")?;
     let second = crew.next().ok_or("two ranks")?;
     Ok((first, second))
 }
 
-/// The value in row 0 of column 0 of a slot, if a block stands there.
-fn value_at(store: &RankStore<PlusTimes>, n: u16) -> Option<u64>
-    requires { n < 256 }
-{
-    match store.slot(n) {
-        Slot::Sheet(block) => Some(block.get(0, 0)),
-        _ => None,
-    }
-}
-
-/// That value of rank 0.
-fn value_at_0(stores: &[RankStore<PlusTimes>], n: u16) -> Option<u64>
-    requires { n < 256 }
-{
-    value_at(stores.first()?, n)
-}
-
 /// What a rank left in a slot, and how many letters it posted to the other rank and took from it.
-fn outcome(
-    answer: Result<Member<PlusTimes>, Gone>,
-    n: u16,
-    other: u16,
-) -> Option<(Option<u64>, u64, u64)>
-    requires { n < 256 }
+fn outcome(answer: Result<Member<PlusTimes>, Gone>, n: u16, other: u16) -> Option<(Held, u64, u64)>
+    requires { n < SLOTS }
 {
     let (rank, desk) = answer.ok()?;
     if desk.is_stranger(other) {
         return None;
     }
-    let counts = (desk.posted(other), desk.taken(other));
-    Some((value_at(&rank.into_store(), n), counts.0, counts.1))
+    let (posted, taken) = (desk.posted(other), desk.taken(other));
+    Some((contents_of(&rank.into_store(), n), posted, taken))
 }
 
 /// Runs two ranks, each on a thread.
@@ -150,8 +70,11 @@ fn run_both<R: Threads + Wait + Sync>(
 fn two_ranks_run_on_threads_of_the_caller(rt: HostRuntime) -> Result<(), Fail> {
     let (first, second) = pair(rt.alloc())?;
     let (first, second) = run_both(&rt, first, second);
-    assert_eq!(rt; outcome(first, 2, 1), Some((Some(6), 2, 2)));
-    assert_eq!(rt; outcome(second, 0, 0), Some((Some(3), 2, 2)));
+    let outcomes = [outcome(first, 2, 1), outcome(second, 0, 0)];
+    assert_eq!(rt;
+        outcomes,
+        [Some((Held::Number(6), 2, 2)), Some((Held::Number(3), 2, 2))]
+    );
     Ok(())
 }
 
@@ -166,6 +89,20 @@ fn a_rank_whose_peer_is_gone_is_given_up(rt: HostRuntime) -> Result<(), Fail> {
             assert_eq!(rt; gone, Gone(1));
             Ok(())
         }
+    }
+}
+
+/// How often memory was refused, and what rank 0 holds as the double in the end.
+fn left_at_0(finished: Finished<PlusTimes>) -> (u64, Option<Held>) {
+    let refusals = finished.refusals();
+    (refusals, contents_at(&finished.stores(), 0, 2))
+}
+
+/// Whether the double is there, and no memory was refused, or it is lost by one refusal.
+fn is_whole_or_lost(finished: Finished<PlusTimes>) -> bool {
+    match left_at_0(finished) {
+        (0, doubled) => doubled == Some(Held::Number(6)),
+        (refusals, doubled) => refusals == 1 && matches!(doubled, Some(Held::LostAt(_))),
     }
 }
 
@@ -198,7 +135,7 @@ impl<S: Semiring> Gate<S> for Meeting {
 
 #[test]
 fn ranks_in_threads_meet(rt: HostRuntime) -> Result<(), Fail> {
-    let (plan, stores) = planned(rt.alloc()).ok_or("a plan")?;
+    let (plan, stores) = doubling(rt.alloc(), 3).ok_or("a plan")?;
     let gate = Meeting {
         passes: [AtomicU64::new(0), AtomicU64::new(0)],
         met: AtomicU64::new(0),
@@ -206,11 +143,10 @@ fn ranks_in_threads_meet(rt: HostRuntime) -> Result<(), Fail> {
     let Ok(finished) = run_threads(&rt, rt.alloc(), &plan, stores, 1, &gate) else {
         return Err("the run ends".into());
     };
-    assert_eq!(rt; gate.met.load(Ordering::SeqCst), 2);
-    assert_eq!(rt; gate.passes[0].load(Ordering::SeqCst), 4);
-    assert_eq!(rt; gate.passes[1].load(Ordering::SeqCst), 5);
-    assert_eq!(rt; finished.refusals(), 0);
-    assert_eq!(rt; value_at_0(&finished.stores(), 2), Some(6));
+    let [first, second] = &gate.passes;
+    let passes = (first.load(Ordering::SeqCst), second.load(Ordering::SeqCst));
+    assert_eq!(rt; (gate.met.load(Ordering::SeqCst), passes), (2, (4, 5)));
+    assert_eq!(rt; left_at_0(finished), (0, Some(Held::Number(6))));
     Ok(())
 }
 
@@ -231,7 +167,7 @@ impl<'a, S: Semiring, R: Wait + Sync> Gate<S> for Keeper<'a, R> {
 
 #[test]
 fn the_gate_sees_each_half(rt: HostRuntime) -> Result<(), Fail> {
-    let (plan, stores) = planned(rt.alloc()).ok_or("a plan")?;
+    let (plan, stores) = doubling(rt.alloc(), 3).ok_or("a plan")?;
     let gate = Keeper {
         rt: &rt,
         of_0: Mutex::new(Vec::new(rt.alloc())),
@@ -239,21 +175,16 @@ fn the_gate_sees_each_half(rt: HostRuntime) -> Result<(), Fail> {
     };
     assert!(rt; run_threads(&rt, rt.alloc(), &plan, stores, 1, &gate).is_ok());
     let Keeper { of_0, of_1, .. } = gate;
-    assert_eq!(rt;
-        of_0.into_inner().as_slice(),
-        [Want::Post(1), Want::Take(1), Want::Shut(1), Want::End(1)].as_slice()
-    );
-    assert_eq!(rt;
-        of_1.into_inner().as_slice(),
-        [
-            Want::Take(0),
-            Want::Work,
-            Want::Post(0),
-            Want::End(0),
-            Want::Shut(0)
-        ]
-        .as_slice()
-    );
+    let first = [Want::Post(1), Want::Take(1), Want::Shut(1), Want::End(1)];
+    let second = [
+        Want::Take(0),
+        Want::Work,
+        Want::Post(0),
+        Want::End(0),
+        Want::Shut(0),
+    ];
+    assert!(rt; of_0.into_inner().as_slice() == first.as_slice());
+    assert!(rt; of_1.into_inner().as_slice() == second.as_slice());
     Ok(())
 }
 
@@ -261,16 +192,12 @@ fn the_gate_sees_each_half(rt: HostRuntime) -> Result<(), Fail> {
 /// started, or every rank does its whole program, and what is lost is counted.
 #[test]
 fn refused_memory_is_answered_or_counted(rt: HostRuntime) -> Result<(), Fail> {
-    let Some((plan, stores)) = planned(rt.alloc()) else {
+    let Some((plan, stores)) = doubling(rt.alloc(), 3) else {
         return Ok(());
     };
     match run_threads(&rt, rt.alloc(), &plan, stores, 2, &OpenGate) {
         Err(fault) => assert_eq!(rt; fault, RunFault::Memory),
-        Ok(finished) => {
-            let refusals = finished.refusals();
-            let doubled = value_at_0(&finished.stores(), 2);
-            assert!(rt; (refusals, doubled) == (0, Some(6)) || (refusals, doubled) == (1, None));
-        }
+        Ok(finished) => assert!(rt; is_whole_or_lost(finished)),
     }
     Ok(())
 }
@@ -341,42 +268,55 @@ fn are_places(first: &[usize], second: &[usize], len: usize) -> bool {
         && (0..len).all(|place| first.contains(&place) || second.contains(&place))
 }
 
+/// Whether a trace of eight events has just those of these stories.
+fn has_stories(trace: &Trace, first: &Story, second: &Story) -> bool {
+    trace.ranks() == 2
+        && trace.len() == 8
+        && first.is_of(0, trace)
+        && second.is_of(1, trace)
+        && are_places(&first.places, &second.places, trace.len())
+}
+
+/// Whether the trace of a run over lanes for so many letters has the stories that its gate was told, and the double is
+/// there.
+fn tells_its_story<R: Threads + Wait + Sync>(
+    rt: &R,
+    alloc: Global,
+    capacity: usize,
+) -> Option<bool> {
+    let (plan, stores) = doubling(alloc, 3)?;
+    let gate = Scribe {
+        rt,
+        of_0: Mutex::new(Story::new(alloc)),
+        of_1: Mutex::new(Story::new(alloc)),
+    };
+    let (finished, trace) = run_traced(rt, alloc, &plan, stores, capacity, &gate).ok()?;
+    let Scribe { of_0, of_1, .. } = gate;
+    let agree = has_stories(&trace, &of_0.into_inner(), &of_1.into_inner());
+    Some(agree && left_at_0(finished) == (0, Some(Held::Number(6))))
+}
+
 #[test]
-fn each_rank_records_its_halves_as_it_does_them(rt: HostRuntime) -> Result<(), Fail> {
-    let alloc = rt.alloc();
+fn each_rank_records_its_halves_as_it_does_them(rt: HostRuntime) {
     for capacity in [1, 64] {
-        let (plan, stores) = planned(alloc).ok_or("a plan")?;
-        let gate = Scribe {
-            rt: &rt,
-            of_0: Mutex::new(Story::new(alloc)),
-            of_1: Mutex::new(Story::new(alloc)),
-        };
-        let Ok((finished, trace)) = run_traced(&rt, alloc, &plan, stores, capacity, &gate) else {
-            return Err("the run ends".into());
-        };
-        assert_eq!(rt; (trace.ranks(), trace.len()), (2, 8));
-        let Scribe { of_0, of_1, .. } = gate;
-        let (first, second) = (of_0.into_inner(), of_1.into_inner());
-        assert!(rt; first.is_of(0, &trace) && second.is_of(1, &trace));
-        assert!(rt; are_places(&first.places, &second.places, trace.len()));
-        assert_eq!(rt; value_at_0(&finished.stores(), 2), Some(6));
+        assert_eq!(rt;
+            tells_its_story(&rt, rt.alloc(), capacity),
+            Some(true),
+            "{capacity}"
+        );
     }
-    Ok(())
 }
 
 /// Passes whichever single growth is refused, as the test of a run without a trace.
 #[test]
 fn refused_memory_is_answered_or_counted_with_a_trace(rt: HostRuntime) -> Result<(), Fail> {
-    let Some((plan, stores)) = planned(rt.alloc()) else {
+    let Some((plan, stores)) = doubling(rt.alloc(), 3) else {
         return Ok(());
     };
     match run_traced(&rt, rt.alloc(), &plan, stores, 2, &OpenGate) {
         Err(fault) => assert_eq!(rt; fault, RunFault::Memory),
         Ok((finished, trace)) => {
-            let refusals = finished.refusals();
-            let doubled = value_at_0(&finished.stores(), 2);
-            assert!(rt; (refusals, doubled) == (0, Some(6)) || (refusals, doubled) == (1, None));
-            assert_eq!(rt; trace.len(), 8);
+            assert!(rt; trace.len() == 8 && is_whole_or_lost(finished));
         }
     }
     Ok(())

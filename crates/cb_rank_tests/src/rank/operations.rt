@@ -1,13 +1,11 @@
 //! Every operation through a rank, with each operand lost in turn, and with memory refused.
 ghost use Rattle.std.specs.Prelude.{◌<◌};
 
-use super::{Held, contents_of, filled, plan, shape, single, work};
-use crate::Supply;
-use cb_dcsc::Block;
+use super::{Held, contents_of, worked};
 use cb_elementwise::Test;
-use cb_letters::Body;
 use cb_plan::Op;
-use cb_semirings::PlusTimes;
+use cb_rank::Supply;
+use cb_samples::shape;
 use std::alloc::Global;
 use std::test::Fail;
 
@@ -61,16 +59,6 @@ fn cases() -> Result<[Case; 10], Fail> {
     ])
 }
 
-/// The letter that fills one of slots 0, 1 and 2: a number, or that it was lost at rank 10, 11 or 12.
-fn operand(alloc: Global, slot: u16, lost: bool) -> Result<Body<Block<PlusTimes>>, Fail>
-    requires { slot < 3 }
-{
-    if lost {
-        return Ok(Body::Lost(10 + slot));
-    }
-    Ok(Body::Sheet(single(alloc, [2, 3, 5][slot as usize])?))
-}
-
 /// What the target of an operation holds after it, and the count of refusals, where some of slots 0, 1 and 2 are
 /// lost.
 fn after(
@@ -80,12 +68,7 @@ fn after(
     lost: [bool; 3],
     supply: Supply,
 ) -> Result<(Held, u64), Fail> {
-    let plan = plan(alloc, op, 0)?;
-    let first = operand(alloc, 0, lost[0])?;
-    let second = operand(alloc, 1, lost[1])?;
-    let third = operand(alloc, 2, lost[2])?;
-    let mut rank = filled(alloc, &plan, first, second, third)?;
-    work(&mut rank, supply)?;
+    let rank = worked(alloc, op, 0, lost, supply)?;
     let refusals = rank.refusals();
     if target >= 256 {
         return Err("no slot".into());

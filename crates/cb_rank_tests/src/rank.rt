@@ -1,0 +1,132 @@
+//! The halves of one rank, with ample memory and with memory refused.
+ghost use Rattle.std.specs.Prelude.{◌<◌};
+
+use crate::plans::{plan_of, send};
+use cb_dcsc::Block;
+use cb_letters::{Body, Letter, Tag};
+use cb_plan::{Act, CheckedPlan, Op, RankStore, SLOTS, Slot};
+use cb_rank::{Arrival, Rank, Supply, Want};
+use cb_samples::{block, entry, shape};
+use cb_semirings::PlusTimes;
+use std::alloc::Global;
+use std::test::Fail;
+
+mod letters;
+mod operations;
+
+/// A letter from rank 1 to rank 0.
+fn letter(number: u64, tag: u32, body: Body<Block<PlusTimes>>) -> Arrival<Block<PlusTimes>> {
+    Arrival::Letter(Letter {
+        from: 1,
+        to: 0,
+        number,
+        tag: Tag(tag),
+        body,
+    })
+}
+
+/// A block goes from rank 1 to slots 0, 1 and 2 of rank 0, which does an operation, and posts a slot back.
+fn plan(alloc: Global, op: Op, slot: u16) -> Result<CheckedPlan, Fail> {
+    let zero = Op::Zero {
+        into: 0,
+        shape: shape(1, 1)?,
+    };
+    let acts = [
+        Act::Work { rank: 1, op: zero },
+        send(1, 0, 5, 0, 0),
+        send(1, 0, 6, 0, 1),
+        send(1, 0, 7, 0, 2),
+        Act::Work { rank: 0, op },
+        send(0, 1, 9, slot, 1),
+        Act::Shut { from: 0, to: 1 },
+        Act::Shut { from: 1, to: 0 },
+    ];
+    Ok(plan_of(alloc, &[], &acts).ok_or("a plan")?)
+}
+
+/// Rank 0 of that plan, whose slots are empty.
+fn rank_0(alloc: Global, op: Op, slot: u16) -> Result<Rank<PlusTimes>, Fail> {
+    let plan = plan(alloc, op, slot)?;
+    let mut stores = vec![in alloc; RankStore::new(alloc)?, RankStore::new(alloc)?]?;
+    if plan.ranks() == 0 || !plan.fits(&stores) {
+        return Err("the stores fit".into());
+    }
+    let store = stores.swap_remove(0);
+    match Rank::start(alloc, &plan, 0, store) {
+        Ok(rank) => Ok(rank),
+        Err((_store, refused)) => Err(refused.into()),
+    }
+}
+
+/// Whether a Take or an End accepts this arrival.
+fn accepts(rank: &mut Rank<PlusTimes>, arrival: Arrival<Block<PlusTimes>>) -> bool {
+    match rank.want() {
+        Want::Take(_) => rank.accept(arrival).is_ok(),
+        Want::End(_) => rank.accept(arrival).is_ok(),
+        _ => false,
+    }
+}
+
+/// The letter that fills one of slots 0, 1 and 2: the number 2, 3 or 5, or that it was lost at rank 10, 11 or 12.
+fn operand(alloc: Global, slot: u16, lost: bool) -> Result<Body<Block<PlusTimes>>, Fail>
+    requires { slot < 3 }
+{
+    if lost {
+        return Ok(Body::Lost(10 + slot));
+    }
+    let number = [2, 3, 5][slot as usize];
+    Ok(Body::Sheet(block(alloc, 1, 1, &[entry(0, 0, number)])?))
+}
+
+/// Takes the operands, some of which are lost.
+fn take_operands(alloc: Global, rank: &mut Rank<PlusTimes>, lost: [bool; 3]) -> Result<(), Fail> {
+    for slot in 0..3u16 {
+        let body = operand(alloc, slot, lost[slot as usize])?;
+        if !accepts(rank, letter(u64::from(slot), 5 + u32::from(slot), body)) {
+            return Err("a letter that is awaited".into());
+        }
+    }
+    Ok(())
+}
+
+/// Rank 0 after its operation on 2, 3 and 5, some of which are lost.
+fn worked(
+    alloc: Global,
+    op: Op,
+    slot: u16,
+    lost: [bool; 3],
+    supply: Supply,
+) -> Result<Rank<PlusTimes>, Fail> {
+    let mut rank = rank_0(alloc, op, slot)?;
+    take_operands(alloc, &mut rank, lost)?;
+    match rank.want() {
+        Want::Work => rank.work(supply),
+        _ => return Err("no Work".into()),
+    }
+    Ok(rank)
+}
+
+/// What a slot holds after all halves so far.
+#[derive(Clone, Copy, Debug, PartialEq, Eq, Drop)]
+enum Held {
+    Nothing,
+    /// How many entries a block has, and the sum of their values.
+    Entries(usize, u64),
+    LostAt(u16),
+}
+
+fn contents_of(store: &RankStore<PlusTimes>, n: u16) -> Result<Held, Fail>
+    requires { n < SLOTS }
+{
+    match store.slot(n) {
+        Slot::Empty => Ok(Held::Nothing),
+        Slot::Lost(origin) => Ok(Held::LostAt(*origin)),
+        Slot::Sheet(block) => {
+            let entries = block.entries()?;
+            let sum = entries
+                .iter()
+                .fold(0u64, |sum, entry| sum.wrapping_add(entry.value));
+            Ok(Held::Entries(entries.len(), sum))
+        }
+    }
+}

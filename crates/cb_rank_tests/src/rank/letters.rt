@@ -1,0 +1,142 @@
+//! What a rank posts, and what it takes.
+use super::{Held, accepts, contents_of, letter, rank_0, worked};
+use cb_dcsc::Block;
+use cb_letters::{Body, Letter, Tag};
+use cb_plan::Op;
+use cb_rank::{Arrival, Rank, Supply, Want};
+use cb_samples::shape;
+use cb_semirings::PlusTimes;
+use std::alloc::Global;
+use std::test::Fail;
+
+/// Slot 0 is copied to slot 3, which is posted.
+const COPY: Op = Op::Copy { a: 0, into: 3 };
+
+/// Rank 0 after that copy.
+fn copied(alloc: Global, lost: bool) -> Result<Rank<PlusTimes>, Fail> {
+    worked(alloc, COPY, 3, [lost, false, false], Supply::Granted)
+}
+
+/// The letter of a Post, if the next half is one.
+fn posted(rank: &mut Rank<PlusTimes>, supply: Supply) -> Option<(Tag, Body<Block<PlusTimes>>)> {
+    match rank.want() {
+        Want::Post(_) => Some(rank.outgoing(supply)),
+        _ => None,
+    }
+}
+
+/// Whether a letter with tag 9 and a block of one entry was posted.
+fn posts_one_entry(rank: &mut Rank<PlusTimes>) -> bool {
+    match posted(rank, Supply::Granted) {
+        Some((tag, Body::Sheet(copy))) => tag == Tag(9) && copy.len() == 1,
+        _ => false,
+    }
+}
+
+/// Whether a Shut was done, to rank 1.
+fn shuts(rank: &mut Rank<PlusTimes>) -> bool {
+    match rank.want() {
+        Want::Shut(1) => {
+            rank.shut();
+            true
+        }
+        _ => false,
+    }
+}
+
+/// Whether a rank that has done its operation posts its copy, closes its lane, and is done at the end of the other.
+fn is_done_at_the_end(rank: &mut Rank<PlusTimes>) -> bool {
+    let mut as_said = rank.want() == Want::Post(1);
+    as_said &= posts_one_entry(rank);
+    as_said &= shuts(rank);
+    as_said &= rank.want() == Want::End(1) && !rank.is_done();
+    as_said &= accepts(rank, Arrival::End(1));
+    as_said & (rank.want() == Want::Done && rank.is_done() && rank.refusals() == 0)
+}
+
+#[test]
+fn a_program_is_done_half_by_half(rt: HostRuntime) -> Result<(), Fail> {
+    let mut rank = copied(rt.alloc(), false)?;
+    assert!(rt; is_done_at_the_end(&mut rank));
+    assert_eq!(rt; contents_of(&rank.into_store(), 3)?, Held::Entries(1, 2));
+    Ok(())
+}
+
+/// The rank at which what is posted for the copy was lost, where no memory is granted for it, and how often memory
+/// was refused.
+fn lost_at(alloc: Global, lost: bool) -> Result<(Option<u16>, u64), Fail> {
+    let mut rank = copied(alloc, lost)?;
+    let origin = match posted(&mut rank, Supply::Refused) {
+        Some((_, Body::Lost(origin))) => Some(origin),
+        _ => None,
+    };
+    Ok((origin, rank.refusals()))
+}
+
+#[test]
+fn a_refused_copy_is_lost_at_this_rank(rt: HostRuntime) -> Result<(), Fail> {
+    assert_eq!(rt; lost_at(rt.alloc(), false)?, (Some(0), 1));
+    Ok(())
+}
+
+#[test]
+fn a_lost_slot_is_posted_with_its_origin(rt: HostRuntime) -> Result<(), Fail> {
+    assert_eq!(rt; lost_at(rt.alloc(), true)?, (Some(10), 0));
+    Ok(())
+}
+
+/// A letter to a first Take that is right but for what is named.
+fn other(from: u16, to: u16, tag: u32, body: Body<Block<PlusTimes>>) -> Arrival<Block<PlusTimes>> {
+    Arrival::Letter(Letter {
+        from,
+        to,
+        number: 0,
+        tag: Tag(tag),
+        body,
+    })
+}
+
+/// Whether a rank that waits for its first letter takes none of these arrivals, and waits on.
+fn takes_none(rank: &mut Rank<PlusTimes>, strays: [Arrival<Block<PlusTimes>>; 6]) -> bool {
+    let mut none = true;
+    for stray in strays {
+        none &= !accepts(rank, stray) && rank.want() == Want::Take(1);
+    }
+    none
+}
+
+#[test]
+fn a_take_takes_no_other_letter(rt: HostRuntime) -> Result<(), Fail> {
+    let mut rank = rank_0(rt.alloc(), COPY, 3)?;
+    let wide = Block::empty(rt.alloc(), shape(1, 2)?);
+    let strays = [
+        other(0, 0, 5, Body::Lost(4)),
+        other(1, 1, 5, Body::Lost(4)),
+        other(1, 0, 6, Body::Lost(4)),
+        other(1, 0, 5, Body::Close),
+        other(1, 0, 5, Body::Sheet(wide)),
+        Arrival::End(1),
+    ];
+    assert!(rt; takes_none(&mut rank, strays));
+    assert!(rt; accepts(&mut rank, letter(0, 5, Body::Lost(4))));
+    assert_eq!(rt; contents_of(&rank.into_store(), 0)?, Held::LostAt(4));
+    Ok(())
+}
+
+/// Whether a rank that waits for the end of the lane from rank 1 takes no close mark and no other lane's end.
+fn takes_its_end_alone(rank: &mut Rank<PlusTimes>) -> bool {
+    let mark = accepts(rank, letter(3, 0, Body::Close));
+    let other_end = accepts(rank, Arrival::End(0));
+    let waits = rank.want() == Want::End(1);
+    let end = accepts(rank, Arrival::End(1));
+    !mark && !other_end && waits && end
+}
+
+#[test]
+fn an_end_takes_no_letter(rt: HostRuntime) -> Result<(), Fail> {
+    let mut rank = copied(rt.alloc(), true)?;
+    let _letter = posted(&mut rank, Supply::Granted);
+    assert!(rt; shuts(&mut rank));
+    assert!(rt; takes_its_end_alone(&mut rank));
+    Ok(())
+}

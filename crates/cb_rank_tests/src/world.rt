@@ -1,0 +1,170 @@
+//! Worlds of two ranks, whose events come in any order: with ample memory, and with memory refused to a step, to an
+//! operation, and to the world itself.
+use crate::plans::{Held, contents_at, doubling, plan_from_0, send, stores_from_0};
+use cb_plan::{Act, CheckedPlan, RankStore};
+use cb_rank::Moved;
+use cb_semirings::PlusTimes;
+use cb_world::{Event, World};
+use std::alloc::{AllocError, Global};
+use std::test::Fail;
+
+/// The world in which 6 is doubled, whose lanes hold one letter.
+fn world(alloc: Global) -> Option<World<PlusTimes>> {
+    let (plan, stores) = doubling(alloc, 6)?;
+    World::start(alloc, &plan, stores, 1).ok()
+}
+
+/// The world of a plan whose first rank has 6 in slot 0.
+fn world_of(alloc: Global, plan: &CheckedPlan) -> Option<World<PlusTimes>> {
+    let stores = stores_from_0(alloc, 6)?;
+    if !plan.fits(&stores) {
+        return None;
+    }
+    World::start(alloc, plan, stores, 1).ok()
+}
+
+/// The double at rank 1, and its copy at rank 0, once all is done.
+fn doubles(world: World<PlusTimes>) -> Option<(Held, Held)> {
+    if !world.all_done() {
+        return None;
+    }
+    let stores = world.into_stores();
+    Some((contents_at(&stores, 1, 1)?, contents_at(&stores, 0, 2)?))
+}
+
+/// Whether these events are answered so, in order.
+fn answers(world: &mut World<PlusTimes>, rows: &[(Event, Moved)]) -> bool {
+    let mut as_said = true;
+    for (event, moved) in rows {
+        as_said &= world.step(*event) == *moved;
+    }
+    as_said
+}
+
+/// Whether rank 1 of a new world waits, there is no rank 2, and all nine halves are done in the end.
+fn waits_and_finishes(world: &mut World<PlusTimes>) -> bool {
+    let rows = [
+        (Event::Step(1), Moved::Waiting),
+        (Event::Step(1), Moved::Waiting),
+        (Event::Step(1), Moved::Waiting),
+        (Event::Step(2), Moved::Idle),
+    ];
+    let mut as_said = world.remaining() == 9 && world.ready() == Some(0);
+    as_said &= answers(world, &rows);
+    world.finish();
+    as_said & (world.remaining() == 0 && world.ready().is_none() && world.refusals() == 0)
+}
+
+#[test]
+fn a_rank_waits_for_its_letter(rt: HostRuntime) -> Result<(), Fail> {
+    let mut world = world(rt.alloc()).ok_or("a world")?;
+    assert!(rt; waits_and_finishes(&mut world));
+    assert_eq!(rt; doubles(world), Some((Held::Number(12), Held::Number(12))));
+    Ok(())
+}
+
+/// Whether rank 0 waits to post its second letter until the first is taken, and then is refused memory for it.
+fn waits_for_room(world: &mut World<PlusTimes>) -> bool {
+    let full = [
+        (Event::Step(0), Moved::Posted),
+        (Event::Step(0), Moved::Waiting),
+        (Event::Starve(0), Moved::Waiting),
+    ];
+    let free = [
+        (Event::Step(1), Moved::Took),
+        (Event::Starve(0), Moved::Posted),
+    ];
+    let mut as_said = answers(world, &full);
+    as_said &= world.remaining() == 7 && world.refusals() == 0;
+    as_said &= answers(world, &free);
+    as_said & (world.remaining() == 5 && world.refusals() == 1)
+}
+
+/// Rank 0 sends its block twice, over a lane for one letter. Where it has to wait it asks for no memory.
+#[test]
+fn a_full_lane_holds_up_its_sender(rt: HostRuntime) -> Result<(), Fail> {
+    let acts = [
+        send(0, 1, 7, 0, 1),
+        send(0, 1, 7, 0, 2),
+        Act::Shut { from: 0, to: 1 },
+        Act::Shut { from: 1, to: 0 },
+    ];
+    let plan = plan_from_0(rt.alloc(), &acts).ok_or("a plan")?;
+    let mut world = world_of(rt.alloc(), &plan).ok_or("a world")?;
+    assert!(rt; waits_for_room(&mut world));
+    Ok(())
+}
+
+#[test]
+fn ranks_may_step_in_rounds(rt: HostRuntime) -> Result<(), Fail> {
+    let mut world = world(rt.alloc()).ok_or("a world")?;
+    for _ in 0..9 {
+        world.run(&[Event::Step(1), Event::Step(0)]);
+    }
+    assert_eq!(rt; doubles(world), Some((Held::Number(12), Held::Number(12))));
+    Ok(())
+}
+
+/// Whether a rank that is starved, after these steps, moves so and loses the double everywhere.
+fn is_lost_at(alloc: Global, steps: &[Event], rank: u16, moved: Moved) -> Option<bool> {
+    let mut world = world(alloc)?;
+    world.run(steps);
+    let as_said = world.step(Event::Starve(rank)) == moved;
+    world.finish();
+    let refusals = world.refusals();
+    let lost = doubles(world)? == (Held::LostAt(rank), Held::LostAt(rank));
+    Some(as_said && refusals == 1 && lost)
+}
+
+#[test]
+fn a_starved_operation_is_lost_at_its_rank(rt: HostRuntime) {
+    let steps = [Event::Step(0), Event::Step(1)];
+    assert_eq!(rt;
+        is_lost_at(rt.alloc(), &steps, 1, Moved::Worked),
+        Some(true)
+    );
+}
+
+#[test]
+fn a_starved_post_is_lost_at_its_rank(rt: HostRuntime) {
+    assert_eq!(rt; is_lost_at(rt.alloc(), &[], 0, Moved::Posted), Some(true));
+}
+
+/// How often memory was refused where the half after so many others is starved.
+fn refusals_of_half(alloc: Global, n: usize) -> Option<u64> {
+    let mut world = world(alloc)?;
+    for _ in 0..n {
+        let _moved = world.step(Event::Step(world.ready()?));
+    }
+    let _moved = world.step(Event::Starve(world.ready()?));
+    world.finish();
+    Some(world.refusals())
+}
+
+/// A Starve at each of the nine halves: three ask for memory.
+#[test]
+fn each_half_may_be_starved(rt: HostRuntime) {
+    let mut refused: usize = 0;
+    for n in 0..9usize {
+        if refusals_of_half(rt.alloc(), n) == Some(1) {
+            refused += 1;
+        }
+    }
+    assert_eq!(rt; refused, 3);
+}
+
+/// Passes whichever single growth is refused (`rt try --test --fail-alloc N`, for each N in turn): a refused start
+/// hands the stores back, and a world that started comes to its end.
+#[test]
+fn a_world_ends_whatever_is_refused(rt: HostRuntime) {
+    let Some((plan, stores)) = doubling(rt.alloc(), 6) else {
+        return;
+    };
+    match World::start(rt.alloc(), &plan, stores, 1) {
+        Ok(mut world) => {
+            world.finish();
+            assert!(rt; world.all_done());
+        }
+        Err((stores, AllocError)) => assert!(rt; plan.fits(&stores)),
+    }
+}

@@ -1,5 +1,0 @@
-use Rattle.std.proofs.Common.{◌≡◌}
-use Rattle.cb_world.proofs.tests.plan_of.Given as goal
-
-abbrev pub invariant-loop-act : goal.invariant-loop-act
-invariant-loop-act l = l.plan.ranks ≡ 2
