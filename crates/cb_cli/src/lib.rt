@@ -22,8 +22,6 @@ mod pages;
 pub mod runs;
 pub mod semirings;
 pub mod sinks;
-#[cfg(test)]
-mod tests;
 mod trace_lines;
 mod traced;
 pub mod words;

@@ -1,11 +1,11 @@
 //! Whole runs: what goes to each stream, and the status.
-use crate::endings::run;
-use crate::files::{FileSource, Unreadable};
-use crate::jobs::{Job, UsageFault};
-use crate::sinks::{Sink, WriterSink};
-use crate::tests::lines::job;
-use crate::tests::products::{FIRST, PRODUCT, SECOND};
-use crate::tests::sinks::Short;
+use crate::lines::job;
+use crate::products::{FIRST, PRODUCT, SECOND};
+use crate::sinks::Short;
+use cb_cli::endings::run;
+use cb_cli::files::{FileSource, Unreadable};
+use cb_cli::jobs::{Job, UsageFault};
+use cb_cli::sinks::{Sink, WriterSink};
 use std::alloc::Global;
 use std::sync::Wait;
 use std::test::Fail;

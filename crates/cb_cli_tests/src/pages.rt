@@ -1,8 +1,8 @@
 //! Answers whose text has more bytes than a page.
-use crate::runs::JobFault;
-use crate::sinks::WriterSink;
-use crate::tests::products::run_into;
-use crate::tests::sinks::Short;
+use crate::products::run_into;
+use crate::sinks::Short;
+use cb_cli::runs::JobFault;
+use cb_cli::sinks::WriterSink;
 use std::alloc::Global;
 use std::test::Fail;
 

@@ -1,9 +1,9 @@
 //! Command lines, and the lines of faults.
-use crate::faults::{fault_line, unreadable_line};
-use crate::jobs::{Job, Operation, Task, UsageFault};
-use crate::runs::{JobFault, status};
-use crate::semirings::SemiringName;
-use crate::words::read_job;
+use cb_cli::faults::{fault_line, unreadable_line};
+use cb_cli::jobs::{Job, Operation, Task, UsageFault};
+use cb_cli::runs::{JobFault, status};
+use cb_cli::semirings::SemiringName;
+use cb_cli::words::read_job;
 use cb_elementwise::Test;
 use cb_market::{Kind, ReadFault};
 use cb_scripts::{Engine, ScriptFault};

@@ -1,11 +1,11 @@
 //! Products of two texts, by `execute`.
 ghost use Rattle.std.specs.Prelude.{◌≡◌, false};
 
-use crate::jobs::Job;
-use crate::runs::{JobFault, execute};
-use crate::sinks::{Sink, WriterSink};
-use crate::tests::lines::words;
-use crate::words::read_job;
+use crate::lines::words;
+use cb_cli::jobs::Job;
+use cb_cli::runs::{JobFault, execute};
+use cb_cli::sinks::{Sink, WriterSink};
+use cb_cli::words::read_job;
 use cb_market::{Kind, ReadFault};
 use cb_scripts::ScriptFault;
 use std::alloc::Global;

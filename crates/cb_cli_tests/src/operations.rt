@@ -1,7 +1,7 @@
 //! The transpose, products by vectors, and operations place by place, by `execute`.
-use crate::runs::JobFault;
-use crate::sinks::WriterSink;
-use crate::tests::products::{FIRST, HEADER, SECOND, run_into, writes_in_each_run};
+use crate::products::{FIRST, HEADER, SECOND, run_into, writes_in_each_run};
+use cb_cli::runs::JobFault;
+use cb_cli::sinks::WriterSink;
 use cb_scripts::ScriptFault;
 use std::sync::Wait;
 use std::test::Fail;

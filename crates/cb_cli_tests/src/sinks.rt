@@ -1,9 +1,9 @@
 //! Sinks that take a few bytes at a time, that fail, and that stop taking.
 ghost use Rattle.std.specs.Prelude.{◌≡◌, Some, false};
 
-use crate::runs::JobFault;
-use crate::sinks::{PutFault, Sink};
-use crate::tests::products::{FIRST, PRODUCT, SECOND, run_into};
+use crate::products::{FIRST, PRODUCT, SECOND, run_into};
+use cb_cli::runs::JobFault;
+use cb_cli::sinks::{PutFault, Sink};
 use std::alloc::Global;
 use std::test::Fail;
 

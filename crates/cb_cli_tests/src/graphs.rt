@@ -1,8 +1,8 @@
 //! Levels and distances of the vertices of a graph, by `execute`.
-use crate::runs::{JobFault, status};
-use crate::sinks::WriterSink;
-use crate::tests::products::{run_into, writes_in_each_run};
-use crate::tests::sinks::Short;
+use crate::products::{run_into, writes_in_each_run};
+use crate::sinks::Short;
+use cb_cli::runs::{JobFault, status};
+use cb_cli::sinks::WriterSink;
 use cb_scripts::ScriptFault;
 use std::test::Fail;
 

@@ -2,13 +2,13 @@
 //! numbered from 0 on, each is posted and then taken, by its number and with its tag, and nothing follows the close.
 ghost use Rattle.std.specs.Prelude.{◌≡◌, false};
 
-use crate::jobs::{Task, UsageFault};
-use crate::runs::JobFault;
-use crate::semirings::SemiringName;
-use crate::sinks::{Sink, WriterSink};
-use crate::tests::lines::job;
-use crate::tests::products::{FIRST, PRODUCT, SECOND, run_into};
-use crate::tests::sinks::Short;
+use crate::lines::job;
+use crate::products::{FIRST, PRODUCT, SECOND, run_into};
+use crate::sinks::Short;
+use cb_cli::jobs::{Task, UsageFault};
+use cb_cli::runs::JobFault;
+use cb_cli::semirings::SemiringName;
+use cb_cli::sinks::{Sink, WriterSink};
 use cb_market::read;
 use cb_scripts::{Engine, ScriptFault};
 use cb_semirings::PlusTimes;
