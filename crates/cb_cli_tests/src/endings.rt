@@ -4,11 +4,9 @@ use crate::products::{FIRST, PRODUCT, SECOND};
 use crate::sinks::Short;
 use cb_cli::endings::run;
 use cb_cli::files::{FileSource, Unreadable};
-use cb_cli::jobs::{Job, UsageFault};
-use cb_cli::sinks::{Sink, WriterSink};
+use cb_cli::sinks::WriterSink;
 use std::alloc::Global;
 use std::sync::Wait;
-use std::test::Fail;
 use std::thread::Threads;
 
 /// Files by name. All others can't be read.
@@ -61,93 +59,114 @@ struct Outcome {
     code: u8,
 }
 
-fn outcome_of<R: Threads + Wait + Sync + AllocGlobal>(rt: &R, line: &str) -> Outcome {
+/// Runs a command line, over standard output with room for so many bytes.
+fn outcome_of<R: Threads + Wait + Sync + AllocGlobal>(rt: &R, line: &str, room: usize) -> Outcome {
     let alloc = rt.alloc();
-    let mut out = WriterSink::new(Vec::new(alloc));
+    let asked = job(alloc, line);
+    let mut out = WriterSink::new(Short::new(alloc, room, usize::MAX));
     let mut errors = WriterSink::new(Vec::new(alloc));
-    let status = run(
-        rt,
-        alloc,
-        job(alloc, line),
-        &Table::new(alloc),
-        &mut out,
-        &mut errors,
-    );
+    let status = run(rt, alloc, asked, &Table::new(alloc), &mut out, &mut errors);
     Outcome {
-        out: out.into_inner(),
+        out: out.into_inner().into_bytes(),
         errors: errors.into_inner(),
         code: status.code(),
     }
 }
 
+/// A command line over the files, the room for what it writes, and how it ends.
+struct Ending {
+    line: &'static str,
+    room: usize,
+    out: &'static str,
+    errors: &'static str,
+    code: u8,
+}
+
+const ENDINGS: [Ending; 8] = [
+    Ending {
+        line: "cbgrid multiply a.mtx b.mtx",
+        room: usize::MAX,
+        out: PRODUCT,
+        errors: "",
+        code: 0,
+    },
+    Ending {
+        line: "cbgrid multiply b.mtx none.mtx",
+        room: usize::MAX,
+        out: "",
+        errors: "cbgrid: none.mtx: can't be read\n",
+        code: 3,
+    },
+    Ending {
+        line: "cbgrid multiply bad.mtx none.mtx",
+        room: usize::MAX,
+        out: "",
+        errors: "cbgrid: none.mtx: can't be read\n",
+        code: 3,
+    },
+    Ending {
+        line: "cbgrid multiply a.mtx bad.mtx",
+        room: usize::MAX,
+        out: "",
+        errors: "cbgrid: bad.mtx:1: not a Matrix Market header\n",
+        code: 4,
+    },
+    Ending {
+        line: "cbgrid multiply a.mtx wide.mtx",
+        room: usize::MAX,
+        out: "",
+        errors: "cbgrid: shapes don't agree\n",
+        code: 5,
+    },
+    Ending {
+        line: "cbgrid multiply --mask none.mtx bad.mtx b.mtx",
+        room: usize::MAX,
+        out: "",
+        errors: "cbgrid: none.mtx: can't be read\n",
+        code: 3,
+    },
+    Ending {
+        line: "cbgrid --help",
+        room: 0,
+        out: "",
+        errors: "cbgrid: can't write\n",
+        code: 7,
+    },
+    Ending {
+        line: "cbgrid multiply a.mtx b.mtx",
+        room: 0,
+        out: "",
+        errors: "cbgrid: can't write\n",
+        code: 7,
+    },
+];
+
+fn is_right<R: Threads + Wait + Sync + AllocGlobal>(rt: &R, ending: &Ending) -> bool {
+    let run = outcome_of(rt, ending.line, ending.room);
+    run.out.as_slice() == ending.out.as_bytes()
+        && run.errors.as_slice() == ending.errors.as_bytes()
+        && run.code == ending.code
+}
+
 #[test]
 fn are_told_apart(rt: HostRuntime) {
-    let rows = [
-        ("a.mtx b.mtx", PRODUCT, "", 0),
-        ("b.mtx none.mtx", "", "cbgrid: none.mtx: can't be read\n", 3),
-        (
-            "bad.mtx none.mtx",
-            "",
-            "cbgrid: none.mtx: can't be read\n",
-            3,
-        ),
-        (
-            "a.mtx bad.mtx",
-            "",
-            "cbgrid: bad.mtx:1: not a Matrix Market header\n",
-            4,
-        ),
-        ("a.mtx wide.mtx", "", "cbgrid: shapes don't agree\n", 5),
-        (
-            "--mask none.mtx bad.mtx b.mtx",
-            "",
-            "cbgrid: none.mtx: can't be read\n",
-            3,
-        ),
-    ];
-    for (files, out, errors, code) in rows {
-        let line = format!(in rt.alloc(); "cbgrid multiply {files}").expect(&rt, "line");
-        let run = outcome_of(&rt, line.as_str());
-        assert!(rt; run.out.as_slice() == out.as_bytes(), "{files}");
-        assert!(rt; run.errors.as_slice() == errors.as_bytes(), "{files}");
-        assert_eq!(rt; run.code, code, "{files}");
+    for ending in &ENDINGS {
+        assert!(rt; is_right(&rt, ending), "{}", ending.line);
     }
 }
 
+/// Usage goes to standard error alone, help to standard output alone.
 #[test]
-fn of_usage_are_told_on_standard_error(rt: HostRuntime) {
-    let run = outcome_of(&rt, "cbgrid multiply a.mtx");
-    assert!(rt; run.out.is_empty());
-    assert!(rt; !run.errors.is_empty());
-    assert_eq!(rt; run.code, 2);
-}
-
-#[test]
-fn of_help_are_told_on_standard_output(rt: HostRuntime) {
-    for line in ["cbgrid --help", "cbgrid multiply --help"] {
-        let run = outcome_of(&rt, line);
-        assert!(rt; !run.out.is_empty());
-        assert!(rt; run.errors.is_empty());
-        assert_eq!(rt; run.code, 0);
-    }
-}
-
-#[test]
-fn are_refused_where_nothing_can_be_written(rt: HostRuntime) {
-    let alloc = rt.alloc();
-    for line in ["cbgrid --help", "cbgrid multiply a.mtx b.mtx"] {
-        let mut out = Short::new(alloc, 0, 1);
-        let mut errors = WriterSink::new(Vec::new(alloc));
-        let status = run(
-            &rt,
-            alloc,
-            job(alloc, line),
-            &Table::new(alloc),
-            &mut out,
-            &mut errors,
-        );
-        assert!(rt; errors.into_inner().as_slice() == b"cbgrid: can't write\n".as_slice());
-        assert_eq!(rt; status.code(), 7);
+fn of_usage_and_help_go_to_their_streams(rt: HostRuntime) {
+    for (line, is_help) in [
+        ("cbgrid multiply a.mtx", false),
+        ("cbgrid --help", true),
+        ("cbgrid multiply --help", true),
+    ] {
+        let run = outcome_of(&rt, line, usize::MAX);
+        assert!(rt; run.out.is_empty() != is_help, "{line}");
+        assert!(rt; run.errors.is_empty() == is_help, "{line}");
+        assert!(rt; run.code == if is_help { 0 } else { 2 }, "{line}");
     }
 }
 
@@ -158,7 +177,7 @@ fn are_right_or_want_of_memory(rt: HostRuntime) {
         "cbgrid multiply a.mtx b.mtx",
         "cbgrid multiply a.mtx b.mtx --engine plain",
     ] {
-        let run = outcome_of(&rt, line);
+        let run = outcome_of(&rt, line, usize::MAX);
         let is_right = run.code == 0 && run.out.as_slice() == PRODUCT.as_bytes();
         let is_refused = (run.code == 6 || run.code == 3) && run.out.is_empty();
         assert!(rt; is_right || is_refused);

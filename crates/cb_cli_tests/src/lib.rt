@@ -14,6 +14,8 @@ mod pages;
 #[cfg(test)]
 mod products;
 #[cfg(test)]
+mod refusals;
+#[cfg(test)]
 mod sinks;
 #[cfg(test)]
 mod traces;

@@ -1,17 +1,15 @@
 //! Command lines, and the lines of faults.
-use cb_cli::faults::{fault_line, unreadable_line};
-use cb_cli::jobs::{Job, Operation, Task, UsageFault};
+use cb_cli::faults::fault_line;
 use cb_cli::runs::{JobFault, status};
-use cb_cli::semirings::SemiringName;
-use cb_cli::words::read_job;
 use cb_elementwise::Test;
 use cb_market::{Kind, ReadFault};
-use cb_scripts::{Engine, ScriptFault};
+use cb_scripts::ScriptFault;
+use cb_words::{EngineName, Job, Operation, SemiringName, Task, UsageFault, read_job};
 use std::alloc::{AllocError, Global};
 use std::test::Fail;
 
 /// The words of a line.
-pub fn words(alloc: Global, line: &str) -> Result<Vec<String>, AllocError> {
+fn words(alloc: Global, line: &str) -> Result<Vec<String>, AllocError> {
     let mut words = Vec::new(alloc);
     for word in line.split_whitespace() {
         words.push(String::from_str(alloc, word)?)?;
@@ -25,217 +23,282 @@ pub fn job(alloc: Global, line: &str) -> Result<Job, UsageFault> {
     read_job(alloc, words.as_slice())
 }
 
-/// An operation over plus-times.
-const fn plus_times(operation: Operation) -> Task {
-    Task::Matrix {
-        operation,
-        semiring: SemiringName::PlusTimes,
+/// An operation over a semiring.
+macro_rules! over {
+    ($semiring:ident, $operation:expr) => {
+        Task::Matrix {
+            operation: $operation,
+            semiring: SemiringName::$semiring,
+        }
+    };
+}
+
+/// A traced product over plus-times.
+macro_rules! traced {
+    ($is_masked:literal, $capacity:literal) => {
+        Task::Traced {
+            semiring: SemiringName::PlusTimes,
+            is_masked: $is_masked,
+            capacity: $capacity,
+        }
+    };
+}
+
+/// Why the file of a place is no matrix.
+macro_rules! read_fault {
+    ($which:literal, $line:literal, $kind:ident) => {
+        JobFault::Read {
+            which: $which,
+            fault: ReadFault {
+                line: $line,
+                kind: Kind::$kind,
+            },
+        }
+    };
+}
+
+pub(crate) use read_fault;
+
+/// What a command line asks for: a task, over these files.
+struct Asked {
+    line: &'static str,
+    task: Task,
+    files: &'static [&'static str],
+}
+
+const LINES: [Asked; 18] = [
+    Asked {
+        line: "cbgrid multiply left.mtx right.mtx",
+        task: over!(PlusTimes, Operation::Multiply),
+        files: &["left.mtx", "right.mtx"],
+    },
+    Asked {
+        line: "cbgrid multiply --mask kept.mtx a.mtx --grid 6 b.mtx --engine plain",
+        task: over!(PlusTimes, Operation::MultiplyMasked),
+        files: &["a.mtx", "b.mtx", "kept.mtx"],
+    },
+    Asked {
+        line: "cbgrid multiply a b --semiring plus-times",
+        task: over!(PlusTimes, Operation::Multiply),
+        files: &["a", "b"],
+    },
+    Asked {
+        line: "cbgrid multiply --semiring min-plus a b",
+        task: over!(MinPlus, Operation::Multiply),
+        files: &["a", "b"],
+    },
+    Asked {
+        line: "cbgrid multiply a --semiring=or-and b",
+        task: over!(OrAnd, Operation::Multiply),
+        files: &["a", "b"],
+    },
+    Asked {
+        line: "cbgrid multiply a b --semiring max-min",
+        task: over!(MaxMin, Operation::Multiply),
+        files: &["a", "b"],
+    },
+    Asked {
+        line: "cbgrid multiply a b --trace",
+        task: traced!(false, 2),
+        files: &["a", "b"],
+    },
+    Asked {
+        line: "cbgrid multiply --trace a b --mask m --lane 7 --engine ranks",
+        task: traced!(true, 7),
+        files: &["a", "b", "m"],
+    },
+    Asked {
+        line: "cbgrid spmv a x",
+        task: over!(PlusTimes, Operation::MultiplyVector),
+        files: &["a", "x"],
+    },
+    Asked {
+        line: "cbgrid transpose a",
+        task: over!(PlusTimes, Operation::Transpose),
+        files: &["a"],
+    },
+    Asked {
+        line: "cbgrid add a b",
+        task: over!(PlusTimes, Operation::Add),
+        files: &["a", "b"],
+    },
+    Asked {
+        line: "cbgrid times a b",
+        task: over!(PlusTimes, Operation::Times),
+        files: &["a", "b"],
+    },
+    Asked {
+        line: "cbgrid prune a --test below --value 0",
+        task: over!(PlusTimes, Operation::Prune(Test::Below(0))),
+        files: &["a"],
+    },
+    Asked {
+        line: "cbgrid prune --value 18446744073709551615 a --test above",
+        task: over!(PlusTimes, Operation::Prune(Test::Above(u64::MAX))),
+        files: &["a"],
+    },
+    Asked {
+        line: "cbgrid prune a --test=equal --value=7",
+        task: over!(PlusTimes, Operation::Prune(Test::Equal(7))),
+        files: &["a"],
+    },
+    Asked {
+        line: "cbgrid bfs a --source 1",
+        task: Task::Levels { source: 0 },
+        files: &["a"],
+    },
+    Asked {
+        line: "cbgrid bfs --source=2147483647 a",
+        task: Task::Levels {
+            source: 2_147_483_646,
+        },
+        files: &["a"],
+    },
+    Asked {
+        line: "cbgrid relax --source 9 a --grid 3",
+        task: Task::Distances { source: 8 },
+        files: &["a"],
+    },
+];
+
+/// Whether these are the files of a job, in this order.
+fn are_files(job: &Job, wanted: &[&str]) -> bool {
+    let files = job.files();
+    let mut pairs = files.iter().zip(wanted);
+    files.len() == wanted.len() && pairs.all(|(file, name)| file.as_str() == *name)
+}
+
+/// Whether a command line asks for this.
+fn asks_for(alloc: Global, asked: &Asked) -> bool {
+    match job(alloc, asked.line) {
+        Ok(job) => job.task == asked.task && are_files(&job, asked.files),
+        Err(_) => false,
     }
 }
 
 #[test]
-fn reads_a_product(rt: HostRuntime) -> Result<(), Fail> {
-    let job = job(rt.alloc(), "cbgrid multiply left.mtx right.mtx")?;
-    assert!(rt; job.task == plus_times(Operation::Multiply));
-    assert!(rt; job.engine == Engine::Ranks(2));
-    assert_eq!(rt; job.grid.side(), 2);
-    assert_eq!(rt; job.files().len(), 2);
-    assert!(rt; job.files()[0].as_str() == "left.mtx");
-    assert!(rt; job.files()[1].as_str() == "right.mtx");
-    Ok(())
+fn ask_for_each_task(rt: HostRuntime) {
+    for asked in &LINES {
+        assert!(rt; asks_for(rt.alloc(), asked), "{}", asked.line);
+    }
+}
+
+/// Whether a command line has this engine, and a grid of this side.
+fn has_engine(alloc: Global, line: &str, engine: EngineName, side: u32) -> bool {
+    match job(alloc, line) {
+        Ok(job) => job.engine == engine && job.grid.side() == side,
+        Err(_) => false,
+    }
 }
 
 #[test]
-fn reads_the_options_of_a_product(rt: HostRuntime) -> Result<(), Fail> {
-    let line = "cbgrid multiply --mask kept.mtx a.mtx --grid 6 b.mtx --engine plain";
-    let job = job(rt.alloc(), line)?;
-    assert!(rt; job.task == plus_times(Operation::MultiplyMasked));
-    assert!(rt; job.engine == Engine::Plain);
-    assert_eq!(rt; job.grid.side(), 6);
-    assert_eq!(rt; job.files().len(), 3);
-    assert!(rt; job.files()[2].as_str() == "kept.mtx");
-    Ok(())
-}
-
-#[test]
-fn reads_each_engine(rt: HostRuntime) -> Result<(), Fail> {
-    let wanted = [
-        ("cbgrid transpose a --engine ranks", Engine::Ranks(2)),
-        ("cbgrid transpose a --lane 1", Engine::Ranks(1)),
+fn choose_the_engine_and_the_grid(rt: HostRuntime) {
+    for (line, engine, side) in [
+        ("cbgrid multiply left right", EngineName::Ranks(2), 2),
+        (
+            "cbgrid multiply --mask m a --grid 6 b --engine plain",
+            EngineName::Plain,
+            6,
+        ),
+        ("cbgrid transpose a --engine ranks", EngineName::Ranks(2), 2),
+        ("cbgrid transpose a --lane 1", EngineName::Ranks(1), 2),
         (
             "cbgrid bfs a --lane=64 --source 1 --engine ranks",
-            Engine::Ranks(64),
+            EngineName::Ranks(64),
+            2,
         ),
-        ("cbgrid transpose a --engine plain --lane 64", Engine::Plain),
-    ];
-    for (line, engine) in wanted {
-        assert!(rt; job(rt.alloc(), line)?.engine == engine, "{line}");
+        (
+            "cbgrid transpose a --engine plain --lane 64",
+            EngineName::Plain,
+            2,
+        ),
+        ("cbgrid multiply a b --trace", EngineName::Ranks(2), 2),
+        (
+            "cbgrid multiply --trace a b --mask m --lane 7 --engine ranks",
+            EngineName::Ranks(7),
+            2,
+        ),
+    ] {
+        assert!(rt; has_engine(rt.alloc(), line, engine, side), "{line}");
     }
-    Ok(())
+}
+
+/// Lines that are refused for their words.
+const REFUSED: [&str; 55] = [
+    "cbgrid multiply",
+    "cbgrid multiply a",
+    "cbgrid multiply a b c",
+    "cbgrid multiply a b --semiring",
+    "cbgrid multiply a b --semiring plus",
+    "cbgrid multiply a b --semiring min-plus --semiring min-plus",
+    "cbgrid --semiring min-plus multiply a b",
+    "cbgrid multiply a b --grid 0",
+    "cbgrid multiply a b --grid 7",
+    "cbgrid multiply a b --grid two",
+    "cbgrid multiply a b --engine",
+    "cbgrid multiply a b --engine steam",
+    "cbgrid multiply a b --lane 0",
+    "cbgrid multiply a b --lane 65",
+    "cbgrid multiply a b --lane wide",
+    "cbgrid multiply a b --lane 1 --lane 2",
+    "cbgrid multiply a b --mask",
+    "cbgrid multiply a b --mask m --mask m",
+    "cbgrid multiply a b --colour",
+    "cbgrid multiply a b -h",
+    "cbgrid multiply a b --test above --value 1",
+    "cbgrid multiply a b --source 1",
+    "cbgrid multiply a b --trace --engine plain",
+    "cbgrid multiply a b --trace --trace",
+    "cbgrid multiply a b --trace=yes",
+    "cbgrid transpose a --trace",
+    "cbgrid spmv a x --trace",
+    "cbgrid bfs a",
+    "cbgrid bfs --source 1",
+    "cbgrid bfs a b --source 1",
+    "cbgrid bfs a --source 0",
+    "cbgrid bfs a --source 2147483648",
+    "cbgrid bfs a --source first",
+    "cbgrid bfs a --source 1 --source 1",
+    "cbgrid bfs a --source 1 --semiring or-and",
+    "cbgrid relax a",
+    "cbgrid relax a --source -1",
+    "cbgrid relax a --source 1 --semiring min-plus",
+    "cbgrid relax a --source 1 --mask m",
+    "cbgrid",
+    "cbgrid -h",
+    "cbgrid help",
+    "cbgrid power a b",
+    "cbgrid transpose",
+    "cbgrid transpose a b",
+    "cbgrid transpose a --mask m",
+    "cbgrid add a",
+    "cbgrid times a b c",
+    "cbgrid prune a",
+    "cbgrid prune a --test above",
+    "cbgrid prune a --value 1",
+    "cbgrid prune a --test over --value 1",
+    "cbgrid prune a --test above --value some",
+    "cbgrid prune a --test above --value 18446744073709551616",
+    "cbgrid prune a --test above --test below --value 1",
+];
+
+fn is_usage(alloc: Global, line: &str) -> bool {
+    matches!(job(alloc, line), Err(UsageFault::Usage(_)))
 }
 
 #[test]
-fn reads_each_semiring(rt: HostRuntime) -> Result<(), Fail> {
-    let wanted = [
-        (
-            "cbgrid multiply a b --semiring plus-times",
-            SemiringName::PlusTimes,
-        ),
-        (
-            "cbgrid multiply --semiring min-plus a b",
-            SemiringName::MinPlus,
-        ),
-        ("cbgrid multiply a --semiring=or-and b", SemiringName::OrAnd),
-        (
-            "cbgrid multiply a b --semiring max-min",
-            SemiringName::MaxMin,
-        ),
-    ];
-    for (line, semiring) in wanted {
-        let task = Task::Matrix {
-            operation: Operation::Multiply,
-            semiring,
-        };
-        assert!(rt; job(rt.alloc(), line)?.task == task);
+fn refuse_what_is_not_offered(rt: HostRuntime) {
+    for line in REFUSED {
+        assert!(rt; is_usage(rt.alloc(), line), "{line}");
     }
-    Ok(())
+}
+
+fn is_help(alloc: Global, line: &str) -> bool {
+    matches!(job(alloc, line), Err(UsageFault::Help(_)))
 }
 
 #[test]
-fn reads_each_command(rt: HostRuntime) -> Result<(), Fail> {
-    let wanted = [
-        ("cbgrid spmv a x", Operation::MultiplyVector),
-        ("cbgrid transpose a", Operation::Transpose),
-        ("cbgrid add a b", Operation::Add),
-        ("cbgrid times a b", Operation::Times),
-        (
-            "cbgrid prune a --test below --value 0",
-            Operation::Prune(Test::Below(0)),
-        ),
-        (
-            "cbgrid prune --value 18446744073709551615 a --test above",
-            Operation::Prune(Test::Above(u64::MAX)),
-        ),
-        (
-            "cbgrid prune a --test=equal --value=7",
-            Operation::Prune(Test::Equal(7)),
-        ),
-    ];
-    for (line, operation) in wanted {
-        assert!(rt;
-            job(rt.alloc(), line)?.task == plus_times(operation),
-            "{line}"
-        );
-    }
-    Ok(())
-}
-
-#[test]
-fn reads_a_source(rt: HostRuntime) -> Result<(), Fail> {
-    let wanted = [
-        ("cbgrid bfs a --source 1", Task::Levels { source: 0 }),
-        (
-            "cbgrid bfs --source=2147483647 a",
-            Task::Levels {
-                source: 2_147_483_646,
-            },
-        ),
-        (
-            "cbgrid relax --source 9 a --grid 3",
-            Task::Distances { source: 8 },
-        ),
-    ];
-    for (line, task) in wanted {
-        let job = job(rt.alloc(), line)?;
-        assert!(rt; job.task == task, "{line}");
-        assert_eq!(rt; job.files().len(), 1);
-    }
-    Ok(())
-}
-
-/// The first of these lines that is taken, or refused for another reason than its words.
-fn taken(alloc: Global, lines: &[&'static str]) -> Option<&'static str> {
-    for line in lines {
-        if !matches!(job(alloc, line), Err(UsageFault::Usage(_))) {
-            return Some(line);
-        }
-    }
-    None
-}
-
-#[test]
-fn refuses_products_that_are_not_offered(rt: HostRuntime) {
-    let lines = [
-        "cbgrid multiply",
-        "cbgrid multiply a",
-        "cbgrid multiply a b c",
-        "cbgrid multiply a b --semiring",
-        "cbgrid multiply a b --semiring plus",
-        "cbgrid multiply a b --semiring min-plus --semiring min-plus",
-        "cbgrid --semiring min-plus multiply a b",
-        "cbgrid multiply a b --grid 0",
-        "cbgrid multiply a b --grid 7",
-        "cbgrid multiply a b --grid two",
-        "cbgrid multiply a b --engine",
-        "cbgrid multiply a b --engine steam",
-        "cbgrid multiply a b --lane 0",
-        "cbgrid multiply a b --lane 65",
-        "cbgrid multiply a b --lane wide",
-        "cbgrid multiply a b --lane 1 --lane 2",
-        "cbgrid multiply a b --mask",
-        "cbgrid multiply a b --mask m --mask m",
-        "cbgrid multiply a b --colour",
-        "cbgrid multiply a b -h",
-        "cbgrid multiply a b --test above --value 1",
-        "cbgrid multiply a b --source 1",
-    ];
-    assert!(rt; taken(rt.alloc(), &lines).is_none());
-}
-
-#[test]
-fn refuses_graphs_that_are_not_offered(rt: HostRuntime) {
-    let lines = [
-        "cbgrid bfs a",
-        "cbgrid bfs --source 1",
-        "cbgrid bfs a b --source 1",
-        "cbgrid bfs a --source 0",
-        "cbgrid bfs a --source 2147483648",
-        "cbgrid bfs a --source first",
-        "cbgrid bfs a --source 1 --source 1",
-        "cbgrid bfs a --source 1 --semiring or-and",
-        "cbgrid relax a",
-        "cbgrid relax a --source -1",
-        "cbgrid relax a --source 1 --semiring min-plus",
-        "cbgrid relax a --source 1 --mask m",
-    ];
-    assert!(rt; taken(rt.alloc(), &lines).is_none());
-}
-
-#[test]
-fn refuses_what_else_is_not_offered(rt: HostRuntime) {
-    let lines = [
-        "cbgrid",
-        "cbgrid -h",
-        "cbgrid help",
-        "cbgrid power a b",
-        "cbgrid transpose",
-        "cbgrid transpose a b",
-        "cbgrid transpose a --mask m",
-        "cbgrid add a",
-        "cbgrid times a b c",
-        "cbgrid prune a",
-        "cbgrid prune a --test above",
-        "cbgrid prune a --value 1",
-        "cbgrid prune a --test over --value 1",
-        "cbgrid prune a --test above --value some",
-        "cbgrid prune a --test above --value 18446744073709551616",
-        "cbgrid prune a --test above --test below --value 1",
-    ];
-    assert!(rt; taken(rt.alloc(), &lines).is_none());
-}
-
-#[test]
-fn offers_help(rt: HostRuntime) {
+fn offer_help(rt: HostRuntime) {
     for line in [
         "cbgrid --help",
         "cbgrid multiply --help",
@@ -247,10 +310,22 @@ fn offers_help(rt: HostRuntime) {
         "cbgrid bfs --help",
         "cbgrid relax --help",
     ] {
-        assert!(rt;
-            matches!(job(rt.alloc(), line), Err(UsageFault::Help(_))),
-            "{line}"
-        );
+        assert!(rt; is_help(rt.alloc(), line), "{line}");
+    }
+}
+
+const CONFLICT: &str = "error: the argument '--trace' cannot be used with '--engine plain'
+
+Usage: cbgrid multiply [OPTIONS] <A> <B>
+
+For more information, try '--help'.
+";
+
+#[test]
+fn trace_ranks_in_threads_alone(rt: HostRuntime) {
+    match job(rt.alloc(), "cbgrid multiply --engine=plain a b --trace") {
+        Err(UsageFault::Usage(text)) => assert!(rt; text.as_str() == CONFLICT, "{text}"),
+        _ => assert!(rt; false),
     }
 }
 
@@ -261,46 +336,60 @@ fn ends_so(alloc: Global, fault: &JobFault, number: u8, line: &str) -> Result<bo
     Ok(status(fault) == number && told.as_slice() == line.as_bytes())
 }
 
-#[test]
-fn names_the_file_of_a_fault(rt: HostRuntime) -> Result<(), Fail> {
-    let alloc = rt.alloc();
-    let fault = |which, line, kind| JobFault::Read {
-        which,
-        fault: ReadFault { line, kind },
-    };
-    let bad = fault(1, 7, Kind::BadNumber);
-    assert!(rt; ends_so(alloc, &bad, 4, "cbgrid: b.mtx:7: not a whole number\n")?);
-    let refused = fault(0, 3, Kind::Memory);
-    assert!(rt; ends_so(alloc, &refused, 6, "cbgrid: a.mtx:3: out of memory\n")?);
-    let told = unreadable_line(alloc, "a.mtx")?;
-    assert!(rt; told.as_slice() == b"cbgrid: a.mtx: can't be read\n".as_slice());
-    Ok(())
-}
+const FAULTS: [(JobFault, u8, &str); 11] = [
+    (
+        read_fault!(1, 7, BadNumber),
+        4,
+        "cbgrid: b.mtx:7: not a whole number\n",
+    ),
+    (
+        read_fault!(0, 3, Memory),
+        6,
+        "cbgrid: a.mtx:3: out of memory\n",
+    ),
+    (
+        JobFault::Script(ScriptFault::Shapes),
+        5,
+        "cbgrid: shapes don't agree\n",
+    ),
+    (
+        JobFault::Script(ScriptFault::NotSquare),
+        5,
+        "cbgrid: matrix not square\n",
+    ),
+    (
+        JobFault::Script(ScriptFault::Source),
+        5,
+        "cbgrid: no such source\n",
+    ),
+    (
+        JobFault::Script(ScriptFault::Memory),
+        6,
+        "cbgrid: out of memory\n",
+    ),
+    (
+        JobFault::Script(ScriptFault::NotStarted(35)),
+        6,
+        "cbgrid: rank 35 not started\n",
+    ),
+    (
+        JobFault::Script(ScriptFault::Gone(0)),
+        6,
+        "cbgrid: rank 0 gone\n",
+    ),
+    (
+        JobFault::Script(ScriptFault::Lost(7)),
+        6,
+        "cbgrid: lost at rank 7\n",
+    ),
+    (JobFault::Memory, 6, "cbgrid: out of memory\n"),
+    (JobFault::Output, 7, "cbgrid: can't write\n"),
+];
 
 #[test]
-fn tells_why_there_is_no_answer(rt: HostRuntime) -> Result<(), Fail> {
-    let scripts = [
-        (ScriptFault::Shapes, 5, "cbgrid: shapes don't agree\n"),
-        (ScriptFault::NotSquare, 5, "cbgrid: matrix not square\n"),
-        (ScriptFault::Source, 5, "cbgrid: no such source\n"),
-        (ScriptFault::Memory, 6, "cbgrid: out of memory\n"),
-        (
-            ScriptFault::NotStarted(35),
-            6,
-            "cbgrid: rank 35 not started\n",
-        ),
-        (ScriptFault::Gone(0), 6, "cbgrid: rank 0 gone\n"),
-        (ScriptFault::Lost(7), 6, "cbgrid: lost at rank 7\n"),
-    ];
-    for (fault, number, line) in scripts {
-        assert!(rt;
-            ends_so(rt.alloc(), &JobFault::Script(fault), number, line)?,
-            "{line}"
-        );
+fn tell_why_there_is_no_answer(rt: HostRuntime) -> Result<(), Fail> {
+    for (fault, number, line) in &FAULTS {
+        assert!(rt; ends_so(rt.alloc(), fault, *number, line)?, "{line}");
     }
-    let memory = "cbgrid: out of memory\n";
-    assert!(rt; ends_so(rt.alloc(), &JobFault::Memory, 6, memory)?);
-    let output = "cbgrid: can't write\n";
-    assert!(rt; ends_so(rt.alloc(), &JobFault::Output, 7, output)?);
     Ok(())
 }

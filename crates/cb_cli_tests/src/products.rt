@@ -1,79 +1,86 @@
-//! Products of two texts, by `execute`.
+//! Products of two texts, by `execute`, and what the other modules run commands with.
 ghost use Rattle.std.specs.Prelude.{◌≡◌, false};
 
-use crate::lines::words;
-use cb_cli::jobs::Job;
+use crate::lines::job;
 use cb_cli::runs::{JobFault, execute};
 use cb_cli::sinks::{Sink, WriterSink};
-use cb_cli::words::read_job;
-use cb_market::{Kind, ReadFault};
-use cb_scripts::ScriptFault;
-use std::alloc::Global;
+use std::alloc::{AllocError, Global};
 use std::sync::Wait;
 use std::test::Fail;
 use std::thread::Threads;
 
-pub const HEADER: &str = "%%MatrixMarket matrix coordinate integer general\n";
+/// The text of a matrix of integers, by its lines after the header.
+macro_rules! text {
+    ($lines:literal) => {
+        concat!("%%MatrixMarket matrix coordinate integer general\n", $lines)
+    };
+}
 
-pub const FIRST: &str =
-    "%%MatrixMarket matrix coordinate integer general\n2 2 3\n1 1 1\n1 2 2\n2 2 3\n";
+pub(crate) use text;
 
-pub const SECOND: &str = "%%MatrixMarket matrix coordinate integer general\n2 2 2\n1 2 1\n2 1 4\n";
+pub const FIRST: &str = text!("2 2 3\n1 1 1\n1 2 2\n2 2 3\n");
 
-pub const PRODUCT: &str =
-    "%%MatrixMarket matrix coordinate integer general\n2 2 3\n1 1 8\n2 1 12\n1 2 1\n";
+pub const SECOND: &str = text!("2 2 2\n1 2 1\n2 1 4\n");
+
+pub const PRODUCT: &str = text!("2 2 3\n1 1 8\n2 1 12\n1 2 1\n");
 
 const PATTERN: &str = "%%MatrixMarket matrix coordinate pattern symmetric\n3 3 2\n2 1\n3 3\n";
 
-/// The job of `cbgrid COMMAND`, with `command` from the command's word on.
-fn job_of(alloc: Global, command: &str) -> Result<Job, JobFault> {
-    let Ok(line) = format!(in alloc; "cbgrid {command}") else {
-        return Err(JobFault::Memory);
-    };
-    let Ok(words) = words(alloc, line.as_str()) else {
-        return Err(JobFault::Memory);
-    };
-    let Ok(job) = read_job(alloc, words.as_slice()) else {
-        return Err(JobFault::Memory);
-    };
-    Ok(job)
+const UNTIDY: &str =
+    "%%MatrixMarket MATRIX Coordinate INTEGER General\r\n%\r\n\r\n3 3 3\r\n1 3 +5\r\n\t2 1 007\r\n3 2 -1";
+
+pub const SKEW: &str = "%%MatrixMarket matrix coordinate integer skew-symmetric\n2 2 1\n2 1 3\n";
+
+fn bytes_of(alloc: Global, texts: &[&str]) -> Result<Vec<Vec<u8>>, AllocError> {
+    let mut bytes = Vec::with_capacity(alloc, texts.len())?;
+    for text in texts {
+        bytes.push(Vec::from_slice(alloc, text.as_bytes())?)?;
+    }
+    Ok(bytes)
 }
 
-/// Runs a command over texts. What the test itself can't make is `Memory`.
+/// Runs a command line over texts. What the test itself can't make is `Memory`.
 pub fn run_into<R: Threads + Wait + Sync + AllocGlobal, K: Sink>(
     rt: &R,
-    command: &str,
+    line: &str,
     texts: &[&str],
     out: &mut K,
 ) -> Result<(), JobFault>
     requires { K.has_failed out.old ≡ false }
 {
     let alloc = rt.alloc();
-    let job = job_of(alloc, command)?;
-    let mut bytes = Vec::new(alloc);
-    for text in texts {
-        let Ok(text) = Vec::from_slice(alloc, text.as_bytes()) else {
-            return Err(JobFault::Memory);
-        };
-        if bytes.push(text).is_err() {
-            return Err(JobFault::Memory);
-        }
-    }
+    let Ok(job) = job(alloc, line) else {
+        return Err(JobFault::Memory);
+    };
+    let bytes = bytes_of(alloc, texts)?;
     if bytes.len() != job.files().len() {
         return Err(JobFault::Memory);
     }
     execute(rt, alloc, &job, bytes, out)
 }
 
-/// The bytes that a command writes of some texts.
-fn answer<R: Threads + Wait + Sync + AllocGlobal>(
+/// The bytes that a command line writes of some texts.
+pub fn answer<R: Threads + Wait + Sync + AllocGlobal>(
     rt: &R,
-    command: &str,
+    line: &str,
     texts: &[&str],
 ) -> Result<Vec<u8>, JobFault> {
     let mut out = WriterSink::new(Vec::new(rt.alloc()));
-    run_into(rt, command, texts, &mut out)?;
+    run_into(rt, line, texts, &mut out)?;
     Ok(out.into_inner())
+}
+
+/// Whether a command line writes just this text.
+fn writes<R: Threads + Wait + Sync + AllocGlobal>(
+    rt: &R,
+    line: &str,
+    texts: &[&str],
+    wanted: &str,
+) -> bool {
+    match answer(rt, line, texts) {
+        Ok(bytes) => bytes.as_slice() == wanted.as_bytes(),
+        Err(_) => false,
+    }
 }
 
 /// The options of runs with each engine on grids of several sides. Ranks in threads are as many as the side squared.
@@ -89,279 +96,209 @@ const RUNS: [&str; 9] = [
     "--engine ranks --lane 1 --grid 4",
 ];
 
-/// Whether a command writes just these bytes of some texts, in each run.
-pub fn writes_in_each_run<R: Threads + Wait + Sync + AllocGlobal>(
+/// Whether a command line with each of these options more writes just this text.
+fn writes_with<R: Threads + Wait + Sync + AllocGlobal>(
     rt: &R,
-    command: &str,
+    all_options: &[&str],
+    line: &str,
     texts: &[&str],
-    wanted: &[u8],
+    wanted: &str,
 ) -> bool {
-    for options in RUNS {
-        let Ok(command) = format!(in rt.alloc(); "{command} {options}") else {
+    for options in all_options {
+        let Ok(line) = format!(in rt.alloc(); "{line} {options}") else {
             return false;
         };
-        match answer(rt, command.as_str(), texts) {
-            Ok(bytes) if bytes.as_slice() == wanted => {}
-            _ => return false,
+        if !writes(rt, line.as_str(), texts, wanted) {
+            return false;
         }
     }
     true
 }
 
-/// Whether a command writes the header of integers and these lines, in each run.
-fn writes<R: Threads + Wait + Sync + AllocGlobal>(
+/// A command line, the texts of its files, and the text that it writes.
+pub struct Example {
+    pub line: &'static str,
+    pub texts: &'static [&'static str],
+    pub wanted: &'static str,
+}
+
+/// The first of these examples that isn't written in each run.
+pub fn failed_example<R: Threads + Wait + Sync + AllocGlobal>(
     rt: &R,
-    command: &str,
-    first: &str,
-    second: &str,
-    lines: &str,
-) -> bool {
-    match format!(in rt.alloc(); "{HEADER}{lines}") {
-        Ok(wanted) => writes_in_each_run(rt, command, &[first, second], wanted.as_bytes()),
-        Err(_) => false,
-    }
-}
-
-#[test]
-fn multiplies_two_by_two(rt: HostRuntime) -> Result<(), Fail> {
-    let texts = [FIRST, SECOND];
-    assert!(rt; answer(&rt, "multiply a b", &texts)?.as_slice() == PRODUCT.as_bytes());
-    assert!(rt; writes_in_each_run(&rt, "multiply a b", &texts, PRODUCT.as_bytes()));
-    Ok(())
-}
-
-#[test]
-fn multiplies_two_by_two_over_each_lane(rt: HostRuntime) -> Result<(), Fail> {
-    let texts = [FIRST, SECOND];
-    for lane in [1, 2, 64] {
-        for side in 1..=6 {
-            let command = format!(in rt.alloc(); "multiply a b --lane {lane} --grid {side}")?;
-            let found = answer(&rt, command.as_str(), &texts)?;
-            assert!(rt; found.as_slice() == PRODUCT.as_bytes(), "{command}");
+    examples: &[Example],
+) -> Option<&'static str> {
+    for example in examples {
+        if !writes_with(rt, &RUNS, example.line, example.texts, example.wanted) {
+            return Some(example.wanted);
         }
     }
-    Ok(())
+    None
 }
 
-/// A command over two files of integers, each given by its lines after the header.
-struct Row {
-    name: &'static str,
-    command: &'static str,
-    first: &'static str,
-    second: &'static str,
-    answer: &'static str,
-}
-
-const ROWS: [Row; 12] = [
-    Row {
-        name: "empty",
-        command: "multiply a b",
-        first: "0 0 0\n",
-        second: "0 0 0\n",
-        answer: "0 0 0\n",
+/// Products over two files, and over one that is taken twice.
+const PRODUCTS: [Example; 18] = [
+    // two by two
+    Example {
+        line: "cbgrid multiply a b",
+        texts: &[FIRST, SECOND],
+        wanted: PRODUCT,
     },
-    Row {
-        name: "huge and sparse",
-        command: "multiply a b",
-        first: "2147483647 2147483647 1\n1 2147483647 7\n",
-        second: "2147483647 2147483647 1\n2147483647 5 3\n",
-        answer: "2147483647 2147483647 1\n1 5 21\n",
+    // empty
+    Example {
+        line: "cbgrid multiply a b",
+        texts: &[text!("0 0 0\n"), text!("0 0 0\n")],
+        wanted: text!("0 0 0\n"),
     },
-    Row {
-        name: "wraps to zero",
-        command: "multiply a b",
-        first: "1 1 1\n1 1 4294967296\n",
-        second: "1 1 1\n1 1 4294967296\n",
-        answer: "1 1 0\n",
+    // huge and sparse
+    Example {
+        line: "cbgrid multiply a b",
+        texts: &[
+            text!("2147483647 2147483647 1\n1 2147483647 7\n"),
+            text!("2147483647 2147483647 1\n2147483647 5 3\n"),
+        ],
+        wanted: text!("2147483647 2147483647 1\n1 5 21\n"),
     },
-    Row {
-        name: "a sum that cancels",
-        command: "multiply a b",
-        first: "1 2 2\n1 1 1\n1 2 -1\n",
-        second: "2 1 2\n1 1 1\n2 1 1\n",
-        answer: "1 1 0\n",
+    // wraps to zero
+    Example {
+        line: "cbgrid multiply a b",
+        texts: &[
+            text!("1 1 1\n1 1 4294967296\n"),
+            text!("1 1 1\n1 1 4294967296\n"),
+        ],
+        wanted: text!("1 1 0\n"),
     },
-    Row {
-        name: "above the top of min-plus",
-        command: "multiply a b --semiring min-plus",
-        first: "1 1 1\n1 1 18446744073709551614\n",
-        second: "1 1 1\n1 1 1\n",
-        answer: "1 1 0\n",
+    // a sum that cancels
+    Example {
+        line: "cbgrid multiply a b",
+        texts: &[
+            text!("1 2 2\n1 1 1\n1 2 -1\n"),
+            text!("2 1 2\n1 1 1\n2 1 1\n"),
+        ],
+        wanted: text!("1 1 0\n"),
     },
-    Row {
-        name: "below the top of min-plus",
-        command: "multiply a b --semiring min-plus",
-        first: "1 1 1\n1 1 18446744073709551614\n",
-        second: "1 1 1\n1 1 0\n",
-        answer: "1 1 1\n1 1 18446744073709551614\n",
+    // above the top of min-plus
+    Example {
+        line: "cbgrid multiply a b --semiring min-plus",
+        texts: &[
+            text!("1 1 1\n1 1 18446744073709551614\n"),
+            text!("1 1 1\n1 1 1\n"),
+        ],
+        wanted: text!("1 1 0\n"),
     },
-    Row {
-        name: "a zero of a file in min-plus",
-        command: "multiply a b --semiring min-plus",
-        first: "1 1 1\n1 1 0\n",
-        second: "1 1 1\n1 1 0\n",
-        answer: "1 1 1\n1 1 0\n",
+    // below the top of min-plus
+    Example {
+        line: "cbgrid multiply a b --semiring min-plus",
+        texts: &[
+            text!("1 1 1\n1 1 18446744073709551614\n"),
+            text!("1 1 1\n1 1 0\n"),
+        ],
+        wanted: text!("1 1 1\n1 1 18446744073709551614\n"),
     },
-    Row {
-        name: "a zero of a file in plus-times",
-        command: "multiply a b",
-        first: "1 1 1\n1 1 0\n",
-        second: "1 1 1\n1 1 0\n",
-        answer: "1 1 0\n",
+    // a zero of a file in min-plus
+    Example {
+        line: "cbgrid multiply a b --semiring min-plus",
+        texts: &[text!("1 1 1\n1 1 0\n"), text!("1 1 1\n1 1 0\n")],
+        wanted: text!("1 1 1\n1 1 0\n"),
     },
-    Row {
-        name: "two by two in max-min",
-        command: "multiply a b --semiring max-min",
-        first: "2 2 3\n1 1 1\n1 2 2\n2 2 3\n",
-        second: "2 2 2\n1 2 1\n2 1 4\n",
-        answer: "2 2 3\n1 1 2\n2 1 3\n1 2 1\n",
+    // a zero of a file in plus-times
+    Example {
+        line: "cbgrid multiply a b",
+        texts: &[text!("1 1 1\n1 1 0\n"), text!("1 1 1\n1 1 0\n")],
+        wanted: text!("1 1 0\n"),
     },
-    Row {
-        name: "the one of max-min",
-        command: "multiply a b --semiring max-min",
-        first: "1 1 1\n1 1 18446744073709551615\n",
-        second: "1 1 1\n1 1 5\n",
-        answer: "1 1 1\n1 1 5\n",
+    // two by two in max-min
+    Example {
+        line: "cbgrid multiply a b --semiring max-min",
+        texts: &[
+            text!("2 2 3\n1 1 1\n1 2 2\n2 2 3\n"),
+            text!("2 2 2\n1 2 1\n2 1 4\n"),
+        ],
+        wanted: text!("2 2 3\n1 1 2\n2 1 3\n1 2 1\n"),
     },
-    Row {
-        name: "no rows",
-        command: "multiply a b",
-        first: "0 3 0\n",
-        second: "3 2 1\n1 1 5\n",
-        answer: "0 2 0\n",
+    // the one of max-min
+    Example {
+        line: "cbgrid multiply a b --semiring max-min",
+        texts: &[
+            text!("1 1 1\n1 1 18446744073709551615\n"),
+            text!("1 1 1\n1 1 5\n"),
+        ],
+        wanted: text!("1 1 1\n1 1 5\n"),
     },
-    Row {
-        name: "no inner places",
-        command: "multiply a b",
-        first: "3 0 0\n",
-        second: "0 2 0\n",
-        answer: "3 2 0\n",
+    // no rows
+    Example {
+        line: "cbgrid multiply a b",
+        texts: &[text!("0 3 0\n"), text!("3 2 1\n1 1 5\n")],
+        wanted: text!("0 2 0\n"),
+    },
+    // no inner places
+    Example {
+        line: "cbgrid multiply a b",
+        texts: &[text!("3 0 0\n"), text!("0 2 0\n")],
+        wanted: text!("3 2 0\n"),
+    },
+    // an untidy file
+    Example {
+        line: "cbgrid multiply a b",
+        texts: &[UNTIDY, UNTIDY],
+        wanted: text!("3 3 3\n3 1 18446744073709551609\n1 2 18446744073709551611\n2 3 35\n"),
+    },
+    // a symmetric pattern
+    Example {
+        line: "cbgrid multiply a b --semiring or-and",
+        texts: &[PATTERN, PATTERN],
+        wanted: "%%MatrixMarket matrix coordinate pattern general\n3 3 3\n1 1\n2 2\n3 3\n",
+    },
+    // a skew-symmetric file
+    Example {
+        line: "cbgrid multiply a b",
+        texts: &[SKEW, SKEW],
+        wanted: text!("2 2 2\n1 1 18446744073709551607\n2 2 18446744073709551607\n"),
+    },
+    // a mask
+    Example {
+        line: "cbgrid multiply a b --mask m",
+        texts: &[FIRST, SECOND, text!("2 2 2\n1 1 9\n2 2 9\n")],
+        wanted: text!("2 2 1\n1 1 8\n"),
+    },
+    // a mask that has no entry
+    Example {
+        line: "cbgrid multiply a b --mask m",
+        texts: &[FIRST, SECOND, text!("2 2 0\n")],
+        wanted: text!("2 2 0\n"),
     },
 ];
 
 #[test]
-fn multiplies_the_worked_examples(rt: HostRuntime) -> Result<(), Fail> {
-    let alloc = rt.alloc();
-    for row in &ROWS {
-        let first = format!(in alloc; "{HEADER}{}", row.first)?;
-        let second = format!(in alloc; "{HEADER}{}", row.second)?;
-        let is_right = writes(
-            &rt,
-            row.command,
-            first.as_str(),
-            second.as_str(),
-            row.answer,
-        );
-        assert!(rt; is_right, "{}", row.name);
-    }
-    Ok(())
+fn are_as_worked_out(rt: HostRuntime) {
+    let failed = failed_example(&rt, &PRODUCTS);
+    assert!(rt; failed.is_none(), "{}", failed.unwrap_or(""));
 }
 
-#[test]
-fn squares_an_untidy_file(rt: HostRuntime) -> Result<(), Fail> {
-    let text =
-        "%%MatrixMarket MATRIX Coordinate INTEGER General\r\n%\r\n\r\n3 3 3\r\n1 3 +5\r\n\t2 1 007\r\n3 2 -1";
-    let lines = "3 3 3\n3 1 18446744073709551609\n1 2 18446744073709551611\n2 3 35\n";
-    assert!(rt; writes(&rt, "multiply a b", text, text, lines));
-    Ok(())
-}
+/// Grids of each side, with lanes for few letters and many, and the options that are taken where none is given.
+const LANES: [&str; 19] = [
+    "",
+    "--lane 1 --grid 1",
+    "--lane 1 --grid 2",
+    "--lane 1 --grid 3",
+    "--lane 1 --grid 4",
+    "--lane 1 --grid 5",
+    "--lane 1 --grid 6",
+    "--lane 2 --grid 1",
+    "--lane 2 --grid 2",
+    "--lane 2 --grid 3",
+    "--lane 2 --grid 4",
+    "--lane 2 --grid 5",
+    "--lane 2 --grid 6",
+    "--lane 64 --grid 1",
+    "--lane 64 --grid 2",
+    "--lane 64 --grid 3",
+    "--lane 64 --grid 4",
+    "--lane 64 --grid 5",
+    "--lane 64 --grid 6",
+];
 
 #[test]
-fn squares_a_symmetric_pattern(rt: HostRuntime) {
-    let wanted = "%%MatrixMarket matrix coordinate pattern general\n3 3 3\n1 1\n2 2\n3 3\n";
-    let texts = [PATTERN, PATTERN];
-    assert!(rt;
-        writes_in_each_run(
-            &rt,
-            "multiply a b --semiring or-and",
-            &texts,
-            wanted.as_bytes()
-        )
-    );
-}
-
-#[test]
-fn keeps_what_a_mask_has(rt: HostRuntime) -> Result<(), Fail> {
-    let alloc = rt.alloc();
-    for (mask, wanted) in [
-        ("2 2 2\n1 1 9\n2 2 9\n", "2 2 1\n1 1 8\n"),
-        ("2 2 0\n", "2 2 0\n"),
-    ] {
-        let mask = format!(in alloc; "{HEADER}{mask}")?;
-        let wanted = format!(in alloc; "{HEADER}{wanted}")?;
-        let texts = [FIRST, SECOND, mask.as_str()];
-        assert!(rt; writes_in_each_run(&rt, "multiply a b --mask m", &texts, wanted.as_bytes()));
-    }
-    Ok(())
-}
-
-#[test]
-fn refuses_a_mask_of_another_shape(rt: HostRuntime) -> Result<(), Fail> {
-    let mask = "%%MatrixMarket matrix coordinate integer general\n1 1 1\n1 1 1\n";
-    let mut out = WriterSink::new(Vec::new(rt.alloc()));
-    let fault = run_into(
-        &rt,
-        "multiply a b --mask m",
-        &[FIRST, SECOND, mask],
-        &mut out,
-    );
-    assert!(rt; fault == Err(JobFault::Script(ScriptFault::Shapes)));
-    assert!(rt; out.into_inner().is_empty());
-    Ok(())
-}
-
-#[test]
-fn squares_a_skew_symmetric_file(rt: HostRuntime) -> Result<(), Fail> {
-    let text = "%%MatrixMarket matrix coordinate integer skew-symmetric\n2 2 1\n2 1 3\n";
-    let lines = "2 2 2\n1 1 18446744073709551607\n2 2 18446744073709551607\n";
-    assert!(rt; writes(&rt, "multiply a b", text, text, lines));
-    let wanted = Err(JobFault::Read {
-        which: 0,
-        fault: ReadFault {
-            line: 1,
-            kind: Kind::Unsupported,
-        },
-    });
-    let mut out = WriterSink::new(Vec::new(rt.alloc()));
-    let fault = run_into(
-        &rt,
-        "multiply a b --semiring min-plus",
-        &[text, text],
-        &mut out,
-    );
-    assert!(rt; fault == wanted);
-    Ok(())
-}
-
-#[test]
-fn refuses_shapes_that_do_not_agree(rt: HostRuntime) -> Result<(), Fail> {
-    let text = "%%MatrixMarket matrix coordinate integer general\n2 3 0\n";
-    let other = "%%MatrixMarket matrix coordinate integer general\n2 2 0\n";
-    let mut out = WriterSink::new(Vec::new(rt.alloc()));
-    let fault = run_into(&rt, "multiply a b", &[text, other], &mut out);
-    assert!(rt; fault == Err(JobFault::Script(ScriptFault::Shapes)));
-    assert!(rt; out.into_inner().is_empty());
-    Ok(())
-}
-
-#[test]
-fn tells_the_first_text_that_is_no_matrix(rt: HostRuntime) -> Result<(), Fail> {
-    let bad = "%%MatrixMarket matrix coordinate integer general\n2 2 1\n1 1 x\n";
-    let worse = "no header\n";
-    let wanted = [
-        (bad, worse, 0, 3, Kind::BadNumber),
-        (FIRST, worse, 1, 1, Kind::BadHeader),
-        (worse, bad, 0, 1, Kind::BadHeader),
-    ];
-    for (first, second, which, line, kind) in wanted {
-        let mut out = WriterSink::new(Vec::new(rt.alloc()));
-        let fault = run_into(&rt, "multiply a b", &[first, second], &mut out);
-        let read = JobFault::Read {
-            which,
-            fault: ReadFault { line, kind },
-        };
-        assert!(rt; fault == Err(read));
-        assert!(rt; out.into_inner().is_empty());
-    }
-    Ok(())
+fn are_the_same_over_each_lane(rt: HostRuntime) {
+    let texts = [FIRST, SECOND];
+    assert!(rt; writes_with(&rt, &LANES, "cbgrid multiply a b", &texts, PRODUCT));
 }

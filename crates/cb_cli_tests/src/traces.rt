@@ -1,25 +1,18 @@
 //! Products that are traced. The lines of a trace are read back here by the rules of lanes alone: a lane's letters are
 //! numbered from 0 on, each is posted and then taken, by its number and with its tag, and nothing follows the close.
-ghost use Rattle.std.specs.Prelude.{◌≡◌, false};
 
-use crate::lines::job;
-use crate::products::{FIRST, PRODUCT, SECOND, run_into};
-use crate::sinks::Short;
-use cb_cli::jobs::{Task, UsageFault};
-use cb_cli::runs::JobFault;
-use cb_cli::semirings::SemiringName;
-use cb_cli::sinks::{Sink, WriterSink};
+use crate::products::{FIRST, PRODUCT, SECOND, answer, text};
+use crate::sinks::{Short, write_to};
 use cb_market::read;
-use cb_scripts::{Engine, ScriptFault};
 use cb_semirings::PlusTimes;
 use std::alloc::{AllocError, Global};
 use std::sync::Wait;
 use std::test::Fail;
 use std::thread::Threads;
 
-const KEPT: &str = "%%MatrixMarket matrix coordinate integer general\n2 2 1\n1 1 8\n";
+const KEPT: &str = text!("2 2 1\n1 1 8\n");
 
-const MASK: &str = "%%MatrixMarket matrix coordinate integer general\n2 2 1\n1 1 5\n";
+const MASK: &str = text!("2 2 1\n1 1 5\n");
 
 /// What a line of a trace tells: what was done, the ranks that the letter goes from and to, its number, and its tag,
 /// which a close mark hasn't.
@@ -133,138 +126,61 @@ fn is_traced(
     }
 }
 
-/// The text that a command writes.
-fn text_of<R: Threads + Wait + Sync + AllocGlobal>(
-    rt: &R,
-    command: &str,
-    texts: &[&str],
-) -> Result<String, Fail> {
-    let mut out = WriterSink::new(Vec::new(rt.alloc()));
-    run_into(rt, command, texts, &mut out)?;
-    Ok(String::from_utf8(out.into_inner()).map_err(|_| "text")?)
+/// Whether two texts read as the same entries.
+fn read_alike(alloc: Global, text: &str, product: &str) -> bool {
+    let found = read::<PlusTimes>(alloc, text.as_bytes());
+    let wanted = read::<PlusTimes>(alloc, product.as_bytes());
+    match (found, wanted) {
+        (Ok(found), Ok(wanted)) => found.entries() == wanted.entries(),
+        _ => false,
+    }
 }
 
+/// Whether a command line writes a product, and then the lines of a trace of so many ranks, so many, which whoever reads
+/// the whole passes over.
+fn is_told<R: Threads + Wait + Sync + AllocGlobal>(
+    rt: &R,
+    line: &str,
+    texts: &[&str],
+    product: &str,
+    ranks: usize,
+    count: usize,
+) -> Result<bool, Fail> {
+    let text = String::from_utf8(answer(rt, line, texts)?).map_err(|_| "text")?;
+    let alloc = rt.alloc();
+    let is_passed_over = read_alike(alloc, text.as_str(), product);
+    Ok(is_passed_over && is_traced(alloc, text.as_str(), product, ranks, count)?)
+}
+
+/// A trace of one rank has no line.
 #[test]
 fn follow_the_product(rt: HostRuntime) -> Result<(), Fail> {
-    let alloc = rt.alloc();
-    for lane in [1, 64] {
-        let command = format!(in alloc; "multiply a b --trace --grid 2 --lane {lane}")?;
-        let text = text_of(&rt, command.as_str(), &[FIRST, SECOND])?;
-        assert!(rt; is_traced(alloc, text.as_str(), PRODUCT, 4, 40)?);
-        let product = read::<PlusTimes>(alloc, text.as_bytes()).map_err(|_| "a matrix")?;
-        let alone = read::<PlusTimes>(alloc, PRODUCT.as_bytes()).map_err(|_| "a matrix")?;
-        assert!(rt; product.entries() == alone.entries());
-    }
-    Ok(())
-}
-
-#[test]
-fn follow_the_product_under_a_mask(rt: HostRuntime) -> Result<(), Fail> {
-    let command = "multiply a b --mask m --trace --lane 1";
-    let text = text_of(&rt, command, &[FIRST, SECOND, MASK])?;
-    assert!(rt; is_traced(rt.alloc(), text.as_str(), KEPT, 4, 40)?);
-    Ok(())
-}
-
-#[test]
-fn of_one_rank_have_no_line(rt: HostRuntime) -> Result<(), Fail> {
-    let text = text_of(&rt, "multiply a b --trace --grid 1", &[FIRST, SECOND])?;
-    assert!(rt; text.as_str() == PRODUCT);
-    Ok(())
-}
-
-#[test]
-fn are_asked_for(rt: HostRuntime) -> Result<(), Fail> {
-    let traced = |is_masked, capacity| Task::Traced {
-        semiring: SemiringName::PlusTimes,
-        is_masked,
-        capacity,
-    };
-    let job_of = |line| job(rt.alloc(), line);
-    let product = job_of("cbgrid multiply a b --trace")?;
-    assert!(rt; product.task == traced(false, 2) && product.engine == Engine::Ranks(2));
-    assert_eq!(rt; product.files().len(), 2);
-    let kept = job_of("cbgrid multiply --trace a b --mask m --lane 7 --engine ranks")?;
-    assert!(rt; kept.task == traced(true, 7) && kept.engine == Engine::Ranks(7));
-    assert_eq!(rt; kept.files().len(), 3);
-    Ok(())
-}
-
-#[test]
-fn are_not_offered(rt: HostRuntime) {
-    for line in [
-        "cbgrid multiply a b --trace --engine plain",
-        "cbgrid multiply a b --trace --trace",
-        "cbgrid multiply a b --trace=yes",
-        "cbgrid transpose a --trace",
-        "cbgrid spmv a x --trace",
+    for (options, ranks, count) in [
+        ("--grid 2 --lane 1", 4, 40),
+        ("--grid 2 --lane 64", 4, 40),
+        ("--grid 1", 1, 0),
     ] {
-        let fault = job(rt.alloc(), line);
-        assert!(rt; matches!(fault, Err(UsageFault::Usage(_))), "{line}");
-    }
-}
-
-const CONFLICT: &str = "error: the argument '--trace' cannot be used with '--engine plain'
-
-Usage: cbgrid multiply [OPTIONS] <A> <B>
-
-For more information, try '--help'.
-";
-
-#[test]
-fn are_of_ranks_in_threads(rt: HostRuntime) {
-    match job(rt.alloc(), "cbgrid multiply --engine=plain a b --trace") {
-        Err(UsageFault::Usage(text)) => assert!(rt; text.as_str() == CONFLICT, "{text}"),
-        _ => assert!(rt; false),
-    }
-}
-
-#[test]
-fn are_refused_with_the_shapes(rt: HostRuntime) -> Result<(), Fail> {
-    let wide = "%%MatrixMarket matrix coordinate integer general\n1 3 0\n";
-    for (command, texts) in [
-        ("multiply a b --trace", [FIRST, wide].as_slice()),
-        (
-            "multiply a b --trace --mask m",
-            [FIRST, SECOND, wide].as_slice(),
-        ),
-    ] {
-        let mut out = WriterSink::new(Vec::new(rt.alloc()));
-        let fault = run_into(&rt, command, texts, &mut out);
-        assert!(rt; fault == Err(JobFault::Script(ScriptFault::Shapes)));
-        assert!(rt; out.into_inner().is_empty());
-    }
-    Ok(())
-}
-
-/// As much goes out as the writer takes, of the product or of the lines after it.
-#[test]
-fn stop_where_the_writer_fails(rt: HostRuntime) -> Result<(), Fail> {
-    let command = "multiply a b --trace";
-    for room in [0, 10, 73, 74, 75, 400] {
-        let mut out = Short::new(rt.alloc(), room, 7);
-        let fault = run_into(&rt, command, &[FIRST, SECOND], &mut out);
-        assert!(rt; fault == Err(JobFault::Output), "{room}");
-        assert_eq!(rt; out.bytes().len(), room);
-        let product = PRODUCT.as_bytes();
+        let line = format!(in rt.alloc(); "cbgrid multiply a b --trace {options}")?;
+        let texts = [FIRST, SECOND];
         assert!(rt;
-            product.starts_with(out.bytes()) || out.bytes().starts_with(product),
-            "{room}"
+            is_told(&rt, line.as_str(), &texts, PRODUCT, ranks, count)?,
+            "{options}"
         );
     }
+    let line = "cbgrid multiply a b --mask m --trace --lane 1";
+    assert!(rt; is_told(&rt, line, &[FIRST, SECOND, MASK], KEPT, 4, 40)?);
     Ok(())
 }
 
 /// It passes whichever single allocation is refused: nothing has gone out, or the product and its whole trace.
 #[test]
 fn are_whole_or_want_of_memory(rt: HostRuntime) {
-    let mut out = WriterSink::new(Vec::new(rt.alloc()));
-    let answer = run_into(&rt, "multiply a b --trace", &[FIRST, SECOND], &mut out);
-    let bytes = out.into_inner();
-    let lines = bytes.iter().filter(|byte| **byte == b'\n').count();
-    let is_right = match answer {
-        Ok(()) => bytes.starts_with(PRODUCT.as_bytes()) && lines == 45,
-        Err(_) => bytes.is_empty(),
+    let writer = Short::new(rt.alloc(), usize::MAX, usize::MAX);
+    let run = write_to(&rt, "cbgrid multiply a b --trace", &[FIRST, SECOND], writer);
+    let lines = run.bytes.iter().filter(|byte| **byte == b'\n').count();
+    let is_right = match run.answer {
+        Ok(()) => run.bytes.starts_with(PRODUCT.as_bytes()) && lines == 45,
+        Err(_) => run.bytes.is_empty(),
     };
     assert!(rt; is_right);
 }
