@@ -6,7 +6,7 @@ use Rattle.cb_market.specs.Text.{text_of}
 use Rattle.cb_cli.specs.Answers.{AreMatrices, Agree, answer_of, IsRefusal, IsAnswerOver, IsFaultOver}
 use Rattle.cb_scripts.specs.declared.Engine.{Engine}
 use Rattle.cb_scripts.specs.declared.ScriptFault.{ScriptFault}
-use Rattle.cb_cli.specs.declared.jobs.Operation.{Operation}
+use Rattle.cb_words.specs.declared.jobs.Operation.{Operation}
 use Rattle.cb_cli.specs.declared.runs.JobFault.TheVariants.{Script}
 
 module _ (operation named : Operation) (is : operation ≡ named) (s : Arithmetic) (texts : List (List ℕ)) where

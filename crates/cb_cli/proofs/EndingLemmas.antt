@@ -3,7 +3,7 @@ use Rattle.std.proofs.Common.{ℕ, List, Option, Some, None, refl}
 use Rattle.std.specs.Io.KnownBytes.{Keeps}
 use Rattle.cb_cli.specs.Files.{IsUnloaded}
 use Rattle.cb_cli.specs.Endings.{IsJobEnding, unloaded_ending}
-use Rattle.cb_cli.specs.declared.jobs.Job.{Job}
+use Rattle.cb_words.specs.declared.jobs.Job.{Job}
 use Rattle.cb_cli.specs.declared.files.LoadFault.{LoadFault}
 use Rattle.cb_cli.specs.declared.files.LoadFault.TheVariants.{Unreadable, Memory}
 

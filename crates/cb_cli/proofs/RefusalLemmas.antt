@@ -7,7 +7,7 @@ use Rattle.cb_scripts.specs.declared.Engine.{Engine}
 use Rattle.cb_scripts.specs.declared.ScriptFault.{ScriptFault}
 use Rattle.cb_scripts.specs.declared.ScriptFault.TheVariants.{Shapes, NotSquare, Source, Memory, NotStarted, Gone, TraceTorn, Lost}
 use Rattle.cb_cli.specs.Answers.{IsRefusal}
-use Rattle.cb_cli.specs.declared.jobs.Operation.TheVariants as op_is
+use Rattle.cb_words.specs.declared.jobs.Operation.TheVariants as op_is
 
 module _ (engine : Engine) where
   -- of a product

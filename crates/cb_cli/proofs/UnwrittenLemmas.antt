@@ -3,7 +3,7 @@ use Rattle.std.proofs.Common.{ℕ, List, sym, subst, inl, inr}
 use Rattle.std.specs.Prelude.{Result, Ok, Err, IfErr}
 use Rattle.cb_semirings.specs.Arithmetic.{Arithmetic}
 use Rattle.cb_scripts.specs.declared.Engine.{Engine}
-use Rattle.cb_cli.specs.declared.jobs.Operation.{Operation}
+use Rattle.cb_words.specs.declared.jobs.Operation.{Operation}
 use Rattle.cb_cli.specs.declared.runs.JobFault.{JobFault}
 use Rattle.cb_cli.specs.Answers.{IsAnswerOver, IsFaultOver, IsUnwritten}
 

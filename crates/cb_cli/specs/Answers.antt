@@ -14,11 +14,13 @@ use Rattle.cb_market.specs.declared.Kind.TheVariants as kind_is
 use Rattle.cb_trace.specs.Traces.{TraceView}
 use Rattle.cb_cli.specs.Files.{text_at}
 use Rattle.cb_cli.specs.TraceTexts.{trace_text}
-use Rattle.cb_cli.specs.Semirings.{arithmetic_of}
-use Rattle.cb_cli.specs.declared.jobs.Operation.{Operation}
-use Rattle.cb_cli.specs.declared.jobs.Operation.TheVariants.{Multiply, MultiplyMasked, MultiplyVector, Transpose, Add, Times, Prune}
-use Rattle.cb_cli.specs.declared.jobs.Task.{Task}
-use Rattle.cb_cli.specs.declared.jobs.Task.TheVariants.{Matrix, Traced, Levels, Distances}
+use Rattle.cb_cli.specs.Engines.{engine_of}
+use Rattle.cb_words.specs.declared.jobs.EngineName.{EngineName}
+use Rattle.cb_words.specs.Semirings.{arithmetic_of}
+use Rattle.cb_words.specs.declared.jobs.Operation.{Operation}
+use Rattle.cb_words.specs.declared.jobs.Operation.TheVariants.{Multiply, MultiplyMasked, MultiplyVector, Transpose, Add, Times, Prune}
+use Rattle.cb_words.specs.declared.jobs.Task.{Task}
+use Rattle.cb_words.specs.declared.jobs.Task.TheVariants.{Matrix, Traced, Levels, Distances}
 use Rattle.cb_scripts.specs.Traced.{product_under, AgreeUnder, IsProductTrace, IsTracedRefusal}
 use Rattle.cb_searches.specs.Walks.{AreLevels, AreDistances}
 use Rattle.cb_scripts.specs.Refusals.{IsGraphRefusal, IsRunRefusal}
@@ -147,11 +149,11 @@ IsAnswer (Levels source) side = IsWalkAnswer AreLevels or_and source
 IsAnswer (Distances source) side = IsWalkAnswer AreDistances min_plus source
 
 -- why it answers nothing with an engine; a trace is of ranks in threads, whatever the engine
-abbrev pub IsFault : Task → Engine → List (List ℕ) → JobFault → Type 0
-IsFault (Matrix operation semiring) engine = IsFaultOver operation (arithmetic_of semiring) engine
+abbrev pub IsFault : Task → EngineName → List (List ℕ) → JobFault → Type 0
+IsFault (Matrix operation semiring) engine = IsFaultOver operation (arithmetic_of semiring) (engine_of engine)
 IsFault (Traced semiring is_masked capacity) engine = IsTracedFault is_masked (arithmetic_of semiring)
-IsFault (Levels source) engine = IsWalkFault or_and source engine
-IsFault (Distances source) engine = IsWalkFault min_plus source engine
+IsFault (Levels source) engine = IsWalkFault or_and source (engine_of engine)
+IsFault (Distances source) engine = IsWalkFault min_plus source (engine_of engine)
 
 -- why an answer that there is has not gone out whole
 abbrev pub IsUnwritten : JobFault → Type 0

@@ -6,9 +6,9 @@ use Rattle.cb_cli.specs.Sinks.{AppendsPrefix}
 use Rattle.cb_cli.specs.Files.{AreTexts, IsUnloaded}
 use Rattle.cb_cli.specs.Faults.{name_at, line_of, unreadable_line_of}
 use Rattle.cb_cli.specs.Answers.{IsAnswer, IsFault, status_of}
-use Rattle.cb_cli.specs.declared.jobs.Job.{Job}
-use Rattle.cb_cli.specs.declared.jobs.UsageFault.{UsageFault}
-use Rattle.cb_cli.specs.declared.jobs.UsageFault.TheVariants as asked_is
+use Rattle.cb_words.specs.declared.jobs.Job.{Job}
+use Rattle.cb_words.specs.declared.jobs.UsageFault.{UsageFault}
+use Rattle.cb_words.specs.declared.jobs.UsageFault.TheVariants as asked_is
 use Rattle.cb_cli.specs.declared.files.LoadFault.{LoadFault}
 use Rattle.cb_cli.specs.declared.files.LoadFault.TheVariants as load_is
 use Rattle.cb_cli.specs.declared.runs.JobFault.TheVariants as job_is

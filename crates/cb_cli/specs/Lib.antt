@@ -1,5 +1,4 @@
-pub mod Semirings
-pub mod Jobs
+pub mod Engines
 pub mod Sinks
 pub mod Writers
 pub mod Faults

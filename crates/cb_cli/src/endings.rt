@@ -9,9 +9,9 @@ ghost use Rattle.cb_cli.specs.Statuses.{status_code};
 
 use crate::faults::{fault_line, name_at, unreadable_line};
 use crate::files::{FileSource, LoadFault, texts_of};
-use crate::jobs::{Job, UsageFault};
 use crate::runs::{JobFault, execute, status};
 use crate::sinks::{Sink, put_all};
+use cb_words::{Job, UsageFault};
 use std::alloc::{AllocError, Global};
 use std::process::{ExitCode, Termination};
 use std::sync::Wait;

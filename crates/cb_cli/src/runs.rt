@@ -2,29 +2,29 @@
 ghost use Rattle.std.specs.Prelude.{◌≡◌, ◌≢◌, ◌↔◌, ℕ, List, vec_len, true, false, OnOk, IfOk, IfErr, IsErrOf};
 ghost use Rattle.std.specs.Io.KnownBytes.{Appends, Keeps};
 ghost use Rattle.cb_cli.specs.Sinks.{AppendsPrefix};
-ghost use Rattle.cb_cli.specs.Jobs.{operand_count_of};
+ghost use Rattle.cb_words.specs.Jobs.{operand_count_of};
 ghost use Rattle.cb_market.specs.Text.{text_of, vertex_text_of};
 ghost use Rattle.cb_semirings.specs.Tables.{min_plus, or_and};
 ghost use Rattle.cb_searches.specs.Walks.{AreLevels, AreDistances};
-ghost use Rattle.cb_cli.specs.Semirings.{arithmetic_of};
+ghost use Rattle.cb_words.specs.Semirings.{arithmetic_of};
 ghost use Rattle.cb_cli.specs.Answers.{IsAnswerOver, IsFaultOver, IsWalkAnswer, IsWalkFault, IsAnswer, IsFault, status_of};
 ghost use Rattle.cb_cli.specs.Files.{bytes_of};
 
-use crate::jobs::{Job, Operation, Task};
+use crate::engines::engine_of;
 use crate::operands::{read_one, read_three, read_two, read_with_vector};
 use crate::pages::{put_column, put_text};
-use crate::semirings::SemiringName;
 use crate::sinks::Sink;
 use crate::traced::execute_traced;
-use cb_layout::DistributedMatrix;
+use cb_layout::{DistributedMatrix, Grid};
 use cb_market::{Kind, ReadFault};
 use cb_matrix::Matrix;
 use cb_scripts::{
-    ScriptFault, add_distributed, distances_distributed, levels_distributed, multiply_distributed,
-    multiply_masked_distributed, prune_distributed, times_distributed, transpose_distributed,
-    vector_distributed,
+    Engine, ScriptFault, add_distributed, distances_distributed, levels_distributed,
+    multiply_distributed, multiply_masked_distributed, prune_distributed, times_distributed,
+    transpose_distributed, vector_distributed,
 };
 use cb_semirings::{MaxMin, MinPlus, OrAnd, PlusTimes, Semiring};
+use cb_words::{Job, Operation, SemiringName, Task};
 use std::alloc::{AllocError, Global};
 use std::sync::Wait;
 use std::thread::Threads;
@@ -66,21 +66,21 @@ impl From<AllocError> for JobFault {
     }
 }
 
-/// What an operation makes of texts over a semiring, on the job's grid. The operands lie in the blocks of the grid, and
+/// What an operation makes of texts over a semiring, on a grid. The operands lie in the blocks of the grid, and
 /// no list of their entries is kept, but for that of a vector.
 fn answer_over<S: Semiring + Send + Sync, R: Threads + Wait + Sync>(
     rt: &R,
     alloc: Global,
-    job: &Job,
+    engine: Engine,
+    grid: &Grid,
     operation: Operation,
     texts: Vec<Vec<u8>>,
 ) -> Result<DistributedMatrix<S>, JobFault>
     requires { vec_len texts ≡ operand_count_of operation }
     ensures ok { IfOk result (λ m. IsAnswerOver operation S.arithmetic (bytes_of texts.items) (text_of S.arithmetic m.matrix)) }
-    ensures fault { IfErr result (IsFaultOver operation S.arithmetic job.now.engine (bytes_of texts.items)) }
+    ensures fault { IfErr result (IsFaultOver operation S.arithmetic engine (bytes_of texts.items)) }
     ensures unwritten { IfErr result (λ f. f ≢ JobFault.Output) }
 {
-    let (engine, grid) = (job.engine, &job.grid);
     match operation {
         Operation::Multiply => {
             let (left, right) = read_two::<S>(alloc, grid, texts)?;
@@ -117,7 +117,8 @@ fn answer_over<S: Semiring + Send + Sync, R: Threads + Wait + Sync>(
 fn execute_over<S: Semiring + Send + Sync, R: Threads + Wait + Sync, K: Sink>(
     rt: &R,
     alloc: Global,
-    job: &Job,
+    engine: Engine,
+    grid: &Grid,
     operation: Operation,
     texts: Vec<Vec<u8>>,
     out: &mut K,
@@ -125,12 +126,12 @@ fn execute_over<S: Semiring + Send + Sync, R: Threads + Wait + Sync, K: Sink>(
     requires texts { vec_len texts ≡ operand_count_of operation }
     requires works { K.has_failed out.old ≡ false }
     ensures whole { OnOk result ((t : List ℕ) × IsAnswerOver operation S.arithmetic (bytes_of texts.items) t × Appends (K.written out.old) (K.written out.new) t) }
-    ensures fault { IfErr result (IsFaultOver operation S.arithmetic job.now.engine (bytes_of texts.items)) }
+    ensures fault { IfErr result (IsFaultOver operation S.arithmetic engine (bytes_of texts.items)) }
     ensures nothing { IfErr result (λ f. f ≢ JobFault.Output → Keeps (K.written out.old) (K.written out.new)) }
     ensures output { IsErrOf result JobFault.Output → (t : List ℕ) × IsAnswerOver operation S.arithmetic (bytes_of texts.items) t × AppendsPrefix (K.written out.old) (K.written out.new) t }
     ensures failed { IsErrOf result JobFault.Output ↔ (K.has_failed out.new ≡ true) }
 {
-    let answer = answer_over::<S, R>(rt, alloc, job, operation, texts)?;
+    let answer = answer_over::<S, R>(rt, alloc, engine, grid, operation, texts)?;
     put_text(alloc, &answer, out)
 }
 
@@ -138,7 +139,8 @@ fn execute_over<S: Semiring + Send + Sync, R: Threads + Wait + Sync, K: Sink>(
 fn execute_named<R: Threads + Wait + Sync, K: Sink>(
     rt: &R,
     alloc: Global,
-    job: &Job,
+    engine: Engine,
+    grid: &Grid,
     operation: Operation,
     semiring: SemiringName,
     texts: Vec<Vec<u8>>,
@@ -147,20 +149,24 @@ fn execute_named<R: Threads + Wait + Sync, K: Sink>(
     requires texts { vec_len texts ≡ operand_count_of operation }
     requires works { K.has_failed out.old ≡ false }
     ensures whole { OnOk result ((t : List ℕ) × IsAnswerOver operation (arithmetic_of semiring) (bytes_of texts.items) t × Appends (K.written out.old) (K.written out.new) t) }
-    ensures fault { IfErr result (IsFaultOver operation (arithmetic_of semiring) job.now.engine (bytes_of texts.items)) }
+    ensures fault { IfErr result (IsFaultOver operation (arithmetic_of semiring) engine (bytes_of texts.items)) }
     ensures nothing { IfErr result (λ f. f ≢ JobFault.Output → Keeps (K.written out.old) (K.written out.new)) }
     ensures output { IsErrOf result JobFault.Output → (t : List ℕ) × IsAnswerOver operation (arithmetic_of semiring) (bytes_of texts.items) t × AppendsPrefix (K.written out.old) (K.written out.new) t }
     ensures failed { IsErrOf result JobFault.Output ↔ (K.has_failed out.new ≡ true) }
 {
     match semiring {
         SemiringName::PlusTimes => {
-            execute_over::<PlusTimes, R, K>(rt, alloc, job, operation, texts, out)
+            execute_over::<PlusTimes, R, K>(rt, alloc, engine, grid, operation, texts, out)
         }
         SemiringName::MinPlus => execute_over::<MinPlus, R, K>(
-            rt, alloc, job, operation, texts, out,
+            rt, alloc, engine, grid, operation, texts, out,
         ),
-        SemiringName::OrAnd => execute_over::<OrAnd, R, K>(rt, alloc, job, operation, texts, out),
-        SemiringName::MaxMin => execute_over::<MaxMin, R, K>(rt, alloc, job, operation, texts, out),
+        SemiringName::OrAnd => execute_over::<OrAnd, R, K>(
+            rt, alloc, engine, grid, operation, texts, out,
+        ),
+        SemiringName::MaxMin => execute_over::<MaxMin, R, K>(
+            rt, alloc, engine, grid, operation, texts, out,
+        ),
     }
 }
 
@@ -168,18 +174,19 @@ fn execute_named<R: Threads + Wait + Sync, K: Sink>(
 fn levels_of<R: Threads + Wait + Sync>(
     rt: &R,
     alloc: Global,
-    job: &Job,
+    engine: Engine,
+    grid: &Grid,
     source: u32,
     texts: Vec<Vec<u8>>,
 ) -> Result<Matrix<MinPlus>, JobFault>
     requires { vec_len texts ≡ 1 }
     ensures ok { IfOk result (λ column. IsWalkAnswer AreLevels or_and source (bytes_of texts.items) (vertex_text_of column)) }
     ensures column { IfOk result (λ column. column.shape.cols ≡ 1) }
-    ensures fault { IfErr result (IsWalkFault or_and source job.now.engine (bytes_of texts.items)) }
+    ensures fault { IfErr result (IsWalkFault or_and source engine (bytes_of texts.items)) }
     ensures unwritten { IfErr result (λ f. f ≢ JobFault.Output) }
 {
-    let graph = read_one::<OrAnd>(alloc, &job.grid, texts)?;
-    let column = levels_distributed(rt, alloc, job.engine, graph, source)?;
+    let graph = read_one::<OrAnd>(alloc, grid, texts)?;
+    let column = levels_distributed(rt, alloc, engine, graph, source)?;
     let _shape = column.shape();
     Ok(column)
 }
@@ -188,18 +195,19 @@ fn levels_of<R: Threads + Wait + Sync>(
 fn distances_of<R: Threads + Wait + Sync>(
     rt: &R,
     alloc: Global,
-    job: &Job,
+    engine: Engine,
+    grid: &Grid,
     source: u32,
     texts: Vec<Vec<u8>>,
 ) -> Result<Matrix<MinPlus>, JobFault>
     requires { vec_len texts ≡ 1 }
     ensures ok { IfOk result (λ column. IsWalkAnswer AreDistances min_plus source (bytes_of texts.items) (vertex_text_of column)) }
     ensures column { IfOk result (λ column. column.shape.cols ≡ 1) }
-    ensures fault { IfErr result (IsWalkFault min_plus source job.now.engine (bytes_of texts.items)) }
+    ensures fault { IfErr result (IsWalkFault min_plus source engine (bytes_of texts.items)) }
     ensures unwritten { IfErr result (λ f. f ≢ JobFault.Output) }
 {
-    let graph = read_one::<MinPlus>(alloc, &job.grid, texts)?;
-    let column = distances_distributed(rt, alloc, job.engine, graph, source)?;
+    let graph = read_one::<MinPlus>(alloc, grid, texts)?;
+    let column = distances_distributed(rt, alloc, engine, graph, source)?;
     let _shape = column.shape();
     Ok(column)
 }
@@ -229,22 +237,23 @@ pub fn execute<R: Threads + Wait + Sync, K: Sink>(
     ensures output { IsErrOf result JobFault.Output → (t : List ℕ) × IsAnswer job.now.task job.now.grid.side (bytes_of texts.items) t × AppendsPrefix (K.written out.old) (K.written out.new) t }
     ensures failed { IsErrOf result JobFault.Output ↔ (K.has_failed out.new ≡ true) }
 {
+    let (engine, grid) = (engine_of(job.engine), &job.grid);
     match job.task {
         Task::Matrix {
             operation,
             semiring,
-        } => execute_named(rt, alloc, job, operation, semiring, texts, out),
+        } => execute_named(rt, alloc, engine, grid, operation, semiring, texts, out),
         Task::Traced {
             semiring,
             is_masked,
             capacity,
         } => execute_traced(rt, alloc, job, semiring, is_masked, capacity, texts, out),
         Task::Levels { source } => {
-            let column = levels_of(rt, alloc, job, source, texts)?;
+            let column = levels_of(rt, alloc, engine, grid, source, texts)?;
             put_column(alloc, &column, out)
         }
         Task::Distances { source } => {
-            let column = distances_of(rt, alloc, job, source, texts)?;
+            let column = distances_of(rt, alloc, engine, grid, source, texts)?;
             put_column(alloc, &column, out)
         }
     }

@@ -2,24 +2,23 @@
 ghost use Rattle.std.specs.Prelude.{◌≡◌, ◌≢◌, ◌↔◌, ◌++◌, ℕ, List, vec_len, true, false, OnOk, IfOk, IfErr, IsErrOf};
 ghost use Rattle.std.specs.Io.KnownBytes.{Appends, Keeps};
 ghost use Rattle.cb_cli.specs.Sinks.{AppendsPrefix};
-ghost use Rattle.cb_cli.specs.Jobs.{factor_count_of};
+ghost use Rattle.cb_words.specs.Jobs.{factor_count_of};
 ghost use Rattle.cb_market.specs.Text.{text_of};
-ghost use Rattle.cb_cli.specs.Semirings.{arithmetic_of};
+ghost use Rattle.cb_words.specs.Semirings.{arithmetic_of};
 ghost use Rattle.cb_cli.specs.Answers.{IsTracedAnswer, IsTracedFault};
 ghost use Rattle.cb_cli.specs.Files.{bytes_of};
 ghost use Rattle.cb_cli.specs.TraceTexts.{trace_text};
 
-use crate::jobs::Job;
 use crate::operands::{read_three, read_two};
 use crate::pages::put_text_and_lines;
 use crate::runs::JobFault;
-use crate::semirings::SemiringName;
 use crate::sinks::Sink;
 use crate::trace_lines::trace_text;
 use cb_layout::DistributedMatrix;
 use cb_scripts::multiply_traced_distributed;
 use cb_semirings::{MaxMin, MinPlus, OrAnd, PlusTimes, Semiring};
 use cb_trace::Trace;
+use cb_words::{Job, SemiringName};
 use std::alloc::Global;
 use std::sync::Wait;
 use std::thread::Threads;

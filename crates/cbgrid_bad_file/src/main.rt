@@ -5,7 +5,7 @@
 use cb_cli::endings::{Status, run};
 use cb_cli::files::SystemFiles;
 use cb_cli::sinks::WriterSink;
-use cb_cli::words::asked;
+use cb_words::asked;
 use std::io;
 
 fn main(rt: HostRuntime) -> Status {

@@ -10,7 +10,7 @@ returns-clause-whole g c =
 
 pub returns-clause-fault : goal.returns-clause-fault
 returns-clause-fault g c =
-    fault_told c.args.operation g.S.Semiring.arithmetic c.args.job.now.engine (bytes_of c.args.texts.items) (text_of g.S.Semiring.arithmetic c.in_ok-answer.answer.matrix) c.put_text.result c.in_ok-answer.ensures.ok c.put_text.ensures.fault
+    fault_told c.args.operation g.S.Semiring.arithmetic c.args.engine (bytes_of c.args.texts.items) (text_of g.S.Semiring.arithmetic c.in_ok-answer.answer.matrix) c.put_text.result c.in_ok-answer.ensures.ok c.put_text.ensures.fault
 
 pub returns-clause-output : goal.returns-clause-output
 returns-clause-output g c =

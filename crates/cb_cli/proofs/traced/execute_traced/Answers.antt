@@ -1,7 +1,7 @@
 use Rattle.std.proofs.Common.{sym, subst}
 use Rattle.std.specs.Prelude.{IfErr}
 use Rattle.cb_cli.specs.Answers.{IsTracedFault}
-use Rattle.cb_cli.specs.Semirings.{arithmetic_of}
+use Rattle.cb_words.specs.Semirings.{arithmetic_of}
 use Rattle.cb_cli.specs.Files.{bytes_of}
 use Rattle.cb_cli.proofs.traced.execute_traced.Goals as goal
 

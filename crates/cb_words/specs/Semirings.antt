@@ -2,8 +2,8 @@
 use Rattle.std.specs.Prelude.{ℕ, List, codes, Option, Some, None, if◌then◌else◌, bytes_eq}
 use Rattle.cb_semirings.specs.Arithmetic.{Arithmetic}
 use Rattle.cb_semirings.specs.Tables.{plus_times, min_plus, or_and, max_min}
-use Rattle.cb_cli.specs.declared.semirings.SemiringName.{SemiringName}
-use Rattle.cb_cli.specs.declared.semirings.SemiringName.TheVariants.{PlusTimes, MinPlus, OrAnd, MaxMin}
+use Rattle.cb_words.specs.declared.semirings.SemiringName.{SemiringName}
+use Rattle.cb_words.specs.declared.semirings.SemiringName.TheVariants.{PlusTimes, MinPlus, OrAnd, MaxMin}
 
 -- the operations of a semiring
 abbrev pub arithmetic_of : SemiringName → Arithmetic

@@ -1,9 +1,9 @@
 -- What a job asks for.
 use Rattle.std.specs.Prelude.{ℕ, Bool, true, false}
-use Rattle.cb_cli.specs.declared.jobs.Operation.{Operation}
-use Rattle.cb_cli.specs.declared.jobs.Operation.TheVariants.{Multiply, MultiplyMasked, MultiplyVector, Transpose, Add, Times, Prune}
-use Rattle.cb_cli.specs.declared.jobs.Task.{Task}
-use Rattle.cb_cli.specs.declared.jobs.Task.TheVariants.{Matrix, Traced, Levels, Distances}
+use Rattle.cb_words.specs.declared.jobs.Operation.{Operation}
+use Rattle.cb_words.specs.declared.jobs.Operation.TheVariants.{Multiply, MultiplyMasked, MultiplyVector, Transpose, Add, Times, Prune}
+use Rattle.cb_words.specs.declared.jobs.Task.{Task}
+use Rattle.cb_words.specs.declared.jobs.Task.TheVariants.{Matrix, Traced, Levels, Distances}
 
 -- how many matrices an operation takes
 abbrev pub operand_count_of : Operation → ℕ

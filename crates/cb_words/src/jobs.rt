@@ -1,11 +1,10 @@
 //! What a command line asks for.
 ghost use Rattle.std.specs.Prelude.{◌≡◌, vec_len};
-ghost use Rattle.cb_cli.specs.Jobs.{file_count_of};
+ghost use Rattle.cb_words.specs.Jobs.{file_count_of};
 
 use crate::semirings::SemiringName;
 use cb_elementwise::Test;
 use cb_layout::Grid;
-use cb_scripts::Engine;
 use std::alloc::{AllocError, AllocFailed};
 use thiserror::Error;
 
@@ -53,13 +52,22 @@ pub enum Task {
     },
 }
 
+/// What runs the ranks.
+#[derive(Clone, Copy, Debug, PartialEq, Eq)]
+pub enum EngineName {
+    /// One thread, all of them.
+    Plain,
+    /// For each a thread of its own, over lanes for so many letters.
+    Ranks(usize),
+}
+
 /// A command line that was read.
 #[derive(Drop)]
 pub struct Job {
     pub task: Task,
     /// The ranks that compute it.
     pub grid: Grid,
-    pub engine: Engine,
+    pub engine: EngineName,
     /// The names of the files, in the order in which they are read.
     pub files: Vec<String>,
     pub ghost file_count: { vec_len files ≡ file_count_of task },
@@ -90,7 +98,7 @@ pub enum UsageFault {
 }
 
 impl From<AllocError> for UsageFault {
-    ghost use Rattle.cb_cli.specs.declared.jobs.UsageFault.TheVariants.{Memory};
+    ghost use Rattle.cb_words.specs.declared.jobs.UsageFault.TheVariants.{Memory};
 
     ghost from_gives = { λ _ e. e ≡ Memory };
 
@@ -100,7 +108,7 @@ impl From<AllocError> for UsageFault {
 }
 
 impl<T: Drop> From<AllocFailed<T>> for UsageFault {
-    ghost use Rattle.cb_cli.specs.declared.jobs.UsageFault.TheVariants.{Memory};
+    ghost use Rattle.cb_words.specs.declared.jobs.UsageFault.TheVariants.{Memory};
 
     ghost from_gives = { λ _ e. e ≡ Memory };
 

@@ -14,7 +14,7 @@ pub enum SemiringName {
 pub static NAMES: [&str; 4] = ["plus-times", "min-plus", "or-and", "max-min"];
 
 impl SemiringName {
-    ghost use Rattle.cb_cli.specs.Semirings.{named};
+    ghost use Rattle.cb_words.specs.Semirings.{named};
 
     /// The semiring of a name.
     pub fn named(name: &str) -> Option<SemiringName>

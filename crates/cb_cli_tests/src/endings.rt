@@ -1,0 +1,185 @@
+//! Whole runs: what goes to each stream, and the status.
+use crate::lines::job;
+use crate::products::{FIRST, PRODUCT, SECOND};
+use crate::sinks::Short;
+use cb_cli::endings::run;
+use cb_cli::files::{FileSource, Unreadable};
+use cb_cli::sinks::WriterSink;
+use std::alloc::Global;
+use std::sync::Wait;
+use std::thread::Threads;
+
+/// Files by name. All others can't be read.
+#[derive(Drop)]
+struct Table {
+    alloc: Global,
+    files: [(&'static str, &'static str); 4],
+}
+
+impl Table {
+    fn new(alloc: Global) -> Table {
+        Table {
+            alloc,
+            files: [
+                ("a.mtx", FIRST),
+                ("b.mtx", SECOND),
+                (
+                    "wide.mtx",
+                    "%%MatrixMarket matrix coordinate integer general\n1 3 0\n",
+                ),
+                ("bad.mtx", "no header\n"),
+            ],
+        }
+    }
+}
+
+impl FileSource for Table {
+    ghost holds = { λ _ _ _. Unit {0} };
+
+    ghost refuses = { λ _ _. Unit {0} };
+
+    fn load(&self, name: &str) -> Result<Vec<u8>, Unreadable> {
+        for (known, text) in self.files {
+            if known == name {
+                return match Vec::from_slice(self.alloc, text.as_bytes()) {
+                    Ok(bytes) => Ok(bytes),
+                    Err(_) => Err(Unreadable),
+                };
+            }
+        }
+        Err(Unreadable)
+    }
+}
+
+/// What a run wrote to each stream, and its status.
+#[derive(Drop)]
+struct Outcome {
+    out: Vec<u8>,
+    errors: Vec<u8>,
+    code: u8,
+}
+
+/// Runs a command line, over standard output with room for so many bytes.
+fn outcome_of<R: Threads + Wait + Sync + AllocGlobal>(rt: &R, line: &str, room: usize) -> Outcome {
+    let alloc = rt.alloc();
+    let asked = job(alloc, line);
+    let mut out = WriterSink::new(Short::new(alloc, room, usize::MAX));
+    let mut errors = WriterSink::new(Vec::new(alloc));
+    let status = run(rt, alloc, asked, &Table::new(alloc), &mut out, &mut errors);
+    Outcome {
+        out: out.into_inner().into_bytes(),
+        errors: errors.into_inner(),
+        code: status.code(),
+    }
+}
+
+/// A command line over the files, the room for what it writes, and how it ends.
+struct Ending {
+    line: &'static str,
+    room: usize,
+    out: &'static str,
+    errors: &'static str,
+    code: u8,
+}
+
+const ENDINGS: [Ending; 8] = [
+    Ending {
+        line: "cbgrid multiply a.mtx b.mtx",
+        room: usize::MAX,
+        out: PRODUCT,
+        errors: "",
+        code: 0,
+    },
+    Ending {
+        line: "cbgrid multiply b.mtx none.mtx",
+        room: usize::MAX,
+        out: "",
+        errors: "cbgrid: none.mtx: can't be read\n",
+        code: 3,
+    },
+    Ending {
+        line: "cbgrid multiply bad.mtx none.mtx",
+        room: usize::MAX,
+        out: "",
+        errors: "cbgrid: none.mtx: can't be read\n",
+        code: 3,
+    },
+    Ending {
+        line: "cbgrid multiply a.mtx bad.mtx",
+        room: usize::MAX,
+        out: "",
+        errors: "cbgrid: bad.mtx:1: not a Matrix Market header\n",
+        code: 4,
+    },
+    Ending {
+        line: "cbgrid multiply a.mtx wide.mtx",
+        room: usize::MAX,
+        out: "",
+        errors: "cbgrid: shapes don't agree\n",
+        code: 5,
+    },
+    Ending {
+        line: "cbgrid multiply --mask none.mtx bad.mtx b.mtx",
+        room: usize::MAX,
+        out: "",
+        errors: "cbgrid: none.mtx: can't be read\n",
+        code: 3,
+    },
+    Ending {
+        line: "cbgrid --help",
+        room: 0,
+        out: "",
+        errors: "cbgrid: can't write\n",
+        code: 7,
+    },
+    Ending {
+        line: "cbgrid multiply a.mtx b.mtx",
+        room: 0,
+        out: "",
+        errors: "cbgrid: can't write\n",
+        code: 7,
+    },
+];
+
+fn is_right<R: Threads + Wait + Sync + AllocGlobal>(rt: &R, ending: &Ending) -> bool {
+    let run = outcome_of(rt, ending.line, ending.room);
+    run.out.as_slice() == ending.out.as_bytes()
+        && run.errors.as_slice() == ending.errors.as_bytes()
+        && run.code == ending.code
+}
+
+#[test]
+fn are_told_apart(rt: HostRuntime) {
+    for ending in &ENDINGS {
+        assert!(rt; is_right(&rt, ending), "{}", ending.line);
+    }
+}
+
+/// Usage goes to standard error alone, help to standard output alone.
+#[test]
+fn of_usage_and_help_go_to_their_streams(rt: HostRuntime) {
+    for (line, is_help) in [
+        ("cbgrid multiply a.mtx", false),
+        ("cbgrid --help", true),
+        ("cbgrid multiply --help", true),
+    ] {
+        let run = outcome_of(&rt, line, usize::MAX);
+        assert!(rt; run.out.is_empty() != is_help, "{line}");
+        assert!(rt; run.errors.is_empty() == is_help, "{line}");
+        assert!(rt; run.code == if is_help { 0 } else { 2 }, "{line}");
+    }
+}
+
+/// This test is also run with each of its allocations refused in turn.
+#[test]
+fn are_right_or_want_of_memory(rt: HostRuntime) {
+    for line in [
+        "cbgrid multiply a.mtx b.mtx",
+        "cbgrid multiply a.mtx b.mtx --engine plain",
+    ] {
+        let run = outcome_of(&rt, line, usize::MAX);
+        let is_right = run.code == 0 && run.out.as_slice() == PRODUCT.as_bytes();
+        let is_refused = (run.code == 6 || run.code == 3) && run.out.is_empty();
+        assert!(rt; is_right || is_refused);
+    }
+}

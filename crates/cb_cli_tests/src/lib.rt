@@ -1,0 +1,21 @@
+//! Worked examples of the command line: whole runs from texts to bytes, sinks that fail, and command lines.
+#![tactic(auto)]
+
+#[cfg(test)]
+mod endings;
+#[cfg(test)]
+mod graphs;
+#[cfg(test)]
+mod lines;
+#[cfg(test)]
+mod operations;
+#[cfg(test)]
+mod pages;
+#[cfg(test)]
+mod products;
+#[cfg(test)]
+mod refusals;
+#[cfg(test)]
+mod sinks;
+#[cfg(test)]
+mod traces;

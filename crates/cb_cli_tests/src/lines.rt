@@ -1,0 +1,395 @@
+//! Command lines, and the lines of faults.
+use cb_cli::faults::fault_line;
+use cb_cli::runs::{JobFault, status};
+use cb_elementwise::Test;
+use cb_market::{Kind, ReadFault};
+use cb_scripts::ScriptFault;
+use cb_words::{EngineName, Job, Operation, SemiringName, Task, UsageFault, read_job};
+use std::alloc::{AllocError, Global};
+use std::test::Fail;
+
+/// The words of a line.
+fn words(alloc: Global, line: &str) -> Result<Vec<String>, AllocError> {
+    let mut words = Vec::new(alloc);
+    for word in line.split_whitespace() {
+        words.push(String::from_str(alloc, word)?)?;
+    }
+    Ok(words)
+}
+
+/// The job of a line, or why there is none.
+pub fn job(alloc: Global, line: &str) -> Result<Job, UsageFault> {
+    let words = words(alloc, line)?;
+    read_job(alloc, words.as_slice())
+}
+
+/// An operation over a semiring.
+macro_rules! over {
+    ($semiring:ident, $operation:expr) => {
+        Task::Matrix {
+            operation: $operation,
+            semiring: SemiringName::$semiring,
+        }
+    };
+}
+
+/// A traced product over plus-times.
+macro_rules! traced {
+    ($is_masked:literal, $capacity:literal) => {
+        Task::Traced {
+            semiring: SemiringName::PlusTimes,
+            is_masked: $is_masked,
+            capacity: $capacity,
+        }
+    };
+}
+
+/// Why the file of a place is no matrix.
+macro_rules! read_fault {
+    ($which:literal, $line:literal, $kind:ident) => {
+        JobFault::Read {
+            which: $which,
+            fault: ReadFault {
+                line: $line,
+                kind: Kind::$kind,
+            },
+        }
+    };
+}
+
+pub(crate) use read_fault;
+
+/// What a command line asks for: a task, over these files.
+struct Asked {
+    line: &'static str,
+    task: Task,
+    files: &'static [&'static str],
+}
+
+const LINES: [Asked; 18] = [
+    Asked {
+        line: "cbgrid multiply left.mtx right.mtx",
+        task: over!(PlusTimes, Operation::Multiply),
+        files: &["left.mtx", "right.mtx"],
+    },
+    Asked {
+        line: "cbgrid multiply --mask kept.mtx a.mtx --grid 6 b.mtx --engine plain",
+        task: over!(PlusTimes, Operation::MultiplyMasked),
+        files: &["a.mtx", "b.mtx", "kept.mtx"],
+    },
+    Asked {
+        line: "cbgrid multiply a b --semiring plus-times",
+        task: over!(PlusTimes, Operation::Multiply),
+        files: &["a", "b"],
+    },
+    Asked {
+        line: "cbgrid multiply --semiring min-plus a b",
+        task: over!(MinPlus, Operation::Multiply),
+        files: &["a", "b"],
+    },
+    Asked {
+        line: "cbgrid multiply a --semiring=or-and b",
+        task: over!(OrAnd, Operation::Multiply),
+        files: &["a", "b"],
+    },
+    Asked {
+        line: "cbgrid multiply a b --semiring max-min",
+        task: over!(MaxMin, Operation::Multiply),
+        files: &["a", "b"],
+    },
+    Asked {
+        line: "cbgrid multiply a b --trace",
+        task: traced!(false, 2),
+        files: &["a", "b"],
+    },
+    Asked {
+        line: "cbgrid multiply --trace a b --mask m --lane 7 --engine ranks",
+        task: traced!(true, 7),
+        files: &["a", "b", "m"],
+    },
+    Asked {
+        line: "cbgrid spmv a x",
+        task: over!(PlusTimes, Operation::MultiplyVector),
+        files: &["a", "x"],
+    },
+    Asked {
+        line: "cbgrid transpose a",
+        task: over!(PlusTimes, Operation::Transpose),
+        files: &["a"],
+    },
+    Asked {
+        line: "cbgrid add a b",
+        task: over!(PlusTimes, Operation::Add),
+        files: &["a", "b"],
+    },
+    Asked {
+        line: "cbgrid times a b",
+        task: over!(PlusTimes, Operation::Times),
+        files: &["a", "b"],
+    },
+    Asked {
+        line: "cbgrid prune a --test below --value 0",
+        task: over!(PlusTimes, Operation::Prune(Test::Below(0))),
+        files: &["a"],
+    },
+    Asked {
+        line: "cbgrid prune --value 18446744073709551615 a --test above",
+        task: over!(PlusTimes, Operation::Prune(Test::Above(u64::MAX))),
+        files: &["a"],
+    },
+    Asked {
+        line: "cbgrid prune a --test=equal --value=7",
+        task: over!(PlusTimes, Operation::Prune(Test::Equal(7))),
+        files: &["a"],
+    },
+    Asked {
+        line: "cbgrid bfs a --source 1",
+        task: Task::Levels { source: 0 },
+        files: &["a"],
+    },
+    Asked {
+        line: "cbgrid bfs --source=2147483647 a",
+        task: Task::Levels {
+            source: 2_147_483_646,
+        },
+        files: &["a"],
+    },
+    Asked {
+        line: "cbgrid relax --source 9 a --grid 3",
+        task: Task::Distances { source: 8 },
+        files: &["a"],
+    },
+];
+
+/// Whether these are the files of a job, in this order.
+fn are_files(job: &Job, wanted: &[&str]) -> bool {
+    let files = job.files();
+    let mut pairs = files.iter().zip(wanted);
+    files.len() == wanted.len() && pairs.all(|(file, name)| file.as_str() == *name)
+}
+
+/// Whether a command line asks for this.
+fn asks_for(alloc: Global, asked: &Asked) -> bool {
+    match job(alloc, asked.line) {
+        Ok(job) => job.task == asked.task && are_files(&job, asked.files),
+        Err(_) => false,
+    }
+}
+
+#[test]
+fn ask_for_each_task(rt: HostRuntime) {
+    for asked in &LINES {
+        assert!(rt; asks_for(rt.alloc(), asked), "{}", asked.line);
+    }
+}
+
+/// Whether a command line has this engine, and a grid of this side.
+fn has_engine(alloc: Global, line: &str, engine: EngineName, side: u32) -> bool {
+    match job(alloc, line) {
+        Ok(job) => job.engine == engine && job.grid.side() == side,
+        Err(_) => false,
+    }
+}
+
+#[test]
+fn choose_the_engine_and_the_grid(rt: HostRuntime) {
+    for (line, engine, side) in [
+        ("cbgrid multiply left right", EngineName::Ranks(2), 2),
+        (
+            "cbgrid multiply --mask m a --grid 6 b --engine plain",
+            EngineName::Plain,
+            6,
+        ),
+        ("cbgrid transpose a --engine ranks", EngineName::Ranks(2), 2),
+        ("cbgrid transpose a --lane 1", EngineName::Ranks(1), 2),
+        (
+            "cbgrid bfs a --lane=64 --source 1 --engine ranks",
+            EngineName::Ranks(64),
+            2,
+        ),
+        (
+            "cbgrid transpose a --engine plain --lane 64",
+            EngineName::Plain,
+            2,
+        ),
+        ("cbgrid multiply a b --trace", EngineName::Ranks(2), 2),
+        (
+            "cbgrid multiply --trace a b --mask m --lane 7 --engine ranks",
+            EngineName::Ranks(7),
+            2,
+        ),
+    ] {
+        assert!(rt; has_engine(rt.alloc(), line, engine, side), "{line}");
+    }
+}
+
+/// Lines that are refused for their words.
+const REFUSED: [&str; 55] = [
+    "cbgrid multiply",
+    "cbgrid multiply a",
+    "cbgrid multiply a b c",
+    "cbgrid multiply a b --semiring",
+    "cbgrid multiply a b --semiring plus",
+    "cbgrid multiply a b --semiring min-plus --semiring min-plus",
+    "cbgrid --semiring min-plus multiply a b",
+    "cbgrid multiply a b --grid 0",
+    "cbgrid multiply a b --grid 7",
+    "cbgrid multiply a b --grid two",
+    "cbgrid multiply a b --engine",
+    "cbgrid multiply a b --engine steam",
+    "cbgrid multiply a b --lane 0",
+    "cbgrid multiply a b --lane 65",
+    "cbgrid multiply a b --lane wide",
+    "cbgrid multiply a b --lane 1 --lane 2",
+    "cbgrid multiply a b --mask",
+    "cbgrid multiply a b --mask m --mask m",
+    "cbgrid multiply a b --colour",
+    "cbgrid multiply a b -h",
+    "cbgrid multiply a b --test above --value 1",
+    "cbgrid multiply a b --source 1",
+    "cbgrid multiply a b --trace --engine plain",
+    "cbgrid multiply a b --trace --trace",
+    "cbgrid multiply a b --trace=yes",
+    "cbgrid transpose a --trace",
+    "cbgrid spmv a x --trace",
+    "cbgrid bfs a",
+    "cbgrid bfs --source 1",
+    "cbgrid bfs a b --source 1",
+    "cbgrid bfs a --source 0",
+    "cbgrid bfs a --source 2147483648",
+    "cbgrid bfs a --source first",
+    "cbgrid bfs a --source 1 --source 1",
+    "cbgrid bfs a --source 1 --semiring or-and",
+    "cbgrid relax a",
+    "cbgrid relax a --source -1",
+    "cbgrid relax a --source 1 --semiring min-plus",
+    "cbgrid relax a --source 1 --mask m",
+    "cbgrid",
+    "cbgrid -h",
+    "cbgrid help",
+    "cbgrid power a b",
+    "cbgrid transpose",
+    "cbgrid transpose a b",
+    "cbgrid transpose a --mask m",
+    "cbgrid add a",
+    "cbgrid times a b c",
+    "cbgrid prune a",
+    "cbgrid prune a --test above",
+    "cbgrid prune a --value 1",
+    "cbgrid prune a --test over --value 1",
+    "cbgrid prune a --test above --value some",
+    "cbgrid prune a --test above --value 18446744073709551616",
+    "cbgrid prune a --test above --test below --value 1",
+];
+
+fn is_usage(alloc: Global, line: &str) -> bool {
+    matches!(job(alloc, line), Err(UsageFault::Usage(_)))
+}
+
+#[test]
+fn refuse_what_is_not_offered(rt: HostRuntime) {
+    for line in REFUSED {
+        assert!(rt; is_usage(rt.alloc(), line), "{line}");
+    }
+}
+
+fn is_help(alloc: Global, line: &str) -> bool {
+    matches!(job(alloc, line), Err(UsageFault::Help(_)))
+}
+
+#[test]
+fn offer_help(rt: HostRuntime) {
+    for line in [
+        "cbgrid --help",
+        "cbgrid multiply --help",
+        "cbgrid multiply a --help",
+        "cbgrid transpose --help",
+        "cbgrid add --help",
+        "cbgrid times --help",
+        "cbgrid prune --help",
+        "cbgrid bfs --help",
+        "cbgrid relax --help",
+    ] {
+        assert!(rt; is_help(rt.alloc(), line), "{line}");
+    }
+}
+
+const CONFLICT: &str = "error: the argument '--trace' cannot be used with '--engine plain'
+
+Usage: cbgrid multiply [OPTIONS] <A> <B>
+
+For more information, try '--help'.
+";
+
+#[test]
+fn trace_ranks_in_threads_alone(rt: HostRuntime) {
+    match job(rt.alloc(), "cbgrid multiply --engine=plain a b --trace") {
+        Err(UsageFault::Usage(text)) => assert!(rt; text.as_str() == CONFLICT, "{text}"),
+        _ => assert!(rt; false),
+    }
+}
+
+/// Whether a fault of a job with the files `a.mtx` and `b.mtx` ends with this status, and prints this line.
+fn ends_so(alloc: Global, fault: &JobFault, number: u8, line: &str) -> Result<bool, AllocError> {
+    let names = words(alloc, "a.mtx b.mtx")?;
+    let told = fault_line(alloc, names.as_slice(), fault)?;
+    Ok(status(fault) == number && told.as_slice() == line.as_bytes())
+}
+
+const FAULTS: [(JobFault, u8, &str); 11] = [
+    (
+        read_fault!(1, 7, BadNumber),
+        4,
+        "cbgrid: b.mtx:7: not a whole number\n",
+    ),
+    (
+        read_fault!(0, 3, Memory),
+        6,
+        "cbgrid: a.mtx:3: out of memory\n",
+    ),
+    (
+        JobFault::Script(ScriptFault::Shapes),
+        5,
+        "cbgrid: shapes don't agree\n",
+    ),
+    (
+        JobFault::Script(ScriptFault::NotSquare),
+        5,
+        "cbgrid: matrix not square\n",
+    ),
+    (
+        JobFault::Script(ScriptFault::Source),
+        5,
+        "cbgrid: no such source\n",
+    ),
+    (
+        JobFault::Script(ScriptFault::Memory),
+        6,
+        "cbgrid: out of memory\n",
+    ),
+    (
+        JobFault::Script(ScriptFault::NotStarted(35)),
+        6,
+        "cbgrid: rank 35 not started\n",
+    ),
+    (
+        JobFault::Script(ScriptFault::Gone(0)),
+        6,
+        "cbgrid: rank 0 gone\n",
+    ),
+    (
+        JobFault::Script(ScriptFault::Lost(7)),
+        6,
+        "cbgrid: lost at rank 7\n",
+    ),
+    (JobFault::Memory, 6, "cbgrid: out of memory\n"),
+    (JobFault::Output, 7, "cbgrid: can't write\n"),
+];
+
+#[test]
+fn tell_why_there_is_no_answer(rt: HostRuntime) -> Result<(), Fail> {
+    for (fault, number, line) in &FAULTS {
+        assert!(rt; ends_so(rt.alloc(), fault, *number, line)?, "{line}");
+    }
+    Ok(())
+}

@@ -1,0 +1,304 @@
+//! Products of two texts, by `execute`, and what the other modules run commands with.
+ghost use Rattle.std.specs.Prelude.{◌≡◌, false};
+
+use crate::lines::job;
+use cb_cli::runs::{JobFault, execute};
+use cb_cli::sinks::{Sink, WriterSink};
+use std::alloc::{AllocError, Global};
+use std::sync::Wait;
+use std::test::Fail;
+use std::thread::Threads;
+
+/// The text of a matrix of integers, by its lines after the header.
+macro_rules! text {
+    ($lines:literal) => {
+        concat!("%%MatrixMarket matrix coordinate integer general\n", $lines)
+    };
+}
+
+pub(crate) use text;
+
+pub const FIRST: &str = text!("2 2 3\n1 1 1\n1 2 2\n2 2 3\n");
+
+pub const SECOND: &str = text!("2 2 2\n1 2 1\n2 1 4\n");
+
+pub const PRODUCT: &str = text!("2 2 3\n1 1 8\n2 1 12\n1 2 1\n");
+
+const PATTERN: &str = "%%MatrixMarket matrix coordinate pattern symmetric\n3 3 2\n2 1\n3 3\n";
+
+const UNTIDY: &str =
+    "%%MatrixMarket MATRIX Coordinate INTEGER General\r\n%\r\n\r\n3 3 3\r\n1 3 +5\r\n\t2 1 007\r\n3 2 -1";
+
+pub const SKEW: &str = "%%MatrixMarket matrix coordinate integer skew-symmetric\n2 2 1\n2 1 3\n";
+
+fn bytes_of(alloc: Global, texts: &[&str]) -> Result<Vec<Vec<u8>>, AllocError> {
+    let mut bytes = Vec::with_capacity(alloc, texts.len())?;
+    for text in texts {
+        bytes.push(Vec::from_slice(alloc, text.as_bytes())?)?;
+    }
+    Ok(bytes)
+}
+
+/// Runs a command line over texts. What the test itself can't make is `Memory`.
+pub fn run_into<R: Threads + Wait + Sync + AllocGlobal, K: Sink>(
+    rt: &R,
+    line: &str,
+    texts: &[&str],
+    out: &mut K,
+) -> Result<(), JobFault>
+    requires { K.has_failed out.old ≡ false }
+{
+    let alloc = rt.alloc();
+    let Ok(job) = job(alloc, line) else {
+        return Err(JobFault::Memory);
+    };
+    let bytes = bytes_of(alloc, texts)?;
+    if bytes.len() != job.files().len() {
+        return Err(JobFault::Memory);
+    }
+    execute(rt, alloc, &job, bytes, out)
+}
+
+/// The bytes that a command line writes of some texts.
+pub fn answer<R: Threads + Wait + Sync + AllocGlobal>(
+    rt: &R,
+    line: &str,
+    texts: &[&str],
+) -> Result<Vec<u8>, JobFault> {
+    let mut out = WriterSink::new(Vec::new(rt.alloc()));
+    run_into(rt, line, texts, &mut out)?;
+    Ok(out.into_inner())
+}
+
+/// Whether a command line writes just this text.
+fn writes<R: Threads + Wait + Sync + AllocGlobal>(
+    rt: &R,
+    line: &str,
+    texts: &[&str],
+    wanted: &str,
+) -> bool {
+    match answer(rt, line, texts) {
+        Ok(bytes) => bytes.as_slice() == wanted.as_bytes(),
+        Err(_) => false,
+    }
+}
+
+/// The options of runs with each engine on grids of several sides. Ranks in threads are as many as the side squared.
+const RUNS: [&str; 9] = [
+    "--engine plain --grid 1",
+    "--engine plain --grid 2",
+    "--engine plain --grid 3",
+    "--engine plain --grid 4",
+    "--engine plain --grid 5",
+    "--engine plain --grid 6",
+    "--engine ranks --lane 1 --grid 1",
+    "--engine ranks --lane 1 --grid 2",
+    "--engine ranks --lane 1 --grid 4",
+];
+
+/// Whether a command line with each of these options more writes just this text.
+fn writes_with<R: Threads + Wait + Sync + AllocGlobal>(
+    rt: &R,
+    all_options: &[&str],
+    line: &str,
+    texts: &[&str],
+    wanted: &str,
+) -> bool {
+    for options in all_options {
+        let Ok(line) = format!(in rt.alloc(); "{line} {options}") else {
+            return false;
+        };
+        if !writes(rt, line.as_str(), texts, wanted) {
+            return false;
+        }
+    }
+    true
+}
+
+/// A command line, the texts of its files, and the text that it writes.
+pub struct Example {
+    pub line: &'static str,
+    pub texts: &'static [&'static str],
+    pub wanted: &'static str,
+}
+
+/// The first of these examples that isn't written in each run.
+pub fn failed_example<R: Threads + Wait + Sync + AllocGlobal>(
+    rt: &R,
+    examples: &[Example],
+) -> Option<&'static str> {
+    for example in examples {
+        if !writes_with(rt, &RUNS, example.line, example.texts, example.wanted) {
+            return Some(example.wanted);
+        }
+    }
+    None
+}
+
+/// Products over two files, and over one that is taken twice.
+const PRODUCTS: [Example; 18] = [
+    // two by two
+    Example {
+        line: "cbgrid multiply a b",
+        texts: &[FIRST, SECOND],
+        wanted: PRODUCT,
+    },
+    // empty
+    Example {
+        line: "cbgrid multiply a b",
+        texts: &[text!("0 0 0\n"), text!("0 0 0\n")],
+        wanted: text!("0 0 0\n"),
+    },
+    // huge and sparse
+    Example {
+        line: "cbgrid multiply a b",
+        texts: &[
+            text!("2147483647 2147483647 1\n1 2147483647 7\n"),
+            text!("2147483647 2147483647 1\n2147483647 5 3\n"),
+        ],
+        wanted: text!("2147483647 2147483647 1\n1 5 21\n"),
+    },
+    // wraps to zero
+    Example {
+        line: "cbgrid multiply a b",
+        texts: &[
+            text!("1 1 1\n1 1 4294967296\n"),
+            text!("1 1 1\n1 1 4294967296\n"),
+        ],
+        wanted: text!("1 1 0\n"),
+    },
+    // a sum that cancels
+    Example {
+        line: "cbgrid multiply a b",
+        texts: &[
+            text!("1 2 2\n1 1 1\n1 2 -1\n"),
+            text!("2 1 2\n1 1 1\n2 1 1\n"),
+        ],
+        wanted: text!("1 1 0\n"),
+    },
+    // above the top of min-plus
+    Example {
+        line: "cbgrid multiply a b --semiring min-plus",
+        texts: &[
+            text!("1 1 1\n1 1 18446744073709551614\n"),
+            text!("1 1 1\n1 1 1\n"),
+        ],
+        wanted: text!("1 1 0\n"),
+    },
+    // below the top of min-plus
+    Example {
+        line: "cbgrid multiply a b --semiring min-plus",
+        texts: &[
+            text!("1 1 1\n1 1 18446744073709551614\n"),
+            text!("1 1 1\n1 1 0\n"),
+        ],
+        wanted: text!("1 1 1\n1 1 18446744073709551614\n"),
+    },
+    // a zero of a file in min-plus
+    Example {
+        line: "cbgrid multiply a b --semiring min-plus",
+        texts: &[text!("1 1 1\n1 1 0\n"), text!("1 1 1\n1 1 0\n")],
+        wanted: text!("1 1 1\n1 1 0\n"),
+    },
+    // a zero of a file in plus-times
+    Example {
+        line: "cbgrid multiply a b",
+        texts: &[text!("1 1 1\n1 1 0\n"), text!("1 1 1\n1 1 0\n")],
+        wanted: text!("1 1 0\n"),
+    },
+    // two by two in max-min
+    Example {
+        line: "cbgrid multiply a b --semiring max-min",
+        texts: &[
+            text!("2 2 3\n1 1 1\n1 2 2\n2 2 3\n"),
+            text!("2 2 2\n1 2 1\n2 1 4\n"),
+        ],
+        wanted: text!("2 2 3\n1 1 2\n2 1 3\n1 2 1\n"),
+    },
+    // the one of max-min
+    Example {
+        line: "cbgrid multiply a b --semiring max-min",
+        texts: &[
+            text!("1 1 1\n1 1 18446744073709551615\n"),
+            text!("1 1 1\n1 1 5\n"),
+        ],
+        wanted: text!("1 1 1\n1 1 5\n"),
+    },
+    // no rows
+    Example {
+        line: "cbgrid multiply a b",
+        texts: &[text!("0 3 0\n"), text!("3 2 1\n1 1 5\n")],
+        wanted: text!("0 2 0\n"),
+    },
+    // no inner places
+    Example {
+        line: "cbgrid multiply a b",
+        texts: &[text!("3 0 0\n"), text!("0 2 0\n")],
+        wanted: text!("3 2 0\n"),
+    },
+    // an untidy file
+    Example {
+        line: "cbgrid multiply a b",
+        texts: &[UNTIDY, UNTIDY],
+        wanted: text!("3 3 3\n3 1 18446744073709551609\n1 2 18446744073709551611\n2 3 35\n"),
+    },
+    // a symmetric pattern
+    Example {
+        line: "cbgrid multiply a b --semiring or-and",
+        texts: &[PATTERN, PATTERN],
+        wanted: "%%MatrixMarket matrix coordinate pattern general\n3 3 3\n1 1\n2 2\n3 3\n",
+    },
+    // a skew-symmetric file
+    Example {
+        line: "cbgrid multiply a b",
+        texts: &[SKEW, SKEW],
+        wanted: text!("2 2 2\n1 1 18446744073709551607\n2 2 18446744073709551607\n"),
+    },
+    // a mask
+    Example {
+        line: "cbgrid multiply a b --mask m",
+        texts: &[FIRST, SECOND, text!("2 2 2\n1 1 9\n2 2 9\n")],
+        wanted: text!("2 2 1\n1 1 8\n"),
+    },
+    // a mask that has no entry
+    Example {
+        line: "cbgrid multiply a b --mask m",
+        texts: &[FIRST, SECOND, text!("2 2 0\n")],
+        wanted: text!("2 2 0\n"),
+    },
+];
+
+#[test]
+fn are_as_worked_out(rt: HostRuntime) {
+    let failed = failed_example(&rt, &PRODUCTS);
+    assert!(rt; failed.is_none(), "{}", failed.unwrap_or(""));
+}
+
+/// Grids of each side, with lanes for few letters and many, and the options that are taken where none is given.
+const LANES: [&str; 19] = [
+    "",
+    "--lane 1 --grid 1",
+    "--lane 1 --grid 2",
+    "--lane 1 --grid 3",
+    "--lane 1 --grid 4",
+    "--lane 1 --grid 5",
+    "--lane 1 --grid 6",
+    "--lane 2 --grid 1",
+    "--lane 2 --grid 2",
+    "--lane 2 --grid 3",
+    "--lane 2 --grid 4",
+    "--lane 2 --grid 5",
+    "--lane 2 --grid 6",
+    "--lane 64 --grid 1",
+    "--lane 64 --grid 2",
+    "--lane 64 --grid 3",
+    "--lane 64 --grid 4",
+    "--lane 64 --grid 5",
+    "--lane 64 --grid 6",
+];
+
+#[test]
+fn are_the_same_over_each_lane(rt: HostRuntime) {
+    let texts = [FIRST, SECOND];
+    assert!(rt; writes_with(&rt, &LANES, "cbgrid multiply a b", &texts, PRODUCT));
+}

@@ -1,0 +1,131 @@
+//! Jobs that have no answer: what is told, with nothing written.
+use crate::graphs::{CYCLE, WEIGHTLESS};
+use crate::lines::read_fault;
+use crate::products::{FIRST, SECOND, SKEW, run_into, text};
+use cb_cli::runs::JobFault;
+use cb_cli::sinks::WriterSink;
+use cb_market::{Kind, ReadFault};
+use cb_scripts::ScriptFault;
+use std::sync::Wait;
+use std::thread::Threads;
+
+const BAD: &str = text!("2 2 1\n1 1 x\n");
+
+const WORSE: &str = "no header\n";
+
+const WIDE: &str = text!("2 3 0\n");
+
+const ROW: &str = text!("1 2 0\n");
+
+const THREE: &str = text!("1 3 0\n");
+
+const SHAPES: JobFault = JobFault::Script(ScriptFault::Shapes);
+
+const NOT_SQUARE: JobFault = JobFault::Script(ScriptFault::NotSquare);
+
+const SOURCE: JobFault = JobFault::Script(ScriptFault::Source);
+
+/// A command line, the texts of its files, and why it has no answer.
+struct Refusal {
+    line: &'static str,
+    texts: &'static [&'static str],
+    fault: JobFault,
+}
+
+const REFUSALS: [Refusal; 15] = [
+    Refusal {
+        line: "cbgrid multiply a b",
+        texts: &[BAD, WORSE],
+        fault: read_fault!(0, 3, BadNumber),
+    },
+    Refusal {
+        line: "cbgrid multiply a b",
+        texts: &[FIRST, WORSE],
+        fault: read_fault!(1, 1, BadHeader),
+    },
+    Refusal {
+        line: "cbgrid multiply a b",
+        texts: &[WORSE, BAD],
+        fault: read_fault!(0, 1, BadHeader),
+    },
+    Refusal {
+        line: "cbgrid multiply a b --semiring min-plus",
+        texts: &[SKEW, SKEW],
+        fault: read_fault!(0, 1, Unsupported),
+    },
+    Refusal {
+        line: "cbgrid multiply a b",
+        texts: &[WIDE, text!("2 2 0\n")],
+        fault: SHAPES,
+    },
+    Refusal {
+        line: "cbgrid multiply a b --mask m",
+        texts: &[FIRST, SECOND, text!("1 1 1\n1 1 1\n")],
+        fault: SHAPES,
+    },
+    Refusal {
+        line: "cbgrid multiply a b --trace",
+        texts: &[FIRST, THREE],
+        fault: SHAPES,
+    },
+    Refusal {
+        line: "cbgrid multiply a b --trace --mask m",
+        texts: &[FIRST, SECOND, THREE],
+        fault: SHAPES,
+    },
+    Refusal {
+        line: "cbgrid spmv a b",
+        texts: &[FIRST, SECOND],
+        fault: SHAPES,
+    },
+    Refusal {
+        line: "cbgrid add a b",
+        texts: &[FIRST, ROW],
+        fault: SHAPES,
+    },
+    Refusal {
+        line: "cbgrid times a b",
+        texts: &[FIRST, ROW],
+        fault: SHAPES,
+    },
+    Refusal {
+        line: "cbgrid bfs a --source 9",
+        texts: &[CYCLE],
+        fault: SOURCE,
+    },
+    Refusal {
+        line: "cbgrid relax a --source 9",
+        texts: &[WEIGHTLESS],
+        fault: SOURCE,
+    },
+    Refusal {
+        line: "cbgrid bfs a --source 9",
+        texts: &[WIDE],
+        fault: NOT_SQUARE,
+    },
+    Refusal {
+        line: "cbgrid relax a --source 1",
+        texts: &[WIDE],
+        fault: NOT_SQUARE,
+    },
+];
+
+/// Whether a command line has no answer for this reason, and writes nothing.
+fn is_refused<R: Threads + Wait + Sync + AllocGlobal>(
+    rt: &R,
+    line: &str,
+    texts: &[&str],
+    fault: JobFault,
+) -> bool {
+    let mut out = WriterSink::new(Vec::new(rt.alloc()));
+    let answer = run_into(rt, line, texts, &mut out);
+    answer == Err(fault) && out.into_inner().is_empty()
+}
+
+#[test]
+fn come_with_their_reasons(rt: HostRuntime) {
+    for refusal in &REFUSALS {
+        let is_right = is_refused(&rt, refusal.line, refusal.texts, refusal.fault);
+        assert!(rt; is_right, "{}", refusal.line);
+    }
+}

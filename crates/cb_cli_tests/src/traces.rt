@@ -1,0 +1,186 @@
+//! Products that are traced. The lines of a trace are read back here by the rules of lanes alone: a lane's letters are
+//! numbered from 0 on, each is posted and then taken, by its number and with its tag, and nothing follows the close.
+
+use crate::products::{FIRST, PRODUCT, SECOND, answer, text};
+use crate::sinks::{Short, write_to};
+use cb_market::read;
+use cb_semirings::PlusTimes;
+use std::alloc::{AllocError, Global};
+use std::sync::Wait;
+use std::test::Fail;
+use std::thread::Threads;
+
+const KEPT: &str = text!("2 2 1\n1 1 8\n");
+
+const MASK: &str = text!("2 2 1\n1 1 5\n");
+
+/// What a line of a trace tells: what was done, the ranks that the letter goes from and to, its number, and its tag,
+/// which a close mark hasn't.
+#[derive(Clone, Copy)]
+struct Told<'a> {
+    what: &'a str,
+    from: usize,
+    to: usize,
+    number: usize,
+    tag: Option<u32>,
+}
+
+fn read_line(line: &str) -> Option<Told<'_>> {
+    let mut words = line.strip_prefix("% ")?.split(' ');
+    let what = words.next()?;
+    let from = words.next()?.parse::<usize>().ok()?;
+    let to = words.next()?.parse::<usize>().ok()?;
+    let number = words.next()?.parse::<usize>().ok()?;
+    let tag = match what {
+        "posted" | "took" => Some(words.next()?.parse::<u32>().ok()?),
+        "closed" | "ended" => None,
+        _ => return None,
+    };
+    match words.next() {
+        None => Some(Told {
+            what,
+            from,
+            to,
+            number,
+            tag,
+        }),
+        Some(_) => None,
+    }
+}
+
+/// A lane as far as its lines tell it: the tags of the letters posted, of which a close mark has none, and how many
+/// were taken.
+#[derive(Drop)]
+struct Lane {
+    posted: Vec<Option<u32>>,
+    taken: usize,
+}
+
+impl Lane {
+    /// Whether the lane's next line may be this one. Then it is followed.
+    fn follows(&mut self, told: &Told<'_>) -> Result<bool, AllocError> {
+        if matches!(told.what, "posted" | "closed") {
+            let is_open = self.posted.last() != Some(&None);
+            let is_next = told.number == self.posted.len();
+            self.posted.push(told.tag)?;
+            return Ok(is_open && is_next);
+        }
+        let is_there = self.posted.get(self.taken) == Some(&told.tag);
+        let is_next = told.number == self.taken;
+        self.taken = self.taken.saturating_add(1);
+        Ok(is_there && is_next)
+    }
+
+    /// Whether the lane was closed and all was taken.
+    fn is_done(&self) -> bool {
+        self.posted.last() == Some(&None) && self.taken == self.posted.len()
+    }
+}
+
+/// Whether the lines tell of the lane between two ranks what may be, to its end.
+fn lane_is_right(alloc: Global, lines: &str, from: usize, to: usize) -> Result<bool, AllocError> {
+    let mut lane = Lane {
+        posted: Vec::new(alloc),
+        taken: 0,
+    };
+    for line in lines.lines() {
+        if let Some(told) = read_line(line) {
+            if told.from == from && told.to == to && !lane.follows(&told)? {
+                return Ok(false);
+            }
+        }
+    }
+    Ok(lane.is_done())
+}
+
+/// Whether the lines are so many, and tell what may be of each lane between so many ranks, and of no other.
+fn is_a_trace(alloc: Global, lines: &str, ranks: usize, count: usize) -> Result<bool, AllocError> {
+    let on_a_lane = lines.lines().filter(|line| match read_line(line) {
+        Some(told) => told.from < ranks && told.to < ranks && told.from != told.to,
+        None => false,
+    });
+    if on_a_lane.count() != count || lines.lines().count() != count {
+        return Ok(false);
+    }
+    for from in 0..ranks {
+        for to in 0..ranks {
+            if from != to && !lane_is_right(alloc, lines, from, to)? {
+                return Ok(false);
+            }
+        }
+    }
+    Ok(true)
+}
+
+/// Whether a text is a product's and then the lines of a trace of so many ranks, so many.
+fn is_traced(
+    alloc: Global,
+    text: &str,
+    product: &str,
+    ranks: usize,
+    count: usize,
+) -> Result<bool, AllocError> {
+    match text.strip_prefix(product) {
+        Some(lines) => is_a_trace(alloc, lines, ranks, count),
+        None => Ok(false),
+    }
+}
+
+/// Whether two texts read as the same entries.
+fn read_alike(alloc: Global, text: &str, product: &str) -> bool {
+    let found = read::<PlusTimes>(alloc, text.as_bytes());
+    let wanted = read::<PlusTimes>(alloc, product.as_bytes());
+    match (found, wanted) {
+        (Ok(found), Ok(wanted)) => found.entries() == wanted.entries(),
+        _ => false,
+    }
+}
+
+/// Whether a command line writes a product, and then the lines of a trace of so many ranks, so many, which whoever reads
+/// the whole passes over.
+fn is_told<R: Threads + Wait + Sync + AllocGlobal>(
+    rt: &R,
+    line: &str,
+    texts: &[&str],
+    product: &str,
+    ranks: usize,
+    count: usize,
+) -> Result<bool, Fail> {
+    let text = String::from_utf8(answer(rt, line, texts)?).map_err(|_| "text")?;
+    let alloc = rt.alloc();
+    let is_passed_over = read_alike(alloc, text.as_str(), product);
+    Ok(is_passed_over && is_traced(alloc, text.as_str(), product, ranks, count)?)
+}
+
+/// A trace of one rank has no line.
+#[test]
+fn follow_the_product(rt: HostRuntime) -> Result<(), Fail> {
+    for (options, ranks, count) in [
+        ("--grid 2 --lane 1", 4, 40),
+        ("--grid 2 --lane 64", 4, 40),
+        ("--grid 1", 1, 0),
+    ] {
+        let line = format!(in rt.alloc(); "cbgrid multiply a b --trace {options}")?;
+        let texts = [FIRST, SECOND];
+        assert!(rt;
+            is_told(&rt, line.as_str(), &texts, PRODUCT, ranks, count)?,
+            "{options}"
+        );
+    }
+    let line = "cbgrid multiply a b --mask m --trace --lane 1";
+    assert!(rt; is_told(&rt, line, &[FIRST, SECOND, MASK], KEPT, 4, 40)?);
+    Ok(())
+}
+
+/// It passes whichever single allocation is refused: nothing has gone out, or the product and its whole trace.
+#[test]
+fn are_whole_or_want_of_memory(rt: HostRuntime) {
+    let writer = Short::new(rt.alloc(), usize::MAX, usize::MAX);
+    let run = write_to(&rt, "cbgrid multiply a b --trace", &[FIRST, SECOND], writer);
+    let lines = run.bytes.iter().filter(|byte| **byte == b'\n').count();
+    let is_right = match run.answer {
+        Ok(()) => run.bytes.starts_with(PRODUCT.as_bytes()) && lines == 45,
+        Err(_) => run.bytes.is_empty(),
+    };
+    assert!(rt; is_right);
+}

@@ -1,0 +1,2 @@
+pub mod Semirings
+pub mod Jobs

@@ -1,0 +1,300 @@
+//! The commands of the program and their options, as `clap` builds them.
+
+use crate::semirings::NAMES;
+use clap::{Arg, ArgAction, Command, value_parser};
+use std::alloc::{AllocError, Global};
+
+static ENGINES: [&str; 2] = ["plain", "ranks"];
+
+static TESTS: [&str; 3] = ["below", "above", "equal"];
+
+/// What stands at the end of a help text: an example, and the statuses.
+macro_rules! after_help {
+    ($example:literal) => {
+        concat!(
+            "Example:\n  cbgrid ",
+            $example,
+            "\n
+Exit status:
+  0  done
+  2  the words are no command line
+  3  a file can't be read
+  4  a file is no matrix
+  5  the shapes don't agree, a graph's matrix isn't square, or it has no such source
+  6  memory was refused, or a thread
+  7  the answer can't be written"
+        )
+    };
+}
+
+/// An option of a command.
+#[derive(Clone, Copy)]
+enum Choice {
+    Semiring,
+    Mask,
+    Trace,
+    Test,
+    Value,
+    Source,
+    Grid,
+    Engine,
+    Lane,
+    Help,
+}
+
+/// The options that every command takes after those of its own.
+const COMMON: [Choice; 4] = [Choice::Grid, Choice::Engine, Choice::Lane, Choice::Help];
+
+/// A command: its word, what help says of it, the names of its files, and the options of its own.
+struct Outline {
+    name: &'static str,
+    about: &'static str,
+    after_help: &'static str,
+    files: &'static [&'static str],
+    options: &'static [Choice],
+}
+
+const MULTIPLY: Outline = Outline {
+    name: "multiply",
+    about: "Write the product of two matrices",
+    after_help: after_help!("multiply --semiring min-plus roads.mtx roads.mtx > two-roads.mtx"),
+    files: &["A", "B"],
+    options: &[Choice::Semiring, Choice::Mask, Choice::Trace],
+};
+
+const SPMV: Outline = Outline {
+    name: "spmv",
+    about: "Write the product of a matrix and a vector, a matrix of one column",
+    after_help: after_help!("spmv links.mtx ranks.mtx > next-ranks.mtx"),
+    files: &["A", "x"],
+    options: &[Choice::Semiring],
+};
+
+const TRANSPOSE: Outline = Outline {
+    name: "transpose",
+    about: "Write the transpose of a matrix",
+    after_help: after_help!("transpose links.mtx > linked-from.mtx"),
+    files: &["A"],
+    options: &[Choice::Semiring],
+};
+
+const ADD: Outline = Outline {
+    name: "add",
+    about: "Write the sum of two matrices",
+    after_help: after_help!("add --semiring min-plus roads.mtx tracks.mtx > ways.mtx"),
+    files: &["A", "B"],
+    options: &[Choice::Semiring],
+};
+
+const TIMES: Outline = Outline {
+    name: "times",
+    about: "Write the product of two matrices place by place",
+    after_help: after_help!("times --semiring or-and roads.mtx tracks.mtx > both.mtx"),
+    files: &["A", "B"],
+    options: &[Choice::Semiring],
+};
+
+const PRUNE: Outline = Outline {
+    name: "prune",
+    about: "Write a matrix without the entries whose value passes a test",
+    after_help: after_help!("prune roads.mtx --test above --value 100 > short-roads.mtx"),
+    files: &["A"],
+    options: &[Choice::Semiring, Choice::Test, Choice::Value],
+};
+
+const BFS: Outline = Outline {
+    name: "bfs",
+    about: "Write how many edges lead from a source to each vertex, by breadth-first search",
+    after_help: after_help!("bfs roads.mtx --source 1 > steps.txt"),
+    files: &["A"],
+    options: &[Choice::Source],
+};
+
+const RELAX: Outline = Outline {
+    name: "relax",
+    about: "Write the distance of each vertex from a source, where edges have lengths",
+    after_help: after_help!("relax roads.mtx --source 1 > distances.txt"),
+    files: &["A"],
+    options: &[Choice::Source],
+};
+
+/// The commands, in the order in which help shows them.
+const OUTLINES: [&Outline; 8] = [
+    &MULTIPLY, &SPMV, &TRANSPOSE, &ADD, &TIMES, &PRUNE, &BFS, &RELAX,
+];
+
+/// An option that takes a value. Its word is its name.
+fn with_value<'a>(alloc: Global, name: &'a str, value: &'a str, help: &'a str) -> Arg<'a> {
+    Arg::new(alloc, name)
+        .long(name)
+        .value_name(value)
+        .help(help)
+}
+
+/// An option of this action, without a value. Its word is its name.
+fn flag<'a>(alloc: Global, name: &'a str, action: ArgAction, help: &'a str) -> Arg<'a> {
+    Arg::new(alloc, name).long(name).action(action).help(help)
+}
+
+fn semiring<'a>(alloc: Global) -> Arg<'a> {
+    with_value(alloc, "semiring", "NAME", "What adds and multiplies values")
+        .value_parser(NAMES.as_slice())
+        .default_value("plus-times")
+}
+
+fn mask<'a>(alloc: Global) -> Arg<'a> {
+    let help = "Keep the entries at the places where this matrix has one";
+    with_value(alloc, "mask", "FILE", help)
+}
+
+fn trace<'a>(alloc: Global) -> Arg<'a> {
+    let help = "Print after the product what every rank did";
+    flag(alloc, "trace", ArgAction::SetTrue, help)
+}
+
+fn test<'a>(alloc: Global) -> Arg<'a> {
+    let help = "How the values that are dropped compare to the number of --value";
+    with_value(alloc, "test", "TEST", help)
+        .required(true)
+        .value_parser(TESTS.as_slice())
+}
+
+fn value<'a>(alloc: Global) -> Arg<'a> {
+    with_value(
+        alloc,
+        "value",
+        "N",
+        "The number that values are compared to",
+    )
+    .required(true)
+    .value_parser(value_parser!(u64))
+}
+
+fn source<'a>(alloc: Global) -> Arg<'a> {
+    with_value(
+        alloc,
+        "source",
+        "N",
+        "The vertex to start from, counted from 1",
+    )
+    .required(true)
+    .value_parser(value_parser!(u32).range(1..=2_147_483_647))
+}
+
+fn grid<'a>(alloc: Global) -> Arg<'a> {
+    with_value(alloc, "grid", "N", "The side of the grid of ranks, 1 to 6")
+        .value_parser(value_parser!(u32).range(1..=6))
+        .default_value("2")
+}
+
+fn engine<'a>(alloc: Global) -> Arg<'a> {
+    let help =
+        "What runs the ranks: plain all of them on one thread, ranks each in a thread of its own";
+    with_value(alloc, "engine", "ENGINE", help)
+        .value_parser(ENGINES.as_slice())
+        .default_value("ranks")
+}
+
+fn lane<'a>(alloc: Global) -> Arg<'a> {
+    let help = "How many blocks may be on the way from a rank to another, 1 to 64";
+    with_value(alloc, "lane", "N", help)
+        .value_parser(value_parser!(u32).range(1..=64))
+        .default_value("2")
+}
+
+fn help<'a>(alloc: Global) -> Arg<'a> {
+    flag(alloc, "help", ArgAction::Help, "Print help")
+}
+
+fn option_of<'a>(alloc: Global, choice: Choice) -> Arg<'a> {
+    match choice {
+        Choice::Semiring => semiring(alloc),
+        Choice::Mask => mask(alloc),
+        Choice::Trace => trace(alloc),
+        Choice::Test => test(alloc),
+        Choice::Value => value(alloc),
+        Choice::Source => source(alloc),
+        Choice::Grid => grid(alloc),
+        Choice::Engine => engine(alloc),
+        Choice::Lane => lane(alloc),
+        Choice::Help => help(alloc),
+    }
+}
+
+fn file<'a>(alloc: Global, name: &'a str) -> Arg<'a> {
+    Arg::new(alloc, name)
+        .required(true)
+        .action(ArgAction::Set)
+        .help("A Matrix Market file")
+}
+
+/// A command with these files more.
+fn with_files<'a>(
+    alloc: Global,
+    command: Command<'a>,
+    files: &[&'a str],
+) -> Result<Command<'a>, AllocError> {
+    let mut command = command;
+    for name in files {
+        command = command.arg(file(alloc, name))?;
+    }
+    Ok(command)
+}
+
+/// A command with these options more.
+fn with_options<'a>(
+    alloc: Global,
+    command: Command<'a>,
+    choices: &[Choice],
+) -> Result<Command<'a>, AllocError> {
+    let mut command = command;
+    for choice in choices {
+        command = command.arg(option_of(alloc, *choice))?;
+    }
+    Ok(command)
+}
+
+/// A command over its files.
+fn command<'a>(alloc: Global, outline: &Outline) -> Result<Command<'a>, AllocError> {
+    let command = Command::new(alloc, outline.name)
+        .about(outline.about)
+        .after_help(outline.after_help)
+        .disable_help_flag(true);
+    let command = with_files(alloc, command, outline.files)?;
+    let command = with_options(alloc, command, outline.options)?;
+    with_options(alloc, command, &COMMON)
+}
+
+/// The command of products, outside of the program.
+pub fn multiply_alone<'a>(alloc: Global) -> Result<Command<'a>, AllocError> {
+    command(alloc, &MULTIPLY)?.bin_name("cbgrid multiply")
+}
+
+/// The program, without its commands.
+fn bare_program<'a>(alloc: Global) -> Result<Command<'a>, AllocError> {
+    Command::new(alloc, "cbgrid")
+        .about("Sparse matrices over semirings, read and written as Matrix Market files")
+        .after_help(after_help!("multiply a.mtx b.mtx > product.mtx"))
+        .subcommand_required(true)
+        .disable_help_flag(true)
+        .disable_help_subcommand(true)
+        .arg(help(alloc))
+}
+
+/// The program with one command more. It takes the command as it was made, so that where none was made nothing else
+/// is held.
+fn with_command<'a>(
+    program: Command<'a>,
+    made: Result<Command<'a>, AllocError>,
+) -> Result<Command<'a>, AllocError> {
+    program.subcommand(made?)
+}
+
+/// The program, with its commands.
+pub fn program<'a>(alloc: Global) -> Result<Command<'a>, AllocError> {
+    let mut program = bare_program(alloc)?;
+    for outline in OUTLINES {
+        program = with_command(program, command(alloc, outline))?;
+    }
+    Ok(program)
+}

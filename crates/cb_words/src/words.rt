@@ -1,0 +1,257 @@
+//! Reads a command line. Words are `clap`'s to judge: an unknown command or option, a missing file,
+//! one too many, an option given twice, a value that isn't offered are each a usage text.
+ghost use Rattle.std.specs.Prelude.{◌≢◌, String, ◌≡◌, IfOk, IfSome, length, vec_len};
+ghost use Rattle.std.specs.declared.io.ErrorKind.TheVariants as io_is;
+ghost use Rattle.clap.specs.Words.{kind_of};
+ghost use Rattle.cb_words.specs.Jobs.{operand_count_of, file_count_of};
+
+use crate::commands::{multiply_alone, program};
+use crate::jobs::{EngineName, Job, Operation, Task, UsageFault};
+use crate::semirings::SemiringName;
+use cb_elementwise::Test;
+use cb_layout::Grid;
+use clap::ArgMatches;
+use clap::error::ErrorKind;
+use std::alloc::{AllocError, Global};
+use std::rt::Env;
+use std::{env, io};
+
+fn usage(alloc: Global, text: &str) -> UsageFault
+    ensures { (told : String Global) → result ≢ UsageFault.Help told }
+{
+    match String::from_str(alloc, text) {
+        Ok(text) => UsageFault::Usage(text),
+        Err(_) => UsageFault::Memory,
+    }
+}
+
+fn fault_of(alloc: Global, error: &clap::Error) -> UsageFault
+    ensures memory { kind_of error.now ≡ ErrorKind.OutOfMemory → result ≡ UsageFault.Memory }
+    ensures help { kind_of error.now ≢ ErrorKind.DisplayHelp → (text : String Global) → result ≢ UsageFault.Help text }
+    ensures usage { kind_of error.now ≡ ErrorKind.DisplayHelp → (text : String Global) → result ≢ UsageFault.Usage text }
+{
+    let kind = error.kind();
+    if kind == ErrorKind::OutOfMemory {
+        return UsageFault::Memory;
+    }
+    match error.to_string(alloc) {
+        Err(_) => UsageFault::Memory,
+        Ok(text) => {
+            if kind == ErrorKind::DisplayHelp {
+                UsageFault::Help(text)
+            } else {
+                UsageFault::Usage(text)
+            }
+        }
+    }
+}
+
+/// The arguments that name the matrices of an operation, in the order in which they are read.
+fn operands(operation: Operation) -> &'static [&'static str]
+    ensures { length result.now ≡ operand_count_of operation }
+{
+    match operation {
+        Operation::Multiply | Operation::Add | Operation::Times => &["A", "B"],
+        Operation::MultiplyMasked => &["A", "B", "mask"],
+        Operation::MultiplyVector => &["A", "x"],
+        Operation::Transpose | Operation::Prune(_) => &["A"],
+    }
+}
+
+/// The arguments that name the files of a task, in the order in which they are read.
+fn arguments(task: Task) -> &'static [&'static str]
+    ensures { length result.now ≡ file_count_of task }
+{
+    match task {
+        Task::Matrix { operation, .. } => operands(operation),
+        Task::Traced { is_masked, .. } => {
+            if is_masked {
+                &["A", "B", "mask"]
+            } else {
+                &["A", "B"]
+            }
+        }
+        Task::Levels { .. } | Task::Distances { .. } => &["A"],
+    }
+}
+
+/// The files that these arguments name, or None where one of them names none.
+fn files_of(
+    alloc: Global,
+    found: &ArgMatches<'_>,
+    arguments: &[&str],
+) -> Result<Option<Vec<String>>, AllocError>
+    ensures { IfOk result (λ files. IfSome files (λ v. vec_len v ≡ length arguments.now)) }
+{
+    let mut files = Vec::with_capacity(alloc, arguments.len())?;
+    for argument in arguments {
+        let Some(name) = found.get_str(argument) else {
+            return Ok(None);
+        };
+        files.push(String::from_str(alloc, name)?)?;
+    }
+    Ok(Some(files))
+}
+
+/// How many letters a lane is for.
+fn lane_of(found: &ArgMatches<'_>) -> Option<usize> {
+    Some(found.get_one::<u32>("lane")? as usize)
+}
+
+fn engine_of(found: &ArgMatches<'_>) -> Option<EngineName> {
+    match found.get_str("engine")? {
+        "plain" => Some(EngineName::Plain),
+        "ranks" => Some(EngineName::Ranks(lane_of(found)?)),
+        _ => None,
+    }
+}
+
+fn grid_of(found: &ArgMatches<'_>) -> Option<Grid> {
+    Grid::new(found.get_one::<u32>("grid")?).ok()
+}
+
+fn semiring_of(found: &ArgMatches<'_>) -> Option<SemiringName> {
+    SemiringName::named(found.get_str("semiring")?)
+}
+
+fn test_of(found: &ArgMatches<'_>) -> Option<Test> {
+    let number = found.get_one::<u64>("value")?;
+    match found.get_str("test")? {
+        "below" => Some(Test::Below(number)),
+        "above" => Some(Test::Above(number)),
+        "equal" => Some(Test::Equal(number)),
+        _ => None,
+    }
+}
+
+/// The vertex of `--source`, counted from 0.
+fn source_of(found: &ArgMatches<'_>) -> Option<u32> {
+    found.get_one::<u32>("source")?.checked_sub(1)
+}
+
+/// The operation of a command over matrices.
+fn operation_of(command: &str, found: &ArgMatches<'_>) -> Option<Operation> {
+    match command {
+        "multiply" if found.contains_id("mask") => Some(Operation::MultiplyMasked),
+        "multiply" => Some(Operation::Multiply),
+        "spmv" => Some(Operation::MultiplyVector),
+        "transpose" => Some(Operation::Transpose),
+        "add" => Some(Operation::Add),
+        "times" => Some(Operation::Times),
+        "prune" => Some(Operation::Prune(test_of(found)?)),
+        _ => None,
+    }
+}
+
+/// The task of a command.
+fn task_of(command: &str, found: &ArgMatches<'_>) -> Option<Task> {
+    match command {
+        "multiply" if found.get_flag("trace") => Some(Task::Traced {
+            semiring: semiring_of(found)?,
+            is_masked: found.contains_id("mask"),
+            capacity: lane_of(found)?,
+        }),
+        "bfs" => Some(Task::Levels {
+            source: source_of(found)?,
+        }),
+        "relax" => Some(Task::Distances {
+            source: source_of(found)?,
+        }),
+        _ => Some(Task::Matrix {
+            operation: operation_of(command, found)?,
+            semiring: semiring_of(found)?,
+        }),
+    }
+}
+
+fn job_of(alloc: Global, matches: &ArgMatches<'_>) -> Result<Option<Job>, AllocError> {
+    let Some((command, found)) = matches.subcommand() else {
+        return Ok(None);
+    };
+    let (Some(task), Some(grid), Some(engine)) = (
+        task_of(command, found),
+        grid_of(found),
+        engine_of(found),
+    ) else {
+        return Ok(None);
+    };
+    let Some(files) = files_of(alloc, found, arguments(task))? else {
+        return Ok(None);
+    };
+    Ok(Some(Job {
+        task,
+        grid,
+        engine,
+        files,
+    }))
+}
+
+/// Whether a trace of ranks is asked for that are to run on one thread.
+fn is_trace_of_one_thread(matches: &ArgMatches<'_>) -> bool {
+    match matches.subcommand() {
+        Some(("multiply", found)) => {
+            found.get_flag("trace") && found.get_str("engine") == Some("plain")
+        }
+        _ => false,
+    }
+}
+
+/// What is wrong with such words.
+fn conflict(alloc: Global) -> Result<clap::Error, AllocError> {
+    let mut command = multiply_alone(alloc)?;
+    command.error(
+        ErrorKind::ArgumentConflict,
+        "the argument '--trace' cannot be used with '--engine plain'",
+    )
+}
+
+/// Why such words are no job.
+fn trace_of_one_thread(alloc: Global) -> Result<UsageFault, AllocError> {
+    let error = conflict(alloc)?;
+    Ok(fault_of(alloc, &error))
+}
+
+/// Why words that can't be had are no job: memory was refused to them, or one of them is no text.
+fn unread_words(alloc: Global, kind: io::ErrorKind) -> UsageFault
+    ensures memory { kind ≡ io_is.OutOfMemory → result ≡ UsageFault.Memory }
+    ensures help { (told : String Global) → result ≢ UsageFault.Help told }
+{
+    if kind == io::ErrorKind::OutOfMemory {
+        return UsageFault::Memory;
+    }
+    usage(
+        alloc,
+        "error: a word of the command line is not valid UTF-8\n",
+    )
+}
+
+/// What the words of the command line ask for, the program's name first.
+pub fn asked<R: Env + AllocGlobal>(rt: &R) -> Result<Job, UsageFault> {
+    let alloc = rt.alloc();
+    match env::args(rt) {
+        Ok(words) => {
+            let words: Vec<String> = words.collect(alloc)?;
+            read_job(alloc, words.as_slice())
+        }
+        Err(error) => Err(unread_words(alloc, error.kind())),
+    }
+}
+
+/// Reads the words of a command line, of which the first is the program's name. A job names as many
+/// files as its task reads. The words that are no job are a `UsageFault`, which holds the text
+/// to print. Costs what `clap` takes to build and to match the command line, under a millisecond.
+pub fn read_job(alloc: Global, words: &[String]) -> Result<Job, UsageFault>
+    ensures { IfOk result (λ job. vec_len job.files ≡ file_count_of job.task) }
+{
+    let matches = match program(alloc)?.try_get_matches_from(words) {
+        Ok(matches) => matches,
+        Err(error) => return Err(fault_of(alloc, &error)),
+    };
+    if is_trace_of_one_thread(&matches) {
+        return Err(trace_of_one_thread(alloc)?);
+    }
+    match job_of(alloc, &matches)? {
+        Some(job) => Ok(job),
+        None => Err(usage(alloc, "error: the command line can't be read\n")),
+    }
+}
