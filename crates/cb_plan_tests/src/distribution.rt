@@ -1,4 +1,6 @@
 //! What plans over a grid are made of: acts, starts, and that calls with ample memory succeed.
+ghost use Rattle.std.specs.Prelude.{◌≡◌, IfOk};
+
 use cb_distribution::{Operand, finish, operand_starts, work_everywhere, zero_everywhere};
 use cb_layout::Grid;
 use cb_plan::{Act, Op, Plan, Start};
@@ -7,7 +9,9 @@ use std::alloc::Global;
 use std::test::Fail;
 
 /// The grid of side 2.
-fn grid() -> Result<Grid, Fail> {
+fn grid() -> Result<Grid, Fail>
+    ensures { IfOk result (λ grid. grid.side ≡ 2) }
+{
     Ok(Grid::new(2).map_err(|_| "a side")?)
 }
 
