@@ -67,22 +67,29 @@ fn fill(stores: &mut [RankStore<PlusTimes>], slot: u16, blocks: Vec<Block<PlusTi
     }
 }
 
-/// A kernel, the shape of its operands, their entries, and the shape and the entries of what it makes of them.
-type Example<'a> = (Kernel, Shape, &'a [&'a [Entry]], Shape, &'a [Entry]);
+/// A kernel, the shape of its operands, the entries of the first and of the second, where it takes one, and the shape
+/// and the entries of what it makes of them.
+type Example<'a> = (Kernel, Shape, &'a [Entry], &'a [Entry], Shape, &'a [Entry]);
 
-/// The stores of the ranks, with the blocks of the operands in slots 0, 1 and so on.
-fn stores(
+/// Whether a kernel takes a second operand.
+fn takes_two(kernel: Kernel) -> bool {
+    matches!(kernel, Kernel::Add | Kernel::Times)
+}
+
+/// Puts the blocks of the matrix with these entries into a slot of the ranks.
+fn lay(
     alloc: Global,
     grid: &Grid,
+    stores: &mut [RankStore<PlusTimes>],
+    slot: u16,
     shape: Shape,
-    operands: &[&[Entry]],
-) -> Result<Vec<RankStore<PlusTimes>>, Fail> {
-    let mut stores = no_blocks(alloc, grid)?;
-    for (operand, slot) in operands.iter().zip([LEFT, RIGHT]) {
-        let operand = matrix(alloc, shape, operand)?;
-        fill(&mut stores, slot, grid.scatter(alloc, &operand)?);
-    }
-    Ok(stores)
+    entries: &[Entry],
+) -> Result<(), Fail>
+    requires { slot < SLOTS }
+{
+    let operand = matrix(alloc, shape, entries)?;
+    fill(stores, slot, grid.scatter(alloc, &operand)?);
+    Ok(())
 }
 
 /// The stores after a plan that leaves its result in its slot.
@@ -120,12 +127,16 @@ fn leave(stores: &[RankStore<PlusTimes>], blocks: &[Block<PlusTimes>]) -> Result
 
 /// Whether a kernel makes what is said on the grid of a side.
 fn makes(alloc: Global, side: u32, example: &Example<'_>) -> Result<bool, Fail> {
-    let (kernel, shape, operands, result, wanted) = *example;
+    let (kernel, shape, left, right, result, wanted) = *example;
     let grid = Grid::new(side).map_err(|_| "a side")?;
     let Ok(planned) = plan_of(kernel, alloc, &grid, shape) else {
         return Err("a plan".into());
     };
-    let stores = stores(alloc, &grid, shape, operands)?;
+    let mut stores = no_blocks(alloc, &grid)?;
+    lay(alloc, &grid, &mut stores, LEFT, shape, left)?;
+    if takes_two(kernel) {
+        lay(alloc, &grid, &mut stores, RIGHT, shape, right)?;
+    }
     let after = after(alloc, planned, stores)?;
     let wanted = matrix(alloc, result, wanted)?;
     leave(&after, &grid.scatter(alloc, &wanted)?)
@@ -151,34 +162,32 @@ fn each_kernel_makes_its_result_on_each_grid(rt: HostRuntime) -> Result<(), Fail
         (
             Kernel::Transpose,
             wide,
-            &[&[entry(2, 0, 6), entry(1, 1, 5), entry(0, 4, 7)]],
+            &[entry(2, 0, 6), entry(1, 1, 5), entry(0, 4, 7)],
+            &[],
             tall,
             &[entry(4, 0, 7), entry(1, 1, 5), entry(0, 2, 6)],
         ),
         (
             Kernel::Add,
             a,
-            &[
-                &[entry(0, 0, 7), entry(3, 2, 5)],
-                &[entry(0, 0, 1), entry(2, 1, 9)],
-            ],
+            &[entry(0, 0, 7), entry(3, 2, 5)],
+            &[entry(0, 0, 1), entry(2, 1, 9)],
             a,
             &[entry(0, 0, 8), entry(2, 1, 9), entry(3, 2, 5)],
         ),
         (
             Kernel::Times,
             a,
-            &[
-                &[entry(0, 0, 7), entry(3, 2, 5)],
-                &[entry(0, 0, 2), entry(2, 1, 9)],
-            ],
+            &[entry(0, 0, 7), entry(3, 2, 5)],
+            &[entry(0, 0, 2), entry(2, 1, 9)],
             a,
             &[entry(0, 0, 14)],
         ),
         (
             Kernel::Prune(Test::Below(6)),
             flat,
-            &[&[entry(0, 0, 7), entry(1, 2, 5), entry(1, 6, 9)]],
+            &[entry(0, 0, 7), entry(1, 2, 5), entry(1, 6, 9)],
+            &[],
             flat,
             &[entry(0, 0, 7), entry(1, 6, 9)],
         ),
