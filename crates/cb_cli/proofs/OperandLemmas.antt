@@ -6,9 +6,10 @@ use Rattle.cb_semirings.specs.Arithmetic.{Arithmetic}
 use Rattle.cb_matrix.specs.Sparse.{Sparse}
 use Rattle.cb_market.specs.Reads.{Reads}
 use Rattle.cb_cli.specs.Files.{bytes_of, text_at}
-use Rattle.cb_cli.specs.Answers.{matrix_at, IsMatrixText, AreMatrices, IsTextFault, IsReadFault}
+use Rattle.cb_operations.specs.Operations.{matrix_at}
+use Rattle.cb_cli.specs.Answers.{IsMatrixText, AreMatrices, IsTextFault, IsReadFault}
 use Rattle.cb_cli.specs.declared.runs.JobFault.{JobFault}
-use Rattle.cb_cli.specs.declared.runs.JobFault.TheVariants.{Read, Script, Memory, Output}
+use Rattle.cb_cli.specs.declared.runs.JobFault.TheVariants.{Read, Run, Memory, Output}
 
 module _ {A : Type 0} where
   only_item : (xs : List (Vec ℕ A)) (t : Vec ℕ A) → length xs ≡ 1 → t ≡ get_or xs 0 t → bytes_of xs ≡ t.items ∷ []
@@ -90,7 +91,7 @@ module _ (s : Arithmetic) where
   at_place : (ts : List (List ℕ)) (place : ℕ) → place < length ts → ((i : ℕ) → i < place → IsMatrixText s (text_at ts i)) → (f : JobFault) → IsTextFault s place (text_at ts place) f → IsReadFault s ts f
   at_place ts place l before (Read which fault) h =
       subst (λ n. IsReadFault s ts (Read n fault)) (sym h.0) (l, before, h.1)
-  at_place ts place l before (Script fault) h = absurd h
+  at_place ts place l before (Run fault) h = absurd h
   at_place ts place l before Memory h = absurd h
   at_place ts place l before Output h = absurd h
 

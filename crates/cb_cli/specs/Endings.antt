@@ -41,15 +41,15 @@ unloaded_ending load_is.Memory = Memory
 abbrev pub IsJobEnding : (List ℕ → List ℕ → Type 0) → (List ℕ → Type 0) → Job → Option (List ℕ) → Option (List ℕ) → Ending → Type 0
 IsJobEnding holds refuses job old new Done =
     (texts : List (List ℕ)) × AreTexts holds job.files.items texts
-    × ((t : List ℕ) × IsAnswer job.task job.grid.side texts t × Appends old new t)
+    × ((t : List ℕ) × IsAnswer job.task job.engine job.grid.side texts t × Appends old new t)
 IsJobEnding holds refuses job old new (Usage text) = ⊥
 IsJobEnding holds refuses job old new Memory = Keeps old new
 IsJobEnding holds refuses job old new (Unreadable which) = IsUnloaded holds refuses job.files.items (load_is.Unreadable which) × Keeps old new
 IsJobEnding holds refuses job old new (Fault fault) =
     (texts : List (List ℕ)) × AreTexts holds job.files.items texts
-    × IsFault job.task job.engine texts fault
+    × IsFault job.task job.engine job.grid.side texts fault
     × (fault ≢ job_is.Output → Keeps old new)
-    × (fault ≡ job_is.Output → (t : List ℕ) × IsAnswer job.task job.grid.side texts t × AppendsPrefix old new t)
+    × (fault ≡ job_is.Output → (t : List ℕ) × IsAnswer job.task job.engine job.grid.side texts t × AppendsPrefix old new t)
 
 -- How words end that are no job. Help goes out whole, or a beginning of it at Output; else nothing goes out.
 abbrev pub IsUsageEnding : UsageFault → Option (List ℕ) → Option (List ℕ) → Ending → Type 0

@@ -1,10 +1,19 @@
--- The engines by name.
+-- What computes, by the name of an engine.
+use Rattle.std.specs.Prelude.{ℕ, ◌*◌, Option, Some, None}
 use Rattle.cb_words.specs.declared.jobs.EngineName.{EngineName}
 use Rattle.cb_words.specs.declared.jobs.EngineName.TheVariants as name_is
-use Rattle.cb_scripts.specs.declared.Engine.{Engine}
-use Rattle.cb_scripts.specs.declared.Engine.TheVariants.{Plain, Ranks}
+use Rattle.cb_engines.specs.declared.engines.Engine.{Engine}
+use Rattle.cb_engines.specs.declared.engines.Engine.TheVariants.{Threads, Traced}
+use Rattle.cb_engines.specs.declared.faults.EngineFault.{EngineFault}
+use Rattle.cb_engines.specs.Runs.{IsEngineFault}
 
--- the engine of a name
-abbrev pub engine_of : EngineName → Engine
-engine_of name_is.Plain = Plain
-engine_of (name_is.Ranks letters) = Ranks letters
+-- the engine of a name, or none where the caller's thread computes alone
+abbrev pub engine_of : EngineName → Option Engine
+engine_of name_is.Plain = None
+engine_of (name_is.Ranks letters) = Some (Threads letters)
+engine_of (name_is.Traced letters) = Some (Traced letters)
+
+-- why there is no answer on a grid of side q: what an engine says; the caller's thread alone has no such fault
+abbrev pub IsRunFault : Option Engine → ℕ → EngineFault → Type 0
+IsRunFault None q fault = ⊥
+IsRunFault (Some engine) q fault = IsEngineFault engine (q * q) fault

@@ -1,10 +1,16 @@
 -- The line that a fault prints.
 use Rattle.std.specs.Prelude.{◌++◌, [], ℕ, List, codes, decimal, String, string_bytes, unwrap_or, option_map, slice_get}
 use Rattle.cb_market.specs.Kinds.{kind_text}
-use Rattle.cb_scripts.specs.declared.ScriptFault.{ScriptFault}
-use Rattle.cb_scripts.specs.declared.ScriptFault.TheVariants as script_is
+use Rattle.cb_operations.specs.declared.refusals.Refusal.{Refusal}
+use Rattle.cb_operations.specs.declared.refusals.Refusal.TheVariants as refusal_is
+use Rattle.cb_engines.specs.declared.faults.EngineFault.{EngineFault}
+use Rattle.cb_engines.specs.declared.faults.EngineFault.TheVariants as engine_is
+use Rattle.cb_run.specs.declared.faults.OperationFault.{OperationFault}
+use Rattle.cb_run.specs.declared.faults.OperationFault.TheVariants.{Refused, Failed}
+use Rattle.cb_serial.specs.declared.checked.SerialFault.{SerialFault}
+use Rattle.cb_serial.specs.declared.checked.SerialFault.TheVariants as serial_is
 use Rattle.cb_cli.specs.declared.runs.JobFault.{JobFault}
-use Rattle.cb_cli.specs.declared.runs.JobFault.TheVariants.{Read, Script, Memory, Output}
+use Rattle.cb_cli.specs.declared.runs.JobFault.TheVariants.{Read, Run, Memory, Output}
 
 -- the name at a place, or nothing
 abbrev pub name_at : {A : Type 0} → List (String A) → ℕ → List ℕ
@@ -26,21 +32,34 @@ gone_line_of rank = codes "cbgrid: rank " ++ decimal rank ++ codes " gone\n"
 abbrev pub lost_line_of : ℕ → List ℕ
 lost_line_of origin = codes "cbgrid: lost at rank " ++ decimal origin ++ codes "\n"
 
--- the line of a script's fault
-abbrev pub script_line_of : ScriptFault → List ℕ
-script_line_of script_is.Shapes = codes "cbgrid: shapes don't agree\n"
-script_line_of script_is.NotSquare = codes "cbgrid: matrix not square\n"
-script_line_of script_is.Source = codes "cbgrid: no such source\n"
-script_line_of script_is.Memory = codes "cbgrid: out of memory\n"
-script_line_of (script_is.NotStarted rank) = not_started_line_of rank
-script_line_of (script_is.Gone rank) = gone_line_of rank
-script_line_of script_is.TraceTorn = codes "cbgrid: trace torn\n"
-script_line_of (script_is.Lost origin) = lost_line_of origin
+-- the line of operands that are refused
+abbrev pub refusal_line_of : Refusal → List ℕ
+refusal_line_of refusal_is.Shapes = codes "cbgrid: shapes don't agree\n"
+refusal_line_of refusal_is.NotSquare = codes "cbgrid: matrix not square\n"
+refusal_line_of refusal_is.Source = codes "cbgrid: no such source\n"
+
+-- the line of an engine's fault
+abbrev pub engine_line_of : EngineFault → List ℕ
+engine_line_of engine_is.Memory = codes "cbgrid: out of memory\n"
+engine_line_of (engine_is.NotStarted rank) = not_started_line_of rank
+engine_line_of (engine_is.Gone rank) = gone_line_of rank
+engine_line_of engine_is.TraceTorn = codes "cbgrid: trace torn\n"
+engine_line_of (engine_is.Lost origin) = lost_line_of origin
+
+-- the line of a run that has no answer
+abbrev pub run_line_of : OperationFault → List ℕ
+run_line_of (Refused refusal) = refusal_line_of refusal
+run_line_of (Failed fault) = engine_line_of fault
+
+-- why the caller's thread alone makes nothing, as a job tells it
+abbrev pub job_fault_of : SerialFault → JobFault
+job_fault_of (serial_is.Refused refusal) = Run (Refused refusal)
+job_fault_of serial_is.Memory = Memory
 
 -- the line that the program prints for a fault, of the files with these names
 abbrev pub line_of : {A : Type 0} → List (String A) → JobFault → List ℕ
 line_of names (Read which fault) = read_line_of (name_at names which) fault.line (kind_text fault.kind)
-line_of names (Script fault) = script_line_of fault
+line_of names (Run fault) = run_line_of fault
 line_of names Memory = codes "cbgrid: out of memory\n"
 line_of names Output = codes "cbgrid: can't write\n"
 

@@ -1,5 +1,6 @@
 -- The lines that tell a trace.
-use Rattle.std.specs.Prelude.{◌++◌, ℕ, List, flat_map, codes, decimal}
+use Rattle.std.specs.Prelude.{◌++◌, ℕ, List, [], Option, Some, None, flat_map, codes, decimal}
+use Rattle.cb_trace.specs.Traces.{TraceView}
 use Rattle.cb_trace.specs.declared.events.Envelope.{Envelope}
 use Rattle.cb_trace.specs.declared.events.TraceEvent.{TraceEvent}
 use Rattle.cb_trace.specs.declared.events.TraceEvent.TheVariants.{Posted, Took, Closed, Ended}
@@ -18,3 +19,8 @@ line_of_event (Ended e) = event_words (codes "ended") e ++ codes "\n"
 -- a line for each event, in order
 abbrev pub trace_text : List TraceEvent → List ℕ
 trace_text es = flat_map line_of_event es
+
+-- the same of a trace that may have been kept
+abbrev pub trace_lines : Option TraceView → List ℕ
+trace_lines None = []
+trace_lines (Some t) = trace_text t.events

@@ -2,15 +2,16 @@
 ghost use Rattle.std.specs.Prelude.{◌≡◌};
 ghost use Rattle.cb_cli.specs.Engines.{engine_of};
 
-use cb_scripts::Engine;
+use cb_engines::Engine;
 use cb_words::EngineName;
 
-/// The engine of a name.
-pub fn engine_of(name: EngineName) -> Engine
-    ensures { result ≡ engine_of name }
+/// The engine of a name, or none where the caller's thread computes alone.
+pub fn engine_of(name: EngineName) -> Option<Engine<'static>>
+    ensures { result.entry ≡ engine_of name }
 {
     match name {
-        EngineName::Plain => Engine::Plain,
-        EngineName::Ranks(letters) => Engine::Ranks(letters),
+        EngineName::Plain => None,
+        EngineName::Ranks(letters) => Some(Engine::Threads(letters)),
+        EngineName::Traced(letters) => Some(Engine::Traced(letters)),
     }
 }

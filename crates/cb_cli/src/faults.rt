@@ -1,9 +1,11 @@
 //! What a fault says.
 ghost use Rattle.std.specs.Prelude.{◌≡◌, IfOk};
-ghost use Rattle.cb_cli.specs.Faults.{line_of, name_at, read_line_of, not_started_line_of, gone_line_of, lost_line_of, script_line_of, unreadable_line_of};
+ghost use Rattle.cb_cli.specs.Faults.{line_of, name_at, read_line_of, not_started_line_of, gone_line_of, lost_line_of, refusal_line_of, engine_line_of, run_line_of, unreadable_line_of};
 
 use crate::runs::JobFault;
-use cb_scripts::ScriptFault;
+use cb_engines::EngineFault;
+use cb_operations::Refusal;
+use cb_run::OperationFault;
 use std::alloc::{AllocError, Global};
 
 /// The name at a place, or nothing.
@@ -56,19 +58,37 @@ fn lost_line(alloc: Global, origin: u16) -> Result<Vec<u8>, AllocError>
     Ok(text.into_bytes())
 }
 
-/// The line for a script's fault.
-fn script_line(alloc: Global, fault: ScriptFault) -> Result<Vec<u8>, AllocError>
-    ensures { IfOk result (λ v. v.items ≡ script_line_of fault) }
+/// The line for operands that are refused.
+fn refusal_line(alloc: Global, refusal: Refusal) -> Result<Vec<u8>, AllocError>
+    ensures { IfOk result (λ v. v.items ≡ refusal_line_of refusal) }
+{
+    match refusal {
+        Refusal::Shapes => Vec::from_slice(alloc, b"cbgrid: shapes don't agree\n"),
+        Refusal::NotSquare => Vec::from_slice(alloc, b"cbgrid: matrix not square\n"),
+        Refusal::Source => Vec::from_slice(alloc, b"cbgrid: no such source\n"),
+    }
+}
+
+/// The line for an engine's fault.
+fn engine_line(alloc: Global, fault: EngineFault) -> Result<Vec<u8>, AllocError>
+    ensures { IfOk result (λ v. v.items ≡ engine_line_of fault) }
 {
     match fault {
-        ScriptFault::Shapes => Vec::from_slice(alloc, b"cbgrid: shapes don't agree\n"),
-        ScriptFault::NotSquare => Vec::from_slice(alloc, b"cbgrid: matrix not square\n"),
-        ScriptFault::Source => Vec::from_slice(alloc, b"cbgrid: no such source\n"),
-        ScriptFault::Memory => Vec::from_slice(alloc, b"cbgrid: out of memory\n"),
-        ScriptFault::NotStarted(rank) => not_started_line(alloc, rank),
-        ScriptFault::Gone(rank) => gone_line(alloc, rank),
-        ScriptFault::TraceTorn => Vec::from_slice(alloc, b"cbgrid: trace torn\n"),
-        ScriptFault::Lost(origin) => lost_line(alloc, origin),
+        EngineFault::Memory => Vec::from_slice(alloc, b"cbgrid: out of memory\n"),
+        EngineFault::NotStarted(rank) => not_started_line(alloc, rank),
+        EngineFault::Gone(rank) => gone_line(alloc, rank),
+        EngineFault::TraceTorn => Vec::from_slice(alloc, b"cbgrid: trace torn\n"),
+        EngineFault::Lost(origin) => lost_line(alloc, origin),
+    }
+}
+
+/// The line for a run that has no answer.
+fn run_line(alloc: Global, fault: OperationFault) -> Result<Vec<u8>, AllocError>
+    ensures { IfOk result (λ v. v.items ≡ run_line_of fault) }
+{
+    match fault {
+        OperationFault::Refused(refusal) => refusal_line(alloc, refusal),
+        OperationFault::Failed(fault) => engine_line(alloc, fault),
     }
 }
 
@@ -81,7 +101,7 @@ pub fn fault_line(alloc: Global, names: &[String], fault: &JobFault) -> Result<V
         JobFault::Read { which, fault } => {
             read_line(alloc, name_at(names, which), fault.line, fault.kind.text())
         }
-        JobFault::Script(fault) => script_line(alloc, fault),
+        JobFault::Run(fault) => run_line(alloc, fault),
         JobFault::Memory => Vec::from_slice(alloc, b"cbgrid: out of memory\n"),
         JobFault::Output => Vec::from_slice(alloc, b"cbgrid: can't write\n"),
     }

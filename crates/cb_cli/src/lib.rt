@@ -13,6 +13,7 @@
 //! `execute` speaks of those that the job names.
 #![tactic(auto)]
 
+mod alone;
 pub mod endings;
 mod engines;
 pub mod faults;
@@ -22,4 +23,4 @@ mod pages;
 pub mod runs;
 pub mod sinks;
 mod trace_lines;
-mod traced;
+mod walks;

@@ -1,28 +1,20 @@
 //! Reads the operands of a job, in the job's order. Each text is given up once it is read.
-ghost use Rattle.std.specs.Prelude.{◌≡◌, ◌∷◌, [], vec_len, IfOk, IfErr};
+ghost use Rattle.std.specs.Prelude.{◌≡◌, ◌∷◌, [], length, vec_len, IfOk, IfErr};
 ghost use Rattle.cb_market.specs.Reads.{Reads};
+ghost use Rattle.cb_operations.specs.Operands.{list_of};
+ghost use Rattle.cb_operations.specs.Operations.{operand_count_of};
+ghost use Rattle.cb_run.specs.Runs.{LieOver, wholes};
 ghost use Rattle.cb_cli.specs.Answers.{AreMatrices, IsTextFault, IsReadFault};
 ghost use Rattle.cb_cli.specs.Files.{bytes_of, text_at};
 
 use crate::runs::JobFault;
 use cb_layout::{DistributedMatrix, Grid};
-use cb_market::{read, read_distributed};
-use cb_matrix::Matrix;
+use cb_market::read_distributed;
+use cb_operations::{Operands, Operation};
 use cb_semirings::Semiring;
 use std::alloc::Global;
 
-/// The matrix of the text of a place.
-fn read_text<S: Semiring>(alloc: Global, which: usize, text: Vec<u8>) -> Result<Matrix<S>, JobFault>
-    ensures ok { IfOk result (λ m. Reads S.arithmetic text.items m) }
-    ensures fault { IfErr result (IsTextFault S.arithmetic which text.items) }
-{
-    match read::<S>(alloc, &text) {
-        Ok(matrix) => Ok(matrix),
-        Err(fault) => Err(JobFault::Read { which, fault }),
-    }
-}
-
-/// The same, in the blocks of a grid.
+/// The matrix of the text of a place, in the blocks of a grid.
 fn read_blocks<S: Semiring>(
     alloc: Global,
     grid: &Grid,
@@ -48,14 +40,15 @@ pub fn read_one<S: Semiring>(
     requires { vec_len texts ≡ 1 }
     ensures ok { IfOk result (λ m. AreMatrices S.arithmetic (bytes_of texts.items) (m.matrix ∷ [])) }
     ensures only { IfOk result (λ m. Reads S.arithmetic (text_at (bytes_of texts.items) 0) m.matrix) }
+    ensures side { IfOk result (λ m. m.side ≡ grid.now.side) }
     ensures fault { IfErr result (IsReadFault S.arithmetic (bytes_of texts.items)) }
 {
     let text = texts.remove(0);
     read_blocks(alloc, grid, 0, text)
 }
 
-/// The matrices of two texts, in the blocks of a grid.
-pub fn read_two<S: Semiring>(
+/// The matrices of two texts.
+fn read_two<S: Semiring>(
     alloc: Global,
     grid: &Grid,
     mut texts: Vec<Vec<u8>>,
@@ -72,26 +65,8 @@ pub fn read_two<S: Semiring>(
     Ok((left, right))
 }
 
-/// The matrices of two texts, the first in the blocks of a grid.
-pub fn read_with_vector<S: Semiring>(
-    alloc: Global,
-    grid: &Grid,
-    mut texts: Vec<Vec<u8>>,
-) -> Result<(DistributedMatrix<S>, Matrix<S>), JobFault>
-    requires { vec_len texts ≡ 2 }
-    ensures ok { IfOk result (λ p. AreMatrices S.arithmetic (bytes_of texts.items) (p.0.matrix ∷ p.1 ∷ [])) }
-    ensures side { IfOk result (λ p. p.0.side ≡ grid.now.side) }
-    ensures fault { IfErr result (IsReadFault S.arithmetic (bytes_of texts.items)) }
-{
-    let first = texts.remove(0);
-    let second = texts.remove(0);
-    let matrix = read_blocks(alloc, grid, 0, first)?;
-    let vector = read_text(alloc, 1, second)?;
-    Ok((matrix, vector))
-}
-
-/// The matrices of three texts, in the blocks of a grid.
-pub fn read_three<S: Semiring>(
+/// The matrices of three texts.
+fn read_three<S: Semiring>(
     alloc: Global,
     grid: &Grid,
     mut texts: Vec<Vec<u8>>,
@@ -115,4 +90,30 @@ pub fn read_three<S: Semiring>(
     let right = read_blocks(alloc, grid, 1, second)?;
     let mask = read_blocks(alloc, grid, 2, third)?;
     Ok((left, right, mask))
+}
+
+/// The operands of an operation, in the blocks of a grid.
+pub fn read_operands<S: Semiring>(
+    alloc: Global,
+    grid: &Grid,
+    operation: Operation,
+    texts: Vec<Vec<u8>>,
+) -> Result<Operands<DistributedMatrix<S>>, JobFault>
+    requires { vec_len texts ≡ operand_count_of operation }
+    ensures count { IfOk result (λ o. operand_count_of operation ≡ length (list_of o)) }
+    ensures ok { IfOk result (λ o. AreMatrices S.arithmetic (bytes_of texts.items) (wholes (list_of o))) }
+    ensures sides { IfOk result (LieOver grid.now.side) }
+    ensures fault { IfErr result (IsReadFault S.arithmetic (bytes_of texts.items)) }
+{
+    match operation.operand_count() {
+        1 => Ok(Operands::One(read_one(alloc, grid, texts)?)),
+        2 => {
+            let (left, right) = read_two(alloc, grid, texts)?;
+            Ok(Operands::Two(left, right))
+        }
+        _ => {
+            let (left, right, mask) = read_three(alloc, grid, texts)?;
+            Ok(Operands::Three(left, right, mask))
+        }
+    }
 }

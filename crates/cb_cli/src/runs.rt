@@ -1,30 +1,29 @@
 //! Runs a job.
-ghost use Rattle.std.specs.Prelude.{◌≡◌, ◌≢◌, ◌↔◌, ℕ, List, vec_len, true, false, OnOk, IfOk, IfErr, IsErrOf};
+ghost use Rattle.std.specs.Prelude.{◌≡◌, ◌≢◌, ◌↔◌, ◌++◌, ℕ, List, vec_len, true, false, None, OnOk, IfOk, IfErr, IsErrOf};
 ghost use Rattle.std.specs.Io.KnownBytes.{Appends, Keeps};
-ghost use Rattle.cb_cli.specs.Sinks.{AppendsPrefix};
-ghost use Rattle.cb_words.specs.Jobs.{operand_count_of};
-ghost use Rattle.cb_market.specs.Text.{text_of, vertex_text_of};
-ghost use Rattle.cb_semirings.specs.Tables.{min_plus, or_and};
-ghost use Rattle.cb_searches.specs.Walks.{AreLevels, AreDistances};
+ghost use Rattle.cb_operations.specs.Operations.{operand_count_of};
+ghost use Rattle.cb_market.specs.Text.{text_of};
 ghost use Rattle.cb_words.specs.Semirings.{arithmetic_of};
-ghost use Rattle.cb_cli.specs.Answers.{IsAnswerOver, IsFaultOver, IsWalkAnswer, IsWalkFault, IsAnswer, IsFault, status_of};
+ghost use Rattle.cb_cli.specs.Sinks.{AppendsPrefix};
+ghost use Rattle.cb_cli.specs.TraceTexts.{trace_lines};
+ghost use Rattle.cb_cli.specs.Answers.{IsAnswerOver, IsFaultOver, IsAnswer, IsFault, status_of};
 ghost use Rattle.cb_cli.specs.Files.{bytes_of};
 
+use crate::alone::compute_alone;
 use crate::engines::engine_of;
-use crate::operands::{read_one, read_three, read_two, read_with_vector};
-use crate::pages::{put_column, put_text};
+use crate::operands::read_operands;
+use crate::pages::{put_column, put_text_and_lines};
 use crate::sinks::Sink;
-use crate::traced::execute_traced;
+use crate::trace_lines::lines_of;
+use crate::walks::{distances_of, levels_of};
+use cb_engines::{Engine, Outcome};
 use cb_layout::{DistributedMatrix, Grid};
 use cb_market::{Kind, ReadFault};
-use cb_matrix::Matrix;
-use cb_scripts::{
-    Engine, ScriptFault, add_distributed, distances_distributed, levels_distributed,
-    multiply_distributed, multiply_masked_distributed, prune_distributed, times_distributed,
-    transpose_distributed, vector_distributed,
-};
+use cb_operations::{Operation, Refusal};
+use cb_run::{OperationFault, run};
 use cb_semirings::{MaxMin, MinPlus, OrAnd, PlusTimes, Semiring};
-use cb_words::{Job, Operation, SemiringName, Task};
+use cb_serial::SerialFault;
+use cb_words::{Job, SemiringName, Task};
 use std::alloc::{AllocError, Global};
 use std::sync::Wait;
 use std::thread::Threads;
@@ -36,9 +35,10 @@ pub enum JobFault {
     /// The text of a file is not a matrix, or memory was refused while it was read.
     #[error("file {which}: {fault}")]
     Read { which: usize, fault: ReadFault },
+    /// The matrices are refused, or a run of ranks failed.
     #[error("{0}")]
-    Script(ScriptFault),
-    /// Memory was refused to the text of the answer.
+    Run(OperationFault),
+    /// Memory was refused, to the text of the answer or, where no ranks run, to the answer.
     #[error("out of memory")]
     Memory,
     /// The sink failed, after a beginning of the text that may have no byte.
@@ -46,13 +46,37 @@ pub enum JobFault {
     Output,
 }
 
-impl From<ScriptFault> for JobFault {
-    ghost use Rattle.cb_cli.specs.declared.runs.JobFault.TheVariants.{Script};
+impl From<OperationFault> for JobFault {
+    ghost use Rattle.cb_cli.specs.declared.runs.JobFault.TheVariants.{Run};
 
-    ghost from_gives = { λ fault told. told ≡ Script fault };
+    ghost from_gives = { λ fault told. told ≡ Run fault };
 
-    fn from(fault: ScriptFault) -> JobFault {
-        JobFault::Script(fault)
+    fn from(fault: OperationFault) -> JobFault {
+        JobFault::Run(fault)
+    }
+}
+
+impl From<Refusal> for JobFault {
+    ghost use Rattle.cb_run.specs.declared.faults.OperationFault.TheVariants.{Refused};
+    ghost use Rattle.cb_cli.specs.declared.runs.JobFault.TheVariants.{Run};
+
+    ghost from_gives = { λ refusal told. told ≡ Run (Refused refusal) };
+
+    fn from(refusal: Refusal) -> JobFault {
+        JobFault::Run(OperationFault::Refused(refusal))
+    }
+}
+
+impl From<SerialFault> for JobFault {
+    ghost use Rattle.cb_cli.specs.Faults.{job_fault_of};
+
+    ghost from_gives = { λ fault told. told ≡ job_fault_of fault };
+
+    fn from(fault: SerialFault) -> JobFault {
+        match fault {
+            SerialFault::Refused(refusal) => JobFault::Run(OperationFault::Refused(refusal)),
+            SerialFault::Memory => JobFault::Memory,
+        }
     }
 }
 
@@ -66,58 +90,55 @@ impl From<AllocError> for JobFault {
     }
 }
 
-/// What an operation makes of texts over a semiring, on a grid. The operands lie in the blocks of the grid, and
-/// no list of their entries is kept, but for that of a vector.
+/// What an operation makes of texts over a semiring: by the ranks of a grid, or, without an engine, by the caller's
+/// thread alone on whole blocks. No list of the operands' entries is kept.
 fn answer_over<S: Semiring + Send + Sync, R: Threads + Wait + Sync>(
     rt: &R,
     alloc: Global,
-    engine: Engine,
+    engine: Option<Engine>,
     grid: &Grid,
     operation: Operation,
     texts: Vec<Vec<u8>>,
-) -> Result<DistributedMatrix<S>, JobFault>
+) -> Result<Outcome<S>, JobFault>
     requires { vec_len texts ≡ operand_count_of operation }
-    ensures ok { IfOk result (λ m. IsAnswerOver operation S.arithmetic (bytes_of texts.items) (text_of S.arithmetic m.matrix)) }
-    ensures fault { IfErr result (IsFaultOver operation S.arithmetic engine (bytes_of texts.items)) }
+    ensures ok { IfOk result (λ done. IsAnswerOver operation S.arithmetic engine.entry grid.now.side (bytes_of texts.items) (text_of S.arithmetic done.answer.matrix ++ trace_lines done.trace)) }
+    ensures fault { IfErr result (IsFaultOver operation S.arithmetic engine.entry grid.now.side (bytes_of texts.items)) }
     ensures unwritten { IfErr result (λ f. f ≢ JobFault.Output) }
 {
-    match operation {
-        Operation::Multiply => {
-            let (left, right) = read_two::<S>(alloc, grid, texts)?;
-            Ok(multiply_distributed(rt, alloc, engine, left, right)?)
-        }
-        Operation::MultiplyMasked => {
-            let (left, right, mask) = read_three::<S>(alloc, grid, texts)?;
-            Ok(multiply_masked_distributed(rt, alloc, engine, left, right, mask)?)
-        }
-        Operation::MultiplyVector => {
-            let (matrix, vector) = read_with_vector::<S>(alloc, grid, texts)?;
-            Ok(vector_distributed(rt, alloc, engine, matrix, &vector)?)
-        }
-        Operation::Transpose => {
-            let matrix = read_one::<S>(alloc, grid, texts)?;
-            Ok(transpose_distributed(rt, alloc, engine, matrix)?)
-        }
-        Operation::Add => {
-            let (left, right) = read_two::<S>(alloc, grid, texts)?;
-            Ok(add_distributed(rt, alloc, engine, left, right)?)
-        }
-        Operation::Times => {
-            let (left, right) = read_two::<S>(alloc, grid, texts)?;
-            Ok(times_distributed(rt, alloc, engine, left, right)?)
-        }
-        Operation::Prune(test) => {
-            let matrix = read_one::<S>(alloc, grid, texts)?;
-            Ok(prune_distributed(rt, alloc, engine, matrix, test)?)
+    match engine {
+        None => answer_alone::<S>(alloc, operation, texts),
+        Some(engine) => {
+            let operands = read_operands::<S>(alloc, grid, operation, texts)?;
+            Ok(run(rt, alloc, engine, grid, operation, operands)?)
         }
     }
 }
 
-/// Writes what an operation makes of texts over a semiring.
+/// The same without an engine.
+fn answer_alone<S: Semiring>(
+    alloc: Global,
+    operation: Operation,
+    texts: Vec<Vec<u8>>,
+) -> Result<Outcome<S>, JobFault>
+    requires { vec_len texts ≡ operand_count_of operation }
+    ensures ok { IfOk result (λ done. (side : ℕ) → IsAnswerOver operation S.arithmetic None side (bytes_of texts.items) (text_of S.arithmetic done.answer.matrix ++ trace_lines done.trace)) }
+    ensures fault { IfErr result (λ f. (side : ℕ) → IsFaultOver operation S.arithmetic None side (bytes_of texts.items) f) }
+    ensures unwritten { IfErr result (λ f. f ≢ JobFault.Output) }
+{
+    let operands = read_operands::<S>(alloc, &Grid::single(), operation, texts)?;
+    let block = compute_alone(alloc, operation, operands)?;
+    let answer = DistributedMatrix::from_block(alloc, block)?;
+    Ok(Outcome {
+        answer,
+        trace: None,
+    })
+}
+
+/// Writes what an operation makes of texts over a semiring, and then the lines of the trace, where one is kept.
 fn execute_over<S: Semiring + Send + Sync, R: Threads + Wait + Sync, K: Sink>(
     rt: &R,
     alloc: Global,
-    engine: Engine,
+    engine: Option<Engine>,
     grid: &Grid,
     operation: Operation,
     texts: Vec<Vec<u8>>,
@@ -125,21 +146,24 @@ fn execute_over<S: Semiring + Send + Sync, R: Threads + Wait + Sync, K: Sink>(
 ) -> Result<(), JobFault>
     requires texts { vec_len texts ≡ operand_count_of operation }
     requires works { K.has_failed out.old ≡ false }
-    ensures whole { OnOk result ((t : List ℕ) × IsAnswerOver operation S.arithmetic (bytes_of texts.items) t × Appends (K.written out.old) (K.written out.new) t) }
-    ensures fault { IfErr result (IsFaultOver operation S.arithmetic engine (bytes_of texts.items)) }
+    ensures whole { OnOk result ((t : List ℕ) × IsAnswerOver operation S.arithmetic engine.entry grid.now.side (bytes_of texts.items) t × Appends (K.written out.old) (K.written out.new) t) }
+    ensures fault { IfErr result (IsFaultOver operation S.arithmetic engine.entry grid.now.side (bytes_of texts.items)) }
     ensures nothing { IfErr result (λ f. f ≢ JobFault.Output → Keeps (K.written out.old) (K.written out.new)) }
-    ensures output { IsErrOf result JobFault.Output → (t : List ℕ) × IsAnswerOver operation S.arithmetic (bytes_of texts.items) t × AppendsPrefix (K.written out.old) (K.written out.new) t }
+    ensures output { IsErrOf result JobFault.Output → (t : List ℕ) × IsAnswerOver operation S.arithmetic engine.entry grid.now.side (bytes_of texts.items) t × AppendsPrefix (K.written out.old) (K.written out.new) t }
     ensures failed { IsErrOf result JobFault.Output ↔ (K.has_failed out.new ≡ true) }
 {
-    let answer = answer_over::<S, R>(rt, alloc, engine, grid, operation, texts)?;
-    put_text(alloc, &answer, out)
+    let done = answer_over::<S, R>(rt, alloc, engine, grid, operation, texts)?;
+    let Ok(lines) = lines_of(alloc, &done.trace) else {
+        return Err(JobFault::Memory);
+    };
+    put_text_and_lines(alloc, &done.answer, lines.as_bytes(), out)
 }
 
 /// Writes what an operation makes of texts over the semiring of a name.
 fn execute_named<R: Threads + Wait + Sync, K: Sink>(
     rt: &R,
     alloc: Global,
-    engine: Engine,
+    engine: Option<Engine>,
     grid: &Grid,
     operation: Operation,
     semiring: SemiringName,
@@ -148,10 +172,10 @@ fn execute_named<R: Threads + Wait + Sync, K: Sink>(
 ) -> Result<(), JobFault>
     requires texts { vec_len texts ≡ operand_count_of operation }
     requires works { K.has_failed out.old ≡ false }
-    ensures whole { OnOk result ((t : List ℕ) × IsAnswerOver operation (arithmetic_of semiring) (bytes_of texts.items) t × Appends (K.written out.old) (K.written out.new) t) }
-    ensures fault { IfErr result (IsFaultOver operation (arithmetic_of semiring) engine (bytes_of texts.items)) }
+    ensures whole { OnOk result ((t : List ℕ) × IsAnswerOver operation (arithmetic_of semiring) engine.entry grid.now.side (bytes_of texts.items) t × Appends (K.written out.old) (K.written out.new) t) }
+    ensures fault { IfErr result (IsFaultOver operation (arithmetic_of semiring) engine.entry grid.now.side (bytes_of texts.items)) }
     ensures nothing { IfErr result (λ f. f ≢ JobFault.Output → Keeps (K.written out.old) (K.written out.new)) }
-    ensures output { IsErrOf result JobFault.Output → (t : List ℕ) × IsAnswerOver operation (arithmetic_of semiring) (bytes_of texts.items) t × AppendsPrefix (K.written out.old) (K.written out.new) t }
+    ensures output { IsErrOf result JobFault.Output → (t : List ℕ) × IsAnswerOver operation (arithmetic_of semiring) engine.entry grid.now.side (bytes_of texts.items) t × AppendsPrefix (K.written out.old) (K.written out.new) t }
     ensures failed { IsErrOf result JobFault.Output ↔ (K.has_failed out.new ≡ true) }
 {
     match semiring {
@@ -170,53 +194,11 @@ fn execute_named<R: Threads + Wait + Sync, K: Sink>(
     }
 }
 
-/// The levels of the graph of a text from a source.
-fn levels_of<R: Threads + Wait + Sync>(
-    rt: &R,
-    alloc: Global,
-    engine: Engine,
-    grid: &Grid,
-    source: u32,
-    texts: Vec<Vec<u8>>,
-) -> Result<Matrix<MinPlus>, JobFault>
-    requires { vec_len texts ≡ 1 }
-    ensures ok { IfOk result (λ column. IsWalkAnswer AreLevels or_and source (bytes_of texts.items) (vertex_text_of column)) }
-    ensures column { IfOk result (λ column. column.shape.cols ≡ 1) }
-    ensures fault { IfErr result (IsWalkFault or_and source engine (bytes_of texts.items)) }
-    ensures unwritten { IfErr result (λ f. f ≢ JobFault.Output) }
-{
-    let graph = read_one::<OrAnd>(alloc, grid, texts)?;
-    let column = levels_distributed(rt, alloc, engine, graph, source)?;
-    let _shape = column.shape();
-    Ok(column)
-}
-
-/// The distances in the graph of a text from a source.
-fn distances_of<R: Threads + Wait + Sync>(
-    rt: &R,
-    alloc: Global,
-    engine: Engine,
-    grid: &Grid,
-    source: u32,
-    texts: Vec<Vec<u8>>,
-) -> Result<Matrix<MinPlus>, JobFault>
-    requires { vec_len texts ≡ 1 }
-    ensures ok { IfOk result (λ column. IsWalkAnswer AreDistances min_plus source (bytes_of texts.items) (vertex_text_of column)) }
-    ensures column { IfOk result (λ column. column.shape.cols ≡ 1) }
-    ensures fault { IfErr result (IsWalkFault min_plus source engine (bytes_of texts.items)) }
-    ensures unwritten { IfErr result (λ f. f ≢ JobFault.Output) }
-{
-    let graph = read_one::<MinPlus>(alloc, grid, texts)?;
-    let column = distances_distributed(rt, alloc, engine, graph, source)?;
-    let _shape = column.shape();
-    Ok(column)
-}
-
 /// Reads the texts of a job's files, in the job's order, and writes the text of its answer: of a matrix page by page,
-/// of levels or distances a line for each vertex that has one, and after a traced product a line for each event of its
-/// trace. All memory is taken before the first byte goes out: a
-/// fault other than `Output` has written nothing. At `Output` a beginning of the text has gone out, and the sink has
-/// failed; it has failed in no other case.
+/// of levels or distances a line for each vertex that has one, and, where the engine keeps a trace of an operation, a
+/// line for each of its events at the end. All memory is taken before the first byte goes out: a fault other than
+/// `Output` has written nothing. At `Output` a beginning of the text has gone out, and the sink has failed; it has
+/// failed in no other case.
 ///
 /// The faults come in their order: the first text that is no matrix, then shapes that don't agree, a graph whose
 /// matrix isn't square or a source that is none of its vertices, then want of memory, then `Output`. Costs the
@@ -231,10 +213,10 @@ pub fn execute<R: Threads + Wait + Sync, K: Sink>(
 ) -> Result<(), JobFault>
     requires texts { vec_len texts ≡ vec_len job.now.files }
     requires works { K.has_failed out.old ≡ false }
-    ensures whole { OnOk result ((t : List ℕ) × IsAnswer job.now.task job.now.grid.side (bytes_of texts.items) t × Appends (K.written out.old) (K.written out.new) t) }
-    ensures fault { IfErr result (IsFault job.now.task job.now.engine (bytes_of texts.items)) }
+    ensures whole { OnOk result ((t : List ℕ) × IsAnswer job.now.task job.now.engine job.now.grid.side (bytes_of texts.items) t × Appends (K.written out.old) (K.written out.new) t) }
+    ensures fault { IfErr result (IsFault job.now.task job.now.engine job.now.grid.side (bytes_of texts.items)) }
     ensures nothing { IfErr result (λ f. f ≢ JobFault.Output → Keeps (K.written out.old) (K.written out.new)) }
-    ensures output { IsErrOf result JobFault.Output → (t : List ℕ) × IsAnswer job.now.task job.now.grid.side (bytes_of texts.items) t × AppendsPrefix (K.written out.old) (K.written out.new) t }
+    ensures output { IsErrOf result JobFault.Output → (t : List ℕ) × IsAnswer job.now.task job.now.engine job.now.grid.side (bytes_of texts.items) t × AppendsPrefix (K.written out.old) (K.written out.new) t }
     ensures failed { IsErrOf result JobFault.Output ↔ (K.has_failed out.new ≡ true) }
 {
     let (engine, grid) = (engine_of(job.engine), &job.grid);
@@ -243,11 +225,6 @@ pub fn execute<R: Threads + Wait + Sync, K: Sink>(
             operation,
             semiring,
         } => execute_named(rt, alloc, engine, grid, operation, semiring, texts, out),
-        Task::Traced {
-            semiring,
-            is_masked,
-            capacity,
-        } => execute_traced(rt, alloc, job, semiring, is_masked, capacity, texts, out),
         Task::Levels { source } => {
             let column = levels_of(rt, alloc, engine, grid, source, texts)?;
             put_column(alloc, &column, out)
@@ -270,14 +247,8 @@ pub fn status(fault: &JobFault) -> u8
             Kind::Memory => 6,
             _ => 4,
         },
-        JobFault::Script(ScriptFault::Shapes | ScriptFault::NotSquare | ScriptFault::Source) => 5,
-        JobFault::Script(
-            ScriptFault::Memory
-            | ScriptFault::NotStarted(_)
-            | ScriptFault::Gone(_)
-            | ScriptFault::TraceTorn
-            | ScriptFault::Lost(_),
-        ) => 6,
+        JobFault::Run(OperationFault::Refused(_)) => 5,
+        JobFault::Run(OperationFault::Failed(_)) => 6,
         JobFault::Memory => 6,
         JobFault::Output => 7,
     }

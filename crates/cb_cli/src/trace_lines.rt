@@ -1,8 +1,8 @@
 //! The lines that tell a trace.
 ghost use Rattle.std.specs.Prelude.{◌≡◌, ◌++◌, OnOk, IfOk, codes, decimal, string_bytes};
-ghost use Rattle.cb_cli.specs.TraceTexts.{event_words, line_of_event, trace_text};
+ghost use Rattle.cb_cli.specs.TraceTexts.{event_words, line_of_event, trace_lines, trace_text};
 
-use cb_trace::{Envelope, TraceEvent};
+use cb_trace::{Envelope, Trace, TraceEvent};
 use std::alloc::{AllocError, Global};
 
 /// Writes what was done, the ranks that the letter goes from and to, and its number.
@@ -47,7 +47,7 @@ fn put_event(text: &mut String, event: &TraceEvent) -> Result<(), AllocError>
 }
 
 /// The lines of these events, in their order, each ended by a line feed.
-pub fn trace_text(alloc: Global, events: &[TraceEvent]) -> Result<String, AllocError>
+fn trace_text(alloc: Global, events: &[TraceEvent]) -> Result<String, AllocError>
     ensures { IfOk result (λ t. string_bytes t ≡ trace_text events.now) }
 {
     let mut text = String::new(alloc);
@@ -55,4 +55,14 @@ pub fn trace_text(alloc: Global, events: &[TraceEvent]) -> Result<String, AllocE
         put_event(&mut text, event)?;
     }
     Ok(text)
+}
+
+/// The lines of the trace that was kept, or no byte where none was.
+pub fn lines_of(alloc: Global, trace: &Option<Trace>) -> Result<String, AllocError>
+    ensures { IfOk result (λ t. string_bytes t ≡ trace_lines trace.now) }
+{
+    match trace {
+        Some(trace) => trace_text(alloc, trace.events()),
+        None => Ok(String::new(alloc)),
+    }
 }

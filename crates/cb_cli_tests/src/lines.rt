@@ -2,9 +2,11 @@
 use cb_cli::faults::fault_line;
 use cb_cli::runs::{JobFault, status};
 use cb_elementwise::Test;
+use cb_engines::EngineFault;
 use cb_market::{Kind, ReadFault};
-use cb_scripts::ScriptFault;
-use cb_words::{EngineName, Job, Operation, SemiringName, Task, UsageFault, read_job};
+use cb_operations::{Operation, Refusal};
+use cb_run::OperationFault;
+use cb_words::{EngineName, Job, SemiringName, Task, UsageFault, read_job};
 use std::alloc::{AllocError, Global};
 use std::test::Fail;
 
@@ -29,17 +31,6 @@ macro_rules! over {
         Task::Matrix {
             operation: $operation,
             semiring: SemiringName::$semiring,
-        }
-    };
-}
-
-/// A traced product over plus-times.
-macro_rules! traced {
-    ($is_masked:literal, $capacity:literal) => {
-        Task::Traced {
-            semiring: SemiringName::PlusTimes,
-            is_masked: $is_masked,
-            capacity: $capacity,
         }
     };
 }
@@ -99,12 +90,12 @@ const LINES: [Asked; 18] = [
     },
     Asked {
         line: "cbgrid multiply a b --trace",
-        task: traced!(false, 2),
+        task: over!(PlusTimes, Operation::Multiply),
         files: &["a", "b"],
     },
     Asked {
         line: "cbgrid multiply --trace a b --mask m --lane 7 --engine ranks",
-        task: traced!(true, 7),
+        task: over!(PlusTimes, Operation::MultiplyMasked),
         files: &["a", "b", "m"],
     },
     Asked {
@@ -212,10 +203,10 @@ fn choose_the_engine_and_the_grid(rt: HostRuntime) {
             EngineName::Plain,
             2,
         ),
-        ("cbgrid multiply a b --trace", EngineName::Ranks(2), 2),
+        ("cbgrid multiply a b --trace", EngineName::Traced(2), 2),
         (
             "cbgrid multiply --trace a b --mask m --lane 7 --engine ranks",
-            EngineName::Ranks(7),
+            EngineName::Traced(7),
             2,
         ),
     ] {
@@ -348,37 +339,37 @@ const FAULTS: [(JobFault, u8, &str); 11] = [
         "cbgrid: a.mtx:3: out of memory\n",
     ),
     (
-        JobFault::Script(ScriptFault::Shapes),
+        JobFault::Run(OperationFault::Refused(Refusal::Shapes)),
         5,
         "cbgrid: shapes don't agree\n",
     ),
     (
-        JobFault::Script(ScriptFault::NotSquare),
+        JobFault::Run(OperationFault::Refused(Refusal::NotSquare)),
         5,
         "cbgrid: matrix not square\n",
     ),
     (
-        JobFault::Script(ScriptFault::Source),
+        JobFault::Run(OperationFault::Refused(Refusal::Source)),
         5,
         "cbgrid: no such source\n",
     ),
     (
-        JobFault::Script(ScriptFault::Memory),
+        JobFault::Run(OperationFault::Failed(EngineFault::Memory)),
         6,
         "cbgrid: out of memory\n",
     ),
     (
-        JobFault::Script(ScriptFault::NotStarted(35)),
+        JobFault::Run(OperationFault::Failed(EngineFault::NotStarted(35))),
         6,
         "cbgrid: rank 35 not started\n",
     ),
     (
-        JobFault::Script(ScriptFault::Gone(0)),
+        JobFault::Run(OperationFault::Failed(EngineFault::Gone(0))),
         6,
         "cbgrid: rank 0 gone\n",
     ),
     (
-        JobFault::Script(ScriptFault::Lost(7)),
+        JobFault::Run(OperationFault::Failed(EngineFault::Lost(7))),
         6,
         "cbgrid: lost at rank 7\n",
     ),

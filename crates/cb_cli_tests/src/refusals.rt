@@ -5,7 +5,8 @@ use crate::products::{FIRST, SECOND, SKEW, run_into, text};
 use cb_cli::runs::JobFault;
 use cb_cli::sinks::WriterSink;
 use cb_market::{Kind, ReadFault};
-use cb_scripts::ScriptFault;
+use cb_operations::Refusal;
+use cb_run::OperationFault;
 use std::sync::Wait;
 use std::thread::Threads;
 
@@ -19,91 +20,91 @@ const ROW: &str = text!("1 2 0\n");
 
 const THREE: &str = text!("1 3 0\n");
 
-const SHAPES: JobFault = JobFault::Script(ScriptFault::Shapes);
+const SHAPES: JobFault = JobFault::Run(OperationFault::Refused(Refusal::Shapes));
 
-const NOT_SQUARE: JobFault = JobFault::Script(ScriptFault::NotSquare);
+const NOT_SQUARE: JobFault = JobFault::Run(OperationFault::Refused(Refusal::NotSquare));
 
-const SOURCE: JobFault = JobFault::Script(ScriptFault::Source);
+const SOURCE: JobFault = JobFault::Run(OperationFault::Refused(Refusal::Source));
 
 /// A command line, the texts of its files, and why it has no answer.
-struct Refusal {
+struct Refused {
     line: &'static str,
     texts: &'static [&'static str],
     fault: JobFault,
 }
 
-const REFUSALS: [Refusal; 15] = [
-    Refusal {
+const REFUSALS: [Refused; 15] = [
+    Refused {
         line: "cbgrid multiply a b",
         texts: &[BAD, WORSE],
         fault: read_fault!(0, 3, BadNumber),
     },
-    Refusal {
+    Refused {
         line: "cbgrid multiply a b",
         texts: &[FIRST, WORSE],
         fault: read_fault!(1, 1, BadHeader),
     },
-    Refusal {
+    Refused {
         line: "cbgrid multiply a b",
         texts: &[WORSE, BAD],
         fault: read_fault!(0, 1, BadHeader),
     },
-    Refusal {
+    Refused {
         line: "cbgrid multiply a b --semiring min-plus",
         texts: &[SKEW, SKEW],
         fault: read_fault!(0, 1, Unsupported),
     },
-    Refusal {
+    Refused {
         line: "cbgrid multiply a b",
         texts: &[WIDE, text!("2 2 0\n")],
         fault: SHAPES,
     },
-    Refusal {
+    Refused {
         line: "cbgrid multiply a b --mask m",
         texts: &[FIRST, SECOND, text!("1 1 1\n1 1 1\n")],
         fault: SHAPES,
     },
-    Refusal {
+    Refused {
         line: "cbgrid multiply a b --trace",
         texts: &[FIRST, THREE],
         fault: SHAPES,
     },
-    Refusal {
+    Refused {
         line: "cbgrid multiply a b --trace --mask m",
         texts: &[FIRST, SECOND, THREE],
         fault: SHAPES,
     },
-    Refusal {
+    Refused {
         line: "cbgrid spmv a b",
         texts: &[FIRST, SECOND],
         fault: SHAPES,
     },
-    Refusal {
+    Refused {
         line: "cbgrid add a b",
         texts: &[FIRST, ROW],
         fault: SHAPES,
     },
-    Refusal {
+    Refused {
         line: "cbgrid times a b",
         texts: &[FIRST, ROW],
         fault: SHAPES,
     },
-    Refusal {
+    Refused {
         line: "cbgrid bfs a --source 9",
         texts: &[CYCLE],
         fault: SOURCE,
     },
-    Refusal {
+    Refused {
         line: "cbgrid relax a --source 9",
         texts: &[WEIGHTLESS],
         fault: SOURCE,
     },
-    Refusal {
+    Refused {
         line: "cbgrid bfs a --source 9",
         texts: &[WIDE],
         fault: NOT_SQUARE,
     },
-    Refusal {
+    Refused {
         line: "cbgrid relax a --source 1",
         texts: &[WIDE],
         fault: NOT_SQUARE,

@@ -31,3 +31,5 @@ pub mod RemainingEntries
 -- GrownBlocks: blocks that grow entry by entry. Recasts: blocks taken over to another semiring.
 pub mod GrownBlocks
 pub mod Recasts
+-- OneBlock: a grid of side 1 has the whole matrix as its only block.
+pub mod OneBlock

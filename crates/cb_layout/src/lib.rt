@@ -18,6 +18,7 @@ mod distributed;
 mod front;
 mod gather;
 mod scatter;
+mod single;
 mod traversal;
 mod vectors;
 

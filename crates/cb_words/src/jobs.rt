@@ -3,29 +3,10 @@ ghost use Rattle.std.specs.Prelude.{◌≡◌, vec_len};
 ghost use Rattle.cb_words.specs.Jobs.{file_count_of};
 
 use crate::semirings::SemiringName;
-use cb_elementwise::Test;
 use cb_layout::Grid;
+use cb_operations::Operation;
 use std::alloc::{AllocError, AllocFailed};
 use thiserror::Error;
-
-/// An operation on matrices over a semiring, whose answer is a matrix.
-#[derive(Clone, Copy, Debug, PartialEq, Eq)]
-pub enum Operation {
-    /// The product of the first matrix by the second.
-    Multiply,
-    /// The same, kept where the third matrix has entries.
-    MultiplyMasked,
-    /// The product of the first matrix by the second, which is a vector.
-    MultiplyVector,
-    /// The transpose of a matrix.
-    Transpose,
-    /// The sum of two matrices, place by place.
-    Add,
-    /// The product of two matrices, place by place.
-    Times,
-    /// A matrix without the entries whose value passes the test.
-    Prune(Test),
-}
 
 /// What is computed of the files. A source is a vertex of the graph of the file's matrix, counted from 0.
 #[derive(Clone, Copy, Debug, PartialEq, Eq)]
@@ -34,13 +15,6 @@ pub enum Task {
     Matrix {
         operation: Operation,
         semiring: SemiringName,
-    },
-    /// The product of the first two matrices over a semiring, kept where the third has entries if it is masked, and a
-    /// trace of the ranks, each in a thread of its own over lanes for so many letters.
-    Traced {
-        semiring: SemiringName,
-        is_masked: bool,
-        capacity: usize,
     },
     /// The least number of edges from the source to each vertex. The file is read in or-and.
     Levels {
@@ -59,6 +33,8 @@ pub enum EngineName {
     Plain,
     /// For each a thread of its own, over lanes for so many letters.
     Ranks(usize),
+    /// The same, and a trace is kept of what the ranks post and take.
+    Traced(usize),
 }
 
 /// A command line that was read.

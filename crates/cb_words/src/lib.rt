@@ -13,6 +13,6 @@ mod jobs;
 mod semirings;
 mod words;
 
-pub use jobs::{EngineName, Job, Operation, Task, UsageFault};
+pub use jobs::{EngineName, Job, Task, UsageFault};
 pub use semirings::{NAMES, SemiringName};
 pub use words::{asked, read_job};

@@ -3,13 +3,15 @@
 ghost use Rattle.std.specs.Prelude.{◌≢◌, String, ◌≡◌, IfOk, IfSome, length, vec_len};
 ghost use Rattle.std.specs.declared.io.ErrorKind.TheVariants as io_is;
 ghost use Rattle.clap.specs.Words.{kind_of};
-ghost use Rattle.cb_words.specs.Jobs.{operand_count_of, file_count_of};
+ghost use Rattle.cb_operations.specs.Operations.{operand_count_of};
+ghost use Rattle.cb_words.specs.Jobs.{file_count_of};
 
 use crate::commands::{multiply_alone, program};
-use crate::jobs::{EngineName, Job, Operation, Task, UsageFault};
+use crate::jobs::{EngineName, Job, Task, UsageFault};
 use crate::semirings::SemiringName;
 use cb_elementwise::Test;
 use cb_layout::Grid;
+use cb_operations::Operation;
 use clap::ArgMatches;
 use clap::error::ErrorKind;
 use std::alloc::{AllocError, Global};
@@ -64,13 +66,6 @@ fn arguments(task: Task) -> &'static [&'static str]
 {
     match task {
         Task::Matrix { operation, .. } => operands(operation),
-        Task::Traced { is_masked, .. } => {
-            if is_masked {
-                &["A", "B", "mask"]
-            } else {
-                &["A", "B"]
-            }
-        }
         Task::Levels { .. } | Task::Distances { .. } => &["A"],
     }
 }
@@ -98,9 +93,13 @@ fn lane_of(found: &ArgMatches<'_>) -> Option<usize> {
     Some(found.get_one::<u32>("lane")? as usize)
 }
 
-fn engine_of(found: &ArgMatches<'_>) -> Option<EngineName> {
+/// What runs the ranks of a command.
+fn engine_of(command: &str, found: &ArgMatches<'_>) -> Option<EngineName> {
     match found.get_str("engine")? {
         "plain" => Some(EngineName::Plain),
+        "ranks" if command == "multiply" && found.get_flag("trace") => {
+            Some(EngineName::Traced(lane_of(found)?))
+        }
         "ranks" => Some(EngineName::Ranks(lane_of(found)?)),
         _ => None,
     }
@@ -146,11 +145,6 @@ fn operation_of(command: &str, found: &ArgMatches<'_>) -> Option<Operation> {
 /// The task of a command.
 fn task_of(command: &str, found: &ArgMatches<'_>) -> Option<Task> {
     match command {
-        "multiply" if found.get_flag("trace") => Some(Task::Traced {
-            semiring: semiring_of(found)?,
-            is_masked: found.contains_id("mask"),
-            capacity: lane_of(found)?,
-        }),
         "bfs" => Some(Task::Levels {
             source: source_of(found)?,
         }),
@@ -171,7 +165,7 @@ fn job_of(alloc: Global, matches: &ArgMatches<'_>) -> Result<Option<Job>, AllocE
     let (Some(task), Some(grid), Some(engine)) = (
         task_of(command, found),
         grid_of(found),
-        engine_of(found),
+        engine_of(command, found),
     ) else {
         return Ok(None);
     };

@@ -3,9 +3,11 @@
 #![tactic(auto)]
 
 use anyhow::Context;
+use cb_engines::Engine;
 use cb_layout::Grid;
 use cb_matrix::{Entry, Matrix, Shape};
-use cb_scripts::{Engine, multiply};
+use cb_operations::{Operands, Operation};
+use cb_run::run_matrices;
 use cb_semirings::PlusTimes;
 
 /// An edge is an entry with value 1.
@@ -23,7 +25,9 @@ fn main(rt: HostRuntime) -> anyhow::Result<()> {
     let shape = Shape::new(4, 4).context("past the limit")?;
     let graph: Matrix<PlusTimes> = Matrix::from_entries(alloc, shape, &edges)?;
     let grid = Grid::new(2)?;
-    let walks = multiply(&rt, alloc, Engine::Plain, &grid, &graph, &graph)?;
+    let operands = Operands::Two(&graph, &graph);
+    let engine = Engine::Threads(2);
+    let walks = run_matrices(&rt, alloc, engine, &grid, Operation::Multiply, operands)?;
     for walk in walks.entries() {
         println!(rt; "{} to {}: {} walks", walk.row, walk.column, walk.value)?;
     }

@@ -2,7 +2,7 @@ use Rattle.std.proofs.Common.{Err, [], ◌++◌, append-nil, refl, ap, sym, ◌�
 use Rattle.std.proofs.lemmas.Result.{err_from_is_err_and}
 use Rattle.cb_market.specs.Text.{text_of}
 use Rattle.cb_cli.proofs.SinkLemmas.{prefix_page}
-use Rattle.cb_cli.proofs.TracedLemmas.{prefix_of_text}
+use Rattle.cb_cli.proofs.LineLemmas.{prefix_of_text}
 use Rattle.cb_cli.proofs.pages.put_text_and_lines.Goals as goal
 
 pub returns-in_err-put_text-clause-output : goal.returns-in_err-put_text-clause-output

@@ -1,0 +1,80 @@
+//! How far the vertices of the graph of a text are from a source.
+ghost use Rattle.std.specs.Prelude.{◌≡◌, ◌≢◌, vec_len, IfOk, IfErr};
+ghost use Rattle.cb_semirings.specs.Tables.{min_plus, or_and};
+ghost use Rattle.cb_market.specs.Text.{vertex_text_of};
+ghost use Rattle.cb_searches.specs.Walks.{AreLevels, AreDistances};
+ghost use Rattle.cb_run.specs.Searched.{HasSource};
+ghost use Rattle.cb_cli.specs.Answers.{IsWalkAnswer, IsWalkFault};
+ghost use Rattle.cb_cli.specs.Files.{bytes_of};
+
+use crate::operands::read_one;
+use crate::runs::JobFault;
+use cb_engines::Engine;
+use cb_layout::Grid;
+use cb_matrix::Matrix;
+use cb_run::{check_graph, distances, levels};
+use cb_semirings::{MinPlus, OrAnd};
+use std::alloc::Global;
+use std::sync::Wait;
+use std::thread::Threads;
+
+/// The levels of the graph of a text from a source: by the ranks of a grid, or, without an engine, by the caller's
+/// thread alone in one block.
+pub fn levels_of<R: Threads + Wait + Sync>(
+    rt: &R,
+    alloc: Global,
+    engine: Option<Engine>,
+    grid: &Grid,
+    source: u32,
+    texts: Vec<Vec<u8>>,
+) -> Result<Matrix<MinPlus>, JobFault>
+    requires { vec_len texts ≡ 1 }
+    ensures ok { IfOk result (λ column. IsWalkAnswer AreLevels or_and source (bytes_of texts.items) (vertex_text_of column)) }
+    ensures column { IfOk result (λ column. column.shape.cols ≡ 1) }
+    ensures fault { IfErr result (IsWalkFault or_and source engine.entry grid.now.side (bytes_of texts.items)) }
+    ensures unwritten { IfErr result (λ f. f ≢ JobFault.Output) }
+{
+    let column = match engine {
+        None => {
+            let graph = read_one::<OrAnd>(alloc, &Grid::single(), texts)?;
+            check_graph(graph.shape(), source)?;
+            cb_searches::levels(alloc, graph.into_block(), source)?
+        }
+        Some(engine) => {
+            let graph = read_one::<OrAnd>(alloc, grid, texts)?;
+            levels(rt, alloc, engine, graph, source)?
+        }
+    };
+    let _shape = column.shape();
+    Ok(column)
+}
+
+/// The distances in the graph of a text from a source, computed likewise.
+pub fn distances_of<R: Threads + Wait + Sync>(
+    rt: &R,
+    alloc: Global,
+    engine: Option<Engine>,
+    grid: &Grid,
+    source: u32,
+    texts: Vec<Vec<u8>>,
+) -> Result<Matrix<MinPlus>, JobFault>
+    requires { vec_len texts ≡ 1 }
+    ensures ok { IfOk result (λ column. IsWalkAnswer AreDistances min_plus source (bytes_of texts.items) (vertex_text_of column)) }
+    ensures column { IfOk result (λ column. column.shape.cols ≡ 1) }
+    ensures fault { IfErr result (IsWalkFault min_plus source engine.entry grid.now.side (bytes_of texts.items)) }
+    ensures unwritten { IfErr result (λ f. f ≢ JobFault.Output) }
+{
+    let column = match engine {
+        None => {
+            let graph = read_one::<MinPlus>(alloc, &Grid::single(), texts)?;
+            check_graph(graph.shape(), source)?;
+            cb_searches::distances(alloc, graph.into_block(), source)?
+        }
+        Some(engine) => {
+            let graph = read_one::<MinPlus>(alloc, grid, texts)?;
+            distances(rt, alloc, engine, graph, source)?
+        }
+    };
+    let _shape = column.shape();
+    Ok(column)
+}

@@ -1,0 +1,37 @@
+//! A matrix over the grid of one rank: its only block is the whole of it.
+ghost use Rattle.std.specs.Prelude.{◌≡◌, IfOk};
+
+use crate::{DistributedMatrix, Grid};
+use cb_dcsc::Block;
+use cb_semirings::Semiring;
+use std::alloc::{AllocError, Global};
+
+impl Grid {
+    /// The grid of one rank.
+    pub fn single() -> Grid
+        ensures { result ≡ record { side = 1 } }
+    {
+        Grid { side: 1 }
+    }
+}
+
+impl<S: Semiring> DistributedMatrix<S> {
+    /// The matrix over the grid of one rank that has this block. No entry is copied.
+    pub fn from_block(alloc: Global, block: Block<S>) -> Result<Self, AllocError>
+        ensures { IfOk result (λ m. m ≡ record { side = 1; matrix = block }) }
+    {
+        let shape = block.shape();
+        let blocks = vec![in alloc; block]?;
+        Ok(DistributedMatrix::from_blocks(Grid::single(), shape, blocks))
+    }
+
+    /// The only block of a matrix over the grid of one rank. No entry is copied.
+    pub fn into_block(self) -> Block<S>
+        requires { self.side ≡ 1 }
+        ensures { result ≡ self.matrix }
+    {
+        let _shape = self.shape();
+        let mut blocks = self.into_blocks();
+        blocks.remove(0)
+    }
+}

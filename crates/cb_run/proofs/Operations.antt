@@ -1,0 +1,40 @@
+-- What an operation's plan makes of operands over a grid, and the trace that an engine keeps of it.
+use Rattle.std.proofs.Common.{◌≡◌, ◌≢◌, ℕ, List, refl, sym, subst}
+use Rattle.std.specs.Prelude.{All, Option, None}
+use Rattle.cb_semirings.specs.Arithmetic.{Arithmetic, IsSemiring}
+use Rattle.cb_matrix.specs.Sparse.{Sparse, Extent, IsMatrix}
+use Rattle.cb_plan.specs.declared.plans.Planned.{Planned}
+use Rattle.cb_trace.specs.Traces.{TraceView}
+use Rattle.cb_operations.specs.declared.operations.Operation.{Operation}
+use Rattle.cb_operations.specs.declared.operations.Operation.TheVariants.{Multiply, MultiplyMasked, MultiplyVector, Transpose, Add, Times, Prune}
+use Rattle.cb_operations.specs.Operations.{shape_of, answer_of, shapes_in}
+use Rattle.cb_placement.specs.Answers.{Makes}
+use Rattle.cb_planner.specs.Plans.{Computes, placed_operands}
+use Rattle.cb_engines.specs.declared.engines.Engine.{Engine}
+use Rattle.cb_engines.specs.declared.engines.Engine.TheVariants.{Threads, Traced, InOrder}
+use Rattle.cb_engines.specs.Runs.{IsTraceOf, KeepsTrace, checked_of}
+use Rattle.cb_run.specs.Runs.{IsPlanFor, IsTraceFor}
+
+module _ (operation : Operation) (q : ℕ) where
+  -- a plan that computes an operation makes what the operation does of these matrices, where they lie in its slots
+  module _ (s : Arithmetic) (laws : IsSemiring s) (ms : List Sparse) (are : All (IsMatrix s) ms) (planned : Planned) (computes : Computes operation q (shapes_in ms) planned) where
+    pub made_there : (shape : Extent) → shape ≡ shape_of operation (shapes_in ms) → (there : List (ℕ × Sparse)) → there ≡ placed_operands ms → Makes s q there planned shape (answer_of operation s ms)
+    made_there shape shaped there placed =
+        subst (λ (ps : List (ℕ × Sparse)). Makes s q ps planned shape (answer_of operation s ms)) (sym placed)
+        (subst (λ (d : Extent). Makes s q (placed_operands ms) planned d (answer_of operation s ms)) (sym shaped) (computes s laws ms are refl))
+
+-- a plan that computes an operation is one for it
+plan_for : (operation : Operation) → operation ≢ MultiplyVector → (q : ℕ) (shapes : List Extent) (planned : Planned) → Computes operation q shapes planned → IsPlanFor operation q shapes (checked_of planned)
+plan_for Multiply other q shapes planned computes = (planned, refl, computes)
+plan_for MultiplyMasked other q shapes planned computes = (planned, refl, computes)
+plan_for MultiplyVector other q shapes planned computes = absurd (other refl)
+plan_for Transpose other q shapes planned computes = (planned, refl, computes)
+plan_for Add other q shapes planned computes = (planned, refl, computes)
+plan_for Times other q shapes planned computes = (planned, refl, computes)
+plan_for (Prune test) other q shapes planned computes = (planned, refl, computes)
+
+-- the trace that an engine keeps of such a plan is the operation's
+pub trace_for : (operation : Operation) → operation ≢ MultiplyVector → (q : ℕ) (engine : Engine) (shapes : List Extent) (planned : Planned) → Computes operation q shapes planned → (t : Option TraceView) → IsTraceOf engine (checked_of planned) t → IsTraceFor engine operation q shapes t
+trace_for operation other q (Threads letters) shapes planned computes t is = is
+trace_for operation other q (Traced letters) shapes planned computes t is = (checked_of planned, plan_for operation other q shapes planned computes, is)
+trace_for operation other q (InOrder letters order) shapes planned computes t is = is

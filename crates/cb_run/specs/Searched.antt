@@ -1,0 +1,25 @@
+-- Why the vertices of a graph have no levels and no distances from a source.
+use Rattle.std.specs.Prelude.{◌≡◌, ◌≢◌, ℕ, ◌<◌, ◌≤◌, ◌*◌}
+use Rattle.cb_matrix.specs.Sparse.{Extent}
+use Rattle.cb_operations.specs.declared.refusals.Refusal.{Refusal}
+use Rattle.cb_operations.specs.declared.refusals.Refusal.TheVariants as refusal_is
+use Rattle.cb_engines.specs.declared.engines.Engine.{Engine}
+use Rattle.cb_engines.specs.Runs.{IsEngineFault}
+use Rattle.cb_run.specs.declared.faults.OperationFault.{OperationFault}
+use Rattle.cb_run.specs.declared.faults.OperationFault.TheVariants.{Refused, Failed}
+
+-- a matrix of this shape is square, and the source one of its vertices
+pub record HasSource (d : Extent) (source : ℕ) : Type 0 where
+  pub square : d.rows ≡ d.cols
+  pub vertex : source < d.rows
+
+-- a matrix that isn't square, or, where it is, a source that is none of its vertices
+abbrev pub IsGraphRefusal : Extent → ℕ → Refusal → Type 0
+IsGraphRefusal d source refusal_is.Shapes = ⊥
+IsGraphRefusal d source refusal_is.NotSquare = d.rows ≢ d.cols
+IsGraphRefusal d source refusal_is.Source = (d.rows ≡ d.cols) × (d.rows ≤ source)
+
+-- by an engine on a grid of side q: such a refusal, or, where there is none, what the engine says
+abbrev pub IsWalkRefusal : Engine → ℕ → Extent → ℕ → OperationFault → Type 0
+IsWalkRefusal engine q d source (Refused refusal) = IsGraphRefusal d source refusal
+IsWalkRefusal engine q d source (Failed fault) = HasSource d source × IsEngineFault engine (q * q) fault

@@ -1,0 +1,138 @@
+//! How far the vertices of a graph are from one of them: the graph of a square matrix, in which a stored entry (i, j)
+//! is an edge from i to j. Both are one [search](cb_searches::Search). In a level each edge weighs 1.
+ghost use Rattle.std.specs.Prelude.{◌≡◌, ◌<◌, ◌*◌, ℕ, IfOk, IfErr, OnOk};
+ghost use Rattle.cb_semirings.specs.Tables.{min_plus};
+ghost use Rattle.cb_matrix.specs.Sparse.{Sparse};
+ghost use Rattle.cb_matrix.specs.Operations.{transposed};
+ghost use Rattle.cb_searches.specs.Walks.{AreLevels, AreDistances};
+ghost use Rattle.cb_engines.specs.Runs.{IsEngineFault};
+ghost use Rattle.cb_run.specs.Searched.{HasSource, IsGraphRefusal, IsWalkRefusal};
+
+use crate::{OperationFault, run};
+use cb_engines::{Engine, EngineFault};
+use cb_layout::{DistributedMatrix, Grid};
+use cb_matrix::{Matrix, Shape};
+use cb_operations::{Operands, Operation, Refusal};
+use cb_searches::Search;
+use cb_semirings::{MinPlus, OrAnd, Semiring};
+use cb_vectors::{multiply_vector, vector_plan};
+use std::alloc::{AllocError, Global};
+use std::sync::Wait;
+use std::thread::Threads;
+
+/// Refuses the shape of a matrix that isn't square, then a source that is none of its vertices.
+pub fn check_graph(shape: Shape, source: u32) -> Result<(), Refusal>
+    ensures ok { OnOk result (HasSource shape source) }
+    ensures refused { IfErr result (IsGraphRefusal shape source) }
+{
+    if shape.rows() != shape.cols() {
+        return Err(Refusal::NotSquare);
+    }
+    if source >= shape.rows() {
+        return Err(Refusal::Source);
+    }
+    Ok(())
+}
+
+/// The transpose of a matrix that lies over a grid.
+fn transposed<S: Semiring + Send + Sync, R: Threads + Wait + Sync>(
+    rt: &R,
+    alloc: Global,
+    engine: Engine,
+    grid: &Grid,
+    matrix: DistributedMatrix<S>,
+) -> Result<DistributedMatrix<S>, EngineFault>
+    requires { matrix.side ≡ grid.now.side }
+    ensures ok { IfOk result (λ m. m ≡ record { side = grid.now.side; matrix = transposed S.arithmetic matrix.matrix }) }
+    ensures fault { IfErr result (IsEngineFault engine.entry (grid.now.side * grid.now.side)) }
+{
+    match run(rt, alloc, engine, grid, Operation::Transpose, Operands::One(matrix)) {
+        Ok(outcome) => Ok(outcome.answer),
+        Err(OperationFault::Failed(fault)) => Err(fault),
+        Err(OperationFault::Refused(_)) => unreachable!(),
+    }
+}
+
+/// The least weight of a walk from the source to each vertex.
+fn nearest<R: Threads + Wait + Sync>(
+    rt: &R,
+    alloc: Global,
+    engine: Engine,
+    graph: DistributedMatrix<MinPlus>,
+    source: u32,
+) -> Result<Matrix<MinPlus>, EngineFault>
+    requires { HasSource graph.matrix.shape source }
+    ensures ok { IfOk result (λ column. AreDistances graph.matrix source column) }
+    ensures fault { IfErr result (IsEngineFault engine.entry (graph.side * graph.side)) }
+{
+    let grid = graph.grid();
+    let shape = graph.shape();
+    let mut search = Search::begin(alloc, shape, graph.len(), source)?;
+    let mut turned = transposed(rt, alloc, engine, &grid, graph)?;
+    let plan = vector_plan(alloc, &grid, turned.shape())?;
+    for _round in 0..shape.rows() {
+        let fell = search.fell();
+        if fell.is_empty() {
+            break;
+        }
+        let reached = multiply_vector(rt, alloc, engine, &grid, &plan, turned, fell)?;
+        turned = reached.matrix;
+        search = search.advance(alloc, &reached.product)?;
+    }
+    let column = search.column(alloc)?;
+    Ok(column)
+}
+
+/// The matrix over the same grid as one of weights, in which distances are levels: each stored value is 1 already. No
+/// entry is copied.
+pub fn weighted(
+    alloc: Global,
+    graph: DistributedMatrix<OrAnd>,
+) -> Result<DistributedMatrix<MinPlus>, AllocError>
+    ensures same { IfOk result (λ m. m ≡ graph) }
+    ensures levels { IfOk result (λ m. (source : ℕ) (column : Sparse) → HasSource graph.matrix.shape source → AreDistances m.matrix source column → AreLevels graph.matrix source column) }
+{
+    let _rows = graph.shape().rows();
+    graph.recast(alloc)
+}
+
+/// The distance of each vertex from a source: the least weight of a walk, where a walk's weight is the sum of its
+/// entries' values, which stops at 2^64-1. Vertices without a walk, or with an infinite distance, are not stored. The
+/// blocks of the matrix are given to the ranks.
+///
+/// Refused are `NotSquare`, then `Source` for one that is no vertex, before memory is asked for. The matrix is
+/// transposed once. Each round is one run of the ranks, and costs what the entries of the vertices that fell in the
+/// round before cost; there are at most as many as vertices.
+pub fn distances<R: Threads + Wait + Sync>(
+    rt: &R,
+    alloc: Global,
+    engine: Engine,
+    graph: DistributedMatrix<MinPlus>,
+    source: u32,
+) -> Result<Matrix<MinPlus>, OperationFault>
+    ensures ok { IfOk result (λ column. AreDistances graph.matrix source column) }
+    ensures agree { IfOk result (λ column. HasSource graph.matrix.shape source) }
+    ensures fault { IfErr result (IsWalkRefusal engine.entry graph.side graph.matrix.shape source) }
+{
+    check_graph(graph.shape(), source)?;
+    Ok(nearest(rt, alloc, engine, graph, source)?)
+}
+
+/// The level of each vertex from a source: the least number of entries of a walk. Vertices without a walk are not
+/// stored. Refusals and cost are those of [`distances`]; the level of a vertex is its distance where each entry
+/// weighs 1. This is the breadth-first search of Buluç and Gilbert, The Combinatorial BLAS (IJHPCA 2011), section 5.
+pub fn levels<R: Threads + Wait + Sync>(
+    rt: &R,
+    alloc: Global,
+    engine: Engine,
+    graph: DistributedMatrix<OrAnd>,
+    source: u32,
+) -> Result<Matrix<MinPlus>, OperationFault>
+    ensures ok { IfOk result (λ column. AreLevels graph.matrix source column) }
+    ensures agree { IfOk result (λ column. HasSource graph.matrix.shape source) }
+    ensures fault { IfErr result (IsWalkRefusal engine.entry graph.side graph.matrix.shape source) }
+{
+    check_graph(graph.shape(), source)?;
+    let weighted = weighted(alloc, graph)?;
+    Ok(nearest(rt, alloc, engine, weighted, source)?)
+}

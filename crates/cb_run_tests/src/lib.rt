@@ -1,0 +1,18 @@
+//! Tests of `cb_run` and `cb_serial`, through their public calls: worked examples by each engine on grids of several
+//! sides, and by one thread, with ample memory and with each allocation refused in turn.
+#![tactic(auto)]
+
+#[cfg(test)]
+mod examples;
+#[cfg(test)]
+mod factors;
+#[cfg(test)]
+mod numbers;
+#[cfg(test)]
+mod operations;
+#[cfg(test)]
+mod orders;
+#[cfg(test)]
+mod traces;
+#[cfg(test)]
+mod walks;

@@ -1,0 +1,36 @@
+//! The numbers of a graph's vertices, which a search keeps in a list or in a tree, are the same.
+use crate::walks::{By, Graph, SEARCHES, distances_or_refusal, has_distances};
+use std::test::Fail;
+
+/// A source 2, and a vertex 7 whose number falls from 9 to 4.
+const GRAPH: Graph = Graph {
+    vertices: 12,
+    edges: &[(2, 0, 1), (0, 7, 3), (2, 7, 9)],
+    source: 2,
+    found: &[(0, 0, 1), (2, 0, 0), (7, 0, 4)],
+};
+
+/// The same in graphs of so many vertices: the numbers are in a list for the first two, where there are at most 4 for each
+/// entry, and in a tree for the others.
+const VERTICES: [u32; 4] = [8, 12, 16, 2_147_483_647];
+
+#[test]
+fn a_list_and_a_tree_have_the_same_numbers(rt: HostRuntime) -> Result<(), Fail> {
+    for vertices in VERTICES {
+        let graph = Graph { vertices, ..GRAPH };
+        for by in SEARCHES {
+            assert!(rt; has_distances(&rt, rt.alloc(), by, &graph)?, "{vertices}");
+        }
+    }
+    Ok(())
+}
+
+/// It passes whichever single allocation is refused (`rt try --test --fail-alloc N`, for each N in turn).
+#[test]
+fn refused_memory_is_said_by_numbers(rt: HostRuntime) -> Result<(), Fail> {
+    for vertices in VERTICES {
+        let graph = Graph { vertices, ..GRAPH };
+        assert!(rt; distances_or_refusal(&rt, rt.alloc(), By::One, &graph));
+    }
+    Ok(())
+}

@@ -1,0 +1,2 @@
+-- Faults: why an operation makes nothing of blocks.
+pub mod Faults

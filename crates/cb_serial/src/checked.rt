@@ -1,0 +1,65 @@
+//! The same of blocks whose shapes may not agree.
+ghost use Rattle.std.specs.Prelude.{◌≡◌, length, IfOk, IfErr, IfSome, IfNone};
+ghost use Rattle.cb_operations.specs.Operations.{operand_count_of, Agree, answer_of, shapes_in};
+ghost use Rattle.cb_serial.specs.Faults.{IsFaultOf};
+
+use crate::compute;
+use cb_dcsc::Block;
+use cb_matrix::Shape;
+use cb_operations::{Operation, Refusal};
+use cb_semirings::Semiring;
+use std::alloc::{AllocError, Global};
+use thiserror::Error;
+
+/// Why an operation makes nothing of blocks, in the order in which the reasons are looked for.
+#[derive(Clone, Copy, Debug, PartialEq, Eq, Error)]
+pub enum SerialFault {
+    /// It isn't computed, whoever would compute it.
+    #[error("{0}")]
+    Refused(Refusal),
+    /// Memory was refused.
+    #[error("out of memory")]
+    Memory,
+}
+
+impl From<AllocError> for SerialFault {
+    ghost use Rattle.cb_serial.specs.declared.checked.SerialFault.TheVariants.{Memory};
+
+    ghost from_gives = { λ _ fault. fault ≡ Memory };
+
+    fn from(_error: AllocError) -> SerialFault {
+        SerialFault::Memory
+    }
+}
+
+/// The shape of what an operation makes of blocks, or none where their shapes don't agree.
+fn shape_in<S: Semiring>(operation: Operation, operands: &[Block<S>]) -> Option<Shape>
+    requires { length operands.now ≡ operand_count_of operation }
+    ensures agree { IfSome result (λ _. Agree operation (shapes_in operands.now)) }
+    ensures none { IfNone result (¬ Agree operation (shapes_in operands.now)) }
+{
+    match operands {
+        [a] => operation.shape_of(&[a.shape()]),
+        [a, b] => operation.shape_of(&[a.shape(), b.shape()]),
+        [a, b, c] => operation.shape_of(&[a.shape(), b.shape(), c.shape()]),
+        _ => unreachable!(),
+    }
+}
+
+/// What an operation makes of blocks, in order. Shapes that don't agree are refused before memory is asked for; all else
+/// is as in [`compute`].
+pub fn run<S: Semiring>(
+    alloc: Global,
+    operation: Operation,
+    operands: &[Block<S>],
+) -> Result<Block<S>, SerialFault>
+    requires { length operands.now ≡ operand_count_of operation }
+    ensures ok { IfOk result (λ m. m ≡ answer_of operation S.arithmetic operands.now) }
+    ensures agree { IfOk result (λ _. Agree operation (shapes_in operands.now)) }
+    ensures fault { IfErr result (IsFaultOf operation operands.now) }
+{
+    if shape_in(operation, operands).is_none() {
+        return Err(SerialFault::Refused(Refusal::Shapes));
+    }
+    Ok(compute(alloc, operation, operands)?)
+}

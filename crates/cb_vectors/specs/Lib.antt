@@ -1,0 +1,2 @@
+-- SpreadVectors: a matrix over a grid and a vector that is spread over its ranks.
+pub mod SpreadVectors
