@@ -1,0 +1,10 @@
+-- The operands of an operation, as a list.
+use Rattle.std.specs.Prelude.{List, [], ◌∷◌}
+use Rattle.cb_operations.specs.declared.operations.Operands.{Operands}
+use Rattle.cb_operations.specs.declared.operations.Operands.TheVariants.{One, Two, Three}
+
+-- they, in order
+abbrev pub list_of : {M : Type 0} → Operands M → List M
+list_of (One a) = a ∷ []
+list_of (Two a b) = a ∷ b ∷ []
+list_of (Three a b c) = a ∷ b ∷ c ∷ []
