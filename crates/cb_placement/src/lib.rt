@@ -1,0 +1,34 @@
+//! Matrices in the slots of ranks: laid out before a plan, gathered after it.
+//!
+//! [`laid_out`] moves the blocks of matrices that lie over a grid into the slots of its ranks, and [`drain`] moves the
+//! blocks of one slot out again. `specs/Answers` says what it is for a plan to make a matrix of others that are laid out
+//! like that: `Makes`, which a kernel's lemma proves and who runs the plan asks for. Nothing here runs a plan.
+#![tactic(auto)]
+
+ghost use Rattle.std.specs.Prelude.{◌≡◌};
+ghost use Rattle.cb_placement.specs.declared.DrainFault.TheVariants.{Memory};
+
+mod stores;
+
+use std::alloc::AllocError;
+pub use stores::{blank, drain, fill, laid_out};
+use thiserror::Error;
+
+/// Why the blocks in a slot can't be handed out.
+#[derive(Clone, Copy, Debug, PartialEq, Eq, Error)]
+pub enum DrainFault {
+    /// Memory was refused.
+    #[error("out of memory")]
+    Memory,
+    /// A block is lost, since memory was refused in this rank. Of several it is that of the least rank.
+    #[error("lost at rank {0}")]
+    Lost(u16),
+}
+
+impl From<AllocError> for DrainFault {
+    ghost from_gives = { λ _ fault. fault ≡ Memory };
+
+    fn from(_error: AllocError) -> DrainFault {
+        DrainFault::Memory
+    }
+}
