@@ -1,0 +1,29 @@
+-- What an operation's plan makes of operands over a grid, and the trace that an engine keeps of it.
+use Rattle.std.proofs.Common.{◌≡◌, ℕ, List, refl, sym, subst}
+use Rattle.std.specs.Prelude.{All, Option}
+use Rattle.cb_semirings.specs.Arithmetic.{Arithmetic, IsSemiring}
+use Rattle.cb_matrix.specs.Sparse.{Sparse, Extent, IsMatrix}
+use Rattle.cb_plan.specs.declared.plans.Planned.{Planned}
+use Rattle.cb_trace.specs.Traces.{TraceView}
+use Rattle.cb_operations.specs.declared.operations.Operation.{Operation}
+use Rattle.cb_operations.specs.Operations.{shape_of, answer_of, shapes_in}
+use Rattle.cb_placement.specs.Answers.{Makes}
+use Rattle.cb_planner.specs.Plans.{Computes, placed_operands}
+use Rattle.cb_engines.specs.declared.engines.Engine.{Engine}
+use Rattle.cb_engines.specs.declared.engines.Engine.TheVariants.{Threads, Traced, InOrder}
+use Rattle.cb_engines.specs.Runs.{IsTraceOf, checked_of}
+use Rattle.cb_run.specs.Runs.{IsTraceFor}
+
+module _ (operation : Operation) (q : ℕ) where
+  -- a plan that computes an operation makes what the operation does of these matrices, where they lie in its slots
+  module _ (s : Arithmetic) (laws : IsSemiring s) (ms : List Sparse) (are : All (IsMatrix s) ms) (planned : Planned) (computes : Computes operation q (shapes_in ms) planned) where
+    pub made_there : (shape : Extent) → shape ≡ shape_of operation (shapes_in ms) → (there : List (ℕ × Sparse)) → there ≡ placed_operands ms → Makes s q there planned shape (answer_of operation s ms)
+    made_there shape shaped there placed =
+        subst (λ (ps : List (ℕ × Sparse)). Makes s q ps planned shape (answer_of operation s ms)) (sym placed)
+        (subst (λ (d : Extent). Makes s q (placed_operands ms) planned d (answer_of operation s ms)) (sym shaped) (computes s laws ms are refl))
+
+  -- the trace that an engine keeps of such a plan is the operation's
+  pub trace_for : (engine : Engine) (shapes : List Extent) (planned : Planned) → Computes operation q shapes planned → (t : Option TraceView) → IsTraceOf engine (checked_of planned) t → IsTraceFor engine operation q shapes t
+  trace_for (Threads capacity) shapes planned computes t is = is
+  trace_for (Traced capacity) shapes planned computes t is = (planned, computes, is)
+  trace_for (InOrder capacity order) shapes planned computes t is = is

@@ -1,0 +1,33 @@
+use Rattle.std.specs.Prelude.{map}
+use Rattle.cb_operations.specs.Operands.{list_of}
+use Rattle.cb_operations.specs.Operations.{answer_of, shapes_in}
+use Rattle.cb_placement.proofs.LaidOutOperands.{whole_matrix}
+use Rattle.cb_run.specs.Runs.{wholes}
+use Rattle.cb_run.proofs.Operations.{made_there, trace_for}
+use Rattle.cb_run.proofs.runs.run_plan.Goals as goal
+
+pub compute-requires-clause-sides : goal.compute-requires-clause-sides
+compute-requires-clause-sides g c κs within = c.in_ok-operands.ensures.sides c.args.grid.now.side c.requires.sides
+
+pub compute-requires-clause-makes : goal.compute-requires-clause-makes
+compute-requires-clause-makes g c κs within =
+    let s = g.S.Semiring.arithmetic in
+    let laws = (g.met.S.Semiring g.world.𝓛 g.world.𝓜 g.world.𝓡 ((λ s x. x), (λ x. x), (λ x. x), λ x. x)).is_semiring in
+    let ms = wholes (list_of c.args.operands) in (
+      answer_of c.args.operation s ms,
+      made_there c.args.operation c.args.grid.now.side s laws ms c.requires.matrices c.in_ok-planned.planned c.in_ok-planned.ensures
+          c.args.shape c.requires.shape (map whole_matrix c.in_ok-operands.operands.items) c.in_ok-operands.ensures.slots,
+    )
+
+pub returns-clause-ok : goal.returns-clause-ok
+returns-clause-ok g c =
+    let s = g.S.Semiring.arithmetic in
+    let laws = (g.met.S.Semiring g.world.𝓛 g.world.𝓜 g.world.𝓡 ((λ s x. x), (λ x. x), (λ x. x), λ x. x)).is_semiring in
+    let ms = wholes (list_of c.args.operands) in
+    record {
+      agree = c.requires.agree;
+      answer = c.in_ok-compute.ensures.ok (answer_of c.args.operation s ms)
+          (made_there c.args.operation c.args.grid.now.side s laws ms c.requires.matrices c.in_ok-planned.planned c.in_ok-planned.ensures
+          c.args.shape c.requires.shape (map whole_matrix c.in_ok-operands.operands.items) c.in_ok-operands.ensures.slots);
+      trace = trace_for c.args.operation c.args.grid.now.side c.args.engine (shapes_in ms) c.in_ok-planned.planned c.in_ok-planned.ensures c.in_ok-compute.field-0.trace c.in_ok-compute.ensures.trace;
+    }

@@ -1,0 +1,94 @@
+//! An operation run by an engine.
+ghost use Rattle.std.specs.Prelude.{◌≡◌, length, map, All, IfOk, IfErr};
+ghost use Rattle.cb_matrix.specs.Sparse.{IsMatrix};
+ghost use Rattle.cb_operations.specs.Operands.{list_of};
+ghost use Rattle.cb_operations.specs.Operations.{operand_count_of, Agree, answer_of, shape_of, shapes_in};
+ghost use Rattle.cb_run.specs.Runs.{IsOutcome, IsRefusal, LieOver, wholes};
+
+use crate::OperationFault;
+use crate::operands::{empty_product, placed, plan_in, scattered, shape_in};
+use cb_engines::{Engine, Outcome, compute};
+use cb_layout::{DistributedMatrix, Grid};
+use cb_matrix::{Matrix, Shape};
+use cb_operations::{Operands, Operation, Refusal};
+use cb_semirings::Semiring;
+use std::alloc::Global;
+use std::sync::Wait;
+use std::thread::Threads;
+
+/// What an operation makes of matrices that lie over one grid, by an engine. It is left in the blocks of the grid.
+///
+/// Shapes that don't agree are refused before memory is asked for. The blocks of the operands are given to the ranks, and
+/// none is copied before it is sent. Of a product of which a factor has no entries no plan is made where ranks in threads
+/// would run it without a trace: it costs a block for each rank.
+pub fn run<S: Semiring + Send + Sync, R: Threads + Wait + Sync>(
+    rt: &R,
+    alloc: Global,
+    engine: Engine,
+    grid: &Grid,
+    operation: Operation,
+    operands: Operands<DistributedMatrix<S>>,
+) -> Result<Outcome<S>, OperationFault>
+    requires count { operand_count_of operation ≡ length (list_of operands) }
+    requires sides { LieOver grid.now.side operands }
+    ensures ok { IfOk result (IsOutcome S.arithmetic engine.entry operation grid.now.side (wholes (list_of operands))) }
+    ensures fault { IfErr result (IsRefusal engine.entry operation grid.now.side (wholes (list_of operands))) }
+{
+    let Some(shape) = shape_in(operation, &operands) else {
+        return Err(OperationFault::Refused(Refusal::Shapes));
+    };
+    if let Engine::Threads(_letters) = engine {
+        if let Some(answer) = empty_product(alloc, grid, operation, &operands)? {
+            return Ok(Outcome {
+                answer,
+                trace: None,
+            });
+        }
+    }
+    run_plan(rt, alloc, engine, grid, operation, operands, shape)
+}
+
+/// What an operation makes of matrices whose shapes agree, by a plan.
+fn run_plan<S: Semiring + Send + Sync, R: Threads + Wait + Sync>(
+    rt: &R,
+    alloc: Global,
+    engine: Engine,
+    grid: &Grid,
+    operation: Operation,
+    operands: Operands<DistributedMatrix<S>>,
+    shape: Shape,
+) -> Result<Outcome<S>, OperationFault>
+    requires count { operand_count_of operation ≡ length (list_of operands) }
+    requires sides { LieOver grid.now.side operands }
+    requires agree { Agree operation (shapes_in (wholes (list_of operands))) }
+    requires shape { shape ≡ shape_of operation (shapes_in (wholes (list_of operands))) }
+    requires matrices { All (IsMatrix S.arithmetic) (wholes (list_of operands)) }
+    ensures ok { IfOk result (IsOutcome S.arithmetic engine.entry operation grid.now.side (wholes (list_of operands))) }
+    ensures fault { IfErr result (IsRefusal engine.entry operation grid.now.side (wholes (list_of operands))) }
+{
+    let planned = plan_in(alloc, grid, operation, &operands)?;
+    let operands = placed(alloc, operands)?;
+    Ok(compute(rt, alloc, engine, grid, planned, operands, shape)?)
+}
+
+/// What an operation makes of whole matrices, by an engine over a grid.
+///
+/// Shapes that don't agree are refused before memory is asked for. Beside what [`run`] costs each entry of the operands is
+/// cut into its block, and each of the answer is put in its place.
+pub fn run_matrices<S: Semiring + Send + Sync, R: Threads + Wait + Sync>(
+    rt: &R,
+    alloc: Global,
+    engine: Engine,
+    grid: &Grid,
+    operation: Operation,
+    operands: Operands<&Matrix<S>>,
+) -> Result<Matrix<S>, OperationFault>
+    requires { operand_count_of operation ≡ length (list_of operands) }
+    ensures ok { IfOk result (λ m. m ≡ answer_of operation S.arithmetic (map (λ m. m.now) (list_of operands.entry))) }
+    ensures agree { IfOk result (λ m. Agree operation (shapes_in (map (λ m. m.now) (list_of operands.entry)))) }
+    ensures fault { IfErr result (IsRefusal engine.entry operation grid.now.side (map (λ m. m.now) (list_of operands.entry))) }
+{
+    let operands = scattered(alloc, grid, operation, operands)?;
+    let outcome = run(rt, alloc, engine, grid, operation, operands)?;
+    Ok(outcome.answer.gather(alloc)?)
+}
