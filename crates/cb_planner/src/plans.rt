@@ -44,9 +44,7 @@ fn product_plan(alloc: Global, grid: &Grid, shapes: &[Shape]) -> Result<Planned,
     requires agree { Agree Operation.Multiply shapes.now }
     ensures { IfOk result (Computes Operation.Multiply grid.now.side shapes.now) }
 {
-    let [a, b] = shapes else {
-        unreachable!()
-    };
+    let [a, b] = shapes else { unreachable!() };
     let Ok(planned) = summa(alloc, grid, *a, *b) else {
         return Err(AllocError);
     };
@@ -83,9 +81,7 @@ fn transpose_plan(alloc: Global, grid: &Grid, shapes: &[Shape]) -> Result<Planne
     requires agree { Agree Operation.Transpose shapes.now }
     ensures { IfOk result (Computes Operation.Transpose grid.now.side shapes.now) }
 {
-    let [a] = shapes else {
-        unreachable!()
-    };
+    let [a] = shapes else { unreachable!() };
     let Ok(planned) = grid_transpose(alloc, grid, *a) else {
         return Err(AllocError);
     };
@@ -98,9 +94,7 @@ fn sum_plan(alloc: Global, grid: &Grid, shapes: &[Shape]) -> Result<Planned, All
     requires agree { Agree Operation.Add shapes.now }
     ensures { IfOk result (Computes Operation.Add grid.now.side shapes.now) }
 {
-    let [a, _b] = shapes else {
-        unreachable!()
-    };
+    let [a, _b] = shapes else { unreachable!() };
     let Ok(planned) = grid_add(alloc, grid, *a) else {
         return Err(AllocError);
     };
@@ -113,9 +107,7 @@ fn times_plan(alloc: Global, grid: &Grid, shapes: &[Shape]) -> Result<Planned, A
     requires agree { Agree Operation.Times shapes.now }
     ensures { IfOk result (Computes Operation.Times grid.now.side shapes.now) }
 {
-    let [a, _b] = shapes else {
-        unreachable!()
-    };
+    let [a, _b] = shapes else { unreachable!() };
     let Ok(planned) = grid_times(alloc, grid, *a) else {
         return Err(AllocError);
     };
@@ -132,9 +124,7 @@ fn prune_plan(
     requires count { length shapes.now ≡ operand_count_of (Operation.Prune test) }
     ensures { IfOk result (Computes (Operation.Prune test) grid.now.side shapes.now) }
 {
-    let [a] = shapes else {
-        unreachable!()
-    };
+    let [a] = shapes else { unreachable!() };
     let Ok(planned) = grid_prune(alloc, grid, *a, test) else {
         return Err(AllocError);
     };
