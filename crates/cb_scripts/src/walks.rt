@@ -66,7 +66,7 @@ pub(crate) fn nearest_without_plan(
 {
     let _shape = graph.shape();
     let edges = transposed_block(alloc, graph)?;
-    cb_searches::nearest(alloc, &edges, source)
+    cb_searches::nearest_by_edges(alloc, &edges, source)
 }
 
 /// The least number of entries of a walk from the source to each vertex.

@@ -5,8 +5,8 @@ use Rattle.cb_matrix.specs.Sparse.{Sparse, Extent, IsMatrix}
 use Rattle.cb_matrix.specs.Operations.{transposed}
 use Rattle.cb_searches.specs.Searches.{HasEnded, IsSearch}
 use Rattle.cb_searches.specs.Walks.{AreDistances}
-use Rattle.cb_searches.proofs.searches.nearest.Goals as goal
-use Rattle.cb_searches.proofs.searches.nearest.Goals.{else-loop-round-test, then-loop-round-test+then-is_empty}
+use Rattle.cb_searches.proofs.one_block.nearest_by_edges.Goals as goal
+use Rattle.cb_searches.proofs.one_block.nearest_by_edges.Goals.{else-loop-round-test, then-loop-round-test+then-is_empty}
 
 pub begin-requires : goal.begin-requires
 begin-requires c =

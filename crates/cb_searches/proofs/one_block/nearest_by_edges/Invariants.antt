@@ -3,7 +3,7 @@ use Rattle.cb_semirings.specs.Tables.{min_plus}
 use Rattle.cb_matrix.specs.Sparse.{Sparse, IsMatrix}
 use Rattle.cb_matrix.specs.Operations.{transposed}
 use Rattle.cb_searches.specs.Searches.{IsSearch}
-use Rattle.cb_searches.proofs.searches.nearest.Given as goal
+use Rattle.cb_searches.proofs.one_block.nearest_by_edges.Given as goal
 
 -- each round is one of a search
 abbrev pub invariant-loop-round : goal.invariant-loop-round
