@@ -1,0 +1,111 @@
+//! An operation, and the shapes that it takes.
+ghost use Rattle.std.specs.Prelude.{◌≡◌, ◌≤◌, length, IfSome, IfNone};
+ghost use Rattle.cb_operations.specs.Operations.{operand_count_of, Agree, shape_of};
+
+use cb_elementwise::Test;
+use cb_matrix::Shape;
+
+/// No operation takes more matrices.
+pub const MOST_OPERANDS: usize = 3;
+
+/// An operation on matrices over a semiring, whose answer is a matrix.
+#[derive(Clone, Copy, Debug, PartialEq, Eq)]
+pub enum Operation {
+    /// The product of the first matrix by the second.
+    Multiply,
+    /// The same, kept where the third matrix has entries.
+    MultiplyMasked,
+    /// The product of the first matrix by the second, which has one column.
+    MultiplyVector,
+    /// The transpose of a matrix.
+    Transpose,
+    /// The sum of two matrices, place by place.
+    Add,
+    /// The product of two matrices, place by place.
+    Times,
+    /// A matrix without the entries whose value passes the test.
+    Prune(Test),
+}
+
+impl Operation {
+    /// How many matrices it takes, 1 to 3.
+    pub fn operand_count(self) -> usize
+        ensures count { result ≡ operand_count_of self }
+        ensures few { result ≤ MOST_OPERANDS }
+    {
+        match self {
+            Operation::Multiply => 2,
+            Operation::MultiplyMasked => 3,
+            Operation::MultiplyVector => 2,
+            Operation::Transpose => 1,
+            Operation::Add => 2,
+            Operation::Times => 2,
+            Operation::Prune(_test) => 1,
+        }
+    }
+
+    /// The shape of what it makes of matrices of these shapes, or none where they don't agree.
+    pub fn shape_of(self, shapes: &[Shape]) -> Option<Shape>
+        requires { length shapes.now ≡ operand_count_of self }
+        ensures agree { IfSome result (λ d. Agree self shapes.now) }
+        ensures shape { IfSome result (λ d. d ≡ shape_of self shapes.now) }
+        ensures none { IfNone result (¬ Agree self shapes.now) }
+    {
+        match self {
+            Operation::Multiply => product_shape(shapes[0], shapes[1]),
+            Operation::MultiplyMasked => {
+                let product = product_shape(shapes[0], shapes[1])?;
+                same_shape(product, shapes[2])
+            }
+            Operation::MultiplyVector => vector_shape(shapes[0], shapes[1]),
+            Operation::Transpose => Some(turned(shapes[0])),
+            Operation::Add => same_shape(shapes[0], shapes[1]),
+            Operation::Times => same_shape(shapes[0], shapes[1]),
+            Operation::Prune(_test) => Some(shapes[0]),
+        }
+    }
+}
+
+/// The shape of the product of two matrices, or none where the first has other columns than the second has rows.
+fn product_shape(left: Shape, right: Shape) -> Option<Shape>
+    ensures agree { IfSome result (λ d. left.cols ≡ right.rows) }
+    ensures shape { IfSome result (λ d. d ≡ record { rows = left.rows; cols = right.cols }) }
+    ensures none { IfNone result (¬ (left.cols ≡ right.rows)) }
+{
+    if left.cols() != right.rows() {
+        return None;
+    }
+    Some(left.with_columns_of(right))
+}
+
+/// The shape of the product of a matrix by a vector, or none where the second has other than one column, or the first
+/// has other columns than the second has rows.
+fn vector_shape(matrix: Shape, vector: Shape) -> Option<Shape>
+    ensures agree { IfSome result (λ d. (matrix.cols ≡ vector.rows) × (vector.cols ≡ 1)) }
+    ensures shape { IfSome result (λ d. d ≡ record { rows = matrix.rows; cols = vector.cols }) }
+    ensures none { IfNone result (¬ ((matrix.cols ≡ vector.rows) × (vector.cols ≡ 1))) }
+{
+    if vector.cols() != 1 {
+        return None;
+    }
+    product_shape(matrix, vector)
+}
+
+/// A shape, or none where another is not the same.
+fn same_shape(first: Shape, second: Shape) -> Option<Shape>
+    ensures agree { IfSome result (λ d. first ≡ second) }
+    ensures shape { IfSome result (λ d. d ≡ first) }
+    ensures none { IfNone result (¬ (first ≡ second)) }
+{
+    if first != second {
+        return None;
+    }
+    Some(first)
+}
+
+/// As many rows as a shape has columns, and as many columns as it has rows.
+fn turned(shape: Shape) -> Shape
+    ensures { result ≡ record { rows = shape.cols; cols = shape.rows } }
+{
+    Shape::new(shape.cols(), shape.rows()).unwrap()
+}
