@@ -9,7 +9,7 @@ use Rattle.cb_operations.specs.declared.operations.Operation.{Operation}
 use Rattle.cb_operations.specs.Operations.{Agree}
 use Rattle.cb_ffi.specs.declared.lists.Columns.{Columns}
 use Rattle.cb_ffi.specs.declared.faults.Fault.{Fault}
-use Rattle.cb_ffi.specs.declared.faults.Fault.TheVariants.{Grid, Test, Form, TooLarge, Lengths, Order, Place, Value, Shapes, NotSquare, Source, Memory}
+use Rattle.cb_ffi.specs.declared.faults.Fault.TheVariants.{Grid, Test, Form, TooLarge, Lengths, Order, Place, Value, Shapes, NotSquare, Source}
 use Rattle.cb_ffi.specs.Lists.{shape_of, AreLists, HasForm, Fits, HaveLengths, AreOrdered, AreInside, AreValues}
 use Rattle.cb_ffi.specs.Refusals.{Unless, IsMemory, IsSide, matrix_faults, each_faults, operand_faults, faults_of, graph_faults, text_faults}
 use Rattle.cb_ffi.specs.Answers.{NoFault}

@@ -2,7 +2,6 @@ use Rattle.std.proofs.Common.{rules, ◌≡◌, ◌<◌, refl, inl, inr}
 use Rattle.std.specs.Prelude.{IfErr}
 use Rattle.std.proofs.lemmas.Result.{IfErr-weaker}
 use Rattle.cb_ffi.specs.declared.faults.Fault.TheVariants.{Grid, NotSquare, Source}
-use Rattle.cb_ffi.specs.Lists.{AreLists}
 use Rattle.cb_ffi.specs.Refusals.{IsSide, matrix_faults, graph_faults}
 use Rattle.cb_ffi.proofs.Firsts.{graph_side_first, of_graph, after_graph}
 use Rattle.cb_ffi.proofs.checks.check_graph.Goals as goal
