@@ -165,8 +165,8 @@ struct cbgrid_columns cbgrid_dcsc64(uint32_t nrows, uint32_t ncols, const uint32
 
 /*
  * In the calls below `semiring` is one of enum cbgrid_semiring, and `grid` is the side of a grid, 1 to 6,
- * else CBGRID_GRID. The side is checked, and the answer is the same for each: it is worked out by the plain
- * engine, on the caller's thread. Side 1 is the quickest; another may cost more time and memory.
+ * else CBGRID_GRID. The side is checked and changes nothing else: each call works on whole matrices, on the
+ * caller's thread.
  *
  * Codes that each of them may answer: CBGRID_SEMIRING where it is given a semiring, CBGRID_GRID,
  * CBGRID_FORM to CBGRID_VALUE, CBGRID_MEMORY, CBGRID_NULL_POINTER. Others are named beside the call.

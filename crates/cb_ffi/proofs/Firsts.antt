@@ -1,24 +1,36 @@
 -- The first fault of a call: how it comes from that of its parts.
-use Rattle.std.proofs.Common.{ℕ, refl, inl, inr, ⊎_elim}
-use Rattle.std.specs.Prelude.{Result, Ok, Err, IfErr}
+use Rattle.std.proofs.Common.{◌≡◌, ℕ, ◌+◌, ◌<◌, List, [], ◌∷◌, ◌++◌, length, take, drop, get_or, refl, sym, subst, inl, inr, ⊎_elim}
+use Rattle.std.specs.Prelude.{All, map, Option, Some, None, Result, IfErr}
+use Rattle.std.proofs.lemmas.List.{take-append-drop, drop_more}
+use Rattle.std.proofs.lemmas.List.Elements.{All-head, All-tail}
+use Rattle.std.proofs.lemmas.Result.{IfErr-weaker}
 use Rattle.cb_semirings.specs.Arithmetic.{Arithmetic}
+use Rattle.cb_operations.specs.declared.operations.Operation.{Operation}
+use Rattle.cb_operations.specs.Operations.{Agree}
 use Rattle.cb_ffi.specs.declared.lists.Columns.{Columns}
 use Rattle.cb_ffi.specs.declared.faults.Fault.{Fault}
-use Rattle.cb_ffi.specs.declared.faults.Fault.TheVariants.{Grid, Form, TooLarge, Lengths, Order, Place, Value, Memory}
-use Rattle.cb_ffi.specs.Lists.{AreLists, HasForm, Fits, HaveLengths, AreOrdered, AreInside, AreValues}
-use Rattle.cb_ffi.specs.Refusals.{Unless, IsMemory, IsSide, matrix_faults, one_faults, two_faults}
+use Rattle.cb_ffi.specs.declared.faults.Fault.TheVariants.{Grid, Test, Form, TooLarge, Lengths, Order, Place, Value, Shapes, NotSquare, Source}
+use Rattle.cb_ffi.specs.Lists.{shape_of, AreLists, HasForm, Fits, HaveLengths, AreOrdered, AreInside, AreValues}
+use Rattle.cb_ffi.specs.Refusals.{Unless, IsMemory, IsSide, matrix_faults, each_faults, operand_faults, faults_of, graph_faults, text_faults}
 use Rattle.cb_ffi.specs.Answers.{NoFault}
 
--- what follows from each fault follows from that of an answer
-pub weaken : {X : Type 0} (r : Result X Fault) (P Q : Fault → Type 0) → ((f : Fault) → P f → Q f) → IfErr r P → IfErr r Q
-weaken (Ok x) P Q h k = k
-weaken (Err f) P Q h k = h f k
-
+-- what is looked for next, where P holds
 pub only : (P : Type 0) (g : Fault) (next : Fault → Type 0) (f : Fault) → P → Unless P g next f → next f
 only P g next f p h = ⊎_elim (λ k. absurd (k.1 p)) (λ k. k.1) h
 
-pub wider : (P : Type 0) (g : Fault) (first next : Fault → Type 0) (f : Fault) → (first f → next f) → Unless P g first f → Unless P g next f
+wider : (P : Type 0) (g : Fault) (first next : Fault → Type 0) (f : Fault) → (first f → next f) → Unless P g first f → Unless P g next f
 wider P g first next f k h = ⊎_elim (λ a. inl a) (λ a. inr (a.0, k a.1)) h
+
+-- there is no fault where P holds and none is found next
+passed : (P : Type 0) (g : Fault) (next : Fault → Type 0) → P → NoFault next → NoFault (Unless P g next)
+passed P g next p none = record { memory = inr (p, none.memory); only = λ f h. none.only f (only P g next f p h) }
+
+no_more : NoFault IsMemory
+no_more = record { memory = refl; only = λ f h. h }
+
+-- where there is none, want of memory is the fault
+pub memory_is : {X : Type 0} (r : Result X Fault) (faults : Fault → Type 0) → NoFault faults → IfErr r IsMemory → IfErr r faults
+memory_is r faults none h = IfErr-weaker r IsMemory faults (λ f e. subst faults (sym e) none.memory) h
 
 -- the faults of a matrix, from each of its checks on
 abbrev from_values : Arithmetic → Columns → (Fault → Type 0) → Fault → Type 0
@@ -41,18 +53,8 @@ pub matrix_after : (s : Arithmetic) (c : Columns) (next : Fault → Type 0) (f :
 unfolding matrix_faults
 matrix_after s c next f are h = inr (are.form, inr (are.fits, inr (are.lengths, inr (are.ordered, inr (are.inside, inr (are.values, h))))))
 
-pub matrix_only : (s : Arithmetic) (c : Columns) (next : Fault → Type 0) (f : Fault) → AreLists s c → matrix_faults s c next f → next f
-unfolding matrix_faults
-matrix_only s c next f are h =
-    only (AreValues s c) Value next f are.values
-    (only (AreInside c) Place (from_values s c next) f are.inside
-    (only (AreOrdered c) Order (from_inside s c next) f are.ordered
-    (only (HaveLengths c) Lengths (from_ordered s c next) f are.lengths
-    (only (Fits c) TooLarge (from_lengths s c next) f are.fits
-    (only (HasForm c) Form (from_fits s c next) f are.form h)))))
-
 -- a fault of a matrix comes before what is looked for next
-pub matrix_rest : (s : Arithmetic) (c : Columns) (first next : Fault → Type 0) (f : Fault) → (first f → next f) → matrix_faults s c first f → matrix_faults s c next f
+matrix_rest : (s : Arithmetic) (c : Columns) (first next : Fault → Type 0) (f : Fault) → (first f → next f) → matrix_faults s c first f → matrix_faults s c next f
 unfolding matrix_faults
 matrix_rest s c first next f k h =
     wider (HasForm c) Form (from_fits s c first) (from_fits s c next) f
@@ -66,56 +68,124 @@ matrix_rest s c first next f k h =
 pub matrix_wider : (s : Arithmetic) (c : Columns) (next : Fault → Type 0) (f : Fault) → matrix_faults s c (λ _. ⊥) f → matrix_faults s c next f
 matrix_wider s c next f h = matrix_rest s c (λ _. ⊥) next f (λ k. absurd k) h
 
-module _ (s : Arithmetic) (side : ℕ) (a : Columns) (next : Fault → Type 0) (f : Fault) where
-  -- of a grid that there is
-  pub one_matrix : IsSide side → matrix_faults s a next f → one_faults s side a next f
-  unfolding one_faults
-  one_matrix p h = inr (p, h)
+matrix_passed : (s : Arithmetic) (c : Columns) (next : Fault → Type 0) → AreLists s c → NoFault next → NoFault (matrix_faults s c next)
+unfolding matrix_faults
+matrix_passed s c next are none =
+    passed (HasForm c) Form (from_fits s c next) are.form
+    (passed (Fits c) TooLarge (from_lengths s c next) are.fits
+    (passed (HaveLengths c) Lengths (from_ordered s c next) are.lengths
+    (passed (AreOrdered c) Order (from_inside s c next) are.ordered
+    (passed (AreInside c) Place (from_values s c next) are.inside
+    (passed (AreValues s c) Value next are.values none)))))
 
-  pub one_after : IsSide side → AreLists s a → next f → one_faults s side a next f
-  one_after p are h = one_matrix p (matrix_after s a next f are h)
+-- the same of matrices, one after another
+front_after : (s : Arithmetic) (front rest : List Columns) (next : Fault → Type 0) (f : Fault) → All (AreLists s) front → each_faults s rest next f → each_faults s (front ++ rest) next f
+unfolding each_faults
+front_after s [] rest next f are h = h
+front_after s (c ∷ front) rest next f are h =
+    matrix_after s c (each_faults s (front ++ rest) next) f (All-head (AreLists s) c front are) (front_after s front rest next f (All-tail (AreLists s) c front are) h)
 
-  pub one_only : IsSide side → AreLists s a → one_faults s side a next f → next f
-  unfolding one_faults
-  one_only p are h = matrix_only s a next f are (only (IsSide side) Grid (matrix_faults s a next) f p h)
+-- what stands for an element past the end of a list
+abbrev pub blank : Columns
+blank = record {
+  nrows = 0;
+  ncols = 0;
+  kind = 0;
+  wide = 0;
+  columns = record { ref_ptr = (0, 0); now = [] };
+  starts32 = record { ref_ptr = (0, 0); now = [] };
+  starts64 = record { ref_ptr = (0, 0); now = [] };
+  rows = record { ref_ptr = (0, 0); now = [] };
+  values = record { ref_ptr = (0, 0); now = [] };
+}
 
-  pub one_rest : (first : Fault → Type 0) → (first f → next f) → one_faults s side a first f → one_faults s side a next f
-  unfolding one_faults
-  one_rest first k h = wider (IsSide side) Grid (matrix_faults s a first) (matrix_faults s a next) f (matrix_rest s a first next f k) h
+-- the fault of the nth matrix, where those before it are well formed
+pub fault_at : (s : Arithmetic) (cs : List Columns) (n : ℕ) (d : Columns) (f : Fault) → n < length cs → All (AreLists s) (take n cs) → matrix_faults s (get_or cs n d) (λ _. ⊥) f
+    → each_faults s cs (λ _. ⊥) f
+unfolding each_faults
+fault_at s cs n d f l are h =
+    let rest : each_faults s (get_or cs n d ∷ drop (n + 1) cs) (λ _. ⊥) f = matrix_wider s (get_or cs n d) (each_faults s (drop (n + 1) cs) (λ _. ⊥)) f h in
+    subst (λ xs. each_faults s xs (λ _. ⊥) f) (take-append-drop n cs)
+    (front_after s (take n cs) (drop n cs) (λ _. ⊥) f are (subst (λ xs. each_faults s xs (λ _. ⊥) f) (sym (drop_more cs n d l)) rest))
 
-  pub one_wider : one_faults s side a (λ _. ⊥) f → one_faults s side a next f
-  one_wider h = one_rest (λ _. ⊥) (λ k. absurd k) h
+each_after : (s : Arithmetic) (cs : List Columns) (next : Fault → Type 0) (f : Fault) → All (AreLists s) cs → next f → each_faults s cs next f
+unfolding each_faults
+each_after s [] next f are h = h
+each_after s (c ∷ cs) next f are h =
+    matrix_after s c (each_faults s cs next) f (All-head (AreLists s) c cs are) (each_after s cs next f (All-tail (AreLists s) c cs are) h)
 
-module _ (s : Arithmetic) (side : ℕ) (a b : Columns) (next : Fault → Type 0) (f : Fault) where
-  pub two_after : IsSide side → AreLists s a → AreLists s b → next f → two_faults s side a b next f
-  unfolding two_faults
-  two_after p are bre h = one_after s side a (matrix_faults s b next) f p are (matrix_after s b next f bre h)
+each_wider : (s : Arithmetic) (cs : List Columns) (next : Fault → Type 0) (f : Fault) → each_faults s cs (λ _. ⊥) f → each_faults s cs next f
+unfolding each_faults
+each_wider s [] next f h = absurd h
+each_wider s (c ∷ cs) next f h = matrix_rest s c (each_faults s cs (λ _. ⊥)) (each_faults s cs next) f (each_wider s cs next f) h
 
-  pub two_only : IsSide side → AreLists s a → AreLists s b → two_faults s side a b next f → next f
-  unfolding two_faults
-  two_only p are bre h = matrix_only s b next f bre (one_only s side a (matrix_faults s b next) f p are h)
+each_passed : (s : Arithmetic) (cs : List Columns) (next : Fault → Type 0) → All (AreLists s) cs → NoFault next → NoFault (each_faults s cs next)
+unfolding each_faults
+each_passed s [] next are none = none
+each_passed s (c ∷ cs) next are none =
+    matrix_passed s c (each_faults s cs next) (All-head (AreLists s) c cs are) (each_passed s cs next (All-tail (AreLists s) c cs are) none)
 
-  -- a fault of the first
-  pub two_first : one_faults s side a (λ _. ⊥) f → two_faults s side a b next f
-  unfolding two_faults
-  two_first h = one_wider s side a (matrix_faults s b next) f h
+-- ---- of an operation and its operands
+module _ (s : Arithmetic) (operation : Operation) (cs : List Columns) where
+  abbrev agreeing : Type 0
+  agreeing = Agree operation (map shape_of cs)
 
-  -- a fault of the second
-  pub two_second : IsSide side → AreLists s a → matrix_faults s b next f → two_faults s side a b next f
-  unfolding two_faults
-  two_second p are h = one_after s side a (matrix_faults s b next) f p are h
+  pub of_operand : (f : Fault) → each_faults s cs (λ _. ⊥) f → operand_faults s (Some operation) cs f
+  unfolding operand_faults
+  of_operand f h = each_wider s cs (Unless agreeing Shapes IsMemory) f h
 
-  pub two_wider : two_faults s side a b (λ _. ⊥) f → two_faults s side a b next f
-  unfolding two_faults
-  two_wider h = one_rest s side a (matrix_faults s b next) f (matrix_faults s b (λ _. ⊥)) (matrix_wider s b next f) h
+  pub of_shapes : All (AreLists s) cs → (agreeing → ⊥) → operand_faults s (Some operation) cs Shapes
+  unfolding operand_faults
+  of_shapes are n = each_after s cs (Unless agreeing Shapes IsMemory) Shapes are (inl (refl, n))
 
--- a last fault g where P doesn't hold, after two matrices
-module _ (s : Arithmetic) (side : ℕ) (a b : Columns) (P : Type 0) (g : Fault) (is_side : IsSide side) (are : AreLists s a) (bre : AreLists s b) where
-  pub two_last : (P → ⊥) → two_faults s side a b (Unless P g IsMemory) g
-  two_last n = two_after s side a b (Unless P g IsMemory) g is_side are bre (inl (refl, n))
+  pub none_of_operation : (side : ℕ) (o : Option Operation) → o ≡ Some operation → IsSide side → All (AreLists s) cs → agreeing → NoFault (faults_of s side o cs)
+  unfolding faults_of operand_faults
+  none_of_operation side o e is are p =
+      subst (λ (q : Option Operation). NoFault (faults_of s side q cs)) (sym e)
+      (passed (IsSide side) Grid (operand_faults s (Some operation) cs) is (each_passed s cs (Unless agreeing Shapes IsMemory) are (passed agreeing Shapes IsMemory p no_more)))
 
-  pub two_none : P → NoFault (two_faults s side a b (Unless P g IsMemory))
-  two_none p = record {
-    memory = two_after s side a b (Unless P g IsMemory) Memory is_side are bre (inr (p, refl));
-    only = λ f h. only P g IsMemory f p (two_only s side a b (Unless P g IsMemory) f is_side are bre h);
-  }
+pub side_first : (s : Arithmetic) (side : ℕ) (o : Option Operation) (cs : List Columns) (f : Fault) → (f ≡ Grid) × (IsSide side → ⊥) → faults_of s side o cs f
+unfolding faults_of
+side_first s side o cs f h = inl h
+
+pub side_after : (s : Arithmetic) (side : ℕ) (o : Option Operation) (cs : List Columns) (f : Fault) → IsSide side → operand_faults s o cs f → faults_of s side o cs f
+unfolding faults_of
+side_after s side o cs f is h = inr (is, h)
+
+pub no_operation : (s : Arithmetic) (o : Option Operation) (cs : List Columns) → o ≡ None → operand_faults s o cs Test
+unfolding operand_faults
+no_operation s o cs e = subst (λ (p : Option Operation). operand_faults s p cs Test) (sym e) refl
+
+-- ---- of a graph and its source
+pub graph_side_first : (s : Arithmetic) (side : ℕ) (a : Columns) (source : ℕ) (f : Fault) → (f ≡ Grid) × (IsSide side → ⊥) → graph_faults s side a source f
+unfolding graph_faults
+graph_side_first s side a source f h = inl h
+
+module _ (s : Arithmetic) (side : ℕ) (a : Columns) (source : ℕ) (is : IsSide side) where
+  abbrev from_source : Fault → Type 0
+  from_source = Unless (source < a.nrows) Source IsMemory
+
+  abbrev from_square : Fault → Type 0
+  from_square = Unless (a.nrows ≡ a.ncols) NotSquare from_source
+
+  pub of_graph : (f : Fault) → matrix_faults s a (λ _. ⊥) f → graph_faults s side a source f
+  unfolding graph_faults
+  of_graph f h = inr (is, matrix_wider s a from_square f h)
+
+  pub after_graph : (f : Fault) → AreLists s a → from_square f → graph_faults s side a source f
+  unfolding graph_faults
+  after_graph f are h = inr (is, matrix_after s a from_square f are h)
+
+  pub none_of_graph : AreLists s a → a.nrows ≡ a.ncols → source < a.nrows → NoFault (graph_faults s side a source)
+  unfolding graph_faults
+  none_of_graph are p q =
+      passed (IsSide side) Grid (matrix_faults s a from_square) is (matrix_passed s a from_square are (passed (a.nrows ≡ a.ncols) NotSquare from_source p (passed (source < a.nrows) Source IsMemory q no_more)))
+
+-- ---- of a text
+pub of_text : (s : Arithmetic) (a : Columns) (f : Fault) → matrix_faults s a (λ _. ⊥) f → text_faults s a f
+unfolding text_faults
+of_text s a f h = matrix_wider s a IsMemory f h
+
+pub none_of_text : (s : Arithmetic) (a : Columns) → AreLists s a → NoFault (text_faults s a)
+unfolding text_faults
+none_of_text s a are = matrix_passed s a IsMemory are no_more

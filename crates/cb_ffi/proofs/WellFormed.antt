@@ -1,7 +1,8 @@
 -- What well-formed lists have in each stored column, and their matrix, column by column.
 use Rattle.std.proofs.Common.{◌≡◌, ◌≢◌, ℕ, suc, ◌+◌, ◌-◌, ◌<◌, List, ◌++◌, length, get_or, refl, sym, ap, ◌∙◌, ⊎_elim, inl, inr, arith, length-take, length-drop}
-use Rattle.std.specs.Prelude.{All, ◌⊎◌, ◌==◌, not}
+use Rattle.std.specs.Prelude.{All, ◌⊎◌, ◌==◌, not, map}
 use Rattle.std.proofs.lemmas.Bool.{cases_eq}
+use Rattle.std.proofs.lemmas.Simd.{map-map}
 use Rattle.std.proofs.lemmas.List.Elements.{All-take, All-drop, All-filter, All-weaker, filter-append}
 use Rattle.cb_semirings.specs.Arithmetic.{Arithmetic, IsValue}
 use Rattle.cb_matrix.specs.declared.Entry.{Entry}
@@ -10,7 +11,8 @@ use Rattle.cb_matrix.specs.Values.{empty_matrix}
 use Rattle.cb_dcsc.specs.Compressed.{entries_in, pieces}
 use Rattle.cb_dcsc.proofs.Pieces.{entries_in-columns, pieces-all}
 use Rattle.cb_ffi.specs.declared.lists.Columns.{Columns}
-use Rattle.cb_ffi.specs.Lists.{count, column, starts, rows_in, values_in, listed_in, nonzero, AreLists}
+use Rattle.cb_operations.specs.Operations.{shapes_in}
+use Rattle.cb_ffi.specs.Lists.{count, column, starts, rows_in, values_in, listed_in, nonzero, shape_of, matrix_of, matrices, AreLists}
 
 module _ (s : Arithmetic) (c : Columns) (are : AreLists s c) where
   kind_is : (c.kind ≡ 0) ⊎ (c.kind ≡ 1)
@@ -73,3 +75,7 @@ more_listed s c shape n old new j is vs was p q r e =
     e ∙ ap (λ (m : Sparse). record { shape = m.shape; entries = m.entries ++ nonzero s (entries_in j is vs) }) was
     ∙ (λ t. record { shape = shape; entries = nonzero s (pieces (listed_in c) n) ++ nonzero s (entries_in (p t) (q t) (r t)) })
     ∙ ap (λ (es : List Entry). record { shape = shape; entries = es }) (sym (ap (λ k. nonzero s (pieces (listed_in c) k)) next ∙ filter-append (λ d. not (d.value == s.zero)) (pieces (listed_in c) n) (listed_in c n)))
+
+-- the matrices of lists have their shapes
+pub shapes_are : (s : Arithmetic) (cs : List Columns) → shapes_in (matrices s cs) ≡ map shape_of cs
+shapes_are s cs = map-map (λ (m : Sparse). m.shape) (matrix_of s) cs

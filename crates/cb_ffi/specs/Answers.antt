@@ -1,20 +1,22 @@
 -- What a call answers.
-use Rattle.std.specs.Prelude.{◌≡◌, ◌≢◌, ℕ, ◌==◌, cond, List, Option, Some, Result, Ok, Err}
-use Rattle.cb_elementwise.specs.declared.rules.Test.{Test}
+use Rattle.std.specs.Prelude.{◌≡◌, ◌≢◌, ℕ, ◌==◌, cond, List, Option, Some, None, Result, Ok, Err}
 use Rattle.cb_elementwise.specs.declared.rules.Test.TheVariants.{Below, Above, Equal}
 use Rattle.cb_semirings.specs.Arithmetic.{Arithmetic}
 use Rattle.cb_semirings.specs.Tables.{min_plus, or_and}
 use Rattle.cb_matrix.specs.Sparse.{Sparse, IsMatrix}
+use Rattle.cb_operations.specs.declared.operations.Operation.{Operation}
+use Rattle.cb_operations.specs.declared.operations.Operation.TheVariants.{Prune}
+use Rattle.cb_operations.specs.Operations.{answer_of}
 use Rattle.cb_market.specs.declared.ReadFault.{ReadFault}
 use Rattle.cb_market.specs.Reads.{Reads}
 use Rattle.cb_market.specs.Text.{text_of}
 use Rattle.cb_searches.specs.Walks.{AreLevels, AreDistances}
 use Rattle.cb_ffi.specs.declared.lists.Columns.{Columns}
 use Rattle.cb_ffi.specs.declared.texts.Text.{Text as Bytes}
-use Rattle.cb_ffi.specs.Lists.{matrix_of, HasLists}
+use Rattle.cb_ffi.specs.Lists.{matrix_of, matrices, HasLists}
 use Rattle.cb_ffi.specs.declared.faults.Fault.{Fault}
 use Rattle.cb_ffi.specs.declared.faults.Fault.TheVariants.{Text, Memory}
-use Rattle.cb_ffi.specs.Refusals.{code_of}
+use Rattle.cb_ffi.specs.Refusals.{code_of, arithmetic_of, over, faults_of}
 
 -- no fault is there but want of memory, which may come at any time
 pub record NoFault (faults : Fault → Type 0) : Type 0 where
@@ -32,9 +34,19 @@ pub record IsCall {X : Type 0} (faults : Fault → Type 0) (is : X → Type 0) (
   pub fault : code ≢ 0 → (f : Fault) × (code ≡ code_of f) × faults f
   pub unchanged : code ≢ 0 → new ≡ old
 
--- the test of a number, 0 to 2, with its bound
-abbrev pub test_of : ℕ → ℕ → Test
-test_of n bound = cond (n == 0) (Below bound) (cond (n == 1) (Above bound) (Equal bound))
+-- to prune by the test of a number, 0 to 2, with its bound
+abbrev pub prune_of : ℕ → ℕ → Option Operation
+prune_of n bound = cond (n == 0) (Some (Prune (Below bound))) (cond (n == 1) (Some (Prune (Above bound))) (cond (n == 2) (Some (Prune (Equal bound))) None))
+
+-- the lists of what an operation makes of the matrices of these
+abbrev pub HasMade : Arithmetic → Option Operation → List Columns → Columns → Type 0
+HasMade s None cs c = ⊥
+HasMade s (Some operation) cs c = HasLists (answer_of operation s (matrices s cs)) c
+
+-- what C gets of an operation on matrices, over the semiring of a number and with a side of a grid, which changes no answer
+abbrev pub IsOperationCall : ℕ → ℕ → Option Operation → List Columns → ℕ → Columns → Columns → Type 0
+IsOperationCall semiring side operation cs code old new =
+    IsCall (over semiring (λ s. faults_of s side operation cs)) (HasMade (arithmetic_of semiring) operation cs) code old new
 
 -- the text of the matrix of a
 abbrev pub IsTextOf : Arithmetic → Columns → Bytes → Type 0

@@ -1,5 +1,5 @@
 -- A matrix in compressed columns, as C lends it and gets it.
-use Rattle.std.specs.Prelude.{◌≡◌, ℕ, ◌+◌, ◌<◌, ◌≤◌, ◌==◌, ◌⊎◌, not, cond, List, [], filter, length, slice_index, All, AllPairs}
+use Rattle.std.specs.Prelude.{◌≡◌, ℕ, ◌+◌, ◌<◌, ◌≤◌, ◌==◌, ◌⊎◌, not, cond, List, [], filter, map, length, slice_index, All, AllPairs}
 use Rattle.cb_semirings.specs.Arithmetic.{Arithmetic, IsValue}
 use Rattle.cb_matrix.specs.declared.Entry.{Entry}
 use Rattle.cb_matrix.specs.declared.TheConstants.{LIMIT}
@@ -44,6 +44,10 @@ nonzero s es = filter (λ e. not (e.value == s.zero)) es
 -- the matrix of the entries that are listed and aren't zero
 abbrev pub matrix_of : Arithmetic → Columns → Sparse
 matrix_of s c = record { shape = shape_of c; entries = nonzero s (listed c) }
+
+-- the matrix of each
+abbrev pub matrices : Arithmetic → List Columns → List Sparse
+matrices s cs = map (matrix_of s) cs
 
 -- columns are named, or all stored; and the starts have 32 bits or 64
 abbrev pub HasForm : Columns → Type 0

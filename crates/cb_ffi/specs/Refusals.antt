@@ -1,12 +1,14 @@
 -- Why a call has no answer. Faults are looked for in an order; the first is answered.
-use Rattle.std.specs.Prelude.{◌≡◌, ◌≢◌, ℕ, ◌<◌, ◌≤◌, ◌⊎◌, ◌==◌, cond, List, None}
+use Rattle.std.specs.Prelude.{◌≡◌, ◌≢◌, ℕ, ◌<◌, ◌≤◌, ◌⊎◌, ◌==◌, cond, List, [], ◌∷◌, map, Option, Some, None}
 use Rattle.cb_semirings.specs.Arithmetic.{Arithmetic}
 use Rattle.cb_semirings.specs.Tables.{plus_times, min_plus, or_and, max_min}
+use Rattle.cb_operations.specs.declared.operations.Operation.{Operation}
+use Rattle.cb_operations.specs.Operations.{Agree}
 use Rattle.cb_market.specs.Faults.{first_fault}
 use Rattle.cb_ffi.specs.declared.lists.Columns.{Columns}
 use Rattle.cb_ffi.specs.declared.faults.Fault.{Fault}
 use Rattle.cb_ffi.specs.declared.faults.Fault.TheVariants.{Semiring, Grid, Test, Form, TooLarge, Lengths, Order, Place, Value, Shapes, NotSquare, Source, Text, Memory}
-use Rattle.cb_ffi.specs.Lists.{HasForm, Fits, HaveLengths, AreOrdered, AreInside, AreValues}
+use Rattle.cb_ffi.specs.Lists.{shape_of, HasForm, Fits, HaveLengths, AreOrdered, AreInside, AreValues}
 
 -- the number of a fault
 abbrev pub code_of : Fault → ℕ
@@ -38,42 +40,28 @@ unfoldable pub matrix_faults : Arithmetic → Columns → (Fault → Type 0) →
 matrix_faults s c next =
     Unless (HasForm c) Form (Unless (Fits c) TooLarge (Unless (HaveLengths c) Lengths (Unless (AreOrdered c) Order (Unless (AreInside c) Place (Unless (AreValues s c) Value next)))))
 
+-- those of matrices, one after another
+unfoldable pub each_faults : Arithmetic → List Columns → (Fault → Type 0) → Fault → Type 0
+each_faults s [] next = next
+each_faults s (c ∷ cs) next = matrix_faults s c (each_faults s cs next)
+
 -- a grid has a side of 1 to 6
 abbrev pub IsSide : ℕ → Type 0
 IsSide side = (1 ≤ side) × (side ≤ 6)
 
--- those of a side and a matrix, or two matrices
-unfoldable pub one_faults : Arithmetic → ℕ → Columns → (Fault → Type 0) → Fault → Type 0
-one_faults s side a next = Unless (IsSide side) Grid (matrix_faults s a next)
-
-unfoldable pub two_faults : Arithmetic → ℕ → Columns → Columns → (Fault → Type 0) → Fault → Type 0
-two_faults s side a b next = one_faults s side a (matrix_faults s b next)
-
 -- ---- the faults of each call, over one semiring
-unfoldable pub transpose_faults : Arithmetic → ℕ → Columns → Fault → Type 0
-transpose_faults s side a = one_faults s side a IsMemory
+-- Those of an operation and its operands: there is no operation, where no test has the number of a prune; then those of
+-- each matrix in turn; then the shapes don't agree.
+unfoldable pub operand_faults : Arithmetic → Option Operation → List Columns → Fault → Type 0
+operand_faults s None cs = λ f. f ≡ Test
+operand_faults s (Some operation) cs = each_faults s cs (Unless (Agree operation (map shape_of cs)) Shapes IsMemory)
 
-unfoldable pub product_faults : Arithmetic → ℕ → Columns → Columns → Fault → Type 0
-product_faults s side a b = two_faults s side a b (Unless (a.ncols ≡ b.nrows) Shapes IsMemory)
-
--- the mask m has the shape of the product
-abbrev pub AreMasked : Columns → Columns → Columns → Type 0
-AreMasked a b m = (a.ncols ≡ b.nrows) × (m.nrows ≡ a.nrows) × (m.ncols ≡ b.ncols)
-
-unfoldable pub masked_faults : Arithmetic → ℕ → Columns → Columns → Columns → Fault → Type 0
-masked_faults s side a b m = two_faults s side a b (matrix_faults s m (Unless (AreMasked a b m) Shapes IsMemory))
-
-unfoldable pub vector_faults : Arithmetic → ℕ → Columns → Columns → Fault → Type 0
-vector_faults s side a x = two_faults s side a x (Unless ((a.ncols ≡ x.nrows) × (x.ncols ≡ 1)) Shapes IsMemory)
-
-unfoldable pub placewise_faults : Arithmetic → ℕ → Columns → Columns → Fault → Type 0
-placewise_faults s side a b = two_faults s side a b (Unless ((a.nrows ≡ b.nrows) × (a.ncols ≡ b.ncols)) Shapes IsMemory)
-
-unfoldable pub prune_faults : Arithmetic → ℕ → Columns → ℕ → Fault → Type 0
-prune_faults s side a test = Unless (IsSide side) Grid (Unless (test ≤ 2) Test (matrix_faults s a IsMemory))
+unfoldable pub faults_of : Arithmetic → ℕ → Option Operation → List Columns → Fault → Type 0
+faults_of s side operation cs = Unless (IsSide side) Grid (operand_faults s operation cs)
 
 unfoldable pub graph_faults : Arithmetic → ℕ → Columns → ℕ → Fault → Type 0
-graph_faults s side a source = one_faults s side a (Unless (a.nrows ≡ a.ncols) NotSquare (Unless (source < a.nrows) Source IsMemory))
+graph_faults s side a source =
+    Unless (IsSide side) Grid (matrix_faults s a (Unless (a.nrows ≡ a.ncols) NotSquare (Unless (source < a.nrows) Source IsMemory)))
 
 unfoldable pub text_faults : Arithmetic → Columns → Fault → Type 0
 text_faults s a = matrix_faults s a IsMemory

@@ -1,45 +1,31 @@
-//! The matrix of lists that are lent, over a grid.
+//! The matrix of lists that are lent, as a block.
 ghost use Rattle.std.specs.Prelude.{◌≡◌, ◌≢◌, ◌↔◌, IsTrue, ℕ, ◌<◌, ◌++◌, length, All, AllPairs, IfOk, OnOk};
 ghost use Rattle.cb_semirings.specs.Arithmetic.{IsValue};
 ghost use Rattle.cb_dcsc.specs.Compressed.{entries_in, pieces};
-ghost use Rattle.cb_ffi.specs.Lists.{matrix_of, listed_in, nonzero, AreLists};
+ghost use Rattle.cb_ffi.specs.Lists.{matrix_of, matrices, listed_in, nonzero, AreLists};
 
 use crate::lists::Columns;
 use cb_dcsc::Block;
-use cb_layout::{DistributedMatrix, Grid};
-use cb_matrix::{Entry, Matrix};
+use cb_matrix::Entry;
 use cb_semirings::Semiring;
 use std::alloc::{AllocError, Global};
 
-/// The matrix of well-formed lists, over a grid. Its entries are copied once, and once more where the grid has more
-/// than one rank.
-pub(crate) fn spread<S: Semiring>(
+/// The matrices of well-formed lists, a block each.
+pub(crate) fn blocks_of<S: Semiring>(
     alloc: Global,
-    grid: Grid,
-    lists: &Columns,
-) -> Result<DistributedMatrix<S>, AllocError>
-    requires { AreLists S.arithmetic lists.now }
-    ensures { IfOk result (λ m. m ≡ record { side = grid.side; matrix = matrix_of S.arithmetic lists.now }) }
+    operands: &[Columns],
+) -> Result<Vec<Block<S>>, AllocError>
+    requires { All (AreLists S.arithmetic) operands.now }
+    ensures { IfOk result (λ blocks. blocks.items ≡ matrices S.arithmetic operands.now) }
 {
-    let block = block_of::<S>(alloc, lists)?;
-    let shape = block.shape();
-    if grid.side() == 1 {
-        let blocks = vec![in alloc; block]?;
-        return Ok(DistributedMatrix::from_blocks(grid, shape, blocks));
+    let mut blocks = Vec::with_capacity(alloc, operands.len())?;
+    for columns in operands {
+        blocks.push(block_of::<S>(alloc, columns)?)?;
     }
-    let matrix = matrix_of_block(&block)?;
-    DistributedMatrix::scatter(alloc, grid, &matrix)
+    Ok(blocks)
 }
 
-/// The same matrix by its entries.
-pub(crate) fn matrix_of_block<S: Semiring>(block: &Block<S>) -> Result<Matrix<S>, AllocError>
-    ensures { IfOk result (λ m. m ≡ block.now) }
-{
-    let shape = block.shape();
-    Ok(Matrix::from_ordered(shape, block.entries()?))
-}
-
-/// The matrix of well-formed lists as one block.
+/// The matrix of well-formed lists as a block. Its entries are copied once.
 pub(crate) fn block_of<S: Semiring>(alloc: Global, lists: &Columns) -> Result<Block<S>, AllocError>
     requires { AreLists S.arithmetic lists.now }
     ensures { IfOk result (λ block. block ≡ matrix_of S.arithmetic lists.now) }

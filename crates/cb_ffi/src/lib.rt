@@ -8,17 +8,18 @@
 //! caller gives back by `free`.
 //!
 //! The semirings have the numbers 0 (plus-times), 1 (min-plus), 2 (or-and) and 3 (max-min).
+//!
+//! `grid` is the side of a grid of ranks, 1 to 6. It is looked at, and changes nothing else: each call works on whole blocks
+//! on the caller's thread.
 #![tactic(auto)]
 
-ghost use Rattle.std.specs.Prelude.{◌≡◌, ◌≢◌, IfOk, IfErr};
+ghost use Rattle.std.specs.Prelude.{◌≡◌, ◌≢◌, [], ◌∷◌, length, Some, IfSome, IfOk, IfErr};
 ghost use Rattle.cb_semirings.specs.Tables.{min_plus, or_and};
-ghost use Rattle.cb_matrix.specs.Values.{product};
-ghost use Rattle.cb_matrix.specs.Operations.{masked, transposed, sum_of, times_of, pruned};
-ghost use Rattle.cb_elementwise.specs.Passing.{passes};
+ghost use Rattle.cb_operations.specs.declared.operations.Operation.TheVariants as operation_is;
+ghost use Rattle.cb_operations.specs.Operations.{operand_count_of};
 ghost use Rattle.cb_market.specs.Faults.{first_fault};
-ghost use Rattle.cb_ffi.specs.Lists.{matrix_of, HasLists};
-ghost use Rattle.cb_ffi.specs.Refusals.{arithmetic_of, code_of, over, product_faults, masked_faults, vector_faults, transpose_faults, placewise_faults, prune_faults, graph_faults, read_faults, text_faults};
-ghost use Rattle.cb_ffi.specs.Answers.{HasDistances, HasLevels, IsCall, IsLine, IsRead, IsTextOf, test_of};
+ghost use Rattle.cb_ffi.specs.Refusals.{arithmetic_of, code_of, over, graph_faults, read_faults, text_faults};
+ghost use Rattle.cb_ffi.specs.Answers.{prune_of, HasDistances, HasLevels, IsCall, IsLine, IsOperationCall, IsRead, IsTextOf};
 
 mod checks;
 mod faults;
@@ -31,9 +32,10 @@ mod tests;
 mod texts;
 mod walks;
 
+use cb_operations::Operation;
 pub use faults::Fault;
 pub use lists::Columns;
-use requests::{Request, answer};
+use requests::{answer, prune_of};
 use std::alloc::Global;
 pub use texts::Text;
 
@@ -51,7 +53,22 @@ fn put<T: Copy>(out: &mut T, answer: Result<T, Fault>) -> u32
     }
 }
 
-/// The product of two matrices, over the semiring of a number and a grid of a side.
+/// Puts what an operation makes of matrices, or answers the number of the fault.
+fn call(
+    alloc: Global,
+    semiring: u32,
+    grid: u32,
+    operation: Option<Operation>,
+    operands: &[Columns],
+    out: &mut Columns,
+) -> u32
+    requires { IfSome operation (λ o. length operands.now ≡ operand_count_of o) }
+    ensures { IsOperationCall semiring grid operation operands.now result out.old out.new }
+{
+    put(out, answer(alloc, semiring, grid, operation, operands))
+}
+
+/// The product of two matrices, over the semiring of a number.
 #[unsafe(no_mangle)]
 pub extern "C" fn cbgrid_kernel_multiply(
     alloc: Global,
@@ -61,12 +78,19 @@ pub extern "C" fn cbgrid_kernel_multiply(
     b: &Columns,
     out: &mut Columns,
 ) -> u32
-    ensures { IsCall (over semiring (λ s. product_faults s grid a.now b.now)) (HasLists (product (arithmetic_of semiring) (matrix_of (arithmetic_of semiring) a.now) (matrix_of (arithmetic_of semiring) b.now))) result out.old out.new }
+    ensures { IsOperationCall semiring grid (Some operation_is.Multiply) (a.now ∷ b.now ∷ []) result out.old out.new }
 {
-    put(out, answer(alloc, semiring, grid, Request::Multiply(a, b)))
+    call(
+        alloc,
+        semiring,
+        grid,
+        Some(Operation::Multiply),
+        &[*a, *b],
+        out,
+    )
 }
 
-/// The product of two matrices, kept where a mask has entries, over the semiring of a number and a grid of a side.
+/// The product of two matrices, kept where a mask has entries, over the semiring of a number.
 #[unsafe(no_mangle)]
 pub extern "C" fn cbgrid_kernel_multiply_masked(
     alloc: Global,
@@ -77,13 +101,19 @@ pub extern "C" fn cbgrid_kernel_multiply_masked(
     mask: &Columns,
     out: &mut Columns,
 ) -> u32
-    ensures { IsCall (over semiring (λ s. masked_faults s grid a.now b.now mask.now)) (HasLists (masked (arithmetic_of semiring) (product (arithmetic_of semiring) (matrix_of (arithmetic_of semiring) a.now) (matrix_of (arithmetic_of semiring) b.now)) (matrix_of (arithmetic_of semiring) mask.now))) result out.old out.new }
+    ensures { IsOperationCall semiring grid (Some operation_is.MultiplyMasked) (a.now ∷ b.now ∷ mask.now ∷ []) result out.old out.new }
 {
-    let request = Request::MultiplyMasked(a, b, mask);
-    put(out, answer(alloc, semiring, grid, request))
+    call(
+        alloc,
+        semiring,
+        grid,
+        Some(Operation::MultiplyMasked),
+        &[*a, *b, *mask],
+        out,
+    )
 }
 
-/// The product of a matrix by a vector, which has one column, over the semiring of a number and a grid of a side.
+/// The product of a matrix by a vector, which has one column, over the semiring of a number.
 #[unsafe(no_mangle)]
 pub extern "C" fn cbgrid_kernel_vector(
     alloc: Global,
@@ -93,12 +123,19 @@ pub extern "C" fn cbgrid_kernel_vector(
     x: &Columns,
     out: &mut Columns,
 ) -> u32
-    ensures { IsCall (over semiring (λ s. vector_faults s grid a.now x.now)) (HasLists (product (arithmetic_of semiring) (matrix_of (arithmetic_of semiring) a.now) (matrix_of (arithmetic_of semiring) x.now))) result out.old out.new }
+    ensures { IsOperationCall semiring grid (Some operation_is.MultiplyVector) (a.now ∷ x.now ∷ []) result out.old out.new }
 {
-    put(out, answer(alloc, semiring, grid, Request::Vector(a, x)))
+    call(
+        alloc,
+        semiring,
+        grid,
+        Some(Operation::MultiplyVector),
+        &[*a, *x],
+        out,
+    )
 }
 
-/// The transpose of a matrix, over the semiring of a number and a grid of a side.
+/// The transpose of a matrix, over the semiring of a number.
 #[unsafe(no_mangle)]
 pub extern "C" fn cbgrid_kernel_transpose(
     alloc: Global,
@@ -107,12 +144,19 @@ pub extern "C" fn cbgrid_kernel_transpose(
     a: &Columns,
     out: &mut Columns,
 ) -> u32
-    ensures { IsCall (over semiring (λ s. transpose_faults s grid a.now)) (HasLists (transposed (arithmetic_of semiring) (matrix_of (arithmetic_of semiring) a.now))) result out.old out.new }
+    ensures { IsOperationCall semiring grid (Some operation_is.Transpose) (a.now ∷ []) result out.old out.new }
 {
-    put(out, answer(alloc, semiring, grid, Request::Transpose(a)))
+    call(
+        alloc,
+        semiring,
+        grid,
+        Some(Operation::Transpose),
+        &[*a],
+        out,
+    )
 }
 
-/// The sum at each place of two matrices of one shape, over the semiring of a number and a grid of a side.
+/// The sum at each place of two matrices of one shape, over the semiring of a number.
 #[unsafe(no_mangle)]
 pub extern "C" fn cbgrid_kernel_add(
     alloc: Global,
@@ -122,12 +166,12 @@ pub extern "C" fn cbgrid_kernel_add(
     b: &Columns,
     out: &mut Columns,
 ) -> u32
-    ensures { IsCall (over semiring (λ s. placewise_faults s grid a.now b.now)) (HasLists (sum_of (arithmetic_of semiring) (matrix_of (arithmetic_of semiring) a.now) (matrix_of (arithmetic_of semiring) b.now))) result out.old out.new }
+    ensures { IsOperationCall semiring grid (Some operation_is.Add) (a.now ∷ b.now ∷ []) result out.old out.new }
 {
-    put(out, answer(alloc, semiring, grid, Request::Add(a, b)))
+    call(alloc, semiring, grid, Some(Operation::Add), &[*a, *b], out)
 }
 
-/// The product at each place of two matrices of one shape, over the semiring of a number and a grid of a side.
+/// The product at each place of two matrices of one shape, over the semiring of a number.
 #[unsafe(no_mangle)]
 pub extern "C" fn cbgrid_kernel_times(
     alloc: Global,
@@ -137,12 +181,19 @@ pub extern "C" fn cbgrid_kernel_times(
     b: &Columns,
     out: &mut Columns,
 ) -> u32
-    ensures { IsCall (over semiring (λ s. placewise_faults s grid a.now b.now)) (HasLists (times_of (arithmetic_of semiring) (matrix_of (arithmetic_of semiring) a.now) (matrix_of (arithmetic_of semiring) b.now))) result out.old out.new }
+    ensures { IsOperationCall semiring grid (Some operation_is.Times) (a.now ∷ b.now ∷ []) result out.old out.new }
 {
-    put(out, answer(alloc, semiring, grid, Request::Times(a, b)))
+    call(
+        alloc,
+        semiring,
+        grid,
+        Some(Operation::Times),
+        &[*a, *b],
+        out,
+    )
 }
 
-/// A matrix without the entries whose value passes a test, over the semiring of a number and a grid of a side.
+/// A matrix without the entries whose value passes a test, over the semiring of a number.
 #[unsafe(no_mangle)]
 pub extern "C" fn cbgrid_kernel_prune(
     alloc: Global,
@@ -153,15 +204,14 @@ pub extern "C" fn cbgrid_kernel_prune(
     bound: u64,
     out: &mut Columns,
 ) -> u32
-    ensures { IsCall (over semiring (λ s. prune_faults s grid a.now test)) (HasLists (pruned (arithmetic_of semiring) (passes (test_of test bound)) (matrix_of (arithmetic_of semiring) a.now))) result out.old out.new }
+    ensures { IsOperationCall semiring grid (prune_of test bound) (a.now ∷ []) result out.old out.new }
 {
-    let request = Request::Prune { a, test, bound };
-    put(out, answer(alloc, semiring, grid, request))
+    call(alloc, semiring, grid, prune_of(test, bound), &[*a], out)
 }
 
 /// The level of each vertex of a graph from a source: how many entries a walk has at least, where an entry (i, j) of the
 /// square matrix, over or-and, is an edge from i to j. The answer is one column over min-plus, with an entry for each
-/// vertex that has a walk; the source has level 0. The work is done over a grid of a side.
+/// vertex that has a walk; the source has level 0.
 #[unsafe(no_mangle)]
 pub extern "C" fn cbgrid_kernel_levels(
     alloc: Global,

@@ -6,27 +6,9 @@ ghost use Rattle.cb_ffi.specs.Lists.{HasLists};
 
 use crate::lists::Columns;
 use cb_dcsc::Block;
-use cb_layout::DistributedMatrix;
 use cb_matrix::Matrix;
 use cb_semirings::Semiring;
 use std::alloc::{AllocError, Global};
-
-/// The lists of a matrix over a grid, given away: those of its block, or, where the grid has more than one rank, of
-/// its entries, which are copied twice.
-pub(crate) fn lists_of<S: Semiring>(
-    alloc: Global,
-    matrix: DistributedMatrix<S>,
-) -> Result<Columns, AllocError>
-    ensures { IfOk result (HasLists matrix.matrix) }
-{
-    let _shape = matrix.shape();
-    if matrix.grid().side() == 1 {
-        let mut blocks = matrix.into_blocks();
-        return block_lists(alloc, blocks.remove(0));
-    }
-    let whole = matrix.gather(alloc)?;
-    matrix_lists(alloc, &whole)
-}
 
 /// The lists of a matrix by its entries.
 pub(crate) fn matrix_lists<S: Semiring>(

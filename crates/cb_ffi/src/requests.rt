@@ -1,108 +1,85 @@
 //! Operations on matrices that are lent, whose answer is a matrix.
-ghost use Rattle.std.specs.Prelude.{◌≡◌, IfOk, IfErr};
-ghost use Rattle.cb_ffi.specs.Lists.{HasLists};
-ghost use Rattle.cb_ffi.specs.Refusals.{arithmetic_of, over};
-ghost use Rattle.cb_ffi.specs.Answers.{IsAnswer, NoFault};
-ghost use Rattle.cb_ffi.specs.Requests.{asked, faults_of, IsSound};
+//!
+//! A list of columns becomes a block, the kernel makes a block of such blocks, and its lists are given away.
+ghost use Rattle.std.specs.Prelude.{◌≡◌, ◌≤◌, length, map, All, IfSome, IfOk, IfErr};
+ghost use Rattle.cb_operations.specs.Operations.{operand_count_of, Agree, answer_of};
+ghost use Rattle.cb_ffi.specs.Lists.{shape_of, matrices, AreLists};
+ghost use Rattle.cb_ffi.specs.Refusals.{arithmetic_of, over, faults_of};
+ghost use Rattle.cb_ffi.specs.Answers.{prune_of, HasMade, IsAnswer, NoFault};
 
-use crate::checks::{check, test_of};
+use crate::checks::check;
 use crate::faults::Fault;
-use crate::incoming::spread;
+use crate::incoming::blocks_of;
 use crate::lists::Columns;
-use crate::outgoing::lists_of;
-use cb_layout::{DistributedMatrix, Grid};
-use cb_scripts::{ScriptFault, plain};
+use crate::outgoing::block_lists;
+use cb_dcsc::Block;
+use cb_elementwise::Test;
+use cb_operations::Operation;
 use cb_semirings::{MaxMin, MinPlus, OrAnd, PlusTimes, Semiring};
-use std::alloc::Global;
+use std::alloc::{AllocError, Global};
 
-/// An operation, with the matrices that it is of.
-#[derive(Clone, Copy)]
-pub(crate) enum Request<'a> {
-    /// The product of two matrices.
-    Multiply(&'a Columns, &'a Columns),
-    /// The product of the first two matrices, kept where the third has entries.
-    MultiplyMasked(&'a Columns, &'a Columns, &'a Columns),
-    /// The product of a matrix by a vector, which has one column.
-    Vector(&'a Columns, &'a Columns),
-    /// The transpose of a matrix.
-    Transpose(&'a Columns),
-    /// The sum at each place of two matrices of one shape.
-    Add(&'a Columns, &'a Columns),
-    /// The product at each place of two matrices of one shape.
-    Times(&'a Columns, &'a Columns),
-    /// A matrix without the entries whose value passes the test of a number, with its bound.
-    Prune {
-        a: &'a Columns,
-        test: u32,
-        bound: u64,
-    },
-}
-
-/// The matrix that is asked for, over a grid, where all that is lent is well formed and fits.
-fn compute<S: Semiring>(
-    alloc: Global,
-    grid: Grid,
-    request: Request,
-) -> Result<DistributedMatrix<S>, ScriptFault>
-    requires { IsSound S.arithmetic request }
-    ensures { IfOk result (λ m. m.matrix ≡ asked S.arithmetic request.entry) }
+/// To prune by the test of a number, 0 to 2, with its bound. No other number has a test.
+pub(crate) fn prune_of(test: u32, bound: u64) -> Option<Operation>
+    ensures operation { result ≡ prune_of test bound }
+    ensures count { IfSome result (λ o. 1 ≡ operand_count_of o) }
 {
-    match request {
-        Request::Multiply(a, b) => {
-            let left = spread(alloc, grid, a)?;
-            plain::multiply_distributed(alloc, left, spread(alloc, grid, b)?)
-        }
-        Request::MultiplyMasked(a, b, mask) => {
-            let left = spread(alloc, grid, a)?;
-            let right = spread(alloc, grid, b)?;
-            plain::multiply_masked_distributed(alloc, left, right, spread(alloc, grid, mask)?)
-        }
-        Request::Vector(a, x) => {
-            let left = spread(alloc, grid, a)?;
-            plain::multiply_distributed(alloc, left, spread(alloc, grid, x)?)
-        }
-        Request::Transpose(a) => plain::transpose_distributed(alloc, spread(alloc, grid, a)?),
-        Request::Add(a, b) => {
-            let left = spread(alloc, grid, a)?;
-            plain::add_distributed(alloc, left, spread(alloc, grid, b)?)
-        }
-        Request::Times(a, b) => {
-            let left = spread(alloc, grid, a)?;
-            plain::times_distributed(alloc, left, spread(alloc, grid, b)?)
-        }
-        Request::Prune { a, test, bound } => {
-            plain::prune_distributed(alloc, spread(alloc, grid, a)?, test_of(test, bound))
-        }
+    match test {
+        0 => Some(Operation::Prune(Test::Below(bound))),
+        1 => Some(Operation::Prune(Test::Above(bound))),
+        2 => Some(Operation::Prune(Test::Equal(bound))),
+        _ => None,
     }
 }
 
-/// The lists of the matrix that is asked for, over a semiring and a grid of a side.
-fn answer_over<S: Semiring>(alloc: Global, side: u32, request: Request) -> Result<Columns, Fault>
-    ensures ok { IfOk result (HasLists (asked S.arithmetic request.entry)) }
-    ensures none { IfOk result (λ _. NoFault (faults_of S.arithmetic side request.entry)) }
-    ensures fault { IfErr result (faults_of S.arithmetic side request.entry) }
+/// What an operation makes of matrices that are lent, which are well formed and whose shapes agree.
+fn compute<S: Semiring>(
+    alloc: Global,
+    operation: Operation,
+    operands: &[Columns],
+) -> Result<Block<S>, AllocError>
+    requires count { length operands.now ≡ operand_count_of operation }
+    requires lists { All (AreLists S.arithmetic) operands.now }
+    requires agree { Agree operation (map shape_of operands.now) }
+    ensures { IfOk result (λ block. block ≡ answer_of operation S.arithmetic (matrices S.arithmetic operands.now)) }
 {
-    let grid = check::<S>(side, request)?;
-    let Ok(matrix) = compute::<S>(alloc, grid, request) else {
-        return Err(Fault::Memory);
-    };
-    Ok(lists_of(alloc, matrix)?)
+    let blocks = blocks_of::<S>(alloc, operands)?;
+    cb_serial::compute(alloc, operation, &blocks)
 }
 
-/// The lists of the matrix that is asked for, over the semiring of a number and a grid of a side.
+/// The lists of what an operation makes of matrices, over a semiring.
+fn answer_over<S: Semiring>(
+    alloc: Global,
+    side: u32,
+    operation: Option<Operation>,
+    operands: &[Columns],
+) -> Result<Columns, Fault>
+    requires count { IfSome operation (λ o. length operands.now ≡ operand_count_of o) }
+    ensures ok { IfOk result (HasMade S.arithmetic operation operands.now) }
+    ensures none { IfOk result (λ _. NoFault (faults_of S.arithmetic side operation operands.now)) }
+    ensures fault { IfErr result (faults_of S.arithmetic side operation operands.now) }
+{
+    let known = check::<S>(side, operation, operands)?;
+    let block = compute::<S>(alloc, known, operands)?;
+    Ok(block_lists(alloc, block)?)
+}
+
+/// The lists of what an operation makes of matrices, over the semiring of a number. There is no operation where no test has
+/// the number of a prune. The side of a grid is looked at, and changes no answer.
 pub(crate) fn answer(
     alloc: Global,
     semiring: u32,
     side: u32,
-    request: Request,
+    operation: Option<Operation>,
+    operands: &[Columns],
 ) -> Result<Columns, Fault>
-    ensures { IsAnswer (over semiring (λ s. faults_of s side request.entry)) (HasLists (asked (arithmetic_of semiring) request.entry)) result }
+    requires count { IfSome operation (λ o. length operands.now ≡ operand_count_of o) }
+    ensures { IsAnswer (over semiring (λ s. faults_of s side operation operands.now)) (HasMade (arithmetic_of semiring) operation operands.now) result }
 {
     match semiring {
-        0 => answer_over::<PlusTimes>(alloc, side, request),
-        1 => answer_over::<MinPlus>(alloc, side, request),
-        2 => answer_over::<OrAnd>(alloc, side, request),
-        3 => answer_over::<MaxMin>(alloc, side, request),
+        0 => answer_over::<PlusTimes>(alloc, side, operation, operands),
+        1 => answer_over::<MinPlus>(alloc, side, operation, operands),
+        2 => answer_over::<OrAnd>(alloc, side, operation, operands),
+        3 => answer_over::<MaxMin>(alloc, side, operation, operands),
         _ => Err(Fault::Semiring),
     }
 }

@@ -71,9 +71,8 @@ fn are_same(lists: &Columns, wanted: &Columns) -> bool {
 
 /// Whether a matrix turns into these lists, over the semiring of a number.
 fn turns_into(alloc: Global, semiring: u32, lists: &Columns, wanted: &Columns) -> bool {
-    let mut turned = NONE;
-    cbgrid_kernel_transpose(alloc, semiring, 1, lists, &mut turned) == 0
-        && are_same(&turned, wanted)
+    let mut out = NONE;
+    cbgrid_kernel_transpose(alloc, semiring, 1, lists, &mut out) == 0 && are_same(&out, wanted)
 }
 
 #[test]
@@ -98,10 +97,10 @@ fn infinity_is_not_stored_in_min_plus(rt: HostRuntime) {
     assert!(rt; turns_into(rt.alloc(), 1, &lists, &wanted));
 }
 
-/// Whether two matrices have this product, over a grid of a side.
+/// Whether two matrices have this product, with a side of a grid.
 fn have_product(alloc: Global, grid: u32, a: &Columns, b: &Columns, wanted: &Columns) -> bool {
-    let mut product = NONE;
-    cbgrid_kernel_multiply(alloc, 0, grid, a, b, &mut product) == 0 && are_same(&product, wanted)
+    let mut out = NONE;
+    cbgrid_kernel_multiply(alloc, 0, grid, a, b, &mut out) == 0 && are_same(&out, wanted)
 }
 
 #[test]
@@ -138,88 +137,34 @@ fn a_shape_costs_nothing(rt: HostRuntime) {
     assert!(rt; have_product(rt.alloc(), 1, &lists, &lists, &wanted));
 }
 
-/// Lists that are no matrix, and the code that each is refused by: of no form, of no size, of lengths that disagree, out
-/// of order, and outside the shape.
-const REFUSED: [(Columns, u32); 13] = [
-    (Columns { kind: 2, ..NAMED }, 4),
-    (Columns { wide: 2, ..NAMED }, 4),
-    (
-        Columns {
-            nrows: 2_147_483_648,
-            ..NAMED
-        },
-        5,
-    ),
-    (
-        Columns {
-            ncols: 2_147_483_648,
-            ..NAMED
-        },
-        5,
-    ),
-    (
-        Columns {
-            starts64: &[0, 2],
-            ..NAMED
-        },
-        6,
-    ),
-    (
-        Columns {
-            starts64: &[1, 2, 3],
-            ..NAMED
-        },
-        6,
-    ),
-    (
-        Columns {
-            starts64: &[0, 2, 2],
-            ..NAMED
-        },
-        6,
-    ),
-    (
-        Columns {
-            values: &[1, 2],
-            ..NAMED
-        },
-        6,
-    ),
-    (
-        Columns {
-            starts64: &[0, 4, 3],
-            ..NAMED
-        },
-        7,
-    ),
-    (
-        Columns {
-            columns: &[2, 0],
-            ..NAMED
-        },
-        7,
-    ),
-    (
-        Columns {
-            rows: &[1, 1, 1],
-            ..NAMED
-        },
-        7,
-    ),
-    (
-        Columns {
-            columns: &[0, 3],
-            ..NAMED
-        },
-        8,
-    ),
-    (
-        Columns {
-            rows: &[0, 2, 1],
-            ..NAMED
-        },
-        8,
-    ),
+/// Rows, columns, kinds and widths that no matrix has, and the code that each is refused by.
+const REFUSED_HEADS: [(u32, u32, u32, u32, u32); 4] = [
+    (2, 3, 2, 1, 4),
+    (2, 3, 0, 2, 4),
+    (2_147_483_648, 3, 0, 1, 5),
+    (2, 2_147_483_648, 0, 1, 5),
+];
+
+/// Columns, starts, rows and values that are no matrix of 2 by 3, and the code that each is refused by: of lengths that
+/// disagree, out of order, and outside the shape.
+type RefusedLists = (
+    &'static [u32],
+    &'static [u64],
+    &'static [u32],
+    &'static [u64],
+    u32,
+);
+
+const REFUSED_LISTS: [RefusedLists; 9] = [
+    (&[0, 2], &[0, 2], &[0, 1, 1], &[1, 2, 3], 6),
+    (&[0, 2], &[1, 2, 3], &[0, 1, 1], &[1, 2, 3], 6),
+    (&[0, 2], &[0, 2, 2], &[0, 1, 1], &[1, 2, 3], 6),
+    (&[0, 2], &[0, 2, 3], &[0, 1, 1], &[1, 2], 6),
+    (&[0, 2], &[0, 4, 3], &[0, 1, 1], &[1, 2, 3], 7),
+    (&[2, 0], &[0, 2, 3], &[0, 1, 1], &[1, 2, 3], 7),
+    (&[0, 2], &[0, 2, 3], &[1, 1, 1], &[1, 2, 3], 7),
+    (&[0, 3], &[0, 2, 3], &[0, 1, 1], &[1, 2, 3], 8),
+    (&[0, 2], &[0, 2, 3], &[0, 2, 1], &[1, 2, 3], 8),
 ];
 
 /// Whether lists are refused by a code, and the answer is as it was.
@@ -229,57 +174,123 @@ fn is_refused(alloc: Global, lists: &Columns, code: u32) -> bool {
 }
 
 #[test]
-fn each_fault_of_lists_has_its_code(rt: HostRuntime) {
-    for (lists, code) in &REFUSED {
-        assert!(rt; is_refused(rt.alloc(), lists, *code), "{code}");
+fn each_fault_of_a_head_has_its_code(rt: HostRuntime) {
+    for (nrows, ncols, kind, wide, code) in REFUSED_HEADS {
+        let lists = Columns {
+            nrows,
+            ncols,
+            kind,
+            wide,
+            ..NAMED
+        };
+        assert!(rt; is_refused(rt.alloc(), &lists, code), "{code}");
     }
 }
 
-/// The codes of a value, a semiring, sides of a grid, a test, and shapes that don't agree.
-fn other_codes(alloc: Global) -> [u32; 8] {
+#[test]
+fn each_fault_of_lists_has_its_code(rt: HostRuntime) {
+    for (columns, starts64, rows, values, code) in REFUSED_LISTS {
+        let lists = Columns {
+            columns,
+            starts64,
+            rows,
+            values,
+            ..NAMED
+        };
+        assert!(rt; is_refused(rt.alloc(), &lists, code), "{code}");
+    }
+}
+
+/// The numbers of a semiring, a side and a test, and the code by which a prune of lists of no form is refused: the first
+/// fault is answered.
+const REFUSED_NUMBERS: [(u32, u32, u32, u32); 5] = [
+    (4, 0, 3, 1),
+    (0, 0, 3, 2),
+    (0, 7, 3, 2),
+    (0, 6, 3, 3),
+    (0, 1, 2, 4),
+];
+
+/// The code of a prune of lists of no form.
+fn prune_code(alloc: Global, semiring: u32, grid: u32, test: u32) -> u32 {
+    let lists = Columns { kind: 2, ..NAMED };
+    let mut out = NONE;
+    cbgrid_kernel_prune(alloc, semiring, grid, &lists, test, 1, &mut out)
+}
+
+#[test]
+fn numbers_are_looked_at_before_lists(rt: HostRuntime) {
+    for (semiring, grid, test, code) in REFUSED_NUMBERS {
+        assert!(rt;
+            prune_code(rt.alloc(), semiring, grid, test) == code,
+            "{code}"
+        );
+    }
+}
+
+/// The codes of a value that isn't one of or-and, of shapes that don't agree, and of the second matrix where they don't.
+fn other_codes(alloc: Global) -> [u32; 5] {
+    let formless = Columns { kind: 2, ..NONE };
     let mut out = NAMED;
     [
         cbgrid_kernel_transpose(alloc, 2, 1, &NAMED, &mut out),
-        cbgrid_kernel_transpose(alloc, 4, 0, &NAMED, &mut out),
-        cbgrid_kernel_transpose(alloc, 0, 0, &NAMED, &mut out),
-        cbgrid_kernel_transpose(alloc, 0, 7, &NAMED, &mut out),
-        cbgrid_kernel_prune(alloc, 0, 1, &NAMED, 3, 1, &mut out),
         cbgrid_kernel_multiply(alloc, 0, 1, &NAMED, &NAMED, &mut out),
-        cbgrid_kernel_vector(alloc, 0, 1, &NAMED, &NAMED, &mut out),
+        cbgrid_kernel_vector(alloc, 0, 1, &NAMED, &TURNED, &mut out),
         cbgrid_kernel_add(alloc, 0, 1, &NAMED, &NONE, &mut out),
+        cbgrid_kernel_times(alloc, 0, 1, &NAMED, &formless, &mut out),
     ]
 }
 
 #[test]
-fn numbers_values_and_shapes_have_their_codes(rt: HostRuntime) {
-    assert!(rt; other_codes(rt.alloc()) == [9, 1, 2, 2, 3, 10, 10, 10]);
+fn values_and_shapes_have_their_codes(rt: HostRuntime) {
+    assert!(rt; other_codes(rt.alloc()) == [9, 10, 10, 10, 4]);
 }
 
-/// Whether an answer came, with these values.
-fn has_values(code: u32, out: &Columns, values: &[u64]) -> bool {
-    code == 0 && out.values == values
+/// Whether the sum of the two kinds of a matrix, and their product place by place, have these values.
+fn are_placewise(alloc: Global, sum: &[u64], product: &[u64]) -> bool {
+    let mut out = NONE;
+    cbgrid_kernel_add(alloc, 0, 2, &NAMED, &ALL, &mut out) == 0
+        && out.values == sum
+        && cbgrid_kernel_times(alloc, 0, 2, &NAMED, &ALL, &mut out) == 0
+        && out.values == product
 }
 
 #[test]
 fn place_by_place(rt: HostRuntime) {
-    let alloc = rt.alloc();
+    assert!(rt; are_placewise(rt.alloc(), &[2, 4, 6], &[1, 4, 9]));
+}
+
+/// Whether a matrix without the values that pass the test of a number has these.
+fn leaves(alloc: Global, test: u32, values: &[u64]) -> bool {
     let mut out = NONE;
-    let code = cbgrid_kernel_add(alloc, 0, 2, &NAMED, &ALL, &mut out);
-    assert!(rt; has_values(code, &out, &[2, 4, 6]));
-    let code = cbgrid_kernel_times(alloc, 0, 2, &NAMED, &ALL, &mut out);
-    assert!(rt; has_values(code, &out, &[1, 4, 9]));
-    let code = cbgrid_kernel_prune(alloc, 0, 2, &NAMED, 0, 2, &mut out);
-    assert!(rt; has_values(code, &out, &[2, 3]));
+    cbgrid_kernel_prune(alloc, 0, 2, &NAMED, test, 2, &mut out) == 0 && out.values == values
+}
+
+#[test]
+fn each_test_has_its_number(rt: HostRuntime) {
+    assert!(rt; leaves(rt.alloc(), 0, &[2, 3]));
+    assert!(rt; leaves(rt.alloc(), 1, &[1, 2]));
+    assert!(rt; leaves(rt.alloc(), 2, &[1, 3]));
+}
+
+/// Whether a product under a mask has one value, in the first column.
+fn is_masked(alloc: Global, mask: &Columns, value: u64) -> bool {
+    let mut out = NONE;
+    cbgrid_kernel_multiply_masked(alloc, 0, 2, &TURNED, &NAMED, mask, &mut out) == 0
+        && out.values == [value].as_slice()
+        && out.columns == [0].as_slice()
+}
+
+/// Whether a product by a vector has these values.
+fn is_vector_product(alloc: Global, vector: &Columns, values: &[u64]) -> bool {
+    let mut out = NONE;
+    cbgrid_kernel_vector(alloc, 0, 2, &NAMED, vector, &mut out) == 0 && out.values == values
 }
 
 #[test]
 fn products_under_a_mask_and_by_a_vector(rt: HostRuntime) {
-    let alloc = rt.alloc();
-    let mut out = NONE;
     let mask = Columns { nrows: 3, ..NAMED };
-    let code = cbgrid_kernel_multiply_masked(alloc, 0, 2, &TURNED, &NAMED, &mask, &mut out);
-    assert!(rt; has_values(code, &out, &[5]));
-    assert!(rt; out.columns == [0].as_slice());
+    assert!(rt; is_masked(rt.alloc(), &mask, 5));
     let vector = Columns {
         nrows: 3,
         ncols: 1,
@@ -289,8 +300,7 @@ fn products_under_a_mask_and_by_a_vector(rt: HostRuntime) {
         values: &[1, 1],
         ..NONE
     };
-    let code = cbgrid_kernel_vector(alloc, 0, 2, &NAMED, &vector, &mut out);
-    assert!(rt; has_values(code, &out, &[1, 5]));
+    assert!(rt; is_vector_product(rt.alloc(), &vector, &[1, 5]));
 }
 
 /// Edges from 0 to 1 of length 7, from 0 to 2 of length 2, and from 2 to 1 of length 4. None leads to 3 or from there.
@@ -319,6 +329,12 @@ const NUMBERS: Columns = Columns {
     ..NONE
 };
 
+/// Whether these are the distances from the first vertex, with a side of a grid.
+fn are_distances(alloc: Global, grid: u32, wanted: &Columns) -> bool {
+    let mut out = NONE;
+    cbgrid_kernel_distances(alloc, grid, &GRAPH, 0, &mut out) == 0 && are_same(&out, wanted)
+}
+
 #[test]
 fn distances_in_a_graph(rt: HostRuntime) {
     let wanted = Columns {
@@ -326,13 +342,11 @@ fn distances_in_a_graph(rt: HostRuntime) {
         ..NUMBERS
     };
     for grid in 1..7 {
-        let mut out = NONE;
-        let code = cbgrid_kernel_distances(rt.alloc(), grid, &GRAPH, 0, &mut out);
-        assert!(rt; code == 0 && are_same(&out, &wanted), "{grid}");
+        assert!(rt; are_distances(rt.alloc(), grid, &wanted), "{grid}");
     }
 }
 
-/// Whether these are the levels from a source, over a grid of a side.
+/// Whether these are the levels from a source, with a side of a grid.
 fn are_levels(alloc: Global, grid: u32, source: u32, wanted: &Columns) -> bool {
     let mut out = NONE;
     cbgrid_kernel_levels(alloc, grid, &ROADS, source, &mut out) == 0 && are_same(&out, wanted)
@@ -356,14 +370,15 @@ fn levels_in_a_graph(rt: HostRuntime) {
     }
 }
 
-/// The side of a grid, a graph and a source, and the code that it is refused by: lists of no form, a matrix that isn't
-/// square, and a source that is no vertex.
-const REFUSED_GRAPHS: [(u32, Columns, u32, u32); 5] = [
-    (0, Columns { kind: 2, ..GRAPH }, 0, 2),
-    (7, Columns { kind: 2, ..GRAPH }, 0, 2),
-    (1, Columns { kind: 2, ..GRAPH }, 9, 4),
-    (2, Columns { nrows: 5, ..ROADS }, 9, 11),
-    (3, ROADS, 4, 12),
+/// The side of a grid, a graph and a source, and the codes that its levels and its distances are refused by: lists of no
+/// form, a value that isn't one of or-and, a matrix that isn't square, and a source that is no vertex.
+const REFUSED_GRAPHS: [(u32, Columns, u32, [u32; 2]); 6] = [
+    (0, Columns { kind: 2, ..GRAPH }, 0, [2, 2]),
+    (7, Columns { kind: 2, ..GRAPH }, 0, [2, 2]),
+    (1, Columns { kind: 2, ..GRAPH }, 9, [4, 4]),
+    (1, Columns { nrows: 5, ..GRAPH }, 0, [9, 11]),
+    (2, Columns { nrows: 5, ..ROADS }, 9, [11, 11]),
+    (3, ROADS, 4, [12, 12]),
 ];
 
 /// Whether a graph is refused by a code for its levels and one for its distances, and the answer is as it was.
@@ -372,54 +387,60 @@ fn graph_is_refused(
     grid: u32,
     graph: &Columns,
     source: u32,
-    codes: [u32; 2],
+    codes: &[u32; 2],
 ) -> bool {
     let mut out = NAMED;
-    let levels = cbgrid_kernel_levels(alloc, grid, graph, source, &mut out);
-    let distances = cbgrid_kernel_distances(alloc, grid, graph, source, &mut out);
-    [levels, distances] == codes && are_same(&out, &NAMED)
+    cbgrid_kernel_levels(alloc, grid, graph, source, &mut out) == codes[0]
+        && cbgrid_kernel_distances(alloc, grid, graph, source, &mut out) == codes[1]
+        && are_same(&out, &NAMED)
 }
 
 #[test]
-fn each_fault_of_a_graph_has_its_code(rt: HostRuntime) {
-    let alloc = rt.alloc();
-    for (grid, graph, source, code) in &REFUSED_GRAPHS {
+fn each_fault_of_a_graph_has_its_codes(rt: HostRuntime) {
+    for (grid, graph, source, codes) in &REFUSED_GRAPHS {
         assert!(rt;
-            graph_is_refused(alloc, *grid, graph, *source, [*code, *code]),
-            "{code}"
+            graph_is_refused(rt.alloc(), *grid, graph, *source, codes),
+            "{codes:?}"
         );
     }
-    let long = Columns { nrows: 5, ..GRAPH };
-    assert!(rt; graph_is_refused(alloc, 1, &long, 0, [9, 11]));
+}
+
+/// Whether a text reads as these lists, leaves the number of a line as it was, and is their text.
+fn is_text_of(alloc: Global, text: &[u8], wanted: &Columns) -> bool {
+    let mut line = 9;
+    let mut lists = NONE;
+    let mut written = Text { bytes: &[] };
+    cbgrid_kernel_read(alloc, 0, text, &mut line, &mut lists) == 0
+        && line == 9
+        && are_same(&lists, wanted)
+        && cbgrid_kernel_text(alloc, 0, &lists, &mut written) == 0
+        && written.bytes == text
 }
 
 #[test]
 fn a_text_is_read_and_written(rt: HostRuntime) {
-    let alloc = rt.alloc();
     let text = b"%%MatrixMarket matrix coordinate integer general\n2 3 2\n1 1 5\n2 3 6\n";
-    let mut line = 9;
-    let mut read = NONE;
-    let code = cbgrid_kernel_read(alloc, 0, text, &mut line, &mut read);
     let wanted = Columns {
         starts64: &[0, 1, 2],
         rows: &[0, 1],
         values: &[5, 6],
         ..NAMED
     };
-    assert!(rt; code == 0 && line == 9 && are_same(&read, &wanted));
-    let mut written = Text { bytes: &[] };
-    let code = cbgrid_kernel_text(alloc, 0, &read, &mut written);
-    assert!(rt; code == 0 && written.bytes == text.as_slice());
+    assert!(rt; is_text_of(rt.alloc(), text, &wanted));
+}
+
+/// The code of a text, over the semiring of a number, and the line that is named; the answer is as it was.
+fn text_is_refused(alloc: Global, semiring: u32, text: &[u8], code: u32, named: u64) -> bool {
+    let mut line = 0;
+    let mut out = NAMED;
+    cbgrid_kernel_read(alloc, semiring, text, &mut line, &mut out) == code
+        && line == named
+        && are_same(&out, &NAMED)
 }
 
 #[test]
 fn a_text_with_a_fault_names_its_line(rt: HostRuntime) {
-    let alloc = rt.alloc();
     let text = b"%%MatrixMarket matrix coordinate integer general\n2 3 1\n1 4 5\n";
-    let mut line = 0;
-    let mut out = NAMED;
-    let code = cbgrid_kernel_read(alloc, 0, text, &mut line, &mut out);
-    assert!(rt; code == 13 && line == 3 && are_same(&out, &NAMED));
-    let code = cbgrid_kernel_read(alloc, 4, text, &mut line, &mut out);
-    assert!(rt; code == 1 && line == 3);
+    assert!(rt; text_is_refused(rt.alloc(), 0, text, 13, 3));
+    assert!(rt; text_is_refused(rt.alloc(), 4, text, 1, 0));
 }

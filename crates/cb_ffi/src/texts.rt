@@ -5,12 +5,12 @@ ghost use Rattle.cb_ffi.specs.Lists.{AreLists};
 ghost use Rattle.cb_ffi.specs.Refusals.{arithmetic_of, over, read_faults, text_faults};
 ghost use Rattle.cb_ffi.specs.Answers.{IsAnswer, NoFault, IsTextOf, IsRead, IsFaultLine};
 
-use crate::checks::check_text;
 use crate::faults::Fault;
-use crate::incoming::{block_of, matrix_of_block};
+use crate::incoming::block_of;
 use crate::lists::Columns;
 use crate::outgoing::matrix_lists;
 use cb_market::{Kind, read, text};
+use cb_matrix::Matrix;
 use cb_semirings::{MaxMin, MinPlus, OrAnd, PlusTimes, Semiring};
 use std::alloc::{AllocError, Global};
 
@@ -27,7 +27,7 @@ fn text_bytes<S: Semiring>(alloc: Global, a: &Columns) -> Result<Text, AllocErro
     ensures { IfOk result (IsTextOf S.arithmetic a.now) }
 {
     let block = block_of::<S>(alloc, a)?;
-    let matrix = matrix_of_block(&block)?;
+    let matrix = Matrix::<S>::from_ordered(block.shape(), block.entries()?);
     let bytes = text(alloc, &matrix)?;
     Ok(Text {
         bytes: bytes.leak(),
@@ -40,7 +40,7 @@ fn text_over<S: Semiring>(alloc: Global, a: &Columns) -> Result<Text, Fault>
     ensures none { IfOk result (λ _. NoFault (text_faults S.arithmetic a.now)) }
     ensures fault { IfErr result (text_faults S.arithmetic a.now) }
 {
-    check_text::<S>(a)?;
+    a.check::<S>()?;
     Ok(text_bytes::<S>(alloc, a)?)
 }
 

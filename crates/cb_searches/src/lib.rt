@@ -1,12 +1,15 @@
 //! Searches in the graph of a square matrix, in which a stored entry (i, j) is an edge from i to j.
 //!
 //! A [`Search`] is a state: the numbers of the vertices as they are known so far, which near the least weights of walks from
-//! one vertex, round by round. Who holds the matrix makes the rounds: in one block by [`Search::round`], or by any means
-//! that multiplies the transposed matrix by a column, by [`Search::advance`]. In a level each edge weighs 1.
+//! one vertex, round by round. Who holds the matrix makes the rounds: in one block by [`Search::round`], as [`nearest`] and
+//! [`levels`] do, or by any means that multiplies the transposed matrix by a column, by [`Search::advance`]. In a level
+//! each edge weighs 1.
 #![tactic(auto)]
 
 mod numbers;
+mod one_block;
 mod relaxations;
 mod searches;
 
-pub use searches::{Search, nearest, vector_product};
+pub use one_block::{levels, nearest, nearest_by_edges};
+pub use searches::{Search, vector_product};

@@ -196,27 +196,3 @@ pub fn vector_product<S: Semiring>(
     let entries = product.entries()?;
     Ok(Matrix::from_ordered(product.shape(), entries))
 }
-
-/// The least weight of a walk from the source to each vertex of the graph of a square matrix, of which this is the
-/// transposed one, as one block.
-pub fn nearest(
-    alloc: Global,
-    edges: &Block<MinPlus>,
-    source: u32,
-) -> Result<Matrix<MinPlus>, AllocError>
-    requires graph { (a : Sparse) × IsMatrix min_plus a × (a.shape.rows ≡ a.shape.cols) × (edges.now ≡ transposed min_plus a) }
-    requires source { source < edges.now.shape.cols }
-    ensures { IfOk result (λ column. (a : Sparse) → IsMatrix min_plus a → a.shape.rows ≡ a.shape.cols → edges.now ≡ transposed min_plus a → AreDistances a source column) }
-{
-    let shape = edges.shape();
-    let vertices = shape.rows();
-    let mut search = Search::begin(alloc, shape, edges.len(), source)?;
-    for _round in 0..vertices {
-        let fell = search.fell();
-        if fell.is_empty() {
-            break;
-        }
-        search = search.round(alloc, edges)?;
-    }
-    search.column(alloc)
-}

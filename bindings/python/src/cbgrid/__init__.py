@@ -29,8 +29,8 @@ transposes. A csc matrix beside a csr one, a csr graph, and a csr matrix whose t
 the kernel first. coo matrices are sorted in a copy, and cost what their entries cost whatever their shape is; csc
 and csr take a list as long as one of their sides.
 
-**grid.** The side of a grid, 1 to 6. The side is checked, and the answer is the same for each: it is worked
-out by the plain engine, on the caller's thread. Side 1 is the quickest.
+**grid.** The side of a grid, 1 to 6. The side is checked and changes nothing else: each call works on whole
+matrices, on the caller's thread.
 
 **Errors.** What is refused raises a `CbgridValueError` (a ValueError) or a `CbgridMemoryError` (a MemoryError),
 both of them `CbgridError` with a code; a wrong type or dtype raises TypeError.
@@ -169,7 +169,7 @@ def multiply(a: Matrix, b: Any, semiring: str = "plus-times", mask: Any = None, 
         Keeps only the entries of the product at places where the mask has an entry. A stored value that is
         the semiring's zero is none; which other value it has doesn't matter.
     grid : int
-        The side of a grid, 1 to 6. The answer is the same for each, and 1 is the quickest.
+        The side of a grid, 1 to 6. It is checked, and changes nothing else.
 
     Returns
     -------

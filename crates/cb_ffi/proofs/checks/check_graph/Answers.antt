@@ -1,51 +1,36 @@
 use Rattle.std.proofs.Common.{rules, ◌≡◌, ◌<◌, refl, inl, inr}
 use Rattle.std.specs.Prelude.{IfErr}
-use Rattle.cb_ffi.specs.declared.faults.Fault.TheVariants.{NotSquare, Source, Memory}
-use Rattle.cb_ffi.specs.Refusals.{Unless, IsMemory, one_faults, graph_faults}
-use Rattle.cb_ffi.proofs.Firsts.{weaken, only, one_after, one_only, one_wider}
+use Rattle.std.proofs.lemmas.Result.{IfErr-weaker}
+use Rattle.cb_ffi.specs.declared.faults.Fault.TheVariants.{Grid, NotSquare, Source}
+use Rattle.cb_ffi.specs.Refusals.{IsSide, matrix_faults, graph_faults}
+use Rattle.cb_ffi.proofs.Firsts.{graph_side_first, of_graph, after_graph}
 use Rattle.cb_ffi.proofs.checks.check_graph.Goals as goal
 
-pub returns-in_err-grid-clause-fault : goal.returns-in_err-grid-clause-fault
-unfolding graph_faults
-returns-in_err-grid-clause-fault g c =
+pub returns-in_err-check_side-clause-fault : goal.returns-in_err-check_side-clause-fault
+returns-in_err-check_side-clause-fault g c =
     let s = g.S.Semiring.arithmetic in
     let side = c.args.side in
-    let a = c.args.a.now in
-    let source = c.args.source in
-    let h : IfErr c.from_residual.result (one_faults s side a (λ _. ⊥)) = search rules in
-    weaken _ (one_faults s side a (λ _. ⊥)) (one_faults s side a (Unless (a.nrows ≡ a.ncols) NotSquare (Unless (source < a.nrows) Source IsMemory))) (one_wider s side a (Unless (a.nrows ≡ a.ncols) NotSquare (Unless (source < a.nrows) Source IsMemory))) h
+    let a = c.args.graph.now in
+    let h : IfErr c.from_residual.result (λ f. (f ≡ Grid) × (IsSide side → ⊥)) = search rules in
+    IfErr-weaker c.from_residual.result (λ f. (f ≡ Grid) × (IsSide side → ⊥)) (graph_faults s side a c.args.source) (graph_side_first s side a c.args.source) h
 
-pub returns-then-a-clause-fault : goal.returns-then-a-clause-fault
-unfolding graph_faults
-returns-then-a-clause-fault g c =
+pub returns-in_err-check-clause-fault : goal.returns-in_err-check-clause-fault
+returns-in_err-check-clause-fault g c =
     let s = g.S.Semiring.arithmetic in
     let side = c.args.side in
-    let a = c.args.a.now in
-    let source = c.args.source in
+    let a = c.args.graph.now in
+    let h : IfErr c.from_residual-in_err-check.result (matrix_faults s a (λ _. ⊥)) = search rules in
+    IfErr-weaker c.from_residual-in_err-check.result (matrix_faults s a (λ _. ⊥)) (graph_faults s side a c.args.source) (of_graph s side a c.args.source c.in_ok-check_side.ensures.ok) h
+
+pub returns-then-graph-clause-fault : goal.returns-then-graph-clause-fault
+returns-then-graph-clause-fault g c =
+    let a = c.args.graph.now in
     let n : a.nrows ≡ a.ncols → ⊥ = search rules in
-    one_after s side a (Unless (a.nrows ≡ a.ncols) NotSquare (Unless (source < a.nrows) Source IsMemory)) NotSquare c.in_ok-grid.ensures.side c.in_ok-grid.ensures.lists (inl (refl, n))
+    after_graph g.S.Semiring.arithmetic c.args.side a c.args.source c.in_ok-check_side.ensures.ok NotSquare c.in_ok-check.ensures.ok (inl (refl, n))
 
-pub returns-then-source-a-clause-fault : goal.returns-then-source-a-clause-fault
-unfolding graph_faults
-returns-then-source-a-clause-fault g c =
-    let s = g.S.Semiring.arithmetic in
-    let side = c.args.side in
-    let a = c.args.a.now in
-    let source = c.args.source in
+pub returns-then-source-graph-clause-fault : goal.returns-then-source-graph-clause-fault
+returns-then-source-graph-clause-fault g c =
+    let a = c.args.graph.now in
     let p : a.nrows ≡ a.ncols = search rules in
-    let n : source < a.nrows → ⊥ = search rules in
-    one_after s side a (Unless (a.nrows ≡ a.ncols) NotSquare (Unless (source < a.nrows) Source IsMemory)) Source c.in_ok-grid.ensures.side c.in_ok-grid.ensures.lists (inr (p, inl (refl, n)))
-
-pub returns-clause-none : goal.returns-clause-none
-unfolding graph_faults
-returns-clause-none g c =
-    let s = g.S.Semiring.arithmetic in
-    let side = c.args.side in
-    let a = c.args.a.now in
-    let source = c.args.source in
-    let p : a.nrows ≡ a.ncols = search rules in
-    let q : source < a.nrows = search rules in
-    record {
-      memory = one_after s side a (Unless (a.nrows ≡ a.ncols) NotSquare (Unless (source < a.nrows) Source IsMemory)) Memory c.in_ok-grid.ensures.side c.in_ok-grid.ensures.lists (inr (p, inr (q, refl)));
-      only = λ f h. only (source < a.nrows) Source IsMemory f q (only (a.nrows ≡ a.ncols) NotSquare (Unless (source < a.nrows) Source IsMemory) f p (one_only s side a (Unless (a.nrows ≡ a.ncols) NotSquare (Unless (source < a.nrows) Source IsMemory)) f c.in_ok-grid.ensures.side c.in_ok-grid.ensures.lists h));
-    }
+    let n : c.args.source < a.nrows → ⊥ = search rules in
+    after_graph g.S.Semiring.arithmetic c.args.side a c.args.source c.in_ok-check_side.ensures.ok Source c.in_ok-check.ensures.ok (inr (p, inl (refl, n)))

@@ -1,0 +1,87 @@
+//! The search in the graph of one block.
+//!
+//! The block is transposed once and given up; each round is then [`Search::round`] on the transposed one.
+ghost use Rattle.std.specs.Prelude.{◌≡◌, ◌<◌, IfOk};
+ghost use Rattle.cb_semirings.specs.Tables.{min_plus};
+ghost use Rattle.cb_matrix.specs.Sparse.{Sparse, IsMatrix};
+ghost use Rattle.cb_matrix.specs.Operations.{transposed};
+ghost use Rattle.cb_searches.specs.Walks.{AreDistances, AreLevels};
+
+use crate::searches::Search;
+use cb_dcsc::Block;
+use cb_matrix::Matrix;
+use cb_semirings::{MinPlus, OrAnd};
+use std::alloc::{AllocError, Global};
+
+/// The distance of each vertex from a source, in the graph of a square block: the least weight of a walk, where a walk's
+/// weight is the sum of its entries' values, which stops at 2^64-1. The answer is a column; vertices without a walk, or
+/// with an infinite distance, are not stored.
+///
+/// The block is given up once it is transposed. A round costs what the entries of the vertices that fell in the round
+/// before cost, and at most a few instructions for each vertex where at least one in 32 fell; there are at most as many
+/// rounds as vertices.
+pub fn nearest(
+    alloc: Global,
+    graph: Block<MinPlus>,
+    source: u32,
+) -> Result<Matrix<MinPlus>, AllocError>
+    requires square { graph.shape.rows ≡ graph.shape.cols }
+    requires source { source < graph.shape.rows }
+    ensures distances { IfOk result (AreDistances graph source) }
+    ensures matrix { IfOk result (IsMatrix min_plus) }
+{
+    let _shape = graph.shape();
+    let edges = turned(alloc, graph)?;
+    let column = nearest_by_edges(alloc, &edges, source)?;
+    let _shape = column.shape();
+    Ok(column)
+}
+
+/// The level of each vertex from a source, in the graph of a square block: the least number of entries of a walk. The
+/// answer is a column; vertices without a walk are not stored. The level of a vertex is its distance where each entry
+/// weighs 1, as each stored value does already: no entry is copied, and the cost is that of [`nearest`]. This is the
+/// breadth-first search of Buluç and Gilbert, The Combinatorial BLAS (IJHPCA 2011), section 5.
+pub fn levels(
+    alloc: Global,
+    graph: Block<OrAnd>,
+    source: u32,
+) -> Result<Matrix<MinPlus>, AllocError>
+    requires square { graph.shape.rows ≡ graph.shape.cols }
+    requires source { source < graph.shape.rows }
+    ensures levels { IfOk result (AreLevels graph source) }
+    ensures matrix { IfOk result (IsMatrix min_plus) }
+{
+    let _rows = graph.shape().rows();
+    nearest(alloc, graph.recast(), source)
+}
+
+/// The block transposed; it is given up.
+fn turned(alloc: Global, graph: Block<MinPlus>) -> Result<Block<MinPlus>, AllocError>
+    ensures { IfOk result (λ edges. edges ≡ transposed min_plus graph) }
+{
+    cb_reshape::transpose(alloc, &graph)
+}
+
+/// The least weight of a walk from the source to each vertex of the graph of a square matrix, of which this is the
+/// transposed one, as one block.
+pub fn nearest_by_edges(
+    alloc: Global,
+    edges: &Block<MinPlus>,
+    source: u32,
+) -> Result<Matrix<MinPlus>, AllocError>
+    requires graph { (a : Sparse) × IsMatrix min_plus a × (a.shape.rows ≡ a.shape.cols) × (edges.now ≡ transposed min_plus a) }
+    requires source { source < edges.now.shape.cols }
+    ensures { IfOk result (λ column. (a : Sparse) → IsMatrix min_plus a → a.shape.rows ≡ a.shape.cols → edges.now ≡ transposed min_plus a → AreDistances a source column) }
+{
+    let shape = edges.shape();
+    let vertices = shape.rows();
+    let mut search = Search::begin(alloc, shape, edges.len(), source)?;
+    for _round in 0..vertices {
+        let fell = search.fell();
+        if fell.is_empty() {
+            break;
+        }
+        search = search.round(alloc, edges)?;
+    }
+    search.column(alloc)
+}
