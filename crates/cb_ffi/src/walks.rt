@@ -46,7 +46,7 @@ fn distance_lists(alloc: Global, graph: &Columns, source: u32) -> Result<Columns
     ensures { IfOk result (HasDistances graph.now source) }
 {
     let block = block_of::<MinPlus>(alloc, graph)?;
-    let column = cb_searches::nearest(alloc, block, source)?;
+    let column = cb_searches::distances(alloc, block, source)?;
     matrix_lists(alloc, &column)
 }
 

@@ -1,7 +1,7 @@
 //! Searches in the graph of a square matrix, in which a stored entry (i, j) is an edge from i to j.
 //!
 //! A [`Search`] is a state: the numbers of the vertices as they are known so far, which near the least weights of walks from
-//! one vertex, round by round. Who holds the matrix makes the rounds: in one block by [`Search::round`], as [`nearest`] and
+//! one vertex, round by round. Who holds the matrix makes the rounds: in one block by [`Search::round`], as [`distances`] and
 //! [`levels`] do, or by any means that multiplies the transposed matrix by a column, by [`Search::advance`]. In a level
 //! each edge weighs 1.
 #![tactic(auto)]
@@ -11,5 +11,5 @@ mod one_block;
 mod relaxations;
 mod searches;
 
-pub use one_block::{levels, nearest, nearest_by_edges};
+pub use one_block::{distances, levels};
 pub use searches::{Search, vector_product};

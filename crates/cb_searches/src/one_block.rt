@@ -20,7 +20,7 @@ use std::alloc::{AllocError, Global};
 /// The block is given up once it is transposed. A round costs what the entries of the vertices that fell in the round
 /// before cost, and at most a few instructions for each vertex where at least one in 32 fell; there are at most as many
 /// rounds as vertices.
-pub fn nearest(
+pub fn distances(
     alloc: Global,
     graph: Block<MinPlus>,
     source: u32,
@@ -39,7 +39,7 @@ pub fn nearest(
 
 /// The level of each vertex from a source, in the graph of a square block: the least number of entries of a walk. The
 /// answer is a column; vertices without a walk are not stored. The level of a vertex is its distance where each entry
-/// weighs 1, as each stored value does already: no entry is copied, and the cost is that of [`nearest`]. This is the
+/// weighs 1, as each stored value does already: no entry is copied, and the cost is that of [`distances`]. This is the
 /// breadth-first search of Buluç and Gilbert, The Combinatorial BLAS (IJHPCA 2011), section 5.
 pub fn levels(
     alloc: Global,
@@ -52,7 +52,7 @@ pub fn levels(
     ensures matrix { IfOk result (IsMatrix min_plus) }
 {
     let _rows = graph.shape().rows();
-    nearest(alloc, graph.recast(), source)
+    distances(alloc, graph.recast(), source)
 }
 
 /// The block transposed; it is given up.
@@ -64,7 +64,7 @@ fn turned(alloc: Global, graph: Block<MinPlus>) -> Result<Block<MinPlus>, AllocE
 
 /// The least weight of a walk from the source to each vertex of the graph of a square matrix, of which this is the
 /// transposed one, as one block.
-pub fn nearest_by_edges(
+fn nearest_by_edges(
     alloc: Global,
     edges: &Block<MinPlus>,
     source: u32,

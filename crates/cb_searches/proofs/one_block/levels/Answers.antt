@@ -13,5 +13,5 @@ returns-clause-levels c =
     let a = c.args.graph in
     let rows : c.rows-rows.result ≡ a.shape.rows = c.rows-rows.ensures.value ∙ ap (λ (e : Extent). e.rows) c.shape.ensures.shape in
     let fits : a.shape.rows < infinite = omega (arith, c.rows-rows.ensures.limit) in
-    IfOk-weaker c.nearest.result (AreDistances c.recast.result c.args.source) (AreLevels a c.args.source)
-    (λ column h. levels_are a c.shape.ensures.matrix c.requires.square fits c.args.source c.requires.source column (subst (λ (m : Sparse). AreDistances m c.args.source column) c.recast.ensures h)) c.nearest.ensures.distances
+    IfOk-weaker c.distances.result (AreDistances c.recast.result c.args.source) (AreLevels a c.args.source)
+    (λ column h. levels_are a c.shape.ensures.matrix c.requires.square fits c.args.source c.requires.source column (subst (λ (m : Sparse). AreDistances m c.args.source column) c.recast.ensures h)) c.distances.ensures.distances

@@ -1,6 +1,6 @@
 use Rattle.std.proofs.Common.{◌≡◌, ap, arith}
 use Rattle.cb_matrix.specs.Sparse.{Sparse}
-use Rattle.cb_searches.proofs.one_block.nearest.Goals as goal
+use Rattle.cb_searches.proofs.one_block.distances.Goals as goal
 
 pub nearest_by_edges-requires-clause-graph : goal.nearest_by_edges-requires-clause-graph
 nearest_by_edges-requires-clause-graph c = (c.args.graph, c.shape-shape.ensures.matrix, c.requires.square, c.in_ok-edges.ensures)
