@@ -7,7 +7,7 @@ use cb_words::EngineName;
 
 /// The engine of a name, or none where the caller's thread computes alone.
 pub fn engine_of(name: EngineName) -> Option<Engine<'static>>
-    ensures { result.entry ≡ engine_of name }
+    ensures { result ≡ engine_of name }
 {
     match name {
         EngineName::Plain => None,

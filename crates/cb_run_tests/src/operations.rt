@@ -16,7 +16,7 @@ use std::sync::Wait;
 use std::test::Fail;
 use std::thread::Threads;
 
-/// Each operation, and what it makes of the operands that [`given`] makes.
+/// Each operation, and what it makes of the operands that [`agreeing`] makes.
 const ANSWERS: [(Operation, &'static [Place]); 7] = [
     (Operation::Multiply, &PRODUCT),
     (Operation::MultiplyMasked, &MASKED),
@@ -49,7 +49,7 @@ struct Given {
 }
 
 /// Those of which each operation has an answer. The mask is the first matrix.
-fn given(alloc: Global) -> Option<Given> {
+fn agreeing(alloc: Global) -> Option<Given> {
     let (left, right) = operands::<PlusTimes>(alloc)?;
     let (mask, _) = operands::<PlusTimes>(alloc)?;
     let column = matrix(alloc, 2, 1, &[(0, 0, 5), (1, 0, 7)])?;
@@ -168,7 +168,7 @@ fn makes_all<R: Threads + Wait + Sync>(
 
 #[test]
 fn each_operation_in_each_run(rt: HostRuntime) -> Result<(), Fail> {
-    let given = given(rt.alloc()).ok_or("memory")?;
+    let given = agreeing(rt.alloc()).ok_or("memory")?;
     for (engine, side) in RUNS {
         assert!(rt; makes_all(&rt, rt.alloc(), engine, &grid(side)?, &given)?);
     }
@@ -188,7 +188,7 @@ fn makes_all_alone(alloc: Global, given: &Given) -> Result<bool, SerialFault> {
 
 #[test]
 fn each_operation_by_one_thread(rt: HostRuntime) -> Result<(), Fail> {
-    let given = given(rt.alloc()).ok_or("memory")?;
+    let given = agreeing(rt.alloc()).ok_or("memory")?;
     assert!(rt; makes_all_alone(rt.alloc(), &given)?);
     Ok(())
 }
@@ -260,7 +260,7 @@ fn makes_alone_or_says(alloc: Global, given: &Given) -> bool {
 /// says so, or its answer is the right one.
 #[test]
 fn refused_memory_is_said(rt: HostRuntime) -> Result<(), Fail> {
-    let Some(given) = given(rt.alloc()) else {
+    let Some(given) = agreeing(rt.alloc()) else {
         return Ok(());
     };
     let grid = grid(2)?;

@@ -1,8 +1,8 @@
 //! Worked graphs by each engine on grids of several sides, and by one thread.
-use crate::examples::{Place, RUNS, grid, has, is_refusal, matrix, of_entries};
+use crate::examples::{Place, RUNS, has, is_refusal, matrix, of_entries};
 use cb_dcsc::Block;
 use cb_engines::{Engine, EngineFault};
-use cb_layout::DistributedMatrix;
+use cb_layout::{DistributedMatrix, Grid};
 use cb_matrix::{Entry, Matrix};
 use cb_operations::Refusal;
 use cb_run::{OperationFault, check_graph, distances, levels};
@@ -74,7 +74,7 @@ fn levels_by<R: Threads + Wait + Sync>(
     source: u32,
 ) -> Result<Matrix<MinPlus>, OperationFault> {
     if let By::Ranks(engine, side) = by {
-        let Ok(grid) = grid(side) else {
+        let Ok(grid) = Grid::new(side) else {
             return Err(OperationFault::Refused(Refusal::Shapes));
         };
         let spread = DistributedMatrix::scatter(alloc, grid, graph)?;
@@ -94,7 +94,7 @@ fn distances_by<R: Threads + Wait + Sync>(
     source: u32,
 ) -> Result<Matrix<MinPlus>, OperationFault> {
     if let By::Ranks(engine, side) = by {
-        let Ok(grid) = grid(side) else {
+        let Ok(grid) = Grid::new(side) else {
             return Err(OperationFault::Refused(Refusal::Shapes));
         };
         let spread = DistributedMatrix::scatter(alloc, grid, graph)?;
