@@ -167,10 +167,10 @@ const REFUSED_LISTS: [RefusedLists; 9] = [
     (&[0, 2], &[0, 2, 3], &[0, 2, 1], &[1, 2, 3], 8),
 ];
 
-/// Whether lists are refused by a code, and the answer is as it was.
-fn is_refused(alloc: Global, lists: &Columns, code: u32) -> bool {
+/// Whether lists are refused by a code, over the semiring of a number, and the answer is as it was.
+fn is_refused(alloc: Global, semiring: u32, lists: &Columns, code: u32) -> bool {
     let mut out = NAMED;
-    cbgrid_kernel_transpose(alloc, 0, 1, lists, &mut out) == code && are_same(&out, &NAMED)
+    cbgrid_kernel_transpose(alloc, semiring, 1, lists, &mut out) == code && are_same(&out, &NAMED)
 }
 
 #[test]
@@ -183,7 +183,7 @@ fn each_fault_of_a_head_has_its_code(rt: HostRuntime) {
             wide,
             ..NAMED
         };
-        assert!(rt; is_refused(rt.alloc(), &lists, code), "{code}");
+        assert!(rt; is_refused(rt.alloc(), 0, &lists, code), "{code}");
     }
 }
 
@@ -197,7 +197,7 @@ fn each_fault_of_lists_has_its_code(rt: HostRuntime) {
             values,
             ..NAMED
         };
-        assert!(rt; is_refused(rt.alloc(), &lists, code), "{code}");
+        assert!(rt; is_refused(rt.alloc(), 0, &lists, code), "{code}");
     }
 }
 
@@ -228,14 +228,20 @@ fn numbers_are_looked_at_before_lists(rt: HostRuntime) {
     }
 }
 
-/// The codes of a value that isn't one of or-and, of shapes that don't agree, and of the second matrix where they don't.
-fn other_codes(alloc: Global) -> [u32; 5] {
+/// The codes of a product whose shapes don't agree, and of one by a vector of two columns.
+fn product_codes(alloc: Global) -> [u32; 2] {
+    let mut out = NAMED;
+    [
+        cbgrid_kernel_multiply(alloc, 0, 1, &NAMED, &NAMED, &mut out),
+        cbgrid_kernel_vector(alloc, 0, 1, &NAMED, &TURNED, &mut out),
+    ]
+}
+
+/// The codes of a sum of two shapes, and of a product place by place whose second matrix has another shape and no form.
+fn placewise_codes(alloc: Global) -> [u32; 2] {
     let formless = Columns { kind: 2, ..NONE };
     let mut out = NAMED;
     [
-        cbgrid_kernel_transpose(alloc, 2, 1, &NAMED, &mut out),
-        cbgrid_kernel_multiply(alloc, 0, 1, &NAMED, &NAMED, &mut out),
-        cbgrid_kernel_vector(alloc, 0, 1, &NAMED, &TURNED, &mut out),
         cbgrid_kernel_add(alloc, 0, 1, &NAMED, &NONE, &mut out),
         cbgrid_kernel_times(alloc, 0, 1, &NAMED, &formless, &mut out),
     ]
@@ -243,7 +249,9 @@ fn other_codes(alloc: Global) -> [u32; 5] {
 
 #[test]
 fn values_and_shapes_have_their_codes(rt: HostRuntime) {
-    assert!(rt; other_codes(rt.alloc()) == [9, 10, 10, 10, 4]);
+    assert!(rt; is_refused(rt.alloc(), 2, &NAMED, 9));
+    assert!(rt; product_codes(rt.alloc()) == [10, 10]);
+    assert!(rt; placewise_codes(rt.alloc()) == [10, 4]);
 }
 
 /// Whether the sum of the two kinds of a matrix, and their product place by place, have these values.
@@ -370,15 +378,14 @@ fn levels_in_a_graph(rt: HostRuntime) {
     }
 }
 
-/// The side of a grid, a graph and a source, and the codes that its levels and its distances are refused by: lists of no
-/// form, a value that isn't one of or-and, a matrix that isn't square, and a source that is no vertex.
-const REFUSED_GRAPHS: [(u32, Columns, u32, [u32; 2]); 6] = [
-    (0, Columns { kind: 2, ..GRAPH }, 0, [2, 2]),
-    (7, Columns { kind: 2, ..GRAPH }, 0, [2, 2]),
-    (1, Columns { kind: 2, ..GRAPH }, 9, [4, 4]),
-    (1, Columns { nrows: 5, ..GRAPH }, 0, [9, 11]),
-    (2, Columns { nrows: 5, ..ROADS }, 9, [11, 11]),
-    (3, ROADS, 4, [12, 12]),
+/// The side of a grid, the kind and the rows of a graph, and a source, and the code that they are refused by: no side, a
+/// matrix of no form, one that isn't square, and a source that is no vertex.
+const REFUSED_GRAPHS: [(u32, u32, u32, u32, u32); 5] = [
+    (0, 2, 4, 0, 2),
+    (7, 2, 4, 0, 2),
+    (1, 2, 4, 9, 4),
+    (2, 0, 5, 9, 11),
+    (3, 0, 4, 4, 12),
 ];
 
 /// Whether a graph is refused by a code for its levels and one for its distances, and the answer is as it was.
@@ -387,7 +394,7 @@ fn graph_is_refused(
     grid: u32,
     graph: &Columns,
     source: u32,
-    codes: &[u32; 2],
+    codes: [u32; 2],
 ) -> bool {
     let mut out = NAMED;
     cbgrid_kernel_levels(alloc, grid, graph, source, &mut out) == codes[0]
@@ -397,12 +404,19 @@ fn graph_is_refused(
 
 #[test]
 fn each_fault_of_a_graph_has_its_codes(rt: HostRuntime) {
-    for (grid, graph, source, codes) in &REFUSED_GRAPHS {
+    for (grid, kind, nrows, source, code) in REFUSED_GRAPHS {
+        let graph = Columns {
+            kind,
+            nrows,
+            ..ROADS
+        };
         assert!(rt;
-            graph_is_refused(rt.alloc(), *grid, graph, *source, codes),
-            "{codes:?}"
+            graph_is_refused(rt.alloc(), grid, &graph, source, [code, code]),
+            "{code}"
         );
     }
+    let lengths = Columns { nrows: 5, ..GRAPH };
+    assert!(rt; graph_is_refused(rt.alloc(), 1, &lengths, 0, [9, 11]));
 }
 
 /// Whether a text reads as these lists, leaves the number of a line as it was, and is their text.
