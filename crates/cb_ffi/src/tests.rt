@@ -36,13 +36,10 @@ const ALL: Columns = Columns {
 const TURNED: Columns = Columns {
     nrows: 3,
     ncols: 2,
-    kind: 0,
-    wide: 1,
     columns: &[0, 1],
-    starts32: &[],
     starts64: &[0, 1, 3],
     rows: &[0, 0, 2],
-    values: &[1, 2, 3],
+    ..NAMED
 };
 
 /// The matrix without rows and columns.
@@ -57,6 +54,25 @@ const NONE: Columns = Columns {
     rows: &[],
     values: &[],
 };
+
+/// A matrix by its columns that have entries, with starts of 64 bits.
+fn named(
+    (nrows, ncols): (u32, u32),
+    columns: &'static [u32],
+    starts64: &'static [u64],
+    rows: &'static [u32],
+    values: &'static [u64],
+) -> Columns {
+    Columns {
+        nrows,
+        ncols,
+        columns,
+        starts64,
+        rows,
+        values,
+        ..NONE
+    }
+}
 
 /// Whether lists are the same, one by one.
 fn are_same(lists: &Columns, wanted: &Columns) -> bool {
@@ -87,13 +103,7 @@ fn infinity_is_not_stored_in_min_plus(rt: HostRuntime) {
         values: &[1, u64::MAX, 3],
         ..NAMED
     };
-    let wanted = Columns {
-        columns: &[0, 1],
-        starts64: &[0, 1, 2],
-        rows: &[0, 2],
-        values: &[1, 3],
-        ..TURNED
-    };
+    let wanted = named((3, 2), &[0, 1], &[0, 1, 2], &[0, 2], &[1, 3]);
     assert!(rt; turns_into(rt.alloc(), 1, &lists, &wanted));
 }
 
@@ -105,15 +115,7 @@ fn have_product(alloc: Global, grid: u32, a: &Columns, b: &Columns, wanted: &Col
 
 #[test]
 fn a_product_of_both_kinds(rt: HostRuntime) {
-    let wanted = Columns {
-        nrows: 2,
-        ncols: 2,
-        columns: &[0, 1],
-        starts64: &[0, 2, 4],
-        rows: &[0, 1, 0, 1],
-        values: &[1, 2, 2, 13],
-        ..NONE
-    };
+    let wanted = named((2, 2), &[0, 1], &[0, 2, 4], &[0, 1, 0, 1], &[1, 2, 2, 13]);
     for grid in 1..7 {
         assert!(rt; have_product(rt.alloc(), grid, &ALL, &TURNED, &wanted));
     }
@@ -121,15 +123,8 @@ fn a_product_of_both_kinds(rt: HostRuntime) {
 
 #[test]
 fn a_shape_costs_nothing(rt: HostRuntime) {
-    let lists = Columns {
-        nrows: 2_147_483_647,
-        ncols: 2_147_483_647,
-        columns: &[2_147_483_646],
-        starts64: &[0, 1],
-        rows: &[2_147_483_646],
-        values: &[7],
-        ..NONE
-    };
+    let sides = (2_147_483_647, 2_147_483_647);
+    let lists = named(sides, &[2_147_483_646], &[0, 1], &[2_147_483_646], &[7]);
     let wanted = Columns {
         values: &[49],
         ..lists
@@ -190,13 +185,7 @@ fn each_fault_of_a_head_has_its_code(rt: HostRuntime) {
 #[test]
 fn each_fault_of_lists_has_its_code(rt: HostRuntime) {
     for (columns, starts64, rows, values, code) in REFUSED_LISTS {
-        let lists = Columns {
-            columns,
-            starts64,
-            rows,
-            values,
-            ..NAMED
-        };
+        let lists = named((2, 3), columns, starts64, rows, values);
         assert!(rt; is_refused(rt.alloc(), 0, &lists, code), "{code}");
     }
 }
@@ -299,15 +288,7 @@ fn is_vector_product(alloc: Global, vector: &Columns, values: &[u64]) -> bool {
 fn products_under_a_mask_and_by_a_vector(rt: HostRuntime) {
     let mask = Columns { nrows: 3, ..NAMED };
     assert!(rt; is_masked(rt.alloc(), &mask, 5));
-    let vector = Columns {
-        nrows: 3,
-        ncols: 1,
-        columns: &[0],
-        starts64: &[0, 2],
-        rows: &[0, 2],
-        values: &[1, 1],
-        ..NONE
-    };
+    let vector = named((3, 1), &[0], &[0, 2], &[0, 2], &[1, 1]);
     assert!(rt; is_vector_product(rt.alloc(), &vector, &[1, 5]));
 }
 
@@ -327,16 +308,6 @@ const ROADS: Columns = Columns {
     ..GRAPH
 };
 
-/// The numbers of its vertices from the first, without their values.
-const NUMBERS: Columns = Columns {
-    nrows: 4,
-    ncols: 1,
-    columns: &[0],
-    starts64: &[0, 3],
-    rows: &[0, 1, 2],
-    ..NONE
-};
-
 /// Whether these are the distances from the first vertex, with a side of a grid.
 fn are_distances(alloc: Global, grid: u32, wanted: &Columns) -> bool {
     let mut out = NONE;
@@ -345,10 +316,7 @@ fn are_distances(alloc: Global, grid: u32, wanted: &Columns) -> bool {
 
 #[test]
 fn distances_in_a_graph(rt: HostRuntime) {
-    let wanted = Columns {
-        values: &[0, 6, 2],
-        ..NUMBERS
-    };
+    let wanted = named((4, 1), &[0], &[0, 3], &[0, 1, 2], &[0, 6, 2]);
     for grid in 1..7 {
         assert!(rt; are_distances(rt.alloc(), grid, &wanted), "{grid}");
     }
@@ -362,16 +330,8 @@ fn are_levels(alloc: Global, grid: u32, source: u32, wanted: &Columns) -> bool {
 
 #[test]
 fn levels_in_a_graph(rt: HostRuntime) {
-    let wanted = Columns {
-        values: &[0, 1, 1],
-        ..NUMBERS
-    };
-    let alone = Columns {
-        starts64: &[0, 1],
-        rows: &[3],
-        values: &[0],
-        ..NUMBERS
-    };
+    let wanted = named((4, 1), &[0], &[0, 3], &[0, 1, 2], &[0, 1, 1]);
+    let alone = named((4, 1), &[0], &[0, 1], &[3], &[0]);
     for grid in 1..7 {
         assert!(rt; are_levels(rt.alloc(), grid, 0, &wanted), "{grid}");
         assert!(rt; are_levels(rt.alloc(), grid, 3, &alone), "{grid}");
@@ -434,12 +394,7 @@ fn is_text_of(alloc: Global, text: &[u8], wanted: &Columns) -> bool {
 #[test]
 fn a_text_is_read_and_written(rt: HostRuntime) {
     let text = b"%%MatrixMarket matrix coordinate integer general\n2 3 2\n1 1 5\n2 3 6\n";
-    let wanted = Columns {
-        starts64: &[0, 1, 2],
-        rows: &[0, 1],
-        values: &[5, 6],
-        ..NAMED
-    };
+    let wanted = named((2, 3), &[0, 2], &[0, 1, 2], &[0, 1], &[5, 6]);
     assert!(rt; is_text_of(rt.alloc(), text, &wanted));
 }
 
