@@ -18,8 +18,8 @@ use Rattle.cb_ffi.specs.Answers.{NoFault}
 pub only : (P : Type 0) (g : Fault) (next : Fault → Type 0) (f : Fault) → P → Unless P g next f → next f
 only P g next f p h = ⊎_elim (λ k. absurd (k.1 p)) (λ k. k.1) h
 
-wider : (P : Type 0) (g : Fault) (first next : Fault → Type 0) (f : Fault) → (first f → next f) → Unless P g first f → Unless P g next f
-wider P g first next f k h = ⊎_elim (λ a. inl a) (λ a. inr (a.0, k a.1)) h
+wider : (P : Type 0) (g : Fault) (first next : Fault → Type 0) → ((f : Fault) → first f → next f) → (f : Fault) → Unless P g first f → Unless P g next f
+wider P g first next k f h = ⊎_elim (λ a. inl a) (λ a. inr (a.0, k f a.1)) h
 
 -- there is no fault where P holds and none is found next
 passed : (P : Type 0) (g : Fault) (next : Fault → Type 0) → P → NoFault next → NoFault (Unless P g next)
@@ -32,51 +32,35 @@ no_more = record { memory = refl; only = λ f h. h }
 pub memory_is : {X : Type 0} (r : Result X Fault) (faults : Fault → Type 0) → NoFault faults → IfErr r IsMemory → IfErr r faults
 memory_is r faults none h = IfErr-weaker r IsMemory faults (λ f e. subst faults (sym e) none.memory) h
 
--- the faults of a matrix, from each of its checks on
-abbrev from_values : Arithmetic → Columns → (Fault → Type 0) → Fault → Type 0
-from_values s c next = Unless (AreValues s c) Value next
-
-abbrev from_inside : Arithmetic → Columns → (Fault → Type 0) → Fault → Type 0
-from_inside s c next = Unless (AreInside c) Place (from_values s c next)
-
-abbrev from_ordered : Arithmetic → Columns → (Fault → Type 0) → Fault → Type 0
-from_ordered s c next = Unless (AreOrdered c) Order (from_inside s c next)
-
-abbrev from_lengths : Arithmetic → Columns → (Fault → Type 0) → Fault → Type 0
-from_lengths s c next = Unless (HaveLengths c) Lengths (from_ordered s c next)
-
-abbrev from_fits : Arithmetic → Columns → (Fault → Type 0) → Fault → Type 0
-from_fits s c next = Unless (Fits c) TooLarge (from_lengths s c next)
-
 -- where a matrix is well formed, what is looked for next
 pub matrix_after : (s : Arithmetic) (c : Columns) (next : Fault → Type 0) (f : Fault) → AreLists s c → next f → matrix_faults s c next f
 unfolding matrix_faults
 matrix_after s c next f are h = inr (are.form, inr (are.fits, inr (are.lengths, inr (are.ordered, inr (are.inside, inr (are.values, h))))))
 
 -- a fault of a matrix comes before what is looked for next
-matrix_rest : (s : Arithmetic) (c : Columns) (first next : Fault → Type 0) (f : Fault) → (first f → next f) → matrix_faults s c first f → matrix_faults s c next f
+matrix_rest : (s : Arithmetic) (c : Columns) (first next : Fault → Type 0) → ((f : Fault) → first f → next f) → (f : Fault) → matrix_faults s c first f → matrix_faults s c next f
 unfolding matrix_faults
-matrix_rest s c first next f k h =
-    wider (HasForm c) Form (from_fits s c first) (from_fits s c next) f
-    (wider (Fits c) TooLarge (from_lengths s c first) (from_lengths s c next) f
-    (wider (HaveLengths c) Lengths (from_ordered s c first) (from_ordered s c next) f
-    (wider (AreOrdered c) Order (from_inside s c first) (from_inside s c next) f
-    (wider (AreInside c) Place (from_values s c first) (from_values s c next) f
-    (wider (AreValues s c) Value first next f k))))) h
+matrix_rest s c first next k =
+    wider (HasForm c) Form _ _
+    (wider (Fits c) TooLarge _ _
+    (wider (HaveLengths c) Lengths _ _
+    (wider (AreOrdered c) Order _ _
+    (wider (AreInside c) Place _ _
+    (wider (AreValues s c) Value first next k)))))
 
 -- also where nothing is
 pub matrix_wider : (s : Arithmetic) (c : Columns) (next : Fault → Type 0) (f : Fault) → matrix_faults s c (λ _. ⊥) f → matrix_faults s c next f
-matrix_wider s c next f h = matrix_rest s c (λ _. ⊥) next f (λ k. absurd k) h
+matrix_wider s c next = matrix_rest s c (λ _. ⊥) next (λ f k. absurd k)
 
 matrix_passed : (s : Arithmetic) (c : Columns) (next : Fault → Type 0) → AreLists s c → NoFault next → NoFault (matrix_faults s c next)
 unfolding matrix_faults
 matrix_passed s c next are none =
-    passed (HasForm c) Form (from_fits s c next) are.form
-    (passed (Fits c) TooLarge (from_lengths s c next) are.fits
-    (passed (HaveLengths c) Lengths (from_ordered s c next) are.lengths
-    (passed (AreOrdered c) Order (from_inside s c next) are.ordered
-    (passed (AreInside c) Place (from_values s c next) are.inside
-    (passed (AreValues s c) Value next are.values none)))))
+    passed (HasForm c) Form _ are.form
+    (passed (Fits c) TooLarge _ are.fits
+    (passed (HaveLengths c) Lengths _ are.lengths
+    (passed (AreOrdered c) Order _ are.ordered
+    (passed (AreInside c) Place _ are.inside
+    (passed (AreValues s c) Value _ are.values none)))))
 
 -- the same of matrices, one after another
 front_after : (s : Arithmetic) (front rest : List Columns) (next : Fault → Type 0) (f : Fault) → All (AreLists s) front → each_faults s rest next f → each_faults s (front ++ rest) next f
@@ -117,7 +101,7 @@ each_after s (c ∷ cs) next f are h =
 each_wider : (s : Arithmetic) (cs : List Columns) (next : Fault → Type 0) (f : Fault) → each_faults s cs (λ _. ⊥) f → each_faults s cs next f
 unfolding each_faults
 each_wider s [] next f h = absurd h
-each_wider s (c ∷ cs) next f h = matrix_rest s c (each_faults s cs (λ _. ⊥)) (each_faults s cs next) f (each_wider s cs next f) h
+each_wider s (c ∷ cs) next f h = matrix_rest s c (each_faults s cs (λ _. ⊥)) (each_faults s cs next) (each_wider s cs next) f h
 
 each_passed : (s : Arithmetic) (cs : List Columns) (next : Fault → Type 0) → All (AreLists s) cs → NoFault next → NoFault (each_faults s cs next)
 unfolding each_faults

@@ -9,8 +9,8 @@
 //!
 //! The semirings have the numbers 0 (plus-times), 1 (min-plus), 2 (or-and) and 3 (max-min).
 //!
-//! `grid` is the side of a grid of ranks, 1 to 6. It is looked at, and changes nothing else: each call works on whole blocks
-//! on the caller's thread.
+//! `grid` is the side of a grid, 1 to 6. It is checked, and changes nothing else: each call works on whole blocks, on the
+//! caller's thread.
 #![tactic(auto)]
 
 ghost use Rattle.std.specs.Prelude.{◌≡◌, ◌≢◌, [], ◌∷◌, length, Some, IfSome, IfOk, IfErr};
@@ -80,14 +80,8 @@ pub extern "C" fn cbgrid_kernel_multiply(
 ) -> u32
     ensures { IsOperationCall semiring grid (Some operation_is.Multiply) (a.now ∷ b.now ∷ []) result out.old out.new }
 {
-    call(
-        alloc,
-        semiring,
-        grid,
-        Some(Operation::Multiply),
-        &[*a, *b],
-        out,
-    )
+    let operation = Some(Operation::Multiply);
+    call(alloc, semiring, grid, operation, &[*a, *b], out)
 }
 
 /// The product of two matrices, kept where a mask has entries, over the semiring of a number.
@@ -103,14 +97,8 @@ pub extern "C" fn cbgrid_kernel_multiply_masked(
 ) -> u32
     ensures { IsOperationCall semiring grid (Some operation_is.MultiplyMasked) (a.now ∷ b.now ∷ mask.now ∷ []) result out.old out.new }
 {
-    call(
-        alloc,
-        semiring,
-        grid,
-        Some(Operation::MultiplyMasked),
-        &[*a, *b, *mask],
-        out,
-    )
+    let operation = Some(Operation::MultiplyMasked);
+    call(alloc, semiring, grid, operation, &[*a, *b, *mask], out)
 }
 
 /// The product of a matrix by a vector, which has one column, over the semiring of a number.
@@ -125,14 +113,8 @@ pub extern "C" fn cbgrid_kernel_vector(
 ) -> u32
     ensures { IsOperationCall semiring grid (Some operation_is.MultiplyVector) (a.now ∷ x.now ∷ []) result out.old out.new }
 {
-    call(
-        alloc,
-        semiring,
-        grid,
-        Some(Operation::MultiplyVector),
-        &[*a, *x],
-        out,
-    )
+    let operation = Some(Operation::MultiplyVector);
+    call(alloc, semiring, grid, operation, &[*a, *x], out)
 }
 
 /// The transpose of a matrix, over the semiring of a number.
@@ -146,14 +128,8 @@ pub extern "C" fn cbgrid_kernel_transpose(
 ) -> u32
     ensures { IsOperationCall semiring grid (Some operation_is.Transpose) (a.now ∷ []) result out.old out.new }
 {
-    call(
-        alloc,
-        semiring,
-        grid,
-        Some(Operation::Transpose),
-        &[*a],
-        out,
-    )
+    let operation = Some(Operation::Transpose);
+    call(alloc, semiring, grid, operation, &[*a], out)
 }
 
 /// The sum at each place of two matrices of one shape, over the semiring of a number.
@@ -183,14 +159,8 @@ pub extern "C" fn cbgrid_kernel_times(
 ) -> u32
     ensures { IsOperationCall semiring grid (Some operation_is.Times) (a.now ∷ b.now ∷ []) result out.old out.new }
 {
-    call(
-        alloc,
-        semiring,
-        grid,
-        Some(Operation::Times),
-        &[*a, *b],
-        out,
-    )
+    let operation = Some(Operation::Times);
+    call(alloc, semiring, grid, operation, &[*a, *b], out)
 }
 
 /// A matrix without the entries whose value passes a test, over the semiring of a number.

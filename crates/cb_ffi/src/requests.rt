@@ -64,7 +64,7 @@ fn answer_over<S: Semiring>(
 }
 
 /// The lists of what an operation makes of matrices, over the semiring of a number. There is no operation where no test has
-/// the number of a prune. The side of a grid is looked at, and changes no answer.
+/// the number of a prune. The side of a grid is checked, and changes no answer.
 pub(crate) fn answer(
     alloc: Global,
     semiring: u32,

@@ -36,13 +36,10 @@ const ALL: Columns = Columns {
 const TURNED: Columns = Columns {
     nrows: 3,
     ncols: 2,
-    kind: 0,
-    wide: 1,
     columns: &[0, 1],
-    starts32: &[],
     starts64: &[0, 1, 3],
     rows: &[0, 0, 2],
-    values: &[1, 2, 3],
+    ..NAMED
 };
 
 /// The matrix without rows and columns.
@@ -57,6 +54,25 @@ const NONE: Columns = Columns {
     rows: &[],
     values: &[],
 };
+
+/// A matrix by its columns that have entries, with starts of 64 bits.
+fn named(
+    (nrows, ncols): (u32, u32),
+    columns: &'static [u32],
+    starts64: &'static [u64],
+    rows: &'static [u32],
+    values: &'static [u64],
+) -> Columns {
+    Columns {
+        nrows,
+        ncols,
+        columns,
+        starts64,
+        rows,
+        values,
+        ..NONE
+    }
+}
 
 /// Whether lists are the same, one by one.
 fn are_same(lists: &Columns, wanted: &Columns) -> bool {
@@ -87,13 +103,7 @@ fn infinity_is_not_stored_in_min_plus(rt: HostRuntime) {
         values: &[1, u64::MAX, 3],
         ..NAMED
     };
-    let wanted = Columns {
-        columns: &[0, 1],
-        starts64: &[0, 1, 2],
-        rows: &[0, 2],
-        values: &[1, 3],
-        ..TURNED
-    };
+    let wanted = named((3, 2), &[0, 1], &[0, 1, 2], &[0, 2], &[1, 3]);
     assert!(rt; turns_into(rt.alloc(), 1, &lists, &wanted));
 }
 
@@ -105,15 +115,7 @@ fn have_product(alloc: Global, grid: u32, a: &Columns, b: &Columns, wanted: &Col
 
 #[test]
 fn a_product_of_both_kinds(rt: HostRuntime) {
-    let wanted = Columns {
-        nrows: 2,
-        ncols: 2,
-        columns: &[0, 1],
-        starts64: &[0, 2, 4],
-        rows: &[0, 1, 0, 1],
-        values: &[1, 2, 2, 13],
-        ..NONE
-    };
+    let wanted = named((2, 2), &[0, 1], &[0, 2, 4], &[0, 1, 0, 1], &[1, 2, 2, 13]);
     for grid in 1..7 {
         assert!(rt; have_product(rt.alloc(), grid, &ALL, &TURNED, &wanted));
     }
@@ -121,15 +123,8 @@ fn a_product_of_both_kinds(rt: HostRuntime) {
 
 #[test]
 fn a_shape_costs_nothing(rt: HostRuntime) {
-    let lists = Columns {
-        nrows: 2_147_483_647,
-        ncols: 2_147_483_647,
-        columns: &[2_147_483_646],
-        starts64: &[0, 1],
-        rows: &[2_147_483_646],
-        values: &[7],
-        ..NONE
-    };
+    let sides = (2_147_483_647, 2_147_483_647);
+    let lists = named(sides, &[2_147_483_646], &[0, 1], &[2_147_483_646], &[7]);
     let wanted = Columns {
         values: &[49],
         ..lists
@@ -167,10 +162,10 @@ const REFUSED_LISTS: [RefusedLists; 9] = [
     (&[0, 2], &[0, 2, 3], &[0, 2, 1], &[1, 2, 3], 8),
 ];
 
-/// Whether lists are refused by a code, and the answer is as it was.
-fn is_refused(alloc: Global, lists: &Columns, code: u32) -> bool {
+/// Whether lists are refused by a code, over the semiring of a number, and the answer is as it was.
+fn is_refused(alloc: Global, semiring: u32, lists: &Columns, code: u32) -> bool {
     let mut out = NAMED;
-    cbgrid_kernel_transpose(alloc, 0, 1, lists, &mut out) == code && are_same(&out, &NAMED)
+    cbgrid_kernel_transpose(alloc, semiring, 1, lists, &mut out) == code && are_same(&out, &NAMED)
 }
 
 #[test]
@@ -183,21 +178,15 @@ fn each_fault_of_a_head_has_its_code(rt: HostRuntime) {
             wide,
             ..NAMED
         };
-        assert!(rt; is_refused(rt.alloc(), &lists, code), "{code}");
+        assert!(rt; is_refused(rt.alloc(), 0, &lists, code), "{code}");
     }
 }
 
 #[test]
 fn each_fault_of_lists_has_its_code(rt: HostRuntime) {
     for (columns, starts64, rows, values, code) in REFUSED_LISTS {
-        let lists = Columns {
-            columns,
-            starts64,
-            rows,
-            values,
-            ..NAMED
-        };
-        assert!(rt; is_refused(rt.alloc(), &lists, code), "{code}");
+        let lists = named((2, 3), columns, starts64, rows, values);
+        assert!(rt; is_refused(rt.alloc(), 0, &lists, code), "{code}");
     }
 }
 
@@ -228,14 +217,20 @@ fn numbers_are_looked_at_before_lists(rt: HostRuntime) {
     }
 }
 
-/// The codes of a value that isn't one of or-and, of shapes that don't agree, and of the second matrix where they don't.
-fn other_codes(alloc: Global) -> [u32; 5] {
+/// The codes of a product whose shapes don't agree, and of one by a vector of two columns.
+fn product_codes(alloc: Global) -> [u32; 2] {
+    let mut out = NAMED;
+    [
+        cbgrid_kernel_multiply(alloc, 0, 1, &NAMED, &NAMED, &mut out),
+        cbgrid_kernel_vector(alloc, 0, 1, &NAMED, &TURNED, &mut out),
+    ]
+}
+
+/// The codes of a sum of two shapes, and of a product place by place whose second matrix has another shape and no form.
+fn placewise_codes(alloc: Global) -> [u32; 2] {
     let formless = Columns { kind: 2, ..NONE };
     let mut out = NAMED;
     [
-        cbgrid_kernel_transpose(alloc, 2, 1, &NAMED, &mut out),
-        cbgrid_kernel_multiply(alloc, 0, 1, &NAMED, &NAMED, &mut out),
-        cbgrid_kernel_vector(alloc, 0, 1, &NAMED, &TURNED, &mut out),
         cbgrid_kernel_add(alloc, 0, 1, &NAMED, &NONE, &mut out),
         cbgrid_kernel_times(alloc, 0, 1, &NAMED, &formless, &mut out),
     ]
@@ -243,7 +238,9 @@ fn other_codes(alloc: Global) -> [u32; 5] {
 
 #[test]
 fn values_and_shapes_have_their_codes(rt: HostRuntime) {
-    assert!(rt; other_codes(rt.alloc()) == [9, 10, 10, 10, 4]);
+    assert!(rt; is_refused(rt.alloc(), 2, &NAMED, 9));
+    assert!(rt; product_codes(rt.alloc()) == [10, 10]);
+    assert!(rt; placewise_codes(rt.alloc()) == [10, 4]);
 }
 
 /// Whether the sum of the two kinds of a matrix, and their product place by place, have these values.
@@ -291,15 +288,7 @@ fn is_vector_product(alloc: Global, vector: &Columns, values: &[u64]) -> bool {
 fn products_under_a_mask_and_by_a_vector(rt: HostRuntime) {
     let mask = Columns { nrows: 3, ..NAMED };
     assert!(rt; is_masked(rt.alloc(), &mask, 5));
-    let vector = Columns {
-        nrows: 3,
-        ncols: 1,
-        columns: &[0],
-        starts64: &[0, 2],
-        rows: &[0, 2],
-        values: &[1, 1],
-        ..NONE
-    };
+    let vector = named((3, 1), &[0], &[0, 2], &[0, 2], &[1, 1]);
     assert!(rt; is_vector_product(rt.alloc(), &vector, &[1, 5]));
 }
 
@@ -319,16 +308,6 @@ const ROADS: Columns = Columns {
     ..GRAPH
 };
 
-/// The numbers of its vertices from the first, without their values.
-const NUMBERS: Columns = Columns {
-    nrows: 4,
-    ncols: 1,
-    columns: &[0],
-    starts64: &[0, 3],
-    rows: &[0, 1, 2],
-    ..NONE
-};
-
 /// Whether these are the distances from the first vertex, with a side of a grid.
 fn are_distances(alloc: Global, grid: u32, wanted: &Columns) -> bool {
     let mut out = NONE;
@@ -337,10 +316,7 @@ fn are_distances(alloc: Global, grid: u32, wanted: &Columns) -> bool {
 
 #[test]
 fn distances_in_a_graph(rt: HostRuntime) {
-    let wanted = Columns {
-        values: &[0, 6, 2],
-        ..NUMBERS
-    };
+    let wanted = named((4, 1), &[0], &[0, 3], &[0, 1, 2], &[0, 6, 2]);
     for grid in 1..7 {
         assert!(rt; are_distances(rt.alloc(), grid, &wanted), "{grid}");
     }
@@ -354,31 +330,22 @@ fn are_levels(alloc: Global, grid: u32, source: u32, wanted: &Columns) -> bool {
 
 #[test]
 fn levels_in_a_graph(rt: HostRuntime) {
-    let wanted = Columns {
-        values: &[0, 1, 1],
-        ..NUMBERS
-    };
-    let alone = Columns {
-        starts64: &[0, 1],
-        rows: &[3],
-        values: &[0],
-        ..NUMBERS
-    };
+    let wanted = named((4, 1), &[0], &[0, 3], &[0, 1, 2], &[0, 1, 1]);
+    let alone = named((4, 1), &[0], &[0, 1], &[3], &[0]);
     for grid in 1..7 {
         assert!(rt; are_levels(rt.alloc(), grid, 0, &wanted), "{grid}");
         assert!(rt; are_levels(rt.alloc(), grid, 3, &alone), "{grid}");
     }
 }
 
-/// The side of a grid, a graph and a source, and the codes that its levels and its distances are refused by: lists of no
-/// form, a value that isn't one of or-and, a matrix that isn't square, and a source that is no vertex.
-const REFUSED_GRAPHS: [(u32, Columns, u32, [u32; 2]); 6] = [
-    (0, Columns { kind: 2, ..GRAPH }, 0, [2, 2]),
-    (7, Columns { kind: 2, ..GRAPH }, 0, [2, 2]),
-    (1, Columns { kind: 2, ..GRAPH }, 9, [4, 4]),
-    (1, Columns { nrows: 5, ..GRAPH }, 0, [9, 11]),
-    (2, Columns { nrows: 5, ..ROADS }, 9, [11, 11]),
-    (3, ROADS, 4, [12, 12]),
+/// The side of a grid, the kind and the rows of a graph, and a source, and the code that they are refused by: no side, a
+/// matrix of no form, one that isn't square, and a source that is no vertex.
+const REFUSED_GRAPHS: [(u32, u32, u32, u32, u32); 5] = [
+    (0, 2, 4, 0, 2),
+    (7, 2, 4, 0, 2),
+    (1, 2, 4, 9, 4),
+    (2, 0, 5, 9, 11),
+    (3, 0, 4, 4, 12),
 ];
 
 /// Whether a graph is refused by a code for its levels and one for its distances, and the answer is as it was.
@@ -387,7 +354,7 @@ fn graph_is_refused(
     grid: u32,
     graph: &Columns,
     source: u32,
-    codes: &[u32; 2],
+    codes: [u32; 2],
 ) -> bool {
     let mut out = NAMED;
     cbgrid_kernel_levels(alloc, grid, graph, source, &mut out) == codes[0]
@@ -397,12 +364,19 @@ fn graph_is_refused(
 
 #[test]
 fn each_fault_of_a_graph_has_its_codes(rt: HostRuntime) {
-    for (grid, graph, source, codes) in &REFUSED_GRAPHS {
+    for (grid, kind, nrows, source, code) in REFUSED_GRAPHS {
+        let graph = Columns {
+            kind,
+            nrows,
+            ..ROADS
+        };
         assert!(rt;
-            graph_is_refused(rt.alloc(), *grid, graph, *source, codes),
-            "{codes:?}"
+            graph_is_refused(rt.alloc(), grid, &graph, source, [code, code]),
+            "{code}"
         );
     }
+    let lengths = Columns { nrows: 5, ..GRAPH };
+    assert!(rt; graph_is_refused(rt.alloc(), 1, &lengths, 0, [9, 11]));
 }
 
 /// Whether a text reads as these lists, leaves the number of a line as it was, and is their text.
@@ -420,12 +394,7 @@ fn is_text_of(alloc: Global, text: &[u8], wanted: &Columns) -> bool {
 #[test]
 fn a_text_is_read_and_written(rt: HostRuntime) {
     let text = b"%%MatrixMarket matrix coordinate integer general\n2 3 2\n1 1 5\n2 3 6\n";
-    let wanted = Columns {
-        starts64: &[0, 1, 2],
-        rows: &[0, 1],
-        values: &[5, 6],
-        ..NAMED
-    };
+    let wanted = named((2, 3), &[0, 2], &[0, 1, 2], &[0, 1], &[5, 6]);
     assert!(rt; is_text_of(rt.alloc(), text, &wanted));
 }
 
