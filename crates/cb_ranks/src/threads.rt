@@ -4,7 +4,7 @@ ghost use Rattle.std.specs.List.{AllZip};
 ghost use Rattle.cb_plan.specs.Stores.{Fits};
 ghost use Rattle.cb_ranks.specs.Crews.{AreNew, IsOneOf, Ran};
 ghost use Rattle.cb_ranks.specs.Faults.{IsFaultIn, IsFaultOf};
-ghost use Rattle.cb_ranks.specs.Finished.{HoldsMeaning};
+ghost use Rattle.cb_ranks.specs.Finished.{FinishesPlan};
 ghost use Rattle.cb_ranks.specs.Rooms.{IsRoomFor};
 ghost use Rattle.cb_ranks.specs.Runs.{IsNewRun};
 ghost use Rattle.cb_ranks.specs.Started.{started, started_recorder};
@@ -45,7 +45,7 @@ pub fn run_threads<S: Semiring + Send + Sync, R: Threads + Wait + Sync, G: Gate<
     gate: &G,
 ) -> Result<Finished<S>, RunFault>
     requires { Fits plan.now.ranks plan.now.starts stores.items }
-    ensures meaning { IfOk result (λ finished. HoldsMeaning S.arithmetic plan.now stores.items (finished_view finished)) }
+    ensures meaning { IfOk result (λ finished. FinishesPlan S.arithmetic plan.now stores.items (finished_view finished)) }
     ensures fault { IfErr result (IsFaultOf plan.now.ranks) }
 {
     let recorders = vec![in alloc; Silent; plan.ranks() as usize]?;
@@ -70,7 +70,7 @@ pub(crate) fn run_told<
 ) -> Result<(Finished<S>, Vec<T>), RunFault>
     requires fits { Fits plan.now.ranks plan.now.starts stores.items }
     requires count { length recorders.items ≡ plan.now.ranks }
-    ensures meaning { IfOk result (λ done. HoldsMeaning S.arithmetic plan.now stores.items (finished_view done.0)) }
+    ensures meaning { IfOk result (λ done. FinishesPlan S.arithmetic plan.now stores.items (finished_view done.0)) }
     ensures told { IfOk result (λ done. HaveToldPlan T.tells plan.now recorders.items done.1.items) }
     ensures fault { IfErr result (IsFaultOf plan.now.ranks) }
 {

@@ -138,5 +138,6 @@ fn stepped<S: Semiring>(
     };
     world.run(order);
     world.finish();
-    Ok(world.into_stores())
+    let (stores, _refusals) = world.into_parts();
+    Ok(stores)
 }

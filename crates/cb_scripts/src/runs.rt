@@ -150,7 +150,8 @@ impl Engine {
             Engine::Ranks(letters) => {
                 let capacity = letters.clamp(1, 64);
                 let finished = run_threads(rt, alloc, plan, stores, capacity, &OpenGate)?;
-                Ok(finished.stores())
+                let (stores, _refusals) = finished.into_parts();
+                Ok(stores)
             }
         }
     }

@@ -216,5 +216,6 @@ fn run<S: Semiring + Send + Sync, R: Threads + Wait + Sync>(
     let capacity = capacity.clamp(1, 64);
     let (finished, trace) = run_traced(rt, alloc, plan, stores, capacity, &OpenGate)?;
     let _len = trace.len();
-    Ok((finished.stores(), trace))
+    let (stores, _refusals) = finished.into_parts();
+    Ok((stores, trace))
 }
