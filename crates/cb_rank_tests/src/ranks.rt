@@ -78,18 +78,23 @@ fn two_ranks_run_on_threads_of_the_caller(rt: HostRuntime) -> Result<(), Fail> {
     Ok(())
 }
 
+/// Whom a rank finds gone, if it is given up.
+fn given_up_by<R: Wait>(rt: &R, member: Member<PlusTimes>) -> Option<Gone>
+    requires { IsNewRun member.0 member.1 }
+{
+    let (rank, desk) = member;
+    run_rank(rt, rank, desk, &OpenGate).err()
+}
+
 #[test]
 fn a_rank_whose_peer_is_gone_is_given_up(rt: HostRuntime) -> Result<(), Fail> {
     let (first, second) = pair(rt.alloc())?;
     drop(second);
-    let (rank, desk) = first;
-    match run_rank(&rt, rank, desk, &OpenGate) {
-        Ok(_) => Err("nothing comes from rank 1".into()),
-        Err(gone) => {
-            assert_eq!(rt; gone, Gone(1));
-            Ok(())
-        }
-    }
+    assert_eq!(rt; given_up_by(&rt, first), Some(Gone(1)));
+    let (first, second) = pair(rt.alloc())?;
+    drop(first);
+    assert_eq!(rt; given_up_by(&rt, second), Some(Gone(0)));
+    Ok(())
 }
 
 /// What rank 0 holds as the double in the end, and how often each of the two was refused memory.
