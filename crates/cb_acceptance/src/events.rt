@@ -35,7 +35,8 @@ pub(crate) fn stores_of(world: World<PlusTimes>) -> Option<Vec<RankStore<PlusTim
     if !world.all_done() {
         return None;
     }
-    Some(world.into_stores())
+    let (stores, _refusals) = world.into_parts();
+    Some(stores)
 }
 
 /// Whether each of these events is answered so.

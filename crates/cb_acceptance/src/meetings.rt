@@ -211,6 +211,8 @@ fn ranks_in_threads_meet_and_leave_the_product(rt: HostRuntime) -> Result<(), Fa
     assert_eq!(rt; passes.count(&rt, alloc, &plan), Some(60));
     assert_eq!(rt; letters(&finished), Some(20));
     assert_eq!(rt; finished.refusals(), 0);
-    assert_eq!(rt; results(&finished.stores()), product_blocks());
+    let (stores, refusals) = finished.into_parts();
+    assert!(rt; refusals.as_slice() == [0; 4].as_slice());
+    assert_eq!(rt; results(&stores), product_blocks());
     Ok(())
 }

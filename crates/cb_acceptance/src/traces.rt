@@ -63,10 +63,8 @@ fn traced_ranks_leave_the_product_and_a_legal_trace(rt: HostRuntime) -> Result<(
             };
             assert_eq!(rt; (trace.ranks(), kinds_of(&trace)), (grid.ranks(), kinds));
             assert_eq!(rt; is_taken_again(alloc, &trace), Some(true));
-            assert_eq!(rt;
-                leave(alloc, &grid, &finished.stores(), &wanted),
-                Some(true)
-            );
+            let (stores, _refusals) = finished.into_parts();
+            assert_eq!(rt; leave(alloc, &grid, &stores, &wanted), Some(true));
         }
     }
     Ok(())

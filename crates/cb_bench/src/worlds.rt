@@ -77,7 +77,7 @@ fn time_world<R: CpuClock + AllocGlobal>(
     };
     let steps = world.remaining();
     world.finish();
-    let stores = world.into_stores();
+    let (stores, _refusals) = world.into_parts();
     let took = now(rt).saturating_sub(start);
     Ok(Counts {
         given: given as u64,

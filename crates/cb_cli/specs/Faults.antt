@@ -44,7 +44,7 @@ engine_line_of engine_is.Memory = codes "cbgrid: out of memory\n"
 engine_line_of (engine_is.NotStarted rank) = not_started_line_of rank
 engine_line_of (engine_is.Gone rank) = gone_line_of rank
 engine_line_of engine_is.TraceTorn = codes "cbgrid: trace torn\n"
-engine_line_of (engine_is.Lost origin) = lost_line_of origin
+engine_line_of (engine_is.Lost rank refusals) = lost_line_of rank
 
 -- the line of a run that has no answer
 abbrev pub run_line_of : OperationFault → List ℕ

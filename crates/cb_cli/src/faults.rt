@@ -78,7 +78,7 @@ fn engine_line(alloc: Global, fault: EngineFault) -> Result<Vec<u8>, AllocError>
         EngineFault::NotStarted(rank) => not_started_line(alloc, rank),
         EngineFault::Gone(rank) => gone_line(alloc, rank),
         EngineFault::TraceTorn => Vec::from_slice(alloc, b"cbgrid: trace torn\n"),
-        EngineFault::Lost(origin) => lost_line(alloc, origin),
+        EngineFault::Lost { rank, .. } => lost_line(alloc, rank),
     }
 }
 

@@ -369,7 +369,10 @@ const FAULTS: [(JobFault, u8, &str); 11] = [
         "cbgrid: rank 0 gone\n",
     ),
     (
-        JobFault::Run(OperationFault::Failed(EngineFault::Lost(7))),
+        JobFault::Run(OperationFault::Failed(EngineFault::Lost {
+            rank: 7,
+            refusals: 1,
+        })),
         6,
         "cbgrid: lost at rank 7\n",
     ),

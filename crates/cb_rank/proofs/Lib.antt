@@ -6,6 +6,8 @@
 -- WantedHalf: the half that a rank wants, by the kind that it names.
 -- LanesByHalves: how the lanes stand that a rank posts to, by the halves that it has done.
 -- Ports: the ports of a rank, before a half and after it.
+-- LostSlots: what is lost of what ranks leave: nothing where no rank was refused memory (`whole_by`, `none_lost`), and else
+--   at ranks of the plan that were refused some (`lost_where_refused`).
 pub mod OwnActs
 pub mod Halves
 pub mod WantedHalf
@@ -13,3 +15,4 @@ pub mod NextAct
 pub mod RankAfterHalf
 pub mod LanesByHalves
 pub mod Ports
+pub mod LostSlots

@@ -14,7 +14,8 @@
 //! waits for. Anything else is a [`Stray`], and changes nothing.
 //!
 //! `specs/Halves` says what one rank does by itself. `specs/Agreement` says how the slots and lanes of all ranks
-//! stand to what the plan means, at every moment of every run.
+//! stand to what the plan means, at every moment of every run, and `specs/Leavings` what the ranks leave once all have
+//! done their programs, however they were run.
 #![tactic(auto)]
 
 mod operations;

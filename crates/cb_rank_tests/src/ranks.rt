@@ -78,31 +78,41 @@ fn two_ranks_run_on_threads_of_the_caller(rt: HostRuntime) -> Result<(), Fail> {
     Ok(())
 }
 
+/// Whom a rank finds gone, if it is given up.
+fn given_up_by<R: Wait>(rt: &R, member: Member<PlusTimes>) -> Option<Gone>
+    requires { IsNewRun member.0 member.1 }
+{
+    let (rank, desk) = member;
+    run_rank(rt, rank, desk, &OpenGate).err()
+}
+
 #[test]
 fn a_rank_whose_peer_is_gone_is_given_up(rt: HostRuntime) -> Result<(), Fail> {
     let (first, second) = pair(rt.alloc())?;
     drop(second);
-    let (rank, desk) = first;
-    match run_rank(&rt, rank, desk, &OpenGate) {
-        Ok(_) => Err("nothing comes from rank 1".into()),
-        Err(gone) => {
-            assert_eq!(rt; gone, Gone(1));
-            Ok(())
-        }
-    }
+    assert_eq!(rt; given_up_by(&rt, first), Some(Gone(1)));
+    let (first, second) = pair(rt.alloc())?;
+    drop(first);
+    assert_eq!(rt; given_up_by(&rt, second), Some(Gone(0)));
+    Ok(())
 }
 
-/// How often memory was refused, and what rank 0 holds as the double in the end.
-fn left_at_0(finished: Finished<PlusTimes>) -> (u64, Option<Held>) {
-    let refusals = finished.refusals();
-    (refusals, contents_at(&finished.stores(), 0, 2))
+/// What rank 0 holds as the double in the end, and how often each of the two was refused memory.
+fn left_at_0(finished: Finished<PlusTimes>) -> Option<(Held, [u64; 2])> {
+    let (stores, refusals) = finished.into_parts();
+    let [first, second] = refusals.as_slice() else {
+        return None;
+    };
+    Some((contents_at(&stores, 0, 2)?, [*first, *second]))
 }
 
-/// Whether the double is there, and no memory was refused, or it is lost by one refusal.
+/// Whether the double is there, and no memory was refused, or it is lost by one refusal, at the rank that it names.
 fn is_whole_or_lost(finished: Finished<PlusTimes>) -> bool {
     match left_at_0(finished) {
-        (0, doubled) => doubled == Some(Held::Number(6)),
-        (refusals, doubled) => refusals == 1 && matches!(doubled, Some(Held::LostAt(_))),
+        Some((Held::Number(6), refusals)) => refusals == [0, 0],
+        Some((Held::LostAt(0), refusals)) => refusals == [1, 0],
+        Some((Held::LostAt(1), refusals)) => refusals == [0, 1],
+        _ => false,
     }
 }
 
@@ -146,7 +156,7 @@ fn ranks_in_threads_meet(rt: HostRuntime) -> Result<(), Fail> {
     let [first, second] = &gate.passes;
     let passes = (first.load(Ordering::SeqCst), second.load(Ordering::SeqCst));
     assert_eq!(rt; (gate.met.load(Ordering::SeqCst), passes), (2, (4, 5)));
-    assert_eq!(rt; left_at_0(finished), (0, Some(Held::Number(6))));
+    assert_eq!(rt; left_at_0(finished), Some((Held::Number(6), [0, 0])));
     Ok(())
 }
 
@@ -293,7 +303,7 @@ fn tells_its_story<R: Threads + Wait + Sync>(
     let (finished, trace) = run_traced(rt, alloc, &plan, stores, capacity, &gate).ok()?;
     let Scribe { of_0, of_1, .. } = gate;
     let agree = has_stories(&trace, &of_0.into_inner(), &of_1.into_inner());
-    Some(agree && left_at_0(finished) == (0, Some(Held::Number(6))))
+    Some(agree && left_at_0(finished) == Some((Held::Number(6), [0, 0])))
 }
 
 #[test]

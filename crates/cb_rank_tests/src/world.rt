@@ -23,14 +23,23 @@ fn world_of(alloc: Global, plan: &CheckedPlan) -> Option<World<PlusTimes>> {
     World::start(alloc, plan, stores, 1).ok()
 }
 
-/// The double at rank 1, and its copy at rank 0, once all is done.
-fn doubles(world: World<PlusTimes>) -> Option<(Held, Held)> {
+/// What ranks 0 and 1 hold as the double once all is done, and how often each was refused memory.
+fn doubles(world: World<PlusTimes>) -> Option<[(Held, u64); 2]> {
     if !world.all_done() {
         return None;
     }
-    let stores = world.into_stores();
-    Some((contents_at(&stores, 1, 1)?, contents_at(&stores, 0, 2)?))
+    let (stores, refusals) = world.into_parts();
+    let [first, second] = refusals.as_slice() else {
+        return None;
+    };
+    Some([
+        (contents_at(&stores, 0, 2)?, *first),
+        (contents_at(&stores, 1, 1)?, *second),
+    ])
 }
+
+/// What they hold where memory is ample.
+const WHOLE: [(Held, u64); 2] = [(Held::Number(12), 0), (Held::Number(12), 0)];
 
 /// Whether these events are answered so, in order.
 fn answers(world: &mut World<PlusTimes>, rows: &[(Event, Moved)]) -> bool {
@@ -59,7 +68,7 @@ fn waits_and_finishes(world: &mut World<PlusTimes>) -> bool {
 fn a_rank_waits_for_its_letter(rt: HostRuntime) -> Result<(), Fail> {
     let mut world = world(rt.alloc()).ok_or("a world")?;
     assert!(rt; waits_and_finishes(&mut world));
-    assert_eq!(rt; doubles(world), Some((Held::Number(12), Held::Number(12))));
+    assert_eq!(rt; doubles(world), Some(WHOLE));
     Ok(())
 }
 
@@ -101,33 +110,42 @@ fn ranks_may_step_in_rounds(rt: HostRuntime) -> Result<(), Fail> {
     for _ in 0..9 {
         world.run(&[Event::Step(1), Event::Step(0)]);
     }
-    assert_eq!(rt; doubles(world), Some((Held::Number(12), Held::Number(12))));
+    assert_eq!(rt; doubles(world), Some(WHOLE));
     Ok(())
 }
 
-/// Whether a rank that is starved, after these steps, moves so and loses the double everywhere.
-fn is_lost_at(alloc: Global, steps: &[Event], rank: u16, moved: Moved) -> Option<bool> {
+/// What the ranks hold where one of them is starved after these steps, if it moves so and memory is refused once.
+fn starved_after(
+    alloc: Global,
+    steps: &[Event],
+    rank: u16,
+    moved: Moved,
+) -> Option<[(Held, u64); 2]> {
     let mut world = world(alloc)?;
     world.run(steps);
     let as_said = world.step(Event::Starve(rank)) == moved;
     world.finish();
-    let refusals = world.refusals();
-    let lost = doubles(world)? == (Held::LostAt(rank), Held::LostAt(rank));
-    Some(as_said && refusals == 1 && lost)
+    if !as_said || world.refusals() != 1 {
+        return None;
+    }
+    doubles(world)
 }
 
 #[test]
 fn a_starved_operation_is_lost_at_its_rank(rt: HostRuntime) {
     let steps = [Event::Step(0), Event::Step(1)];
     assert_eq!(rt;
-        is_lost_at(rt.alloc(), &steps, 1, Moved::Worked),
-        Some(true)
+        starved_after(rt.alloc(), &steps, 1, Moved::Worked),
+        Some([(Held::LostAt(1), 0), (Held::LostAt(1), 1)])
     );
 }
 
 #[test]
 fn a_starved_post_is_lost_at_its_rank(rt: HostRuntime) {
-    assert_eq!(rt; is_lost_at(rt.alloc(), &[], 0, Moved::Posted), Some(true));
+    assert_eq!(rt;
+        starved_after(rt.alloc(), &[], 0, Moved::Posted),
+        Some([(Held::LostAt(0), 1), (Held::LostAt(0), 0)])
+    );
 }
 
 /// How often memory was refused where the half after so many others is starved.

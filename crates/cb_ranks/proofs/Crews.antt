@@ -1,12 +1,12 @@
 -- All ranks of a plan with their desks, each of which ran its program: together they hold what the plan means.
 use Rattle.std.proofs.Common.{◌≡◌, ◌≢◌, ℕ, zero, suc, ◌+◌, ◌<◌, ◌≤◌, ◌^◌, false, List, [], ◌∷◌, length, map, get_or, refl, sym, ap, ◌∙◌, subst, arith, ⊎_elim}
-use Rattle.std.specs.Prelude.{All, Option, Some, None, slice_get, sum, ◌==◌}
+use Rattle.std.specs.Prelude.{All, Some, None, slice_get, ◌==◌}
 use Rattle.std.specs.List.{AllZip}
 use Rattle.std.proofs.lemmas.Bool.{cases_lt}
 use Rattle.std.proofs.lemmas.Bool.Decides.{nat_tests}
 use Rattle.std.proofs.lemmas.List.{get_or-map, length-map}
 use Rattle.std.proofs.lemmas.List.Elements.{All-from_get_or, length_all_zip}
-use Rattle.std.proofs.lemmas.List.Sums.{get_or-le-sum_by, sum_by-le}
+use Rattle.std.proofs.lemmas.List.Sums.{sum_by-le}
 use Rattle.std.proofs.lemmas.Option.{slice_get-map, get_or_from_slice_get}
 use Rattle.std.proofs.Math.ListN.{get_or-eq_default}
 use Rattle.std.specs.Option.{option_map}
@@ -25,9 +25,8 @@ use Rattle.cb_plan.specs.Letters.{Cargo, count_of, letters}
 use Rattle.cb_plan.specs.Meaning.{Algebra, State, act, meaning}
 use Rattle.cb_plan.specs.Plans.{CheckedView, IsChecked}
 use Rattle.cb_plan.specs.Programs.{project}
-use Rattle.cb_plan.specs.Stores.{state_of, sheet_of, is_lost, Fits}
+use Rattle.cb_plan.specs.Stores.{state_of, Fits}
 use Rattle.cb_plan.specs.Tables.{cell, IsTable}
-use Rattle.cb_plan.proofs.Effects.{same_state}
 use Rattle.cb_plan.proofs.PassingActs.{checked_passes}
 use Rattle.cb_plan.proofs.ActOnStores.{first_below}
 use Rattle.cb_lanes.specs.declared.desk.Desk.{Desk}
@@ -37,11 +36,12 @@ use Rattle.cb_lanes.specs.Lanes.{posted_on, taken_on}
 use Rattle.cb_rank.specs.Agreement.{IsSlotOf, AreLettersOf}
 use Rattle.cb_rank.specs.Halves.{Course, RunsTo}
 use Rattle.cb_rank.specs.Ranks.{RankView, new_rank}
+use Rattle.cb_rank.proofs.LostSlots.{whole_by}
 use Rattle.cb_rank.proofs.OwnActs.{quiet_act}
 use Rattle.cb_rank.proofs.RankAfterHalf.{few_halves}
 use Rattle.cb_ranks.specs.Runs.{course_of, IsNewRun}
 use Rattle.cb_ranks.specs.Crews.{Member, desks_of, stores_of, counts_of, AreNew, Ran, IsCrew}
-use Rattle.cb_ranks.specs.Finished.{FinishedView, IsFinished, HoldsMeaning}
+use Rattle.cb_ranks.specs.Finished.{FinishedView, IsFinished, FinishesPlan}
 use Rattle.cb_ranks.proofs.Courses.{fresh, same_course}
 use Rattle.cb_ranks.proofs.ClosingLaw.{AreFinished, closes}
 
@@ -147,19 +147,6 @@ same_letters refs f t n [] (x ∷ xs) h = absurd h
 same_letters refs f t n (w ∷ ws) [] h = absurd h
 same_letters refs f t n (w ∷ ws) (x ∷ xs) h = ap suc (same_letters refs f t (n + 1) ws xs h.3)
 
--- where no rank was refused memory, a slot holds what it stands for
-holds : (refs : ℕ → ℕ) (w : Option Sparse) (x : Slot Sparse) → ((o : ℕ) → refs o ≡ 0) → IsSlotOf refs w x → (sheet_of x ≡ w) × (is_lost x ≡ false)
-holds refs w slot_is.Empty none h = (sym h, refl)
-holds refs w (slot_is.Sheet m) none h = (sym h, refl)
-holds refs w (slot_is.Lost o) none h = let zero_at = none o in let some = h.1 in absurd (omega arith)
-
-none_refused : (counts : List ℕ) → sum counts ≡ 0 → (o : ℕ) → get_or counts o 0 ≡ 0
-none_refused counts e o =
-    ⊎_elim
-    (λ (l : o < length counts). let z = get_or-le-sum_by (λ (x : ℕ). x) counts o 0 l in omega arith)
-    (λ (l : length counts ≤ o). get_or-eq_default counts 0 {n = o} l)
-    (cases_lt o (length counts))
-
 -- what a crew's rank did by itself
 run_of : (s : Arithmetic) (p : CheckedView) (first : List (List (Slot Sparse))) (crew done : List Member) (r : ℕ) → IsCrew p first crew → AllZip (Ran s) crew done → r < length crew → RunsTo s r (project p.starts p.acts r) (fresh (get_or first r [])) (courses_in done r)
 run_of s p first crew done r is ran l =
@@ -186,7 +173,7 @@ finished_by done = record { stores = stores_of done; refusals = counts_of done; 
 -- the closing law of crews: each rank ran its program over its desk, and what was taken on each lane is a beginning of what was posted there
 pub finishes_all : (s : Arithmetic) (p : CheckedView) (first : List (List (Slot Sparse))) (crew done : List Member) → IsChecked p → Fits p.ranks p.starts first → IsCrew p first crew → AllZip (Ran s) crew done
     → ((from to : ℕ) → from < length done → to < length done → from ≢ to → IsSettledLane (posted_in (desks_of done) from to) (taken_in (desks_of done) from to))
-    → HoldsMeaning s p first (finished_by done)
+    → FinishesPlan s p first (finished_by done)
 finishes_all s p first crew done checked fits is ran settled =
     let size : length done ≡ p.ranks = sym (length_all_zip (Ran s) crew done ran) ∙ is.count in
     let refs : ℕ → ℕ = λ q. get_or (counts_of done) q 0 in
@@ -203,19 +190,17 @@ finishes_all s p first crew done checked fits is ran settled =
     rw none (outside (matrices s) p.ranks p.acts (state_of first) (started p.starts) none_shut r n (checked_passes p.ranks 0 (started p.starts) none_shut p.acts checked.no_fault) l ∙ rw blank refl))
     (cases_lt r p.ranks) in
     record {
-      table = tables_of s p first crew done is ran;
-      counts = length-map done (λ (m : Member). m.0.refusals) ∙ size;
-      slots = slots;
+      left = record {
+        table = tables_of s p first crew done is ran;
+        counts = length-map done (λ (m : Member). m.0.refusals) ∙ size;
+        slots = slots;
+        whole = whole_by (counts_of done) mean (stores_of done) slots;
+      };
       lanes = λ f t g h ne. let l = end.lanes f t g h ne in record {
         posted = l.0;
         taken = l.1;
         count = same_letters refs f t 0 (letters (matrices s) p.acts (state_of first) f t) (posted_in (desks_of done) f t) l.0;
       };
-      whole = λ e.
-          let none = none_refused (counts_of done) e in (
-            same_state (state_of (stores_of done)) mean (λ r n. (holds refs (mean r n) (cell slot_is.Empty (stores_of done) r n) none (slots r n)).0),
-            λ r n. (holds refs (mean r n) (cell slot_is.Empty (stores_of done) r n) none (slots r n)).1,
-          );
     }
 
 -- no rank was refused memory more often than its program has halves
@@ -272,5 +257,5 @@ settled_by done w posted taken = λ i. record { stores = stores_of done; refusal
 
 -- so what the plan means is held by the stores, the counts and these lanes
 pub finishes_with : (s : Arithmetic) (p : CheckedView) (first : List (List (Slot Sparse))) (done : List Member) (w : Settled Sparse) → ((from to : ℕ) → posted_on w from to ≡ posted_in (desks_of done) from to) → ((from to : ℕ) → taken_on w from to ≡ taken_in (desks_of done) from to)
-    → HoldsMeaning s p first (finished_by done) → HoldsMeaning s p first (record { stores = stores_of done; refusals = counts_of done; posted = posted_on w; taken = taken_on w })
-finishes_with s p first done w posted taken h = subst (λ f. HoldsMeaning s p first f) (settled_by done w posted taken) h
+    → FinishesPlan s p first (finished_by done) → FinishesPlan s p first (record { stores = stores_of done; refusals = counts_of done; posted = posted_on w; taken = taken_on w })
+finishes_with s p first done w posted taken h = subst (λ f. FinishesPlan s p first f) (settled_by done w posted taken) h

@@ -13,7 +13,7 @@ use Rattle.cb_lanes.specs.declared.settled.Settled.{Settled}
 use Rattle.cb_lanes.specs.Desks.{posted_in, taken_in, IsSettledLane}
 use Rattle.cb_lanes.specs.Lanes.{rank_count, posted_on, taken_on}
 use Rattle.cb_ranks.specs.Crews.{Member, desks_of, stores_of, counts_of, Ran, IsCrew}
-use Rattle.cb_ranks.specs.Finished.{HoldsMeaning}
+use Rattle.cb_ranks.specs.Finished.{FinishesPlan}
 use Rattle.cb_ranks.proofs.Crews.{finishes_all, finishes_with, is_finished}
 
 module _ (s : Arithmetic) (p : CheckedView) (first : List (List (Slot Sparse))) (crew done : List Member) (stores : List (List (Slot Sparse))) (refusals : List ℕ) (desks : List (Desk Sparse)) (w : Settled Sparse)
@@ -21,7 +21,7 @@ module _ (s : Arithmetic) (p : CheckedView) (first : List (List (Slot Sparse))) 
   -- what they hold is what the plan means
   pub ends_all : IsChecked p → Fits p.ranks p.starts first → ((from to : ℕ) → posted_on w from to ≡ posted_in desks from to) → ((from to : ℕ) → taken_on w from to ≡ taken_in desks from to)
       → ((from to : ℕ) → from < length desks → to < length desks → from ≢ to → IsSettledLane (posted_in desks from to) (taken_in desks from to))
-      → HoldsMeaning s p first (record { stores = stores; refusals = refusals; posted = posted_on w; taken = taken_on w })
+      → FinishesPlan s p first (record { stores = stores; refusals = refusals; posted = posted_on w; taken = taken_on w })
   ends_all checked fits posted taken settled =
       let size : length desks ≡ length done = ap length desks_are ∙ length-map done (λ (m : Member). m.1) in
       let posted_then : (from to : ℕ) → posted_on w from to ≡ posted_in (desks_of done) from to = λ f t. posted f t ∙ ap (λ (ds : List (Desk Sparse)). posted_in ds f t) desks_are in

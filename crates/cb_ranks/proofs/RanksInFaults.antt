@@ -2,6 +2,7 @@
 use Rattle.std.proofs.Common.{◌≡◌, ℕ, suc, ◌<◌, List, [], ◌∷◌, ◌++◌, length, get_or, refl, sym, ◌∙◌, ap, subst, arith, inl, inr}
 use Rattle.std.specs.Prelude.{Result, Ok, Err, IfErr}
 use Rattle.std.specs.Result.{IsErrAnd}
+use Rattle.std.proofs.Math.Seq.{get_or-append_seam}
 use Rattle.cb_matrix.specs.Sparse.{Sparse}
 use Rattle.cb_plan.specs.declared.acts.Half.TheVariants as half_is
 use Rattle.cb_plan.specs.declared.stores.Slot.{Slot}
@@ -10,7 +11,7 @@ use Rattle.cb_rank.specs.declared.wants.Want.TheVariants as want_is
 use Rattle.cb_rank.specs.Ranks.{RankView, IsRank, want_of, next_half}
 use Rattle.cb_rank.proofs.NextAct.{finds}
 use Rattle.cb_rank.proofs.WantedHalf.{wants_post_to, wants_shut_to}
-use Rattle.cb_ranks.specs.Crews.{Member, IsOneOf, IsCrew}
+use Rattle.cb_ranks.specs.Crews.{Member, ComesAfter, IsOneOf, IsCrew}
 use Rattle.cb_ranks.specs.declared.faults.RunFault.{RunFault}
 use Rattle.cb_ranks.specs.declared.faults.RunFault.TheVariants as fault_is
 use Rattle.cb_ranks.specs.Faults.{IsFaultIn, IsFaultOf}
@@ -33,6 +34,12 @@ shuts_to_other x to is wants =
 pub member_is_one : (before : List Member) (m : Member) (after : List Member) → IsOneOf (before ++ m ∷ after) m.1.me
 member_is_one [] m after = inl refl
 member_is_one (x ∷ xs) m after = inr (member_is_one xs m after)
+
+-- and the next after those before it
+pub member_is_next : (before : List Member) (m : Member) (after crew : List Member) (n : ℕ) → length before ≡ n → before ++ m ∷ after ≡ crew → ComesAfter crew n m.1.me
+member_is_next before m after crew n count whole d =
+    let here : (get_or (before ++ m ∷ after) (length before) d).1.me ≡ m.1.me = ap (λ (x : Member). x.1.me) (get_or-append_seam before m after d) in
+    subst (λ ms. (get_or ms n d).1.me ≡ m.1.me) whole (subst (λ k. (get_or (before ++ m ∷ after) k d).1.me ≡ m.1.me) count here)
 
 below_all : (n : ℕ) (crew : List Member) (r : ℕ) → ((k : ℕ) (d : Member) → k < length crew → (get_or crew k d).1.me < n) → IsOneOf crew r → r < n
 below_all n [] r low one = absurd one

@@ -33,6 +33,10 @@ abbrev pub IsOneOf : List Member → ℕ → Type 0
 IsOneOf [] r = ⊥
 IsOneOf (m ∷ ms) r = (m.1.me ≡ r) ⊎ IsOneOf ms r
 
+-- after the first so many of them comes this rank
+abbrev pub ComesAfter : List Member → ℕ → ℕ → Type 0
+ComesAfter crew n r = (d : Member) → (get_or crew n d).1.me ≡ r
+
 -- the second is what the run of the first left
 abbrev pub Ran : Arithmetic → Member → Member → Type 0
 Ran s old new = Runs s old.0 old.1 new.0 new.1

@@ -4,15 +4,12 @@ use Rattle.cb_semirings.specs.Arithmetic.{Arithmetic}
 use Rattle.cb_matrix.specs.Sparse.{Sparse}
 use Rattle.cb_letters.specs.declared.Letter.{Letter}
 use Rattle.cb_plan.specs.declared.stores.Slot.{Slot}
-use Rattle.cb_plan.specs.declared.stores.Slot.TheVariants as slot_is
-use Rattle.cb_plan.specs.declared.stores.TheConstants.{SLOTS}
 use Rattle.cb_plan.specs.Algebras.{matrices}
 use Rattle.cb_plan.specs.Letters.{letters}
-use Rattle.cb_plan.specs.Meaning.{meaning}
 use Rattle.cb_plan.specs.Plans.{CheckedView}
-use Rattle.cb_plan.specs.Stores.{state_of, NoneLost}
-use Rattle.cb_plan.specs.Tables.{cell, IsTable}
-use Rattle.cb_rank.specs.Agreement.{IsSlotOf, AreLettersOf}
+use Rattle.cb_plan.specs.Stores.{state_of}
+use Rattle.cb_rank.specs.Agreement.{AreLettersOf}
+use Rattle.cb_rank.specs.Leavings.{HoldsMeaning}
 
 -- the store of each rank, how often each was refused memory, and the letters that were posted on the lane from each rank to each, and taken
 pub record FinishedView : Type 0 where
@@ -44,13 +41,7 @@ pub record HasLetters (s : Arithmetic) (p : CheckedView) (first : List (List (Sl
   pub taken : f.taken from to ≡ f.posted from to
   pub count : length (f.posted from to) ≡ length (letters (matrices s) p.acts (state_of first) from to)
 
--- the ranks of a plan have done what it means for these first stores
-pub record HoldsMeaning (s : Arithmetic) (p : CheckedView) (first : List (List (Slot Sparse))) (f : FinishedView) : Type 0 where
-  -- a store of 256 slots for each rank, and a count of refusals
-  pub table : IsTable p.ranks SLOTS f.stores
-  pub counts : length f.refusals ≡ p.ranks
-  -- a slot holds what the plan means there, or is lost, and then a rank was refused memory
-  pub slots : (r n : ℕ) → IsSlotOf (refused_at f) (meaning (matrices s) p.acts (state_of first) r n) (cell slot_is.Empty f.stores r n)
+-- the ranks of a plan have done what it means for these first stores: what they leave holds it, and on each lane its letters were posted and taken
+pub record FinishesPlan (s : Arithmetic) (p : CheckedView) (first : List (List (Slot Sparse))) (f : FinishedView) : Type 0 where
+  pub left : HoldsMeaning s p first f.stores f.refusals
   pub lanes : (from to : ℕ) → from < p.ranks → to < p.ranks → from ≢ to → HasLetters s p first f from to
-  -- where no rank was refused memory, nothing is lost, and the stores hold just what the plan means
-  pub whole : all_refusals f ≡ 0 → (state_of f.stores ≡ meaning (matrices s) p.acts (state_of first)) × NoneLost f.stores

@@ -11,10 +11,11 @@ pub enum RunFault {
     /// Memory was refused. No thread was started.
     #[error("out of memory")]
     Memory,
-    /// No thread could be started for this rank.
+    /// No thread could be started for this rank. It is the first such: the ranks before it were started, those after
+    /// it weren't tried.
     #[error("no thread for rank {0}")]
     NotStarted(u16),
-    /// This rank's program came to a lane whose other rank was gone. It is the least one.
+    /// This rank's program came to a lane whose other rank was gone. It is the least rank that ended so.
     #[error("rank {0} was left alone")]
     Gone(u16),
     /// The trace isn't what the ranks recorded: it refused an event, or doesn't match their own lists.

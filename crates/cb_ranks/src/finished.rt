@@ -21,11 +21,12 @@ impl<S: Semiring> Finished<S> {
     ghost use Rattle.cb_ranks.specs.Finished.{all_refusals, IsLaneOf};
     ghost use Rattle.cb_ranks.specs.Views.{finished_view};
 
-    /// Hands out the stores, in order of the ranks.
-    pub fn stores(self) -> Vec<RankStore<S>>
-        ensures { result.items ≡ (finished_view self).stores }
+    /// The store of each rank, and how often each was refused memory, in order of the ranks.
+    pub fn into_parts(self) -> (Vec<RankStore<S>>, Vec<u64>)
+        ensures stores { result.0.items ≡ (finished_view self).stores }
+        ensures refusals { result.1.items ≡ (finished_view self).refusals }
     {
-        self.stores
+        (self.stores, self.refusals)
     }
 
     /// How often memory was refused, to all ranks: where it is 0, no slot is lost.

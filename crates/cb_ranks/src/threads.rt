@@ -2,14 +2,15 @@
 ghost use Rattle.std.specs.Prelude.{◌≡◌, ◌≤◌, [], length, map, IfOk, IfErr, IfSome, IfNone, vec_len, vec_capacity};
 ghost use Rattle.std.specs.List.{AllZip};
 ghost use Rattle.cb_plan.specs.Stores.{Fits};
-ghost use Rattle.cb_ranks.specs.Crews.{AreNew, IsOneOf, Ran};
+ghost use Rattle.cb_ranks.specs.Crews.{AreNew, ComesAfter, IsOneOf, Ran};
 ghost use Rattle.cb_ranks.specs.Faults.{IsFaultIn, IsFaultOf};
-ghost use Rattle.cb_ranks.specs.Finished.{HoldsMeaning};
+ghost use Rattle.cb_ranks.specs.Finished.{FinishesPlan};
 ghost use Rattle.cb_ranks.specs.Rooms.{IsRoomFor};
 ghost use Rattle.cb_ranks.specs.Runs.{IsNewRun};
 ghost use Rattle.cb_ranks.specs.Started.{started, started_recorder};
 ghost use Rattle.cb_ranks.specs.Told.{HaveTold, HaveToldPlan};
 ghost use Rattle.cb_ranks.specs.Views.{finished_view};
+ghost use mathlib.Core.List.{IsPrefix};
 
 use crate::crew::{Member, Remains, assemble};
 use crate::faults::RunFault;
@@ -45,7 +46,7 @@ pub fn run_threads<S: Semiring + Send + Sync, R: Threads + Wait + Sync, G: Gate<
     gate: &G,
 ) -> Result<Finished<S>, RunFault>
     requires { Fits plan.now.ranks plan.now.starts stores.items }
-    ensures meaning { IfOk result (λ finished. HoldsMeaning S.arithmetic plan.now stores.items (finished_view finished)) }
+    ensures meaning { IfOk result (λ finished. FinishesPlan S.arithmetic plan.now stores.items (finished_view finished)) }
     ensures fault { IfErr result (IsFaultOf plan.now.ranks) }
 {
     let recorders = vec![in alloc; Silent; plan.ranks() as usize]?;
@@ -70,7 +71,7 @@ pub(crate) fn run_told<
 ) -> Result<(Finished<S>, Vec<T>), RunFault>
     requires fits { Fits plan.now.ranks plan.now.starts stores.items }
     requires count { length recorders.items ≡ plan.now.ranks }
-    ensures meaning { IfOk result (λ done. HoldsMeaning S.arithmetic plan.now stores.items (finished_view done.0)) }
+    ensures meaning { IfOk result (λ done. FinishesPlan S.arithmetic plan.now stores.items (finished_view done.0)) }
     ensures told { IfOk result (λ done. HaveToldPlan T.tells plan.now recorders.items done.1.items) }
     ensures fault { IfErr result (IsFaultOf plan.now.ranks) }
 {
@@ -126,8 +127,8 @@ fn start_one<'s, E, S: Semiring + Send + Sync + 's, R: Wait + Sync, G: Gate<S>, 
     })
 }
 
-/// Starts a thread for each rank, into the room for so many. Where there is none to be had, that rank is answered
-/// too, and it and the later ones are dropped: then whoever waits for one of them finds it gone.
+/// Starts a thread for each rank, in order, into the room for so many. Where there is none to be had, that rank is
+/// answered too, and it and the later ones are dropped: then whoever waits for one of them finds it gone.
 fn start_all<'s, E, S: Semiring + Send + Sync + 's, R: Wait + Sync, G: Gate<S>, T: Recorder + 's>(
     scope: &Scope<'s, E>,
     rt: &'s R,
@@ -141,8 +142,10 @@ fn start_all<'s, E, S: Semiring + Send + Sync + 's, R: Wait + Sync, G: Gate<S>, 
     requires room { (room.items ≡ []) × (vec_len crew ≤ vec_capacity room) }
     ensures all { IfNone result.1 (map started result.0.items ≡ crew.items) }
     ensures recorders { IfNone result.1 (map started_recorder result.0.items ≡ recorders.items) }
+    ensures first { IsPrefix (map started result.0.items) crew.items }
     ensures few { vec_len result.0 ≤ vec_len crew }
     ensures missing { IfSome result.1 (IsOneOf crew.items) }
+    ensures next { IfSome result.1 (ComesAfter crew.items (length result.0.items)) }
 {
     let mut threads = room;
     for ((rank, desk), recorder) in crew.into_iter().zip(recorders) {

@@ -2,7 +2,7 @@
 ghost use Rattle.std.specs.Prelude.{map, IfOk, IfErr};
 ghost use Rattle.cb_plan.specs.Stores.{Fits};
 ghost use Rattle.cb_ranks.specs.Faults.{IsTracedFaultOf};
-ghost use Rattle.cb_ranks.specs.Finished.{HoldsMeaning};
+ghost use Rattle.cb_ranks.specs.Finished.{FinishesPlan};
 ghost use Rattle.cb_ranks.specs.Traced.{AreOfProgram, HasProgram};
 ghost use Rattle.cb_ranks.specs.Views.{finished_view};
 
@@ -35,7 +35,7 @@ pub fn run_traced<S: Semiring + Send + Sync, R: Threads + Wait + Sync, G: Gate<S
     gate: &G,
 ) -> Result<(Finished<S>, Trace), RunFault>
     requires { Fits plan.now.ranks plan.now.starts stores.items }
-    ensures meaning { IfOk result (λ done. HoldsMeaning S.arithmetic plan.now stores.items (finished_view done.0)) }
+    ensures meaning { IfOk result (λ done. FinishesPlan S.arithmetic plan.now stores.items (finished_view done.0)) }
     ensures trace { IfOk result (λ done. HasProgram plan.now done.1) }
     ensures fault { IfErr result (IsTracedFaultOf plan.now.ranks) }
 {
@@ -60,7 +60,7 @@ fn run_logged<S: Semiring + Send + Sync, R: Threads + Wait + Sync, G: Gate<S>>(
     trace: &SharedTrace,
 ) -> Result<(Finished<S>, Vec<Vec<TraceEvent>>), RunFault>
     requires { Fits plan.now.ranks plan.now.starts stores.items }
-    ensures meaning { IfOk result (λ done. HoldsMeaning S.arithmetic plan.now stores.items (finished_view done.0)) }
+    ensures meaning { IfOk result (λ done. FinishesPlan S.arithmetic plan.now stores.items (finished_view done.0)) }
     ensures lists { IfOk result (λ done. AreOfProgram plan.now (map (λ list. list.items) done.1.items)) }
     ensures fault { IfErr result (IsTracedFaultOf plan.now.ranks) }
 {

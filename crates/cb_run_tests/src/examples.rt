@@ -94,7 +94,7 @@ pub fn has<S: Semiring>(matrix: &Matrix<S>, wanted: &[Place]) -> bool {
 /// Whether want of memory has this fault with this engine.
 pub fn is_refusal(engine: Engine, fault: OperationFault) -> bool {
     match fault {
-        OperationFault::Failed(EngineFault::Memory | EngineFault::Lost(_)) => true,
+        OperationFault::Failed(EngineFault::Memory | EngineFault::Lost { .. }) => true,
         OperationFault::Failed(EngineFault::NotStarted(_)) => {
             !matches!(engine, Engine::InOrder(..))
         }

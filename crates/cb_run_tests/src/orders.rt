@@ -110,7 +110,9 @@ fn is_named<R: Threads + Wait + Sync>(
 ) -> Result<bool, AllocError> {
     let order = backwards(alloc, grid.ranks(), Some(rank))?;
     let answer = product(rt, alloc, grid, 1, &order);
-    Ok(matches!(answer, Err(OperationFault::Failed(EngineFault::Lost(lost))) if lost == rank))
+    Ok(
+        matches!(answer, Err(OperationFault::Failed(EngineFault::Lost { rank: lost, .. })) if lost == rank),
+    )
 }
 
 #[test]

@@ -1,2 +1,2 @@
--- SpreadProducts: the slots of a matrix over a grid and a vector, before its plan and after it. Lost: a lost part of them is lost at a rank.
+-- SpreadProducts: the slots of a matrix over a grid and a vector, before its plan and after it.
 pub mod SpreadProducts

@@ -8,10 +8,10 @@ ghost use Rattle.std.specs.Prelude.{◌≡◌, ◌*◌, IfOk, IfErr};
 ghost use Rattle.cb_matrix.specs.Sparse.{Sparse};
 ghost use Rattle.cb_matrix.specs.Values.{product};
 ghost use Rattle.cb_kernels.specs.VectorPlans.{column};
-ghost use Rattle.cb_engines.specs.Runs.{IsEngineFault, IsLossFault, IsTraceOf, LostAtRanks};
+ghost use Rattle.cb_engines.specs.Runs.{IsEngineFault, IsLossFault, IsTraceOf, LostWhereRefused};
 ghost use Rattle.cb_vectors.specs.SpreadVectors.{HasProduct, HasSpread, MultipliesVectors};
 
-use cb_engines::{Engine, EngineFault};
+use cb_engines::{Engine, EngineFault, Left};
 use cb_kernels::{LEFT, RESULT, RIGHT, grid_vector};
 use cb_layout::{DistributedMatrix, Grid};
 use cb_matrix::{Matrix, Shape};
@@ -66,8 +66,12 @@ pub fn multiply_vector<S: Semiring + Send + Sync, R: Threads + Wait + Sync>(
 {
     let (a, x) = (matrix.shape(), vector.shape());
     let stores = spread(alloc, grid, matrix, vector)?;
-    let (stores, trace) = engine.run(rt, alloc, plan, stores)?;
-    let (matrix, product) = collect(alloc, grid, stores, a, a.with_columns_of(x))?;
+    let Left {
+        stores,
+        refusals,
+        trace,
+    } = engine.run(rt, alloc, plan, stores)?;
+    let (matrix, product) = collect(alloc, grid, stores, &refusals, a, a.with_columns_of(x))?;
     Ok(Multiplied {
         matrix,
         product,
@@ -75,31 +79,33 @@ pub fn multiply_vector<S: Semiring + Send + Sync, R: Threads + Wait + Sync>(
     })
 }
 
-/// The matrix of the one shape and the column of the other, whose parts and pieces a run has left.
+/// The matrix of the one shape and the column of the other, whose parts and pieces ranks have left, where memory was
+/// refused to each so often.
 fn collect<S: Semiring>(
     alloc: Global,
     grid: &Grid,
     stores: Vec<RankStore<S>>,
+    refusals: &[u64],
     shape: Shape,
     made: Shape,
 ) -> Result<(DistributedMatrix<S>, Matrix<S>), EngineFault>
     requires column { made.cols ≡ 1 }
-    requires lost { LostAtRanks (grid.now.side * grid.now.side) stores.items }
+    requires lost { LostWhereRefused stores.items refusals.now }
     requires left { (a : Sparse) × (y : Sparse) × (a.shape ≡ shape) × (y.shape ≡ made) × HasProduct S.arithmetic grid.now.side a y stores.items }
     ensures product { IfOk result (λ p. (a y : Sparse) → a.shape ≡ shape → y.shape ≡ made → HasProduct S.arithmetic grid.now.side a y stores.items → p.1 ≡ y) }
     ensures same { IfOk result (λ p. (a y : Sparse) → a.shape ≡ shape → y.shape ≡ made → HasProduct S.arithmetic grid.now.side a y stores.items → p.0 ≡ record { side = grid.now.side; matrix = a }) }
-    ensures fault { IfErr result (IsLossFault (grid.now.side * grid.now.side)) }
+    ensures fault { IfErr result (IsLossFault refusals.now) }
 {
     let mut stores = stores;
     let blocks = match drain(alloc, &mut stores, LEFT) {
         Ok(blocks) => blocks,
         Err(DrainFault::Memory) => return Err(EngineFault::Memory),
-        Err(DrainFault::Lost(rank)) => return Err(EngineFault::Lost(rank)),
+        Err(DrainFault::Lost(rank)) => return Err(EngineFault::lost(rank, refusals)),
     };
     let pieces = match drain(alloc, &mut stores, RESULT) {
         Ok(pieces) => pieces,
         Err(DrainFault::Memory) => return Err(EngineFault::Memory),
-        Err(DrainFault::Lost(rank)) => return Err(EngineFault::Lost(rank)),
+        Err(DrainFault::Lost(rank)) => return Err(EngineFault::lost(rank, refusals)),
     };
     let product = grid.gather_result(alloc, &pieces, made)?;
     Ok((

@@ -1,6 +1,6 @@
 -- A world in which all is done holds what its plan means.
 use Rattle.std.proofs.Common.{◌≡◌, ℕ, ◌+◌, ◌-◌, ◌<◌, ◌≤◌, false, List, [], ◌∷◌, ◌++◌, length, map, refl, sym, ◌∙◌, ap, subst, arith, length-append, append-nil}
-use Rattle.std.specs.Prelude.{Option, nat_lt}
+use Rattle.std.specs.Prelude.{Option, nat_lt, get_or}
 use Rattle.std.proofs.lemmas.Bool.Decides.{nat_tests}
 use Rattle.std.proofs.lemmas.List.{append_cancel_left, length-map}
 use Rattle.std.proofs.Math.ListN.{get_or-map}
@@ -17,18 +17,19 @@ use Rattle.cb_plan.specs.Letters.{Cargo, count_of, before, letters}
 use Rattle.cb_plan.specs.Algebras.{matrices, shapes}
 use Rattle.cb_plan.specs.Checks.{Lanes, IsSound, Passes, shut_after, none_shut, started}
 use Rattle.cb_plan.specs.Programs.{halves_of, project_from, project}
-use Rattle.cb_plan.specs.Stores.{state_of, sheet_of, is_lost}
+use Rattle.cb_plan.specs.Stores.{state_of}
 use Rattle.cb_plan.specs.Tables.{cell, IsTable}
-use Rattle.cb_plan.proofs.Effects.{same_state}
 use Rattle.cb_plan.proofs.ActOnStores.{first_below}
 use Rattle.cb_rank.specs.Agreement.{IsSlotOf, AreLettersOf}
 use Rattle.cb_rank.specs.Halves.{slot_at}
+use Rattle.cb_rank.specs.Leavings.{HoldsMeaning}
 use Rattle.cb_rank.specs.Ranks.{RankView}
 use Rattle.cb_rank.proofs.OwnActs.{split, counted}
 use Rattle.cb_rank.proofs.NextAct.{both_below}
-use Rattle.cb_world.specs.Worlds.{WorldView, IsWorld, no_rank, rank_of, lane_between, system_of, AllDone, IsFinished, HoldsMeaning}
+use Rattle.cb_rank.proofs.LostSlots.{whole_by}
+use Rattle.cb_world.specs.Worlds.{WorldView, IsWorld, no_rank, rank_of, lane_between, system_of, AllDone, IsFinished}
 use Rattle.cb_world.proofs.NextHalf.{passes_of, program_of}
-use Rattle.cb_world.proofs.NoDeadlock.{is_done_by, none_refused}
+use Rattle.cb_world.proofs.NoDeadlock.{is_done_by}
 
 -- how many halves of the acts a rank does
 abbrev pub total : List Act → ℕ → ℕ
@@ -67,11 +68,6 @@ no_letters refusals from to n [] [] e h = refl
 no_letters refusals from to n [] (l ∷ ls) e h = absurd h
 no_letters refusals from to n (w ∷ ws) ls e h = cc
 
-pub held : {M : Type 0} (refusals : ℕ → ℕ) (w : Option M) (x : Slot M) → ((r : ℕ) → refusals r ≡ 0) → IsSlotOf refusals w x → (sheet_of x ≡ w) × (is_lost x ≡ false)
-held refusals w slot_is.Empty none h = (sym h, refl)
-held refusals w (slot_is.Sheet m) none h = (sym h, refl)
-held refusals w (slot_is.Lost o) none h = let z = none o in let l = h.1 in absurd (omega arith)
-
 -- once all is done, each rank has all acts behind it
 pub all_before : (s : Arithmetic) (w : WorldView) → IsWorld s w → AllDone w → (r : ℕ) → before w.plan.acts r (rank_of w r).done ≡ w.plan.acts
 all_before s w sound done r =
@@ -108,27 +104,34 @@ finishes s w sound done =
 slots_in_order : (w : WorldView) (r n : ℕ) → cell slot_is.Empty (map (λ (x : RankView). x.slots) w.ranks) r n ≡ slot_at (rank_of w r).slots n
 slots_in_order w r n = ap (λ xs. slot_at xs n) (get_or-map (λ (x : RankView). x.slots) w.ranks r no_rank)
 
+-- and so are their counts of refusals
+counts_in_order : (w : WorldView) → (λ k. get_or (map (λ (x : RankView). x.refusals) w.ranks) k 0) ≡ (system_of w).refusals
+counts_in_order w = λ i k. get_or-map (λ (x : RankView). x.refusals) w.ranks k no_rank i
+
 -- a store for each rank, each of as many slots as a rank has
-pub stores_are_table : (s : Arithmetic) (w : WorldView) → IsWorld s w → IsTable w.plan.ranks 256 (map (λ (x : RankView). x.slots) w.ranks)
+stores_are_table : (s : Arithmetic) (w : WorldView) → IsWorld s w → IsTable w.plan.ranks 256 (map (λ (x : RankView). x.slots) w.ranks)
 stores_are_table s w sound = record {
   rows = length-map w.ranks (λ (x : RankView). x.slots) ∙ sound.sizes.0;
   cols = λ r l. ap length (get_or-map (λ (x : RankView). x.slots) w.ranks r no_rank) ∙ (sound.ranks r l).sound.size;
 }
 
--- the stores of all ranks hold what the plan means
-pub ends_in_meaning : (s : Arithmetic) (w : WorldView) → IsWorld s w → AllDone w → HoldsMeaning s w (map (λ (x : RankView). x.slots) w.ranks)
-ends_in_meaning s w sound done =
-    let all = all_before s w sound done in
-    let stores : List (List (Slot Sparse)) = map (λ (x : RankView). x.slots) w.ranks in
-    let wanted : State Sparse = meaning (matrices s) w.plan.acts (state_of w.first) in
-    let slots : (r n : ℕ) → IsSlotOf (system_of w).refusals (wanted r n) (cell slot_is.Empty stores r n) = λ r n.
-    let h : IsSlotOf (system_of w).refusals (meaning (matrices s) (before w.plan.acts r (rank_of w r).done) (state_of w.first) r n) (slot_at (rank_of w r).slots n) = sound.agrees.ranks r n in
-    let h2 : IsSlotOf (system_of w).refusals (wanted r n) (slot_at (rank_of w r).slots n) = subst (λ x. IsSlotOf (system_of w).refusals (meaning (matrices s) x (state_of w.first) r n) (slot_at (rank_of w r).slots n)) (all r) h in
-    subst (λ y. IsSlotOf (system_of w).refusals (wanted r n) y) (sym (slots_in_order w r n)) h2 in
-    record {
+-- once all is done, a rank's slot stands for what the plan means there
+slot_means : (s : Arithmetic) (w : WorldView) → IsWorld s w → AllDone w → (r n : ℕ) →
+    IsSlotOf (λ k. get_or (map (λ (x : RankView). x.refusals) w.ranks) k 0) (meaning (matrices s) w.plan.acts (state_of w.first) r n) (cell slot_is.Empty (map (λ (x : RankView). x.slots) w.ranks) r n)
+slot_means s w sound done r n =
+    let wanted : List Act → Option Sparse = λ acts. meaning (matrices s) acts (state_of w.first) r n in
+    let refusals = (system_of w).refusals in
+    let here : IsSlotOf refusals (wanted w.plan.acts) (slot_at (rank_of w r).slots n) = subst (λ acts. IsSlotOf refusals (wanted acts) (slot_at (rank_of w r).slots n)) (all_before s w sound done r) (sound.agrees.ranks r n) in
+    subst (λ f. IsSlotOf f (wanted w.plan.acts) (cell slot_is.Empty (map (λ (x : RankView). x.slots) w.ranks) r n)) (sym (counts_in_order w))
+    (subst (λ x. IsSlotOf refusals (wanted w.plan.acts) x) (sym (slots_in_order w r n)) here)
+
+-- so the stores of all ranks and their counts hold what the plan means
+pub leaves : (s : Arithmetic) (w : WorldView) → IsWorld s w → AllDone w → (stores : List (List (Slot Sparse))) (refusals : List ℕ) → stores ≡ map (λ (x : RankView). x.slots) w.ranks → refusals ≡ map (λ (x : RankView). x.refusals) w.ranks → HoldsMeaning s w.plan w.first stores refusals
+leaves s w sound done stores refusals stores_are refusals_are =
+    let slots = slot_means s w sound done in
+    rw (stores_are, refusals_are) (record {
+      table = stores_are_table s w sound;
+      counts = length-map w.ranks (λ (x : RankView). x.refusals) ∙ sound.sizes.0;
       slots = slots;
-      whole = λ none.
-          let zeros = none_refused w none in
-          let at : (r n : ℕ) → (sheet_of (cell slot_is.Empty stores r n) ≡ wanted r n) × (is_lost (cell slot_is.Empty stores r n) ≡ false) = λ r n. held (system_of w).refusals (wanted r n) (cell slot_is.Empty stores r n) zeros (slots r n) in
-          (same_state (state_of stores) wanted (λ r n. (at r n).0), λ r n. (at r n).1);
-    }
+      whole = whole_by (map (λ (x : RankView). x.refusals) w.ranks) (meaning (matrices s) w.plan.acts (state_of w.first)) (map (λ (x : RankView). x.slots) w.ranks) slots;
+    })

@@ -14,8 +14,8 @@
 -- NoDeadlock: where no rank can act all is done (`someone_acts`); nothing remains just where all is done (`none_remains`,
 --   `all_done_by`); sums are small (`few_remain`, `few_refused`).
 -- FirstState: a world in which nothing is done is one (`begins`).
--- LastState: a world in which all is done is finished (`finishes`), and its stores are a table (`stores_are_table`)
---   and hold what its plan means (`ends_in_meaning`).
+-- LastState: a world in which all is done is finished (`finishes`), and what its ranks leave holds what its plan means
+--   (`leaves`).
 -- Boxes: the mailbox of a rank, read by its number, and the mailboxes as they are made.
 -- NewRanks: the ranks of a new world, made of their stores from the last on.
 -- LaneNeeds: what a rank's next half asks of its lanes; a step as `World::step` leaves it.

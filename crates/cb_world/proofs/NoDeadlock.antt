@@ -90,10 +90,3 @@ few_refused s w sound =
     let a = is.refusals in
     let b = is.progress in
     omega arith)
-
--- no rank was refused memory where the sum of their counts is 0
-pub none_refused : (w : WorldView) → refusals_in w ≡ 0 → (r : ℕ) → (rank_of w r).refusals ≡ 0
-none_refused w none r =
-    split (nat_lt r (length w.ranks))
-    (λ t. none_of_sum (λ x. x.refusals) no_rank w.ranks none r (grind (arith, nat_tests)))
-    (λ f. let past : rank_of w r ≡ no_rank = get_or_past w.ranks r no_rank (grind (arith, nat_tests)) in ap (λ (x : RankView). x.refusals) past)

@@ -1,5 +1,7 @@
 -- The ranks and the mailboxes of a world in which nothing is done.
-use Rattle.std.specs.Prelude.{◌≡◌, ◌≢◌, ℕ, ◌<◌, ◌+◌, List, [], ◌∷◌, length}
+use Rattle.std.specs.Prelude.{◌≡◌, ◌≢◌, ℕ, ◌<◌, ◌≤◌, ◌+◌, List, [], ◌∷◌, length, vec_capacity}
+use Rattle.std.specs.declared.vec.Vec.{Vec}
+use Rattle.std.specs.declared.alloc.Global.{Global}
 use Rattle.cb_matrix.specs.Sparse.{Sparse}
 use Rattle.cb_letters.specs.Lane.{new_lane}
 use Rattle.cb_mailbox.specs.Inbox.{Inbox, lane_from}
@@ -18,3 +20,7 @@ pub record AreNewBoxes {P : Type 0} (ranks capacity : ℕ) (boxes : List (Inbox 
 abbrev pub new_ranks : CheckedView → ℕ → List (List (Slot Sparse)) → List RankView
 new_ranks p k [] = []
 new_ranks p k (store ∷ stores) = new_rank p k store ∷ new_ranks p (k + 1) stores
+
+-- nothing is in it, and there is room for so many
+abbrev pub HasRoomFor : {X : Type 0} → ℕ → Vec X Global → Type 0
+HasRoomFor n v = (v.items ≡ []) × (n ≤ vec_capacity v)

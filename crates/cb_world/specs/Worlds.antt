@@ -7,14 +7,11 @@ use Rattle.cb_mailbox.specs.Inbox.{Inbox, lane_from}
 use Rattle.cb_plan.specs.declared.acts.Half.{Half}
 use Rattle.cb_plan.specs.declared.acts.Half.TheVariants as half_is
 use Rattle.cb_plan.specs.declared.stores.Slot.{Slot}
-use Rattle.cb_plan.specs.declared.stores.Slot.TheVariants as slot_is
 use Rattle.cb_plan.specs.Algebras.{matrices}
 use Rattle.cb_plan.specs.Letters.{letters}
-use Rattle.cb_plan.specs.Meaning.{meaning}
 use Rattle.cb_plan.specs.Plans.{CheckedView, IsChecked}
-use Rattle.cb_plan.specs.Stores.{state_of, Fits, NoneLost}
-use Rattle.cb_plan.specs.Tables.{cell}
-use Rattle.cb_rank.specs.Agreement.{System, Agrees, IsSlotOf}
+use Rattle.cb_plan.specs.Stores.{state_of, Fits}
+use Rattle.cb_rank.specs.Agreement.{System, Agrees}
 use Rattle.cb_rank.specs.Halves.{slot_at}
 use Rattle.cb_rank.specs.Ranks.{RankView, IsRank, new_rank, next_half}
 use Rattle.cb_world.specs.Ends.{box_in}
@@ -117,8 +114,3 @@ pub record IsFinished (s : Arithmetic) (w : WorldView) : Type 0 where
   pub done : AllDone w
   pub queues : (f t : ℕ) → f ≢ t → (lane_between w f t).queue ≡ []
   pub taken : (f t : ℕ) → f ≢ t → (lane_between w f t).taken ≡ length (letters (matrices s) w.plan.acts (state_of w.first) f t)
-
--- the stores hold what the plan means: a slot is lost only where its origin was refused memory, and where no rank was, none is lost
-pub record HoldsMeaning (s : Arithmetic) (w : WorldView) (stores : List (List (Slot Sparse))) : Type 0 where
-  pub slots : (r n : ℕ) → IsSlotOf (system_of w).refusals (meaning (matrices s) w.plan.acts (state_of w.first) r n) (cell slot_is.Empty stores r n)
-  pub whole : refusals_in w ≡ 0 → (state_of stores ≡ meaning (matrices s) w.plan.acts (state_of w.first)) × NoneLost stores

@@ -1,7 +1,7 @@
 //! The ranks of a world, made of their stores and turned into them again.
 ghost use Rattle.std.specs.Prelude.{◌≡◌, ◌+◌, ◌≤◌, [], ◌++◌, length, map, reverse, vec_capacity, IfOk, IfErr};
 ghost use Rattle.cb_plan.specs.Stores.{Fits};
-ghost use Rattle.cb_world.specs.Starting.{new_ranks};
+ghost use Rattle.cb_world.specs.Starting.{new_ranks, HasRoomFor};
 
 use cb_plan::{CheckedPlan, RankStore};
 use cb_rank::Rank;
@@ -51,18 +51,22 @@ fn with_stores_of<S: Semiring>(stores: Vec<RankStore<S>>, ranks: Vec<Rank<S>>) -
     stores
 }
 
-/// The stores of the ranks, in a vector that is empty and has room for them.
-pub(crate) fn stores_of<S: Semiring>(
-    stores: Vec<RankStore<S>>,
+/// The stores of the ranks, and how often each was refused memory, in vectors with room for them.
+pub(crate) fn parts_of<S: Semiring>(
     ranks: Vec<Rank<S>>,
-) -> Vec<RankStore<S>>
-    requires empty { stores.items ≡ [] }
-    requires room { length ranks.items ≤ vec_capacity stores }
-    ensures { result.items ≡ map (λ r. r.slots) ranks.items }
+    stores: Vec<RankStore<S>>,
+    refusals: Vec<u64>,
+) -> (Vec<RankStore<S>>, Vec<u64>)
+    requires stores { HasRoomFor (length ranks.items) stores }
+    requires refusals { HasRoomFor (length ranks.items) refusals }
+    ensures stores { result.0.items ≡ map (λ r. r.slots) ranks.items }
+    ensures refusals { result.1.items ≡ map (λ r. r.refusals) ranks.items }
 {
     let mut stores = stores;
+    let mut refusals = refusals;
     for rank in ranks {
+        refusals.push_reserved(rank.refusals());
         stores.push_reserved(rank.into_store());
     }
-    stores
+    (stores, refusals)
 }

@@ -2,17 +2,17 @@
 ghost use Rattle.std.specs.Prelude.{ℕ, ◌≡◌, ◌≢◌, ◌+◌, ◌<◌, ◌≤◌, ◌↔◌, List, length, map, IfOk, IfErr, IsTrue};
 ghost use Rattle.cb_letters.specs.Lane.{posted};
 ghost use Rattle.cb_plan.specs.Stores.{Fits};
-ghost use Rattle.cb_plan.specs.Tables.{IsTable};
-ghost use Rattle.cb_world.specs.Worlds.{IsWorld, IsNewWorld, next_of, lane_between, CanAct, AllDone, IsReady, remaining, refusals_in, IsFinished, HoldsMeaning};
+ghost use Rattle.cb_rank.specs.Leavings.{HoldsMeaning};
+ghost use Rattle.cb_world.specs.Worlds.{IsWorld, IsNewWorld, next_of, lane_between, CanAct, AllDone, IsReady, remaining, refusals_in, IsFinished};
 ghost use Rattle.cb_world.specs.Steps.{Steps, StepsBy, IsStarved, RunsBy, FinishesBy};
 ghost use Rattle.cb_world.specs.declared.events.Event.{Event as EventOf};
 ghost use Rattle.cb_world.specs.declared.events.Event.TheVariants.{Starve};
 
 use crate::ends::Ends;
 use crate::events::Event;
-use crate::starting::{start_ranks, stores_of};
+use crate::starting::{parts_of, start_ranks};
 use cb_dcsc::Block;
-use cb_plan::{CheckedPlan, RankStore, SLOTS};
+use cb_plan::{CheckedPlan, RankStore};
 use cb_rank::{Moved, Rank, Supply, Want};
 use cb_semirings::Semiring;
 use std::alloc::{AllocError, Global};
@@ -27,19 +27,21 @@ pub struct World<S: Semiring> {
     capacity: usize,
     ranks: Vec<Rank<S>>,
     ends: Ends<Block<S>>,
-    // Empty, with room for the store of each rank.
+    // Empty, with room for the store of each rank, and for its count of refusals.
     stores: Vec<RankStore<S>>,
+    counts: Vec<u64>,
 }
 
 impl<S: Semiring> Model for World<S> {
-    ghost use Rattle.std.specs.Prelude.{◌≡◌, ◌≤◌, [], length, vec_capacity};
+    ghost use Rattle.std.specs.Prelude.{length};
+    ghost use Rattle.cb_world.specs.Starting.{HasRoomFor};
     ghost use Rattle.cb_world.specs.Worlds.{WorldView, IsWorld};
 
     ghost Value = { WorldView };
 
     ghost view = { λ w. record { plan = w.plan.value; first = w.first.value.items; capacity = w.capacity; ranks = w.ranks.items; boxes = w.ends.boxes } };
 
-    ghost invariant = { λ w. IsWorld S.arithmetic (record { plan = w.plan.value; first = w.first.value.items; capacity = w.capacity; ranks = w.ranks.items; boxes = w.ends.boxes }) × (w.stores.items ≡ []) × (length w.ranks.items ≤ vec_capacity w.stores) };
+    ghost invariant = { λ w. IsWorld S.arithmetic (record { plan = w.plan.value; first = w.first.value.items; capacity = w.capacity; ranks = w.ranks.items; boxes = w.ends.boxes }) × HasRoomFor (length w.ranks.items) w.stores × HasRoomFor (length w.ranks.items) w.counts };
 }
 
 impl<S: Semiring> World<S> {
@@ -62,6 +64,10 @@ impl<S: Semiring> World<S> {
             Ok(ends) => ends,
             Err(refused) => return Err((stores, refused)),
         };
+        let counts = match Vec::with_capacity(alloc, plan.ranks() as usize) {
+            Ok(counts) => counts,
+            Err(refused) => return Err((stores, refused)),
+        };
         let (ranks, stores) = start_ranks(alloc, plan, stores)?;
         Ok(World {
             plan: Snapshot::of(plan),
@@ -70,6 +76,7 @@ impl<S: Semiring> World<S> {
             ranks,
             ends,
             stores,
+            counts,
         })
     }
 
@@ -210,16 +217,22 @@ impl<S: Semiring> World<S> {
         self.ends.taken(from, to)
     }
 
-    /// The stores of all ranks, once all is done. They hold what the plan means, but for what was lost where
-    /// memory was refused. They come in the vector that `start` was given, and so no memory is taken.
-    pub fn into_stores(self) -> Vec<RankStore<S>>
+    /// The store of each rank, and how often each was refused memory, once all is done. The stores hold what the plan
+    /// means, but for what was lost where memory was refused. They come in the vector that `start` was given, and room
+    /// for the counts was taken there, so no memory is taken.
+    pub fn into_parts(self) -> (Vec<RankStore<S>>, Vec<u64>)
         requires { AllDone self }
-        ensures stores { result.items ≡ map (λ x. x.slots) self.ranks }
-        ensures table { IsTable self.plan.ranks SLOTS result.items }
+        ensures stores { result.0.items ≡ map (λ x. x.slots) self.ranks }
+        ensures refusals { result.1.items ≡ map (λ x. x.refusals) self.ranks }
         ensures finished { IsFinished S.arithmetic self }
-        ensures meaning { HoldsMeaning S.arithmetic self result.items }
+        ensures meaning { HoldsMeaning S.arithmetic self.plan self.first result.0.items result.1.items }
     {
-        let World { ranks, stores, .. } = self;
-        stores_of(stores, ranks)
+        let World {
+            ranks,
+            stores,
+            counts,
+            ..
+        } = self;
+        parts_of(ranks, stores, counts)
     }
 }

@@ -1,14 +1,27 @@
-use Rattle.std.proofs.Common.{◌+◌, ◌*◌, List, sym, ap, ◌∙◌}
+use Rattle.std.proofs.Common.{◌≢◌, ◌+◌, ◌*◌, ◌<◌, List, length, sym, ap, subst, ◌∙◌, arith}
 use Rattle.cb_matrix.specs.Sparse.{Sparse, Extent}
 use Rattle.cb_layout.specs.Parts.{part_shape}
 use Rattle.cb_layout.specs.Blocks.{block_at, glued}
 use Rattle.cb_layout.specs.Vectors.{piece_shape, glued_pieces}
 use Rattle.cb_placement.proofs.GatheredParts.{over_grid}
+use Rattle.cb_placement.specs.Losses.{IsDrainRefusal}
 use Rattle.cb_vectors.proofs.SpreadProducts.{parts_filled, pieces_filled, blocks_shaped, blocks_glued, pieces_shaped, pieces_glued}
 use Rattle.cb_vectors.proofs.collect.Goals as goal
 
 pub drain-requires-clause-filled : goal.drain-requires-clause-filled
 drain-requires-clause-filled g c = parts_filled g.S.Semiring.arithmetic c.args.grid.now.side c.requires.left.0 c.requires.left.1 c.args.stores.items c.requires.left.4
+
+pub lost-requires : goal.lost-requires
+lost-requires g c =
+    let first = subst (IsDrainRefusal 0 c.args.stores.items) c.in-Err-Lost.field-0-is c.in-Err-Lost.ensures.fault in
+    subst (λ k. k < length c.args.refusals.now) (sym c.in-Err-Lost.rank-is) (c.requires.lost first.rank 0 c.in-Err-Lost.rank first.lost).0
+
+pub lost-requires-in-Err-Lost-drain : goal.lost-requires-in-Err-Lost-drain
+lost-requires-in-Err-Lost-drain g c =
+    let first = subst (IsDrainRefusal 2 c.drain.new.stores.items) c.in-Err-Lost-drain.field-0-is c.in-Err-Lost-drain.ensures.fault in
+    let apart : 0 ≢ 2 = omega arith in
+    let before = sym (c.in-Ok.ensures.others first.rank 2 apart) ∙ first.lost in
+    subst (λ k. k < length c.args.refusals.now) (sym c.in-Err-Lost-drain.rank-is) (c.requires.lost first.rank 2 c.in-Err-Lost-drain.rank before).0
 
 pub drain-requires-2-clause-filled : goal.drain-requires-2-clause-filled
 drain-requires-2-clause-filled g c =

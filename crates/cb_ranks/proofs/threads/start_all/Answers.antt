@@ -1,7 +1,8 @@
 use Rattle.std.proofs.Common.{rules, length, ◌≡◌, ◌++◌, ◌∷◌, sym, ap, ◌∙◌, subst, map}
+use Rattle.std.proofs.lemmas.List.{length-map}
 use Rattle.cb_ranks.specs.Crews.{IsOneOf}
 use Rattle.cb_ranks.specs.Started.{started, started_recorder}
-use Rattle.cb_ranks.proofs.RanksInFaults.{member_is_one}
+use Rattle.cb_ranks.proofs.RanksInFaults.{member_is_one, member_is_next}
 use Rattle.cb_ranks.proofs.CrewSoFar.{nothing_left}
 use Rattle.cb_ranks.proofs.threads.start_all.Goals as goal
 
@@ -12,6 +13,21 @@ returns-in_default-clause-missing g c =
     let next : c.loop-rank.rank-iterator.a.rest.items ≡ (c.in-Some.rank, c.in-Some.desk) ∷ rest = search rules in
     let all : before ++ (c.in-Some.rank, c.in-Some.desk) ∷ rest ≡ c.args.crew.items = ap (λ ms. before ++ ms) (sym next) ∙ c.loop-rank.invariant.all in
     rw c.rank-number.ensures (subst (λ ms. IsOneOf ms c.in-Some.desk.me) all (member_is_one before (c.in-Some.rank, c.in-Some.desk) rest))
+
+pub returns-in_default-clause-next : goal.returns-in_default-clause-next
+returns-in_default-clause-next g c =
+    let before = map (started {S = g.row.S.Denot} {T = g.row.T.Denot}) c.loop-rank.threads.items in
+    let rest = c.next.new.self.a.rest.items in
+    let next : c.loop-rank.rank-iterator.a.rest.items ≡ (c.in-Some.rank, c.in-Some.desk) ∷ rest = search rules in
+    let all : before ++ (c.in-Some.rank, c.in-Some.desk) ∷ rest ≡ c.args.crew.items = ap (λ ms. before ++ ms) (sym next) ∙ c.loop-rank.invariant.all in
+    let count = length-map c.loop-rank.threads.items (started {S = g.row.S.Denot} {T = g.row.T.Denot}) in
+    rw c.rank-number.ensures (member_is_next before (c.in-Some.rank, c.in-Some.desk) rest c.args.crew.items (length c.loop-rank.threads.items) count all)
+
+pub returns-in_default-clause-first : goal.returns-in_default-clause-first
+returns-in_default-clause-first g c = (c.loop-rank.rank-iterator.a.rest.items, c.loop-rank.invariant.all)
+
+pub returns-clause-first : goal.returns-clause-first
+returns-clause-first g c = (c.loop-rank.rank-iterator.a.rest.items, c.loop-rank.invariant.all)
 
 pub returns-clause-all : goal.returns-clause-all
 returns-clause-all g c =

@@ -23,8 +23,7 @@ invariant_of-self g c =
     let at = rank_at _ _ c.args.r c.index_mut.result.now _ _ c.self.invariant.0 c.if-r-len.false c.len.ensures c.self.inside.ranks.ok.0 c.index_mut.ensures.value in
     let came = step_is _ _ c.args.r c.index_mut.result.now c.step.new.self c.step.result c.turn_to.new.self c.step.new.ports c.self.invariant.0 at.inside at.read c.turn_to.ensures c.step.ensures.posts c.step.ensures.takes c.step.ensures.works in
     let same = length-set c.self.inside.ranks.items c.args.r c.step.new.self in
-    let room = c.self.invariant.2 in
-    (came.sound, c.self.invariant.1, rw same room)
+    (came.sound, rw same c.self.invariant.1, rw same c.self.invariant.2)
 
 pub returns-clause-half : goal.returns-clause-half
 returns-clause-half g c =

@@ -1,5 +1,5 @@
 -- The world is new, and a new world agrees with its plan.
-use Rattle.std.proofs.Common.{refl, ap, subst, arith, vec_items}
+use Rattle.std.proofs.Common.{◌≡◌, ◌≤◌, length, vec_capacity, refl, ap, subst, arith, vec_items}
 use Rattle.cb_world.specs.Starting.{AreNewBoxes}
 use Rattle.cb_world.specs.Worlds.{WorldView}
 use Rattle.cb_world.proofs.FirstState.{begins}
@@ -14,7 +14,10 @@ invariant_of-result g c =
     let few = c.ranks.type_inv in
     let same = c.ranks.ensures.ranks in
     let world = begins _ c.args.plan.now c.args.stores.items c.args.capacity w c.ranks.ensures.checked c.requires.fits (omega arith) c.requires.capacity.0 c.requires.capacity.1 new in
-    (world, c.in_ok-ranks.ensures.empty.0, c.in_ok-ranks.ensures.empty.1)
+    let size : length c.in_ok-ranks.ranks.items ≡ c.args.plan.now.ranks = new.sizes.0 in
+    let taken = c.in-Ok-with_capacity.ensures.capacity in
+    let room : length c.in_ok-ranks.ranks.items ≤ vec_capacity c.in-Ok-with_capacity.counts = omega (arith, size, taken) in
+    (world, c.in_ok-ranks.ensures.empty, (c.in-Ok-with_capacity.ensures.items, room))
 
 pub returns-clause-new : goal.returns-clause-new
 returns-clause-new g c =
