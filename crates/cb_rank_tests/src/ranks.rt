@@ -98,20 +98,20 @@ fn a_rank_whose_peer_is_gone_is_given_up(rt: HostRuntime) -> Result<(), Fail> {
 }
 
 /// What rank 0 holds as the double in the end, and how often each of the two was refused memory.
-fn left_at_0(finished: Finished<PlusTimes>) -> Option<(Held, [u64; 2])> {
+fn left_at_0(finished: Finished<PlusTimes>) -> Option<(Held, (u64, u64))> {
     let (stores, refusals) = finished.into_parts();
     let [first, second] = refusals.as_slice() else {
         return None;
     };
-    Some((contents_at(&stores, 0, 2)?, [*first, *second]))
+    Some((contents_at(&stores, 0, 2)?, (*first, *second)))
 }
 
 /// Whether the double is there, and no memory was refused, or it is lost by one refusal, at the rank that it names.
 fn is_whole_or_lost(finished: Finished<PlusTimes>) -> bool {
     match left_at_0(finished) {
-        Some((Held::Number(6), refusals)) => refusals == [0, 0],
-        Some((Held::LostAt(0), refusals)) => refusals == [1, 0],
-        Some((Held::LostAt(1), refusals)) => refusals == [0, 1],
+        Some((Held::Number(6), refusals)) => refusals == (0, 0),
+        Some((Held::LostAt(0), refusals)) => refusals == (1, 0),
+        Some((Held::LostAt(1), refusals)) => refusals == (0, 1),
         _ => false,
     }
 }
@@ -156,7 +156,7 @@ fn ranks_in_threads_meet(rt: HostRuntime) -> Result<(), Fail> {
     let [first, second] = &gate.passes;
     let passes = (first.load(Ordering::SeqCst), second.load(Ordering::SeqCst));
     assert_eq!(rt; (gate.met.load(Ordering::SeqCst), passes), (2, (4, 5)));
-    assert_eq!(rt; left_at_0(finished), Some((Held::Number(6), [0, 0])));
+    assert_eq!(rt; left_at_0(finished), Some((Held::Number(6), (0, 0))));
     Ok(())
 }
 
@@ -303,7 +303,7 @@ fn tells_its_story<R: Threads + Wait + Sync>(
     let (finished, trace) = run_traced(rt, alloc, &plan, stores, capacity, &gate).ok()?;
     let Scribe { of_0, of_1, .. } = gate;
     let agree = has_stories(&trace, &of_0.into_inner(), &of_1.into_inner());
-    Some(agree && left_at_0(finished) == Some((Held::Number(6), [0, 0])))
+    Some(agree && left_at_0(finished) == Some((Held::Number(6), (0, 0))))
 }
 
 #[test]
