@@ -28,7 +28,6 @@ fn backwards(alloc: Global, ranks: u16, starved: Option<u16>) -> Result<Vec<Even
 
 /// Whether a product and the same under a mask have the entries that they should.
 fn makes(alloc: Global, grid: &Grid, capacity: usize, order: &[Event]) -> Result<bool, Fail>
-    requires { (1 ≤ capacity) × (capacity ≤ 64) }
 {
     let (left, right) = operands::<PlusTimes>(alloc).ok_or("memory")?;
     let product = multiply_in_order(alloc, grid, capacity, &left, &right, order)?;

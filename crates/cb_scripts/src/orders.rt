@@ -1,5 +1,5 @@
 //! Products by ranks that are stepped one at a time, in an order that the caller gives.
-ghost use Rattle.std.specs.Prelude.{◌≡◌, ◌≤◌, ◌*◌, map, All, IfOk, IfErr};
+ghost use Rattle.std.specs.Prelude.{◌≡◌, ◌*◌, map, All, IfOk, IfErr};
 ghost use Rattle.cb_matrix.specs.Sparse.{Sparse};
 ghost use Rattle.cb_matrix.specs.Values.{product, product_shape};
 ghost use Rattle.cb_matrix.specs.Operations.{masked};
@@ -14,6 +14,7 @@ ghost use Rattle.cb_scripts.specs.Orders.{LostAtRanks, IsStepRefusal, IsOrderedR
 use crate::ScriptFault;
 use crate::stores::{drain, laid_out};
 use cb_layout::{DistributedMatrix, Grid};
+use cb_letters::Capacity;
 use cb_matrix::{Matrix, Shape};
 use cb_plan::{CheckedPlan, Planned, RankStore, SLOTS};
 use cb_semirings::Semiring;
@@ -25,8 +26,9 @@ use std::alloc::{AllocError, Global};
 ///
 /// Each event is one half of one rank's program, done if it can be done now (see [`World`]). After the last event
 /// whichever rank is ready is stepped, until all are done. Whatever the order, and however few letters a lane holds
-/// (`capacity`, from 1 to 64), the answer is the product; `docs/RANKS.md` says why. So the order is for replaying an
-/// interleaving, and for seeing what a refusal of memory does.
+/// (`capacity`, 1 to 64, of which the nearest is taken for any other number), the answer is the product;
+/// `docs/RANKS.md` says why. So the order is for replaying an interleaving, and for seeing what a refusal of memory
+/// does.
 ///
 /// Shapes that don't agree are `Shapes`, before memory is asked for. Where memory is refused in a rank, by an
 /// [`Event::Starve`] or by the machine, and a block of the answer is lost by it, the answer is `Lost` with that rank;
@@ -40,7 +42,6 @@ pub fn multiply_in_order<S: Semiring>(
     right: &Matrix<S>,
     order: &[Event],
 ) -> Result<Matrix<S>, ScriptFault>
-    requires { (1 ≤ capacity) × (capacity ≤ 64) }
     ensures ok { IfOk result (λ m. m ≡ product S.arithmetic left.now right.now) }
     ensures agree { IfOk result (λ m. left.now.shape.cols ≡ right.now.shape.rows) }
     ensures fault { IfErr result (IsOrderedRefusal (grid.now.side * grid.now.side) left.now right.now) }
@@ -72,7 +73,6 @@ pub fn multiply_masked_in_order<S: Semiring>(
     mask: &Matrix<S>,
     order: &[Event],
 ) -> Result<Matrix<S>, ScriptFault>
-    requires { (1 ≤ capacity) × (capacity ≤ 64) }
     ensures ok { IfOk result (λ m. m ≡ masked S.arithmetic (product S.arithmetic left.now right.now) mask.now) }
     ensures agree { IfOk result (λ m. (left.now.shape.cols ≡ right.now.shape.rows) × (mask.now.shape ≡ product_shape left.now right.now)) }
     ensures fault { IfErr result (IsOrderedMaskRefusal (grid.now.side * grid.now.side) left.now right.now mask.now) }
@@ -107,7 +107,6 @@ fn compute_in_order<S: Semiring>(
 ) -> Result<Matrix<S>, ScriptFault>
     requires sides { All (λ o. o.1.side ≡ grid.now.side) operands.items }
     requires makes { (answer : Sparse) × Makes S.arithmetic grid.now.side (map (λ o. (o.0, o.1.matrix)) operands.items) planned shape answer }
-    requires capacity { (1 ≤ capacity) × (capacity ≤ 64) }
     ensures ok { IfOk result (λ m. (answer : Sparse) → Makes S.arithmetic grid.now.side (map (λ o. (o.0, o.1.matrix)) operands.items) planned shape answer → m ≡ answer) }
     ensures fault { IfErr result (IsStepRefusal (grid.now.side * grid.now.side)) }
 {
@@ -126,12 +125,12 @@ fn stepped<S: Semiring>(
     stores: Vec<RankStore<S>>,
     order: &[Event],
 ) -> Result<Vec<RankStore<S>>, AllocError>
-    requires fits { Fits plan.now.ranks plan.now.starts stores.items }
-    requires capacity { (1 ≤ capacity) × (capacity ≤ 64) }
+    requires { Fits plan.now.ranks plan.now.starts stores.items }
     ensures meaning { IfOk result (λ after. LostOrMeans (meaning (matrices S.arithmetic) plan.now.acts (state_of stores.items)) after.items) }
     ensures table { IfOk result (λ after. IsTable plan.now.ranks SLOTS after.items) }
     ensures lost { IfOk result (λ after. LostAtRanks plan.now.ranks after.items) }
 {
+    let capacity = Capacity::nearest(capacity);
     let mut world = match World::start(alloc, plan, stores, capacity) {
         Ok(world) => world,
         Err((_stores, refused)) => return Err(refused),

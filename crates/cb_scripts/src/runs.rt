@@ -14,6 +14,7 @@ ghost use Rattle.cb_scripts.specs.Refusals.{IsEngineRefusal, IsRunRefusal};
 use crate::stores::{drain, laid_out};
 use crate::{Engine, ScriptFault};
 use cb_layout::{DistributedMatrix, Grid};
+use cb_letters::Capacity;
 use cb_local::run_plain;
 use cb_matrix::Shape;
 use cb_plan::{CheckedPlan, Planned, RankStore, SLOTS};
@@ -148,7 +149,7 @@ impl Engine {
         match self {
             Engine::Plain => Engine::run_plain(alloc, plan, stores),
             Engine::Ranks(letters) => {
-                let capacity = letters.clamp(1, 64);
+                let capacity = Capacity::nearest(letters);
                 let finished = run_threads(rt, alloc, plan, stores, capacity, &OpenGate)?;
                 let (stores, _refusals) = finished.into_parts();
                 Ok(stores)

@@ -16,6 +16,7 @@ ghost use Rattle.cb_scripts.specs.Traced.{AgreeUnder, IsProductTrace, IsTracedRe
 use crate::ScriptFault;
 use crate::stores::{drain, laid_out};
 use cb_layout::{DistributedMatrix, Grid};
+use cb_letters::Capacity;
 use cb_matrix::{Matrix, Shape};
 use cb_plan::{CheckedPlan, Planned, RankStore, SLOTS};
 use cb_ranks::{OpenGate, run_traced};
@@ -213,7 +214,7 @@ fn run<S: Semiring + Send + Sync, R: Threads + Wait + Sync>(
     ensures legal { IfOk result (λ done. AreLegalEvents done.1.events × AreOnLanes done.1.ranks done.1.events) }
     ensures fault { IfErr result IsTracedRunRefusal }
 {
-    let capacity = capacity.clamp(1, 64);
+    let capacity = Capacity::nearest(capacity);
     let (finished, trace) = run_traced(rt, alloc, plan, stores, capacity, &OpenGate)?;
     let _len = trace.len();
     let (stores, _refusals) = finished.into_parts();

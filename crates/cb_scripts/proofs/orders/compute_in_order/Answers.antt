@@ -6,8 +6,8 @@ use Rattle.cb_scripts.proofs.orders.compute_in_order.Goals as goal
 pub laid_out-requires-clause-slots : goal.laid_out-requires-clause-slots
 laid_out-requires-clause-slots g c = c.requires.makes.1.slots
 
-pub stepped-requires-clause-fits : goal.stepped-requires-clause-fits
-stepped-requires-clause-fits g c =
+pub stepped-requires : goal.stepped-requires
+stepped-requires g c =
     let made = c.into_checked-plan in
     checked_fits g.S.Semiring.arithmetic c.args.grid.now.side (map whole_matrix c.args.operands.items) c.args.planned c.args.shape c.requires.makes.0 c.requires.makes.1
     c.in_ok-stores.stores.items c.in_ok-stores.ensures made.result.0 made.result.1 made.ensures.plan made.ensures.slot
