@@ -3,6 +3,7 @@ ghost use Rattle.std.specs.Prelude.{◌≡◌, ◌≤◌, IfSome};
 ghost use Rattle.cb_plan.specs.Stores.{Fits};
 
 use crate::examples::{product_blocks, results, two_by_two};
+use cb_letters::Capacity;
 use cb_plan::{CheckedPlan, RankStore};
 use cb_rank::Moved;
 use cb_semirings::PlusTimes;
@@ -19,7 +20,7 @@ pub(crate) fn world(
     requires { Fits plan.now.ranks plan.now.starts stores.items }
     ensures { IfSome result (λ w. w.plan ≡ plan.now) }
 {
-    World::start(alloc, plan, stores, 1).ok()
+    World::start(alloc, plan, stores, Capacity::nearest(1)).ok()
 }
 
 /// The world of the product of two matrices of 2 by 2 over four ranks.

@@ -1,6 +1,7 @@
 //! A world of a product over four ranks, to one of whose halves memory is refused.
 use crate::events::{answers, product_world, stores_of};
 use crate::examples::{Held, kept, product_blocks, results, two_by_two};
+use cb_letters::Capacity;
 use cb_rank::Moved;
 use cb_semirings::PlusTimes;
 use cb_world::{Event, World};
@@ -102,7 +103,7 @@ fn a_world_needs_memory_to_start_and_none_to_end(rt: HostRuntime) -> Result<(), 
     else {
         return Ok(());
     };
-    match World::start(alloc, &plan, stores, 1) {
+    match World::start(alloc, &plan, stores, Capacity::nearest(1)) {
         Ok(mut world) => {
             world.finish();
             assert!(rt; world.all_done());

@@ -3,6 +3,7 @@ ghost use Rattle.std.specs.Prelude.{◌≡◌, ◌<◌, length};
 ghost use Rattle.cb_ranks.specs.Views.{finished_view};
 
 use crate::examples::{product_blocks, results, two_by_two};
+use cb_letters::Capacity;
 use cb_plan::{CheckedPlan, Half};
 use cb_rank::{Rank, Want};
 use cb_ranks::{Finished, Gate, run_threads};
@@ -203,7 +204,7 @@ fn ranks_in_threads_meet_and_leave_the_product(rt: HostRuntime) -> Result<(), Fa
         rt: &rt,
         passes: Passes::new(alloc),
     };
-    let Ok(finished) = run_threads(&rt, alloc, &plan, stores, 1, &gate) else {
+    let Ok(finished) = run_threads(&rt, alloc, &plan, stores, Capacity::nearest(1), &gate) else {
         return Err("the run ends".into());
     };
     let passes = gate.passes;

@@ -8,6 +8,7 @@ ghost use Rattle.cb_ranks.specs.Runs.{IsNewRun};
 use crate::examples::{product_blocks, results, two_by_two};
 use cb_dcsc::Block;
 use cb_lanes::{Desk, Gone, Settled, open, settle};
+use cb_letters::Capacity;
 use cb_plan::RankStore;
 use cb_ranks::{OpenGate, assemble, run_rank};
 use cb_semirings::PlusTimes;
@@ -100,7 +101,7 @@ fn letters(lanes: &Settled<Block<PlusTimes>>) -> Option<u64>
 fn ranks_on_threads_of_the_test_leave_the_product(rt: HostRuntime) -> Result<(), Fail> {
     let alloc = rt.alloc();
     let (plan, stores) = two_by_two(alloc, 2).ok_or("a plan")?;
-    let crew = assemble(alloc, &plan, stores, 1)?;
+    let crew = assemble(alloc, &plan, stores, Capacity::nearest(1))?;
     let (stores, desks) = run_four(&rt, alloc, crew).ok_or("the runs end")?;
     assert_eq!(rt; letters(&settle(desks)), Some(20));
     assert_eq!(rt; results(&stores), product_blocks());
@@ -109,7 +110,7 @@ fn ranks_on_threads_of_the_test_leave_the_product(rt: HostRuntime) -> Result<(),
 
 #[test]
 fn a_desk_that_is_gone_is_not_waited_for(rt: HostRuntime) -> Result<(), Fail> {
-    let mut desks = open::<Block<PlusTimes>>(rt.alloc(), 2, 1)?;
+    let mut desks = open::<Block<PlusTimes>>(rt.alloc(), 2, Capacity::nearest(1))?;
     drop(desks.pop());
     let mut first = desks.pop().ok_or("two desks")?;
     assert_eq!(rt; first.take(&rt, 1).err(), Some(Gone(1)));

@@ -1,5 +1,6 @@
 //! The traces of a product's ranks in threads.
 use crate::examples::{grid, leave, product, two_by_two};
+use cb_letters::Capacity;
 use cb_rank::{Rank, Want};
 use cb_ranks::{Gate, OpenGate, run_traced};
 use cb_semirings::Semiring;
@@ -54,7 +55,7 @@ fn traced_ranks_leave_the_product_and_a_legal_trace(rt: HostRuntime) -> Result<(
     let alloc = rt.alloc();
     let wanted = product(alloc).ok_or("memory")?;
     for (side, kinds) in KINDS {
-        for capacity in [1, 64] {
+        for capacity in [1, 64].map(Capacity::nearest) {
             let grid = grid(side).ok_or("a side")?;
             let (plan, stores) = two_by_two(alloc, side).ok_or("a plan")?;
             let Ok((finished, trace)) = run_traced(&rt, alloc, &plan, stores, capacity, &OpenGate)
@@ -160,7 +161,7 @@ fn places_of(
 #[test]
 fn each_of_four_ranks_records_its_halves_as_it_does_them(rt: HostRuntime) -> Result<(), Fail> {
     let alloc = rt.alloc();
-    for capacity in [1, 64] {
+    for capacity in [1, 64].map(Capacity::nearest) {
         let (plan, stores) = two_by_two(alloc, 2).ok_or("a plan")?;
         let scribe = Scribe {
             rt: &rt,

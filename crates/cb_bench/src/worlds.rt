@@ -3,6 +3,7 @@ ghost use Rattle.std.specs.Prelude.{◌≡◌};
 
 use crate::kernels::{Counts, now};
 use cb_layout::Grid;
+use cb_letters::Capacity;
 use cb_local::run_plain;
 use cb_matrix::Matrix;
 use cb_plan::{CheckedPlan, RankStore, Slot};
@@ -13,7 +14,7 @@ use std::alloc::{AllocError, Global};
 use std::time::{CpuClock, Duration};
 
 /// How many letters a lane holds.
-const CAPACITY: usize = 4;
+const LETTERS: usize = 4;
 
 /// A store for each rank, with its blocks of both factors.
 fn stores_of(
@@ -71,7 +72,8 @@ fn time_world<R: CpuClock + AllocGlobal>(
         return Err(AllocError);
     }
     let start = now(rt);
-    let mut world = match World::start(rt.alloc(), plan, stores, CAPACITY) {
+    let capacity = Capacity::nearest(LETTERS);
+    let mut world = match World::start(rt.alloc(), plan, stores, capacity) {
         Ok(world) => world,
         Err((_stores, refused)) => return Err(refused),
     };

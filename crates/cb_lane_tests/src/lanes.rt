@@ -3,7 +3,7 @@ ghost use Rattle.std.specs.Prelude.{◌≡◌, [], ◌∷◌, IfOk};
 ghost use Rattle.cb_lanes.specs.Desks.{identity, AreOfOneOpening};
 
 use cb_lanes::{Desk, Gone, WaitRefusal, open, settle};
-use cb_letters::{Body, Letter, PostRefusal, Tag, Taken};
+use cb_letters::{Body, Capacity, Letter, PostRefusal, Tag, Taken};
 use std::alloc::{AllocError, Global};
 use std::sync::Wait;
 use std::test::Fail;
@@ -21,10 +21,10 @@ fn lost_letter(number: u64) -> Taken<u64> {
 }
 
 /// The desks of two ranks, with lanes for so many letters.
-fn two_desks(alloc: Global, capacity: usize) -> Result<(Desk<u64>, Desk<u64>), Fail>
+fn two_desks(alloc: Global, letters: usize) -> Result<(Desk<u64>, Desk<u64>), Fail>
     ensures { IfOk result (λ desks. AreOfOneOpening (identity desks.0 ∷ identity desks.1 ∷ [])) }
 {
-    let mut desks = open::<u64>(alloc, 2, capacity)?;
+    let mut desks = open::<u64>(alloc, 2, Capacity::nearest(letters))?;
     let second = desks.pop().ok_or("two desks")?;
     let first = desks.pop().ok_or("two desks")?;
     Ok((first, second))
@@ -193,7 +193,7 @@ fn gives_up_rank_1<R: Wait>(rt: &R, first: &mut Desk<u64>, third: &mut Desk<u64>
 
 #[test]
 fn a_desk_that_is_gone_is_not_waited_for(rt: HostRuntime) -> Result<(), Fail> {
-    let mut desks = open::<u64>(rt.alloc(), 3, 1)?;
+    let mut desks = open::<u64>(rt.alloc(), 3, Capacity::nearest(1))?;
     assert_eq!(rt; desks[1].post(&rt, 0, Tag(4), Body::Sheet(7)), Ok(0));
     drop(desks.remove(1));
     let [first, third] = desks.as_mut_slice() else {
@@ -273,7 +273,7 @@ fn two_desks_on_two_threads(rt: HostRuntime) -> Result<(), Fail> {
 /// all desks are there, with every lane, or none is.
 #[test]
 fn a_refused_opening_answers_so(rt: HostRuntime) -> Result<(), Fail> {
-    let Ok(desks) = open::<u64>(rt.alloc(), 3, 2) else {
+    let Ok(desks) = open::<u64>(rt.alloc(), 3, Capacity::nearest(2)) else {
         return Ok(());
     };
     let settled = settle(desks);

@@ -3,7 +3,7 @@ ghost use Rattle.std.specs.Prelude.{◌≡◌, ◌<◌, All, length, false};
 ghost use Rattle.cb_mailbox.specs.Inbox.{is_stranger};
 ghost use Rattle.cb_mailbox.specs.Run.{IsPostable};
 
-use cb_letters::{Body, Letter, PostRefusal, Tag, Taken};
+use cb_letters::{Body, Capacity, Letter, PostRefusal, Tag, Taken};
 use cb_mailbox::{Answer, Call, Mailbox};
 use std::alloc::{AllocError, Global};
 use std::test::Fail;
@@ -43,7 +43,7 @@ fn answers_so(
     requires me { me < ranks }
     requires postable { All IsPostable calls.items }
 {
-    let mut mailbox = Mailbox::open(alloc, me, ranks, 2)?;
+    let mut mailbox = Mailbox::open(alloc, me, ranks, Capacity::nearest(2))?;
     match mailbox.run(alloc, calls) {
         Ok(answers) => Ok(answers == expected),
         Err((_calls, refused)) => Err(refused),
@@ -154,7 +154,7 @@ fn counts_follow(mailbox: &mut Mailbox<u64>) -> bool
 
 #[test]
 fn counts_and_room_follow_the_calls(rt: HostRuntime) -> Result<(), Fail> {
-    let mut mailbox = Mailbox::open(rt.alloc(), 0, 2, 1)?;
+    let mut mailbox = Mailbox::open(rt.alloc(), 0, 2, Capacity::nearest(1))?;
     assert!(rt; counts_follow(&mut mailbox));
     Ok(())
 }
@@ -163,7 +163,7 @@ fn counts_and_room_follow_the_calls(rt: HostRuntime) -> Result<(), Fail> {
 /// refused `open` answers so, and a refused `run` hands back calls that can be run again.
 #[test]
 fn a_refused_run_can_be_made_again(rt: HostRuntime) -> Result<(), Fail> {
-    let Ok(mut mailbox) = Mailbox::open(rt.alloc(), 0, 3, 2) else {
+    let Ok(mut mailbox) = Mailbox::open(rt.alloc(), 0, 3, Capacity::nearest(2)) else {
         return Ok(());
     };
     let Ok(calls) = vec![in rt.alloc(); post(1, 10), post(2, 20), Call::Take { from: 2 }] else {

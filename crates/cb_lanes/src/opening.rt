@@ -8,7 +8,7 @@ ghost use Rattle.cb_lanes.specs.Ends.{IsNewLane, AreRows, AreColumns, AreNewLane
 
 use crate::desk::Desk;
 use crate::ends::{Numbered, Poster, Taker};
-use cb_letters::Letter;
+use cb_letters::{Capacity, Letter};
 use rtrb::RingBuffer;
 use std::alloc::{AllocError, Global};
 use std::mem;
@@ -22,7 +22,7 @@ fn open_lane<P: Drop>(
     alloc: Global,
     from: u16,
     to: u16,
-    capacity: usize,
+    capacity: Capacity,
 ) -> Result<(Option<Poster<P>>, Option<Taker<P>>), AllocError>
     ensures { IfOk result (λ ends. IsNewLane from to capacity ends.0 ends.1) }
 {
@@ -30,7 +30,8 @@ fn open_lane<P: Drop>(
         return Ok((None, None));
     }
     let (producer, consumer) = RingBuffer::<Letter<P>>::with_protocol::<Global, Numbered>(
-        alloc, capacity,
+        alloc,
+        capacity.get(),
     )?;
     Ok((Some(Poster::new(producer)), Some(Taker::new(consumer))))
 }
@@ -39,7 +40,7 @@ fn open_lane<P: Drop>(
 fn open_row<P: Drop>(
     alloc: Global,
     from: u16,
-    capacity: usize,
+    capacity: Capacity,
     columns: &mut Vec<Column<P>>,
 ) -> Result<Row<P>, AllocError>
     requires count { length columns.old.items < 2 ^ 16 }
@@ -61,7 +62,7 @@ fn open_row<P: Drop>(
 pub(crate) fn open_lanes<P: Drop>(
     alloc: Global,
     ranks: u16,
-    capacity: usize,
+    capacity: Capacity,
 ) -> Result<(Vec<Row<P>>, Vec<Column<P>>), AllocError>
     ensures count { IfOk result (λ t. (length t.0.items ≡ ranks) × (length t.1.items ≡ ranks)) }
     ensures rows { IfOk result (λ t. AreRows t.0.items ranks) }
@@ -79,9 +80,13 @@ pub(crate) fn open_lanes<P: Drop>(
     Ok((rows, columns))
 }
 
-/// The desks of all ranks, in order of their numbers, with a new lane for at most `capacity` letters from
-/// each rank to each other. All memory that lanes ever use is taken here: `ranks * (ranks - 1)` rings.
-pub fn open<P: Drop>(alloc: Global, ranks: u16, capacity: usize) -> Result<Vec<Desk<P>>, AllocError>
+/// The desks of all ranks, in order of their numbers, with a new lane for at most `capacity` letters, 1 to
+/// 64, from each rank to each other. All memory that lanes ever use is taken here: `ranks * (ranks - 1)` rings.
+pub fn open<P: Drop>(
+    alloc: Global,
+    ranks: u16,
+    capacity: Capacity,
+) -> Result<Vec<Desk<P>>, AllocError>
     ensures count { IfOk result (λ desks. length desks.items ≡ ranks) }
     ensures one_opening { IfOk result (λ desks. AreOfOneOpening (map identity desks.items)) }
     ensures new { IfOk result (λ desks. (k : ℕ) (a : _) → k < ranks → IsNewDesk capacity ranks k (slice_index_or desks.items k a)) }

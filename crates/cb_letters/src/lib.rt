@@ -1,7 +1,7 @@
 //! What goes through a lane, and the words in which every crate speaks of lanes.
 //!
 //! There is one lane for each two different ranks and each direction: a bounded queue of letters from
-//! a sender to an addressee. A letter carries a sheet, or the word that a sheet was lost, and a tag of
+//! a sender to an addressee, for as many as its [`Capacity`] says. A letter carries a sheet, or the word that a sheet was lost, and a tag of
 //! its sender's choice. Each lane numbers its letters from 0 on. The last letter of a lane is its close
 //! mark: it has a place and a number as every letter has, its tag is 0, and nothing is posted after it.
 //! A post is refused to a stranger, on a closed lane, on a lane whose numbers are spent, and on a full
@@ -13,11 +13,13 @@
 //! (`Events`). [`Ports`] are the ends of one rank's lanes, whatever they are made of.
 #![tactic(auto)]
 
+mod capacities;
 mod lane_ends;
 
 ghost use Rattle.std.specs.Prelude.{◌≡◌};
 ghost use Rattle.cb_letters.specs.Letters.{is_close};
 
+pub use capacities::Capacity;
 pub use lane_ends::Ports;
 
 /// What a letter is about, chosen by its sender. A close mark has tag 0.

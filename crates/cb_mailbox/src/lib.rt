@@ -25,7 +25,7 @@ ghost use Rattle.cb_letters.specs.declared.Letter.{Letter};
 ghost use Rattle.cb_mailbox.specs.Inbox.{is_stranger, lane_from, with_lane, post_refusal, next_letter};
 
 pub use calls::{Answer, Call};
-use cb_letters::{Body, PostRefusal, Tag, Taken};
+use cb_letters::{Body, Capacity, PostRefusal, Tag, Taken};
 use queue::Queue;
 use std::alloc::{AllocError, Global};
 use std::marker::Model;
@@ -49,14 +49,14 @@ impl<P> Model for Mailbox<P> {
 }
 
 impl<P: Drop> Mailbox<P> {
-    /// The mailbox of rank `me` among `ranks`. Its queues have `capacity` places each, taken here at
+    /// The mailbox of rank `me` among `ranks`. Its queues have `capacity` places each, 1 to 64, taken here at
     /// once; the one from itself, which nobody posts to, has none.
     #[tactic(auto, using(crate::proofs::Inboxes::lanes))]
     pub fn open(
         alloc: Global,
         me: u16,
         ranks: u16,
-        capacity: usize,
+        capacity: Capacity,
     ) -> Result<Mailbox<P>, AllocError>
         requires { me < ranks }
         ensures ranks { IfOk result (λ m. (m.me ≡ me) × (length m.lanes ≡ ranks)) }
@@ -64,7 +64,7 @@ impl<P: Drop> Mailbox<P> {
     {
         let mut lanes = Vec::new(alloc);
         for from in 0..ranks {
-            let places = if from == me { 0 } else { capacity };
+            let places = if from == me { 0 } else { capacity.get() };
             lanes.push(Queue::new(alloc, places)?)?;
         }
         Ok(Mailbox { me, lanes })

@@ -5,6 +5,7 @@ ghost use Rattle.cb_ranks.specs.Runs.{IsNewRun};
 
 use crate::plans::{Held, contents_at, contents_of, doubling};
 use cb_lanes::Gone;
+use cb_letters::Capacity;
 use cb_plan::SLOTS;
 use cb_rank::{Rank, Want};
 use cb_ranks::{
@@ -25,7 +26,7 @@ fn pair(alloc: Global) -> Result<(Member<PlusTimes>, Member<PlusTimes>), Fail>
     ensures second { IfOk result (λ p. IsNewRun p.1.0 p.1.1) }
 {
     let (plan, stores) = doubling(alloc, 3).ok_or("a plan")?;
-    let mut crew = assemble(alloc, &plan, stores, 1)?.into_iter();
+    let mut crew = assemble(alloc, &plan, stores, Capacity::nearest(1))?.into_iter();
     let first = crew.next().ok_or("two ranks")?;
     let second = crew.next().ok_or("two ranks")?;
     Ok((first, second))
@@ -98,20 +99,20 @@ fn a_rank_whose_peer_is_gone_is_given_up(rt: HostRuntime) -> Result<(), Fail> {
 }
 
 /// What rank 0 holds as the double in the end, and how often each of the two was refused memory.
-fn left_at_0(finished: Finished<PlusTimes>) -> Option<(Held, [u64; 2])> {
+fn left_at_0(finished: Finished<PlusTimes>) -> Option<(Held, (u64, u64))> {
     let (stores, refusals) = finished.into_parts();
     let [first, second] = refusals.as_slice() else {
         return None;
     };
-    Some((contents_at(&stores, 0, 2)?, [*first, *second]))
+    Some((contents_at(&stores, 0, 2)?, (*first, *second)))
 }
 
 /// Whether the double is there, and no memory was refused, or it is lost by one refusal, at the rank that it names.
 fn is_whole_or_lost(finished: Finished<PlusTimes>) -> bool {
     match left_at_0(finished) {
-        Some((Held::Number(6), refusals)) => refusals == [0, 0],
-        Some((Held::LostAt(0), refusals)) => refusals == [1, 0],
-        Some((Held::LostAt(1), refusals)) => refusals == [0, 1],
+        Some((Held::Number(6), refusals)) => refusals == (0, 0),
+        Some((Held::LostAt(0), refusals)) => refusals == (1, 0),
+        Some((Held::LostAt(1), refusals)) => refusals == (0, 1),
         _ => false,
     }
 }
@@ -150,13 +151,14 @@ fn ranks_in_threads_meet(rt: HostRuntime) -> Result<(), Fail> {
         passes: [AtomicU64::new(0), AtomicU64::new(0)],
         met: AtomicU64::new(0),
     };
-    let Ok(finished) = run_threads(&rt, rt.alloc(), &plan, stores, 1, &gate) else {
+    let Ok(finished) = run_threads(&rt, rt.alloc(), &plan, stores, Capacity::nearest(1), &gate)
+    else {
         return Err("the run ends".into());
     };
     let [first, second] = &gate.passes;
     let passes = (first.load(Ordering::SeqCst), second.load(Ordering::SeqCst));
     assert_eq!(rt; (gate.met.load(Ordering::SeqCst), passes), (2, (4, 5)));
-    assert_eq!(rt; left_at_0(finished), Some((Held::Number(6), [0, 0])));
+    assert_eq!(rt; left_at_0(finished), Some((Held::Number(6), (0, 0))));
     Ok(())
 }
 
@@ -183,7 +185,7 @@ fn the_gate_sees_each_half(rt: HostRuntime) -> Result<(), Fail> {
         of_0: Mutex::new(Vec::new(rt.alloc())),
         of_1: Mutex::new(Vec::new(rt.alloc())),
     };
-    assert!(rt; run_threads(&rt, rt.alloc(), &plan, stores, 1, &gate).is_ok());
+    assert!(rt; run_threads(&rt, rt.alloc(), &plan, stores, Capacity::nearest(1), &gate).is_ok());
     let Keeper { of_0, of_1, .. } = gate;
     let first = [Want::Post(1), Want::Take(1), Want::Shut(1), Want::End(1)];
     let second = [
@@ -205,7 +207,14 @@ fn refused_memory_is_answered_or_counted(rt: HostRuntime) -> Result<(), Fail> {
     let Some((plan, stores)) = doubling(rt.alloc(), 3) else {
         return Ok(());
     };
-    match run_threads(&rt, rt.alloc(), &plan, stores, 2, &OpenGate) {
+    match run_threads(
+        &rt,
+        rt.alloc(),
+        &plan,
+        stores,
+        Capacity::nearest(2),
+        &OpenGate,
+    ) {
         Err(fault) => assert_eq!(rt; fault, RunFault::Memory),
         Ok(finished) => assert!(rt; is_whole_or_lost(finished)),
     }
@@ -292,7 +301,7 @@ fn has_stories(trace: &Trace, first: &Story, second: &Story) -> bool {
 fn tells_its_story<R: Threads + Wait + Sync>(
     rt: &R,
     alloc: Global,
-    capacity: usize,
+    letters: usize,
 ) -> Option<bool> {
     let (plan, stores) = doubling(alloc, 3)?;
     let gate = Scribe {
@@ -300,19 +309,20 @@ fn tells_its_story<R: Threads + Wait + Sync>(
         of_0: Mutex::new(Story::new(alloc)),
         of_1: Mutex::new(Story::new(alloc)),
     };
+    let capacity = Capacity::nearest(letters);
     let (finished, trace) = run_traced(rt, alloc, &plan, stores, capacity, &gate).ok()?;
     let Scribe { of_0, of_1, .. } = gate;
     let agree = has_stories(&trace, &of_0.into_inner(), &of_1.into_inner());
-    Some(agree && left_at_0(finished) == Some((Held::Number(6), [0, 0])))
+    Some(agree && left_at_0(finished) == Some((Held::Number(6), (0, 0))))
 }
 
 #[test]
 fn each_rank_records_its_halves_as_it_does_them(rt: HostRuntime) {
-    for capacity in [1, 64] {
+    for letters in [1, 64] {
         assert_eq!(rt;
-            tells_its_story(&rt, rt.alloc(), capacity),
+            tells_its_story(&rt, rt.alloc(), letters),
             Some(true),
-            "{capacity}"
+            "{letters}"
         );
     }
 }
@@ -323,7 +333,14 @@ fn refused_memory_is_answered_or_counted_with_a_trace(rt: HostRuntime) -> Result
     let Some((plan, stores)) = doubling(rt.alloc(), 3) else {
         return Ok(());
     };
-    match run_traced(&rt, rt.alloc(), &plan, stores, 2, &OpenGate) {
+    match run_traced(
+        &rt,
+        rt.alloc(),
+        &plan,
+        stores,
+        Capacity::nearest(2),
+        &OpenGate,
+    ) {
         Err(fault) => assert_eq!(rt; fault, RunFault::Memory),
         Ok((finished, trace)) => {
             assert!(rt; trace.len() == 8 && is_whole_or_lost(finished));

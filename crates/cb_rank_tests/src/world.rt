@@ -1,6 +1,7 @@
 //! Worlds of two ranks, whose events come in any order: with ample memory, and with memory refused to a step, to an
 //! operation, and to the world itself.
 use crate::plans::{Held, contents_at, doubling, plan_from_0, send, stores_from_0};
+use cb_letters::Capacity;
 use cb_plan::{Act, CheckedPlan, RankStore};
 use cb_rank::Moved;
 use cb_semirings::PlusTimes;
@@ -11,7 +12,7 @@ use std::test::Fail;
 /// The world in which 6 is doubled, whose lanes hold one letter.
 fn world(alloc: Global) -> Option<World<PlusTimes>> {
     let (plan, stores) = doubling(alloc, 6)?;
-    World::start(alloc, &plan, stores, 1).ok()
+    World::start(alloc, &plan, stores, Capacity::nearest(1)).ok()
 }
 
 /// The world of a plan whose first rank has 6 in slot 0.
@@ -20,7 +21,7 @@ fn world_of(alloc: Global, plan: &CheckedPlan) -> Option<World<PlusTimes>> {
     if !plan.fits(&stores) {
         return None;
     }
-    World::start(alloc, plan, stores, 1).ok()
+    World::start(alloc, plan, stores, Capacity::nearest(1)).ok()
 }
 
 /// What ranks 0 and 1 hold as the double once all is done, and how often each was refused memory.
@@ -178,7 +179,7 @@ fn a_world_ends_whatever_is_refused(rt: HostRuntime) {
     let Some((plan, stores)) = doubling(rt.alloc(), 6) else {
         return;
     };
-    match World::start(rt.alloc(), &plan, stores, 1) {
+    match World::start(rt.alloc(), &plan, stores, Capacity::nearest(1)) {
         Ok(mut world) => {
             world.finish();
             assert!(rt; world.all_done());

@@ -6,6 +6,7 @@ ghost use Rattle.cb_ranks.specs.Crews.{Member as MemberView, AreNew, IsCrew, des
 
 use cb_dcsc::Block;
 use cb_lanes::{Desk, open};
+use cb_letters::Capacity;
 use cb_plan::{CheckedPlan, RankStore};
 use cb_rank::Rank;
 use cb_semirings::Semiring;
@@ -22,7 +23,7 @@ pub fn assemble<S: Semiring>(
     alloc: Global,
     plan: &CheckedPlan,
     stores: Vec<RankStore<S>>,
-    capacity: usize,
+    capacity: Capacity,
 ) -> Result<Vec<Member<S>>, AllocError>
     requires { Fits plan.now.ranks plan.now.starts stores.items }
     ensures crew { IfOk result (λ crew. IsCrew plan.now stores.items crew.items) }

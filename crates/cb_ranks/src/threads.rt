@@ -22,6 +22,7 @@ use crate::rooms::Room;
 use crate::runs::run;
 use cb_dcsc::Block;
 use cb_lanes::{Desk, Gone, settle};
+use cb_letters::Capacity;
 use cb_plan::{CheckedPlan, RankStore};
 use cb_rank::Rank;
 use cb_semirings::Semiring;
@@ -42,7 +43,7 @@ pub fn run_threads<S: Semiring + Send + Sync, R: Threads + Wait + Sync, G: Gate<
     alloc: Global,
     plan: &CheckedPlan,
     stores: Vec<RankStore<S>>,
-    capacity: usize,
+    capacity: Capacity,
     gate: &G,
 ) -> Result<Finished<S>, RunFault>
     requires { Fits plan.now.ranks plan.now.starts stores.items }
@@ -65,7 +66,7 @@ pub(crate) fn run_told<
     alloc: Global,
     plan: &CheckedPlan,
     stores: Vec<RankStore<S>>,
-    capacity: usize,
+    capacity: Capacity,
     gate: &G,
     recorders: Vec<T>,
 ) -> Result<(Finished<S>, Vec<T>), RunFault>

@@ -11,6 +11,7 @@ use crate::finished::Finished;
 use crate::gates::Gate;
 use crate::logs::{Log, events_of, lists_of};
 use crate::threads::run_told;
+use cb_letters::Capacity;
 use cb_plan::{CheckedPlan, RankStore};
 use cb_semirings::Semiring;
 use cb_trace::{SharedTrace, Trace, TraceEvent};
@@ -31,7 +32,7 @@ pub fn run_traced<S: Semiring + Send + Sync, R: Threads + Wait + Sync, G: Gate<S
     alloc: Global,
     plan: &CheckedPlan,
     stores: Vec<RankStore<S>>,
-    capacity: usize,
+    capacity: Capacity,
     gate: &G,
 ) -> Result<(Finished<S>, Trace), RunFault>
     requires { Fits plan.now.ranks plan.now.starts stores.items }
@@ -55,7 +56,7 @@ fn run_logged<S: Semiring + Send + Sync, R: Threads + Wait + Sync, G: Gate<S>>(
     alloc: Global,
     plan: &CheckedPlan,
     stores: Vec<RankStore<S>>,
-    capacity: usize,
+    capacity: Capacity,
     gate: &G,
     trace: &SharedTrace,
 ) -> Result<(Finished<S>, Vec<Vec<TraceEvent>>), RunFault>

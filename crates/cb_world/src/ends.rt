@@ -10,7 +10,7 @@ ghost use Rattle.cb_world.specs.Ends.{box_in};
 ghost use Rattle.cb_world.specs.Starting.{AreNewBoxes};
 ghost use Rattle.cb_world.specs.EndLaws as laws;
 
-use cb_letters::{Body, Ports, PostRefusal, Tag, Taken};
+use cb_letters::{Body, Capacity, Ports, PostRefusal, Tag, Taken};
 use cb_mailbox::Mailbox;
 use std::alloc::{AllocError, Global};
 use std::marker::Model;
@@ -34,7 +34,7 @@ impl<P> Model for Ends<P> {
 
 impl<P: Drop> Ends<P> {
     /// New mailboxes, with lanes of so many letters.
-    pub(crate) fn open(alloc: Global, ranks: u16, capacity: usize) -> Result<Ends<P>, AllocError>
+    pub(crate) fn open(alloc: Global, ranks: u16, capacity: Capacity) -> Result<Ends<P>, AllocError>
         ensures { IfOk result (λ e. AreNewBoxes ranks capacity e.boxes) }
     {
         let mut boxes = Vec::with_capacity(alloc, ranks as usize)?;

@@ -12,6 +12,7 @@ use crate::ends::Ends;
 use crate::events::Event;
 use crate::starting::{parts_of, start_ranks};
 use cb_dcsc::Block;
+use cb_letters::Capacity;
 use cb_plan::{CheckedPlan, RankStore};
 use cb_rank::{Moved, Rank, Supply, Want};
 use cb_semirings::Semiring;
@@ -51,10 +52,9 @@ impl<S: Semiring> World<S> {
         alloc: Global,
         plan: &CheckedPlan,
         stores: Vec<RankStore<S>>,
-        capacity: usize,
+        capacity: Capacity,
     ) -> Result<World<S>, (Vec<RankStore<S>>, AllocError)>
-        requires fits { Fits plan.now.ranks plan.now.starts stores.items }
-        requires capacity { (1 ≤ capacity) × (capacity ≤ 64) }
+        requires { Fits plan.now.ranks plan.now.starts stores.items }
         ensures new { IfOk result (λ w. IsNewWorld plan.now stores.items capacity w) }
         ensures world { IfOk result (λ w. IsWorld S.arithmetic w) }
         ensures back { IfErr result (λ e. e.0.items ≡ stores.items) }
@@ -72,7 +72,7 @@ impl<S: Semiring> World<S> {
         Ok(World {
             plan: Snapshot::of(plan),
             first,
-            capacity,
+            capacity: capacity.get(),
             ranks,
             ends,
             stores,
