@@ -1,6 +1,6 @@
 -- What an operation's plan makes of operands over a grid, and the trace that an engine keeps of it.
 use Rattle.std.proofs.Common.{◌≡◌, ◌≢◌, ℕ, List, refl, sym, subst}
-use Rattle.std.specs.Prelude.{All, Option, None}
+use Rattle.std.specs.Prelude.{All, Option}
 use Rattle.cb_semirings.specs.Arithmetic.{Arithmetic, IsSemiring}
 use Rattle.cb_matrix.specs.Sparse.{Sparse, Extent, IsMatrix}
 use Rattle.cb_plan.specs.declared.plans.Planned.{Planned}
@@ -12,7 +12,7 @@ use Rattle.cb_placement.specs.Answers.{Makes}
 use Rattle.cb_planner.specs.Plans.{Computes, placed_operands}
 use Rattle.cb_engines.specs.declared.engines.Engine.{Engine}
 use Rattle.cb_engines.specs.declared.engines.Engine.TheVariants.{Threads, Traced, InOrder}
-use Rattle.cb_engines.specs.Runs.{IsTraceOf, KeepsTrace, checked_of}
+use Rattle.cb_engines.specs.Runs.{IsTraceOf, checked_of}
 use Rattle.cb_run.specs.Runs.{IsPlanFor, IsTraceFor}
 
 module _ (operation : Operation) (q : ℕ) where

@@ -73,9 +73,7 @@ fn run_plan<S: Semiring + Send + Sync, R: Threads + Wait + Sync>(
 {
     let planned = plan_in(alloc, grid, operation, &operands)?;
     let operands = placed(alloc, operands)?;
-    Ok(compute(
-        rt, alloc, engine, grid, planned, operands, shape,
-    )?)
+    Ok(compute(rt, alloc, engine, grid, planned, operands, shape)?)
 }
 
 /// What an operation makes of whole matrices, by an engine over a grid.

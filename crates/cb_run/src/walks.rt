@@ -46,7 +46,14 @@ fn transposed<S: Semiring + Send + Sync, R: Threads + Wait + Sync>(
     ensures ok { IfOk result (λ m. m ≡ record { side = grid.now.side; matrix = transposed S.arithmetic matrix.matrix }) }
     ensures fault { IfErr result (IsEngineFault engine.entry (grid.now.side * grid.now.side)) }
 {
-    match run(rt, alloc, engine, grid, Operation::Transpose, Operands::One(matrix)) {
+    match run(
+        rt,
+        alloc,
+        engine,
+        grid,
+        Operation::Transpose,
+        Operands::One(matrix),
+    ) {
         Ok(outcome) => Ok(outcome.answer),
         Err(OperationFault::Failed(fault)) => Err(fault),
         Err(OperationFault::Refused(_)) => unreachable!(),

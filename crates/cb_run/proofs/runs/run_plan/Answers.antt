@@ -1,4 +1,3 @@
-use Rattle.std.proofs.Common.{◌≡◌, ◌*◌}
 use Rattle.std.specs.Prelude.{map}
 use Rattle.cb_operations.specs.Operands.{list_of}
 use Rattle.cb_operations.specs.Operations.{answer_of, shapes_in}
@@ -14,9 +13,11 @@ pub compute-requires-clause-makes : goal.compute-requires-clause-makes
 compute-requires-clause-makes g c κs within =
     let s = g.S.Semiring.arithmetic in
     let laws = (g.met.S.Semiring g.world.𝓛 g.world.𝓜 g.world.𝓡 ((λ s x. x), (λ x. x), (λ x. x), λ x. x)).is_semiring in
-    let ms = wholes (list_of c.args.operands) in
-    (answer_of c.args.operation s ms, made_there c.args.operation c.args.grid.now.side s laws ms c.requires.matrices c.in_ok-planned.planned c.in_ok-planned.ensures
-    c.args.shape c.requires.shape (map whole_matrix c.in_ok-operands.operands.items) c.in_ok-operands.ensures.slots)
+    let ms = wholes (list_of c.args.operands) in (
+      answer_of c.args.operation s ms,
+      made_there c.args.operation c.args.grid.now.side s laws ms c.requires.matrices c.in_ok-planned.planned c.in_ok-planned.ensures
+          c.args.shape c.requires.shape (map whole_matrix c.in_ok-operands.operands.items) c.in_ok-operands.ensures.slots,
+    )
 
 pub returns-clause-ok : goal.returns-clause-ok
 returns-clause-ok g c =
