@@ -1,7 +1,7 @@
 //! Worked products in orders of many kinds, on grids of several sides.
 use crate::examples::{MASKED, PRODUCT, grid, has, is_refusal, operands};
-use cb_layout::Grid;
 use cb_engines::{Engine, EngineFault};
+use cb_layout::Grid;
 use cb_matrix::Matrix;
 use cb_operations::{Operands, Operation};
 use cb_run::{OperationFault, run_matrices};

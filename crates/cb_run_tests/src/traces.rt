@@ -144,8 +144,14 @@ fn traces_over_each_grid(rt: HostRuntime) -> Result<(), Fail> {
     for side in 1..=6 {
         let grid = grid(side)?;
         for letters in [1, 64] {
-            assert!(rt; traces(&rt, alloc, letters, &grid, None, &PRODUCT)?, "{side}");
-            assert!(rt; traces(&rt, alloc, letters, &grid, Some(&mask), &MASKED)?, "{side}");
+            assert!(rt;
+                traces(&rt, alloc, letters, &grid, None, &PRODUCT)?,
+                "{side}"
+            );
+            assert!(rt;
+                traces(&rt, alloc, letters, &grid, Some(&mask), &MASKED)?,
+                "{side}"
+            );
         }
     }
     Ok(())

@@ -47,9 +47,7 @@ pub fn compute<S: Semiring>(
             cb_product::multiply(alloc, matrix, vector)
         }
         Operation::Transpose => {
-            let [matrix] = operands else {
-                unreachable!()
-            };
+            let [matrix] = operands else { unreachable!() };
             cb_reshape::transpose(alloc, matrix)
         }
         Operation::Add => {
@@ -65,9 +63,7 @@ pub fn compute<S: Semiring>(
             cb_elementwise::times(alloc, left, right)
         }
         Operation::Prune(test) => {
-            let [matrix] = operands else {
-                unreachable!()
-            };
+            let [matrix] = operands else { unreachable!() };
             cb_elementwise::prune(alloc, matrix, test)
         }
     }
