@@ -80,8 +80,8 @@ pub(crate) fn open_lanes<P: Drop>(
     Ok((rows, columns))
 }
 
-/// The desks of all ranks, in order of their numbers, with a new lane for at most `capacity` letters, 1 to
-/// 64, from each rank to each other. All memory that lanes ever use is taken here: `ranks * (ranks - 1)` rings.
+/// The desks of all ranks, in order of their numbers, with a new lane for at most `capacity` letters from
+/// each rank to each other. All memory that lanes ever use is taken here: `ranks * (ranks - 1)` rings.
 pub fn open<P: Drop>(
     alloc: Global,
     ranks: u16,

@@ -3,10 +3,9 @@ ghost use Rattle.std.specs.Prelude.{◌≡◌, ◌≤◌, ◌<◌, ◌↔◌, Is
 
 use std::marker::Model;
 
-/// How many letters a lane may hold: 1 to 64.
+/// How many letters a lane may hold: at least 1.
 ///
-/// A lane for none would hold up its sender for ever. The top bounds the memory of a world and of a run, which take room
-/// for all letters of all lanes when they start.
+/// A lane for none would hold up its sender for ever. Room for all letters of all lanes is taken when they are made.
 #[derive(Clone, Copy, Debug, PartialEq, Eq)]
 pub struct Capacity {
     letters: usize,
@@ -19,22 +18,21 @@ impl Model for Capacity {
 
     ghost view = { λ c. c.letters };
 
-    ghost invariant = { λ c. (1 ≤ c.letters) × (c.letters ≤ 64) };
+    ghost invariant = { λ c. 1 ≤ c.letters };
 
     ghost inverse = { λ n. record { letters = n } };
 }
 
 impl Capacity {
-    /// Room for so many letters, if they are 1 to 64.
+    /// Room for so many letters, if there is any.
     pub fn new(letters: usize) -> Option<Capacity>
-        ensures some { IsSome result ↔ ((1 ≤ letters) × (letters ≤ 64)) }
+        ensures some { IsSome result ↔ (1 ≤ letters) }
         ensures value { IfSome result (λ capacity. capacity ≡ letters) }
     {
-        if (1..=64).contains(&letters) {
-            Some(Capacity { letters })
-        } else {
-            None
+        if letters == 0 {
+            return None;
         }
+        Some(Capacity { letters })
     }
 
     /// Room for so many letters, or for the nearest number of 1 to 64.
@@ -52,7 +50,6 @@ impl Capacity {
     pub fn get(self) -> usize
         ensures value { result ≡ self }
         ensures some { 1 ≤ result }
-        ensures limit { result ≤ 64 }
     {
         self.letters
     }

@@ -49,7 +49,7 @@ impl<P> Model for Mailbox<P> {
 }
 
 impl<P: Drop> Mailbox<P> {
-    /// The mailbox of rank `me` among `ranks`. Its queues have `capacity` places each, 1 to 64, taken here at
+    /// The mailbox of rank `me` among `ranks`. Its queues have `capacity` places each, taken here at
     /// once; the one from itself, which nobody posts to, has none.
     #[tactic(auto, using(crate::proofs::Inboxes::lanes))]
     pub fn open(

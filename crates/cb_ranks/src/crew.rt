@@ -15,7 +15,7 @@ use std::alloc::{AllocError, Global};
 /// A rank with its desk.
 pub type Member<S> = (Rank<S>, Desk<Block<S>>);
 
-/// The ranks of a plan in order, each new, with its store and a new desk, over lanes for `capacity` letters (1 to 64)
+/// The ranks of a plan in order, each new, with its store and a new desk, over lanes for `capacity` letters
 /// from each to each other: for who runs each by [`run_rank`](crate::run_rank) on a thread of its own.
 ///
 /// It costs the projection of the plan for each rank, and room for the letters of each lane.

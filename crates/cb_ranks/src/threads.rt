@@ -32,7 +32,7 @@ use std::sync::Wait;
 use std::thread;
 use std::thread::{Scope, Threads};
 
-/// Runs each rank of a plan in a thread of its own, over lanes for `capacity` letters (1 to 64) from each rank to each
+/// Runs each rank of a plan in a thread of its own, over lanes for `capacity` letters from each rank to each
 /// other: what is left is what the plan means. Every rank does its whole program: where it is refused memory for a
 /// block the block is lost, and the count of refusals says so.
 ///

@@ -72,14 +72,14 @@ module _ (s : Arithmetic) (p : CheckedView) (stores : List (List (Slot Sparse)))
       (ap (λ (x : RankView). x.plan) is, ap (λ (x : RankView). x.me) is, subst (λ x. IsRank x) (sym is) (starts_as p r (get_or stores r []) checked inside (fits_at p.ranks p.starts stores r fits inside)))
 
 -- such a world is one
-pub begins : (s : Arithmetic) (p : CheckedView) (stores : List (List (Slot Sparse))) (c : ℕ) (w : WorldView) → IsChecked p → Fits p.ranks p.starts stores → p.ranks < 2 ^ 16 → 1 ≤ c → c ≤ 64 → IsNewWorld p stores c w → IsWorld s w
-begins s p stores c w checked fits few low high fresh =
+pub begins : (s : Arithmetic) (p : CheckedView) (stores : List (List (Slot Sparse))) (c : ℕ) (w : WorldView) → IsChecked p → Fits p.ranks p.starts stores → p.ranks < 2 ^ 16 → 1 ≤ c → IsNewWorld p stores c w → IsWorld s w
+begins s p stores c w checked fits few low fresh =
     let ranks : w.plan.ranks ≡ p.ranks = ap (λ (x : CheckedView). x.ranks) fresh.plan in
     record {
       checked = subst (λ x. IsChecked x) (sym fresh.plan) checked;
       fits = rw (fresh.plan, fresh.first) fits;
       few = rw fresh.plan few;
-      capacity = rw fresh.capacity (low, high);
+      capacity = rw fresh.capacity low;
       sizes = rw fresh.plan fresh.sizes;
       ranks = λ r l.
           let it = new_rank_is s p stores c w fits fresh checked r (omega arith) in

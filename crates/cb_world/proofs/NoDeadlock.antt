@@ -56,7 +56,7 @@ someone_acts s w sound none r =
     (λ t.
     let more : (rank_of w r).done < length (rank_of w r).program = grind (arith, nat_tests) in
     let there : (rank_of w r).done < length (project w.plan.starts w.plan.acts r) = rw (program_of w r (sound.ranks r inside)) at more in
-    let room : 0 < w.capacity = let c = sound.capacity.0 in omega arith in
+    let room : 0 < w.capacity = let c = sound.capacity in omega arith in
     let m = someone_moves w.plan.ranks w.capacity (λ p q. length (lane_between w p q).queue) room
     (started w.plan.starts) none_shut w.plan.acts (system_of w).done (passes_of s w sound) (queued_of_agrees (matrices s) w.plan.acts (state_of w.first) (system_of w) sound.agrees) r there in
     let can = can_do w m.0 (slice_get (project w.plan.starts w.plan.acts m.0) (rank_of w m.0).done) m.2 in

@@ -64,7 +64,7 @@ pub record IsWorld (s : Arithmetic) (w : WorldView) : Type 0 where
   pub checked : IsChecked w.plan
   pub fits : Fits w.plan.ranks w.plan.starts w.first
   pub few : w.plan.ranks < 2 ^ 16
-  pub capacity : (1 ≤ w.capacity) × (w.capacity ≤ 64)
+  pub capacity : 1 ≤ w.capacity
   pub sizes : (length w.ranks ≡ w.plan.ranks) × (length w.boxes ≡ w.plan.ranks)
   pub ranks : (r : ℕ) → r < w.plan.ranks → HasRank w r
   pub boxes : (t : ℕ) → t < w.plan.ranks → HasBox w t

@@ -46,7 +46,7 @@ impl<S: Semiring> Model for World<S> {
 }
 
 impl<S: Semiring> World<S> {
-    /// A world in which nothing is done: a rank for each store, and lanes of `capacity` letters, 1 to 64. All
+    /// A world in which nothing is done: a rank for each store, and lanes of `capacity` letters. All
     /// memory that a world itself needs is taken here; where it is refused the stores come back.
     pub fn start(
         alloc: Global,

@@ -13,7 +13,7 @@ invariant_of-result g c =
     let new = new_world c.args.plan.now c.args.stores.items c.args.capacity w c.of.ensures (ap vec_items c.of-first.ensures) c.get.ensures.value c.requires c.in_ok-ranks.ensures.ranks boxes in
     let few = c.ranks.type_inv in
     let same = c.ranks.ensures.ranks in
-    let world = begins _ c.args.plan.now c.args.stores.items c.args.capacity w c.ranks.ensures.checked c.requires (omega arith) (omega arith) (omega arith) new in
+    let world = begins _ c.args.plan.now c.args.stores.items c.args.capacity w c.ranks.ensures.checked c.requires (omega arith) (omega arith) new in
     let size : length c.in_ok-ranks.ranks.items ≡ c.args.plan.now.ranks = new.sizes.0 in
     let taken = c.in-Ok-with_capacity.ensures.capacity in
     let room : length c.in_ok-ranks.ranks.items ≤ vec_capacity c.in-Ok-with_capacity.counts = omega (arith, size, taken) in
@@ -33,5 +33,5 @@ returns-clause-world g c =
     let new = new_world c.args.plan.now c.args.stores.items c.args.capacity w c.of.ensures (ap vec_items c.of-first.ensures) c.get.ensures.value c.requires c.in_ok-ranks.ensures.ranks boxes in
     let few = c.ranks.type_inv in
     let same = c.ranks.ensures.ranks in
-    let world = begins _ c.args.plan.now c.args.stores.items c.args.capacity w c.ranks.ensures.checked c.requires (omega arith) (omega arith) (omega arith) new in
+    let world = begins _ c.args.plan.now c.args.stores.items c.args.capacity w c.ranks.ensures.checked c.requires (omega arith) (omega arith) new in
     world
