@@ -1,12 +1,18 @@
 -- What ranks leave that were stepped in an order.
 use Rattle.std.specs.Prelude.{◌≡◌, ℕ, ◌≤◌, ◌<◌, List, map}
 use Rattle.cb_semirings.specs.Arithmetic.{Arithmetic}
-use Rattle.cb_matrix.specs.Sparse.{Sparse}
+use Rattle.cb_matrix.specs.Sparse.{Sparse, Extent}
+use Rattle.cb_layout.specs.Distributed.{Distributed}
 use Rattle.cb_plan.specs.declared.stores.Slot.{Slot}
+use Rattle.cb_plan.specs.declared.plans.Planned.{Planned}
 use Rattle.cb_plan.specs.Plans.{CheckedView}
+use Rattle.cb_plan.specs.Stores.{state_of}
+use Rattle.cb_placement.specs.Slots.{HasOperands}
+use Rattle.cb_placement.specs.Answers.{gathered}
 use Rattle.cb_world.specs.declared.events.Event.{Event}
 use Rattle.cb_world.specs.Worlds.{WorldView, IsNewWorld, AllDone}
 use Rattle.cb_world.specs.Steps.{RunsBy, FinishesBy}
+use Rattle.cb_engines.specs.Runs.{checked_of}
 use Rattle.cb_engines.specs.declared.engines.Engine.{Engine}
 use Rattle.cb_engines.specs.declared.engines.Engine.TheVariants.{Threads, Traced, InOrder}
 
@@ -37,3 +43,18 @@ abbrev pub IsOrdered : Arithmetic → Engine → CheckedView → List (List (Slo
 IsOrdered s (InOrder letters order) p first stores refusals = IsLeftInOrder s p first stores refusals letters order.now
 IsOrdered s (Threads letters) p first stores refusals = Unit {0}
 IsOrdered s (Traced letters) p first stores refusals = Unit {0}
+
+-- Ranks of a plan began with the blocks of these matrices in these slots, were stepped in an order, and the answer is the
+-- matrix of this shape that their slots for it hold at the end.
+pub record IsSteppedRun (s : Arithmetic) (q : ℕ) (planned : Planned) (operands : List (ℕ × Sparse)) (shape : Extent) (letters : ℕ) (order : List Event) (answer : Distributed) (refusals : List ℕ) : Type 0 where
+  pub first : List (List (Slot Sparse))
+  pub has : HasOperands s q operands first
+  pub stores : List (List (Slot Sparse))
+  pub left : IsLeftInOrder s (checked_of planned) first stores refusals letters order
+  pub held : answer ≡ record { side = q; matrix = gathered s q shape planned.result (state_of stores) }
+
+-- an engine that steps ranks answers what they make in its order
+abbrev pub IsOrderedRun : Arithmetic → Engine → ℕ → Planned → List (ℕ × Sparse) → Extent → Distributed → List ℕ → Type 0
+IsOrderedRun s (InOrder letters order) q planned operands shape answer refusals = IsSteppedRun s q planned operands shape letters order.now answer refusals
+IsOrderedRun s (Threads letters) q planned operands shape answer refusals = Unit {0}
+IsOrderedRun s (Traced letters) q planned operands shape answer refusals = Unit {0}

@@ -1,0 +1,50 @@
+-- What ranks that were stepped in an order hold at the end, gathered.
+use Rattle.std.proofs.Common.{◌≡◌, ℕ, ◌+◌, ◌*◌, ◌<◌, ◌≤◌, List, [], length, get_or, sym, ap, subst, ⊎_elim, ◌∙◌, arith}
+use Rattle.std.specs.Prelude.{Some, None}
+use Rattle.std.proofs.lemmas.Bool.{cases_lt}
+use Rattle.std.proofs.lemmas.List.{get_or_past}
+use Rattle.cb_semirings.specs.Arithmetic.{Arithmetic}
+use Rattle.cb_matrix.specs.Sparse.{Sparse, Extent}
+use Rattle.cb_matrix.specs.Values.{empty_matrix}
+use Rattle.cb_layout.specs.Blocks.{block_at, glued}
+use Rattle.cb_layout.specs.Distributed.{Distributed}
+use Rattle.cb_plan.specs.declared.plans.Planned.{Planned}
+use Rattle.cb_plan.specs.declared.stores.Slot.{Slot}
+use Rattle.cb_plan.specs.declared.stores.Slot.TheVariants as slot_is
+use Rattle.cb_plan.specs.Plans.{CheckedView}
+use Rattle.cb_plan.specs.Stores.{state_of, sheet_of}
+use Rattle.cb_placement.specs.Slots.{HasOperands}
+use Rattle.cb_placement.specs.Answers.{block_or, gathered}
+use Rattle.cb_placement.proofs.GatheredParts.{over_grid}
+use Rattle.cb_engines.specs.declared.engines.Engine.{Engine}
+use Rattle.cb_engines.specs.declared.engines.Engine.TheVariants.{Threads, Traced, InOrder}
+use Rattle.cb_engines.specs.Runs.{checked_of}
+use Rattle.cb_engines.specs.Orders.{IsLeftInOrder, IsOrdered, IsOrderedRun}
+
+-- the blocks that were taken out of a slot of all ranks are those that stood there
+module _ (n : ℕ) (stores : List (List (Slot Sparse))) (blocks : List Sparse) (count : length blocks ≡ length stores) (are : (r : ℕ) → r < length stores → state_of stores r n ≡ Some (block_at blocks r)) where
+  stood_there : (r : ℕ) → block_at blocks r ≡ block_or (state_of stores r n)
+  stood_there r = ⊎_elim
+      (λ (l : r < length stores). sym (ap block_or (are r l)))
+      (λ (l : length stores ≤ r).
+      let none : state_of stores r n ≡ None = ap (λ row. sheet_of (get_or row n slot_is.Empty)) (get_or_past stores r [] l) in
+      get_or_past blocks r (empty_matrix (record { rows = 0; cols = 0 })) (omega arith) ∙ sym (ap block_or none))
+      (cases_lt r (length stores))
+
+  -- glued together they are what is gathered from the slot
+  pub held_gathered : (s : Arithmetic) (q : ℕ) (shape : Extent) → glued s q shape (λ i j. block_at blocks (i * q + j)) ≡ gathered s q shape n (state_of stores)
+  held_gathered s q shape = ap (glued s q shape) (λ t i j. stood_there (i * q + j) t)
+
+-- a run of a plan that was checked is one of the plan
+pub ordered_run : (s : Arithmetic) (engine : Engine) (q : ℕ) (planned : Planned) (operands : List (ℕ × Sparse)) (shape : Extent) (first : List (List (Slot Sparse))) → HasOperands s q operands first →
+    (p : CheckedView) (n : ℕ) → p ≡ checked_of planned → n ≡ planned.result → (stores : List (List (Slot Sparse))) (refusals : List ℕ) → IsOrdered s engine p first stores refusals →
+    (answer : Distributed) → answer ≡ over_grid q (gathered s q shape n (state_of stores)) → IsOrderedRun s engine q planned operands shape answer refusals
+ordered_run s (Threads letters) q planned operands shape first has p n of_planned slot stores refusals ordered answer held = tt
+ordered_run s (Traced letters) q planned operands shape first has p n of_planned slot stores refusals ordered answer held = tt
+ordered_run s (InOrder letters order) q planned operands shape first has p n of_planned slot stores refusals ordered answer held = record {
+  first = first;
+  has = has;
+  stores = stores;
+  left = subst (λ (v : CheckedView). IsLeftInOrder s v first stores refusals letters order.now) of_planned ordered;
+  held = held ∙ (λ t. over_grid q (gathered s q shape (slot t) (state_of stores)));
+}
