@@ -10,6 +10,7 @@ ghost use Rattle.cb_matrix.specs.Values.{product};
 ghost use Rattle.cb_kernels.specs.VectorPlans.{column};
 ghost use Rattle.cb_engines.specs.Runs.{IsEngineFault, IsLossFault, IsTraceOf, LostWhereRefused};
 ghost use Rattle.cb_vectors.specs.SpreadVectors.{HasProduct, HasSpread, MultipliesVectors};
+ghost use Rattle.cb_vectors.specs.VectorOrders.{IsOrderedProduct};
 
 use cb_engines::{Engine, EngineFault, Left};
 use cb_kernels::{LEFT, RESULT, RIGHT, grid_vector};
@@ -41,6 +42,8 @@ pub struct Multiplied<S: Semiring> {
     pub matrix: DistributedMatrix<S>,
     /// The product, which has one column.
     pub product: Matrix<S>,
+    /// How often memory was refused to each rank.
+    pub refusals: Vec<u64>,
     /// The trace of the run, where the engine keeps one.
     pub trace: Option<Trace>,
 }
@@ -61,6 +64,7 @@ pub fn multiply_vector<S: Semiring + Send + Sync, R: Threads + Wait + Sync>(
     requires vector { vector.now.shape ≡ column matrix.matrix.shape.cols }
     ensures product { IfOk result (λ m. m.product ≡ product S.arithmetic matrix.matrix vector.now) }
     ensures same { IfOk result (λ m. m.matrix ≡ matrix) }
+    ensures order { IfOk result (λ m. IsOrderedProduct S.arithmetic engine.entry grid.now.side plan.now matrix.matrix vector.now m.product m.refusals.items) }
     ensures trace { IfOk result (λ m. IsTraceOf engine.entry plan.now m.trace) }
     ensures fault { IfErr result (IsEngineFault engine.entry (grid.now.side * grid.now.side)) }
 {
@@ -75,6 +79,7 @@ pub fn multiply_vector<S: Semiring + Send + Sync, R: Threads + Wait + Sync>(
     Ok(Multiplied {
         matrix,
         product,
+        refusals,
         trace,
     })
 }

@@ -4,6 +4,9 @@ use Rattle.cb_plan.specs.Tables.{IsTable}
 use Rattle.cb_engines.specs.Runs.{LostWhereRefused}
 use Rattle.cb_engines.proofs.Lost.{left_means, left_lost}
 use Rattle.cb_vectors.proofs.SpreadProducts.{spread_fits, has_product}
+use Rattle.cb_matrix.specs.Sparse.{Sparse}
+use Rattle.cb_vectors.specs.SpreadVectors.{HasProduct}
+use Rattle.cb_vectors.proofs.SteppedProducts.{ordered_product}
 use Rattle.cb_vectors.proofs.multiply_vector.Goals as goal
 
 pub run-requires-clause-fits : goal.run-requires-clause-fits
@@ -47,3 +50,17 @@ returns-clause-same g c =
     (left_means s c.args.plan.now c.in_ok-stores.stores.items c.in_ok-stores-2.field-0.stores.items c.in_ok-stores-2.field-0.refusals.items c.in_ok-stores-2.ensures.left) in
     let made : product_shape a c.args.vector.now ≡ c.with_columns_of.result = sym (c.with_columns_of.ensures ∙ (λ k. record { rows = (c.shape-a.ensures.shape k).rows; cols = (c.shape-x.ensures.shape k).cols })) in
     c.in_ok-matrix.ensures.same a (product s a c.args.vector.now) (sym c.shape-a.ensures.shape) made has ∙ ap (λ n. record { side = n; matrix = a }) (sym c.requires.side)
+
+pub returns-clause-order : goal.returns-clause-order
+returns-clause-order g c =
+    let laws = (g.met.S.Semiring g.world.𝓛 g.world.𝓜 g.world.𝓡 ((λ s x. x), (λ x. x), (λ x. x), λ x. x)).is_semiring in
+    let s = g.S.Semiring.arithmetic in
+    let a = c.args.matrix.matrix in
+    let has = has_product s c.args.grid.now.side a c.args.vector.now c.in_ok-stores.stores.items c.in_ok-stores.ensures laws c.shape-a.ensures.matrix c.shape-x.ensures.matrix c.requires.vector
+    c.args.plan.now.acts c.requires.plan.means c.in_ok-stores-2.field-0.stores.items (subst (λ n. IsTable n 256 c.in_ok-stores-2.field-0.stores.items) c.requires.plan.ranks c.in_ok-stores-2.ensures.left.table)
+    (left_means s c.args.plan.now c.in_ok-stores.stores.items c.in_ok-stores-2.field-0.stores.items c.in_ok-stores-2.field-0.refusals.items c.in_ok-stores-2.ensures.left) in
+    let made : product_shape a c.args.vector.now ≡ c.with_columns_of.result = sym (c.with_columns_of.ensures ∙ (λ k. record { rows = (c.shape-a.ensures.shape k).rows; cols = (c.shape-x.ensures.shape k).cols })) in
+    let made_is = c.in_ok-matrix.ensures.product a (product s a c.args.vector.now) (sym c.shape-a.ensures.shape) made has in
+    ordered_product s c.args.engine c.args.grid.now.side c.args.plan.now a c.args.vector.now c.in_ok-matrix.product c.in_ok-stores.stores.items c.in_ok-stores.ensures
+    c.in_ok-stores-2.field-0.stores.items c.in_ok-stores-2.field-0.refusals.items c.in_ok-stores-2.ensures.order
+    (subst (λ (y : Sparse). HasProduct s c.args.grid.now.side a y c.in_ok-stores-2.field-0.stores.items) (sym made_is) has)
