@@ -130,6 +130,7 @@ fn answer_alone<S: Semiring>(
     let answer = DistributedMatrix::from_block(alloc, block)?;
     Ok(Outcome {
         answer,
+        refusals: Vec::new(alloc),
         trace: None,
     })
 }

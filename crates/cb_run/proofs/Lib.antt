@@ -2,3 +2,5 @@
 -- products of which a factor has no entries.
 pub mod Operations
 pub mod Empties
+-- Orders: what ranks make that are stepped in an order.
+pub mod Orders

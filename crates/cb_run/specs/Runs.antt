@@ -10,14 +10,17 @@ use Rattle.cb_operations.specs.declared.operations.Operands.{Operands}
 use Rattle.cb_operations.specs.declared.operations.Operands.TheVariants.{One, Two, Three}
 use Rattle.cb_operations.specs.declared.refusals.Refusal.TheVariants.{Shapes}
 use Rattle.cb_operations.specs.declared.operations.Operation.TheVariants.{MultiplyVector}
-use Rattle.cb_operations.specs.Operations.{Agree, answer_of, extent_at, shapes_in}
+use Rattle.cb_operations.specs.Operations.{Agree, answer_of, extent_at, matrix_at, shape_of, shapes_in}
 use Rattle.cb_plan.specs.Plans.{CheckedView}
 use Rattle.cb_vectors.specs.SpreadVectors.{MultipliesVectors}
+use Rattle.cb_vectors.specs.VectorOrders.{IsSteppedProduct}
 use Rattle.cb_engines.specs.declared.engines.Engine.{Engine}
-use Rattle.cb_engines.specs.declared.engines.Engine.TheVariants.{Traced}
+use Rattle.cb_engines.specs.declared.engines.Engine.TheVariants.{Threads, Traced, InOrder}
 use Rattle.cb_engines.specs.declared.engines.Outcome.{Outcome}
 use Rattle.cb_engines.specs.Runs.{IsEngineFault, IsTraceOf, checked_of}
-use Rattle.cb_planner.specs.Plans.{Computes}
+use Rattle.cb_world.specs.declared.events.Event.{Event}
+use Rattle.cb_engines.specs.Orders.{IsSteppedRun}
+use Rattle.cb_planner.specs.Plans.{Computes, placed_operands}
 use Rattle.cb_run.specs.declared.faults.OperationFault.{OperationFault}
 use Rattle.cb_run.specs.declared.faults.OperationFault.TheVariants.{Refused, Failed}
 
@@ -42,11 +45,27 @@ IsTraceFor (Traced letters) operation q shapes t =
     (plan : CheckedView) × IsPlanFor operation q shapes plan × IsTraceOf (Traced letters) plan t
 IsTraceFor engine operation q shapes t = t ≡ None
 
+-- what ranks make that are stepped in an order, by a plan for the operation
+abbrev pub IsSteppedFor : Arithmetic → Operation → ℕ → List Sparse → ℕ → List Event → Distributed → List ℕ → Type 0
+IsSteppedFor s MultiplyVector q ms letters order answer refusals =
+    (plan : CheckedView) × MultipliesVectors q (extent_at (shapes_in ms) 0) plan
+    × IsSteppedProduct s q plan (matrix_at ms 0) (matrix_at ms 1) answer.matrix letters order refusals
+IsSteppedFor s operation q ms letters order answer refusals =
+    (planned : Planned) × Computes operation q (shapes_in ms) planned
+    × IsSteppedRun s q planned (placed_operands ms) (shape_of operation (shapes_in ms)) letters order answer refusals
+
+-- an engine that steps ranks answers what they make in its order
+abbrev pub IsOrderedFor : Arithmetic → Engine → Operation → ℕ → List Sparse → Distributed → List ℕ → Type 0
+IsOrderedFor s (InOrder letters order) operation q ms answer refusals = IsSteppedFor s operation q ms letters order.now answer refusals
+IsOrderedFor s (Threads letters) operation q ms answer refusals = Unit {0}
+IsOrderedFor s (Traced letters) operation q ms answer refusals = Unit {0}
+
 -- On a grid of side q: the shapes agree, what the blocks glue to is what the operation makes of the matrices, and the
--- trace is the engine's.
+-- order and the trace are the engine's.
 pub record IsOutcome {S : Type 0} (s : Arithmetic) (engine : Engine) (operation : Operation) (q : ℕ) (ms : List Sparse) (done : Outcome S) : Type 0 where
   pub agree : Agree operation (shapes_in ms)
   pub answer : done.answer ≡ record { side = q; matrix = answer_of operation s ms }
+  pub order : IsOrderedFor s engine operation q ms done.answer done.refusals.items
   pub trace : IsTraceFor engine operation q (shapes_in ms) done.trace
 
 -- why there is none: shapes that don't agree, or, where they do, what the engine says

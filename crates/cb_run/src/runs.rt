@@ -42,6 +42,7 @@ pub fn run<S: Semiring + Send + Sync, R: Threads + Wait + Sync>(
         if let Some(answer) = empty_product(alloc, grid, operation, &operands)? {
             return Ok(Outcome {
                 answer,
+                refusals: Vec::new(alloc),
                 trace: None,
             });
         }

@@ -38,6 +38,7 @@ pub fn run_vector<S: Semiring + Send + Sync, R: Threads + Wait + Sync>(
     let answer = DistributedMatrix::scatter(alloc, *grid, &done.product)?;
     Ok(Outcome {
         answer,
+        refusals: done.refusals,
         trace: done.trace,
     })
 }

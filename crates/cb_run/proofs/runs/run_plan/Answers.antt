@@ -4,6 +4,7 @@ use Rattle.cb_operations.specs.Operations.{answer_of, shapes_in}
 use Rattle.cb_placement.proofs.LaidOutOperands.{whole_matrix}
 use Rattle.cb_run.specs.Runs.{wholes}
 use Rattle.cb_run.proofs.Operations.{made_there, trace_for}
+use Rattle.cb_run.proofs.Orders.{ordered_for}
 use Rattle.cb_run.proofs.runs.run_plan.Goals as goal
 
 pub compute-requires-clause-sides : goal.compute-requires-clause-sides
@@ -29,5 +30,7 @@ returns-clause-ok g c =
       answer = c.in_ok-compute.ensures.ok (answer_of c.args.operation s ms)
           (made_there c.args.operation c.args.grid.now.side s laws ms c.requires.matrices c.in_ok-planned.planned c.in_ok-planned.ensures
           c.args.shape c.requires.shape (map whole_matrix c.in_ok-operands.operands.items) c.in_ok-operands.ensures.slots);
+      order = ordered_for s c.args.grid.now.side ms c.args.operation c.requires.other c.args.engine c.in_ok-planned.planned c.in_ok-planned.ensures c.args.shape c.requires.shape (map whole_matrix c.in_ok-operands.operands.items) c.in_ok-operands.ensures.slots
+          c.in_ok-compute.field-0.answer c.in_ok-compute.field-0.refusals.items c.in_ok-compute.ensures.order;
       trace = trace_for c.args.operation c.requires.other c.args.grid.now.side c.args.engine (shapes_in ms) c.in_ok-planned.planned c.in_ok-planned.ensures c.in_ok-compute.field-0.trace c.in_ok-compute.ensures.trace;
     }
