@@ -33,7 +33,7 @@ struct Refused {
     fault: JobFault,
 }
 
-const REFUSALS: [Refused; 15] = [
+const REFUSALS: [Refused; 16] = [
     Refused {
         line: "cbgrid multiply a b",
         texts: &[BAD, WORSE],
@@ -62,6 +62,12 @@ const REFUSALS: [Refused; 15] = [
     Refused {
         line: "cbgrid multiply a b --mask m",
         texts: &[FIRST, SECOND, text!("1 1 1\n1 1 1\n")],
+        fault: SHAPES,
+    },
+    // the vector in the matrix's place
+    Refused {
+        line: "cbgrid spmv x a",
+        texts: &[text!("2 1 2\n1 1 5\n2 1 7\n"), FIRST],
         fault: SHAPES,
     },
     Refused {
