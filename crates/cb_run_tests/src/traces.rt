@@ -1,6 +1,6 @@
 //! Traces of products on grids of several sides.
 use crate::examples::{MASKED, PRODUCT, Place, grid, has, is_refusal, matrix, operands};
-use cb_engines::{Engine, EngineFault};
+use cb_engines::{Engine, EngineFault, Outcome};
 use cb_layout::{DistributedMatrix, Grid};
 use cb_matrix::Matrix;
 use cb_operations::{Operands, Operation};
@@ -88,8 +88,9 @@ fn traced<R: Threads + Wait + Sync>(
             run(rt, alloc, engine, grid, Operation::MultiplyMasked, operands)?
         }
     };
-    let product = done.answer.gather(alloc)?;
-    match done.trace {
+    let Outcome { answer, trace, .. } = done;
+    let product = answer.gather(alloc)?;
+    match trace {
         Some(trace) => Ok((product, trace)),
         None => Err(OperationFault::Failed(EngineFault::TraceTorn)),
     }
