@@ -21,7 +21,7 @@ fn lost_letter(number: u64) -> Taken<u64> {
 }
 
 /// The desks of two ranks, with lanes for so many letters.
-fn two_desks(alloc: Global, letters: usize) -> Result<(Desk<u64>, Desk<u64>), Fail>
+pub(crate) fn two_desks(alloc: Global, letters: usize) -> Result<(Desk<u64>, Desk<u64>), Fail>
     ensures { IfOk result (λ desks. AreOfOneOpening (identity desks.0 ∷ identity desks.1 ∷ [])) }
 {
     let mut desks = open::<u64>(alloc, 2, Capacity::nearest(letters))?;
@@ -115,7 +115,7 @@ fn a_pair_of_desks_on_one_thread(rt: HostRuntime) -> Result<(), Fail> {
 }
 
 /// Whether waiting posts of a sheet to these ranks are answered so. Each sheet that is refused comes back.
-fn waits_to_post<R: Wait>(
+pub(crate) fn waits_to_post<R: Wait>(
     rt: &R,
     desk: &mut Desk<u64>,
     sheet: u64,
@@ -145,7 +145,7 @@ fn waits_to_close<R: Wait>(
 }
 
 /// Whether waiting takes from a rank are answered so.
-fn waits_to_take<R: Wait>(
+pub(crate) fn waits_to_take<R: Wait>(
     rt: &R,
     desk: &mut Desk<u64>,
     from: u16,

@@ -6,4 +6,6 @@ mod lanes;
 #[cfg(test)]
 mod mailbox;
 #[cfg(test)]
+mod sleepers;
+#[cfg(test)]
 mod trace;

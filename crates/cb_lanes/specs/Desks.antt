@@ -12,7 +12,7 @@ use Rattle.cb_lanes.specs.declared.ends.Poster.{Poster}
 use Rattle.cb_lanes.specs.declared.ends.Taker.{Taker}
 use Rattle.cb_lanes.specs.declared.desk.Desk.{Desk}
 use Rattle.cb_lanes.specs.Numbers.{AreNumbered}
-use Rattle.cb_lanes.specs.Ends.{RingName, sent_by, room_of, capacity_of, received_by, outgoing_ring, incoming_ring}
+use Rattle.cb_lanes.specs.Ends.{RingName, sent_by, room_of, capacity_of, received_by, known_by, outgoing_ring, incoming_ring}
 
 -- whose desk it is, and which rings it has ends of
 pub record Identity : Type 0 where
@@ -86,6 +86,10 @@ module _ {P : Type 0} where
   -- the desk knows of a free place for a letter to this rank
   abbrev pub has_room : Desk P → ℕ → Type 0
   has_room d to = 0 < room_to d to
+
+  -- the desk knows of a letter from this rank
+  abbrev pub has_letter : Desk P → ℕ → Type 0
+  has_letter d from = 0 < length (known_by (slice_index_or d.incoming.items from None))
 
   -- as many letters were posted to this rank as the lane has places
   abbrev pub may_be_full : Desk P → ℕ → Type 0

@@ -4,7 +4,7 @@ use Rattle.std.specs.declared.vec.Vec.{Vec}
 use denote.RawPtr.{Ptr}
 use Rattle.std.specs.declared.alloc.Global.{Global}
 use Rattle.rtrb.specs.Shared.{Names}
-use Rattle.rtrb.specs.Ring.{sent, received, known_free, producer_capacity}
+use Rattle.rtrb.specs.Ring.{sent, received, known_free, known_items, producer_capacity}
 use Rattle.rtrb.specs.declared.end.End.{End}
 use Rattle.cb_letters.specs.declared.Letter.{Letter}
 use Rattle.cb_lanes.specs.declared.ends.Poster.{Poster}
@@ -33,6 +33,11 @@ module _ {P : Type 0} where
   abbrev pub received_by : Option (Taker P) → List (Letter P)
   received_by None = []
   received_by (Some lane) = received lane.ring
+
+  -- the letters that were seen in the ring and not taken yet
+  abbrev pub known_by : Option (Taker P) → List (Letter P)
+  known_by None = []
+  known_by (Some lane) = known_items lane.ring
 
   abbrev pub outgoing_ring : Option (Poster P) → Option RingName
   outgoing_ring None = None

@@ -4,6 +4,7 @@ ghost use Rattle.std.specs.Prelude.{ℕ, ◌≡◌, ◌<◌, ◌^◌, ◌==◌, 
 use crate::ends::{Poster, Taker};
 use cb_letters::{Body, Letter, PostRefusal, Tag, Taken};
 use std::alloc::{AllocError, Global};
+use std::sync::Wait;
 
 /// The ends of one rank's lanes: those that post, by addressee, and those that take, by sender. At the
 /// rank's own place there is none. No call takes memory, and each costs the same however many ranks
@@ -26,7 +27,7 @@ impl<P: Drop> Desk<P> {
     ghost use Rattle.cb_letters.specs.Posted.{is_end, ends_closed};
     ghost use Rattle.cb_letters.specs.Standing.{standing_refusal, MayRefuse, next_letter};
     ghost use Rattle.cb_lanes.specs.Numbers.{AreNumbered};
-    ghost use Rattle.cb_lanes.specs.Desks.{posted_to, taken_from, room_to, is_stranger, identity, KeepsPosted, KeepsTaken, AddsPosted, AddsTaken, standing, has_room, may_be_full, AreLinked, Keeps, IsSettled};
+    ghost use Rattle.cb_lanes.specs.Desks.{posted_to, taken_from, room_to, is_stranger, identity, KeepsPosted, KeepsTaken, AddsPosted, AddsTaken, standing, has_room, has_letter, may_be_full, AreLinked, Keeps, IsSettled};
 
     /// Posts a letter to this rank, and answers its number on the lane. A refusal hands the body back, and
     /// is looked for in the order of `PostRefusal`. It is `Full` only where as many letters were posted as
@@ -86,6 +87,7 @@ impl<P: Drop> Desk<P> {
         ensures end { is_end result ≡ ends_closed (taken_from self.new from) }
         ensures stays { ends_closed (taken_from self.old from) ≡ true → taken_from self.new from ≡ taken_from self.old from }
         ensures numbered { AreNumbered (taken_from self.new from) }
+        ensures succeeds { has_letter self.old from → result ≢ Taken.Empty }
     {
         if self.is_stranger(from) {
             return Taken::Stranger;
@@ -151,30 +153,32 @@ impl<P: Drop> Desk<P> {
         }
     }
 
-    /// Whether the desk at the other end of the lane to this rank is gone.
-    pub(crate) fn is_left_by_taker(&mut self, to: u16) -> bool
+    /// Waits for room for a letter to this rank, and answers whether there is some: else the desk at the other end of
+    /// the lane is gone.
+    pub(crate) fn await_room(&mut self, rt: &impl Wait, to: u16) -> bool
         requires { is_stranger self.old to ≡ false }
         ensures identity { identity self.new ≡ identity self.old }
         ensures posted { KeepsPosted self.old self.new }
         ensures taken { KeepsTaken self.old self.new }
+        ensures room { IsTrue result → has_room self.new to }
     {
         match &mut self.outgoing[to as usize] {
-            Some(lane) => lane.is_abandoned(),
+            Some(lane) => lane.await_room(rt),
             None => unreachable!(),
         }
     }
 
-    /// Whether the desk at the other end of the lane from this rank is gone. A stranger has none.
-    pub(crate) fn is_left_by_poster(&mut self, from: u16) -> bool
+    /// Waits for a letter from this rank, and answers whether there is one: else the desk at the other end of the lane
+    /// is gone.
+    pub(crate) fn await_letter(&mut self, rt: &impl Wait, from: u16) -> bool
+        requires { is_stranger self.old from ≡ false }
         ensures identity { identity self.new ≡ identity self.old }
         ensures posted { KeepsPosted self.old self.new }
         ensures taken { KeepsTaken self.old self.new }
+        ensures letter { IsTrue result → has_letter self.new from }
     {
-        if self.is_stranger(from) {
-            return false;
-        }
         match &mut self.incoming[from as usize] {
-            Some(lane) => lane.is_abandoned(),
+            Some(lane) => lane.await_letter(rt),
             None => unreachable!(),
         }
     }

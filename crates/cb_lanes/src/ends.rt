@@ -1,12 +1,14 @@
-//! The two ends of one lane: a ring with the numbers of its letters and the close mark.
+//! The two ends of one lane: a ring with the numbers of its letters and the close mark, and its bell.
 ghost use Rattle.std.specs.Prelude.{ℕ, ◌≡◌, ◌-◌, ◌^◌, ◌<◌, length};
 ghost use Rattle.cb_letters.specs.Posted.{ends_closed, NothingAfterClose};
 ghost use Rattle.rtrb.specs.Ring.{sent, received};
 ghost use Rattle.cb_lanes.specs.Numbers.{IsNext, AreNumbered};
 
+use cb_bells::{Bell, wait_at};
 use cb_letters::{Body, Letter, PostRefusal, Tag, Taken};
 use rtrb::{Consumer, Producer, Protocol, PushError};
 use std::alloc::Global;
+use std::sync::Wait;
 
 /// The rule of a lane's ring: its letters are numbered from 0 on, each below the last number, which isn't
 /// given out, and a close mark has tag 0. So both ends can count in a `u64`. It says nothing of what the
@@ -19,9 +21,9 @@ impl<P> Protocol<Letter<P>> for Numbered {
 }
 
 /// The end that posts, and what it knows of its letters without looking at them again.
-#[derive(Drop)]
 pub struct Poster<P> {
     pub(crate) ring: Producer<Letter<P>, Global, Numbered>,
+    bell: Bell,
     posted: u64,
     closed: bool,
     ghost counted: { posted ≡ length (sent ring) },
@@ -30,9 +32,9 @@ pub struct Poster<P> {
 }
 
 /// The end that takes, and whether it took the close mark.
-#[derive(Drop)]
 pub struct Taker<P> {
     pub(crate) ring: Consumer<Letter<P>, Global, Numbered>,
+    bell: Bell,
     taken: u64,
     ended: bool,
     ghost counted: { taken ≡ length (received ring) },
@@ -47,12 +49,13 @@ impl<P: Drop> Poster<P> {
     ghost use Rattle.cb_letters.specs.Posted.{standing_by};
     ghost use Rattle.cb_letters.specs.Standing.{standing_refusal, MayRefuse, next_letter};
 
-    pub(crate) fn new(ring: Producer<Letter<P>, Global, Numbered>) -> Poster<P>
+    pub(crate) fn new(ring: Producer<Letter<P>, Global, Numbered>, bell: Bell) -> Poster<P>
         requires { sent ring ≡ [] }
         ensures { result.ring ≡ ring }
     {
         Poster {
             ring,
+            bell,
             posted: 0,
             closed: false,
         }
@@ -92,6 +95,7 @@ impl<P: Drop> Poster<P> {
         if let Err(PushError::Full(Letter { body, .. })) = self.ring.push(letter) {
             return Err((PostRefusal::Full, body));
         }
+        self.bell.ring();
         self.posted = number + 1;
         self.closed = closes;
         Ok(number)
@@ -106,11 +110,12 @@ impl<P: Drop> Poster<P> {
         !self.ring.is_full()
     }
 
-    /// Whether the other end was dropped. Nothing is claimed of the answer.
-    pub(crate) fn is_abandoned(&mut self) -> bool
-        ensures { ProducerLooked self.old.ring self.new.ring }
+    /// Waits for room, and answers whether there is some: else the other end is gone.
+    pub(crate) fn await_room(&mut self, rt: &impl Wait) -> bool
+        ensures looked { ProducerLooked self.old.ring self.new.ring }
+        ensures room { IsTrue result → 0 < known_free self.new.ring }
     {
-        self.ring.is_abandoned()
+        wait_at(rt, &mut self.ring, &self.bell)
     }
 
     pub(crate) fn posted(&self) -> u64
@@ -127,12 +132,13 @@ impl<P: Drop> Taker<P> {
     ghost use Rattle.cb_letters.specs.Letters.{is_close};
     ghost use Rattle.cb_letters.specs.Posted.{GrowsBy, is_end};
 
-    pub(crate) fn new(ring: Consumer<Letter<P>, Global, Numbered>) -> Taker<P>
+    pub(crate) fn new(ring: Consumer<Letter<P>, Global, Numbered>, bell: Bell) -> Taker<P>
         requires { received ring ≡ [] }
         ensures { result.ring ≡ ring }
     {
         Taker {
             ring,
+            bell,
             taken: 0,
             ended: false,
         }
@@ -146,6 +152,7 @@ impl<P: Drop> Taker<P> {
         ensures end { is_end result ≡ ends_closed (received self.new.ring) }
         ensures stays { ends_closed (received self.old.ring) ≡ true → received self.new.ring ≡ received self.old.ring }
         ensures member { result ≢ Taken.Stranger }
+        ensures succeeds { 0 < length (known_items self.old.ring) → result ≢ Taken.Empty }
     {
         if self.ended {
             return Taken::End;
@@ -153,6 +160,7 @@ impl<P: Drop> Taker<P> {
         let Ok(letter) = self.ring.pop() else {
             return Taken::Empty;
         };
+        self.bell.ring();
         self.taken += 1;
         self.ended = letter.body.is_close();
         if self.ended {
@@ -161,11 +169,13 @@ impl<P: Drop> Taker<P> {
         Taken::Letter(letter)
     }
 
-    /// Whether the other end was dropped. Nothing is claimed of the answer.
-    pub(crate) fn is_abandoned(&mut self) -> bool
-        ensures { ConsumerLooked self.old.ring self.new.ring }
+    /// Waits for a letter, and answers whether there is one: else the other end is gone.
+    pub(crate) fn await_letter(&mut self, rt: &impl Wait) -> bool
+        ensures ring { SameConsumer self.old.ring self.new.ring }
+        ensures received { received self.new.ring ≡ received self.old.ring }
+        ensures letter { IsTrue result → 0 < length (known_items self.new.ring) }
     {
-        self.ring.is_abandoned()
+        wait_at(rt, &mut self.ring, &self.bell)
     }
 
     pub(crate) fn taken(&self) -> u64
@@ -182,5 +192,33 @@ impl<P: Drop> Taker<P> {
         ensures settled { IsPrefix (received self.old.ring) (sent outgoing.old.ring) }
     {
         self.ring.slots_beside(&mut outgoing.ring);
+    }
+}
+
+impl<P: Drop> Drop for Poster<P> {
+    fn drop(self) {
+        let Poster {
+            ring,
+            bell,
+            posted: _,
+            closed: _,
+        } = self;
+        // First, so that who is woken finds this end gone.
+        drop(ring);
+        bell.ring();
+    }
+}
+
+impl<P: Drop> Drop for Taker<P> {
+    fn drop(self) {
+        let Taker {
+            ring,
+            bell,
+            taken: _,
+            ended: _,
+        } = self;
+        // First, so that who is woken finds this end gone.
+        drop(ring);
+        bell.ring();
     }
 }

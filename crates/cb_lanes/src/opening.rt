@@ -8,6 +8,7 @@ ghost use Rattle.cb_lanes.specs.Ends.{IsNewLane, AreRows, AreColumns, AreNewLane
 
 use crate::desk::Desk;
 use crate::ends::{Numbered, Poster, Taker};
+use cb_bells::Bell;
 use cb_letters::{Capacity, Letter};
 use rtrb::RingBuffer;
 use std::alloc::{AllocError, Global};
@@ -33,7 +34,11 @@ fn open_lane<P: Drop>(
         alloc,
         capacity.get(),
     )?;
-    Ok((Some(Poster::new(producer)), Some(Taker::new(consumer))))
+    let (bell, theirs) = Bell::pair(alloc)?;
+    Ok((
+        Some(Poster::new(producer, bell)),
+        Some(Taker::new(consumer, theirs)),
+    ))
 }
 
 /// The ends that post of the lanes from one rank; the ends that take go to the columns.
@@ -81,7 +86,8 @@ pub(crate) fn open_lanes<P: Drop>(
 }
 
 /// The desks of all ranks, in order of their numbers, with a new lane for at most `capacity` letters from
-/// each rank to each other. All memory that lanes ever use is taken here: `ranks * (ranks - 1)` rings.
+/// each rank to each other. All memory that lanes ever use is taken here: `ranks * (ranks - 1)` rings, each with a
+/// bell.
 pub fn open<P: Drop>(
     alloc: Global,
     ranks: u16,

@@ -1,7 +1,5 @@
-//! The calls that wait: each tries again until the lane has room, or a letter, or the desk at its other
-//! end is gone. Between two tries it pauses by a `Backoff` of its own: first for one turn of the processor,
-//! then for two, up to 64, and from the eighth try on it yields the processor to any other thread. So a
-//! short wait costs no call of the system, and a long one leaves the processor to whom it waits for.
+//! The calls that wait: each tries, waits until the lane has room, or a letter, and tries again. It gives up where the
+//! desk at the other end is gone.
 ghost use Rattle.std.specs.Prelude.{ℕ, ◌≡◌, ◌≢◌, ◌∷◌, ◌++◌, length, IfOk, IfErr, None, true, false, ◌↔◌};
 ghost use Rattle.cb_letters.specs.Letters.{is_close, mark_tag};
 ghost use Rattle.cb_letters.specs.Posted.{ends_closed};
@@ -11,7 +9,6 @@ ghost use Rattle.cb_lanes.specs.Waiting.{MayGiveUp};
 
 use crate::desk::Desk;
 use cb_letters::{Body, Letter, PostRefusal, Tag, Taken};
-use crossbeam_utils::Backoff;
 use std::sync::Wait;
 
 /// The desk of this rank is gone, and no letter of its is left.
@@ -45,22 +42,20 @@ impl<P: Drop> Desk<P> {
         ensures accepted { IfOk result (λ number. (standing_refusal (standing self.old to) ≡ None) × (number ≡ (standing self.old to).posted) × Posts self.old to (next_letter (standing self.old to) to tag body) self.new) }
         ensures refused { IfErr result (λ e. MayGiveUp (standing self.old to) to e.0 × (e.1 ≡ body) × Keeps self.old self.new) }
     {
-        let backoff = Backoff::new();
-        let mut body = body;
-        for _ in rt.forever() {
-            match self.try_post(to, tag, body) {
-                Ok(number) => return Ok(number),
-                Err((PostRefusal::Stranger, back)) => return Err((WaitRefusal::Stranger, back)),
-                Err((PostRefusal::Closed, back)) => return Err((WaitRefusal::Closed, back)),
-                Err((PostRefusal::Spent, back)) => return Err((WaitRefusal::Spent, back)),
-                Err((PostRefusal::Full, back)) => body = back,
-            }
-            if self.is_left_by_taker(to) {
-                return Err((WaitRefusal::Gone(to), body));
-            }
-            backoff.snooze();
+        let body = match self.try_post(to, tag, body) {
+            Ok(number) => return Ok(number),
+            Err((PostRefusal::Stranger, body)) => return Err((WaitRefusal::Stranger, body)),
+            Err((PostRefusal::Closed, body)) => return Err((WaitRefusal::Closed, body)),
+            Err((PostRefusal::Spent, body)) => return Err((WaitRefusal::Spent, body)),
+            Err((PostRefusal::Full, body)) => body,
+        };
+        if !self.await_room(rt, to) {
+            return Err((WaitRefusal::Gone(to), body));
         }
-        unreachable!()
+        match self.try_post(to, tag, body) {
+            Ok(number) => Ok(number),
+            Err(_) => unreachable!(),
+        }
     }
 
     /// Posts the mark that ends the lane to this rank as soon as there is room, and answers its number.
@@ -68,21 +63,20 @@ impl<P: Drop> Desk<P> {
         ensures accepted { IfOk result (λ number. (standing_refusal (standing self.old to) ≡ None) × (number ≡ (standing self.old to).posted) × Posts self.old to (next_letter (standing self.old to) to mark_tag Body.Close) self.new) }
         ensures refused { IfErr result (λ e. MayGiveUp (standing self.old to) to e × Keeps self.old self.new) }
     {
-        let backoff = Backoff::new();
-        for _ in rt.forever() {
-            match self.try_close(to) {
-                Ok(number) => return Ok(number),
-                Err(PostRefusal::Stranger) => return Err(WaitRefusal::Stranger),
-                Err(PostRefusal::Closed) => return Err(WaitRefusal::Closed),
-                Err(PostRefusal::Spent) => return Err(WaitRefusal::Spent),
-                Err(PostRefusal::Full) => {}
-            }
-            if self.is_left_by_taker(to) {
-                return Err(WaitRefusal::Gone(to));
-            }
-            backoff.snooze();
+        match self.try_close(to) {
+            Ok(number) => return Ok(number),
+            Err(PostRefusal::Stranger) => return Err(WaitRefusal::Stranger),
+            Err(PostRefusal::Closed) => return Err(WaitRefusal::Closed),
+            Err(PostRefusal::Spent) => return Err(WaitRefusal::Spent),
+            Err(PostRefusal::Full) => {}
         }
-        unreachable!()
+        if !self.await_room(rt, to) {
+            return Err(WaitRefusal::Gone(to));
+        }
+        match self.try_close(to) {
+            Ok(number) => Ok(number),
+            Err(_) => unreachable!(),
+        }
     }
 
     /// Takes the oldest letter from this rank as soon as there is one: never `Empty`.
@@ -92,19 +86,13 @@ impl<P: Drop> Desk<P> {
         ensures taken { IfOk result (λ r. Takes self.old from r self.new) }
         ensures gone { IfErr result (λ e. (e.0 ≡ from) × (is_stranger self.old from ≡ false) × (ends_closed (taken_from self.old from) ≡ false) × Keeps self.old self.new) }
     {
-        let backoff = Backoff::new();
-        for _ in rt.forever() {
-            // Before the try, so that a letter posted just before the desk went isn't missed.
-            let is_left = self.is_left_by_poster(from);
-            match self.try_take(from) {
-                Taken::Empty => {}
-                taken => return Ok(taken),
-            }
-            if is_left {
-                return Err(Gone(from));
-            }
-            backoff.snooze();
+        match self.try_take(from) {
+            Taken::Empty => {}
+            taken => return Ok(taken),
         }
-        unreachable!()
+        if !self.await_letter(rt, from) {
+            return Err(Gone(from));
+        }
+        Ok(self.try_take(from))
     }
 }

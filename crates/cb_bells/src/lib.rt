@@ -1,0 +1,137 @@
+//! How a thread waits at one end of a ring for what the thread at the other end does.
+//!
+//! It looks again and again, and pauses between two looks by a `Backoff` of its own: at first for one turn of the
+//! processor, then for two, up to 64, then four times it yields the processor to any other thread. From then on it
+//! sleeps. So a short wait costs no call of the system, and a long one no time of the processor.
+//!
+//! The two ends share a bell, which wakes the sleeper. Who is about to sleep announces it at the bell and looks once
+//! more; the other end rings after each item that it pushes or pops, and as it goes, which costs a look at whether
+//! anyone waits. All steps on the ring and on the bell are in one order, so either the one who waits sees the change, or the
+//! one who makes it sees that there is someone to wake.
+//!
+//! That a sleeper wakes is not claimed: no contract sees it.
+#![tactic(auto)]
+
+ghost use Rattle.std.specs.Prelude.{◌≡◌, ◌<◌, length, IsTrue};
+ghost use Rattle.std.proofs.Common.{rules};
+ghost use Rattle.rtrb.specs.Ring.{received, known_free, known_items, ProducerLooked, SameConsumer};
+
+use crossbeam_utils::Backoff;
+use crossbeam_utils::sync::EventCount;
+use rtrb::{Consumer, Producer, Protocol};
+use std::alloc::{AllocError, Global};
+use std::sync::{Arc, Wait};
+
+/// One end's hold on the bell that both ends of a ring share.
+#[derive(Drop)]
+pub struct Bell {
+    events: Arc<EventCount>,
+}
+
+impl Bell {
+    /// The bell of a new ring, for each of its ends. It takes memory once.
+    pub fn pair(alloc: Global) -> Result<(Bell, Bell), AllocError> {
+        let events = Arc::new(alloc, EventCount::new())?;
+        let theirs = Arc::try_clone(&events)?;
+        Ok((Bell { events }, Bell { events: theirs }))
+    }
+
+    /// Wakes who sleeps at the other end.
+    pub fn ring(&self) {
+        self.events.notify_all();
+    }
+}
+
+/// An end of a ring that a thread may wait at.
+pub trait RingEnd {
+    ghost use Rattle.std.specs.Prelude.{IsTrue};
+
+    /// Nothing was done at this end but to look at the other.
+    ghost looked: { Self → Self → Type 0 };
+
+    /// The next push or pop succeeds.
+    ghost ready: { Self → Type 0 };
+
+    /// Whether there is a free place to push to, or an item to pop.
+    fn is_ready(&mut self) -> bool
+        ensures looked { looked self.old self.new }
+        ensures ready { IsTrue result → ready self.new };
+
+    /// Whether the other end was dropped. Nothing is claimed of the answer.
+    fn is_left(&mut self) -> bool
+        ensures { looked self.old self.new };
+
+    ghost unchanged: { (a : Self) → looked a a };
+
+    ghost again: { (a b c : Self) → looked a b → looked b c → looked a c };
+}
+
+impl<T, P: Protocol<T>> RingEnd for Producer<T, Global, P> {
+    ghost looked = { ProducerLooked };
+
+    ghost ready = { λ ring. 0 < known_free ring };
+
+    ghost unchanged = { Prim.search rules };
+
+    ghost again = { Prim.search rules };
+
+    fn is_ready(&mut self) -> bool {
+        !self.is_full()
+    }
+
+    fn is_left(&mut self) -> bool {
+        self.is_abandoned()
+    }
+}
+
+impl<T, P: Protocol<T>> RingEnd for Consumer<T, Global, P> {
+    ghost looked = { λ a b. SameConsumer a b × (received b ≡ received a) };
+
+    ghost ready = { λ ring. 0 < length (known_items ring) };
+
+    ghost unchanged = { Prim.search rules };
+
+    ghost again = { Prim.search rules };
+
+    fn is_ready(&mut self) -> bool {
+        !self.is_empty()
+    }
+
+    fn is_left(&mut self) -> bool {
+        self.is_abandoned()
+    }
+}
+
+/// Waits until an end is ready, or else the other end is gone. Answers whether it is ready.
+pub fn wait_at<E: RingEnd, R: Wait>(rt: &R, end: &mut E, bell: &Bell) -> bool
+    ensures looked { E.looked end.old end.new }
+    ensures ready { IsTrue result → E.ready end.new }
+{
+    let backoff = Backoff::new();
+    for _ in rt.forever() {
+        // Before the look, so that what the other end did just before it went isn't missed.
+        let is_left = end.is_left();
+        if end.is_ready() {
+            return true;
+        }
+        if is_left {
+            return false;
+        }
+        if backoff.is_completed() {
+            sleep_at(rt, end, bell);
+        } else {
+            backoff.snooze();
+        }
+    }
+    unreachable!()
+}
+
+/// Sleeps until the bell rings, where the end isn't ready and the other end isn't gone.
+fn sleep_at<E: RingEnd, R: Wait>(rt: &R, end: &mut E, bell: &Bell)
+    ensures { E.looked end.old end.new }
+{
+    let wait = bell.events.prepare_wait();
+    if !end.is_ready() && !end.is_left() {
+        wait.wait(rt);
+    }
+}

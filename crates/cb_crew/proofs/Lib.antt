@@ -1,0 +1,3 @@
+pub mod LastItems
+pub mod AnswersSoFar
+pub mod NewRings

@@ -1,0 +1,150 @@
+//! Desks on threads of their own that wait long enough to sleep. No contract says that a sleeper wakes: one that isn't
+//! woken hangs its test.
+use crate::lanes::{two_desks, waits_to_post, waits_to_take};
+use cb_lanes::{Desk, Gone, WaitRefusal, open};
+use cb_letters::{Body, Capacity, Tag, Taken};
+use std::sync::Wait;
+use std::sync::atomic::{AtomicU64, Ordering};
+use std::test::Fail;
+use std::thread;
+use std::thread::{Threads, join};
+use std::time::{Clock, Duration};
+
+/// How long a desk makes the other wait: by then it sleeps.
+const PAUSE: u64 = 20;
+
+/// Posts a letter late, takes two later still, the second of which is posted once there is room again, and goes last.
+fn dawdle<R: Wait + Clock>(rt: &R, desk: Desk<u64>) -> bool {
+    let mut desk = desk;
+    thread::sleep(rt, Duration::from_millis(PAUSE));
+    let posted = waits_to_post(rt, &mut desk, 7, &[(0, Ok(0))]);
+    thread::sleep(rt, Duration::from_millis(PAUSE));
+    let first = matches!(desk.take(rt, 0), Ok(Taken::Letter(_)));
+    let second = matches!(desk.take(rt, 0), Ok(Taken::Letter(_)));
+    thread::sleep(rt, Duration::from_millis(PAUSE));
+    posted && first && second
+}
+
+/// What a desk waits for until the other is gone.
+#[derive(Clone, Copy, Drop)]
+enum Last {
+    Letter,
+    Room,
+}
+
+/// Waits for a letter, for room on a lane of one place, and then in vain.
+fn sleep_three_times<R: Wait>(rt: &R, desk: Desk<u64>, last: Last) -> bool {
+    let mut desk = desk;
+    let letter = matches!(desk.take(rt, 1), Ok(Taken::Letter(_)));
+    let room = waits_to_post(rt, &mut desk, 8, &[(1, Ok(0)), (1, Ok(1))]);
+    let gone = match last {
+        Last::Letter => waits_to_take(rt, &mut desk, 1, &[Err(Gone(1))]),
+        Last::Room => {
+            let rows = [(1, Ok(2)), (1, Err(WaitRefusal::Gone(1)))];
+            waits_to_post(rt, &mut desk, 9, &rows)
+        }
+    };
+    letter && room && gone
+}
+
+fn sleep_beside_a_dawdler<R: Threads + Wait + Clock + Sync>(
+    rt: &R,
+    first: Desk<u64>,
+    second: Desk<u64>,
+    last: Last,
+) -> bool {
+    let (done, waited) = join(
+        rt,
+        move || dawdle(rt, second),
+        move || sleep_three_times(rt, first, last),
+    );
+    done && waited
+}
+
+#[test]
+fn a_sleeper_is_woken_by_a_letter_by_room_and_as_the_other_goes(
+    rt: HostRuntime,
+) -> Result<(), Fail> {
+    for last in [Last::Letter, Last::Room] {
+        let (first, second) = two_desks(rt.alloc(), 1)?;
+        assert!(rt; sleep_beside_a_dawdler(&rt, first, second, last));
+    }
+    Ok(())
+}
+
+/// How many ranks stand in a ring.
+const RANKS: u16 = 36;
+
+/// Which ranks of the ring post before they take.
+#[derive(Clone, Copy, PartialEq, Eq, Drop)]
+enum First {
+    Rank0,
+    Each,
+}
+
+/// Whether the sheet of this lap can be posted to the next rank of the ring.
+fn passes_on<R: Wait>(rt: &R, desk: &mut Desk<u64>, lap: u64) -> bool {
+    let after = (desk.rank() % RANKS + 1) % RANKS;
+    waits_to_post(rt, desk, lap, &[(after, Ok(lap))])
+}
+
+/// Whether the sheet of this lap comes from the rank before.
+fn gets<R: Wait>(rt: &R, desk: &mut Desk<u64>, lap: u64) -> bool {
+    let before = (desk.rank() % RANKS + RANKS - 1) % RANKS;
+    match desk.take(rt, before) {
+        Ok(Taken::Letter(letter)) => letter.body == Body::Sheet(lap) && letter.tag == Tag(4),
+        _ => false,
+    }
+}
+
+/// Whether a rank of the ring gets and passes on a letter in each lap.
+fn goes_round<R: Wait>(rt: &R, desk: Desk<u64>, laps: u64, first: First) -> bool {
+    let mut desk = desk;
+    let is_first = first == First::Each || desk.rank() == 0;
+    let mut as_said = true;
+    for lap in 0..laps {
+        if is_first {
+            as_said &= passes_on(rt, &mut desk, lap);
+        }
+        as_said &= gets(rt, &mut desk, lap);
+        if !is_first {
+            as_said &= passes_on(rt, &mut desk, lap);
+        }
+    }
+    as_said
+}
+
+/// How many ranks of the ring did so, each in a thread of its own.
+fn go_round<R: Threads + Wait + Sync>(
+    rt: &R,
+    desks: Vec<Desk<u64>>,
+    laps: u64,
+    first: First,
+) -> u64 {
+    let count = AtomicU64::new(0);
+    let done = &count;
+    thread::scope(thread::scope_env(), rt, |scope| {
+        for desk in desks {
+            let _ = scope.spawn(move || {
+                if goes_round(rt, desk, laps, first) {
+                    done.fetch_add(1, Ordering::SeqCst);
+                }
+            });
+        }
+    });
+    count.load(Ordering::SeqCst)
+}
+
+#[test]
+fn a_chain_of_sleepers_passes_a_letter_round(rt: HostRuntime) -> Result<(), Fail> {
+    let desks = open::<u64>(rt.alloc(), RANKS, Capacity::nearest(1))?;
+    assert_eq!(rt; go_round(&rt, desks, 60, First::Rank0), 36);
+    Ok(())
+}
+
+#[test]
+fn thousands_of_letters_go_round_at_once(rt: HostRuntime) -> Result<(), Fail> {
+    let desks = open::<u64>(rt.alloc(), RANKS, Capacity::nearest(1))?;
+    assert_eq!(rt; go_round(&rt, desks, 200, First::Each), 36);
+    Ok(())
+}
