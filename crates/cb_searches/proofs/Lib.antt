@@ -6,7 +6,7 @@ pub mod OneColumn
 -- WalkCosts: how walks begin, grow and end, and what they cost. ShortWalks: for each walk a short one that costs no more.
 -- NumbersByRound: numbers that near the least costs, round by round. TurnedProducts: a round is the product of the turned
 -- matrix. TakenNumbers, LowerEntries, NumberColumns, FallenNumbers: the numbers known so far, those that fall, and their
--- column.
+-- column. RelaxedEdges, SettledVertices: vertices that settle one after another.
 pub mod WalkCosts
 pub mod ShortWalks
 pub mod NumbersByRound
@@ -15,3 +15,5 @@ pub mod TakenNumbers
 pub mod LowerEntries
 pub mod NumberColumns
 pub mod FallenNumbers
+pub mod RelaxedEdges
+pub mod SettledVertices

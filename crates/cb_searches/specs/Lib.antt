@@ -1,5 +1,6 @@
 -- Walks: walks in a graph, levels and distances. Numbers: the least numbers known so far. Searches: how they near the
--- least costs of walks.
+-- least costs of walks, round by round. Settling: how they become least, vertex after vertex.
 pub mod Walks
 pub mod Numbers
 pub mod Searches
+pub mod Settling

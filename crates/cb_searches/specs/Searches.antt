@@ -26,3 +26,7 @@ pub record IsSearch (a : Sparse) (source k : ℕ) (search : Search) : Type 0 whe
 -- it has come to its end: nothing fell in the last round, or there were as many rounds as vertices
 abbrev pub HasEnded : Sparse → ℕ → Search → Type 0
 HasEnded a k search = (search.fell.entries ≡ []) ⊎ (a.shape.rows ≤ k)
+
+-- a search that has come to its end
+abbrev pub IsWholeSearch : Sparse → ℕ → ℕ → Search → Type 0
+IsWholeSearch a source k search = IsSearch a source k search × HasEnded a k search

@@ -1,11 +1,12 @@
 //! Searches in the graph of a square matrix, in which a stored entry (i, j) is an edge from i to j.
 //!
 //! A [`Search`] is a state: the numbers of the vertices as they are known so far, which near the least weights of walks from
-//! one vertex, round by round. Who holds the matrix makes the rounds: in one block by [`Search::round`], as [`distances`] and
-//! [`levels`] do, or by any means that multiplies the transposed matrix by a column, by [`Search::advance`]. In a level
-//! each edge weighs 1.
+//! one vertex, round by round. Who holds the matrix makes the rounds: in one block by [`Search::round`], or by any means
+//! that multiplies the transposed matrix by a column, by [`Search::advance`]. [`distances`] and [`levels`] search in one
+//! block: they make a few rounds, and then settle what is left vertex after vertex. In a level each edge weighs 1.
 #![tactic(auto)]
 
+mod dijkstra;
 mod numbers;
 mod one_block;
 mod relaxations;

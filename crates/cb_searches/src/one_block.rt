@@ -1,6 +1,8 @@
 //! The search in the graph of one block.
 //!
-//! The block is transposed once and given up; each round is then [`Search::round`] on the transposed one.
+//! The block is transposed once and given up. A few rounds are made on the transposed one, each [`Search::round`]: they
+//! read the edges in order, which is quickest where most vertices are few edges away. After them the vertices that are
+//! left [settle](crate::dijkstra) one after another, so that long walks take no rounds.
 ghost use Rattle.std.specs.Prelude.{◌≡◌, ◌<◌, IfOk};
 ghost use Rattle.cb_semirings.specs.Tables.{min_plus};
 ghost use Rattle.cb_matrix.specs.Sparse.{Sparse, IsMatrix};
@@ -13,13 +15,17 @@ use cb_matrix::Matrix;
 use cb_semirings::{MinPlus, OrAnd};
 use std::alloc::{AllocError, Global};
 
+/// After how many rounds vertices settle one after another. Where most vertices are few edges away, fewer rounds do.
+const ROUNDS: u32 = 16;
+
 /// The distance of each vertex from a source, in the graph of a square block: the least weight of a walk, where a walk's
 /// weight is the sum of its entries' values, which stops at 2^64-1. The answer is a column; vertices without a walk, or
 /// with an infinite distance, are not stored.
 ///
-/// The block is given up once it is transposed. A round costs what the entries of the vertices that fell in the round
-/// before cost, and at most a few instructions for each vertex where at least one in 32 fell; there are at most as many
-/// rounds as vertices.
+/// The block is given up once it is transposed. At most 16 rounds are made. One costs what the entries of the vertices
+/// that fell in the round before cost, and at most a few instructions for each vertex where at least one in 32 fell.
+/// What is then left is the algorithm of Dijkstra (1959) with a heap: it costs the entries of the vertices that it
+/// reaches, and for each number that falls the logarithm of how many wait.
 pub fn distances(
     alloc: Global,
     graph: Block<MinPlus>,
@@ -74,14 +80,14 @@ fn nearest_by_edges(
     ensures { IfOk result (λ column. (a : Sparse) → IsMatrix min_plus a → a.shape.rows ≡ a.shape.cols → edges.now ≡ transposed min_plus a → AreDistances a source column) }
 {
     let shape = edges.shape();
-    let vertices = shape.rows();
     let mut search = Search::begin(alloc, shape, edges.len(), source)?;
-    for _round in 0..vertices {
+    for _round in 0..ROUNDS {
         let fell = search.fell();
         if fell.is_empty() {
             break;
         }
         search = search.round(alloc, edges)?;
     }
-    search.column(alloc)
+    let settled = search.settle(alloc, edges)?;
+    settled.column(alloc)
 }

@@ -13,8 +13,9 @@ ghost use Rattle.cb_matrix.specs.Values.{product, product_shape};
 ghost use Rattle.cb_matrix.specs.Operations.{transposed};
 ghost use Rattle.cb_searches.specs.Walks.{infinite, AreDistances};
 ghost use Rattle.cb_searches.specs.Numbers.{number_at, AreNumbers, is_lower};
-ghost use Rattle.cb_searches.specs.Searches.{HasEnded, IsSearch};
+ghost use Rattle.cb_searches.specs.Searches.{HasEnded, IsSearch, IsWholeSearch};
 
+use crate::dijkstra::settle;
 use crate::numbers::Numbers;
 use crate::relaxations::relax_list;
 use cb_dcsc::Block;
@@ -80,6 +81,21 @@ impl Search {
         let mut known = self.known;
         let fell = relax(alloc, &mut known, edges, &self.fell)?;
         Ok(Search { known, fell })
+    }
+
+    /// In place of all rounds that are left, on the transposed matrix as one block: vertices [settle](crate::dijkstra)
+    /// one after another, until no number can fall.
+    pub(crate) fn settle(self, alloc: Global, edges: &Block<MinPlus>) -> Result<Self, AllocError>
+        requires round { (a : Sparse) × (source : ℕ) × (k : ℕ) × IsSearch a source k self × (edges.now ≡ transposed min_plus a) }
+        ensures { IfOk result (λ s. (a : Sparse) (source k : ℕ) → IsSearch a source k self → edges.now ≡ transposed min_plus a → IsWholeSearch a source k s) }
+    {
+        let shape = self.fell.shape();
+        let mut known = self.known;
+        settle(alloc, &mut known, edges, self.fell.entries())?;
+        Ok(Search {
+            known,
+            fell: Matrix::empty(alloc, shape),
+        })
     }
 
     /// The numbers as a column.

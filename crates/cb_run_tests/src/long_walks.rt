@@ -1,0 +1,159 @@
+//! Least walks of more edges than a search makes rounds, in graphs whose numbers are kept in a list and in a tree.
+use crate::examples::of_entries;
+use crate::walks::{By, distances_by};
+use cb_engines::EngineFault;
+use cb_matrix::{Entry, Matrix};
+use cb_run::OperationFault;
+use cb_samples::entry;
+use cb_semirings::MinPlus;
+use std::alloc::{AllocError, Global};
+use std::sync::Wait;
+use std::test::Fail;
+use std::thread::Threads;
+
+/// The greatest number below infinity.
+const GREATEST: u64 = u64::MAX - 1;
+
+/// How many vertices the graph of the chain has, in a list and in a tree.
+const VERTICES: [u32; 3] = [50, 160, 2_147_483_647];
+
+/// A path from vertex 0 to 30 whose edges weigh 2, and an edge from 0 to 25, whose number falls from 90 to 50 long after
+/// it was reached; a cycle of no weight between 30 and 31; an edge to 32 that makes the greatest number, one to 33 that
+/// makes it infinite, and one of no weight to 34; and an edge between vertices that no walk reaches.
+fn chain(alloc: Global) -> Result<Vec<Entry>, AllocError> {
+    let mut edges = Vec::new(alloc);
+    for vertex in 0..30 {
+        edges.push(entry(vertex, vertex + 1, 2))?;
+    }
+    for (from, to, weight) in [
+        (0, 25, 90),
+        (30, 31, 0),
+        (31, 30, 0),
+        (31, 32, GREATEST - 60),
+        (32, 33, 1),
+        (32, 34, 0),
+        (40, 41, 1),
+    ] {
+        edges.push(entry(from, to, weight))?;
+    }
+    Ok(edges)
+}
+
+/// Whether these are the distances in the graph of the chain.
+fn are_of_chain(found: &Matrix<MinPlus>) -> bool {
+    let number = |vertex: u32| match vertex {
+        0..=30 => Some(u64::from(vertex) * 2),
+        31 => Some(60),
+        32 | 34 => Some(GREATEST),
+        _ => None,
+    };
+    found.len() == 34
+        && found.entries().iter().all(|entry| entry.column == 0
+            && number(entry.row) == Some(entry.value))
+}
+
+/// The distances from vertex 0 in a graph of these edges, by one thread, or None where there is no memory for the graph.
+fn found<R: Threads + Wait + Sync>(
+    rt: &R,
+    alloc: Global,
+    vertices: u32,
+    edges: &[Entry],
+) -> Option<Result<Matrix<MinPlus>, OperationFault>> {
+    let graph = of_entries(alloc, vertices, vertices, edges)?;
+    Some(distances_by(rt, alloc, By::One, &graph, 0))
+}
+
+#[test]
+fn a_chain_is_followed_to_its_end(rt: HostRuntime) -> Result<(), Fail> {
+    let alloc = rt.alloc();
+    let edges = chain(alloc)?;
+    for vertices in VERTICES {
+        let numbers = found(&rt, alloc, vertices, &edges).ok_or("a graph")?;
+        assert!(rt; are_of_chain(&numbers?), "{vertices}");
+    }
+    Ok(())
+}
+
+/// The side of the grid.
+const SIDE: u32 = 12;
+
+/// A weight from 0 to 99 for the edge of this number, in no order.
+fn weight(number: u32) -> u64 {
+    u64::from(number.wrapping_mul(2_654_435_769) >> 8) % 100
+}
+
+/// The graph of a grid of 12 by 12: each vertex has edges to the ones beside, above and below it, of weights in no order.
+fn lattice(alloc: Global) -> Result<Vec<Entry>, AllocError> {
+    let mut edges = Vec::new(alloc);
+    for vertex in 0..SIDE * SIDE {
+        if vertex % SIDE + 1 < SIDE {
+            edges.push(entry(vertex, vertex + 1, weight(4 * vertex)))?;
+            edges.push(entry(vertex + 1, vertex, weight(4 * vertex + 1)))?;
+        }
+        if vertex + SIDE < SIDE * SIDE {
+            edges.push(entry(vertex, vertex + SIDE, weight(4 * vertex + 2)))?;
+            edges.push(entry(vertex + SIDE, vertex, weight(4 * vertex + 3)))?;
+        }
+    }
+    Ok(edges)
+}
+
+/// One look at each edge: where it lowers the number of the vertex that it leads to, that is taken over.
+fn look(numbers: &mut [u64], edges: &[Entry]) {
+    for edge in edges {
+        let from = numbers.get(edge.row as usize).copied().unwrap_or(u64::MAX);
+        if let Some(number) = numbers.get_mut(edge.column as usize) {
+            *number = (*number).min(from.saturating_add(edge.value));
+        }
+    }
+}
+
+/// The distances from vertex 0 in a graph of so many vertices, by as many looks at each edge.
+fn by_looks(alloc: Global, vertices: u32, edges: &[Entry]) -> Result<Vec<u64>, AllocError> {
+    let mut numbers = vec![in alloc; u64::MAX; vertices as usize]?;
+    if let Some(source) = numbers.get_mut(0) {
+        *source = 0;
+    }
+    for _look in 0..vertices {
+        look(&mut numbers, edges);
+    }
+    Ok(numbers)
+}
+
+/// Whether a column has these numbers, and no others.
+fn are_listed(found: &Matrix<MinPlus>, numbers: &[u64]) -> bool {
+    found.len() == numbers.len()
+        && found.entries().iter().all(|entry| numbers.get(entry.row as usize) == Some(&entry.value))
+}
+
+#[test]
+fn a_lattice_has_the_numbers_of_many_looks(rt: HostRuntime) -> Result<(), Fail> {
+    let alloc = rt.alloc();
+    let edges = lattice(alloc)?;
+    let wanted = by_looks(alloc, SIDE * SIDE, &edges)?;
+    // As many vertices as the grid has, whose numbers are in a list; and many more, in a tree.
+    for vertices in [SIDE * SIDE, 2_147_483_647] {
+        let numbers = found(&rt, alloc, vertices, &edges).ok_or("a graph")?;
+        assert!(rt; are_listed(&numbers?, &wanted), "{vertices}");
+    }
+    Ok(())
+}
+
+/// It passes whichever single allocation is refused (`rt try --test --fail-alloc N`, for each N in turn).
+#[test]
+fn refused_memory_is_said_by_long_walks(rt: HostRuntime) -> Result<(), Fail> {
+    let alloc = rt.alloc();
+    let Ok(edges) = chain(alloc) else {
+        return Ok(());
+    };
+    for vertices in VERTICES {
+        match found(&rt, alloc, vertices, &edges) {
+            Some(Ok(numbers)) => assert!(rt; are_of_chain(&numbers)),
+            Some(Err(fault)) => {
+                assert_eq!(rt; fault, OperationFault::Failed(EngineFault::Memory));
+            }
+            None => {}
+        }
+    }
+    Ok(())
+}

@@ -1,0 +1,45 @@
+-- Vertices on their way to be settled: the numbers known so far, and those of them that may still lower others.
+use Rattle.std.specs.Prelude.{◌≡◌, ◌≢◌, ℕ, ◌+◌, ◌≤◌, ◌⊎◌, List, length, Contains}
+use Rattle.std.specs.List.{sum_by, range_with_len}
+use Rattle.cb_semirings.specs.Tables.{min_plus}
+use Rattle.cb_matrix.specs.declared.Entry.{Entry}
+use Rattle.cb_matrix.specs.Sparse.{Sparse, at}
+use Rattle.cb_searches.specs.declared.dijkstra.Tentative.{Tentative}
+use Rattle.cb_searches.specs.declared.numbers.Numbers.{Numbers}
+use Rattle.cb_searches.specs.Walks.{IsWalk, cost, infinite}
+use Rattle.cb_searches.specs.Numbers.{number_at}
+
+-- the entries of a block are the edges of a graph, rows and columns exchanged
+abbrev pub AreEdges : Sparse → Sparse → Type 0
+AreEdges edges a = (u v : ℕ) → at min_plus edges v u ≡ at min_plus a u v
+
+-- the number of a vertex, as an entry of a column has it
+abbrev pub tentative : Entry → Tentative
+tentative e = record { number = e.value; vertex = e.row }
+
+-- a vertex waits with the number that it has
+abbrev pub IsWaiting : (ℕ → ℕ) → List Tentative → ℕ → Type 0
+IsWaiting d waiting v = Contains waiting (record { number = d v; vertex = v })
+
+-- no edge from a vertex can lower the number of another
+abbrev pub IsRelaxed : Sparse → (ℕ → ℕ) → ℕ → Type 0
+IsRelaxed a d u = (v : ℕ) → d v ≤ d u + at min_plus a u v
+
+-- Each number is the cost of a walk, the source has 0, and a vertex that doesn't wait can lower no other.
+pub record IsSettling (a : Sparse) (source : ℕ) (d : ℕ → ℕ) (waiting : List Tentative) : Type 0 where
+  pub fits : (v : ℕ) → d v ≤ infinite
+  pub begins : d source ≡ 0
+  pub reached : (v : ℕ) → d v ≢ infinite → (walk : List ℕ) × IsWalk min_plus a source v walk × (cost a walk ≡ d v)
+  pub settled : (u : ℕ) → IsWaiting d waiting u ⊎ IsRelaxed a d u
+
+-- a bound for the work that is left: a number that falls lessens the sum of all and waits, and one that is taken out waits no more
+abbrev pub work_left : ℕ → Numbers → List Tentative → ℕ
+work_left n known waiting = sum_by (number_at known) (range_with_len 0 n) + length waiting
+
+-- where vertices settle with the old numbers and what waited, they do with the new ones and what waits
+abbrev pub KeepSettling : Sparse → Numbers → List Tentative → Numbers → List Tentative → Type 0
+KeepSettling edges old waited new waiting = (a : Sparse) (source : ℕ) → AreEdges edges a → IsSettling a source (number_at old) waited → IsSettling a source (number_at new) waiting
+
+-- no more work is left after than before
+abbrev pub IsNoMoreWork : ℕ → Numbers → List Tentative → Numbers → List Tentative → Type 0
+IsNoMoreWork n old waited new waiting = work_left n new waiting ≤ work_left n old waited
