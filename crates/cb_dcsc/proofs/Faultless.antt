@@ -10,9 +10,9 @@ use Rattle.cb_matrix.specs.declared.Entry.{Entry}
 use Rattle.cb_matrix.specs.Sparse.{Extent, IsBefore, IsInside, is_outside, Sparse}
 use Rattle.cb_matrix.proofs.Pairs.{AllPairs-nil, AllPairs-cons}
 use Rattle.cb_matrix.proofs.Same.{before_trans}
-use Rattle.cb_dcsc.specs.declared.faults.BlockFault.{BlockFault}
-use Rattle.cb_dcsc.specs.declared.faults.BlockFault.TheVariants.{Place, Order, Zero}
-use Rattle.cb_dcsc.specs.Faults.{comes_after, is_late, fault_of, or_else, first_fault_from, first_fault}
+use Rattle.cb_dcsc.specs.declared.block_faults.BlockFault.{BlockFault}
+use Rattle.cb_dcsc.specs.declared.block_faults.BlockFault.TheVariants.{Place, Order, Zero}
+use Rattle.cb_dcsc.specs.BlockFaults.{comes_after, is_late, fault_of, or_else, first_fault_from, first_fault}
 use Rattle.cb_dcsc.specs.Columns.{with_entry}
 
 -- ---- the scan

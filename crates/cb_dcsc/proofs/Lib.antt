@@ -20,3 +20,5 @@ pub mod Held
 pub mod Pushed
 pub mod Faultless
 pub mod Csc
+-- Appended: entries added after all those of a block; `matrix_append`, two matrices of which one comes before the other.
+pub mod Appended

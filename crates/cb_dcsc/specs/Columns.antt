@@ -32,3 +32,7 @@ row_value z (r ∷ rs) (v ∷ vs) i = cond (r == i) v (row_value z rs vs i)
 -- one entry more
 abbrev pub with_entry : Sparse → Entry → Sparse
 with_entry m e = record { shape = m.shape; entries = m.entries ++ e ∷ [] }
+
+-- entries more, after all the others
+abbrev pub with_entries : Sparse → List Entry → Sparse
+with_entries m es = record { shape = m.shape; entries = m.entries ++ es }

@@ -1,3 +1,3 @@
 pub mod Compressed
 pub mod Columns
-pub mod Faults
+pub mod BlockFaults

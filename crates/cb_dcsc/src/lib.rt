@@ -17,13 +17,14 @@ ghost use Rattle.std.specs.Prelude.{◌≡◌, ◌≢◌, ◌↔◌, ℕ, ◌<�
 ghost use Rattle.cb_semirings.specs.Arithmetic.{IsValue};
 ghost use Rattle.cb_dcsc.specs.Compressed.{opened, entries_in, with_column, csc_matrix, AreStarts, AreNonempty};
 
-mod faults;
+mod block_faults;
 
+pub use block_faults::BlockFault;
 use cb_matrix::{Entry, Shape};
 use cb_semirings::Semiring;
-pub use faults::BlockFault;
 use std::alloc::{AllocError, Global};
 use std::marker::{Model, PhantomData};
+use std::mem::swap;
 
 /// A sparse matrix, by the columns that have entries.
 #[derive(Debug, Drop)]
@@ -54,9 +55,9 @@ impl<S: Semiring> Model for Block<S> {
 impl<S: Semiring> Block<S> {
     ghost use Rattle.cb_matrix.specs.Sparse.{Sparse, IsMatrix, at, IsInside, IsBefore};
     ghost use Rattle.cb_matrix.specs.Values.{empty_matrix};
-    ghost use Rattle.cb_dcsc.specs.declared.faults.BlockFault.TheVariants.{Place, Order, Zero};
-    ghost use Rattle.cb_dcsc.specs.Faults.{first_fault};
-    ghost use Rattle.cb_dcsc.specs.Columns.{in_column, rows_of, values_of, columns_with_entries, with_entry};
+    ghost use Rattle.cb_dcsc.specs.declared.block_faults.BlockFault.TheVariants.{Place, Order, Zero};
+    ghost use Rattle.cb_dcsc.specs.BlockFaults.{first_fault};
+    ghost use Rattle.cb_dcsc.specs.Columns.{in_column, rows_of, values_of, columns_with_entries, with_entry, with_entries};
 
     /// The block without entries.
     pub fn empty(alloc: Global, shape: Shape) -> Self
@@ -227,7 +228,7 @@ impl<S: Semiring> Block<S> {
         ensures order { (n : ℕ) → IsErrOf result (BlockFault.Order n) ↔ (first_fault S.arithmetic shape entries.now ≡ Some (Order n)) }
         ensures zero { (n : ℕ) → IsErrOf result (BlockFault.Zero n) ↔ (first_fault S.arithmetic shape entries.now ≡ Some (Zero n)) }
     {
-        if let Some(fault) = faults::first_fault::<S>(shape, entries) {
+        if let Some(fault) = block_faults::first_fault::<S>(shape, entries) {
             return Err(fault);
         }
         Ok(Self::from_ordered(alloc, shape, entries)?)
@@ -405,6 +406,50 @@ impl<S: Semiring> Block<S> {
         start_column(&mut self.columns, &mut self.starts, column, end)?;
         extend_reserved(&mut self.rows, rows);
         extend_reserved(&mut self.values, values);
+        Ok(())
+    }
+
+    /// Stores all entries of another block of the same shape after all the others. A column may go on: the last one of
+    /// this block can be the first one of the other. On refusal some of the entries are stored. The cost is that of the
+    /// entries stored more; a block without entries takes over the other's lists, which costs nothing.
+    pub fn append(&mut self, other: &mut Block<S>) -> Result<(), AllocError>
+        requires shape { other.old.shape ≡ self.old.shape }
+        requires matrix { IsMatrix S.arithmetic (with_entries self.old other.old.entries) }
+        ensures { OnOk result (self.new ≡ with_entries self.old other.old.entries) }
+    {
+        if self.len() == 0 {
+            swap(self, other);
+            return Ok(());
+        }
+        self.append_columns(other)
+    }
+
+    /// The same, column by column.
+    fn append_columns(&mut self, other: &Block<S>) -> Result<(), AllocError>
+        requires { IsMatrix S.arithmetic (with_entries self.old other.now.entries) }
+        ensures { OnOk result (self.new ≡ with_entries self.old other.now.entries) }
+    {
+        self.reserve(other.rows.len())?;
+        for n in 0..other.columns() {
+            let (rows, values) = other.nth_column(n);
+            self.push_rows(other.column_number(n), rows, values)?;
+        }
+        Ok(())
+    }
+
+    /// Stores entries of one column after all the others, by their rows and values. On refusal some are stored.
+    fn push_rows(&mut self, column: u32, rows: &[u32], values: &[u64]) -> Result<(), AllocError>
+        requires lengths { length values.now ≡ length rows.now }
+        requires matrix { IsMatrix S.arithmetic (with_column self.old column rows.now values.now) }
+        ensures { OnOk result (self.new ≡ with_column self.old column rows.now values.now) }
+    {
+        for n in 0..rows.len() {
+            self.push(Entry {
+                row: rows[n],
+                column,
+                value: values[n],
+            })?;
+        }
         Ok(())
     }
 }

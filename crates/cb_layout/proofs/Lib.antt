@@ -28,8 +28,10 @@ pub mod Splits
 pub mod Fronts
 pub mod BlockColumns
 pub mod RemainingEntries
--- GrownBlocks: blocks that grow entry by entry. Recasts: blocks taken over to another semiring.
+-- GrownBlocks: blocks that grow entry by entry. AppendedBlocks: blocks that grow by those of another matrix.
+-- Recasts: blocks taken over to another semiring.
 pub mod GrownBlocks
+pub mod AppendedBlocks
 pub mod Recasts
 -- OneBlock: a grid of side 1 has the whole matrix as its only block.
 pub mod OneBlock

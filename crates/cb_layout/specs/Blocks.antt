@@ -5,6 +5,7 @@ use Rattle.cb_semirings.specs.Arithmetic.{Arithmetic}
 use Rattle.cb_matrix.specs.Sparse.{Extent, Sparse, at}
 use Rattle.cb_matrix.specs.Values.{matrix_of, empty_matrix}
 use Rattle.cb_matrix.specs.Operations.{cut}
+use Rattle.cb_dcsc.specs.Columns.{with_entries}
 use Rattle.cb_layout.specs.Parts.{part}
 
 -- the block of rank (i, j): what is in row part i and column part j
@@ -14,6 +15,10 @@ block_of s q m i j = cut s (part q m.shape.rows i) (part q m.shape.cols j) m
 -- the block with number n in a list
 abbrev pub block_at : List Sparse → ℕ → Sparse
 block_at blocks n = slice_index_or blocks n (empty_matrix (record { rows = 0; cols = 0 }))
+
+-- the block with number n in a list, with the entries of the one in another list after its own
+abbrev pub joined_block : List Sparse → List Sparse → ℕ → Sparse
+joined_block blocks others n = with_entries (block_at blocks n) (block_at others n).entries
 
 -- the part of a dimension d that place i is in
 abbrev pub part_with : ℕ → ℕ → ℕ → ℕ

@@ -3,9 +3,9 @@ ghost use Rattle.std.specs.Prelude.{◌≡◌, ◌≢◌, ◌↔◌, ℕ, ◌<�
 ghost use Rattle.cb_semirings.specs.Arithmetic.{IsValue};
 ghost use Rattle.cb_matrix.specs.Sparse.{IsMatrix, IsInside, IsBefore};
 ghost use Rattle.cb_matrix.specs.Values.{empty_matrix};
-ghost use Rattle.cb_dcsc.specs.Columns.{with_entry};
+ghost use Rattle.cb_dcsc.specs.Columns.{with_entry, with_entries};
 ghost use Rattle.cb_layout.specs.Parts.{part_shape};
-ghost use Rattle.cb_layout.specs.Blocks.{block_at, block_of};
+ghost use Rattle.cb_layout.specs.Blocks.{block_at, block_of, joined_block};
 ghost use Rattle.cb_layout.specs.Distributed.{AreBlocks, glued_blocks};
 
 use crate::gather::stored;
@@ -99,6 +99,26 @@ impl<S: Semiring> DistributedMatrix<S> {
         Ok(())
     }
 
+    /// The matrix with the entries of another one over the same grid, of the same shape, each of which comes after all
+    /// of its own. Where memory is refused both are given up. The cost is that of one block for each rank, and of the
+    /// other's entries in blocks where this one has entries too.
+    pub fn append(self, other: Self) -> Result<Self, AllocError>
+        requires side { other.side ≡ self.side }
+        requires shape { other.matrix.shape ≡ self.matrix.shape }
+        requires order { All (λ d. All (IsBefore d) other.matrix.entries) self.matrix.entries }
+        ensures { IfOk result (λ m. m ≡ record { side = self.side; matrix = with_entries self.matrix other.matrix.entries }) }
+    {
+        let _limits = (self.shape.rows(), self.shape.cols());
+        let (mut blocks, mut others) = (self.blocks, other.blocks);
+        append_blocks(&mut blocks, &mut others)?;
+        Ok(DistributedMatrix {
+            grid: self.grid,
+            shape: self.shape,
+            len: self.len + other.len,
+            blocks,
+        })
+    }
+
     /// The whole matrix, in memory of its own. The cost is that of the stored entries.
     pub fn gather(&self, alloc: Global) -> Result<Matrix<S>, AllocError>
         ensures { IfOk result (λ m. m ≡ self.now.matrix) }
@@ -172,6 +192,23 @@ impl<S: Semiring> DistributedMatrix<S> {
     {
         Segments::new(self.grid, self.shape, &self.blocks)
     }
+}
+
+/// Stores the entries of each of these blocks in the block of the same rank, after all the others.
+fn append_blocks<S: Semiring>(
+    blocks: &mut Vec<Block<S>>,
+    others: &mut Vec<Block<S>>,
+) -> Result<(), AllocError>
+    requires count { length others.old.items ≡ length blocks.old.items }
+    requires shapes { (r : ℕ) → r < length others.old.items → (block_at others.old.items r).shape ≡ (block_at blocks.old.items r).shape }
+    requires matrices { (r : ℕ) → r < length others.old.items → IsMatrix S.arithmetic (joined_block blocks.old.items others.old.items r) }
+    ensures count { OnOk result (length blocks.new.items ≡ length blocks.old.items) }
+    ensures blocks { OnOk result ((r : ℕ) → r < length others.old.items → block_at blocks.new.items r ≡ joined_block blocks.old.items others.old.items r) }
+{
+    for rank in 0..others.len() {
+        blocks[rank].append(&mut others[rank])?;
+    }
+    Ok(())
 }
 
 /// The same blocks over another semiring, whose values their values are too.

@@ -48,32 +48,24 @@ impl Front {
         }
     }
 
-    /// The front after one column more of the block in a row of the grid, which has these columns.
-    pub fn stepped(self, row: u32, numbers: &[u32]) -> Front
+    /// Goes on by one column of the block in a row of the grid, which has these columns. It is changed in place: a copy
+    /// for each column would cost more than all else.
+    pub fn step(&mut self, row: u32, numbers: &[u32])
         requires row { row < 6 }
-        requires some { slice_index self.done row < length numbers.now }
-        requires six_done { length self.done ≡ 6 }
-        requires six_columns { length self.columns ≡ 6 }
-        ensures column { result.column ≡ self.column }
-        ensures left { result.left ≡ self.left }
-        ensures done { result.done ≡ slice_set self.done row (slice_index self.done row + 1) }
-        ensures columns { result.columns ≡ slice_set self.columns row (slice_index_or numbers.now (slice_index self.done row + 1) NO_COLUMN) }
-        ensures some { IfSome result.first (λ t. IsLeast result.columns t.0 t.1) }
-        ensures none { IfNone result.first ((k : ℕ) → k < 6 → slice_index result.columns k ≡ NO_COLUMN) }
+        requires some { slice_index self.old.done row < length numbers.now }
+        requires six_done { length self.old.done ≡ 6 }
+        requires six_columns { length self.old.columns ≡ 6 }
+        ensures column { self.new.column ≡ self.old.column }
+        ensures left { self.new.left ≡ self.old.left }
+        ensures done { self.new.done ≡ slice_set self.old.done row (slice_index self.old.done row + 1) }
+        ensures columns { self.new.columns ≡ slice_set self.old.columns row (slice_index_or numbers.now (slice_index self.old.done row + 1) NO_COLUMN) }
+        ensures some { IfSome self.new.first (λ t. IsLeast self.new.columns t.0 t.1) }
+        ensures none { IfNone self.new.first ((k : ℕ) → k < 6 → slice_index self.new.columns k ≡ NO_COLUMN) }
     {
         let n = self.done[row as usize] + 1;
-        let mut done = self.done;
-        let mut columns = self.columns;
-        done[row as usize] = n;
-        columns[row as usize] = nth_or_none(numbers, n);
-        let first = least(&columns);
-        Front {
-            column: self.column,
-            left: self.left,
-            done,
-            columns,
-            first,
-        }
+        self.done[row as usize] = n;
+        self.columns[row as usize] = nth_or_none(numbers, n);
+        self.first = least(&self.columns);
     }
 }
 

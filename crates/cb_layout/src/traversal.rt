@@ -65,6 +65,19 @@ impl<'a, S: Semiring> Segments<'a, S> {
         }
     }
 
+    /// A second walk over the segments that are left, in constant time.
+    pub fn fork(&self) -> Segments<'a, S>
+        ensures { result ≡ self.now }
+    {
+        Segments {
+            grid: self.grid,
+            shape: self.shape,
+            blocks: self.blocks,
+            tops: self.tops,
+            front: self.front,
+        }
+    }
+
     /// The next segment, which has an entry at least, or None where no entry is left.
     pub fn next_segment(&mut self) -> Option<Segment<'a>>
         ensures some { IfSome result (λ g. self.old ≡ shifted g.top g.column g.rows.now g.values.now ++ self.new) }
@@ -73,7 +86,7 @@ impl<'a, S: Semiring> Segments<'a, S> {
         ensures entries { IfSome result (λ g. 0 < length g.rows.now) }
         ensures inside { IfSome result (λ g. (g.column < LIMIT) × All (λ i. g.top + i < LIMIT) g.rows.now) }
     {
-        self.front = reached(self.grid, self.shape, self.blocks, self.front);
+        reach(self.grid, self.shape, self.blocks, &mut self.front);
         let Some((row, column)) = self.front.first else {
             return None;
         };
@@ -81,7 +94,7 @@ impl<'a, S: Semiring> Segments<'a, S> {
         let top = self.tops[row as usize];
         let column = self.front.left + column;
         let n = self.front.done[row as usize];
-        self.front = self.front.stepped(row, block.column_numbers());
+        self.front.step(row, block.column_numbers());
         let (rows, values) = block.nth_column(n);
         Some(Segment {
             column,
@@ -92,21 +105,19 @@ impl<'a, S: Semiring> Segments<'a, S> {
     }
 }
 
-/// The front, or, where its columns are all done, the start of the next column of the grid that has entries. That
+/// Where the columns of the front are all done, it goes to the start of the next column of the grid that has entries, or
 /// of the last column where there is none.
-fn reached<S: Semiring>(grid: Grid, shape: Shape, blocks: &[Block<S>], front: Front) -> Front
+fn reach<S: Semiring>(grid: Grid, shape: Shape, blocks: &[Block<S>], front: &mut Front)
     requires blocks { AreBlocks S.arithmetic grid.side shape blocks.now }
-    requires front { IsFront grid.side shape blocks.now front }
-    ensures front { IsFront grid.side shape blocks.now result }
-    ensures left { entries_left S.arithmetic grid.side shape blocks.now result ≡ entries_left S.arithmetic grid.side shape blocks.now front }
-    ensures last { IfNone result.first (entries_left S.arithmetic grid.side shape blocks.now result ≡ []) }
+    requires front { IsFront grid.side shape blocks.now front.old }
+    ensures front { IsFront grid.side shape blocks.now front.new }
+    ensures left { entries_left S.arithmetic grid.side shape blocks.now front.new ≡ entries_left S.arithmetic grid.side shape blocks.now front.old }
+    ensures last { IfNone front.new.first (entries_left S.arithmetic grid.side shape blocks.now front.new ≡ []) }
 {
-    let mut front = front;
     for column in front.column + 1..grid.side() {
         let None = front.first else {
-            return front;
+            return;
         };
-        front = Front::start(grid, shape, blocks, column);
+        *front = Front::start(grid, shape, blocks, column);
     }
-    front
 }

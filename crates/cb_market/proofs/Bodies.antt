@@ -103,7 +103,7 @@ pub read_header : (s : Arithmetic) (text start : List ℕ) (k : Kind) → 0 < le
 read_header s text start k h e f = inl (rw (first_step s text h) (rw (rw e at f) refl))
 
 -- the first fault of a text is that of its body
-body_first : (s : Arithmetic) (text start rest : List ℕ) (header : Header) (n : ℕ) → 0 < length text → start ≡ text → n ≡ 2 → rest ≡ after_line start → header_fault s (begins_blank (line_at start)) (words (line_at start)) ≡ None → header ≡ header_of (words (line_at start)) → first_fault s text ≡ body_fault s header (n + length (lines rest)) (kept_from n rest)
+pub body_first : (s : Arithmetic) (text start rest : List ℕ) (header : Header) (n : ℕ) → 0 < length text → start ≡ text → n ≡ 2 → rest ≡ after_line start → header_fault s (begins_blank (line_at start)) (words (line_at start)) ≡ None → header ≡ header_of (words (line_at start)) → first_fault s text ≡ body_fault s header (n + length (lines rest)) (kept_from n rest)
 body_first s text start rest header n h e f g k l = rw (first_step s text h) (rw (rw e at k) (rw (f, g, l, e) refl))
 
 -- where the first line has none, an answer for the body is one for the text
@@ -115,9 +115,13 @@ pub record IsText (s : Arithmetic) (text : List ℕ) (m : Sparse) : Type 0 where
   pub no_fault : first_fault s text ≡ None
   pub matrix : m ≡ matrix_in s text
 
+-- the matrix of a text is that of its body
+pub matrix_first : (s : Arithmetic) (text start rest : List ℕ) (header : Header) (n : ℕ) → 0 < length text → start ≡ text → n ≡ 2 → rest ≡ after_line start → header ≡ header_of (words (line_at start)) → matrix_in s text ≡ body_matrix s header (kept_from n rest)
+matrix_first s text start rest header n h e f g l = rw (matrix_step s text h) (rw (f, g, l, e) refl)
+
 -- where neither the first line nor the body has a fault, the text has the matrix of its body
 pub read_ok : (s : Arithmetic) (text start rest : List ℕ) (header : Header) (n : ℕ) (m : Sparse) → 0 < length text → start ≡ text → n ≡ 2 → rest ≡ after_line start → header_fault s (begins_blank (line_at start)) (words (line_at start)) ≡ None → header ≡ header_of (words (line_at start)) → body_fault s header (n + length (lines rest)) (kept_from n rest) ≡ None → m ≡ body_matrix s header (kept_from n rest) → IsText s text m
 read_ok s text start rest header n m h e f g k l a b = record {
   no_fault = body_first s text start rest header n h e f g k l ∙ a;
-  matrix = b ∙ sym (rw (matrix_step s text h) (rw (f, g, l, e) refl));
+  matrix = b ∙ sym (matrix_first s text start rest header n h e f g l);
 }

@@ -198,7 +198,7 @@ entry_said s header shape ws e h =
     (rw (w, h.numbers.0, h.numbers.1, h.value_word, i, j, b, d, h.value) refl, rw (h.row, h.column, h.value, r, c) refl)
 
 -- the words of some lines, without their numbers
-abbrev words_of : List (ℕ × List (List ℕ)) → List (List (List ℕ))
+abbrev pub words_of : List (ℕ × List (List ℕ)) → List (List (List ℕ))
 words_of ls = map (λ l. l.1) ls
 
 -- the entries that lines write
@@ -242,7 +242,7 @@ kept_words_by n (w ∷ ws) = ⊎_elim
     (λ (e : is_skipped w ≡ false). rw e (ap (λ (vs : List (List (List ℕ))). w ∷ vs) (kept_words_by (n + 1) ws)))
     (cases_Bool (is_skipped w))
 
-kept_words : (n : ℕ) (others : List (List ℕ)) → words_of (kept_lines n others) ≡ kept others
+pub kept_words : (n : ℕ) (others : List (List ℕ)) → words_of (kept_lines n others) ≡ kept others
 kept_words n others = kept_words_by n (map words others)
 
 -- the first of some lists, and the others

@@ -11,6 +11,9 @@ pub mod MatrixRoundTrip
 pub mod Digits
 pub mod Segments
 pub mod WrittenBytes
+pub mod EntryRuns
 mod NumberLines
 mod NextEntries
+pub mod PartedTexts
 mod Listed
+mod Gatherings

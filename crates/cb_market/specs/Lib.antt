@@ -8,3 +8,5 @@ pub mod Text
 pub mod Rows
 pub mod Room
 pub mod Gathered
+pub mod Sheets
+pub mod Pieces

@@ -134,7 +134,7 @@ fn negative_of<S: Semiring>(value: u64) -> u64
 
 /// Adds what an entry gives.
 #[inline(always)]
-fn give<S: Semiring>(
+pub fn give<S: Semiring>(
     alloc: Global,
     entries: &mut Gathered<S>,
     symmetry: Symmetry,
@@ -263,7 +263,7 @@ impl<'a> Scanner<'a> {
     /// The entry of the next line that isn't skipped, or its fault, and the line's number. Goes to the
     /// line after it.
     #[inline(always)]
-    fn next_entry<S: Semiring>(
+    pub fn next_entry<S: Semiring>(
         &mut self,
         header: Header,
         shape: Shape,

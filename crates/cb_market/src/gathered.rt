@@ -1,12 +1,12 @@
 //! The entries of a text, as they are read.
-ghost use Rattle.std.specs.Prelude.{◌≡◌, ◌+◌, ◌*◌, ◌^◌, ◌++◌, [], ◌∷◌, IfOk, OnOk};
+ghost use Rattle.std.specs.Prelude.{◌≡◌, ◌+◌, ◌*◌, ◌^◌, ◌++◌, [], ◌∷◌, All, IfOk, OnOk};
 ghost use Rattle.cb_semirings.specs.Arithmetic.{IsValue};
 ghost use Rattle.cb_matrix.specs.Sparse.{IsInside};
 ghost use Rattle.cb_matrix.specs.Values.{collected};
-ghost use Rattle.cb_market.specs.Gathered.{place_number};
+ghost use Rattle.cb_market.specs.Gathered.{place_number, AreSamePlaces};
 
 use cb_layout::{DistributedMatrix, Grid};
-use cb_matrix::{Entry, Matrix, Shape};
+use cb_matrix::{Entry, Matrix, Shape, in_order};
 use cb_semirings::Semiring;
 use std::alloc::{AllocError, Global};
 use std::marker::Model;
@@ -19,6 +19,8 @@ pub struct Gathered<S: Semiring> {
     list: Vec<Entry>,
     /// Whether the blocks have all entries, and not the list.
     ascends: bool,
+    /// No more than the number of any place in the blocks.
+    first: u64,
     /// Above the number of each place in the blocks.
     bound: u64,
     /// How many entries room is taken for.
@@ -33,7 +35,7 @@ impl<S: Semiring> Model for Gathered<S> {
 
     ghost view = { λ a. record { side = a.blocks.side; shape = a.blocks.matrix.shape; room = a.room; entries = a.blocks.matrix.entries ++ a.list.items } };
 
-    ghost invariant = { λ a. IsGathered S.arithmetic a.blocks.matrix a.list.items a.ascends a.bound };
+    ghost invariant = { λ a. IsGathered S.arithmetic a.blocks.matrix a.list.items a.ascends a.first a.bound };
 }
 
 /// The number of a place, by column and then by row.
@@ -43,7 +45,21 @@ fn place_number(entry: Entry) -> u64
     u64::from(entry.column) * (1 << 32) + u64::from(entry.row)
 }
 
-/// The entries of a matrix over a grid and one after them in a list, with room for so many.
+/// The entries of a matrix over a grid in a list, with room for so many.
+fn in_list<S: Semiring>(
+    alloc: Global,
+    blocks: &DistributedMatrix<S>,
+    room: usize,
+) -> Result<Vec<Entry>, AllocError>
+    ensures { IfOk result (λ v. v.items ≡ blocks.now.matrix.entries) }
+{
+    let matrix = blocks.gather(alloc)?;
+    let mut list = Vec::with_capacity(alloc, room)?;
+    list.extend_from_slice(matrix.entries())?;
+    Ok(list)
+}
+
+/// The same, and one entry after them.
 fn listed<S: Semiring>(
     alloc: Global,
     blocks: &DistributedMatrix<S>,
@@ -52,9 +68,7 @@ fn listed<S: Semiring>(
 ) -> Result<Vec<Entry>, AllocError>
     ensures { IfOk result (λ v. v.items ≡ blocks.now.matrix.entries ++ last ∷ []) }
 {
-    let matrix = blocks.gather(alloc)?;
-    let mut list = Vec::with_capacity(alloc, room)?;
-    list.extend_from_slice(matrix.entries())?;
+    let mut list = in_list(alloc, blocks, room)?;
     list.push(last)?;
     Ok(list)
 }
@@ -77,6 +91,7 @@ impl<S: Semiring> Gathered<S> {
             blocks,
             list,
             ascends: in_blocks,
+            first: u64::MAX,
             bound: 0,
             room,
         })
@@ -100,6 +115,7 @@ impl<S: Semiring> Gathered<S> {
         let place = place_number(entry);
         if self.bound <= place && entry.value != S::zero() {
             self.blocks.push(entry)?;
+            self.first = self.first.min(place);
             self.bound = place + 1;
             return Ok(());
         }
@@ -108,6 +124,91 @@ impl<S: Semiring> Gathered<S> {
         self.list = list;
         self.ascends = false;
         Ok(())
+    }
+
+    /// Adds all entries of another after all the others. They stay in blocks where both are in blocks and the other's
+    /// come after these. Where memory is refused both are given up. The cost is that of the other's entries, and, where
+    /// an ascent ends, of these too.
+    pub fn append(self, alloc: Global, other: Self) -> Result<Self, AllocError>
+        requires side { other.side ≡ self.side }
+        requires shape { other.shape ≡ self.shape }
+        ensures entries { IfOk result (λ g. g.entries ≡ self.entries ++ other.entries) }
+        ensures side { IfOk result (λ g. g.side ≡ self.side) }
+        ensures shape { IfOk result (λ g. g.shape ≡ self.shape) }
+    {
+        if !self.ascends || !other.ascends || self.bound > other.first {
+            return self.append_list(alloc, other);
+        }
+        let (shape, _others) = (self.blocks.shape(), other.blocks.shape());
+        let _rows = shape.rows();
+        let first = self.first.min(other.first);
+        let bound = self.bound.max(other.bound);
+        let blocks = self.blocks.append(other.blocks)?;
+        Ok(Gathered {
+            blocks,
+            list: self.list,
+            ascends: true,
+            first,
+            bound,
+            room: self.room,
+        })
+    }
+
+    /// The same, in a list.
+    fn append_list(self, alloc: Global, other: Self) -> Result<Self, AllocError>
+        requires shape { other.shape ≡ self.shape }
+        ensures entries { IfOk result (λ g. g.entries ≡ self.entries ++ other.entries) }
+        ensures side { IfOk result (λ g. g.side ≡ self.side) }
+        ensures shape { IfOk result (λ g. g.shape ≡ self.shape) }
+    {
+        let room = self.room;
+        let (grid, shape) = (self.blocks.grid(), self.blocks.shape());
+        let mut list = self.into_list(alloc, room)?;
+        let others = other.into_list(alloc, 0)?;
+        list.extend_from_slice(&others)?;
+        let blocks = DistributedMatrix::with_room(alloc, grid, shape, 0)?;
+        Ok(Gathered {
+            blocks,
+            list,
+            ascends: false,
+            first: u64::MAX,
+            bound: 0,
+            room,
+        })
+    }
+
+    /// The same entries, by column and then by row also where they are in a list. Those of one place keep their order.
+    pub fn sorted(self) -> Result<Self, AllocError>
+        ensures places { IfOk result (λ g. AreSamePlaces g.entries self.entries) }
+        ensures side { IfOk result (λ g. g.side ≡ self.side) }
+        ensures shape { IfOk result (λ g. g.shape ≡ self.shape) }
+    {
+        if self.ascends {
+            return Ok(self);
+        }
+        let list = in_order(self.list)?;
+        Ok(Gathered {
+            blocks: self.blocks,
+            list,
+            ascends: false,
+            first: self.first,
+            bound: self.bound,
+            room: self.room,
+        })
+    }
+
+    /// All entries in a list. Where they are in blocks it gets room for so many.
+    fn into_list(self, alloc: Global, room: usize) -> Result<Vec<Entry>, AllocError>
+        ensures entries { IfOk result (λ v. v.items ≡ self.entries) }
+        ensures inside { IfOk result (λ v. All (IsInside self.shape) v.items) }
+        ensures values { IfOk result (λ v. All (λ e. IsValue S.arithmetic e.value) v.items) }
+    {
+        let _shape = self.blocks.shape();
+        if self.ascends {
+            in_list(alloc, &self.blocks, room)
+        } else {
+            Ok(self.list)
+        }
     }
 
     /// The matrix that has at each place the sum of the values given there.

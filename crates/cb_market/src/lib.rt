@@ -90,16 +90,25 @@ pub struct ReadFault {
 mod entries;
 mod gathered;
 mod header;
+mod openings;
 mod pages;
+mod pieces;
 mod plain_lines;
 mod reading;
+mod runs;
 mod scanner;
+mod sheets;
 mod size;
 mod text_pages;
 mod words;
 mod writing;
 
+pub use header::{Field, Header, Symmetry};
+pub use openings::Opening;
 pub use pages::Page;
+pub use pieces::{Piece, parted, read_piece};
 pub use reading::{read, read_distributed};
+pub use sheets::{MOST_LINES, Sheet};
+pub use size::Size;
 pub use text_pages::TextPages;
 pub use writing::{text, vertex_text};

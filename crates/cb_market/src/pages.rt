@@ -79,7 +79,7 @@ impl Page {
 }
 
 /// Writes a number and a byte after it from a place on, and answers the place after them.
-fn put_number(buffer: &mut [u8], at: usize, number: u64, after: u8) -> usize
+pub(crate) fn put_number(buffer: &mut [u8], at: usize, number: u64, after: u8) -> usize
     requires { at + 21 ≤ length buffer.old }
     ensures end { result ≡ at + length (decimal number) + 1 }
     ensures written { take result buffer.new ≡ take at buffer.old ++ decimal number ++ after ∷ [] }
@@ -92,7 +92,7 @@ fn put_number(buffer: &mut [u8], at: usize, number: u64, after: u8) -> usize
 }
 
 /// Writes some bytes and a byte after them from a place on, and answers the place after them.
-fn put_bytes(buffer: &mut [u8], at: usize, bytes: &[u8], after: u8) -> usize
+pub(crate) fn put_bytes(buffer: &mut [u8], at: usize, bytes: &[u8], after: u8) -> usize
     requires { at + length bytes.now < length buffer.old }
     ensures end { result ≡ at + length bytes.now + 1 }
     ensures written { take result buffer.new ≡ take at buffer.old ++ bytes.now ++ after ∷ [] }

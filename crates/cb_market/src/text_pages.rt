@@ -18,12 +18,12 @@ use std::marker::Model;
 /// takes memory.
 #[derive(Drop)]
 pub struct TextPages<'a, S: Semiring> {
-    shape: Shape,
+    pub(crate) shape: Shape,
     /// How many entries the matrix has.
-    len: usize,
+    pub(crate) len: usize,
     /// Whether the header and the size line are left.
-    has_head: bool,
-    entries: EntriesLeft<'a, S>,
+    pub(crate) has_head: bool,
+    pub(crate) entries: EntriesLeft<'a, S>,
 }
 
 impl<'a, S: Semiring> Model for TextPages<'a, S> {
@@ -68,9 +68,9 @@ impl<'a, S: Semiring> TextPages<'a, S> {
 /// The entries of a matrix over a grid that are left, of which one segment may be begun. In contracts it is
 /// these entries.
 #[derive(Drop)]
-struct EntriesLeft<'a, S: Semiring> {
-    segment: Segment<'a>,
-    segments: Segments<'a, S>,
+pub(crate) struct EntriesLeft<'a, S: Semiring> {
+    pub(crate) segment: Segment<'a>,
+    pub(crate) segments: Segments<'a, S>,
 }
 
 impl<'a, S: Semiring> Model for EntriesLeft<'a, S> {
@@ -131,7 +131,7 @@ impl<'a, S: Semiring> EntriesLeft<'a, S> {
 }
 
 /// The segment, or, where it has no entry, the next one. None where there is none either.
-fn begun<'a, S: Semiring>(
+pub(crate) fn begun<'a, S: Semiring>(
     segment: Segment<'a>,
     segments: &mut Segments<'a, S>,
 ) -> Option<Segment<'a>>
@@ -150,7 +150,7 @@ fn begun<'a, S: Semiring>(
 }
 
 /// A segment without its first entries.
-fn rest_of(segment: Segment<'_>, done: usize) -> Segment<'_>
+pub(crate) fn rest_of(segment: Segment<'_>, done: usize) -> Segment<'_>
     requires rows { done ≤ length segment.rows.now }
     requires values { done ≤ length segment.values.now }
     ensures place { (result.top ≡ segment.entry.top) × (result.column ≡ segment.entry.column) }

@@ -1,5 +1,5 @@
 use Rattle.std.proofs.Common.{◌≡◌, None, rules}
-use Rattle.cb_dcsc.specs.Faults.{first_fault}
+use Rattle.cb_dcsc.specs.BlockFaults.{first_fault}
 use Rattle.cb_dcsc.proofs.Faultless.{faultless}
 use Rattle.cb_dcsc.proofs.Block.from_sorted.Goals as goal
 

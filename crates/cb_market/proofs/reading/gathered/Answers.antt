@@ -1,4 +1,5 @@
-use Rattle.std.proofs.Common.{rules, arith, ◌∙◌, ap, sym, ◌<◌, ◌≤◌, ◌≡◌, ◌+◌, length}
+use Rattle.std.proofs.Common.{rules, arith, ℕ, zero, suc, Bool, false, ◌==◌, ◌∙◌, ap, sym, ◌<◌, ◌≤◌, ◌≡◌, ◌+◌, length}
+use Rattle.std.proofs.lemmas.Bool.{false≢true}
 use Rattle.cb_matrix.specs.Values.{collected}
 use Rattle.cb_market.specs.Cursor.{after_line}
 use Rattle.cb_market.specs.Lines.{lines}
@@ -6,6 +7,11 @@ use Rattle.cb_market.proofs.Bodies.{read_empty, read_header, read_fault, read_ok
 use Rattle.cb_market.proofs.Law.{text_says}
 use Rattle.cb_market.proofs.Cursor.{lines-le, lines_more, after_line-lt}
 use Rattle.cb_market.proofs.reading.gathered.Goals as goal
+
+-- a text that isn't empty has a byte
+not_empty : (n : ℕ) (empty : Bool) → empty ≡ (n == 0) → empty ≡ false → 0 < n
+not_empty zero empty e f = absurd (false≢true (sym f ∙ e))
+not_empty (suc n) empty e f = omega arith
 
 pub returns-then-is_empty-clause-fault : goal.returns-then-is_empty-clause-fault
 returns-then-is_empty-clause-fault g c = read_empty g.S.Semiring.arithmetic c.args.text.now (search rules)
@@ -15,7 +21,7 @@ returns-in-Err-clause-fault g c = read_header g.S.Semiring.arithmetic c.args.tex
 
 pub body-requires : goal.body-requires
 body-requires g c =
-    let some : 0 < length c.args.text.now = search rules in
+    let some = not_empty (length c.args.text.now) c.is_empty.result c.is_empty.ensures c.if-is_empty.false in
     let start : c.new-scanner.result.rest.now ≡ c.args.text.now = c.new-scanner.ensures.rest in
     let rest = c.next_line.ensures.rest ∙ c.header.ensures.after ∙ ap after_line start in
     omega (arith, ap (λ l. length (lines l)) rest, lines-le (after_line c.args.text.now), after_line-lt c.args.text.now some, c.next_line.ensures.line, c.header.ensures.line, c.new-scanner.ensures.line)
@@ -23,7 +29,7 @@ body-requires g c =
 pub returns-clause-ok : goal.returns-clause-ok
 returns-clause-ok g c =
     let s = g.S.Semiring.arithmetic in
-    let some : 0 < length c.args.text.now = search rules in
+    let some = not_empty (length c.args.text.now) c.is_empty.result c.is_empty.ensures c.if-is_empty.false in
     let line : c.next_line.new.self.line ≡ 2 = omega (arith, c.next_line.ensures.line, c.header.ensures.line, c.new-scanner.ensures.line) in
     let rest = c.next_line.ensures.rest ∙ c.header.ensures.after in
     let m = collected s c.in_ok-entries.entries.shape c.in_ok-entries.entries.entries in
@@ -31,7 +37,7 @@ returns-clause-ok g c =
 
 pub returns-clause-end : goal.returns-clause-end
 returns-clause-end g c =
-    let some : 0 < length c.args.text.now = search rules in
+    let some = not_empty (length c.args.text.now) c.is_empty.result c.is_empty.ensures c.if-is_empty.false in
     let line : c.next_line.new.self.line ≡ 2 = omega (arith, c.next_line.ensures.line, c.header.ensures.line, c.new-scanner.ensures.line) in
     let start : c.new-scanner.result.rest.now ≡ c.args.text.now = c.new-scanner.ensures.rest in
     let rest = c.next_line.ensures.rest ∙ c.header.ensures.after ∙ ap after_line start in
@@ -40,7 +46,7 @@ returns-clause-end g c =
 
 pub returns-in_err-entries-clause-fault : goal.returns-in_err-entries-clause-fault
 returns-in_err-entries-clause-fault g c =
-    let some : 0 < length c.args.text.now = search rules in
+    let some = not_empty (length c.args.text.now) c.is_empty.result c.is_empty.ensures c.if-is_empty.false in
     let line : c.next_line.new.self.line ≡ 2 = omega (arith, c.next_line.ensures.line, c.header.ensures.line, c.new-scanner.ensures.line) in
     let rest = c.next_line.ensures.rest ∙ c.header.ensures.after in
     let fault = read_fault g.S.Semiring.arithmetic c.args.text.now c.new-scanner.result.rest.now c.next_line.new.self.rest.now c.in-Ok.header c.next_line.new.self.line _ some c.new-scanner.ensures.rest line rest c.in-Ok.ensures.ok.0 c.in-Ok.ensures.ok.1 c.in_err-entries.ensures.fault in
@@ -48,7 +54,7 @@ returns-in_err-entries-clause-fault g c =
 
 pub returns-in_err-entries-clause-line : goal.returns-in_err-entries-clause-line
 returns-in_err-entries-clause-line g c =
-    let some : 0 < length c.args.text.now = search rules in
+    let some = not_empty (length c.args.text.now) c.is_empty.result c.is_empty.ensures c.if-is_empty.false in
     let line : c.next_line.new.self.line ≡ 2 = omega (arith, c.next_line.ensures.line, c.header.ensures.line, c.new-scanner.ensures.line) in
     let start : c.new-scanner.result.rest.now ≡ c.args.text.now = c.new-scanner.ensures.rest in
     let rest = c.next_line.ensures.rest ∙ c.header.ensures.after ∙ ap after_line start in

@@ -14,16 +14,16 @@ use Rattle.cb_layout.proofs.BlockColumns.{column_inside, rows_inside, column_is,
 use Rattle.cb_layout.proofs.RemainingEntries.{stepped_left}
 use Rattle.cb_layout.proofs.traversal.Segments.next_segment.Goals as goal
 
-pub reached-self-inside-requires-clause-blocks : goal.reached-self-inside-requires-clause-blocks
-reached-self-inside-requires-clause-blocks g c = c.self.invariant.are_blocks
+pub reach-requires-clause-blocks : goal.reach-requires-clause-blocks
+reach-requires-clause-blocks g c = c.self.invariant.are_blocks
 
-pub reached-self-inside-requires-clause-front : goal.reached-self-inside-requires-clause-front
-reached-self-inside-requires-clause-front g c = c.self.invariant.front
+pub reach-requires-clause-front : goal.reach-requires-clause-front
+reach-requires-clause-front g c = c.self.invariant.front
 
 pub invariant_of-self : goal.invariant_of-self
 invariant_of-self g c = record {
   are_blocks = c.self.invariant.are_blocks;
-  front = c.reached-self-inside.ensures.front;
+  front = c.reach.ensures.front;
   limit = c.self.invariant.limit;
   six = c.self.invariant.six;
   begin = c.self.invariant.begin;
@@ -37,8 +37,8 @@ overflow_add-column g c =
     let shape = c.self.inside.shape in
     let bs = c.self.inside.blocks.now in
     let are = c.self.invariant.are_blocks in
-    let f = c.reached-self-inside.result in
-    let front = c.reached-self-inside.ensures.front in
+    let f = c.reach.new.front in
+    let front = c.reach.ensures.front in
     let i = c.in-Some.row in
     let x = c.in-Some.column in
     let least : IsLeast f.columns i x = rw c.in-Some.is at front.some in
@@ -55,13 +55,13 @@ block_in-block-requires-clause-row g c =
     let q = c.self.inside.grid.side in
     let shape = c.self.inside.shape in
     let bs = c.self.inside.blocks.now in
-    let f = c.reached-self-inside.result in
-    let front = c.reached-self-inside.ensures.front in
+    let f = c.reach.new.front in
+    let front = c.reach.ensures.front in
     let least : IsLeast f.columns c.in-Some.row c.in-Some.column = rw c.in-Some.is at front.some in
     least_row q shape bs f front c.in-Some.row c.in-Some.column least
 
 pub block_in-block-requires-clause-column : goal.block_in-block-requires-clause-column
-block_in-block-requires-clause-column g c = c.reached-self-inside.ensures.front.column
+block_in-block-requires-clause-column g c = c.reach.ensures.front.column
 
 pub block_in-block-requires-clause-count : goal.block_in-block-requires-clause-count
 block_in-block-requires-clause-count g c = c.self.invariant.are_blocks.count
@@ -71,8 +71,8 @@ bounds-self-inside-row g c =
     let q = c.self.inside.grid.side in
     let shape = c.self.inside.shape in
     let bs = c.self.inside.blocks.now in
-    let f = c.reached-self-inside.result in
-    let front = c.reached-self-inside.ensures.front in
+    let f = c.reach.new.front in
+    let front = c.reach.ensures.front in
     let least : IsLeast f.columns c.in-Some.row c.in-Some.column = rw c.in-Some.is at front.some in
     let row = least.row in
     let six = c.self.invariant.six in
@@ -83,39 +83,39 @@ bounds-self-inside-row-2 g c =
     let q = c.self.inside.grid.side in
     let shape = c.self.inside.shape in
     let bs = c.self.inside.blocks.now in
-    let f = c.reached-self-inside.result in
-    let front = c.reached-self-inside.ensures.front in
+    let f = c.reach.new.front in
+    let front = c.reach.ensures.front in
     let least : IsLeast f.columns c.in-Some.row c.in-Some.column = rw c.in-Some.is at front.some in
     let row = least.row in
     let six = front.six_done in
     omega arith
 
-pub stepped-self-inside-requires-clause-row : goal.stepped-self-inside-requires-clause-row
-stepped-self-inside-requires-clause-row g c =
+pub step-requires-clause-row : goal.step-requires-clause-row
+step-requires-clause-row g c =
     let q = c.self.inside.grid.side in
     let shape = c.self.inside.shape in
     let bs = c.self.inside.blocks.now in
-    let f = c.reached-self-inside.result in
-    let front = c.reached-self-inside.ensures.front in
+    let f = c.reach.new.front in
+    let front = c.reach.ensures.front in
     let least : IsLeast f.columns c.in-Some.row c.in-Some.column = rw c.in-Some.is at front.some in
     least.row
 
-pub stepped-self-inside-requires-clause-six_done : goal.stepped-self-inside-requires-clause-six_done
-stepped-self-inside-requires-clause-six_done g c = c.reached-self-inside.ensures.front.six_done
+pub step-requires-clause-six_done : goal.step-requires-clause-six_done
+step-requires-clause-six_done g c = c.reach.ensures.front.six_done
 
-pub stepped-self-inside-requires-clause-six_columns : goal.stepped-self-inside-requires-clause-six_columns
-stepped-self-inside-requires-clause-six_columns g c = c.reached-self-inside.ensures.front.six_columns
+pub step-requires-clause-six_columns : goal.step-requires-clause-six_columns
+step-requires-clause-six_columns g c = c.reach.ensures.front.six_columns
 
-pub stepped-self-inside-requires-clause-some : goal.stepped-self-inside-requires-clause-some
-stepped-self-inside-requires-clause-some g c =
+pub step-requires-clause-some : goal.step-requires-clause-some
+step-requires-clause-some g c =
     let s = g.S.Semiring.arithmetic in
     let laws = g.met.S.Semiring.is_semiring in
     let q = c.self.inside.grid.side in
     let shape = c.self.inside.shape in
     let bs = c.self.inside.blocks.now in
     let are = c.self.invariant.are_blocks in
-    let f = c.reached-self-inside.result in
-    let front = c.reached-self-inside.ensures.front in
+    let f = c.reach.new.front in
+    let front = c.reach.ensures.front in
     let i = c.in-Some.row in
     let x = c.in-Some.column in
     let least : IsLeast f.columns i x = rw c.in-Some.is at front.some in
@@ -134,8 +134,8 @@ nth_column-requires g c =
     let shape = c.self.inside.shape in
     let bs = c.self.inside.blocks.now in
     let are = c.self.invariant.are_blocks in
-    let f = c.reached-self-inside.result in
-    let front = c.reached-self-inside.ensures.front in
+    let f = c.reach.new.front in
+    let front = c.reach.ensures.front in
     let i = c.in-Some.row in
     let x = c.in-Some.column in
     let least : IsLeast f.columns i x = rw c.in-Some.is at front.some in
@@ -153,8 +153,8 @@ invariant_of-self-2 g c =
     let shape = c.self.inside.shape in
     let bs = c.self.inside.blocks.now in
     let are = c.self.invariant.are_blocks in
-    let f = c.reached-self-inside.result in
-    let front = c.reached-self-inside.ensures.front in
+    let f = c.reach.new.front in
+    let front = c.reach.ensures.front in
     let i = c.in-Some.row in
     let x = c.in-Some.column in
     let least : IsLeast f.columns i x = rw c.in-Some.is at front.some in
@@ -164,8 +164,8 @@ invariant_of-self-2 g c =
     let read : c.block_in-block.result.now ≡ block_at bs (i * q + f.column) = c.block_in-block.ensures in
     let own : c.column_numbers.result.now ≡ columns_in q bs f.column i = c.column_numbers.ensures.numbers ∙ ap (λ (b : Sparse). columns_with_entries b.entries) read in
     let n = get_or f.done i 0 in
-    let g' = c.stepped-self-inside.result in
-    let step = c.stepped-self-inside.ensures in
+    let g' = c.step.new.self in
+    let step = c.step.ensures in
     let columns : g'.columns ≡ set f.columns i (get_or (columns_in q bs f.column i) (n + 1) 4294967295) = step.columns ∙ ap (λ xs. set f.columns i (get_or xs (n + 1) 4294967295)) own in
     record {
       are_blocks = are;
@@ -192,8 +192,8 @@ returns-clause-some g c =
     let shape = c.self.inside.shape in
     let bs = c.self.inside.blocks.now in
     let are = c.self.invariant.are_blocks in
-    let f = c.reached-self-inside.result in
-    let front = c.reached-self-inside.ensures.front in
+    let f = c.reach.new.front in
+    let front = c.reach.ensures.front in
     let i = c.in-Some.row in
     let x = c.in-Some.column in
     let least : IsLeast f.columns i x = rw c.in-Some.is at front.some in
@@ -203,15 +203,15 @@ returns-clause-some g c =
     let read : c.block_in-block.result.now ≡ block_at bs (i * q + f.column) = c.block_in-block.ensures in
     let own : c.column_numbers.result.now ≡ columns_in q bs f.column i = c.column_numbers.ensures.numbers ∙ ap (λ (b : Sparse). columns_with_entries b.entries) read in
     let n = get_or f.done i 0 in
-    let g' = c.stepped-self-inside.result in
-    let step = c.stepped-self-inside.ensures in
+    let g' = c.step.new.self in
+    let step = c.step.ensures in
     let columns : g'.columns ≡ set f.columns i (get_or (columns_in q bs f.column i) (n + 1) 4294967295) = step.columns ∙ ap (λ xs. set f.columns i (get_or xs (n + 1) 4294967295)) own in
     let rows : c.nth_column.result.0.now ≡ rows_of (in_column (get_or (columns_in q bs f.column i) (get_or f.done i 0) 0) (block_at bs (i * q + f.column)).entries) =
     c.nth_column.ensures.rows ∙ ap (λ (b : Sparse). rows_of (in_column (get_or (columns_with_entries b.entries) (get_or f.done i 0) 0) b.entries)) read in
     let values : c.nth_column.result.1.now ≡ values_of (in_column (get_or (columns_in q bs f.column i) (get_or f.done i 0) 0) (block_at bs (i * q + f.column)).entries) =
     c.nth_column.ensures.values ∙ ap (λ (b : Sparse). values_of (in_column (get_or (columns_with_entries b.entries) (get_or f.done i 0) 0) b.entries)) read in
     sym c.self.view_is
-    ∙ sym c.reached-self-inside.ensures.left
+    ∙ sym c.reach.ensures.left
     ∙ stepped_left s laws q shape bs are are.few f front i x least g' step.column step.left step.done columns
     ∙ ap (λ (es : List Entry). es ++ entries_left s q shape bs g')
     (sym (column_is s laws q shape bs are i f.column row front.column (get_or (columns_in q bs f.column i) n 0) (get_or c.self.inside.tops i 0) (f.left + x) c.nth_column.result.0.now c.nth_column.result.1.now
@@ -221,7 +221,7 @@ pub returns-clause-lengths : goal.returns-clause-lengths
 returns-clause-lengths g c =
     let q = c.self.inside.grid.side in
     let bs = c.self.inside.blocks.now in
-    let f = c.reached-self-inside.result in
+    let f = c.reach.new.front in
     let i = c.in-Some.row in
     let read : c.block_in-block.result.now ≡ block_at bs (i * q + f.column) = c.block_in-block.ensures in
     let es : List Entry = in_column (get_or (columns_in q bs f.column i) (get_or f.done i 0) 0) (block_at bs (i * q + f.column)).entries in
@@ -237,8 +237,8 @@ returns-clause-entries g c =
     let shape = c.self.inside.shape in
     let bs = c.self.inside.blocks.now in
     let are = c.self.invariant.are_blocks in
-    let f = c.reached-self-inside.result in
-    let front = c.reached-self-inside.ensures.front in
+    let f = c.reach.new.front in
+    let front = c.reach.ensures.front in
     let i = c.in-Some.row in
     let x = c.in-Some.column in
     let least : IsLeast f.columns i x = rw c.in-Some.is at front.some in
@@ -260,8 +260,8 @@ returns-clause-inside g c =
     let shape = c.self.inside.shape in
     let bs = c.self.inside.blocks.now in
     let are = c.self.invariant.are_blocks in
-    let f = c.reached-self-inside.result in
-    let front = c.reached-self-inside.ensures.front in
+    let f = c.reach.new.front in
+    let front = c.reach.ensures.front in
     let i = c.in-Some.row in
     let x = c.in-Some.column in
     let least : IsLeast f.columns i x = rw c.in-Some.is at front.some in

@@ -1,0 +1,55 @@
+-- Entries that are gathered, after others.
+use Rattle.std.proofs.Common.{◌≡◌, ℕ, Bool, true, subst, ◌^◌, ◌<◌, ◌≤◌, min, max, List, [], ◌++◌, get_or, inl, inr, ⊎_elim, sym, arith, refl}
+use Rattle.std.specs.Prelude.{All}
+use Rattle.std.proofs.lemmas.Bool.{cases_lt, false≢true}
+use Rattle.cb_semirings.specs.Arithmetic.{Arithmetic}
+use Rattle.std.proofs.lemmas.List.{append-nil}
+use Rattle.std.proofs.lemmas.List.Elements.{All-append, All-weaker}
+use Rattle.cb_matrix.specs.declared.Entry.{Entry}
+use Rattle.cb_matrix.specs.Sparse.{Extent, Sparse, IsInside, IsBefore}
+use Rattle.cb_dcsc.specs.Columns.{with_entries}
+use Rattle.cb_market.specs.Gathered.{place_number, IsGathered}
+
+-- an entry with a smaller number comes before one with a row below 2^32
+before_by_number : (d e : Entry) → e.row < 2 ^ 32 → place_number d < place_number e → IsBefore d e
+before_by_number d e l h = ⊎_elim (λ (k : d.column < e.column). inl k) (λ (k : e.column ≤ d.column). inr (omega arith, omega arith)) (cases_lt d.column e.column)
+
+-- entries below a bound come before those from it on
+pub all_before : (shape : Extent) (es fs : List Entry) (bound first : ℕ) → shape.rows ≤ 2147483647 → All (λ e. place_number e < bound) es → All (λ e. first ≤ place_number e) fs → All (IsInside shape) fs → bound ≤ first → All (λ d. All (IsBefore d) fs) es
+all_before shape es fs bound first low below above inside order =
+    All-weaker (λ e. place_number e < bound) (λ d. All (IsBefore d) fs) (λ d less k x l.
+    let here = inside k x l in
+    let there : first ≤ place_number (get_or fs k x) = above k x l in
+    let small : (get_or fs k x).row < 2 ^ 32 = omega (arith, here.0, low) in
+    before_by_number d (get_or fs k x) small (omega (arith, less, order, there))) es below
+
+-- all are from the lesser first number on
+pub above_both : (es fs : List Entry) (f g : ℕ) → All (λ e. f ≤ place_number e) es → All (λ e. g ≤ place_number e) fs → All (λ e. min f g ≤ place_number e) (es ++ fs)
+above_both es fs f g a b =
+    All-append (λ e. min f g ≤ place_number e) es fs
+    (All-weaker (λ e. f ≤ place_number e) (λ e. min f g ≤ place_number e) (λ e h. omega (arith, h)) es a)
+    (All-weaker (λ e. g ≤ place_number e) (λ e. min f g ≤ place_number e) (λ e h. omega (arith, h)) fs b)
+
+-- and below the greater bound
+pub below_both : (es fs : List Entry) (f g : ℕ) → All (λ e. place_number e < f) es → All (λ e. place_number e < g) fs → All (λ e. place_number e < max f g) (es ++ fs)
+below_both es fs f g a b =
+    All-append (λ e. place_number e < max f g) es fs
+    (All-weaker (λ e. place_number e < f) (λ e. place_number e < max f g) (λ e h. omega (arith, h)) es a)
+    (All-weaker (λ e. place_number e < g) (λ e. place_number e < max f g) (λ e h. omega (arith, h)) fs b)
+
+-- where both lists are empty, the entries of both blocks are all
+pub blocks_of_both : (es fs vs ws : List Entry) → vs ≡ [] → ws ≡ [] → (es ++ fs) ++ vs ≡ (es ++ vs) ++ (fs ++ ws)
+blocks_of_both es fs vs ws v w = rw (v, w) (rw (append-nil es, append-nil fs, append-nil (es ++ fs)) refl)
+
+-- blocks with the entries of others after their own, from the lesser first number on and below the greater bound
+pub gathered_both : (s : Arithmetic) (m n both : Sparse) (list others : List Entry) (ascends more : Bool) (f g first b d bound : ℕ) → IsGathered s m list ascends f b → IsGathered s n others more g d → ascends ≡ true
+    → both ≡ with_entries m n.entries → first ≡ min f g → bound ≡ max b d → IsGathered s both list true first bound
+gathered_both s m n both list others ascends more f g first b d bound x y up is least greatest =
+    subst (λ (z : Sparse). IsGathered s z list true first bound) (sym is) (record {
+      in_blocks = λ _. x.in_blocks up;
+      in_list = λ e. absurd (false≢true (sym e));
+      above = rw least (above_both m.entries n.entries f g x.above y.above);
+      below = rw greatest (below_both m.entries n.entries b d x.below y.below);
+      inside = x.inside;
+      values = x.values;
+    })

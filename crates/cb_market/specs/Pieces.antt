@@ -1,0 +1,59 @@
+-- What the lines of a piece of a text give, wherever in the text the piece stands.
+use Rattle.std.specs.Prelude.{◌≡◌, ℕ, ◌+◌, Bool, true, ◌==◌, List, [], ◌∷◌, ◌++◌, length, flat_map, None}
+use Rattle.cb_semirings.specs.Arithmetic.{Arithmetic}
+use Rattle.cb_matrix.specs.declared.Entry.{Entry}
+use Rattle.cb_matrix.specs.Sparse.{Extent}
+use Rattle.cb_matrix.specs.Values.{collected}
+use Rattle.cb_market.specs.declared.header.Header.{Header}
+use Rattle.cb_market.specs.declared.size.Size.{Size}
+use Rattle.cb_market.specs.Gathered.{AreSamePlaces}
+use Rattle.cb_market.specs.Lines.{lines, kept, kept_from}
+use Rattle.cb_market.specs.Checks.{is_shape, entry_fault, entry_of, given_by}
+use Rattle.cb_market.specs.Faults.{body_fault, body_matrix, first_fault, matrix_in, entries_fault, given}
+
+-- no text, or one whose last byte is a line feed
+abbrev pub is_whole : List ℕ → Bool
+is_whole [] = true
+is_whole (c ∷ []) = c == 10
+is_whole (c ∷ d ∷ text) = is_whole (d ∷ text)
+
+-- each of these lines is that of an entry
+abbrev pub AreFaultless : Arithmetic → Header → Extent → List (List (List ℕ)) → Type 0
+AreFaultless s header shape [] = Unit {0}
+AreFaultless s header shape (ws ∷ lines) = (entry_fault s header shape ws ≡ None) × AreFaultless s header shape lines
+
+-- what the entries of these lines give, in order
+abbrev pub given_in : Arithmetic → Header → List (List (List ℕ)) → List Entry
+given_in s header lines = flat_map (λ ws. given_by s header.symmetry (entry_of s header ws)) lines
+
+-- What was read: the side of the grid and the shape that it is for, how many lines had an entry, and what these give, place by place.
+pub record Part : Type 0 where
+  pub side : ℕ
+  pub shape : Extent
+  pub lines : ℕ
+  pub entries : List Entry
+
+-- what two parts have together, the second after the first
+abbrev pub joined : Part → Part → Part
+joined p q = record { side = p.side; shape = p.shape; lines = p.lines + q.lines; entries = p.entries ++ q.entries }
+
+-- Each line of a text that isn't skipped is that of an entry, and at each place this is what they give there.
+pub record IsPart (s : Arithmetic) (header : Header) (shape : Extent) (side : ℕ) (text : List ℕ) (p : Part) : Type 0 where
+  pub on_grid : p.side ≡ side
+  pub in_shape : p.shape ≡ shape
+  pub faultless : AreFaultless s header shape (kept (lines text))
+  pub count : p.lines ≡ length (kept (lines text))
+  pub given : AreSamePlaces p.entries (given_in s header (kept (lines text)))
+
+-- The lines after a header, of which the first has the number n, begin with a size: their first fault and what they
+-- give are those of the entries, which begin at a line.
+pub record IsBody (s : Arithmetic) (header : Header) (n : ℕ) (text : List ℕ) (size : Size) (line : ℕ) (entries : List ℕ) : Type 0 where
+  pub fault : body_fault s header (n + length (lines text)) (kept_from n text) ≡ entries_fault s header size.shape (line + length (lines entries)) size.count (kept_from line entries)
+  pub matrix : body_matrix s header (kept_from n text) ≡ collected s size.shape (given s header (kept_from line entries))
+
+-- A text that begins with a header and a size: its first fault is that of its entries, which begin at a line, and its
+-- matrix has what they give.
+pub record IsOpening (s : Arithmetic) (text : List ℕ) (header : Header) (size : Size) (line : ℕ) (entries : List ℕ) : Type 0 where
+  pub shape : is_shape header.symmetry size.shape ≡ true
+  pub fault : first_fault s text ≡ entries_fault s header size.shape (line + length (lines entries)) size.count (kept_from line entries)
+  pub matrix : matrix_in s text ≡ collected s size.shape (given s header (kept_from line entries))

@@ -1,0 +1,63 @@
+//! The beginning of a text, before its entries.
+ghost use Rattle.std.specs.Prelude.{◌+◌, ◌^◌, ◌<◌, IsTrue, IfSome, length};
+ghost use Rattle.cb_market.specs.Lines.{lines};
+ghost use Rattle.cb_market.specs.Checks.{is_shape};
+ghost use Rattle.cb_market.specs.Pieces.{IsBody, IsOpening};
+
+use crate::header::Header;
+use crate::scanner::Scanner;
+use crate::size::Size;
+use cb_semirings::Semiring;
+
+/// The header and the size of a text, the number of the line after its size line, and the bytes from there on.
+#[derive(Clone, Copy)]
+pub struct Opening<'a> {
+    pub header: Header,
+    pub size: Size,
+    pub line: u64,
+    pub entries: &'a [u8],
+}
+
+impl<'a> Opening<'a> {
+    /// The opening of a text. None where the header or the size line has a fault.
+    pub fn of<S: Semiring>(text: &'a [u8]) -> Option<Opening<'a>>
+        ensures { IfSome result (λ o. IsOpening S.arithmetic text.now o.header o.size o.line o.entries.now) }
+    {
+        if text.is_empty() {
+            return None;
+        }
+        let mut scanner = Scanner::new(text);
+        let Ok(header) = scanner.header::<S>() else {
+            return None;
+        };
+        scanner.next_line();
+        let Some(size) = scanner.size_of_entries::<S>(header) else {
+            return None;
+        };
+        Some(Opening {
+            header,
+            size,
+            line: scanner.line,
+            entries: scanner.rest,
+        })
+    }
+}
+
+impl<'a> Scanner<'a> {
+    /// The size that the next line that isn't skipped announces, and goes to the line after it. None where it has a
+    /// fault, or there is none.
+    fn size_of_entries<S: Semiring>(&mut self, header: Header) -> Option<Size>
+        requires { self.old.line + length (lines self.old.rest.now) < 2 ^ 64 }
+        ensures shape { IfSome result (λ z. IsTrue (is_shape header.symmetry z.shape)) }
+        ensures body { IfSome result (λ z. IsBody S.arithmetic header self.old.line self.old.rest.now z self.new.line self.new.rest.now) }
+    {
+        let Some(first) = self.kept_line() else {
+            return None;
+        };
+        let Ok(size) = self.size_line(header, &first) else {
+            return None;
+        };
+        self.next_line();
+        Some(size)
+    }
+}

@@ -1,0 +1,160 @@
+//! A piece of the entries of a text, read alone.
+//!
+//! A text is parted where lines end. What its entries give is what those of its pieces give, one after the other, and
+//! where no piece has a fault and they have together as many entries as are announced, the text has none. A fault is
+//! not looked at here: that is for a reader that goes over the whole text.
+ghost use Rattle.std.specs.Prelude.{◌≡◌, ◌++◌, ◌+◌, ◌^◌, ◌<◌, ◌≤◌, [], true, length, IsTrue, IfOk, IfSome};
+ghost use Rattle.cb_matrix.specs.Values.{collected};
+ghost use Rattle.cb_market.specs.Lines.{lines, kept};
+ghost use Rattle.cb_market.specs.Checks.{is_shape};
+ghost use Rattle.cb_market.specs.Gathered.{AreSamePlaces};
+ghost use Rattle.cb_market.specs.Pieces.{joined, is_whole, AreFaultless, given_in, IsPart};
+
+use crate::entries::{give, room_for_entries};
+use crate::gathered::Gathered;
+use crate::header::Header;
+use crate::scanner::Scanner;
+use crate::size::Size;
+use cb_layout::{DistributedMatrix, Grid};
+use cb_matrix::Shape;
+use cb_semirings::Semiring;
+use std::alloc::{AllocError, Global};
+use std::marker::Model;
+
+/// What a piece of a text gives: its entries, in blocks as long as they ascend, and how many lines had one.
+#[derive(Drop)]
+pub struct Piece<S: Semiring> {
+    entries: Gathered<S>,
+    lines: u32,
+}
+
+impl<S: Semiring> Model for Piece<S> {
+    ghost use Rattle.cb_market.specs.Pieces.{Part};
+
+    ghost Value = { Part };
+
+    ghost view = { λ a. record { side = a.entries.side; shape = a.entries.shape; lines = a.lines; entries = a.entries.entries } };
+}
+
+/// Parts a text behind the last line feed before a place, or at its start where none is.
+pub fn parted<'a>(text: &'a [u8], place: usize) -> (&'a [u8], &'a [u8])
+    requires { place ≤ length text.now }
+    ensures whole { is_whole result.0.now ≡ true }
+    ensures both { result.0.now ++ result.1.now ≡ text.now }
+{
+    let mut end = place;
+    while end > 0 {
+        if text[end - 1] == b'\n' {
+            break;
+        }
+        end -= 1;
+    }
+    (&text[..end], &text[end..])
+}
+
+/// The entries of a piece of a text. It takes room for as many as so many bytes can give: those of the piece, or more
+/// where other pieces are to be appended. None where a line has a fault, where there are more entries than are
+/// announced, or where memory is refused. One pass over the bytes; entries that don't ascend are
+/// sorted, so that pieces of a text which doesn't ascend leave the sort of the whole sorted runs.
+pub fn read_piece<S: Semiring>(
+    alloc: Global,
+    grid: Grid,
+    header: Header,
+    size: Size,
+    text: &[u8],
+    piece: &[u8],
+) -> Option<Piece<S>>
+    requires { IsTrue (is_shape header.symmetry size.shape) }
+    ensures { IfSome result (λ p. IsPart S.arithmetic header size.shape grid.side piece.now p) }
+{
+    let room = room_for_entries(header, size.count, text);
+    let Ok(start) = Gathered::start(alloc, grid, size.shape, room, true) else {
+        return None;
+    };
+    let mut scanner = Scanner::new(piece);
+    let Some(found) = scanner.piece::<S>(alloc, start, header, size) else {
+        return None;
+    };
+    found.sorted()
+}
+
+impl<'a> Scanner<'a> {
+    /// The entries of all lines, added to none.
+    fn piece<S: Semiring>(
+        &mut self,
+        alloc: Global,
+        start: Gathered<S>,
+        header: Header,
+        size: Size,
+    ) -> Option<Piece<S>>
+        requires lines { self.old.line + length (lines self.old.rest.now) < 2 ^ 64 }
+        requires none { start.entries ≡ [] }
+        requires same_shape { start.shape ≡ size.shape }
+        requires shape { IsTrue (is_shape header.symmetry size.shape) }
+        ensures { IfSome result (λ p. IsPart S.arithmetic header size.shape start.side self.old.rest.now p) }
+    {
+        let mut entries = start;
+        let mut lines = 0;
+        loop {
+            let Some((_line, found)) = self.next_entry::<S>(header, size.shape) else {
+                break;
+            };
+            if lines == size.count {
+                return None;
+            }
+            let entry = match found {
+                Ok(entry) => entry,
+                Err(_kind) => return None,
+            };
+            if give::<S>(alloc, &mut entries, header.symmetry, entry).is_err() {
+                return None;
+            }
+            lines += 1;
+        }
+        Some(Piece { entries, lines })
+    }
+}
+
+impl<S: Semiring> Piece<S> {
+    /// The same entries, by column and then by row. None where memory is refused.
+    fn sorted(self) -> Option<Self>
+        ensures places { IfSome result (λ p. AreSamePlaces p.entries self.entries) }
+        ensures rest { IfSome result (λ p. (p.side ≡ self.side) × (p.shape ≡ self.shape) × (p.lines ≡ self.lines)) }
+    {
+        let lines = self.lines;
+        match self.entries.sorted() {
+            Ok(entries) => Some(Piece { entries, lines }),
+            Err(_) => None,
+        }
+    }
+
+    /// How many lines had an entry.
+    pub fn lines(&self) -> u32
+        ensures { result ≡ self.now.lines }
+    {
+        self.lines
+    }
+
+    /// This piece and the one after it. Where memory is refused, or there are 2^32 lines or more, both are given up.
+    /// The cost is that of the entries of the second, and, where an ascent ends, of both.
+    pub fn append(self, alloc: Global, next: Self) -> Option<Self>
+        requires side { next.side ≡ self.side }
+        requires shape { next.shape ≡ self.shape }
+        ensures { IfSome result (λ p. p ≡ joined self next) }
+    {
+        let Some(lines) = self.lines.checked_add(next.lines) else {
+            return None;
+        };
+        match self.entries.append(alloc, next.entries) {
+            Ok(entries) => Some(Piece { entries, lines }),
+            Err(_) => None,
+        }
+    }
+
+    /// The matrix that has at each place the sum of the values given there, in the blocks of the grid.
+    pub fn into_blocks(self, alloc: Global) -> Result<DistributedMatrix<S>, AllocError>
+        ensures { IfOk result (λ m. m ≡ record { side = self.side; matrix = collected S.arithmetic self.shape self.entries }) }
+    {
+        self.entries.into_blocks(alloc)
+    }
+}

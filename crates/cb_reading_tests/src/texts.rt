@@ -1,0 +1,224 @@
+//! Texts in pieces, each of one line where the line is long enough, or of several.
+use cb_layout::{DistributedMatrix, Grid};
+use cb_market::{Kind, ReadFault, read, text};
+use cb_reading::{Pieces, read_in_pieces, read_side_by_side};
+use cb_semirings::{OrAnd, PlusTimes, Semiring};
+use std::alloc::{AllocError, Global};
+use std::thread::Threads;
+
+/// How many pieces each text is read in.
+const COUNTS: [u32; 4] = [2, 3, 7, 64];
+
+/// As many pieces as these, however short.
+fn short(most: u32) -> Pieces {
+    Pieces {
+        most,
+        least_bytes: 1,
+    }
+}
+
+/// The text of a matrix over a grid.
+fn written<S: Semiring>(alloc: Global, matrix: &DistributedMatrix<S>) -> Option<Vec<u8>> {
+    let Ok(whole) = matrix.gather(alloc) else {
+        return None;
+    };
+    text(alloc, &whole).ok()
+}
+
+/// The text of the matrix that a text reads as on one thread.
+fn on_one_thread<S: Semiring>(alloc: Global, given: &[u8]) -> Option<Vec<u8>> {
+    let Ok(matrix) = read::<S>(alloc, given) else {
+        return None;
+    };
+    text(alloc, &matrix).ok()
+}
+
+/// The text of the matrix that a text reads as in so many pieces, over the grid of a side.
+fn in_pieces<S: Semiring + Send + Sync, R: Threads + Sync>(
+    rt: &R,
+    alloc: Global,
+    side: u32,
+    most: u32,
+    given: &[u8],
+) -> Option<Vec<u8>> {
+    let Ok(grid) = Grid::new(side) else {
+        return None;
+    };
+    let Some(matrix) = read_in_pieces::<S, R>(rt, alloc, &grid, short(most), given) else {
+        return None;
+    };
+    written(alloc, &matrix)
+}
+
+/// Whether a text is read in pieces, on several grids, and as on one thread.
+fn is_read_in_pieces<S: Semiring + Send + Sync, R: Threads + Sync>(
+    rt: &R,
+    alloc: Global,
+    given: &[u8],
+) -> bool {
+    let Some(wanted) = on_one_thread::<S>(alloc, given) else {
+        return false;
+    };
+    for side in [1, 2, 5] {
+        for most in COUNTS {
+            match in_pieces::<S, R>(rt, alloc, side, most, given) {
+                Some(bytes) if bytes.as_slice() == wanted.as_slice() => {}
+                _ => return false,
+            }
+        }
+    }
+    true
+}
+
+/// Texts of more than one line of entries, or of one.
+const NUMBERS: [&[u8]; 9] = [
+    b"%%MatrixMarket matrix coordinate integer general\n5 4 6\n1 1 7\n5 1 10\n2 2 18446744073709551615\n4 2 3\n1 4 99999\n3 4 1\n",
+    b"%%MatrixMarket matrix coordinate integer general\n3 3 3\n2 1 7\n3 3 1\n1 3 5\n",
+    b"%%MatrixMarket matrix coordinate integer general\n2 2 3\n1 1 1\n2 2 3\n2 2 4\n",
+    b"%%MatrixMarket matrix coordinate integer general\n2 2 4\n1 1 1\n2 1 -1\n2 1 1\n2 2 0\n",
+    b"%%MatrixMarket MATRIX Coordinate INTEGER General\r\n%\r\n\r\n3 3 3\r\n1 3 +5\r\n%\r\n\r\n\t2 1 007\r\n3 2 -1",
+    b"%%MatrixMarket matrix coordinate integer general\n9 9 3\n\n\n% 1 1 1\n1 1 2\n\n% none\n\n3 1 2\n9 9 9\n\n\n%\n",
+    b"%%MatrixMarket matrix coordinate integer general\n1 1 1\n1 1 00000000000000000000000000000000000000000000000000000000000000000007\n",
+    b"%%MatrixMarket matrix coordinate integer symmetric\n3 3 3\n1 1 5\n2 1 3\n3 2 4\n",
+    b"%%MatrixMarket matrix coordinate integer skew-symmetric\n3 3 2\n2 1 3\n3 1 4\n",
+];
+
+const PATTERNS: [&[u8]; 2] = [
+    b"%%MatrixMarket matrix coordinate pattern general\n3 100 3\n2 1\n1 100\n3 100\n",
+    b"%%MatrixMarket matrix coordinate pattern symmetric\n3 3 2\n2 1\n3 3\n",
+];
+
+#[test]
+fn are_read_in_pieces(rt: HostRuntime) {
+    for (index, given) in NUMBERS.iter().enumerate() {
+        assert!(&rt;
+            is_read_in_pieces::<PlusTimes, _>(&rt, rt.alloc(), given),
+            "row {index}"
+        );
+    }
+    for (index, given) in PATTERNS.iter().enumerate() {
+        assert!(&rt;
+            is_read_in_pieces::<OrAnd, _>(&rt, rt.alloc(), given),
+            "row {index}"
+        );
+    }
+}
+
+/// Two digits of a number below 100, and a byte after them.
+fn put(text: &mut Vec<u8>, number: u32, end: u8) -> Result<(), AllocError> {
+    let below = number % 100;
+    text.push(b'0' + (below / 10) as u8)?;
+    text.push(b'0' + (below % 10) as u8)?;
+    text.push(end)?;
+    Ok(())
+}
+
+/// The text of 900 entries, of which each stands in a column of its own choice below 1 + `columns`.
+fn long_text(alloc: Global, columns: u32) -> Result<Vec<u8>, AllocError> {
+    let mut text = Vec::from_slice(
+        alloc,
+        b"%%MatrixMarket matrix coordinate integer general\n99 99 900\n",
+    )?;
+    for number in 0u32..900 {
+        put(&mut text, number % 90 + 1, b' ')?;
+        put(
+            &mut text,
+            (number / 90).wrapping_mul(columns) % 90 + 1,
+            b' ',
+        )?;
+        put(&mut text, number, b'\n')?;
+    }
+    Ok(text)
+}
+
+/// Entries that ascend, and others that begin anew.
+#[test]
+fn may_be_long(rt: HostRuntime) {
+    for columns in [1, 7, 0] {
+        let given = long_text(rt.alloc(), columns).expect(&rt, "text");
+        assert!(&rt;
+            is_read_in_pieces::<PlusTimes, _>(&rt, rt.alloc(), &given),
+            "{columns}"
+        );
+    }
+}
+
+/// The line and the kind of the first fault of a text that is read in so many pieces.
+fn fault<R: Threads + Sync>(rt: &R, alloc: Global, most: u32, given: &[u8]) -> Option<(u64, Kind)> {
+    let Ok(grid) = Grid::new(2) else {
+        return None;
+    };
+    match read_side_by_side::<PlusTimes, R>(rt, alloc, &grid, short(most), given) {
+        Ok(_) => None,
+        Err(ReadFault { line, kind }) => Some((line, kind)),
+    }
+}
+
+/// Texts with a fault in their header, their size, one of their pieces or their number of entries.
+const FAULTS: [(&[u8], u64, Kind); 7] = [
+    (b"", 1, Kind::BadHeader),
+    (
+        b"%%MatrixMarket matrix coordinate integer general\n2 2\n",
+        2,
+        Kind::BadSize,
+    ),
+    (
+        b"%%MatrixMarket matrix coordinate integer general\n2 2 0\n\n1 1 1\n2 2 2\n",
+        4,
+        Kind::ExtraEntry,
+    ),
+    (
+        b"%%MatrixMarket matrix coordinate integer general\n2 2 3\n1 1 1\n2 2 2\n",
+        5,
+        Kind::MissingEntries,
+    ),
+    (
+        b"%%MatrixMarket matrix coordinate integer general\n2 2 3\n1 1 1\n2 2 x\n3 1 1\n",
+        4,
+        Kind::BadNumber,
+    ),
+    (
+        b"%%MatrixMarket matrix coordinate integer general\n2 2 3\n1 1 1\n% 2\n2 2 1\n3 1 1\n",
+        6,
+        Kind::IndexRange,
+    ),
+    (
+        b"%%MatrixMarket matrix coordinate integer symmetric\n2 2 3\n1 1 1\n2 2 1\n1 2 1\n",
+        5,
+        Kind::AboveDiagonal,
+    ),
+];
+
+#[test]
+fn have_their_first_fault(rt: HostRuntime) {
+    for (index, row) in FAULTS.iter().enumerate() {
+        for most in COUNTS {
+            let found = fault(&rt, rt.alloc(), most, row.0);
+            assert_eq!(&rt; found, Some((row.1, row.2)), "row {index} in {most} pieces");
+        }
+    }
+}
+
+/// Whether a text is read as it should be in three pieces, or memory is refused.
+fn right_or_memory<R: Threads + Sync>(rt: &R, alloc: Global, given: &[u8], wanted: &[u8]) -> bool {
+    let Ok(grid) = Grid::new(2) else {
+        return false;
+    };
+    match read_side_by_side::<PlusTimes, R>(rt, alloc, &grid, short(3), given) {
+        Ok(matrix) => match written(alloc, &matrix) {
+            Some(bytes) => bytes.as_slice() == wanted,
+            None => true,
+        },
+        Err(ReadFault { kind, .. }) => kind == Kind::Memory,
+    }
+}
+
+/// Run with each of its allocations refused in turn.
+#[test]
+fn are_refused_or_read(rt: HostRuntime) {
+    let alloc = rt.alloc();
+    let sorted = b"%%MatrixMarket matrix coordinate integer general\n2 2 3\n1 1 1\n1 2 2\n2 2 3\n";
+    assert!(&rt; right_or_memory(&rt, alloc, sorted, sorted));
+    let mixed = b"%%MatrixMarket matrix coordinate integer general\n2 2 3\n1 1 1\n2 2 3\n1 2 2\n";
+    assert!(&rt; right_or_memory(&rt, alloc, mixed, sorted));
+}

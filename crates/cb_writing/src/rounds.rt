@@ -1,0 +1,148 @@
+//! Rounds of sheets, which are dealt out in order and written side by side.
+ghost use Rattle.std.specs.Prelude.{◌≡◌, ◌≤◌, ◌<◌, [], ◌++◌, length, true, false, IfOk};
+ghost use Rattle.cb_market.specs.Sheets.{share_of};
+ghost use Rattle.cb_writing.specs.Rounds.{written_on, dealt_to};
+
+use crate::gates::{Gate, OpenGate};
+use cb_layout::DistributedMatrix;
+use cb_market::{MOST_LINES, Sheet, TextPages};
+use cb_semirings::Semiring;
+use std::alloc::{AllocError, Global};
+use std::marker::Model;
+use std::thread;
+use std::thread::Threads;
+
+/// How many lines a sheet has room for, where there are many.
+const LINES: usize = 65_536;
+
+/// So few lines are not worth a thread.
+const FEW: usize = 16_384;
+
+/// Some sheets of a text, at least one. In contracts it is what is written on them, one after the other.
+#[derive(Drop)]
+pub struct Round<'a, S: Semiring> {
+    sheets: Vec<Sheet<'a, S>>,
+}
+
+impl<'a, S: Semiring> Model for Round<'a, S> {
+    ghost use Rattle.std.specs.Prelude.{ℕ, ◌<◌, List, length};
+    ghost use Rattle.cb_writing.specs.Rounds.{written_on};
+
+    ghost Value = { List ℕ };
+
+    ghost view = { λ r. written_on r.sheets.items };
+
+    ghost invariant = { λ r. 0 < length r.sheets.items };
+}
+
+impl<'a, S: Semiring> Round<'a, S> {
+    /// Sheets for the text of a matrix, nothing written on them: one for each thread, or fewer where the matrix has
+    /// too few entries for so many. They take at most 2.9 MB each.
+    pub fn new(
+        alloc: Global,
+        threads: usize,
+        matrix: &'a DistributedMatrix<S>,
+    ) -> Result<Round<'a, S>, AllocError>
+        ensures { IfOk result (λ round. round ≡ []) }
+    {
+        let threads = threads.max(1);
+        let lines = matrix.len().div_ceil(threads).clamp(FEW, LINES);
+        let sheets = matrix.len().div_ceil(lines).clamp(1, threads);
+        Round::with_lines(alloc, sheets, lines, matrix)
+    }
+
+    /// So many sheets for the text of a matrix, with room for so many lines each, and nothing written on them. A line
+    /// takes 43 bytes.
+    pub fn with_lines(
+        alloc: Global,
+        sheets: usize,
+        lines: usize,
+        matrix: &'a DistributedMatrix<S>,
+    ) -> Result<Round<'a, S>, AllocError>
+        requires sheets { 0 < sheets }
+        requires lines { (0 < lines) × (lines ≤ MOST_LINES) }
+        ensures { IfOk result (λ round. round ≡ []) }
+    {
+        let text = TextPages::new(matrix);
+        let mut blank = Vec::with_capacity(alloc, sheets)?;
+        for _ in 0..sheets {
+            blank.push_reserved(Sheet::new(alloc, lines, &text)?);
+        }
+        Ok(Round { sheets: blank })
+    }
+
+    /// The sheets in order, on which the bytes of the round are.
+    pub fn sheets(&self) -> &[Sheet<'a, S>]
+        ensures { written_on result.now ≡ self.now }
+    {
+        &self.sheets
+    }
+}
+
+impl<'a, S: Semiring + Send + Sync> Round<'a, S> {
+    /// Takes the next part of a text in place of what was on the sheets, as much as they have room for, and answers
+    /// whether there is some. The sheets are written side by side, each by a thread, or by the caller's where there is
+    /// work for one alone or no other can be had. Where it answers false the whole text is written.
+    ///
+    /// The caller's thread goes over the entries too, at the cost of a step for each segment.
+    pub fn fill<R: Threads + Sync>(&mut self, rt: &R, text: &mut TextPages<'a, S>) -> bool
+        ensures text { text.old ≡ self.new ++ text.new }
+        ensures some { result ≡ true → 0 < length self.new }
+        ensures none { result ≡ false → text.old ≡ [] }
+    {
+        self.fill_through(rt, text, &OpenGate)
+    }
+
+    /// The same, where each thread passes a gate before it writes a sheet.
+    pub fn fill_through<R: Threads + Sync, G: Gate>(
+        &mut self,
+        rt: &R,
+        text: &mut TextPages<'a, S>,
+        gate: &G,
+    ) -> bool
+        ensures text { text.old ≡ self.new ++ text.new }
+        ensures some { result ≡ true → 0 < length self.new }
+        ensures none { result ≡ false → text.old ≡ [] }
+    {
+        let dealt = deal(&mut self.sheets, text);
+        let threads = if dealt > 1 { self.sheets.len() } else { 1 };
+        write_all(rt, &mut self.sheets, threads, gate);
+        dealt > 0
+    }
+}
+
+/// Gives each sheet in order the next part of a text, and answers how many have some of it.
+fn deal<'a, S: Semiring>(sheets: &mut [Sheet<'a, S>], text: &mut TextPages<'a, S>) -> usize
+    ensures text { text.old ≡ dealt_to sheets.new ++ text.new }
+    ensures some { 0 < result → 0 < length (dealt_to sheets.new) }
+    ensures none { result ≡ 0 → 0 < length sheets.old → text.old ≡ [] }
+{
+    let mut dealt = 0;
+    for n in 0..sheets.len() {
+        if sheets[n].take_from(text) {
+            dealt += 1;
+        }
+    }
+    dealt
+}
+
+/// Writes each sheet, in at most so many threads.
+fn write_all<'a, S: Semiring + Send + Sync, R: Threads + Sync, G: Gate>(
+    rt: &R,
+    sheets: &mut [Sheet<'a, S>],
+    threads: usize,
+    gate: &G,
+)
+    requires { 0 < threads }
+    ensures { written_on sheets.new ≡ dealt_to sheets.old }
+{
+    thread::for_each_mut(rt, sheets, threads, &|n, sheet| write_one(gate, n, sheet));
+}
+
+/// Writes a sheet, once the gate is passed.
+fn write_one<'a, S: Semiring, G: Gate>(gate: &G, n: usize, sheet: &mut Sheet<'a, S>)
+    ensures { sheet.new ≡ record { written = share_of sheet.old; left = [] } }
+{
+    gate.pass(n);
+    sheet.write();
+}

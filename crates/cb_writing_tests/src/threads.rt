@@ -1,0 +1,60 @@
+//! Sheets are written at the same time.
+use cb_layout::{DistributedMatrix, Grid};
+use cb_market::{Kind, TextPages, read_distributed};
+use cb_semirings::PlusTimes;
+use cb_writing::{Gate, Round};
+use std::alloc::Global;
+use std::sync::atomic::{AtomicBool, AtomicUsize, Ordering};
+use std::thread::Threads;
+
+/// How often a thread looks for another one at the gate.
+const LOOKS: usize = 20_000_000;
+
+/// A gate at which each thread waits a while, until two are there at once.
+#[derive(Drop)]
+struct Meeting {
+    here: AtomicUsize,
+    have_met: AtomicBool,
+}
+
+impl Gate for Meeting {
+    fn pass(&self, _sheet: usize) {
+        self.here.fetch_add(1, Ordering::SeqCst);
+        for _ in 0..LOOKS {
+            if self.have_met.load(Ordering::SeqCst) {
+                break;
+            }
+            if self.here.load(Ordering::SeqCst) > 1 {
+                self.have_met.store(true, Ordering::SeqCst);
+            }
+        }
+        self.here.fetch_sub(1, Ordering::SeqCst);
+    }
+}
+
+/// Whether two threads that write a round of two sheets of two lines were at a gate at once.
+fn meet<R: Threads + Sync>(
+    rt: &R,
+    alloc: Global,
+    matrix: &DistributedMatrix<PlusTimes>,
+) -> Result<bool, Kind> {
+    let gate = Meeting {
+        here: AtomicUsize::new(0),
+        have_met: AtomicBool::new(false),
+    };
+    let Ok(mut round) = Round::with_lines(alloc, 2, 2, matrix) else {
+        return Err(Kind::Memory);
+    };
+    let mut left = TextPages::new(matrix);
+    let _some = round.fill_through(rt, &mut left, &gate);
+    Ok(gate.have_met.load(Ordering::SeqCst))
+}
+
+#[test]
+fn two_sheets_are_written_at_once(rt: HostRuntime) {
+    let alloc = rt.alloc();
+    let given = b"%%MatrixMarket matrix coordinate integer general\n2 2 3\n1 1 1\n1 2 2\n2 2 3\n";
+    let matrix = read_distributed::<PlusTimes>(alloc, &Grid::single(), given);
+    let matrix = matrix.expect(&rt, "matrix");
+    assert_eq!(&rt; meet(&rt, alloc, &matrix), Ok(true));
+}
