@@ -14,7 +14,7 @@ use Rattle.cb_matrix.proofs.Places.{is_at-own, is_at-parts, value_at-before, Non
 use Rattle.cb_matrix.proofs.Same.{before_trans}
 use Rattle.cb_matrix.proofs.Totals.{value_at-value}
 use Rattle.cb_matrix.proofs.Equal.{matrix_is}
-use Rattle.cb_dcsc.specs.Faults.{comes_after}
+use Rattle.cb_dcsc.specs.BlockFaults.{comes_after}
 use Rattle.cb_elementwise.specs.Walks.{first_of, earlier, past, value_here}
 use Rattle.cb_elementwise.specs.Progress.{IsRest, IsMade, IsToCome, IsJoinedSoFar, with_stored}
 

@@ -3,7 +3,7 @@ use Rattle.std.specs.Prelude.{◌≡◌, ℕ, ◌<◌, ◌≤◌, cond, Option, 
 use Rattle.cb_matrix.specs.declared.Entry.{Entry}
 use Rattle.cb_matrix.specs.Sparse.{is_at}
 use Rattle.cb_dcsc.specs.Columns.{columns_with_entries}
-use Rattle.cb_dcsc.specs.Faults.{comes_after}
+use Rattle.cb_dcsc.specs.BlockFaults.{comes_after}
 use Rattle.cb_elementwise.specs.declared.cursors.Cursor.{Cursor}
 
 -- the first entry, if there is one

@@ -13,7 +13,7 @@
 
 ghost use Rattle.std.specs.Prelude.{◌≡◌, ◌≢◌, ◌↔◌, ℕ, ◌<◌, ◌≤◌, ◌+◌, IsTrue, List, [], ◌∷◌, ◌++◌, length, All, IfOk, IfSome, IfNone, OnOk, OnErr};
 ghost use Rattle.cb_matrix.specs.Operations.{sum_of, times_of, pruned, masked};
-ghost use Rattle.cb_elementwise.specs.Passing.{passes};
+ghost use Rattle.cb_matrix.specs.Passing.{passes};
 
 mod cursors;
 mod joins;
@@ -22,8 +22,8 @@ mod rules;
 use crate::joins::joined;
 use crate::rules::{Product, Restriction, Sum};
 use cb_dcsc::Block;
+use cb_matrix::Test;
 use cb_semirings::Semiring;
-pub use rules::Test;
 use std::alloc::{AllocError, Global};
 
 /// The sum at each place of two blocks of one shape. A sum that is zero is not stored.

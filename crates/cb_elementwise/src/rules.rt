@@ -1,9 +1,9 @@
 //! What a place of the result has, from what two blocks have there.
 ghost use Rattle.std.specs.Prelude.{◌≡◌, ℕ, cond, ◌==◌, not};
 ghost use Rattle.cb_semirings.specs.Arithmetic.{IsValue};
-ghost use Rattle.cb_elementwise.specs.Passing.{passes, unless_passes};
-ghost use Rattle.cb_elementwise.specs.Laws.{unless_passes-zero, unless_passes-value, where_stored, where_stored-zero, where_stored-value};
+ghost use Rattle.cb_elementwise.specs.RuleLaws.{unless_passes, unless_passes-zero, unless_passes-value, where_stored, where_stored-zero, where_stored-value};
 
+use cb_matrix::Test;
 use cb_semirings::Semiring;
 
 /// A value from two values of a semiring, and zero from two zeros.
@@ -66,30 +66,6 @@ impl<S: Semiring> Rule<S> for Restriction {
 
     fn combine(&self, left: u64, right: u64) -> u64 {
         if right == S::zero() { S::zero() } else { left }
-    }
-}
-
-/// Which entries of a block to drop, by their value as a whole number.
-#[derive(Clone, Copy, Debug, PartialEq, Eq)]
-pub enum Test {
-    /// Those below this number.
-    Below(u64),
-    /// Those above this number.
-    Above(u64),
-    /// Those that are this number.
-    Equal(u64),
-}
-
-impl Test {
-    /// Whether a value passes the test.
-    fn passes(&self, value: u64) -> bool
-        ensures { result ≡ passes self.now value }
-    {
-        match self {
-            Test::Below(number) => value < *number,
-            Test::Above(number) => value > *number,
-            Test::Equal(number) => value == *number,
-        }
     }
 }
 

@@ -1,23 +1,16 @@
 -- What a call answers, from what its parts answer.
-use Rattle.std.proofs.Common.{◌≡◌, ◌≢◌, ℕ, sym, subst, inr, arith}
-use Rattle.std.specs.Prelude.{Option, Result, Ok, Err, IfOk, IfErr, ◌≤◌}
-use Rattle.cb_semirings.specs.Arithmetic.{Arithmetic}
+use Rattle.std.proofs.Common.{◌≡◌, ◌≢◌, ℕ, sym, subst, arith}
+use Rattle.std.specs.Prelude.{Option, Result, Ok, Err, IfOk, IfErr}
 use Rattle.cb_ffi.specs.declared.faults.Fault.{Fault}
 use Rattle.cb_ffi.specs.declared.faults.Fault.TheVariants.{Semiring, Grid, Test, Form, TooLarge, Lengths, Order, Place, Value, Shapes, NotSquare, Source, Text, Memory}
-use Rattle.cb_ffi.specs.Refusals.{arithmetic_of, code_of, over}
+use Rattle.cb_ffi.specs.Refusals.{code_of}
 use Rattle.cb_ffi.specs.Answers.{NoFault, IsAnswer, IsCall, IsFaultLine, IsLine}
 use Rattle.cb_market.specs.declared.ReadFault.{ReadFault}
-use Rattle.cb_ffi.proofs.Firsts.{only}
 
-answered : {X : Type 0} (n : ℕ) → n ≤ 3 → (faults : Arithmetic → Fault → Type 0) (is : Arithmetic → X → Type 0) (r : Result X Fault)
-    → IfErr r (faults (arithmetic_of n)) → IfOk r (λ _. NoFault (faults (arithmetic_of n))) → IfOk r (is (arithmetic_of n)) → IsAnswer (over n faults) (is (arithmetic_of n)) r
-answered n l faults is (Ok x) h k m = (record { memory = inr (l, k.memory); only = λ f q. k.only f (only (n ≤ 3) Semiring (faults (arithmetic_of n)) f l q) }, m)
-answered n l faults is (Err f) h k m = inr (l, h)
-
--- the answer over the semiring of a number
-pub chosen : {X : Type 0} (n k : ℕ) → n ≡ k → k ≤ 3 → (faults : Arithmetic → Fault → Type 0) (is : Arithmetic → X → Type 0) (r : Result X Fault)
-    → IfErr r (faults (arithmetic_of k)) → IfOk r (λ _. NoFault (faults (arithmetic_of k))) → IfOk r (is (arithmetic_of k)) → IsAnswer (over n faults) (is (arithmetic_of n)) r
-chosen n k e l faults is r a b c = subst (λ (m : ℕ). IsAnswer (over m faults) (is (arithmetic_of m)) r) (sym e) (answered k l faults is r a b c)
+-- the answer of a call whose three parts are proved
+pub answered : {X : Type 0} (faults : Fault → Type 0) (is : X → Type 0) (r : Result X Fault) → IfErr r faults → IfOk r (λ _. NoFault faults) → IfOk r is → IsAnswer faults is r
+answered faults is (Ok x) h k m = (k, m)
+answered faults is (Err f) h k m = h
 
 -- the answer as C gets it
 pub call_of : {X : Type 0} (faults : Fault → Type 0) (is : X → Type 0) (r : Result X Fault) (code : ℕ) (old new : X) → IsAnswer faults is r

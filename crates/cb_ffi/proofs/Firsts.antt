@@ -6,7 +6,7 @@ use Rattle.std.proofs.lemmas.List.Elements.{All-head, All-tail}
 use Rattle.std.proofs.lemmas.Result.{IfErr-weaker}
 use Rattle.cb_semirings.specs.Arithmetic.{Arithmetic}
 use Rattle.cb_operations.specs.declared.operations.Operation.{Operation}
-use Rattle.cb_operations.specs.Operations.{Agree}
+use Rattle.cb_operations.specs.OperationAnswers.{Agree}
 use Rattle.cb_ffi.specs.declared.lists.Columns.{Columns}
 use Rattle.cb_ffi.specs.declared.faults.Fault.{Fault}
 use Rattle.cb_ffi.specs.declared.faults.Fault.TheVariants.{Grid, Test, Form, TooLarge, Lengths, Order, Place, Value, Shapes, NotSquare, Source}

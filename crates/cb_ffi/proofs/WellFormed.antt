@@ -11,7 +11,7 @@ use Rattle.cb_matrix.specs.Values.{empty_matrix}
 use Rattle.cb_dcsc.specs.Compressed.{entries_in, pieces}
 use Rattle.cb_dcsc.proofs.Pieces.{entries_in-columns, pieces-all}
 use Rattle.cb_ffi.specs.declared.lists.Columns.{Columns}
-use Rattle.cb_operations.specs.Operations.{shapes_in}
+use Rattle.cb_operations.specs.OperationAnswers.{shapes_in}
 use Rattle.cb_ffi.specs.Lists.{count, column, starts, rows_in, values_in, listed_in, nonzero, shape_of, matrix_of, matrices, AreLists}
 
 module _ (s : Arithmetic) (c : Columns) (are : AreLists s c) where

@@ -1,12 +1,13 @@
 -- What a call answers.
 use Rattle.std.specs.Prelude.{◌≡◌, ◌≢◌, ℕ, ◌==◌, cond, List, Option, Some, None, Result, Ok, Err}
-use Rattle.cb_elementwise.specs.declared.rules.Test.TheVariants.{Below, Above, Equal}
+use Rattle.cb_matrix.specs.declared.passing.Test.TheVariants.{Below, Above, Equal}
 use Rattle.cb_semirings.specs.Arithmetic.{Arithmetic}
 use Rattle.cb_semirings.specs.Tables.{min_plus, or_and}
+use Rattle.cb_semirings.specs.Names.{numbered}
 use Rattle.cb_matrix.specs.Sparse.{Sparse, IsMatrix}
 use Rattle.cb_operations.specs.declared.operations.Operation.{Operation}
 use Rattle.cb_operations.specs.declared.operations.Operation.TheVariants.{Prune}
-use Rattle.cb_operations.specs.Operations.{answer_of}
+use Rattle.cb_operations.specs.OperationAnswers.{answer_of}
 use Rattle.cb_market.specs.declared.ReadFault.{ReadFault}
 use Rattle.cb_market.specs.Reads.{Reads}
 use Rattle.cb_market.specs.Text.{text_of}
@@ -16,7 +17,7 @@ use Rattle.cb_ffi.specs.declared.texts.Text.{Text as Bytes}
 use Rattle.cb_ffi.specs.Lists.{matrix_of, matrices, HasLists}
 use Rattle.cb_ffi.specs.declared.faults.Fault.{Fault}
 use Rattle.cb_ffi.specs.declared.faults.Fault.TheVariants.{Text, Memory}
-use Rattle.cb_ffi.specs.Refusals.{code_of, arithmetic_of, over, faults_of}
+use Rattle.cb_ffi.specs.Refusals.{code_of, over, Over, faults_of}
 
 -- no fault is there but want of memory, which may come at any time
 pub record NoFault (faults : Fault → Type 0) : Type 0 where
@@ -46,7 +47,7 @@ HasMade s (Some operation) cs c = HasLists (answer_of operation s (matrices s cs
 -- what C gets of an operation on matrices, over the semiring of a number and with a side of a grid, which changes no answer
 abbrev pub IsOperationCall : ℕ → ℕ → Option Operation → List Columns → ℕ → Columns → Columns → Type 0
 IsOperationCall semiring side operation cs code old new =
-    IsCall (over semiring (λ s. faults_of s side operation cs)) (HasMade (arithmetic_of semiring) operation cs) code old new
+    IsCall (over (numbered semiring) (λ s. faults_of s side operation cs)) (λ c. Over (numbered semiring) (λ s. HasMade s operation cs c)) code old new
 
 -- the text of the matrix of a
 abbrev pub IsTextOf : Arithmetic → Columns → Bytes → Type 0

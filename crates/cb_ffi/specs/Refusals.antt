@@ -1,9 +1,11 @@
 -- Why a call has no answer. Faults are looked for in an order; the first is answered.
-use Rattle.std.specs.Prelude.{◌≡◌, ◌≢◌, ℕ, ◌<◌, ◌≤◌, ◌⊎◌, ◌==◌, cond, List, [], ◌∷◌, map, Option, Some, None}
+use Rattle.std.specs.Prelude.{◌≡◌, ◌≢◌, ℕ, ◌<◌, ◌≤◌, ◌⊎◌, List, [], ◌∷◌, map, Option, Some, None}
 use Rattle.cb_semirings.specs.Arithmetic.{Arithmetic}
-use Rattle.cb_semirings.specs.Tables.{plus_times, min_plus, or_and, max_min}
+use Rattle.cb_semirings.specs.declared.names.SemiringName.{SemiringName}
+use Rattle.cb_semirings.specs.Names.{arithmetic_of}
 use Rattle.cb_operations.specs.declared.operations.Operation.{Operation}
-use Rattle.cb_operations.specs.Operations.{Agree}
+use Rattle.cb_operations.specs.OperationAnswers.{Agree}
+use Rattle.cb_market.specs.declared.ReadFault.{ReadFault}
 use Rattle.cb_market.specs.Faults.{first_fault}
 use Rattle.cb_ffi.specs.declared.lists.Columns.{Columns}
 use Rattle.cb_ffi.specs.declared.faults.Fault.{Fault}
@@ -70,11 +72,18 @@ text_faults s a = matrix_faults s a IsMemory
 abbrev pub read_faults : Arithmetic → List ℕ → Fault → Type 0
 read_faults s text f = ((f ≡ Text) × (first_fault s text ≢ None)) ⊎ (f ≡ Memory)
 
--- ---- over the semiring of a number
--- the operations of a semiring: 0 plus-times, 1 min-plus, 2 or-and, 3 max-min
-unfoldable pub arithmetic_of : ℕ → Arithmetic
-arithmetic_of n = cond (n == 0) plus_times (cond (n == 1) min_plus (cond (n == 2) or_and max_min))
-
+-- ---- over the semiring of a number, where there is one
 -- those of a call over that semiring
-abbrev pub over : ℕ → (Arithmetic → Fault → Type 0) → Fault → Type 0
-over n faults = Unless (n ≤ 3) Semiring (faults (arithmetic_of n))
+abbrev pub over : Option SemiringName → (Arithmetic → Fault → Type 0) → Fault → Type 0
+over None faults = λ f. f ≡ Semiring
+over (Some name) faults = faults (arithmetic_of name)
+
+-- what holds over that semiring, and over none
+abbrev pub Over : Option SemiringName → (Arithmetic → Type 0) → Type 0
+Over None P = ⊥
+Over (Some name) P = P (arithmetic_of name)
+
+-- the first fault of a text over that semiring
+abbrev pub first_over : Option SemiringName → List ℕ → Option ReadFault
+first_over None text = None
+first_over (Some name) text = first_fault (arithmetic_of name) text

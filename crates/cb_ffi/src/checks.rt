@@ -1,6 +1,6 @@
 //! The faults of a call, looked for in their order before memory is asked for.
 ghost use Rattle.std.specs.Prelude.{◌≡◌, ◌≤◌, ◌<◌, length, map, All, Some, IfSome, IfNone, IfOk, IfErr};
-ghost use Rattle.cb_operations.specs.Operations.{operand_count_of, Agree};
+ghost use Rattle.cb_operations.specs.OperationAnswers.{operand_count_of, Agree};
 ghost use Rattle.cb_ffi.specs.declared.faults.Fault.TheVariants as fault_is;
 ghost use Rattle.cb_ffi.specs.Lists.{shape_of, Fits, AreLists};
 ghost use Rattle.cb_ffi.specs.Refusals.{IsSide, each_faults, operand_faults, faults_of, graph_faults};

@@ -7,7 +7,8 @@
 //! The lists of an answer are given away: each list that isn't empty is memory of the program's `malloc`, which the
 //! caller gives back by `free`.
 //!
-//! The semirings have the numbers 0 (plus-times), 1 (min-plus), 2 (or-and) and 3 (max-min).
+//! The semirings have the numbers of `cb_semirings::SemiringName`: 0 (plus-times), 1 (min-plus), 2 (or-and) and 3
+//! (max-min).
 //!
 //! `grid` is the side of a grid, 1 to 6. It is checked, and changes nothing else: each call works on whole blocks, on the
 //! caller's thread.
@@ -15,10 +16,10 @@
 
 ghost use Rattle.std.specs.Prelude.{◌≡◌, ◌≢◌, [], ◌∷◌, length, Some, IfSome, IfOk, IfErr};
 ghost use Rattle.cb_semirings.specs.Tables.{min_plus, or_and};
+ghost use Rattle.cb_semirings.specs.Names.{numbered};
 ghost use Rattle.cb_operations.specs.declared.operations.Operation.TheVariants as operation_is;
-ghost use Rattle.cb_operations.specs.Operations.{operand_count_of};
-ghost use Rattle.cb_market.specs.Faults.{first_fault};
-ghost use Rattle.cb_ffi.specs.Refusals.{arithmetic_of, code_of, over, graph_faults, read_faults, text_faults};
+ghost use Rattle.cb_operations.specs.OperationAnswers.{operand_count_of};
+ghost use Rattle.cb_ffi.specs.Refusals.{code_of, over, Over, first_over, graph_faults, read_faults, text_faults};
 ghost use Rattle.cb_ffi.specs.Answers.{prune_of, HasDistances, HasLevels, IsCall, IsLine, IsOperationCall, IsRead, IsTextOf};
 
 mod checks;
@@ -221,8 +222,8 @@ pub extern "C" fn cbgrid_kernel_read(
     line: &mut u64,
     out: &mut Columns,
 ) -> u32
-    ensures call { IsCall (over semiring (λ s. read_faults s text.now)) (IsRead (arithmetic_of semiring) text.now) result out.old out.new }
-    ensures line { IsLine (first_fault (arithmetic_of semiring) text.now) result line.old line.new }
+    ensures call { IsCall (over (numbered semiring) (λ s. read_faults s text.now)) (λ c. Over (numbered semiring) (λ s. IsRead s text.now c)) result out.old out.new }
+    ensures line { IsLine (first_over (numbered semiring) text.now) result line.old line.new }
 {
     put(out, texts::read_in(alloc, semiring, text, line))
 }
@@ -235,7 +236,7 @@ pub extern "C" fn cbgrid_kernel_text(
     a: &Columns,
     out: &mut Text,
 ) -> u32
-    ensures { IsCall (over semiring (λ s. text_faults s a.now)) (IsTextOf (arithmetic_of semiring) a.now) result out.old out.new }
+    ensures { IsCall (over (numbered semiring) (λ s. text_faults s a.now)) (λ t. Over (numbered semiring) (λ s. IsTextOf s a.now t)) result out.old out.new }
 {
     put(out, texts::text_in(alloc, semiring, a))
 }

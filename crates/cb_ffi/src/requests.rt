@@ -2,9 +2,10 @@
 //!
 //! A list of columns becomes a block, the kernel makes a block of such blocks, and its lists are given away.
 ghost use Rattle.std.specs.Prelude.{◌≡◌, ◌≤◌, length, map, All, IfSome, IfOk, IfErr};
-ghost use Rattle.cb_operations.specs.Operations.{operand_count_of, Agree, answer_of};
+ghost use Rattle.cb_operations.specs.OperationAnswers.{operand_count_of, Agree, answer_of};
 ghost use Rattle.cb_ffi.specs.Lists.{shape_of, matrices, AreLists};
-ghost use Rattle.cb_ffi.specs.Refusals.{arithmetic_of, over, faults_of};
+ghost use Rattle.cb_semirings.specs.Names.{arithmetic_of, numbered};
+ghost use Rattle.cb_ffi.specs.Refusals.{over, Over, faults_of};
 ghost use Rattle.cb_ffi.specs.Answers.{prune_of, HasMade, IsAnswer, NoFault};
 
 use crate::checks::check;
@@ -13,9 +14,9 @@ use crate::incoming::blocks_of;
 use crate::lists::Columns;
 use crate::outgoing::block_lists;
 use cb_dcsc::Block;
-use cb_elementwise::Test;
+use cb_matrix::Test;
 use cb_operations::Operation;
-use cb_semirings::{MaxMin, MinPlus, OrAnd, PlusTimes, Semiring};
+use cb_semirings::{Semiring, SemiringName, over_semiring};
 use std::alloc::{AllocError, Global};
 
 /// To prune by the test of a number, 0 to 2, with its bound. No other number has a test.
@@ -63,6 +64,22 @@ fn answer_over<S: Semiring>(
     Ok(block_lists(alloc, block)?)
 }
 
+/// The lists of what an operation makes of matrices, over the semiring of a name.
+fn answer_named(
+    alloc: Global,
+    semiring: SemiringName,
+    side: u32,
+    operation: Option<Operation>,
+    operands: &[Columns],
+) -> Result<Columns, Fault>
+    requires count { IfSome operation (λ o. length operands.now ≡ operand_count_of o) }
+    ensures ok { IfOk result (HasMade (arithmetic_of semiring) operation operands.now) }
+    ensures none { IfOk result (λ _. NoFault (faults_of (arithmetic_of semiring) side operation operands.now)) }
+    ensures fault { IfErr result (faults_of (arithmetic_of semiring) side operation operands.now) }
+{
+    over_semiring!(semiring, answer_over::<_>(alloc, side, operation, operands))
+}
+
 /// The lists of what an operation makes of matrices, over the semiring of a number. There is no operation where no test has
 /// the number of a prune. The side of a grid is checked, and changes no answer.
 pub(crate) fn answer(
@@ -73,13 +90,10 @@ pub(crate) fn answer(
     operands: &[Columns],
 ) -> Result<Columns, Fault>
     requires count { IfSome operation (λ o. length operands.now ≡ operand_count_of o) }
-    ensures { IsAnswer (over semiring (λ s. faults_of s side operation operands.now)) (HasMade (arithmetic_of semiring) operation operands.now) result }
+    ensures { IsAnswer (over (numbered semiring) (λ s. faults_of s side operation operands.now)) (λ c. Over (numbered semiring) (λ s. HasMade s operation operands.now c)) result }
 {
-    match semiring {
-        0 => answer_over::<PlusTimes>(alloc, side, operation, operands),
-        1 => answer_over::<MinPlus>(alloc, side, operation, operands),
-        2 => answer_over::<OrAnd>(alloc, side, operation, operands),
-        3 => answer_over::<MaxMin>(alloc, side, operation, operands),
-        _ => Err(Fault::Semiring),
+    match SemiringName::numbered(semiring) {
+        Some(name) => answer_named(alloc, name, side, operation, operands),
+        None => Err(Fault::Semiring),
     }
 }

@@ -2,7 +2,8 @@
 ghost use Rattle.std.specs.Prelude.{◌≡◌, IfOk, IfErr};
 ghost use Rattle.cb_market.specs.Faults.{first_fault};
 ghost use Rattle.cb_ffi.specs.Lists.{AreLists};
-ghost use Rattle.cb_ffi.specs.Refusals.{arithmetic_of, over, read_faults, text_faults};
+ghost use Rattle.cb_semirings.specs.Names.{arithmetic_of, numbered};
+ghost use Rattle.cb_ffi.specs.Refusals.{over, Over, first_over, read_faults, text_faults};
 ghost use Rattle.cb_ffi.specs.Answers.{IsAnswer, NoFault, IsTextOf, IsRead, IsFaultLine};
 
 use crate::faults::Fault;
@@ -11,7 +12,7 @@ use crate::lists::Columns;
 use crate::outgoing::matrix_lists;
 use cb_market::{Kind, read, text};
 use cb_matrix::Matrix;
-use cb_semirings::{MaxMin, MinPlus, OrAnd, PlusTimes, Semiring};
+use cb_semirings::{Semiring, SemiringName, over_semiring};
 use std::alloc::{AllocError, Global};
 
 /// The bytes of a text.
@@ -44,16 +45,22 @@ fn text_over<S: Semiring>(alloc: Global, a: &Columns) -> Result<Text, Fault>
     Ok(text_bytes::<S>(alloc, a)?)
 }
 
+/// The text of a matrix, over the semiring of a name.
+fn text_named(alloc: Global, semiring: SemiringName, a: &Columns) -> Result<Text, Fault>
+    ensures ok { IfOk result (IsTextOf (arithmetic_of semiring) a.now) }
+    ensures none { IfOk result (λ _. NoFault (text_faults (arithmetic_of semiring) a.now)) }
+    ensures fault { IfErr result (text_faults (arithmetic_of semiring) a.now) }
+{
+    over_semiring!(semiring, text_over::<_>(alloc, a))
+}
+
 /// The text of a matrix, over the semiring of a number.
 pub(crate) fn text_in(alloc: Global, semiring: u32, a: &Columns) -> Result<Text, Fault>
-    ensures { IsAnswer (over semiring (λ s. text_faults s a.now)) (IsTextOf (arithmetic_of semiring) a.now) result }
+    ensures { IsAnswer (over (numbered semiring) (λ s. text_faults s a.now)) (λ t. Over (numbered semiring) (λ s. IsTextOf s a.now t)) result }
 {
-    match semiring {
-        0 => text_over::<PlusTimes>(alloc, a),
-        1 => text_over::<MinPlus>(alloc, a),
-        2 => text_over::<OrAnd>(alloc, a),
-        3 => text_over::<MaxMin>(alloc, a),
-        _ => Err(Fault::Semiring),
+    match SemiringName::numbered(semiring) {
+        Some(name) => text_named(alloc, name, a),
+        None => Err(Fault::Semiring),
     }
 }
 
@@ -76,6 +83,21 @@ fn read_over<S: Semiring>(alloc: Global, text: &[u8], line: &mut u64) -> Result<
     }
 }
 
+/// The lists of the matrix that a text reads as, over the semiring of a name.
+fn read_named(
+    alloc: Global,
+    semiring: SemiringName,
+    text: &[u8],
+    line: &mut u64,
+) -> Result<Columns, Fault>
+    ensures ok { IfOk result (IsRead (arithmetic_of semiring) text.now) }
+    ensures none { IfOk result (λ _. NoFault (read_faults (arithmetic_of semiring) text.now)) }
+    ensures fault { IfErr result (read_faults (arithmetic_of semiring) text.now) }
+    ensures line { IsFaultLine (first_fault (arithmetic_of semiring) text.now) result line.old line.new }
+{
+    over_semiring!(semiring, read_over::<_>(alloc, text, line))
+}
+
 /// The lists of the matrix that a text reads as, over the semiring of a number.
 pub(crate) fn read_in(
     alloc: Global,
@@ -83,14 +105,11 @@ pub(crate) fn read_in(
     text: &[u8],
     line: &mut u64,
 ) -> Result<Columns, Fault>
-    ensures answer { IsAnswer (over semiring (λ s. read_faults s text.now)) (IsRead (arithmetic_of semiring) text.now) result }
-    ensures line { IsFaultLine (first_fault (arithmetic_of semiring) text.now) result line.old line.new }
+    ensures answer { IsAnswer (over (numbered semiring) (λ s. read_faults s text.now)) (λ c. Over (numbered semiring) (λ s. IsRead s text.now c)) result }
+    ensures line { IsFaultLine (first_over (numbered semiring) text.now) result line.old line.new }
 {
-    match semiring {
-        0 => read_over::<PlusTimes>(alloc, text, line),
-        1 => read_over::<MinPlus>(alloc, text, line),
-        2 => read_over::<OrAnd>(alloc, text, line),
-        3 => read_over::<MaxMin>(alloc, text, line),
-        _ => Err(Fault::Semiring),
+    match SemiringName::numbered(semiring) {
+        Some(name) => read_named(alloc, name, text, line),
+        None => Err(Fault::Semiring),
     }
 }

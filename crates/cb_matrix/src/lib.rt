@@ -18,9 +18,11 @@ ghost use Rattle.cb_semirings.specs.Arithmetic.{IsValue};
 
 mod collect;
 mod ordered;
+mod passing;
 
 use cb_semirings::Semiring;
 pub use collect::in_order;
+pub use passing::Test;
 use std::alloc::{AllocError, Global};
 use std::marker::{Model, PhantomData};
 use thiserror::Error;

@@ -10,6 +10,9 @@
 //! above speaks of that record alone. A semiring also says how the numbers of a file become values,
 //! and how values are written.
 //!
+//! [`SemiringName`] is the one table of the semirings' names and numbers, and [`over_semiring`] the one match that
+//! picks the type of a name.
+//!
 //! The names follow Kepner and Gilbert, Graph Algorithms in the Language of Linear Algebra
 //! (SIAM 2011), section 2.2.
 #![tactic(auto)]
@@ -18,11 +21,13 @@ ghost use Rattle.std.specs.Prelude.{◌≡◌, ◌↔◌, IsTrue};
 
 mod max_min;
 mod min_plus;
+mod names;
 mod or_and;
 mod plus_times;
 
 pub use max_min::MaxMin;
 pub use min_plus::MinPlus;
+pub use names::{NAMES, SemiringName};
 pub use or_and::OrAnd;
 pub use plus_times::PlusTimes;
 

@@ -1,5 +1,5 @@
 use Rattle.std.proofs.Common.{◌∙◌, sym, ap, subst}
-use Rattle.cb_operations.specs.Operations.{Agree, shapes_in}
+use Rattle.cb_operations.specs.OperationAnswers.{Agree, shapes_in}
 use Rattle.cb_ffi.proofs.WellFormed.{shapes_are}
 use Rattle.cb_ffi.proofs.requests.compute.Goals as goal
 

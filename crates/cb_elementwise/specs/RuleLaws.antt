@@ -1,12 +1,16 @@
--- What rules make of two zeros, and of values.
+-- Rules, and what they make of two zeros, and of values.
 use Rattle.std.specs.Prelude.{◌≡◌, ℕ, Bool, true, false, cond, not, ◌==◌, refl}
 use Rattle.cb_semirings.specs.Arithmetic.{Arithmetic, IsValue, IsSemiring}
-use Rattle.cb_elementwise.specs.declared.rules.Test.{Test}
-use Rattle.cb_elementwise.specs.Passing.{passes, unless_passes}
+use Rattle.cb_matrix.specs.declared.passing.Test.{Test}
+use Rattle.cb_matrix.specs.Passing.{passes}
 
 -- the first value where the second is other than z, and z elsewhere
 abbrev pub where_stored : ℕ → ℕ → ℕ → ℕ
 where_stored z x y = cond (not (y == z)) x z
+
+-- the value, or z where it passes the test
+abbrev pub unless_passes : ℕ → Test → ℕ → ℕ
+unless_passes z test x = cond (passes test x) z x
 
 same_twice : (b : Bool) (z : ℕ) → cond b z z ≡ z
 same_twice true z = refl

@@ -1,0 +1,10 @@
+-- Which values a test is for.
+use Rattle.std.specs.Prelude.{ℕ, Bool, nat_lt, ◌==◌}
+use Rattle.cb_matrix.specs.declared.passing.Test.{Test}
+use Rattle.cb_matrix.specs.declared.passing.Test.TheVariants.{Below, Above, Equal}
+
+-- whether a value is strictly below, strictly above, or the same as the number of the test
+abbrev pub passes : Test → ℕ → Bool
+passes (Below n) x = nat_lt x n
+passes (Above n) x = nat_lt n x
+passes (Equal n) x = x == n
