@@ -7,7 +7,7 @@ use crate::examples::{
     Example, Held, fill, fitted, grid, laid_out, leave, left, matrix, one, product, product_of,
     result_of, results, right, two_by_two,
 };
-use cb_kernels::grid_vector;
+use cb_grid_plans::grid_vector;
 use cb_matrix::LIMIT;
 use cb_plan::{RankStore, Slot};
 use cb_samples::entry;

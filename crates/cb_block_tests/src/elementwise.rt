@@ -1,7 +1,7 @@
 //! Worked examples, with ample memory and with each allocation refused in turn.
 use cb_dcsc::BlockFault;
-use cb_elementwise::{Test, add, mask, prune, times};
-use cb_matrix::{Entry, LIMIT};
+use cb_elementwise::{add, mask, prune, times};
+use cb_matrix::{Entry, LIMIT, Test};
 use cb_samples::{SampleFault, block, entry};
 use cb_semirings::{MaxMin, MinPlus, OrAnd, PlusTimes, Semiring};
 use std::alloc::Global;

@@ -22,4 +22,4 @@ mod samples;
 #[cfg(test)]
 mod semirings;
 #[cfg(test)]
-mod spmspv;
+mod vectors;

@@ -1,7 +1,7 @@
 -- Texts that are loaded one after the other.
 use Rattle.std.proofs.Common.{ℕ, ◌<◌, List}
 use Rattle.std.specs.Prelude.{Vec, String}
-use Rattle.cb_cli.specs.Faults.{name_at}
+use Rattle.cb_cli.specs.FaultLines.{name_at}
 use Rattle.cb_cli.specs.Files.{bytes_of, text_at, HoldsBelow, IsHeld}
 
 -- the files before one that is refused were read

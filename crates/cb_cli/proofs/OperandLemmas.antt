@@ -6,10 +6,10 @@ use Rattle.cb_semirings.specs.Arithmetic.{Arithmetic}
 use Rattle.cb_matrix.specs.Sparse.{Sparse}
 use Rattle.cb_market.specs.Reads.{Reads}
 use Rattle.cb_cli.specs.Files.{bytes_of, text_at}
-use Rattle.cb_operations.specs.Operations.{matrix_at}
+use Rattle.cb_operations.specs.OperationAnswers.{matrix_at}
 use Rattle.cb_cli.specs.Answers.{IsMatrixText, AreMatrices, IsTextFault, IsReadFault}
-use Rattle.cb_cli.specs.declared.runs.JobFault.{JobFault}
-use Rattle.cb_cli.specs.declared.runs.JobFault.TheVariants.{Read, Run, Memory, Output}
+use Rattle.cb_cli.specs.declared.execution.JobFault.{JobFault}
+use Rattle.cb_cli.specs.declared.execution.JobFault.TheVariants.{Read, Run, Memory, Output}
 
 module _ {A : Type 0} where
   only_item : (xs : List (Vec ℕ A)) (t : Vec ℕ A) → length xs ≡ 1 → t ≡ get_or xs 0 t → bytes_of xs ≡ t.items ∷ []

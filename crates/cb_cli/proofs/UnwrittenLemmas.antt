@@ -4,8 +4,8 @@ use Rattle.std.specs.Prelude.{Option, Result, Ok, Err, IfErr}
 use Rattle.cb_semirings.specs.Arithmetic.{Arithmetic}
 use Rattle.cb_engines.specs.declared.engines.Engine.{Engine}
 use Rattle.cb_operations.specs.declared.operations.Operation.{Operation}
-use Rattle.cb_cli.specs.declared.runs.JobFault.{JobFault}
-use Rattle.cb_cli.specs.declared.runs.JobFault.TheVariants.{Memory}
+use Rattle.cb_cli.specs.declared.execution.JobFault.{JobFault}
+use Rattle.cb_cli.specs.declared.execution.JobFault.TheVariants.{Memory}
 use Rattle.cb_cli.specs.Answers.{IsAnswerOver, IsFaultOver, IsUnwritten}
 
 module _ (op : Operation) (s : Arithmetic) (engine : Option Engine) (side : ℕ) (texts : List (List ℕ)) (t : List ℕ) where

@@ -11,22 +11,21 @@ use Rattle.cb_market.specs.declared.Kind.TheVariants as kind_is
 use Rattle.cb_trace.specs.Traces.{TraceView}
 use Rattle.cb_operations.specs.declared.operations.Operation.{Operation}
 use Rattle.cb_operations.specs.declared.refusals.Refusal.TheVariants as refusal_is
-use Rattle.cb_operations.specs.Operations.{Agree, answer_of, matrix_at, shapes_in}
+use Rattle.cb_operations.specs.OperationAnswers.{Agree, answer_of, matrix_at, shapes_in}
 use Rattle.cb_engines.specs.declared.engines.Engine.{Engine}
 use Rattle.cb_searches.specs.Walks.{AreLevels, AreDistances}
-use Rattle.cb_run.specs.declared.faults.OperationFault.{OperationFault}
-use Rattle.cb_run.specs.declared.faults.OperationFault.TheVariants.{Refused, Failed}
-use Rattle.cb_run.specs.Runs.{IsTraceFor}
+use Rattle.cb_run.specs.declared.operation_faults.OperationFault.{OperationFault}
+use Rattle.cb_run.specs.declared.operation_faults.OperationFault.TheVariants.{Refused, Failed}
+use Rattle.cb_run.specs.Outcomes.{IsTraceFor}
 use Rattle.cb_run.specs.Searched.{HasSource, IsGraphRefusal}
-use Rattle.cb_words.specs.Semirings.{arithmetic_of}
-use Rattle.cb_words.specs.declared.jobs.EngineName.{EngineName}
+use Rattle.cb_semirings.specs.Names.{arithmetic_of}
 use Rattle.cb_words.specs.declared.jobs.Task.{Task}
 use Rattle.cb_words.specs.declared.jobs.Task.TheVariants.{Matrix, Levels, Distances}
 use Rattle.cb_cli.specs.Files.{text_at}
 use Rattle.cb_cli.specs.TraceTexts.{trace_lines}
-use Rattle.cb_cli.specs.Engines.{engine_of, IsRunFault}
-use Rattle.cb_cli.specs.declared.runs.JobFault.{JobFault}
-use Rattle.cb_cli.specs.declared.runs.JobFault.TheVariants.{Read, Run, Memory, Output}
+use Rattle.cb_cli.specs.Engines.{IsRunFault}
+use Rattle.cb_cli.specs.declared.execution.JobFault.{JobFault}
+use Rattle.cb_cli.specs.declared.execution.JobFault.TheVariants.{Read, Run, Memory, Output}
 
 -- the text reads as some matrix
 abbrev pub IsMatrixText : Arithmetic → List ℕ → Type 0
@@ -45,6 +44,10 @@ abbrev pub IsTrace : Option Engine → Operation → ℕ → List Extent → Opt
 IsTrace None operation q shapes trace = trace ≡ None
 IsTrace (Some engine) operation q shapes trace = IsTraceFor engine operation q shapes trace
 
+-- what is written: the text of a matrix, and after it, where a trace is kept, a line for each of its events
+abbrev pub told : Arithmetic → Sparse → Option TraceView → List ℕ
+told s m trace = text_of s m ++ trace_lines trace
+
 -- What an operation over a semiring answers on a grid of this side: the text of what it makes of the matrices that the
 -- texts read as, and after it, where the engine keeps a trace, a line for each event of a trace of the ranks that made it.
 pub record IsAnswerOver (operation : Operation) (s : Arithmetic) (engine : Option Engine) (side : ℕ) (texts : List (List ℕ)) (answer : List ℕ) : Type 0 where
@@ -53,7 +56,7 @@ pub record IsAnswerOver (operation : Operation) (s : Arithmetic) (engine : Optio
   pub agree : Agree operation (shapes_in ms)
   pub trace : Option TraceView
   pub kept : IsTrace engine operation side (shapes_in ms) trace
-  pub whole : answer ≡ text_of s (answer_of operation s ms) ++ trace_lines trace
+  pub whole : answer ≡ told s (answer_of operation s ms) trace
 
 -- why the text of a place is no matrix: its first fault, or want of memory with no fault before it
 abbrev pub IsTextFault : Arithmetic → ℕ → List ℕ → JobFault → Type 0
@@ -103,18 +106,18 @@ IsWalkFault s source engine side texts (Run fault) = (a : Sparse) × Reads s (te
 IsWalkFault s source engine side texts Memory = (a : Sparse) × Reads s (text_at texts 0) a × HasSource a.shape source
 IsWalkFault s source engine side texts Output = (a : Sparse) × Reads s (text_at texts 0) a × HasSource a.shape source
 
--- What a task answers of texts, by the engine of a name on a grid of this side: an operation over the semiring that it
--- names, levels in or-and, distances in min-plus. Of these two no trace is told.
-abbrev pub IsAnswer : Task → EngineName → ℕ → List (List ℕ) → List ℕ → Type 0
-IsAnswer (Matrix operation semiring) name side = IsAnswerOver operation (arithmetic_of semiring) (engine_of name) side
-IsAnswer (Levels source) name side = IsWalkAnswer AreLevels or_and source
-IsAnswer (Distances source) name side = IsWalkAnswer AreDistances min_plus source
+-- What a task answers of texts, by an engine on a grid of this side: an operation over the semiring that it names, levels
+-- in or-and, distances in min-plus. Of these two no trace is told.
+abbrev pub IsAnswer : Task → Option Engine → ℕ → List (List ℕ) → List ℕ → Type 0
+IsAnswer (Matrix operation semiring) engine side = IsAnswerOver operation (arithmetic_of semiring) engine side
+IsAnswer (Levels source) engine side = IsWalkAnswer AreLevels or_and source
+IsAnswer (Distances source) engine side = IsWalkAnswer AreDistances min_plus source
 
 -- why it answers nothing
-abbrev pub IsFault : Task → EngineName → ℕ → List (List ℕ) → JobFault → Type 0
-IsFault (Matrix operation semiring) name side = IsFaultOver operation (arithmetic_of semiring) (engine_of name) side
-IsFault (Levels source) name side = IsWalkFault or_and source (engine_of name) side
-IsFault (Distances source) name side = IsWalkFault min_plus source (engine_of name) side
+abbrev pub IsFault : Task → Option Engine → ℕ → List (List ℕ) → JobFault → Type 0
+IsFault (Matrix operation semiring) engine side = IsFaultOver operation (arithmetic_of semiring) engine side
+IsFault (Levels source) engine side = IsWalkFault or_and source engine side
+IsFault (Distances source) engine side = IsWalkFault min_plus source engine side
 
 -- why an answer that there is has not gone out whole
 abbrev pub IsUnwritten : JobFault → Type 0

@@ -4,14 +4,15 @@ use Rattle.std.specs.declared.alloc.Global.{Global}
 use Rattle.std.specs.Io.KnownBytes.{Appends, Keeps}
 use Rattle.cb_cli.specs.Sinks.{AppendsPrefix}
 use Rattle.cb_cli.specs.Files.{AreTexts, IsUnloaded}
-use Rattle.cb_cli.specs.Faults.{name_at, line_of, unreadable_line_of}
+use Rattle.cb_cli.specs.FaultLines.{name_at, line_of, unreadable_line_of}
+use Rattle.cb_cli.specs.Engines.{engine_for}
 use Rattle.cb_cli.specs.Answers.{IsAnswer, IsFault, status_of}
 use Rattle.cb_words.specs.declared.jobs.Job.{Job}
 use Rattle.cb_words.specs.declared.jobs.UsageFault.{UsageFault}
 use Rattle.cb_words.specs.declared.jobs.UsageFault.TheVariants as asked_is
 use Rattle.cb_cli.specs.declared.files.LoadFault.{LoadFault}
 use Rattle.cb_cli.specs.declared.files.LoadFault.TheVariants as load_is
-use Rattle.cb_cli.specs.declared.runs.JobFault.TheVariants as job_is
+use Rattle.cb_cli.specs.declared.execution.JobFault.TheVariants as job_is
 use Rattle.cb_cli.specs.declared.endings.Ending.{Ending}
 use Rattle.cb_cli.specs.declared.endings.Ending.TheVariants.{Done, Usage, Memory, Unreadable, Fault}
 
@@ -41,15 +42,15 @@ unloaded_ending load_is.Memory = Memory
 abbrev pub IsJobEnding : (List ℕ → List ℕ → Type 0) → (List ℕ → Type 0) → Job → Option (List ℕ) → Option (List ℕ) → Ending → Type 0
 IsJobEnding holds refuses job old new Done =
     (texts : List (List ℕ)) × AreTexts holds job.files.items texts
-    × ((t : List ℕ) × IsAnswer job.task job.engine job.grid.side texts t × Appends old new t)
+    × ((t : List ℕ) × IsAnswer job.task (engine_for job texts) job.grid.side texts t × Appends old new t)
 IsJobEnding holds refuses job old new (Usage text) = ⊥
 IsJobEnding holds refuses job old new Memory = Keeps old new
 IsJobEnding holds refuses job old new (Unreadable which) = IsUnloaded holds refuses job.files.items (load_is.Unreadable which) × Keeps old new
 IsJobEnding holds refuses job old new (Fault fault) =
     (texts : List (List ℕ)) × AreTexts holds job.files.items texts
-    × IsFault job.task job.engine job.grid.side texts fault
+    × IsFault job.task (engine_for job texts) job.grid.side texts fault
     × (fault ≢ job_is.Output → Keeps old new)
-    × (fault ≡ job_is.Output → (t : List ℕ) × IsAnswer job.task job.engine job.grid.side texts t × AppendsPrefix old new t)
+    × (fault ≡ job_is.Output → (t : List ℕ) × IsAnswer job.task (engine_for job texts) job.grid.side texts t × AppendsPrefix old new t)
 
 -- How words end that are no job. Help goes out whole, or a beginning of it at Output; else nothing goes out.
 abbrev pub IsUsageEnding : UsageFault → Option (List ℕ) → Option (List ℕ) → Ending → Type 0
@@ -68,3 +69,11 @@ IsEnding holds refuses (Err fault) old new ending = IsUsageEnding fault old new 
 abbrev pub names_of : Result Job UsageFault → List (String Global)
 names_of (Ok job) = job.files.items
 names_of (Err fault) = []
+
+-- How the program ends, of words that ask for this over files: what is known to have gone out and to have been told, before
+-- and after, and the status.
+pub record IsRun (holds : List ℕ → List ℕ → Type 0) (refuses : List ℕ → Type 0) (asked : Result Job UsageFault) (out out_after errors errors_after : Option (List ℕ)) (status : ℕ) : Type 0 where
+  pub ending : Ending
+  pub ends : IsEnding holds refuses asked out out_after ending
+  pub told : AppendsPrefix errors errors_after (told_of (names_of asked) ending)
+  pub status_is : status ≡ ending_status ending

@@ -1,6 +1,6 @@
 -- The texts of files.
 use Rattle.std.specs.Prelude.{◌≡◌, ℕ, ◌<◌, List, [], length, map, slice_index_or, Vec, String}
-use Rattle.cb_cli.specs.Faults.{name_at}
+use Rattle.cb_cli.specs.FaultLines.{name_at}
 use Rattle.cb_cli.specs.declared.files.LoadFault.{LoadFault}
 use Rattle.cb_cli.specs.declared.files.LoadFault.TheVariants.{Unreadable, Memory}
 

@@ -1,9 +1,10 @@
 pub mod Engines
 pub mod Sinks
 pub mod Writers
-pub mod Faults
+pub mod FaultLines
 pub mod Files
 pub mod TraceTexts
 pub mod Answers
+pub mod WriteEnds
 pub mod Endings
 pub mod Statuses

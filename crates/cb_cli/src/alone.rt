@@ -1,9 +1,9 @@
 //! An operation that the caller's thread computes alone, on whole blocks.
 ghost use Rattle.std.specs.Prelude.{◌≡◌, ◌∷◌, [], length, IfOk, IfErr};
 ghost use Rattle.cb_operations.specs.Operands.{list_of};
-ghost use Rattle.cb_operations.specs.Operations.{operand_count_of, Agree, answer_of, shapes_in};
-ghost use Rattle.cb_run.specs.Runs.{LieOver, wholes};
-ghost use Rattle.cb_serial.specs.Faults.{IsFaultOf};
+ghost use Rattle.cb_operations.specs.OperationAnswers.{operand_count_of, Agree, answer_of, shapes_in};
+ghost use Rattle.cb_run.specs.Outcomes.{LieOver, wholes};
+ghost use Rattle.cb_serial.specs.SerialFaults.{IsFaultOf};
 
 use cb_dcsc::Block;
 use cb_layout::DistributedMatrix;

@@ -2,14 +2,13 @@
 //! status.
 ghost use Rattle.std.specs.Prelude.{◌≡◌, IfOk, false};
 ghost use Rattle.std.specs.Process.{exit_status};
-ghost use Rattle.cb_cli.specs.declared.endings.Ending.{Ending};
 ghost use Rattle.cb_cli.specs.Sinks.{AppendsPrefix};
-ghost use Rattle.cb_cli.specs.Endings.{told_of, ending_status, unloaded_ending, names_of, IsJobEnding, IsUsageEnding, IsEnding};
+ghost use Rattle.cb_cli.specs.Endings.{told_of, ending_status, unloaded_ending, IsJobEnding, IsUsageEnding, IsRun};
 ghost use Rattle.cb_cli.specs.Statuses.{status_code};
 
-use crate::faults::{fault_line, name_at, unreadable_line};
+use crate::execution::{JobFault, execute, status};
+use crate::fault_lines::{fault_line, name_at, unreadable_line};
 use crate::files::{FileSource, LoadFault, texts_of};
-use crate::runs::{JobFault, execute, status};
 use crate::sinks::{Sink, put_all};
 use cb_words::{Job, UsageFault};
 use std::alloc::{AllocError, Global};
@@ -155,7 +154,7 @@ pub fn run<R: Threads + Wait + Sync, F: FileSource, K: Sink, E: Sink>(
 ) -> Status
     requires out { K.has_failed out.old ≡ false }
     requires errors { E.has_failed errors.old ≡ false }
-    ensures { (e : Ending) × IsEnding (F.holds files.now) (F.refuses files.now) asked (K.written out.old) (K.written out.new) e × AppendsPrefix (E.written errors.old) (E.written errors.new) (told_of (names_of asked) e) × (status_code result ≡ ending_status e) }
+    ensures { IsRun (F.holds files.now) (F.refuses files.now) asked (K.written out.old) (K.written out.new) (E.written errors.old) (E.written errors.new) (status_code result) }
 {
     match asked {
         Ok(job) => {

@@ -2,7 +2,7 @@
 ghost use Rattle.std.specs.Prelude.{◌≡◌, ℕ, List, IfOk, IfErr, OnErr};
 ghost use Rattle.cb_cli.specs.Files.{AreTexts, IsUnloaded, bytes_of};
 
-use crate::faults::name_at;
+use crate::fault_lines::name_at;
 use std::alloc::{AllocError, Global};
 use std::fs;
 use std::rt::Files;

@@ -15,12 +15,12 @@
 
 mod alone;
 pub mod endings;
-mod engines;
-pub mod faults;
+mod engine_names;
+pub mod execution;
+pub mod fault_lines;
 pub mod files;
-mod operands;
-mod pages;
-pub mod runs;
+mod inputs;
+mod output;
 pub mod sinks;
 mod trace_lines;
-mod walks;
+mod vertex_numbers;

@@ -1,12 +1,13 @@
 //! Command lines, and the lines of faults.
-use cb_cli::faults::fault_line;
-use cb_cli::runs::{JobFault, status};
-use cb_elementwise::Test;
+use cb_cli::execution::{JobFault, status};
+use cb_cli::fault_lines::fault_line;
 use cb_engines::EngineFault;
 use cb_market::{Kind, ReadFault};
+use cb_matrix::Test;
 use cb_operations::{Operation, Refusal};
 use cb_run::OperationFault;
-use cb_words::{EngineName, Job, SemiringName, Task, UsageFault, read_job};
+use cb_semirings::SemiringName;
+use cb_words::{EngineName, Job, Task, UsageFault, read_job};
 use std::alloc::{AllocError, Global};
 use std::test::Fail;
 
@@ -19,10 +20,15 @@ fn words(alloc: Global, line: &str) -> Result<Vec<String>, AllocError> {
     Ok(words)
 }
 
-/// The job of a line, or why there is none.
-pub fn job(alloc: Global, line: &str) -> Result<Job, UsageFault> {
+/// The job of a line where there are so many processors, or why there is none.
+fn job_by(alloc: Global, line: &str, processors: usize) -> Result<Job, UsageFault> {
     let words = words(alloc, line)?;
-    read_job(alloc, words.as_slice())
+    read_job(alloc, words.as_slice(), processors)
+}
+
+/// The job of a line where there are four processors, or why there is none.
+pub fn job(alloc: Global, line: &str) -> Result<Job, UsageFault> {
+    job_by(alloc, line, 4)
 }
 
 /// An operation over a semiring.
@@ -174,43 +180,99 @@ fn ask_for_each_task(rt: HostRuntime) {
     }
 }
 
-/// Whether a command line has this engine, and a grid of this side.
-fn has_engine(alloc: Global, line: &str, engine: EngineName, side: u32) -> bool {
-    match job(alloc, line) {
-        Ok(job) => job.engine == engine && job.grid.side() == side,
+/// What a line chooses where there are so many processors: the engine, the side of the grid, and whether small files may be
+/// computed alone.
+type Choice = (&'static str, usize, EngineName, u32, bool);
+
+const CHOICES: [Choice; 17] = [
+    ("cbgrid multiply a b", 1, EngineName::Plain, 1, true),
+    ("cbgrid multiply a b", 2, EngineName::Ranks(2), 2, true),
+    ("cbgrid multiply a b", 8, EngineName::Ranks(2), 2, true),
+    ("cbgrid transpose a", 9, EngineName::Ranks(2), 3, true),
+    ("cbgrid bfs a --source 1", 16, EngineName::Ranks(2), 4, true),
+    ("cbgrid add a b", 25, EngineName::Ranks(2), 5, true),
+    ("cbgrid add a b", 999, EngineName::Ranks(2), 6, true),
+    ("cbgrid add a b --grid 3", 1, EngineName::Ranks(2), 3, false),
+    (
+        "cbgrid multiply --mask m a --grid 6 b --engine plain",
+        4,
+        EngineName::Plain,
+        6,
+        false,
+    ),
+    (
+        "cbgrid transpose a --engine ranks",
+        4,
+        EngineName::Ranks(2),
+        2,
+        false,
+    ),
+    (
+        "cbgrid transpose a --engine ranks",
+        1,
+        EngineName::Ranks(2),
+        1,
+        false,
+    ),
+    (
+        "cbgrid transpose a --lane 1",
+        4,
+        EngineName::Ranks(1),
+        2,
+        false,
+    ),
+    (
+        "cbgrid bfs a --lane=64 --source 1 --engine ranks",
+        4,
+        EngineName::Ranks(64),
+        2,
+        false,
+    ),
+    (
+        "cbgrid transpose a --engine plain --lane 64",
+        4,
+        EngineName::Plain,
+        2,
+        false,
+    ),
+    (
+        "cbgrid multiply a b --trace",
+        1,
+        EngineName::Traced(2),
+        2,
+        false,
+    ),
+    (
+        "cbgrid multiply a b --trace",
+        99,
+        EngineName::Traced(2),
+        2,
+        false,
+    ),
+    (
+        "cbgrid multiply --trace a b --mask m --lane 7 --engine ranks",
+        4,
+        EngineName::Traced(7),
+        2,
+        false,
+    ),
+];
+
+/// Whether a line chooses so.
+fn chooses(alloc: Global, choice: &Choice) -> bool {
+    let (line, processors, engine, side, may_be_alone) = *choice;
+    match job_by(alloc, line, processors) {
+        Ok(job) => {
+            job.engine == engine && job.grid.side() == side && job.may_be_alone == may_be_alone
+        }
         Err(_) => false,
     }
 }
 
 #[test]
 fn choose_the_engine_and_the_grid(rt: HostRuntime) {
-    for (line, engine, side) in [
-        ("cbgrid multiply left right", EngineName::Ranks(2), 2),
-        (
-            "cbgrid multiply --mask m a --grid 6 b --engine plain",
-            EngineName::Plain,
-            6,
-        ),
-        ("cbgrid transpose a --engine ranks", EngineName::Ranks(2), 2),
-        ("cbgrid transpose a --lane 1", EngineName::Ranks(1), 2),
-        (
-            "cbgrid bfs a --lane=64 --source 1 --engine ranks",
-            EngineName::Ranks(64),
-            2,
-        ),
-        (
-            "cbgrid transpose a --engine plain --lane 64",
-            EngineName::Plain,
-            2,
-        ),
-        ("cbgrid multiply a b --trace", EngineName::Traced(2), 2),
-        (
-            "cbgrid multiply --trace a b --mask m --lane 7 --engine ranks",
-            EngineName::Traced(7),
-            2,
-        ),
-    ] {
-        assert!(rt; has_engine(rt.alloc(), line, engine, side), "{line}");
+    for choice in &CHOICES {
+        assert!(rt; chooses(rt.alloc(), choice), "{}", choice.0);
     }
 }
 

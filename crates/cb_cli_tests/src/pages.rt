@@ -1,7 +1,7 @@
 //! Answers whose text has more bytes than a page.
 use crate::products::answer;
 use crate::sinks::is_cut;
-use cb_cli::runs::JobFault;
+use cb_cli::execution::JobFault;
 use std::alloc::{AllocError, Global};
 use std::test::Fail;
 

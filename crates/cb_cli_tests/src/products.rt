@@ -2,7 +2,7 @@
 ghost use Rattle.std.specs.Prelude.{◌≡◌, false};
 
 use crate::lines::job;
-use cb_cli::runs::{JobFault, execute};
+use cb_cli::execution::{JobFault, execute};
 use cb_cli::sinks::{Sink, WriterSink};
 use std::alloc::{AllocError, Global};
 use std::sync::Wait;
@@ -49,9 +49,11 @@ pub fn run_into<R: Threads + Wait + Sync + AllocGlobal, K: Sink>(
     requires { K.has_failed out.old ≡ false }
 {
     let alloc = rt.alloc();
-    let Ok(job) = job(alloc, line) else {
+    let Ok(mut job) = job(alloc, line) else {
         return Err(JobFault::Memory);
     };
+    // The texts are small, and the ranks are what is tried.
+    job.may_be_alone = false;
     let bytes = bytes_of(alloc, texts)?;
     if bytes.len() != job.files().len() {
         return Err(JobFault::Memory);

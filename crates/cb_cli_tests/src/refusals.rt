@@ -2,7 +2,7 @@
 use crate::graphs::{CYCLE, WEIGHTLESS};
 use crate::lines::read_fault;
 use crate::products::{FIRST, SECOND, SKEW, run_into, text};
-use cb_cli::runs::JobFault;
+use cb_cli::execution::JobFault;
 use cb_cli::sinks::WriterSink;
 use cb_market::{Kind, ReadFault};
 use cb_operations::Refusal;

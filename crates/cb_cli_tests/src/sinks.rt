@@ -3,7 +3,7 @@ ghost use Rattle.std.specs.Prelude.{◌≡◌, false};
 
 use crate::graphs::CYCLE;
 use crate::products::{FIRST, PRODUCT, SECOND, run_into};
-use cb_cli::runs::JobFault;
+use cb_cli::execution::JobFault;
 use cb_cli::sinks::{Sink, WriterSink};
 use std::alloc::Global;
 use std::io::{self, Write};

@@ -1,8 +1,8 @@
 //! Products of a sparse block and a sparse vector, added to a dense vector.
 //!
 //! The sums have a place for each row of the block, whether anything is added there or not: so they serve where most
-//! rows have a sum, and where many products go to the same sums. `cb_spmspv` makes a sparse vector of its own instead,
-//! and never spends anything on a row.
+//! rows have a sum, and where many products go to the same sums. A product of `cb_product` by a block of one column makes a sparse vector of
+//! its own instead, and never spends anything on a row.
 //!
 //! A product of a block and a vector is a sum of columns: column k of the block, scaled by the vector's entry of row k,
 //! for each entry. Both the entries and the block's columns ascend, so they are walked side by side, and no column is

@@ -18,7 +18,7 @@ use Rattle.cb_placement.specs.Answers.{block_or, gathered}
 use Rattle.cb_placement.proofs.GatheredParts.{over_grid}
 use Rattle.cb_engines.specs.declared.engines.Engine.{Engine}
 use Rattle.cb_engines.specs.declared.engines.Engine.TheVariants.{Threads, Traced, InOrder}
-use Rattle.cb_engines.specs.Runs.{checked_of}
+use Rattle.cb_engines.specs.EngineRuns.{checked_of}
 use Rattle.cb_engines.specs.Orders.{IsLeftInOrder, IsOrdered, IsOrderedRun}
 
 -- the blocks that were taken out of a slot of all ranks are those that stood there

@@ -11,8 +11,8 @@ use Rattle.cb_placement.specs.Slots.{HasOperands}
 use Rattle.cb_placement.specs.Answers.{gathered}
 use Rattle.cb_world.specs.declared.events.Event.{Event}
 use Rattle.cb_world.specs.Worlds.{WorldView, IsNewWorld, AllDone}
-use Rattle.cb_world.specs.Steps.{RunsBy, FinishesBy}
-use Rattle.cb_engines.specs.Runs.{checked_of}
+use Rattle.cb_world.specs.WorldSteps.{RunsBy, FinishesBy}
+use Rattle.cb_engines.specs.EngineRuns.{checked_of}
 use Rattle.cb_engines.specs.declared.engines.Engine.{Engine}
 use Rattle.cb_engines.specs.declared.engines.Engine.TheVariants.{Threads, Traced, InOrder}
 

@@ -11,7 +11,7 @@ use Rattle.cb_plan.specs.declared.stores.Slot.TheVariants as slot_is
 use Rattle.cb_plan.specs.Meaning.{Algebra, act, target_of, result_of}
 use Rattle.cb_plan.specs.Checks.{Lanes, IsSound, operands_of}
 use Rattle.cb_plan.specs.Stores.{state_of, shapes_of, sheet_of, slot_of, is_lost, sheets_in, NoneLost}
-use Rattle.cb_plan.specs.Tables.{IsTable, cell, cell_set}
+use Rattle.cb_plan.specs.PlanTables.{IsTable, cell, cell_set}
 use Rattle.cb_plan.proofs.Cells.{set_is_table}
 use Rattle.cb_plan.proofs.Effects.{same_state}
 use Rattle.cb_plan.proofs.ActOnStores.{read_at, first_below, state_after_set, none_lost_after_set}

@@ -10,7 +10,7 @@ use Rattle.cb_plan.specs.Algebras.{matrices, shapes}
 use Rattle.cb_plan.specs.Checks.{Lanes, IsSound, fault_from, shut_after, none_shut}
 use Rattle.cb_plan.specs.Stores.{state_of, shapes_of, NoneLost, Fits}
 use Rattle.cb_plan.specs.Plans.{CheckedView, IsChecked}
-use Rattle.cb_plan.specs.Tables.{IsTable}
+use Rattle.cb_plan.specs.PlanTables.{IsTable}
 use Rattle.cb_plan.proofs.Faults.{next_element}
 use Rattle.cb_plan.proofs.Effects.{same_state}
 use Rattle.cb_plan.proofs.PassingActs.{no_fault_next}

@@ -9,7 +9,7 @@ use Rattle.cb_plan.specs.Meaning.{meaning}
 use Rattle.cb_plan.specs.Algebras.{matrices}
 use Rattle.cb_plan.specs.Checks.{Lanes, fault_from}
 use Rattle.cb_plan.specs.Stores.{state_of, shapes_of, NoneLost}
-use Rattle.cb_plan.specs.Tables.{IsTable}
+use Rattle.cb_plan.specs.PlanTables.{IsTable}
 
 -- after the first i acts
 pub record Runs (s : Arithmetic) (ranks : ℕ) (acts : List Act) (i : ℕ) (first now : List (List (Slot Sparse))) : Type 0 where

@@ -11,7 +11,6 @@ use cb_plan::{Op, RankStore, SLOTS, Slot};
 use cb_product::{multiply, multiply_into};
 use cb_reshape::{cut, place, transpose};
 use cb_semirings::Semiring;
-use cb_spmspv::times_vector;
 use std::alloc::{AllocError, Global};
 
 /// Does an operation whose operands are there, with the shapes that it asks for. On refusal the slots are as
@@ -63,7 +62,7 @@ fn made_by<S: Semiring>(
             Ok(Slot::Sheet(place(alloc, store.sheet(a), shape, at)?))
         }
         Op::MulVec { a, x, .. } => {
-            Ok(Slot::Sheet(times_vector(alloc, store.sheet(a), store.sheet(x))?))
+            Ok(Slot::Sheet(multiply(alloc, store.sheet(a), store.sheet(x))?))
         }
         Op::Prune { a, test, .. } => Ok(Slot::Sheet(prune(alloc, store.sheet(a), test)?)),
         Op::Copy { a, .. } => Ok(Slot::Sheet(store.sheet(a).try_clone()?)),

@@ -4,7 +4,7 @@ ghost use Rattle.cb_plan.specs.Meaning.{act, meaning};
 ghost use Rattle.cb_plan.specs.Algebras.{matrices};
 ghost use Rattle.cb_plan.specs.Checks.{Lanes, IsSound};
 ghost use Rattle.cb_plan.specs.Stores.{state_of, shapes_of, NoneLost, Fits};
-ghost use Rattle.cb_plan.specs.Tables.{IsTable};
+ghost use Rattle.cb_plan.specs.PlanTables.{IsTable};
 
 use crate::kernels::work;
 use cb_plan::{Act, CheckedPlan, RankStore, SLOTS};

@@ -2,7 +2,7 @@
 use Rattle.std.proofs.Common.{◌≤◌, arith}
 use Rattle.cb_operations.specs.declared.operations.Operation.{Operation}
 use Rattle.cb_operations.specs.declared.operations.Operation.TheVariants.{Multiply, MultiplyMasked, MultiplyVector, Transpose, Add, Times, Prune}
-use Rattle.cb_operations.specs.Operations.{operand_count_of}
+use Rattle.cb_operations.specs.OperationAnswers.{operand_count_of}
 
 pub count_few : (operation : Operation) → operand_count_of operation ≤ 3
 count_few Multiply = omega arith

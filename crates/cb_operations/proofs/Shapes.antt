@@ -4,7 +4,7 @@ use Rattle.cb_semirings.specs.Arithmetic.{Arithmetic}
 use Rattle.cb_matrix.specs.Sparse.{Sparse, Extent}
 use Rattle.cb_operations.specs.declared.operations.Operation.{Operation}
 use Rattle.cb_operations.specs.declared.operations.Operation.TheVariants.{Multiply, MultiplyMasked, MultiplyVector, Transpose, Add, Times, Prune}
-use Rattle.cb_operations.specs.Operations.{extent_at, matrix_at, outer, shape_of, answer_of, shapes_in, IsShapeOfAnswers}
+use Rattle.cb_operations.specs.OperationAnswers.{extent_at, matrix_at, outer, shape_of, answer_of, shapes_in, IsShapeOfAnswers}
 
 -- the shape of a matrix of a list is the one of the list of their shapes
 first_shape : (ms : List Sparse) → (matrix_at ms 0).shape ≡ extent_at (shapes_in ms) 0

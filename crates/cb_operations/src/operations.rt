@@ -1,9 +1,8 @@
 //! An operation, and the shapes that it takes.
 ghost use Rattle.std.specs.Prelude.{◌≡◌, ◌≤◌, length, IfSome, IfNone};
-ghost use Rattle.cb_operations.specs.Operations.{operand_count_of, Agree, IsShapeOfAnswers, shape_of};
+ghost use Rattle.cb_operations.specs.OperationAnswers.{operand_count_of, Agree, IsShapeOfAnswers, shape_of};
 
-use cb_elementwise::Test;
-use cb_matrix::Shape;
+use cb_matrix::{Shape, Test};
 
 /// No operation takes more matrices.
 pub const MOST_OPERANDS: usize = 3;

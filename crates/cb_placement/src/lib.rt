@@ -8,10 +8,10 @@
 ghost use Rattle.std.specs.Prelude.{◌≡◌};
 ghost use Rattle.cb_placement.specs.declared.DrainFault.TheVariants.{Memory};
 
-mod stores;
+mod placed_stores;
 
+pub use placed_stores::{blank, drain, fill, laid_out};
 use std::alloc::AllocError;
-pub use stores::{blank, drain, fill, laid_out};
 use thiserror::Error;
 
 /// Why the blocks in a slot can't be handed out.

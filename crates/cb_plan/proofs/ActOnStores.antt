@@ -7,7 +7,7 @@ use Rattle.cb_plan.specs.declared.stores.Slot.{Slot}
 use Rattle.cb_plan.specs.declared.stores.Slot.TheVariants as slot_is
 use Rattle.cb_plan.specs.Checks.{all_below}
 use Rattle.cb_plan.specs.Stores.{state_of, sheet_of, is_lost, NoneLost}
-use Rattle.cb_plan.specs.Tables.{IsTable, cell_set}
+use Rattle.cb_plan.specs.PlanTables.{IsTable, cell_set}
 use Rattle.cb_plan.proofs.Cells.{cell_after_set}
 use Rattle.cb_plan.proofs.Effects.{split}
 

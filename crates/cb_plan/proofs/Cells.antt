@@ -3,7 +3,7 @@ use Rattle.std.proofs.Common.{◌≡◌, ◌≢◌, ℕ, ◌<◌, false, List, [
 use Rattle.std.specs.Prelude.{Option, None, ◌==◌, ◌&&◌, if◌then◌else◌}
 use Rattle.std.proofs.lemmas.Bool.Decides.{nat_tests}
 use Rattle.std.proofs.lemmas.List.{length-set, get_or-set_same, get_or-set_other, get_or-replicate, length-replicate}
-use Rattle.cb_plan.specs.Tables.{cell, cell_set, IsTable}
+use Rattle.cb_plan.specs.PlanTables.{cell, cell_set, IsTable}
 use Rattle.cb_matrix.specs.Sparse.{Extent}
 use Rattle.cb_plan.specs.Checks.{CheckState, IsCheckState, IsBlank, SetSlot, slots_in, lanes_in}
 use Rattle.cb_plan.proofs.Effects.{split}

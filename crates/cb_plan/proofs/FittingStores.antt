@@ -11,7 +11,7 @@ use Rattle.cb_plan.specs.Meaning.{State, one}
 use Rattle.cb_plan.specs.Checks.{started, started_from, with_start, same_shape}
 use Rattle.cb_plan.specs.Plans.{CheckedView, IsChecked, IsElsewhere}
 use Rattle.cb_plan.specs.Stores.{Fits, sheet_of, shapes_of, is_lost, is_filled, is_shape, stands, all_stand, count_filled, NoneLost}
-use Rattle.cb_plan.specs.Tables.{IsTable, cell, cell_set}
+use Rattle.cb_plan.specs.PlanTables.{IsTable, cell, cell_set}
 use Rattle.cb_plan.proofs.Cells.{cell_after_set, set_is_table}
 use Rattle.cb_plan.proofs.SlotCounts.{count_emptied, none_filled, all_empty}
 use Rattle.cb_plan.proofs.Effects.{split, same_state}

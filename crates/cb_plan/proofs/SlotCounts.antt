@@ -8,7 +8,7 @@ use Rattle.cb_matrix.specs.Sparse.{Sparse}
 use Rattle.cb_plan.specs.declared.stores.Slot.{Slot}
 use Rattle.cb_plan.specs.declared.stores.Slot.TheVariants as slot_is
 use Rattle.cb_plan.specs.Stores.{is_filled, count_filled}
-use Rattle.cb_plan.specs.Tables.{IsTable, cell, cell_set}
+use Rattle.cb_plan.specs.PlanTables.{IsTable, cell, cell_set}
 use Rattle.cb_plan.proofs.Effects.{split}
 
 below_or_past : (n m : ℕ) → (n < m → n < m) × (m ≤ n → m ≤ n)

@@ -4,7 +4,7 @@ use Rattle.cb_semirings.specs.Arithmetic.{Arithmetic}
 use Rattle.cb_matrix.specs.Sparse.{Sparse, Extent}
 use Rattle.cb_matrix.specs.Values.{empty_matrix, product}
 use Rattle.cb_matrix.specs.Operations.{sum_of, times_of, transposed, cut, placed, pruned, masked}
-use Rattle.cb_elementwise.specs.Passing.{passes}
+use Rattle.cb_matrix.specs.Passing.{passes}
 use Rattle.cb_plan.specs.Meaning.{Algebra}
 
 -- the operations on matrices over a semiring

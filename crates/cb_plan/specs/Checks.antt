@@ -13,7 +13,7 @@ use Rattle.cb_plan.specs.declared.acts.Start.{Start}
 use Rattle.cb_plan.specs.declared.stores.TheConstants.{SLOTS}
 use Rattle.cb_plan.specs.Meaning.{State, one, two, three, act, target_of}
 use Rattle.cb_plan.specs.Algebras.{shapes}
-use Rattle.cb_plan.specs.Tables.{cell, IsTable}
+use Rattle.cb_plan.specs.PlanTables.{cell, IsTable}
 
 -- which lanes are shut
 abbrev pub Lanes : Type 0

@@ -1,14 +1,14 @@
 -- Meaning: what acts do, over blocks of any kind. Algebras: on matrices, and on shapes alone.
 -- Plans: what contracts see of a plan. Checks: the first fault of a plan. Programs: the halves of each rank.
--- Letters: what a plan posts on each lane. Tables: rows of equal length. Stores: the slots of the ranks.
--- Runnable: a plan that can run as it is. Rows: worked plans.
+-- PlanLetters: what a plan posts on each lane. PlanTables: rows of equal length. Stores: the slots of the ranks.
+-- Runnable: a plan that can run as it is. PlanRows: worked plans.
 pub mod Meaning
 pub mod Algebras
 pub mod Plans
-pub mod Tables
+pub mod PlanTables
 pub mod Checks
 pub mod Programs
-pub mod Letters
+pub mod PlanLetters
 pub mod Stores
 pub mod Runnable
-pub mod Rows
+pub mod PlanRows

@@ -1,7 +1,7 @@
 -- What a plan means, act by act, over blocks of any kind.
 use Rattle.std.specs.Prelude.{◌≡◌, ℕ, Bool, true, false, ◌&&◌, ◌==◌, if◌then◌else◌, List, [], ◌∷◌, Option, Some, None}
 use Rattle.cb_matrix.specs.Sparse.{Extent}
-use Rattle.cb_elementwise.specs.declared.rules.Test.{Test}
+use Rattle.cb_matrix.specs.declared.passing.Test.{Test}
 use Rattle.cb_plan.specs.declared.acts.Op.{Op}
 use Rattle.cb_plan.specs.declared.acts.Op.TheVariants as op_is
 use Rattle.cb_plan.specs.declared.acts.Act.{Act}

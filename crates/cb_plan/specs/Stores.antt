@@ -6,7 +6,7 @@ use Rattle.cb_plan.specs.declared.stores.Slot.{Slot}
 use Rattle.cb_plan.specs.declared.stores.Slot.TheVariants as slot_is
 use Rattle.cb_plan.specs.declared.stores.TheConstants.{SLOTS}
 use Rattle.cb_plan.specs.Meaning.{State, one, images}
-use Rattle.cb_plan.specs.Tables.{cell, IsTable}
+use Rattle.cb_plan.specs.PlanTables.{cell, IsTable}
 use Rattle.cb_plan.specs.Checks.{started, same_shape}
 
 module _ {M : Type 0} where

@@ -1,7 +1,6 @@
 //! What ranks do: operations on their own slots, and acts between two ranks.
-use cb_elementwise::Test;
 use cb_letters::Tag;
-use cb_matrix::Shape;
+use cb_matrix::{Shape, Test};
 
 /// An operation on the slots of one rank. Its operands are read before its slot is set, so one slot may stand in
 /// it twice.

@@ -10,7 +10,7 @@
 //! that it can't take, and each lane is shut once, after its last letter. A plan that its maker proves to run
 //! (`specs/Runnable`) isn't looked at again: [`Planned::into_checked`]. A checked plan is done on stores that it
 //! [`fits`](CheckedPlan::fits): by one thread, or by ranks that run apart. [`CheckedPlan::project`] gives the
-//! program of each of them; `specs/Letters` says what they post to each other.
+//! program of each of them; `specs/PlanLetters` says what they post to each other.
 #![tactic(auto)]
 
 mod acts;

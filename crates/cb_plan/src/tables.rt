@@ -1,6 +1,6 @@
 //! Tables: rows of equal length.
 ghost use Rattle.std.specs.Prelude.{◌≡◌, ◌<◌, ℕ, length, IfOk, replicate, get_or, slice_set, []};
-ghost use Rattle.cb_plan.specs.Tables.{cell, cell_set, IsTable};
+ghost use Rattle.cb_plan.specs.PlanTables.{cell, cell_set, IsTable};
 
 use std::alloc::{AllocError, Global};
 use std::marker::Model;

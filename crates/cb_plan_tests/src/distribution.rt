@@ -1,9 +1,9 @@
 //! What plans over a grid are made of: acts, starts, and that calls with ample memory succeed.
 ghost use Rattle.std.specs.Prelude.{◌≡◌, IfOk};
 
-use cb_distribution::{Operand, finish, operand_starts, work_everywhere, zero_everywhere};
 use cb_layout::Grid;
 use cb_plan::{Act, Op, Plan, Start};
+use cb_plan_parts::{Operand, finish, operand_starts, work_everywhere, zero_everywhere};
 use cb_samples::shape;
 use std::alloc::Global;
 use std::test::Fail;

@@ -3,13 +3,12 @@ ghost use Rattle.std.specs.Prelude.{◌<◌, IfOk};
 ghost use Rattle.cb_plan.specs.Runnable.{IsRunnable};
 
 use cb_dcsc::Block;
-use cb_elementwise::Test;
-use cb_kernels::{
+use cb_grid_plans::{
     LEFT, RESULT, RIGHT, grid_add, grid_prune, grid_times, grid_transpose, grid_vector,
 };
 use cb_layout::Grid;
 use cb_local::run_plain;
-use cb_matrix::{Entry, Matrix, Shape};
+use cb_matrix::{Entry, Matrix, Shape, Test};
 use cb_plan::{PlanFault, PlanFaultKind, Planned, RankStore, SLOTS, Slot};
 use cb_samples::{are_values, entry, shape};
 use cb_semirings::PlusTimes;

@@ -1,8 +1,8 @@
 //! The plan of each operation, by the shapes of its operands.
 //!
-//! [`plan_of`] answers a plan that is right over every semiring at once: `specs/Plans` says so of it in one line.
+//! [`plan_of`] answers a plan that is right over every semiring at once: `specs/OperationPlans` says so of it in one line.
 #![tactic(auto)]
 
-mod plans;
+mod operation_plans;
 
-pub use plans::plan_of;
+pub use operation_plans::plan_of;

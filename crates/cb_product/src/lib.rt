@@ -41,7 +41,9 @@ mod sparse_accumulator;
 mod terms;
 mod workspace;
 
-/// The product of two blocks.
+/// The product of two blocks. A block of one column is a sparse vector: its entries name the columns that are merged, and
+/// a vector with one entry costs one column of the matrix. A search in a graph lives on that call: a frontier times the
+/// matrix of edges is the next frontier, as in Buluç and Gilbert, The Combinatorial BLAS (IJHPCA 2011, section 3.2).
 ///
 /// The columns of the left block are as many as the rows of the right.
 pub fn multiply<S: Semiring>(

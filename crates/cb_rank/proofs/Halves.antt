@@ -18,7 +18,7 @@ use Rattle.cb_plan.specs.declared.stores.Slot.TheVariants as slot_is
 use Rattle.cb_plan.specs.Meaning.{Algebra, State, needs_memory, one, two, three, result_of}
 use Rattle.cb_plan.specs.Algebras.{matrices}
 use Rattle.cb_plan.specs.Checks.{operands_of, all_filled}
-use Rattle.cb_plan.specs.Letters.{Sheet}
+use Rattle.cb_plan.specs.PlanLetters.{Sheet}
 use Rattle.cb_plan.specs.Programs.{take_of, halves_of}
 use Rattle.cb_plan.specs.Stores.{sheet_of, slot_of, sheets_in}
 use Rattle.cb_rank.specs.Agreement.{IsSlotOf, IsBodyOf}

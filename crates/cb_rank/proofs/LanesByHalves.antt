@@ -11,7 +11,7 @@ use Rattle.cb_plan.specs.declared.acts.Half.{Half}
 use Rattle.cb_plan.specs.declared.acts.Half.TheVariants as half_is
 use Rattle.cb_plan.specs.Algebras.{shapes}
 use Rattle.cb_plan.specs.Checks.{Passes, Lanes, shut_after, lanes_after}
-use Rattle.cb_plan.specs.Letters.{count_of, before}
+use Rattle.cb_plan.specs.PlanLetters.{count_of, before}
 use Rattle.cb_plan.specs.Meaning.{State, act}
 use Rattle.cb_plan.specs.Programs.{take_of, halves_of, project_from}
 use Rattle.cb_rank.specs.Ranks.{posted_to, is_shut_to, standing_by}

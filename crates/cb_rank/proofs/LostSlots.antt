@@ -12,7 +12,7 @@ use Rattle.cb_plan.specs.Algebras.{matrices}
 use Rattle.cb_plan.specs.Meaning.{State, meaning}
 use Rattle.cb_plan.specs.Plans.{CheckedView}
 use Rattle.cb_plan.specs.Stores.{state_of, sheet_of, is_lost, NoneLost}
-use Rattle.cb_plan.specs.Tables.{cell}
+use Rattle.cb_plan.specs.PlanTables.{cell}
 use Rattle.cb_plan.proofs.Effects.{same_state}
 use Rattle.cb_rank.specs.Agreement.{IsSlotOf}
 use Rattle.cb_rank.specs.Leavings.{HoldsMeaning}

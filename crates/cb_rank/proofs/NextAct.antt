@@ -11,7 +11,7 @@ use Rattle.cb_plan.specs.declared.acts.Half.{Half}
 use Rattle.cb_plan.specs.declared.acts.Half.TheVariants as half_is
 use Rattle.cb_plan.specs.Algebras.{shapes}
 use Rattle.cb_plan.specs.Checks.{IsSound, Passes, Lanes, shut_after, lanes_after, none_shut, started, all_below, all_filled, operands_of, shapes_agree}
-use Rattle.cb_plan.specs.Letters.{count_of, before, next_act}
+use Rattle.cb_plan.specs.PlanLetters.{count_of, before, next_act}
 use Rattle.cb_plan.specs.Meaning.{State, act, meaning, target_of}
 use Rattle.cb_plan.specs.Programs.{halves_of, project_from}
 use Rattle.cb_plan.proofs.PassingActs.{checked_passes}

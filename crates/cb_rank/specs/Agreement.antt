@@ -9,7 +9,7 @@ use Rattle.cb_plan.specs.declared.acts.Act.{Act}
 use Rattle.cb_plan.specs.declared.stores.Slot.{Slot}
 use Rattle.cb_plan.specs.declared.stores.Slot.TheVariants as slot_is
 use Rattle.cb_plan.specs.Meaning.{Algebra, State, meaning}
-use Rattle.cb_plan.specs.Letters.{Cargo, Sheet, Mark, letters, before}
+use Rattle.cb_plan.specs.PlanLetters.{Cargo, Sheet, Mark, letters, before}
 
 -- a slot stands for what the plan means there: it is empty where that is empty, holds it, or is lost, and then a rank was refused memory
 abbrev pub IsSlotOf : {M : Type 0} → (ℕ → ℕ) → Option M → Slot M → Type 0

@@ -9,7 +9,7 @@ use Rattle.cb_plan.specs.Algebras.{matrices}
 use Rattle.cb_plan.specs.Meaning.{meaning}
 use Rattle.cb_plan.specs.Plans.{CheckedView}
 use Rattle.cb_plan.specs.Stores.{state_of, NoneLost}
-use Rattle.cb_plan.specs.Tables.{cell, IsTable}
+use Rattle.cb_plan.specs.PlanTables.{cell, IsTable}
 use Rattle.cb_rank.specs.Agreement.{IsSlotOf}
 
 -- the store of each rank, and how often each was refused memory: they hold what the plan means for these first stores

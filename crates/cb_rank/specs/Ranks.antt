@@ -10,7 +10,7 @@ use Rattle.cb_plan.specs.declared.stores.Slot.TheVariants as slot_is
 use Rattle.cb_plan.specs.declared.stores.TheConstants.{SLOTS}
 use Rattle.cb_plan.specs.Algebras.{shapes}
 use Rattle.cb_plan.specs.Checks.{started}
-use Rattle.cb_plan.specs.Letters.{before}
+use Rattle.cb_plan.specs.PlanLetters.{before}
 use Rattle.cb_plan.specs.Meaning.{meaning}
 use Rattle.cb_plan.specs.Plans.{CheckedView, IsChecked}
 use Rattle.cb_plan.specs.Programs.{project}

@@ -19,7 +19,7 @@ use Rattle.cb_plan.specs.declared.stores.Slot.{Slot}
 use Rattle.cb_plan.specs.declared.stores.Slot.TheVariants as slot_is
 use Rattle.cb_plan.specs.Algebras.{matrices}
 use Rattle.cb_plan.specs.Checks.{IsSound, Lanes, operands_of}
-use Rattle.cb_plan.specs.Letters.{Cargo, Sheet, Mark, letter_of}
+use Rattle.cb_plan.specs.PlanLetters.{Cargo, Sheet, Mark, letter_of}
 use Rattle.cb_plan.specs.Meaning.{State, act, one, result_of, target_of}
 use Rattle.cb_plan.specs.Programs.{halves_of, take_of}
 use Rattle.cb_plan.proofs.ActOnStores.{first_below}

@@ -8,7 +8,7 @@ use Rattle.cb_plan.specs.declared.acts.Act.{Act}
 use Rattle.cb_plan.specs.declared.stores.Slot.TheVariants as slot_is
 use Rattle.cb_plan.specs.Algebras.{matrices, shapes}
 use Rattle.cb_plan.specs.Checks.{Passes, Lanes, shut_after, none_shut, started}
-use Rattle.cb_plan.specs.Letters.{Cargo, letter_of, letters}
+use Rattle.cb_plan.specs.PlanLetters.{Cargo, letter_of, letters}
 use Rattle.cb_plan.specs.Meaning.{State, act, images, meaning, one}
 use Rattle.cb_plan.specs.Programs.{halves_of, project_from}
 use Rattle.cb_plan.specs.Stores.{state_of}

@@ -21,12 +21,12 @@ use Rattle.cb_plan.specs.declared.stores.Slot.TheVariants as slot_is
 use Rattle.cb_plan.specs.declared.stores.TheConstants.{SLOTS}
 use Rattle.cb_plan.specs.Algebras.{matrices, shapes}
 use Rattle.cb_plan.specs.Checks.{IsSound, Passes, Lanes, shut_after, none_shut, started}
-use Rattle.cb_plan.specs.Letters.{Cargo, count_of, letters}
+use Rattle.cb_plan.specs.PlanLetters.{Cargo, count_of, letters}
 use Rattle.cb_plan.specs.Meaning.{Algebra, State, act, meaning}
 use Rattle.cb_plan.specs.Plans.{CheckedView, IsChecked}
 use Rattle.cb_plan.specs.Programs.{project}
 use Rattle.cb_plan.specs.Stores.{state_of, Fits}
-use Rattle.cb_plan.specs.Tables.{cell, IsTable}
+use Rattle.cb_plan.specs.PlanTables.{cell, IsTable}
 use Rattle.cb_plan.proofs.PassingActs.{checked_passes}
 use Rattle.cb_plan.proofs.ActOnStores.{first_below}
 use Rattle.cb_lanes.specs.declared.desk.Desk.{Desk}

@@ -8,7 +8,7 @@ use Rattle.cb_plan.specs.declared.acts.Act.TheVariants as act_is
 use Rattle.cb_plan.specs.declared.acts.Half.{Half}
 use Rattle.cb_plan.specs.declared.acts.Half.TheVariants as half_is
 use Rattle.cb_plan.specs.Checks.{IsSound, Lanes, shut_after, lanes_after, none_shut}
-use Rattle.cb_plan.specs.Letters.{count_of, before, next_act}
+use Rattle.cb_plan.specs.PlanLetters.{count_of, before, next_act}
 use Rattle.cb_rank.specs.Ranks.{RankView, IsRank, next_half}
 use Rattle.cb_rank.proofs.OwnActs.{split, one_half}
 use Rattle.cb_rank.proofs.Halves.{is_post, is_take, is_work, is_shut, is_end}

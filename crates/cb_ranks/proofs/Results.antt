@@ -11,7 +11,7 @@ use Rattle.cb_plan.specs.declared.stores.Slot.{Slot}
 use Rattle.cb_plan.specs.declared.stores.Slot.TheVariants as slot_is
 use Rattle.cb_plan.specs.Algebras.{matrices}
 use Rattle.cb_plan.specs.Checks.{operands_of}
-use Rattle.cb_plan.specs.Letters.{Sheet}
+use Rattle.cb_plan.specs.PlanLetters.{Sheet}
 use Rattle.cb_plan.specs.Meaning.{result_of}
 use Rattle.cb_plan.specs.Stores.{is_lost, sheet_of}
 use Rattle.cb_rank.specs.Agreement.{IsSlotOf, IsBodyOf}

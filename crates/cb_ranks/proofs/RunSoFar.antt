@@ -10,7 +10,7 @@ use Rattle.cb_lanes.specs.Desks.{identity}
 use Rattle.cb_lanes.specs.Numbers.{AreNumbered}
 use Rattle.cb_plan.specs.declared.acts.Half.{Half}
 use Rattle.cb_plan.specs.Checks.{none_shut, lanes_after}
-use Rattle.cb_plan.specs.Letters.{before}
+use Rattle.cb_plan.specs.PlanLetters.{before}
 use Rattle.cb_rank.specs.Halves.{Course, DoesHalf, RunsTo}
 use Rattle.cb_rank.specs.Ranks.{RankView, IsRank, next_half, onward}
 use Rattle.cb_rank.proofs.LanesByHalves.{take-next}

@@ -5,7 +5,7 @@ use Rattle.cb_matrix.specs.Sparse.{Sparse}
 use Rattle.cb_letters.specs.declared.Letter.{Letter}
 use Rattle.cb_plan.specs.declared.stores.Slot.{Slot}
 use Rattle.cb_plan.specs.Algebras.{matrices}
-use Rattle.cb_plan.specs.Letters.{letters}
+use Rattle.cb_plan.specs.PlanLetters.{letters}
 use Rattle.cb_plan.specs.Plans.{CheckedView}
 use Rattle.cb_plan.specs.Stores.{state_of}
 use Rattle.cb_rank.specs.Agreement.{AreLettersOf}

@@ -6,7 +6,7 @@ use Rattle.cb_matrix.specs.Sparse.{Sparse}
 use Rattle.cb_letters.specs.Posted.{ends_closed}
 use Rattle.cb_plan.specs.declared.acts.Half.{Half}
 use Rattle.cb_plan.specs.Checks.{lanes_after, none_shut}
-use Rattle.cb_plan.specs.Letters.{before}
+use Rattle.cb_plan.specs.PlanLetters.{before}
 use Rattle.cb_lanes.specs.declared.desk.Desk.{Desk}
 use Rattle.cb_lanes.specs.Desks.{identity, posted_to, taken_from}
 use Rattle.cb_lanes.specs.Numbers.{AreNumbered}

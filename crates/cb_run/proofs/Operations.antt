@@ -7,13 +7,13 @@ use Rattle.cb_plan.specs.declared.plans.Planned.{Planned}
 use Rattle.cb_trace.specs.Traces.{TraceView}
 use Rattle.cb_operations.specs.declared.operations.Operation.{Operation}
 use Rattle.cb_operations.specs.declared.operations.Operation.TheVariants.{Multiply, MultiplyMasked, MultiplyVector, Transpose, Add, Times, Prune}
-use Rattle.cb_operations.specs.Operations.{shape_of, answer_of, shapes_in}
+use Rattle.cb_operations.specs.OperationAnswers.{shape_of, answer_of, shapes_in}
 use Rattle.cb_placement.specs.Answers.{Makes}
-use Rattle.cb_planner.specs.Plans.{Computes, placed_operands}
+use Rattle.cb_planner.specs.OperationPlans.{Computes, placed_operands}
 use Rattle.cb_engines.specs.declared.engines.Engine.{Engine}
 use Rattle.cb_engines.specs.declared.engines.Engine.TheVariants.{Threads, Traced, InOrder}
-use Rattle.cb_engines.specs.Runs.{IsTraceOf, checked_of}
-use Rattle.cb_run.specs.Runs.{IsPlanFor, IsTraceFor}
+use Rattle.cb_engines.specs.EngineRuns.{IsTraceOf, checked_of}
+use Rattle.cb_run.specs.Outcomes.{IsPlanFor, IsTraceFor}
 
 module _ (operation : Operation) (q : ℕ) where
   -- a plan that computes an operation makes what the operation does of these matrices, where they lie in its slots

@@ -8,14 +8,14 @@ use Rattle.cb_plan.specs.Plans.{CheckedView}
 use Rattle.cb_world.specs.declared.events.Event.{Event}
 use Rattle.cb_operations.specs.declared.operations.Operation.{Operation}
 use Rattle.cb_operations.specs.declared.operations.Operation.TheVariants.{Multiply, MultiplyMasked, MultiplyVector, Transpose, Add, Times, Prune}
-use Rattle.cb_operations.specs.Operations.{shape_of, shapes_in}
-use Rattle.cb_planner.specs.Plans.{Computes, placed_operands}
+use Rattle.cb_operations.specs.OperationAnswers.{shape_of, shapes_in}
+use Rattle.cb_planner.specs.OperationPlans.{Computes, placed_operands}
 use Rattle.cb_engines.specs.declared.engines.Engine.{Engine}
 use Rattle.cb_engines.specs.declared.engines.Engine.TheVariants.{Threads, Traced, InOrder}
 use Rattle.cb_engines.specs.Orders.{IsSteppedRun, IsOrderedRun}
 use Rattle.cb_vectors.specs.SpreadVectors.{MultipliesVectors}
 use Rattle.cb_vectors.specs.VectorOrders.{IsOrderedProduct}
-use Rattle.cb_run.specs.Runs.{IsSteppedFor, IsOrderedFor}
+use Rattle.cb_run.specs.Outcomes.{IsSteppedFor, IsOrderedFor}
 
 module _ (s : Arithmetic) (q : ℕ) (ms : List Sparse) where
   stepped_for : (operation : Operation) → operation ≢ MultiplyVector → (planned : Planned) → Computes operation q (shapes_in ms) planned → (letters : ℕ) (order : List Event) (answer : Distributed) (refusals : List ℕ) →

@@ -4,9 +4,9 @@ use Rattle.cb_matrix.specs.Sparse.{Extent}
 use Rattle.cb_operations.specs.declared.refusals.Refusal.{Refusal}
 use Rattle.cb_operations.specs.declared.refusals.Refusal.TheVariants as refusal_is
 use Rattle.cb_engines.specs.declared.engines.Engine.{Engine}
-use Rattle.cb_engines.specs.Runs.{IsEngineFault}
-use Rattle.cb_run.specs.declared.faults.OperationFault.{OperationFault}
-use Rattle.cb_run.specs.declared.faults.OperationFault.TheVariants.{Refused, Failed}
+use Rattle.cb_engines.specs.EngineRuns.{IsEngineFault}
+use Rattle.cb_run.specs.declared.operation_faults.OperationFault.{OperationFault}
+use Rattle.cb_run.specs.declared.operation_faults.OperationFault.TheVariants.{Refused, Failed}
 
 -- a matrix of this shape is square, and the source one of its vertices
 pub record HasSource (d : Extent) (source : ℕ) : Type 0 where

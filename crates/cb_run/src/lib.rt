@@ -5,12 +5,12 @@
 //! takes and answers whole matrices. What an operation makes, and when shapes agree, is said in [`cb_operations`] alone.
 #![tactic(auto)]
 
-mod faults;
-mod operands;
+mod operation_faults;
 mod runs;
-mod vectors;
+mod scattered_operands;
+mod spread_vectors;
 mod walks;
 
-pub use faults::OperationFault;
+pub use operation_faults::OperationFault;
 pub use runs::{run, run_matrices};
 pub use walks::{check_graph, distances, levels};

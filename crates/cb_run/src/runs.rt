@@ -2,12 +2,12 @@
 ghost use Rattle.std.specs.Prelude.{◌≡◌, ◌≢◌, length, map, All, IfOk, IfErr};
 ghost use Rattle.cb_matrix.specs.Sparse.{IsMatrix};
 ghost use Rattle.cb_operations.specs.Operands.{list_of};
-ghost use Rattle.cb_operations.specs.Operations.{operand_count_of, Agree, answer_of, shape_of, shapes_in};
-ghost use Rattle.cb_run.specs.Runs.{IsOutcome, IsRefusal, LieOver, wholes};
+ghost use Rattle.cb_operations.specs.OperationAnswers.{operand_count_of, Agree, answer_of, shape_of, shapes_in};
+ghost use Rattle.cb_run.specs.Outcomes.{IsOutcome, IsRefusal, LieOver, wholes};
 
 use crate::OperationFault;
-use crate::operands::{empty_product, placed, plan_in, scattered, shape_in};
-use crate::vectors::run_vector;
+use crate::scattered_operands::{empty_product, placed, plan_in, scattered, shape_in};
+use crate::spread_vectors::run_vector;
 use cb_engines::{Engine, Outcome, compute};
 use cb_layout::{DistributedMatrix, Grid};
 use cb_matrix::{Matrix, Shape};

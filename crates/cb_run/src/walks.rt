@@ -5,7 +5,7 @@ ghost use Rattle.cb_semirings.specs.Tables.{min_plus};
 ghost use Rattle.cb_matrix.specs.Sparse.{Sparse};
 ghost use Rattle.cb_matrix.specs.Operations.{transposed};
 ghost use Rattle.cb_searches.specs.Walks.{AreLevels, AreDistances};
-ghost use Rattle.cb_engines.specs.Runs.{IsEngineFault};
+ghost use Rattle.cb_engines.specs.EngineRuns.{IsEngineFault};
 ghost use Rattle.cb_run.specs.Searched.{HasSource, IsGraphRefusal, IsWalkRefusal};
 
 use crate::{OperationFault, run};

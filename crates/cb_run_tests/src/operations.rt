@@ -3,10 +3,9 @@ use crate::examples::{
     ENGINES, MASKED, PRODUCT, Place, RUNS, grid, has, is_right_or_refused, matrix, operands,
 };
 use cb_dcsc::Block;
-use cb_elementwise::Test;
 use cb_engines::Engine;
 use cb_layout::Grid;
-use cb_matrix::Matrix;
+use cb_matrix::{Matrix, Test};
 use cb_operations::{Operands, Operation, Refusal};
 use cb_run::{OperationFault, run_matrices};
 use cb_semirings::PlusTimes;

@@ -86,7 +86,7 @@ fn levels_by<R: Threads + Wait + Sync>(
 }
 
 /// The distances.
-fn distances_by<R: Threads + Wait + Sync>(
+pub fn distances_by<R: Threads + Wait + Sync>(
     rt: &R,
     alloc: Global,
     by: By,

@@ -1,2 +1,2 @@
--- Faults: why an operation makes nothing of blocks.
-pub mod Faults
+-- SerialFaults: why an operation makes nothing of blocks.
+pub mod SerialFaults

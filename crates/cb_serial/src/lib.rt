@@ -3,7 +3,7 @@
 #![tactic(auto)]
 
 ghost use Rattle.std.specs.Prelude.{◌≡◌, length, IfOk};
-ghost use Rattle.cb_operations.specs.Operations.{operand_count_of, Agree, answer_of, shapes_in};
+ghost use Rattle.cb_operations.specs.OperationAnswers.{operand_count_of, Agree, answer_of, shapes_in};
 
 mod checked;
 

@@ -12,7 +12,7 @@ use Rattle.cb_matrix.proofs.Split.{total_parts}
 use Rattle.cb_layout.specs.Parts.{part_start, part_length, part_shape}
 use Rattle.cb_layout.specs.Blocks.{block_of}
 use Rattle.cb_plan.specs.Algebras.{matrices}
-use Rattle.cb_distribution.proofs.PartStarts.{start_zero, start_rises, start_within, start_last, map_below}
+use Rattle.cb_plan_parts.proofs.PartStarts.{start_zero, start_rises, start_within, start_last, map_below}
 use Rattle.cb_summa.specs.Summa.{result_shape, stages_sum}
 
 -- ---- matrices without values

@@ -11,13 +11,13 @@ use Rattle.cb_plan.specs.Checks.{none_shut, started}
 use Rattle.cb_plan.proofs.Effects.{split}
 use Rattle.cb_layout.specs.Parts.{row_group, column_group, part_shape, part_length}
 use Rattle.cb_layout.proofs.Parts.{rank_below}
-use Rattle.cb_distribution.specs.Distribution.{tagged, zero_op, each_rank, operand_starts}
-use Rattle.cb_distribution.specs.Flows.{Flows}
-use Rattle.cb_distribution.proofs.Grid.{row_exists, row_distinct, column_exists, column_distinct}
-use Rattle.cb_distribution.proofs.Groups.{groups_stay}
-use Rattle.cb_distribution.proofs.Flows.{flows-append, flows_each, each_flows}
-use Rattle.cb_distribution.proofs.Broadcasts.{groups_flow}
-use Rattle.cb_distribution.proofs.Starts.{operand_parts}
+use Rattle.cb_plan_parts.specs.PlanParts.{tagged, zero_op, each_rank, operand_starts}
+use Rattle.cb_plan_parts.specs.Flows.{Flows}
+use Rattle.cb_plan_parts.proofs.Grid.{row_exists, row_distinct, column_exists, column_distinct}
+use Rattle.cb_plan_parts.proofs.Groups.{groups_stay}
+use Rattle.cb_plan_parts.proofs.Flows.{flows-append, flows_each, each_flows}
+use Rattle.cb_plan_parts.proofs.Broadcasts.{groups_flow}
+use Rattle.cb_plan_parts.proofs.Starts.{operand_parts}
 use Rattle.cb_summa.specs.Summa.{left_slot, right_slot, product_op, mask_op, broadcasts, stage, result_shape, product_acts, factors, masked_factors, stages_sum}
 use Rattle.cb_summa.proofs.Stages.{AtStage, HasBlocks, rows, columns, row_root, column_root, at_start, broadcasts_keep, broadcasts_bring, blocks_wait, one_stage, after_products, products_leave}
 

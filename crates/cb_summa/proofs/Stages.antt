@@ -10,10 +10,10 @@ use Rattle.cb_layout.specs.Parts.{row_group, column_group, part_shape}
 use Rattle.cb_collectives.specs.Collectives.{is_member, broadcast_acts}
 use Rattle.cb_summa.specs.Summa.{left_slot, right_slot, product_op, broadcasts, stage, result_shape, product_acts, stages_sum}
 use Rattle.cb_plan.proofs.Effects.{split, meaning-append}
-use Rattle.cb_distribution.specs.Distribution.{tagged, zero_op, each_rank}
-use Rattle.cb_distribution.proofs.Grid.{in_row, in_column, at_place}
-use Rattle.cb_distribution.proofs.Everywhere.{each_here, each_elsewhere}
-use Rattle.cb_distribution.proofs.Groups.{groups_stay, groups_spread}
+use Rattle.cb_plan_parts.specs.PlanParts.{tagged, zero_op, each_rank}
+use Rattle.cb_plan_parts.proofs.Grid.{in_row, in_column, at_place}
+use Rattle.cb_plan_parts.proofs.Everywhere.{each_here, each_elsewhere}
+use Rattle.cb_plan_parts.proofs.Groups.{groups_stay, groups_spread}
 
 -- the operands are in slots 0 and 1, and slot 2 has what the stages before k add up to
 pub record AtStage {M : Type 0} (ops : Algebra M) (q : ℕ) (left right first : ℕ → ℕ → M) (k : ℕ) (state : State M) : Type 0 where

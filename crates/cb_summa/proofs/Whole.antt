@@ -10,8 +10,8 @@ use Rattle.cb_plan.specs.Algebras.{matrices}
 use Rattle.cb_plan.proofs.Effects.{meaning-append}
 use Rattle.cb_collectives.specs.Collectives.{shut_acts}
 use Rattle.cb_collectives.proofs.ShutMeaning.{shut_nothing}
-use Rattle.cb_distribution.specs.Distribution.{each_rank}
-use Rattle.cb_distribution.proofs.Everywhere.{each_here}
+use Rattle.cb_plan_parts.specs.PlanParts.{each_rank}
+use Rattle.cb_plan_parts.proofs.Everywhere.{each_here}
 use Rattle.cb_summa.specs.Summa.{product_acts, summa_acts, summa_masked_acts, mask_op, MakesProduct, MakesMaskedProduct, IsProductPlan, IsMaskedPlan, result_shape}
 use Rattle.cb_summa.proofs.Stages.{after_products, products_leave}
 use Rattle.cb_summa.proofs.Parts.{stages_make_product}

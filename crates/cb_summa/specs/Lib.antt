@@ -1,3 +1,3 @@
--- Summa: the plan of a product, and of a product under a mask. Rows: worked plans.
+-- Summa: the plan of a product, and of a product under a mask. ProductRows: worked plans.
 pub mod Summa
-pub mod Rows
+pub mod ProductRows

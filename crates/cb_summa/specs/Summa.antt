@@ -12,8 +12,8 @@ use Rattle.cb_matrix.specs.Values.{product}
 use Rattle.cb_matrix.specs.Operations.{masked}
 use Rattle.cb_layout.specs.Parts.{row_group, column_group}
 use Rattle.cb_collectives.specs.Collectives.{broadcast_acts, shut_acts}
-use Rattle.cb_distribution.specs.declared.operands.Operand.{Operand}
-use Rattle.cb_distribution.specs.Distribution.{tagged, each_rank, zero_op, HasParts}
+use Rattle.cb_plan_parts.specs.declared.first_slots.Operand.{Operand}
+use Rattle.cb_plan_parts.specs.PlanParts.{tagged, each_rank, zero_op, HasParts}
 
 -- the slots that a stage's blocks come into: two stages in a row have different ones
 abbrev pub left_slot : ℕ → ℕ

@@ -16,17 +16,17 @@
 
 ghost use Rattle.std.specs.Prelude.{◌≡◌, ◌*◌, IfOk, IfErr};
 ghost use Rattle.cb_plan.specs.Runnable.{IsRunnable};
-ghost use Rattle.cb_distribution.specs.Distribution.{operand_starts};
-ghost use Rattle.cb_distribution.specs.Growth.{no_memory};
+ghost use Rattle.cb_plan_parts.specs.PlanParts.{operand_starts};
+ghost use Rattle.cb_plan_parts.specs.Growth.{no_memory};
 ghost use Rattle.cb_summa.specs.Summa.{summa_acts, factors, IsProductPlan};
 
 mod masked;
 mod products;
 
-use cb_distribution::{Operand, finish, operand_starts};
 use cb_layout::Grid;
 use cb_matrix::Shape;
 use cb_plan::{Plan, PlanFault, Planned};
+use cb_plan_parts::{Operand, finish, operand_starts};
 pub use masked::summa_masked;
 use products::multiply;
 use std::alloc::{AllocError, Global};

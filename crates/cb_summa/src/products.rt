@@ -1,16 +1,16 @@
 //! The acts that make the product: blocks are broadcast, and each rank adds the products of those that it gets.
 ghost use Rattle.std.specs.Prelude.{◌≡◌, ◌<◌, ◌≤◌, ◌+◌, ◌*◌, ◌/◌, ◌%◌, ◌==◌, ℕ, List, [], ◌++◌, map, flat_map, if◌then◌else◌, OnOk, IfErr};
 ghost use Rattle.std.specs.List.{range_with_len};
-ghost use Rattle.cb_distribution.specs.Growth.{IsWithinLimit, Grew, no_memory};
+ghost use Rattle.cb_plan_parts.specs.Growth.{IsWithinLimit, Grew, no_memory};
 ghost use Rattle.cb_summa.specs.Summa.{left_slot, right_slot, row_broadcast, column_broadcast, broadcasts, next_broadcasts, stage, result_shape, product_acts};
 
 use crate::{LEFT, RESULT, RIGHT};
 use cb_collectives::broadcast;
-use cb_distribution::{work_everywhere, zero_everywhere};
 use cb_layout::Grid;
 use cb_letters::Tag;
 use cb_matrix::Shape;
 use cb_plan::{Op, Plan, PlanFault};
+use cb_plan_parts::{work_everywhere, zero_everywhere};
 use std::alloc::Global;
 
 /// Slot 2 of each rank gets its block of the product. The blocks of each stage but the first come before the

@@ -21,12 +21,12 @@ use Rattle.cb_plan.specs.Algebras.{matrices}
 use Rattle.cb_plan.specs.Checks.{started}
 use Rattle.cb_plan.specs.Meaning.{meaning, one}
 use Rattle.cb_plan.specs.Stores.{state_of, sheet_of, is_lost, is_filled, shapes_of, Fits}
-use Rattle.cb_plan.specs.Tables.{cell, IsTable}
+use Rattle.cb_plan.specs.PlanTables.{cell, IsTable}
 use Rattle.cb_plan.proofs.Cells.{blank_cell}
 use Rattle.cb_plan.proofs.Effects.{split, same_state}
-use Rattle.cb_distribution.proofs.Grid.{at_place}
-use Rattle.cb_kernels.specs.VectorPlans.{column, vector_starts, IsVectorPlan, LeavesResult}
-use Rattle.cb_kernels.proofs.VectorStarts.{vector_starts_there, vector_starts_elsewhere}
+use Rattle.cb_plan_parts.proofs.Grid.{at_place}
+use Rattle.cb_grid_plans.specs.VectorPlans.{column, vector_starts, IsVectorPlan, LeavesResult}
+use Rattle.cb_grid_plans.proofs.VectorStarts.{vector_starts_there, vector_starts_elsewhere}
 use Rattle.cb_placement.specs.Slots.{Filled}
 use Rattle.cb_placement.specs.Losses.{IsLostOr, LostOrMeans, AreFilled}
 use Rattle.cb_vectors.specs.SpreadVectors.{HasSpread, HasProduct}

@@ -7,8 +7,8 @@ use Rattle.cb_layout.specs.Vectors.{piece_of}
 use Rattle.cb_plan.specs.declared.stores.Slot.{Slot}
 use Rattle.cb_plan.specs.declared.stores.Slot.TheVariants as slot_is
 use Rattle.cb_plan.specs.Plans.{CheckedView}
-use Rattle.cb_plan.specs.Tables.{cell, IsTable}
-use Rattle.cb_kernels.specs.VectorPlans.{vector_starts, IsVectorPlan}
+use Rattle.cb_plan.specs.PlanTables.{cell, IsTable}
+use Rattle.cb_grid_plans.specs.VectorPlans.{vector_starts, IsVectorPlan}
 use Rattle.cb_placement.specs.Losses.{IsLostOr}
 
 -- what slot k of rank (i, j) has: its part of the matrix in slot 0, its piece of the vector in slot 1, and nothing else

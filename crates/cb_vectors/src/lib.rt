@@ -7,13 +7,13 @@
 ghost use Rattle.std.specs.Prelude.{◌≡◌, ◌*◌, IfOk, IfErr};
 ghost use Rattle.cb_matrix.specs.Sparse.{Sparse};
 ghost use Rattle.cb_matrix.specs.Values.{product};
-ghost use Rattle.cb_kernels.specs.VectorPlans.{column};
-ghost use Rattle.cb_engines.specs.Runs.{IsEngineFault, IsLossFault, IsTraceOf, LostWhereRefused};
+ghost use Rattle.cb_grid_plans.specs.VectorPlans.{column};
+ghost use Rattle.cb_engines.specs.EngineRuns.{IsEngineFault, IsLossFault, IsTraceOf, LostWhereRefused};
 ghost use Rattle.cb_vectors.specs.SpreadVectors.{HasProduct, HasSpread, MultipliesVectors};
 ghost use Rattle.cb_vectors.specs.VectorOrders.{IsOrderedProduct};
 
 use cb_engines::{Engine, EngineFault, Left};
-use cb_kernels::{LEFT, RESULT, RIGHT, grid_vector};
+use cb_grid_plans::{LEFT, RESULT, RIGHT, grid_vector};
 use cb_layout::{DistributedMatrix, Grid};
 use cb_matrix::{Matrix, Shape};
 use cb_placement::{DrainFault, blank, drain, fill};

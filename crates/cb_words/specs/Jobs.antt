@@ -1,6 +1,6 @@
 -- What a job asks for.
 use Rattle.std.specs.Prelude.{ℕ}
-use Rattle.cb_operations.specs.Operations.{operand_count_of}
+use Rattle.cb_operations.specs.OperationAnswers.{operand_count_of}
 use Rattle.cb_words.specs.declared.jobs.Task.{Task}
 use Rattle.cb_words.specs.declared.jobs.Task.TheVariants.{Matrix, Levels, Distances}
 

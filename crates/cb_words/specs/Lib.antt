@@ -1,2 +1,1 @@
-pub mod Semirings
 pub mod Jobs

@@ -1,6 +1,6 @@
 //! The commands of the program and their options, as `clap` builds them.
 
-use crate::semirings::NAMES;
+use cb_semirings::NAMES;
 use clap::{Arg, ArgAction, Command, value_parser};
 use std::alloc::{AllocError, Global};
 
@@ -182,24 +182,19 @@ fn source<'a>(alloc: Global) -> Arg<'a> {
 }
 
 fn grid<'a>(alloc: Global) -> Arg<'a> {
-    with_value(alloc, "grid", "N", "The side of the grid of ranks, 1 to 6")
-        .value_parser(value_parser!(u32).range(1..=6))
-        .default_value("2")
+    let help = "The side of the grid of ranks, 1 to 6 [default: by the processors]";
+    with_value(alloc, "grid", "N", help).value_parser(value_parser!(u32).range(1..=6))
 }
 
 fn engine<'a>(alloc: Global) -> Arg<'a> {
     let help =
-        "What runs the ranks: plain all of them on one thread, ranks each in a thread of its own";
-    with_value(alloc, "engine", "ENGINE", help)
-        .value_parser(ENGINES.as_slice())
-        .default_value("ranks")
+        "What computes: plain one thread, ranks a thread for each of the grid's ranks [default: by the files]";
+    with_value(alloc, "engine", "ENGINE", help).value_parser(ENGINES.as_slice())
 }
 
 fn lane<'a>(alloc: Global) -> Arg<'a> {
-    let help = "How many blocks may be on the way from a rank to another, 1 to 64";
-    with_value(alloc, "lane", "N", help)
-        .value_parser(value_parser!(u32).range(1..=64))
-        .default_value("2")
+    let help = "How many blocks may be on the way from a rank to another, 1 to 64 [default: 2]";
+    with_value(alloc, "lane", "N", help).value_parser(value_parser!(u32).range(1..=64))
 }
 
 fn help<'a>(alloc: Global) -> Arg<'a> {

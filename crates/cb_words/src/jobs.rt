@@ -2,9 +2,9 @@
 ghost use Rattle.std.specs.Prelude.{◌≡◌, vec_len};
 ghost use Rattle.cb_words.specs.Jobs.{file_count_of};
 
-use crate::semirings::SemiringName;
 use cb_layout::Grid;
 use cb_operations::Operation;
+use cb_semirings::SemiringName;
 use std::alloc::{AllocError, AllocFailed};
 use thiserror::Error;
 
@@ -44,6 +44,8 @@ pub struct Job {
     /// The ranks that compute it.
     pub grid: Grid,
     pub engine: EngineName,
+    /// Whether small files may be computed by one thread instead, since neither ranks nor what runs them were asked for.
+    pub may_be_alone: bool,
     /// The names of the files, in the order in which they are read.
     pub files: Vec<String>,
     pub ghost file_count: { vec_len files ≡ file_count_of task },

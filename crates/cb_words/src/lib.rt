@@ -4,15 +4,12 @@
 //! computed, of which files and by what ranks, or a [`UsageFault`] with the text to print. Nothing is read, computed or
 //! written here.
 //!
-//! Semirings and engines are told by their names. [`SemiringName`] is the one table of the names of semirings, and
-//! `specs/Semirings` says which operations each stands for.
+//! Semirings and engines are told by their names. `cb_semirings` has the table of the names of semirings.
 #![tactic(auto)]
 
 mod commands;
 mod jobs;
-mod semirings;
 mod words;
 
 pub use jobs::{EngineName, Job, Task, UsageFault};
-pub use semirings::{NAMES, SemiringName};
 pub use words::{asked, read_job};

@@ -3,20 +3,21 @@
 ghost use Rattle.std.specs.Prelude.{◌≢◌, String, ◌≡◌, IfOk, IfSome, length, vec_len};
 ghost use Rattle.std.specs.declared.io.ErrorKind.TheVariants as io_is;
 ghost use Rattle.clap.specs.Words.{kind_of};
-ghost use Rattle.cb_operations.specs.Operations.{operand_count_of};
+ghost use Rattle.cb_operations.specs.OperationAnswers.{operand_count_of};
 ghost use Rattle.cb_words.specs.Jobs.{file_count_of};
 
 use crate::commands::{multiply_alone, program};
 use crate::jobs::{EngineName, Job, Task, UsageFault};
-use crate::semirings::SemiringName;
-use cb_elementwise::Test;
 use cb_layout::Grid;
+use cb_matrix::Test;
 use cb_operations::Operation;
+use cb_semirings::SemiringName;
 use clap::ArgMatches;
 use clap::error::ErrorKind;
 use std::alloc::{AllocError, Global};
 use std::rt::Env;
-use std::{env, io};
+use std::thread::Threads;
+use std::{env, io, thread};
 
 fn usage(alloc: Global, text: &str) -> UsageFault
     ensures { (told : String Global) → result ≢ UsageFault.Help told }
@@ -89,24 +90,58 @@ fn files_of(
 }
 
 /// How many letters a lane is for.
-fn lane_of(found: &ArgMatches<'_>) -> Option<usize> {
-    Some(found.get_one::<u32>("lane")? as usize)
+fn lane_of(found: &ArgMatches<'_>) -> usize {
+    found.get_one::<u32>("lane").unwrap_or(2) as usize
 }
 
-/// What runs the ranks of a command.
-fn engine_of(command: &str, found: &ArgMatches<'_>) -> Option<EngineName> {
-    match found.get_str("engine")? {
-        "plain" => Some(EngineName::Plain),
-        "ranks" if command == "multiply" && found.get_flag("trace") => {
-            Some(EngineName::Traced(lane_of(found)?))
-        }
-        "ranks" => Some(EngineName::Ranks(lane_of(found)?)),
-        _ => None,
+/// Whether a trace is asked for.
+fn asks_for_trace(command: &str, found: &ArgMatches<'_>) -> bool {
+    command == "multiply" && found.get_flag("trace")
+}
+
+/// What computes a command: where the words don't say, ranks in threads, unless there is one processor alone.
+fn engine_of(command: &str, found: &ArgMatches<'_>, processors: usize) -> Option<EngineName> {
+    let letters = lane_of(found);
+    match found.get_str("engine") {
+        Some("plain") => Some(EngineName::Plain),
+        Some("ranks") if asks_for_trace(command, found) => Some(EngineName::Traced(letters)),
+        Some("ranks") => Some(EngineName::Ranks(letters)),
+        Some(_) => None,
+        None if asks_for_trace(command, found) => Some(EngineName::Traced(letters)),
+        None if processors < 2 && !found.contains_id("grid") => Some(EngineName::Plain),
+        None => Some(EngineName::Ranks(letters)),
     }
 }
 
-fn grid_of(found: &ArgMatches<'_>) -> Option<Grid> {
-    Grid::new(found.get_one::<u32>("grid")?).ok()
+/// The side of a grid for so many processors: the largest whose ranks they are enough for, and for two or three of them
+/// the grid of four ranks.
+fn side_for(processors: usize) -> u32 {
+    match processors {
+        0..=1 => 1,
+        2..=8 => 2,
+        9..=15 => 3,
+        16..=24 => 4,
+        25..=35 => 5,
+        _ => 6,
+    }
+}
+
+/// The grid of a command. Where the words don't say, it follows the processors; of a trace, it has four ranks.
+fn grid_of(command: &str, found: &ArgMatches<'_>, processors: usize) -> Option<Grid> {
+    let side = match found.get_one::<u32>("grid") {
+        Some(side) => side,
+        None if asks_for_trace(command, found) => 2,
+        None => side_for(processors),
+    };
+    Grid::new(side).ok()
+}
+
+/// Whether the words leave open what computes a command.
+fn is_left_open(command: &str, found: &ArgMatches<'_>) -> bool {
+    let is_said = found.contains_id("grid")
+        || found.contains_id("engine")
+        || found.contains_id("lane");
+    !is_said && !asks_for_trace(command, found)
 }
 
 fn semiring_of(found: &ArgMatches<'_>) -> Option<SemiringName> {
@@ -158,14 +193,18 @@ fn task_of(command: &str, found: &ArgMatches<'_>) -> Option<Task> {
     }
 }
 
-fn job_of(alloc: Global, matches: &ArgMatches<'_>) -> Result<Option<Job>, AllocError> {
+fn job_of(
+    alloc: Global,
+    matches: &ArgMatches<'_>,
+    processors: usize,
+) -> Result<Option<Job>, AllocError> {
     let Some((command, found)) = matches.subcommand() else {
         return Ok(None);
     };
     let (Some(task), Some(grid), Some(engine)) = (
         task_of(command, found),
-        grid_of(found),
-        engine_of(command, found),
+        grid_of(command, found, processors),
+        engine_of(command, found, processors),
     ) else {
         return Ok(None);
     };
@@ -176,6 +215,7 @@ fn job_of(alloc: Global, matches: &ArgMatches<'_>) -> Result<Option<Job>, AllocE
         task,
         grid,
         engine,
+        may_be_alone: is_left_open(command, found),
         files,
     }))
 }
@@ -219,22 +259,31 @@ fn unread_words(alloc: Global, kind: io::ErrorKind) -> UsageFault
     )
 }
 
+/// How many threads run at once here; as many as four ranks, where that can't be told.
+fn processors<R: Threads>(rt: &R) -> usize {
+    match thread::available_parallelism(rt) {
+        Ok(processors) => processors.get(),
+        Err(_) => 4,
+    }
+}
+
 /// What the words of the command line ask for, the program's name first.
-pub fn asked<R: Env + AllocGlobal>(rt: &R) -> Result<Job, UsageFault> {
+pub fn asked<R: Env + AllocGlobal + Threads>(rt: &R) -> Result<Job, UsageFault> {
     let alloc = rt.alloc();
+    let processors = processors(rt);
     match env::args(rt) {
         Ok(words) => {
             let words: Vec<String> = words.collect(alloc)?;
-            read_job(alloc, words.as_slice())
+            read_job(alloc, words.as_slice(), processors)
         }
         Err(error) => Err(unread_words(alloc, error.kind())),
     }
 }
 
 /// Reads the words of a command line, of which the first is the program's name. A job names as many
-/// files as its task reads. The words that are no job are a `UsageFault`, which holds the text
+/// files as its task reads. What the words leave open is chosen by how many processors there are. The words that are no job are a `UsageFault`, which holds the text
 /// to print. Costs what `clap` takes to build and to match the command line, under a millisecond.
-pub fn read_job(alloc: Global, words: &[String]) -> Result<Job, UsageFault>
+pub fn read_job(alloc: Global, words: &[String], processors: usize) -> Result<Job, UsageFault>
     ensures { IfOk result (λ job. vec_len job.files ≡ file_count_of job.task) }
 {
     let matches = match program(alloc)?.try_get_matches_from(words) {
@@ -244,7 +293,7 @@ pub fn read_job(alloc: Global, words: &[String]) -> Result<Job, UsageFault>
     if is_trace_of_one_thread(&matches) {
         return Err(trace_of_one_thread(alloc)?);
     }
-    match job_of(alloc, &matches)? {
+    match job_of(alloc, &matches, processors)? {
         Some(job) => Ok(job),
         None => Err(usage(alloc, "error: the command line can't be read\n")),
     }

@@ -12,7 +12,7 @@ use Rattle.cb_plan.specs.declared.acts.Act.TheVariants as act_is
 use Rattle.cb_plan.specs.declared.acts.Half.{Half}
 use Rattle.cb_plan.specs.declared.acts.Half.TheVariants as half_is
 use Rattle.cb_plan.specs.Meaning.{Algebra, State, act, meaning, one, images, target_of}
-use Rattle.cb_plan.specs.Letters.{Cargo, Sheet, Mark, count_of, before, next_act, letter_of, letters}
+use Rattle.cb_plan.specs.PlanLetters.{Cargo, Sheet, Mark, count_of, before, next_act, letter_of, letters}
 use Rattle.cb_plan.specs.Algebras.{matrices, shapes}
 use Rattle.cb_plan.specs.Checks.{Lanes, IsSound, Passes, shut_after, lanes_after, none_shut, operands_of}
 use Rattle.cb_plan.specs.Programs.{halves_of, project_from}

@@ -20,7 +20,7 @@ use Rattle.cb_world.specs.declared.events.Event.TheVariants as event_is
 use Rattle.cb_world.specs.Ends.{boxes_with, boxes_after}
 use Rattle.cb_world.specs.EndLaws.{same_length}
 use Rattle.cb_world.specs.Worlds.{WorldView, IsWorld, no_rank, rank_of, next_of, IsReady, remaining}
-use Rattle.cb_world.specs.Steps.{with_rank, letter_to, DoesIn, StepsBy, Steps, RunsBy, FinishesBy, rank_in}
+use Rattle.cb_world.specs.WorldSteps.{with_rank, letter_to, DoesIn, StepsBy, Steps, RunsBy, FinishesBy, rank_in}
 use Rattle.cb_world.proofs.RankSums.{sum_of_set}
 
 -- a half changes one rank, which has done one half more, and the mailboxes

@@ -11,7 +11,7 @@ use Rattle.cb_plan.specs.declared.stores.Slot.TheVariants as slot_is
 use Rattle.cb_plan.specs.Algebras.{matrices}
 use Rattle.cb_plan.specs.Plans.{CheckedView, IsChecked}
 use Rattle.cb_plan.specs.Stores.{Fits, state_of, sheet_of, is_lost}
-use Rattle.cb_plan.specs.Tables.{cell}
+use Rattle.cb_plan.specs.PlanTables.{cell}
 use Rattle.cb_rank.specs.Agreement.{IsSlotOf, LaneAgrees}
 use Rattle.cb_rank.specs.Halves.{slot_at}
 use Rattle.cb_rank.specs.Ranks.{RankView, IsRank}

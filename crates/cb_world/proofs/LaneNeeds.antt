@@ -15,7 +15,7 @@ use Rattle.cb_rank.specs.Steps.{Answer}
 use Rattle.cb_rank.specs.Ranks.{RankView, next_half, want_of}
 use Rattle.cb_rank.proofs.WantedHalf.{wants_post_to, wants_shut_to, wants_take, wants_work, wants_end, wants_nothing}
 use Rattle.cb_world.specs.Worlds.{WorldView, IsWorld, no_rank, rank_of, next_of, lane_between, CanDo, CanAct, remaining}
-use Rattle.cb_world.specs.Steps.{DoesIn, Steps, StepsBy, RunsBy, rank_in}
+use Rattle.cb_world.specs.WorldSteps.{DoesIn, Steps, StepsBy, RunsBy, rank_in}
 use Rattle.cb_world.specs.declared.events.Event.{Event}
 use Rattle.cb_world.specs.declared.events.Event.TheVariants as event_is
 use Rattle.cb_rank.proofs.OwnActs.{split}

@@ -10,7 +10,7 @@ use Rattle.cb_letters.specs.Letters.{is_close}
 use Rattle.cb_letters.specs.Lane.{Lane, IsAddressed, posted, append}
 use Rattle.cb_plan.specs.declared.stores.Slot.{Slot}
 use Rattle.cb_plan.specs.declared.stores.Slot.TheVariants as slot_is
-use Rattle.cb_plan.specs.Letters.{Cargo, Sheet, Mark}
+use Rattle.cb_plan.specs.PlanLetters.{Cargo, Sheet, Mark}
 use Rattle.cb_rank.specs.Agreement.{IsSlotOf, IsBodyOf, AreLettersOf, ends_marked, LaneAgrees}
 
 -- more refusals don't break an agreement

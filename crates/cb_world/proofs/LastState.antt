@@ -13,12 +13,12 @@ use Rattle.cb_plan.specs.declared.acts.Act.TheVariants as act_is
 use Rattle.cb_plan.specs.declared.stores.Slot.{Slot}
 use Rattle.cb_plan.specs.declared.stores.Slot.TheVariants as slot_is
 use Rattle.cb_plan.specs.Meaning.{State, act, meaning}
-use Rattle.cb_plan.specs.Letters.{Cargo, count_of, before, letters}
+use Rattle.cb_plan.specs.PlanLetters.{Cargo, count_of, before, letters}
 use Rattle.cb_plan.specs.Algebras.{matrices, shapes}
 use Rattle.cb_plan.specs.Checks.{Lanes, IsSound, Passes, shut_after, none_shut, started}
 use Rattle.cb_plan.specs.Programs.{halves_of, project_from, project}
 use Rattle.cb_plan.specs.Stores.{state_of}
-use Rattle.cb_plan.specs.Tables.{cell, IsTable}
+use Rattle.cb_plan.specs.PlanTables.{cell, IsTable}
 use Rattle.cb_plan.proofs.ActOnStores.{first_below}
 use Rattle.cb_rank.specs.Agreement.{IsSlotOf, AreLettersOf}
 use Rattle.cb_rank.specs.Halves.{slot_at}

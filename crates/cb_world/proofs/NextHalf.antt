@@ -16,7 +16,7 @@ use Rattle.cb_plan.specs.declared.acts.Act.TheVariants as act_is
 use Rattle.cb_plan.specs.declared.acts.Half.{Half}
 use Rattle.cb_plan.specs.declared.acts.Half.TheVariants as half_is
 use Rattle.cb_plan.specs.Meaning.{State, meaning, one, images, target_of}
-use Rattle.cb_plan.specs.Letters.{Cargo, Sheet, Mark, before, next_act, letter_of, letters}
+use Rattle.cb_plan.specs.PlanLetters.{Cargo, Sheet, Mark, before, next_act, letter_of, letters}
 use Rattle.cb_plan.specs.Algebras.{matrices, shapes}
 use Rattle.cb_plan.specs.Checks.{IsSound, Passes, lanes_after, none_shut, started, operands_of}
 use Rattle.cb_plan.specs.Plans.{CheckedView}

@@ -26,7 +26,7 @@ use Rattle.cb_world.specs.declared.events.Event.TheVariants as event_is
 use Rattle.cb_world.specs.Ends.{EndsView, boxes_after, is_out, standing, has_room, may_be_full, keeps, posts, takes}
 use Rattle.cb_world.specs.EndLaws as laws
 use Rattle.cb_world.specs.Worlds.{WorldView, IsWorld, no_rank, rank_of, next_of, lane_between, CanDo, CanAct}
-use Rattle.cb_world.specs.Steps.{with_rank, DoesIn, StepsBy, IsStarved}
+use Rattle.cb_world.specs.WorldSteps.{with_rank, DoesIn, StepsBy, IsStarved}
 use Rattle.cb_world.proofs.NextHalf.{finds_half}
 use Rattle.cb_world.proofs.WorldAfterHalf.{does_keep}
 

@@ -12,7 +12,7 @@ use Rattle.cb_plan.specs.declared.acts.Act.TheVariants as act_is
 use Rattle.cb_plan.specs.declared.acts.Half.{Half}
 use Rattle.cb_plan.specs.Algebras.{matrices, shapes}
 use Rattle.cb_plan.specs.Checks.{Lanes, Passes, lanes_after, none_shut, shut_after, started}
-use Rattle.cb_plan.specs.Letters.{Cargo, Sheet, Mark, before, count_of, letters}
+use Rattle.cb_plan.specs.PlanLetters.{Cargo, Sheet, Mark, before, count_of, letters}
 use Rattle.cb_plan.specs.Meaning.{Algebra, State, act}
 use Rattle.cb_plan.specs.Plans.{CheckedView}
 use Rattle.cb_plan.specs.Programs.{halves_of, project, project_from, take_of}

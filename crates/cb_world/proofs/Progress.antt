@@ -10,7 +10,7 @@ use Rattle.cb_plan.specs.declared.acts.Act.TheVariants as act_is
 use Rattle.cb_plan.specs.declared.acts.Half.{Half}
 use Rattle.cb_plan.specs.declared.acts.Half.TheVariants as half_is
 use Rattle.cb_plan.specs.Meaning.{Algebra, State, act}
-use Rattle.cb_plan.specs.Letters.{Cargo, count_of, before, letter_of, letters}
+use Rattle.cb_plan.specs.PlanLetters.{Cargo, count_of, before, letter_of, letters}
 use Rattle.cb_plan.specs.Algebras.{shapes}
 use Rattle.cb_plan.specs.Checks.{Lanes, IsSound, Passes, shut_after}
 use Rattle.cb_plan.specs.Programs.{take_of, halves_of, project_from}

@@ -32,7 +32,7 @@ use Rattle.cb_rank.proofs.RankAfterHalf.{posts_on, shuts_on, takes_on, ends_on, 
 use Rattle.cb_world.specs.Ends.{box_in, with_lane_in, boxes_with, boxes_after}
 use Rattle.cb_world.specs.EndLaws.{same_length, box_here, box_there, lane_here, lane_by_addressee, lane_by_sender}
 use Rattle.cb_world.specs.Worlds.{WorldView, IsWorld, HasRank, HasBox, no_rank, rank_of, next_of, lane_between, system_of}
-use Rattle.cb_world.specs.Steps.{with_rank, letter_to, IsOldest, DoesIn}
+use Rattle.cb_world.specs.WorldSteps.{with_rank, letter_to, IsOldest, DoesIn}
 use Rattle.cb_world.proofs.SystemHalf.{Did, Moves, OtherLanesStay}
 use Rattle.cb_world.proofs.AgreementAfterHalf.{step_agrees}
 use Rattle.cb_world.proofs.NextHalf.{program_of, passes_of, finds_half}

@@ -1,5 +1,5 @@
 pub mod Ends
 pub mod EndLaws
 pub mod Worlds
-pub mod Steps
+pub mod WorldSteps
 pub mod Starting

@@ -8,7 +8,7 @@ use Rattle.cb_plan.specs.declared.acts.Half.{Half}
 use Rattle.cb_plan.specs.declared.acts.Half.TheVariants as half_is
 use Rattle.cb_plan.specs.declared.stores.Slot.{Slot}
 use Rattle.cb_plan.specs.Algebras.{matrices}
-use Rattle.cb_plan.specs.Letters.{letters}
+use Rattle.cb_plan.specs.PlanLetters.{letters}
 use Rattle.cb_plan.specs.Plans.{CheckedView, IsChecked}
 use Rattle.cb_plan.specs.Stores.{state_of, Fits}
 use Rattle.cb_rank.specs.Agreement.{System, Agrees}

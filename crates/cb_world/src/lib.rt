@@ -9,7 +9,7 @@
 //! A lane is a queue in the mailbox of its addressee. All memory is taken by [`World::start`], but for the blocks
 //! that ranks copy and make; where one of these is refused, a slot or a letter is lost, and the world goes on.
 //!
-//! `specs/Worlds` says what a world keeps at every moment, `specs/Steps` what an event leaves.
+//! `specs/Worlds` says what a world keeps at every moment, `specs/WorldSteps` what an event leaves.
 #![tactic(auto)]
 
 mod ends;

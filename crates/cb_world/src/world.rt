@@ -4,7 +4,7 @@ ghost use Rattle.cb_letters.specs.Lane.{posted};
 ghost use Rattle.cb_plan.specs.Stores.{Fits};
 ghost use Rattle.cb_rank.specs.Leavings.{HoldsMeaning};
 ghost use Rattle.cb_world.specs.Worlds.{IsWorld, IsNewWorld, next_of, lane_between, CanAct, AllDone, IsReady, remaining, refusals_in, IsFinished};
-ghost use Rattle.cb_world.specs.Steps.{Steps, StepsBy, IsStarved, RunsBy, FinishesBy};
+ghost use Rattle.cb_world.specs.WorldSteps.{Steps, StepsBy, IsStarved, RunsBy, FinishesBy};
 ghost use Rattle.cb_world.specs.declared.events.Event.{Event as EventOf};
 ghost use Rattle.cb_world.specs.declared.events.Event.TheVariants.{Starve};
 

@@ -3,9 +3,8 @@ ghost use Rattle.std.specs.Prelude.{◌≡◌, ◌<◌, ℕ, All, AllPairs, IfOk
 ghost use Rattle.cb_plan.specs.Plans.{IsElsewhere};
 
 use crate::plan::{grown, send, shut};
-use cb_elementwise::Test;
 use cb_local::run_plain;
-use cb_matrix::Entry;
+use cb_matrix::{Entry, Test};
 use cb_plan::{Act, CheckedPlan, Op, RankStore, SLOTS, Slot, Start};
 use cb_samples::{block, entry, shape};
 use cb_semirings::PlusTimes;

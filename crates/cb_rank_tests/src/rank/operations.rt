@@ -2,7 +2,7 @@
 ghost use Rattle.std.specs.Prelude.{◌<◌};
 
 use super::{Held, contents_of, worked};
-use cb_elementwise::Test;
+use cb_matrix::Test;
 use cb_plan::Op;
 use cb_rank::Supply;
 use cb_samples::shape;

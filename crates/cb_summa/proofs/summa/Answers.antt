@@ -5,9 +5,9 @@ use Rattle.cb_plan.specs.declared.plans.Planned.{Planned}
 use Rattle.cb_plan.specs.declared.acts.Act.{Act}
 use Rattle.cb_plan.specs.Plans.{PlanView}
 use Rattle.cb_collectives.specs.Collectives.{shut_acts}
-use Rattle.cb_distribution.specs.Distribution.{operand_starts}
-use Rattle.cb_distribution.specs.Growth.{IsWithinLimit, Grew}
-use Rattle.cb_distribution.proofs.LoopGrowth.{grew_all, grown_flows, within_new, within_first, within_rest}
+use Rattle.cb_plan_parts.specs.PlanParts.{operand_starts}
+use Rattle.cb_plan_parts.specs.Growth.{IsWithinLimit, Grew}
+use Rattle.cb_plan_parts.proofs.LoopGrowth.{grew_all, grown_flows, within_new, within_first, within_rest}
 use Rattle.cb_summa.specs.Summa.{product_acts, summa_acts, factors, IsProductPlan}
 use Rattle.cb_summa.proofs.Lengths.{summa_at_most}
 use Rattle.cb_summa.proofs.Soundness.{product_flow}

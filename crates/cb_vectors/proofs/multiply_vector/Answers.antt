@@ -1,7 +1,7 @@
 use Rattle.std.proofs.Common.{◌≡◌, sym, subst, ap, ◌∙◌}
 use Rattle.cb_matrix.specs.Values.{product, product_shape}
-use Rattle.cb_plan.specs.Tables.{IsTable}
-use Rattle.cb_engines.specs.Runs.{LostWhereRefused}
+use Rattle.cb_plan.specs.PlanTables.{IsTable}
+use Rattle.cb_engines.specs.EngineRuns.{LostWhereRefused}
 use Rattle.cb_engines.proofs.Lost.{left_means, left_lost}
 use Rattle.cb_vectors.proofs.SpreadProducts.{spread_fits, has_product}
 use Rattle.cb_matrix.specs.Sparse.{Sparse}

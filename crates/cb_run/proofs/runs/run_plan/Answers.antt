@@ -1,8 +1,8 @@
 use Rattle.std.specs.Prelude.{map}
 use Rattle.cb_operations.specs.Operands.{list_of}
-use Rattle.cb_operations.specs.Operations.{answer_of, shapes_in}
+use Rattle.cb_operations.specs.OperationAnswers.{answer_of, shapes_in}
 use Rattle.cb_placement.proofs.LaidOutOperands.{whole_matrix}
-use Rattle.cb_run.specs.Runs.{wholes}
+use Rattle.cb_run.specs.Outcomes.{wholes}
 use Rattle.cb_run.proofs.Operations.{made_there, trace_for}
 use Rattle.cb_run.proofs.Orders.{ordered_for}
 use Rattle.cb_run.proofs.runs.run_plan.Goals as goal

@@ -5,7 +5,7 @@ use Rattle.cb_matrix.specs.Values.{product}
 use Rattle.cb_matrix.specs.Operations.{transposed}
 use Rattle.cb_layout.specs.Parts.{Square}
 use Rattle.cb_layout.specs.Distributed.{Distributed}
-use Rattle.cb_kernels.specs.VectorPlans.{column}
+use Rattle.cb_grid_plans.specs.VectorPlans.{column}
 use Rattle.cb_vectors.specs.SpreadVectors.{MultipliesVectors}
 use Rattle.cb_placement.proofs.GatheredParts.{over_grid}
 use Rattle.cb_searches.specs.Searches.{HasEnded}

@@ -5,9 +5,9 @@ use Rattle.cb_plan.specs.declared.plans.Planned.{Planned}
 use Rattle.cb_plan.specs.declared.acts.Act.{Act}
 use Rattle.cb_plan.specs.Plans.{PlanView}
 use Rattle.cb_collectives.specs.Collectives.{shut_acts}
-use Rattle.cb_distribution.specs.Distribution.{each_rank, operand_starts}
-use Rattle.cb_distribution.specs.Growth.{IsWithinLimit, Grew}
-use Rattle.cb_distribution.proofs.LoopGrowth.{grew_all, grew_both, grown_flows, within_new, within_first, within_rest}
+use Rattle.cb_plan_parts.specs.PlanParts.{each_rank, operand_starts}
+use Rattle.cb_plan_parts.specs.Growth.{IsWithinLimit, Grew}
+use Rattle.cb_plan_parts.proofs.LoopGrowth.{grew_all, grew_both, grown_flows, within_new, within_first, within_rest}
 use Rattle.cb_summa.specs.Summa.{product_acts, summa_masked_acts, mask_op, masked_factors, IsMaskedPlan}
 use Rattle.cb_summa.proofs.Lengths.{summa_masked_at_most}
 use Rattle.cb_summa.proofs.Soundness.{masked_flow}

@@ -2,10 +2,10 @@ use Rattle.std.proofs.Common.{rules, ◌≡◌, ℕ, ◌+◌, ◌*◌, List, ref
 use Rattle.std.proofs.lemmas.Bool.{eq-eqb}
 use Rattle.cb_collectives.specs.Collectives.{broadcast_acts, is_member}
 use Rattle.cb_layout.specs.Parts.{column_group}
-use Rattle.cb_distribution.specs.Distribution.{tagged}
+use Rattle.cb_plan_parts.specs.PlanParts.{tagged}
 use Rattle.cb_summa.specs.Summa.{right_slot, column_broadcast}
-use Rattle.cb_distribution.proofs.Grid.{in_column}
-use Rattle.cb_distribution.proofs.LoopGrowth.{refused_next, appended_next}
+use Rattle.cb_plan_parts.proofs.Grid.{in_column}
+use Rattle.cb_plan_parts.proofs.LoopGrowth.{refused_next, appended_next}
 use Rattle.cb_summa.proofs.products.broadcast_columns.Goals as goal
 
 -- the acts, by what is known of the arguments

@@ -1,6 +1,6 @@
 use Rattle.std.specs.List.{range_with_len, flat_map}
 use Rattle.cb_summa.specs.Summa.{column_broadcast}
-use Rattle.cb_distribution.specs.Growth.{Grew}
+use Rattle.cb_plan_parts.specs.Growth.{Grew}
 use Rattle.cb_summa.proofs.products.broadcast_columns.Given as goal
 
 abbrev pub invariant-loop-j : goal.invariant-loop-j

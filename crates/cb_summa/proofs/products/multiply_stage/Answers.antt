@@ -1,8 +1,8 @@
 use Rattle.std.proofs.Common.{◌≡◌, ℕ, ap, ◌∙◌}
 use Rattle.cb_plan.specs.declared.acts.Op.TheVariants as op_is
-use Rattle.cb_distribution.specs.Distribution.{each_rank}
+use Rattle.cb_plan_parts.specs.PlanParts.{each_rank}
 use Rattle.cb_summa.specs.Summa.{left_slot, right_slot, product_op, next_broadcasts}
-use Rattle.cb_distribution.proofs.LoopGrowth.{grew_last}
+use Rattle.cb_plan_parts.proofs.LoopGrowth.{grew_last}
 use Rattle.cb_summa.proofs.products.multiply_stage.Goals as goal
 
 -- the acts, by what is known of the slots

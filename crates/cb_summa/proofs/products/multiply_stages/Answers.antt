@@ -1,6 +1,6 @@
 use Rattle.std.proofs.Common.{arith}
 use Rattle.cb_summa.specs.Summa.{stage}
-use Rattle.cb_distribution.proofs.LoopGrowth.{within_next, grew_next}
+use Rattle.cb_plan_parts.proofs.LoopGrowth.{within_next, grew_next}
 use Rattle.cb_summa.proofs.products.multiply_stages.Goals as goal
 
 pub multiply_stage-requires-clause-limit : goal.multiply_stage-requires-clause-limit

@@ -1,6 +1,6 @@
 use Rattle.std.specs.List.{range_with_len, flat_map}
 use Rattle.cb_summa.specs.Summa.{stage}
-use Rattle.cb_distribution.specs.Growth.{Grew}
+use Rattle.cb_plan_parts.specs.Growth.{Grew}
 use Rattle.cb_summa.proofs.products.multiply_stages.Given as goal
 
 abbrev pub invariant-loop-k : goal.invariant-loop-k

@@ -1,6 +1,6 @@
 use Rattle.std.proofs.Common.{List}
 use Rattle.cb_world.specs.declared.events.Event.{Event}
-use Rattle.cb_world.specs.Steps.{FinishesBy}
+use Rattle.cb_world.specs.WorldSteps.{FinishesBy}
 use Rattle.cb_world.specs.Worlds.{remaining}
 use Rattle.cb_world.proofs.world.World.finish.Given as goal
 

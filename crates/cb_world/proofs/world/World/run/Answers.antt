@@ -4,7 +4,7 @@ use Rattle.std.proofs.lemmas.Option.{slice_get-get_or}
 use Rattle.cb_rank.proofs.LanesByHalves.{take-next}
 use Rattle.cb_world.specs.declared.events.Event.{Event}
 use Rattle.cb_world.specs.declared.events.Event.TheVariants.{Step}
-use Rattle.cb_world.specs.Steps.{RunsBy}
+use Rattle.cb_world.specs.WorldSteps.{RunsBy}
 use Rattle.cb_world.proofs.LaneNeeds.{run_keeps}
 use Rattle.cb_world.proofs.Changes.{runs_more}
 use Rattle.cb_world.proofs.world.World.run.Goals as goal

@@ -1,5 +1,5 @@
 use Rattle.std.proofs.Common.{take}
-use Rattle.cb_world.specs.Steps.{RunsBy}
+use Rattle.cb_world.specs.WorldSteps.{RunsBy}
 use Rattle.cb_world.proofs.world.World.run.Given as goal
 
 abbrev pub invariant-loop-event : goal.invariant-loop-event

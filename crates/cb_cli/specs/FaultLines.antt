@@ -1,0 +1,68 @@
+-- The line that a fault prints.
+use Rattle.std.specs.Prelude.{◌++◌, [], ℕ, List, codes, decimal, String, string_bytes, unwrap_or, option_map, slice_get}
+use Rattle.cb_market.specs.Kinds.{kind_text}
+use Rattle.cb_operations.specs.declared.refusals.Refusal.{Refusal}
+use Rattle.cb_operations.specs.declared.refusals.Refusal.TheVariants as refusal_is
+use Rattle.cb_engines.specs.declared.engine_faults.EngineFault.{EngineFault}
+use Rattle.cb_engines.specs.declared.engine_faults.EngineFault.TheVariants as engine_is
+use Rattle.cb_run.specs.declared.operation_faults.OperationFault.{OperationFault}
+use Rattle.cb_run.specs.declared.operation_faults.OperationFault.TheVariants.{Refused, Failed}
+use Rattle.cb_serial.specs.declared.checked.SerialFault.{SerialFault}
+use Rattle.cb_serial.specs.declared.checked.SerialFault.TheVariants as serial_is
+use Rattle.cb_cli.specs.declared.execution.JobFault.{JobFault}
+use Rattle.cb_cli.specs.declared.execution.JobFault.TheVariants.{Read, Run, Memory, Output}
+
+-- the name at a place, or nothing
+abbrev pub name_at : {A : Type 0} → List (String A) → ℕ → List ℕ
+name_at names i = unwrap_or (option_map string_bytes (slice_get names i)) []
+
+-- a file's name, a line of it, and what is wrong there
+abbrev pub read_line_of : List ℕ → ℕ → List ℕ → List ℕ
+read_line_of name line text = codes "cbgrid: " ++ name ++ codes ":" ++ decimal line ++ codes ": " ++ text ++ codes "\n"
+
+-- no thread could be started for a rank, counted from 0
+abbrev pub not_started_line_of : ℕ → List ℕ
+not_started_line_of rank = codes "cbgrid: rank " ++ decimal rank ++ codes " not started\n"
+
+-- a rank was left alone by another
+abbrev pub gone_line_of : ℕ → List ℕ
+gone_line_of rank = codes "cbgrid: rank " ++ decimal rank ++ codes " gone\n"
+
+-- a block of the answer is lost, since memory was refused in this rank
+abbrev pub lost_line_of : ℕ → List ℕ
+lost_line_of origin = codes "cbgrid: lost at rank " ++ decimal origin ++ codes "\n"
+
+-- the line of operands that are refused
+abbrev pub refusal_line_of : Refusal → List ℕ
+refusal_line_of refusal_is.Shapes = codes "cbgrid: shapes don't agree\n"
+refusal_line_of refusal_is.NotSquare = codes "cbgrid: matrix not square\n"
+refusal_line_of refusal_is.Source = codes "cbgrid: no such source\n"
+
+-- the line of an engine's fault
+abbrev pub engine_line_of : EngineFault → List ℕ
+engine_line_of engine_is.Memory = codes "cbgrid: out of memory\n"
+engine_line_of (engine_is.NotStarted rank) = not_started_line_of rank
+engine_line_of (engine_is.Gone rank) = gone_line_of rank
+engine_line_of engine_is.TraceTorn = codes "cbgrid: trace torn\n"
+engine_line_of (engine_is.Lost rank refusals) = lost_line_of rank
+
+-- the line of a run that has no answer
+abbrev pub run_line_of : OperationFault → List ℕ
+run_line_of (Refused refusal) = refusal_line_of refusal
+run_line_of (Failed fault) = engine_line_of fault
+
+-- why the caller's thread alone makes nothing, as a job tells it
+abbrev pub job_fault_of : SerialFault → JobFault
+job_fault_of (serial_is.Refused refusal) = Run (Refused refusal)
+job_fault_of serial_is.Memory = Memory
+
+-- the line that the program prints for a fault, of the files with these names
+abbrev pub line_of : {A : Type 0} → List (String A) → JobFault → List ℕ
+line_of names (Read which fault) = read_line_of (name_at names which) fault.line (kind_text fault.kind)
+line_of names (Run fault) = run_line_of fault
+line_of names Memory = codes "cbgrid: out of memory\n"
+line_of names Output = codes "cbgrid: can't write\n"
+
+-- the line for a file that can't be read
+abbrev pub unreadable_line_of : List ℕ → List ℕ
+unreadable_line_of name = codes "cbgrid: " ++ name ++ codes ": can't be read\n"

@@ -1,0 +1,45 @@
+//! What computes a job.
+ghost use Rattle.std.specs.Prelude.{◌≡◌, nat_lt, length};
+ghost use Rattle.std.specs.List.{list_all};
+ghost use Rattle.cb_cli.specs.Engines.{engine_of, engine_for};
+ghost use Rattle.cb_cli.specs.Files.{bytes_of};
+
+use cb_engines::Engine;
+use cb_words::{EngineName, Job};
+
+/// A text of fewer bytes is small: it has some ten thousand entries at most.
+const SMALL: usize = 163_840;
+
+/// The engine of a name, or none where the caller's thread computes alone.
+fn engine_of(name: EngineName) -> Option<Engine<'static>>
+    ensures { result ≡ engine_of name }
+{
+    match name {
+        EngineName::Plain => None,
+        EngineName::Ranks(letters) => Some(Engine::Threads(letters)),
+        EngineName::Traced(letters) => Some(Engine::Traced(letters)),
+    }
+}
+
+/// Whether all texts are small.
+fn are_small(texts: &[Vec<u8>]) -> bool
+    ensures { result ≡ list_all (λ text. nat_lt (length text) SMALL) (bytes_of texts.now) }
+{
+    for n in 0..texts.len() {
+        if texts[n].len() >= SMALL {
+            return false;
+        }
+    }
+    true
+}
+
+/// The engine of a job, or none where the caller's thread computes alone: also where the job may be computed so and the
+/// texts are small, since threads would take longer to start than one takes to compute.
+pub fn engine_for(job: &Job, texts: &[Vec<u8>]) -> Option<Engine<'static>>
+    ensures { result ≡ engine_for job.now (bytes_of texts.now) }
+{
+    if job.may_be_alone && are_small(texts) {
+        return None;
+    }
+    engine_of(job.engine)
+}

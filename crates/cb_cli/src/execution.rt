@@ -1,0 +1,232 @@
+//! Runs a job.
+ghost use Rattle.std.specs.Prelude.{◌≡◌, ◌≢◌, ℕ, vec_len, false, None, IfOk, IfErr};
+ghost use Rattle.cb_operations.specs.OperationAnswers.{operand_count_of};
+ghost use Rattle.cb_semirings.specs.Names.{arithmetic_of};
+ghost use Rattle.cb_cli.specs.Answers.{IsAnswerOver, IsFaultOver, status_of, told};
+ghost use Rattle.cb_cli.specs.WriteEnds.{IsEndOf, IsEndOver};
+ghost use Rattle.cb_cli.specs.Files.{bytes_of};
+
+use crate::alone::compute_alone;
+use crate::engine_names::engine_for;
+use crate::inputs::read_operands;
+use crate::output::{put_column, put_text_and_lines};
+use crate::sinks::Sink;
+use crate::trace_lines::lines_of;
+use crate::vertex_numbers::{distances_of, levels_of};
+use cb_engines::{Engine, Outcome};
+use cb_layout::{DistributedMatrix, Grid};
+use cb_market::{Kind, ReadFault};
+use cb_operations::{Operation, Refusal};
+use cb_run::{OperationFault, run};
+use cb_semirings::{Semiring, SemiringName, over_semiring};
+use cb_serial::SerialFault;
+use cb_words::{Job, Task};
+use std::alloc::{AllocError, Global};
+use std::sync::Wait;
+use std::thread::Threads;
+use thiserror::Error;
+
+/// Why a job has no answer, in the order in which the reasons are looked for.
+#[derive(Clone, Copy, Debug, PartialEq, Eq, Error)]
+pub enum JobFault {
+    /// The text of a file is not a matrix, or memory was refused while it was read.
+    #[error("file {which}: {fault}")]
+    Read { which: usize, fault: ReadFault },
+    /// The matrices are refused, or a run of ranks failed.
+    #[error("{0}")]
+    Run(OperationFault),
+    /// Memory was refused, to the text of the answer or, where no ranks run, to the answer.
+    #[error("out of memory")]
+    Memory,
+    /// The sink failed, after a beginning of the text that may have no byte.
+    #[error("can't write")]
+    Output,
+}
+
+impl From<OperationFault> for JobFault {
+    ghost use Rattle.cb_cli.specs.declared.execution.JobFault.TheVariants.{Run};
+
+    ghost from_gives = { λ fault told. told ≡ Run fault };
+
+    fn from(fault: OperationFault) -> JobFault {
+        JobFault::Run(fault)
+    }
+}
+
+impl From<Refusal> for JobFault {
+    ghost use Rattle.cb_run.specs.declared.operation_faults.OperationFault.TheVariants.{Refused};
+    ghost use Rattle.cb_cli.specs.declared.execution.JobFault.TheVariants.{Run};
+
+    ghost from_gives = { λ refusal told. told ≡ Run (Refused refusal) };
+
+    fn from(refusal: Refusal) -> JobFault {
+        JobFault::Run(OperationFault::Refused(refusal))
+    }
+}
+
+impl From<SerialFault> for JobFault {
+    ghost use Rattle.cb_cli.specs.FaultLines.{job_fault_of};
+
+    ghost from_gives = { λ fault told. told ≡ job_fault_of fault };
+
+    fn from(fault: SerialFault) -> JobFault {
+        match fault {
+            SerialFault::Refused(refusal) => JobFault::Run(OperationFault::Refused(refusal)),
+            SerialFault::Memory => JobFault::Memory,
+        }
+    }
+}
+
+impl From<AllocError> for JobFault {
+    ghost use Rattle.cb_cli.specs.declared.execution.JobFault.TheVariants.{Memory};
+
+    ghost from_gives = { λ _ told. told ≡ Memory };
+
+    fn from(_error: AllocError) -> JobFault {
+        JobFault::Memory
+    }
+}
+
+/// What an operation makes of texts over a semiring: by the ranks of a grid, or, without an engine, by the caller's
+/// thread alone on whole blocks. No list of the operands' entries is kept.
+fn answer_over<S: Semiring + Send + Sync, R: Threads + Wait + Sync>(
+    rt: &R,
+    alloc: Global,
+    engine: Option<Engine>,
+    grid: &Grid,
+    operation: Operation,
+    texts: Vec<Vec<u8>>,
+) -> Result<Outcome<S>, JobFault>
+    requires { vec_len texts ≡ operand_count_of operation }
+    ensures ok { IfOk result (λ done. IsAnswerOver operation S.arithmetic engine.entry grid.now.side (bytes_of texts.items) (told S.arithmetic done.answer.matrix done.trace)) }
+    ensures fault { IfErr result (IsFaultOver operation S.arithmetic engine.entry grid.now.side (bytes_of texts.items)) }
+    ensures unwritten { IfErr result (λ f. f ≢ JobFault.Output) }
+{
+    match engine {
+        None => answer_alone::<S, R>(rt, alloc, operation, texts),
+        Some(engine) => {
+            let operands = read_operands::<S, R>(rt, alloc, grid, operation, texts)?;
+            Ok(run(rt, alloc, engine, grid, operation, operands)?)
+        }
+    }
+}
+
+/// The same without an engine.
+fn answer_alone<S: Semiring + Send + Sync, R: Threads + Sync>(
+    rt: &R,
+    alloc: Global,
+    operation: Operation,
+    texts: Vec<Vec<u8>>,
+) -> Result<Outcome<S>, JobFault>
+    requires { vec_len texts ≡ operand_count_of operation }
+    ensures ok { IfOk result (λ done. (side : ℕ) → IsAnswerOver operation S.arithmetic None side (bytes_of texts.items) (told S.arithmetic done.answer.matrix done.trace)) }
+    ensures fault { IfErr result (λ f. (side : ℕ) → IsFaultOver operation S.arithmetic None side (bytes_of texts.items) f) }
+    ensures unwritten { IfErr result (λ f. f ≢ JobFault.Output) }
+{
+    let operands = read_operands::<S, R>(rt, alloc, &Grid::single(), operation, texts)?;
+    let block = compute_alone(alloc, operation, operands)?;
+    let answer = DistributedMatrix::from_block(alloc, block)?;
+    Ok(Outcome {
+        answer,
+        refusals: Vec::new(alloc),
+        trace: None,
+    })
+}
+
+/// Writes what an operation makes of texts over a semiring, and then the lines of the trace, where one is kept.
+fn execute_over<S: Semiring + Send + Sync, R: Threads + Wait + Sync, K: Sink>(
+    rt: &R,
+    alloc: Global,
+    engine: Option<Engine>,
+    grid: &Grid,
+    operation: Operation,
+    texts: Vec<Vec<u8>>,
+    out: &mut K,
+) -> Result<(), JobFault>
+    requires texts { vec_len texts ≡ operand_count_of operation }
+    requires works { K.has_failed out.old ≡ false }
+    ensures { IsEndOver operation S.arithmetic engine.entry grid.now.side (bytes_of texts.items) (K.written out.old) (K.written out.new) (K.has_failed out.new) result }
+{
+    let done = answer_over::<S, R>(rt, alloc, engine, grid, operation, texts)?;
+    let Ok(lines) = lines_of(alloc, &done.trace) else {
+        return Err(JobFault::Memory);
+    };
+    put_text_and_lines(rt, alloc, &done.answer, lines.as_bytes(), out)
+}
+
+/// Writes what an operation makes of texts over the semiring of a name.
+fn execute_named<R: Threads + Wait + Sync, K: Sink>(
+    rt: &R,
+    alloc: Global,
+    engine: Option<Engine>,
+    grid: &Grid,
+    operation: Operation,
+    semiring: SemiringName,
+    texts: Vec<Vec<u8>>,
+    out: &mut K,
+) -> Result<(), JobFault>
+    requires texts { vec_len texts ≡ operand_count_of operation }
+    requires works { K.has_failed out.old ≡ false }
+    ensures { IsEndOver operation (arithmetic_of semiring) engine.entry grid.now.side (bytes_of texts.items) (K.written out.old) (K.written out.new) (K.has_failed out.new) result }
+{
+    over_semiring!(
+        semiring,
+        execute_over::<_, R, K>(rt, alloc, engine, grid, operation, texts, out)
+    )
+}
+
+/// Reads the texts of a job's files, in the job's order, and writes the text of its answer: of a matrix page by page,
+/// of levels or distances a line for each vertex that has one, and, where the engine keeps a trace of an operation, a
+/// line for each of its events at the end. All memory is taken before the first byte goes out: a fault other than
+/// `Output` has written nothing. At `Output` a beginning of the text has gone out, and the sink has failed; it has
+/// failed in no other case.
+///
+/// The faults come in their order: the first text that is no matrix, then shapes that don't agree, a graph whose
+/// matrix isn't square or a source that is none of its vertices, then want of memory, then `Output`. Costs the
+/// reading, what is computed and the writing. Each text is given up once it is read, so that its memory is free for
+/// what is computed.
+pub fn execute<R: Threads + Wait + Sync, K: Sink>(
+    rt: &R,
+    alloc: Global,
+    job: &Job,
+    texts: Vec<Vec<u8>>,
+    out: &mut K,
+) -> Result<(), JobFault>
+    requires texts { vec_len texts ≡ vec_len job.now.files }
+    requires works { K.has_failed out.old ≡ false }
+    ensures { IsEndOf job.now (bytes_of texts.items) (K.written out.old) (K.written out.new) (K.has_failed out.new) result }
+{
+    let (engine, grid) = (engine_for(job, &texts), &job.grid);
+    match job.task {
+        Task::Matrix {
+            operation,
+            semiring,
+        } => execute_named(rt, alloc, engine, grid, operation, semiring, texts, out),
+        Task::Levels { source } => {
+            let column = levels_of(rt, alloc, engine, grid, source, texts)?;
+            put_column(alloc, &column, out)
+        }
+        Task::Distances { source } => {
+            let column = distances_of(rt, alloc, engine, grid, source, texts)?;
+            put_column(alloc, &column, out)
+        }
+    }
+}
+
+/// The status that the program ends with: 4 for a text that is no matrix, 5 for shapes that don't
+/// agree, a matrix that isn't square or a source that is no vertex, 6 for want of memory and for
+/// ranks that weren't started, were left alone, tore a trace or lost a block, 7 for output.
+pub fn status(fault: &JobFault) -> u8
+    ensures { result ≡ status_of fault.now }
+{
+    match fault {
+        JobFault::Read { fault, .. } => match fault.kind {
+            Kind::Memory => 6,
+            _ => 4,
+        },
+        JobFault::Run(OperationFault::Refused(_)) => 5,
+        JobFault::Run(OperationFault::Failed(_)) => 6,
+        JobFault::Memory => 6,
+        JobFault::Output => 7,
+    }
+}

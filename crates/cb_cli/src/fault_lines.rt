@@ -1,0 +1,108 @@
+//! What a fault says.
+ghost use Rattle.std.specs.Prelude.{◌≡◌, IfOk};
+ghost use Rattle.cb_cli.specs.FaultLines.{line_of, name_at, read_line_of, not_started_line_of, gone_line_of, lost_line_of, refusal_line_of, engine_line_of, run_line_of, unreadable_line_of};
+
+use crate::execution::JobFault;
+use cb_engines::EngineFault;
+use cb_operations::Refusal;
+use cb_run::OperationFault;
+use std::alloc::{AllocError, Global};
+
+/// The name at a place, or nothing.
+pub fn name_at(names: &[String], which: usize) -> &str
+    ensures { result.now ≡ name_at names.now which }
+{
+    match names.get(which) {
+        Some(name) => name.as_str(),
+        None => "",
+    }
+}
+
+/// The line of a fault in a file.
+fn read_line(alloc: Global, name: &str, line: u64, text: &str) -> Result<Vec<u8>, AllocError>
+    ensures { IfOk result (λ v. v.items ≡ read_line_of name.now line text.now) }
+{
+    let text = format!(in alloc; "cbgrid: {name}:{line}: {text}\n")?;
+    Ok(text.into_bytes())
+}
+
+/// The line that the program prints for a file that can't be opened, or not be read to its end.
+pub fn unreadable_line(alloc: Global, name: &str) -> Result<Vec<u8>, AllocError>
+    ensures { IfOk result (λ v. v.items ≡ unreadable_line_of name.now) }
+{
+    let text = format!(in alloc; "cbgrid: {name}: can't be read\n")?;
+    Ok(text.into_bytes())
+}
+
+/// The line for a rank that no thread could be started for.
+fn not_started_line(alloc: Global, rank: u16) -> Result<Vec<u8>, AllocError>
+    ensures { IfOk result (λ v. v.items ≡ not_started_line_of rank) }
+{
+    let text = format!(in alloc; "cbgrid: rank {rank} not started\n")?;
+    Ok(text.into_bytes())
+}
+
+/// The line for a rank that came to a lane whose other rank was gone.
+fn gone_line(alloc: Global, rank: u16) -> Result<Vec<u8>, AllocError>
+    ensures { IfOk result (λ v. v.items ≡ gone_line_of rank) }
+{
+    let text = format!(in alloc; "cbgrid: rank {rank} gone\n")?;
+    Ok(text.into_bytes())
+}
+
+/// The line for a block of the answer that is lost, since memory was refused in this rank.
+fn lost_line(alloc: Global, origin: u16) -> Result<Vec<u8>, AllocError>
+    ensures { IfOk result (λ v. v.items ≡ lost_line_of origin) }
+{
+    let text = format!(in alloc; "cbgrid: lost at rank {origin}\n")?;
+    Ok(text.into_bytes())
+}
+
+/// The line for operands that are refused.
+fn refusal_line(alloc: Global, refusal: Refusal) -> Result<Vec<u8>, AllocError>
+    ensures { IfOk result (λ v. v.items ≡ refusal_line_of refusal) }
+{
+    match refusal {
+        Refusal::Shapes => Vec::from_slice(alloc, b"cbgrid: shapes don't agree\n"),
+        Refusal::NotSquare => Vec::from_slice(alloc, b"cbgrid: matrix not square\n"),
+        Refusal::Source => Vec::from_slice(alloc, b"cbgrid: no such source\n"),
+    }
+}
+
+/// The line for an engine's fault.
+fn engine_line(alloc: Global, fault: EngineFault) -> Result<Vec<u8>, AllocError>
+    ensures { IfOk result (λ v. v.items ≡ engine_line_of fault) }
+{
+    match fault {
+        EngineFault::Memory => Vec::from_slice(alloc, b"cbgrid: out of memory\n"),
+        EngineFault::NotStarted(rank) => not_started_line(alloc, rank),
+        EngineFault::Gone(rank) => gone_line(alloc, rank),
+        EngineFault::TraceTorn => Vec::from_slice(alloc, b"cbgrid: trace torn\n"),
+        EngineFault::Lost { rank, .. } => lost_line(alloc, rank),
+    }
+}
+
+/// The line for a run that has no answer.
+fn run_line(alloc: Global, fault: OperationFault) -> Result<Vec<u8>, AllocError>
+    ensures { IfOk result (λ v. v.items ≡ run_line_of fault) }
+{
+    match fault {
+        OperationFault::Refused(refusal) => refusal_line(alloc, refusal),
+        OperationFault::Failed(fault) => engine_line(alloc, fault),
+    }
+}
+
+/// The line that the program prints for a fault of a job whose files have these names. It ends by a
+/// line feed; a fault of a file names the file and the line.
+pub fn fault_line(alloc: Global, names: &[String], fault: &JobFault) -> Result<Vec<u8>, AllocError>
+    ensures { IfOk result (λ v. v.items ≡ line_of names.now fault.now) }
+{
+    match *fault {
+        JobFault::Read { which, fault } => {
+            read_line(alloc, name_at(names, which), fault.line, fault.kind.text())
+        }
+        JobFault::Run(fault) => run_line(alloc, fault),
+        JobFault::Memory => Vec::from_slice(alloc, b"cbgrid: out of memory\n"),
+        JobFault::Output => Vec::from_slice(alloc, b"cbgrid: can't write\n"),
+    }
+}

@@ -1,0 +1,133 @@
+//! Reads the operands of a job, in the job's order, each in as many pieces side by side as the grid has ranks. Each text
+//! is given up once it is read.
+ghost use Rattle.std.specs.Prelude.{◌≡◌, ◌∷◌, [], length, vec_len, IfOk, IfErr};
+ghost use Rattle.cb_market.specs.Reads.{Reads};
+ghost use Rattle.cb_operations.specs.Operands.{list_of};
+ghost use Rattle.cb_operations.specs.OperationAnswers.{operand_count_of};
+ghost use Rattle.cb_run.specs.Outcomes.{LieOver, wholes};
+ghost use Rattle.cb_cli.specs.Answers.{AreMatrices, IsTextFault, IsReadFault};
+ghost use Rattle.cb_cli.specs.Files.{bytes_of, text_at};
+
+use crate::execution::JobFault;
+use cb_layout::{DistributedMatrix, Grid};
+use cb_operations::{Operands, Operation};
+use cb_reading::{Pieces, read_side_by_side};
+use cb_semirings::Semiring;
+use std::alloc::Global;
+use std::thread::Threads;
+
+/// So many bytes at least are worth a thread.
+const LEAST_BYTES: usize = 262_144;
+
+/// The matrix of the text of a place, in the blocks of a grid.
+fn read_blocks<S: Semiring + Send + Sync, R: Threads + Sync>(
+    rt: &R,
+    alloc: Global,
+    grid: &Grid,
+    which: usize,
+    text: Vec<u8>,
+) -> Result<DistributedMatrix<S>, JobFault>
+    ensures ok { IfOk result (λ m. Reads S.arithmetic text.items m.matrix) }
+    ensures side { IfOk result (λ m. m.side ≡ grid.now.side) }
+    ensures fault { IfErr result (IsTextFault S.arithmetic which text.items) }
+{
+    let pieces = Pieces {
+        most: u32::from(grid.ranks()),
+        least_bytes: LEAST_BYTES,
+    };
+    match read_side_by_side::<S, R>(rt, alloc, grid, pieces, &text) {
+        Ok(matrix) => Ok(matrix),
+        Err(fault) => Err(JobFault::Read { which, fault }),
+    }
+}
+
+/// The matrix of the only text, in the blocks of a grid.
+pub fn read_one<S: Semiring + Send + Sync, R: Threads + Sync>(
+    rt: &R,
+    alloc: Global,
+    grid: &Grid,
+    mut texts: Vec<Vec<u8>>,
+) -> Result<DistributedMatrix<S>, JobFault>
+    requires { vec_len texts ≡ 1 }
+    ensures ok { IfOk result (λ m. AreMatrices S.arithmetic (bytes_of texts.items) (m.matrix ∷ [])) }
+    ensures only { IfOk result (λ m. Reads S.arithmetic (text_at (bytes_of texts.items) 0) m.matrix) }
+    ensures side { IfOk result (λ m. m.side ≡ grid.now.side) }
+    ensures fault { IfErr result (IsReadFault S.arithmetic (bytes_of texts.items)) }
+{
+    let text = texts.remove(0);
+    read_blocks(rt, alloc, grid, 0, text)
+}
+
+/// The matrices of two texts.
+fn read_two<S: Semiring + Send + Sync, R: Threads + Sync>(
+    rt: &R,
+    alloc: Global,
+    grid: &Grid,
+    mut texts: Vec<Vec<u8>>,
+) -> Result<(DistributedMatrix<S>, DistributedMatrix<S>), JobFault>
+    requires { vec_len texts ≡ 2 }
+    ensures ok { IfOk result (λ p. AreMatrices S.arithmetic (bytes_of texts.items) (p.0.matrix ∷ p.1.matrix ∷ [])) }
+    ensures sides { IfOk result (λ p. (p.0.side ≡ grid.now.side) × (p.1.side ≡ grid.now.side)) }
+    ensures fault { IfErr result (IsReadFault S.arithmetic (bytes_of texts.items)) }
+{
+    let first = texts.remove(0);
+    let second = texts.remove(0);
+    let left = read_blocks(rt, alloc, grid, 0, first)?;
+    let right = read_blocks(rt, alloc, grid, 1, second)?;
+    Ok((left, right))
+}
+
+/// The matrices of three texts.
+fn read_three<S: Semiring + Send + Sync, R: Threads + Sync>(
+    rt: &R,
+    alloc: Global,
+    grid: &Grid,
+    mut texts: Vec<Vec<u8>>,
+) -> Result<
+    (
+        DistributedMatrix<S>,
+        DistributedMatrix<S>,
+        DistributedMatrix<S>,
+    ),
+    JobFault,
+>
+    requires { vec_len texts ≡ 3 }
+    ensures ok { IfOk result (λ p. AreMatrices S.arithmetic (bytes_of texts.items) (p.0.matrix ∷ p.1.matrix ∷ p.2.matrix ∷ [])) }
+    ensures sides { IfOk result (λ p. (p.0.side ≡ grid.now.side) × (p.1.side ≡ grid.now.side) × (p.2.side ≡ grid.now.side)) }
+    ensures fault { IfErr result (IsReadFault S.arithmetic (bytes_of texts.items)) }
+{
+    let first = texts.remove(0);
+    let second = texts.remove(0);
+    let third = texts.remove(0);
+    let left = read_blocks(rt, alloc, grid, 0, first)?;
+    let right = read_blocks(rt, alloc, grid, 1, second)?;
+    let mask = read_blocks(rt, alloc, grid, 2, third)?;
+    Ok((left, right, mask))
+}
+
+/// The operands of an operation, in the blocks of a grid.
+pub fn read_operands<S: Semiring + Send + Sync, R: Threads + Sync>(
+    rt: &R,
+    alloc: Global,
+    grid: &Grid,
+    operation: Operation,
+    texts: Vec<Vec<u8>>,
+) -> Result<Operands<DistributedMatrix<S>>, JobFault>
+    requires { vec_len texts ≡ operand_count_of operation }
+    ensures count { IfOk result (λ o. operand_count_of operation ≡ length (list_of o)) }
+    ensures ok { IfOk result (λ o. AreMatrices S.arithmetic (bytes_of texts.items) (wholes (list_of o))) }
+    ensures sides { IfOk result (LieOver grid.now.side) }
+    ensures fault { IfErr result (IsReadFault S.arithmetic (bytes_of texts.items)) }
+{
+    match operation.operand_count() {
+        1 => Ok(Operands::One(read_one(rt, alloc, grid, texts)?)),
+        2 => {
+            let (left, right) = read_two(rt, alloc, grid, texts)?;
+            Ok(Operands::Two(left, right))
+        }
+        _ => {
+            let (left, right, mask) = read_three(rt, alloc, grid, texts)?;
+            Ok(Operands::Three(left, right, mask))
+        }
+    }
+}

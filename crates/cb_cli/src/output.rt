@@ -1,0 +1,170 @@
+//! Writes the text of an answer: of a matrix page by page, or by several threads in rounds of sheets, of a column of
+//! numbers at once.
+ghost use Rattle.std.specs.Prelude.{◌≡◌, ◌++◌, true, false, OnOk, OnErr};
+ghost use Rattle.std.specs.Io.KnownBytes.{Appends};
+ghost use Rattle.cb_market.specs.Text.{text_of, vertex_text_of};
+ghost use Rattle.cb_writing.specs.Rounds.{written_on};
+ghost use Rattle.cb_cli.specs.Answers.{IsUnwritten};
+ghost use Rattle.cb_cli.specs.Sinks.{AppendsPrefix};
+ghost use Rattle.cb_cli.specs.WriteEnds.{IsEnd};
+
+use crate::execution::JobFault;
+use crate::sinks::{PutFault, Sink, put_all};
+use cb_layout::DistributedMatrix;
+use cb_market::{Page, Sheet, TextPages, vertex_text};
+use cb_matrix::Matrix;
+use cb_semirings::{MinPlus, Semiring};
+use cb_writing::Round;
+use std::alloc::{AllocError, Global};
+use std::thread::Threads;
+
+/// Writes what is on sheets, one after the other. At `PutFault` a beginning of it has gone out.
+fn put_sheets<S: Semiring, K: Sink>(sheets: &[Sheet<'_, S>], out: &mut K) -> Result<(), PutFault>
+    requires { K.has_failed out.old ≡ false }
+    ensures whole { OnOk result (Appends (K.written out.old) (K.written out.new) (written_on sheets.now)) }
+    ensures works { OnOk result (K.has_failed out.new ≡ false) }
+    ensures prefix { OnErr result (AppendsPrefix (K.written out.old) (K.written out.new) (written_on sheets.now)) }
+    ensures fails { OnErr result (K.has_failed out.new ≡ true) }
+{
+    for n in 0..sheets.len() {
+        put_all(out, sheets[n].written())?;
+    }
+    Ok(())
+}
+
+/// Writes the text of a matrix, in as many rounds as it takes. At `PutFault` a beginning of it has gone out.
+fn put_rounds<'a, S: Semiring + Send + Sync, R: Threads + Sync, K: Sink>(
+    rt: &R,
+    matrix: &'a DistributedMatrix<S>,
+    round: &mut Round<'a, S>,
+    out: &mut K,
+) -> Result<(), PutFault>
+    requires { K.has_failed out.old ≡ false }
+    ensures whole { OnOk result (Appends (K.written out.old) (K.written out.new) (text_of S.arithmetic matrix.now.matrix)) }
+    ensures works { OnOk result (K.has_failed out.new ≡ false) }
+    ensures prefix { OnErr result (AppendsPrefix (K.written out.old) (K.written out.new) (text_of S.arithmetic matrix.now.matrix)) }
+    ensures fails { OnErr result (K.has_failed out.new ≡ true) }
+{
+    let mut text = TextPages::new(matrix);
+    while round.fill(rt, &mut text) {
+        put_sheets(round.sheets(), out)?;
+    }
+    Ok(())
+}
+
+/// Writes the text of a matrix, by as many pages as it takes. At `PutFault` a beginning of it has gone out.
+fn put_pages<S: Semiring, K: Sink>(
+    matrix: &DistributedMatrix<S>,
+    page: &mut Page,
+    out: &mut K,
+) -> Result<(), PutFault>
+    requires { K.has_failed out.old ≡ false }
+    ensures whole { OnOk result (Appends (K.written out.old) (K.written out.new) (text_of S.arithmetic matrix.now.matrix)) }
+    ensures works { OnOk result (K.has_failed out.new ≡ false) }
+    ensures prefix { OnErr result (AppendsPrefix (K.written out.old) (K.written out.new) (text_of S.arithmetic matrix.now.matrix)) }
+    ensures fails { OnErr result (K.has_failed out.new ≡ true) }
+{
+    let mut text = TextPages::new(matrix);
+    while text.next_page(page) {
+        put_all(out, page.written())?;
+    }
+    Ok(())
+}
+
+/// What the text of a matrix is written on: by the caller's thread a page, which is the quickest where it is alone, by
+/// several the sheets of a round.
+#[derive(Drop)]
+enum Paper<'a, S: Semiring> {
+    Page(Page),
+    Round(Round<'a, S>),
+}
+
+impl<'a, S: Semiring> Paper<'a, S> {
+    /// For as many threads as the matrix's grid has ranks.
+    fn new(alloc: Global, matrix: &'a DistributedMatrix<S>) -> Result<Self, AllocError> {
+        let threads = usize::from(matrix.grid().ranks());
+        if threads < 2 {
+            Ok(Paper::Page(Page::new(alloc)?))
+        } else {
+            Ok(Paper::Round(Round::new(alloc, threads, matrix)?))
+        }
+    }
+}
+
+/// Writes the text of a matrix. At `PutFault` a beginning of it has gone out.
+fn put_text<'a, S: Semiring + Send + Sync, R: Threads + Sync, K: Sink>(
+    rt: &R,
+    matrix: &'a DistributedMatrix<S>,
+    paper: &mut Paper<'a, S>,
+    out: &mut K,
+) -> Result<(), PutFault>
+    requires { K.has_failed out.old ≡ false }
+    ensures whole { OnOk result (Appends (K.written out.old) (K.written out.new) (text_of S.arithmetic matrix.now.matrix)) }
+    ensures works { OnOk result (K.has_failed out.new ≡ false) }
+    ensures prefix { OnErr result (AppendsPrefix (K.written out.old) (K.written out.new) (text_of S.arithmetic matrix.now.matrix)) }
+    ensures fails { OnErr result (K.has_failed out.new ≡ true) }
+{
+    match paper {
+        Paper::Page(page) => put_pages(matrix, page, out),
+        Paper::Round(round) => put_rounds(rt, matrix, round, out),
+    }
+}
+
+/// Writes the text of a matrix, and then some lines. At `PutFault` a beginning of it all has gone out.
+fn put_text_then_lines<'a, S: Semiring + Send + Sync, R: Threads + Sync, K: Sink>(
+    rt: &R,
+    matrix: &'a DistributedMatrix<S>,
+    paper: &mut Paper<'a, S>,
+    lines: &[u8],
+    out: &mut K,
+) -> Result<(), PutFault>
+    requires { K.has_failed out.old ≡ false }
+    ensures whole { OnOk result (Appends (K.written out.old) (K.written out.new) (text_of S.arithmetic matrix.now.matrix ++ lines.now)) }
+    ensures works { OnOk result (K.has_failed out.new ≡ false) }
+    ensures prefix { OnErr result (AppendsPrefix (K.written out.old) (K.written out.new) (text_of S.arithmetic matrix.now.matrix ++ lines.now)) }
+    ensures fails { OnErr result (K.has_failed out.new ≡ true) }
+{
+    put_text(rt, matrix, paper, out)?;
+    put_all(out, lines)
+}
+
+/// Writes the text of a matrix and some lines after it, with as many threads as its grid has ranks. What it is written on
+/// is taken first, and no memory after it: at `Memory` nothing has gone out, and at `Output` a beginning of the whole.
+pub fn put_text_and_lines<S: Semiring + Send + Sync, R: Threads + Sync, K: Sink>(
+    rt: &R,
+    alloc: Global,
+    matrix: &DistributedMatrix<S>,
+    lines: &[u8],
+    out: &mut K,
+) -> Result<(), JobFault>
+    requires { K.has_failed out.old ≡ false }
+    ensures { IsEnd (λ t. t ≡ text_of S.arithmetic matrix.now.matrix ++ lines.now) IsUnwritten (K.written out.old) (K.written out.new) (K.has_failed out.new) result }
+{
+    let Ok(mut paper) = Paper::new(alloc, matrix) else {
+        return Err(JobFault::Memory);
+    };
+    match put_text_then_lines(rt, matrix, &mut paper, lines, out) {
+        Ok(()) => Ok(()),
+        Err(_) => Err(JobFault::Output),
+    }
+}
+
+/// Writes the vertex text of a column. All memory is taken first: at `Memory` nothing has gone out, and at `Output` a
+/// beginning of the text.
+pub fn put_column<K: Sink>(
+    alloc: Global,
+    column: &Matrix<MinPlus>,
+    out: &mut K,
+) -> Result<(), JobFault>
+    requires column { column.now.shape.cols ≡ 1 }
+    requires works { K.has_failed out.old ≡ false }
+    ensures { IsEnd (λ t. t ≡ vertex_text_of column.now) IsUnwritten (K.written out.old) (K.written out.new) (K.has_failed out.new) result }
+{
+    let Ok(text) = vertex_text(alloc, column) else {
+        return Err(JobFault::Memory);
+    };
+    match put_all(out, text.as_slice()) {
+        Ok(()) => Ok(()),
+        Err(_) => Err(JobFault::Output),
+    }
+}

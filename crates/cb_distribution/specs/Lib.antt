@@ -1,5 +1,0 @@
--- Distribution: matrices whose parts lie in the slots of the ranks, and operations of all ranks.
--- Growth: how plans grow. Flows: acts that pass the check and leave each lane as it was.
-pub mod Distribution
-pub mod Growth
-pub mod Flows

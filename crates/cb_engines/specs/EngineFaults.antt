@@ -1,0 +1,11 @@
+-- The faults of ranks, as a run tells them.
+use Rattle.cb_ranks.specs.declared.faults.RunFault.{RunFault}
+use Rattle.cb_ranks.specs.declared.faults.RunFault.TheVariants as run_is
+use Rattle.cb_engines.specs.declared.engine_faults.EngineFault.{EngineFault}
+use Rattle.cb_engines.specs.declared.engine_faults.EngineFault.TheVariants.{Memory, NotStarted, Gone, TraceTorn}
+
+abbrev pub fault_of_ranks : RunFault → EngineFault
+fault_of_ranks run_is.Memory = Memory
+fault_of_ranks (run_is.NotStarted rank) = NotStarted rank
+fault_of_ranks (run_is.Gone rank) = Gone rank
+fault_of_ranks run_is.TraceTorn = TraceTorn

@@ -1,0 +1,4 @@
+-- GridPlans: the plans of the transpose, of operations place by place, and what they leave. VectorPlans: the plan of
+-- a matrix times a vector that is spread over all ranks.
+pub mod GridPlans
+pub mod VectorPlans

@@ -1,4 +1,0 @@
--- Kernels: the plans of the transpose, of operations place by place, and what they leave. VectorPlans: the plan of
--- a matrix times a vector that is spread over all ranks. Rows: worked plans.
-pub mod Kernels
-pub mod VectorPlans

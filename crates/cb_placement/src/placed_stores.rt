@@ -1,0 +1,97 @@
+//! The slots of the ranks: filled with blocks before a plan, and read after it.
+ghost use Rattle.std.specs.Prelude.{◌≡◌, ◌≢◌, ◌<◌, ◌*◌, ℕ, map, length, replicate, Some, All, IfOk, IfErr, OnOk};
+ghost use Rattle.cb_layout.specs.Blocks.{block_at};
+ghost use Rattle.cb_plan.specs.declared.stores.Slot.TheVariants.{Empty};
+ghost use Rattle.cb_plan.specs.Stores.{state_of};
+ghost use Rattle.cb_plan.specs.PlanTables.{IsTable, cell};
+ghost use Rattle.cb_placement.specs.Losses.{AreFilled, IsDrainRefusal};
+ghost use Rattle.cb_placement.specs.Slots.{Filled, HasOperands, HaveSlots, block_of_rank};
+
+use crate::DrainFault;
+use cb_dcsc::Block;
+use cb_layout::{DistributedMatrix, Grid};
+use cb_plan::{RankStore, SLOTS, Slot};
+use cb_semirings::Semiring;
+use std::alloc::{AllocError, Global};
+
+/// A store of empty slots for each rank.
+pub fn blank<S: Semiring>(alloc: Global, ranks: u16) -> Result<Vec<RankStore<S>>, AllocError>
+    ensures { IfOk result (λ v. v.items ≡ replicate ranks (replicate SLOTS Empty)) }
+{
+    let mut stores = Vec::new(alloc);
+    for _ in 0..ranks {
+        stores.push(RankStore::new(alloc)?)?;
+    }
+    Ok(stores)
+}
+
+/// The stores of the ranks of a grid, with the blocks of each matrix in its slot, and nothing else. The blocks are
+/// moved, and none is copied.
+pub fn laid_out<S: Semiring>(
+    alloc: Global,
+    grid: &Grid,
+    operands: Vec<(u16, DistributedMatrix<S>)>,
+) -> Result<Vec<RankStore<S>>, AllocError>
+    requires slots { HaveSlots (map (λ o. (o.0, o.1.matrix)) operands.items) }
+    requires sides { All (λ o. o.1.side ≡ grid.now.side) operands.items }
+    ensures { IfOk result (λ v. HasOperands S.arithmetic grid.now.side (map (λ o. (o.0, o.1.matrix)) operands.items) v.items) }
+{
+    let mut stores = blank(alloc, grid.ranks())?;
+    for (slot, matrix) in operands {
+        distribute(&mut stores, slot, matrix);
+    }
+    Ok(stores)
+}
+
+/// Moves the blocks of a matrix into a slot of their ranks.
+fn distribute<S: Semiring>(stores: &mut Vec<RankStore<S>>, slot: u16, matrix: DistributedMatrix<S>)
+    requires slot { slot < SLOTS }
+    requires table { IsTable (matrix.side * matrix.side) SLOTS stores.old.items }
+    ensures { Filled (matrix.side * matrix.side) slot (block_of_rank S.arithmetic matrix.side matrix.matrix) stores.old.items stores.new.items }
+{
+    fill(stores, slot, matrix.into_blocks());
+}
+
+/// Moves one block into a slot of each rank.
+pub fn fill<S: Semiring>(stores: &mut Vec<RankStore<S>>, slot: u16, blocks: Vec<Block<S>>)
+    requires slot { slot < SLOTS }
+    requires count { length blocks.items ≡ length stores.old.items }
+    requires table { IsTable (length stores.old.items) SLOTS stores.old.items }
+    ensures { Filled (length stores.old.items) slot (block_at blocks.items) stores.old.items stores.new.items }
+{
+    let mut blocks = blocks;
+    while let Some(block) = blocks.pop() {
+        let rank = blocks.len();
+        stores[rank].put(slot, block);
+    }
+}
+
+/// Moves the blocks out of a slot of the ranks. Their other slots are as they were.
+///
+/// `Memory` comes before any block is moved. `Lost` names the origin of the lost block of the least rank whose slot is
+/// lost; the blocks of the ranks before it are dropped.
+#[tactic(auto, using(crate::proofs::DrainedSlots::taken, crate::proofs::DrainedSlots::never_empty, crate::proofs::DrainedSlots::first_loss))]
+pub fn drain<S: Semiring>(
+    alloc: Global,
+    stores: &mut Vec<RankStore<S>>,
+    slot: u16,
+) -> Result<Vec<Block<S>>, DrainFault>
+    requires slot { slot < SLOTS }
+    requires table { IsTable (length stores.old.items) SLOTS stores.old.items }
+    requires filled { AreFilled slot stores.old.items }
+    ensures count { IfOk result (λ v. length v.items ≡ length stores.old.items) }
+    ensures blocks { IfOk result (λ v. (r : ℕ) → r < length stores.old.items → state_of stores.old.items r slot ≡ Some (block_at v.items r)) }
+    ensures table { OnOk result (IsTable (length stores.old.items) SLOTS stores.new.items) }
+    ensures others { OnOk result ((r n : ℕ) → slot ≢ n → cell Empty stores.new.items r n ≡ cell Empty stores.old.items r n) }
+    ensures fault { IfErr result (IsDrainRefusal slot stores.old.items) }
+{
+    let mut blocks = Vec::with_capacity(alloc, stores.len())?;
+    for rank in 0..stores.len() {
+        match stores[rank].take(slot) {
+            Slot::Sheet(block) => blocks.push_reserved(block),
+            Slot::Lost(origin) => return Err(DrainFault::Lost(origin)),
+            Slot::Empty => unreachable!(),
+        }
+    }
+    Ok(blocks)
+}

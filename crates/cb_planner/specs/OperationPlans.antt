@@ -1,0 +1,24 @@
+-- What it is for a plan to compute an operation.
+use Rattle.std.specs.Prelude.{◌≡◌, ℕ, List, [], ◌∷◌, All}
+use Rattle.cb_semirings.specs.Arithmetic.{Arithmetic, IsSemiring}
+use Rattle.cb_matrix.specs.Sparse.{Sparse, Extent, IsMatrix}
+use Rattle.cb_plan.specs.declared.plans.Planned.{Planned}
+use Rattle.cb_placement.specs.Answers.{Makes}
+use Rattle.cb_operations.specs.declared.operations.Operation.{Operation}
+use Rattle.cb_operations.specs.OperationAnswers.{shape_of, answer_of, shapes_in}
+
+-- each of these slots with the matrix of its place
+abbrev pub in_slots : List ℕ → List Sparse → List (ℕ × Sparse)
+in_slots [] ms = []
+in_slots (n ∷ ns) [] = []
+in_slots (n ∷ ns) (m ∷ ms) = (n, m) ∷ in_slots ns ms
+
+-- matrices in the slots of the operands: 0 and 1, and 7 for a third, which is a mask
+abbrev pub placed_operands : List Sparse → List (ℕ × Sparse)
+placed_operands ms = in_slots (0 ∷ 1 ∷ 7 ∷ []) ms
+
+-- On a grid of side q, over any semiring and for any matrices of these shapes: a plan makes what the operation makes of them.
+abbrev pub Computes : Operation → ℕ → List Extent → Planned → Type 0
+Computes operation q shapes planned =
+    (s : Arithmetic) → IsSemiring s → (ms : List Sparse) → All (IsMatrix s) ms → shapes_in ms ≡ shapes →
+    Makes s q (placed_operands ms) planned (shape_of operation shapes) (answer_of operation s ms)

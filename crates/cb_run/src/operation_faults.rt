@@ -1,0 +1,46 @@
+//! Why an operation has no answer.
+ghost use Rattle.std.specs.Prelude.{◌≡◌};
+ghost use Rattle.cb_engines.specs.declared.engine_faults.EngineFault.TheVariants.{Memory};
+ghost use Rattle.cb_run.specs.declared.operation_faults.OperationFault.TheVariants.{Failed};
+
+use cb_engines::EngineFault;
+use cb_operations::Refusal;
+use std::alloc::AllocError;
+use thiserror::Error;
+
+/// Why an operation has no answer, in the order in which the reasons are looked for.
+#[derive(Clone, Copy, Debug, PartialEq, Eq, Error)]
+pub enum OperationFault {
+    /// It isn't computed, whoever would compute it.
+    #[error("{0}")]
+    Refused(Refusal),
+    /// The engine has no answer.
+    #[error("{0}")]
+    Failed(EngineFault),
+}
+
+impl From<EngineFault> for OperationFault {
+    ghost from_gives = { λ engine fault. fault ≡ Failed engine };
+
+    fn from(fault: EngineFault) -> OperationFault {
+        OperationFault::Failed(fault)
+    }
+}
+
+impl From<Refusal> for OperationFault {
+    ghost use Rattle.cb_run.specs.declared.operation_faults.OperationFault.TheVariants.{Refused};
+
+    ghost from_gives = { λ refusal fault. fault ≡ Refused refusal };
+
+    fn from(refusal: Refusal) -> OperationFault {
+        OperationFault::Refused(refusal)
+    }
+}
+
+impl From<AllocError> for OperationFault {
+    ghost from_gives = { λ _ fault. fault ≡ Failed Memory };
+
+    fn from(_error: AllocError) -> OperationFault {
+        OperationFault::Failed(EngineFault::Memory)
+    }
+}

@@ -1,0 +1,44 @@
+//! The product of a matrix by a vector that lies over the same grid.
+ghost use Rattle.std.specs.Prelude.{◌≡◌, ◌*◌, length, IfOk, IfErr};
+ghost use Rattle.cb_operations.specs.Operands.{list_of};
+ghost use Rattle.cb_operations.specs.OperationAnswers.{Agree, shapes_in};
+ghost use Rattle.cb_engines.specs.EngineRuns.{IsEngineFault};
+ghost use Rattle.cb_run.specs.Outcomes.{IsOutcome, LieOver, wholes};
+
+use cb_engines::{Engine, EngineFault, Outcome};
+use cb_layout::{DistributedMatrix, Grid};
+use cb_operations::{Operands, Operation};
+use cb_semirings::Semiring;
+use cb_vectors::{multiply_vector, vector_plan};
+use std::alloc::Global;
+use std::sync::Wait;
+use std::thread::Threads;
+
+/// The product of a matrix by a vector. The vector's entries are spread over all ranks, and those of the product come
+/// from all of them: beside the run it costs a copy of these.
+pub fn run_vector<S: Semiring + Send + Sync, R: Threads + Wait + Sync>(
+    rt: &R,
+    alloc: Global,
+    engine: Engine,
+    grid: &Grid,
+    operands: Operands<DistributedMatrix<S>>,
+) -> Result<Outcome<S>, EngineFault>
+    requires two { length (list_of operands) ≡ 2 }
+    requires sides { LieOver grid.now.side operands }
+    requires agree { Agree Operation.MultiplyVector (shapes_in (wholes (list_of operands))) }
+    ensures ok { IfOk result (IsOutcome S.arithmetic engine.entry Operation.MultiplyVector grid.now.side (wholes (list_of operands))) }
+    ensures fault { IfErr result (IsEngineFault engine.entry (grid.now.side * grid.now.side)) }
+{
+    let Operands::Two(matrix, vector) = operands else {
+        unreachable!()
+    };
+    let plan = vector_plan(alloc, grid, matrix.shape())?;
+    let column = vector.gather(alloc)?;
+    let done = multiply_vector(rt, alloc, engine, grid, &plan, matrix, &column)?;
+    let answer = DistributedMatrix::scatter(alloc, *grid, &done.product)?;
+    Ok(Outcome {
+        answer,
+        refusals: done.refusals,
+        trace: done.trace,
+    })
+}
