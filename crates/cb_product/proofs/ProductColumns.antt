@@ -1,8 +1,8 @@
 -- The product, column by column.
-use Rattle.std.proofs.Common.{◌≡◌, ◌≢◌, ℕ, ◌+◌, ◌<◌, ◌≤◌, true, false, cond, inl, inr, Result, Ok, Err, List, [], ◌∷◌, length, map, get_or, sym, refl, ap, ◌∙◌, ⊎_elim, arith, subst}
+use Rattle.std.proofs.Common.{◌≡◌, ◌≢◌, ℕ, ◌+◌, ◌<◌, ◌≤◌, true, false, cond, inl, inr, Result, Ok, Err, List, [], ◌∷◌, length, map, get_or, sym, refl, ap, ◌∙◌, ◌⊎◌, ⊎_elim, arith, subst}
 use Rattle.std.specs.Prelude.{IfOk, All, AllPairs, ◌==◌}
 use Rattle.std.specs.List.{range_with_len}
-use Rattle.std.proofs.lemmas.Bool.{cases_Bool, cases_eq, cases_lt, eqb-true, eqb-false}
+use Rattle.std.proofs.lemmas.Bool.{cases_Bool, cases_eq, cases_lt, eqb-true, eqb-false, cond-false}
 use Rattle.std.proofs.lemmas.List.{get_or_default, get_or_past}
 use Rattle.std.proofs.lemmas.List.Elements.{All-head, All-tail, All-nil, All-weaker, All-get_or}
 use Rattle.cb_semirings.specs.Arithmetic.{Arithmetic, IsValue, IsSemiring}
@@ -12,7 +12,7 @@ use Rattle.cb_matrix.specs.Values.{total, product, product_shape, empty_matrix}
 use Rattle.cb_matrix.proofs.Places.{AllPairs-head, AllPairs-tail, is_at-parts, is_at-own, value_at-before, IsPlaceBefore}
 use Rattle.cb_matrix.proofs.Made.{NoneAt, value_at-none, at-matrix_of, same_matrix_of}
 use Rattle.cb_matrix.proofs.Equal.{matrix_is}
-use Rattle.cb_matrix.proofs.Totals.{add_zero, total_value, total-add, total-single, total-zero, total-same, each_value, value_at-value}
+use Rattle.cb_matrix.proofs.Totals.{add_zero, mul_add-zero, total_value, total-add, total-single, total-zero, total-same, each_value, value_at-value}
 use Rattle.cb_dcsc.specs.Columns.{in_column, rows_of, values_of}
 use Rattle.cb_dcsc.specs.Columns.{row_value}
 use Rattle.cb_dcsc.proofs.Lookup.{column_value}
@@ -58,6 +58,16 @@ module _ (s : Arithmetic) (laws : IsSemiring s) (a : Sparse) (is : IsMatrix s a)
         | false ↦ λ _. sym (laws.zero_add _ (value_at-value s laws es k j vs))
       ] refl
 
+  -- of an entry and later ones at most one has a value at a place
+  one_there : (e : Entry) (es : List Entry) (k : ℕ) → All (IsBefore e) es → (one e k ≡ s.zero) ⊎ (value_at s.zero es k j ≡ s.zero)
+  one_there e es k after =
+      ⊎_elim
+      (λ (t : is_at k j e ≡ true).
+      let q = is_at-parts e k j t in
+      inr (value_at-before s.zero es k j (All-weaker (IsBefore e) (IsPlaceBefore k j) (λ g b. ⊎_elim (λ m. inl (omega arith)) (λ m. inr (omega arith, omega arith)) b) es after)))
+      (λ (f : is_at k j e ≡ false). inl (cond-false _ e.value s.zero f))
+      (cases_Bool (is_at k j e))
+
   terms : (es : List Entry) → ℕ → ℕ
   terms es k = s.mul (at s a i k) (value_at s.zero es k j)
 
@@ -87,7 +97,7 @@ module _ (s : Arithmetic) (laws : IsSemiring s) (a : Sparse) (is : IsMatrix s a)
       let rest_value : IsValue s rest_sum = total_value s laws _ (each_value s laws (λ k. s.mul (at s a i k) (value_at s.zero es k j)) (λ k. laws.mul_value _ _ (left_value k) (value_at-value s laws es k j vs)) (range_with_len 0 n)) in
       let whole : total s (map (λ k. s.mul (at s a i k) (value_at s.zero (e ∷ es) k j)) (range_with_len 0 n)) ≡ s.add (cond (e.column == j) (s.mul (at s a i e.row) e.value) s.zero) rest_sum =
       total-same s laws (λ k. s.mul (at s a i k) (value_at s.zero (e ∷ es) k j)) (λ k. s.add (s.mul (at s a i k) (one e k)) (s.mul (at s a i k) (value_at s.zero es k j)))
-      (λ k. ap (s.mul (at s a i k)) (split e es k ve vs (AllPairs-head IsBefore e es up)) ∙ laws.mul_add _ _ _ (left_value k) (one_value e k ve) (value_at-value s laws es k j vs)) (range_with_len 0 n)
+      (λ k. ap (s.mul (at s a i k)) (split e es k ve vs (AllPairs-head IsBefore e es up)) ∙ mul_add-zero s laws _ _ _ (left_value k) (one_value e k ve) (value_at-value s laws es k j vs) (one_there e es k (AllPairs-head IsBefore e es up))) (range_with_len 0 n)
       ∙ total-add s laws (λ k. s.mul (at s a i k) (one e k)) (λ k. s.mul (at s a i k) (value_at s.zero es k j)) (λ k. laws.mul_value _ _ (left_value k) (one_value e k ve)) (λ k. laws.mul_value _ _ (left_value k) (value_at-value s laws es k j vs)) (range_with_len 0 n)
       ∙ ap (λ x. s.add x rest_sum) (one_sum e ve (All-head (λ e. e.row < n) e es l)) in
       sym (whole ∙ elim (e.column == j) as (λ b. s.add (cond b (s.mul (at s a i e.row) e.value) s.zero) rest_sum ≡ column_sum s a i (rows_of (cond b (e ∷ in_column j es) (in_column j es))) (values_of (cond b (e ∷ in_column j es) (in_column j es)))) [

@@ -1,6 +1,6 @@
 -- Sums of rows: a column added entry by entry, and taken row by row.
-use Rattle.std.proofs.Common.{◌≡◌, ◌≢◌, ℕ, ◌+◌, ◌-◌, ◌<◌, ◌≤◌, List, [], ◌++◌, length, take, get_or, set, replicate, sym, refl, ap, ◌∙◌, ⊎_elim, arith, length-append}
-use Rattle.std.specs.Prelude.{All, AllPairs}
+use Rattle.std.proofs.Common.{◌≡◌, ◌≢◌, ℕ, ◌+◌, ◌-◌, ◌<◌, ◌≤◌, Option, List, [], ◌++◌, length, take, get_or, set, replicate, sym, refl, ap, ◌∙◌, ⊎_elim, arith, length-append}
+use Rattle.std.specs.Prelude.{All, AllPairs, IfSome}
 use Rattle.std.proofs.lemmas.Bool.{cases_eq, cases_lt, eq-eqb, ne_eqb, cond-true, cond-false}
 use Rattle.std.proofs.lemmas.List.{get_or_default, get_or-set_same, get_or-set_other, get_or_past, length-take, length-replicate}
 use Rattle.std.proofs.lemmas.List.Elements.{All-get_or, All-append, All-take, All-nil, All-replicate, All-weaker}
@@ -10,7 +10,7 @@ use Rattle.cb_matrix.specs.Sparse.{Sparse, IsMatrix}
 use Rattle.cb_dcsc.specs.Columns.{row_value, rows_of, values_of}
 use Rattle.cb_dcsc.proofs.Lookup.{all_rows_inside}
 use Rattle.cb_product.specs.declared.terms.Term.{Term}
-use Rattle.cb_product.specs.SparseColumn.{one_value, rest_value, AreEntries}
+use Rattle.cb_product.specs.SparseColumn.{one_value, rest_value, scaled, AreEntries}
 use Rattle.cb_product.specs.Terms.{IsTerm, terms_value, sum_with}
 use Rattle.cb_product.proofs.RowValues.{nth_product, scaled_value, scaled_split, scaled_end, row_value-value, absent_above}
 use Rattle.cb_product.proofs.TermSums.{terms_past}
@@ -41,17 +41,17 @@ module _ (s : Arithmetic) (laws : IsSemiring s) where
       (cases_eq row i)
 
   -- ---- a column, scaled, is added
-  module _ (rows values : List ℕ) (scale : ℕ) (same : length values ≡ length rows) (all : All (IsValue s) values) (is_scale : IsValue s scale) (up : AllPairs (λ i j. i < j) rows) where
+  module _ (rows values : List ℕ) (scale : Option ℕ) (same : length values ≡ length rows) (all : All (IsValue s) values) (is_scale : IfSome scale (IsValue s)) (up : AllPairs (λ i j. i < j) rows) where
     abbrev left : ℕ → ℕ → ℕ
-    left n i = s.mul (rest_value s.zero rows values n i) scale
+    left n i = scaled s (rest_value s.zero rows values n i) scale
 
     -- one entry more
     pub entry_added : (n : ℕ) (sums : List ℕ) (T : ℕ → ℕ) → n < length rows → All (IsValue s) sums → get_or rows n 0 < length sums
         → ((i : ℕ) → i < length sums → s.add (get_or sums i s.zero) (left n i) ≡ T i)
-        → (i : ℕ) → i < length sums → s.add (get_or (set sums (get_or rows n 0) (s.add (get_or sums (get_or rows n 0) 0) (s.mul (get_or values n 0) scale))) i s.zero) (left (n + 1) i) ≡ T i
+        → (i : ℕ) → i < length sums → s.add (get_or (set sums (get_or rows n 0) (s.add (get_or sums (get_or rows n 0) 0) (scaled s (get_or values n 0) scale))) i s.zero) (left (n + 1) i) ≡ T i
     entry_added n sums T l vs lr so_far i li =
         let r = get_or rows n 0 in
-        let p = s.mul (get_or values n 0) scale in
+        let p = scaled s (get_or values n 0) scale in
         let x = s.add (get_or sums r 0) p in
         let is_p : IsValue s p = nth_product s laws rows values scale same all is_scale n l in
         let rest = scaled_value s laws rows values scale same all is_scale (n + 1) i in
@@ -106,7 +106,7 @@ module _ (s : Arithmetic) (laws : IsSemiring s) (a : Sparse) (is : IsMatrix s a)
 
   -- sums to which the accumulator's column is added, and then the terms, are what both have together at each row
   pub dense_sums : (zeros one two : List ℕ) → All (λ x. x ≡ s.zero) zeros → length zeros ≡ a.shape.rows → length one ≡ length zeros → length two ≡ length one
-      → ((i : ℕ) → i < length zeros → get_or one i s.zero ≡ s.add (get_or zeros i s.zero) (s.mul (row_value s.zero own_rows own_values i) s.one))
+      → ((i : ℕ) → i < length zeros → get_or one i s.zero ≡ s.add (get_or zeros i s.zero) (row_value s.zero own_rows own_values i))
       → ((i : ℕ) → i < length one → get_or two i s.zero ≡ s.add (get_or one i s.zero) (terms_value s (rows_of a.entries) (values_of a.entries) i ts))
       → (i : ℕ) → get_or two i s.zero ≡ sum_with s a own_rows own_values ts i
   dense_sums zeros one two none long one_long two_long p q i =
@@ -115,7 +115,7 @@ module _ (s : Arithmetic) (laws : IsSemiring s) (a : Sparse) (is : IsMatrix s a)
       (λ (l : i < a.shape.rows).
       let m : i < length zeros = omega arith in
       q i (omega arith) ∙ ap (λ x. s.add x (terms_value s (rows_of a.entries) (values_of a.entries) i ts))
-      (p i m ∙ (λ t. s.add (All-get_or (λ x. x ≡ s.zero) zeros i s.zero m none t) (laws.mul_one (row_value s.zero own_rows own_values i) own_is t)) ∙ laws.zero_add _ own_is))
+      (p i m ∙ ap (λ t. s.add t (row_value s.zero own_rows own_values i)) (All-get_or (λ x. x ≡ s.zero) zeros i s.zero m none) ∙ laws.zero_add _ own_is))
       (λ (l : a.shape.rows ≤ i). get_or_past two i s.zero (omega arith) ∙ sym (sum_past i l))
       (cases_lt i a.shape.rows)
 

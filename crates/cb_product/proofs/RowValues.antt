@@ -1,16 +1,16 @@
 -- What a column has at a row, as its entries are gone through.
-use Rattle.std.proofs.Common.{◌≡◌, ℕ, ◌+◌, ◌<◌, ◌≤◌, true, false, cond, List, [], ◌∷◌, ◌++◌, length, drop, get_or, sym, refl, ap, ◌∙◌, ⊎_elim, arith, subst}
-use Rattle.std.specs.Prelude.{All, AllPairs, ◌==◌}
+use Rattle.std.proofs.Common.{◌≡◌, ℕ, ◌+◌, ◌<◌, ◌≤◌, true, false, cond, inl, inr, ◌⊎◌, Option, Some, None, List, [], ◌∷◌, ◌++◌, length, drop, get_or, sym, refl, ap, ◌∙◌, ⊎_elim, arith, subst}
+use Rattle.std.specs.Prelude.{All, AllPairs, IfSome, ◌==◌}
 use Rattle.std.proofs.lemmas.Bool.{cases_eq, eq-eqb, ne_eqb, cond-false}
 use Rattle.std.proofs.lemmas.List.{drop_more, drop_all}
 use Rattle.std.proofs.lemmas.List.Elements.{All-head, All-tail, All-drop, All-get_or}
 use Rattle.cb_semirings.specs.Arithmetic.{Arithmetic, IsValue, IsSemiring}
-use Rattle.cb_matrix.proofs.Totals.{add_zero}
+use Rattle.cb_matrix.proofs.Totals.{add_zero, add_mul-zero}
 use Rattle.cb_matrix.proofs.Places.{AllPairs-head}
 use Rattle.cb_matrix.proofs.Pairs.{AllPairs-drop}
 use Rattle.cb_dcsc.specs.Columns.{row_value}
 use Rattle.cb_dcsc.proofs.Lookup.{row_value-absent}
-use Rattle.cb_product.specs.SparseColumn.{one_value, rest_value}
+use Rattle.cb_product.specs.SparseColumn.{one_value, rest_value, scaled}
 
 -- at a row past all rows there is nothing
 pub absent_above : (z bound : ℕ) (rs vs : List ℕ) (i : ℕ) → All (λ r. r < bound) rs → bound ≤ i → row_value z rs vs i ≡ z
@@ -67,31 +67,46 @@ module _ (s : Arithmetic) (laws : IsSemiring s) where
   pub one_value-value : (t : ℕ × ℕ) (i : ℕ) → IsValue s t.1 → IsValue s (one_value s.zero t i)
   one_value-value t i v = elim (t.0 == i) as (λ b. IsValue s (cond b t.1 s.zero)) [ true ↦ v | false ↦ laws.zero_value ]
 
+  -- a value is one when it is scaled
+  pub scaled-value : (v : ℕ) (c : Option ℕ) → IsValue s v → IfSome c (IsValue s) → IsValue s (scaled s v c)
+  scaled-value v None h k = h
+  scaled-value v (Some c) h k = laws.mul_value v c h k
+
+  -- zero stays zero
+  pub scaled-zero : (c : Option ℕ) → IfSome c (IsValue s) → scaled s s.zero c ≡ s.zero
+  scaled-zero None k = refl
+  scaled-zero (Some c) k = laws.zero_mul c k
+
+  -- a sum of which one part is zero, scaled
+  pub scaled-add : (v w : ℕ) (c : Option ℕ) → IsValue s v → IsValue s w → IfSome c (IsValue s) → (v ≡ s.zero) ⊎ (w ≡ s.zero) → scaled s (s.add v w) c ≡ s.add (scaled s v c) (scaled s w c)
+  scaled-add v w None hv hw k one = refl
+  scaled-add v w (Some c) hv hw k one = add_mul-zero s laws v w c hv hw k one
+
   -- one entry, scaled
-  pub one_value-mul : (r v c i : ℕ) → IsValue s c → s.mul (one_value s.zero (r, v) i) c ≡ one_value s.zero (r, s.mul v c) i
-  one_value-mul r v c i h = elim (r == i) as (λ b. s.mul (cond b v s.zero) c ≡ cond b (s.mul v c) s.zero) [ true ↦ refl | false ↦ laws.zero_mul c h ]
+  pub one_value-scaled : (r v i : ℕ) (c : Option ℕ) → IfSome c (IsValue s) → scaled s (one_value s.zero (r, v) i) c ≡ one_value s.zero (r, scaled s v c) i
+  one_value-scaled r v i c h = elim (r == i) as (λ b. scaled s (cond b v s.zero) c ≡ cond b (scaled s v c) s.zero) [ true ↦ refl | false ↦ scaled-zero c h ]
 
   -- two entries of one row
   pub one_value-add : (r v w i : ℕ) → s.add (one_value s.zero (r, v) i) (one_value s.zero (r, w) i) ≡ one_value s.zero (r, s.add v w) i
   one_value-add r v w i = elim (r == i) as (λ b. s.add (cond b v s.zero) (cond b w s.zero) ≡ cond b (s.add v w) s.zero) [ true ↦ refl | false ↦ laws.zero_add s.zero laws.zero_value ]
 
   -- the entries of a column from the n-th on, scaled
-  module _ (rows values : List ℕ) (scale : ℕ) (same : length values ≡ length rows) (all : All (IsValue s) values) (is_scale : IsValue s scale) where
+  module _ (rows values : List ℕ) (scale : Option ℕ) (same : length values ≡ length rows) (all : All (IsValue s) values) (is_scale : IfSome scale (IsValue s)) where
     -- what they have at a row is a value
     pub rest_value-value : (n i : ℕ) → IsValue s (rest_value s.zero rows values n i)
     rest_value-value n i = row_value-value (drop n rows) (drop n values) i (All-drop (IsValue s) n values all)
 
     -- it is one when it is scaled
-    pub scaled_value : (n i : ℕ) → IsValue s (s.mul (rest_value s.zero rows values n i) scale)
-    scaled_value n i = laws.mul_value _ _ (rest_value-value n i) is_scale
+    pub scaled_value : (n i : ℕ) → IsValue s (scaled s (rest_value s.zero rows values n i) scale)
+    scaled_value n i = scaled-value _ scale (rest_value-value n i) is_scale
 
     -- the n-th entry has a value
     pub nth_value : (n : ℕ) → n < length rows → IsValue s (get_or values n 0)
     nth_value n l = All-get_or (IsValue s) values n 0 (omega arith) all
 
     -- it is one when it is scaled
-    pub nth_product : (n : ℕ) → n < length rows → IsValue s (s.mul (get_or values n 0) scale)
-    nth_product n l = laws.mul_value _ _ (nth_value n l) is_scale
+    pub nth_product : (n : ℕ) → n < length rows → IsValue s (scaled s (get_or values n 0) scale)
+    nth_product n l = scaled-value _ scale (nth_value n l) is_scale
 
     -- the n-th, and those after it
     pub rest_split : (n i : ℕ) → AllPairs (λ i j. i < j) rows → n < length rows → rest_value s.zero rows values n i ≡ s.add (one_value s.zero (get_or rows n 0, get_or values n 0) i) (rest_value s.zero rows values (n + 1) i)
@@ -111,13 +126,21 @@ module _ (s : Arithmetic) (laws : IsSemiring s) where
         rw t (sym (laws.zero_add (rest_value s.zero rows values (n + 1) i) (rest_value-value (n + 1) i))))
         (cases_eq r i)
 
+    -- of the n-th and those after it at most one has a value there
+    one_there : (n i : ℕ) → AllPairs (λ i j. i < j) rows → n < length rows → (one_value s.zero (get_or rows n 0, get_or values n 0) i ≡ s.zero) ⊎ (rest_value s.zero rows values (n + 1) i ≡ s.zero)
+    one_there n i up l =
+        ⊎_elim
+        (λ (e : get_or rows n 0 ≡ i). inr (row_value-above s.zero (drop (n + 1) rows) (drop (n + 1) values) i (rw (← e) (rest_after rows n 0 up l))))
+        (λ (e : get_or rows n 0 ≡ i → ⊥). inl (cond-false _ _ _ (ne_eqb (get_or rows n 0) i e)))
+        (cases_eq (get_or rows n 0) i)
+
     -- what they have at a row, scaled, is what the n-th has there, scaled, and what those after it have
-    pub scaled_split : (n i : ℕ) → AllPairs (λ i j. i < j) rows → n < length rows → s.mul (rest_value s.zero rows values n i) scale ≡ s.add (one_value s.zero (get_or rows n 0, s.mul (get_or values n 0) scale) i) (s.mul (rest_value s.zero rows values (n + 1) i) scale)
+    pub scaled_split : (n i : ℕ) → AllPairs (λ i j. i < j) rows → n < length rows → scaled s (rest_value s.zero rows values n i) scale ≡ s.add (one_value s.zero (get_or rows n 0, scaled s (get_or values n 0) scale) i) (scaled s (rest_value s.zero rows values (n + 1) i) scale)
     scaled_split n i up l =
-        ap (λ x. s.mul x scale) (rest_split n i up l)
-        ∙ laws.add_mul _ _ _ (one_value-value (get_or rows n 0, get_or values n 0) i (nth_value n l)) (rest_value-value (n + 1) i) is_scale
-        ∙ ap (λ x. s.add x (s.mul (rest_value s.zero rows values (n + 1) i) scale)) (one_value-mul (get_or rows n 0) (get_or values n 0) scale i is_scale)
+        ap (λ x. scaled s x scale) (rest_split n i up l)
+        ∙ scaled-add _ _ scale (one_value-value (get_or rows n 0, get_or values n 0) i (nth_value n l)) (rest_value-value (n + 1) i) is_scale (one_there n i up l)
+        ∙ ap (λ x. s.add x (scaled s (rest_value s.zero rows values (n + 1) i) scale)) (one_value-scaled (get_or rows n 0) (get_or values n 0) i scale is_scale)
 
     -- past all there is nothing
-    pub scaled_end : (n i : ℕ) → length rows ≤ n → s.mul (rest_value s.zero rows values n i) scale ≡ s.zero
-    scaled_end n i l = ap (λ x. s.mul x scale) (row_value-none s.zero (drop n rows) (drop n values) i (drop_all n rows l)) ∙ laws.zero_mul scale is_scale
+    pub scaled_end : (n i : ℕ) → length rows ≤ n → scaled s (rest_value s.zero rows values n i) scale ≡ s.zero
+    scaled_end n i l = ap (λ x. scaled s x scale) (row_value-none s.zero (drop n rows) (drop n values) i (drop_all n rows l)) ∙ scaled-zero scale is_scale

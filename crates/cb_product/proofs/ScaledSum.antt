@@ -1,24 +1,24 @@
 -- The sum of a column and of another one, scaled, as both are gone through.
-use Rattle.std.proofs.Common.{◌≡◌, ℕ, ◌+◌, ◌<◌, List, [], length, get_or, ap, ◌∙◌}
-use Rattle.std.specs.Prelude.{All, AllPairs}
+use Rattle.std.proofs.Common.{◌≡◌, ℕ, ◌+◌, ◌<◌, Option, None, List, [], length, get_or, ap, ◌∙◌}
+use Rattle.std.specs.Prelude.{All, AllPairs, IfSome}
 use Rattle.cb_semirings.specs.Arithmetic.{Arithmetic, IsValue, IsSemiring}
 use Rattle.cb_matrix.proofs.Totals.{swap_middle}
 use Rattle.cb_matrix.proofs.Permuted.{swap_two}
-use Rattle.cb_product.specs.SparseColumn.{SparseColumn, value_in, one_value, rest_value}
+use Rattle.cb_product.specs.SparseColumn.{SparseColumn, value_in, one_value, rest_value, scaled}
 use Rattle.cb_product.proofs.ColumnSoFar.{IsColumnSoFar}
 use Rattle.cb_dcsc.specs.Columns.{row_value}
 use Rattle.cb_product.proofs.RowValues.{row_value-none, row_value-value, one_value-value, one_value-add, rest_value-value, rest_split, nth_value, nth_product, scaled_value, scaled_split}
 
 module _ (s : Arithmetic) (laws : IsSemiring s) (own_rows own_values : List ℕ) (own_same : length own_values ≡ length own_rows) (own_all : All (IsValue s) own_values) (own_up : AllPairs (λ i j. i < j) own_rows)
-    (rows values : List ℕ) (scale : ℕ) (same : length values ≡ length rows) (all : All (IsValue s) values) (up : AllPairs (λ i j. i < j) rows) (is_scale : IsValue s scale) where
+    (rows values : List ℕ) (scale : Option ℕ) (same : length values ≡ length rows) (all : All (IsValue s) values) (up : AllPairs (λ i j. i < j) rows) (is_scale : IfSome scale (IsValue s)) where
   abbrev own : ℕ → ℕ → ℕ
   own x i = rest_value s.zero own_rows own_values x i
 
   abbrev other : ℕ → ℕ → ℕ
-  other y i = s.mul (rest_value s.zero rows values y i) scale
+  other y i = scaled s (rest_value s.zero rows values y i) scale
 
   own_value : (x i : ℕ) → IsValue s (own x i)
-  own_value x i = rest_value-value s laws own_rows own_values s.one own_same own_all laws.one_value x i
+  own_value x i = rest_value-value s laws own_rows own_values None own_same own_all tt x i
 
   other_value : (y i : ℕ) → IsValue s (other y i)
   other_value y i = scaled_value s laws rows values scale same all is_scale y i
@@ -29,16 +29,16 @@ module _ (s : Arithmetic) (laws : IsSemiring s) (own_rows own_values : List ℕ)
 
   -- each entry of the column has a value
   pub own_is : (x : ℕ) → x < length own_rows → IsValue s (get_or own_values x 0)
-  own_is x l = nth_value s laws own_rows own_values s.one own_same own_all laws.one_value x l
+  own_is x l = nth_value s laws own_rows own_values None own_same own_all tt x l
 
   -- each entry of the other one has one when it is scaled
-  pub other_is : (y : ℕ) → y < length rows → IsValue s (s.mul (get_or values y 0) scale)
+  pub other_is : (y : ℕ) → y < length rows → IsValue s (scaled s (get_or values y 0) scale)
   other_is y l = nth_product s laws rows values scale same all is_scale y l
 
   own_split : (x i : ℕ) → x < length own_rows → own x i ≡ s.add (one_value s.zero (get_or own_rows x 0, get_or own_values x 0) i) (own (x + 1) i)
-  own_split x i l = rest_split s laws own_rows own_values s.one own_same own_all laws.one_value x i own_up l
+  own_split x i l = rest_split s laws own_rows own_values None own_same own_all tt x i own_up l
 
-  other_split : (y i : ℕ) → y < length rows → other y i ≡ s.add (one_value s.zero (get_or rows y 0, s.mul (get_or values y 0) scale) i) (other (y + 1) i)
+  other_split : (y i : ℕ) → y < length rows → other y i ≡ s.add (one_value s.zero (get_or rows y 0, scaled s (get_or values y 0) scale) i) (other (y + 1) i)
   other_split y i l = scaled_split s laws rows values scale same all is_scale y i up l
 
   -- the first one's next entry
@@ -46,24 +46,24 @@ module _ (s : Arithmetic) (laws : IsSemiring s) (own_rows own_values : List ℕ)
   first_next x y i l = ap (λ t. s.add t (other y i)) (own_split x i l) ∙ laws.add_assoc _ _ _ (one_value-value s laws (get_or own_rows x 0, get_or own_values x 0) i (own_is x l)) (own_value (x + 1) i) (other_value y i)
 
   -- the other one's
-  pub other_next : (x y i : ℕ) → y < length rows → s.add (own x i) (other y i) ≡ s.add (one_value s.zero (get_or rows y 0, s.mul (get_or values y 0) scale) i) (s.add (own x i) (other (y + 1) i))
-  other_next x y i l = ap (s.add (own x i)) (other_split y i l) ∙ swap_two s laws (own x i) (one_value s.zero (get_or rows y 0, s.mul (get_or values y 0) scale) i) (other (y + 1) i) (own_value x i) (one_value-value s laws (get_or rows y 0, s.mul (get_or values y 0) scale) i (other_is y l)) (other_value (y + 1) i)
+  pub other_next : (x y i : ℕ) → y < length rows → s.add (own x i) (other y i) ≡ s.add (one_value s.zero (get_or rows y 0, scaled s (get_or values y 0) scale) i) (s.add (own x i) (other (y + 1) i))
+  other_next x y i l = ap (s.add (own x i)) (other_split y i l) ∙ swap_two s laws (own x i) (one_value s.zero (get_or rows y 0, scaled s (get_or values y 0) scale) i) (other (y + 1) i) (own_value x i) (one_value-value s laws (get_or rows y 0, scaled s (get_or values y 0) scale) i (other_is y l)) (other_value (y + 1) i)
 
   -- both, in one row
-  pub both_next : (x y i : ℕ) → x < length own_rows → y < length rows → get_or own_rows x 0 ≡ get_or rows y 0 → s.add (own x i) (other y i) ≡ s.add (one_value s.zero (get_or rows y 0, s.add (get_or own_values x 0) (s.mul (get_or values y 0) scale)) i) (s.add (own (x + 1) i) (other (y + 1) i))
+  pub both_next : (x y i : ℕ) → x < length own_rows → y < length rows → get_or own_rows x 0 ≡ get_or rows y 0 → s.add (own x i) (other y i) ≡ s.add (one_value s.zero (get_or rows y 0, s.add (get_or own_values x 0) (scaled s (get_or values y 0) scale)) i) (s.add (own (x + 1) i) (other (y + 1) i))
   both_next x y i lx ly e =
       (λ t. s.add (own_split x i lx t) (other_split y i ly t))
-      ∙ swap_middle s laws _ _ _ _ (one_value-value s laws (get_or own_rows x 0, get_or own_values x 0) i (own_is x lx)) (own_value (x + 1) i) (one_value-value s laws (get_or rows y 0, s.mul (get_or values y 0) scale) i (other_is y ly)) (other_value (y + 1) i)
-      ∙ ap (λ t. s.add t (s.add (own (x + 1) i) (other (y + 1) i))) (ap (λ r. s.add (one_value s.zero (r, get_or own_values x 0) i) (one_value s.zero (get_or rows y 0, s.mul (get_or values y 0) scale) i)) e ∙ one_value-add s laws (get_or rows y 0) (get_or own_values x 0) (s.mul (get_or values y 0) scale) i)
+      ∙ swap_middle s laws _ _ _ _ (one_value-value s laws (get_or own_rows x 0, get_or own_values x 0) i (own_is x lx)) (own_value (x + 1) i) (one_value-value s laws (get_or rows y 0, scaled s (get_or values y 0) scale) i (other_is y ly)) (other_value (y + 1) i)
+      ∙ ap (λ t. s.add t (s.add (own (x + 1) i) (other (y + 1) i))) (ap (λ r. s.add (one_value s.zero (r, get_or own_values x 0) i) (one_value s.zero (get_or rows y 0, scaled s (get_or values y 0) scale) i)) e ∙ one_value-add s laws (get_or rows y 0) (get_or own_values x 0) (scaled s (get_or values y 0) scale) i)
 
   -- what is left of both is appended
-  pub joined_all : (f : ℕ → ℕ) (c first last : SparseColumn) (x y : ℕ) → IsColumnSoFar s f c (λ i. s.add (own x i) (other y i)) → ((i : ℕ) → value_in s.zero first i ≡ s.add (value_in s.zero c i) (s.mul (own x i) s.one)) → ((i : ℕ) → value_in s.zero last i ≡ s.add (value_in s.zero first i) (other y i)) → (i : ℕ) → value_in s.zero last i ≡ f i
-  joined_all f c first last x y h p q i = q i ∙ ap (λ t. s.add t (other y i)) (p i ∙ ap (s.add (value_in s.zero c i)) (laws.mul_one (own x i) (own_value x i))) ∙ laws.add_assoc _ _ _ (h.values i) (own_value x i) (other_value y i) ∙ h.sums i
+  pub joined_all : (f : ℕ → ℕ) (c first last : SparseColumn) (x y : ℕ) → IsColumnSoFar s f c (λ i. s.add (own x i) (other y i)) → ((i : ℕ) → value_in s.zero first i ≡ s.add (value_in s.zero c i) (own x i)) → ((i : ℕ) → value_in s.zero last i ≡ s.add (value_in s.zero first i) (other y i)) → (i : ℕ) → value_in s.zero last i ≡ f i
+  joined_all f c first last x y h p q i = q i ∙ ap (λ t. s.add t (other y i)) (p i) ∙ laws.add_assoc _ _ _ (h.values i) (own_value x i) (other_value y i) ∙ h.sums i
 
 -- the column that all is added to
-pub joined_start : (s : Arithmetic) → IsSemiring s → (rows values : List ℕ) → All (IsValue s) values → (cleared made : SparseColumn) (k : ℕ) (rest : ℕ → ℕ) → cleared.rows ≡ [] → k ≡ s.one → ((i : ℕ) → value_in s.zero made i ≡ s.add (value_in s.zero cleared i) (s.mul (rest_value s.zero rows values 0 i) k)) → IsColumnSoFar s (λ i. s.add (row_value s.zero rows values i) (rest i)) made rest
-joined_start s laws rows values all cleared made k rest none one step =
+pub joined_start : (s : Arithmetic) → IsSemiring s → (rows values : List ℕ) → All (IsValue s) values → (cleared made : SparseColumn) (rest : ℕ → ℕ) → cleared.rows ≡ [] → ((i : ℕ) → value_in s.zero made i ≡ s.add (value_in s.zero cleared i) (rest_value s.zero rows values 0 i)) → IsColumnSoFar s (λ i. s.add (row_value s.zero rows values i) (rest i)) made rest
+joined_start s laws rows values all cleared made rest none step =
     let is = λ (i : ℕ). row_value-value s laws rows values i all in
     let same : (i : ℕ) → value_in s.zero made i ≡ row_value s.zero rows values i = λ i.
-    step i ∙ (λ t. s.add (row_value-none s.zero cleared.rows cleared.values i none t) (s.mul (row_value s.zero rows values i) (one t))) ∙ ap (s.add s.zero) (laws.mul_one _ (is i)) ∙ laws.zero_add _ (is i) in
+    step i ∙ ap (λ t. s.add t (row_value s.zero rows values i)) (row_value-none s.zero cleared.rows cleared.values i none) ∙ laws.zero_add _ (is i) in
     record { values = λ i. rw (same i) (is i); sums = λ i. ap (λ x. s.add x (rest i)) (same i) }

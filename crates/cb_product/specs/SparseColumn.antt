@@ -1,5 +1,5 @@
 -- A sparse column: the rows of its entries, and their values.
-use Rattle.std.specs.Prelude.{◌≡◌, ◌≢◌, ℕ, ◌<◌, ◌==◌, cond, List, length, drop, All, AllPairs}
+use Rattle.std.specs.Prelude.{◌≡◌, ◌≢◌, ℕ, ◌<◌, ◌==◌, cond, Option, Some, None, List, length, drop, All, AllPairs}
 use Rattle.cb_semirings.specs.Arithmetic.{Arithmetic, IsValue}
 use Rattle.cb_dcsc.specs.Columns.{row_value}
 
@@ -25,6 +25,11 @@ rest_value z rows values n i = row_value z (drop n rows) (drop n values) i
 -- what one entry alone, a row and its value, has at row i
 abbrev pub one_value : ℕ → ℕ × ℕ → ℕ → ℕ
 one_value z t i = cond (t.0 == i) t.1 z
+
+-- a value times a factor, or, without one, as it is
+abbrev pub scaled : Arithmetic → ℕ → Option ℕ → ℕ
+scaled s v None = v
+scaled s v (Some k) = s.mul v k
 
 -- the entries of a column, their rows below a bound: each has a value
 pub record AreEntries (s : Arithmetic) (bound : ℕ) (rows values : List ℕ) : Type 0 where

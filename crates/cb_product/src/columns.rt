@@ -1,8 +1,8 @@
 //! Columns of a product as they are made, and the sum of two.
-ghost use Rattle.std.specs.Prelude.{◌≡◌, ◌≢◌, ◌↔◌, IsTrue, ℕ, ◌<◌, ◌≤◌, List, [], length, drop, All, AllPairs, Contains, IfOk, OnOk, slice_index};
+ghost use Rattle.std.specs.Prelude.{◌≡◌, ◌≢◌, ◌↔◌, IsTrue, ℕ, ◌<◌, ◌≤◌, List, [], length, drop, All, AllPairs, Contains, IfOk, IfSome, OnOk, slice_index};
 ghost use Rattle.cb_semirings.specs.Arithmetic.{IsValue};
 ghost use Rattle.cb_dcsc.specs.Columns.{in_column, rows_of, values_of, row_value};
-ghost use Rattle.cb_product.specs.SparseColumn.{IsSparseColumn, value_in, rest_value, one_value};
+ghost use Rattle.cb_product.specs.SparseColumn.{IsSparseColumn, value_in, rest_value, one_value, scaled};
 
 use cb_dcsc::Block;
 use cb_semirings::Semiring;
@@ -76,37 +76,39 @@ impl<S: Semiring> Column<S> {
         Ok(())
     }
 
-    /// Stores the entries of another column from the nth on, scaled, after all the others.
+    /// Stores the entries of another column from the nth on, scaled if there is a factor, after all the others.
+    #[inline(always)]
     pub fn append(
         &mut self,
         rows: &[u32],
         values: &[u64],
-        scale: u64,
+        scale: Option<u64>,
         from: usize,
     ) -> Result<(), AllocError>
         requires lengths { length values.now ≡ length rows.now }
         requires values { All (IsValue S.arithmetic) values.now }
         requires order { AllPairs (λ i j. i < j) rows.now }
-        requires scale { IsValue S.arithmetic scale }
+        requires scale { IfSome scale (IsValue S.arithmetic) }
         requires after { from < length rows.now → All (λ i. i < slice_index rows.now from) self.old.rows }
-        ensures sum { OnOk result ((i : ℕ) → value_in S.arithmetic.zero self.new i ≡ S.arithmetic.add (value_in S.arithmetic.zero self.old i) (S.arithmetic.mul (rest_value S.arithmetic.zero rows.now values.now from i) scale)) }
+        ensures sum { OnOk result ((i : ℕ) → value_in S.arithmetic.zero self.new i ≡ S.arithmetic.add (value_in S.arithmetic.zero self.old i) (scaled S.arithmetic (rest_value S.arithmetic.zero rows.now values.now from i) scale)) }
         ensures none { OnOk result (length rows.now ≤ from → self.new ≡ self.old) }
     {
         let _entries = self.entries();
         for n in from..rows.len() {
-            self.keep(rows[n], S::mul(values[n], scale))?;
+            self.keep(rows[n], scaled::<S>(values[n], scale))?;
         }
         Ok(())
     }
 
-    /// Makes this the sum of a column and of another one, scaled: both are gone through once.
+    /// Makes this the sum of a column and of another one, scaled if there is a factor: both are gone through once.
+    #[inline(always)]
     pub fn join(
         &mut self,
         own_rows: &[u32],
         own_values: &[u64],
         rows: &[u32],
         values: &[u64],
-        scale: u64,
+        scale: Option<u64>,
     ) -> Result<(), AllocError>
         requires own_lengths { length own_values.now ≡ length own_rows.now }
         requires own_values { All (IsValue S.arithmetic) own_values.now }
@@ -114,8 +116,8 @@ impl<S: Semiring> Column<S> {
         requires lengths { length values.now ≡ length rows.now }
         requires values { All (IsValue S.arithmetic) values.now }
         requires order { AllPairs (λ i j. i < j) rows.now }
-        requires scale { IsValue S.arithmetic scale }
-        ensures { OnOk result ((i : ℕ) → value_in S.arithmetic.zero self.new i ≡ S.arithmetic.add (row_value S.arithmetic.zero own_rows.now own_values.now i) (S.arithmetic.mul (row_value S.arithmetic.zero rows.now values.now i) scale)) }
+        requires scale { IfSome scale (IsValue S.arithmetic) }
+        ensures { OnOk result ((i : ℕ) → value_in S.arithmetic.zero self.new i ≡ S.arithmetic.add (row_value S.arithmetic.zero own_rows.now own_values.now i) (scaled S.arithmetic (row_value S.arithmetic.zero rows.now values.now i) scale)) }
     {
         self.clear();
         let mut x = 0;
@@ -127,16 +129,29 @@ impl<S: Semiring> Column<S> {
                 self.keep(own_row, own_values[x])?;
                 x += 1;
             } else if row < own_row {
-                self.keep(row, S::mul(values[y], scale))?;
+                self.keep(row, scaled::<S>(values[y], scale))?;
                 y += 1;
             } else {
-                self.keep(row, S::add(own_values[x], S::mul(values[y], scale)))?;
+                self.keep(row, S::add(own_values[x], scaled::<S>(values[y], scale)))?;
                 x += 1;
                 y += 1;
             }
         }
-        self.append(own_rows, own_values, S::one(), x)?;
+        self.append(own_rows, own_values, None, x)?;
         self.append(rows, values, scale, y)
+    }
+}
+
+/// A value times a factor, or, without one, as it is: a semiring need not have a one.
+#[inline(always)]
+pub(crate) fn scaled<S: Semiring>(value: u64, scale: Option<u64>) -> u64
+    requires value { IsValue S.arithmetic value }
+    requires scale { IfSome scale (IsValue S.arithmetic) }
+    ensures { result ≡ scaled S.arithmetic value scale }
+{
+    match scale {
+        Some(factor) => S::mul(value, factor),
+        None => value,
     }
 }
 

@@ -4,15 +4,15 @@
 //! another. The marks give the rows in order, so that no order has to be kept, and tell which words to look at: a word
 //! stands for 4,096 rows. It is the accumulator of Gilbert, Moler and Schreiber, Sparse Matrices in MATLAB (SIAM J.
 //! Matrix Anal. Appl. 1992, section 3.1), with bits in place of a list of rows.
-ghost use Rattle.std.specs.Prelude.{◌≡◌, ℕ, ◌<◌, ◌+◌, ◌*◌, ◌^◌, List, [], length, All, AllPairs, IfOk, OnOk, slice_index_or};
+ghost use Rattle.std.specs.Prelude.{◌≡◌, ℕ, ◌<◌, ◌+◌, ◌*◌, ◌^◌, List, [], length, All, AllPairs, IfOk, IfSome, OnOk, slice_index_or};
 ghost use Rattle.std.specs.Int.{bit_at};
 ghost use Rattle.cb_semirings.specs.Arithmetic.{IsValue};
 ghost use Rattle.cb_dcsc.specs.Columns.{row_value};
-ghost use Rattle.cb_product.specs.SparseColumn.{value_in};
+ghost use Rattle.cb_product.specs.SparseColumn.{value_in, scaled};
 ghost use Rattle.cb_product.specs.Terms.{IsTerm, terms_value};
 ghost use Rattle.cb_product.specs.Marks.{IsAccumulator};
 
-use crate::columns::Column;
+use crate::columns::{Column, scaled};
 use crate::marks::{mark_row, next_marked, unmark_all};
 use crate::terms::Term;
 use cb_semirings::Semiring;
@@ -81,16 +81,17 @@ impl<S: Semiring> SparseAccumulator<S> {
         Ok(())
     }
 
-    /// Adds a column, scaled.
-    pub fn add(&mut self, rows: &[u32], values: &[u64], scale: u64)
+    /// Adds a column, scaled if there is a factor.
+    #[inline(always)]
+    pub fn add(&mut self, rows: &[u32], values: &[u64], scale: Option<u64>)
         requires lengths { length values.now ≡ length rows.now }
         requires values { All (IsValue S.arithmetic) values.now }
         requires order { AllPairs (λ i j. i < j) rows.now }
-        requires scale { IsValue S.arithmetic scale }
+        requires scale { IfSome scale (IsValue S.arithmetic) }
         requires inside { All (λ i. i < length self.old) rows.now }
         ensures length { length self.new ≡ length self.old }
         ensures values { All (IsValue S.arithmetic) self.new }
-        ensures sums { (i : ℕ) → i < length self.old → slice_index_or self.new i S.arithmetic.zero ≡ S.arithmetic.add (slice_index_or self.old i S.arithmetic.zero) (S.arithmetic.mul (row_value S.arithmetic.zero rows.now values.now i) scale) }
+        ensures sums { (i : ℕ) → i < length self.old → slice_index_or self.new i S.arithmetic.zero ≡ S.arithmetic.add (slice_index_or self.old i S.arithmetic.zero) (scaled S.arithmetic (row_value S.arithmetic.zero rows.now values.now i) scale) }
     {
         let SparseAccumulator {
             sums,
@@ -115,7 +116,7 @@ impl<S: Semiring> SparseAccumulator<S> {
             self.add(
                 &rows[term.at..term.end],
                 &values[term.at..term.end],
-                term.scale,
+                Some(term.scale),
             );
         }
     }
@@ -137,28 +138,29 @@ impl<S: Semiring> SparseAccumulator<S> {
     }
 }
 
-/// Adds a column, scaled, to the sums of its rows, and marks these.
+/// Adds a column, scaled if there is a factor, to the sums of its rows, and marks these.
+#[inline(always)]
 fn add_entries<S: Semiring>(
     sums: &mut [u64],
     marks: &mut [u64],
     groups: &mut [u64],
     rows: &[u32],
     values: &[u64],
-    scale: u64,
+    scale: Option<u64>,
 )
     requires lengths { length values.now ≡ length rows.now }
     requires values { All (IsValue S.arithmetic) values.now }
     requires order { AllPairs (λ i j. i < j) rows.now }
-    requires scale { IsValue S.arithmetic scale }
+    requires scale { IfSome scale (IsValue S.arithmetic) }
     requires inside { All (λ i. i < length sums.old) rows.now }
     requires accumulator { IsAccumulator S.arithmetic sums.old marks.old groups.old }
     ensures accumulator { IsAccumulator S.arithmetic sums.new marks.new groups.new }
     ensures length { length sums.new ≡ length sums.old }
-    ensures sums { (i : ℕ) → i < length sums.old → slice_index_or sums.new i S.arithmetic.zero ≡ S.arithmetic.add (slice_index_or sums.old i S.arithmetic.zero) (S.arithmetic.mul (row_value S.arithmetic.zero rows.now values.now i) scale) }
+    ensures sums { (i : ℕ) → i < length sums.old → slice_index_or sums.new i S.arithmetic.zero ≡ S.arithmetic.add (slice_index_or sums.old i S.arithmetic.zero) (scaled S.arithmetic (row_value S.arithmetic.zero rows.now values.now i) scale) }
 {
     for n in 0..rows.len() {
         let row = rows[n] as usize;
-        sums[row] = S::add(sums[row], S::mul(values[n], scale));
+        sums[row] = S::add(sums[row], scaled::<S>(values[n], scale));
         mark_row(marks, groups, row);
     }
 }

@@ -69,7 +69,7 @@ impl<S: Semiring> Workspace<S> {
         merge(self.alloc, &mut self.spare, rows, values, terms)?;
         let (merged_rows, merged_values) = self.spare.entries();
         self.made
-            .join(own_rows, own_values, merged_rows, merged_values, S::one())
+            .join(own_rows, own_values, merged_rows, merged_values, None)
     }
 
     /// Makes it by joining the only term.
@@ -94,7 +94,7 @@ impl<S: Semiring> Workspace<S> {
             own_values,
             &rows[term.at..term.end],
             &values[term.at..term.end],
-            term.scale,
+            Some(term.scale),
         )
     }
 
@@ -115,7 +115,7 @@ impl<S: Semiring> Workspace<S> {
     {
         let rows = left.shape().rows();
         self.sums.make_room(self.alloc, rows)?;
-        self.sums.add(own_rows, own_values, S::one());
+        self.sums.add(own_rows, own_values, None);
         self.sums
             .add_terms(left.row_numbers(), left.values(), terms);
         self.sums.take(&mut self.made)
@@ -137,7 +137,7 @@ impl<S: Semiring> Workspace<S> {
     {
         let (rows, values) = (left.row_numbers(), left.values());
         self.made.clear();
-        self.made.append(own_rows, own_values, S::one(), 0)?;
+        self.made.append(own_rows, own_values, None, 0)?;
         for term in terms {
             swap(&mut self.made, &mut self.spare);
             let (sum_rows, sum_values) = self.spare.entries();
@@ -146,7 +146,7 @@ impl<S: Semiring> Workspace<S> {
                 sum_values,
                 &rows[term.at..term.end],
                 &values[term.at..term.end],
-                term.scale,
+                Some(term.scale),
             )?;
         }
         Ok(())

@@ -1,4 +1,4 @@
--- What a semiring over whole numbers is: its operations, and the laws that they keep.
+-- What a semiring over whole numbers is: its operations, and the laws that they keep. GraphBLAS asks for fewer laws than algebra.
 use Rattle.std.specs.Prelude.{◌≡◌, ◌≢◌, ℕ, ◌^◌, ◌<◌, Bool, true, false, Option, Some, IfSome, is_some}
 
 -- The operations of a semiring, and how it takes the numbers of a file.
@@ -6,7 +6,6 @@ pub record Arithmetic : Type 0 where
   -- the values are the numbers below this one
   pub bound : ℕ
   pub zero : ℕ
-  pub one : ℕ
   pub add : ℕ → ℕ → ℕ
   pub mul : ℕ → ℕ → ℕ
   -- the value that added to this one gives zero, in a semiring that has negatives
@@ -22,23 +21,28 @@ pub record Arithmetic : Type 0 where
 abbrev pub IsValue : Arithmetic → ℕ → Type 0
 IsValue s x = x < s.bound
 
--- Sums and products of values, and the laws of a semiring. No product of a value with zero is other than zero.
+-- The laws of a semiring as GraphBLAS has it: the sum is a commutative monoid over the values, and a product with its zero is
+-- zero. So a place without an entry can stand for zero, and products are added in any order. The product need not associate,
+-- distribute over the sum, or have a one.
 pub record IsSemiring (s : Arithmetic) : Type 0 where
   pub value_fits : (x : ℕ) → IsValue s x → x < 2 ^ 64
   pub zero_value : IsValue s s.zero
-  pub one_value : IsValue s s.one
   pub add_value : (x y : ℕ) → IsValue s x → IsValue s y → IsValue s (s.add x y)
   pub mul_value : (x y : ℕ) → IsValue s x → IsValue s y → IsValue s (s.mul x y)
   pub add_comm : (x y : ℕ) → IsValue s x → IsValue s y → s.add x y ≡ s.add y x
   pub add_assoc : (x y z : ℕ) → IsValue s x → IsValue s y → IsValue s z → s.add (s.add x y) z ≡ s.add x (s.add y z)
   pub zero_add : (x : ℕ) → IsValue s x → s.add s.zero x ≡ x
-  pub mul_assoc : (x y z : ℕ) → IsValue s x → IsValue s y → IsValue s z → s.mul (s.mul x y) z ≡ s.mul x (s.mul y z)
-  pub one_mul : (x : ℕ) → IsValue s x → s.mul s.one x ≡ x
-  pub mul_one : (x : ℕ) → IsValue s x → s.mul x s.one ≡ x
-  pub mul_add : (x y z : ℕ) → IsValue s x → IsValue s y → IsValue s z → s.mul x (s.add y z) ≡ s.add (s.mul x y) (s.mul x z)
-  pub add_mul : (x y z : ℕ) → IsValue s x → IsValue s y → IsValue s z → s.mul (s.add x y) z ≡ s.add (s.mul x z) (s.mul y z)
   pub zero_mul : (x : ℕ) → IsValue s x → s.mul s.zero x ≡ s.zero
   pub mul_zero : (x : ℕ) → IsValue s x → s.mul x s.zero ≡ s.zero
+
+-- What a semiring as algebra has it keeps beyond that: the product is a monoid with this one, and distributes over the sum.
+pub record IsDistributive (s : Arithmetic) (one : ℕ) : Type 0 where
+  pub one_value : IsValue s one
+  pub mul_assoc : (x y z : ℕ) → IsValue s x → IsValue s y → IsValue s z → s.mul (s.mul x y) z ≡ s.mul x (s.mul y z)
+  pub one_mul : (x : ℕ) → IsValue s x → s.mul one x ≡ x
+  pub mul_one : (x : ℕ) → IsValue s x → s.mul x one ≡ x
+  pub mul_add : (x y z : ℕ) → IsValue s x → IsValue s y → IsValue s z → s.mul x (s.add y z) ≡ s.add (s.mul x y) (s.mul x z)
+  pub add_mul : (x y z : ℕ) → IsValue s x → IsValue s y → IsValue s z → s.mul (s.add x y) z ≡ s.add (s.mul x z) (s.mul y z)
 
 -- What the numbers of a file stand for.
 pub record ReadsNumbers (s : Arithmetic) : Type 0 where

@@ -1,11 +1,12 @@
 -- The laws of each semiring.
-use Rattle.std.specs.Prelude.{◌≡◌, ◌≢◌, ℕ, ◌+◌, ◌-◌, ◌*◌, ◌%◌, ◌^◌, ◌<◌, Bool, true, false, cond, Some, IfSome, ◌==◌}
+use Rattle.std.specs.Prelude.{◌≡◌, ◌≢◌, ℕ, ◌+◌, ◌-◌, ◌*◌, ◌%◌, ◌^◌, ◌<◌, min, max, Bool, true, false, cond, Some, IfSome, ◌==◌}
 use Rattle.std.proofs.Common.{refl, sym, ap, ◌∙◌, arith, add_assoc, lit<}
+use Rattle.std.proofs.lemmas.Bool.{eq-eqb, cond-true}
 use Rattle.std.proofs.lemmas.Bool.Decides.{nat_tests}
 use Rattle.std.proofs.Math.Nat.{mod-lt, mod-eq_of_lt, add-mod-mod, mod-add-mod, add_comm, mul_assoc, mul-add, add-mul}
 use Rattle.std.proofs.lemmas.Nat.{mul-mod_first, mul-mod_second}
-use Rattle.cb_semirings.specs.Arithmetic.{IsSemiring, ReadsNumbers, HasNegatives}
-use Rattle.cb_semirings.specs.Tables.{plus_times, min_plus, or_and, max_min}
+use Rattle.cb_semirings.specs.Arithmetic.{Arithmetic, IsValue, IsSemiring, IsDistributive, ReadsNumbers, HasNegatives}
+use Rattle.cb_semirings.specs.Tables.{plus_times, min_plus, or_and, max_min, with_product, plus}
 
 wraps : (n : ℕ) → n % 2 ^ 64 < 2 ^ 64
 wraps n = mod-lt n (lit< tt)
@@ -14,19 +15,23 @@ pub plus_times_is_semiring : IsSemiring plus_times
 plus_times_is_semiring = record {
   value_fits = λ x h. h;
   zero_value = lit< tt;
-  one_value = lit< tt;
   add_value = λ x y _ _. wraps (x + y);
   mul_value = λ x y _ _. wraps (x * y);
   add_comm = λ x y _ _. ap (λ n. n % 2 ^ 64) (add_comm x y);
   add_assoc = λ x y z _ _ _. mod-add-mod (x + y) (2 ^ 64) z ∙ ap (λ n. n % 2 ^ 64) (add_assoc x y z) ∙ sym (add-mod-mod x (y + z) (2 ^ 64));
   zero_add = λ x h. omega arith;
+  zero_mul = λ x _. omega arith;
+  mul_zero = λ x _. omega arith;
+}
+
+pub plus_times_is_distributive : IsDistributive plus_times 1
+plus_times_is_distributive = record {
+  one_value = lit< tt;
   mul_assoc = λ x y z _ _ _. mul-mod_first (x * y) z (2 ^ 64) ∙ ap (λ n. n % 2 ^ 64) (mul_assoc x y z) ∙ sym (mul-mod_second x (y * z) (2 ^ 64));
   one_mul = λ x h. omega arith;
   mul_one = λ x h. omega arith;
   mul_add = λ x y z _ _ _. mul-mod_second x (y + z) (2 ^ 64) ∙ ap (λ n. n % 2 ^ 64) (mul-add x y z) ∙ sym (mod-add-mod (x * y) (2 ^ 64) ((x * z) % 2 ^ 64) ∙ add-mod-mod (x * y) (x * z) (2 ^ 64));
   add_mul = λ x y z _ _ _. mul-mod_first (x + y) z (2 ^ 64) ∙ ap (λ n. n % 2 ^ 64) (add-mul x y z) ∙ sym (mod-add-mod (x * z) (2 ^ 64) ((y * z) % 2 ^ 64) ∙ add-mod-mod (x * z) (y * z) (2 ^ 64));
-  zero_mul = λ x _. omega arith;
-  mul_zero = λ x _. omega arith;
 }
 
 accept_plus : (negative : Bool) (m : ℕ) → cond negative ((2 ^ 64 - m) % 2 ^ 64) (m % 2 ^ 64) < 2 ^ 64
@@ -45,19 +50,23 @@ pub min_plus_is_semiring : IsSemiring min_plus
 min_plus_is_semiring = record {
   value_fits = λ x h. h;
   zero_value = lit< tt;
-  one_value = lit< tt;
   add_value = λ x y h k. omega arith;
   mul_value = λ x y h k. omega arith;
   add_comm = λ x y h k. omega arith;
   add_assoc = λ x y z h k l. omega arith;
   zero_add = λ x h. omega arith;
+  zero_mul = λ x h. omega arith;
+  mul_zero = λ x h. omega arith;
+}
+
+pub min_plus_is_distributive : IsDistributive min_plus 0
+min_plus_is_distributive = record {
+  one_value = lit< tt;
   mul_assoc = λ x y z h k l. omega arith;
   one_mul = λ x h. omega arith;
   mul_one = λ x h. omega arith;
   mul_add = λ x y z h k l. omega arith;
   add_mul = λ x y z h k l. omega arith;
-  zero_mul = λ x h. omega arith;
-  mul_zero = λ x h. omega arith;
 }
 
 accept_least : (negative : Bool) (m : ℕ) → IfSome (min_plus.accept negative m) (λ x. x < 2 ^ 64)
@@ -79,19 +88,23 @@ pub or_and_is_semiring : IsSemiring or_and
 or_and_is_semiring = record {
   value_fits = λ x h. omega arith;
   zero_value = lit< tt;
-  one_value = lit< tt;
   add_value = λ x y h k. omega arith;
   mul_value = λ x y h k. omega arith;
   add_comm = λ x y h k. omega arith;
   add_assoc = λ x y z h k l. omega arith;
   zero_add = λ x h. omega arith;
+  zero_mul = λ x h. omega arith;
+  mul_zero = λ x h. omega arith;
+}
+
+pub or_and_is_distributive : IsDistributive or_and 1
+or_and_is_distributive = record {
+  one_value = lit< tt;
   mul_assoc = λ x y z h k l. omega arith;
   one_mul = λ x h. omega arith;
   mul_one = λ x h. omega arith;
   mul_add = λ x y z h k l. omega arith;
   add_mul = λ x y z h k l. omega arith;
-  zero_mul = λ x h. omega arith;
-  mul_zero = λ x h. omega arith;
 }
 
 accept_or : (m : ℕ) → cond (m == 0) 0 1 < 2
@@ -127,19 +140,23 @@ pub max_min_is_semiring : IsSemiring max_min
 max_min_is_semiring = record {
   value_fits = λ x h. h;
   zero_value = lit< tt;
-  one_value = lit< tt;
   add_value = λ x y h k. omega arith;
   mul_value = λ x y h k. omega arith;
   add_comm = λ x y h k. omega arith;
   add_assoc = λ x y z h k l. omega arith;
   zero_add = λ x h. omega arith;
+  zero_mul = λ x h. omega arith;
+  mul_zero = λ x h. omega arith;
+}
+
+pub max_min_is_distributive : IsDistributive max_min (2 ^ 64 - 1)
+max_min_is_distributive = record {
+  one_value = lit< tt;
   mul_assoc = λ x y z h k l. omega arith;
   one_mul = λ x h. omega arith;
   mul_one = λ x h. omega arith;
   mul_add = λ x y z h k l. omega arith;
   add_mul = λ x y z h k l. omega arith;
-  zero_mul = λ x h. omega arith;
-  mul_zero = λ x h. omega arith;
 }
 
 accept_capacity : (negative : Bool) (m : ℕ) → m < 2 ^ 64 → IfSome (max_min.accept negative m) (λ x. x < 2 ^ 64)
@@ -156,3 +173,56 @@ max_min_reads_numbers = record {
 
 pub max_min_has_negatives : HasNegatives max_min
 max_min_has_negatives = record { negative_adds = λ x h. tt; all_or_none = λ x h. refl }
+
+-- a choice between a number and the same
+either_way : (b : Bool) (n : ℕ) → cond b n n ≡ n
+either_way true n = refl
+either_way false n = refl
+
+-- what is chosen of values is one
+chosen_value : (b : Bool) (bound x y : ℕ) → x < bound → y < bound → cond b x y < bound
+chosen_value true bound x y h k = h
+chosen_value false bound x y h k = k
+
+module _ (s : Arithmetic) (operator : ℕ → ℕ → ℕ) where
+  -- another product keeps the laws, if it makes values of values
+  pub with_product_is_semiring : IsSemiring s → ((x y : ℕ) → IsValue s x → IsValue s y → IsValue s (operator x y)) → IsSemiring (with_product s operator)
+  with_product_is_semiring laws values = record {
+    value_fits = laws.value_fits;
+    zero_value = laws.zero_value;
+    add_value = laws.add_value;
+    mul_value = λ x y h k. chosen_value (x == s.zero) s.bound s.zero _ laws.zero_value (chosen_value (y == s.zero) s.bound s.zero _ laws.zero_value (values x y h k));
+    add_comm = laws.add_comm;
+    add_assoc = laws.add_assoc;
+    zero_add = laws.zero_add;
+    zero_mul = λ x h. cond-true _ _ _ (eq-eqb s.zero s.zero refl);
+    mul_zero = λ x h. ap (λ b. cond (x == s.zero) s.zero (cond b s.zero (operator x s.zero))) (eq-eqb s.zero s.zero refl) ∙ either_way (x == s.zero) s.zero;
+  }
+
+  -- it takes the numbers of files as before
+  pub with_product_reads_numbers : ReadsNumbers s → ReadsNumbers (with_product s operator)
+  with_product_reads_numbers reads = record {
+    pattern_value = reads.pattern_value;
+    accept_value = reads.accept_value;
+    accept_same = reads.accept_same;
+    only_pattern = reads.only_pattern;
+  }
+
+  -- and has the same negatives
+  pub with_product_has_negatives : HasNegatives s → HasNegatives (with_product s operator)
+  with_product_has_negatives has = record { negative_adds = has.negative_adds; all_or_none = has.all_or_none }
+
+-- what the binary operators make of numbers below 2^64 is below it
+pub plus_fits : (x y : ℕ) → x < 2 ^ 64 → y < 2 ^ 64 → plus x y < 2 ^ 64
+plus_fits x y h k = omega arith
+
+pub min_fits : (x y : ℕ) → x < 2 ^ 64 → y < 2 ^ 64 → min x y < 2 ^ 64
+min_fits x y h k = omega arith
+
+pub max_fits : (x y : ℕ) → x < 2 ^ 64 → y < 2 ^ 64 → max x y < 2 ^ 64
+max_fits x y h k = omega arith
+
+-- so they make values of values, where all these numbers are values
+pub full_values : (s : Arithmetic) (operator : ℕ → ℕ → ℕ) → s.bound ≡ 2 ^ 64 → ((x y : ℕ) → x < 2 ^ 64 → y < 2 ^ 64 → operator x y < 2 ^ 64)
+    → (x y : ℕ) → IsValue s x → IsValue s y → IsValue s (operator x y)
+full_values s operator full fits x y h k = rw full (fits x y (rw full at h) (rw full at k))

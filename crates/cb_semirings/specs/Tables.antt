@@ -1,5 +1,5 @@
 -- The semirings, as their tables.
-use Rattle.std.specs.Prelude.{◌+◌, ◌-◌, ◌*◌, ◌%◌, ◌^◌, min, max, true, false, cond, Some, None, nat_lt, ◌==◌}
+use Rattle.std.specs.Prelude.{ℕ, ◌+◌, ◌-◌, ◌*◌, ◌%◌, ◌^◌, min, max, true, false, cond, Some, None, nat_lt, ◌==◌}
 use Rattle.cb_semirings.specs.Arithmetic.{Arithmetic}
 
 -- sums and products modulo 2^64; any number of a file, modulo 2^64
@@ -7,7 +7,6 @@ abbrev pub plus_times : Arithmetic
 plus_times = record {
   bound = 2 ^ 64;
   zero = 0;
-  one = 1;
   add = λ x y. (x + y) % 2 ^ 64;
   mul = λ x y. (x * y) % 2 ^ 64;
   negative = λ x. Some ((2 ^ 64 - x) % 2 ^ 64);
@@ -21,7 +20,6 @@ abbrev pub min_plus : Arithmetic
 min_plus = record {
   bound = 2 ^ 64;
   zero = 2 ^ 64 - 1;
-  one = 0;
   add = min;
   mul = λ x y. min (x + y) (2 ^ 64 - 1);
   negative = λ x. None;
@@ -35,7 +33,6 @@ abbrev pub or_and : Arithmetic
 or_and = record {
   bound = 2;
   zero = 0;
-  one = 1;
   add = max;
   mul = min;
   negative = λ x. None;
@@ -49,7 +46,6 @@ abbrev pub max_min : Arithmetic
 max_min = record {
   bound = 2 ^ 64;
   zero = 0;
-  one = 2 ^ 64 - 1;
   add = max;
   mul = min;
   negative = λ x. None;
@@ -57,3 +53,72 @@ max_min = record {
   accept = λ negative magnitude. cond negative (cond (magnitude == 0) (Some 0) None) (Some magnitude);
   writes_pattern = false;
 }
+
+-- a semiring with another product: zero where one of two is zero, and else what a binary operator makes of them
+abbrev pub with_product : Arithmetic → (ℕ → ℕ → ℕ) → Arithmetic
+with_product s operator = record {
+  bound = s.bound;
+  zero = s.zero;
+  add = s.add;
+  mul = λ x y. cond (x == s.zero) s.zero (cond (y == s.zero) s.zero (operator x y));
+  negative = s.negative;
+  pattern = s.pattern;
+  accept = s.accept;
+  writes_pattern = s.writes_pattern;
+}
+
+-- the binary operators: 1, whatever the two are
+abbrev pub pair : ℕ → ℕ → ℕ
+pair x y = 1
+
+-- the first of two
+abbrev pub first : ℕ → ℕ → ℕ
+first x y = x
+
+-- the second of two
+abbrev pub second : ℕ → ℕ → ℕ
+second x y = y
+
+-- the sum, which stops at 2^64 - 1
+abbrev pub plus : ℕ → ℕ → ℕ
+plus x y = min (x + y) (2 ^ 64 - 1)
+
+-- sums modulo 2^64 of ones: how many products there are
+abbrev pub plus_pair : Arithmetic
+plus_pair = with_product plus_times pair
+
+-- sums modulo 2^64 of the least of two
+abbrev pub plus_min : Arithmetic
+plus_min = with_product plus_times min
+
+-- sums modulo 2^64 of the first of two
+abbrev pub plus_first : Arithmetic
+plus_first = with_product plus_times first
+
+-- sums modulo 2^64 of the second of two
+abbrev pub plus_second : Arithmetic
+plus_second = with_product plus_times second
+
+-- the least of the first of two
+abbrev pub min_first : Arithmetic
+min_first = with_product min_plus first
+
+-- the least of the second of two
+abbrev pub min_second : Arithmetic
+min_second = with_product min_plus second
+
+-- the greatest of the first of two
+abbrev pub max_first : Arithmetic
+max_first = with_product max_min first
+
+-- the greatest of the second of two
+abbrev pub max_second : Arithmetic
+max_second = with_product max_min second
+
+-- the greatest of sums, which stop at 2^64 - 1
+abbrev pub max_plus : Arithmetic
+max_plus = with_product max_min plus
+
+-- the least of the greatest of two
+abbrev pub min_max : Arithmetic
+min_max = with_product min_plus max

@@ -1,9 +1,12 @@
 //! Semirings over whole numbers, as sparse linear algebra uses them for graphs.
 //!
-//! A semiring is a set of values with a sum and a product. The sum commutes and associates, and
-//! `zero` is neutral for it; the product associates, `one` is neutral for it, it distributes over
-//! the sum, and a product with `zero` is `zero`. So a place of a matrix without an entry can stand
-//! for `zero`, and the order in which products are added doesn't matter.
+//! A semiring is a set of values with a sum and a product. The sum commutes and associates, `zero` is
+//! neutral for it, and a product with `zero` is `zero`. So a place of a matrix without an entry can
+//! stand for `zero`, and the order in which products are added doesn't matter. This is what GraphBLAS
+//! calls a semiring: a commutative monoid and a binary operator. Algebra asks for more under that
+//! name, that the product associates, has a `one`, and distributes over the sum: a semiring with
+//! these laws is a [`DistributiveSemiring`]. No product of matrices needs them. [`WithProduct`] puts a
+//! semiring together of another one's sum and a binary operator.
 //!
 //! The values are the whole numbers below a bound, at most 2^64. The operations of each type are
 //! one record of `specs/Tables.antt`, its laws are proved in `specs/Laws.antt`, and every crate
@@ -22,17 +25,23 @@ ghost use Rattle.std.specs.Prelude.{◌≡◌, ◌↔◌, IsTrue};
 mod max_min;
 mod min_plus;
 mod names;
+pub mod operators;
 mod or_and;
 mod plus_times;
+mod with_product;
 
 pub use max_min::MaxMin;
 pub use min_plus::MinPlus;
 pub use names::{NAMES, SemiringName};
 pub use or_and::OrAnd;
 pub use plus_times::PlusTimes;
+pub use with_product::{
+    FullRange, MaxFirst, MaxPlus, MaxSecond, MinFirst, MinMax, MinSecond, PlusFirst, PlusMin,
+    PlusPair, PlusSecond, WithProduct,
+};
 
-/// A set of whole numbers with a sum and a product, which keep the laws of a semiring. No call takes
-/// memory, and each costs a few instructions.
+/// A set of whole numbers with a sum that is a commutative monoid, and a product that its zero
+/// annihilates. No call takes memory, and each costs a few instructions.
 pub trait Semiring: Drop {
     ghost use Rattle.cb_semirings.specs.Arithmetic.{Arithmetic, IsValue, IsSemiring, ReadsNumbers, HasNegatives};
 
@@ -46,10 +55,6 @@ pub trait Semiring: Drop {
     /// The value of a place without an entry: neutral for the sum.
     fn zero() -> u64
         ensures { result ≡ arithmetic.zero };
-
-    /// The value that is neutral for the product.
-    fn one() -> u64
-        ensures { result ≡ arithmetic.one };
 
     /// The sum of two values.
     fn add(left: u64, right: u64) -> u64
@@ -89,4 +94,20 @@ pub trait Semiring: Drop {
 
     /// What negatives are.
     ghost has_negatives: { HasNegatives arithmetic };
+}
+
+/// A semiring as algebra has it: the product associates, has a one, and distributes over the sum.
+pub trait DistributiveSemiring: Semiring {
+    ghost use Rattle.std.specs.Prelude.{ℕ};
+    ghost use Rattle.cb_semirings.specs.Arithmetic.{IsDistributive};
+
+    /// The value that is neutral for the product.
+    ghost one: { ℕ };
+
+    /// The value that is neutral for the product.
+    fn one() -> u64
+        ensures { result ≡ one };
+
+    /// The laws that GraphBLAS doesn't ask for.
+    ghost is_distributive: { IsDistributive Self.arithmetic one };
 }

@@ -1,5 +1,5 @@
 //! The greatest, and the least: widest walks.
-use crate::Semiring;
+use crate::{DistributiveSemiring, Semiring};
 
 /// The numbers below 2^64: the sum is the greatest of two, the product the least. Capacities of the
 /// widest walks combine like this.
@@ -24,10 +24,6 @@ impl Semiring for MaxMin {
 
     fn zero() -> u64 {
         0
-    }
-
-    fn one() -> u64 {
-        u64::MAX
     }
 
     fn add(left: u64, right: u64) -> u64 {
@@ -56,5 +52,18 @@ impl Semiring for MaxMin {
 
     fn writes_pattern() -> bool {
         false
+    }
+}
+
+impl DistributiveSemiring for MaxMin {
+    ghost use Rattle.std.specs.Prelude.{◌-◌, ◌^◌};
+    ghost use Rattle.cb_semirings.specs.Laws.{max_min_is_distributive};
+
+    ghost one = { 2 ^ 64 - 1 };
+
+    ghost is_distributive = { max_min_is_distributive };
+
+    fn one() -> u64 {
+        u64::MAX
     }
 }

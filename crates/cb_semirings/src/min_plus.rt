@@ -1,5 +1,5 @@
 //! The least, and the sum: shortest walks.
-use crate::Semiring;
+use crate::{DistributiveSemiring, Semiring};
 
 /// The numbers below 2^64: the sum is the least of two, the product is their sum, which stops at
 /// 2^64 - 1. That number is infinity, the semiring's zero. Weights of shortest walks add like this.
@@ -24,10 +24,6 @@ impl Semiring for MinPlus {
 
     fn zero() -> u64 {
         u64::MAX
-    }
-
-    fn one() -> u64 {
-        0
     }
 
     fn add(left: u64, right: u64) -> u64 {
@@ -58,5 +54,17 @@ impl Semiring for MinPlus {
 
     fn writes_pattern() -> bool {
         false
+    }
+}
+
+impl DistributiveSemiring for MinPlus {
+    ghost use Rattle.cb_semirings.specs.Laws.{min_plus_is_distributive};
+
+    ghost one = { 0 };
+
+    ghost is_distributive = { min_plus_is_distributive };
+
+    fn one() -> u64 {
+        0
     }
 }

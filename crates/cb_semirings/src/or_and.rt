@@ -1,5 +1,5 @@
 //! Or, and: which walks there are.
-use crate::Semiring;
+use crate::{DistributiveSemiring, Semiring};
 
 /// 0 and 1: whether one of two holds, and whether both do. Every number of a file but 0 stands for 1,
 /// and entries are written without values.
@@ -26,10 +26,6 @@ impl Semiring for OrAnd {
         0
     }
 
-    fn one() -> u64 {
-        1
-    }
-
     fn add(left: u64, right: u64) -> u64 {
         left.max(right)
     }
@@ -52,5 +48,17 @@ impl Semiring for OrAnd {
 
     fn writes_pattern() -> bool {
         true
+    }
+}
+
+impl DistributiveSemiring for OrAnd {
+    ghost use Rattle.cb_semirings.specs.Laws.{or_and_is_distributive};
+
+    ghost one = { 1 };
+
+    ghost is_distributive = { or_and_is_distributive };
+
+    fn one() -> u64 {
+        1
     }
 }

@@ -1,5 +1,5 @@
 //! Sums and products of whole numbers, modulo 2^64.
-use crate::Semiring;
+use crate::{DistributiveSemiring, Semiring};
 
 /// The numbers below 2^64, with sums and products modulo 2^64. A negative number of a file is taken
 /// modulo 2^64.
@@ -24,10 +24,6 @@ impl Semiring for PlusTimes {
 
     fn zero() -> u64 {
         0
-    }
-
-    fn one() -> u64 {
-        1
     }
 
     fn add(left: u64, right: u64) -> u64 {
@@ -56,5 +52,17 @@ impl Semiring for PlusTimes {
 
     fn writes_pattern() -> bool {
         false
+    }
+}
+
+impl DistributiveSemiring for PlusTimes {
+    ghost use Rattle.cb_semirings.specs.Laws.{plus_times_is_distributive};
+
+    ghost one = { 1 };
+
+    ghost is_distributive = { plus_times_is_distributive };
+
+    fn one() -> u64 {
+        1
     }
 }

@@ -4,7 +4,7 @@ use Rattle.std.proofs.lemmas.Bool.{eqb-true}
 use Rattle.std.proofs.lemmas.List.{get_or_default}
 use Rattle.cb_matrix.specs.Sparse.{Extent}
 use Rattle.cb_dcsc.specs.Columns.{rows_of, values_of}
-use Rattle.cb_dcsc.proofs.Lookup.{all_rows_inside, rows_inside, as_long}
+use Rattle.cb_dcsc.proofs.Lookup.{rows_inside, as_long}
 use Rattle.cb_product.specs.SparseColumn.{AreEntries}
 use Rattle.cb_product.proofs.ProductColumns.{sum_start, sum_more, sum_all, own_column}
 use Rattle.cb_product.proofs.TermSums.{matrix_values, terms_value-end}

@@ -1,6 +1,5 @@
-use Rattle.std.proofs.Common.{◌<◌, ap, sym, subst, ◌∙◌}
+use Rattle.std.proofs.Common.{◌<◌, sym, subst}
 use Rattle.std.specs.Prelude.{All}
-use Rattle.cb_matrix.specs.Sparse.{Extent}
 use Rattle.cb_dcsc.proofs.Lookup.{all_rows_inside}
 use Rattle.cb_product.proofs.with_room.Goals as goal
 

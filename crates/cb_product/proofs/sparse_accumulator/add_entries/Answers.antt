@@ -52,7 +52,7 @@ loop-n-preserved g c =
     let long = inv.long in
     let lr : get_or rows n 0 < length c.loop-n.sums = omega arith in
     let product = nth_product s laws rows values k r.lengths r.values r.scale n l in
-    rw (c.add.ensures, c.mul.ensures) (record {
+    rw (c.add.ensures, c.scaled.ensures) (record {
       long = length-set c.loop-n.sums _ _ ∙ inv.long;
       accumulator = record {
         values = All-set (IsValue s) c.loop-n.sums _ _ (laws.add_value _ _ (All-get_or (IsValue s) c.loop-n.sums _ 0 lr inv.accumulator.values) product) inv.accumulator.values;

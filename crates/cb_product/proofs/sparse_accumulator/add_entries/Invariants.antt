@@ -1,6 +1,6 @@
 use Rattle.std.proofs.Common.{◌≡◌, ℕ, ◌<◌, length, get_or}
 use Rattle.cb_dcsc.specs.Columns.{row_value}
-use Rattle.cb_product.specs.SparseColumn.{rest_value}
+use Rattle.cb_product.specs.SparseColumn.{rest_value, scaled}
 use Rattle.cb_product.specs.Marks.{IsAccumulator}
 use Rattle.cb_product.proofs.sparse_accumulator.add_entries.Given as goal
 
@@ -10,5 +10,5 @@ invariant-loop-n g l =
     record {
       long : length l.sums ≡ length l.fn.sums;
       accumulator : IsAccumulator s l.sums l.marks l.groups;
-      sums : (i : ℕ) → i < length l.sums → s.add (get_or l.sums i s.zero) (s.mul (rest_value s.zero l.rows l.values l.n i) l.scale) ≡ s.add (get_or l.fn.sums i s.zero) (s.mul (row_value s.zero l.rows l.values i) l.scale);
+      sums : (i : ℕ) → i < length l.sums → s.add (get_or l.sums i s.zero) (scaled s (rest_value s.zero l.rows l.values l.n i) l.scale) ≡ s.add (get_or l.fn.sums i s.zero) (scaled s (row_value s.zero l.rows l.values i) l.scale);
     }

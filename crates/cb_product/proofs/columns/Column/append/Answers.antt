@@ -11,7 +11,7 @@ loop-n-init g c = record {
 }
 
 pub keep-requires-clause-value : goal.keep-requires-clause-value
-keep-requires-clause-value g c = rw c.mul.ensures (nth_product g.S.Semiring.arithmetic g.met.S.Semiring.is_semiring c.args.rows.now c.args.values.now c.args.scale c.requires.lengths c.requires.values c.requires.scale c.loop-n.n c.loop-n-test.true)
+keep-requires-clause-value g c = rw c.scaled.ensures (nth_product g.S.Semiring.arithmetic g.met.S.Semiring.is_semiring c.args.rows.now c.args.values.now c.args.scale c.requires.lengths c.requires.values c.requires.scale c.loop-n.n c.loop-n-test.true)
 
 pub loop-n-preserved : goal.loop-n-preserved
 loop-n-preserved g c =
@@ -25,7 +25,7 @@ loop-n-preserved g c =
     let l = c.loop-n-test.true in
     let inv = c.loop-n.invariant in
     let from : c.args.from ≤ n = omega arith in
-    let step = rw c.mul.ensures at c.in_ok-keep.ensures.sum in
+    let step = rw c.scaled.ensures at c.in_ok-keep.ensures.sum in
     record {
       so_far = so_far_more s laws _ _ _ _ _ _ inv.so_far (λ i. scaled_split s laws rows values k r.lengths r.values r.scale n i r.order l)
           (λ i. one_value-value s laws _ i (nth_product s laws rows values k r.lengths r.values r.scale n l))

@@ -58,7 +58,7 @@ loop-x-preserved-then-row-own_row g c =
     let y = c.loop-x.y in
     let lx = c.loop-x-test.true in
     let ly = c.if-y-rows.true in
-    let kept = rw c.mul.ensures at c.in_ok-keep-2.ensures.sum in
+    let kept = rw c.scaled.ensures at c.in_ok-keep-2.ensures.sum in
     record {
       so_far = so_far_more s laws _ _ _ _ _ _ inv.so_far (λ i. other_next s laws own_rows own_values r.own_lengths r.own_values r.own_order rows values k r.lengths r.values r.order r.scale x y i ly) (λ i. one_value-value s laws _ i (other_is s laws own_rows own_values r.own_lengths r.own_values r.own_order rows values k r.lengths r.values r.order r.scale y ly)) (λ i. left_value s laws own_rows own_values r.own_lengths r.own_values r.own_order rows values k r.lengths r.values r.order r.scale x (y + 1) i) kept;
       own_before = λ m. c.in_ok-keep-2.ensures.rows (get_or own_rows x 0) c.if-row-own_row.true;
@@ -80,7 +80,7 @@ loop-x-preserved g c =
     let y = c.loop-x.y in
     let lx = c.loop-x-test.true in
     let ly = c.if-y-rows.true in
-    let kept = rw (c.add.ensures, c.mul-else-row-own_row.ensures) at c.in_ok-keep-3.ensures.sum in
+    let kept = rw (c.add.ensures, c.scaled-else-row-own_row.ensures) at c.in_ok-keep-3.ensures.sum in
     let not_before = c.if-own_row-row.false in
     let not_after = c.if-row-own_row.false in
     let same : get_or own_rows x 0 ≡ get_or rows y 0 = omega arith in
@@ -100,5 +100,4 @@ returns g c =
     let rows = c.args.rows.now in
     let values = c.args.values.now in
     let k = c.args.scale in
-    let first = rw c.one.ensures at c.in_ok-append.ensures.sum in
-    on_ok_weaker c.append-2.result (λ h. joined_all s laws own_rows own_values r.own_lengths r.own_values r.own_order rows values k r.lengths r.values r.order r.scale _ c.loop-x.self _ _ c.loop-x.x c.loop-x.y c.loop-x.invariant.so_far first h) c.append-2.ensures.sum
+    on_ok_weaker c.append-2.result (λ h. joined_all s laws own_rows own_values r.own_lengths r.own_values r.own_order rows values k r.lengths r.values r.order r.scale _ c.loop-x.self _ _ c.loop-x.x c.loop-x.y c.loop-x.invariant.so_far c.in_ok-append.ensures.sum h) c.append-2.ensures.sum

@@ -19,6 +19,5 @@ returns-clause-column g c =
     let s = g.S.Semiring.arithmetic in
     let r = c.requires in
     let rows = c.in_ok-make_room.ensures.length ∙ c.rows-rows.ensures.value ∙ ap (λ (e : Extent). e.rows) c.shape.ensures.shape in
-    let own = rw c.one.ensures at c.add.ensures.sums in
     let all = rw (c.row_numbers.ensures, c.values.ensures) at c.add_terms.ensures.sums in
-    on_ok_weaker c.take.result (λ h i. h i ∙ dense_sums s g.met.S.Semiring.is_semiring c.args.left.now r.left c.args.own_rows.now c.args.own_values.now r.own c.args.terms.now r.terms c.make_room.new.self c.add.new.self c.add_terms.new.self c.in_ok-make_room.ensures.zeros rows c.add.ensures.length c.add_terms.ensures.length own all i) c.take.ensures.column
+    on_ok_weaker c.take.result (λ h i. h i ∙ dense_sums s g.met.S.Semiring.is_semiring c.args.left.now r.left c.args.own_rows.now c.args.own_values.now r.own c.args.terms.now r.terms c.make_room.new.self c.add.new.self c.add_terms.new.self c.in_ok-make_room.ensures.zeros rows c.add.ensures.length c.add_terms.ensures.length c.add.ensures.sums all i) c.take.ensures.column

@@ -16,7 +16,7 @@ loop-term-init g c =
     let a = c.args.left.now in
     record {
       sums = refl;
-      so_far = joined_start s g.met.S.Semiring.is_semiring c.args.own_rows.now c.args.own_values.now c.requires.own.are_values c.clear.new.self c.append.new.self c.one.result (λ i. terms_value s (rows_of a.entries) (values_of a.entries) i c.args.terms.now) c.clear.ensures c.one.ensures c.in_ok-append.ensures.sum;
+      so_far = joined_start s g.met.S.Semiring.is_semiring c.args.own_rows.now c.args.own_values.now c.requires.own.are_values c.clear.new.self c.append.new.self (λ i. terms_value s (rows_of a.entries) (values_of a.entries) i c.args.terms.now) c.clear.ensures c.in_ok-append.ensures.sum;
     }
 
 pub join-requires-clause-values : goal.join-requires-clause-values
