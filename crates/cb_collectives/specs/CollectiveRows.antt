@@ -79,6 +79,7 @@ numbers = record {
   add = λ a b. a + b;
   times = λ a b. a * b;
   transpose = λ a. a;
+  column_sums = λ a. a;
   cut = λ rows cols a. a;
   place = λ shape at a. a;
   mul_vec = λ a x. a * x;

@@ -22,3 +22,5 @@ pub mod Faultless
 pub mod Csc
 -- Appended: entries added after all those of a block; `matrix_append`, two matrices of which one comes before the other.
 pub mod Appended
+-- For this crate alone. NextColumn: a column that makes a matrix with the entries before it is owed what a push of it asks.
+pub mod NextColumn

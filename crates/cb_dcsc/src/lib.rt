@@ -432,9 +432,25 @@ impl<S: Semiring> Block<S> {
         self.reserve(other.rows.len())?;
         for n in 0..other.columns() {
             let (rows, values) = other.nth_column(n);
-            self.push_rows(other.column_number(n), rows, values)?;
+            self.push_part(other.column_number(n), rows, values)?;
         }
         Ok(())
+    }
+
+    /// Stores entries of one column after all the others, by their rows and values: one by one where the last column goes
+    /// on, and else as a whole column. On refusal some are stored.
+    fn push_part(&mut self, column: u32, rows: &[u32], values: &[u64]) -> Result<(), AllocError>
+        requires lengths { length values.now ≡ length rows.now }
+        requires matrix { IsMatrix S.arithmetic (with_column self.old column rows.now values.now) }
+        ensures { OnOk result (self.new ≡ with_column self.old column rows.now values.now) }
+    {
+        if rows.is_empty() {
+            return Ok(());
+        }
+        if ends_with(&self.columns, column) {
+            return self.push_rows(column, rows, values);
+        }
+        self.push_column(column, rows, values)
     }
 
     /// Stores entries of one column after all the others, by their rows and values. On refusal some are stored.

@@ -12,7 +12,7 @@ use Rattle.cb_plan_parts.proofs.PartStarts.{start_within}
 
 module _ (s : Arithmetic) (q : ℕ) where
   -- the value of a block at a place
-  at-block : (a : Sparse) (i j x y : ℕ) → x < (part_shape q a.shape i j).rows → y < (part_shape q a.shape i j).cols →
+  pub at-block : (a : Sparse) (i j x y : ℕ) → x < (part_shape q a.shape i j).rows → y < (part_shape q a.shape i j).cols →
       at s (block_of s q a i j) x y ≡ at s a (part_start q a.shape.rows i + x) (part_start q a.shape.cols j + y)
   at-block a i j x y l m = at-matrix_of s (part_shape q a.shape i j) (λ x y. at s a (part_start q a.shape.rows i + x) (part_start q a.shape.cols j + y)) x y l m
 

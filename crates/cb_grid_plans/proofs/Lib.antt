@@ -20,3 +20,9 @@ pub mod SpreadProduct
 pub mod VectorFlow
 pub mod VectorLengths
 pub mod Loops
+-- Sums of columns and of rows. GatheredSums: what each step does to the slots. SumsOfBlocks: so the plans make the sums.
+-- ReductionFlow: they pass the check. ReductionLengths: they are short.
+pub mod GatheredSums
+pub mod SumsOfBlocks
+pub mod ReductionFlow
+pub mod ReductionLengths

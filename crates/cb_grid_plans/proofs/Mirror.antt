@@ -141,7 +141,17 @@ is_transpose_plan q shape s a e state has =
           ∙ each_elsewhere ops q (λ _. op_is.Transpose 0 1) state r 0 (omega arith);
     }
 
--- and pass the check, where each rank has its part of a matrix
+-- blocks that change sides pass the check, where each rank has one in slot 1
+pub mirror_flow : (q : ℕ) → 0 < q → (state : State Extent) → ((i j : ℕ) → i < q → j < q → is_some (state (i * q + j) 1) ≡ true) → Flows (q * q) none_shut state (mirror_acts q)
+mirror_flow q pos state filled =
+    let exist : (k : ℕ) → k < q * q → (k < q * q) × (mirrored q k < q * q) × (1 < 256) × (2 < 256) = λ k l. (l, mirrored_below q k pos l, omega arith, omega arith) in
+    record {
+      passes = sends_pass (q * q) (tagged 0) none_shut (λ s t. refl) (λ k. k) (mirrored q) (λ _. 1) (λ _. 2) (q * q) exist 0 (q * q) state (omega arith)
+          (λ k l. subst (λ r. is_some (state r 1) ≡ true) (rank_of q k) (filled (k / q) (k % q) (row_below q k l) (mod_below k q pos)));
+      lanes = sends_keep_lanes (q * q) (tagged 0) none_shut (λ s t. refl) (λ k. k) (mirrored q) (λ _. 1) (λ _. 2) (q * q) exist 0 (q * q);
+    }
+
+-- and so does a transpose, where each rank has its part of a matrix
 module _ (q : ℕ) (pos : 0 < q) (a : Extent) (state : State Extent) (left : (i j : ℕ) → i < q → j < q → state (i * q + j) 0 ≡ Some (part_shape q a i j)) where
   turns_flow : Flows (q * q) none_shut state (each_rank q (λ _. op_is.Transpose 0 1))
   turns_flow = each_flows q pos none_shut (λ _. op_is.Transpose 0 1) state (λ i j l h.
@@ -154,12 +164,7 @@ module _ (q : ℕ) (pos : 0 < q) (a : Extent) (state : State Extent) (left : (i 
   transpose_flow_from : Flows (q * q) none_shut state (each_rank q (λ _. op_is.Transpose 0 1) ++ mirror_acts q)
   transpose_flow_from =
       let turned = meaning shapes (each_rank q (λ _. op_is.Transpose 0 1)) state in
-      let exist : (k : ℕ) → k < q * q → (k < q * q) × (mirrored q k < q * q) × (1 < 256) × (2 < 256) = λ k l. (l, mirrored_below q k pos l, omega arith, omega arith) in
-      flows-append (q * q) none_shut state (each_rank q (λ _. op_is.Transpose 0 1)) (mirror_acts q) turns_flow (record {
-        passes = sends_pass (q * q) (tagged 0) none_shut (λ s t. refl) (λ k. k) (mirrored q) (λ _. 1) (λ _. 2) (q * q) exist 0 (q * q) turned (omega arith)
-            (λ k l. subst (λ r. is_some (turned r 1) ≡ true) (rank_of q k) (filled_at (k / q) (k % q) (row_below q k l) (mod_below k q pos)));
-        lanes = sends_keep_lanes (q * q) (tagged 0) none_shut (λ s t. refl) (λ k. k) (mirrored q) (λ _. 1) (λ _. 2) (q * q) exist 0 (q * q);
-      })
+      flows-append (q * q) none_shut state (each_rank q (λ _. op_is.Transpose 0 1)) (mirror_acts q) turns_flow (mirror_flow q pos turned filled_at)
 
 -- from the parts of an operand the acts of a transpose pass, and shut no lane
 pub transpose_flow : (q : ℕ) → 0 < q → (a : Extent) → Flows (q * q) none_shut (started (operand_starts q (one_operand a))) (each_rank q (λ _. op_is.Transpose 0 1) ++ mirror_acts q)

@@ -29,7 +29,8 @@ use Rattle.cb_grid_plans.proofs.Programs.{after_op, after_ops, CanDo, can_do_bot
 use Rattle.cb_grid_plans.proofs.Pieces.{yes, no, assembled, broadcast_skips, part_skips, pieces_add, adds_skip, exchange_skips}
 use Rattle.cb_grid_plans.proofs.SpreadProduct.{after_pieces, after_products, after_cuts, after_exchanges, has_left, has_pieces, has_product, has_cuts, has_summands}
 
-below : (n : ℕ) → n < 256 → nat_lt n 256 ≡ true
+-- the test of a slot that exists holds
+pub below : (n : ℕ) → n < 256 → nat_lt n 256 ≡ true
 below n l = grind (arith, nat_tests)
 
 -- what is added to stays of its shape
@@ -93,25 +94,25 @@ module _ (q rank : ℕ) (few : q ≤ 6) (exists : rank < q * q) where
       )
 
   -- and adds up the pieces that it got
-  can_add_up : (rows a m : ℕ) (slots : ℕ → Option Extent) → a + m ≤ q - 1 → slots 2 ≡ Some (column rows) → ((s : ℕ) → s < q → slots (30 + s) ≡ Some (column rows)) → CanDo (q * q) rank slots (map next_summand (range_with_len a m))
-  can_add_up rows a zero slots l so_far has = tt
-  can_add_up rows a (suc m) slots l so_far has =
+  can_add_up : (d : Extent) (a m : ℕ) (slots : ℕ → Option Extent) → a + m ≤ q - 1 → slots 2 ≡ Some d → ((s : ℕ) → s < q → slots (30 + s) ≡ Some d) → CanDo (q * q) rank slots (map next_summand (range_with_len a m))
+  can_add_up d a zero slots l so_far has = tt
+  can_add_up d a (suc m) slots l so_far has =
       let e : 31 + a ≡ 30 + suc a = omega arith in
-      let here : slots (31 + a) ≡ Some (column rows) = ap slots e ∙ has (suc a) (omega arith) in
+      let here : slots (31 + a) ≡ Some d = ap slots e ∙ has (suc a) (omega arith) in
       let exist : nat_lt (31 + a) 256 ≡ true = below (31 + a) (omega arith) in
       let next : ℕ → Option Extent = after_op shapes (next_summand a) slots in
-      let is : next 2 ≡ Some (column rows) = rw (so_far, here) refl in
+      let is : next 2 ≡ Some d = rw (so_far, here) refl in
       let kept : (s : ℕ) → next (30 + s) ≡ slots (30 + s) = λ s. rw (no 2 (30 + s) (let ne : 2 ≢ 30 + s = omega arith in ne)) refl in (
-        record { exists = exists; slots_exist = rw exist refl; filled = rw (so_far, here) refl; agree = rw (so_far, here, yes rows) refl },
-        can_add_up rows (a + 1) m next (omega arith) is (λ s h. kept s ∙ has s h),
+        record { exists = exists; slots_exist = rw exist refl; filled = rw (so_far, here) refl; agree = rw (so_far, here, yes d.rows, yes d.cols) refl },
+        can_add_up d (a + 1) m next (omega arith) is (λ s h. kept s ∙ has s h),
       )
 
-  can_sum : (rows : ℕ) (slots : ℕ → Option Extent) → 0 < q → ((s : ℕ) → s < q → slots (30 + s) ≡ Some (column rows)) → CanDo (q * q) rank slots (sum_ops q)
-  can_sum rows slots pos has =
-      let first : slots 30 ≡ Some (column rows) = has 0 pos in
+  pub can_sum : (d : Extent) (slots : ℕ → Option Extent) → 0 < q → ((s : ℕ) → s < q → slots (30 + s) ≡ Some d) → CanDo (q * q) rank slots (sum_ops q)
+  can_sum d slots pos has =
+      let first : slots 30 ≡ Some d = has 0 pos in
       let next : ℕ → Option Extent = after_op shapes (op_is.Copy 30 2) slots in (
         record { exists = exists; slots_exist = refl; filled = rw first refl; agree = refl },
-        can_add_up rows 0 (q - 1) next (omega arith) first (λ s h. rw (no 2 (30 + s) (let ne : 2 ≢ 30 + s = omega arith in ne)) (has s h)),
+        can_add_up d 0 (q - 1) next (omega arith) first (λ s h. rw (no 2 (30 + s) (let ne : 2 ≢ 30 + s = omega arith in ne)) (has s h)),
       )
 
 -- ---- what all ranks do
@@ -119,27 +120,29 @@ module _ (q : ℕ) (pos : 0 < q) (few : q ≤ 6) (shape : Extent) where
   abbrev Flow : State Extent → List Act → Type 0
   Flow state acts = Flows (q * q) none_shut state acts
 
-  -- each rank has its piece of the vector
-  abbrev HasPiece : State Extent → Type 0
-  HasPiece state = (t j : ℕ) → t < q → j < q → state (t * q + j) 1 ≡ Some (piece_shape q (column shape.cols) j t)
+  module _ (piece : ℕ → ℕ → Extent) where
+    -- each rank has its piece in slot 1
+    abbrev HasPiece : State Extent → Type 0
+    HasPiece state = (t j : ℕ) → t < q → j < q → state (t * q + j) 1 ≡ Some (piece j t)
 
-  part_flow : (j : ℕ) → j < q → (state : State Extent) → HasPiece state → Flow state (part_broadcasts q j)
-  part_flow j m state has =
-      flows_each (q * q) none_shut (piece_broadcast q j) (λ _ st. HasPiece st) q
-      (λ t st l own. (
-        record {
-          passes = broadcast_passes (q * q) (column_group q j) (t * q + j) (tagged t) 1 (10 + t) (piece_shape q (column shape.cols) j t) none_shut st
-              (in_column q t j j l m m ∙ yes j) (column_distinct q j m) (column_exists q j m) (omega arith) (omega arith) (λ s t. refl) (own t j l m);
-          lanes = broadcast_keeps_lanes (column_group q j) (t * q + j) (tagged t) 1 (10 + t) none_shut;
-        },
-        λ u k h b. broadcast_skips shapes q j t st l m (u * q + k) 1 (let ne : 10 + t ≢ 1 = omega arith in ne) ∙ own u k h b,
-      )) 0 q state (omega arith) has
+    part_flow : (j : ℕ) → j < q → (state : State Extent) → HasPiece state → Flow state (part_broadcasts q j)
+    part_flow j m state has =
+        flows_each (q * q) none_shut (piece_broadcast q j) (λ _ st. HasPiece st) q
+        (λ t st l own. (
+          record {
+            passes = broadcast_passes (q * q) (column_group q j) (t * q + j) (tagged t) 1 (10 + t) (piece j t) none_shut st
+                (in_column q t j j l m m ∙ yes j) (column_distinct q j m) (column_exists q j m) (omega arith) (omega arith) (λ s t. refl) (own t j l m);
+            lanes = broadcast_keeps_lanes (column_group q j) (t * q + j) (tagged t) 1 (10 + t) none_shut;
+          },
+          λ u k h b. broadcast_skips shapes q j t st l m (u * q + k) 1 (let ne : 10 + t ≢ 1 = omega arith in ne) ∙ own u k h b,
+        )) 0 q state (omega arith) has
 
-  pieces_flow : (state : State Extent) → HasPiece state → Flow state (piece_broadcasts q)
-  pieces_flow state has =
-      flows_each (q * q) none_shut (part_broadcasts q) (λ _ st. HasPiece st) q
-      (λ j st m own. (part_flow j m st own, λ u k h b. part_skips shapes q j st m (u * q + k) 1 (inl (omega arith)) ∙ own u k h b))
-      0 q state (omega arith) has
+    -- the broadcasts of all pieces pass the check
+    pub pieces_flow : (state : State Extent) → HasPiece state → Flow state (piece_broadcasts q)
+    pieces_flow state has =
+        flows_each (q * q) none_shut (part_broadcasts q) (λ _ st. HasPiece st) q
+        (λ j st m own. (part_flow j m st own, λ u k h b. part_skips shapes q j st m (u * q + k) 1 (inl (omega arith)) ∙ own u k h b))
+        0 q state (omega arith) has
 
   -- the slots from 20 on that are sent are filled
   abbrev HasCuts : State Extent → Type 0
@@ -174,7 +177,7 @@ module _ (q : ℕ) (pos : 0 < q) (few : q ≤ 6) (shape : Extent) where
       (λ i st m own. (exchange_flow i m st own, λ u k p h b l. ap (λ x. is_some x) (exchange_skips shapes q few i st m (u * q + k) (20 + p) (omega arith)) ∙ own u k p h b l))
       0 q state (omega arith) has
 
-  module _ (state : State Extent) (left : (i j : ℕ) → i < q → j < q → state (i * q + j) 0 ≡ Some (part_shape q shape i j)) (right : HasPiece state) where
+  module _ (state : State Extent) (left : (i j : ℕ) → i < q → j < q → state (i * q + j) 0 ≡ Some (part_shape q shape i j)) (right : HasPiece (piece_shape q (column shape.cols)) state) where
     abbrev block : ℕ → ℕ → Extent
     block = part_shape q shape
 
@@ -229,7 +232,7 @@ module _ (q : ℕ) (pos : 0 < q) (few : q ≤ 6) (shape : Extent) where
         let i = r / q in
         let t = r % q in
         let width = part_length q (part_length q shape.rows i) t in
-        can_sum q r few l width (fifth r) pos
+        can_sum q r few l (column width) (fifth r) pos
         (λ s k. subst (λ n. fifth n (30 + s) ≡ Some (column width)) (rank_of q r)
         (has_summands shapes q few shape state block piece left right i t s (row_below q r l) (mod_below r q pos) k
         ∙ ap (λ (x : Extent). Some (shapes.cut (part q (part_length q shape.rows i) t) (0, 1) (shapes.mul_vec (block i s) x))) (assembled_shape q (column (part_length q shape.cols s)) (piece s) q))))
@@ -240,7 +243,7 @@ module _ (q : ℕ) (pos : 0 < q) (few : q ≤ 6) (shape : Extent) where
         let sums = each_works q (λ _. sum_ops q) in
         let cuts = each_works q (cuts_at q shape) in
         let products = each_works q (products_at q shape) in
-        flows-append (q * q) none_shut state (piece_broadcasts q) (products ++ (cuts ++ (exchanges q ++ sums))) (pieces_flow state right)
+        flows-append (q * q) none_shut state (piece_broadcasts q) (products ++ (cuts ++ (exchanges q ++ sums))) (pieces_flow piece state right)
         (flows-append (q * q) none_shut second products (cuts ++ (exchanges q ++ sums)) products_flow
         (flows-append (q * q) none_shut third cuts (exchanges q ++ sums) cuts_flow
         (flows-append (q * q) none_shut fourth (exchanges q) sums

@@ -21,7 +21,8 @@ works_count : (r : ℕ) (ops : List Op) → length (works r ops) ≡ length ops
 works_count r ops = length-map ops (λ op. act_is.Work r op)
 
 module _ (q : ℕ) (few : q ≤ 6) where
-  pieces_at_most : length (piece_broadcasts q) ≤ 252
+  -- the broadcasts of all pieces are at most 252 acts
+  pub pieces_at_most : length (piece_broadcasts q) ≤ 252
   pieces_at_most =
       let each : (j t : ℕ) → length (piece_broadcast q j t) ≤ 7 = λ j t.
       let l = length-map-range_with_len (λ i. i * q + j) 0 q in
@@ -31,7 +32,8 @@ module _ (q : ℕ) (few : q ≤ 6) where
       let h = each_at_most (part_broadcasts q) 42 0 q part in
       omega arith
 
-  works_at_most : (ops : ℕ → List Op) (c : ℕ) → c ≤ 14 → ((r : ℕ) → length (ops r) ≤ c) → length (each_works q ops) ≤ 504
+  -- at most 14 operations of each rank are at most 504
+  pub works_at_most : (ops : ℕ → List Op) (c : ℕ) → c ≤ 14 → ((r : ℕ) → length (ops r) ≤ c) → length (each_works q ops) ≤ 504
   works_at_most ops c small each =
       let h = each_at_most (λ r. works r (ops r)) c 0 (q * q) (λ r. let e = works_count r (ops r) in let l = each r in omega arith) in
       let m = mul-le (q * q) c 36 14 (squared q few) small in

@@ -11,10 +11,12 @@
 #![tactic(auto)]
 
 mod placewise;
+mod reductions;
 mod transposes;
 mod vector_plans;
 
 pub use placewise::{grid_add, grid_prune, grid_times};
+pub use reductions::{grid_column_sums, grid_row_sums};
 pub use transposes::grid_transpose;
 pub use vector_plans::grid_vector;
 

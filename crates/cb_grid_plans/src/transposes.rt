@@ -43,7 +43,7 @@ pub fn grid_transpose(alloc: Global, grid: &Grid, a: Shape) -> Result<Planned, P
 }
 
 /// The transposed blocks go across the diagonal.
-fn send_across(plan: &mut Plan, grid: &Grid) -> Result<(), PlanFault>
+pub(crate) fn send_across(plan: &mut Plan, grid: &Grid) -> Result<(), PlanFault>
     requires { IsWithinLimit plan.now (mirror_acts grid.now.side) }
     ensures acts { OnOk result (Grew (mirror_acts grid.now.side) plan.old plan.new) }
     ensures fault { IfErr result (λ e. e ≡ no_memory) }

@@ -32,13 +32,13 @@ const PLACED: u16 = 4;
 const PRODUCT: u16 = 5;
 
 /// The first of the slots that the pieces of a part come to.
-const PIECES: u16 = 10;
+pub(crate) const PIECES: u16 = 10;
 
 /// The first of the slots of a product's pieces.
 const CUTS: u16 = 20;
 
 /// The first of the slots that a rank's summands come to.
-const SUMMANDS: u16 = 30;
+pub(crate) const SUMMANDS: u16 = 30;
 
 /// The plan of a matrix of this shape times a vector. The vector and the result are spread over all ranks: piece t
 /// of part j of the vector stands in slot 1 of rank (t, j) before the first act, and piece t of part i of the
@@ -120,7 +120,7 @@ fn multiply_spread(plan: &mut Plan, alloc: Global, grid: &Grid, a: Shape) -> Res
 }
 
 /// Each piece of the vector goes down a column of ranks.
-fn broadcast_pieces(plan: &mut Plan, alloc: Global, grid: &Grid) -> Result<(), PlanFault>
+pub(crate) fn broadcast_pieces(plan: &mut Plan, alloc: Global, grid: &Grid) -> Result<(), PlanFault>
     requires { IsWithinLimit plan.now (piece_broadcasts grid.now.side) }
     ensures acts { OnOk result (Grew (piece_broadcasts grid.now.side) plan.old plan.new) }
     ensures fault { IfErr result (λ e. e ≡ no_memory) }
@@ -276,7 +276,7 @@ fn add_summands(plan: &mut Plan, grid: &Grid) -> Result<(), PlanFault>
 }
 
 /// A rank adds up the pieces that it got.
-fn add_up(plan: &mut Plan, grid: &Grid, rank: u16) -> Result<(), PlanFault>
+pub(crate) fn add_up(plan: &mut Plan, grid: &Grid, rank: u16) -> Result<(), PlanFault>
     requires { IsWithinLimit plan.now (works rank (sum_ops grid.now.side)) }
     ensures acts { OnOk result (Grew (works rank (sum_ops grid.now.side)) plan.old plan.new) }
     ensures fault { IfErr result (λ e. e ≡ no_memory) }
@@ -307,7 +307,7 @@ fn add_others(plan: &mut Plan, grid: &Grid, rank: u16) -> Result<(), PlanFault>
 }
 
 /// A rank does operations, one after the other.
-fn work(plan: &mut Plan, rank: u16, ops: &[Op]) -> Result<(), PlanFault>
+pub(crate) fn work(plan: &mut Plan, rank: u16, ops: &[Op]) -> Result<(), PlanFault>
     requires { IsWithinLimit plan.now (works rank ops.now) }
     ensures acts { OnOk result (Grew (works rank ops.now) plan.old plan.new) }
     ensures fault { IfErr result (λ e. e ≡ no_memory) }

@@ -9,6 +9,7 @@ use cb_dcsc::Block;
 use cb_elementwise::{add, mask, prune, times};
 use cb_plan::{Op, RankStore, SLOTS, Slot};
 use cb_product::{multiply, multiply_into};
+use cb_reductions::column_sums;
 use cb_reshape::{cut, place, transpose};
 use cb_semirings::Semiring;
 use std::alloc::{AllocError, Global};
@@ -55,6 +56,7 @@ fn made_by<S: Semiring>(
         Op::Add { a, b, .. } => Ok(Slot::Sheet(add(alloc, store.sheet(a), store.sheet(b))?)),
         Op::Times { a, b, .. } => Ok(Slot::Sheet(times(alloc, store.sheet(a), store.sheet(b))?)),
         Op::Transpose { a, .. } => Ok(Slot::Sheet(transpose(alloc, store.sheet(a))?)),
+        Op::ColumnSums { a, .. } => Ok(Slot::Sheet(column_sums(alloc, store.sheet(a))?)),
         Op::Cut { a, rows, cols, .. } => {
             Ok(Slot::Sheet(cut(alloc, store.sheet(a), rows, cols)?))
         }

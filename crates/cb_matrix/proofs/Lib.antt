@@ -12,6 +12,7 @@
 -- Totals: sums in a semiring: they are values (`total_value`, `each_value`, `value_at-value`), `add_zero`, of
 --   nothing (`total-nil`), of one value (`total-one`), of two lists (`total-append`), of zeros (`total-zero`), of
 --   values of which all but one are zero (`total-single`), of sums (`total-add`), of equal values (`total-same`);
+--   products that distribute over a sum of which one part is zero (`add_mul-zero`, `mul_add-zero`);
 --   the values given at a place (`values_at-append`, `values_at-here`, `values_at-elsewhere`, `values_at-values`).
 -- Split: a sum over numbers in two parts, `total_parts`.
 -- Permuted: a sum in another order: `sum-permutation`, `sum_value`, `swap_two`.

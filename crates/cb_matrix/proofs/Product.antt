@@ -1,5 +1,5 @@
 -- The products of each two entries that meet make the product.
-use Rattle.std.proofs.Common.{◌≡◌, ◌≢◌, ℕ, ◌+◌, ◌<◌, true, false, cond, inl, inr, ⊎_elim, List, [], ◌∷◌, ◌++◌, length, map, filter, take, get_or, sym, refl, ap, ◌∙◌, arith, append_assoc}
+use Rattle.std.proofs.Common.{◌≡◌, ◌≢◌, ℕ, ◌+◌, ◌<◌, true, false, cond, inl, inr, ◌⊎◌, ⊎_elim, List, [], ◌∷◌, ◌++◌, length, map, filter, take, get_or, sym, refl, ap, ◌∙◌, arith, append_assoc}
 use Rattle.std.specs.Prelude.{All, AllPairs, ◌==◌}
 use Rattle.std.specs.List.{range_with_len}
 use Rattle.std.proofs.lemmas.Bool.{cases_Bool, cases_eq, eq-eqb, ne_eqb, cond-true, cond-false, and_left, and_right, and_from}
@@ -13,7 +13,7 @@ use Rattle.cb_matrix.specs.Products.{product_of, products_with, products}
 use Rattle.cb_matrix.proofs.Places.{IsPlaceBefore, is_at-own, is_at-parts, value_at-before, AllPairs-head, AllPairs-tail}
 use Rattle.cb_matrix.proofs.Made.{NoneAt, value_at-none}
 pub use Rattle.cb_matrix.proofs.Made.{same_matrix_of}
-use Rattle.cb_matrix.proofs.Totals.{add_zero, total-append, values_at-values, values_at-append}
+use Rattle.cb_matrix.proofs.Totals.{add_zero, add_mul-zero, total-append, values_at-values, values_at-append}
 pub use Rattle.cb_matrix.proofs.Totals.{value_at-value, each_value, total-nil, total-zero, total-single, total-add, total-same, one_more}
 
 module _ (s : Arithmetic) (laws : IsSemiring s) where
@@ -102,6 +102,16 @@ module _ (s : Arithmetic) (laws : IsSemiring s) where
         ∙ sym (with_other_row d es i j other))
         (cases_eq d.row i)
 
+    -- of the first entry and the others at most one has a value at a place
+    one_there : (d : Entry) (ds : List Entry) (i k : ℕ) → AllPairs IsBefore (d ∷ ds) → (cond (is_at i k d) d.value s.zero ≡ s.zero) ⊎ (value_at s.zero ds i k ≡ s.zero)
+    one_there d ds i k dp =
+        ⊎_elim
+        (λ (t : is_at i k d ≡ true).
+        let p = is_at-parts d i k t in
+        inr (value_at-before s.zero ds i k (All-weaker (IsBefore d) (IsPlaceBefore i k) (λ g b. ⊎_elim (λ m. inl (omega arith)) (λ m. inr (omega arith, omega arith)) b) ds (AllPairs-head IsBefore d ds dp))))
+        (λ (f : is_at i k d ≡ false). inl (cond-false _ d.value s.zero f))
+        (cases_Bool (is_at i k d))
+
     -- a value is that of the first entry, or that of the others
     value_split : (d : Entry) (ds : List Entry) (i k : ℕ) → All Val (d ∷ ds) → AllPairs IsBefore (d ∷ ds) → value_at s.zero (d ∷ ds) i k ≡ s.add (cond (is_at i k d) d.value s.zero) (value_at s.zero ds i k)
     unfolding value_at
@@ -133,7 +143,7 @@ module _ (s : Arithmetic) (laws : IsSemiring s) where
         ∙ ap (s.add (total s (map (part d i) (range_with_len 0 n)))) rest
         ∙ sym (total-add s laws (part d i) (λ k. s.mul (value_at s.zero ds i k) (there k)) (λ k. laws.mul_value _ (there k) (part_value d i k v) (there_value k)) (λ k. laws.mul_value _ (there k) (tail_value k) (there_value k)) (range_with_len 0 n))
         ∙ sym (total-same s laws (λ k. s.mul (value_at s.zero (d ∷ ds) i k) (there k)) (λ k. s.add (part d i k) (s.mul (value_at s.zero ds i k) (there k)))
-        (λ k. ap (λ x. s.mul x (there k)) (value_split d ds i k dv dp) ∙ laws.add_mul _ (value_at s.zero ds i k) (there k) (part_value d i k v) (tail_value k) (there_value k)) (range_with_len 0 n))
+        (λ k. ap (λ x. s.mul x (there k)) (value_split d ds i k dv dp) ∙ add_mul-zero s laws _ (value_at s.zero ds i k) (there k) (part_value d i k v) (tail_value k) (there_value k) (one_there d ds i k dp)) (range_with_len 0 n))
 
   pub products_all : (P : Entry → Type 0) (ds es : List Entry) → All (λ d. All (λ e. P (product_of s d e)) es) ds → All P (products s ds es)
   products_all P [] es h = All-nil P

@@ -1,5 +1,5 @@
 -- Sums by the laws of a semiring.
-use Rattle.std.proofs.Common.{◌≡◌, ◌≢◌, ℕ, zero, suc, ◌+◌, ◌<◌, ◌≤◌, Bool, true, false, cond, ⊎_elim, List, [], ◌∷◌, ◌++◌, map, sym, refl, ap, ◌∙◌, arith}
+use Rattle.std.proofs.Common.{◌≡◌, ◌≢◌, ℕ, zero, suc, ◌+◌, ◌<◌, ◌≤◌, Bool, true, false, cond, ◌⊎◌, ⊎_elim, List, [], ◌∷◌, ◌++◌, map, sym, refl, ap, ◌∙◌, arith}
 use Rattle.std.specs.Prelude.{All, filter}
 use Rattle.std.specs.List.{range_with_len}
 use Rattle.std.proofs.lemmas.Bool.{cases_eq}
@@ -93,6 +93,28 @@ module _ (s : Arithmetic) (laws : IsSemiring s) where
   total-add f g hf hg (k ∷ ks) =
       ap (s.add (s.add (f k) (g k))) (total-add f g hf hg ks)
       ∙ swap_middle (f k) (g k) (total s (map f ks)) (total s (map g ks)) (hf k) (hg k) (total_value (map f ks) (each_value f hf ks)) (total_value (map g ks) (each_value g hg ks))
+
+  -- a product distributes over a sum of which one part is zero
+  pub add_mul-zero : (x y z : ℕ) → IsValue s x → IsValue s y → IsValue s z → (x ≡ s.zero) ⊎ (y ≡ s.zero) → s.mul (s.add x y) z ≡ s.add (s.mul x z) (s.mul y z)
+  add_mul-zero x y z hx hy hz one = ⊎_elim
+      (λ (e : x ≡ s.zero).
+      ap (λ n. s.mul n z) (ap (λ n. s.add n y) e ∙ laws.zero_add y hy)
+      ∙ sym (ap (λ n. s.add n (s.mul y z)) (ap (λ n. s.mul n z) e ∙ laws.zero_mul z hz) ∙ laws.zero_add (s.mul y z) (laws.mul_value y z hy hz)))
+      (λ (e : y ≡ s.zero).
+      ap (λ n. s.mul n z) (ap (s.add x) e ∙ add_zero x hx)
+      ∙ sym (ap (s.add (s.mul x z)) (ap (λ n. s.mul n z) e ∙ laws.zero_mul z hz) ∙ add_zero (s.mul x z) (laws.mul_value x z hx hz)))
+      one
+
+  -- and so on its other side
+  pub mul_add-zero : (x y z : ℕ) → IsValue s x → IsValue s y → IsValue s z → (y ≡ s.zero) ⊎ (z ≡ s.zero) → s.mul x (s.add y z) ≡ s.add (s.mul x y) (s.mul x z)
+  mul_add-zero x y z hx hy hz one = ⊎_elim
+      (λ (e : y ≡ s.zero).
+      ap (s.mul x) (ap (λ n. s.add n z) e ∙ laws.zero_add z hz)
+      ∙ sym (ap (λ n. s.add n (s.mul x z)) (ap (s.mul x) e ∙ laws.mul_zero x hx) ∙ laws.zero_add (s.mul x z) (laws.mul_value x z hx hz)))
+      (λ (e : z ≡ s.zero).
+      ap (s.mul x) (ap (s.add y) e ∙ add_zero y hy)
+      ∙ sym (ap (s.add (s.mul x y)) (ap (s.mul x) e ∙ laws.mul_zero x hx) ∙ add_zero (s.mul x y) (laws.mul_value x y hx hy)))
+      one
 
   -- equal values have equal sums
   pub total-same : (f g : ℕ → ℕ) → ((k : ℕ) → f k ≡ g k) → (ks : List ℕ) → total s (map f ks) ≡ total s (map g ks)

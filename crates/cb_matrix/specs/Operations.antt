@@ -1,8 +1,9 @@
 -- Operations on matrices, each by the value that it has at each place.
-use Rattle.std.specs.Prelude.{ℕ, Bool, not, ◌+◌, ◌-◌, ◌&&◌, ◌==◌, cond, nat_le, nat_lt}
+use Rattle.std.specs.Prelude.{ℕ, Bool, not, ◌+◌, ◌-◌, ◌&&◌, ◌==◌, cond, nat_le, nat_lt, map}
+use Rattle.std.specs.List.{range_with_len}
 use Rattle.cb_semirings.specs.Arithmetic.{Arithmetic}
 use Rattle.cb_matrix.specs.Sparse.{Sparse, Extent, at}
-use Rattle.cb_matrix.specs.Values.{matrix_of}
+use Rattle.cb_matrix.specs.Values.{total, matrix_of}
 
 -- rows and columns change places
 abbrev pub transposed : Arithmetic → Sparse → Sparse
@@ -27,6 +28,14 @@ has_entry s m i j = not (at s m i j == s.zero)
 -- the values of a at the places where m has an entry
 abbrev pub masked : Arithmetic → Sparse → Sparse → Sparse
 masked s a m = matrix_of s a.shape (λ i j. cond (has_entry s m i j) (at s a i j) s.zero)
+
+-- the sum of each column, in a matrix of one row
+abbrev pub column_sums : Arithmetic → Sparse → Sparse
+column_sums s a = matrix_of s (record { rows = 1; cols = a.shape.cols }) (λ i j. total s (map (λ k. at s a k j) (range_with_len 0 a.shape.rows)))
+
+-- the sum of each row, in a matrix of one column
+abbrev pub row_sums : Arithmetic → Sparse → Sparse
+row_sums s a = matrix_of s (record { rows = a.shape.rows; cols = 1 }) (λ i j. total s (map (λ k. at s a i k) (range_with_len 0 a.shape.cols)))
 
 -- the part in the rows and the columns from the first number of a pair up to the second, which is not in it
 abbrev pub cut : Arithmetic → ℕ × ℕ → ℕ × ℕ → Sparse → Sparse

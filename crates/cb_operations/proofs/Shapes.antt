@@ -3,7 +3,7 @@ use Rattle.std.proofs.Common.{◌≡◌, List, [], ◌∷◌, refl, sym, ap, ◌
 use Rattle.cb_semirings.specs.Arithmetic.{Arithmetic}
 use Rattle.cb_matrix.specs.Sparse.{Sparse, Extent}
 use Rattle.cb_operations.specs.declared.operations.Operation.{Operation}
-use Rattle.cb_operations.specs.declared.operations.Operation.TheVariants.{Multiply, MultiplyMasked, MultiplyVector, Transpose, Add, Times, Prune}
+use Rattle.cb_operations.specs.declared.operations.Operation.TheVariants.{Multiply, MultiplyMasked, MultiplyVector, Transpose, RowSums, ColumnSums, Add, Times, Prune}
 use Rattle.cb_operations.specs.OperationAnswers.{extent_at, matrix_at, outer, shape_of, answer_of, shapes_in, IsShapeOfAnswers}
 
 -- the shape of a matrix of a list is the one of the list of their shapes
@@ -24,6 +24,8 @@ shape_of_answer Multiply s ms = outer_shape ms
 shape_of_answer MultiplyMasked s ms = outer_shape ms
 shape_of_answer MultiplyVector s ms = outer_shape ms
 shape_of_answer Transpose s ms = ap (λ (d : Extent). record { rows = d.cols; cols = d.rows }) (first_shape ms)
+shape_of_answer RowSums s ms = ap (λ (d : Extent). record { rows = d.rows; cols = 1 }) (first_shape ms)
+shape_of_answer ColumnSums s ms = ap (λ (d : Extent). record { rows = 1; cols = d.cols }) (first_shape ms)
 shape_of_answer Add s ms = first_shape ms
 shape_of_answer Times s ms = first_shape ms
 shape_of_answer (Prune test) s ms = first_shape ms

@@ -3,10 +3,10 @@ use Rattle.std.specs.Prelude.{◌≡◌, ℕ, List, map, slice_index_or}
 use Rattle.cb_semirings.specs.Arithmetic.{Arithmetic}
 use Rattle.cb_matrix.specs.Sparse.{Sparse, Extent}
 use Rattle.cb_matrix.specs.Values.{empty_matrix, product}
-use Rattle.cb_matrix.specs.Operations.{masked, transposed, sum_of, times_of, pruned}
+use Rattle.cb_matrix.specs.Operations.{masked, transposed, row_sums, column_sums, sum_of, times_of, pruned}
 use Rattle.cb_matrix.specs.Passing.{passes}
 use Rattle.cb_operations.specs.declared.operations.Operation.{Operation}
-use Rattle.cb_operations.specs.declared.operations.Operation.TheVariants.{Multiply, MultiplyMasked, MultiplyVector, Transpose, Add, Times, Prune}
+use Rattle.cb_operations.specs.declared.operations.Operation.TheVariants.{Multiply, MultiplyMasked, MultiplyVector, Transpose, RowSums, ColumnSums, Add, Times, Prune}
 
 -- how many matrices it takes
 abbrev pub operand_count_of : Operation → ℕ
@@ -14,6 +14,8 @@ operand_count_of Multiply = 2
 operand_count_of MultiplyMasked = 3
 operand_count_of MultiplyVector = 2
 operand_count_of Transpose = 1
+operand_count_of RowSums = 1
+operand_count_of ColumnSums = 1
 operand_count_of Add = 2
 operand_count_of Times = 2
 operand_count_of (Prune test) = 1
@@ -36,6 +38,8 @@ Agree Multiply ds = (extent_at ds 0).cols ≡ (extent_at ds 1).rows
 Agree MultiplyMasked ds = ((extent_at ds 0).cols ≡ (extent_at ds 1).rows) × (extent_at ds 2 ≡ outer (extent_at ds 0) (extent_at ds 1))
 Agree MultiplyVector ds = ((extent_at ds 0).cols ≡ (extent_at ds 1).rows) × ((extent_at ds 1).cols ≡ 1)
 Agree Transpose ds = Unit {0}
+Agree RowSums ds = Unit {0}
+Agree ColumnSums ds = Unit {0}
 Agree Add ds = extent_at ds 0 ≡ extent_at ds 1
 Agree Times ds = extent_at ds 0 ≡ extent_at ds 1
 Agree (Prune test) ds = Unit {0}
@@ -46,6 +50,8 @@ shape_of Multiply ds = outer (extent_at ds 0) (extent_at ds 1)
 shape_of MultiplyMasked ds = outer (extent_at ds 0) (extent_at ds 1)
 shape_of MultiplyVector ds = outer (extent_at ds 0) (extent_at ds 1)
 shape_of Transpose ds = record { rows = (extent_at ds 0).cols; cols = (extent_at ds 0).rows }
+shape_of RowSums ds = record { rows = (extent_at ds 0).rows; cols = 1 }
+shape_of ColumnSums ds = record { rows = 1; cols = (extent_at ds 0).cols }
 shape_of Add ds = extent_at ds 0
 shape_of Times ds = extent_at ds 0
 shape_of (Prune test) ds = extent_at ds 0
@@ -56,6 +62,8 @@ answer_of Multiply s ms = product s (matrix_at ms 0) (matrix_at ms 1)
 answer_of MultiplyMasked s ms = masked s (product s (matrix_at ms 0) (matrix_at ms 1)) (matrix_at ms 2)
 answer_of MultiplyVector s ms = product s (matrix_at ms 0) (matrix_at ms 1)
 answer_of Transpose s ms = transposed s (matrix_at ms 0)
+answer_of RowSums s ms = row_sums s (matrix_at ms 0)
+answer_of ColumnSums s ms = column_sums s (matrix_at ms 0)
 answer_of Add s ms = sum_of s (matrix_at ms 0) (matrix_at ms 1)
 answer_of Times s ms = times_of s (matrix_at ms 0) (matrix_at ms 1)
 answer_of (Prune test) s ms = pruned s (passes test) (matrix_at ms 0)

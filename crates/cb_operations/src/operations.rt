@@ -18,6 +18,10 @@ pub enum Operation {
     MultiplyVector,
     /// The transpose of a matrix.
     Transpose,
+    /// The sum of each row of a matrix, in a matrix of one column.
+    RowSums,
+    /// The sum of each column of a matrix, in a matrix of one row.
+    ColumnSums,
     /// The sum of two matrices of one shape, place by place.
     Add,
     /// The product of two matrices of one shape, place by place.
@@ -49,6 +53,8 @@ impl Operation {
             Operation::MultiplyMasked => 3,
             Operation::MultiplyVector => 2,
             Operation::Transpose => 1,
+            Operation::RowSums => 1,
+            Operation::ColumnSums => 1,
             Operation::Add => 2,
             Operation::Times => 2,
             Operation::Prune(_test) => 1,
@@ -71,6 +77,8 @@ impl Operation {
             }
             Operation::MultiplyVector => vector_shape(shapes[0], shapes[1]),
             Operation::Transpose => Some(turned(shapes[0])),
+            Operation::RowSums => Shape::new(shapes[0].rows(), 1),
+            Operation::ColumnSums => Shape::new(1, shapes[0].cols()),
             Operation::Add => same_shape(shapes[0], shapes[1]),
             Operation::Times => same_shape(shapes[0], shapes[1]),
             Operation::Prune(_test) => Some(shapes[0]),

@@ -30,6 +30,7 @@ module _ {M N : Type 0} (f : M → N) (ops : Algebra M) (to : Algebra N) (turns 
   result_turns (op_is.Add a b into) slots = two_turns ops.add to.add turns.add (slots a) (slots b)
   result_turns (op_is.Times a b into) slots = two_turns ops.times to.times turns.times (slots a) (slots b)
   result_turns (op_is.Transpose a into) slots = one_turns ops.transpose to.transpose turns.transpose (slots a)
+  result_turns (op_is.ColumnSums a into) slots = one_turns ops.column_sums to.column_sums turns.column_sums (slots a)
   result_turns (op_is.Cut a rows cols into) slots = one_turns (ops.cut rows cols) (to.cut rows cols) (turns.cut rows cols) (slots a)
   result_turns (op_is.Place a shape at into) slots = one_turns (ops.place shape at) (to.place shape at) (turns.place shape at) (slots a)
   result_turns (op_is.MulVec a x into) slots = two_turns ops.mul_vec to.mul_vec turns.mul_vec (slots a) (slots x)
@@ -57,6 +58,7 @@ shape_turns s = record {
   add = λ a b. refl;
   times = λ a b. refl;
   transpose = λ a. refl;
+  column_sums = λ a. refl;
   cut = λ rows cols a. refl;
   place = λ shape at a. refl;
   mul_vec = λ a x. refl;

@@ -31,6 +31,7 @@ operands_of (op_is.MulAdd a b acc) = a ∷ b ∷ acc ∷ []
 operands_of (op_is.Add a b into) = a ∷ b ∷ []
 operands_of (op_is.Times a b into) = a ∷ b ∷ []
 operands_of (op_is.Transpose a into) = a ∷ []
+operands_of (op_is.ColumnSums a into) = a ∷ []
 operands_of (op_is.Cut a rows cols into) = a ∷ []
 operands_of (op_is.Place a shape at into) = a ∷ []
 operands_of (op_is.MulVec a x into) = a ∷ x ∷ []
@@ -80,6 +81,7 @@ shapes_agree slots (op_is.MulAdd a b acc) = demand (three (λ a b acc. (a.cols =
 shapes_agree slots (op_is.Add a b into) = demand (two same_shape (slots a) (slots b))
 shapes_agree slots (op_is.Times a b into) = demand (two same_shape (slots a) (slots b))
 shapes_agree slots (op_is.Transpose a into) = true
+shapes_agree slots (op_is.ColumnSums a into) = true
 shapes_agree slots (op_is.Cut a rows cols into) = demand (one (λ a. nat_le rows.0 rows.1 && nat_le rows.1 a.rows && nat_le cols.0 cols.1 && nat_le cols.1 a.cols) (slots a))
 shapes_agree slots (op_is.Place a shape at into) = demand (one (λ a. nat_le (at.0 + a.rows) shape.rows && nat_le (at.1 + a.cols) shape.cols) (slots a))
 shapes_agree slots (op_is.MulVec a x into) = demand (two (λ a x. (a.cols == x.rows) && (x.cols == 1)) (slots a) (slots x))

@@ -16,6 +16,8 @@ pub record Algebra (M : Type 0) : Type 0 where
   pub add : M → M → M
   pub times : M → M → M
   pub transpose : M → M
+  -- the sum of each column, in one row
+  pub column_sums : M → M
   -- the rows and columns from the first number of a pair up to the second
   pub cut : ℕ × ℕ → ℕ × ℕ → M → M
   -- inside a block of a shape, its first place at a corner
@@ -48,6 +50,7 @@ target_of (op_is.MulAdd a b acc) = acc
 target_of (op_is.Add a b into) = into
 target_of (op_is.Times a b into) = into
 target_of (op_is.Transpose a into) = into
+target_of (op_is.ColumnSums a into) = into
 target_of (op_is.Cut a rows cols into) = into
 target_of (op_is.Place a shape at into) = into
 target_of (op_is.MulVec a x into) = into
@@ -63,6 +66,7 @@ result_of ops (op_is.MulAdd a b acc) slots = three ops.mul_add (slots a) (slots 
 result_of ops (op_is.Add a b into) slots = two ops.add (slots a) (slots b)
 result_of ops (op_is.Times a b into) slots = two ops.times (slots a) (slots b)
 result_of ops (op_is.Transpose a into) slots = one ops.transpose (slots a)
+result_of ops (op_is.ColumnSums a into) slots = one ops.column_sums (slots a)
 result_of ops (op_is.Cut a rows cols into) slots = one (ops.cut rows cols) (slots a)
 result_of ops (op_is.Place a shape at into) slots = one (ops.place shape at) (slots a)
 result_of ops (op_is.MulVec a x into) slots = two ops.mul_vec (slots a) (slots x)
@@ -95,6 +99,7 @@ pub record Turns {M N : Type 0} (f : M → N) (ops : Algebra M) (images : Algebr
   pub add : (a b : M) → f (ops.add a b) ≡ images.add (f a) (f b)
   pub times : (a b : M) → f (ops.times a b) ≡ images.times (f a) (f b)
   pub transpose : (a : M) → f (ops.transpose a) ≡ images.transpose (f a)
+  pub column_sums : (a : M) → f (ops.column_sums a) ≡ images.column_sums (f a)
   pub cut : (rows cols : ℕ × ℕ) (a : M) → f (ops.cut rows cols a) ≡ images.cut rows cols (f a)
   pub place : (shape : Extent) (at : ℕ × ℕ) (a : M) → f (ops.place shape at a) ≡ images.place shape at (f a)
   pub mul_vec : (a x : M) → f (ops.mul_vec a x) ≡ images.mul_vec (f a) (f x)

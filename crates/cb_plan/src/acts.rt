@@ -34,6 +34,11 @@ pub enum Op {
         a: u16,
         into: u16,
     },
+    /// The sum of each column, in a block of one row.
+    ColumnSums {
+        a: u16,
+        into: u16,
+    },
     /// The part in some rows and columns, each from the first number up to the second, which is not in it.
     Cut {
         a: u16,
@@ -92,6 +97,7 @@ impl Op {
             Op::Add { into, .. } => into,
             Op::Times { into, .. } => into,
             Op::Transpose { into, .. } => into,
+            Op::ColumnSums { into, .. } => into,
             Op::Cut { into, .. } => into,
             Op::Place { into, .. } => into,
             Op::MulVec { into, .. } => into,

@@ -168,6 +168,10 @@ impl CheckState {
                 let a = self.shape(rank, a);
                 Ok(Shape::new(a.cols(), a.rows()))
             }
+            Op::ColumnSums { a, .. } => {
+                let a = self.shape(rank, a);
+                Ok(Shape::new(1, a.cols()))
+            }
             Op::MulVec { a, x, .. } => vector_product(self.shape(rank, a), self.shape(rank, x)),
             Op::Cut { a, rows, cols, .. } => part_of(self.shape(rank, a), rows, cols),
             Op::Place { a, shape, at, .. } => {

@@ -79,6 +79,7 @@ impl Op {
             Op::Add { a, b, .. } => Operands::two(a, b),
             Op::Times { a, b, .. } => Operands::two(a, b),
             Op::Transpose { a, .. } => Operands::one(a),
+            Op::ColumnSums { a, .. } => Operands::one(a),
             Op::Cut { a, .. } => Operands::one(a),
             Op::Place { a, .. } => Operands::one(a),
             Op::MulVec { a, x, .. } => Operands::two(a, x),

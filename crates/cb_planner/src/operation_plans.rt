@@ -3,7 +3,9 @@ ghost use Rattle.std.specs.Prelude.{◌≡◌, length, IfOk};
 ghost use Rattle.cb_operations.specs.OperationAnswers.{operand_count_of, Agree};
 ghost use Rattle.cb_planner.specs.OperationPlans.{Computes};
 
-use cb_grid_plans::{grid_add, grid_prune, grid_times, grid_transpose};
+use cb_grid_plans::{
+    grid_add, grid_column_sums, grid_prune, grid_row_sums, grid_times, grid_transpose,
+};
 use cb_layout::Grid;
 use cb_matrix::{Shape, Test};
 use cb_operations::Operation;
@@ -31,6 +33,8 @@ pub fn plan_of(
         Operation::MultiplyMasked => masked_product_plan(alloc, grid, shapes),
         Operation::MultiplyVector => vector_plan(alloc, grid, shapes),
         Operation::Transpose => transpose_plan(alloc, grid, shapes),
+        Operation::RowSums => row_sums_plan(alloc, grid, shapes),
+        Operation::ColumnSums => column_sums_plan(alloc, grid, shapes),
         Operation::Add => sum_plan(alloc, grid, shapes),
         Operation::Times => times_plan(alloc, grid, shapes),
         Operation::Prune(test) => prune_plan(alloc, grid, shapes, test),
@@ -82,6 +86,30 @@ fn transpose_plan(alloc: Global, grid: &Grid, shapes: &[Shape]) -> Result<Planne
 {
     let [a] = shapes else { unreachable!() };
     let Ok(planned) = grid_transpose(alloc, grid, *a) else {
+        return Err(AllocError);
+    };
+    Ok(planned)
+}
+
+/// The plan of the sums of rows.
+fn row_sums_plan(alloc: Global, grid: &Grid, shapes: &[Shape]) -> Result<Planned, AllocError>
+    requires { length shapes.now ≡ operand_count_of Operation.RowSums }
+    ensures { IfOk result (Computes Operation.RowSums grid.now.side shapes.now) }
+{
+    let [a] = shapes else { unreachable!() };
+    let Ok(planned) = grid_row_sums(alloc, grid, *a) else {
+        return Err(AllocError);
+    };
+    Ok(planned)
+}
+
+/// The plan of the sums of columns.
+fn column_sums_plan(alloc: Global, grid: &Grid, shapes: &[Shape]) -> Result<Planned, AllocError>
+    requires { length shapes.now ≡ operand_count_of Operation.ColumnSums }
+    ensures { IfOk result (Computes Operation.ColumnSums grid.now.side shapes.now) }
+{
+    let [a] = shapes else { unreachable!() };
+    let Ok(planned) = grid_column_sums(alloc, grid, *a) else {
         return Err(AllocError);
     };
     Ok(planned)

@@ -8,14 +8,13 @@ use Rattle.cb_letters.specs.declared.Tag.{Tag}
 use Rattle.cb_letters.specs.declared.Body.{Body}
 use Rattle.cb_letters.specs.declared.Body.TheVariants as body_is
 use Rattle.cb_plan.specs.declared.acts.Op.{Op}
-use Rattle.cb_plan.specs.declared.acts.Op.TheVariants as op_is
 use Rattle.cb_plan.specs.declared.acts.Act.{Act}
 use Rattle.cb_plan.specs.declared.acts.Act.TheVariants as act_is
 use Rattle.cb_plan.specs.declared.acts.Half.{Half}
 use Rattle.cb_plan.specs.declared.acts.Half.TheVariants as half_is
 use Rattle.cb_plan.specs.declared.stores.Slot.{Slot}
 use Rattle.cb_plan.specs.declared.stores.Slot.TheVariants as slot_is
-use Rattle.cb_plan.specs.Meaning.{Algebra, State, needs_memory, one, two, three, result_of}
+use Rattle.cb_plan.specs.Meaning.{State, one, result_of}
 use Rattle.cb_plan.specs.Algebras.{matrices}
 use Rattle.cb_plan.specs.Checks.{operands_of, all_filled}
 use Rattle.cb_plan.specs.PlanLetters.{Sheet}
@@ -24,6 +23,7 @@ use Rattle.cb_plan.specs.Stores.{sheet_of, slot_of, sheets_in}
 use Rattle.cb_rank.specs.Agreement.{IsSlotOf, IsBodyOf}
 use Rattle.cb_rank.specs.Halves.{slot_at, origin_of, first_lost, reads_of, loss_or_result, IsCopy, IsWork, slot_of_body}
 use Rattle.cb_rank.proofs.OwnActs.{split}
+use Rattle.cb_rank.proofs.ByOperation.{AllSome, AreSame, same_result, some_result, lost_needs}
 
 take_is : (from : ℕ) (tag : Tag) (into : ℕ) (x : Option Extent) (h : Half) → take_of from tag into x ≡ h ∷ [] → (v : Extent) × (x ≡ Some v) × (h ≡ half_is.Take from tag into v)
 take_is from tag into (Some v) h e = (v, refl, cc)
@@ -106,11 +106,6 @@ arrived_slot refs w (body_is.Sheet m) h = cc
 arrived_slot refs w (body_is.Lost o) h = let e = h.0.1 in let m = h.0.0 in let is : w ≡ Some m = cc in (rw is refl, h.1)
 arrived_slot refs w body_is.Close h = cc
 
--- the slots of a list are filled
-abbrev pub AllSome : (ℕ → Option Sparse) → List ℕ → Type 0
-AllSome f [] = Unit {0}
-AllSome f (n ∷ ns) = IsSome (f n) × AllSome f ns
-
 some_shaped : (x : Option Sparse) → is_some (one (λ (m : Sparse). m.shape) x) ≡ true → IsSome x
 some_shaped (Some m) e = refl
 some_shaped None e = cc
@@ -126,67 +121,6 @@ all_some v f (n ∷ ns) e h =
     split (is_some (v n))
     (λ t. let rest : all_filled v ns ≡ true = rw t at h in (some_by_shape (v n) (f n) (e n) t, all_some v f ns e rest))
     (λ u. let none : false ≡ true = rw u at h in cc)
-
--- two states of a rank's slots are one at some slots
-abbrev pub AreSame : (ℕ → Option Sparse) → (ℕ → Option Sparse) → List ℕ → Type 0
-AreSame f g [] = Unit {0}
-AreSame f g (n ∷ ns) = (f n ≡ g n) × AreSame f g ns
-
-same_result : (ops : Algebra Sparse) (op : Op) (f g : ℕ → Option Sparse) → AreSame f g (reads_of op) → result_of ops op f ≡ result_of ops op g
-same_result ops (op_is.Zero into shape) f g h = refl
-same_result ops (op_is.MulAdd a b acc) f g h = rw (h.0, h.1.0, h.1.1.0) refl
-same_result ops (op_is.Add a b into) f g h = rw (h.0, h.1.0) refl
-same_result ops (op_is.Times a b into) f g h = rw (h.0, h.1.0) refl
-same_result ops (op_is.Transpose a into) f g h = rw h.0 refl
-same_result ops (op_is.Cut a rows cols into) f g h = rw h.0 refl
-same_result ops (op_is.Place a shape at into) f g h = rw h.0 refl
-same_result ops (op_is.MulVec a x into) f g h = rw (h.0, h.1.0) refl
-same_result ops (op_is.Prune a test into) f g h = rw h.0 refl
-same_result ops (op_is.Copy a into) f g h = h.0
-same_result ops (op_is.Clear slot) f g h = refl
-same_result ops (op_is.Mask a m into) f g h = rw (h.0, h.1.0) refl
-
-some_one : (f : Sparse → Sparse) (x : Option Sparse) → IsSome x → IsSome (one f x)
-some_one f (Some m) h = refl
-some_one f None h = cc
-
-some_two : (f : Sparse → Sparse → Sparse) (x y : Option Sparse) → IsSome x → IsSome y → IsSome (two f x y)
-some_two f (Some m) y h k = some_one (f m) y k
-some_two f None y h k = cc
-
-some_three : (f : Sparse → Sparse → Sparse → Sparse) (x y z : Option Sparse) → IsSome x → IsSome y → IsSome z → IsSome (three f x y z)
-some_three f (Some m) y z h k l = some_two (f m) y z k l
-some_three f None y z h k l = cc
-
--- an operation that needs memory makes a block of blocks
-some_result : (ops : Algebra Sparse) (op : Op) (f : ℕ → Option Sparse) → needs_memory op ≡ true → AllSome f (operands_of op) → IsSome (result_of ops op f)
-some_result ops (op_is.Zero into shape) f n h = refl
-some_result ops (op_is.MulAdd a b acc) f n h = some_three ops.mul_add (f a) (f b) (f acc) h.0 h.1.0 h.1.1.0
-some_result ops (op_is.Add a b into) f n h = some_two ops.add (f a) (f b) h.0 h.1.0
-some_result ops (op_is.Times a b into) f n h = some_two ops.times (f a) (f b) h.0 h.1.0
-some_result ops (op_is.Transpose a into) f n h = some_one ops.transpose (f a) h.0
-some_result ops (op_is.Cut a rows cols into) f n h = some_one (ops.cut rows cols) (f a) h.0
-some_result ops (op_is.Place a shape at into) f n h = some_one (ops.place shape at) (f a) h.0
-some_result ops (op_is.MulVec a x into) f n h = some_two ops.mul_vec (f a) (f x) h.0 h.1.0
-some_result ops (op_is.Prune a test into) f n h = some_one (ops.prune test) (f a) h.0
-some_result ops (op_is.Copy a into) f n h = h.0
-some_result ops (op_is.Clear slot) f n h = cc
-some_result ops (op_is.Mask a m into) f n h = some_two ops.mask (f a) (f m) h.0 h.1.0
-
--- only an operation that needs memory reads a lost slot
-lost_needs : (op : Op) (slots : List (Slot Sparse)) (o : ℕ) → first_lost slots (reads_of op) ≡ Some o → needs_memory op ≡ true
-lost_needs (op_is.Zero into shape) slots o e = cc
-lost_needs (op_is.MulAdd a b acc) slots o e = refl
-lost_needs (op_is.Add a b into) slots o e = refl
-lost_needs (op_is.Times a b into) slots o e = refl
-lost_needs (op_is.Transpose a into) slots o e = refl
-lost_needs (op_is.Cut a rows cols into) slots o e = refl
-lost_needs (op_is.Place a shape at into) slots o e = refl
-lost_needs (op_is.MulVec a x into) slots o e = refl
-lost_needs (op_is.Prune a test into) slots o e = refl
-lost_needs (op_is.Copy a into) slots o e = refl
-lost_needs (op_is.Clear slot) slots o e = cc
-lost_needs (op_is.Mask a m into) slots o e = refl
 
 origin_here : (refs : ℕ → ℕ) (w : Option Sparse) (x : Slot Sparse) (later : Option ℕ) (o : ℕ) → IsSlotOf refs w x → origin_of x later ≡ Some o → (0 < refs o) ⊎ (later ≡ Some o)
 origin_here refs w slot_is.Empty later o h e = inr e

@@ -1,5 +1,6 @@
 -- What crates above may cite.
 -- OwnActs: a rank's slots and lanes change only at the acts that it has a half of.
+-- ByOperation: what is shown operation by operation.
 -- Halves: the act of a half, and what a half makes of slots and letters that stand for what the plan means.
 -- NextAct: the act of a rank's next half, and what the check says of it.
 -- RankAfterHalf: a rank after each of its halves.
@@ -9,6 +10,7 @@
 -- LostSlots: what is lost of what ranks leave: nothing where no rank was refused memory (`whole_by`, `none_lost`), and else
 --   at ranks of the plan that were refused some (`lost_where_refused`).
 pub mod OwnActs
+pub mod ByOperation
 pub mod Halves
 pub mod WantedHalf
 pub mod NextAct

@@ -13,7 +13,6 @@ use Rattle.cb_letters.specs.Letters.{is_close}
 use Rattle.cb_letters.specs.declared.Body.{Body}
 use Rattle.cb_letters.specs.declared.Body.TheVariants as body_is
 use Rattle.cb_plan.specs.declared.acts.Op.{Op}
-use Rattle.cb_plan.specs.declared.acts.Op.TheVariants as op_is
 use Rattle.cb_plan.specs.declared.acts.Act.{Act}
 use Rattle.cb_plan.specs.declared.acts.Act.TheVariants as act_is
 use Rattle.cb_plan.specs.declared.acts.Half.{Half}
@@ -22,11 +21,11 @@ use Rattle.cb_plan.specs.declared.stores.Slot.{Slot}
 use Rattle.cb_plan.specs.declared.stores.Slot.TheVariants as slot_is
 use Rattle.cb_plan.specs.Algebras.{matrices, shapes}
 use Rattle.cb_plan.specs.declared.acts.Start.{Start}
-use Rattle.cb_plan.specs.Checks.{Lanes, Passes, all_filled, none_shut, operands_of, shapes_agree, shut_after, started}
+use Rattle.cb_plan.specs.Checks.{Lanes, Passes, all_filled, none_shut, operands_of, shut_after, started}
 use Rattle.cb_plan.specs.Plans.{CheckedView, IsChecked}
 use Rattle.cb_plan.specs.Programs.{halves_of, project_from}
 use Rattle.cb_plan.proofs.PassingActs.{checked_passes}
-use Rattle.cb_plan.specs.Meaning.{State, act, one, two, three, needs_memory, result_of, target_of}
+use Rattle.cb_plan.specs.Meaning.{State, act, one, needs_memory, result_of, target_of}
 use Rattle.cb_plan.specs.Stores.{Fits, sheet_of, sheets_in, shapes_in, slot_of, is_filled, is_lost}
 use Rattle.cb_plan.proofs.ActOnStores.{first_below}
 use Rattle.cb_plan.proofs.ShapesOfMeaning.{shape_turns, act_turns}
@@ -36,6 +35,7 @@ use Rattle.cb_rank.specs.declared.wants.Arrival.TheVariants as arrival_is
 use Rattle.cb_rank.specs.Ranks.{RankView, IsRank, HasShape, FitsAt, HasSlot, IsAwaited, next_half, new_rank, onward, shapes_at, slots_with}
 use Rattle.cb_rank.specs.Steps.{HandsOut, Works}
 use Rattle.cb_rank.proofs.OwnActs.{split, counted, one_half, meaning-before_next}
+use Rattle.cb_rank.proofs.ByOperation.{AreSame, same_result, some_result, lost_needs, filled_slots}
 use Rattle.cb_rank.proofs.Halves.{is_post, is_take, is_work, is_shut, is_end}
 use Rattle.cb_rank.proofs.NextAct.{next_one, outline, shapes_next, finds}
 
@@ -123,102 +123,17 @@ takes_on x from tag into shape b is next kind =
     (set_slot x h is next into (slot_of_body b) (finds x h is next).2 (subst (λ v. HasShape v (slot_of_body b)) (sym at) (kind_shape shape b kind))
     (λ n ne. let f : (into == n) ≡ false = grind (arith, nat_tests) in rw (k.1, own, f) refl))
 
-some_test : (v : Option Extent) → is_some v ≡ true → IsSome v
-some_test (Some e) h = refl
-some_test None h = cc
-
--- the shape of the result of an operation on these shapes
-some_one : (f : Extent → Extent) (v : Option Extent) → is_some v ≡ true → IsSome (one f v)
-some_one f (Some e) h = refl
-some_one f None h = cc
-
-some_two : (f : Extent → Extent → Extent) (v w : Option Extent) → is_some v ≡ true → is_some w ≡ true → IsSome (two f v w)
-some_two f (Some e) w h k = some_one (f e) w k
-some_two f None w h k = cc
-
-some_three : (f : Extent → Extent → Extent → Extent) (v w z : Option Extent) → is_some v ≡ true → is_some w ≡ true → is_some z ≡ true → IsSome (three f v w z)
-some_three f (Some e) w z h k l = some_two (f e) w z k l
-some_three f None w z h k l = cc
-
-both : (b c : Bool) → (b && c) ≡ true → (b ≡ true) × (c ≡ true)
-both true c h = (refl, h)
-both false c h = cc
-
--- an operation that needs memory makes a block of filled slots
-some_shape : (op : Op) (v : ℕ → Option Extent) → needs_memory op ≡ true → all_filled v (operands_of op) ≡ true → IsSome (result_of shapes op v)
-some_shape (op_is.Zero into shape) v n h = refl
-some_shape (op_is.MulAdd a b acc) v n h = let p = both _ _ h in let q = both _ _ p.1 in let r = both _ _ q.1 in some_three shapes.mul_add (v a) (v b) (v acc) p.0 q.0 r.0
-some_shape (op_is.Add a b into) v n h = let p = both _ _ h in let q = both _ _ p.1 in some_two shapes.add (v a) (v b) p.0 q.0
-some_shape (op_is.Times a b into) v n h = let p = both _ _ h in let q = both _ _ p.1 in some_two shapes.times (v a) (v b) p.0 q.0
-some_shape (op_is.Transpose a into) v n h = some_one shapes.transpose (v a) (both _ _ h).0
-some_shape (op_is.Cut a rows cols into) v n h = some_one (shapes.cut rows cols) (v a) (both _ _ h).0
-some_shape (op_is.Place a shape at into) v n h = some_one (shapes.place shape at) (v a) (both _ _ h).0
-some_shape (op_is.MulVec a x into) v n h = let p = both _ _ h in let q = both _ _ p.1 in some_two shapes.mul_vec (v a) (v x) p.0 q.0
-some_shape (op_is.Prune a test into) v n h = some_one (shapes.prune test) (v a) (both _ _ h).0
-some_shape (op_is.Copy a into) v n h = some_test (v a) (both _ _ h).0
-some_shape (op_is.Clear slot) v n h = cc
-some_shape (op_is.Mask a m into) v n h = let p = both _ _ h in let q = both _ _ p.1 in some_two shapes.mask (v a) (v m) p.0 q.0
-
--- only an operation that needs memory reads a lost slot
-pub lost_needs : (op : Op) (slots : List (Slot Sparse)) (o : ℕ) → first_lost slots (reads_of op) ≡ Some o → needs_memory op ≡ true
-lost_needs (op_is.Zero into shape) slots o e = cc
-lost_needs (op_is.MulAdd a b acc) slots o e = refl
-lost_needs (op_is.Add a b into) slots o e = refl
-lost_needs (op_is.Times a b into) slots o e = refl
-lost_needs (op_is.Transpose a into) slots o e = refl
-lost_needs (op_is.Cut a rows cols into) slots o e = refl
-lost_needs (op_is.Place a shape at into) slots o e = refl
-lost_needs (op_is.MulVec a x into) slots o e = refl
-lost_needs (op_is.Prune a test into) slots o e = refl
-lost_needs (op_is.Copy a into) slots o e = refl
-lost_needs (op_is.Clear slot) slots o e = cc
-lost_needs (op_is.Mask a m into) slots o e = refl
-
--- shapes are one at some slots
-abbrev pub AreShapes : (ℕ → Option Extent) → (ℕ → Option Extent) → List ℕ → Type 0
-AreShapes f g [] = Unit {0}
-AreShapes f g (n ∷ ns) = (f n ≡ g n) × AreShapes f g ns
-
 shape_here : (v : Option Extent) (y : Slot Sparse) (later : Option ℕ) → HasShape v y → origin_of y later ≡ None → (one (λ (m : Sparse). m.shape) (sheet_of y) ≡ v) × (later ≡ None)
 shape_here v slot_is.Empty later h e = (sym h, e)
 shape_here v (slot_is.Sheet m) later h e = (sym h, e)
 shape_here v (slot_is.Lost p) later h e = cc
 
 -- slots of which none is lost have the shapes that the check gives them
-pub none_lost_shapes : (v : ℕ → Option Extent) (slots : List (Slot Sparse)) (ns : List ℕ) → ((n : ℕ) → HasShape (v n) (slot_at slots n)) → first_lost slots ns ≡ None → AreShapes (shapes_in slots) v ns
+pub none_lost_shapes : (v : ℕ → Option Extent) (slots : List (Slot Sparse)) (ns : List ℕ) → ((n : ℕ) → HasShape (v n) (slot_at slots n)) → first_lost slots ns ≡ None → AreSame (shapes_in slots) v ns
 none_lost_shapes v slots [] h e = tt
 none_lost_shapes v slots (n ∷ ns) h e =
     let k = shape_here (v n) (slot_at slots n) (first_lost slots ns) (h n) e in
     (k.0, none_lost_shapes v slots ns h k.1)
-
-same_shape_result : (op : Op) (f g : ℕ → Option Extent) → AreShapes f g (reads_of op) → result_of shapes op f ≡ result_of shapes op g
-same_shape_result (op_is.Zero into shape) f g h = refl
-same_shape_result (op_is.MulAdd a b acc) f g h = rw (h.0, h.1.0, h.1.1.0) refl
-same_shape_result (op_is.Add a b into) f g h = rw (h.0, h.1.0) refl
-same_shape_result (op_is.Times a b into) f g h = rw (h.0, h.1.0) refl
-same_shape_result (op_is.Transpose a into) f g h = rw h.0 refl
-same_shape_result (op_is.Cut a rows cols into) f g h = rw h.0 refl
-same_shape_result (op_is.Place a shape at into) f g h = rw h.0 refl
-same_shape_result (op_is.MulVec a x into) f g h = rw (h.0, h.1.0) refl
-same_shape_result (op_is.Prune a test into) f g h = rw h.0 refl
-same_shape_result (op_is.Copy a into) f g h = h.0
-same_shape_result (op_is.Clear slot) f g h = refl
-same_shape_result (op_is.Mask a m into) f g h = rw (h.0, h.1.0) refl
-
--- and so the operation may be done on them
-pub may_work : (op : Op) (f g : ℕ → Option Extent) → AreShapes f g (operands_of op) → (all_filled g (operands_of op) ≡ true) × (shapes_agree g op ≡ true) → (all_filled f (operands_of op) ≡ true) × (shapes_agree f op ≡ true)
-may_work (op_is.Zero into shape) f g h k = k
-may_work (op_is.MulAdd a b acc) f g h k = rw (h.0, h.1.0, h.1.1.0) k
-may_work (op_is.Add a b into) f g h k = rw (h.0, h.1.0) k
-may_work (op_is.Times a b into) f g h k = rw (h.0, h.1.0) k
-may_work (op_is.Transpose a into) f g h k = rw h.0 k
-may_work (op_is.Cut a rows cols into) f g h k = rw h.0 k
-may_work (op_is.Place a shape at into) f g h k = rw h.0 k
-may_work (op_is.MulVec a x into) f g h k = rw (h.0, h.1.0) k
-may_work (op_is.Prune a test into) f g h k = rw h.0 k
-may_work (op_is.Copy a into) f g h k = rw h.0 k
-may_work (op_is.Clear slot) f g h k = rw h.0 k
-may_work (op_is.Mask a m into) f g h k = rw (h.0, h.1.0) k
 
 held_shape : (v : Option Sparse) → HasShape (one (λ (m : Sparse). m.shape) v) (slot_of v)
 held_shape None = refl
@@ -233,15 +148,15 @@ result_shape s op slots =
     rw own at turned
 
 result_has : (s : Arithmetic) (op : Op) (v : ℕ → Option Extent) (slots : List (Slot Sparse)) (lost : Option ℕ) → all_filled v (operands_of op) ≡ true → ((n : ℕ) → HasShape (v n) (slot_at slots n)) → first_lost slots (reads_of op) ≡ lost → HasShape (result_of shapes op v) (loss_or_result s op slots lost)
-result_has s op v slots (Some o) filled has e = some_shape op v (lost_needs op slots o e) filled
+result_has s op v slots (Some o) filled has e = some_result shapes op v (lost_needs op slots o e) (filled_slots v (operands_of op) filled)
 result_has s op v slots None filled has e =
-    let same = same_shape_result op (shapes_in slots) v (none_lost_shapes v slots (reads_of op) has e) in
+    let same = same_result shapes op (shapes_in slots) v (none_lost_shapes v slots (reads_of op) has e) in
     let turns = result_shape s op slots in
     subst (λ z. HasShape z (slot_of (result_of (matrices s) op (sheets_in slots)))) (turns ∙ same) (held_shape (result_of (matrices s) op (sheets_in slots)))
 
 work_has : (s : Arithmetic) (me : ℕ) (op : Op) (v : ℕ → Option Extent) (slots : List (Slot Sparse)) (y : Slot Sparse) (old new : ℕ) → all_filled v (operands_of op) ≡ true → ((n : ℕ) → HasShape (v n) (slot_at slots n)) → IsWork s me op slots y old new → HasShape (result_of shapes op v) y
 work_has s me op v slots y old new filled has (inl e) = subst (λ z. HasShape (result_of shapes op v) z) (sym e.0) (result_has s op v slots (first_lost slots (reads_of op)) filled has refl)
-work_has s me op v slots y old new filled has (inr e) = subst (λ z. HasShape (result_of shapes op v) z) (sym e.0) (some_shape op v e.2 filled)
+work_has s me op v slots y old new filled has (inr e) = subst (λ z. HasShape (result_of shapes op v) z) (sym e.0) (some_result shapes op v e.2 (filled_slots v (operands_of op) filled))
 
 work_few : (s : Arithmetic) (me : ℕ) (op : Op) (slots : List (Slot Sparse)) (y : Slot Sparse) (old new : ℕ) → IsWork s me op slots y old new → new ≤ old + 1
 work_few s me op slots y old new (inl e) = let k = e.1 in omega arith

@@ -16,7 +16,8 @@ use Rattle.cb_plan.specs.Meaning.{result_of}
 use Rattle.cb_plan.specs.Stores.{is_lost, sheet_of}
 use Rattle.cb_rank.specs.Agreement.{IsSlotOf, IsBodyOf}
 use Rattle.cb_rank.specs.Halves.{slot_at, IsCopy, IsWork}
-use Rattle.cb_rank.proofs.Halves.{AllSome, some_of, worked}
+use Rattle.cb_rank.proofs.ByOperation.{AllSome}
+use Rattle.cb_rank.proofs.Halves.{some_of, worked}
 
 -- a slot that isn't lost stands for its own sheet
 pub sheet_stands : {M : Type 0} (refs : ℕ → ℕ) (x : Slot M) → is_lost x ≡ false → IsSlotOf refs (sheet_of x) x

@@ -6,7 +6,7 @@ use Rattle.cb_matrix.specs.Sparse.{Sparse, Extent, IsMatrix}
 use Rattle.cb_plan.specs.declared.plans.Planned.{Planned}
 use Rattle.cb_trace.specs.Traces.{TraceView}
 use Rattle.cb_operations.specs.declared.operations.Operation.{Operation}
-use Rattle.cb_operations.specs.declared.operations.Operation.TheVariants.{Multiply, MultiplyMasked, MultiplyVector, Transpose, Add, Times, Prune}
+use Rattle.cb_operations.specs.declared.operations.Operation.TheVariants.{Multiply, MultiplyMasked, MultiplyVector, Transpose, RowSums, ColumnSums, Add, Times, Prune}
 use Rattle.cb_operations.specs.OperationAnswers.{shape_of, answer_of, shapes_in}
 use Rattle.cb_placement.specs.Answers.{Makes}
 use Rattle.cb_planner.specs.OperationPlans.{Computes, placed_operands}
@@ -29,6 +29,8 @@ plan_for Multiply other q shapes planned computes = (planned, refl, computes)
 plan_for MultiplyMasked other q shapes planned computes = (planned, refl, computes)
 plan_for MultiplyVector other q shapes planned computes = absurd (other refl)
 plan_for Transpose other q shapes planned computes = (planned, refl, computes)
+plan_for RowSums other q shapes planned computes = (planned, refl, computes)
+plan_for ColumnSums other q shapes planned computes = (planned, refl, computes)
 plan_for Add other q shapes planned computes = (planned, refl, computes)
 plan_for Times other q shapes planned computes = (planned, refl, computes)
 plan_for (Prune test) other q shapes planned computes = (planned, refl, computes)

@@ -7,7 +7,7 @@ use Rattle.cb_plan.specs.declared.plans.Planned.{Planned}
 use Rattle.cb_plan.specs.Plans.{CheckedView}
 use Rattle.cb_world.specs.declared.events.Event.{Event}
 use Rattle.cb_operations.specs.declared.operations.Operation.{Operation}
-use Rattle.cb_operations.specs.declared.operations.Operation.TheVariants.{Multiply, MultiplyMasked, MultiplyVector, Transpose, Add, Times, Prune}
+use Rattle.cb_operations.specs.declared.operations.Operation.TheVariants.{Multiply, MultiplyMasked, MultiplyVector, Transpose, RowSums, ColumnSums, Add, Times, Prune}
 use Rattle.cb_operations.specs.OperationAnswers.{shape_of, shapes_in}
 use Rattle.cb_planner.specs.OperationPlans.{Computes, placed_operands}
 use Rattle.cb_engines.specs.declared.engines.Engine.{Engine}
@@ -24,6 +24,8 @@ module _ (s : Arithmetic) (q : ℕ) (ms : List Sparse) where
   stepped_for MultiplyMasked other planned computes letters order answer refusals run = (planned, computes, run)
   stepped_for MultiplyVector other planned computes letters order answer refusals run = absurd (other refl)
   stepped_for Transpose other planned computes letters order answer refusals run = (planned, computes, run)
+  stepped_for RowSums other planned computes letters order answer refusals run = (planned, computes, run)
+  stepped_for ColumnSums other planned computes letters order answer refusals run = (planned, computes, run)
   stepped_for Add other planned computes letters order answer refusals run = (planned, computes, run)
   stepped_for Times other planned computes letters order answer refusals run = (planned, computes, run)
   stepped_for (Prune test) other planned computes letters order answer refusals run = (planned, computes, run)

@@ -50,6 +50,14 @@ pub fn compute<S: Semiring>(
             let [matrix] = operands else { unreachable!() };
             cb_reshape::transpose(alloc, matrix)
         }
+        Operation::RowSums => {
+            let [matrix] = operands else { unreachable!() };
+            cb_reductions::row_sums(alloc, matrix)
+        }
+        Operation::ColumnSums => {
+            let [matrix] = operands else { unreachable!() };
+            cb_reductions::column_sums(alloc, matrix)
+        }
         Operation::Add => {
             let [left, right] = operands else {
                 unreachable!()

@@ -12,11 +12,11 @@ loop-n-init g c = record {
   entries = ap (λ (m : Sparse). m.entries) c.in_ok-reserve.ensures.same ∙ columns_none c.args.self.now.entries _;
 }
 
-pub push_rows-requires-clause-lengths : goal.push_rows-requires-clause-lengths
-push_rows-requires-clause-lengths g c = same_lengths _ c.nth_column.result.0.now c.nth_column.result.1.now c.nth_column.ensures.rows c.nth_column.ensures.values
+pub push_part-requires-clause-lengths : goal.push_part-requires-clause-lengths
+push_part-requires-clause-lengths g c = same_lengths _ c.nth_column.result.0.now c.nth_column.result.1.now c.nth_column.ensures.rows c.nth_column.ensures.values
 
-pub push_rows-requires-clause-matrix : goal.push_rows-requires-clause-matrix
-push_rows-requires-clause-matrix g c =
+pub push_part-requires-clause-matrix : goal.push_part-requires-clause-matrix
+push_part-requires-clause-matrix g c =
     let v = c.other.inside in
     let es = c.args.other.now.entries in
     let are = c.other.invariant.lists in
@@ -27,8 +27,8 @@ push_rows-requires-clause-matrix g c =
 
 pub loop-n-preserved : goal.loop-n-preserved
 loop-n-preserved g c = record {
-  shape = ap (λ (m : Sparse). m.shape) c.in_ok-push_rows.ensures ∙ c.loop-n.invariant.shape;
-  entries = columns_more c.args.self.now c.loop-n.self _ c.args.other.now.entries c.loop-n.n _ _ _ c.loop-n.invariant.entries c.column_number.ensures c.nth_column.ensures.rows c.nth_column.ensures.values c.in_ok-push_rows.ensures;
+  shape = ap (λ (m : Sparse). m.shape) c.in_ok-push_part.ensures ∙ c.loop-n.invariant.shape;
+  entries = columns_more c.args.self.now c.loop-n.self _ c.args.other.now.entries c.loop-n.n _ _ _ c.loop-n.invariant.entries c.column_number.ensures c.nth_column.ensures.rows c.nth_column.ensures.values c.in_ok-push_part.ensures;
 }
 
 pub returns : goal.returns

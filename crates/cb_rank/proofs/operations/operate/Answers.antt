@@ -2,7 +2,8 @@
 use Rattle.std.proofs.Common.{◌≡◌, sym, ◌∙◌, ap, None}
 use Rattle.cb_plan.specs.Checks.{operands_of}
 use Rattle.cb_rank.specs.Halves.{first_lost}
-use Rattle.cb_rank.proofs.RankAfterHalf.{none_lost_shapes, may_work}
+use Rattle.cb_rank.proofs.ByOperation.{may_work}
+use Rattle.cb_rank.proofs.RankAfterHalf.{none_lost_shapes}
 use Rattle.cb_rank.proofs.operations.operate.Goals as goal
 
 pub work-requires : goal.work-requires

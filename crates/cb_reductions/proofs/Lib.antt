@@ -1,0 +1,5 @@
+-- StoredSums: the sum of a column over all rows is that of the values stored in it. SumsSoFar: the sums of the columns
+-- that have entries, one after another, are those of all columns. TurnedSums: the sums of rows are those of the columns of the transpose.
+mod StoredSums
+mod SumsSoFar
+mod TurnedSums

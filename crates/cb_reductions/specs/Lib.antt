@@ -1,0 +1,2 @@
+-- Sums: a sum in a block of one row.
+pub mod Sums
