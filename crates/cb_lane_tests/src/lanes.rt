@@ -78,7 +78,8 @@ fn takes(desk: &mut Desk<u64>, rows: &[Taken<u64>]) -> bool
     as_said
 }
 
-/// Whether the one place of the lane from the first desk to the second is filled, emptied, and filled by the mark.
+/// Whether the one place of the lane from the first desk to the second is filled, emptied, seen to be free again, and
+/// filled by the mark.
 fn is_filled_and_closed(first: &mut Desk<u64>, second: &mut Desk<u64>) -> bool
     ensures first { identity first.new ≡ identity first.old }
     ensures second { identity second.new ≡ identity second.old }
@@ -87,6 +88,7 @@ fn is_filled_and_closed(first: &mut Desk<u64>, second: &mut Desk<u64>) -> bool
     as_said &= posts(first, &[(1, Ok(0)), (1, Err(PostRefusal::Full))]);
     as_said &= !first.room(1);
     as_said &= takes(second, &[lost_letter(0), Taken::Empty]);
+    as_said &= first.room(1);
     as_said &= first.try_close(1) == Ok(1);
     let refusals = [
         (1, Err(PostRefusal::Closed)),

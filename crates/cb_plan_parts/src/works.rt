@@ -1,5 +1,5 @@
 //! Operations that all ranks do, each on its own slots.
-ghost use Rattle.std.specs.Prelude.{◌≡◌, OnOk, IfErr};
+ghost use Rattle.std.specs.Prelude.{◌≡◌, OnOk, OnErr, IfErr};
 ghost use Rattle.cb_plan_parts.specs.PlanParts.{each_rank, zero_op};
 ghost use Rattle.cb_plan_parts.specs.Growth.{IsWithinLimit, Grew, no_memory};
 
@@ -7,11 +7,12 @@ use cb_layout::Grid;
 use cb_matrix::Shape;
 use cb_plan::{Act, Op, Plan, PlanFault};
 
-/// Every rank does an operation.
+/// Every rank does an operation. Where memory is refused the plan is as it was.
 pub fn work_everywhere(plan: &mut Plan, grid: &Grid, op: &Op) -> Result<(), PlanFault>
     requires { IsWithinLimit plan.now (each_rank grid.now.side (λ _. op.now)) }
     ensures acts { OnOk result (Grew (each_rank grid.now.side (λ _. op.now)) plan.old plan.new) }
     ensures fault { IfErr result (λ e. e ≡ no_memory) }
+    ensures unchanged { OnErr result ((plan.new.ranks ≡ plan.old.ranks) × (plan.new.acts ≡ plan.old.acts)) }
 {
     plan.make_room(usize::from(grid.ranks()))?;
     for rank in 0..grid.ranks() {
@@ -20,7 +21,8 @@ pub fn work_everywhere(plan: &mut Plan, grid: &Grid, op: &Op) -> Result<(), Plan
     Ok(())
 }
 
-/// A slot of every rank is its part of a matrix of this shape that has no entries.
+/// A slot of every rank is its part of a matrix of this shape that has no entries. Where memory is refused the plan is
+/// as it was.
 pub fn zero_everywhere(
     plan: &mut Plan,
     grid: &Grid,
@@ -30,6 +32,7 @@ pub fn zero_everywhere(
     requires { IsWithinLimit plan.now (each_rank grid.now.side (zero_op grid.now.side slot shape)) }
     ensures acts { OnOk result (Grew (each_rank grid.now.side (zero_op grid.now.side slot shape)) plan.old plan.new) }
     ensures fault { IfErr result (λ e. e ≡ no_memory) }
+    ensures unchanged { OnErr result ((plan.new.ranks ≡ plan.old.ranks) × (plan.new.acts ≡ plan.old.acts)) }
 {
     plan.make_room(usize::from(grid.ranks()))?;
     for rank in 0..grid.ranks() {

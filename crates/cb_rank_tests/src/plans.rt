@@ -79,6 +79,26 @@ pub(crate) fn doubling(
     }
 }
 
+/// A plan with stores that fit it: rank 0 sends its number to rank 1, which sends it back, so often.
+pub(crate) fn rally(alloc: Global, rounds: u32) -> Option<(CheckedPlan, Vec<RankStore<PlusTimes>>)>
+    ensures { IfSome result (λ p. Fits p.0.ranks p.0.starts p.1.items) }
+{
+    let mut acts = Vec::new(alloc);
+    for tag in 0..rounds {
+        acts.push(send(0, 1, tag, 0, 0)).ok()?;
+        acts.push(send(1, 0, tag, 0, 0)).ok()?;
+    }
+    acts.push(Act::Shut { from: 0, to: 1 }).ok()?;
+    acts.push(Act::Shut { from: 1, to: 0 }).ok()?;
+    let plan = plan_from_0(alloc, &acts)?;
+    let stores = stores_from_0(alloc, 3)?;
+    if plan.fits(&stores) {
+        Some((plan, stores))
+    } else {
+        None
+    }
+}
+
 /// What a slot holds.
 #[derive(Clone, Copy, Debug, PartialEq, Eq, Drop)]
 pub(crate) enum Held {

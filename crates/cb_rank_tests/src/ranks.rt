@@ -1,18 +1,21 @@
 //! Two ranks on threads of their own: what they leave, what the gate sees, and what is answered where one of them is
 //! gone or memory is refused.
 ghost use Rattle.std.specs.Prelude.{◌<◌, IfOk};
+ghost use Rattle.cb_lanes.specs.Desks.{standing};
+ghost use Rattle.cb_rank.specs.Ranks.{ArePortsOf};
 ghost use Rattle.cb_ranks.specs.Runs.{IsNewRun};
 
-use crate::plans::{Held, contents_at, contents_of, doubling};
-use cb_lanes::Gone;
+use crate::plans::{Held, contents_at, contents_of, doubling, rally};
+use cb_dcsc::Block;
+use cb_lanes::{Desk, Gone};
 use cb_letters::Capacity;
 use cb_plan::SLOTS;
-use cb_rank::{Rank, Want};
+use cb_rank::{Moved, Rank, Supply, Want};
 use cb_ranks::{
     Finished, Gate, Member, OpenGate, RunFault, assemble, run_rank, run_threads, run_traced,
 };
 use cb_semirings::{PlusTimes, Semiring};
-use cb_trace::Trace;
+use cb_trace::{Trace, TraceEvent};
 use std::alloc::Global;
 use std::sync::atomic::{AtomicU64, Ordering};
 use std::sync::{Mutex, Wait};
@@ -75,6 +78,65 @@ fn two_ranks_run_on_threads_of_the_caller(rt: HostRuntime) -> Result<(), Fail> {
     assert_eq!(rt;
         outcomes,
         [Some((Held::Number(6), 2, 2)), Some((Held::Number(3), 2, 2))]
+    );
+    Ok(())
+}
+
+/// Whether a rank's step over its desk is answered so.
+fn steps_as_said(
+    rank: &mut Rank<PlusTimes>,
+    desk: &mut Desk<Block<PlusTimes>>,
+    wanted: Moved,
+) -> bool
+    requires { ArePortsOf rank.old (standing desk.old) }
+    ensures { ArePortsOf rank.new (standing desk.new) }
+{
+    match rank.step(desk, Supply::Granted) {
+        Ok(moved) => moved == wanted,
+        Err(_) => false,
+    }
+}
+
+/// Whether the steps of two ranks over their desks, in turns, are answered so; and what each holds in the end, in this
+/// slot.
+fn take_turns(
+    first: Member<PlusTimes>,
+    second: Member<PlusTimes>,
+    rows: &[(Moved, Moved)],
+) -> (bool, Held, Held)
+    requires first { IsNewRun first.0 first.1 }
+    requires second { IsNewRun second.0 second.1 }
+{
+    let (mut first, mut desk_of_first) = first;
+    let (mut second, mut desk_of_second) = second;
+    let mut as_said = true;
+    for (one, other) in rows {
+        as_said &= steps_as_said(&mut first, &mut desk_of_first, *one);
+        as_said &= steps_as_said(&mut second, &mut desk_of_second, *other);
+    }
+    (
+        as_said,
+        contents_of(&first.into_store(), 2),
+        contents_of(&second.into_store(), 1),
+    )
+}
+
+#[test]
+fn two_ranks_step_over_their_desks_in_turns(rt: HostRuntime) -> Result<(), Fail> {
+    let (first, second) = pair(rt.alloc())?;
+    let rows = [
+        (Moved::Posted, Moved::Took),
+        (Moved::Waiting, Moved::Worked),
+        (Moved::Waiting, Moved::Posted),
+        (Moved::Took, Moved::Waiting),
+        (Moved::Closed, Moved::Drained),
+        (Moved::Waiting, Moved::Closed),
+        (Moved::Drained, Moved::Idle),
+        (Moved::Idle, Moved::Idle),
+    ];
+    assert_eq!(rt;
+        take_turns(first, second, &rows),
+        (true, Held::Number(6), Held::Number(6))
     );
     Ok(())
 }
@@ -323,6 +385,46 @@ fn each_rank_records_its_halves_as_it_does_them(rt: HostRuntime) {
             tells_its_story(&rt, rt.alloc(), letters),
             Some(true),
             "{letters}"
+        );
+    }
+}
+
+/// Whether an event isn't a take or an end, or stands behind the post or the close of the same letter.
+fn follows_its_post(event: &TraceEvent, past: &[TraceEvent]) -> bool {
+    match event {
+        TraceEvent::Took(envelope) => past.contains(&TraceEvent::Posted(*envelope)),
+        TraceEvent::Ended(envelope) => past.contains(&TraceEvent::Closed(*envelope)),
+        _ => true,
+    }
+}
+
+/// Whether a traced run ends, in which a number goes to and fro so often, and no letter stands taken in its trace before
+/// it is posted.
+fn takes_follow_posts<R: Threads + Wait + Sync>(
+    rt: &R,
+    alloc: Global,
+    rounds: u32,
+) -> Option<bool> {
+    let (plan, stores) = rally(alloc, rounds)?;
+    let capacity = Capacity::nearest(1);
+    let (_finished, trace) = run_traced(rt, alloc, &plan, stores, capacity, &OpenGate).ok()?;
+    let events = trace.events();
+    Some(
+        events.iter().enumerate().all(|(place, event)| {
+            follows_its_post(event, events.get(..place).unwrap_or(events))
+        }),
+    )
+}
+
+/// Ten thousand letters, each awaited by a rank in a thread of its own: were a post recorded after it, or a take before
+/// it, a take would come first of some.
+#[test]
+fn takes_follow_posts_in_every_trace(rt: HostRuntime) {
+    for run in 0..100 {
+        assert_eq!(rt;
+            takes_follow_posts(&rt, rt.alloc(), 50),
+            Some(true),
+            "run {run}"
         );
     }
 }

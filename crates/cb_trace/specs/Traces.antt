@@ -1,5 +1,5 @@
 -- Which lists of events a trace may hold. Legal is what the rules of lanes say, over letters whose loads aren't looked at.
-use Rattle.std.specs.Prelude.{◌≡◌, ◌≢◌, ℕ, ◌<◌, ◌≤◌, ◌==◌, List, [], map, filter, length, get_or, All}
+use Rattle.std.specs.Prelude.{◌≡◌, ◌≢◌, ℕ, ◌<◌, ◌≤◌, ◌==◌, List, [], ◌∷◌, ◌++◌, map, filter, length, get_or, All, Result, Ok, Err}
 use Rattle.cb_letters.specs.declared.Letter.{Letter}
 use Rattle.cb_letters.specs.declared.Body.{Body}
 use Rattle.cb_letters.specs.declared.Body.TheVariants.{Sheet, Close}
@@ -7,6 +7,8 @@ use Rattle.cb_letters.specs.Events.{Event, Sent, Got, AreLegal, MayFollow}
 use Rattle.cb_trace.specs.declared.events.Envelope.{Envelope}
 use Rattle.cb_trace.specs.declared.events.TraceEvent.{TraceEvent}
 use Rattle.cb_trace.specs.declared.events.TraceEvent.TheVariants.{Posted, Took, Closed, Ended}
+use Rattle.cb_trace.specs.declared.traces.TraceRefusal.{TraceRefusal}
+use Rattle.cb_trace.specs.declared.traces.TraceRefusal.TheVariants.{Illegal, Room}
 
 -- the letter in this envelope, with this body
 abbrev pub letter_in : Envelope → Body Unit → Letter Unit
@@ -58,6 +60,16 @@ pub record IsTrace (t : TraceView) : Type 0 where
 -- an event may be recorded next, but for the room: it is on a lane of the trace, and may follow what is there
 abbrev pub MayRecord : TraceView → TraceEvent → Type 0
 MayRecord t e = IsOnLane t.ranks (envelope_of e) × MayFollow (map event_of t.events) (event_of e)
+
+-- why an event isn't recorded in a trace: it may not follow what is there, or it may and the trace is full
+abbrev pub IsRefusal : TraceView → TraceEvent → TraceRefusal → Type 0
+IsRefusal t e Illegal = MayRecord t e → ⊥
+IsRefusal t e Room = MayRecord t e × (length t.events ≡ t.room)
+
+-- an event that is recorded is the last of the trace that is left, at the place that is answered, and what was found stands before it; where it is refused the trace is left as it was found
+abbrev pub Records : TraceEvent → Result ℕ TraceRefusal → TraceView → TraceView → Type 0
+Records e (Ok place) found left = (place ≡ length found.events) × (left ≡ record found { events = found.events ++ e ∷ [] })
+Records e (Err refusal) found left = IsRefusal found e refusal × (left ≡ found)
 
 -- what one rank did, in order
 abbrev pub events_by : ℕ → List TraceEvent → List TraceEvent

@@ -1,5 +1,5 @@
 //! A trace that threads write to.
-ghost use Rattle.cb_trace.specs.Traces.{IsTrace};
+ghost use Rattle.cb_trace.specs.Traces.{TraceView, IsTrace, Records};
 
 use crate::events::TraceEvent;
 use crate::traces::{Trace, TraceRefusal};
@@ -20,11 +20,13 @@ impl SharedTrace {
     }
 
     /// Records an event as the last, and answers its place. It waits while another thread records.
-    pub fn record<R: Wait>(&self, rt: &R, event: TraceEvent) -> Result<usize, TraceRefusal> {
+    ///
+    /// The trace that it finds is what the threads that had the lock before left there. Which that is no clause says.
+    pub fn record<R: Wait>(&self, rt: &R, event: TraceEvent) -> Result<usize, TraceRefusal>
+        ensures { (found : TraceView) × (left : TraceView) × IsTrace found × IsTrace left × Records event result found left }
+    {
         let mut trace = self.trace.lock(rt);
-        let place = trace.len();
-        trace.record(event)?;
-        Ok(place)
+        record_in(&mut trace, event)
     }
 
     /// The trace, once no thread shares it. It takes no memory.
@@ -34,5 +36,20 @@ impl SharedTrace {
         let trace = self.trace.into_inner();
         trace.len();
         trace
+    }
+}
+
+/// Records an event as the last, and answers its place.
+fn record_in(trace: &mut Trace, event: TraceEvent) -> Result<usize, TraceRefusal>
+    ensures found { IsTrace trace.old }
+    ensures left { IsTrace trace.new }
+    ensures records { Records event result trace.old trace.new }
+{
+    let place = trace.len();
+    let recorded = trace.record(event);
+    trace.len();
+    match recorded {
+        Ok(()) => Ok(place),
+        Err(refusal) => Err(refusal),
     }
 }

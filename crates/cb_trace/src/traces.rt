@@ -1,5 +1,5 @@
 //! A legal list of events.
-ghost use Rattle.std.specs.Prelude.{◌≡◌, ◌<◌, ◌↔◌, true, [], ◌∷◌, ◌++◌, ◌+◌, ◌*◌, length, map, get_or, IfOk, OnErr, IsErrOf};
+ghost use Rattle.std.specs.Prelude.{◌≡◌, ◌<◌, ◌≤◌, ◌↔◌, true, [], ◌∷◌, ◌++◌, ◌+◌, ◌*◌, length, map, get_or, IfOk, OnErr, IsErrOf};
 ghost use Rattle.cb_trace.specs.Traces.{AreLegalEvents, AreOnLanes, MayRecord, AreLogsOf, events_by};
 ghost use Rattle.cb_trace.specs.declared.traces.TraceRefusal.TheVariants.{Illegal, Room};
 
@@ -77,6 +77,7 @@ impl Trace {
         ensures length { result ≡ length self.now.events }
         ensures legal { AreLegalEvents self.now.events }
         ensures lanes { AreOnLanes self.now.ranks self.now.events }
+        ensures room { length self.now.events ≤ self.now.room }
     {
         self.events.len()
     }

@@ -20,7 +20,8 @@ use Rattle.cb_plan.proofs.ShapesOfMeaning.{shapes_of_meaning}
 use Rattle.cb_rank.specs.Agreement.{IsSlotOf, System, LaneAgrees, Agrees, ends_marked}
 use Rattle.cb_rank.specs.Halves.{slot_at, slot_of_body}
 use Rattle.cb_rank.proofs.OwnActs.{split, meaning-next, letters-next}
-use Rattle.cb_rank.proofs.Halves.{is_post, is_take, is_work, is_shut, is_end, copied, arrived_slot, AllSome, some_by_shape, all_some, worked}
+use Rattle.cb_rank.proofs.ByOperation.{AllSome}
+use Rattle.cb_rank.proofs.Halves.{is_post, is_take, is_work, is_shut, is_end, copied, arrived_slot, some_by_shape, all_some, worked}
 use Rattle.cb_rank.proofs.NextAct.{act_of_half, next_sound, apart_of, apart_of_shut, not_true}
 use Rattle.cb_world.proofs.Lanes.{slot_later, lane_still, lane_posts, lane_takes}
 use Rattle.cb_world.proofs.SystemHalf.{Did, Moves}

@@ -4,7 +4,8 @@ use Rattle.std.specs.Prelude.{nat_lt, get_or}
 use Rattle.std.proofs.lemmas.Bool.Decides.{nat_tests}
 use Rattle.std.proofs.lemmas.List.{get_or_past}
 use Rattle.cb_semirings.specs.Arithmetic.{Arithmetic}
-use Rattle.cb_letters.specs.Lane.{Lane, new_lane}
+use Rattle.cb_letters.specs.Lane.{Lane, IsLane, new_lane}
+use Rattle.cb_letters.proofs.Lanes.{IsLane-new}
 use Rattle.cb_matrix.specs.Sparse.{Sparse}
 use Rattle.cb_plan.specs.declared.stores.Slot.{Slot}
 use Rattle.cb_plan.specs.declared.stores.Slot.TheVariants as slot_is
@@ -91,6 +92,7 @@ begins s p stores c w checked fits few low fresh =
             number = it.0;
             lanes = it.1 ∙ sym ranks;
             capacity = λ f i ne. ap (λ (x : Lane Sparse). x.capacity) (fresh.lanes f t (omega arith) below ne) ∙ sym fresh.capacity;
+            sound = λ f i ne. subst (IsLane f t) (sym (fresh.lanes f t (omega arith) below ne)) (IsLane-new f t c);
           };
       agrees = record {
         ranks = λ r n.

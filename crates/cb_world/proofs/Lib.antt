@@ -19,6 +19,7 @@
 -- Boxes: the mailbox of a rank, read by its number, and the mailboxes as they are made.
 -- NewRanks: the ranks of a new world, made of their stores from the last on.
 -- LaneNeeds: what a rank's next half asks of its lanes; a step as `World::step` leaves it.
+-- LaneCalls: a run calls mailboxes (`run_calls`), and what becomes of the letters in each.
 pub mod Lanes
 pub mod SystemHalf
 pub mod Progress
@@ -35,3 +36,4 @@ pub mod LastState
 pub mod Boxes
 pub mod NewRanks
 pub mod LaneNeeds
+pub mod LaneCalls

@@ -12,7 +12,8 @@ use Rattle.cb_letters.specs.declared.Tag.{Tag}
 use Rattle.cb_letters.specs.declared.Body.{Body}
 use Rattle.cb_letters.specs.declared.Body.TheVariants as body_is
 use Rattle.cb_letters.specs.Letters.{mark_tag}
-use Rattle.cb_letters.specs.Lane.{Lane, append, after_take}
+use Rattle.cb_letters.specs.Lane.{Lane, IsLane, append, after_take}
+use Rattle.cb_letters.proofs.Lanes.{IsLane-append, IsLane-take}
 use Rattle.cb_mailbox.specs.Inbox.{Inbox}
 use Rattle.cb_plan.specs.declared.acts.Op.{Op}
 use Rattle.cb_plan.specs.declared.acts.Half.{Half}
@@ -62,9 +63,17 @@ module _ (w : WorldView) (ranks : List RankView) (f t : ℕ) (l : Lane Sparse) (
       (λ v. ap (λ (x : Lane Sparse). x.capacity) (lane_by_sender w.boxes f t p q l inside (grind (arith, nat_tests)))))
       (λ u. ap (λ (x : Lane Sparse). x.capacity) (lane_by_addressee w.boxes f t p q l (grind (arith, nat_tests))))
 
+  are_lanes : f < length (box_in w.boxes t).lanes → IsLane f t l → (p q : ℕ) → IsLane p q (lane_between w p q) → IsLane p q (lane_between changed p q)
+  are_lanes h new p q old =
+      split (q == t)
+      (λ u. split (p == f)
+      (λ v. let eq : q ≡ t = grind (arith, nat_tests) in let ep : p ≡ f = grind (arith, nat_tests) in rw (eq, ep) (subst (IsLane f t) (sym (lane_here w.boxes f t l inside h)) new))
+      (λ v. subst (IsLane p q) (sym (lane_by_sender w.boxes f t p q l inside (grind (arith, nat_tests)))) old))
+      (λ u. subst (IsLane p q) (sym (lane_by_addressee w.boxes f t p q l (grind (arith, nat_tests)))) old)
+
   -- a mailbox keeps its number and its lanes
-  pub has_box : f < length (box_in w.boxes t).lanes → l.capacity ≡ (lane_between w f t).capacity → (q : ℕ) → HasBox w q → HasBox changed q
-  has_box h e q has =
+  pub has_box : f < length (box_in w.boxes t).lanes → l.capacity ≡ (lane_between w f t).capacity → IsLane f t l → (q : ℕ) → HasBox w q → HasBox changed q
+  has_box h e new q has =
       let kept : ((box_in changed.boxes q).me ≡ (box_in w.boxes q).me) × (length (box_in changed.boxes q).lanes ≡ length (box_in w.boxes q).lanes) =
       split (q == t)
       (λ u.
@@ -76,6 +85,7 @@ module _ (w : WorldView) (ranks : List RankView) (f t : ℕ) (l : Lane Sparse) (
         number = kept.0 ∙ has.number;
         lanes = kept.1 ∙ has.lanes;
         capacity = λ p i ne. rooms h e p q ∙ has.capacity p i ne;
+        sound = λ p i ne. are_lanes h new p q (has.sound p i ne);
       }
 
 -- what any half of one rank gives, but for the half itself
@@ -175,7 +185,7 @@ posts_keep s w r to tag slot body refusals sound inside next copy =
     goes_on s w r h slots refusals boxes sound inside next
     (posts_on (rank_of w r) to tag slot refusals (sound.ranks r inside).sound next grows.1)
     (same_length w.boxes r to l)
-    (has_box w ranks r to l place.0 place.1 refl)
+    (has_box w ranks r to l place.0 place.1 refl (IsLane-append r to (lane_between w r to) x ((sound.boxes to it.0).sound r inside it.1) it.2 (record { sender = refl; addressee = refl; numbered = refl })))
     grows.0 (
       x,
       refl,
@@ -199,7 +209,7 @@ shuts_keep s w r to sound inside next =
     goes_on s w r h slots refusals boxes sound inside next
     (shuts_on (rank_of w r) to (sound.ranks r inside).sound next)
     (same_length w.boxes r to l)
-    (has_box w ranks r to l place.0 place.1 refl)
+    (has_box w ranks r to l place.0 place.1 refl (IsLane-append r to (lane_between w r to) x ((sound.boxes to it.0).sound r inside it.1) it.2 (record { sender = refl; addressee = refl; numbered = refl })))
     (omega arith) (
       x,
       refl,
@@ -239,7 +249,7 @@ takes_keep s w r from tag into shape x sound inside next oldest =
     goes_on s w r h slots refusals boxes sound inside next
     (takes_on (rank_of w r) from tag into shape x.body is next (it.4 x queue.0 queue.1).2)
     (same_length w.boxes from r l)
-    (has_box w ranks from r l place.0 place.1 refl)
+    (has_box w ranks from r l place.0 place.1 refl (IsLane-take from r (lane_between w from r) ((sound.boxes r inside).sound from it.0 it.1)))
     (omega arith) (
       x,
       record { queue = gone.0 ∙ ap (λ (y : Lane Sparse). x ∷ y.queue) (sym there); taken = ap (λ (y : Lane Sparse). y.taken) there ∙ gone.1; closed = ap (λ (y : Lane Sparse). y.closed) there; others = others w ranks from r l place.0 },
@@ -266,7 +276,7 @@ ends_keep s w r from x sound inside next oldest =
     goes_on s w r h slots refusals boxes sound inside next
     (ends_on (rank_of w r) from (sound.ranks r inside).sound next)
     (same_length w.boxes from r l)
-    (has_box w ranks from r l place.0 place.1 refl)
+    (has_box w ranks from r l place.0 place.1 refl (IsLane-take from r (lane_between w from r) ((sound.boxes r inside).sound from it.0 it.1)))
     (omega arith) (
       x,
       record { queue = gone.0 ∙ ap (λ (y : Lane Sparse). x ∷ y.queue) (sym there); taken = ap (λ (y : Lane Sparse). y.taken) there ∙ gone.1; closed = ap (λ (y : Lane Sparse). y.closed) there; others = others w ranks from r l place.0 },
@@ -284,7 +294,7 @@ works_keep s w r op x refusals sound inside next work =
     goes_on s w r h slots refusals w.boxes sound inside next
     (works_on s (rank_of w r) op x refusals is next (subst (λ me. IsWork s me op old x (rank_of w r).refusals refusals) (sym (sound.ranks r inside).number) work))
     refl
-    (λ q has. record { number = has.number; lanes = has.lanes; capacity = has.capacity })
+    (λ q has. record { number = has.number; lanes = has.lanes; capacity = has.capacity; sound = has.sound })
     (work_grows s r op old x _ refusals work) (
       old,
       λ n. refl,

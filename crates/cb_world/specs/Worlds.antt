@@ -2,7 +2,7 @@
 use Rattle.std.specs.Prelude.{◌≡◌, ◌≢◌, ℕ, ◌-◌, ◌<◌, ◌≤◌, ◌^◌, List, [], length, get_or, sum_by, Option, Some, None}
 use Rattle.cb_semirings.specs.Arithmetic.{Arithmetic}
 use Rattle.cb_matrix.specs.Sparse.{Sparse}
-use Rattle.cb_letters.specs.Lane.{Lane, new_lane}
+use Rattle.cb_letters.specs.Lane.{Lane, IsLane, new_lane}
 use Rattle.cb_mailbox.specs.Inbox.{Inbox, lane_from}
 use Rattle.cb_plan.specs.declared.acts.Half.{Half}
 use Rattle.cb_plan.specs.declared.acts.Half.TheVariants as half_is
@@ -53,11 +53,12 @@ pub record HasRank (w : WorldView) (r : ℕ) : Type 0 where
   pub number : (rank_of w r).me ≡ r
   pub sound : IsRank (rank_of w r)
 
--- its mailbox has its number, and a lane from each rank; the lanes from others hold as many letters as the world says
+-- its mailbox has its number, and a lane from each rank; those from others are lanes to it, and hold as many letters as the world says
 pub record HasBox (w : WorldView) (t : ℕ) : Type 0 where
   pub number : (box_in w.boxes t).me ≡ t
   pub lanes : length (box_in w.boxes t).lanes ≡ w.plan.ranks
   pub capacity : (f : ℕ) → f < w.plan.ranks → f ≢ t → (lane_between w f t).capacity ≡ w.capacity
+  pub sound : (f : ℕ) → f < w.plan.ranks → f ≢ t → IsLane f t (lane_between w f t)
 
 -- the world agrees with its own plan and first state
 pub record IsWorld (s : Arithmetic) (w : WorldView) : Type 0 where

@@ -5,6 +5,7 @@ ghost use Rattle.cb_plan.specs.Stores.{Fits};
 ghost use Rattle.cb_rank.specs.Leavings.{HoldsMeaning};
 ghost use Rattle.cb_world.specs.Worlds.{IsWorld, IsNewWorld, next_of, lane_between, CanAct, AllDone, IsReady, remaining, refusals_in, IsFinished};
 ghost use Rattle.cb_world.specs.WorldSteps.{Steps, StepsBy, IsStarved, RunsBy, FinishesBy};
+ghost use Rattle.cb_world.specs.LaneCalls.{Exchange, AreCallsOf, AreTakenOnce, AreForAddressee, AreInPostingOrder, NothingAcceptedAfterClose, HasGivenOutAll};
 ghost use Rattle.cb_world.specs.declared.events.Event.{Event as EventOf};
 ghost use Rattle.cb_world.specs.declared.events.Event.TheVariants.{Starve};
 
@@ -114,10 +115,21 @@ impl<S: Semiring> World<S> {
     }
 
     /// Some events, one after the other.
+    ///
+    /// Whatever was done before, and whatever the events: each letter is taken at most once, by its addressee alone,
+    /// per sender in posting order; nothing is accepted after a close; and a lane that is drained has given out all
+    /// that stood on it and was accepted.
     pub fn run(&mut self, events: &[Event])
         ensures runs { RunsBy S.arithmetic events.now self.old self.new }
         ensures keeps { (self.new.plan ≡ self.old.plan) × (self.new.first ≡ self.old.first) }
+        ensures calls { (calls : List Exchange) × AreCallsOf S.arithmetic events.now calls self.old self.new }
+        ensures once { (calls : List Exchange) → AreCallsOf S.arithmetic events.now calls self.old self.new → AreTakenOnce self.old self.new calls }
+        ensures addressee { (calls : List Exchange) → AreCallsOf S.arithmetic events.now calls self.old self.new → AreForAddressee self.old calls }
+        ensures order { (calls : List Exchange) → AreCallsOf S.arithmetic events.now calls self.old self.new → AreInPostingOrder self.old self.new calls }
+        ensures closed { (calls : List Exchange) → AreCallsOf S.arithmetic events.now calls self.old self.new → NothingAcceptedAfterClose self.old calls }
+        ensures drained { (calls : List Exchange) → AreCallsOf S.arithmetic events.now calls self.old self.new → HasGivenOutAll self.old self.new calls }
     {
+        let _ranks = &self.ranks;
         for event in events {
             let _moved = self.step(*event);
         }

@@ -30,7 +30,7 @@ const fn one_entry(op: Op, reads: u16, value: u64) -> Case {
 }
 
 /// Each operation that needs memory.
-fn cases() -> Result<[Case; 10], Fail> {
+fn cases() -> Result<[Case; 11], Fail> {
     let (a, b, x, m, acc, into) = (0, 1, 1, 1, 2, 3);
     let (shape, at) = (shape(2, 2)?, (1, 1));
     let (rows, cols) = ((0, 1), (0, 1));
@@ -50,6 +50,7 @@ fn cases() -> Result<[Case; 10], Fail> {
         one_entry(Op::Add { a, b, into }, 2, 5),
         one_entry(Op::Times { a, b, into }, 2, 6),
         one_entry(Op::Transpose { a, into }, 1, 2),
+        one_entry(Op::ColumnSums { a, into }, 1, 2),
         one_entry(cut, 1, 2),
         one_entry(Op::Place { a, shape, at, into }, 1, 2),
         one_entry(Op::MulVec { a, x, into }, 2, 6),

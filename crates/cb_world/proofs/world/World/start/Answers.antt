@@ -1,5 +1,5 @@
 -- The world is new, and a new world agrees with its plan.
-use Rattle.std.proofs.Common.{◌≡◌, ◌≤◌, length, vec_capacity, refl, ap, subst, arith, vec_items}
+use Rattle.std.proofs.Common.{◌≡◌, ◌≤◌, length, vec_capacity, ap, subst, arith, vec_items}
 use Rattle.cb_world.specs.Starting.{AreNewBoxes}
 use Rattle.cb_world.specs.Worlds.{WorldView}
 use Rattle.cb_world.proofs.FirstState.{begins}
