@@ -1,11 +1,11 @@
 -- What a job answers, and when it is refused.
-use Rattle.std.specs.Prelude.{ℕ, ◌≡◌, ◌<◌, ◌⊎◌, ◌++◌, List, [], length, Option, Some, None}
+use Rattle.std.specs.Prelude.{ℕ, ◌≡◌, ◌≢◌, ◌<◌, ◌⊎◌, ◌++◌, List, [], ◌∷◌, length, Option, Some, None}
 use Rattle.cb_semirings.specs.Arithmetic.{Arithmetic}
 use Rattle.cb_semirings.specs.Tables.{min_plus, or_and}
 use Rattle.cb_matrix.specs.Sparse.{Sparse, Extent, IsMatrix}
 use Rattle.cb_market.specs.Faults as market
 use Rattle.cb_market.specs.Reads.{Reads}
-use Rattle.cb_market.specs.Text.{text_of, vertex_text_of}
+use Rattle.cb_market.specs.Text.{number_line, text_of, vertex_text_of, vertex_pairs_text_of}
 use Rattle.cb_market.specs.declared.Kind.{Kind}
 use Rattle.cb_market.specs.declared.Kind.TheVariants as kind_is
 use Rattle.cb_trace.specs.Traces.{TraceView}
@@ -14,13 +14,16 @@ use Rattle.cb_operations.specs.declared.refusals.Refusal.TheVariants as refusal_
 use Rattle.cb_operations.specs.OperationAnswers.{Agree, answer_of, matrix_at, shapes_in}
 use Rattle.cb_engines.specs.declared.engines.Engine.{Engine}
 use Rattle.cb_searches.specs.Walks.{AreLevels, AreDistances}
+use Rattle.cb_searches.specs.Parents.{AreParents}
+use Rattle.cb_graphs.specs.Components.{AreComponents}
+use Rattle.cb_graphs.specs.Triangles.{triangle_count, stopped}
 use Rattle.cb_run.specs.declared.operation_faults.OperationFault.{OperationFault}
 use Rattle.cb_run.specs.declared.operation_faults.OperationFault.TheVariants.{Refused, Failed}
 use Rattle.cb_run.specs.Outcomes.{IsTraceFor}
 use Rattle.cb_run.specs.Searched.{HasSource, IsGraphRefusal}
 use Rattle.cb_semirings.specs.Names.{arithmetic_of}
 use Rattle.cb_words.specs.declared.jobs.Task.{Task}
-use Rattle.cb_words.specs.declared.jobs.Task.TheVariants.{Matrix, Levels, Distances}
+use Rattle.cb_words.specs.declared.jobs.Task.TheVariants.{Matrix, Levels, Distances, Parents, Components, Triangles}
 use Rattle.cb_cli.specs.Files.{text_at}
 use Rattle.cb_cli.specs.TraceTexts.{trace_lines}
 use Rattle.cb_cli.specs.Engines.{IsRunFault}
@@ -106,18 +109,63 @@ IsWalkFault s source engine side texts (Run fault) = (a : Sparse) × Reads s (te
 IsWalkFault s source engine side texts Memory = (a : Sparse) × Reads s (text_at texts 0) a × HasSource a.shape source
 IsWalkFault s source engine side texts Output = (a : Sparse) × Reads s (text_at texts 0) a × HasSource a.shape source
 
+-- ---- by one thread, in the graph of the matrix that the text reads as in or-and
+-- the text reads as this matrix, which is square
+abbrev pub IsSquareGraph : List (List ℕ) → Sparse → Type 0
+IsSquareGraph texts a = Reads or_and (text_at texts 0) a × (a.shape.rows ≡ a.shape.cols)
+
+-- the text reads as this matrix, and the source is one of its vertices
+abbrev pub IsWalkGraph : ℕ → List (List ℕ) → Sparse → Type 0
+IsWalkGraph source texts a = Reads or_and (text_at texts 0) a × HasSource a.shape source
+
+-- the pairs of vertices of the column that is the answer
+abbrev pub IsPairsText : (Sparse → Type 0) → List ℕ → Type 0
+IsPairsText is_answer answer = (column : Sparse) × is_answer column × (answer ≡ vertex_pairs_text_of column)
+
+-- the least parents of a search from a source, which is one of its vertices
+abbrev pub IsParentsAnswer : ℕ → List (List ℕ) → List ℕ → Type 0
+IsParentsAnswer source texts answer = (a : Sparse) × IsWalkGraph source texts a × IsPairsText (AreParents a source) answer
+
+-- why there are none: by one thread no run fails
+abbrev pub IsParentsFault : ℕ → List (List ℕ) → JobFault → Type 0
+IsParentsFault source = IsWalkFault or_and source None 1
+
+-- the least vertex of each component
+abbrev pub IsComponentsAnswer : List (List ℕ) → List ℕ → Type 0
+IsComponentsAnswer texts answer = (a : Sparse) × IsSquareGraph texts a × IsPairsText (AreComponents a) answer
+
+-- how many triangles there are, on a line
+abbrev pub IsTrianglesAnswer : List (List ℕ) → List ℕ → Type 0
+IsTrianglesAnswer texts answer = (a : Sparse) × IsSquareGraph texts a × (answer ≡ number_line (stopped (triangle_count a) ∷ []))
+
+-- Why there is no answer of a graph without a source: the text is no matrix; else it isn't square; and where neither
+-- holds, want of memory, or a sink that failed.
+abbrev pub IsSquareFault : List (List ℕ) → JobFault → Type 0
+IsSquareFault texts (Read which fault) = IsReadFault or_and texts (Read which fault)
+IsSquareFault texts (Run (Refused refusal_is.NotSquare)) = (a : Sparse) × Reads or_and (text_at texts 0) a × (a.shape.rows ≢ a.shape.cols)
+IsSquareFault texts (Run (Refused _)) = ⊥
+IsSquareFault texts (Run (Failed fault)) = ⊥
+IsSquareFault texts Memory = (a : Sparse) × IsSquareGraph texts a
+IsSquareFault texts Output = (a : Sparse) × IsSquareGraph texts a
+
 -- What a task answers of texts, by an engine on a grid of this side: an operation over the semiring that it names, levels
--- in or-and, distances in min-plus. Of these two no trace is told.
+-- in or-and, distances in min-plus. Of these two no trace is told. The others are answered by one thread.
 abbrev pub IsAnswer : Task → Option Engine → ℕ → List (List ℕ) → List ℕ → Type 0
 IsAnswer (Matrix operation semiring) engine side = IsAnswerOver operation (arithmetic_of semiring) engine side
 IsAnswer (Levels source) engine side = IsWalkAnswer AreLevels or_and source
 IsAnswer (Distances source) engine side = IsWalkAnswer AreDistances min_plus source
+IsAnswer (Parents source) engine side = IsParentsAnswer source
+IsAnswer Components engine side = IsComponentsAnswer
+IsAnswer Triangles engine side = IsTrianglesAnswer
 
 -- why it answers nothing
 abbrev pub IsFault : Task → Option Engine → ℕ → List (List ℕ) → JobFault → Type 0
 IsFault (Matrix operation semiring) engine side = IsFaultOver operation (arithmetic_of semiring) engine side
 IsFault (Levels source) engine side = IsWalkFault or_and source engine side
 IsFault (Distances source) engine side = IsWalkFault min_plus source engine side
+IsFault (Parents source) engine side = IsParentsFault source
+IsFault Components engine side = IsSquareFault
+IsFault Triangles engine side = IsSquareFault
 
 -- why an answer that there is has not gone out whole
 abbrev pub IsUnwritten : JobFault → Type 0

@@ -8,6 +8,7 @@ ghost use Rattle.cb_cli.specs.Files.{bytes_of};
 
 use crate::alone::compute_alone;
 use crate::engine_names::engine_for;
+use crate::graph_answers::{put_components, put_parents, put_triangles};
 use crate::inputs::read_operands;
 use crate::output::{put_column, put_text_and_lines};
 use crate::sinks::Sink;
@@ -176,8 +177,8 @@ fn execute_named<R: Threads + Wait + Sync, K: Sink>(
 }
 
 /// Reads the texts of a job's files, in the job's order, and writes the text of its answer: of a matrix page by page,
-/// of levels or distances a line for each vertex that has one, and, where the engine keeps a trace of an operation, a
-/// line for each of its events at the end. All memory is taken before the first byte goes out: a fault other than
+/// of levels, distances, parents or components a line for each vertex that has one, and, where the engine keeps a trace
+/// of an operation, a line for each of its events at the end. All memory is taken before the first byte goes out: a fault other than
 /// `Output` has written nothing. At `Output` a beginning of the text has gone out, and the sink has failed; it has
 /// failed in no other case.
 ///
@@ -210,6 +211,9 @@ pub fn execute<R: Threads + Wait + Sync, K: Sink>(
             let column = distances_of(rt, alloc, engine, grid, source, texts)?;
             put_column(alloc, &column, out)
         }
+        Task::Parents { source } => put_parents(rt, alloc, source, texts, out),
+        Task::Components => put_components(rt, alloc, texts, out),
+        Task::Triangles => put_triangles(rt, alloc, texts, out),
     }
 }
 

@@ -19,6 +19,7 @@ mod engine_names;
 pub mod execution;
 pub mod fault_lines;
 pub mod files;
+mod graph_answers;
 mod inputs;
 mod output;
 pub mod sinks;

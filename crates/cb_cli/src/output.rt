@@ -1,8 +1,8 @@
 //! Writes the text of an answer: of a matrix page by page, or by several threads in rounds of sheets, of a column of
 //! numbers at once.
-ghost use Rattle.std.specs.Prelude.{◌≡◌, ◌++◌, true, false, OnOk, OnErr};
+ghost use Rattle.std.specs.Prelude.{◌≡◌, ◌++◌, [], ◌∷◌, true, false, OnOk, OnErr};
 ghost use Rattle.std.specs.Io.KnownBytes.{Appends};
-ghost use Rattle.cb_market.specs.Text.{text_of, vertex_text_of};
+ghost use Rattle.cb_market.specs.Text.{number_line, text_of, vertex_text_of, vertex_pairs_text_of};
 ghost use Rattle.cb_writing.specs.Rounds.{written_on};
 ghost use Rattle.cb_cli.specs.Answers.{IsUnwritten};
 ghost use Rattle.cb_cli.specs.Sinks.{AppendsPrefix};
@@ -11,7 +11,7 @@ ghost use Rattle.cb_cli.specs.WriteEnds.{IsEnd};
 use crate::execution::JobFault;
 use crate::sinks::{PutFault, Sink, put_all};
 use cb_layout::DistributedMatrix;
-use cb_market::{Page, Sheet, TextPages, vertex_text};
+use cb_market::{Page, Sheet, TextPages, vertex_pairs_text, vertex_text};
 use cb_matrix::Matrix;
 use cb_semirings::{MinPlus, Semiring};
 use cb_writing::Round;
@@ -149,6 +149,17 @@ pub fn put_text_and_lines<S: Semiring + Send + Sync, R: Threads + Sync, K: Sink>
     }
 }
 
+/// Writes a text that is made. At `Output` a beginning of it has gone out.
+fn put_made<K: Sink>(text: &[u8], out: &mut K) -> Result<(), JobFault>
+    requires { K.has_failed out.old ≡ false }
+    ensures { IsEnd (λ t. t ≡ text.now) IsUnwritten (K.written out.old) (K.written out.new) (K.has_failed out.new) result }
+{
+    match put_all(out, text) {
+        Ok(()) => Ok(()),
+        Err(_) => Err(JobFault::Output),
+    }
+}
+
 /// Writes the vertex text of a column. All memory is taken first: at `Memory` nothing has gone out, and at `Output` a
 /// beginning of the text.
 pub fn put_column<K: Sink>(
@@ -160,11 +171,34 @@ pub fn put_column<K: Sink>(
     requires works { K.has_failed out.old ≡ false }
     ensures { IsEnd (λ t. t ≡ vertex_text_of column.now) IsUnwritten (K.written out.old) (K.written out.new) (K.has_failed out.new) result }
 {
-    let Ok(text) = vertex_text(alloc, column) else {
-        return Err(JobFault::Memory);
-    };
-    match put_all(out, text.as_slice()) {
-        Ok(()) => Ok(()),
-        Err(_) => Err(JobFault::Output),
+    match vertex_text(alloc, column) {
+        Ok(text) => put_made(&text, out),
+        Err(_) => Err(JobFault::Memory),
+    }
+}
+
+/// Writes the pairs of vertices of a column, likewise.
+pub fn put_pairs<K: Sink>(
+    alloc: Global,
+    column: &Matrix<MinPlus>,
+    out: &mut K,
+) -> Result<(), JobFault>
+    requires { K.has_failed out.old ≡ false }
+    ensures { IsEnd (λ t. t ≡ vertex_pairs_text_of column.now) IsUnwritten (K.written out.old) (K.written out.new) (K.has_failed out.new) result }
+{
+    match vertex_pairs_text(alloc, column) {
+        Ok(text) => put_made(&text, out),
+        Err(_) => Err(JobFault::Memory),
+    }
+}
+
+/// Writes a number on a line, likewise.
+pub fn put_number<K: Sink>(alloc: Global, number: u64, out: &mut K) -> Result<(), JobFault>
+    requires { K.has_failed out.old ≡ false }
+    ensures { IsEnd (λ t. t ≡ number_line (number ∷ [])) IsUnwritten (K.written out.old) (K.written out.new) (K.has_failed out.new) result }
+{
+    match format!(in alloc; "{number}\n") {
+        Ok(text) => put_made(text.as_bytes(), out),
+        Err(_) => Err(JobFault::Memory),
     }
 }

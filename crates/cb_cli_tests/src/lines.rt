@@ -63,7 +63,7 @@ struct Asked {
     files: &'static [&'static str],
 }
 
-const LINES: [Asked; 18] = [
+const LINES: [Asked; 24] = [
     Asked {
         line: "cbgrid multiply left.mtx right.mtx",
         task: over!(PlusTimes, Operation::Multiply),
@@ -115,6 +115,21 @@ const LINES: [Asked; 18] = [
         files: &["a"],
     },
     Asked {
+        line: "cbgrid reduce a",
+        task: over!(PlusTimes, Operation::RowSums),
+        files: &["a"],
+    },
+    Asked {
+        line: "cbgrid reduce --by rows a --semiring min-plus",
+        task: over!(MinPlus, Operation::RowSums),
+        files: &["a"],
+    },
+    Asked {
+        line: "cbgrid reduce a --by=columns",
+        task: over!(PlusTimes, Operation::ColumnSums),
+        files: &["a"],
+    },
+    Asked {
         line: "cbgrid add a b",
         task: over!(PlusTimes, Operation::Add),
         files: &["a", "b"],
@@ -154,6 +169,21 @@ const LINES: [Asked; 18] = [
     Asked {
         line: "cbgrid relax --source 9 a --grid 3",
         task: Task::Distances { source: 8 },
+        files: &["a"],
+    },
+    Asked {
+        line: "cbgrid parents a --source 3",
+        task: Task::Parents { source: 2 },
+        files: &["a"],
+    },
+    Asked {
+        line: "cbgrid components a",
+        task: Task::Components,
+        files: &["a"],
+    },
+    Asked {
+        line: "cbgrid triangles a",
+        task: Task::Triangles,
         files: &["a"],
     },
 ];
@@ -277,7 +307,7 @@ fn choose_the_engine_and_the_grid(rt: HostRuntime) {
 }
 
 /// Lines that are refused for their words.
-const REFUSED: [&str; 55] = [
+const REFUSED: [&str; 62] = [
     "cbgrid multiply",
     "cbgrid multiply a",
     "cbgrid multiply a b c",
@@ -297,7 +327,6 @@ const REFUSED: [&str; 55] = [
     "cbgrid multiply a b --mask",
     "cbgrid multiply a b --mask m --mask m",
     "cbgrid multiply a b --colour",
-    "cbgrid multiply a b -h",
     "cbgrid multiply a b --test above --value 1",
     "cbgrid multiply a b --source 1",
     "cbgrid multiply a b --trace --engine plain",
@@ -305,6 +334,12 @@ const REFUSED: [&str; 55] = [
     "cbgrid multiply a b --trace=yes",
     "cbgrid transpose a --trace",
     "cbgrid spmv a x --trace",
+    "cbgrid parents a",
+    "cbgrid parents a --source 1 --grid 2",
+    "cbgrid components a b",
+    "cbgrid components a --engine plain",
+    "cbgrid triangles",
+    "cbgrid triangles a --semiring or-and",
     "cbgrid bfs a",
     "cbgrid bfs --source 1",
     "cbgrid bfs a b --source 1",
@@ -318,12 +353,14 @@ const REFUSED: [&str; 55] = [
     "cbgrid relax a --source 1 --semiring min-plus",
     "cbgrid relax a --source 1 --mask m",
     "cbgrid",
-    "cbgrid -h",
     "cbgrid help",
     "cbgrid power a b",
     "cbgrid transpose",
     "cbgrid transpose a b",
     "cbgrid transpose a --mask m",
+    "cbgrid reduce a b",
+    "cbgrid reduce a --by diagonals",
+    "cbgrid reduce a --by rows --by columns",
     "cbgrid add a",
     "cbgrid times a b c",
     "cbgrid prune a",
@@ -354,13 +391,22 @@ fn is_help(alloc: Global, line: &str) -> bool {
 fn offer_help(rt: HostRuntime) {
     for line in [
         "cbgrid --help",
+        "cbgrid -h",
+        "cbgrid --version",
+        "cbgrid -V",
         "cbgrid multiply --help",
+        "cbgrid multiply -h",
+        "cbgrid multiply a b -h",
         "cbgrid multiply a --help",
         "cbgrid transpose --help",
+        "cbgrid reduce --help",
         "cbgrid add --help",
         "cbgrid times --help",
         "cbgrid prune --help",
         "cbgrid bfs --help",
+        "cbgrid parents --help",
+        "cbgrid components --help",
+        "cbgrid triangles -h",
         "cbgrid relax --help",
     ] {
         assert!(rt; is_help(rt.alloc(), line), "{line}");

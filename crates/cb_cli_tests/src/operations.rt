@@ -1,14 +1,41 @@
-//! The transpose, products by vectors, and operations place by place, by `execute`.
+//! The transpose, sums of rows and columns, products by vectors, and operations place by place, by `execute`.
 use crate::products::{Example, FIRST, SECOND, failed_example, text};
 
 /// A matrix with one entry, below the diagonal.
 const CORNER: &str = text!("2 2 1\n2 1 9\n");
 
-const EXAMPLES: [Example; 12] = [
+const EXAMPLES: [Example; 17] = [
     Example {
         line: "cbgrid transpose a",
         texts: &[FIRST],
         wanted: text!("2 2 3\n1 1 1\n2 1 2\n2 2 3\n"),
+    },
+    Example {
+        line: "cbgrid reduce a",
+        texts: &[FIRST],
+        wanted: text!("2 1 2\n1 1 3\n2 1 3\n"),
+    },
+    Example {
+        line: "cbgrid reduce a --by columns",
+        texts: &[FIRST],
+        wanted: text!("1 2 2\n1 1 1\n1 2 5\n"),
+    },
+    Example {
+        line: "cbgrid reduce --by=rows --semiring max-min a",
+        texts: &[FIRST],
+        wanted: text!("2 1 2\n1 1 2\n2 1 3\n"),
+    },
+    // the last row has no entry, and neither has the answer
+    Example {
+        line: "cbgrid reduce a --semiring min-plus --by rows",
+        texts: &[text!("3 2 3\n1 1 4\n1 2 0\n2 2 7\n")],
+        wanted: text!("3 1 2\n1 1 0\n2 1 7\n"),
+    },
+    // a sum that is zero is no entry
+    Example {
+        line: "cbgrid reduce a --by columns",
+        texts: &[text!("2 3 4\n1 1 18446744073709551615\n2 1 1\n1 3 2\n2 3 3\n")],
+        wanted: text!("1 3 1\n1 3 5\n"),
     },
     Example {
         line: "cbgrid prune a --test above --value 1",

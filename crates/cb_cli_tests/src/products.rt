@@ -137,8 +137,21 @@ pub fn failed_example<R: Threads + Wait + Sync + AllocGlobal>(
     None
 }
 
+/// The first of these examples that isn't written by one thread, whose commands take no word on ranks.
+pub fn failed_alone<R: Threads + Wait + Sync + AllocGlobal>(
+    rt: &R,
+    examples: &[Example],
+) -> Option<&'static str> {
+    for example in examples {
+        if !writes(rt, example.line, example.texts, example.wanted) {
+            return Some(example.wanted);
+        }
+    }
+    None
+}
+
 /// Products over two files, and over one that is taken twice.
-const PRODUCTS: [Example; 18] = [
+const PRODUCTS: [Example; 20] = [
     // two by two
     Example {
         line: "cbgrid multiply a b",
@@ -225,6 +238,24 @@ const PRODUCTS: [Example; 18] = [
             text!("1 1 1\n1 1 5\n"),
         ],
         wanted: text!("1 1 1\n1 1 5\n"),
+    },
+    // two products in row 1 and one in row 2
+    Example {
+        line: "cbgrid multiply a b --semiring plus-pair",
+        texts: &[
+            text!("2 2 3\n1 1 7\n1 2 9\n2 2 3\n"),
+            text!("2 1 2\n1 1 4\n2 1 6\n"),
+        ],
+        wanted: text!("2 1 2\n1 1 2\n2 1 1\n"),
+    },
+    // the least of what stands in the rows of b that a row of a names
+    Example {
+        line: "cbgrid multiply a b --semiring min-second",
+        texts: &[
+            text!("2 2 3\n1 1 7\n1 2 9\n2 2 3\n"),
+            text!("2 1 2\n1 1 4\n2 1 6\n"),
+        ],
+        wanted: text!("2 1 2\n1 1 4\n2 1 6\n"),
     },
     // no rows
     Example {

@@ -33,7 +33,7 @@ struct Refused {
     fault: JobFault,
 }
 
-const REFUSALS: [Refused; 16] = [
+const REFUSALS: [Refused; 19] = [
     Refused {
         line: "cbgrid multiply a b",
         texts: &[BAD, WORSE],
@@ -112,6 +112,21 @@ const REFUSALS: [Refused; 16] = [
     },
     Refused {
         line: "cbgrid relax a --source 1",
+        texts: &[WIDE],
+        fault: NOT_SQUARE,
+    },
+    Refused {
+        line: "cbgrid parents a --source 9",
+        texts: &[CYCLE],
+        fault: SOURCE,
+    },
+    Refused {
+        line: "cbgrid components a",
+        texts: &[WIDE],
+        fault: NOT_SQUARE,
+    },
+    Refused {
+        line: "cbgrid triangles a",
         texts: &[WIDE],
         fault: NOT_SQUARE,
     },

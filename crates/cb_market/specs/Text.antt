@@ -1,5 +1,5 @@
 -- The text of a matrix.
-use Rattle.std.specs.Prelude.{ℕ, ◌+◌, Bool, true, false, List, [], ◌∷◌, ◌++◌, if◌then◌else◌, flat_map, length, codes, decimal}
+use Rattle.std.specs.Prelude.{ℕ, ◌+◌, Bool, true, false, List, [], ◌∷◌, ◌++◌, if◌then◌else◌, flat_map, map, length, codes, decimal}
 use Rattle.cb_semirings.specs.Arithmetic.{Arithmetic}
 use Rattle.cb_matrix.specs.declared.Entry.{Entry}
 use Rattle.cb_matrix.specs.Sparse.{Extent, Sparse}
@@ -50,6 +50,14 @@ vertex_line e = number_line ((e.row + 1) ∷ e.value ∷ [])
 -- a line for each entry of a vector
 unfoldable pub vertex_text_of : Sparse → List ℕ
 vertex_text_of m = flat_map vertex_line m.entries
+
+-- an entry whose value is a vertex, with that counted from 1
+abbrev pub with_value_from_one : Entry → Entry
+with_value_from_one e = record { row = e.row; column = e.column; value = e.value + 1 }
+
+-- a line for each entry of a vector whose values are vertices: two vertices, counted from 1
+unfoldable pub vertex_pairs_text_of : Sparse → List ℕ
+vertex_pairs_text_of m = flat_map vertex_line (map with_value_from_one m.entries)
 
 -- the line of an entry, by which of its numbers are written
 abbrev pub line_of : Line → Entry → List ℕ

@@ -32,7 +32,7 @@ pub enum Kind {
     BadSize,
     /// More than 2,147,483,647 rows, columns or entries are announced.
     TooLarge,
-    /// A symmetric or skew-symmetric matrix has as many columns as rows.
+    /// A symmetric or skew-symmetric matrix hasn't as many columns as rows.
     NotSquare,
     /// The line of an entry has too few or too many words.
     BadLine,
@@ -111,4 +111,4 @@ pub use reading::{read, read_distributed};
 pub use sheets::{MOST_LINES, Sheet};
 pub use size::Size;
 pub use text_pages::TextPages;
-pub use writing::{text, vertex_text};
+pub use writing::{text, vertex_pairs_text, vertex_text};

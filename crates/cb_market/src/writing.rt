@@ -1,7 +1,7 @@
 //! Writing a text. The lines of some entries are made on a page, and then appended.
-ghost use Rattle.std.specs.Prelude.{◌≡◌, ◌+◌, ◌≤◌, ◌++◌, IfOk, OnOk, [], ◌∷◌, length, decimal, flat_map};
+ghost use Rattle.std.specs.Prelude.{◌≡◌, ◌+◌, ◌≤◌, ◌++◌, IfOk, OnOk, [], ◌∷◌, length, map, decimal, flat_map};
 ghost use Rattle.cb_market.specs.Reads.{Reads};
-ghost use Rattle.cb_market.specs.Text.{text_of, entry_line, head_of, vertex_text_of, line_of};
+ghost use Rattle.cb_market.specs.Text.{text_of, entry_line, head_of, vertex_text_of, vertex_pairs_text_of, with_value_from_one, line_of};
 
 use crate::pages::{LINE, Page, SIZE, digits};
 use cb_matrix::{Entry, LIMIT, Matrix, Shape};
@@ -134,5 +134,33 @@ pub fn vertex_text(alloc: Global, vector: &Matrix<MinPlus>) -> Result<Vec<u8>, A
     let mut text = text_of_lines(alloc, vector.shape(), vector.len())?;
     let mut page = Page::new(alloc)?;
     put_lines(&mut text, &mut page, Line::RowAndValue, vector.entries())?;
+    Ok(text)
+}
+
+/// The entries of a vector whose values are vertices, with these counted from 1.
+fn counted_from_one(alloc: Global, vector: &Matrix<MinPlus>) -> Result<Vec<Entry>, AllocError>
+    ensures { IfOk result (λ entries. entries.items ≡ map with_value_from_one vector.now.entries) }
+{
+    let _values = vector.shape();
+    let mut counted = Vec::with_capacity(alloc, vector.len())?;
+    for entry in vector.entries() {
+        counted.push(Entry {
+            row: entry.row,
+            column: entry.column,
+            value: entry.value + 1,
+        })?;
+    }
+    Ok(counted)
+}
+
+/// The stored entries of a vector whose values are vertices, as a line each: the number of the vertex and that of its
+/// value, both counted from 1. No header. It takes room for a copy of the entries beside the text.
+pub fn vertex_pairs_text(alloc: Global, vector: &Matrix<MinPlus>) -> Result<Vec<u8>, AllocError>
+    ensures { IfOk result (λ bytes. bytes.items ≡ vertex_pairs_text_of vector.now) }
+{
+    let counted = counted_from_one(alloc, vector)?;
+    let mut text = text_of_lines(alloc, vector.shape(), counted.len())?;
+    let mut page = Page::new(alloc)?;
+    put_lines(&mut text, &mut page, Line::RowAndValue, &counted)?;
     Ok(text)
 }

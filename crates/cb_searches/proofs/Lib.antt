@@ -1,13 +1,18 @@
 -- The toolbox. Searches: NearestRounds, a search, from its start to its end. UnitWeights: levels are distances where each
--- entry weighs 1. OneColumn: there is one column of distances.
+-- entry weighs 1. OneColumn: there is one column of distances. WalkCosts: how walks begin, grow and end, and what they
+-- cost. ColumnEdges: the rows of a column are where edges come from. SettledVertices: vertices that settle one after another,
+-- and a bound for the work that is left. VertexColumns: a column with an entry for each of some vertices.
 pub mod NearestRounds
 pub mod UnitWeights
 pub mod OneColumn
--- WalkCosts: how walks begin, grow and end, and what they cost. ShortWalks: for each walk a short one that costs no more.
--- NumbersByRound: numbers that near the least costs, round by round. TurnedProducts: a round is the product of the turned
--- matrix. TakenNumbers, LowerEntries, NumberColumns, FallenNumbers: the numbers known so far, those that fall, and their
--- column. RelaxedEdges, SettledVertices: vertices that settle one after another.
 pub mod WalkCosts
+pub mod ColumnEdges
+pub mod SettledVertices
+pub mod VertexColumns
+-- ShortWalks: for each walk a short one that costs no more. NumbersByRound: numbers that near the least costs, round by
+-- round. TurnedProducts: a round is the product of the turned matrix. TakenNumbers, LowerEntries, NumberColumns,
+-- FallenNumbers: the numbers known so far, those that fall, and their column. RelaxedEdges: the edges from one vertex.
+-- TurnedUnits: levels on the transposed matrix. LeastNearer: parents are nearer vertices. ParentFacts: who has a parent.
 pub mod ShortWalks
 pub mod NumbersByRound
 pub mod TurnedProducts
@@ -16,4 +21,6 @@ pub mod LowerEntries
 pub mod NumberColumns
 pub mod FallenNumbers
 pub mod RelaxedEdges
-pub mod SettledVertices
+pub mod TurnedUnits
+pub mod LeastNearer
+pub mod ParentFacts

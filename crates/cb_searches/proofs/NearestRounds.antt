@@ -49,7 +49,7 @@ module _ (a : Sparse) (source k : ℕ) (search : Search) (is : IsSearch a source
   }
 
   -- where it has come to its end, each number is the least cost of a walk
-  search_nearest : HasEnded a k search → IsNearest a source (number_at search.known)
+  pub search_nearest : HasEnded a k search → IsNearest a source (number_at search.known)
   unfolding value_at
   search_nearest ended = ⊎_elim
       (λ (none : search.fell.entries ≡ []). settled a source k (number_at search.known) (λ u. at min_plus search.fell u 0) is.nearing (λ v. ap (λ (es : List Entry). value_at infinite es v 0) none))

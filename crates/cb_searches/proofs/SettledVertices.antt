@@ -162,7 +162,7 @@ sum_falls f g v a (suc n) l m h s =
     (cases_eq a v)
 
 -- where one number falls and waits, no more work is left than before
-pub work_lowered : (n : ℕ) (old new : Numbers) (xs ys : List Tentative) (v x : ℕ) → v < n → x < number_at old v → ((w : ℕ) → number_at new w ≡ cond (w == v) x (number_at old w)) → length ys ≡ length xs + 1 → work_left n new ys ≤ work_left n old xs
+pub work_lowered : {X : Type 0} (n : ℕ) (old new : Numbers) (xs ys : List X) (v x : ℕ) → v < n → x < number_at old v → ((w : ℕ) → number_at new w ≡ cond (w == v) x (number_at old w)) → length ys ≡ length xs + 1 → work_left n new ys ≤ work_left n old xs
 work_lowered n old new xs ys v x inside l h long =
     let here : number_at new v ≡ x = h v ∙ cond-true _ _ _ (eq-eqb v v refl) in
     let falls : (w : ℕ) → number_at new w ≤ number_at old w = λ w. ⊎_elim

@@ -35,7 +35,8 @@ weights_stored a is = All-weaker IsUnit (λ e. (e.value < 2 ^ 64) × (e.value �
 abbrev pub Unit_value : ℕ → ℕ → Type 0
 Unit_value bit unit = (bit ≡ 0 → unit ≡ infinite) × (bit ≢ 0 → unit ≡ 1)
 
-unit_value : (es : List Entry) (i j : ℕ) → All IsUnit es → Unit_value (value_at 0 es i j) (value_at infinite es i j)
+-- the value of an entry, as a bit and as a weight
+pub unit_value : (es : List Entry) (i j : ℕ) → All IsUnit es → Unit_value (value_at 0 es i j) (value_at infinite es i j)
 unfolding value_at
 unit_value [] i j h = (λ _. refl, λ n. absurd (n refl))
 unit_value (e ∷ es) i j h =
@@ -50,24 +51,28 @@ ones f [] h = refl
 ones f (x ∷ xs) h = let r = ones f xs (All-tail (λ x. f x ≡ 1) x xs h) in let k = All-head (λ x. f x ≡ 1) x xs h in sum_by-cons f x xs ∙ omega arith
 
 module _ (a : Sparse) (is : IsMatrix or_and a) (square : a.shape.rows ≡ a.shape.cols) (fits : a.shape.rows < infinite) (source : ℕ) (l : source < a.shape.rows) where
-  unit_at : (i j : ℕ) → Unit_value (at or_and a i j) (at min_plus a i j)
+  -- the value of an entry is 1
+  pub unit_at : (i j : ℕ) → Unit_value (at or_and a i j) (at min_plus a i j)
   unit_at i j = unit_value a.entries i j (ones_stored a is)
 
-  to_unit : (v : ℕ) (w : List ℕ) → IsWalk or_and a source v w → IsWalk min_plus a source v w
+  -- a walk is one of weights
+  pub to_unit : (v : ℕ) (w : List ℕ) → IsWalk or_and a source v w → IsWalk min_plus a source v w
   to_unit v w walk = record {
     begins = walk.begins;
     ends = walk.ends;
     stored = All-weaker (λ (p : ℕ × ℕ). at or_and a p.0 p.1 ≢ 0) (λ (p : ℕ × ℕ). at min_plus a p.0 p.1 ≢ infinite) (λ p n e. let k = (unit_at p.0 p.1).1 n in omega arith) (pairs w) walk.stored;
   }
 
-  from_unit : (v : ℕ) (w : List ℕ) → IsWalk min_plus a source v w → IsWalk or_and a source v w
+  -- and the other way round
+  pub from_unit : (v : ℕ) (w : List ℕ) → IsWalk min_plus a source v w → IsWalk or_and a source v w
   from_unit v w walk = record {
     begins = walk.begins;
     ends = walk.ends;
     stored = All-weaker (λ (p : ℕ × ℕ). at min_plus a p.0 p.1 ≢ infinite) (λ (p : ℕ × ℕ). at or_and a p.0 p.1 ≢ 0) (λ p n e. n ((unit_at p.0 p.1).0 e)) (pairs w) walk.stored;
   }
 
-  unit_cost : (v : ℕ) (w : List ℕ) → IsWalk or_and a source v w → cost a w ≡ steps w
+  -- and costs as much as it has steps
+  pub unit_cost : (v : ℕ) (w : List ℕ) → IsWalk or_and a source v w → cost a w ≡ steps w
   unit_cost v w walk =
       sum-map (λ (p : ℕ × ℕ). at min_plus a p.0 p.1) (pairs w)
       ∙ ones (λ (p : ℕ × ℕ). at min_plus a p.0 p.1) (pairs w) (All-weaker (λ (p : ℕ × ℕ). at or_and a p.0 p.1 ≢ 0) (λ (p : ℕ × ℕ). at min_plus a p.0 p.1 ≡ 1) (λ p n. (unit_at p.0 p.1).1 n) (pairs w) walk.stored)

@@ -2,6 +2,7 @@
 use Rattle.std.specs.Prelude.{◌≡◌, ◌≢◌, ℕ, ◌+◌, ◌≤◌, ◌<◌, ◌⊎◌, List, []}
 use Rattle.cb_semirings.specs.Tables.{min_plus}
 use Rattle.cb_matrix.specs.Sparse.{Sparse, IsMatrix, at}
+use Rattle.cb_matrix.specs.Operations.{transposed}
 use Rattle.cb_searches.specs.declared.searches.Search.{Search}
 use Rattle.cb_searches.specs.Walks.{IsWalk, steps, cost, infinite, column_shape}
 use Rattle.cb_searches.specs.Numbers.{number_at, AreNumbers}
@@ -22,6 +23,12 @@ pub record IsSearch (a : Sparse) (source k : ℕ) (search : Search) : Type 0 whe
   pub numbers : AreNumbers a.shape.rows search.known
   pub shape : search.fell.shape ≡ column_shape a
   pub nearing : Nearing a source k (number_at search.known) (λ u. at min_plus search.fell u 0)
+
+-- a square matrix, of whose graph these are the edges: the matrix transposed
+pub record HasEdges (edges a : Sparse) : Type 0 where
+  pub matrix : IsMatrix min_plus a
+  pub square : a.shape.rows ≡ a.shape.cols
+  pub turned : edges ≡ transposed min_plus a
 
 -- it has come to its end: nothing fell in the last round, or there were as many rounds as vertices
 abbrev pub HasEnded : Sparse → ℕ → Search → Type 0

@@ -33,7 +33,7 @@ pub record IsSettling (a : Sparse) (source : ℕ) (d : ℕ → ℕ) (waiting : L
   pub settled : (u : ℕ) → IsWaiting d waiting u ⊎ IsRelaxed a d u
 
 -- a bound for the work that is left: a number that falls lessens the sum of all and waits, and one that is taken out waits no more
-abbrev pub work_left : ℕ → Numbers → List Tentative → ℕ
+abbrev pub work_left : {X : Type 0} → ℕ → Numbers → List X → ℕ
 work_left n known waiting = sum_by (number_at known) (range_with_len 0 n) + length waiting
 
 -- where vertices settle with the old numbers and what waited, they do with the new ones and what waits
@@ -41,5 +41,5 @@ abbrev pub KeepSettling : Sparse → Numbers → List Tentative → Numbers → 
 KeepSettling edges old waited new waiting = (a : Sparse) (source : ℕ) → AreEdges edges a → IsSettling a source (number_at old) waited → IsSettling a source (number_at new) waiting
 
 -- no more work is left after than before
-abbrev pub IsNoMoreWork : ℕ → Numbers → List Tentative → Numbers → List Tentative → Type 0
+abbrev pub IsNoMoreWork : {X : Type 0} → ℕ → Numbers → List X → Numbers → List X → Type 0
 IsNoMoreWork n old waited new waiting = work_left n new waiting ≤ work_left n old waited

@@ -19,7 +19,7 @@ const VERTICES_PER_ENTRY: usize = 4;
 
 /// The numbers of the vertices of a graph as they are known so far: infinite where none is.
 #[derive(Drop)]
-pub(crate) enum Numbers {
+pub enum Numbers {
     /// That of each vertex.
     Dense(Vec<u64>),
     /// Those that aren't infinite.
@@ -44,8 +44,9 @@ impl Numbers {
         Ok(known)
     }
 
-    /// No number is known.
-    fn unknown(alloc: Global, vertices: u32, entries: usize) -> Result<Self, AllocError>
+    /// No number is known, in a graph of so many vertices and entries. Memory is that of a number for each vertex, or
+    /// less, where there are many more vertices than entries.
+    pub fn unknown(alloc: Global, vertices: u32, entries: usize) -> Result<Self, AllocError>
         ensures infinite { IfOk result (λ known. (v : ℕ) → number_at known v ≡ infinite) }
         ensures numbers { IfOk result (λ known. AreNumbers vertices known) }
     {
@@ -57,7 +58,7 @@ impl Numbers {
         }
     }
 
-    /// The number of a vertex.
+    /// The number of a vertex, or `u64::MAX` where none is known.
     pub fn number_of(&self, vertex: u32) -> u64
         ensures { result ≡ number_at self.now vertex }
     {

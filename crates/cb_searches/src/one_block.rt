@@ -3,11 +3,12 @@
 //! The block is transposed once and given up. A few rounds are made on the transposed one, each [`Search::round`]: they
 //! read the edges in order, which is quickest where most vertices are few edges away. After them the vertices that are
 //! left [settle](crate::dijkstra) one after another, so that long walks take no rounds.
-ghost use Rattle.std.specs.Prelude.{◌≡◌, ◌<◌, IfOk};
+ghost use Rattle.std.specs.Prelude.{◌≡◌, ℕ, ◌<◌, IfOk};
 ghost use Rattle.cb_semirings.specs.Tables.{min_plus};
 ghost use Rattle.cb_matrix.specs.Sparse.{Sparse, IsMatrix};
 ghost use Rattle.cb_matrix.specs.Operations.{transposed};
 ghost use Rattle.cb_searches.specs.Walks.{AreDistances, AreLevels};
+ghost use Rattle.cb_searches.specs.Searches.{HasEdges, IsWholeSearch};
 
 use crate::searches::Search;
 use cb_dcsc::Block;
@@ -75,9 +76,24 @@ fn nearest_by_edges(
     edges: &Block<MinPlus>,
     source: u32,
 ) -> Result<Matrix<MinPlus>, AllocError>
-    requires graph { (a : Sparse) × IsMatrix min_plus a × (a.shape.rows ≡ a.shape.cols) × (edges.now ≡ transposed min_plus a) }
+    requires graph { (a : Sparse) × HasEdges edges.now a }
     requires source { source < edges.now.shape.cols }
-    ensures { IfOk result (λ column. (a : Sparse) → IsMatrix min_plus a → a.shape.rows ≡ a.shape.cols → edges.now ≡ transposed min_plus a → AreDistances a source column) }
+    ensures { IfOk result (λ column. (a : Sparse) → HasEdges edges.now a → AreDistances a source column) }
+{
+    let search = search_by_edges(alloc, edges, source)?;
+    search.column(alloc)
+}
+
+/// The search from the source in the graph of a square matrix, of which this is the transposed one, as one block, to its
+/// end.
+pub(crate) fn search_by_edges(
+    alloc: Global,
+    edges: &Block<MinPlus>,
+    source: u32,
+) -> Result<Search, AllocError>
+    requires graph { (a : Sparse) × HasEdges edges.now a }
+    requires source { source < edges.now.shape.cols }
+    ensures { IfOk result (λ s. (a : Sparse) → HasEdges edges.now a → (k : ℕ) × IsWholeSearch a source k s) }
 {
     let shape = edges.shape();
     let mut search = Search::begin(alloc, shape, edges.len(), source)?;
@@ -88,6 +104,5 @@ fn nearest_by_edges(
         }
         search = search.round(alloc, edges)?;
     }
-    let settled = search.settle(alloc, edges)?;
-    settled.column(alloc)
+    search.settle(alloc, edges)
 }

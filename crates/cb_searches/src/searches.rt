@@ -59,6 +59,13 @@ impl Search {
         &self.fell
     }
 
+    /// The numbers as they are known so far.
+    pub(crate) fn known(&self) -> &Numbers
+        ensures { result.now ≡ self.now.known }
+    {
+        &self.known
+    }
+
     /// One round more: what it reached, where that is lower, is taken over.
     pub fn advance(self, alloc: Global, reached: &Matrix<MinPlus>) -> Result<Self, AllocError>
         requires round { (a : Sparse) × (source : ℕ) × (k : ℕ) × IsSearch a source k self × (reached.now ≡ product min_plus (transposed min_plus a) self.fell) }
@@ -108,7 +115,7 @@ impl Search {
 }
 
 /// The shape of a column with a place for each row.
-fn column_shape(shape: Shape) -> Shape
+pub fn column_shape(shape: Shape) -> Shape
     ensures { result ≡ record { rows = shape.rows; cols = 1 } }
 {
     Shape::new(shape.rows(), 1).unwrap()

@@ -1,11 +1,20 @@
 -- What a job asks for.
-use Rattle.std.specs.Prelude.{ℕ}
+use Rattle.std.specs.Prelude.{◌≡◌, ◌⊎◌, ℕ}
+use Rattle.clap.specs.declared.error.kind.ErrorKind.{ErrorKind}
+use Rattle.clap.specs.declared.error.kind.ErrorKind.TheVariants.{DisplayHelp, DisplayVersion}
 use Rattle.cb_operations.specs.OperationAnswers.{operand_count_of}
 use Rattle.cb_words.specs.declared.jobs.Task.{Task}
-use Rattle.cb_words.specs.declared.jobs.Task.TheVariants.{Matrix, Levels, Distances}
+use Rattle.cb_words.specs.declared.jobs.Task.TheVariants.{Matrix, Levels, Distances, Parents, Components, Triangles}
 
 -- how many files a task reads
 abbrev pub file_count_of : Task → ℕ
 file_count_of (Matrix operation semiring) = operand_count_of operation
 file_count_of (Levels source) = 1
 file_count_of (Distances source) = 1
+file_count_of (Parents source) = 1
+file_count_of Components = 1
+file_count_of Triangles = 1
+
+-- the words ask for a text: for help, or for the version
+abbrev pub AsksForText : ErrorKind → Type 0
+AsksForText kind = (kind ≡ DisplayHelp) ⊎ (kind ≡ DisplayVersion)

@@ -6,7 +6,12 @@ use std::alloc::{AllocError, Global};
 
 static ENGINES: [&str; 2] = ["plain", "ranks"];
 
+static SIDES: [&str; 2] = ["rows", "columns"];
+
 static TESTS: [&str; 3] = ["below", "above", "equal"];
+
+/// The version of the program, and of the libraries for C and Python, which take it from here.
+const VERSION: &str = "0.1.0";
 
 /// What stands at the end of a help text: an example, and the statuses.
 macro_rules! after_help {
@@ -33,6 +38,7 @@ enum Choice {
     Semiring,
     Mask,
     Trace,
+    By,
     Test,
     Value,
     Source,
@@ -42,16 +48,21 @@ enum Choice {
     Help,
 }
 
-/// The options that every command takes after those of its own.
-const COMMON: [Choice; 4] = [Choice::Grid, Choice::Engine, Choice::Lane, Choice::Help];
+/// The options that a command takes after those of its own, where ranks can do it.
+const BY_RANKS: [Choice; 4] = [Choice::Grid, Choice::Engine, Choice::Lane, Choice::Help];
 
-/// A command: its word, what help says of it, the names of its files, and the options of its own.
+/// Those where one thread does it.
+const ALONE: [Choice; 1] = [Choice::Help];
+
+/// A command: its word, what help says of it, the names of its files, the options of its own, and those that it has in
+/// common with others.
 struct Outline {
     name: &'static str,
     about: &'static str,
     after_help: &'static str,
     files: &'static [&'static str],
     options: &'static [Choice],
+    common: &'static [Choice],
 }
 
 const MULTIPLY: Outline = Outline {
@@ -60,6 +71,7 @@ const MULTIPLY: Outline = Outline {
     after_help: after_help!("multiply --semiring min-plus roads.mtx roads.mtx > two-roads.mtx"),
     files: &["A", "B"],
     options: &[Choice::Semiring, Choice::Mask, Choice::Trace],
+    common: &BY_RANKS,
 };
 
 const SPMV: Outline = Outline {
@@ -68,6 +80,7 @@ const SPMV: Outline = Outline {
     after_help: after_help!("spmv links.mtx ranks.mtx > next-ranks.mtx"),
     files: &["A", "x"],
     options: &[Choice::Semiring],
+    common: &BY_RANKS,
 };
 
 const TRANSPOSE: Outline = Outline {
@@ -76,6 +89,16 @@ const TRANSPOSE: Outline = Outline {
     after_help: after_help!("transpose links.mtx > linked-from.mtx"),
     files: &["A"],
     options: &[Choice::Semiring],
+    common: &BY_RANKS,
+};
+
+const REDUCE: Outline = Outline {
+    name: "reduce",
+    about: "Write the sum of each row of a matrix, or of each column",
+    after_help: after_help!("reduce links.mtx --by columns > linked.mtx"),
+    files: &["A"],
+    options: &[Choice::Semiring, Choice::By],
+    common: &BY_RANKS,
 };
 
 const ADD: Outline = Outline {
@@ -84,6 +107,7 @@ const ADD: Outline = Outline {
     after_help: after_help!("add --semiring min-plus roads.mtx tracks.mtx > ways.mtx"),
     files: &["A", "B"],
     options: &[Choice::Semiring],
+    common: &BY_RANKS,
 };
 
 const TIMES: Outline = Outline {
@@ -92,6 +116,7 @@ const TIMES: Outline = Outline {
     after_help: after_help!("times --semiring or-and roads.mtx tracks.mtx > both.mtx"),
     files: &["A", "B"],
     options: &[Choice::Semiring],
+    common: &BY_RANKS,
 };
 
 const PRUNE: Outline = Outline {
@@ -100,6 +125,7 @@ const PRUNE: Outline = Outline {
     after_help: after_help!("prune roads.mtx --test above --value 100 > short-roads.mtx"),
     files: &["A"],
     options: &[Choice::Semiring, Choice::Test, Choice::Value],
+    common: &BY_RANKS,
 };
 
 const BFS: Outline = Outline {
@@ -108,6 +134,7 @@ const BFS: Outline = Outline {
     after_help: after_help!("bfs roads.mtx --source 1 > steps.txt"),
     files: &["A"],
     options: &[Choice::Source],
+    common: &BY_RANKS,
 };
 
 const RELAX: Outline = Outline {
@@ -116,11 +143,50 @@ const RELAX: Outline = Outline {
     after_help: after_help!("relax roads.mtx --source 1 > distances.txt"),
     files: &["A"],
     options: &[Choice::Source],
+    common: &BY_RANKS,
+};
+
+const PARENTS: Outline = Outline {
+    name: "parents",
+    about: "Write the vertex before each vertex on a shortest way from a source, by breadth-first search",
+    after_help: after_help!("parents roads.mtx --source 1 > tree.txt"),
+    files: &["A"],
+    options: &[Choice::Source],
+    common: &ALONE,
+};
+
+const COMPONENTS: Outline = Outline {
+    name: "components",
+    about: "Write the least vertex that each vertex is joined to, by edges in either direction",
+    after_help: after_help!("components roads.mtx > islands.txt"),
+    files: &["A"],
+    options: &[],
+    common: &ALONE,
+};
+
+const TRIANGLES: Outline = Outline {
+    name: "triangles",
+    about: "Write how many triangles a graph has, of edges in either direction",
+    after_help: after_help!("triangles friends.mtx"),
+    files: &["A"],
+    options: &[],
+    common: &ALONE,
 };
 
 /// The commands, in the order in which help shows them.
-const OUTLINES: [&Outline; 8] = [
-    &MULTIPLY, &SPMV, &TRANSPOSE, &ADD, &TIMES, &PRUNE, &BFS, &RELAX,
+const OUTLINES: [&Outline; 12] = [
+    &MULTIPLY,
+    &SPMV,
+    &TRANSPOSE,
+    &REDUCE,
+    &ADD,
+    &TIMES,
+    &PRUNE,
+    &BFS,
+    &RELAX,
+    &PARENTS,
+    &COMPONENTS,
+    &TRIANGLES,
 ];
 
 /// An option that takes a value. Its word is its name.
@@ -150,6 +216,12 @@ fn mask<'a>(alloc: Global) -> Arg<'a> {
 fn trace<'a>(alloc: Global) -> Arg<'a> {
     let help = "Print after the product what every rank did";
     flag(alloc, "trace", ArgAction::SetTrue, help)
+}
+
+fn by<'a>(alloc: Global) -> Arg<'a> {
+    with_value(alloc, "by", "SIDE", "Whose entries are added up")
+        .value_parser(SIDES.as_slice())
+        .default_value("rows")
 }
 
 fn test<'a>(alloc: Global) -> Arg<'a> {
@@ -198,7 +270,11 @@ fn lane<'a>(alloc: Global) -> Arg<'a> {
 }
 
 fn help<'a>(alloc: Global) -> Arg<'a> {
-    flag(alloc, "help", ArgAction::Help, "Print help")
+    flag(alloc, "help", ArgAction::Help, "Print help").short('h')
+}
+
+fn version<'a>(alloc: Global) -> Arg<'a> {
+    flag(alloc, "version", ArgAction::Version, "Print the version").short('V')
 }
 
 fn option_of<'a>(alloc: Global, choice: Choice) -> Arg<'a> {
@@ -206,6 +282,7 @@ fn option_of<'a>(alloc: Global, choice: Choice) -> Arg<'a> {
         Choice::Semiring => semiring(alloc),
         Choice::Mask => mask(alloc),
         Choice::Trace => trace(alloc),
+        Choice::By => by(alloc),
         Choice::Test => test(alloc),
         Choice::Value => value(alloc),
         Choice::Source => source(alloc),
@@ -257,7 +334,7 @@ fn command<'a>(alloc: Global, outline: &Outline) -> Result<Command<'a>, AllocErr
         .disable_help_flag(true);
     let command = with_files(alloc, command, outline.files)?;
     let command = with_options(alloc, command, outline.options)?;
-    with_options(alloc, command, &COMMON)
+    with_options(alloc, command, outline.common)
 }
 
 /// The command of products, outside of the program.
@@ -270,10 +347,13 @@ fn bare_program<'a>(alloc: Global) -> Result<Command<'a>, AllocError> {
     Command::new(alloc, "cbgrid")
         .about("Sparse matrices over semirings, read and written as Matrix Market files")
         .after_help(after_help!("multiply a.mtx b.mtx > product.mtx"))
+        .version(VERSION)
         .subcommand_required(true)
         .disable_help_flag(true)
+        .disable_version_flag(true)
         .disable_help_subcommand(true)
-        .arg(help(alloc))
+        .arg(help(alloc))?
+        .arg(version(alloc))
 }
 
 /// The program with one command more. It takes the command as it was made, so that where none was made nothing else

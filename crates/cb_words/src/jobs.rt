@@ -24,6 +24,14 @@ pub enum Task {
     Distances {
         source: u32,
     },
+    /// The least parent of each vertex in a breadth-first search from the source. The file is read in or-and.
+    Parents {
+        source: u32,
+    },
+    /// The least vertex that is joined to each vertex. The file is read in or-and.
+    Components,
+    /// How many triangles there are. The file is read in or-and.
+    Triangles,
 }
 
 /// What runs the ranks.
@@ -60,7 +68,7 @@ impl Job {
     }
 }
 
-/// Why there is no job: help was asked for, the words are none that the program takes, or memory
+/// Why there is no job: help or the version was asked for, the words are none that the program takes, or memory
 /// was refused while they were read.
 #[derive(Debug, Drop, Error)]
 pub enum UsageFault {

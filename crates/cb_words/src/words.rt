@@ -4,7 +4,7 @@ ghost use Rattle.std.specs.Prelude.{◌≢◌, String, ◌≡◌, IfOk, IfSome, 
 ghost use Rattle.std.specs.declared.io.ErrorKind.TheVariants as io_is;
 ghost use Rattle.clap.specs.Words.{kind_of};
 ghost use Rattle.cb_operations.specs.OperationAnswers.{operand_count_of};
-ghost use Rattle.cb_words.specs.Jobs.{file_count_of};
+ghost use Rattle.cb_words.specs.Jobs.{AsksForText, file_count_of};
 
 use crate::commands::{multiply_alone, program};
 use crate::jobs::{EngineName, Job, Task, UsageFault};
@@ -28,22 +28,22 @@ fn usage(alloc: Global, text: &str) -> UsageFault
     }
 }
 
+/// The text of an error: on standard output where help or the version was asked for, and else on standard error.
 fn fault_of(alloc: Global, error: &clap::Error) -> UsageFault
     ensures memory { kind_of error.now ≡ ErrorKind.OutOfMemory → result ≡ UsageFault.Memory }
-    ensures help { kind_of error.now ≢ ErrorKind.DisplayHelp → (text : String Global) → result ≢ UsageFault.Help text }
-    ensures usage { kind_of error.now ≡ ErrorKind.DisplayHelp → (text : String Global) → result ≢ UsageFault.Usage text }
+    ensures help { ¬ AsksForText (kind_of error.now) → (text : String Global) → result ≢ UsageFault.Help text }
+    ensures usage { AsksForText (kind_of error.now) → (text : String Global) → result ≢ UsageFault.Usage text }
 {
-    let kind = error.kind();
-    if kind == ErrorKind::OutOfMemory {
+    if error.kind() == ErrorKind::OutOfMemory {
         return UsageFault::Memory;
     }
     match error.to_string(alloc) {
         Err(_) => UsageFault::Memory,
         Ok(text) => {
-            if kind == ErrorKind::DisplayHelp {
-                UsageFault::Help(text)
-            } else {
+            if error.use_stderr() {
                 UsageFault::Usage(text)
+            } else {
+                UsageFault::Help(text)
             }
         }
     }
@@ -57,7 +57,8 @@ fn operands(operation: Operation) -> &'static [&'static str]
         Operation::Multiply | Operation::Add | Operation::Times => &["A", "B"],
         Operation::MultiplyMasked => &["A", "B", "mask"],
         Operation::MultiplyVector => &["A", "x"],
-        Operation::Transpose | Operation::Prune(_) => &["A"],
+        Operation::Transpose | Operation::RowSums | Operation::ColumnSums => &["A"],
+        Operation::Prune(_) => &["A"],
     }
 }
 
@@ -67,7 +68,8 @@ fn arguments(task: Task) -> &'static [&'static str]
 {
     match task {
         Task::Matrix { operation, .. } => operands(operation),
-        Task::Levels { .. } | Task::Distances { .. } => &["A"],
+        Task::Levels { .. } | Task::Distances { .. } | Task::Parents { .. } => &["A"],
+        Task::Components | Task::Triangles => &["A"],
     }
 }
 
@@ -170,6 +172,8 @@ fn operation_of(command: &str, found: &ArgMatches<'_>) -> Option<Operation> {
         "multiply" => Some(Operation::Multiply),
         "spmv" => Some(Operation::MultiplyVector),
         "transpose" => Some(Operation::Transpose),
+        "reduce" if found.get_str("by") == Some("columns") => Some(Operation::ColumnSums),
+        "reduce" => Some(Operation::RowSums),
         "add" => Some(Operation::Add),
         "times" => Some(Operation::Times),
         "prune" => Some(Operation::Prune(test_of(found)?)),
@@ -186,6 +190,11 @@ fn task_of(command: &str, found: &ArgMatches<'_>) -> Option<Task> {
         "relax" => Some(Task::Distances {
             source: source_of(found)?,
         }),
+        "parents" => Some(Task::Parents {
+            source: source_of(found)?,
+        }),
+        "components" => Some(Task::Components),
+        "triangles" => Some(Task::Triangles),
         _ => Some(Task::Matrix {
             operation: operation_of(command, found)?,
             semiring: semiring_of(found)?,

@@ -3,7 +3,7 @@ use Rattle.cb_matrix.specs.Sparse.{Sparse}
 use Rattle.cb_searches.proofs.one_block.distances.Goals as goal
 
 pub nearest_by_edges-requires-clause-graph : goal.nearest_by_edges-requires-clause-graph
-nearest_by_edges-requires-clause-graph c = (c.args.graph, c.shape-shape.ensures.matrix, c.requires.square, c.in_ok-edges.ensures)
+nearest_by_edges-requires-clause-graph c = (c.args.graph, record { matrix = c.shape-shape.ensures.matrix; square = c.requires.square; turned = c.in_ok-edges.ensures })
 
 pub nearest_by_edges-requires-clause-source : goal.nearest_by_edges-requires-clause-source
 nearest_by_edges-requires-clause-source c =
@@ -11,4 +11,4 @@ nearest_by_edges-requires-clause-source c =
     omega (arith, cols, c.requires.source)
 
 pub returns-clause-distances : goal.returns-clause-distances
-returns-clause-distances c = c.in_ok-column.ensures c.args.graph c.shape-shape.ensures.matrix c.requires.square c.in_ok-edges.ensures
+returns-clause-distances c = c.in_ok-column.ensures c.args.graph (record { matrix = c.shape-shape.ensures.matrix; square = c.requires.square; turned = c.in_ok-edges.ensures })

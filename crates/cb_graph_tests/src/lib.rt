@@ -1,0 +1,13 @@
+//! What the calls on graphs answer, at graphs small enough to follow by eye: parents in a breadth-first search,
+//! connected components, and triangles.
+//!
+//! The tests named for refused memory accept the right answer or the error for want of memory; the others need ample
+//! memory.
+#![tactic(auto)]
+
+#[cfg(test)]
+mod components;
+#[cfg(test)]
+mod parents;
+#[cfg(test)]
+mod triangles;

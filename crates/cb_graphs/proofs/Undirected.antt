@@ -1,0 +1,45 @@
+-- A square matrix and its transposed one, added: it has each entry in both directions.
+use Rattle.std.proofs.Common.{◌≡◌, ℕ, ◌<◌, ◌≤◌, ⊎_elim, ◌∙◌, arith}
+use Rattle.std.specs.Prelude.{max}
+use Rattle.std.proofs.lemmas.Bool.{cases_lt}
+use Rattle.cb_semirings.specs.Tables.{or_and}
+use Rattle.cb_semirings.specs.Laws.{or_and_is_semiring}
+use Rattle.cb_matrix.specs.Sparse.{Sparse, IsMatrix, at}
+use Rattle.cb_matrix.specs.Operations.{transposed}
+use Rattle.cb_matrix.proofs.Made.{at-matrix_of, at-outside, IsMatrix-matrix_of}
+use Rattle.cb_matrix.proofs.Totals.{value_at-value}
+use Rattle.cb_graphs.specs.Components.{undirected}
+use Rattle.cb_graphs.specs.Floods.{IsUndirected}
+
+module _ (a : Sparse) (is : IsMatrix or_and a) (square : a.shape.rows ≡ a.shape.cols) where
+  bit : (i j : ℕ) → at or_and a i j < 2
+  bit i j = value_at-value or_and or_and_is_semiring a.entries i j is.values
+
+  turned_at : (i j : ℕ) → i < a.shape.rows → j < a.shape.rows → at or_and (transposed or_and a) i j ≡ at or_and a j i
+  turned_at i j l k = at-matrix_of or_and (record { rows = a.shape.cols; cols = a.shape.rows }) (λ i j. at or_and a j i) i j (omega (arith, square)) k
+
+  -- where it has a value
+  undirected_at : (i j : ℕ) → i < a.shape.rows → j < a.shape.rows → at or_and (undirected a) i j ≡ max (at or_and a i j) (at or_and a j i)
+  undirected_at i j l k =
+      at-matrix_of or_and a.shape (λ i j. max (at or_and a i j) (at or_and (transposed or_and a) i j)) i j l (omega (arith, square))
+      ∙ (λ t. max (at or_and a i j) (turned_at i j l k t))
+
+  -- it is a matrix
+  pub undirected_matrix : IsMatrix or_and (undirected a)
+  undirected_matrix = IsMatrix-matrix_of or_and a.shape (λ i j. max (at or_and a i j) (at or_and (transposed or_and a) i j)) (λ i j l k.
+      let m : j < a.shape.rows = omega (arith, square) in
+      omega (arith, bit i j, turned_at i j l m, bit j i))
+
+  outside : (i j : ℕ) → (i < a.shape.rows → j < a.shape.cols → ⊥) → at or_and (undirected a) i j ≡ 0
+  outside i j h = at-outside 0 a.shape (undirected a).entries i j undirected_matrix.inside h
+
+  -- each entry has one in the other direction
+  pub undirected_both : IsUndirected (undirected a)
+  undirected_both u v some =
+      ⊎_elim
+      (λ (l : u < a.shape.rows). ⊎_elim
+      (λ (k : v < a.shape.rows). λ none. some (omega (arith, none, undirected_at u v l k, undirected_at v u k l)))
+      (λ (k : a.shape.rows ≤ v). absurd (some (outside u v (λ _ m. omega (arith, square)))))
+      (cases_lt v a.shape.rows))
+      (λ (l : a.shape.rows ≤ u). absurd (some (outside u v (λ m _. omega arith))))
+      (cases_lt u a.shape.rows)
