@@ -1,5 +1,5 @@
 /*
- * Times the product of a matrix by itself, over lists and over the semiring plus-times: bench FILE [RUNS]
+ * Times the product of a matrix by itself over the semiring plus-times, on lists and kept: bench FILE [RUNS]
  *
  * FILE is a Matrix Market text. Prints the entries of the matrix and of the product, and the medians of RUNS
  * products (10 by default) and of freeing their answers, in microseconds of the clock.
@@ -40,6 +40,22 @@ static char *contents(const char *name, size_t *len) {
     return bytes;
 }
 
+/* The same of a kept matrix. Answers the code. */
+static int time_kept(const struct cbgrid_columns *lists, size_t runs, double *products, double *frees) {
+    struct cbgrid_matrix *matrix, *product;
+    int code = cbgrid_matrix_of_columns(CBGRID_PLUS_TIMES, lists, &matrix);
+    if (code) return code;
+    for (size_t n = 0; n < runs && !code; n++) {
+        double start = now();
+        code = cbgrid_matrix_multiply(matrix, matrix, &product);
+        double end = now();
+        if (!code) cbgrid_matrix_free(product);
+        products[n] = end - start, frees[n] = now() - end;
+    }
+    cbgrid_matrix_free(matrix);
+    return code;
+}
+
 int main(int argc, char **argv) {
     size_t runs = argc > 2 ? strtoul(argv[2], NULL, 10) : 10, len = 0;
     char *text = argc > 1 ? contents(argv[1], &len) : NULL;
@@ -61,7 +77,10 @@ int main(int argc, char **argv) {
     }
     if (code) return fprintf(stderr, "%s\n", cbgrid_message(code)), 1;
     printf("%zu entries, %zu entries made\n", matrix.rows_len, made);
-    printf("%.0f us a product, %.0f us to free it\n", median(products, runs), median(frees, runs));
+    printf("%.1f us a product of lists, %.1f us to free it\n", median(products, runs), median(frees, runs));
+    code = time_kept(&matrix, runs, products, frees);
+    if (code) return fprintf(stderr, "%s\n", cbgrid_message(code)), 1;
+    printf("%.1f us a product of kept matrices, %.1f us to free it\n", median(products, runs), median(frees, runs));
     cbgrid_free_columns(&matrix);
     free(products), free(frees);
     return 0;

@@ -1,6 +1,7 @@
 /*
  * The C side of cbgrid: it looks for null pointers, puts a valid pointer in the place of a null one where a
- * list is empty, calls, and frees. All else is the proved library's, crates/cb_ffi.
+ * list is empty, calls, and frees. Compressed rows are the compressed columns of the transpose, which two proved
+ * calls turn. All else is the proved library's, crates/cb_ffi.
  */
 #include "cbgrid.h"
 
@@ -78,6 +79,8 @@ uint32_t cbgrid_kernel_multiply_masked(uint32_t semiring, uint32_t grid, lent a,
                                        struct cbgrid_columns *out);
 uint32_t cbgrid_kernel_vector(uint32_t semiring, uint32_t grid, lent a, lent x, struct cbgrid_columns *out);
 uint32_t cbgrid_kernel_transpose(uint32_t semiring, uint32_t grid, lent a, struct cbgrid_columns *out);
+uint32_t cbgrid_kernel_row_sums(uint32_t semiring, uint32_t grid, lent a, struct cbgrid_columns *out);
+uint32_t cbgrid_kernel_column_sums(uint32_t semiring, uint32_t grid, lent a, struct cbgrid_columns *out);
 uint32_t cbgrid_kernel_add(uint32_t semiring, uint32_t grid, lent a, lent b, struct cbgrid_columns *out);
 uint32_t cbgrid_kernel_times(uint32_t semiring, uint32_t grid, lent a, lent b, struct cbgrid_columns *out);
 uint32_t cbgrid_kernel_prune(uint32_t semiring, uint32_t grid, lent a, uint32_t test, uint64_t bound,
@@ -87,6 +90,47 @@ uint32_t cbgrid_kernel_distances(uint32_t grid, lent a, uint32_t source, struct 
 uint32_t cbgrid_kernel_read(uint32_t semiring, const unsigned char *text, size_t len, uint64_t *line,
                             struct cbgrid_columns *out);
 uint32_t cbgrid_kernel_text(uint32_t semiring, lent a, struct cbgrid_text *out);
+
+/* A kept matrix is lent and owned by its address alone. */
+struct owned {
+    struct cbgrid_matrix *at;
+};
+struct borrowed {
+    const struct cbgrid_matrix *at;
+};
+struct summary {
+    uint32_t nrows, ncols, semiring;
+    uint64_t entries;
+};
+_Static_assert(sizeof(struct owned) == 8 && sizeof(struct borrowed) == 8, "kept matrices");
+_Static_assert(sizeof(struct summary) == 24 && offsetof(struct summary, entries) == 16, "summary");
+_Static_assert(sizeof(struct cbgrid_triple) == 16 && offsetof(struct cbgrid_triple, value) == 8, "triple");
+
+typedef struct borrowed kept;
+uint32_t cbgrid_kernel_keep(uint32_t semiring, lent a, struct owned *out);
+uint32_t cbgrid_kernel_keep_triples(uint32_t semiring, uint32_t nrows, uint32_t ncols,
+                                    const struct cbgrid_triple *triples, size_t len, struct owned *out);
+uint32_t cbgrid_kernel_kept_multiply(kept a, kept b, struct owned *out);
+uint32_t cbgrid_kernel_kept_multiply_masked(kept a, kept b, kept mask, struct owned *out);
+uint32_t cbgrid_kernel_kept_vector(kept a, kept x, struct owned *out);
+uint32_t cbgrid_kernel_kept_transpose(kept a, struct owned *out);
+uint32_t cbgrid_kernel_kept_row_sums(kept a, struct owned *out);
+uint32_t cbgrid_kernel_kept_column_sums(kept a, struct owned *out);
+uint32_t cbgrid_kernel_kept_add(kept a, kept b, struct owned *out);
+uint32_t cbgrid_kernel_kept_times(kept a, kept b, struct owned *out);
+uint32_t cbgrid_kernel_kept_prune(kept a, uint32_t test, uint64_t bound, struct owned *out);
+uint32_t cbgrid_kernel_kept_levels(kept a, uint32_t source, struct owned *out);
+uint32_t cbgrid_kernel_kept_distances(kept a, uint32_t source, struct owned *out);
+uint32_t cbgrid_kernel_kept_parents(kept a, uint32_t source, struct owned *out);
+uint32_t cbgrid_kernel_kept_components(kept a, struct owned *out);
+uint32_t cbgrid_kernel_kept_triangles(kept a, uint64_t *out);
+uint32_t cbgrid_kernel_kept_read(uint32_t semiring, const unsigned char *text, size_t len, uint64_t *line,
+                                 struct owned *out);
+uint32_t cbgrid_kernel_kept_text(kept a, struct cbgrid_text *out);
+uint32_t cbgrid_kernel_kept_lists(kept a, struct cbgrid_columns *out);
+void cbgrid_kernel_kept_summary(kept a, struct summary *out);
+uint64_t cbgrid_kernel_kept_value(kept a, uint32_t row, uint32_t column);
+void cbgrid_kernel_release(struct owned a);
 
 /* What an empty list points to: a slice is never null. */
 static const uint64_t nothing = 0;
@@ -148,6 +192,18 @@ int cbgrid_transpose(uint32_t semiring, uint32_t grid, lent a, struct cbgrid_col
     struct cbgrid_columns matrix, made = no_columns();
     if (!out || !lend(&matrix, a)) return CBGRID_NULL_POINTER;
     return give(cbgrid_kernel_transpose(semiring, grid, &matrix, &made), made, out);
+}
+
+int cbgrid_row_sums(uint32_t semiring, uint32_t grid, lent a, struct cbgrid_columns *out) {
+    struct cbgrid_columns matrix, made = no_columns();
+    if (!out || !lend(&matrix, a)) return CBGRID_NULL_POINTER;
+    return give(cbgrid_kernel_row_sums(semiring, grid, &matrix, &made), made, out);
+}
+
+int cbgrid_column_sums(uint32_t semiring, uint32_t grid, lent a, struct cbgrid_columns *out) {
+    struct cbgrid_columns matrix, made = no_columns();
+    if (!out || !lend(&matrix, a)) return CBGRID_NULL_POINTER;
+    return give(cbgrid_kernel_column_sums(semiring, grid, &matrix, &made), made, out);
 }
 
 int cbgrid_add(uint32_t semiring, uint32_t grid, lent a, lent b, struct cbgrid_columns *out) {
@@ -257,6 +313,211 @@ struct cbgrid_columns cbgrid_csc64(uint32_t nrows, uint32_t ncols, const uint64_
     return made;
 }
 
+/* Puts a kept matrix where the caller wants it. */
+static int hand(uint32_t code, struct owned made, struct cbgrid_matrix **out) {
+    if (code == CBGRID_OK) *out = made.at;
+    return (int)code;
+}
+
+int cbgrid_matrix_of_columns(uint32_t semiring, lent lists, struct cbgrid_matrix **out) {
+    struct cbgrid_columns columns;
+    struct owned made = {NULL};
+    if (!out || !lend(&columns, lists)) return CBGRID_NULL_POINTER;
+    return hand(cbgrid_kernel_keep(semiring, &columns, &made), made, out);
+}
+
+int cbgrid_matrix_of_rows(uint32_t semiring, lent rows, struct cbgrid_matrix **out) {
+    struct cbgrid_matrix *turned, *made;
+    if (!out) return CBGRID_NULL_POINTER;
+    int code = cbgrid_matrix_of_columns(semiring, rows, &turned);
+    if (code) return code;
+    code = cbgrid_matrix_transpose(turned, &made);
+    cbgrid_matrix_free(turned);
+    if (code == CBGRID_OK) *out = made;
+    return code;
+}
+
+int cbgrid_matrix_of_triples(uint32_t semiring, uint32_t nrows, uint32_t ncols, const struct cbgrid_triple *triples,
+                             size_t len, struct cbgrid_matrix **out) {
+    static const struct cbgrid_triple none = {0, 0, 0};
+    struct owned made = {NULL};
+    if (!out || (len && !triples)) return CBGRID_NULL_POINTER;
+    return hand(cbgrid_kernel_keep_triples(semiring, nrows, ncols, len ? triples : &none, len, &made), made, out);
+}
+
+int cbgrid_matrix_columns(const struct cbgrid_matrix *a, struct cbgrid_columns *out) {
+    struct cbgrid_columns made = no_columns();
+    if (!a || !out) return CBGRID_NULL_POINTER;
+    return give(cbgrid_kernel_kept_lists((kept){a}, &made), made, out);
+}
+
+int cbgrid_matrix_rows(const struct cbgrid_matrix *a, struct cbgrid_columns *out) {
+    struct cbgrid_matrix *turned;
+    if (!a || !out) return CBGRID_NULL_POINTER;
+    int code = cbgrid_matrix_transpose(a, &turned);
+    if (code) return code;
+    code = cbgrid_matrix_columns(turned, out);
+    cbgrid_matrix_free(turned);
+    return code;
+}
+
+int cbgrid_matrix_triples(const struct cbgrid_matrix *a, struct cbgrid_triple *out) {
+    struct cbgrid_columns lists;
+    if (!a || (!out && cbgrid_matrix_entries(a))) return CBGRID_NULL_POINTER;
+    int code = cbgrid_matrix_columns(a, &lists);
+    if (code) return code;
+    for (size_t k = 0; k < lists.columns_len; k++) {
+        for (size_t n = lists.starts64[k]; n < lists.starts64[k + 1]; n++) {
+            out[n] = (struct cbgrid_triple){lists.rows[n], lists.columns[k], lists.values[n]};
+        }
+    }
+    cbgrid_free_columns(&lists);
+    return CBGRID_OK;
+}
+
+static struct summary summary_of(const struct cbgrid_matrix *a) {
+    struct summary made = {0, 0, 0, 0};
+    if (a) cbgrid_kernel_kept_summary((kept){a}, &made);
+    return made;
+}
+
+uint32_t cbgrid_matrix_nrows(const struct cbgrid_matrix *a) {
+    return summary_of(a).nrows;
+}
+
+uint32_t cbgrid_matrix_ncols(const struct cbgrid_matrix *a) {
+    return summary_of(a).ncols;
+}
+
+uint32_t cbgrid_matrix_semiring(const struct cbgrid_matrix *a) {
+    return summary_of(a).semiring;
+}
+
+uint64_t cbgrid_matrix_entries(const struct cbgrid_matrix *a) {
+    return summary_of(a).entries;
+}
+
+int cbgrid_matrix_value(const struct cbgrid_matrix *a, uint32_t row, uint32_t column, uint64_t *out) {
+    if (!a || !out) return CBGRID_NULL_POINTER;
+    struct summary shape = summary_of(a);
+    if (row >= shape.nrows || column >= shape.ncols) return CBGRID_PLACE;
+    *out = cbgrid_kernel_kept_value((kept){a}, row, column);
+    return CBGRID_OK;
+}
+
+int cbgrid_matrix_multiply(const struct cbgrid_matrix *a, const struct cbgrid_matrix *b, struct cbgrid_matrix **out) {
+    struct owned made = {NULL};
+    if (!a || !b || !out) return CBGRID_NULL_POINTER;
+    return hand(cbgrid_kernel_kept_multiply((kept){a}, (kept){b}, &made), made, out);
+}
+
+int cbgrid_matrix_multiply_masked(const struct cbgrid_matrix *a, const struct cbgrid_matrix *b,
+                                  const struct cbgrid_matrix *mask, struct cbgrid_matrix **out) {
+    struct owned made = {NULL};
+    if (!a || !b || !mask || !out) return CBGRID_NULL_POINTER;
+    return hand(cbgrid_kernel_kept_multiply_masked((kept){a}, (kept){b}, (kept){mask}, &made), made, out);
+}
+
+int cbgrid_matrix_vector(const struct cbgrid_matrix *a, const struct cbgrid_matrix *x, struct cbgrid_matrix **out) {
+    struct owned made = {NULL};
+    if (!a || !x || !out) return CBGRID_NULL_POINTER;
+    return hand(cbgrid_kernel_kept_vector((kept){a}, (kept){x}, &made), made, out);
+}
+
+int cbgrid_matrix_transpose(const struct cbgrid_matrix *a, struct cbgrid_matrix **out) {
+    struct owned made = {NULL};
+    if (!a || !out) return CBGRID_NULL_POINTER;
+    return hand(cbgrid_kernel_kept_transpose((kept){a}, &made), made, out);
+}
+
+int cbgrid_matrix_row_sums(const struct cbgrid_matrix *a, struct cbgrid_matrix **out) {
+    struct owned made = {NULL};
+    if (!a || !out) return CBGRID_NULL_POINTER;
+    return hand(cbgrid_kernel_kept_row_sums((kept){a}, &made), made, out);
+}
+
+int cbgrid_matrix_column_sums(const struct cbgrid_matrix *a, struct cbgrid_matrix **out) {
+    struct owned made = {NULL};
+    if (!a || !out) return CBGRID_NULL_POINTER;
+    return hand(cbgrid_kernel_kept_column_sums((kept){a}, &made), made, out);
+}
+
+int cbgrid_matrix_add(const struct cbgrid_matrix *a, const struct cbgrid_matrix *b, struct cbgrid_matrix **out) {
+    struct owned made = {NULL};
+    if (!a || !b || !out) return CBGRID_NULL_POINTER;
+    return hand(cbgrid_kernel_kept_add((kept){a}, (kept){b}, &made), made, out);
+}
+
+int cbgrid_matrix_times(const struct cbgrid_matrix *a, const struct cbgrid_matrix *b, struct cbgrid_matrix **out) {
+    struct owned made = {NULL};
+    if (!a || !b || !out) return CBGRID_NULL_POINTER;
+    return hand(cbgrid_kernel_kept_times((kept){a}, (kept){b}, &made), made, out);
+}
+
+int cbgrid_matrix_prune(const struct cbgrid_matrix *a, uint32_t test, uint64_t bound, struct cbgrid_matrix **out) {
+    struct owned made = {NULL};
+    if (!a || !out) return CBGRID_NULL_POINTER;
+    return hand(cbgrid_kernel_kept_prune((kept){a}, test, bound, &made), made, out);
+}
+
+int cbgrid_matrix_levels(const struct cbgrid_matrix *a, uint32_t source, struct cbgrid_matrix **out) {
+    struct owned made = {NULL};
+    if (!a || !out) return CBGRID_NULL_POINTER;
+    return hand(cbgrid_kernel_kept_levels((kept){a}, source, &made), made, out);
+}
+
+int cbgrid_matrix_distances(const struct cbgrid_matrix *a, uint32_t source, struct cbgrid_matrix **out) {
+    struct owned made = {NULL};
+    if (!a || !out) return CBGRID_NULL_POINTER;
+    return hand(cbgrid_kernel_kept_distances((kept){a}, source, &made), made, out);
+}
+
+int cbgrid_matrix_parents(const struct cbgrid_matrix *a, uint32_t source, struct cbgrid_matrix **out) {
+    struct owned made = {NULL};
+    if (!a || !out) return CBGRID_NULL_POINTER;
+    return hand(cbgrid_kernel_kept_parents((kept){a}, source, &made), made, out);
+}
+
+int cbgrid_matrix_components(const struct cbgrid_matrix *a, struct cbgrid_matrix **out) {
+    struct owned made = {NULL};
+    if (!a || !out) return CBGRID_NULL_POINTER;
+    return hand(cbgrid_kernel_kept_components((kept){a}, &made), made, out);
+}
+
+int cbgrid_matrix_triangles(const struct cbgrid_matrix *a, uint64_t *out) {
+    if (!a || !out) return CBGRID_NULL_POINTER;
+    return (int)cbgrid_kernel_kept_triangles((kept){a}, out);
+}
+
+int cbgrid_matrix_read(uint32_t semiring, const void *text, size_t len, uint64_t *line, struct cbgrid_matrix **out) {
+    struct owned made = {NULL};
+    uint64_t at = 0;
+    if (!out || (len && !text)) return CBGRID_NULL_POINTER;
+    const unsigned char *bytes = len ? (const unsigned char *)text : (const unsigned char *)&nothing;
+    uint32_t code = cbgrid_kernel_kept_read(semiring, bytes, len, &at, &made);
+    if (line && code == CBGRID_FORMAT) *line = at;
+    return hand(code, made, out);
+}
+
+int cbgrid_matrix_text(const struct cbgrid_matrix *a, struct cbgrid_text *out) {
+    struct cbgrid_text made = {(const unsigned char *)&nothing, 0};
+    if (!a || !out) return CBGRID_NULL_POINTER;
+    uint32_t code = cbgrid_kernel_kept_text((kept){a}, &made);
+    if (code == CBGRID_OK) *out = made;
+    return (int)code;
+}
+
+/* The library gives the lists back, and leaves what the pointer points to, which is malloc's. */
+void cbgrid_matrix_free(struct cbgrid_matrix *a) {
+    if (!a) return;
+    cbgrid_kernel_release((struct owned){a});
+    free(a);
+}
+
+const char *cbgrid_version(void) {
+    return CBGRID_VERSION;
+}
+
 const char *cbgrid_message(int code) {
     static const char *const messages[] = {
         "done",
@@ -275,6 +536,7 @@ const char *cbgrid_message(int code) {
         "not a Matrix Market text of this profile",
         "out of memory",
         "null pointer",
+        "matrices over other semirings",
     };
     return code >= 0 && (size_t)code < sizeof messages / sizeof *messages ? messages[code] : "no such code";
 }

@@ -1,10 +1,10 @@
 /*
- * cbgrid: products, sums, transposes, prunes and texts of sparse matrices over semirings, and levels and
- * distances in the graphs of square ones.
+ * cbgrid: sparse matrices over semirings. Products, sums, transposes, reductions, pruning and Matrix Market
+ * texts; and of graphs levels, distances, parents, components and triangles.
  *
- * Matrices are lent as lists of compressed columns, and answers come back as such lists. A call reads the
- * caller's lists where they lie, checks them, and copies their entries once into a block of its own, from
- * which it works. The caller's lists need not be converted first, and nothing is written to them.
+ * Matrices are passed as compressed columns, and results are returned in the same form. A call checks the
+ * caller's arrays where they are, and copies their entries once into a block of its own. The arrays need no
+ * conversion and are never written to. For matrices that are used more than once, see `Kept matrices` below.
  *
  *     uint32_t starts[] = {0, 1, 3}, rows[] = {0, 0, 1};
  *     uint64_t values[] = {1, 2, 3};
@@ -23,8 +23,8 @@
  * any code but CBGRID_OK `out` is as it was. No call prints, exits, aborts or keeps state between
  * calls; there is nothing to start or to shut down.
  *
- * Memory. Answers are the caller's: cbgrid_free_columns and cbgrid_free_text give them back. `out` is
- * written and not read, so an answer that stands in it is lost: free it first. `out` may be one of the
+ * Memory. Results are malloc'ed; release them with cbgrid_free_columns and cbgrid_free_text. `out` is only
+ * written, so free a result that it still holds before you reuse it. `out` may be one of the
  * operands where that operand's lists are the caller's own. An operand may be an answer of an earlier
  * call, and one matrix may stand for several operands.
  *
@@ -35,9 +35,10 @@
  * What is proved. Each call is proved, for every input, to stay inside the lists that it is lent, to
  * return, and to answer as its sentence here says, with the answer exact to the last value; the proofs
  * are run whenever libcb_ffi.a is built (docs/PROMISES.md). Not proved: this header, cbgrid.c (null
- * pointers, messages, freeing), the C compiler and malloc. And the caller is trusted to lend what a
- * struct says: pointers that are aligned for their type, at as many elements as the length says, which
- * nobody changes while a call runs.
+ * pointers, messages, freeing; that compressed rows are the compressed columns of the transpose; the
+ * triples of a kept matrix), the C compiler and malloc. And the caller is trusted to lend what a struct
+ * says: pointers that are aligned for their type, at as many elements as the length says, which nobody
+ * changes while a call runs; and kept matrices that nobody has freed.
  *
  * The code needs x86-64-v2 (any x86-64 processor since about 2009), and does not look whether it is there.
  */
@@ -51,6 +52,9 @@
 extern "C" {
 #endif
 
+/* The version of the library: what cbgrid_version answers. */
+#define CBGRID_VERSION "0.1.0"
+
 /* The most rows or columns that a matrix can have. */
 #define CBGRID_LIMIT 2147483647u
 
@@ -62,12 +66,35 @@ extern "C" {
  *   MIN_PLUS          0 to 2^64 - 1    the least         the sum, at most 2^64 - 1      2^64 - 1
  *   OR_AND            0 and 1          or                and                            0
  *   MAX_MIN           0 to 2^64 - 1    the greatest      the least                      0
+ *   PLUS_PAIR         0 to 2^64 - 1    modulo 2^64       1                              0
+ *   PLUS_MIN          0 to 2^64 - 1    modulo 2^64       the least                      0
+ *   PLUS_FIRST        0 to 2^64 - 1    modulo 2^64       the first                      0
+ *   PLUS_SECOND       0 to 2^64 - 1    modulo 2^64       the second                     0
+ *   MIN_FIRST         0 to 2^64 - 1    the least         the first                      2^64 - 1
+ *   MIN_SECOND        0 to 2^64 - 1    the least         the second                     2^64 - 1
+ *   MAX_FIRST         0 to 2^64 - 1    the greatest      the first                      0
+ *   MAX_SECOND        0 to 2^64 - 1    the greatest      the second                     0
+ *   MAX_PLUS          0 to 2^64 - 1    the greatest      the sum, at most 2^64 - 1      0
+ *   MIN_MAX           0 to 2^64 - 1    the least         the greatest                   2^64 - 1
+ *
+ * In each of them a product is zero where one of the two is: so the products of the last ten are as told
+ * where neither is.
  */
 enum cbgrid_semiring {
     CBGRID_PLUS_TIMES = 0,
     CBGRID_MIN_PLUS = 1,
     CBGRID_OR_AND = 2,
-    CBGRID_MAX_MIN = 3
+    CBGRID_MAX_MIN = 3,
+    CBGRID_PLUS_PAIR = 4,
+    CBGRID_PLUS_MIN = 5,
+    CBGRID_PLUS_FIRST = 6,
+    CBGRID_PLUS_SECOND = 7,
+    CBGRID_MIN_FIRST = 8,
+    CBGRID_MIN_SECOND = 9,
+    CBGRID_MAX_FIRST = 10,
+    CBGRID_MAX_SECOND = 11,
+    CBGRID_MAX_PLUS = 12,
+    CBGRID_MIN_MAX = 13
 };
 
 /* Which values cbgrid_prune drops: those strictly below a bound, strictly above it, or equal to it. */
@@ -94,7 +121,8 @@ enum cbgrid_code {
     CBGRID_SOURCE = 12,      /* the graph has no such vertex */
     CBGRID_FORMAT = 13,      /* not a Matrix Market text of the profile (docs/FORMAT.md) */
     CBGRID_MEMORY = 14,      /* malloc refused memory */
-    CBGRID_NULL_POINTER = 15 /* an argument, or a list that is not empty, is a null pointer */
+    CBGRID_NULL_POINTER = 15, /* an argument, or a list that is not empty, is a null pointer */
+    CBGRID_MIXED = 16         /* kept matrices are over other semirings than one another, or than the call's */
 };
 
 /* What `kind` and `wide` of struct cbgrid_columns may be. */
@@ -192,6 +220,13 @@ int cbgrid_vector(uint32_t semiring, uint32_t grid, const struct cbgrid_columns 
 /* The transpose of a. */
 int cbgrid_transpose(uint32_t semiring, uint32_t grid, const struct cbgrid_columns *a, struct cbgrid_columns *out);
 
+/* The sum of each row of a, a matrix of one column with as many rows. A sum that is zero is no entry. Costs a
+ * transpose of a. */
+int cbgrid_row_sums(uint32_t semiring, uint32_t grid, const struct cbgrid_columns *a, struct cbgrid_columns *out);
+
+/* The sum of each column of a, a matrix of one row with as many columns. A sum that is zero is no entry. */
+int cbgrid_column_sums(uint32_t semiring, uint32_t grid, const struct cbgrid_columns *a, struct cbgrid_columns *out);
+
 /* The sum, place by place, of two matrices of one shape, else CBGRID_SHAPES. */
 int cbgrid_add(uint32_t semiring, uint32_t grid, const struct cbgrid_columns *a, const struct cbgrid_columns *b,
                struct cbgrid_columns *out);
@@ -231,6 +266,109 @@ int cbgrid_text(uint32_t semiring, const struct cbgrid_columns *a, struct cbgrid
  * time does nothing. Never for a matrix over lists of the caller's own. A null pointer is let be. */
 void cbgrid_free_columns(struct cbgrid_columns *matrix);
 void cbgrid_free_text(struct cbgrid_text *text);
+
+/*
+ * ---- Kept matrices
+ *
+ * A call above checks the lists that it is lent, copies them into a block of its own, and answers lists. A kept
+ * matrix is such a block, over one semiring: made once, never changed, used where it lies, and freed once. A
+ * call on kept matrices copies no operand, and its answer is a new kept matrix.
+ *
+ *     struct cbgrid_matrix *graph, *walks;
+ *     int code = cbgrid_matrix_of_columns(CBGRID_PLUS_TIMES, &lists, &graph);
+ *     if (!code) code = cbgrid_matrix_multiply(graph, graph, &walks);
+ *     ..
+ *     cbgrid_matrix_free(walks);
+ *     cbgrid_matrix_free(graph);
+ *
+ * Errors. As above: the code of the first fault, and `out` is as it was. The codes of a call on kept matrices,
+ * in the order in which they are looked for: CBGRID_NULL_POINTER, CBGRID_TEST, CBGRID_MIXED, CBGRID_SHAPES,
+ * CBGRID_NOT_SQUARE, CBGRID_SOURCE; and CBGRID_MEMORY. Where memory is refused nothing is lost.
+ *
+ * Threads. Any number of threads may use one matrix at once. A matrix may be freed when no running call uses it.
+ */
+struct cbgrid_matrix;
+
+/* An entry: a row, a column, and the value there. */
+struct cbgrid_triple {
+    uint32_t row;
+    uint32_t column;
+    uint64_t value;
+};
+
+/* Keeps the matrix of lists, over a semiring. CBGRID_SEMIRING, and CBGRID_FORM to CBGRID_VALUE. The lists are
+ * copied once, and stay the caller's. */
+int cbgrid_matrix_of_columns(uint32_t semiring, const struct cbgrid_columns *lists, struct cbgrid_matrix **out);
+
+/* The same of compressed rows (CSR, or doubly compressed): `rows` has the lists of the transpose, so its nrows is
+ * the number of columns of the matrix, its columns are the rows that are stored, and its rows are the column of
+ * each entry. Costs a transpose more. */
+int cbgrid_matrix_of_rows(uint32_t semiring, const struct cbgrid_columns *rows, struct cbgrid_matrix **out);
+
+/* Keeps the matrix that has at each place the sum, in the semiring, of the values that are given there, in any
+ * order. Sums that are the semiring's zero aren't stored. CBGRID_SEMIRING, CBGRID_TOO_LARGE, CBGRID_PLACE,
+ * CBGRID_VALUE. Costs a sort of the triples, or a walk over them where they ascend by column and then row. */
+int cbgrid_matrix_of_triples(uint32_t semiring, uint32_t nrows, uint32_t ncols, const struct cbgrid_triple *triples,
+                             size_t len, struct cbgrid_matrix **out);
+
+/* The lists of a matrix, as an answer of the calls above has them, and of its transpose, which are those of its
+ * rows: a copy, which cbgrid_free_columns gives back. */
+int cbgrid_matrix_columns(const struct cbgrid_matrix *a, struct cbgrid_columns *out);
+int cbgrid_matrix_rows(const struct cbgrid_matrix *a, struct cbgrid_columns *out);
+
+/* The entries of a matrix, by column and then by row, into room for as many as cbgrid_matrix_entries says. */
+int cbgrid_matrix_triples(const struct cbgrid_matrix *a, struct cbgrid_triple *out);
+
+/* The shape, the semiring (enum cbgrid_semiring), and how many entries are stored. 0 of a null pointer. */
+uint32_t cbgrid_matrix_nrows(const struct cbgrid_matrix *a);
+uint32_t cbgrid_matrix_ncols(const struct cbgrid_matrix *a);
+uint32_t cbgrid_matrix_semiring(const struct cbgrid_matrix *a);
+uint64_t cbgrid_matrix_entries(const struct cbgrid_matrix *a);
+
+/* The value at a place, which is the semiring's zero where there is no entry. CBGRID_PLACE outside the shape.
+ * Costs two binary searches. */
+int cbgrid_matrix_value(const struct cbgrid_matrix *a, uint32_t row, uint32_t column, uint64_t *out);
+
+/* What the calls of the same names do, above. All operands are over one semiring, else CBGRID_MIXED, and the
+ * answer is over it. */
+int cbgrid_matrix_multiply(const struct cbgrid_matrix *a, const struct cbgrid_matrix *b, struct cbgrid_matrix **out);
+int cbgrid_matrix_multiply_masked(const struct cbgrid_matrix *a, const struct cbgrid_matrix *b,
+                                  const struct cbgrid_matrix *mask, struct cbgrid_matrix **out);
+int cbgrid_matrix_vector(const struct cbgrid_matrix *a, const struct cbgrid_matrix *x, struct cbgrid_matrix **out);
+int cbgrid_matrix_transpose(const struct cbgrid_matrix *a, struct cbgrid_matrix **out);
+int cbgrid_matrix_row_sums(const struct cbgrid_matrix *a, struct cbgrid_matrix **out);
+int cbgrid_matrix_column_sums(const struct cbgrid_matrix *a, struct cbgrid_matrix **out);
+int cbgrid_matrix_add(const struct cbgrid_matrix *a, const struct cbgrid_matrix *b, struct cbgrid_matrix **out);
+int cbgrid_matrix_times(const struct cbgrid_matrix *a, const struct cbgrid_matrix *b, struct cbgrid_matrix **out);
+int cbgrid_matrix_prune(const struct cbgrid_matrix *a, uint32_t test, uint64_t bound, struct cbgrid_matrix **out);
+
+/* Levels of a graph over OR_AND and distances of one over MIN_PLUS, else CBGRID_MIXED; the answer is over
+ * MIN_PLUS. Each copies the graph once, beside its transpose. */
+int cbgrid_matrix_levels(const struct cbgrid_matrix *a, uint32_t source, struct cbgrid_matrix **out);
+int cbgrid_matrix_distances(const struct cbgrid_matrix *a, uint32_t source, struct cbgrid_matrix **out);
+
+/*
+ * Of a graph over OR_AND, else CBGRID_MIXED. The graph is not copied.
+ *
+ *   parents     for each vertex that is reached from the source, but not the source: the least vertex from which
+ *               an edge leads to it and whose level is one less. One column over MIN_PLUS; its values are vertices.
+ *   components  for each vertex that has an entry in its row or its column: the least vertex that is joined to it
+ *               by entries in either direction. One column over MIN_PLUS; its values are vertices.
+ *   triangles   how many sets of three vertices are joined to one another, by entries in either direction; at
+ *               most 2^64 - 1.
+ */
+int cbgrid_matrix_parents(const struct cbgrid_matrix *a, uint32_t source, struct cbgrid_matrix **out);
+int cbgrid_matrix_components(const struct cbgrid_matrix *a, struct cbgrid_matrix **out);
+int cbgrid_matrix_triangles(const struct cbgrid_matrix *a, uint64_t *out);
+
+int cbgrid_matrix_read(uint32_t semiring, const void *text, size_t len, uint64_t *line, struct cbgrid_matrix **out);
+int cbgrid_matrix_text(const struct cbgrid_matrix *a, struct cbgrid_text *out);
+
+/* Gives a matrix back. A null pointer is let be. */
+void cbgrid_matrix_free(struct cbgrid_matrix *a);
+
+/* The version of the library, as "0.1.0": a text that lasts for ever. */
+const char *cbgrid_version(void);
 
 /* What a code says, in a few words of English: a text that lasts for ever. "no such code" for others. */
 const char *cbgrid_message(int code);

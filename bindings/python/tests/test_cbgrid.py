@@ -5,6 +5,7 @@ import pickle
 import tempfile
 import threading
 import unittest
+from functools import reduce
 
 import numpy as np
 import scipy.sparse as sp
@@ -14,7 +15,10 @@ import cbgrid
 
 CLASSES = (sp.csc_matrix, sp.csr_matrix, sp.coo_matrix, sp.csc_array, sp.csr_array, sp.coo_array)
 DTYPES = (np.int64, np.uint64)
-SEMIRINGS = ("plus-times", "min-plus", "or-and", "max-min")
+SEMIRINGS = (
+    "plus-times min-plus or-and max-min plus-pair plus-min plus-first plus-second "
+    "min-first min-second max-first max-second max-plus min-max"
+).split()
 INFINITY = 2**64 - 1
 LIMIT = 2**31 - 1
 ROUNDS = 2000
@@ -58,6 +62,25 @@ ARITHMETIC = {
     "or-and": (0, max, min),
     "max-min": (0, max, min),
 }
+
+
+def other_product(name, product):
+    """The sum of a semiring with another product, which is zero where one of the two is."""
+    zero, plus, _ = ARITHMETIC[name]
+    return zero, plus, lambda x, y: zero if zero in (x, y) else product(x, y)
+
+
+OPERATORS = {
+    "pair": lambda x, y: 1,
+    "first": lambda x, y: x,
+    "second": lambda x, y: y,
+    "plus": lambda x, y: min(x + y, INFINITY),
+    "min": min,
+    "max": max,
+}
+for name in SEMIRINGS[4:]:
+    head, word = name.split("-")
+    ARITHMETIC[name] = other_product({"plus": "plus-times", "min": "min-plus", "max": "max-min"}[head], OPERATORS[word])
 
 
 def dense_product(a, b, semiring):
@@ -142,6 +165,16 @@ class AgainstScipy(Test):
             a, _ = random_pair(self.rng, m, k, k)
             self.assert_same(cbgrid.transpose(a, grid=1 + turn % 6), sp.csc_matrix(a).T, a)
 
+    def test_reductions(self):
+        for turn in range(ROUNDS):
+            m, k, _ = random_shape(self.rng)
+            a, _ = random_pair(self.rng, m, k, k)
+            whole = a.toarray()
+            rows, columns = whole.sum(axis=1, dtype=a.dtype), whole.sum(axis=0, dtype=a.dtype)
+            self.assert_same(cbgrid.reduce(a, grid=1 + turn % 6), sp.csc_matrix(rows.reshape(m, 1)), a)
+            self.assert_same(cbgrid.reduce(a, "columns", grid=1 + turn % 6), sp.csc_matrix(columns.reshape(1, k)), a)
+        self.assertRaises(ValueError, cbgrid.reduce, a, "diagonals")
+
     def test_vectors(self):
         for turn in range(ROUNDS):
             m, k, _ = random_shape(self.rng)
@@ -181,7 +214,7 @@ class AgainstScipy(Test):
 class AgainstDenseSums(Test):
     def test_semirings(self):
         for turn in range(300):
-            semiring = SEMIRINGS[turn % 4]
+            semiring = SEMIRINGS[turn % len(SEMIRINGS)]
             zero, plus, product = ARITHMETIC[semiring]
             m, k, n = [int(it) for it in self.rng.integers(1, 7, 3)]
             high = 2 if semiring == "or-and" else (9, 2**64 - 1)[turn % 3 == 0]
@@ -198,6 +231,10 @@ class AgainstDenseSums(Test):
             self.assert_dense(cbgrid.add(a, c, semiring, grid), np.vectorize(plus, [object])(left, other), zero, a)
             self.assert_dense(cbgrid.times(a, c, semiring, grid), np.vectorize(product, [object])(left, other), zero, a)
             self.assert_dense(cbgrid.transpose(a, semiring, grid), left.T, zero, a)
+            rows = np.array([[reduce(plus, row, zero)] for row in left.tolist()], object)
+            columns = np.array([[reduce(plus, column, zero) for column in left.T.tolist()]], object)
+            self.assert_dense(cbgrid.reduce(a, "rows", semiring, grid), rows, zero, a)
+            self.assert_dense(cbgrid.reduce(a, "columns", semiring, grid), columns, zero, a)
             x = dense(b, zero)[:, 0]
             got = cbgrid.spmv(a, x.astype(np.uint64), semiring, grid)
             self.assertTrue((got == dense_product(left, right[:, :1], semiring)[:, 0].astype(np.uint64)).all())
@@ -208,7 +245,7 @@ class AgainstDenseSums(Test):
 
     def test_texts(self):
         for turn in range(200):
-            semiring = SEMIRINGS[turn % 4]
+            semiring = SEMIRINGS[turn % len(SEMIRINGS)]
             a = random_matrix(self.rng, 9, 7, 20, 1, 2 if semiring == "or-and" else 99, np.uint64, CLASSES[turn % 6])
             a.data[:] = np.minimum(a.data, 1) if semiring == "or-and" else a.data
             written = cbgrid.text(a, semiring)
@@ -240,6 +277,10 @@ class Lists(Test):
             self.assertEqual((square.row.tolist(), square.col.tolist(), square.data.tolist()), ([last], [last], [9]))
             turned = cbgrid.transpose(a, grid=grid)
             self.assertEqual((turned.row.tolist(), turned.col.tolist()), ([7, last], [0, last]))
+            sums = cbgrid.reduce(a, grid=grid)
+            self.assertEqual((sums.row.tolist(), sums.data.tolist(), sums.shape), ([0, last], [5, 3], (LIMIT, 1)))
+            sums = cbgrid.reduce(a, "columns", grid=grid)
+            self.assertEqual((sums.col.tolist(), sums.data.tolist(), sums.shape), ([7, last], [5, 3], (1, LIMIT)))
         self.assertEqual([it.tolist() for it in cbgrid.bfs(a, 0)], [[0, 7], [0, 1]])
         self.assertEqual([it.tolist() for it in cbgrid.relax(a, last)], [[last], [0]])
         self.assertEqual(cbgrid.read(cbgrid.text(a), format="coo").col.tolist(), [7, last])

@@ -2,7 +2,7 @@
 use Rattle.std.proofs.Common.{◌≡◌, ◌≢◌, ℕ, sym, subst, arith}
 use Rattle.std.specs.Prelude.{Option, Result, Ok, Err, IfOk, IfErr}
 use Rattle.cb_ffi.specs.declared.faults.Fault.{Fault}
-use Rattle.cb_ffi.specs.declared.faults.Fault.TheVariants.{Semiring, Grid, Test, Form, TooLarge, Lengths, Order, Place, Value, Shapes, NotSquare, Source, Text, Memory}
+use Rattle.cb_ffi.specs.declared.faults.Fault.TheVariants.{Semiring, Grid, Test, Form, TooLarge, Lengths, Order, Place, Value, Shapes, NotSquare, Source, Text, Memory, Mixed}
 use Rattle.cb_ffi.specs.Refusals.{code_of}
 use Rattle.cb_ffi.specs.Answers.{NoFault, IsAnswer, IsCall, IsFaultLine, IsLine}
 use Rattle.cb_market.specs.declared.ReadFault.{ReadFault}
@@ -44,3 +44,4 @@ line_of first (Err Shapes) code old new was now a h k = let e : code ≡ 10 = k.
 line_of first (Err NotSquare) code old new was now a h k = let e : code ≡ 11 = k.0 in record { text = λ z. absurd (omega arith); other = λ _. a }
 line_of first (Err Source) code old new was now a h k = let e : code ≡ 12 = k.0 in record { text = λ z. absurd (omega arith); other = λ _. a }
 line_of first (Err Memory) code old new was now a h k = let e : code ≡ 14 = k.0 in record { text = λ z. absurd (omega arith); other = λ _. a }
+line_of first (Err Mixed) code old new was now a h k = let e : code ≡ 16 = k.0 in record { text = λ z. absurd (omega arith); other = λ _. a }

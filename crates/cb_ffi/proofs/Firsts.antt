@@ -22,10 +22,10 @@ wider : (P : Type 0) (g : Fault) (first next : Fault → Type 0) → ((f : Fault
 wider P g first next k f h = ⊎_elim (λ a. inl a) (λ a. inr (a.0, k f a.1)) h
 
 -- there is no fault where P holds and none is found next
-passed : (P : Type 0) (g : Fault) (next : Fault → Type 0) → P → NoFault next → NoFault (Unless P g next)
+pub passed : (P : Type 0) (g : Fault) (next : Fault → Type 0) → P → NoFault next → NoFault (Unless P g next)
 passed P g next p none = record { memory = inr (p, none.memory); only = λ f h. none.only f (only P g next f p h) }
 
-no_more : NoFault IsMemory
+pub no_more : NoFault IsMemory
 no_more = record { memory = refl; only = λ f h. h }
 
 -- where there is none, want of memory is the fault

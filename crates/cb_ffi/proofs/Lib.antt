@@ -10,3 +10,10 @@ pub mod Nonzero
 pub mod Held
 pub mod Firsts
 pub mod Calls
+-- KeptFirsts, KeptSearches: the first fault of a call on matrices that are kept. KeptCalls: what C gets of one that keeps.
+-- Steps: the steps of a walk, a proof by hand of a function that makes or reads a raw pointer.
+pub mod Steps
+pub mod KeptFirsts
+pub mod KeptSearches
+pub mod KeptGraphFaults
+pub mod KeptCalls

@@ -9,7 +9,7 @@ use Rattle.cb_market.specs.declared.ReadFault.{ReadFault}
 use Rattle.cb_market.specs.Faults.{first_fault}
 use Rattle.cb_ffi.specs.declared.lists.Columns.{Columns}
 use Rattle.cb_ffi.specs.declared.faults.Fault.{Fault}
-use Rattle.cb_ffi.specs.declared.faults.Fault.TheVariants.{Semiring, Grid, Test, Form, TooLarge, Lengths, Order, Place, Value, Shapes, NotSquare, Source, Text, Memory}
+use Rattle.cb_ffi.specs.declared.faults.Fault.TheVariants.{Semiring, Grid, Test, Form, TooLarge, Lengths, Order, Place, Value, Shapes, NotSquare, Source, Text, Memory, Mixed}
 use Rattle.cb_ffi.specs.Lists.{shape_of, HasForm, Fits, HaveLengths, AreOrdered, AreInside, AreValues}
 
 -- the number of a fault
@@ -28,6 +28,7 @@ code_of NotSquare = 11
 code_of Source = 12
 code_of Text = 13
 code_of Memory = 14
+code_of Mixed = 16
 
 -- the fault g where P doesn't hold, and else one of the faults that are looked for next
 abbrev pub Unless : Type 0 → Fault → (Fault → Type 0) → Fault → Type 0

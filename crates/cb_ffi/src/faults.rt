@@ -5,7 +5,8 @@ ghost use Rattle.cb_ffi.specs.Refusals.{code_of};
 use std::alloc::AllocError;
 
 /// Why a call has no answer, in the order in which the faults are looked for. Those of a matrix, from `Form` to
-/// `Value`, are looked for in each operand in turn. `Memory` comes after all others.
+/// `Value`, are looked for in each operand in turn. `Mixed` is looked for before `Shapes`, and `Memory` comes after all
+/// others.
 #[derive(Clone, Copy, Debug, PartialEq, Eq)]
 pub enum Fault {
     /// No semiring has the number.
@@ -36,6 +37,8 @@ pub enum Fault {
     Text,
     /// Memory was refused.
     Memory,
+    /// Matrices that are kept are over other semirings than one another.
+    Mixed,
 }
 
 impl From<AllocError> for Fault {
@@ -69,6 +72,7 @@ impl Fault {
             Fault::Source => 12,
             Fault::Text => 13,
             Fault::Memory => 14,
+            Fault::Mixed => 16,
         }
     }
 }

@@ -7,38 +7,67 @@
 //! The lists of an answer are given away: each list that isn't empty is memory of the program's `malloc`, which the
 //! caller gives back by `free`.
 //!
-//! The semirings have the numbers of `cb_semirings::SemiringName`: 0 (plus-times), 1 (min-plus), 2 (or-and) and 3
-//! (max-min).
+//! A matrix that is kept ([`Owned`], [`Lent`]) is a block over one semiring, behind a pointer of which C knows nothing. The
+//! calls whose names have `kept` take such matrices, use their blocks where they lie, and hand a new matrix out.
+//!
+//! The semirings have the numbers of `cb_semirings::SemiringName`: 0 (plus-times), 1 (min-plus), 2 (or-and), 3
+//! (max-min), and so on.
 //!
 //! `grid` is the side of a grid, 1 to 6. It is checked, and changes nothing else: each call works on whole blocks, on the
 //! caller's thread.
 #![tactic(auto)]
 
-ghost use Rattle.std.specs.Prelude.{◌≡◌, ◌≢◌, [], ◌∷◌, length, Some, IfSome, IfOk, IfErr};
+ghost use Rattle.std.specs.Prelude.{◌≡◌, ◌≢◌, [], ◌∷◌, length, Some, IfSome, IsSome, IfOk, IfErr};
 ghost use Rattle.cb_semirings.specs.Tables.{min_plus, or_and};
-ghost use Rattle.cb_semirings.specs.Names.{numbered};
+ghost use Rattle.cb_semirings.specs.Names.{arithmetic_of, numbered};
+ghost use Rattle.cb_matrix.specs.Sparse.{at};
 ghost use Rattle.cb_operations.specs.declared.operations.Operation.TheVariants as operation_is;
 ghost use Rattle.cb_operations.specs.OperationAnswers.{operand_count_of};
-ghost use Rattle.cb_ffi.specs.Refusals.{code_of, over, Over, first_over, graph_faults, read_faults, text_faults};
+ghost use Rattle.cb_ffi.specs.Refusals.{code_of, IsMemory, over, Over, first_over, graph_faults, read_faults, text_faults};
+ghost use Rattle.cb_ffi.specs.Lists.{HasLists};
 ghost use Rattle.cb_ffi.specs.Answers.{prune_of, HasDistances, HasLevels, IsCall, IsLine, IsOperationCall, IsRead, IsTextOf};
+ghost use Rattle.cb_ffi.specs.Kept.{lent_in, matrix_in, semiring_of};
+ghost use Rattle.cb_semirings.specs.declared.names.SemiringName.TheVariants as name_is;
+ghost use Rattle.cb_ffi.specs.Triples.{IsTriplesCall};
+ghost use Rattle.cb_graphs.specs.Triangles.{triangle_count, stopped};
+ghost use Rattle.cb_ffi.specs.KeptGraphs.{square_faults, IsKeptComponents, IsKeptParents};
+ghost use Rattle.cb_ffi.specs.KeptTexts.{search_faults, IsKeptDistances, IsKeptLevels, IsKeptText, IsReadCall};
+ghost use Rattle.cb_ffi.specs.KeptAnswers.{HasHandedOut, IsKeepCall, IsKeptCall, IsKeptOperation, IsSummary};
 
 mod checks;
 mod faults;
+mod handles;
 mod incoming;
+mod keeping;
+mod kept;
+mod kept_checks;
+mod kept_graphs;
+mod kept_lists;
+mod kept_operations;
+mod kept_texts;
+mod kept_values;
+mod kept_walks;
 mod lists;
 mod outgoing;
 mod requests;
 #[cfg(test)]
 mod tests;
 mod texts;
+mod triples;
 mod walks;
 
 use cb_operations::Operation;
 pub use faults::Fault;
+pub use handles::{Lent, Owned};
+use handles::{borrowed, hand_out, take_back};
+use kept::Kept;
+use kept_operations::operate;
+pub use kept_values::Summary;
 pub use lists::Columns;
 use requests::{answer, prune_of};
 use std::alloc::Global;
 pub use texts::Text;
+pub use triples::Triple;
 
 /// Puts an answer, or answers the number of the fault.
 fn put<T: Copy>(out: &mut T, answer: Result<T, Fault>) -> u32
@@ -67,6 +96,37 @@ fn call(
     ensures { IsOperationCall semiring grid operation operands.now result out.old out.new }
 {
     put(out, answer(alloc, semiring, grid, operation, operands))
+}
+
+/// Hands a matrix to C, or answers the number of the fault. It takes one allocation.
+fn put_kept(alloc: Global, out: &mut Owned, answer: Result<Kept, Fault>) -> u32
+    ensures ok { IfOk answer (HasHandedOut result out.old out.new) }
+    ensures refused { IfErr answer (λ f. (result ≡ code_of f) × (result ≢ 0) × (out.new ≡ out.old)) }
+{
+    let kept = match answer {
+        Ok(kept) => kept,
+        Err(fault) => return fault.code(),
+    };
+    match Box::new(alloc, kept) {
+        Ok(on_heap) => {
+            *out = hand_out(Box::leak(on_heap));
+            0
+        }
+        Err(_) => Fault::Memory.code(),
+    }
+}
+
+/// Keeps what an operation makes of matrices that are kept, or answers the number of the fault.
+fn call_kept(
+    alloc: Global,
+    operation: Option<Operation>,
+    operands: &[&Kept],
+    out: &mut Owned,
+) -> u32
+    requires { IfSome operation (λ o. length operands.now ≡ operand_count_of o) }
+    ensures { IsKeptOperation operation (lent_in operands.now) result out.old out.new }
+{
+    put_kept(alloc, out, operate(alloc, operation, operands))
 }
 
 /// The product of two matrices, over the semiring of a number.
@@ -130,6 +190,36 @@ pub extern "C" fn cbgrid_kernel_transpose(
     ensures { IsOperationCall semiring grid (Some operation_is.Transpose) (a.now ∷ []) result out.old out.new }
 {
     let operation = Some(Operation::Transpose);
+    call(alloc, semiring, grid, operation, &[*a], out)
+}
+
+/// The sum of each row of a matrix, in one column, over the semiring of a number.
+#[unsafe(no_mangle)]
+pub extern "C" fn cbgrid_kernel_row_sums(
+    alloc: Global,
+    semiring: u32,
+    grid: u32,
+    a: &Columns,
+    out: &mut Columns,
+) -> u32
+    ensures { IsOperationCall semiring grid (Some operation_is.RowSums) (a.now ∷ []) result out.old out.new }
+{
+    let operation = Some(Operation::RowSums);
+    call(alloc, semiring, grid, operation, &[*a], out)
+}
+
+/// The sum of each column of a matrix, in one row, over the semiring of a number.
+#[unsafe(no_mangle)]
+pub extern "C" fn cbgrid_kernel_column_sums(
+    alloc: Global,
+    semiring: u32,
+    grid: u32,
+    a: &Columns,
+    out: &mut Columns,
+) -> u32
+    ensures { IsOperationCall semiring grid (Some operation_is.ColumnSums) (a.now ∷ []) result out.old out.new }
+{
+    let operation = Some(Operation::ColumnSums);
     call(alloc, semiring, grid, operation, &[*a], out)
 }
 
@@ -239,4 +329,246 @@ pub extern "C" fn cbgrid_kernel_text(
     ensures { IsCall (over (numbered semiring) (λ s. text_faults s a.now)) (λ t. Over (numbered semiring) (λ s. IsTextOf s a.now t)) result out.old out.new }
 {
     put(out, texts::text_in(alloc, semiring, a))
+}
+
+/// Keeps the matrix of lists, over the semiring of a number. Its entries are copied once.
+#[unsafe(no_mangle)]
+pub extern "C" fn cbgrid_kernel_keep(
+    alloc: Global,
+    semiring: u32,
+    a: &Columns,
+    out: &mut Owned,
+) -> u32
+    ensures { IsKeepCall semiring a.now result out.old out.new }
+{
+    put_kept(alloc, out, kept_lists::of_columns(alloc, semiring, a))
+}
+
+/// Keeps the product of two matrices that are kept.
+#[unsafe(no_mangle)]
+pub extern "C" fn cbgrid_kernel_kept_multiply(
+    alloc: Global,
+    a: Lent,
+    b: Lent,
+    out: &mut Owned,
+) -> u32
+    ensures { IsKeptOperation (Some operation_is.Multiply) (a.kept.now ∷ b.kept.now ∷ []) result out.old out.new }
+{
+    let operands = [borrowed(a), borrowed(b)];
+    call_kept(alloc, Some(Operation::Multiply), &operands, out)
+}
+
+/// Keeps the product of two matrices that are kept, where a mask has entries.
+#[unsafe(no_mangle)]
+pub extern "C" fn cbgrid_kernel_kept_multiply_masked(
+    alloc: Global,
+    a: Lent,
+    b: Lent,
+    mask: Lent,
+    out: &mut Owned,
+) -> u32
+    ensures { IsKeptOperation (Some operation_is.MultiplyMasked) (a.kept.now ∷ b.kept.now ∷ mask.kept.now ∷ []) result out.old out.new }
+{
+    let operands = [borrowed(a), borrowed(b), borrowed(mask)];
+    call_kept(alloc, Some(Operation::MultiplyMasked), &operands, out)
+}
+
+/// Keeps the product of a matrix by a vector, which has one column.
+#[unsafe(no_mangle)]
+pub extern "C" fn cbgrid_kernel_kept_vector(alloc: Global, a: Lent, x: Lent, out: &mut Owned) -> u32
+    ensures { IsKeptOperation (Some operation_is.MultiplyVector) (a.kept.now ∷ x.kept.now ∷ []) result out.old out.new }
+{
+    let operands = [borrowed(a), borrowed(x)];
+    call_kept(alloc, Some(Operation::MultiplyVector), &operands, out)
+}
+
+/// Keeps the transpose of a matrix that is kept.
+#[unsafe(no_mangle)]
+pub extern "C" fn cbgrid_kernel_kept_transpose(alloc: Global, a: Lent, out: &mut Owned) -> u32
+    ensures { IsKeptOperation (Some operation_is.Transpose) (a.kept.now ∷ []) result out.old out.new }
+{
+    call_kept(alloc, Some(Operation::Transpose), &[borrowed(a)], out)
+}
+
+/// Keeps the sum of each row of a matrix that is kept, in one column.
+#[unsafe(no_mangle)]
+pub extern "C" fn cbgrid_kernel_kept_row_sums(alloc: Global, a: Lent, out: &mut Owned) -> u32
+    ensures { IsKeptOperation (Some operation_is.RowSums) (a.kept.now ∷ []) result out.old out.new }
+{
+    call_kept(alloc, Some(Operation::RowSums), &[borrowed(a)], out)
+}
+
+/// Keeps the sum of each column of a matrix that is kept, in one row.
+#[unsafe(no_mangle)]
+pub extern "C" fn cbgrid_kernel_kept_column_sums(alloc: Global, a: Lent, out: &mut Owned) -> u32
+    ensures { IsKeptOperation (Some operation_is.ColumnSums) (a.kept.now ∷ []) result out.old out.new }
+{
+    call_kept(alloc, Some(Operation::ColumnSums), &[borrowed(a)], out)
+}
+
+/// Keeps the sum at each place of two matrices that are kept.
+#[unsafe(no_mangle)]
+pub extern "C" fn cbgrid_kernel_kept_add(alloc: Global, a: Lent, b: Lent, out: &mut Owned) -> u32
+    ensures { IsKeptOperation (Some operation_is.Add) (a.kept.now ∷ b.kept.now ∷ []) result out.old out.new }
+{
+    let operands = [borrowed(a), borrowed(b)];
+    call_kept(alloc, Some(Operation::Add), &operands, out)
+}
+
+/// Keeps the product at each place of two matrices that are kept.
+#[unsafe(no_mangle)]
+pub extern "C" fn cbgrid_kernel_kept_times(alloc: Global, a: Lent, b: Lent, out: &mut Owned) -> u32
+    ensures { IsKeptOperation (Some operation_is.Times) (a.kept.now ∷ b.kept.now ∷ []) result out.old out.new }
+{
+    let operands = [borrowed(a), borrowed(b)];
+    call_kept(alloc, Some(Operation::Times), &operands, out)
+}
+
+/// Keeps a matrix that is kept without the entries whose value passes a test.
+#[unsafe(no_mangle)]
+pub extern "C" fn cbgrid_kernel_kept_prune(
+    alloc: Global,
+    a: Lent,
+    test: u32,
+    bound: u64,
+    out: &mut Owned,
+) -> u32
+    ensures { IsKeptOperation (prune_of test bound) (a.kept.now ∷ []) result out.old out.new }
+{
+    call_kept(alloc, prune_of(test, bound), &[borrowed(a)], out)
+}
+
+/// Keeps the level of each vertex of a graph that is kept over or-and, from a source: a column over min-plus.
+#[unsafe(no_mangle)]
+pub extern "C" fn cbgrid_kernel_kept_levels(
+    alloc: Global,
+    a: Lent,
+    source: u32,
+    out: &mut Owned,
+) -> u32
+    ensures { IsKeptCall (search_faults name_is.OrAnd a.kept.now source) (IsKeptLevels (matrix_in a.kept.now) source) result out.old out.new }
+{
+    let answer = kept_walks::kept_levels(alloc, borrowed(a), source);
+    put_kept(alloc, out, answer)
+}
+
+/// Keeps the distance of each vertex of a graph that is kept over min-plus, from a source.
+#[unsafe(no_mangle)]
+pub extern "C" fn cbgrid_kernel_kept_distances(
+    alloc: Global,
+    a: Lent,
+    source: u32,
+    out: &mut Owned,
+) -> u32
+    ensures { IsKeptCall (search_faults name_is.MinPlus a.kept.now source) (IsKeptDistances (matrix_in a.kept.now) source) result out.old out.new }
+{
+    let answer = kept_walks::kept_distances(alloc, borrowed(a), source);
+    put_kept(alloc, out, answer)
+}
+
+/// Keeps the matrix of triples in any order, whose repetitions are added up, over the semiring of a number.
+#[unsafe(no_mangle)]
+pub extern "C" fn cbgrid_kernel_keep_triples(
+    alloc: Global,
+    semiring: u32,
+    nrows: u32,
+    ncols: u32,
+    triples: &[Triple],
+    out: &mut Owned,
+) -> u32
+    ensures { IsTriplesCall semiring nrows ncols triples.now result out.old out.new }
+{
+    let answer = triples::of_triples(alloc, semiring, nrows, ncols, triples);
+    put_kept(alloc, out, answer)
+}
+
+/// Keeps the matrix that a Matrix Market text reads as, over the semiring of a number. `line` is as in
+/// [`cbgrid_kernel_read`].
+#[unsafe(no_mangle)]
+pub extern "C" fn cbgrid_kernel_kept_read(
+    alloc: Global,
+    semiring: u32,
+    text: &[u8],
+    line: &mut u64,
+    out: &mut Owned,
+) -> u32
+    ensures call { IsReadCall semiring text.now result out.old out.new }
+    ensures line { IsLine (first_over (numbered semiring) text.now) result line.old line.new }
+{
+    let answer = kept_texts::read_kept(alloc, semiring, text, line);
+    put_kept(alloc, out, answer)
+}
+
+/// The Matrix Market text of a matrix that is kept.
+#[unsafe(no_mangle)]
+pub extern "C" fn cbgrid_kernel_kept_text(alloc: Global, a: Lent, out: &mut Text) -> u32
+    ensures { IsCall IsMemory (IsKeptText (arithmetic_of (semiring_of a.kept.now)) a.kept.now) result out.old out.new }
+{
+    put(out, kept_texts::text_of(alloc, borrowed(a)))
+}
+
+/// The lists of a matrix that is kept: a copy, which is given away.
+#[unsafe(no_mangle)]
+pub extern "C" fn cbgrid_kernel_kept_lists(alloc: Global, a: Lent, out: &mut Columns) -> u32
+    ensures { IsCall IsMemory (HasLists (matrix_in a.kept.now)) result out.old out.new }
+{
+    put(out, kept_lists::lists_of(alloc, borrowed(a)))
+}
+
+/// Keeps the least parent of each vertex in a search from a source, of a graph that is kept over or-and: a column over
+/// min-plus, whose values are vertices.
+#[unsafe(no_mangle)]
+pub extern "C" fn cbgrid_kernel_kept_parents(
+    alloc: Global,
+    a: Lent,
+    source: u32,
+    out: &mut Owned,
+) -> u32
+    ensures { IsKeptCall (search_faults name_is.OrAnd a.kept.now source) (IsKeptParents (matrix_in a.kept.now) source) result out.old out.new }
+{
+    let answer = kept_graphs::kept_parents(alloc, borrowed(a), source);
+    put_kept(alloc, out, answer)
+}
+
+/// Keeps the least vertex that is joined to each vertex, of a graph that is kept over or-and: a column over min-plus, whose
+/// values are vertices.
+#[unsafe(no_mangle)]
+pub extern "C" fn cbgrid_kernel_kept_components(alloc: Global, a: Lent, out: &mut Owned) -> u32
+    ensures { IsKeptCall (square_faults a.kept.now) (IsKeptComponents (matrix_in a.kept.now)) result out.old out.new }
+{
+    let answer = kept_graphs::kept_components(alloc, borrowed(a));
+    put_kept(alloc, out, answer)
+}
+
+/// How many triangles a graph has that is kept over or-and.
+#[unsafe(no_mangle)]
+pub extern "C" fn cbgrid_kernel_kept_triangles(alloc: Global, a: Lent, out: &mut u64) -> u32
+    ensures { IsCall (square_faults a.kept.now) (λ n. n ≡ stopped (triangle_count (matrix_in a.kept.now))) result out.old out.new }
+{
+    put(out, kept_graphs::kept_triangles(alloc, borrowed(a)))
+}
+
+/// The shape of a matrix that is kept, its semiring, and how many entries it has.
+#[unsafe(no_mangle)]
+pub extern "C" fn cbgrid_kernel_kept_summary(a: Lent, out: &mut Summary)
+    ensures { IsSummary a.kept.now out.new }
+{
+    *out = kept_values::summary_of(borrowed(a));
+}
+
+/// The value of a matrix that is kept at a place: the semiring's zero where there is no entry, and outside its shape.
+#[unsafe(no_mangle)]
+pub extern "C" fn cbgrid_kernel_kept_value(a: Lent, row: u32, column: u32) -> u64
+    ensures { result ≡ at (arithmetic_of (semiring_of a.kept.now)) (matrix_in a.kept.now) row column }
+{
+    kept_values::value_at(borrowed(a), row, column)
+}
+
+/// Gives the lists of a matrix that was kept back to the heap. What is left is the block at the pointer, which is the caller's
+/// to free.
+#[unsafe(no_mangle)]
+pub extern "C" fn cbgrid_kernel_release(alloc: Global, kept: Owned)
+    requires { IsSome kept.kept }
+{
+    take_back(kept).clear(alloc);
 }

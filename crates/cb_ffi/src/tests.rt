@@ -193,7 +193,7 @@ fn each_fault_of_lists_has_its_code(rt: HostRuntime) {
 /// The numbers of a semiring, a side and a test, and the code by which a prune of lists of no form is refused: the first
 /// fault is answered.
 const REFUSED_NUMBERS: [(u32, u32, u32, u32); 5] = [
-    (4, 0, 3, 1),
+    (14, 0, 3, 1),
     (0, 0, 3, 2),
     (0, 7, 3, 2),
     (0, 6, 3, 3),
@@ -411,5 +411,5 @@ fn text_is_refused(alloc: Global, semiring: u32, text: &[u8], code: u32, named: 
 fn a_text_with_a_fault_names_its_line(rt: HostRuntime) {
     let text = b"%%MatrixMarket matrix coordinate integer general\n2 3 1\n1 4 5\n";
     assert!(rt; text_is_refused(rt.alloc(), 0, text, 13, 3));
-    assert!(rt; text_is_refused(rt.alloc(), 4, text, 1, 0));
+    assert!(rt; text_is_refused(rt.alloc(), 14, text, 1, 0));
 }

@@ -4,22 +4,36 @@ All functions take matrices of `scipy.sparse` with values of dtype int64 or uint
 and coo. An answer that is a matrix has the class, the format and the dtype of the first one, with its entries
 sorted, none doubled, and none that is the semiring's zero; `bfs` and `relax` answer arrays.
 
-==============  ================  ==============  =====================  ==============
-semiring        values            sum             product                zero
-==============  ================  ==============  =====================  ==============
-``plus-times``  0 to 2**64 - 1    modulo 2**64    modulo 2**64           0
-``min-plus``    0 to 2**64 - 1    the least       sum, at most 2**64-1   2**64 - 1
-``or-and``      0 and 1           or              and                    0
-``max-min``     0 to 2**64 - 1    the greatest    the least              0
-==============  ================  ==============  =====================  ==============
+===============  ================  ==============  =====================  ==============
+semiring         values            sum             product                zero
+===============  ================  ==============  =====================  ==============
+``plus-times``   0 to 2**64 - 1    modulo 2**64    modulo 2**64           0
+``min-plus``     0 to 2**64 - 1    the least       sum, at most 2**64-1   2**64 - 1
+``or-and``       0 and 1           or              and                    0
+``max-min``      0 to 2**64 - 1    the greatest    the least              0
+``plus-pair``    0 to 2**64 - 1    modulo 2**64    1                      0
+``plus-min``     0 to 2**64 - 1    modulo 2**64    the least              0
+``plus-first``   0 to 2**64 - 1    modulo 2**64    the first              0
+``plus-second``  0 to 2**64 - 1    modulo 2**64    the second             0
+``min-first``    0 to 2**64 - 1    the least       the first              2**64 - 1
+``min-second``   0 to 2**64 - 1    the least       the second             2**64 - 1
+``max-first``    0 to 2**64 - 1    the greatest    the first              0
+``max-second``   0 to 2**64 - 1    the greatest    the second             0
+``max-plus``     0 to 2**64 - 1    the greatest    sum, at most 2**64-1   0
+``min-max``      0 to 2**64 - 1    the least       the greatest           2**64 - 1
+===============  ================  ==============  =====================  ==============
+
+In each of them a product is zero where one of the two is: so the products of the last ten are as told where
+neither is.
 
 A place that a matrix doesn't store has the semiring's zero, in every semiring; an entry that is stored with
 another value, 0 in ``min-plus`` say, is one. Places that are stored twice have the sum of what is stored there,
 as everywhere in scipy and in every semiring.
 
-**int64.** Arithmetic of ``plus-times`` is modulo 2**64, so answers for int64 are right modulo 2**64, signs
-included: they wrap as numpy's do. The other semirings compare values as whole numbers from 0 on, so a negative
-value is refused there, and an answer of ``min-plus`` that is above 2**63 - 1 raises OverflowError.
+**int64.** Arithmetic of ``plus-times``, ``plus-pair``, ``plus-first`` and ``plus-second`` is modulo 2**64, so
+answers for int64 are right modulo 2**64, signs included: they wrap as numpy's do. The other semirings compare
+values as whole numbers from 0 on, so a negative value is refused there, and an answer of ``min-plus`` or
+``max-plus`` that is above 2**63 - 1 raises OverflowError.
 
 **Formats.** The lists of csc matrices are lent as they lie: the kernel reads and checks them there, copies
 their entries once into a block of its own, and writes nothing to them. Nothing is converted before, but that
@@ -28,6 +42,10 @@ lent so too, each as the csc of its transpose: the product of two is the transpo
 transposes. A csc matrix beside a csr one, a csr graph, and a csr matrix whose text is wanted, are transposed by
 the kernel first. coo matrices are sorted in a copy, and cost what their entries cost whatever their shape is; csc
 and csr take a list as long as one of their sides.
+
+**Matrix.** A `Matrix` is a matrix of the library's own, over one semiring: it is built once from a matrix of scipy
+or numpy, never changes, and is used where it lies. All functions take a `Matrix` as their first matrix too, and
+answer one; the semiring is then its own. Its other operands may be of scipy.
 
 **grid.** The side of a grid, 1 to 6. The side is checked and changes nothing else: each call works on whole
 matrices, on the caller's thread.
@@ -50,12 +68,13 @@ import numpy as np
 import scipy.sparse
 
 from . import _lists
+from ._matrix import SEMIRINGS, Matrix, number_of
 from ._library import (
     FORMAT,
     GRID,
     LIMIT,
+    MIXED,
     ORDER,
-    SEMIRING,
     SHAPES,
     SOURCE,
     TEST,
@@ -72,33 +91,60 @@ __all__ = [
     "CbgridError",
     "CbgridMemoryError",
     "CbgridValueError",
+    "Matrix",
     "add",
     "bfs",
+    "components",
     "multiply",
+    "parents",
     "prune",
     "read",
+    "reduce",
     "relax",
     "spmv",
     "text",
     "times",
     "transpose",
+    "triangles",
 ]
-__version__ = "0.1.0"
+__version__ = library.cbgrid_version().decode("ascii")
 
-Matrix = TypeVar("Matrix")
+Sparse = TypeVar("Sparse")
 Vector = TypeVar("Vector")
 
-_SEMIRINGS = {"plus-times": 0, "min-plus": 1, "or-and": 2, "max-min": 3}
 _TESTS = {"below": 0, "above": 1, "equal": 2}
+_SIDES = ("rows", "columns")
 _MIN_PLUS, _OR_AND = 1, 2
-_UNSIGNED = (False, True, False, True)  # in or-and the kernel refuses negative values itself
+# Where negative values are right, modulo 2**64.
+_SIGNED = frozenset(SEMIRINGS[name] for name in ("plus-times", "plus-pair", "plus-first", "plus-second"))
+# Where they are refused here: in or-and the kernel refuses them itself.
+_UNSIGNED = tuple(number not in _SIGNED and number != _OR_AND for number in range(len(SEMIRINGS)))
+# Whose products are sums that stop: answers may be above what int64 has.
+_SUMS = (_MIN_PLUS, SEMIRINGS["max-plus"])
+# Whose zero is 2**64 - 1.
+_INFINITE = frozenset(number for name, number in SEMIRINGS.items() if name.startswith("min-"))
 
 
-def _semiring(name: str) -> int:
-    number = _SEMIRINGS.get(name)
-    if number is None:
-        raise error(SEMIRING)
-    return number
+def _turned_name(name: str) -> str:
+    """The semiring in which the product of the transposes, the other way round, is the transpose of the product."""
+    half = {"first": "second", "second": "first"}
+    head, _, tail = name.partition("-")
+    return f"{head}-{half.get(tail, tail)}"
+
+
+_TURNED = tuple(SEMIRINGS[_turned_name(name)] for name in SEMIRINGS)
+
+
+def _semiring(name: str | None) -> int:
+    return number_of("plus-times" if name is None else name)
+
+
+def _of_kept(matrix: Matrix, semiring: str | None, grid: int = 1) -> Sparse:
+    """A matrix that is kept, where the semiring of a call, if it is given, is its own."""
+    _grid(grid)
+    if semiring is not None and number_of(semiring) != number_of(matrix.semiring):
+        raise error(MIXED)
+    return matrix
 
 
 def _grid(side: int) -> int:
@@ -144,7 +190,7 @@ def _placed(call: Any, semiring: int, grid: int, operands: tuple, after: tuple =
     unsigned = unsigned or _UNSIGNED[semiring]
     answer = _run(call, (semiring, _grid(grid)), operands, after, semiring=semiring, turned=turned, unsigned=unsigned)
     made = _lists.matrix_of(answer, like, turned)
-    if semiring == _MIN_PLUS:
+    if semiring in _SUMS:
         _lists.check_signed(made.data)
     return made
 
@@ -156,15 +202,15 @@ def _check_pair(a: Any, b: Any) -> None:
         raise TypeError(f"a and b: values of one dtype are wanted, not {a.dtype} and {b.dtype}")
 
 
-def multiply(a: Matrix, b: Any, semiring: str = "plus-times", mask: Any = None, grid: int = 1) -> Matrix:
+def multiply(a: Sparse, b: Any, semiring: str | None = None, mask: Any = None, grid: int = 1) -> Sparse:
     """Product of two matrices.
 
     Parameters
     ----------
     a, b : csc, csr or coo matrix or array of scipy.sparse, of int64 or uint64
         `a` has as many columns as `b` has rows. Both may be the same object.
-    semiring : {"plus-times", "min-plus", "or-and", "max-min"}
-        What adds and multiplies values.
+    semiring : str
+        What adds and multiplies values: a name of the table of semirings above.
     mask : sparse matrix of the product's shape, optional
         Keeps only the entries of the product at places where the mask has an entry. A stored value that is
         the semiring's zero is none; which other value it has doesn't matter.
@@ -183,7 +229,7 @@ def multiply(a: Matrix, b: Any, semiring: str = "plus-times", mask: Any = None, 
     CbgridMemoryError
         Memory was refused.
     OverflowError
-        An int64 answer of ``min-plus`` is above 2**63 - 1.
+        An int64 answer of ``min-plus`` or ``max-plus`` is above 2**63 - 1.
 
     Examples
     --------
@@ -193,6 +239,8 @@ def multiply(a: Matrix, b: Any, semiring: str = "plus-times", mask: Any = None, 
     array([[1, 8],
            [0, 9]])
     """
+    if isinstance(a, Matrix):
+        return _of_kept(a, semiring, grid).multiply(b, mask)
     _check_pair(a, b)
     turned = a.format == "csr"
     operands: tuple = (b, a) if turned else (a, b)
@@ -202,23 +250,23 @@ def multiply(a: Matrix, b: Any, semiring: str = "plus-times", mask: Any = None, 
         operands += (mask,)
         call = library.cbgrid_multiply_masked
     number = _semiring(semiring)
-    unsigned = _UNSIGNED[number]
-    answer = _run(call, (number, _grid(grid)), operands, semiring=number, turned=turned, unsigned=unsigned)
+    unsigned, product = _UNSIGNED[number], _TURNED[number] if turned else number
+    answer = _run(call, (product, _grid(grid)), operands, semiring=number, turned=turned, unsigned=unsigned)
     made = _lists.matrix_of(answer, a, turned)
-    if number == _MIN_PLUS:
+    if number in _SUMS:
         _lists.check_signed(made.data)
     return made
 
 
-def spmv(a: Any, x: Vector, semiring: str = "plus-times", grid: int = 1) -> Vector:
+def spmv(a: Any, x: Vector, semiring: str | None = None, grid: int = 1) -> Vector:
     """Product of a matrix and a vector.
 
     Parameters
     ----------
     a : csc, csr or coo matrix or array of scipy.sparse, of int64 or uint64
     x : numpy array of one dimension, or sparse matrix of one column, of the dtype of `a`
-        With as many elements as `a` has columns. A sparse `x` costs what its entries meet. In ``min-plus`` an
-        array has 2**64 - 1 where it has no entry, so it is of uint64.
+        With as many elements as `a` has columns. A sparse `x` costs what its entries meet. In the semirings whose
+        zero is 2**64 - 1 an array has that where it has no entry, so it is of uint64.
     semiring, grid
         As in `multiply`.
 
@@ -232,6 +280,8 @@ def spmv(a: Any, x: Vector, semiring: str = "plus-times", grid: int = 1) -> Vect
     CbgridValueError, CbgridMemoryError, OverflowError
         As `multiply`.
     """
+    if isinstance(a, Matrix):
+        return _of_kept(a, semiring, grid) @ x
     _lists.check_matrix(a, "a")
     number = _semiring(semiring)
     is_array = isinstance(x, np.ndarray)
@@ -239,14 +289,15 @@ def spmv(a: Any, x: Vector, semiring: str = "plus-times", grid: int = 1) -> Vect
     turned, unsigned = a.format == "csr", _UNSIGNED[number]
     column = _lists.lend_array(x, turned, unsigned) if is_array else x
     call, operands = (library.cbgrid_multiply, (column, a)) if turned else (library.cbgrid_vector, (a, column))
-    answer = _run(call, (number, _grid(grid)), operands, semiring=number, turned=turned, unsigned=unsigned)
+    product = _TURNED[number] if turned else number
+    answer = _run(call, (product, _grid(grid)), operands, semiring=number, turned=turned, unsigned=unsigned)
     places, values = _lists.column_of(answer, turned, a.dtype)
-    if number == _MIN_PLUS:
+    if number in _SUMS:
         _lists.check_signed(values)
     if not is_array:
         return _lists.column_like(x, a.shape[0], places, values)
     made = np.zeros(a.shape[0], x.dtype)
-    if number == _MIN_PLUS:
+    if number in _INFINITE:
         made.fill(2**64 - 1)
     made[places] = values
     return made
@@ -259,13 +310,13 @@ def _check_vector(a: Any, x: Any, semiring: int, is_array: bool) -> None:
         _lists.check_matrix(x, "x")
     if x.dtype != a.dtype:
         raise TypeError(f"a and x: values of one dtype are wanted, not {a.dtype} and {x.dtype}")
-    if is_array and semiring == _MIN_PLUS and x.dtype.kind == "i":
-        raise TypeError("x: an array of int64 can't say infinity of min-plus: give uint64, or a sparse column")
+    if is_array and semiring in _INFINITE and x.dtype.kind == "i":
+        raise TypeError("x: an array of int64 can't say infinity, 2**64 - 1: give uint64, or a sparse column")
     if x.shape != ((a.shape[1],) if is_array else (a.shape[1], 1)):
         raise error(SHAPES)
 
 
-def transpose(a: Matrix, semiring: str = "plus-times", grid: int = 1) -> Matrix:
+def transpose(a: Sparse, semiring: str | None = None, grid: int = 1) -> Sparse:
     """Transpose of a matrix, in the format of the matrix: unlike scipy's, that of a csc matrix is csc.
 
     Parameters
@@ -279,15 +330,45 @@ def transpose(a: Matrix, semiring: str = "plus-times", grid: int = 1) -> Matrix:
     sparse matrix
         Of the class and dtype of `a`.
     """
+    if isinstance(a, Matrix):
+        return _of_kept(a, semiring, grid).T
     _lists.check_matrix(a, "a")
     return _placed(library.cbgrid_transpose, _semiring(semiring), grid, (a,))
 
 
-def add(a: Matrix, b: Any, semiring: str = "plus-times", grid: int = 1) -> Matrix:
+def reduce(a: Sparse, by: str = "rows", semiring: str | None = None, grid: int = 1) -> Sparse:
+    """Sum of each row of a matrix, or of each column.
+
+    Parameters
+    ----------
+    a : csc, csr or coo matrix or array of scipy.sparse, of int64 or uint64
+    by : {"rows", "columns"}
+        Whose entries are added up.
+    semiring, grid
+        As in `multiply`.
+
+    Returns
+    -------
+    sparse matrix
+        Of one column with as many rows as `a`, or of one row with as many columns, of the class and dtype of `a`. A
+        sum that is the semiring's zero is no entry.
+    """
+    if isinstance(a, Matrix):
+        return _of_kept(a, semiring, grid).sums(by)
+    _lists.check_matrix(a, "a")
+    calls = library.cbgrid_row_sums, library.cbgrid_column_sums
+    if by not in _SIDES:
+        raise ValueError(f"by: one of {_SIDES} is wanted, not {by!r}")
+    # of a csr matrix the transpose is lent, whose columns are its rows
+    side = _SIDES.index(by) ^ (a.format == "csr")
+    return _placed(calls[side], _semiring(semiring), grid, (a,))
+
+
+def add(a: Sparse, b: Any, semiring: str | None = None, grid: int = 1) -> Sparse:
     """Sum of two matrices of one shape, place by place.
 
-    In ``min-plus`` the lesser of two values, in ``max-min`` the greater, in ``or-and`` the union. A place that
-    only one of them stores keeps its value.
+    By the semiring's sum: in ``min-plus`` the lesser of two values, in ``max-min`` the greater, in ``or-and`` the
+    union. A place that only one of them stores keeps its value.
 
     Parameters
     ----------
@@ -299,11 +380,13 @@ def add(a: Matrix, b: Any, semiring: str = "plus-times", grid: int = 1) -> Matri
     sparse matrix
         Of the class and dtype of `a`.
     """
+    if isinstance(a, Matrix):
+        return _of_kept(a, semiring, grid) + b
     _check_pair(a, b)
     return _placed(library.cbgrid_add, _semiring(semiring), grid, (a, b))
 
 
-def times(a: Matrix, b: Any, semiring: str = "plus-times", grid: int = 1) -> Matrix:
+def times(a: Sparse, b: Any, semiring: str | None = None, grid: int = 1) -> Sparse:
     """Product of two matrices of one shape, place by place.
 
     Only places that both store can have an entry. In ``or-and`` it is the intersection.
@@ -318,11 +401,13 @@ def times(a: Matrix, b: Any, semiring: str = "plus-times", grid: int = 1) -> Mat
     sparse matrix
         Of the class and dtype of `a`.
     """
+    if isinstance(a, Matrix):
+        return _of_kept(a, semiring, grid) * b
     _check_pair(a, b)
     return _placed(library.cbgrid_times, _semiring(semiring), grid, (a, b))
 
 
-def prune(a: Matrix, test: str, value: int, semiring: str = "plus-times", grid: int = 1) -> Matrix:
+def prune(a: Sparse, test: str, value: int, semiring: str | None = None, grid: int = 1) -> Sparse:
     """A matrix without the entries whose value passes a test.
 
     Parameters
@@ -341,11 +426,15 @@ def prune(a: Matrix, test: str, value: int, semiring: str = "plus-times", grid: 
     sparse matrix
         Of the class and dtype of `a`.
     """
-    _lists.check_matrix(a, "a")
     number = _TESTS.get(test)
     if number is None:
         raise error(TEST)
     bound = operator.index(value)
+    if isinstance(a, Matrix):
+        if not 0 <= bound < 2**64:
+            raise error(VALUE, "value not 0 to 2^64 - 1")
+        return _of_kept(a, semiring, grid).prune(number, bound)
+    _lists.check_matrix(a, "a")
     is_equal = test == "equal"
     if not (-(2**63) if is_equal and a.dtype.kind == "i" else 0) <= bound < 2**64:
         raise error(VALUE, "value not 0 to 2^64 - 1")
@@ -387,6 +476,10 @@ def bfs(graph: Any, source: int, grid: int = 1) -> tuple[np.ndarray, np.ndarray]
     >>> cbgrid.bfs(roads, 2)
     (array([1, 2], dtype=int32), array([1, 0]))
     """
+    if isinstance(graph, Matrix):
+        _grid(grid)
+        vertices, levels = graph.walk(True, _source(source))
+        return vertices, levels.view(np.int64)
     _lists.check_matrix(graph, "graph")
     answer = _walk(library.cbgrid_levels, graph, source, grid, nonzero=True)
     return answer.rows(), answer.values(np.dtype(np.int64))
@@ -427,6 +520,9 @@ def relax(graph: Any, source: int, grid: int = 1) -> tuple[np.ndarray, np.ndarra
     >>> cbgrid.relax(roads, 0)
     (array([0, 1, 2], dtype=int32), array([0, 6, 2]))
     """
+    if isinstance(graph, Matrix):
+        _grid(grid)
+        return graph.walk(False, _source(source))
     _lists.check_matrix(graph, "graph")
     answer = _walk(library.cbgrid_distances, graph, source, grid, nonzero=False)
     distances = answer.values(graph.dtype)
@@ -441,6 +537,91 @@ def _walk(call: Any, graph: Any, source: int, grid: int, nonzero: bool) -> _list
     return _run(call, before, (graph,), after, **how)
 
 
+def _graph(graph: Any) -> Matrix:
+    """A graph as a matrix that is kept over or-and."""
+    if isinstance(graph, Matrix):
+        return graph
+    _lists.check_matrix(graph, "graph")
+    return Matrix(graph.astype(bool), "or-and")
+
+
+def parents(graph: Any, source: int) -> tuple[np.ndarray, np.ndarray]:
+    """Breadth-first search tree of a graph.
+
+    Parameters
+    ----------
+    graph : csc, csr or coo matrix or array of scipy.sparse, of int64 or uint64, or a `Matrix` over or-and
+        Square. Edges are those of `bfs`.
+    source : int
+        The vertex to start from, counted from 0.
+
+    Returns
+    -------
+    vertices : numpy array of int32
+        The vertices that are reached, ascending, without the source.
+    parents : numpy array of int64
+        Of each of them the least vertex before it on a shortest path from the source.
+
+    Examples
+    --------
+    >>> import numpy as np, scipy.sparse, cbgrid
+    >>> roads = scipy.sparse.csr_array(np.array([[0, 7, 2], [0, 0, 0], [0, 4, 0]]))
+    >>> cbgrid.parents(roads, 0)
+    (array([1, 2], dtype=int32), array([0, 0]))
+    """
+    vertices, before = _graph(graph).parents(_source(source))
+    return vertices.astype(np.int32), before.view(np.int64)
+
+
+def components(graph: Any) -> tuple[np.ndarray, np.ndarray]:
+    """Connected components of a graph, whose edges count in both directions.
+
+    Parameters
+    ----------
+    graph
+        As in `parents`.
+
+    Returns
+    -------
+    vertices : numpy array of int32
+        The vertices that have an edge, ascending.
+    components : numpy array of int64
+        Of each of them the least vertex of its component.
+
+    Examples
+    --------
+    >>> import numpy as np, scipy.sparse, cbgrid
+    >>> roads = scipy.sparse.csr_array(np.array([[0, 0, 2, 0], [0, 0, 0, 0], [0, 0, 0, 0], [0, 0, 0, 5]]))
+    >>> cbgrid.components(roads)
+    (array([0, 2, 3], dtype=int32), array([0, 0, 3]))
+    """
+    vertices, least = _graph(graph).components()
+    return vertices.astype(np.int32), least.view(np.int64)
+
+
+def triangles(graph: Any) -> int:
+    """Number of triangles of a graph, whose edges count in both directions.
+
+    Parameters
+    ----------
+    graph
+        As in `parents`. Loops don't count.
+
+    Returns
+    -------
+    int
+        At most 2**64 - 1.
+
+    Examples
+    --------
+    >>> import numpy as np, scipy.sparse, cbgrid
+    >>> roads = scipy.sparse.csr_array(np.array([[0, 7, 2], [0, 0, 0], [0, 4, 0]]))
+    >>> cbgrid.triangles(roads)
+    1
+    """
+    return _graph(graph).triangles()
+
+
 def read(source: Any, semiring: str = "plus-times", format: str = "csc", dtype: Any = np.uint64) -> Any:
     """The matrix that a Matrix Market text reads as.
 
@@ -448,13 +629,14 @@ def read(source: Any, semiring: str = "plus-times", format: str = "csc", dtype: 
     ----------
     source : bytes, str or os.PathLike
         Bytes are the text itself; a str or a path names a file.
-    semiring : {"plus-times", "min-plus", "or-and", "max-min"}
+    semiring : str
         Entries that name one place twice are added by its sum. In ``or-and`` every number but 0 is 1.
     format : {"csc", "csr", "coo"}
         The format of the answer. csc and csr take a list as long as one of the sides, coo doesn't.
     dtype : {numpy.uint64, numpy.int64}
-        The dtype of the answer. For int64, values of ``plus-times`` are taken modulo 2**64, so that -1 is
-        read as -1; in the others a value above 2**63 - 1 raises OverflowError.
+        The dtype of the answer. For int64, values of ``plus-times``, ``plus-pair``, ``plus-first`` and
+        ``plus-second`` are taken modulo 2**64, so that -1 is read as -1; in the others a value above 2**63 - 1
+        raises OverflowError.
 
     Returns
     -------
@@ -479,7 +661,7 @@ def read(source: Any, semiring: str = "plus-times", format: str = "csc", dtype: 
         raise error(code, line=line.value if code == FORMAT else None)
     like = (scipy.sparse.csc_array if format == "csc" else scipy.sparse.coo_array)((0, 0), dtype=dtype)
     made = _lists.matrix_of(answer, like, turned=False)
-    if number != 0:
+    if number not in _SIGNED:
         _lists.check_signed(made.data)
     return made.tocsr() if format == "csr" else made
 
@@ -491,7 +673,7 @@ def _contents(source: Any) -> bytes:
         return file.read()
 
 
-def text(matrix: Any, semiring: str = "plus-times") -> bytes:
+def text(matrix: Any, semiring: str | None = None) -> bytes:
     """The Matrix Market text of a matrix: by column and then by row.
 
     Parameters
@@ -505,6 +687,8 @@ def text(matrix: Any, semiring: str = "plus-times") -> bytes:
     -------
     bytes
     """
+    if isinstance(matrix, Matrix):
+        return _of_kept(matrix, semiring).text()
     _lists.check_matrix(matrix, "matrix")
     number = _semiring(semiring)
     made = Text()

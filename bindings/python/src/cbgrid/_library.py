@@ -6,7 +6,7 @@ import ctypes
 import os
 
 ORDER, PLACE, VALUE, FORMAT, MEMORY = 7, 8, 9, 13, 14
-SEMIRING, GRID, TEST, TOO_LARGE, LENGTHS, SHAPES, SOURCE = 1, 2, 3, 5, 6, 10, 12
+SEMIRING, GRID, TEST, TOO_LARGE, LENGTHS, SHAPES, SOURCE, MIXED = 1, 2, 3, 5, 6, 10, 12, 16
 LIMIT = 2147483647
 
 
@@ -39,11 +39,14 @@ class Text(ctypes.Structure):
 
 
 _u32, _at = ctypes.c_uint32, ctypes.POINTER(Columns)
+_kept, _made = ctypes.c_void_p, ctypes.POINTER(ctypes.c_void_p)
 _CALLS = {
     "cbgrid_multiply": [_u32, _u32, _at, _at, _at],
     "cbgrid_multiply_masked": [_u32, _u32, _at, _at, _at, _at],
     "cbgrid_vector": [_u32, _u32, _at, _at, _at],
     "cbgrid_transpose": [_u32, _u32, _at, _at],
+    "cbgrid_row_sums": [_u32, _u32, _at, _at],
+    "cbgrid_column_sums": [_u32, _u32, _at, _at],
     "cbgrid_add": [_u32, _u32, _at, _at, _at],
     "cbgrid_times": [_u32, _u32, _at, _at, _at],
     "cbgrid_prune": [_u32, _u32, _at, _u32, ctypes.c_uint64, _at],
@@ -51,6 +54,32 @@ _CALLS = {
     "cbgrid_distances": [_u32, _at, _u32, _at],
     "cbgrid_read": [_u32, ctypes.c_char_p, ctypes.c_size_t, ctypes.POINTER(ctypes.c_uint64), _at],
     "cbgrid_text": [_u32, _at, ctypes.POINTER(Text)],
+    "cbgrid_matrix_of_columns": [_u32, _at, _made],
+    "cbgrid_matrix_of_rows": [_u32, _at, _made],
+    "cbgrid_matrix_of_triples": [_u32, _u32, _u32, _kept, ctypes.c_size_t, _made],
+    "cbgrid_matrix_columns": [_kept, _at],
+    "cbgrid_matrix_value": [_kept, _u32, _u32, ctypes.POINTER(ctypes.c_uint64)],
+    "cbgrid_matrix_multiply": [_kept, _kept, _made],
+    "cbgrid_matrix_multiply_masked": [_kept, _kept, _kept, _made],
+    "cbgrid_matrix_vector": [_kept, _kept, _made],
+    "cbgrid_matrix_transpose": [_kept, _made],
+    "cbgrid_matrix_row_sums": [_kept, _made],
+    "cbgrid_matrix_column_sums": [_kept, _made],
+    "cbgrid_matrix_add": [_kept, _kept, _made],
+    "cbgrid_matrix_times": [_kept, _kept, _made],
+    "cbgrid_matrix_prune": [_kept, _u32, ctypes.c_uint64, _made],
+    "cbgrid_matrix_levels": [_kept, _u32, _made],
+    "cbgrid_matrix_distances": [_kept, _u32, _made],
+    "cbgrid_matrix_parents": [_kept, _u32, _made],
+    "cbgrid_matrix_components": [_kept, _made],
+    "cbgrid_matrix_triangles": [_kept, ctypes.POINTER(ctypes.c_uint64)],
+    "cbgrid_matrix_read": [_u32, ctypes.c_char_p, ctypes.c_size_t, ctypes.POINTER(ctypes.c_uint64), _made],
+    "cbgrid_matrix_text": [_kept, ctypes.POINTER(Text)],
+}
+_NUMBERS = {
+    "cbgrid_matrix_nrows": _u32,
+    "cbgrid_matrix_ncols": _u32,
+    "cbgrid_matrix_entries": ctypes.c_uint64,
 }
 
 
@@ -63,6 +92,13 @@ def _load() -> ctypes.CDLL:
     for name, argument in ("cbgrid_free_columns", _at), ("cbgrid_free_text", ctypes.POINTER(Text)):
         getattr(library, name).argtypes = [argument]
         getattr(library, name).restype = None
+    for name, result in _NUMBERS.items():
+        getattr(library, name).argtypes = [_kept]
+        getattr(library, name).restype = result
+    library.cbgrid_matrix_free.argtypes = [_kept]
+    library.cbgrid_matrix_free.restype = None
+    library.cbgrid_version.argtypes = []
+    library.cbgrid_version.restype = ctypes.c_char_p
     library.cbgrid_message.argtypes = [ctypes.c_int]
     library.cbgrid_message.restype = ctypes.c_char_p
     return library
@@ -79,7 +115,7 @@ class CbgridError(Exception):
     Attributes
     ----------
     code : int
-        The code of cbgrid.h, 1 to 15.
+        The code of cbgrid.h, 1 to 16.
     message : str
         What the code says, in a few words.
     line : int or None

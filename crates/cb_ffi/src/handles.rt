@@ -1,0 +1,62 @@
+//! A matrix that is kept, as C holds it: by one pointer, of which C knows nothing.
+//!
+//! The pointer is that of a [`Kept`] on the heap. C may lend it to any number of calls at once, and gives it back once,
+//! when no call uses it any more. That it does so is the one thing that no proof can see.
+ghost use Rattle.std.specs.Prelude.{◌≡◌, Option, Some, IsSome};
+ghost use Rattle.std.specs.Borrow.{Bor, MutBor};
+ghost use Rattle.cb_ffi.specs.declared.kept.Kept.{Kept as KeptValue};
+
+use crate::kept::Kept;
+use std::marker::Model;
+
+/// A matrix that is C's own, or a place for one.
+#[repr(C)]
+#[derive(Drop)]
+pub struct Owned {
+    at: *mut u8,
+    pub ghost kept: { Option (MutBor KeptValue) },
+}
+
+impl Model for Owned {
+    ghost use Rattle.cb_ffi.specs.Handles.{owned_at};
+
+    ghost also_owns = { λ h. owned_at h.at h.kept };
+}
+
+/// A matrix that is lent: as long as the call runs nobody changes it or gives it back.
+#[repr(C)]
+#[derive(Drop)]
+pub struct Lent {
+    at: *const u8,
+    pub ghost kept: { Bor KeptValue },
+}
+
+impl Model for Lent {
+    ghost use Rattle.cb_ffi.specs.Handles.{lent_at};
+
+    ghost also_owns = { λ h. lent_at h.at h.kept };
+}
+
+/// A matrix, handed to C.
+pub(crate) fn hand_out(kept: &'static mut Kept) -> Owned
+    ensures { result.kept ≡ Some kept.entry }
+{
+    Owned {
+        at: kept as *mut Kept as *mut u8,
+    }
+}
+
+/// The matrix that C gives back.
+pub(crate) fn take_back(owned: Owned) -> &'static mut Kept
+    requires { IsSome owned.kept }
+    ensures { owned.kept ≡ Some result }
+{
+    unsafe { &mut *(owned.at as *mut Kept) }
+}
+
+/// The matrix that C lends.
+pub(crate) fn borrowed(lent: Lent) -> &'static Kept
+    ensures { result ≡ lent.kept }
+{
+    unsafe { &*(lent.at as *const Kept) }
+}
