@@ -68,26 +68,46 @@ pub(crate) fn letters(world: &World<PlusTimes>, ranks: u16) -> (u64, u64)
     (posted, taken)
 }
 
-#[test]
-fn a_rank_waits_until_the_others_step(rt: HostRuntime) -> Result<(), Fail> {
-    let mut world = product_world(rt.alloc()).ok_or("a world")?;
-    assert_eq!(rt; world.remaining(), 60);
-    assert!(rt; answers(&mut world, &[(Event::Step(3), Moved::Worked)]));
-    assert!(rt; answers(&mut world, &[(Event::Step(3), Moved::Waiting); 99]));
+/// Whether so many halves are to be done. Then all are.
+pub(crate) fn ends(world: &mut World<PlusTimes>, halves: u64) -> bool
+    ensures { world.new.plan ≡ world.old.plan }
+{
+    let as_said = world.remaining() == halves;
     world.finish();
-    assert_eq!(rt; (world.remaining(), world.refusals()), (0, 0));
-    assert_eq!(rt; (world.posted(1, 3), world.posted(0, 3)), (2, 1));
-    assert_eq!(rt; letters(&world, 4), (20, 20));
-    assert_eq!(rt;
-        results(&stores_of(world).ok_or("some rank is not done")?),
-        product_blocks()
-    );
-    Ok(())
+    as_said
+}
+
+/// Whether the ranks of a world leave the product.
+fn leaves_product(world: World<PlusTimes>) -> bool {
+    match stores_of(world) {
+        Some(stores) => results(&stores) == product_blocks(),
+        None => false,
+    }
+}
+
+/// Whether rank 3 works and then waits, however often it is asked, and all is done in the end.
+fn waits_and_ends(world: &mut World<PlusTimes>) -> bool
+    requires { world.old.plan.ranks ≡ 4 }
+{
+    let mut as_said = world.remaining() == 60;
+    as_said &= answers(world, &[(Event::Step(3), Moved::Worked)]);
+    as_said &= answers(world, &[(Event::Step(3), Moved::Waiting); 99]);
+    world.finish();
+    let posted = (world.posted(1, 3), world.posted(0, 3));
+    as_said &= (world.remaining(), world.refusals()) == (0, 0) && posted == (2, 1);
+    as_said & (letters(world, 4) == (20, 20))
 }
 
 #[test]
-fn ranks_step_in_rounds(rt: HostRuntime) -> Result<(), Fail> {
+fn a_rank_waits_until_the_others_step(rt: HostRuntime) -> Result<(), Fail> {
     let mut world = product_world(rt.alloc()).ok_or("a world")?;
+    assert!(rt; waits_and_ends(&mut world));
+    assert!(rt; leaves_product(world));
+    Ok(())
+}
+
+/// Steps each of four ranks in turn, for sixty rounds or until all are done.
+fn step_in_rounds(world: &mut World<PlusTimes>) {
     for _ in 0..60 {
         world.run(&[
             Event::Step(0),
@@ -99,9 +119,12 @@ fn ranks_step_in_rounds(rt: HostRuntime) -> Result<(), Fail> {
             break;
         }
     }
-    assert_eq!(rt;
-        results(&stores_of(world).ok_or("some rank is not done")?),
-        product_blocks()
-    );
+}
+
+#[test]
+fn ranks_step_in_rounds(rt: HostRuntime) -> Result<(), Fail> {
+    let mut world = product_world(rt.alloc()).ok_or("a world")?;
+    step_in_rounds(&mut world);
+    assert!(rt; leaves_product(world));
     Ok(())
 }

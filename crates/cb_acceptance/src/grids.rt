@@ -1,8 +1,8 @@
 //! Worlds over grids of every side, and of other plans.
-ghost use Rattle.std.specs.Prelude.{IfSome};
+ghost use Rattle.std.specs.Prelude.{◌≡◌, IfSome};
 ghost use Rattle.cb_plan.specs.Stores.{Fits};
 
-use crate::events::{letters, stores_of, world};
+use crate::events::{ends, letters, stores_of, world};
 use crate::examples::{
     Example, Held, fill, fitted, grid, laid_out, leave, left, matrix, one, product, product_of,
     result_of, results, right, two_by_two,
@@ -13,8 +13,8 @@ use cb_plan::{RankStore, Slot};
 use cb_samples::entry;
 use cb_semirings::PlusTimes;
 use cb_summa::{LEFT, MASK, RESULT, RIGHT, summa_masked};
+use cb_world::World;
 use std::alloc::Global;
-use std::test::Fail;
 
 /// The side of a grid, and how many halves and letters the product of two matrices takes on it.
 const SIDES: [(u32, u64, u64); 6] = [
@@ -26,44 +26,81 @@ const SIDES: [(u32, u64, u64); 6] = [
     (6, 3564, 1620),
 ];
 
-#[test]
-fn worlds_finish_on_grids_of_every_side(rt: HostRuntime) -> Result<(), Fail> {
-    let alloc = rt.alloc();
-    let wanted = product(alloc).ok_or("memory")?;
-    for (side, halves, posted) in SIDES {
-        let grid = grid(side).ok_or("a side")?;
-        let (plan, stores) = two_by_two(alloc, side).ok_or("a plan")?;
-        let mut world = world(alloc, &plan, stores).ok_or("a world")?;
-        assert_eq!(rt; world.remaining(), halves);
-        world.finish();
-        assert_eq!(rt; letters(&world, grid.ranks()), (posted, posted));
-        let stores = stores_of(world).ok_or("some rank is not done")?;
-        assert_eq!(rt; leave(alloc, &grid, &stores, &wanted), Some(true));
-    }
-    Ok(())
+/// Whether the product of two matrices on the grid of a side takes so many halves and letters, and the ranks leave it.
+fn finishes(alloc: Global, side: u32, halves: u64, posted: u64) -> Option<bool> {
+    let grid = grid(side)?;
+    let (plan, stores) = two_by_two(alloc, side)?;
+    let mut world = world(alloc, &plan, stores)?;
+    let as_said = ends(&mut world, halves);
+    let is_posted = letters(&world, grid.ranks()) == (posted, posted);
+    let stores = stores_of(world)?;
+    let wanted = product(alloc)?;
+    let is_left = leave(alloc, &grid, &stores, &wanted)?;
+    Some(as_said && is_posted && is_left)
 }
 
-/// Two matrices with as many rows and columns as a matrix may have, and one entry each.
 #[test]
-fn blocks_go_to_sixteen_ranks_down_trees(rt: HostRuntime) -> Result<(), Fail> {
-    let alloc = rt.alloc();
-    let left = matrix(alloc, LIMIT, LIMIT, &[entry(0, LIMIT - 1, 7)]).ok_or("memory")?;
-    let right = matrix(alloc, LIMIT, LIMIT, &[entry(LIMIT - 1, 4, 3)]).ok_or("memory")?;
-    let grid = grid(4).ok_or("a side")?;
-    let (plan, stores) = product_of(alloc, &grid, &left, &right).ok_or("a plan")?;
-    assert_eq!(rt; plan.acts().len(), 448);
-    let mut world = world(alloc, &plan, stores).ok_or("a world")?;
-    assert_eq!(rt; world.remaining(), 784);
-    world.finish();
-    assert_eq!(rt; letters(&world, 16), (336, 336));
-    assert_eq!(rt;
-        (world.posted(0, 3), world.posted(0, 2), world.posted(1, 3)),
-        (1, 3, 3)
-    );
-    let stores = stores_of(world).ok_or("some rank is not done")?;
-    assert_eq!(rt; result_of(&stores, 0), Held::One(entry(0, 4, 21)));
-    assert_eq!(rt; result_of(&stores, 1), Held::NoEntry);
-    Ok(())
+fn worlds_finish_on_grids_of_every_side(rt: HostRuntime) {
+    for (side, halves, posted) in &SIDES {
+        let is_right = finishes(rt.alloc(), *side, *halves, *posted) == Some(true);
+        assert!(rt; is_right, "side {side}");
+    }
+}
+
+/// The plan of the product over sixteen ranks of two matrices with as many rows and columns as a matrix may have, and one
+/// entry each.
+fn far_entries(alloc: Global) -> Option<Example>
+    ensures fits { IfSome result (λ p. Fits p.0.ranks p.0.starts p.1.items) }
+    ensures ranks { IfSome result (λ p. p.0.ranks ≡ 16) }
+{
+    let left = matrix(alloc, LIMIT, LIMIT, &[entry(0, LIMIT - 1, 7)])?;
+    let right = matrix(alloc, LIMIT, LIMIT, &[entry(LIMIT - 1, 4, 3)])?;
+    product_of(alloc, &grid(4)?, &left, &right)
+}
+
+/// Whether blocks go to sixteen ranks down trees, to the end.
+fn go_down_trees(world: &mut World<PlusTimes>) -> bool
+    requires { world.old.plan.ranks ≡ 16 }
+{
+    let as_said = ends(world, 784);
+    let posted = (world.posted(0, 3), world.posted(0, 2), world.posted(1, 3));
+    as_said && posted == (1, 3, 3) && letters(world, 16) == (336, 336)
+}
+
+/// What the first two of the sixteen ranks leave.
+fn left_by_first(alloc: Global) -> Option<[Held; 2]> {
+    let (plan, stores) = far_entries(alloc)?;
+    let is_long = plan.acts().len() == 448;
+    let mut world = world(alloc, &plan, stores)?;
+    if !go_down_trees(&mut world) || !is_long {
+        return None;
+    }
+    let stores = stores_of(world)?;
+    Some([result_of(&stores, 0), result_of(&stores, 1)])
+}
+
+#[test]
+fn blocks_go_to_sixteen_ranks_down_trees(rt: HostRuntime) {
+    let wanted = [Held::One(entry(0, 4, 21)), Held::NoEntry];
+    assert!(rt; left_by_first(rt.alloc()) == Some(wanted));
+}
+
+/// What the ranks leave of a plan of so many acts, which are so many halves.
+fn left_by(
+    alloc: Global,
+    example: Example,
+    acts: usize,
+    halves: u64,
+) -> Option<Vec<RankStore<PlusTimes>>>
+    requires { Fits example.0.ranks example.0.starts example.1.items }
+{
+    let (plan, stores) = example;
+    let is_long = plan.acts().len() == acts;
+    let mut world = world(alloc, &plan, stores)?;
+    if !ends(&mut world, halves) || !is_long {
+        return None;
+    }
+    stores_of(world)
 }
 
 /// The plan of the product under a mask over four ranks. The mask has the two places of the diagonal.
@@ -87,18 +124,17 @@ fn masked(alloc: Global) -> Option<Example>
     )
 }
 
+/// What the ranks leave of it.
+fn left_under_mask(alloc: Global) -> Option<[Held; 4]> {
+    let example = masked(alloc)?;
+    let stores = left_by(alloc, example, 44, 64)?;
+    Some(results(&stores))
+}
+
 #[test]
-fn a_mask_keeps_its_places_alone(rt: HostRuntime) -> Result<(), Fail> {
-    let (plan, stores) = masked(rt.alloc()).ok_or("a plan")?;
-    assert_eq!(rt; plan.acts().len(), 44);
-    let mut world = world(rt.alloc(), &plan, stores).ok_or("a world")?;
-    assert_eq!(rt; world.remaining(), 64);
-    world.finish();
-    assert_eq!(rt;
-        results(&stores_of(world).ok_or("some rank is not done")?),
-        [one(8), Held::NoEntry, Held::NoEntry, Held::NoEntry]
-    );
-    Ok(())
+fn a_mask_keeps_its_places_alone(rt: HostRuntime) {
+    let wanted = [one(8), Held::NoEntry, Held::NoEntry, Held::NoEntry];
+    assert!(rt; left_under_mask(rt.alloc()) == Some(wanted));
 }
 
 /// The plan of a matrix times a vector over four ranks, each of which has a piece of the vector.
@@ -124,20 +160,17 @@ fn rows_of(stores: &[RankStore<PlusTimes>], rank: usize) -> Option<u32> {
     }
 }
 
+/// What the ranks leave of it, and how many rows the block of each has.
+fn left_of_vector(alloc: Global) -> Option<([Held; 4], [u32; 4])> {
+    let example = times_vector(alloc)?;
+    let stores = left_by(alloc, example, 68, 88)?;
+    let (first, second) = (rows_of(&stores, 0)?, rows_of(&stores, 1)?);
+    let (third, fourth) = (rows_of(&stores, 2)?, rows_of(&stores, 3)?);
+    Some((results(&stores), [first, second, third, fourth]))
+}
+
 #[test]
-fn a_spread_vector_is_multiplied(rt: HostRuntime) -> Result<(), Fail> {
-    let (plan, stores) = times_vector(rt.alloc()).ok_or("a plan")?;
-    assert_eq!(rt; plan.acts().len(), 68);
-    let mut world = world(rt.alloc(), &plan, stores).ok_or("a world")?;
-    assert_eq!(rt; world.remaining(), 88);
-    world.finish();
-    let stores = stores_of(world).ok_or("some rank is not done")?;
-    assert_eq!(rt;
-        results(&stores),
-        [one(19), Held::NoEntry, one(21), Held::NoEntry]
-    );
-    for (rank, rows) in [(0, 1), (1, 0), (2, 1), (3, 0)] {
-        assert_eq!(rt; rows_of(&stores, rank), Some(rows));
-    }
-    Ok(())
+fn a_spread_vector_is_multiplied(rt: HostRuntime) {
+    let wanted = [one(19), Held::NoEntry, one(21), Held::NoEntry];
+    assert!(rt; left_of_vector(rt.alloc()) == Some((wanted, [1, 0, 1, 0])));
 }

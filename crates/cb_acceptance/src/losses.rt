@@ -1,7 +1,10 @@
 //! A world of a product over four ranks, to one of whose halves memory is refused.
+ghost use Rattle.cb_plan.specs.Stores.{Fits};
+
 use crate::events::{answers, product_world, stores_of};
 use crate::examples::{Held, kept, product_blocks, results, two_by_two};
 use cb_letters::Capacity;
+use cb_plan::{CheckedPlan, RankStore};
 use cb_rank::Moved;
 use cb_semirings::PlusTimes;
 use cb_world::{Event, World};
@@ -30,28 +33,22 @@ fn results_after(alloc: Global, events: &[(Event, Moved)]) -> Option<[Held; 4]> 
 }
 
 #[test]
-fn an_operation_without_memory_loses_the_product_of_its_rank(rt: HostRuntime) -> Result<(), Fail> {
+fn an_operation_without_memory_loses_the_product_of_its_rank(rt: HostRuntime) {
     let events = [(Event::Starve(1), Moved::Worked)];
     let [first, _, third, fourth] = product_blocks();
-    assert_eq!(rt;
-        results_after(rt.alloc(), &events),
-        Some([first, Held::LostAt(1), third, fourth])
-    );
-    Ok(())
+    let wanted = [first, Held::LostAt(1), third, fourth];
+    assert!(rt; results_after(rt.alloc(), &events) == Some(wanted));
 }
 
 #[test]
-fn a_post_without_memory_loses_the_product_of_its_addressee(rt: HostRuntime) -> Result<(), Fail> {
+fn a_post_without_memory_loses_the_product_of_its_addressee(rt: HostRuntime) {
     let events = [
         (Event::Step(1), Moved::Worked),
         (Event::Starve(1), Moved::Posted),
     ];
     let [first, second, third, _] = product_blocks();
-    assert_eq!(rt;
-        results_after(rt.alloc(), &events),
-        Some([first, second, third, Held::LostAt(1)])
-    );
-    Ok(())
+    let wanted = [first, second, third, Held::LostAt(1)];
+    assert!(rt; results_after(rt.alloc(), &events) == Some(wanted));
 }
 
 /// Steps the least rank that can act so many times, refuses memory to the next half, and finishes.
@@ -67,56 +64,89 @@ fn starve_after(world: &mut World<PlusTimes>, halves: u32) {
     world.finish();
 }
 
+/// What the ranks leave where memory is ample.
+fn whole(alloc: Global) -> Option<Vec<RankStore<PlusTimes>>> {
+    let mut world = product_world(alloc)?;
+    world.finish();
+    stores_of(world)
+}
+
+/// How often memory is refused where the half after so many others lacks it: at most once, and then something is lost.
+/// All else is kept.
+fn refusals_after(alloc: Global, halves: u32, wanted: &[RankStore<PlusTimes>]) -> Option<u64> {
+    let mut world = product_world(alloc)?;
+    starve_after(&mut world, halves);
+    let refusals = world.refusals();
+    let stores = stores_of(world)?;
+    let (agrees, lost) = kept(&stores, wanted);
+    if agrees && ((refusals, lost) == (0, 0) || (refusals == 1 && lost > 0)) {
+        Some(refusals)
+    } else {
+        None
+    }
+}
+
+/// To how many of sixty halves memory can be refused.
+fn starved_halves(alloc: Global, wanted: &[RankStore<PlusTimes>]) -> Option<u64> {
+    let mut starved = 0u64;
+    for halves in 0..60 {
+        starved = starved.saturating_add(refusals_after(alloc, halves, wanted)?);
+    }
+    Some(starved)
+}
+
 #[test]
 fn whichever_half_lacks_memory_all_else_is_kept(rt: HostRuntime) -> Result<(), Fail> {
-    let alloc = rt.alloc();
-    let mut world = product_world(alloc).ok_or("a world")?;
-    world.finish();
-    let wanted = stores_of(world).ok_or("some rank is not done")?;
-    assert_eq!(rt; results(&wanted), product_blocks());
-    let mut starved = 0u32;
-    for halves in 0..60 {
-        let mut world = product_world(alloc).ok_or("a world")?;
-        starve_after(&mut world, halves);
-        let refusals = world.refusals();
-        let (agrees, lost) = kept(&stores_of(world).ok_or("some rank is not done")?, &wanted);
-        assert!(rt; agrees, "after {halves} halves");
-        assert!(rt;
-            (refusals, lost) == (0, 0) || (refusals == 1 && lost > 0),
-            "after {halves} halves"
-        );
-        if refusals == 1 {
-            starved = starved.saturating_add(1);
+    let wanted = whole(rt.alloc()).ok_or("a world")?;
+    assert!(rt; results(&wanted) == product_blocks());
+    assert!(rt; starved_halves(rt.alloc(), &wanted) == Some(24));
+    Ok(())
+}
+
+/// Whether what four ranks leave is the product, or a part of it is lost by one refusal.
+fn is_product_or_lost(found: [Held; 4], refusals: u64) -> bool {
+    for (found, wanted) in found.iter().zip(product_blocks()) {
+        let is_lost = refusals == 1 && matches!(found, Held::LostAt(_));
+        if !is_lost && *found != wanted {
+            return false;
         }
     }
-    assert_eq!(rt; starved, 24);
-    Ok(())
+    true
+}
+
+/// Whether a world of the product comes to its end, with nothing lost that it doesn't count, or its start is refused and
+/// hands back the stores, which are these.
+fn ends_or_is_refused(
+    alloc: Global,
+    plan: &CheckedPlan,
+    stores: Vec<RankStore<PlusTimes>>,
+    given: &[RankStore<PlusTimes>],
+) -> bool
+    requires { Fits plan.now.ranks plan.now.starts stores.items }
+{
+    match World::start(alloc, plan, stores, Capacity::nearest(1)) {
+        Ok(mut world) => {
+            world.finish();
+            let refusals = world.refusals();
+            match stores_of(world) {
+                Some(stores) => is_product_or_lost(results(&stores), refusals),
+                None => false,
+            }
+        }
+        Err((stores, AllocError)) => kept(&stores, given) == (true, 0),
+    }
 }
 
 /// Passes whichever single growth is refused (`rt try --test --fail-alloc N`, for each N in turn): a refused start
 /// hands back the stores that it was given, and a world that has started comes to its end, with nothing lost that
 /// it doesn't count.
 #[test]
-fn a_world_needs_memory_to_start_and_none_to_end(rt: HostRuntime) -> Result<(), Fail> {
-    let alloc = rt.alloc();
-    let (Some((plan, stores)), Some((_, given))) = (two_by_two(alloc, 2), two_by_two(alloc, 2))
-    else {
-        return Ok(());
+fn a_world_needs_memory_to_start_and_none_to_end(rt: HostRuntime) {
+    let Some((plan, stores)) = two_by_two(rt.alloc(), 2) else {
+        return;
     };
-    match World::start(alloc, &plan, stores, Capacity::nearest(1)) {
-        Ok(mut world) => {
-            world.finish();
-            assert!(rt; world.all_done());
-            let refusals = world.refusals();
-            for (found, wanted) in results(&stores_of(world).ok_or("some rank is not done")?)
-                .iter()
-                .zip(product_blocks())
-            {
-                let is_lost = refusals == 1 && matches!(found, Held::LostAt(_));
-                assert!(rt; is_lost || *found == wanted);
-            }
-        }
-        Err((stores, AllocError)) => assert_eq!(rt; kept(&stores, &given), (true, 0)),
-    }
-    Ok(())
+    let Some((_, given)) = two_by_two(rt.alloc(), 2) else {
+        return;
+    };
+    assert!(rt; ends_or_is_refused(rt.alloc(), &plan, stores, &given));
 }

@@ -196,6 +196,23 @@ fn letters(finished: &Finished<PlusTimes>) -> Option<u64>
     Some(letters)
 }
 
+/// Whether the ranks that were to wait for each other met, and each of four wanted the halves of its program.
+fn are_met<R: Wait>(rt: &R, alloc: Global, plan: &CheckedPlan, passes: &Passes) -> bool
+    requires { plan.now.ranks ≡ 4 }
+{
+    let met = (passes.starts.met(), passes.takes.met());
+    met == (2, 2) && passes.count(rt, alloc, plan) == Some(60)
+}
+
+/// Whether four ranks left the product, and no memory was refused.
+fn is_product(finished: Finished<PlusTimes>) -> bool
+    requires { length (finished_view finished).stores ≡ 4 }
+{
+    let are_sent = letters(&finished) == Some(20) && finished.refusals() == 0;
+    let (stores, refusals) = finished.into_parts();
+    are_sent && refusals.as_slice() == [0; 4].as_slice() && results(&stores) == product_blocks()
+}
+
 #[test]
 fn ranks_in_threads_meet_and_leave_the_product(rt: HostRuntime) -> Result<(), Fail> {
     let alloc = rt.alloc();
@@ -207,13 +224,7 @@ fn ranks_in_threads_meet_and_leave_the_product(rt: HostRuntime) -> Result<(), Fa
     let Ok(finished) = run_threads(&rt, alloc, &plan, stores, Capacity::nearest(1), &gate) else {
         return Err("the run ends".into());
     };
-    let passes = gate.passes;
-    assert_eq!(rt; (passes.starts.met(), passes.takes.met()), (2, 2));
-    assert_eq!(rt; passes.count(&rt, alloc, &plan), Some(60));
-    assert_eq!(rt; letters(&finished), Some(20));
-    assert_eq!(rt; finished.refusals(), 0);
-    let (stores, refusals) = finished.into_parts();
-    assert!(rt; refusals.as_slice() == [0; 4].as_slice());
-    assert_eq!(rt; results(&stores), product_blocks());
+    assert!(rt; are_met(&rt, alloc, &plan, &gate.passes));
+    assert!(rt; is_product(finished));
     Ok(())
 }

@@ -1,4 +1,6 @@
 //! The traces of a product's ranks in threads.
+ghost use Rattle.std.specs.Prelude.{◌<◌};
+
 use crate::examples::{grid, leave, product, two_by_two};
 use cb_letters::Capacity;
 use cb_rank::{Rank, Want};
@@ -7,7 +9,7 @@ use cb_semirings::Semiring;
 use cb_trace::{Trace, TraceEvent};
 use std::alloc::{AllocError, Global};
 use std::sync::{Mutex, Wait};
-use std::test::Fail;
+use std::thread::Threads;
 
 /// The side of a grid, and how many events of each kind there are of a product on it: posted, taken, closed and ended.
 const KINDS: [(u32, [usize; 4]); 3] = [
@@ -16,27 +18,26 @@ const KINDS: [(u32, [usize; 4]); 3] = [
     (3, [36, 36, 72, 72]),
 ];
 
+/// The place of an event's kind among the four.
+fn kind_of(event: &TraceEvent) -> usize
+    ensures { result < 4 }
+{
+    match event {
+        TraceEvent::Posted(_) => 0,
+        TraceEvent::Took(_) => 1,
+        TraceEvent::Closed(_) => 2,
+        TraceEvent::Ended(_) => 3,
+    }
+}
+
 /// How many events of each kind a trace has.
 fn kinds_of(trace: &Trace) -> [usize; 4] {
-    let events = trace.events();
-    [
-        events
-            .iter()
-            .filter(|event| matches!(event, TraceEvent::Posted(_)))
-            .count(),
-        events
-            .iter()
-            .filter(|event| matches!(event, TraceEvent::Took(_)))
-            .count(),
-        events
-            .iter()
-            .filter(|event| matches!(event, TraceEvent::Closed(_)))
-            .count(),
-        events
-            .iter()
-            .filter(|event| matches!(event, TraceEvent::Ended(_)))
-            .count(),
-    ]
+    let mut counts = [0usize; 4];
+    for event in trace.events() {
+        let kind = kind_of(event);
+        counts[kind] = counts[kind].saturating_add(1);
+    }
+    counts
 }
 
 /// Whether a new trace takes the same events, one after the other.
@@ -50,25 +51,33 @@ fn is_taken_again(alloc: Global, trace: &Trace) -> Option<bool> {
     Some(again.events() == trace.events())
 }
 
+/// Whether a traced run of the product on the grid of a side leaves it, and a legal trace with so many events of each kind.
+fn is_traced<R: Threads + Wait + Sync>(
+    rt: &R,
+    alloc: Global,
+    side: u32,
+    kinds: [usize; 4],
+    letters: usize,
+) -> Option<bool> {
+    let grid = grid(side)?;
+    let (plan, stores) = two_by_two(alloc, side)?;
+    let capacity = Capacity::nearest(letters);
+    let (finished, trace) = run_traced(rt, alloc, &plan, stores, capacity, &OpenGate).ok()?;
+    let (stores, _refusals) = finished.into_parts();
+    let has_kinds = trace.ranks() == grid.ranks() && kinds_of(&trace) == kinds;
+    let is_legal = is_taken_again(alloc, &trace)?;
+    let wanted = product(alloc)?;
+    let is_left = leave(alloc, &grid, &stores, &wanted)?;
+    Some(has_kinds && is_legal && is_left)
+}
+
 #[test]
-fn traced_ranks_leave_the_product_and_a_legal_trace(rt: HostRuntime) -> Result<(), Fail> {
-    let alloc = rt.alloc();
-    let wanted = product(alloc).ok_or("memory")?;
-    for (side, kinds) in KINDS {
-        for capacity in [1, 64].map(Capacity::nearest) {
-            let grid = grid(side).ok_or("a side")?;
-            let (plan, stores) = two_by_two(alloc, side).ok_or("a plan")?;
-            let Ok((finished, trace)) = run_traced(&rt, alloc, &plan, stores, capacity, &OpenGate)
-            else {
-                return Err("the run ends".into());
-            };
-            assert_eq!(rt; (trace.ranks(), kinds_of(&trace)), (grid.ranks(), kinds));
-            assert_eq!(rt; is_taken_again(alloc, &trace), Some(true));
-            let (stores, _refusals) = finished.into_parts();
-            assert_eq!(rt; leave(alloc, &grid, &stores, &wanted), Some(true));
-        }
+fn traced_ranks_leave_the_product_and_a_legal_trace(rt: HostRuntime) {
+    for (side, kinds) in &KINDS {
+        let is_narrow_right = is_traced(&rt, rt.alloc(), *side, *kinds, 1) == Some(true);
+        let is_wide_right = is_traced(&rt, rt.alloc(), *side, *kinds, 64) == Some(true);
+        assert!(rt; is_narrow_right && is_wide_right, "side {side}");
     }
-    Ok(())
 }
 
 /// What one rank wanted and recorded in a traced run.
@@ -158,22 +167,30 @@ fn places_of(
     Ok(Some(places))
 }
 
-#[test]
-fn each_of_four_ranks_records_its_halves_as_it_does_them(rt: HostRuntime) -> Result<(), Fail> {
-    let alloc = rt.alloc();
-    for capacity in [1, 64].map(Capacity::nearest) {
-        let (plan, stores) = two_by_two(alloc, 2).ok_or("a plan")?;
-        let scribe = Scribe {
-            rt: &rt,
-            stories: stories(alloc, 4)?,
-        };
-        let Ok((_finished, trace)) = run_traced(&rt, alloc, &plan, stores, capacity, &scribe) else {
-            return Err("the run ends".into());
-        };
-        let Scribe { stories, .. } = scribe;
-        let places = places_of(alloc, stories, &trace)?.ok_or("a rank tells another story")?;
-        assert_eq!(rt; (trace.len(), places.len()), (40, 40));
-        assert!(rt; (0..40).all(|place| places.contains(&place)));
+/// The places that four ranks record in a traced run, where each tells its own story, of forty events.
+fn recorded<R: Threads + Wait + Sync>(rt: &R, alloc: Global, letters: usize) -> Option<Vec<usize>> {
+    let (plan, stores) = two_by_two(alloc, 2)?;
+    let stories = stories(alloc, 4).ok()?;
+    let scribe = Scribe { rt, stories };
+    let capacity = Capacity::nearest(letters);
+    let (_finished, trace) = run_traced(rt, alloc, &plan, stores, capacity, &scribe).ok()?;
+    let Scribe { stories, .. } = scribe;
+    if trace.len() != 40 {
+        return None;
     }
-    Ok(())
+    places_of(alloc, stories, &trace).ok()?
+}
+
+/// Whether four ranks record each of forty events once.
+fn records_all<R: Threads + Wait + Sync>(rt: &R, alloc: Global, letters: usize) -> bool {
+    match recorded(rt, alloc, letters) {
+        Some(places) => places.len() == 40 && (0..40).all(|place| places.contains(&place)),
+        None => false,
+    }
+}
+
+#[test]
+fn each_of_four_ranks_records_its_halves_as_it_does_them(rt: HostRuntime) {
+    assert!(rt; records_all(&rt, rt.alloc(), 1));
+    assert!(rt; records_all(&rt, rt.alloc(), 64));
 }

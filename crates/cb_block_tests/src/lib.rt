@@ -16,6 +16,8 @@ mod matrix;
 #[cfg(test)]
 mod product;
 #[cfg(test)]
+mod reductions;
+#[cfg(test)]
 mod reshape;
 #[cfg(test)]
 mod samples;

@@ -4,7 +4,7 @@ use cb_dcsc::BlockFault;
 use cb_matrix::{Entry, LIMIT, Matrix};
 use cb_product::{multiply, multiply_into};
 use cb_samples::{SampleFault, block, entry};
-use cb_semirings::{MinPlus, OrAnd, PlusTimes, Semiring};
+use cb_semirings::{MinFirst, MinPlus, MinSecond, OrAnd, PlusPair, PlusTimes, Semiring};
 use std::alloc::Global;
 use std::test::Fail;
 
@@ -20,17 +20,17 @@ fn product<S: Semiring>(
     Ok(multiply(alloc, &a, &b)?.entries()?)
 }
 
-/// The same of a product of plus-times that is added to a block.
-fn added(
+/// The same of a product that is added to a block.
+fn added<S: Semiring>(
     alloc: Global,
     sides: [u32; 3],
     left: &[Entry],
     right: &[Entry],
     own: &[Entry],
 ) -> Result<Vec<Entry>, SampleFault> {
-    let a = block::<PlusTimes>(alloc, sides[0], sides[1], left)?;
-    let b = block::<PlusTimes>(alloc, sides[1], sides[2], right)?;
-    let start = block::<PlusTimes>(alloc, sides[0], sides[2], own)?;
+    let a = block::<S>(alloc, sides[0], sides[1], left)?;
+    let b = block::<S>(alloc, sides[1], sides[2], right)?;
+    let start = block::<S>(alloc, sides[0], sides[2], own)?;
     match multiply_into(alloc, &a, &b, start) {
         Ok(sum) => Ok(sum.entries()?),
         Err((_, refused)) => Err(refused.into()),
@@ -149,7 +149,7 @@ fn products_that_are_added(rt: HostRuntime) -> Result<(), Fail> {
         ),
     ];
     for (sides, [left, right, own], wanted) in cases {
-        let sum = added(rt.alloc(), sides, left, right, own)?;
+        let sum = added::<PlusTimes>(rt.alloc(), sides, left, right, own)?;
         assert_eq!(rt; sum.as_slice(), wanted);
     }
     Ok(())
@@ -187,7 +187,7 @@ fn columns_without_terms_stay_as_they_are(rt: HostRuntime) -> Result<(), Fail> {
         entry(4, 3, 3),
     ];
     for rows in [6, LIMIT] {
-        let sum = added(rt.alloc(), [rows, 3, 4], &left, &right, &own)?;
+        let sum = added::<PlusTimes>(rt.alloc(), [rows, 3, 4], &left, &right, &own)?;
         assert_eq!(rt; sum.as_slice(), wanted.as_slice());
     }
     Ok(())
@@ -218,7 +218,7 @@ fn one_term_is_joined(rt: HostRuntime) -> Result<(), Fail> {
         entry(7, 2, 9),
     ];
     for rows in [8, LIMIT] {
-        let sum = added(rt.alloc(), [rows, 1, 3], &left, &right, &own)?;
+        let sum = added::<PlusTimes>(rt.alloc(), [rows, 1, 3], &left, &right, &own)?;
         assert_eq!(rt; sum.as_slice(), wanted.as_slice());
     }
     Ok(())
@@ -342,6 +342,56 @@ fn semirings_add_and_multiply_in_their_own_way(rt: HostRuntime) -> Result<(), Fa
     Ok(())
 }
 
+/// Of five rows the products are summed row by row, of 2,147,483,647 the columns are joined. A value of the accumulator
+/// is no product, and stays a value: 5, and not 1.
+#[test]
+fn pairs_are_counted_and_own_values_stay(rt: HostRuntime) -> Result<(), Fail> {
+    let left = [entry(0, 0, 7), entry(0, 1, 9), entry(1, 1, 3)];
+    let right = [entry(0, 0, 4), entry(1, 0, 6), entry(1, 1, 8)];
+    let own = [
+        entry(0, 0, 5),
+        entry(4, 0, 5),
+        entry(3, 1, 5),
+        entry(2, 2, 5),
+    ];
+    let wanted = [
+        entry(0, 0, 7),
+        entry(1, 0, 1),
+        entry(4, 0, 5),
+        entry(0, 1, 1),
+        entry(1, 1, 1),
+        entry(3, 1, 5),
+        entry(2, 2, 5),
+    ];
+    for rows in [5, LIMIT] {
+        let sum = added::<PlusPair>(rt.alloc(), [rows, 2, 3], &left, &right, &own)?;
+        assert_eq!(rt; sum.as_slice(), wanted.as_slice());
+    }
+    Ok(())
+}
+
+/// A matrix times a column that names vertices, and a row of names times a matrix: each vertex gets the least name of
+/// its neighbours, 0 too.
+#[test]
+fn the_least_name_of_a_neighbour_is_found(rt: HostRuntime) -> Result<(), Fail> {
+    let edges = [
+        entry(1, 0, 8),
+        entry(2, 0, 9),
+        entry(2, 1, 1),
+        entry(0, 2, 3),
+        entry(1, 2, 2),
+    ];
+    let column = [entry(0, 0, 0), entry(2, 0, 6)];
+    let found = product::<MinSecond>(rt.alloc(), [3, 3, 1], &edges, &column)?;
+    let wanted = [entry(0, 0, 6), entry(1, 0, 0), entry(2, 0, 0)];
+    assert_eq!(rt; found.as_slice(), wanted.as_slice());
+    let row = [entry(0, 1, 5), entry(0, 2, 4)];
+    let found = product::<MinFirst>(rt.alloc(), [1, 3, 3], &row, &edges)?;
+    let wanted = [entry(0, 0, 4), entry(0, 1, 4), entry(0, 2, 5)];
+    assert_eq!(rt; found.as_slice(), wanted.as_slice());
+    Ok(())
+}
+
 /// Thirty columns of 45 entries each, spread over so many rows, of which many meet.
 fn spread(alloc: Global, rows: u32) -> Result<Vec<Entry>, Fail> {
     let step = rows / 46;
@@ -414,7 +464,7 @@ fn each_way_gives_the_plain_product(rt: HostRuntime) -> Result<(), Fail> {
         let found = product::<PlusTimes>(alloc, sides, &left, &right)?;
         assert_eq!(rt; found.as_slice(), wanted.as_slice());
         let wanted = plain_sum(alloc, rows, 4, &found, &own)?;
-        let sum = added(alloc, sides, &left, &right, &own)?;
+        let sum = added::<PlusTimes>(alloc, sides, &left, &right, &own)?;
         assert_eq!(rt; sum.as_slice(), wanted.as_slice());
     }
     Ok(())

@@ -1,10 +1,13 @@
 //! The tables of the semirings, at values from outside.
-use cb_semirings::{MaxMin, MinPlus, OrAnd, PlusTimes, Semiring};
+use cb_semirings::{
+    DistributiveSemiring, MaxFirst, MaxMin, MaxPlus, MaxSecond, MinFirst, MinMax, MinPlus,
+    MinSecond, OrAnd, PlusFirst, PlusMin, PlusPair, PlusSecond, PlusTimes, Semiring,
+};
 
 const TOP: u64 = u64::MAX;
 
 /// What a semiring says, through the bound.
-fn constants<S: Semiring>() -> (u64, u64, u64, bool) {
+fn constants<S: DistributiveSemiring>() -> (u64, u64, u64, bool) {
     (S::zero(), S::one(), S::pattern(), S::writes_pattern())
 }
 
@@ -64,4 +67,74 @@ fn only_plus_times_has_negatives(rt: HostRuntime) {
         assert!(rt; found == wanted);
     }
     assert!(rt; OrAnd::is_value(1) && !OrAnd::is_value(2));
+}
+
+/// 7 and 9, each with the zero, and two whose sum is past the top.
+#[test]
+fn binary_operators_take_the_place_of_products(rt: HostRuntime) {
+    for (found, wanted) in [
+        (PlusPair::mul(7, 9), 1),
+        (PlusPair::mul(7, 0), 0),
+        (PlusPair::mul(0, 9), 0),
+        (PlusMin::mul(7, 9), 7),
+        (PlusMin::mul(0, 9), 0),
+        (PlusFirst::mul(7, 9), 7),
+        (PlusFirst::mul(7, 0), 0),
+        (PlusSecond::mul(7, 9), 9),
+        (PlusSecond::mul(0, 9), 0),
+        (MinFirst::mul(7, 9), 7),
+        (MinFirst::mul(7, TOP), TOP),
+        (MinFirst::mul(0, 9), 0),
+        (MinSecond::mul(7, 9), 9),
+        (MinSecond::mul(TOP, 9), TOP),
+        (MinSecond::mul(7, 0), 0),
+        (MaxFirst::mul(7, 9), 7),
+        (MaxFirst::mul(7, 0), 0),
+        (MaxSecond::mul(7, 9), 9),
+        (MaxSecond::mul(0, 9), 0),
+        (MaxPlus::mul(7, 9), 16),
+        (MaxPlus::mul(7, 0), 0),
+        (MaxPlus::mul(0, 9), 0),
+        (MaxPlus::mul(TOP, 9), TOP),
+        (MinMax::mul(7, 9), 9),
+        (MinMax::mul(TOP, 0), TOP),
+        (MinMax::mul(0, 0), 0),
+        (PlusPair::add(TOP, 3), 2),
+        (MinSecond::add(7, 9), 7),
+        (MaxPlus::add(7, 9), 9),
+    ] {
+        assert_eq!(rt; found, wanted);
+    }
+}
+
+/// The zero, what a file's -1, 0, 7 and 2^64 - 1 stand for, and whether values are written.
+fn rest<S: Semiring>() -> (u64, [Option<u64>; 4], bool) {
+    let taken = [(true, 1), (true, 0), (false, 7), (false, TOP)];
+    (
+        S::zero(),
+        taken.map(|(negative, magnitude)| S::accept(negative, magnitude)),
+        S::writes_pattern(),
+    )
+}
+
+#[test]
+fn another_product_changes_nothing_else(rt: HostRuntime) {
+    let plus = (0, [Some(TOP), Some(0), Some(7), Some(TOP)], false);
+    let min = (TOP, [None, Some(0), Some(7), None], false);
+    let max = (0, [None, Some(0), Some(7), Some(TOP)], false);
+    for (found, wanted) in [
+        (rest::<PlusPair>(), plus),
+        (rest::<PlusMin>(), plus),
+        (rest::<PlusFirst>(), plus),
+        (rest::<PlusSecond>(), plus),
+        (rest::<MinFirst>(), min),
+        (rest::<MinSecond>(), min),
+        (rest::<MaxFirst>(), max),
+        (rest::<MaxSecond>(), max),
+        (rest::<MaxPlus>(), max),
+        (rest::<MinMax>(), min),
+    ] {
+        assert!(rt; found == wanted);
+    }
+    assert!(rt; PlusPair::negative(5) == Some(TOP - 4) && MaxPlus::negative(5) == None);
 }

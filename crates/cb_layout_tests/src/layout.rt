@@ -307,118 +307,132 @@ fn has_segments(
     Ok(come(&mut spread.segments(), wanted))
 }
 
-#[test]
-fn sides_are_one_to_six(rt: HostRuntime) -> Result<(), Fail> {
-    assert_eq!(rt; Grid::new(0), Err(Side));
-    for side in 1..=6 {
-        assert_eq!(rt; Grid::new(side).map(|grid| grid.side()), Ok(side));
+/// Whether there is a grid of a side.
+fn has_side(side: u32) -> bool {
+    match Grid::new(side) {
+        Ok(grid) => grid.side() == side,
+        Err(Side) => false,
     }
-    assert_eq!(rt; Grid::new(7), Err(Side));
-    Ok(())
+}
+
+#[test]
+fn sides_are_one_to_six(rt: HostRuntime) {
+    for side in 0..=7 {
+        assert!(rt; has_side(side) == (1 <= side && side <= 6), "side {side}");
+    }
+}
+
+/// Whether row 1 and column 1 of the grid of side 3 have these ranks.
+fn has_groups(alloc: Global, grid: &Grid, row: &[u16], column: &[u16]) -> bool
+    requires { grid.now.side ≡ 3 }
+{
+    let is_row = grid.row_group(alloc, 1).as_slice() == row;
+    is_row && grid.column_group(alloc, 1).as_slice() == column
 }
 
 #[test]
 fn ranks_have_numbers(rt: HostRuntime) -> Result<(), Fail> {
     let grid = grid_of(3)?;
-    assert_eq!(rt; grid.ranks(), 9);
-    assert_eq!(rt; grid.rank(1, 2), 5);
-    let row = grid.row_group(rt.alloc(), 1);
-    assert_eq!(rt; row.as_slice(), [3, 4, 5].as_slice());
-    let column = grid.column_group(rt.alloc(), 1);
-    assert_eq!(rt; column.as_slice(), [1, 4, 7].as_slice());
+    assert!(rt; grid.ranks() == 9 && grid.rank(1, 2) == 5);
+    assert!(rt; has_groups(rt.alloc(), &grid, &[3, 4, 5], &[1, 4, 7]));
     Ok(())
 }
 
-#[test]
-fn ranges_of_dimensions(rt: HostRuntime) -> Result<(), Fail> {
-    let grid = grid_of(4)?;
-    let rows = [
-        (10, [(0, 3), (3, 6), (6, 9), (9, 10)]),
-        (5, [(0, 2), (2, 4), (4, 5), (5, 5)]),
-        (0, [(0, 0); 4]),
-    ];
-    for (d, wanted) in rows {
-        for part in 0..4 {
-            assert_eq!(rt;
-                grid.range(d, part),
-                wanted[part as usize],
-                "part {part} of {d}"
-            );
+/// Whether a dimension is cut into these ranges by the grid of side 4.
+fn is_cut_at(dimension: u32, wanted: [(u32, u32); 4]) -> bool {
+    let Ok(grid) = grid_of(4) else {
+        return false;
+    };
+    for part in 0..4 {
+        if grid.range(dimension, part) != wanted[part as usize] {
+            return false;
         }
     }
-    Ok(())
+    true
+}
+
+const RANGES: [(u32, [(u32, u32); 4]); 3] = [
+    (10, [(0, 3), (3, 6), (6, 9), (9, 10)]),
+    (5, [(0, 2), (2, 4), (4, 5), (5, 5)]),
+    (0, [(0, 0); 4]),
+];
+
+#[test]
+fn ranges_of_dimensions(rt: HostRuntime) {
+    for (dimension, wanted) in &RANGES {
+        assert!(rt; is_cut_at(*dimension, *wanted), "{dimension}");
+    }
+}
+
+/// Whether an answer is that all is right.
+fn is_right(answer: Result<bool, SampleFault>) -> bool {
+    matches!(answer, Ok(true))
 }
 
 /// An entry keeps its place in the matrix.
 #[test]
-fn matrices_on_four_and_nine_ranks(rt: HostRuntime) -> Result<(), Fail> {
-    let three = [entry(0, 0, 1), entry(0, 1, 2), entry(1, 1, 3)];
-    let two = [entry(4, 1, 9), entry(1, 2, 8)];
-    let cases: [(u32, Given<'_>, &[Contents<'_>]); 2] = [
-        (
-            2,
-            (2, 2, &three),
-            &[
-                (1, 1, &[0], &[1]),
-                (1, 1, &[0], &[2]),
-                (1, 1, &[], &[]),
-                (1, 1, &[0], &[3]),
-            ],
-        ),
-        (
-            3,
-            (5, 4, &two),
-            &[
-                (2, 2, &[], &[]),
-                (2, 2, &[1], &[8]),
-                (2, 0, &[], &[]),
-                (2, 2, &[], &[]),
-                (2, 2, &[], &[]),
-                (2, 0, &[], &[]),
-                (1, 2, &[0], &[9]),
-                (1, 2, &[], &[]),
-                (1, 0, &[], &[]),
-            ],
-        ),
+fn a_matrix_on_four_ranks(rt: HostRuntime) {
+    let given = [entry(0, 0, 1), entry(0, 1, 2), entry(1, 1, 3)];
+    let wanted: [Contents<'_>; 4] = [
+        (1, 1, &[0], &[1]),
+        (1, 1, &[0], &[2]),
+        (1, 1, &[], &[]),
+        (1, 1, &[0], &[3]),
     ];
-    for (side, given, wanted) in cases {
-        assert!(rt;
-            is_cut_into(rt.alloc(), side, given, wanted)?,
-            "side {side}"
-        );
+    assert!(rt; is_right(is_cut_into(rt.alloc(), 2, (2, 2, &given), &wanted)));
+}
+
+#[test]
+fn a_matrix_on_nine_ranks(rt: HostRuntime) {
+    let given = [entry(4, 1, 9), entry(1, 2, 8)];
+    let wanted: [Contents<'_>; 9] = [
+        (2, 2, &[], &[]),
+        (2, 2, &[1], &[8]),
+        (2, 0, &[], &[]),
+        (2, 2, &[], &[]),
+        (2, 2, &[], &[]),
+        (2, 0, &[], &[]),
+        (1, 2, &[0], &[9]),
+        (1, 2, &[], &[]),
+        (1, 0, &[], &[]),
+    ];
+    assert!(rt; is_right(is_cut_into(rt.alloc(), 3, (5, 4, &given), &wanted)));
+}
+
+/// Whether a matrix lies over the grid of each side, and glues together again.
+fn lies_over_each(alloc: Global, given: Given<'_>) -> Result<bool, SampleFault> {
+    for side in 1..=6 {
+        if !is_glued_again(alloc, side, given)? || !is_spread(alloc, side, given)? {
+            return Ok(false);
+        }
     }
-    Ok(())
+    Ok(true)
 }
 
 /// The largest sides, where one entry costs one entry; dimensions below the side of the grid; and no rows.
 #[test]
-fn a_matrix_lies_over_each_grid(rt: HostRuntime) -> Result<(), Fail> {
+fn a_matrix_lies_over_each_grid(rt: HostRuntime) {
     let last = LIMIT - 1;
     let corners = [entry(last, 0, 2), entry(0, last, 3), entry(last, last, 4)];
+    assert!(rt; is_right(lies_over_each(rt.alloc(), (LIMIT, LIMIT, &corners))));
     let few = [entry(1, 0, 4), entry(0, 2, 5)];
-    let four = [
+    assert!(rt; is_right(lies_over_each(rt.alloc(), (2, 3, &few))));
+    assert!(rt; is_right(lies_over_each(rt.alloc(), (0, 1, &[]))));
+    assert!(rt; is_right(lies_over_each(rt.alloc(), (7, 5, &four()))));
+}
+
+/// Four entries of seven rows and five columns.
+fn four() -> [Entry; 4] {
+    [
         entry(1, 0, 4),
         entry(6, 0, 5),
         entry(0, 3, 6),
         entry(6, 3, 7),
-    ];
-    let cases: [Given<'_>; 4] = [
-        (LIMIT, LIMIT, &corners),
-        (2, 3, &few),
-        (0, 1, &[]),
-        (7, 5, &four),
-    ];
-    for given in cases {
-        for side in 1..=6 {
-            assert!(rt; is_glued_again(rt.alloc(), side, given)?, "side {side}");
-            assert!(rt; is_spread(rt.alloc(), side, given)?, "side {side}");
-        }
-    }
-    Ok(())
+    ]
 }
 
 #[test]
-fn a_vector_on_four_ranks(rt: HostRuntime) -> Result<(), Fail> {
+fn a_vector_on_four_ranks(rt: HostRuntime) {
     let given = [
         entry(0, 0, 5),
         entry(1, 0, 6),
@@ -431,66 +445,68 @@ fn a_vector_on_four_ranks(rt: HostRuntime) -> Result<(), Fail> {
         (1, 1, &[0], &[6]),
         (1, 1, &[0], &[8]),
     ];
-    assert!(rt; has_pieces(rt.alloc(), 2, (4, &given), &wanted)?);
-    Ok(())
+    assert!(rt; is_right(has_pieces(rt.alloc(), 2, (4, &given), &wanted)));
+}
+
+/// Whether a vector with a row for each rank is, read as a result, the same as a square that is turned.
+fn is_a_turned_square(alloc: Global, side: u32) -> Result<bool, SampleFault> {
+    let (given, wanted) = square(alloc, side)?;
+    is_turned(alloc, side, &given, &wanted)
 }
 
 /// With a row for each rank, piece t of part i of an input stands where piece i of part t of a result does: read
 /// so, the vector is a square that is turned.
 #[test]
-fn vectors_on_every_side(rt: HostRuntime) -> Result<(), Fail> {
+fn vectors_on_every_side(rt: HostRuntime) {
     for side in 1..=6 {
-        let (given, wanted) = square(rt.alloc(), side)?;
         assert!(rt;
-            is_turned(rt.alloc(), side, &given, &wanted)?,
+            is_right(is_a_turned_square(rt.alloc(), side)),
             "side {side}"
         );
     }
-    Ok(())
 }
+
+/// The side of a grid, and how many of seven rows the piece of each of its first ranks has; those of others have none.
+const PIECES: [(u32, &[u32]); 6] = [
+    (1, &[7]),
+    (2, &[2, 2, 2, 1]),
+    (3, &[1, 1, 1, 1, 1, 0, 1, 1, 0]),
+    (4, &[1, 1, 1, 1, 1, 1, 1]),
+    (5, &[1, 1, 1, 1, 0, 1, 1, 1]),
+    (6, &[1, 1, 1, 1, 0, 0, 1, 1, 1]),
+];
 
 /// Seven rows on each side: how many rows the piece of each rank has, and that no entry is left behind.
 #[test]
-fn pieces_of_seven_rows(rt: HostRuntime) -> Result<(), Fail> {
-    let sides: [(u32, &[u32]); 6] = [
-        (1, &[7]),
-        (2, &[2, 2, 2, 1]),
-        (3, &[1, 1, 1, 1, 1, 0, 1, 1, 0]),
-        (4, &[1, 1, 1, 1, 1, 1, 1]),
-        (5, &[1, 1, 1, 1, 0, 1, 1, 1]),
-        (6, &[1, 1, 1, 1, 0, 0, 1, 1, 1]),
-    ];
+fn pieces_of_seven_rows(rt: HostRuntime) {
     let given = [entry(0, 0, 1), entry(3, 0, 2), entry(6, 0, 3)];
-    for (side, wanted) in sides {
+    for (side, wanted) in &PIECES {
         assert!(rt;
-            has_rows(rt.alloc(), side, (7, &given), wanted)?,
+            is_right(has_rows(rt.alloc(), *side, (7, &given), wanted)),
             "side {side}"
         );
     }
-    Ok(())
 }
 
 /// Entries pushed one by one make the matrix that they are, cut over the grid; where none is, it has none, whatever
 /// the room.
 #[test]
-fn a_matrix_grows_entry_by_entry(rt: HostRuntime) -> Result<(), Fail> {
-    let four = [
-        entry(1, 0, 4),
-        entry(6, 0, 5),
-        entry(0, 3, 6),
-        entry(6, 3, 7),
-    ];
-    let cases: [(usize, Given<'_>); 2] = [(4, (7, 5, &four)), (9, (3, 4, &[]))];
-    for (room, given) in cases {
-        for side in 1..=3 {
-            assert!(rt; is_grown(rt.alloc(), side, room, given)?, "side {side}");
-        }
+fn a_matrix_grows_entry_by_entry(rt: HostRuntime) {
+    for side in 1..=3 {
+        let alloc = rt.alloc();
+        assert!(rt;
+            is_right(is_grown(alloc, side, 4, (7, 5, &four()))),
+            "side {side}"
+        );
+        assert!(rt;
+            is_right(is_grown(alloc, side, 9, (3, 4, &[]))),
+            "side {side}"
+        );
     }
-    Ok(())
 }
 
 #[test]
-fn a_matrix_is_taken_over_to_another_semiring(rt: HostRuntime) -> Result<(), Fail> {
+fn a_matrix_is_taken_over_to_another_semiring(rt: HostRuntime) {
     let ones = [
         entry(1, 0, 1),
         entry(6, 0, 1),
@@ -499,15 +515,14 @@ fn a_matrix_is_taken_over_to_another_semiring(rt: HostRuntime) -> Result<(), Fai
     ];
     for side in 1..=3 {
         assert!(rt;
-            is_taken_over(rt.alloc(), side, (7, 5, &ones))?,
+            is_right(is_taken_over(rt.alloc(), side, (7, 5, &ones))),
             "side {side}"
         );
     }
-    Ok(())
 }
 
 #[test]
-fn segments_of_a_matrix_on_four_ranks(rt: HostRuntime) -> Result<(), Fail> {
+fn segments_of_a_matrix_on_four_ranks(rt: HostRuntime) {
     let given = [
         entry(0, 0, 1),
         entry(1, 0, 2),
@@ -521,8 +536,7 @@ fn segments_of_a_matrix_on_four_ranks(rt: HostRuntime) -> Result<(), Fail> {
         (2, 2, &[1], &[4]),
         (3, 0, &[0], &[5]),
     ];
-    assert!(rt; has_segments(rt.alloc(), 2, (4, 4, &given), &wanted)?);
-    Ok(())
+    assert!(rt; is_right(has_segments(rt.alloc(), 2, (4, 4, &given), &wanted)));
 }
 
 /// Whether an answer is that all is right, or that memory was wanting.
@@ -536,7 +550,7 @@ fn is_right_or_memory(answer: Result<bool, SampleFault>) -> bool {
 /// Each call that takes memory. It passes whichever single allocation is refused (`rt try --test --fail-alloc N`,
 /// for each N in turn): a call says so, or its answer is the right one.
 #[test]
-fn refused_memory_is_said(rt: HostRuntime) -> Result<(), Fail> {
+fn refused_memory_is_said(rt: HostRuntime) {
     let alloc = rt.alloc();
     let three = [entry(0, 0, 1), entry(3, 0, 2), entry(0, 2, 3)];
     let given = (4, 4, three.as_slice());
@@ -546,5 +560,4 @@ fn refused_memory_is_said(rt: HostRuntime) -> Result<(), Fail> {
     let vector = [entry(1, 0, 5), entry(3, 0, 6)];
     let wanted = [entry(2, 0, 5), entry(3, 0, 6)];
     assert!(rt; is_right_or_memory(is_turned(alloc, 2, &vector, &wanted)));
-    Ok(())
 }

@@ -5,7 +5,6 @@ use cb_collectives::{all_to_all, broadcast, gather, reduce, shut_all};
 use cb_letters::Tag;
 use cb_plan::{Act, Op, Plan};
 use std::alloc::{AllocError, Global};
-use std::test::Fail;
 
 const TAG: Tag = Tag(4);
 
@@ -53,6 +52,11 @@ fn closed(alloc: Global, plan: &Plan) -> Result<Vec<[u16; 2]>, AllocError> {
     Ok(found)
 }
 
+/// Whether a plan shuts just these lanes, in this order.
+fn has_closed(alloc: Global, plan: &Plan, wanted: &[[u16; 2]]) -> Result<bool, AllocError> {
+    Ok(closed(alloc, plan)?.as_slice() == wanted)
+}
+
 /// Whether these are the Copies and the Moves of a plan.
 fn has(
     alloc: Global,
@@ -66,21 +70,20 @@ fn has(
 }
 
 #[test]
-fn broadcasts_by_a_tree(rt: HostRuntime) -> Result<(), Fail> {
+fn broadcasts_by_a_tree(rt: HostRuntime) {
     let alloc = rt.alloc();
     let mut plan = Plan::new(alloc, 4);
-    broadcast(&mut plan, &[0, 1, 2, 3], 2, TAG, 0, 1).map_err(|_| "refused")?;
+    assert!(rt; broadcast(&mut plan, &[0, 1, 2, 3], 2, TAG, 0, 1).is_ok());
     let copied = [[2, 0, 1]];
     let moved = [[2, 3, 0, 1], [2, 0, 0, 1], [3, 1, 1, 1]];
-    assert!(rt; has(alloc, &plan, &copied, &moved)?);
-    Ok(())
+    assert!(rt; has(alloc, &plan, &copied, &moved) == Ok(true));
 }
 
 #[test]
-fn broadcasts_to_six(rt: HostRuntime) -> Result<(), Fail> {
+fn broadcasts_to_six(rt: HostRuntime) {
     let alloc = rt.alloc();
     let mut plan = Plan::new(alloc, 6);
-    broadcast(&mut plan, &[0, 1, 2, 3, 4, 5], 0, TAG, 1, 1).map_err(|_| "refused")?;
+    assert!(rt; broadcast(&mut plan, &[0, 1, 2, 3, 4, 5], 0, TAG, 1, 1).is_ok());
     let moved = [
         [0, 1, 1, 1],
         [0, 2, 1, 1],
@@ -88,36 +91,33 @@ fn broadcasts_to_six(rt: HostRuntime) -> Result<(), Fail> {
         [1, 4, 1, 1],
         [2, 5, 1, 1],
     ];
-    assert!(rt; has(alloc, &plan, &[], &moved)?);
-    Ok(())
+    assert!(rt; has(alloc, &plan, &[], &moved) == Ok(true));
 }
 
 #[test]
-fn gathers_in_list_order(rt: HostRuntime) -> Result<(), Fail> {
+fn gathers_in_list_order(rt: HostRuntime) {
     let alloc = rt.alloc();
     let mut plan = Plan::new(alloc, 3);
-    gather(&mut plan, &[0, 1, 2], 0, TAG, 0, 10).map_err(|_| "refused")?;
+    assert!(rt; gather(&mut plan, &[0, 1, 2], 0, TAG, 0, 10).is_ok());
     let moved = [[1, 0, 0, 11], [2, 0, 0, 12]];
-    assert!(rt; has(alloc, &plan, &[[0, 0, 10]], &moved)?);
-    Ok(())
+    assert!(rt; has(alloc, &plan, &[[0, 0, 10]], &moved) == Ok(true));
 }
 
 #[test]
-fn reduces_by_two_sums(rt: HostRuntime) -> Result<(), Fail> {
+fn reduces_by_two_sums(rt: HostRuntime) {
     let alloc = rt.alloc();
     let mut plan = Plan::new(alloc, 3);
-    reduce(&mut plan, &[0, 1, 2], 2, TAG, 0, 2, 3).map_err(|_| "refused")?;
-    assert_eq!(rt; plan.len(), 5);
+    assert!(rt; reduce(&mut plan, &[0, 1, 2], 2, TAG, 0, 2, 3).is_ok());
+    assert!(rt; plan.len() == 5);
     let moved = [[0, 2, 0, 3], [1, 2, 0, 3]];
-    assert!(rt; has(alloc, &plan, &[[2, 0, 2]], &moved)?);
-    Ok(())
+    assert!(rt; has(alloc, &plan, &[[2, 0, 2]], &moved) == Ok(true));
 }
 
 #[test]
-fn exchanges_among_three(rt: HostRuntime) -> Result<(), Fail> {
+fn exchanges_among_three(rt: HostRuntime) {
     let alloc = rt.alloc();
     let mut plan = Plan::new(alloc, 3);
-    all_to_all(&mut plan, &[0, 1, 2], TAG, 20, 30).map_err(|_| "refused")?;
+    assert!(rt; all_to_all(&mut plan, &[0, 1, 2], TAG, 20, 30).is_ok());
     let copied = [[0, 20, 30], [1, 21, 31], [2, 22, 32]];
     let moved = [
         [0, 1, 21, 30],
@@ -127,18 +127,14 @@ fn exchanges_among_three(rt: HostRuntime) -> Result<(), Fail> {
         [2, 0, 20, 32],
         [2, 1, 21, 32],
     ];
-    assert!(rt; has(alloc, &plan, &copied, &moved)?);
-    Ok(())
+    assert!(rt; has(alloc, &plan, &copied, &moved) == Ok(true));
 }
 
 #[test]
-fn shuts_each_lane_once(rt: HostRuntime) -> Result<(), Fail> {
+fn shuts_each_lane_once(rt: HostRuntime) {
     let alloc = rt.alloc();
     let mut plan = Plan::new(alloc, 3);
-    shut_all(&mut plan).map_err(|_| "refused")?;
-    assert_eq!(rt;
-        closed(alloc, &plan)?.as_slice(),
-        [[0, 1], [0, 2], [1, 0], [1, 2], [2, 0], [2, 1]].as_slice()
-    );
-    Ok(())
+    assert!(rt; shut_all(&mut plan).is_ok());
+    let lanes = [[0, 1], [0, 2], [1, 0], [1, 2], [2, 0], [2, 1]];
+    assert!(rt; has_closed(alloc, &plan, &lanes) == Ok(true));
 }

@@ -30,6 +30,22 @@ fn starts(alloc: Global) -> Result<Vec<Start>, Fail> {
     Ok(operand_starts(alloc, &grid()?, &operands)?)
 }
 
+/// Whether a start is of this rank and slot, and of so many rows and columns.
+fn is_start(start: &Start, (rank, slot, rows, cols): (u16, u16, u32, u32)) -> bool {
+    let is_there = start.rank == rank && start.slot == slot;
+    is_there && start.shape.rows() == rows && start.shape.cols() == cols
+}
+
+/// Whether these are all the starts.
+fn are_starts(starts: &[Start], wanted: &[(u16, u16, u32, u32)]) -> bool {
+    for (start, row) in starts.iter().zip(wanted) {
+        if !is_start(start, *row) {
+            return false;
+        }
+    }
+    starts.len() == wanted.len()
+}
+
 #[test]
 fn starts_by_ranks(rt: HostRuntime) -> Result<(), Fail> {
     let expected: [(u16, u16, u32, u32); 8] = [
@@ -43,11 +59,7 @@ fn starts_by_ranks(rt: HostRuntime) -> Result<(), Fail> {
         (3, 7, 0, 1),
     ];
     let starts = starts(rt.alloc())?;
-    assert_eq!(rt; starts.len(), expected.len());
-    for (start, (rank, slot, rows, cols)) in starts.iter().zip(expected) {
-        assert!(rt; (start.rank, start.slot) == (rank, slot));
-        assert!(rt; (start.shape.rows(), start.shape.cols()) == (rows, cols));
-    }
+    assert!(rt; are_starts(&starts, &expected));
     Ok(())
 }
 
@@ -60,46 +72,51 @@ fn works(alloc: Global) -> Result<Plan, Fail> {
     Ok(plan)
 }
 
-#[test]
-fn each_rank_works(rt: HostRuntime) -> Result<(), Fail> {
-    let plan = works(rt.alloc())?;
+/// Whether each of four ranks copies, and then has its block without entries, and that is all.
+fn each_copies_and_clears(acts: &[Act]) -> bool {
     let mut copies = 0u16;
     let mut zeros = 0u16;
-    for act in plan.acts() {
+    for act in acts {
         match act {
             Act::Work {
                 rank,
                 op: Op::Copy { a: 0, into: 1 },
-            } => {
-                assert!(rt; *rank == copies);
-                copies = copies.saturating_add(1);
-            }
+            } if *rank == copies => copies = copies.saturating_add(1),
             Act::Work {
                 rank,
                 op: Op::Zero { into: 2, .. },
-            } => {
-                assert!(rt; *rank == zeros);
-                zeros = zeros.saturating_add(1);
-            }
-            _ => return Err("another act".into()),
+            } if *rank == zeros => zeros = zeros.saturating_add(1),
+            _ => return false,
         }
     }
-    assert!(rt; (copies, zeros) == (4, 4));
-    Ok(())
+    (copies, zeros) == (4, 4)
 }
 
 #[test]
-fn a_plan_of_starts_alone(rt: HostRuntime) -> Result<(), Fail> {
-    let grid = Grid::new(2).map_err(|_| "a side")?;
+fn each_rank_works(rt: HostRuntime) -> Result<(), Fail> {
+    let plan = works(rt.alloc())?;
+    assert!(rt; each_copies_and_clears(plan.acts()));
+    Ok(())
+}
+
+/// How many acts and starts a plan has that begins with a matrix of 3 by 3 on each of four ranks and does nothing, and its
+/// result.
+fn starts_alone(alloc: Global) -> Result<(usize, usize, u16), Fail> {
+    let grid = grid()?;
     let operands = [Operand {
         slot: 2,
         shape: shape(3, 3)?,
     }];
-    let starts = operand_starts(rt.alloc(), &grid, &operands)?;
-    let plan = Plan::new(rt.alloc(), grid.ranks());
-    let planned = finish(&grid, plan, starts, 2).map_err(|_| "a plan")?;
-    assert_eq!(rt; planned.plan.len(), 12);
-    assert_eq!(rt; planned.starts.len(), 4);
-    assert!(rt; planned.result == 2);
+    let starts = operand_starts(alloc, &grid, &operands)?;
+    let plan = Plan::new(alloc, grid.ranks());
+    match finish(&grid, plan, starts, 2) {
+        Ok(planned) => Ok((planned.plan.len(), planned.starts.len(), planned.result)),
+        Err(_) => Err("a plan".into()),
+    }
+}
+
+#[test]
+fn a_plan_of_starts_alone(rt: HostRuntime) -> Result<(), Fail> {
+    assert!(rt; starts_alone(rt.alloc())? == (12, 4, 2));
     Ok(())
 }

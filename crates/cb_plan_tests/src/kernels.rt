@@ -4,7 +4,8 @@ ghost use Rattle.cb_plan.specs.Runnable.{IsRunnable};
 
 use cb_dcsc::Block;
 use cb_grid_plans::{
-    LEFT, RESULT, RIGHT, grid_add, grid_prune, grid_times, grid_transpose, grid_vector,
+    LEFT, RESULT, RIGHT, grid_add, grid_column_sums, grid_prune, grid_row_sums, grid_times,
+    grid_transpose, grid_vector,
 };
 use cb_layout::Grid;
 use cb_local::run_plain;
@@ -21,6 +22,8 @@ const SIDES: [u32; 6] = [1, 2, 3, 4, 5, 6];
 #[derive(Clone, Copy)]
 enum Kernel {
     Transpose,
+    RowSums,
+    ColumnSums,
     Add,
     Times,
     Prune(Test),
@@ -33,6 +36,8 @@ fn plan_of(kernel: Kernel, alloc: Global, grid: &Grid, shape: Shape) -> Result<P
 {
     match kernel {
         Kernel::Transpose => grid_transpose(alloc, grid, shape),
+        Kernel::RowSums => grid_row_sums(alloc, grid, shape),
+        Kernel::ColumnSums => grid_column_sums(alloc, grid, shape),
         Kernel::Add => grid_add(alloc, grid, shape),
         Kernel::Times => grid_times(alloc, grid, shape),
         Kernel::Prune(test) => grid_prune(alloc, grid, shape, test),
@@ -153,11 +158,17 @@ fn wrong_example(alloc: Global, examples: &[Example<'_>]) -> Result<Option<(usiz
     Ok(None)
 }
 
-/// The transpose, the sum and the product place by place, and entries dropped.
+/// The transpose, sums of rows and of columns, the sum and the product place by place, and entries dropped.
 #[test]
 fn each_kernel_makes_its_result_on_each_grid(rt: HostRuntime) -> Result<(), Fail> {
     let (a, wide, tall, flat) = (shape(4, 3)?, shape(3, 5)?, shape(5, 3)?, shape(2, 7)?);
-    let examples: [Example<'_>; 4] = [
+    let many = [
+        entry(2, 0, 6),
+        entry(1, 1, 5),
+        entry(0, 4, 7),
+        entry(2, 4, 3),
+    ];
+    let examples: [Example<'_>; 6] = [
         (
             Kernel::Transpose,
             wide,
@@ -165,6 +176,22 @@ fn each_kernel_makes_its_result_on_each_grid(rt: HostRuntime) -> Result<(), Fail
             &[],
             tall,
             &[entry(4, 0, 7), entry(1, 1, 5), entry(0, 2, 6)],
+        ),
+        (
+            Kernel::RowSums,
+            wide,
+            &many,
+            &[],
+            shape(3, 1)?,
+            &[entry(0, 0, 7), entry(1, 0, 5), entry(2, 0, 9)],
+        ),
+        (
+            Kernel::ColumnSums,
+            wide,
+            &many,
+            &[],
+            shape(1, 5)?,
+            &[entry(0, 0, 6), entry(0, 1, 5), entry(0, 4, 10)],
         ),
         (
             Kernel::Add,
@@ -191,7 +218,7 @@ fn each_kernel_makes_its_result_on_each_grid(rt: HostRuntime) -> Result<(), Fail
             &[entry(0, 0, 7), entry(1, 6, 9)],
         ),
     ];
-    assert_eq!(rt; wrong_example(rt.alloc(), &examples)?, None);
+    assert!(rt; wrong_example(rt.alloc(), &examples)?.is_none());
     Ok(())
 }
 
@@ -260,21 +287,25 @@ fn six_by_five(alloc: Global, side: u32) -> Result<[u64; 3], Fail> {
 
 #[test]
 fn multiplies_a_vector(rt: HostRuntime) -> Result<(), Fail> {
-    for side in SIDES {
-        assert_eq!(rt; six_by_five(rt.alloc(), side)?, [17, 15, 24]);
+    for side in &SIDES {
+        assert!(rt; six_by_five(rt.alloc(), *side)? == [17, 15, 24], "{side}");
     }
     Ok(())
+}
+
+/// Whether a matrix of two by two times a vector on the grid of side 2 has these values, at their ranks.
+fn two_by_two_has(alloc: Global, wanted: &[[u64; 2]]) -> Result<bool, Fail> {
+    let a = [entry(0, 0, 1), entry(0, 1, 2), entry(1, 1, 3)];
+    let a = matrix(alloc, shape(2, 2)?, &a)?;
+    let x = matrix(alloc, shape(2, 1)?, &[entry(0, 0, 5), entry(1, 0, 7)])?;
+    let found = spread_product(alloc, 2, &a, &x)?;
+    Ok(found.as_slice() == wanted)
 }
 
 /// Each of the two parts of the result has one row, which is in the first of its pieces.
 #[test]
 fn multiplies_by_pieces(rt: HostRuntime) -> Result<(), Fail> {
-    let alloc = rt.alloc();
-    let a = [entry(0, 0, 1), entry(0, 1, 2), entry(1, 1, 3)];
-    let a = matrix(alloc, shape(2, 2)?, &a)?;
-    let x = matrix(alloc, shape(2, 1)?, &[entry(0, 0, 5), entry(1, 0, 7)])?;
-    let found = spread_product(alloc, 2, &a, &x)?;
-    assert_eq!(rt; found.as_slice(), [[0, 19], [2, 21]].as_slice());
+    assert!(rt; two_by_two_has(rt.alloc(), &[[0, 19], [2, 21]])?);
     Ok(())
 }
 
@@ -295,6 +326,8 @@ fn refused_memory_is_said(rt: HostRuntime) -> Result<(), Fail> {
     let shape = shape(3, 5)?;
     let counts = [
         (Kernel::Transpose, 20),
+        (Kernel::RowSums, 60),
+        (Kernel::ColumnSums, 40),
         (Kernel::Add, 16),
         (Kernel::Times, 16),
         (Kernel::Prune(Test::Above(3)), 16),

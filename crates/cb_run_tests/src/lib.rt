@@ -15,6 +15,8 @@ mod operations;
 #[cfg(test)]
 mod orders;
 #[cfg(test)]
+mod threads;
+#[cfg(test)]
 mod traces;
 #[cfg(test)]
 mod walks;

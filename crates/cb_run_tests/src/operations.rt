@@ -16,7 +16,7 @@ use std::test::Fail;
 use std::thread::Threads;
 
 /// Each operation, and what it makes of the operands that [`agreeing`] makes.
-const ANSWERS: [(Operation, &'static [Place]); 7] = [
+const ANSWERS: [(Operation, &'static [Place]); 9] = [
     (Operation::Multiply, &PRODUCT),
     (Operation::MultiplyMasked, &MASKED),
     (Operation::MultiplyVector, &[(0, 0, 19), (1, 0, 21)]),
@@ -27,6 +27,8 @@ const ANSWERS: [(Operation, &'static [Place]); 7] = [
     (Operation::Times, &[(0, 1, 2)]),
     (Operation::Prune(Test::Above(1)), &[(0, 0, 1)]),
     (Operation::Transpose, &[(0, 0, 1), (1, 0, 2), (1, 1, 3)]),
+    (Operation::RowSums, &[(0, 0, 3), (1, 0, 3)]),
+    (Operation::ColumnSums, &[(0, 0, 1), (0, 1, 5)]),
 ];
 
 /// Those of several operands, whose shapes have to agree.

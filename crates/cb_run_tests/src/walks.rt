@@ -23,7 +23,7 @@ pub struct Graph {
 }
 
 /// A path from vertex 0 to 2, and an edge from 3 to itself.
-const PATH: Graph = Graph {
+pub const PATH: Graph = Graph {
     vertices: 4,
     edges: &[(0, 1, 1), (1, 2, 1), (2, 0, 1), (3, 3, 1)],
     source: 0,
@@ -66,7 +66,7 @@ pub enum By {
 pub const SEARCHES: [By; 2] = [By::One, By::Ranks(Engine::Threads(2), 2)];
 
 /// The levels of a graph from a source.
-fn levels_by<R: Threads + Wait + Sync>(
+pub fn levels_by<R: Threads + Wait + Sync>(
     rt: &R,
     alloc: Global,
     by: By,

@@ -69,6 +69,6 @@ fn plan_faults(rt: HostRuntime) -> Result<(), Fail> {
         (&[shut(1, 0)], fault(1, PlanFaultKind::NotShut)),
         (&small, None),
     ];
-    assert_eq!(rt; wrong_plan(rt.alloc(), &findings)?, None);
+    assert!(rt; wrong_plan(rt.alloc(), &findings)?.is_none());
     Ok(())
 }

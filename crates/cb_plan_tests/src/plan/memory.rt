@@ -1,75 +1,131 @@
 //! Memory that was taken before, and memory that is refused.
+ghost use Rattle.std.specs.Prelude.{◌≡◌};
+
 use crate::plan::{checked, fault, plan_of, row_at_0, small, two_stores};
+use cb_dcsc::Block;
 use cb_local::run_plain;
-use cb_plan::{CheckedPlan, Plan, PlanFaultKind, Slot};
+use cb_matrix::Entry;
+use cb_plan::{CheckedPlan, Plan, PlanFaultKind, Slot, Start};
 use cb_samples::entry;
+use cb_semirings::PlusTimes;
+use std::alloc::{AllocError, Global};
 use std::test::Fail;
+
+/// Whether the small plan grows where it has no room, where it has some, and where it is made.
+fn grows(alloc: Global) -> Result<bool, Fail> {
+    let mut plan = Plan::new(alloc, 2);
+    plan.reserve(2)?;
+    let has_room = plan.make_room(3).is_ok();
+    for act in small() {
+        if plan.push(act).is_err() {
+            return Ok(false);
+        }
+    }
+    Ok(has_room && plan.len() == 3)
+}
+
+/// How many halves rank 1 of the small plan has.
+fn halves(alloc: Global) -> Option<usize> {
+    let plan = checked(alloc)?;
+    Some(plan.project(alloc, 1).ok()?.len())
+}
 
 /// With ample memory no call that may be refused is.
 #[test]
 fn a_plan_grows_with_ample_memory(rt: HostRuntime) -> Result<(), Fail> {
-    let mut plan = Plan::new(rt.alloc(), 2);
-    plan.reserve(2)?;
-    assert!(rt; plan.make_room(3).is_ok());
-    for act in small() {
-        assert!(rt; plan.push(act).is_ok());
-    }
-    assert_eq!(rt; plan.len(), 3);
-    let plan = checked(rt.alloc()).ok_or("no plan")?;
-    assert_eq!(rt; plan.project(rt.alloc(), 1)?.len(), 3);
+    assert!(rt; grows(rt.alloc())?);
+    assert!(rt; halves(rt.alloc()) == Some(3));
     Ok(())
+}
+
+/// The entries of the block that a slot holds.
+fn entries_in(slot: &Slot<Block<PlusTimes>>) -> Option<Vec<Entry>> {
+    match slot {
+        Slot::Sheet(block) => block.entries().ok(),
+        _ => None,
+    }
+}
+
+/// Whether a slot holds the block that rank 0 has at first.
+fn is_block(slot: &Slot<Block<PlusTimes>>) -> bool {
+    match entries_in(slot) {
+        Some(entries) => entries.as_slice() == [entry(0, 1, 6)].as_slice(),
+        None => false,
+    }
+}
+
+/// Whether the block of rank 0 is copied.
+fn is_copied(alloc: Global) -> Option<bool> {
+    let stores = two_stores(alloc)?;
+    let copy = stores[0].try_copy(0).ok()?;
+    Some(is_block(&copy))
+}
+
+/// Whether it is sent to slot 3 of rank 1.
+fn is_sent(alloc: Global) -> Option<bool> {
+    let plan = checked(alloc)?;
+    let stores = two_stores(alloc)?;
+    if !plan.fits(&stores) {
+        return None;
+    }
+    let after = run_plain(alloc, &plan, stores).ok()?;
+    Some(is_block(after[1].slot(3)))
 }
 
 /// The same of the stores.
 #[test]
-fn a_block_is_copied_and_sent_with_ample_memory(rt: HostRuntime) -> Result<(), Fail> {
-    let stores = two_stores(rt.alloc()).ok_or("no stores")?;
-    let Slot::Sheet(copy) = stores[0].try_copy(0)? else {
-        return Err("a copy of the block".into());
-    };
-    assert_eq!(rt; copy.entries()?.as_slice(), [entry(0, 1, 6)].as_slice());
-    let plan = checked(rt.alloc()).ok_or("no plan")?;
-    assert!(rt; plan.fits(&stores));
-    let after = run_plain(rt.alloc(), &plan, stores)?;
-    let Slot::Sheet(sent) = after[1].slot(3) else {
-        return Err("the block that was sent".into());
-    };
-    assert_eq!(rt; sent.entries()?.as_slice(), [entry(0, 1, 6)].as_slice());
-    Ok(())
+fn a_block_is_copied_and_sent_with_ample_memory(rt: HostRuntime) {
+    assert!(rt; is_copied(rt.alloc()) == Some(true));
+    assert!(rt; is_sent(rt.alloc()) == Some(true));
+}
+
+/// Whether the check of the small plan is refused memory and hands it back, or rank 1 has three halves, or there is no
+/// memory for them.
+fn is_checked_or_refused(alloc: Global, plan: Plan, start: Start) -> bool
+    requires ranks { plan.ranks ≡ 2 }
+    requires place { start ≡ record { rank = 0; slot = 0; shape = record { rows = 1; cols = 2 } } }
+{
+    match CheckedPlan::check(alloc, plan, &[start]) {
+        Ok(plan) => match plan.project(alloc, 1) {
+            Ok(halves) => halves.len() == 3,
+            Err(AllocError) => true,
+        },
+        Err((same, wanting)) => {
+            same.len() == 3 && Some(wanting) == fault(0, PlanFaultKind::Memory)
+        }
+    }
 }
 
 /// Passes whichever single allocation is refused (`rt try --test --fail-alloc N`, for each N in turn): each call
 /// gives the right answer, or memory was wanting.
 #[test]
 fn refused_memory_is_answered(rt: HostRuntime) -> Result<(), Fail> {
-    let Ok(plan) = plan_of(rt.alloc(), &small()) else {
-        return Ok(());
-    };
-    match CheckedPlan::check(rt.alloc(), plan, &[row_at_0()?]) {
-        Ok(plan) => {
-            if let Ok(halves) = plan.project(rt.alloc(), 1) {
-                assert_eq!(rt; halves.len(), 3);
-            }
-        }
-        Err((same, wanting)) => {
-            assert_eq!(rt; same.len(), 3);
-            assert_eq!(rt; Some(wanting), fault(0, PlanFaultKind::Memory));
-        }
+    let start = row_at_0()?;
+    if let Ok(plan) = plan_of(rt.alloc(), &small()) {
+        assert!(rt; is_checked_or_refused(rt.alloc(), plan, start));
     }
     Ok(())
+}
+
+/// Whether the small plan runs on its stores and fills one slot of rank 1, or there is no memory.
+fn runs_or_is_refused(alloc: Global) -> bool {
+    let Some(plan) = checked(alloc) else {
+        return true;
+    };
+    let Some(stores) = two_stores(alloc) else {
+        return true;
+    };
+    if !plan.fits(&stores) {
+        return false;
+    }
+    match run_plain(alloc, &plan, stores) {
+        Ok(after) => after[1].filled() == 1,
+        Err(_) => true,
+    }
 }
 
 /// The same of a plan that runs.
 #[test]
 fn a_run_is_refused_for_want_of_memory(rt: HostRuntime) {
-    let Some(plan) = checked(rt.alloc()) else {
-        return;
-    };
-    let Some(stores) = two_stores(rt.alloc()) else {
-        return;
-    };
-    assert!(rt; plan.fits(&stores));
-    if let Ok(after) = run_plain(rt.alloc(), &plan, stores) {
-        assert_eq!(rt; after[1].filled(), 1);
-    }
+    assert!(rt; runs_or_is_refused(rt.alloc()));
 }

@@ -1,24 +1,45 @@
 //! Stores, and whether they have what the starts of a plan say.
+ghost use Rattle.std.specs.Prelude.{◌≡◌, IfSome, length};
+
 use crate::plan::checked;
-use cb_plan::RankStore;
+use cb_plan::{CheckedPlan, RankStore};
 use cb_samples::block;
 use cb_semirings::PlusTimes;
+use std::alloc::Global;
 use std::test::Fail;
 
-/// Of another block, of a block too many, of a lost slot and of a store too few none is what the starts say.
+/// Two stores, of which the first has a block of so many rows and columns without entries in slot 0.
+fn two_with(alloc: Global, rows: u32, cols: u32) -> Option<Vec<RankStore<PlusTimes>>>
+    ensures { IfSome result (λ v. length v.items ≡ 2) }
+{
+    let mut first = RankStore::new(alloc).ok()?;
+    first.put(0, block(alloc, rows, cols, &[]).ok()?);
+    let second = RankStore::new(alloc).ok()?;
+    vec![in alloc; first, second].ok()
+}
+
+/// Whether the stores fit the plan with a block of 1 by 2, and not where one is wanting or has a lost slot.
+fn fit_as_started(alloc: Global, plan: &CheckedPlan) -> Option<bool> {
+    let mut stores = two_with(alloc, 1, 2)?;
+    let fits = plan.fits(&stores) && !plan.fits(&stores[..1]);
+    stores[1].put_lost(3, 0);
+    Some(fits && !plan.fits(&stores))
+}
+
+/// Whether neither stores without a block nor those with another one fit it.
+fn do_not_fit(alloc: Global, plan: &CheckedPlan) -> Option<bool> {
+    let first = RankStore::<PlusTimes>::new(alloc).ok()?;
+    let second = RankStore::new(alloc).ok()?;
+    let empty = vec![in alloc; first, second].ok()?;
+    let turned = two_with(alloc, 2, 1)?;
+    Some(!plan.fits(&empty) && !plan.fits(&turned))
+}
+
+/// Of another block, of no block, of a lost slot and of a store too few none is what the starts say.
 #[test]
 fn stores_that_do_not_fit(rt: HostRuntime) -> Result<(), Fail> {
-    let alloc = rt.alloc();
-    let plan = checked(alloc).ok_or("no plan")?;
-    let mut stores = vec![in alloc; RankStore::<PlusTimes>::new(alloc)?, RankStore::new(alloc)?]?;
-    assert!(rt; !plan.fits(&stores));
-    stores[0].put(0, block(alloc, 1, 2, &[])?);
-    assert!(rt; plan.fits(&stores));
-    assert!(rt; !plan.fits(&stores[..1]));
-    stores[1].put_lost(3, 0);
-    assert!(rt; !plan.fits(&stores));
-    stores[1].clear(3);
-    stores[0].put(0, block(alloc, 2, 1, &[])?);
-    assert!(rt; !plan.fits(&stores));
+    let plan = checked(rt.alloc()).ok_or("no plan")?;
+    assert!(rt; fit_as_started(rt.alloc(), &plan) == Some(true));
+    assert!(rt; do_not_fit(rt.alloc(), &plan) == Some(true));
     Ok(())
 }

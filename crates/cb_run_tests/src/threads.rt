@@ -1,0 +1,121 @@
+//! That ranks run in threads of their own, as the process sees it from outside.
+use crate::examples::{has, matrix, operands};
+use crate::walks::{By, PATH, levels_by};
+use cb_engines::Engine;
+use cb_layout::{DistributedMatrix, Grid};
+use cb_operations::{Operands, Operation};
+use cb_run::run;
+use cb_semirings::PlusTimes;
+use std::alloc::{Alloc, Global};
+use std::rt::Files;
+use std::sync::Wait;
+use std::sync::atomic::{AtomicBool, Ordering};
+use std::test::Fail;
+use std::thread::Threads;
+use std::{fs, thread};
+
+/// How many threads this process has, as Linux tells it.
+fn threads_now<R: Files + Alloc>(rt: &R) -> Option<u32> {
+    let status = fs::read_to_string(rt, "/proc/self/status").ok()?;
+    let line = status.lines().find(|line| line.starts_with("Threads:"))?;
+    line.trim_start_matches("Threads:").trim().parse().ok()
+}
+
+/// What four ranks do, again and again.
+#[derive(Clone, Copy)]
+enum Job {
+    Product,
+    Walk,
+}
+
+/// Does the job by an engine, where there is memory.
+fn does<R: Threads + Wait + Sync>(
+    rt: &R,
+    alloc: Global,
+    engine: Engine<'static>,
+    job: Job,
+) -> Option<bool> {
+    match job {
+        Job::Product => {
+            let grid = Grid::new(2).ok()?;
+            let (left, right) = operands::<PlusTimes>(alloc)?;
+            let left = DistributedMatrix::scatter(alloc, grid, &left).ok()?;
+            let right = DistributedMatrix::scatter(alloc, grid, &right).ok()?;
+            let operands = Operands::Two(left, right);
+            Some(run(rt, alloc, engine, &grid, Operation::Multiply, operands).is_ok())
+        }
+        Job::Walk => {
+            let graph = matrix(alloc, PATH.vertices, PATH.vertices, PATH.edges)?;
+            let found = levels_by(rt, alloc, By::Ranks(engine, 2), &graph, PATH.source);
+            Some(found.is_ok_and(|found| has(&found, PATH.found)))
+        }
+    }
+}
+
+/// Does a job until it is seen, or so often that it would have been.
+fn do_until_seen<R: Threads + Wait + Sync>(
+    rt: &R,
+    alloc: Global,
+    engine: Engine<'static>,
+    job: Job,
+    seen: &AtomicBool,
+    ended: &AtomicBool,
+) -> bool {
+    let mut done = true;
+    for _ in 0..200 {
+        if seen.load(Ordering::SeqCst) {
+            break;
+        }
+        done &= does(rt, alloc, engine, job) == Some(true);
+    }
+    ended.store(true, Ordering::SeqCst);
+    done
+}
+
+/// Looks whether the process has so many threads, until it has or the job ended.
+fn look_for<R: Files + Alloc>(rt: &R, wanted: u32, seen: &AtomicBool, ended: &AtomicBool) {
+    for _ in 0..u64::MAX {
+        if ended.load(Ordering::SeqCst) {
+            return;
+        }
+        if threads_now(rt).is_some_and(|now| now >= wanted) {
+            seen.store(true, Ordering::SeqCst);
+        }
+    }
+}
+
+/// Whether the process had a thread for each of four ranks, beside its own and the one that looks, while an engine did a
+/// job.
+fn has_a_thread_for_each<R: Threads + Wait + Files + Alloc + Sync>(
+    rt: &R,
+    alloc: Global,
+    engine: Engine<'static>,
+    job: Job,
+) -> Result<bool, Fail> {
+    let before = threads_now(rt).ok_or("a count of threads")?;
+    let wanted = before.saturating_add(5);
+    let (seen, ended) = (AtomicBool::new(false), AtomicBool::new(false));
+    let (done, ()) = thread::join(
+        rt,
+        || do_until_seen(rt, alloc, engine, job, &seen, &ended),
+        || look_for(rt, wanted, &seen, &ended),
+    );
+    Ok(done && seen.load(Ordering::SeqCst))
+}
+
+#[test]
+fn ranks_have_threads_of_their_own(rt: HostRuntime) -> Result<(), Fail> {
+    let rows = [
+        (Engine::Threads(2), Job::Product, true),
+        (Engine::Threads(2), Job::Walk, true),
+        (Engine::Traced(2), Job::Product, true),
+        (Engine::InOrder(2, &[]), Job::Product, false),
+    ];
+    for (engine, job, threads) in rows {
+        assert_eq!(rt;
+            has_a_thread_for_each(&rt, rt.alloc(), engine, job)?,
+            threads
+        );
+    }
+    Ok(())
+}
