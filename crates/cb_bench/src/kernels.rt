@@ -6,9 +6,10 @@ use crate::loads::{block_of, random_matrix};
 use crate::words::{Bench, Kernel};
 use crate::worlds::measure_world;
 use cb_dcsc::Block;
-use cb_elementwise::add;
+use cb_elementwise::{add, mask};
 use cb_layout::Grid;
 use cb_market::{read, text};
+use cb_masked::multiply_masked;
 use cb_matrix::{Matrix, Shape};
 use cb_product::{multiply, multiply_into};
 use cb_reshape::transpose;
@@ -123,6 +124,39 @@ fn measure_multiply_into<R: CpuClock + AllocGlobal>(
     }
 }
 
+/// The product under the left block as a mask.
+fn measure_masked<R: CpuClock + AllocGlobal>(
+    rt: &R,
+    left: &Block<PlusTimes>,
+    right: &Block<PlusTimes>,
+) -> Result<Counts, AllocError>
+    requires agree { left.now.shape.cols ≡ right.now.shape.rows }
+    requires shape { left.now.shape ≡ product_shape left.now right.now }
+{
+    let given = left.len().saturating_add(right.len());
+    let steps = products(left, right);
+    let start = now(rt);
+    let made = multiply_masked(rt.alloc(), left, right, left)?;
+    Ok(counted(rt, start, given, steps, made.len()))
+}
+
+/// The same, by making the whole product first.
+fn measure_multiply_then_mask<R: CpuClock + AllocGlobal>(
+    rt: &R,
+    left: &Block<PlusTimes>,
+    right: &Block<PlusTimes>,
+) -> Result<Counts, AllocError>
+    requires agree { left.now.shape.cols ≡ right.now.shape.rows }
+    requires shape { left.now.shape ≡ product_shape left.now right.now }
+{
+    let given = left.len().saturating_add(right.len());
+    let steps = products(left, right);
+    let start = now(rt);
+    let product = multiply(rt.alloc(), left, right)?;
+    let made = mask(rt.alloc(), &product, left)?;
+    Ok(counted(rt, start, given, steps, made.len()))
+}
+
 fn measure_add<R: CpuClock + AllocGlobal>(
     rt: &R,
     left: &Block<PlusTimes>,
@@ -160,6 +194,8 @@ pub(crate) fn measure<R: CpuClock + AllocGlobal>(
     match bench.kernel {
         Kernel::Multiply => measure_multiply(rt, &left, &right),
         Kernel::MultiplyInto => measure_multiply_into(rt, &left, &right),
+        Kernel::Masked => measure_masked(rt, &left, &right),
+        Kernel::MultiplyThenMask => measure_multiply_then_mask(rt, &left, &right),
         Kernel::Add => measure_add(rt, &left, &right),
         _ => measure_transpose(rt, &left),
     }

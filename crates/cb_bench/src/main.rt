@@ -2,12 +2,14 @@
 //!
 //! `cb_bench KERNEL SIDE ENTRIES` makes two square matrices of this side with this many random places each (a
 //! place that comes twice is one entry), and runs the kernel on them: `multiply`, `multiply-into` (the product,
-//! added to the first matrix), `add`, `transpose`, `scatter` (the first matrix over the grid of side `--grid`,
-//! and gathered again), `read` (the text of the first matrix), or `world` (their product by Sparse SUMMA over the
-//! grid, in a world of ranks, beside the same plan act by act). What was counted stands on standard output, and is
+//! added to the first matrix), `masked` (the product under the first matrix as a mask), `multiply-then-mask` (the
+//! same, by making the whole product first), `add`, `transpose`, `scatter` (the first matrix over the grid of side
+//! `--grid`, and gathered again), `read` (the text of the first matrix), or `world` (their product by Sparse SUMMA over
+//! the grid, in a world of ranks, beside the same plan act by act). What was counted stands on standard output, and is
 //! the same in every run. The processor time, and the steps a second, stand on standard error: a step of a product
-//! is one product of two entries, a step of a world is one half of a rank, and a step of the others is one entry
-//! that is read. Of a world the time of the plan act by act stands there too, and the ratio of the two.
+//! is one product of two entries, whether it is made or not, a step of a world is one half of a rank, and a step of the
+//! others is one entry that is read. Of a world the time of the plan act by act stands there too, and the ratio of the
+//! two.
 #![tactic(auto)]
 
 ghost use Rattle.std.specs.Prelude.{◌≡◌, ◌<◌, ◌≤◌, All, IfOk, IfSome};

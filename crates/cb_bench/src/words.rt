@@ -9,6 +9,8 @@ use std::alloc::{AllocError, Global};
 pub(crate) enum Kernel {
     Multiply,
     MultiplyInto,
+    Masked,
+    MultiplyThenMask,
     Add,
     Transpose,
     Scatter,
@@ -16,9 +18,11 @@ pub(crate) enum Kernel {
     World,
 }
 
-static KERNELS: [&str; 7] = [
+static KERNELS: [&str; 9] = [
     "multiply",
     "multiply-into",
+    "masked",
+    "multiply-then-mask",
     "add",
     "transpose",
     "scatter",
@@ -32,6 +36,8 @@ impl Kernel {
         match self {
             Kernel::Multiply => "multiply",
             Kernel::MultiplyInto => "multiply-into",
+            Kernel::Masked => "masked",
+            Kernel::MultiplyThenMask => "multiply-then-mask",
             Kernel::Add => "add",
             Kernel::Transpose => "transpose",
             Kernel::Scatter => "scatter",
@@ -45,6 +51,8 @@ impl Kernel {
         match name {
             "multiply" => Some(Kernel::Multiply),
             "multiply-into" => Some(Kernel::MultiplyInto),
+            "masked" => Some(Kernel::Masked),
+            "multiply-then-mask" => Some(Kernel::MultiplyThenMask),
             "add" => Some(Kernel::Add),
             "transpose" => Some(Kernel::Transpose),
             "scatter" => Some(Kernel::Scatter),

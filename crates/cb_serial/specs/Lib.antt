@@ -1,2 +1,3 @@
--- SerialFaults: why an operation makes nothing of blocks.
+-- SerialFaults: why an operation makes nothing of blocks. Lent: what stands behind references.
 pub mod SerialFaults
+pub mod Lent

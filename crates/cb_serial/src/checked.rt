@@ -1,6 +1,7 @@
 //! The same of blocks whose shapes may not agree.
 ghost use Rattle.std.specs.Prelude.{◌≡◌, length, IfOk, IfErr, IfSome, IfNone};
 ghost use Rattle.cb_operations.specs.OperationAnswers.{operand_count_of, Agree, answer_of, shapes_in};
+ghost use Rattle.cb_serial.specs.Lent.{lent_in};
 ghost use Rattle.cb_serial.specs.SerialFaults.{IsFaultOf};
 
 use crate::compute;
@@ -33,10 +34,10 @@ impl From<AllocError> for SerialFault {
 }
 
 /// The shape of what an operation makes of blocks, or none where their shapes don't agree.
-fn shape_in<S: Semiring>(operation: Operation, operands: &[Block<S>]) -> Option<Shape>
+fn shape_in<S: Semiring>(operation: Operation, operands: &[&Block<S>]) -> Option<Shape>
     requires { length operands.now ≡ operand_count_of operation }
-    ensures agree { IfSome result (λ _. Agree operation (shapes_in operands.now)) }
-    ensures none { IfNone result (¬ Agree operation (shapes_in operands.now)) }
+    ensures agree { IfSome result (λ _. Agree operation (shapes_in (lent_in operands.now))) }
+    ensures none { IfNone result (¬ Agree operation (shapes_in (lent_in operands.now))) }
 {
     match operands {
         [a] => operation.shape_of(&[a.shape()]),
@@ -46,17 +47,17 @@ fn shape_in<S: Semiring>(operation: Operation, operands: &[Block<S>]) -> Option<
     }
 }
 
-/// What an operation makes of blocks, in order. Shapes that don't agree are refused before memory is asked for; all else
-/// is as in [`compute`].
+/// What an operation makes of blocks that are lent, in order. Shapes that don't agree are refused before memory is asked
+/// for; all else is as in [`compute`].
 pub fn run<S: Semiring>(
     alloc: Global,
     operation: Operation,
-    operands: &[Block<S>],
+    operands: &[&Block<S>],
 ) -> Result<Block<S>, SerialFault>
     requires { length operands.now ≡ operand_count_of operation }
-    ensures ok { IfOk result (λ m. m ≡ answer_of operation S.arithmetic operands.now) }
-    ensures agree { IfOk result (λ _. Agree operation (shapes_in operands.now)) }
-    ensures fault { IfErr result (IsFaultOf operation operands.now) }
+    ensures ok { IfOk result (λ m. m ≡ answer_of operation S.arithmetic (lent_in operands.now)) }
+    ensures agree { IfOk result (λ _. Agree operation (shapes_in (lent_in operands.now))) }
+    ensures fault { IfErr result (IsFaultOf operation (lent_in operands.now)) }
 {
     if shape_in(operation, operands).is_none() {
         return Err(SerialFault::Refused(Refusal::Shapes));

@@ -1,9 +1,13 @@
 //! Each operation on whole blocks, by the caller's thread alone: no grid, no plan, no runtime, and no fault but want of
 //! memory.
+//!
+//! An operation costs what its kernel does, which is in proportion to entries and never to a dimension: see [`cb_product`],
+//! [`cb_masked`], [`cb_reshape`], [`cb_reductions`] and [`cb_elementwise`].
 #![tactic(auto)]
 
-ghost use Rattle.std.specs.Prelude.{◌≡◌, length, IfOk};
+ghost use Rattle.std.specs.Prelude.{◌≡◌, [], ◌∷◌, length, IfOk};
 ghost use Rattle.cb_operations.specs.OperationAnswers.{operand_count_of, Agree, answer_of, shapes_in};
+ghost use Rattle.cb_serial.specs.Lent.{lent_in};
 
 mod checked;
 
@@ -13,66 +17,76 @@ use cb_semirings::Semiring;
 pub use checked::{SerialFault, run};
 use std::alloc::{AllocError, Global};
 
-/// What an operation makes of blocks whose shapes agree, in order.
-///
-/// It costs what its kernel does, which is in proportion to entries and never to a dimension: see [`cb_product`],
-/// [`cb_reshape`] and [`cb_elementwise`]. A product under a mask is made whole before the mask is put on it.
+/// What an operation on one matrix makes of a block.
+pub fn unary<S: Semiring>(
+    alloc: Global,
+    operation: Operation,
+    a: &Block<S>,
+) -> Result<Block<S>, AllocError>
+    requires count { operand_count_of operation ≡ 1 }
+    ensures { IfOk result (λ m. m ≡ answer_of operation S.arithmetic (a.now ∷ [])) }
+{
+    match operation {
+        Operation::Transpose => cb_reshape::transpose(alloc, a),
+        Operation::RowSums => cb_reductions::row_sums(alloc, a),
+        Operation::ColumnSums => cb_reductions::column_sums(alloc, a),
+        Operation::Prune(test) => cb_elementwise::prune(alloc, a, test),
+        _ => unreachable!(),
+    }
+}
+
+/// What an operation on two matrices makes of blocks whose shapes agree.
+pub fn binary<S: Semiring>(
+    alloc: Global,
+    operation: Operation,
+    a: &Block<S>,
+    b: &Block<S>,
+) -> Result<Block<S>, AllocError>
+    requires count { operand_count_of operation ≡ 2 }
+    requires agree { Agree operation (shapes_in (a.now ∷ b.now ∷ [])) }
+    ensures { IfOk result (λ m. m ≡ answer_of operation S.arithmetic (a.now ∷ b.now ∷ [])) }
+{
+    match operation {
+        Operation::Multiply => cb_product::multiply(alloc, a, b),
+        Operation::MultiplyVector => cb_product::multiply(alloc, a, b),
+        Operation::Add => cb_elementwise::add(alloc, a, b),
+        Operation::Times => cb_elementwise::times(alloc, a, b),
+        _ => unreachable!(),
+    }
+}
+
+/// What an operation on three matrices makes of blocks whose shapes agree.
+pub fn ternary<S: Semiring>(
+    alloc: Global,
+    operation: Operation,
+    a: &Block<S>,
+    b: &Block<S>,
+    c: &Block<S>,
+) -> Result<Block<S>, AllocError>
+    requires count { operand_count_of operation ≡ 3 }
+    requires agree { Agree operation (shapes_in (a.now ∷ b.now ∷ c.now ∷ [])) }
+    ensures { IfOk result (λ m. m ≡ answer_of operation S.arithmetic (a.now ∷ b.now ∷ c.now ∷ [])) }
+{
+    match operation {
+        Operation::MultiplyMasked => cb_masked::multiply_masked(alloc, a, b, c),
+        _ => unreachable!(),
+    }
+}
+
+/// What an operation makes of blocks that are lent, in order, and whose shapes agree.
 pub fn compute<S: Semiring>(
     alloc: Global,
     operation: Operation,
-    operands: &[Block<S>],
+    operands: &[&Block<S>],
 ) -> Result<Block<S>, AllocError>
     requires count { length operands.now ≡ operand_count_of operation }
-    requires agree { Agree operation (shapes_in operands.now) }
-    ensures { IfOk result (λ m. m ≡ answer_of operation S.arithmetic operands.now) }
+    requires agree { Agree operation (shapes_in (lent_in operands.now)) }
+    ensures { IfOk result (λ m. m ≡ answer_of operation S.arithmetic (lent_in operands.now)) }
 {
-    match operation {
-        Operation::Multiply => {
-            let [left, right] = operands else {
-                unreachable!()
-            };
-            cb_product::multiply(alloc, left, right)
-        }
-        Operation::MultiplyMasked => {
-            let [left, right, mask] = operands else {
-                unreachable!()
-            };
-            let product = cb_product::multiply(alloc, left, right)?;
-            cb_elementwise::mask(alloc, &product, mask)
-        }
-        Operation::MultiplyVector => {
-            let [matrix, vector] = operands else {
-                unreachable!()
-            };
-            cb_product::multiply(alloc, matrix, vector)
-        }
-        Operation::Transpose => {
-            let [matrix] = operands else { unreachable!() };
-            cb_reshape::transpose(alloc, matrix)
-        }
-        Operation::RowSums => {
-            let [matrix] = operands else { unreachable!() };
-            cb_reductions::row_sums(alloc, matrix)
-        }
-        Operation::ColumnSums => {
-            let [matrix] = operands else { unreachable!() };
-            cb_reductions::column_sums(alloc, matrix)
-        }
-        Operation::Add => {
-            let [left, right] = operands else {
-                unreachable!()
-            };
-            cb_elementwise::add(alloc, left, right)
-        }
-        Operation::Times => {
-            let [left, right] = operands else {
-                unreachable!()
-            };
-            cb_elementwise::times(alloc, left, right)
-        }
-        Operation::Prune(test) => {
-            let [matrix] = operands else { unreachable!() };
-            cb_elementwise::prune(alloc, matrix, test)
-        }
+    match operands {
+        [a] => unary(alloc, operation, a),
+        [a, b] => binary(alloc, operation, a, b),
+        [a, b, c] => ternary(alloc, operation, a, b, c),
+        _ => unreachable!(),
     }
 }

@@ -1,0 +1,127 @@
+use Rattle.std.proofs.Common.{◌≡◌, ◌<◌, ◌≤◌, get_or, sym, refl, ap, subst, ◌∙◌, arith, rules}
+use Rattle.std.specs.Prelude.{All}
+use Rattle.std.proofs.lemmas.List.{get_or_default}
+use Rattle.cb_matrix.specs.Sparse.{Extent}
+use Rattle.cb_matrix.specs.Values.{product_shape, empty_matrix}
+use Rattle.cb_matrix.specs.declared.TheConstants.{LIMIT}
+use Rattle.cb_dcsc.specs.Columns.{in_column, rows_of, values_of, row_value}
+use Rattle.cb_dcsc.proofs.Lookup.{as_long, rows_inside}
+use Rattle.cb_product.proofs.RowValues.{absent_above}
+use Rattle.cb_product.proofs.StoredColumn.{column_inside, column_adds}
+use Rattle.cb_masked.proofs.AscendingPlaces.{few_below}
+use Rattle.cb_masked.proofs.MaskedColumns.{left_of, left_absent, left_column, made_start, made_more, made_all}
+use Rattle.cb_masked.proofs.make_columns.Goals as goal
+
+pub loop-n-init : goal.loop-n-init
+loop-n-init g c =
+    let s = g.S.Semiring.arithmetic in
+    let laws = g.met.S.Semiring.is_semiring in
+    let r = c.requires in
+    let a = c.args.left.now in
+    let b = c.args.right.now in
+    let m = c.args.mask.now in
+    let columns = c.column_numbers-columns in
+    let within = subst (λ (e : Extent). All (λ k. k < e.cols) columns.result.now) r.shape columns.ensures.inside in
+    let absent = left_absent s laws a b m c.shape.ensures.matrix c.shape-2.ensures.matrix c.shape-3.ensures.matrix r.agree r.shape columns.result.now columns.ensures.all in
+    record {
+      made = made_start s laws (product_shape a b) (left_of s a b m) columns.result.now columns.ensures.ascending within absent _ r.matrix (r.empty ∙ ap empty_matrix r.shape);
+      cleared = r.cleared;
+    }
+
+pub sum_column-requires-clause-few : goal.sum_column-requires-clause-few
+sum_column-requires-clause-few g c =
+    let s = g.S.Semiring.arithmetic in
+    let m = c.args.mask.now in
+    let fits : c.shape-3.result.rows ≤ LIMIT = search rules in
+    let same : c.shape-3.result.rows ≡ m.shape.rows = ap (λ (e : Extent). e.rows) c.shape-3.ensures.shape in
+    let few = few_below c.nth_column.result.0.now m.shape.rows c.nth_column.ensures.ascending (rows_inside s m _ _ c.shape-3.ensures.matrix c.nth_column.ensures.rows) in
+    omega arith
+
+pub sum_column-requires-clause-lengths : goal.sum_column-requires-clause-lengths
+sum_column-requires-clause-lengths g c = as_long c.args.right.now.entries _ _ _ c.column.ensures.rows c.column.ensures.values
+
+pub keep_nonzero-requires-clause-lengths : goal.keep_nonzero-requires-clause-lengths
+keep_nonzero-requires-clause-lengths g c = rw c.deref.ensures.value c.in_ok-sum_column.ensures.same_length
+
+pub keep_nonzero-requires-clause-values : goal.keep_nonzero-requires-clause-values
+keep_nonzero-requires-clause-values g c = rw c.deref.ensures.value c.in_ok-sum_column.ensures.are_values
+
+pub push_column-requires-clause-lengths : goal.push_column-requires-clause-lengths
+push_column-requires-clause-lengths g c = rw (c.deref-in-loop-n.ensures.value, c.deref-in-loop-n-2.ensures.value) c.in_ok-keep_nonzero.ensures.column.same_length
+
+pub push_column-requires-clause-ascending : goal.push_column-requires-clause-ascending
+push_column-requires-clause-ascending g c = rw c.deref-in-loop-n.ensures.value c.in_ok-keep_nonzero.ensures.column.ascending
+
+pub push_column-requires-clause-values : goal.push_column-requires-clause-values
+push_column-requires-clause-values g c = rw c.deref-in-loop-n-2.ensures.value c.in_ok-keep_nonzero.ensures.column.are_values
+
+pub push_column-requires-clause-not_zero : goal.push_column-requires-clause-not_zero
+push_column-requires-clause-not_zero g c = rw c.deref-in-loop-n-2.ensures.value c.in_ok-keep_nonzero.ensures.column.not_zero
+
+pub push_column-requires-clause-column : goal.push_column-requires-clause-column
+push_column-requires-clause-column g c =
+    let inside = c.column_numbers-columns.ensures.inside c.loop-n.n 0 c.loop-n-test.true in
+    subst (λ (e : Extent). get_or c.column_numbers-columns.result.now c.loop-n.n 0 < e.cols) (c.requires.shape ∙ sym c.loop-n.invariant.made.shape) inside
+
+pub push_column-requires-clause-before : goal.push_column-requires-clause-before
+push_column-requires-clause-before g c =
+    let here = get_or_default c.column_numbers-columns.result.now c.loop-n.n c.args.right.now.shape.cols 0 c.loop-n-test.true in
+    subst (λ k. All (λ e. e.column < k) c.loop-n.out.entries) here c.loop-n.invariant.made.before
+
+pub push_column-requires-clause-rows : goal.push_column-requires-clause-rows
+push_column-requires-clause-rows g c =
+    let s = g.S.Semiring.arithmetic in
+    let m = c.args.mask.now in
+    let kept = c.in_ok-keep_nonzero.ensures in
+    let rows = c.nth_column.result.0.now in
+    let inside = rows_inside s m _ _ c.shape-3.ensures.matrix c.nth_column.ensures.rows in
+    let sides = ap (λ (e : Extent). e.rows) (c.loop-n.invariant.made.shape ∙ sym c.requires.shape) in
+    rw (c.deref-in-loop-n.ensures.value, sides) (column_inside s 0 (row_value s.zero rows c.deref.result.now) _ _ kept.column kept.values m.shape.rows (λ i l. absent_above s.zero m.shape.rows rows c.deref.result.now i inside l))
+
+pub loop-n-preserved : goal.loop-n-preserved
+loop-n-preserved g c =
+    let s = g.S.Semiring.arithmetic in
+    let laws = g.met.S.Semiring.is_semiring in
+    let r = c.requires in
+    let a = c.args.left.now in
+    let b = c.args.right.now in
+    let m = c.args.mask.now in
+    let is_a = c.shape.ensures.matrix in
+    let is_b = c.shape-2.ensures.matrix in
+    let is_m = c.shape-3.ensures.matrix in
+    let columns = c.column_numbers-columns in
+    let cs = columns.result.now in
+    let within = subst (λ (e : Extent). All (λ k. k < e.cols) cs) r.shape columns.ensures.inside in
+    let absent = left_absent s laws a b m is_a is_b is_m r.agree r.shape cs columns.ensures.all in
+    let n = c.loop-n.n in
+    let l = c.loop-n-test.true in
+    let inv = c.loop-n.invariant in
+    let j = get_or cs n 0 in
+    let lj : j < m.shape.cols = columns.ensures.inside n 0 l in
+    let number = ap (λ ks. get_or ks n 0) (sym columns.ensures.numbers) in
+    let rows_are = c.nth_column.ensures.rows ∙ ap (λ k. rows_of (in_column k m.entries)) number in
+    let values_are = c.nth_column.ensures.values ∙ ap (λ k. values_of (in_column k m.entries)) number in
+    let sum = c.in_ok-sum_column.ensures in
+    let kept = c.in_ok-keep_nonzero.ensures in
+    let has = rw c.deref.ensures.value at kept.values in
+    let here = get_or_default cs n b.shape.cols 0 l in
+    let before = subst (λ k. All (λ e. e.column < k) c.loop-n.out.entries) here inv.made.before in
+    let stored = rw (c.deref-in-loop-n.ensures.value, c.deref-in-loop-n-2.ensures.value) at c.in_ok-push_column.ensures.ok in
+    let adds = column_adds s j _ _ _ kept.column has c.loop-n.out _ before stored c.in_ok-push_column.ensures.matrix in
+    record {
+      made = made_more s laws (product_shape a b) (left_of s a b m) cs columns.ensures.ascending within absent c.loop-n.out _ n j _ l refl inv.made adds (left_column s laws a b m is_a is_b is_m r.agree r.shape j lj c.nth_column.result.0.now c.nth_column.result.1.now c.column.result.0.now c.column.result.1.now _ rows_are values_are c.column.ensures.rows c.column.ensures.values sum.same_length sum.sums);
+      cleared = sum.cleared;
+    }
+
+pub returns : goal.returns
+returns g c =
+    let s = g.S.Semiring.arithmetic in
+    let laws = g.met.S.Semiring.is_semiring in
+    let r = c.requires in
+    let a = c.args.left.now in
+    let b = c.args.right.now in
+    let m = c.args.mask.now in
+    let columns = c.column_numbers-columns in
+    let within = subst (λ (e : Extent). All (λ k. k < e.cols) columns.result.now) r.shape columns.ensures.inside in
+    let absent = left_absent s laws a b m c.shape.ensures.matrix c.shape-2.ensures.matrix c.shape-3.ensures.matrix r.agree r.shape columns.result.now columns.ensures.all in
+    made_all s laws (product_shape a b) (left_of s a b m) columns.result.now columns.ensures.ascending within absent c.loop-n.out c.loop-n.n c.loop-n-test.false c.loop-n.invariant.made
