@@ -1,0 +1,20 @@
+-- Rows and columns by their numbers.
+use Rattle.std.proofs.Common.{◌≡◌, ℕ, ◌<◌, List, length, get_or, ◌∙◌}
+use Rattle.std.specs.Prelude.{All}
+use Rattle.std.proofs.lemmas.List.Elements.{All-get_or}
+use Rattle.cb_semirings.specs.Arithmetic.{Arithmetic}
+use Rattle.cb_matrix.specs.Sparse.{Sparse, at}
+use Rattle.cb_matrix.specs.Operations.{transposed}
+use Rattle.cb_matrix.proofs.Made.{at-matrix_of, same_matrix_of}
+use Rattle.cb_selections.specs.Selections.{extracted, columns_by}
+
+-- rows are the columns of the transpose
+pub extracted_is : (s : Arithmetic) (a : Sparse) (rows cols : List ℕ) → All (λ i. i < a.shape.rows) rows → transposed s (columns_by s rows (transposed s (columns_by s cols a))) ≡ extracted s rows cols a
+extracted_is s a rows cols inside =
+    let some = columns_by s cols a in
+    let turned = transposed s some in
+    same_matrix_of s (record { rows = length rows; cols = length cols }) (λ i j. at s (columns_by s rows turned) j i) (λ i j. at s a (get_or rows i 0) (get_or cols j 0)) (λ i j l m.
+    let low : get_or rows i 0 < a.shape.rows = All-get_or (λ i. i < a.shape.rows) rows i 0 l inside in
+    at-matrix_of s (record { rows = length cols; cols = length rows }) (λ i j. at s turned i (get_or rows j 0)) j i m l
+    ∙ at-matrix_of s (record { rows = length cols; cols = a.shape.rows }) (λ i j. at s some j i) j (get_or rows i 0) m low
+    ∙ at-matrix_of s (record { rows = a.shape.rows; cols = length cols }) (λ i j. at s a i (get_or cols j 0)) (get_or rows i 0) j low m)

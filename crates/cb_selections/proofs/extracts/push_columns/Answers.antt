@@ -1,0 +1,46 @@
+use Rattle.std.proofs.Common.{◌≡◌, ◌<◌, length, get_or, refl, sym, ap, subst, arith}
+use Rattle.std.specs.Prelude.{All}
+use Rattle.cb_matrix.specs.Sparse.{Extent, at}
+use Rattle.cb_dcsc.proofs.Lookup.{rows_inside}
+use Rattle.cb_product.proofs.OwnColumn.{own_sparse}
+use Rattle.cb_product.proofs.ProductColumns.{own_column}
+use Rattle.cb_product.proofs.StoredColumn.{column_adds}
+use Rattle.cb_selections.proofs.ColumnsMade.{IsMadeTo, made_more, made_all}
+use Rattle.cb_selections.proofs.extracts.push_columns.Goals as goal
+
+pub push_column-requires-clause-rows : goal.push_column-requires-clause-rows
+push_column-requires-clause-rows g c =
+    let a = c.args.block.now in
+    let rows = c.column.result.0.now in
+    let shape = ap (λ (x : Extent). x.rows) c.loop-n.invariant.shape in
+    subst (λ m. All (λ i. i < m) rows) (sym shape) (rows_inside g.S.Semiring.arithmetic a (get_or c.args.columns.now c.loop-n.n 0) rows c.requires.matrix c.column.ensures.rows)
+
+pub push_column-requires-clause-not_zero : goal.push_column-requires-clause-not_zero
+push_column-requires-clause-not_zero g c =
+    (own_sparse g.S.Semiring.arithmetic c.args.block.now c.requires.matrix (get_or c.args.columns.now c.loop-n.n 0) c.column.result.0.now c.column.result.1.now c.column.ensures.rows c.column.ensures.values).not_zero
+
+pub loop-n-preserved : goal.loop-n-preserved
+loop-n-preserved g c =
+    let s = g.S.Semiring.arithmetic in
+    let a = c.args.block.now in
+    let columns = c.args.columns.now in
+    let n = c.loop-n.n in
+    let j = get_or columns n 0 in
+    let rows = c.column.result.0.now in
+    let values = c.column.result.1.now in
+    let e = c.column.ensures in
+    let extent : Extent = record { rows = a.shape.rows; cols = length columns } in
+    let column = own_sparse s a c.requires.matrix j rows values e.rows e.values in
+    let adds = column_adds s n (λ i. at s a i j) rows values column (own_column s a j rows values e.rows e.values) c.loop-n.out c.push_column.new.self c.loop-n.invariant.before c.in_ok-push_column.ensures.ok c.in_ok-push_column.ensures.matrix in
+    made_more s extent (λ i k. at s a i (get_or columns k 0)) c.loop-n.out c.push_column.new.self n (λ i. at s a i j) adds (λ i. refl) c.loop-n.invariant
+
+pub returns : goal.returns
+returns g c =
+    let s = g.S.Semiring.arithmetic in
+    let a = c.args.block.now in
+    let columns = c.args.columns.now in
+    let extent : Extent = record { rows = a.shape.rows; cols = length columns } in
+    let t = c.loop-n-test.false in
+    let u = c.loop-n.auto.n-end in
+    let all : c.loop-n.n ≡ length columns = omega arith in
+    made_all s extent (λ i k. at s a i (get_or columns k 0)) g.met.S.Semiring.is_semiring c.loop-n.out (subst (λ m. IsMadeTo s extent (λ i k. at s a i (get_or columns k 0)) m c.loop-n.out) all c.loop-n.invariant)

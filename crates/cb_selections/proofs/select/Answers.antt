@@ -1,0 +1,14 @@
+use Rattle.std.proofs.Common.{◌≡◌, ◌∙◌}
+use Rattle.std.proofs.lemmas.Result.{IfOk-weaker}
+use Rattle.cb_selections.specs.Regions.{is_in}
+use Rattle.cb_selections.specs.Replaced.{where_true, replaced}
+use Rattle.cb_selections.specs.Selections.{selected}
+use Rattle.cb_selections.proofs.RegionValues.{selected_is}
+use Rattle.cb_selections.proofs.select.Goals as goal
+
+pub returns : goal.returns
+returns g c =
+    let s = g.S.Semiring.arithmetic in
+    let a = c.args.block.now in
+    let region = c.args.region in
+    IfOk-weaker c.replaced.result (λ m. m ≡ replaced s (λ i j x. where_true s.zero (is_in region i j) x) a) (λ m. m ≡ selected s region a) (λ m is. is ∙ selected_is s region a) c.replaced.ensures

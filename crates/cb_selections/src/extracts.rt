@@ -1,0 +1,68 @@
+//! Rows and columns of a block by their numbers.
+ghost use Rattle.std.specs.Prelude.{◌≡◌, ◌<◌, ◌≤◌, length, All, IfOk, OnOk};
+ghost use Rattle.cb_matrix.specs.Sparse.{IsMatrix};
+ghost use Rattle.cb_matrix.specs.Values.{empty_matrix};
+ghost use Rattle.cb_selections.specs.Selections.{extracted, columns_by};
+
+use crate::shape_of;
+use cb_dcsc::Block;
+use cb_matrix::LIMIT;
+use cb_reshape::transpose;
+use cb_semirings::Semiring;
+use std::alloc::{AllocError, Global};
+
+/// The rows and the columns of a block with some numbers, in the order of these; a number may come more than once.
+///
+/// Costs a binary search for each number and a few instructions for each entry of the columns and of what is made of
+/// them, and two transposes.
+pub fn extract<S: Semiring>(
+    alloc: Global,
+    block: &Block<S>,
+    rows: &[u32],
+    cols: &[u32],
+) -> Result<Block<S>, AllocError>
+    requires rows { All (λ i. i < block.now.shape.rows) rows.now }
+    requires cols { All (λ j. j < block.now.shape.cols) cols.now }
+    requires row_limit { length rows.now ≤ LIMIT }
+    requires column_limit { length cols.now ≤ LIMIT }
+    ensures { IfOk result (λ part. part ≡ extracted S.arithmetic rows.now cols.now block.now) }
+{
+    let some_columns = columns_by(alloc, block, cols)?;
+    let turned = transpose(alloc, &some_columns)?;
+    let some_rows = columns_by(alloc, &turned, rows)?;
+    transpose(alloc, &some_rows)
+}
+
+/// The columns of a block with some numbers, in the order of these.
+fn columns_by<S: Semiring>(
+    alloc: Global,
+    block: &Block<S>,
+    columns: &[u32],
+) -> Result<Block<S>, AllocError>
+    requires { length columns.now ≤ LIMIT }
+    ensures { IfOk result (λ part. part ≡ columns_by S.arithmetic columns.now block.now) }
+{
+    let shape = shape_of(block.shape().rows(), columns.len() as u32);
+    let mut out = Block::empty(alloc, shape);
+    push_columns(&mut out, block, columns)?;
+    Ok(out)
+}
+
+/// Stores the columns with some numbers in a block that has no entries.
+fn push_columns<S: Semiring>(
+    out: &mut Block<S>,
+    block: &Block<S>,
+    columns: &[u32],
+) -> Result<(), AllocError>
+    requires limit { length columns.now ≤ LIMIT }
+    requires matrix { IsMatrix S.arithmetic block.now }
+    requires out_matrix { IsMatrix S.arithmetic out.old }
+    requires empty { out.old ≡ empty_matrix (record { rows = block.now.shape.rows; cols = length columns.now }) }
+    ensures { OnOk result (out.new ≡ columns_by S.arithmetic columns.now block.now) }
+{
+    for n in 0..columns.len() {
+        let (rows, values) = block.column(columns[n]);
+        out.push_column(n as u32, rows, values)?;
+    }
+    Ok(())
+}

@@ -1,0 +1,70 @@
+//! Operations of one matrix that programs of GraphBLAS are made of: entries selected by their place, values replaced, the
+//! diagonal, rows and columns taken by their numbers, and the Kronecker product.
+//!
+//! Each walks the columns that have entries, in order, and stores what becomes of each; so each costs what the entries
+//! cost, whatever the dimensions are. What becomes of an entry is a rule (`rules`): a region of places (`regions`), or a
+//! function of the value and the place (`functions`); one walk (`replacements`) stores what a rule makes.
+//!
+//! The operations are `GrB_select`, `GrB_apply`, `GrB_Matrix_diag`, `GrB_extract` and `GrB_kronecker` of The GraphBLAS C
+//! API Specification, version 2.1, section 4.3.
+#![tactic(auto)]
+
+ghost use Rattle.std.specs.Prelude.{◌≡◌, ℕ, ◌<◌, ◌≤◌, IfOk};
+ghost use Rattle.cb_semirings.specs.Arithmetic.{IsValue};
+ghost use Rattle.cb_selections.specs.Functions.{operand_of};
+ghost use Rattle.cb_selections.specs.Selections.{selected, applied};
+
+mod diagonals;
+mod extracts;
+mod functions;
+mod kronecker_products;
+mod regions;
+mod replacements;
+mod rules;
+
+use crate::replacements::replaced;
+use cb_dcsc::Block;
+use cb_matrix::{LIMIT, Shape};
+use cb_semirings::Semiring;
+pub use diagonals::{diagonal, diagonal_matrix};
+pub use extracts::extract;
+pub use functions::Function;
+pub use kronecker_products::kronecker;
+pub use regions::{Diagonal, Region};
+use std::alloc::{AllocError, Global};
+
+/// The entries of a block that are in a region.
+///
+/// Costs a few instructions for each entry. No room is taken before it is needed, since few may be in the region.
+pub fn select<S: Semiring>(
+    alloc: Global,
+    block: &Block<S>,
+    region: Region,
+) -> Result<Block<S>, AllocError>
+    ensures { IfOk result (λ kept. kept ≡ selected S.arithmetic region block.now) }
+{
+    replaced(alloc, block, &region, 0)
+}
+
+/// What a function makes of the value of each entry. Where that is zero, no entry is stored.
+///
+/// Costs a few instructions for each entry.
+pub fn apply<S: Semiring>(
+    alloc: Global,
+    block: &Block<S>,
+    function: Function,
+) -> Result<Block<S>, AllocError>
+    requires { (i j : ℕ) → i < block.now.shape.rows → j < block.now.shape.cols → IsValue S.arithmetic (operand_of function i j) }
+    ensures { IfOk result (λ made. made ≡ applied S.arithmetic function block.now) }
+{
+    replaced(alloc, block, &function, block.len())
+}
+
+/// The shape with so many rows and columns.
+fn shape_of(rows: u32, cols: u32) -> Shape
+    requires rows { rows ≤ LIMIT }
+    requires cols { cols ≤ LIMIT }
+    ensures { result ≡ record { rows = rows; cols = cols } }
+{
+    Shape::new(rows, cols).unwrap()
+}

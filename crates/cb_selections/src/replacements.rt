@@ -1,0 +1,80 @@
+//! The stored values of a block replaced by what a rule makes of them.
+ghost use Rattle.std.specs.Prelude.{◌≡◌, ◌≢◌, ℕ, ◌<◌, length, All, AllPairs, IfOk, OnOk};
+ghost use Rattle.cb_semirings.specs.Arithmetic.{IsValue};
+ghost use Rattle.cb_matrix.specs.Sparse.{IsMatrix};
+ghost use Rattle.cb_matrix.specs.Values.{empty_matrix};
+ghost use Rattle.cb_dcsc.specs.Columns.{row_value};
+ghost use Rattle.cb_product.specs.SparseColumn.{IsSparseColumn};
+ghost use Rattle.cb_selections.specs.Replaced.{of_stored, replaced};
+
+use crate::rules::Rule;
+use cb_dcsc::Block;
+use cb_semirings::Semiring;
+use std::alloc::{AllocError, Global};
+
+/// The block with what the rule makes of each entry. It has room for so many entries from the start.
+pub(crate) fn replaced<S: Semiring, R: Rule<S>>(
+    alloc: Global,
+    block: &Block<S>,
+    rule: &R,
+    room: usize,
+) -> Result<Block<S>, AllocError>
+    requires { (i j : ℕ) → i < block.now.shape.rows → j < block.now.shape.cols → R.fits rule.now i j }
+    ensures { IfOk result (λ m. m ≡ replaced S.arithmetic (R.made rule.now) block.now) }
+{
+    let mut out = Block::empty(alloc, block.shape());
+    out.reserve(room)?;
+    let mut rows = Vec::new(alloc);
+    let mut values = Vec::new(alloc);
+    push_columns(&mut out, &mut rows, &mut values, block, rule)?;
+    Ok(out)
+}
+
+/// Stores what the rule makes of each column in a block that has no entries. The lists are for one column at a time.
+fn push_columns<S: Semiring, R: Rule<S>>(
+    out: &mut Block<S>,
+    kept_rows: &mut Vec<u32>,
+    kept_values: &mut Vec<u64>,
+    block: &Block<S>,
+    rule: &R,
+) -> Result<(), AllocError>
+    requires matrix { IsMatrix S.arithmetic block.now }
+    requires out_matrix { IsMatrix S.arithmetic out.old }
+    requires empty { out.old ≡ empty_matrix block.now.shape }
+    requires fits { (i j : ℕ) → i < block.now.shape.rows → j < block.now.shape.cols → R.fits rule.now i j }
+    ensures { OnOk result (out.new ≡ replaced S.arithmetic (R.made rule.now) block.now) }
+{
+    let columns = block.column_numbers();
+    for n in 0..columns.len() {
+        let (rows, values) = block.nth_column(n);
+        replace_column(kept_rows, kept_values, columns[n], rows, values, rule)?;
+        out.push_column(columns[n], kept_rows, kept_values)?;
+    }
+    Ok(())
+}
+
+/// Makes the two lists the rows and values that a rule makes of those of a column, without zeros.
+fn replace_column<S: Semiring, R: Rule<S>>(
+    kept_rows: &mut Vec<u32>,
+    kept_values: &mut Vec<u64>,
+    column: u32,
+    rows: &[u32],
+    values: &[u64],
+    rule: &R,
+) -> Result<(), AllocError>
+    requires fits { All (λ i. R.fits rule.now i column) rows.now }
+    requires entries { IsSparseColumn S.arithmetic rows.now values.now }
+    ensures column { OnOk result (IsSparseColumn S.arithmetic kept_rows.new.items kept_values.new.items) }
+    ensures values { OnOk result ((i : ℕ) → row_value S.arithmetic.zero kept_rows.new.items kept_values.new.items i ≡ of_stored S.arithmetic.zero (R.made rule.now i column) (row_value S.arithmetic.zero rows.now values.now i)) }
+{
+    kept_rows.clear();
+    kept_values.clear();
+    for n in 0..rows.len() {
+        let value = rule.make(rows[n], column, values[n]);
+        if value != S::zero() {
+            kept_rows.push(rows[n])?;
+            kept_values.push(value)?;
+        }
+    }
+    Ok(())
+}

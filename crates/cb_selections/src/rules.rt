@@ -1,0 +1,57 @@
+//! What becomes of an entry, by its place.
+ghost use Rattle.std.specs.Prelude.{◌≡◌, ℕ};
+ghost use Rattle.cb_semirings.specs.Arithmetic.{IsValue};
+ghost use Rattle.cb_selections.specs.Regions.{is_in};
+ghost use Rattle.cb_selections.specs.Functions.{operand_of, function_value};
+ghost use Rattle.cb_selections.specs.Replaced.{where_true};
+ghost use Rattle.cb_selections.specs.RuleLaws.{where_true-value, function_value-value};
+
+use crate::functions::Function;
+use crate::regions::Region;
+use cb_semirings::Semiring;
+
+/// A value from the value of an entry and its place.
+pub(crate) trait Rule<S: Semiring> {
+    /// Whether it makes values of values at a place.
+    ghost fits: { Self → ℕ → ℕ → Type 0 };
+
+    /// The value, by row, column and what was there.
+    ghost made: { Self → ℕ → ℕ → ℕ → ℕ };
+
+    fn make(&self, row: u32, column: u32, value: u64) -> u64
+        requires value { IsValue S.arithmetic value }
+        requires fits { fits self.now row column }
+        ensures { result ≡ made self.now row column value };
+
+    ghost values: { (rule : Self) (i j x : ℕ) → fits rule i j → IsValue S.arithmetic x → IsValue S.arithmetic (made rule i j x) };
+}
+
+/// The value in the region, and zero outside it.
+impl<S: Semiring> Rule<S> for Region {
+    ghost fits = { λ rule i j. Unit {0} };
+
+    ghost made = { λ rule i j x. where_true S.arithmetic.zero (is_in rule i j) x };
+
+    ghost values = { λ rule i j x f h. where_true-value S.arithmetic S.is_semiring (is_in rule i j) x h };
+
+    fn make(&self, row: u32, column: u32, value: u64) -> u64 {
+        if self.has(row, column) {
+            value
+        } else {
+            S::zero()
+        }
+    }
+}
+
+/// What the function makes of the value.
+impl<S: Semiring> Rule<S> for Function {
+    ghost fits = { λ rule i j. IsValue S.arithmetic (operand_of rule i j) };
+
+    ghost made = { λ rule i j x. function_value S.arithmetic rule i j x };
+
+    ghost values = { λ rule i j x f h. function_value-value S.arithmetic S.is_semiring rule i j x f h };
+
+    fn make(&self, row: u32, column: u32, value: u64) -> u64 {
+        self.value::<S>(row, column, value)
+    }
+}
