@@ -16,10 +16,11 @@ use Rattle.cb_plan.specs.Stores.{state_of, sheet_of}
 use Rattle.cb_placement.specs.Slots.{HasOperands}
 use Rattle.cb_placement.specs.Answers.{block_or, gathered}
 use Rattle.cb_placement.proofs.GatheredParts.{over_grid}
+use Rattle.cb_world.specs.declared.events.Event.{Event}
 use Rattle.cb_engines.specs.declared.engines.Engine.{Engine}
 use Rattle.cb_engines.specs.declared.engines.Engine.TheVariants.{Threads, Traced, InOrder}
 use Rattle.cb_engines.specs.EngineRuns.{checked_of}
-use Rattle.cb_engines.specs.Orders.{IsLeftInOrder, IsOrdered, IsOrderedRun}
+use Rattle.cb_engines.specs.Orders.{IsLeftInOrder, IsOrdered, IsSteppedRun, IsOrderedRun}
 
 -- the blocks that were taken out of a slot of all ranks are those that stood there
 module _ (n : ℕ) (stores : List (List (Slot Sparse))) (blocks : List Sparse) (count : length blocks ≡ length stores) (are : (r : ℕ) → r < length stores → state_of stores r n ≡ Some (block_at blocks r)) where
@@ -35,16 +36,19 @@ module _ (n : ℕ) (stores : List (List (Slot Sparse))) (blocks : List Sparse) (
   pub held_gathered : (s : Arithmetic) (q : ℕ) (shape : Extent) → glued s q shape (λ i j. block_at blocks (i * q + j)) ≡ gathered s q shape n (state_of stores)
   held_gathered s q shape = ap (glued s q shape) (λ t i j. stood_there (i * q + j) t)
 
--- a run of a plan that was checked is one of the plan
-pub ordered_run : (s : Arithmetic) (engine : Engine) (q : ℕ) (planned : Planned) (operands : List (ℕ × Sparse)) (shape : Extent) (first : List (List (Slot Sparse))) → HasOperands s q operands first →
-    (p : CheckedView) (n : ℕ) → p ≡ checked_of planned → n ≡ planned.result → (stores : List (List (Slot Sparse))) (refusals : List ℕ) → IsOrdered s engine p first stores refusals →
-    (answer : Distributed) → answer ≡ over_grid q (gathered s q shape n (state_of stores)) → IsOrderedRun s engine q planned operands shape answer refusals
-ordered_run s (Threads letters) q planned operands shape first has p n of_planned slot stores refusals ordered answer held = tt
-ordered_run s (Traced letters) q planned operands shape first has p n of_planned slot stores refusals ordered answer held = tt
-ordered_run s (InOrder letters order) q planned operands shape first has p n of_planned slot stores refusals ordered answer held = record {
-  first = first;
-  has = has;
-  stores = stores;
-  left = subst (λ (v : CheckedView). IsLeftInOrder s v first stores refusals letters order.now) of_planned ordered;
-  held = held ∙ (λ t. over_grid q (gathered s q shape (slot t) (state_of stores)));
-}
+module _ (s : Arithmetic) (q : ℕ) (planned : Planned) (operands : List (ℕ × Sparse)) (shape : Extent) (first : List (List (Slot Sparse))) (has : HasOperands s q operands first) (p : CheckedView) (n : ℕ) (of_planned : p ≡ checked_of planned) (slot : n ≡ planned.result) (stores : List (List (Slot Sparse))) (refusals : List ℕ) (answer : Distributed) (held : answer ≡ over_grid q (gathered s q shape n (state_of stores))) where
+  -- ranks of a plan that was checked, stepped in an order, make what those of the plan make
+  stepped_run : (letters : ℕ) (order : List Event) → IsLeftInOrder s p first stores refusals letters order → IsSteppedRun s q planned operands shape letters order answer refusals
+  stepped_run letters order left = record {
+    first = first;
+    has = has;
+    stores = stores;
+    left = subst (λ (v : CheckedView). IsLeftInOrder s v first stores refusals letters order) of_planned left;
+    held = held ∙ (λ t. over_grid q (gathered s q shape (slot t) (state_of stores)));
+  }
+
+  -- a run of a plan that was checked is one of the plan
+  pub ordered_run : (engine : Engine) → IsOrdered s engine p first stores refusals → IsOrderedRun s engine q planned operands shape answer refusals
+  ordered_run (Threads letters) left = (left.0, stepped_run letters left.0 left.1)
+  ordered_run (Traced letters) left = (left.0, stepped_run letters left.0 left.1)
+  ordered_run (InOrder letters order) left = stepped_run letters order.now left

@@ -1,4 +1,4 @@
--- What ranks leave that were stepped in an order.
+-- What ranks leave that were stepped in an order, and that what ranks in threads leave is such.
 use Rattle.std.specs.Prelude.{◌≡◌, ℕ, ◌≤◌, ◌<◌, List, map}
 use Rattle.cb_semirings.specs.Arithmetic.{Arithmetic}
 use Rattle.cb_matrix.specs.Sparse.{Sparse, Extent}
@@ -38,11 +38,15 @@ pub record IsLeftInOrder (s : Arithmetic) (p : CheckedView) (first stores : List
   pub slots : stores ≡ map (λ x. x.slots) last.ranks
   pub counts : refusals ≡ map (λ x. x.refusals) last.ranks
 
--- an engine that steps ranks leaves what they leave in its order
+-- what ranks leave that were stepped in some order
+abbrev pub IsLeftInSomeOrder : Arithmetic → CheckedView → List (List (Slot Sparse)) → List (List (Slot Sparse)) → List ℕ → ℕ → Type 0
+IsLeftInSomeOrder s p first stores refusals letters = (order : List Event) × IsLeftInOrder s p first stores refusals letters order
+
+-- an engine leaves what ranks leave that are stepped: in its order, or, where its ranks run in threads, in some order
 abbrev pub IsOrdered : Arithmetic → Engine → CheckedView → List (List (Slot Sparse)) → List (List (Slot Sparse)) → List ℕ → Type 0
 IsOrdered s (InOrder letters order) p first stores refusals = IsLeftInOrder s p first stores refusals letters order.now
-IsOrdered s (Threads letters) p first stores refusals = Unit {0}
-IsOrdered s (Traced letters) p first stores refusals = Unit {0}
+IsOrdered s (Threads letters) p first stores refusals = IsLeftInSomeOrder s p first stores refusals letters
+IsOrdered s (Traced letters) p first stores refusals = IsLeftInSomeOrder s p first stores refusals letters
 
 -- Ranks of a plan began with the blocks of these matrices in these slots, were stepped in an order, and the answer is the
 -- matrix of this shape that their slots for it hold at the end.
@@ -53,8 +57,10 @@ pub record IsSteppedRun (s : Arithmetic) (q : ℕ) (planned : Planned) (operands
   pub left : IsLeftInOrder s (checked_of planned) first stores refusals letters order
   pub held : answer ≡ record { side = q; matrix = gathered s q shape planned.result (state_of stores) }
 
--- an engine that steps ranks answers what they make in its order
+-- an engine answers what ranks make that are stepped: in its order, or, where its ranks run in threads, in some order
 abbrev pub IsOrderedRun : Arithmetic → Engine → ℕ → Planned → List (ℕ × Sparse) → Extent → Distributed → List ℕ → Type 0
 IsOrderedRun s (InOrder letters order) q planned operands shape answer refusals = IsSteppedRun s q planned operands shape letters order.now answer refusals
-IsOrderedRun s (Threads letters) q planned operands shape answer refusals = Unit {0}
-IsOrderedRun s (Traced letters) q planned operands shape answer refusals = Unit {0}
+IsOrderedRun s (Threads letters) q planned operands shape answer refusals =
+    (order : List Event) × IsSteppedRun s q planned operands shape letters order answer refusals
+IsOrderedRun s (Traced letters) q planned operands shape answer refusals =
+    (order : List Event) × IsSteppedRun s q planned operands shape letters order answer refusals

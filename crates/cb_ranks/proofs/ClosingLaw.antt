@@ -21,7 +21,8 @@ use Rattle.cb_plan.specs.Programs.{project}
 use Rattle.cb_plan.specs.Stores.{Fits}
 use Rattle.cb_rank.specs.Agreement.{IsSlotOf, AreLettersOf}
 use Rattle.cb_rank.specs.Halves.{Course, RunsTo, slot_at}
-use Rattle.cb_ranks.proofs.Courses.{Extends, Grows, fresh, grows, parts, choose}
+use Rattle.cb_ranks.specs.Runs.{fresh}
+use Rattle.cb_ranks.proofs.Courses.{Extends, Grows, grows, parts, choose}
 use Rattle.cb_ranks.proofs.Acts.{CoursesStand, IsWholeLane, GoToOne, acts_stand}
 use Rattle.cb_ranks.proofs.Results.{sheet_stands}
 use mathlib.Core.List.{IsPrefix}

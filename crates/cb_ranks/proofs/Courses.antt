@@ -15,10 +15,6 @@ use Rattle.cb_plan.specs.declared.stores.Slot.TheVariants as slot_is
 use Rattle.cb_rank.specs.Halves.{Course, DoesHalf, RunsTo, with_letter, IsCopy, IsWork}
 use Rattle.cb_rank.proofs.OwnActs.{split}
 
--- a rank at its beginning, with these slots
-abbrev pub fresh : List (Slot Sparse) → Course
-fresh slots = record { slots = slots; refusals = 0; posted = λ _. []; taken = λ _. [] }
-
 -- courses that agree in every point are one
 pub same_course : (a b : Course) → a.slots ≡ b.slots → a.refusals ≡ b.refusals → ((k : ℕ) → a.posted k ≡ b.posted k) → ((k : ℕ) → a.taken k ≡ b.taken k) → a ≡ b
 same_course a b e f g h = λ i. record { slots = e i; refusals = f i; posted = λ k. g k i; taken = λ k. h k i }

@@ -39,10 +39,10 @@ use Rattle.cb_rank.specs.Ranks.{RankView, new_rank}
 use Rattle.cb_rank.proofs.LostSlots.{whole_by}
 use Rattle.cb_rank.proofs.OwnActs.{quiet_act}
 use Rattle.cb_rank.proofs.RankAfterHalf.{few_halves}
-use Rattle.cb_ranks.specs.Runs.{course_of, IsNewRun}
+use Rattle.cb_ranks.specs.Runs.{course_of, fresh, IsNewRun}
 use Rattle.cb_ranks.specs.Crews.{Member, desks_of, stores_of, counts_of, AreNew, Ran, IsCrew}
-use Rattle.cb_ranks.specs.Finished.{FinishedView, IsFinished, FinishesPlan}
-use Rattle.cb_ranks.proofs.Courses.{fresh, same_course}
+use Rattle.cb_ranks.specs.Finished.{FinishedView, IsFinished, AllRun, FinishesPlan}
+use Rattle.cb_ranks.proofs.Courses.{same_course}
 use Rattle.cb_ranks.proofs.ClosingLaw.{AreFinished, closes}
 
 -- on a new desk nothing was posted to any number, nor taken
@@ -171,15 +171,16 @@ abbrev pub finished_by : List Member → FinishedView
 finished_by done = record { stores = stores_of done; refusals = counts_of done; posted = posted_in (desks_of done); taken = taken_in (desks_of done) }
 
 -- the closing law of crews: each rank ran its program over its desk, and what was taken on each lane is a beginning of what was posted there
-pub finishes_all : (s : Arithmetic) (p : CheckedView) (first : List (List (Slot Sparse))) (crew done : List Member) → IsChecked p → Fits p.ranks p.starts first → IsCrew p first crew → AllZip (Ran s) crew done
+pub finishes_all : (s : Arithmetic) (p : CheckedView) (first : List (List (Slot Sparse))) (crew done : List Member) → IsChecked p → p.ranks < 2 ^ 16 → Fits p.ranks p.starts first → IsCrew p first crew → AllZip (Ran s) crew done
     → ((from to : ℕ) → from < length done → to < length done → from ≢ to → IsSettledLane (posted_in (desks_of done) from to) (taken_in (desks_of done) from to))
     → FinishesPlan s p first (finished_by done)
-finishes_all s p first crew done checked fits is ran settled =
+finishes_all s p first crew done checked few fits is ran settled =
     let size : length done ≡ p.ranks = sym (length_all_zip (Ran s) crew done ran) ∙ is.count in
     let refs : ℕ → ℕ = λ q. get_or (counts_of done) q 0 in
     let mean : State Sparse = meaning (matrices s) p.acts (state_of first) in
+    let halves : AllRun s p first (finished_by done) = λ r h. run_of s p first crew done r is ran (omega (arith, is.count)) in
     let end : AreFinished s p first (courses_in done) = closes s p first (courses_in done) checked fits
-    (λ r h. run_of s p first crew done r is ran (omega (arith, is.count)))
+    halves
     (λ f t g h ne. (settled f t (omega arith) (omega arith) ne).prefix) in
     let slots : (r n : ℕ) → IsSlotOf refs (mean r n) (cell slot_is.Empty (stores_of done) r n) = λ r n.
     ⊎_elim
@@ -190,6 +191,8 @@ finishes_all s p first crew done checked fits is ran settled =
     rw none (outside (matrices s) p.ranks p.acts (state_of first) (started p.starts) none_shut r n (checked_passes p.ranks 0 (started p.starts) none_shut p.acts checked.no_fault) l ∙ rw blank refl))
     (cases_lt r p.ranks) in
     record {
+      checked = checked;
+      few = few;
       left = record {
         table = tables_of s p first crew done is ran;
         counts = length-map done (λ (m : Member). m.0.refusals) ∙ size;
@@ -201,6 +204,7 @@ finishes_all s p first crew done checked fits is ran settled =
         taken = l.1;
         count = same_letters refs f t 0 (letters (matrices s) p.acts (state_of first) f t) (posted_in (desks_of done) f t) l.0;
       };
+      halves = halves;
     }
 
 -- no rank was refused memory more often than its program has halves

@@ -20,7 +20,7 @@ use Rattle.cb_plan.specs.Stores.{Fits, shapes_of, sheet_of, is_lost}
 use Rattle.cb_plan.proofs.Cells.{blank_is_table, blank_cell}
 use Rattle.cb_plan.proofs.Effects.{same_state}
 use Rattle.cb_rank.specs.Halves.{Course, RunsTo, with_letter, slot_at}
-use Rattle.cb_ranks.proofs.Courses.{fresh}
+use Rattle.cb_ranks.specs.Runs.{fresh}
 use Rattle.cb_ranks.proofs.ClosingLaw.{AreFinished, closes}
 use mathlib.Core.List.{IsPrefix}
 

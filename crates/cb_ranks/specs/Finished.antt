@@ -1,15 +1,18 @@
 -- What all ranks of a plan leave once each has run its program in its thread.
-use Rattle.std.specs.Prelude.{◌≡◌, ◌≢◌, ℕ, ◌<◌, ◌^◌, List, length, get_or, sum}
+use Rattle.std.specs.Prelude.{◌≡◌, ◌≢◌, ℕ, ◌<◌, ◌^◌, List, [], length, get_or, sum}
 use Rattle.cb_semirings.specs.Arithmetic.{Arithmetic}
 use Rattle.cb_matrix.specs.Sparse.{Sparse}
 use Rattle.cb_letters.specs.declared.Letter.{Letter}
 use Rattle.cb_plan.specs.declared.stores.Slot.{Slot}
 use Rattle.cb_plan.specs.Algebras.{matrices}
 use Rattle.cb_plan.specs.PlanLetters.{letters}
-use Rattle.cb_plan.specs.Plans.{CheckedView}
+use Rattle.cb_plan.specs.Plans.{CheckedView, IsChecked}
+use Rattle.cb_plan.specs.Programs.{project}
 use Rattle.cb_plan.specs.Stores.{state_of}
 use Rattle.cb_rank.specs.Agreement.{AreLettersOf}
+use Rattle.cb_rank.specs.Halves.{Course, RunsTo}
 use Rattle.cb_rank.specs.Leavings.{HoldsMeaning}
+use Rattle.cb_ranks.specs.Runs.{fresh}
 
 -- the store of each rank, how often each was refused memory, and the letters that were posted on the lane from each rank to each, and taken
 pub record FinishedView : Type 0 where
@@ -41,7 +44,22 @@ pub record HasLetters (s : Arithmetic) (p : CheckedView) (first : List (List (Sl
   pub taken : f.taken from to ≡ f.posted from to
   pub count : length (f.posted from to) ≡ length (letters (matrices s) p.acts (state_of first) from to)
 
--- the ranks of a plan have done what it means for these first stores: what they leave holds it, and on each lane its letters were posted and taken
+-- how far a rank came: what it left, and the letters that it posted and took
+abbrev pub course_in : FinishedView → ℕ → Course
+course_in f r = record { slots = get_or f.stores r []; refusals = get_or f.refusals r 0; posted = f.posted r; taken = λ k. f.taken k r }
+
+-- each rank of a plan did its program by itself, half by half, from its part of the first stores on
+abbrev pub AllRun : Arithmetic → CheckedView → List (List (Slot Sparse)) → FinishedView → Type 0
+AllRun s p first f = (r : ℕ) → r < p.ranks → RunsTo s r (project p.starts p.acts r) (fresh (get_or first r [])) (course_in f r)
+
+-- the ranks of a checked plan have done what it means for these first stores
 pub record FinishesPlan (s : Arithmetic) (p : CheckedView) (first : List (List (Slot Sparse))) (f : FinishedView) : Type 0 where
+  pub checked : IsChecked p
+  -- the number of a rank has 16 bits
+  pub few : p.ranks < 2 ^ 16
+  -- what they leave holds what the plan means
   pub left : HoldsMeaning s p first f.stores f.refusals
+  -- on each lane its letters were posted and taken
   pub lanes : (from to : ℕ) → from < p.ranks → to < p.ranks → from ≢ to → HasLetters s p first f from to
+  -- and each rank did its own program
+  pub halves : AllRun s p first f

@@ -1,12 +1,17 @@
 -- What one rank leaves once it has run its whole program over its desk.
-use Rattle.std.specs.Prelude.{◌≡◌, ◌≢◌, ℕ, ◌<◌, length}
+use Rattle.std.specs.Prelude.{◌≡◌, ◌≢◌, ℕ, ◌<◌, List, [], length}
 use Rattle.cb_semirings.specs.Arithmetic.{Arithmetic}
 use Rattle.cb_matrix.specs.Sparse.{Sparse}
+use Rattle.cb_plan.specs.declared.stores.Slot.{Slot}
 use Rattle.cb_lanes.specs.declared.desk.Desk.{Desk}
 use Rattle.cb_lanes.specs.Desks.{identity, posted_to, taken_from, IsNewDesk}
 use Rattle.cb_lanes.specs.Numbers.{AreNumbered}
 use Rattle.cb_rank.specs.Halves.{Course, RunsTo}
 use Rattle.cb_rank.specs.Ranks.{RankView, IsRank}
+
+-- a rank at its beginning, with these slots: nothing was refused, posted or taken
+abbrev pub fresh : List (Slot Sparse) → Course
+fresh slots = record { slots = slots; refusals = 0; posted = λ _. []; taken = λ _. [] }
 
 -- how far a rank came over its desk
 abbrev pub course_of : RankView → Desk Sparse → Course

@@ -1,5 +1,5 @@
 -- What a run of an operation by an engine answers.
-use Rattle.std.specs.Prelude.{◌≡◌, ℕ, ◌*◌, List, map, Option, None}
+use Rattle.std.specs.Prelude.{◌≡◌, ℕ, ◌*◌, ◌⊎◌, List, [], map, Option, None}
 use Rattle.cb_semirings.specs.Arithmetic.{Arithmetic}
 use Rattle.cb_matrix.specs.Sparse.{Sparse, Extent}
 use Rattle.cb_layout.specs.Distributed.{Distributed}
@@ -9,7 +9,7 @@ use Rattle.cb_operations.specs.declared.operations.Operation.{Operation}
 use Rattle.cb_operations.specs.declared.operations.Operands.{Operands}
 use Rattle.cb_operations.specs.declared.operations.Operands.TheVariants.{One, Two, Three}
 use Rattle.cb_operations.specs.declared.refusals.Refusal.TheVariants.{Shapes}
-use Rattle.cb_operations.specs.declared.operations.Operation.TheVariants.{MultiplyVector}
+use Rattle.cb_operations.specs.declared.operations.Operation.TheVariants.{Multiply, MultiplyVector}
 use Rattle.cb_operations.specs.OperationAnswers.{Agree, answer_of, extent_at, matrix_at, shape_of, shapes_in}
 use Rattle.cb_plan.specs.Plans.{CheckedView}
 use Rattle.cb_vectors.specs.SpreadVectors.{MultipliesVectors}
@@ -24,13 +24,13 @@ use Rattle.cb_planner.specs.OperationPlans.{Computes, placed_operands}
 use Rattle.cb_run.specs.declared.operation_faults.OperationFault.{OperationFault}
 use Rattle.cb_run.specs.declared.operation_faults.OperationFault.TheVariants.{Refused, Failed}
 
--- each lies over a grid of side q
+-- each operand lies over a grid of side q
 abbrev pub LieOver : ℕ → Operands Distributed → Type 0
 LieOver q (One a) = a.side ≡ q
 LieOver q (Two a b) = (a.side ≡ q) × (b.side ≡ q)
 LieOver q (Three a b c) = (a.side ≡ q) × (b.side ≡ q) × (c.side ≡ q)
 
--- the whole matrices of some that lie over a grid
+-- the whole matrices of operands that lie over a grid
 abbrev pub wholes : List Distributed → List Sparse
 wholes operands = map (λ (o : Distributed). o.matrix) operands
 
@@ -45,7 +45,7 @@ IsTraceFor (Traced letters) operation q shapes t =
     (plan : CheckedView) × IsPlanFor operation q shapes plan × IsTraceOf (Traced letters) plan t
 IsTraceFor engine operation q shapes t = t ≡ None
 
--- what ranks make that are stepped in an order, by a plan for the operation
+-- what ranks that are stepped in an order make, by a plan for the operation
 abbrev pub IsSteppedFor : Arithmetic → Operation → ℕ → List Sparse → ℕ → List Event → Distributed → List ℕ → Type 0
 IsSteppedFor s MultiplyVector q ms letters order answer refusals =
     (plan : CheckedView) × MultipliesVectors q (extent_at (shapes_in ms) 0) plan
@@ -54,11 +54,20 @@ IsSteppedFor s operation q ms letters order answer refusals =
     (planned : Planned) × Computes operation q (shapes_in ms) planned
     × IsSteppedRun s q planned (placed_operands ms) (shape_of operation (shapes_in ms)) letters order answer refusals
 
--- an engine that steps ranks answers what they make in its order
+-- a product of two matrices of which one has no entries
+abbrev pub IsEmptyProduct : Operation → List Sparse → Type 0
+IsEmptyProduct Multiply ms = ((matrix_at ms 0).entries ≡ []) ⊎ ((matrix_at ms 1).entries ≡ [])
+IsEmptyProduct MultiplyVector ms = ((matrix_at ms 0).entries ≡ []) ⊎ ((matrix_at ms 1).entries ≡ [])
+IsEmptyProduct operation ms = ⊥
+
+-- An engine answers what ranks make that are stepped: in its order, or, where its ranks run in threads, in some order.
+-- No ranks run in threads without a trace for a product of which a factor has no entries.
 abbrev pub IsOrderedFor : Arithmetic → Engine → Operation → ℕ → List Sparse → Distributed → List ℕ → Type 0
 IsOrderedFor s (InOrder letters order) operation q ms answer refusals = IsSteppedFor s operation q ms letters order.now answer refusals
-IsOrderedFor s (Threads letters) operation q ms answer refusals = Unit {0}
-IsOrderedFor s (Traced letters) operation q ms answer refusals = Unit {0}
+IsOrderedFor s (Threads letters) operation q ms answer refusals =
+    (IsEmptyProduct operation ms × (refusals ≡ [])) ⊎ ((order : List Event) × IsSteppedFor s operation q ms letters order answer refusals)
+IsOrderedFor s (Traced letters) operation q ms answer refusals =
+    (order : List Event) × IsSteppedFor s operation q ms letters order answer refusals
 
 -- On a grid of side q: the shapes agree, what the blocks glue to is what the operation makes of the matrices, and the
 -- order and the trace are the engine's.
@@ -68,7 +77,7 @@ pub record IsOutcome {S : Type 0} (s : Arithmetic) (engine : Engine) (operation 
   pub order : IsOrderedFor s engine operation q ms done.answer done.refusals.items
   pub trace : IsTraceFor engine operation q (shapes_in ms) done.trace
 
--- why there is none: shapes that don't agree, or, where they do, what the engine says
+-- why there is no answer: the shapes don't agree, or, if they do, what the engine says
 abbrev pub IsRefusal : Engine → Operation → ℕ → List Sparse → OperationFault → Type 0
 IsRefusal engine operation q ms (Refused Shapes) = ¬ Agree operation (shapes_in ms)
 IsRefusal engine operation q ms (Refused _) = ⊥

@@ -8,18 +8,18 @@ use Rattle.cb_engines.specs.EngineRuns.{IsEngineFault}
 use Rattle.cb_run.specs.declared.operation_faults.OperationFault.{OperationFault}
 use Rattle.cb_run.specs.declared.operation_faults.OperationFault.TheVariants.{Refused, Failed}
 
--- a matrix of this shape is square, and the source one of its vertices
+-- a matrix of this shape is square, and the source is one of its vertices
 pub record HasSource (d : Extent) (source : ℕ) : Type 0 where
   pub square : d.rows ≡ d.cols
   pub vertex : source < d.rows
 
--- a matrix that isn't square, or, where it is, a source that is none of its vertices
+-- a matrix that isn't square, or, if it is, a source that isn't one of its vertices
 abbrev pub IsGraphRefusal : Extent → ℕ → Refusal → Type 0
 IsGraphRefusal d source refusal_is.Shapes = ⊥
 IsGraphRefusal d source refusal_is.NotSquare = d.rows ≢ d.cols
 IsGraphRefusal d source refusal_is.Source = (d.rows ≡ d.cols) × (d.rows ≤ source)
 
--- by an engine on a grid of side q: such a refusal, or, where there is none, what the engine says
+-- by an engine on a grid of side q: such a refusal, or, if there is none, what the engine says
 abbrev pub IsWalkRefusal : Engine → ℕ → Extent → ℕ → OperationFault → Type 0
 IsWalkRefusal engine q d source (Refused refusal) = IsGraphRefusal d source refusal
 IsWalkRefusal engine q d source (Failed fault) = HasSource d source × IsEngineFault engine (q * q) fault

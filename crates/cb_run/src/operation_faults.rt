@@ -8,10 +8,10 @@ use cb_operations::Refusal;
 use std::alloc::AllocError;
 use thiserror::Error;
 
-/// Why an operation has no answer, in the order in which the reasons are looked for.
+/// Why an operation has no answer, in the order in which the reasons are checked.
 #[derive(Clone, Copy, Debug, PartialEq, Eq, Error)]
 pub enum OperationFault {
-    /// It isn't computed, whoever would compute it.
+    /// It can't be computed, by whatever engine.
     #[error("{0}")]
     Refused(Refusal),
     /// The engine has no answer.

@@ -17,11 +17,11 @@ use std::alloc::Global;
 use std::sync::Wait;
 use std::thread::Threads;
 
-/// What an operation makes of matrices that lie over one grid, by an engine. It is left in the blocks of the grid.
+/// Does an operation on matrices that lie over one grid, by an engine. The answer is left in the blocks of the grid.
 ///
-/// Shapes that don't agree are refused before memory is asked for. The blocks of the operands are given to the ranks, and
-/// none is copied before it is sent. Of a product of which a factor has no entries no plan is made where ranks in threads
-/// would run it without a trace: it costs a block for each rank.
+/// Shapes that don't agree are refused before memory is asked for. The blocks of the operands are moved to the ranks,
+/// and none is copied before it is sent. For a product with a factor without entries, which ranks in threads would run
+/// without a trace, no plan is made: it costs a block for each rank.
 pub fn run<S: Semiring + Send + Sync, R: Threads + Wait + Sync>(
     rt: &R,
     alloc: Global,
@@ -53,7 +53,7 @@ pub fn run<S: Semiring + Send + Sync, R: Threads + Wait + Sync>(
     }
 }
 
-/// What an operation other than a product by a vector makes of matrices whose shapes agree.
+/// Does an operation other than a product by a vector on matrices whose shapes agree.
 fn run_plan<S: Semiring + Send + Sync, R: Threads + Wait + Sync>(
     rt: &R,
     alloc: Global,
@@ -77,10 +77,10 @@ fn run_plan<S: Semiring + Send + Sync, R: Threads + Wait + Sync>(
     Ok(compute(rt, alloc, engine, grid, planned, operands, shape)?)
 }
 
-/// What an operation makes of whole matrices, by an engine over a grid.
+/// Does an operation on whole matrices, by an engine over a grid.
 ///
-/// Shapes that don't agree are refused before memory is asked for. Beside what [`run`] costs each entry of the operands is
-/// cut into its block, and each of the answer is put in its place.
+/// Shapes that don't agree are refused before memory is asked for. Besides what [`run`] costs, each entry of the
+/// operands is cut into its block, and each entry of the answer is put in its place.
 pub fn run_matrices<S: Semiring + Send + Sync, R: Threads + Wait + Sync>(
     rt: &R,
     alloc: Global,

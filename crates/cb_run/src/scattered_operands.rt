@@ -1,5 +1,5 @@
-//! One, two or three operands over a grid: their shapes, their plan, and the slots that they are given to the ranks in.
-ghost use Rattle.std.specs.Prelude.{◌≡◌, ℕ, length, map, All, IfSome, IfNone, IfOk, IfErr};
+//! One, two or three operands over a grid: their shapes, their plan, and the slots of the ranks that get them.
+ghost use Rattle.std.specs.Prelude.{◌≡◌, ◌⊎◌, ℕ, [], length, map, All, IfSome, IfNone, IfOk, IfErr};
 ghost use Rattle.cb_matrix.specs.Sparse.{IsMatrix};
 ghost use Rattle.cb_matrix.specs.Values.{product};
 ghost use Rattle.cb_operations.specs.Operands.{list_of};
@@ -8,7 +8,7 @@ ghost use Rattle.cb_engines.specs.declared.engines.Engine.{Engine};
 ghost use Rattle.cb_operations.specs.declared.refusals.Refusal.TheVariants.{Shapes};
 ghost use Rattle.cb_planner.specs.OperationPlans.{Computes, placed_operands};
 ghost use Rattle.cb_run.specs.declared.operation_faults.OperationFault.TheVariants.{Refused};
-ghost use Rattle.cb_run.specs.Outcomes.{IsRefusal, LieOver, wholes};
+ghost use Rattle.cb_run.specs.Outcomes.{IsEmptyProduct, IsRefusal, LieOver, wholes};
 
 use crate::OperationFault;
 use cb_layout::{DistributedMatrix, Grid};
@@ -20,8 +20,8 @@ use cb_semirings::Semiring;
 use cb_summa::{LEFT, MASK, RIGHT};
 use std::alloc::{AllocError, Global};
 
-/// The shape of what an operation makes of these operands, or none where their shapes don't agree. It says that they are
-/// matrices, too.
+/// The shape of what an operation makes of these operands, or none if their shapes don't agree. The contract also says
+/// that they are matrices.
 pub fn shape_in<S: Semiring>(
     operation: Operation,
     operands: &Operands<DistributedMatrix<S>>,
@@ -82,14 +82,15 @@ pub fn placed<S: Semiring>(
     Ok(there)
 }
 
-/// What a product is of which a factor has no entries, over the grid: no plan is needed for it. Of all else there is none.
+/// The answer of a product with a factor without entries, over the grid: it needs no plan. None in any other case.
 pub fn empty_product<S: Semiring>(
     alloc: Global,
     grid: &Grid,
     operation: Operation,
     operands: &Operands<DistributedMatrix<S>>,
 ) -> Result<Option<DistributedMatrix<S>>, AllocError>
-    ensures { IfOk result (λ o. IfSome o (λ m. m ≡ record { side = grid.now.side; matrix = answer_of operation S.arithmetic (wholes (list_of operands.now)) })) }
+    ensures answer { IfOk result (λ o. IfSome o (λ m. m ≡ record { side = grid.now.side; matrix = answer_of operation S.arithmetic (wholes (list_of operands.now)) })) }
+    ensures empty { IfOk result (λ o. IfSome o (λ _. IsEmptyProduct operation (wholes (list_of operands.now)))) }
 {
     let Operands::Two(left, right) = operands else {
         return Ok(None);
@@ -101,7 +102,7 @@ pub fn empty_product<S: Semiring>(
     }
 }
 
-/// The product of two matrices of which one has no entries: it has none either. Where both have some there is none.
+/// The product of two matrices of which one has no entries: it has none either. None if both have entries.
 #[tactic(auto, using(crate::proofs::Empties::empty_product_is))]
 fn nothing<S: Semiring>(
     alloc: Global,
@@ -109,7 +110,8 @@ fn nothing<S: Semiring>(
     left: &DistributedMatrix<S>,
     right: &DistributedMatrix<S>,
 ) -> Result<Option<DistributedMatrix<S>>, AllocError>
-    ensures { IfOk result (λ o. IfSome o (λ m. m ≡ record { side = grid.now.side; matrix = product S.arithmetic left.now.matrix right.now.matrix })) }
+    ensures answer { IfOk result (λ o. IfSome o (λ m. m ≡ record { side = grid.now.side; matrix = product S.arithmetic left.now.matrix right.now.matrix })) }
+    ensures empty { IfOk result (λ o. IfSome o (λ _. (left.now.matrix.entries ≡ []) ⊎ (right.now.matrix.entries ≡ []))) }
 {
     let shape = left.shape().with_columns_of(right.shape());
     if left.is_empty() || right.is_empty() {

@@ -15,7 +15,7 @@ use std::sync::Wait;
 use std::thread::Threads;
 
 /// The product of a matrix by a vector. The vector's entries are spread over all ranks, and those of the product come
-/// from all of them: beside the run it costs a copy of these.
+/// from all of them: besides the run it costs a copy of these.
 pub fn run_vector<S: Semiring + Send + Sync, R: Threads + Wait + Sync>(
     rt: &R,
     alloc: Global,

@@ -1,5 +1,5 @@
 //! How far the vertices of a graph are from one of them: the graph of a square matrix, in which a stored entry (i, j)
-//! is an edge from i to j. Both are one [search](cb_searches::Search). In a level each edge weighs 1.
+//! is an edge from i to j. Levels and distances are one [search](cb_searches::Search); for levels each edge weighs 1.
 ghost use Rattle.std.specs.Prelude.{◌≡◌, ◌<◌, ◌*◌, ℕ, IfOk, IfErr, OnOk};
 ghost use Rattle.cb_semirings.specs.Tables.{min_plus};
 ghost use Rattle.cb_matrix.specs.Sparse.{Sparse};
@@ -20,7 +20,7 @@ use std::alloc::{AllocError, Global};
 use std::sync::Wait;
 use std::thread::Threads;
 
-/// Refuses the shape of a matrix that isn't square, then a source that is none of its vertices.
+/// Refuses the shape of a matrix that isn't square, then a source that isn't one of its vertices.
 pub fn check_graph(shape: Shape, source: u32) -> Result<(), Refusal>
     ensures ok { OnOk result (HasSource shape source) }
     ensures refused { IfErr result (IsGraphRefusal shape source) }
@@ -105,11 +105,11 @@ pub fn weighted(
 
 /// The distance of each vertex from a source: the least weight of a walk, where a walk's weight is the sum of its
 /// entries' values, which stops at 2^64-1. Vertices without a walk, or with an infinite distance, are not stored. The
-/// blocks of the matrix are given to the ranks.
+/// blocks of the matrix are moved to the ranks.
 ///
-/// Refused are `NotSquare`, then `Source` for one that is no vertex, before memory is asked for. The matrix is
-/// transposed once. Each round is one run of the ranks, and costs what the entries of the vertices that fell in the
-/// round before cost; there are at most as many as vertices.
+/// `NotSquare`, then `Source` for a source that is no vertex, are refused before memory is asked for. The matrix is
+/// transposed once. Each round is one run of the ranks over the entries of the vertices that fell in the round before;
+/// there are at most as many rounds as vertices.
 pub fn distances<R: Threads + Wait + Sync>(
     rt: &R,
     alloc: Global,
@@ -126,8 +126,8 @@ pub fn distances<R: Threads + Wait + Sync>(
 }
 
 /// The level of each vertex from a source: the least number of entries of a walk. Vertices without a walk are not
-/// stored. Refusals and cost are those of [`distances`]; the level of a vertex is its distance where each entry
-/// weighs 1. This is the breadth-first search of Buluç and Gilbert, The Combinatorial BLAS (IJHPCA 2011), section 5.
+/// stored. Refusals and cost are those of [`distances`]; the level of a vertex is its distance if each entry weighs 1.
+/// This is the breadth-first search of Buluç and Gilbert, The Combinatorial BLAS (IJHPCA 2011), section 5.
 pub fn levels<R: Threads + Wait + Sync>(
     rt: &R,
     alloc: Global,

@@ -1,4 +1,4 @@
--- Products by vectors of ranks that are stepped in an order.
+-- Products by vectors, made by ranks that are stepped in an order.
 use Rattle.std.specs.Prelude.{ℕ, List}
 use Rattle.cb_semirings.specs.Arithmetic.{Arithmetic}
 use Rattle.cb_matrix.specs.Sparse.{Sparse}
@@ -18,8 +18,8 @@ pub record IsSteppedProduct (s : Arithmetic) (q : ℕ) (plan : CheckedView) (a x
   pub left : IsLeftInOrder s plan first stores refusals letters order
   pub held : HasProduct s q a y stores
 
--- an engine that steps ranks answers what they make in its order
+-- an engine answers what ranks make that are stepped: in its order, or, where its ranks run in threads, in some order
 abbrev pub IsOrderedProduct : Arithmetic → Engine → ℕ → CheckedView → Sparse → Sparse → Sparse → List ℕ → Type 0
 IsOrderedProduct s (InOrder letters order) q plan a x y refusals = IsSteppedProduct s q plan a x y letters order.now refusals
-IsOrderedProduct s (Threads letters) q plan a x y refusals = Unit {0}
-IsOrderedProduct s (Traced letters) q plan a x y refusals = Unit {0}
+IsOrderedProduct s (Threads letters) q plan a x y refusals = (order : List Event) × IsSteppedProduct s q plan a x y letters order refusals
+IsOrderedProduct s (Traced letters) q plan a x y refusals = (order : List Event) × IsSteppedProduct s q plan a x y letters order refusals

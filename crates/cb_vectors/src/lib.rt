@@ -1,7 +1,7 @@
 //! A matrix that lies over a grid times a vector, again and again, by a plan that is made once.
 //!
-//! The vector is spread over all ranks: each has a piece of it, and is left with a piece of the product. The matrix
-//! stays in the blocks of the grid, is given to the ranks for a product, and comes back as it was.
+//! The vector is spread over all ranks: each has a piece of it, and ends with a piece of the product. The matrix stays
+//! in the blocks of the grid, is moved to the ranks for a product, and comes back as it was.
 #![tactic(auto)]
 
 ghost use Rattle.std.specs.Prelude.{◌≡◌, ◌*◌, IfOk, IfErr};
@@ -44,7 +44,7 @@ pub struct Multiplied<S: Semiring> {
     pub product: Matrix<S>,
     /// How often memory was refused to each rank.
     pub refusals: Vec<u64>,
-    /// The trace of the run, where the engine keeps one.
+    /// The trace of the run, if the engine keeps one.
     pub trace: Option<Trace>,
 }
 
@@ -84,8 +84,8 @@ pub fn multiply_vector<S: Semiring + Send + Sync, R: Threads + Wait + Sync>(
     })
 }
 
-/// The matrix of the one shape and the column of the other, whose parts and pieces ranks have left, where memory was
-/// refused to each so often.
+/// The matrix of the one shape and the column of the other, whose parts and pieces the ranks have left, when each was
+/// refused memory this often.
 fn collect<S: Semiring>(
     alloc: Global,
     grid: &Grid,

@@ -18,6 +18,7 @@
 --   (`leaves`).
 -- Boxes: the mailbox of a rank, read by its number, and the mailboxes as they are made.
 -- NewRanks: the ranks of a new world, made of their stores from the last on.
+-- NewWorlds: there is a new world for every plan whose stores fit (`some_world`).
 -- LaneNeeds: what a rank's next half asks of its lanes; a step as `World::step` leaves it.
 -- LaneCalls: a run calls mailboxes (`run_calls`), and what becomes of the letters in each.
 pub mod Lanes
@@ -35,5 +36,6 @@ pub mod FirstState
 pub mod LastState
 pub mod Boxes
 pub mod NewRanks
+pub mod NewWorlds
 pub mod LaneNeeds
 pub mod LaneCalls

@@ -26,7 +26,8 @@ invariant_of-finished g c =
 
 pub returns-clause-meaning : goal.returns-clause-meaning
 returns-clause-meaning g c =
-    ends_all g.S.Semiring.arithmetic c.args.plan.now c.args.stores.items c.in_ok-crew.crew.items c.in_ok-done.done.items c.take_from-stores.result.stores.items c.take_from-stores.result.refusals.items c.take_from-stores.result.desks.items c.settle-lanes.result c.in_ok-crew.ensures.crew c.in_ok-done.ensures.ran c.take_from-stores.ensures.stores c.take_from-stores.ensures.refusals c.take_from-stores.ensures.desks c.ranks-ranks.ensures.checked c.requires.fits c.settle-lanes.ensures.posted c.settle-lanes.ensures.taken c.settle-lanes.ensures.settled
+    let few : c.args.plan.now.ranks < 2 ^ 16 = search rules in
+    ends_all g.S.Semiring.arithmetic c.args.plan.now c.args.stores.items c.in_ok-crew.crew.items c.in_ok-done.done.items c.take_from-stores.result.stores.items c.take_from-stores.result.refusals.items c.take_from-stores.result.desks.items c.settle-lanes.result c.in_ok-crew.ensures.crew c.in_ok-done.ensures.ran c.take_from-stores.ensures.stores c.take_from-stores.ensures.refusals c.take_from-stores.ensures.desks c.ranks-ranks.ensures.checked few c.requires.fits c.settle-lanes.ensures.posted c.settle-lanes.ensures.taken c.settle-lanes.ensures.settled
 
 pub returns-clause-told : goal.returns-clause-told
 returns-clause-told g c = tells_plan g.T.Recorder.tells c.args.plan.now c.args.stores.items c.in_ok-crew.crew.items c.args.recorders.items _ c.in_ok-crew.ensures.crew c.in_ok-done.ensures.told
