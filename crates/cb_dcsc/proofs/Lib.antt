@@ -5,7 +5,7 @@
 --   `entries_in-column`; and a filter by the column: `in_column-all`, `in_column-none`.
 -- Lookup: the value at a place by its column: `column_value`, `row_value-found`, `row_value-absent`,
 --   `column_ascends`; rows inside the shape and values of the semiring: `rows_inside`, `column_values`,
---   `all_rows_inside`, `all_values`.
+--   `all_rows_inside`, `all_values`; a column has as many values as rows: `as_long`.
 -- Numbers: the columns that have entries: `columns_all`, `entries_all`, `columns_inside`.
 -- WholeColumn: `column_before`, where a column more stands.
 -- Held: what a search by halves tells: `same_number`, `not_found`.

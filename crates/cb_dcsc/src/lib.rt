@@ -146,7 +146,7 @@ impl<S: Semiring> Block<S> {
         ensures entries { slice_range self.now.entries result.0 result.1 ≡ in_column column self.now.entries }
     {
         match self.columns.binary_search(&column) {
-            Ok(n) => (self.starts[n], self.starts[n + 1]),
+            Ok(n) => self.nth_range(n),
             Err(_) => (0, 0),
         }
     }
@@ -285,12 +285,13 @@ impl<S: Semiring> Block<S> {
     pub fn try_clone(&self) -> Result<Self, AllocError>
         ensures { IfOk result (λ copy. copy ≡ self.now) }
     {
+        let alloc = *self.rows.allocator();
         Ok(Block {
             shape: self.shape,
-            columns: self.columns.clone()?,
-            starts: self.starts.clone()?,
-            rows: self.rows.clone()?,
-            values: self.values.clone()?,
+            columns: Vec::from_slice(alloc, &self.columns)?,
+            starts: Vec::from_slice(alloc, &self.starts)?,
+            rows: Vec::from_slice(alloc, &self.rows)?,
+            values: Vec::from_slice(alloc, &self.values)?,
             semiring: PhantomData,
         })
     }
@@ -588,7 +589,7 @@ fn nonempty_columns(
     let room = entries.min(count as usize);
     let mut columns = Vec::with_capacity(alloc, room)?;
     let mut starts = Vec::with_capacity(alloc, room + 1)?;
-    starts.push(0)?;
+    starts.push_reserved(0);
     for column in 0..count {
         let end = all[column as usize + 1];
         if all[column as usize] < end {

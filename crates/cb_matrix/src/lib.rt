@@ -211,7 +211,7 @@ impl<S: Semiring> Matrix<S> {
     {
         Ok(Matrix {
             shape: self.shape,
-            entries: self.entries.clone()?,
+            entries: Vec::from_slice(*self.entries.allocator(), &self.entries)?,
             semiring: PhantomData,
         })
     }

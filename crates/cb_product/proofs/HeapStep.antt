@@ -223,6 +223,10 @@ module _ (s : Arithmetic) (laws : IsSemiring s) (rows values : List ℕ) (same_l
       pub least_last : All (λ k. h.row ≤ k.row) old → All (λ k. h.row ≤ k.row) new
       least_last least = All-permutation (λ k. h.row ≤ k.row) rest new put (All-tail (λ k. h.row ≤ k.row) h rest (All-permutation (λ k. h.row ≤ k.row) old (h ∷ rest) taken least))
 
+-- the head that is taken out of the heads stands at an entry too
+pub head_taken : (s : Arithmetic) (rows : List ℕ) (old rest : List Head) (h : Head) → All (IsHead s rows) old → IsPermutation old (h ∷ rest) → IsHead s rows h
+head_taken s rows old rest h heads taken = All-head (IsHead s rows) h rest (All-permutation (IsHead s rows) old (h ∷ rest) taken heads)
+
 -- the greatest head has the least row
 not_later : (a b : ℕ) → is_lt (nat_cmp b a) ≡ false → a ≤ b
 not_later a b h = grind (arith, nat_tests)

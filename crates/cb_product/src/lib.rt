@@ -116,9 +116,9 @@ fn accumulate<S: Semiring>(
     ensures { IfOk result (λ m. m ≡ sum_of S.arithmetic accumulator.now (product S.arithmetic left.now right.now)) }
 {
     let index = ColumnIndex::new(alloc, left, right.len())?;
-    let mut out = with_room(alloc, left, right, accumulator, columns.len(), &index);
     let mut work = Workspace::new(alloc)?;
     let mut terms = Vec::new(alloc);
+    let mut out = with_room(alloc, left, right, accumulator, columns.len(), &index);
     make_columns(
         left,
         right,

@@ -48,12 +48,9 @@ impl<S: Semiring> SparseAccumulator<S> {
         ensures zeros { IfOk result (λ a. All (λ x. x ≡ S.arithmetic.zero) a) }
     {
         let rows = rows as usize;
-        let mut sums = Vec::new(alloc);
-        let mut marks = Vec::new(alloc);
-        let mut groups = Vec::new(alloc);
-        sums.resize(rows, S::zero())?;
-        marks.resize(rows / 64 + 1, 0)?;
-        groups.resize(rows / 4096 + 1, 0)?;
+        let sums = vec![in alloc; S::zero(); rows]?;
+        let marks = vec![in alloc; 0u64; rows / 64 + 1]?;
+        let groups = vec![in alloc; 0u64; rows / 4096 + 1]?;
         Ok(SparseAccumulator {
             sums,
             marks,

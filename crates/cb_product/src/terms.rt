@@ -1,5 +1,5 @@
 //! The terms that a column of a product is the sum of.
-ghost use Rattle.std.specs.Prelude.{◌≡◌, ℕ, ◌<◌, length, All, OnOk};
+ghost use Rattle.std.specs.Prelude.{◌≡◌, ℕ, ◌<◌, ◌≤◌, length, All, OnOk};
 ghost use Rattle.cb_semirings.specs.Arithmetic.{IsValue};
 ghost use Rattle.cb_matrix.specs.Sparse.{IsMatrix};
 ghost use Rattle.cb_dcsc.specs.Columns.{rows_of, values_of};
@@ -24,14 +24,15 @@ pub(crate) struct Term {
 }
 
 /// Reads the last row of a column, and the values at both of its ends: with its first row, that is all of a short column
-/// fetched. There are as many rows as values, and some.
+/// fetched. It is told by where its entries stand among all.
 #[inline(always)]
-fn both_ends(rows: &[u32], values: &[u64]) -> u64
-    requires some { 0 < length rows.now }
+fn both_ends(rows: &[u32], values: &[u64], at: usize, end: usize) -> u64
+    requires some { at < end }
+    requires within { end ≤ length rows.now }
     requires lengths { length values.now ≡ length rows.now }
 {
-    let last = rows.len() - 1;
-    u64::from(rows[last]) ^ values[0] ^ values[last]
+    let last = end - 1;
+    u64::from(rows[last]) ^ values[at] ^ values[last]
 }
 
 /// The terms of a column of the product: one for each entry of the right block's column that names a column of the
@@ -65,7 +66,7 @@ pub(crate) fn gather<S: Semiring>(
                 at,
                 end,
                 scale: values[n],
-                ends: both_ends(&left_rows[at..end], &left_values[at..end]),
+                ends: both_ends(left_rows, left_values, at, end),
             })?;
             products = products.saturating_add(end - at);
         }

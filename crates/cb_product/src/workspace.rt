@@ -33,9 +33,9 @@ impl<S: Semiring> Workspace<S> {
     {
         Ok(Workspace {
             alloc,
+            sums: SparseAccumulator::new(alloc, 0)?,
             made: Column::new(alloc),
             spare: Column::new(alloc),
-            sums: SparseAccumulator::new(alloc, 0)?,
         })
     }
 

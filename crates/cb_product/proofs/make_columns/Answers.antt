@@ -1,4 +1,4 @@
-use Rattle.std.proofs.Common.{ℕ, ◌<◌, ap, arith, refl, subst, sym, ◌∙◌}
+use Rattle.std.proofs.Common.{ℕ, ◌<◌, ap, arith, get_or, refl, subst, sym, ◌∙◌}
 use Rattle.std.specs.Prelude.{All}
 use Rattle.std.proofs.lemmas.Bool.{eqb-true}
 use Rattle.std.proofs.lemmas.List.{get_or_default}
@@ -131,3 +131,49 @@ returns g c =
     let s = g.S.Semiring.arithmetic in
     let r = c.requires in
     sum_all s g.met.S.Semiring.is_semiring c.args.accumulator.now c.args.left.now c.args.right.now c.shape-own_shape.ensures.matrix c.shape-left_shape.ensures.matrix c.shape-right_shape.ensures.matrix r.agree c.args.columns.now r.ascending r.within r.accumulator_columns r.right_columns c.loop-column.out c.loop-column.column-index r.shape c.loop-column-test.false c.loop-column.invariant.so_far
+
+pub gather-requires-clause-lengths : goal.gather-requires-clause-lengths
+gather-requires-clause-lengths g c = as_long c.args.right.now.entries _ _ _ c.of_next.ensures.rows c.of_next.ensures.values
+
+pub gather-requires-clause-values : goal.gather-requires-clause-values
+gather-requires-clause-values g c = c.of_next.ensures.are_values
+
+pub gather-requires-clause-matrix : goal.gather-requires-clause-matrix
+gather-requires-clause-matrix g c = c.shape-left_shape.ensures.matrix
+
+pub push_column-requires-clause-ascending : goal.push_column-requires-clause-ascending
+push_column-requires-clause-ascending g c = c.of_next-in-loop-column.ensures.ascending
+
+pub push_column-requires-clause-column : goal.push_column-requires-clause-column
+push_column-requires-clause-column g c =
+    let cols = ap (λ (e : Extent). e.cols) (c.loop-column.invariant.so_far.shape ∙ c.requires.shape) in
+    subst (λ n. get_or c.args.columns.now c.loop-column.column-index 0 < n) (sym cols) (c.requires.within c.loop-column.column-index 0 c.loop-column-test.true)
+
+pub push_column-requires-clause-values : goal.push_column-requires-clause-values
+push_column-requires-clause-values g c = c.of_next-in-loop-column.ensures.are_values
+
+pub make-requires-clause-left : goal.make-requires-clause-left
+make-requires-clause-left g c = c.shape-left_shape.ensures.matrix
+
+pub make-requires-clause-terms : goal.make-requires-clause-terms
+make-requires-clause-terms g c = rw c.deref.ensures.value c.in_ok-products.ensures.terms
+
+pub make-requires-clause-zeros : goal.make-requires-clause-zeros
+make-requires-clause-zeros g c = c.loop-column.invariant.zeros
+
+pub push_column-requires-in-loop-column-clause-lengths : goal.push_column-requires-in-loop-column-clause-lengths
+push_column-requires-in-loop-column-clause-lengths g c = rw (c.entries.ensures.rows, c.entries.ensures.values) c.entries.ensures.column.same_length
+
+pub push_column-requires-in-loop-column-clause-ascending : goal.push_column-requires-in-loop-column-clause-ascending
+push_column-requires-in-loop-column-clause-ascending g c = rw c.entries.ensures.rows c.entries.ensures.column.ascending
+
+pub push_column-requires-in-loop-column-clause-column : goal.push_column-requires-in-loop-column-clause-column
+push_column-requires-in-loop-column-clause-column g c =
+    let cols = ap (λ (e : Extent). e.cols) (c.loop-column.invariant.so_far.shape ∙ c.requires.shape) in
+    subst (λ n. get_or c.args.columns.now c.loop-column.column-index 0 < n) (sym cols) (c.requires.within c.loop-column.column-index 0 c.loop-column-test.true)
+
+pub push_column-requires-in-loop-column-clause-values : goal.push_column-requires-in-loop-column-clause-values
+push_column-requires-in-loop-column-clause-values g c = rw c.entries.ensures.values c.entries.ensures.column.are_values
+
+pub push_column-requires-in-loop-column-clause-not_zero : goal.push_column-requires-in-loop-column-clause-not_zero
+push_column-requires-in-loop-column-clause-not_zero g c = rw c.entries.ensures.values c.entries.ensures.column.not_zero

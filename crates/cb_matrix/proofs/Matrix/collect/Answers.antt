@@ -1,10 +1,11 @@
 use Rattle.cb_semirings.specs.Arithmetic.{Arithmetic, IsValue}
 use Rattle.std.proofs.Common.{arith, ◌≡◌, ℕ, subst, sym, ap, ◌∙◌, List, [], ◌++◌, length, take, drop}
 use Rattle.std.proofs.lemmas.List.{append-nil, take_all, drop_all}
-use Rattle.std.specs.Prelude.{All}
+use Rattle.std.specs.Prelude.{All, AllPairs}
 use Rattle.std.proofs.lemmas.List.Sorted.{All-permutation}
 use Rattle.cb_matrix.specs.declared.Entry.{Entry}
 use Rattle.cb_matrix.specs.Combined.{IsCombined}
+use Rattle.cb_matrix.specs.Sparse.{IsNotAfter}
 use Rattle.cb_matrix.proofs.Collected.{collected_matrix, collected_is}
 use Rattle.cb_matrix.proofs.Matrix.collect.Goals as goal
 
@@ -42,3 +43,6 @@ returns g c =
     let kept = c.truncate.new.self.items in
     let combined = kept_combined s _ _ c.deref_mut.result.now c.combine-kept.new.entries sorted kept c.deref_mut.ensures.value c.deref_mut.ensures.len c.combine-kept.auto.entries c.truncate.ensures.items c.combine-kept.ensures in
     collected_is s g.met.S.Semiring.is_semiring c.args.shape c.args.entries.items sorted kept c.requires.inside c.requires.values c.in_ok-entries.ensures.permutation combined c.in_ok-entries.ensures.same
+
+pub combine-kept-requires-clause-order : goal.combine-kept-requires-clause-order
+combine-kept-requires-clause-order g c = subst (AllPairs IsNotAfter) (sym c.deref_mut.ensures.value) c.in_ok-entries.ensures.order

@@ -1,4 +1,4 @@
-use Rattle.std.proofs.Common.{◌≡◌, ◌≢◌, ℕ, ◌+◌, ◌*◌, ◌<◌, ◌≤◌, get_or, set, sym, refl, ap, ◌∙◌, ⊎_elim, arith}
+use Rattle.std.proofs.Common.{◌≡◌, ◌≢◌, ℕ, ◌+◌, ◌*◌, ◌<◌, ◌≤◌, get_or, set, length-set, sym, refl, ap, ◌∙◌, ⊎_elim, arith}
 use Rattle.std.proofs.lemmas.Bool.{cases_eq, cases_lt}
 use Rattle.std.proofs.lemmas.List.{get_or_default, get_or-set_same, get_or-set_other}
 use Rattle.std.proofs.lemmas.List.Elements.{All-nil, All-weaker}
@@ -83,3 +83,37 @@ returns-clause-column g c =
     λ i. sym (add_zero s laws _ (column_value s laws _ c.entries-entries.ensures.column i))
     ∙ ap (s.add _) (sym (all_taken s.zero c.loop-n.sums c.loop-n.marks c.args.groups.now m (λ j. ⊎_elim (λ (f : j < c.loop-n.from). inv.done j f) (λ (f : c.loop-n.from ≤ j). m.no_group j (c.in_default.ensures.none j f)) (cases_lt j c.loop-n.from)) i))
     ∙ inv.together i
+
+pub next_marked-requires : goal.next_marked-requires
+next_marked-requires g c = c.loop-n.invariant.accumulator.marked.groups_limit
+
+pub bounds-marks-n : goal.bounds-marks-n
+bounds-marks-n g c = group_inside g.S.Semiring.arithmetic.zero c.loop-n.sums c.loop-n.marks c.args.groups.now c.in-Some.n c.loop-n.invariant.accumulator.marked c.in-Some.ensures.marked
+
+pub bounds-marks-n-in-Some : goal.bounds-marks-n-in-Some
+bounds-marks-n-in-Some g c = group_inside g.S.Semiring.arithmetic.zero c.loop-n.sums c.loop-n.marks c.args.groups.now c.in-Some.n c.loop-n.invariant.accumulator.marked c.in-Some.ensures.marked
+
+pub overflow_add-from : goal.overflow_add-from
+overflow_add-from g c =
+    let l = group_inside g.S.Semiring.arithmetic.zero c.loop-n.sums c.loop-n.marks c.args.groups.now c.in-Some.n c.loop-n.invariant.accumulator.marked c.in-Some.ensures.marked in
+    let room = c.loop-n.invariant.accumulator.marked.groups_room in
+    let limit = c.loop-n.invariant.accumulator.marked.groups_limit in
+    omega arith
+
+pub loop-n-smaller : goal.loop-n-smaller
+loop-n-smaller g c =
+    let l = group_inside g.S.Semiring.arithmetic.zero c.loop-n.sums c.loop-n.marks c.args.groups.now c.in-Some.n c.loop-n.invariant.accumulator.marked c.in-Some.ensures.marked in
+    let from = c.in-Some.ensures.from in
+    rw (length-set c.loop-n.marks c.in-Some.n 0) (omega arith)
+
+pub take_word-requires-clause-limit : goal.take_word-requires-clause-limit
+take_word-requires-clause-limit g c = c.loop-n.invariant.accumulator.marked.limit
+
+pub take_word-requires-clause-values : goal.take_word-requires-clause-values
+take_word-requires-clause-values g c = c.loop-n.invariant.accumulator.values
+
+pub returns-in_err-take_word-clause-length : goal.returns-in_err-take_word-clause-length
+returns-in_err-take_word-clause-length g c = c.take_word.ensures.length ∙ c.loop-n.invariant.long
+
+pub returns-clause-length : goal.returns-clause-length
+returns-clause-length g c = c.loop-n.invariant.long

@@ -1,5 +1,6 @@
 use Rattle.std.proofs.Common.{◌+◌, ◌*◌, ◌<◌, refl, arith}
-use Rattle.std.proofs.lemmas.List.Elements.{All-weaker}
+use Rattle.std.proofs.lemmas.List.Elements.{All-get_or, All-weaker}
+use Rattle.cb_semirings.specs.Arithmetic.{IsValue}
 use Rattle.cb_product.proofs.ColumnSoFar.{column_value}
 use Rattle.cb_product.proofs.MarkBits.{low_set, without_low-less}
 use Rattle.cb_product.proofs.WordStep.{word_step}
@@ -100,3 +101,36 @@ loop-rest-preserved g c =
     let l = c.requires.inside _ (c.loop-rest.invariant.subset _ (low_set c.loop-rest.rest fits some)) in
     let long = c.loop-rest.invariant.long in
     word_step g.S.Semiring.arithmetic g.met.S.Semiring.is_semiring c.args.sums.now c.args.made.now c.args.n c.args.word c.loop-rest.sums c.loop-rest.made c.loop-rest.rest c.loop-rest.invariant fits some (omega arith) c.keep.new.self c.zero.result c.zero.ensures c.in_ok-keep.ensures.sum c.in_ok-keep.ensures.rows
+
+pub keep-requires-clause-value : goal.keep-requires-clause-value
+keep-requires-clause-value g c =
+    let fits = c.loop-rest.auto.rest-fits.fits in
+    let test = c.loop-rest-test.true in
+    let some : 0 < c.loop-rest.rest = omega arith in
+    let l = c.requires.inside _ (c.loop-rest.invariant.subset _ (low_set c.loop-rest.rest fits some)) in
+    let long = c.loop-rest.invariant.long in
+    All-get_or (IsValue g.S.Semiring.arithmetic) c.loop-rest.sums _ 0 (omega arith) c.loop-rest.invariant.values
+
+pub returns-in_err-keep-clause-length : goal.returns-in_err-keep-clause-length
+returns-in_err-keep-clause-length g c = c.loop-rest.invariant.long
+
+pub returns-in_err-keep-clause-values : goal.returns-in_err-keep-clause-values
+returns-in_err-keep-clause-values g c = c.loop-rest.invariant.values
+
+pub returns-in_err-keep-clause-zeros_stay : goal.returns-in_err-keep-clause-zeros_stay
+returns-in_err-keep-clause-zeros_stay g c = c.loop-rest.invariant.stay
+
+pub returns-clause-length : goal.returns-clause-length
+returns-clause-length g c = c.loop-rest.invariant.long
+
+pub returns-clause-values : goal.returns-clause-values
+returns-clause-values g c = c.loop-rest.invariant.values
+
+pub returns-clause-zeros_stay : goal.returns-clause-zeros_stay
+returns-clause-zeros_stay g c = c.loop-rest.invariant.stay
+
+pub returns-clause-rows : goal.returns-clause-rows
+returns-clause-rows g c = c.loop-rest.invariant.upper
+
+pub returns-clause-together : goal.returns-clause-together
+returns-clause-together g c = c.loop-rest.invariant.together

@@ -1,8 +1,10 @@
-use Rattle.std.proofs.Common.{ap, get_or}
+use Rattle.std.proofs.Common.{◌∙◌, length, ap, arith, get_or, sym}
+use Rattle.std.proofs.lemmas.List.{length-map}
 use Rattle.std.proofs.lemmas.List.Elements.{All-nil, All-push}
 use Rattle.cb_dcsc.specs.Columns.{rows_of}
+use Rattle.cb_matrix.specs.declared.Entry.{Entry}
 use Rattle.cb_product.specs.Terms.{IsTerm, column_sum}
-use Rattle.cb_product.proofs.TermSums.{gathered_start, gathered_more, gathered_none, gathered_all, new_term, v_value}
+use Rattle.cb_product.proofs.TermSums.{lengths, gathered_start, gathered_more, gathered_none, gathered_all, new_term, v_value}
 use Rattle.cb_product.proofs.terms.gather.Goals as goal
 use Rattle.cb_product.proofs.terms.gather.Goals.{then-at-end+in_ok-push, else-at-end}
 
@@ -41,3 +43,32 @@ loop-n-preserved g c =
 pub returns-clause-sums : goal.returns-clause-sums
 returns-clause-sums g c =
     gathered_all g.S.Semiring.arithmetic g.met.S.Semiring.is_semiring c.args.left.now c.requires.matrix _ _ _ c.loop-n.n c.loop-n.invariant.terms c.loop-n-test.false _ c.loop-n.invariant.sums
+
+pub range-at-requires-clause-told : goal.range-at-requires-clause-told
+range-at-requires-clause-told g c = c.requires.told
+
+pub range-at-requires-clause-inside : goal.range-at-requires-clause-inside
+range-at-requires-clause-inside g c = c.requires.inside c.loop-n.n 0 c.loop-n-test.true
+
+pub bounds-left_rows-at : goal.bounds-left_rows-at
+bounds-left_rows-at g c =
+    let long = ap length c.row_numbers-left_rows.ensures ∙ length-map c.args.left.now.entries (λ (e : Entry). e.row) in
+    let some = c.if-at-end.true in
+    let within = c.range-at.ensures.within in
+    omega arith
+
+pub both_ends-requires-clause-some : goal.both_ends-requires-clause-some
+both_ends-requires-clause-some g c = c.if-at-end.true
+
+pub both_ends-requires-clause-within : goal.both_ends-requires-clause-within
+both_ends-requires-clause-within g c =
+    let long = ap length c.row_numbers-left_rows.ensures ∙ length-map c.args.left.now.entries (λ (e : Entry). e.row) in
+    let within = c.range-at.ensures.within in
+    omega arith
+
+pub both_ends-requires-clause-lengths : goal.both_ends-requires-clause-lengths
+both_ends-requires-clause-lengths g c =
+    ap length c.values-left_values.ensures ∙ lengths g.S.Semiring.arithmetic g.met.S.Semiring.is_semiring c.args.left.now c.requires.matrix ∙ sym (ap length c.row_numbers-left_rows.ensures)
+
+pub returns-clause-terms : goal.returns-clause-terms
+returns-clause-terms g c = c.loop-n.invariant.terms

@@ -1,6 +1,7 @@
 use Rattle.std.proofs.Common.{◌≡◌, ◌<◌, ap, ◌∙◌, sym, subst, arith, length, get_or}
 use Rattle.std.specs.Prelude.{All}
 use Rattle.cb_matrix.specs.Sparse.{Sparse, IsMatrix}
+use Rattle.cb_dcsc.proofs.Lookup.{as_long}
 use Rattle.cb_reshape.proofs.PartOfBlock.{columns_begin, columns_more, columns_end, next_before, column_not_zero, in_shape}
 use Rattle.cb_reshape.proofs.parts.moved.Goals as goal
 
@@ -34,3 +35,28 @@ pub returns-clause-entries : goal.returns-clause-entries
 returns-clause-entries g c =
     c.loop-n.invariant.entries
     ∙ ap (λ es. let m : Sparse = record { shape = c.args.shape; entries = es } in m) (columns_end c.args.part c.args.block.now.entries c.requires.matrix.ascending c.args.shape c.column_numbers-columns.result.now c.loop-n.n c.column_numbers-columns.ensures.numbers (λ k m l. c.first_from-last.ensures.from k (let t = c.loop-n-test.false in omega arith) l))
+
+pub first_from-first-requires : goal.first_from-first-requires
+first_from-first-requires g c = c.column_numbers-columns.ensures.ascending
+
+pub first_from-last-requires : goal.first_from-last-requires
+first_from-last-requires g c = c.column_numbers-columns.ensures.ascending
+
+pub append_column-requires-clause-matrix : goal.append_column-requires-clause-matrix
+append_column-requires-clause-matrix g c = c.loop-n.invariant.matrix
+
+pub append_column-requires-clause-column_start : goal.append_column-requires-clause-column_start
+append_column-requires-clause-column_start g c =
+    c.first_from-first.ensures.from c.loop-n.n c.loop-n.auto.n (let t = c.loop-n-test.true in let w = c.first_from-last.ensures.within in omega arith)
+
+pub append_column-requires-clause-column_end : goal.append_column-requires-clause-column_end
+append_column-requires-clause-column_end g c = c.first_from-last.ensures.below c.loop-n.n c.loop-n-test.true
+
+pub append_column-requires-clause-order : goal.append_column-requires-clause-order
+append_column-requires-clause-order g c = c.nth_column.ensures.ascending
+
+pub append_column-requires-clause-lengths : goal.append_column-requires-clause-lengths
+append_column-requires-clause-lengths g c = as_long c.args.block.now.entries _ _ _ c.nth_column.ensures.rows c.nth_column.ensures.values
+
+pub append_column-requires-clause-values : goal.append_column-requires-clause-values
+append_column-requires-clause-values g c = c.nth_column.ensures.are_values

@@ -101,3 +101,53 @@ returns g c =
     let values = c.args.values.now in
     let k = c.args.scale in
     on_ok_weaker c.append-2.result (λ h. joined_all s laws own_rows own_values r.own_lengths r.own_values r.own_order rows values k r.lengths r.values r.order r.scale _ c.loop-x.self _ _ c.loop-x.x c.loop-x.y c.loop-x.invariant.so_far c.in_ok-append.ensures.sum h) c.append-2.ensures.sum
+
+pub keep-requires-clause-after : goal.keep-requires-clause-after
+keep-requires-clause-after g c = c.loop-x.invariant.own_before c.loop-x-test.true
+
+pub keep-requires-clause-value : goal.keep-requires-clause-value
+keep-requires-clause-value g c =
+    let r = c.requires in
+    own_is g.S.Semiring.arithmetic g.met.S.Semiring.is_semiring c.args.own_rows.now c.args.own_values.now r.own_lengths r.own_values r.own_order c.args.rows.now c.args.values.now c.args.scale r.lengths r.values r.order r.scale c.loop-x.x c.loop-x-test.true
+
+pub scaled-requires-clause-value : goal.scaled-requires-clause-value
+scaled-requires-clause-value g c = let l = c.if-y-rows.true in let e = c.requires.lengths in c.requires.values c.loop-x.y 0 (omega arith)
+
+pub scaled-requires-clause-scale : goal.scaled-requires-clause-scale
+scaled-requires-clause-scale g c = c.requires.scale
+
+pub keep-requires-then-row-own_row-clause-after : goal.keep-requires-then-row-own_row-clause-after
+keep-requires-then-row-own_row-clause-after g c = c.loop-x.invariant.before c.if-y-rows.true
+
+pub keep-requires-then-row-own_row-clause-value : goal.keep-requires-then-row-own_row-clause-value
+keep-requires-then-row-own_row-clause-value g c =
+    let r = c.requires in
+    rw c.scaled.ensures (other_is g.S.Semiring.arithmetic g.met.S.Semiring.is_semiring c.args.own_rows.now c.args.own_values.now r.own_lengths r.own_values r.own_order c.args.rows.now c.args.values.now c.args.scale r.lengths r.values r.order r.scale c.loop-x.y c.if-y-rows.true)
+
+pub scaled-requires-else-row-own_row-clause-value : goal.scaled-requires-else-row-own_row-clause-value
+scaled-requires-else-row-own_row-clause-value g c = let l = c.if-y-rows.true in let e = c.requires.lengths in c.requires.values c.loop-x.y 0 (omega arith)
+
+pub scaled-requires-else-row-own_row-clause-scale : goal.scaled-requires-else-row-own_row-clause-scale
+scaled-requires-else-row-own_row-clause-scale g c = c.requires.scale
+
+pub add-requires-clause-left_is_value : goal.add-requires-clause-left_is_value
+add-requires-clause-left_is_value g c = let l = c.loop-x-test.true in let e = c.requires.own_lengths in c.requires.own_values c.loop-x.x 0 (omega arith)
+
+pub add-requires-clause-right_is_value : goal.add-requires-clause-right_is_value
+add-requires-clause-right_is_value g c =
+    let r = c.requires in
+    rw c.scaled-else-row-own_row.ensures (other_is g.S.Semiring.arithmetic g.met.S.Semiring.is_semiring c.args.own_rows.now c.args.own_values.now r.own_lengths r.own_values r.own_order c.args.rows.now c.args.values.now c.args.scale r.lengths r.values r.order r.scale c.loop-x.y c.if-y-rows.true)
+
+pub keep-requires-else-row-own_row-clause-after : goal.keep-requires-else-row-own_row-clause-after
+keep-requires-else-row-own_row-clause-after g c = c.loop-x.invariant.before c.if-y-rows.true
+
+pub keep-requires-else-row-own_row-clause-value : goal.keep-requires-else-row-own_row-clause-value
+keep-requires-else-row-own_row-clause-value g c =
+    let r = c.requires in
+    let laws = g.met.S.Semiring.is_semiring in
+    rw (c.add.ensures, c.scaled-else-row-own_row.ensures) (laws.add_value _ _
+    (own_is g.S.Semiring.arithmetic laws c.args.own_rows.now c.args.own_values.now r.own_lengths r.own_values r.own_order c.args.rows.now c.args.values.now c.args.scale r.lengths r.values r.order r.scale c.loop-x.x c.loop-x-test.true)
+    (other_is g.S.Semiring.arithmetic laws c.args.own_rows.now c.args.own_values.now r.own_lengths r.own_values r.own_order c.args.rows.now c.args.values.now c.args.scale r.lengths r.values r.order r.scale c.loop-x.y c.if-y-rows.true))
+
+pub append-requires-clause-after : goal.append-requires-clause-after
+append-requires-clause-after g c = c.loop-x.invariant.own_before

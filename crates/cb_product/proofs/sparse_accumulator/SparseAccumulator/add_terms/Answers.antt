@@ -1,4 +1,9 @@
-use Rattle.std.proofs.Common.{◌<◌, subst, sym, ◌∙◌}
+use Rattle.std.proofs.Common.{◌<◌, length, subst, sym, ◌∙◌}
+use Rattle.std.specs.Prelude.{All}
+use Rattle.std.proofs.lemmas.List.Elements.{All-take, All-drop, All-get_or}
+use Rattle.cb_semirings.specs.Arithmetic.{IsValue}
+use Rattle.cb_product.specs.declared.terms.Term.{Term}
+use Rattle.cb_product.specs.Terms.{IsTerm}
 use Rattle.cb_product.proofs.TermSums.{term_added, terms_added}
 use Rattle.cb_product.proofs.sparse_accumulator.SparseAccumulator.add_terms.Goals as goal
 
@@ -17,3 +22,26 @@ pub returns-clause-sums : goal.returns-clause-sums
 returns-clause-sums g c =
     let inv = c.loop-term.invariant in
     λ i li. terms_added g.S.Semiring.arithmetic g.met.S.Semiring.is_semiring c.args.rows.now c.args.values.now c.requires.values c.args.terms.now c.loop-term.term-index c.loop-term.self _ c.loop-term-test.false inv.values inv.sums i (subst (λ m. i < m) (sym inv.long) li)
+
+pub add-requires-clause-values : goal.add-requires-clause-values
+add-requires-clause-values g c = All-take (IsValue g.S.Semiring.arithmetic) _ _ (All-drop (IsValue g.S.Semiring.arithmetic) _ _ c.requires.values)
+
+pub add-requires-clause-order : goal.add-requires-clause-order
+add-requires-clause-order g c =
+    let d : Term = record { row = 0; at = 0; end = 0; scale = 0; ends = 0 } in
+    let term = All-get_or (IsTerm g.S.Semiring.arithmetic c.args.rows.now) c.args.terms.now c.loop-term.term-index d c.loop-term-test.true c.requires.terms in
+    term.ascending
+
+pub add-requires-clause-scale : goal.add-requires-clause-scale
+add-requires-clause-scale g c =
+    let d : Term = record { row = 0; at = 0; end = 0; scale = 0; ends = 0 } in
+    let term = All-get_or (IsTerm g.S.Semiring.arithmetic c.args.rows.now) c.args.terms.now c.loop-term.term-index d c.loop-term-test.true c.requires.terms in
+    term.scale
+
+pub add-requires-clause-inside : goal.add-requires-clause-inside
+add-requires-clause-inside g c =
+    let inside = subst (λ n. All (λ i. i < n) c.args.rows.now) (sym c.loop-term.invariant.long) c.requires.inside in
+    All-take (λ i. i < length c.loop-term.self) _ _ (All-drop (λ i. i < length c.loop-term.self) _ _ inside)
+
+pub returns-clause-length : goal.returns-clause-length
+returns-clause-length g c = c.loop-term.invariant.long

@@ -1,5 +1,5 @@
-use Rattle.std.proofs.Common.{◌+◌, refl, drop, get_or}
-use Rattle.std.proofs.lemmas.List.Elements.{All-take, All-drop, All-get_or}
+use Rattle.std.proofs.Common.{◌+◌, ◌<◌, refl, drop, get_or}
+use Rattle.std.proofs.lemmas.List.Elements.{All-nil, All-take, All-drop, All-get_or}
 use Rattle.cb_semirings.specs.Arithmetic.{IsValue}
 use Rattle.cb_dcsc.specs.Columns.{rows_of, values_of}
 use Rattle.cb_dcsc.proofs.Lookup.{all_values}
@@ -48,3 +48,36 @@ returns-clause-column g c =
     let laws = g.met.S.Semiring.is_semiring in
     let a = c.args.left.now in
     so_far_all s laws _ _ _ c.loop-term.invariant.so_far (λ i. terms_value-end s laws (rows_of a.entries) (values_of a.entries) (matrix_values s laws a c.requires.left) i c.loop-term.term-index c.args.terms.now c.loop-term-test.false)
+
+pub append-requires-clause-lengths : goal.append-requires-clause-lengths
+append-requires-clause-lengths g c = c.requires.own.same_length
+
+pub append-requires-clause-values : goal.append-requires-clause-values
+append-requires-clause-values g c = c.requires.own.are_values
+
+pub append-requires-clause-order : goal.append-requires-clause-order
+append-requires-clause-order g c = c.requires.own.ascending
+
+pub append-requires-clause-after : goal.append-requires-clause-after
+append-requires-clause-after g c = λ l. rw c.clear.ensures (All-nil (λ i. i < get_or c.args.own_rows.now 0 0))
+
+pub join-requires-clause-own_lengths : goal.join-requires-clause-own_lengths
+join-requires-clause-own_lengths g c = rw (c.entries.ensures.rows, c.entries.ensures.values) c.entries.ensures.column.same_length
+
+pub join-requires-clause-own_values : goal.join-requires-clause-own_values
+join-requires-clause-own_values g c = rw c.entries.ensures.values c.entries.ensures.column.are_values
+
+pub join-requires-clause-own_order : goal.join-requires-clause-own_order
+join-requires-clause-own_order g c = rw c.entries.ensures.rows c.entries.ensures.column.ascending
+
+pub join-requires-clause-order : goal.join-requires-clause-order
+join-requires-clause-order g c =
+    let d : Term = record { row = 0; at = 0; end = 0; scale = 0; ends = 0 } in
+    let term = All-get_or (IsTerm g.S.Semiring.arithmetic (rows_of c.args.left.now.entries)) c.args.terms.now c.loop-term.term-index d c.loop-term-test.true c.requires.terms in
+    rw c.row_numbers-rows.ensures term.ascending
+
+pub join-requires-clause-scale : goal.join-requires-clause-scale
+join-requires-clause-scale g c =
+    let d : Term = record { row = 0; at = 0; end = 0; scale = 0; ends = 0 } in
+    let term = All-get_or (IsTerm g.S.Semiring.arithmetic (rows_of c.args.left.now.entries)) c.args.terms.now c.loop-term.term-index d c.loop-term-test.true c.requires.terms in
+    term.scale
