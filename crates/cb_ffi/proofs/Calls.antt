@@ -1,16 +1,12 @@
--- What a call answers, from what its parts answer.
+-- What C gets of a call, from what is answered.
 use Rattle.std.proofs.Common.{◌≡◌, ◌≢◌, ℕ, sym, subst, arith}
 use Rattle.std.specs.Prelude.{Option, Result, Ok, Err, IfOk, IfErr}
-use Rattle.cb_ffi.specs.declared.faults.Fault.{Fault}
-use Rattle.cb_ffi.specs.declared.faults.Fault.TheVariants.{Semiring, Grid, Test, Form, TooLarge, Lengths, Order, Place, Value, Shapes, NotSquare, Source, Text, Memory, Mixed}
-use Rattle.cb_ffi.specs.Refusals.{code_of}
-use Rattle.cb_ffi.specs.Answers.{NoFault, IsAnswer, IsCall, IsFaultLine, IsLine}
+use Rattle.cb_interop.specs.declared.faults.Fault.{Fault}
+use Rattle.cb_interop.specs.declared.faults.Fault.TheVariants.{Semiring, Grid, Test, Form, TooLarge, Lengths, Order, Place, Value, Shapes, NotSquare, Source, Text, Memory, Mixed}
+use Rattle.cb_interop.specs.Refusals.{code_of}
+use Rattle.cb_interop.specs.Answers.{IsAnswer, IsFaultLine}
+use Rattle.cb_ffi.specs.Calls.{IsCall, IsLine}
 use Rattle.cb_market.specs.declared.ReadFault.{ReadFault}
-
--- the answer of a call whose three parts are proved
-pub answered : {X : Type 0} (faults : Fault → Type 0) (is : X → Type 0) (r : Result X Fault) → IfErr r faults → IfOk r (λ _. NoFault faults) → IfOk r is → IsAnswer faults is r
-answered faults is (Ok x) h k m = (k, m)
-answered faults is (Err f) h k m = h
 
 -- the answer as C gets it
 pub call_of : {X : Type 0} (faults : Fault → Type 0) (is : X → Type 0) (r : Result X Fault) (code : ℕ) (old new : X) → IsAnswer faults is r

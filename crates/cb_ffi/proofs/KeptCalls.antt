@@ -1,13 +1,14 @@
 -- What C gets of a call that keeps a matrix.
 use Rattle.std.proofs.Common.{◌≡◌, ◌≢◌, ℕ, sym, subst, ⊎_elim, arith}
 use Rattle.std.specs.Prelude.{Option, Result, Ok, Err, IfOk, IfErr}
-use Rattle.cb_ffi.specs.declared.faults.Fault.{Fault}
-use Rattle.cb_ffi.specs.declared.faults.Fault.TheVariants.{Semiring, Grid, Test, Form, TooLarge, Lengths, Order, Place, Value, Shapes, NotSquare, Source, Text, Memory, Mixed}
-use Rattle.cb_ffi.specs.declared.kept.Kept.{Kept}
+use Rattle.cb_interop.specs.declared.faults.Fault.{Fault}
+use Rattle.cb_interop.specs.declared.faults.Fault.TheVariants.{Semiring, Grid, Test, Form, TooLarge, Lengths, Order, Place, Value, Shapes, NotSquare, Source, Text, Memory, Mixed}
+use Rattle.cb_interop.specs.declared.kept.Kept.{Kept}
 use Rattle.cb_ffi.specs.declared.handles.Owned.{Owned}
-use Rattle.cb_ffi.specs.Refusals.{code_of}
-use Rattle.cb_ffi.specs.Answers.{IsAnswer, IsFaultLine, IsLine}
-use Rattle.cb_ffi.specs.KeptAnswers.{HasHandedOut, IsKeptCall}
+use Rattle.cb_interop.specs.Refusals.{code_of}
+use Rattle.cb_interop.specs.Answers.{IsAnswer, IsFaultLine}
+use Rattle.cb_ffi.specs.Calls.{IsLine}
+use Rattle.cb_ffi.specs.KeptCalls.{HasHandedOut, IsKeptCall}
 use Rattle.cb_market.specs.declared.ReadFault.{ReadFault}
 
 -- the answer as C gets it: memory may be refused for the matrix itself

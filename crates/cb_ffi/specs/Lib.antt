@@ -1,14 +1,4 @@
--- Lists: a matrix in compressed columns, which lists are well formed and what matrix they are.
--- Refusals: why a call has no answer. Answers: what a call answers.
--- Kept: matrices that are kept. Handles: how C holds them. KeptAnswers: what a call on them answers.
--- Triples: matrices of triples. KeptTexts: texts and searches of matrices that are kept. KeptGraphs: parents, components
--- and triangles of graphs that are.
-pub mod Lists
-pub mod Refusals
-pub mod Answers
-pub mod Kept
+-- Calls: what C gets of a call. Handles: how C holds a matrix that is kept. KeptCalls: what C gets of a call that keeps one.
+pub mod Calls
 pub mod Handles
-pub mod KeptAnswers
-pub mod Triples
-pub mod KeptTexts
-pub mod KeptGraphs
+pub mod KeptCalls

@@ -4,9 +4,9 @@
 //! when no call uses it any more. That it does so is the one thing that no proof can see.
 ghost use Rattle.std.specs.Prelude.{◌≡◌, Option, Some, IsSome};
 ghost use Rattle.std.specs.Borrow.{Bor, MutBor};
-ghost use Rattle.cb_ffi.specs.declared.kept.Kept.{Kept as KeptValue};
+ghost use Rattle.cb_interop.specs.declared.kept.Kept.{Kept as KeptValue};
 
-use crate::kept::Kept;
+use cb_interop::Kept;
 use std::marker::Model;
 
 /// A matrix that is C's own, or a place for one.

@@ -20,54 +20,33 @@
 ghost use Rattle.std.specs.Prelude.{◌≡◌, ◌≢◌, [], ◌∷◌, length, Some, IfSome, IsSome, IfOk, IfErr};
 ghost use Rattle.cb_semirings.specs.Tables.{min_plus, or_and};
 ghost use Rattle.cb_semirings.specs.Names.{arithmetic_of, numbered};
+ghost use Rattle.cb_semirings.specs.declared.names.SemiringName.TheVariants as name_is;
 ghost use Rattle.cb_matrix.specs.Sparse.{at};
 ghost use Rattle.cb_operations.specs.declared.operations.Operation.TheVariants as operation_is;
 ghost use Rattle.cb_operations.specs.OperationAnswers.{operand_count_of};
-ghost use Rattle.cb_ffi.specs.Refusals.{code_of, IsMemory, over, Over, first_over, graph_faults, read_faults, text_faults};
-ghost use Rattle.cb_ffi.specs.Lists.{HasLists};
-ghost use Rattle.cb_ffi.specs.Answers.{prune_of, HasDistances, HasLevels, IsCall, IsLine, IsOperationCall, IsRead, IsTextOf};
-ghost use Rattle.cb_ffi.specs.Kept.{lent_in, matrix_in, semiring_of};
-ghost use Rattle.cb_semirings.specs.declared.names.SemiringName.TheVariants as name_is;
-ghost use Rattle.cb_ffi.specs.Triples.{IsTriplesCall};
+ghost use Rattle.cb_serial.specs.Lent.{lent_in};
 ghost use Rattle.cb_graphs.specs.Triangles.{triangle_count, stopped};
-ghost use Rattle.cb_ffi.specs.KeptGraphs.{square_faults, IsKeptComponents, IsKeptParents};
-ghost use Rattle.cb_ffi.specs.KeptTexts.{search_faults, IsKeptDistances, IsKeptLevels, IsKeptText, IsReadCall};
-ghost use Rattle.cb_ffi.specs.KeptAnswers.{HasHandedOut, IsKeepCall, IsKeptCall, IsKeptOperation, IsSummary};
+ghost use Rattle.cb_interop.specs.Lists.{HasLists};
+ghost use Rattle.cb_interop.specs.Refusals.{code_of, IsMemory, over, Over, first_over, graph_faults, read_faults, text_faults};
+ghost use Rattle.cb_interop.specs.Answers.{prune_of, HasDistances, HasLevels, IsRead, IsTextOf};
+ghost use Rattle.cb_interop.specs.Kept.{matrix_in, semiring_of};
+ghost use Rattle.cb_interop.specs.KeptAnswers.{IsSummary};
+ghost use Rattle.cb_interop.specs.KeptGraphs.{square_faults, IsKeptComponents, IsKeptParents};
+ghost use Rattle.cb_interop.specs.KeptTexts.{search_faults, IsKeptDistances, IsKeptLevels, IsKeptText};
+ghost use Rattle.cb_ffi.specs.Calls.{IsCall, IsLine, IsOperationCall};
+ghost use Rattle.cb_ffi.specs.KeptCalls.{HasHandedOut, IsKeepCall, IsKeptCall, IsKeptOperation, IsReadCall, IsTriplesCall};
 
-mod checks;
-mod faults;
 mod handles;
-mod incoming;
-mod keeping;
-mod kept;
-mod kept_checks;
-mod kept_graphs;
-mod kept_lists;
-mod kept_operations;
-mod kept_texts;
-mod kept_values;
-mod kept_walks;
-mod lists;
-mod outgoing;
-mod requests;
-#[cfg(test)]
-mod tests;
-mod texts;
-mod triples;
-mod walks;
 
+use cb_interop::{
+    Columns, Fault, Kept, Summary, Text, Triple, answer, distances, keep_lists, keep_triples,
+    kept_components, kept_distances, kept_levels, kept_parents, kept_triangles, levels, lists_of,
+    operate, prune_of, read_kept, read_lists, summary_of, text_of, text_of_lists, value_at,
+};
 use cb_operations::Operation;
-pub use faults::Fault;
 pub use handles::{Lent, Owned};
 use handles::{borrowed, hand_out, take_back};
-use kept::Kept;
-use kept_operations::operate;
-pub use kept_values::Summary;
-pub use lists::Columns;
-use requests::{answer, prune_of};
 use std::alloc::Global;
-pub use texts::Text;
-pub use triples::Triple;
 
 /// Puts an answer, or answers the number of the fault.
 fn put<T: Copy>(out: &mut T, answer: Result<T, Fault>) -> u32
@@ -283,7 +262,7 @@ pub extern "C" fn cbgrid_kernel_levels(
 ) -> u32
     ensures { IsCall (graph_faults or_and grid graph.now source) (HasLevels graph.now source) result out.old out.new }
 {
-    put(out, walks::levels(alloc, grid, graph, source))
+    put(out, levels(alloc, grid, graph, source))
 }
 
 /// The distance of each vertex of a graph from a source: the least sum of the values of a walk's entries, of a square
@@ -299,7 +278,7 @@ pub extern "C" fn cbgrid_kernel_distances(
 ) -> u32
     ensures { IsCall (graph_faults min_plus grid graph.now source) (HasDistances graph.now source) result out.old out.new }
 {
-    put(out, walks::distances(alloc, grid, graph, source))
+    put(out, distances(alloc, grid, graph, source))
 }
 
 /// The matrix that a Matrix Market text reads as, over the semiring of a number. Where the text has a fault (code 13)
@@ -315,7 +294,7 @@ pub extern "C" fn cbgrid_kernel_read(
     ensures call { IsCall (over (numbered semiring) (λ s. read_faults s text.now)) (λ c. Over (numbered semiring) (λ s. IsRead s text.now c)) result out.old out.new }
     ensures line { IsLine (first_over (numbered semiring) text.now) result line.old line.new }
 {
-    put(out, texts::read_in(alloc, semiring, text, line))
+    put(out, read_lists(alloc, semiring, text, line))
 }
 
 /// The Matrix Market text of a matrix, over the semiring of a number.
@@ -328,7 +307,7 @@ pub extern "C" fn cbgrid_kernel_text(
 ) -> u32
     ensures { IsCall (over (numbered semiring) (λ s. text_faults s a.now)) (λ t. Over (numbered semiring) (λ s. IsTextOf s a.now t)) result out.old out.new }
 {
-    put(out, texts::text_in(alloc, semiring, a))
+    put(out, text_of_lists(alloc, semiring, a))
 }
 
 /// Keeps the matrix of lists, over the semiring of a number. Its entries are copied once.
@@ -341,7 +320,7 @@ pub extern "C" fn cbgrid_kernel_keep(
 ) -> u32
     ensures { IsKeepCall semiring a.now result out.old out.new }
 {
-    put_kept(alloc, out, kept_lists::of_columns(alloc, semiring, a))
+    put_kept(alloc, out, keep_lists(alloc, semiring, a))
 }
 
 /// Keeps the product of two matrices that are kept.
@@ -448,7 +427,7 @@ pub extern "C" fn cbgrid_kernel_kept_levels(
 ) -> u32
     ensures { IsKeptCall (search_faults name_is.OrAnd a.kept.now source) (IsKeptLevels (matrix_in a.kept.now) source) result out.old out.new }
 {
-    let answer = kept_walks::kept_levels(alloc, borrowed(a), source);
+    let answer = kept_levels(alloc, borrowed(a), source);
     put_kept(alloc, out, answer)
 }
 
@@ -462,7 +441,7 @@ pub extern "C" fn cbgrid_kernel_kept_distances(
 ) -> u32
     ensures { IsKeptCall (search_faults name_is.MinPlus a.kept.now source) (IsKeptDistances (matrix_in a.kept.now) source) result out.old out.new }
 {
-    let answer = kept_walks::kept_distances(alloc, borrowed(a), source);
+    let answer = kept_distances(alloc, borrowed(a), source);
     put_kept(alloc, out, answer)
 }
 
@@ -478,7 +457,7 @@ pub extern "C" fn cbgrid_kernel_keep_triples(
 ) -> u32
     ensures { IsTriplesCall semiring nrows ncols triples.now result out.old out.new }
 {
-    let answer = triples::of_triples(alloc, semiring, nrows, ncols, triples);
+    let answer = keep_triples(alloc, semiring, nrows, ncols, triples);
     put_kept(alloc, out, answer)
 }
 
@@ -495,7 +474,7 @@ pub extern "C" fn cbgrid_kernel_kept_read(
     ensures call { IsReadCall semiring text.now result out.old out.new }
     ensures line { IsLine (first_over (numbered semiring) text.now) result line.old line.new }
 {
-    let answer = kept_texts::read_kept(alloc, semiring, text, line);
+    let answer = read_kept(alloc, semiring, text, line);
     put_kept(alloc, out, answer)
 }
 
@@ -504,7 +483,7 @@ pub extern "C" fn cbgrid_kernel_kept_read(
 pub extern "C" fn cbgrid_kernel_kept_text(alloc: Global, a: Lent, out: &mut Text) -> u32
     ensures { IsCall IsMemory (IsKeptText (arithmetic_of (semiring_of a.kept.now)) a.kept.now) result out.old out.new }
 {
-    put(out, kept_texts::text_of(alloc, borrowed(a)))
+    put(out, text_of(alloc, borrowed(a)))
 }
 
 /// The lists of a matrix that is kept: a copy, which is given away.
@@ -512,7 +491,7 @@ pub extern "C" fn cbgrid_kernel_kept_text(alloc: Global, a: Lent, out: &mut Text
 pub extern "C" fn cbgrid_kernel_kept_lists(alloc: Global, a: Lent, out: &mut Columns) -> u32
     ensures { IsCall IsMemory (HasLists (matrix_in a.kept.now)) result out.old out.new }
 {
-    put(out, kept_lists::lists_of(alloc, borrowed(a)))
+    put(out, lists_of(alloc, borrowed(a)))
 }
 
 /// Keeps the least parent of each vertex in a search from a source, of a graph that is kept over or-and: a column over
@@ -526,7 +505,7 @@ pub extern "C" fn cbgrid_kernel_kept_parents(
 ) -> u32
     ensures { IsKeptCall (search_faults name_is.OrAnd a.kept.now source) (IsKeptParents (matrix_in a.kept.now) source) result out.old out.new }
 {
-    let answer = kept_graphs::kept_parents(alloc, borrowed(a), source);
+    let answer = kept_parents(alloc, borrowed(a), source);
     put_kept(alloc, out, answer)
 }
 
@@ -536,7 +515,7 @@ pub extern "C" fn cbgrid_kernel_kept_parents(
 pub extern "C" fn cbgrid_kernel_kept_components(alloc: Global, a: Lent, out: &mut Owned) -> u32
     ensures { IsKeptCall (square_faults a.kept.now) (IsKeptComponents (matrix_in a.kept.now)) result out.old out.new }
 {
-    let answer = kept_graphs::kept_components(alloc, borrowed(a));
+    let answer = kept_components(alloc, borrowed(a));
     put_kept(alloc, out, answer)
 }
 
@@ -545,7 +524,7 @@ pub extern "C" fn cbgrid_kernel_kept_components(alloc: Global, a: Lent, out: &mu
 pub extern "C" fn cbgrid_kernel_kept_triangles(alloc: Global, a: Lent, out: &mut u64) -> u32
     ensures { IsCall (square_faults a.kept.now) (λ n. n ≡ stopped (triangle_count (matrix_in a.kept.now))) result out.old out.new }
 {
-    put(out, kept_graphs::kept_triangles(alloc, borrowed(a)))
+    put(out, kept_triangles(alloc, borrowed(a)))
 }
 
 /// The shape of a matrix that is kept, its semiring, and how many entries it has.
@@ -553,7 +532,7 @@ pub extern "C" fn cbgrid_kernel_kept_triangles(alloc: Global, a: Lent, out: &mut
 pub extern "C" fn cbgrid_kernel_kept_summary(a: Lent, out: &mut Summary)
     ensures { IsSummary a.kept.now out.new }
 {
-    *out = kept_values::summary_of(borrowed(a));
+    *out = summary_of(borrowed(a));
 }
 
 /// The value of a matrix that is kept at a place: the semiring's zero where there is no entry, and outside its shape.
@@ -561,7 +540,7 @@ pub extern "C" fn cbgrid_kernel_kept_summary(a: Lent, out: &mut Summary)
 pub extern "C" fn cbgrid_kernel_kept_value(a: Lent, row: u32, column: u32) -> u64
     ensures { result ≡ at (arithmetic_of (semiring_of a.kept.now)) (matrix_in a.kept.now) row column }
 {
-    kept_values::value_at(borrowed(a), row, column)
+    value_at(borrowed(a), row, column)
 }
 
 /// Gives the lists of a matrix that was kept back to the heap. What is left is the block at the pointer, which is the caller's

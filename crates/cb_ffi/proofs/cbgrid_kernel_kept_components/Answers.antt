@@ -1,9 +1,9 @@
 use Rattle.std.proofs.Common.{subst}
 use Rattle.std.specs.Borrow.{Bor}
-use Rattle.cb_ffi.specs.declared.kept.Kept.{Kept}
-use Rattle.cb_ffi.specs.Kept.{matrix_in}
-use Rattle.cb_ffi.specs.KeptGraphs.{square_faults, IsKeptComponents}
-use Rattle.cb_ffi.specs.KeptAnswers.{IsKeptCall}
+use Rattle.cb_interop.specs.declared.kept.Kept.{Kept}
+use Rattle.cb_interop.specs.Kept.{matrix_in}
+use Rattle.cb_interop.specs.KeptGraphs.{square_faults, IsKeptComponents}
+use Rattle.cb_ffi.specs.KeptCalls.{IsKeptCall}
 use Rattle.cb_ffi.proofs.KeptCalls.{kept_call_of}
 use Rattle.cb_ffi.proofs.cbgrid_kernel_kept_components.Goals as goal
 

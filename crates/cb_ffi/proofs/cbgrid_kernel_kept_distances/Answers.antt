@@ -1,10 +1,10 @@
 use Rattle.std.proofs.Common.{subst}
 use Rattle.std.specs.Borrow.{Bor}
 use Rattle.cb_semirings.specs.declared.names.SemiringName.TheVariants as name_is
-use Rattle.cb_ffi.specs.declared.kept.Kept.{Kept}
-use Rattle.cb_ffi.specs.Kept.{matrix_in}
-use Rattle.cb_ffi.specs.KeptTexts.{search_faults, IsKeptDistances}
-use Rattle.cb_ffi.specs.KeptAnswers.{IsKeptCall}
+use Rattle.cb_interop.specs.declared.kept.Kept.{Kept}
+use Rattle.cb_interop.specs.Kept.{matrix_in}
+use Rattle.cb_interop.specs.KeptTexts.{search_faults, IsKeptDistances}
+use Rattle.cb_ffi.specs.KeptCalls.{IsKeptCall}
 use Rattle.cb_ffi.proofs.KeptCalls.{kept_call_of}
 use Rattle.cb_ffi.proofs.cbgrid_kernel_kept_distances.Goals as goal
 

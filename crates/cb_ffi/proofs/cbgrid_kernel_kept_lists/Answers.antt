@@ -1,10 +1,10 @@
 use Rattle.std.proofs.Common.{subst}
 use Rattle.std.specs.Borrow.{Bor}
-use Rattle.cb_ffi.specs.declared.kept.Kept.{Kept}
-use Rattle.cb_ffi.specs.Kept.{matrix_in}
-use Rattle.cb_ffi.specs.Lists.{HasLists}
-use Rattle.cb_ffi.specs.Refusals.{IsMemory}
-use Rattle.cb_ffi.specs.Answers.{IsCall}
+use Rattle.cb_interop.specs.declared.kept.Kept.{Kept}
+use Rattle.cb_interop.specs.Kept.{matrix_in}
+use Rattle.cb_interop.specs.Lists.{HasLists}
+use Rattle.cb_interop.specs.Refusals.{IsMemory}
+use Rattle.cb_ffi.specs.Calls.{IsCall}
 use Rattle.cb_ffi.proofs.Calls.{call_of}
 use Rattle.cb_ffi.proofs.cbgrid_kernel_kept_lists.Goals as goal
 

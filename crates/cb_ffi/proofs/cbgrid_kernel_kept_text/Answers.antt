@@ -1,11 +1,11 @@
 use Rattle.std.proofs.Common.{subst}
 use Rattle.std.specs.Borrow.{Bor}
 use Rattle.cb_semirings.specs.Names.{arithmetic_of}
-use Rattle.cb_ffi.specs.declared.kept.Kept.{Kept}
-use Rattle.cb_ffi.specs.Kept.{semiring_of}
-use Rattle.cb_ffi.specs.KeptTexts.{IsKeptText}
-use Rattle.cb_ffi.specs.Refusals.{IsMemory}
-use Rattle.cb_ffi.specs.Answers.{IsCall}
+use Rattle.cb_interop.specs.declared.kept.Kept.{Kept}
+use Rattle.cb_interop.specs.Kept.{semiring_of}
+use Rattle.cb_interop.specs.KeptTexts.{IsKeptText}
+use Rattle.cb_interop.specs.Refusals.{IsMemory}
+use Rattle.cb_ffi.specs.Calls.{IsCall}
 use Rattle.cb_ffi.proofs.Calls.{call_of}
 use Rattle.cb_ffi.proofs.cbgrid_kernel_kept_text.Goals as goal
 

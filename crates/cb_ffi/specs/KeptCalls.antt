@@ -1,0 +1,47 @@
+-- What C gets of a call that keeps a matrix.
+use Rattle.std.specs.Prelude.{◌≡◌, ℕ, ◌⊎◌, List, Option, Some}
+use Rattle.std.specs.Borrow.{MutBor}
+use Rattle.cb_semirings.specs.Names.{arithmetic_of, numbered}
+use Rattle.cb_operations.specs.declared.operations.Operation.{Operation}
+use Rattle.cb_interop.specs.declared.lists.Columns.{Columns}
+use Rattle.cb_interop.specs.declared.triples.Triple.{Triple}
+use Rattle.cb_interop.specs.declared.faults.Fault.{Fault}
+use Rattle.cb_interop.specs.declared.faults.Fault.TheVariants.{Memory}
+use Rattle.cb_interop.specs.declared.kept.Kept.{Kept}
+use Rattle.cb_interop.specs.Refusals.{code_of, over, read_faults, text_faults}
+use Rattle.cb_interop.specs.KeptAnswers.{kept_faults, HasMadeKept, OverName, IsKeptOf}
+use Rattle.cb_interop.specs.Triples.{triple_faults, IsKeptTriples}
+use Rattle.cb_interop.specs.KeptTexts.{IsKeptRead}
+use Rattle.cb_ffi.specs.declared.handles.Owned.{Owned}
+use Rattle.cb_ffi.specs.Calls.{IsCall}
+
+-- C has got a matrix, and it is one of these
+abbrev pub Has : (Kept → Type 0) → Owned → Type 0
+Has is owned = (k : MutBor Kept) × (owned.kept ≡ Some k) × is k.now
+
+-- what C gets of a call that keeps a matrix: it owns one that is right, or has the number of the first fault and what it had
+abbrev pub IsKeptCall : (Fault → Type 0) → (Kept → Type 0) → ℕ → Owned → Owned → Type 0
+IsKeptCall faults is code old new = IsCall faults (Has is) code old new
+
+-- the same of an operation on matrices that are kept
+unfoldable pub IsKeptOperation : Option Operation → List Kept → ℕ → Owned → Owned → Type 0
+IsKeptOperation operation ks code old new = IsKeptCall (kept_faults operation ks) (HasMadeKept operation ks) code old new
+
+-- C has got this matrix; or memory for it was refused, and C has what it had
+abbrev pub HasHandedOut : ℕ → Owned → Owned → Kept → Type 0
+HasHandedOut code old new k = ((code ≡ 0) × Has (λ x. x ≡ k) new) ⊎ ((code ≡ code_of Memory) × (new ≡ old))
+
+-- what C gets of the call that keeps the matrix of lists, over the semiring of a number
+abbrev pub IsKeepCall : ℕ → Columns → ℕ → Owned → Owned → Type 0
+IsKeepCall semiring a code old new =
+    IsKeptCall (over (numbered semiring) (λ s. text_faults s a)) (λ k. OverName (numbered semiring) (λ n. IsKeptOf (arithmetic_of n) n a k)) code old new
+
+-- the same of triples
+abbrev pub IsTriplesCall : ℕ → ℕ → ℕ → List Triple → ℕ → Owned → Owned → Type 0
+IsTriplesCall semiring nrows ncols ts code old new =
+    IsKeptCall (over (numbered semiring) (λ s. triple_faults s nrows ncols ts)) (λ k. OverName (numbered semiring) (λ n. IsKeptTriples (arithmetic_of n) n nrows ncols ts k)) code old new
+
+-- the same of a text
+abbrev pub IsReadCall : ℕ → List ℕ → ℕ → Owned → Owned → Type 0
+IsReadCall semiring text code old new =
+    IsKeptCall (over (numbered semiring) (λ s. read_faults s text)) (λ k. OverName (numbered semiring) (λ n. IsKeptRead (arithmetic_of n) n text k)) code old new

@@ -1,0 +1,43 @@
+-- What a call on matrices that are kept answers.
+use Rattle.std.specs.Prelude.{◌≡◌, List, length, map, Option, Some, None}
+use Rattle.cb_semirings.specs.Arithmetic.{Arithmetic}
+use Rattle.cb_semirings.specs.declared.names.SemiringName.{SemiringName}
+use Rattle.cb_semirings.specs.Names.{arithmetic_of, numbered}
+use Rattle.cb_operations.specs.declared.operations.Operation.{Operation}
+use Rattle.cb_operations.specs.OperationAnswers.{Agree, answer_of, shapes_in}
+use Rattle.cb_interop.specs.declared.faults.Fault.{Fault}
+use Rattle.cb_interop.specs.declared.faults.Fault.TheVariants.{Test, Mixed, Shapes}
+use Rattle.cb_interop.specs.declared.kept.Kept.{Kept}
+use Rattle.cb_interop.specs.declared.kept_values.Summary.{Summary}
+use Rattle.cb_interop.specs.declared.lists.Columns.{Columns}
+use Rattle.cb_interop.specs.Lists.{matrix_of}
+use Rattle.cb_interop.specs.Kept.{Keeps, semiring_of, semiring_in, matrix_in, AreOver}
+use Rattle.cb_interop.specs.Refusals.{Unless, IsMemory}
+
+-- the faults of an operation on matrices that are kept: no test has the number of a prune, they are over other semirings
+-- than one another, or their shapes don't agree
+unfoldable pub kept_faults : Option Operation → List Kept → Fault → Type 0
+kept_faults None ks = λ f. f ≡ Test
+kept_faults (Some operation) ks =
+    Unless (AreOver (semiring_in ks) ks) Mixed (Unless (Agree operation (shapes_in (map matrix_in ks))) Shapes IsMemory)
+
+-- what an operation makes of matrices that are kept, over their semiring
+abbrev pub HasMadeKept : Option Operation → List Kept → Kept → Type 0
+HasMadeKept None ks k = ⊥
+HasMadeKept (Some operation) ks k = Keeps (semiring_in ks) (answer_of operation (arithmetic_of (semiring_in ks)) (map matrix_in ks)) k
+
+-- what holds over the semiring of a number, by its name, and over none
+abbrev pub OverName : Option SemiringName → (SemiringName → Type 0) → Type 0
+OverName None P = ⊥
+OverName (Some name) P = P name
+
+-- the matrix of lists, kept over a semiring and its name
+abbrev pub IsKeptOf : Arithmetic → SemiringName → Columns → Kept → Type 0
+IsKeptOf s name a k = Keeps name (matrix_of s a) k
+
+-- the shape, the semiring's number and how many entries
+pub record IsSummary (k : Kept) (summary : Summary) : Type 0 where
+  pub rows : summary.nrows ≡ (matrix_in k).shape.rows
+  pub cols : summary.ncols ≡ (matrix_in k).shape.cols
+  pub semiring : numbered summary.semiring ≡ Some (semiring_of k)
+  pub entries : summary.entries ≡ length (matrix_in k).entries

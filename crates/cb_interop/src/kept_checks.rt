@@ -1,0 +1,67 @@
+//! The faults of a call on matrices that are kept: each is well formed, so that they have to agree with one another alone.
+ghost use Rattle.std.specs.Prelude.{◌≡◌, ◌↔◌, IsTrue, length, map, All, Some, IfSome, IfNone, IfOk, IfErr};
+ghost use Rattle.cb_operations.specs.OperationAnswers.{operand_count_of, Agree, shapes_in};
+ghost use Rattle.std.specs.Borrow.{Bor};
+ghost use Rattle.cb_interop.specs.declared.kept.Kept.{Kept as KeptValue};
+ghost use Rattle.cb_serial.specs.Lent.{lent_in};
+ghost use Rattle.cb_interop.specs.Kept.{AreOver, semiring_of, semiring_in, matrix_in};
+ghost use Rattle.cb_interop.specs.KeptAnswers.{kept_faults};
+
+use crate::faults::Fault;
+use crate::kept::Kept;
+use cb_matrix::Shape;
+use cb_operations::Operation;
+use cb_semirings::SemiringName;
+
+/// Whether a matrix is over a semiring.
+fn is_over(kept: &Kept, semiring: SemiringName) -> bool
+    ensures { IsTrue result ↔ (semiring_of kept.now ≡ semiring) }
+{
+    kept.semiring() == semiring
+}
+
+/// Whether all matrices are over a semiring.
+fn are_over(semiring: SemiringName, operands: &[&Kept]) -> bool
+    ensures { IsTrue result ↔ All (λ (k : Bor KeptValue). semiring_of k.now ≡ semiring) operands.now }
+{
+    operands.iter().all(|kept| is_over(kept, semiring))
+}
+
+/// The shape of what an operation makes of matrices, or none where their shapes don't agree.
+fn made_shape(operation: Operation, operands: &[&Kept]) -> Option<Shape>
+    requires { length operands.now ≡ operand_count_of operation }
+    ensures agree { IfSome result (λ _. Agree operation (shapes_in (map matrix_in (lent_in operands.now)))) }
+    ensures none { IfNone result (¬ Agree operation (shapes_in (map matrix_in (lent_in operands.now)))) }
+{
+    match operands {
+        [a] => operation.shape_of(&[a.shape()]),
+        [a, b] => operation.shape_of(&[a.shape(), b.shape()]),
+        [a, b, c] => operation.shape_of(&[a.shape(), b.shape(), c.shape()]),
+        _ => unreachable!(),
+    }
+}
+
+/// The semiring of the operands of an operation, where all are over one and their shapes agree.
+#[tactic(auto, using(crate::proofs::KeptFirsts::some_operand, crate::proofs::KeptFirsts::over_in, crate::proofs::KeptFirsts::over_out, crate::proofs::KeptFirsts::first_semiring, crate::proofs::KeptFirsts::mixed_first, crate::proofs::KeptFirsts::shapes_first))]
+pub(crate) fn common_semiring(
+    operation: Operation,
+    operands: &[&Kept],
+) -> Result<SemiringName, Fault>
+    requires { length operands.now ≡ operand_count_of operation }
+    ensures first { IfOk result (λ name. name ≡ semiring_in (lent_in operands.now)) }
+    ensures over { IfOk result (λ name. AreOver name (lent_in operands.now)) }
+    ensures agree { IfOk result (λ _. Agree operation (shapes_in (map matrix_in (lent_in operands.now)))) }
+    ensures fault { IfErr result (kept_faults (Some operation) (lent_in operands.now)) }
+{
+    let [first, ..] = operands else {
+        unreachable!()
+    };
+    let semiring = first.semiring();
+    if !are_over(semiring, operands) {
+        return Err(Fault::Mixed);
+    }
+    let Some(_shape) = made_shape(operation, operands) else {
+        return Err(Fault::Shapes);
+    };
+    Ok(semiring)
+}

@@ -1,0 +1,77 @@
+//! Parents, components and triangles of a graph that is kept over or-and. The graph is lent, and not copied.
+ghost use Rattle.std.specs.Prelude.{◌≡◌, ◌<◌, IfOk, IfErr};
+ghost use Rattle.cb_semirings.specs.declared.names.SemiringName.TheVariants as name_is;
+ghost use Rattle.cb_graphs.specs.Triangles.{triangle_count, stopped};
+ghost use Rattle.cb_interop.specs.Answers.{IsAnswer, NoFault};
+ghost use Rattle.cb_interop.specs.Kept.{matrix_in};
+ghost use Rattle.cb_interop.specs.KeptGraphs.{square_faults, IsKeptComponents, IsKeptParents};
+ghost use Rattle.cb_interop.specs.KeptTexts.{search_faults};
+
+use crate::faults::Fault;
+use crate::keeping::Keep;
+use crate::kept::Kept;
+use crate::kept_walks::{graph_in, keep_column};
+use cb_dcsc::Block;
+use cb_semirings::OrAnd;
+use std::alloc::{AllocError, Global};
+
+/// The least parent of each vertex in a search from a source, kept.
+fn parent_column(alloc: Global, graph: &Block<OrAnd>, source: u32) -> Result<Kept, AllocError>
+    requires square { graph.now.shape.rows ≡ graph.now.shape.cols }
+    requires source { source < graph.now.shape.rows }
+    ensures { IfOk result (IsKeptParents graph.now source) }
+{
+    let column = cb_searches::parents(alloc, graph, source)?;
+    keep_column(alloc, &column)
+}
+
+/// The same of a graph over or-and.
+pub fn kept_parents(alloc: Global, graph: &Kept, source: u32) -> Result<Kept, Fault>
+    ensures { IsAnswer (search_faults name_is.OrAnd graph.now source) (IsKeptParents (matrix_in graph.now) source) result }
+{
+    let block = graph_in::<OrAnd>(graph, source)?;
+    Ok(parent_column(alloc, block, source)?)
+}
+
+/// The block of a graph over or-and that is square.
+#[tactic(auto, using(crate::proofs::KeptGraphFaults::other_semiring, crate::proofs::KeptGraphFaults::other_sides))]
+fn square_block(graph: &Kept) -> Result<&Block<OrAnd>, Fault>
+    ensures graph { IfOk result (λ block. block.now ≡ matrix_in graph.now) }
+    ensures square { IfOk result (λ block. block.now.shape.rows ≡ block.now.shape.cols) }
+    ensures none { IfOk result (λ _. NoFault (square_faults graph.now)) }
+    ensures fault { IfErr result (square_faults graph.now) }
+{
+    let Some(block) = OrAnd::block_of(graph) else {
+        return Err(Fault::Mixed);
+    };
+    let shape = block.shape();
+    if shape.rows() != shape.cols() {
+        return Err(Fault::NotSquare);
+    }
+    Ok(block)
+}
+
+/// The least vertex that is joined to each vertex, kept.
+fn component_column(alloc: Global, graph: &Block<OrAnd>) -> Result<Kept, AllocError>
+    requires { graph.now.shape.rows ≡ graph.now.shape.cols }
+    ensures { IfOk result (IsKeptComponents graph.now) }
+{
+    let column = cb_graphs::components(alloc, graph)?;
+    keep_column(alloc, &column)
+}
+
+/// The same of a graph over or-and.
+pub fn kept_components(alloc: Global, graph: &Kept) -> Result<Kept, Fault>
+    ensures { IsAnswer (square_faults graph.now) (IsKeptComponents (matrix_in graph.now)) result }
+{
+    let block = square_block(graph)?;
+    Ok(component_column(alloc, block)?)
+}
+
+/// How many triangles a graph over or-and has.
+pub fn kept_triangles(alloc: Global, graph: &Kept) -> Result<u64, Fault>
+    ensures { IsAnswer (square_faults graph.now) (λ n. n ≡ stopped (triangle_count (matrix_in graph.now))) result }
+{
+    let block = square_block(graph)?;
+    Ok(cb_graphs::triangles(alloc, block)?)
+}

@@ -1,0 +1,105 @@
+//! Operations on matrices that are kept, whose answer is kept: no operand is copied.
+ghost use Rattle.std.specs.Prelude.{◌≡◌, length, map, Some, IfSome, IfOk};
+ghost use Rattle.cb_operations.specs.OperationAnswers.{operand_count_of, Agree, answer_of, shapes_in};
+ghost use Rattle.cb_semirings.specs.Names.{arithmetic_of};
+ghost use Rattle.cb_serial.specs.Lent.{lent_in};
+ghost use Rattle.cb_interop.specs.Kept.{Keeps, AreOver, semiring_of, semiring_in, matrix_in};
+ghost use Rattle.cb_interop.specs.Answers.{IsAnswer};
+ghost use Rattle.cb_interop.specs.KeptAnswers.{kept_faults, HasMadeKept};
+
+use crate::faults::Fault;
+use crate::keeping::Keep;
+use crate::kept::Kept;
+use crate::kept_checks::common_semiring;
+use cb_dcsc::Block;
+use cb_operations::Operation;
+use cb_semirings::{SemiringName, over_semiring};
+use cb_serial::{binary, ternary, unary};
+use std::alloc::{AllocError, Global};
+
+/// The block of a matrix that is kept, over its semiring.
+pub(crate) fn block_in<S: Keep>(kept: &Kept) -> &Block<S>
+    requires { semiring_of kept.now ≡ S.name }
+    ensures { result.now ≡ matrix_in kept.now }
+{
+    match S::block_of(kept) {
+        Some(block) => block,
+        None => unreachable!(),
+    }
+}
+
+/// What an operation makes of matrices that are kept over one semiring, and whose shapes agree.
+fn made<S: Keep>(
+    alloc: Global,
+    operation: Operation,
+    operands: &[&Kept],
+) -> Result<Block<S>, AllocError>
+    requires count { length operands.now ≡ operand_count_of operation }
+    requires over { AreOver S.name (lent_in operands.now) }
+    requires agree { Agree operation (shapes_in (map matrix_in (lent_in operands.now))) }
+    ensures { IfOk result (λ m. m ≡ answer_of operation S.arithmetic (map matrix_in (lent_in operands.now))) }
+{
+    match operands {
+        [a] => unary(alloc, operation, block_in::<S>(a)),
+        [a, b] => binary(alloc, operation, block_in::<S>(a), block_in::<S>(b)),
+        [a, b, c] => {
+            let left = block_in::<S>(a);
+            ternary(alloc, operation, left, block_in::<S>(b), block_in::<S>(c))
+        }
+        _ => unreachable!(),
+    }
+}
+
+/// The same, kept.
+fn made_over<S: Keep>(
+    alloc: Global,
+    operation: Operation,
+    operands: &[&Kept],
+) -> Result<Kept, AllocError>
+    requires count { length operands.now ≡ operand_count_of operation }
+    requires over { AreOver S.name (lent_in operands.now) }
+    requires agree { Agree operation (shapes_in (map matrix_in (lent_in operands.now))) }
+    ensures { IfOk result (Keeps S.name (answer_of operation S.arithmetic (map matrix_in (lent_in operands.now)))) }
+{
+    let mut block = made::<S>(alloc, operation, operands)?;
+    Ok(S::keep(alloc, &mut block))
+}
+
+/// The same, over the semiring of a name.
+fn made_named(
+    alloc: Global,
+    semiring: SemiringName,
+    operation: Operation,
+    operands: &[&Kept],
+) -> Result<Kept, AllocError>
+    requires count { length operands.now ≡ operand_count_of operation }
+    requires over { AreOver semiring (lent_in operands.now) }
+    requires agree { Agree operation (shapes_in (map matrix_in (lent_in operands.now))) }
+    ensures { IfOk result (Keeps semiring (answer_of operation (arithmetic_of semiring) (map matrix_in (lent_in operands.now)))) }
+{
+    over_semiring!(semiring, made_over::<_>(alloc, operation, operands))
+}
+
+/// What an operation makes of matrices that are kept, where they are over one semiring and their shapes agree.
+fn operate_known(alloc: Global, operation: Operation, operands: &[&Kept]) -> Result<Kept, Fault>
+    requires { length operands.now ≡ operand_count_of operation }
+    ensures { IsAnswer (kept_faults (Some operation) (lent_in operands.now)) (HasMadeKept (Some operation) (lent_in operands.now)) result }
+{
+    let semiring = common_semiring(operation, operands)?;
+    Ok(made_named(alloc, semiring, operation, operands)?)
+}
+
+/// The same, where there is an operation: there is none where no test has the number of a prune.
+pub fn operate(
+    alloc: Global,
+    operation: Option<Operation>,
+    operands: &[&Kept],
+) -> Result<Kept, Fault>
+    requires { IfSome operation (λ o. length operands.now ≡ operand_count_of o) }
+    ensures { IsAnswer (kept_faults operation (lent_in operands.now)) (HasMadeKept operation (lent_in operands.now)) result }
+{
+    match operation {
+        Some(known) => operate_known(alloc, known, operands),
+        None => Err(Fault::Test),
+    }
+}

@@ -1,0 +1,85 @@
+//! Matrix Market texts of matrices that are kept.
+ghost use Rattle.std.specs.Prelude.{◌≡◌, IfOk};
+ghost use Rattle.cb_semirings.specs.Names.{arithmetic_of, numbered};
+ghost use Rattle.cb_market.specs.Faults.{first_fault};
+ghost use Rattle.cb_interop.specs.Refusals.{IsMemory, over, Over, first_over, read_faults, text_faults};
+ghost use Rattle.cb_interop.specs.Answers.{IsAnswer, IsFaultLine, IsTextOf};
+ghost use Rattle.cb_interop.specs.Kept.{semiring_of};
+ghost use Rattle.cb_interop.specs.KeptAnswers.{OverName};
+ghost use Rattle.cb_interop.specs.KeptTexts.{IsKeptText, IsKeptRead};
+
+use crate::faults::Fault;
+use crate::keeping::Keep;
+use crate::kept::Kept;
+use crate::kept_lists::keep_lists;
+use crate::kept_operations::block_in;
+use crate::lists::Columns;
+use crate::texts::{Text, block_text, read_block};
+use cb_semirings::{SemiringName, over_semiring};
+use std::alloc::{AllocError, Global};
+
+/// The text of a matrix that is kept, given away.
+fn text_over<S: Keep>(alloc: Global, kept: &Kept) -> Result<Text, AllocError>
+    requires { semiring_of kept.now ≡ S.name }
+    ensures { IfOk result (IsKeptText S.arithmetic kept.now) }
+{
+    block_text(alloc, block_in::<S>(kept))
+}
+
+/// The same, over the semiring of a name.
+fn text_named(alloc: Global, semiring: SemiringName, kept: &Kept) -> Result<Text, AllocError>
+    requires { semiring_of kept.now ≡ semiring }
+    ensures { IfOk result (IsKeptText (arithmetic_of semiring) kept.now) }
+{
+    over_semiring!(semiring, text_over::<_>(alloc, kept))
+}
+
+/// The same, as a call answers it.
+pub fn text_of(alloc: Global, kept: &Kept) -> Result<Text, Fault>
+    ensures { IsAnswer IsMemory (IsKeptText (arithmetic_of (semiring_of kept.now)) kept.now) result }
+{
+    Ok(text_named(alloc, kept.semiring(), kept)?)
+}
+
+/// The text of the matrix of lists, over the semiring of a number. Their entries are copied once.
+pub fn text_of_lists(alloc: Global, semiring: u32, a: &Columns) -> Result<Text, Fault>
+    ensures { IsAnswer (over (numbered semiring) (λ s. text_faults s a.now)) (λ t. Over (numbered semiring) (λ s. IsTextOf s a.now t)) result }
+{
+    let kept = keep_lists(alloc, semiring, a)?;
+    text_of(alloc, &kept)
+}
+
+/// The matrix that a text reads as, kept. Where the text has a fault its line is put into `line`.
+fn read_over<S: Keep>(alloc: Global, text: &[u8], line: &mut u64) -> Result<Kept, Fault>
+    ensures answer { IsAnswer (read_faults S.arithmetic text.now) (IsKeptRead S.arithmetic S.name text.now) result }
+    ensures line { IsFaultLine (first_fault S.arithmetic text.now) result line.old line.new }
+{
+    match read_block::<S>(alloc, text, line) {
+        Ok(mut block) => Ok(S::keep(alloc, &mut block)),
+        Err(fault) => Err(fault),
+    }
+}
+
+/// The same, over the semiring of a name.
+fn read_named(
+    alloc: Global,
+    semiring: SemiringName,
+    text: &[u8],
+    line: &mut u64,
+) -> Result<Kept, Fault>
+    ensures answer { IsAnswer (read_faults (arithmetic_of semiring) text.now) (IsKeptRead (arithmetic_of semiring) semiring text.now) result }
+    ensures line { IsFaultLine (first_fault (arithmetic_of semiring) text.now) result line.old line.new }
+{
+    over_semiring!(semiring, read_over::<_>(alloc, text, line))
+}
+
+/// The same, over the semiring of a number.
+pub fn read_kept(alloc: Global, semiring: u32, text: &[u8], line: &mut u64) -> Result<Kept, Fault>
+    ensures answer { IsAnswer (over (numbered semiring) (λ s. read_faults s text.now)) (λ k. OverName (numbered semiring) (λ n. IsKeptRead (arithmetic_of n) n text.now k)) result }
+    ensures line { IsFaultLine (first_over (numbered semiring) text.now) result line.old line.new }
+{
+    match SemiringName::numbered(semiring) {
+        Some(name) => read_named(alloc, name, text, line),
+        None => Err(Fault::Semiring),
+    }
+}

@@ -1,0 +1,61 @@
+//! What a matrix that is kept has: its shape, how many entries, and the value at each place.
+ghost use Rattle.std.specs.Prelude.{◌≡◌};
+ghost use Rattle.cb_semirings.specs.Names.{arithmetic_of};
+ghost use Rattle.cb_matrix.specs.Sparse.{at};
+ghost use Rattle.cb_interop.specs.Kept.{semiring_of, matrix_in};
+ghost use Rattle.cb_interop.specs.KeptAnswers.{IsSummary};
+
+use crate::keeping::Keep;
+use crate::kept::Kept;
+use crate::kept_operations::block_in;
+use cb_semirings::{SemiringName, over_semiring};
+
+/// What is known of a matrix at once.
+#[repr(C)]
+#[derive(Clone, Copy)]
+pub struct Summary {
+    /// How many rows it has.
+    pub nrows: u32,
+    /// How many columns it has.
+    pub ncols: u32,
+    /// The number of its semiring.
+    pub semiring: u32,
+    /// How many entries it has.
+    pub entries: u64,
+}
+
+/// What is known of a matrix that is kept.
+pub fn summary_of(kept: &Kept) -> Summary
+    ensures { IsSummary kept.now result }
+{
+    let shape = kept.shape();
+    Summary {
+        nrows: shape.rows(),
+        ncols: shape.cols(),
+        semiring: kept.number(),
+        entries: kept.len() as u64,
+    }
+}
+
+/// The value at a place, by two binary searches.
+fn value_over<S: Keep>(kept: &Kept, row: u32, column: u32) -> u64
+    requires { semiring_of kept.now ≡ S.name }
+    ensures { result ≡ at S.arithmetic (matrix_in kept.now) row column }
+{
+    block_in::<S>(kept).get(row, column)
+}
+
+/// The same, over the semiring of a name.
+fn value_named(semiring: SemiringName, kept: &Kept, row: u32, column: u32) -> u64
+    requires { semiring_of kept.now ≡ semiring }
+    ensures { result ≡ at (arithmetic_of semiring) (matrix_in kept.now) row column }
+{
+    over_semiring!(semiring, value_over::<_>(kept, row, column))
+}
+
+/// The same, over whatever semiring.
+pub fn value_at(kept: &Kept, row: u32, column: u32) -> u64
+    ensures { result ≡ at (arithmetic_of (semiring_of kept.now)) (matrix_in kept.now) row column }
+{
+    value_named(kept.semiring(), kept, row, column)
+}

@@ -1,0 +1,46 @@
+//! Matrices as programs in other languages have them: in compressed columns, lent as lists and answered as lists, or kept
+//! by a value that is over whatever semiring.
+//!
+//! Each call takes matrices as [`Columns`], which it reads and neither changes nor keeps, or as [`Kept`] ones, whose
+//! blocks it uses where they lie. It answers what is asked for, or the first [`Fault`]. All faults are looked for before
+//! memory is asked for, but for those of a text, which are found as it is read.
+//!
+//! The lists of an answer are given away: they are never freed here.
+//!
+//! A semiring is told by its number, that of `cb_semirings::SemiringName`: 0 (plus-times), 1 (min-plus), 2 (or-and), 3
+//! (max-min), and so on. The side of a grid, 1 to 6, is checked, and changes nothing else: each call works on whole
+//! blocks, on the caller's thread.
+#![tactic(auto)]
+
+mod checks;
+mod faults;
+mod incoming;
+mod keeping;
+mod kept;
+mod kept_checks;
+mod kept_graphs;
+mod kept_lists;
+mod kept_operations;
+mod kept_texts;
+mod kept_values;
+mod kept_walks;
+mod lists;
+mod outgoing;
+mod requests;
+mod texts;
+mod triples;
+mod walks;
+
+pub use faults::Fault;
+pub use kept::Kept;
+pub use kept_graphs::{kept_components, kept_parents, kept_triangles};
+pub use kept_lists::{keep_lists, lists_of};
+pub use kept_operations::operate;
+pub use kept_texts::{read_kept, text_of, text_of_lists};
+pub use kept_values::{Summary, summary_of, value_at};
+pub use kept_walks::{kept_distances, kept_levels};
+pub use lists::Columns;
+pub use requests::{answer, prune_of};
+pub use texts::{Text, read_lists};
+pub use triples::{Triple, keep_triples};
+pub use walks::{distances, levels};

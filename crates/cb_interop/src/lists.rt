@@ -1,0 +1,241 @@
+//! A matrix in compressed columns as C lends it, and whether its lists are well formed.
+ghost use Rattle.std.specs.Prelude.{◌≡◌, ◌↔◌, ◌≤◌, ◌<◌, ◌+◌, ℕ, ◌⊎◌, IsTrue, length, slice_index, slice_range, All, AllPairs, IfOk, IfErr, IfSome};
+ghost use Rattle.cb_semirings.specs.Arithmetic.{IsValue};
+ghost use Rattle.cb_interop.specs.Lists.{count, column, starts, rows_in, values_in, shape_of, HasForm, Fits, HaveLengths, AreOrdered, AreInside, AreValues, AreLists};
+ghost use Rattle.cb_interop.specs.Refusals.{matrix_faults};
+
+use crate::faults::Fault;
+use cb_matrix::{LIMIT, Shape};
+use cb_semirings::Semiring;
+
+/// A matrix in compressed columns. Only the columns that `columns` names are stored (DCSC, `kind` 0), or all of them
+/// (CSC, `kind` 1, where `columns` isn't read). The entries of the nth stored column stand in `rows` and `values` from
+/// the nth start to the next one.
+///
+/// The columns that are named ascend, and so do the rows of a column. A listed entry whose value is the semiring's zero
+/// is as if it weren't listed. A matrix in which no column is named may have no starts.
+#[repr(C)]
+#[derive(Clone, Copy)]
+pub struct Columns {
+    /// How many rows the matrix has.
+    pub nrows: u32,
+    /// How many columns the matrix has.
+    pub ncols: u32,
+    /// 0 where the stored columns are named, 1 where all are stored.
+    pub kind: u32,
+    /// 0 where the starts have 32 bits, 1 where they have 64.
+    pub wide: u32,
+    /// JC: the columns that are stored.
+    pub columns: &'static [u32],
+    /// CP: where each stored column starts and the last one ends, in 32 bits.
+    pub starts32: &'static [u32],
+    /// The same in 64 bits.
+    pub starts64: &'static [u64],
+    /// IR: the row of each entry.
+    pub rows: &'static [u32],
+    /// NUM: the value of each entry.
+    pub values: &'static [u64],
+}
+
+impl Columns {
+    /// How many columns are stored.
+    pub(crate) fn count(&self) -> usize
+        ensures { result ≡ count self.now }
+    {
+        if self.kind == 0 {
+            self.columns.len()
+        } else {
+            self.ncols as usize
+        }
+    }
+
+    /// How many starts there are.
+    fn starts_len(&self) -> usize
+        ensures { result ≡ length (starts self.now) }
+    {
+        if self.wide == 0 {
+            self.starts32.len()
+        } else {
+            self.starts64.len()
+        }
+    }
+
+    /// Where the nth stored column starts, or 0 past all starts.
+    fn start(&self, n: usize) -> u64
+        ensures { result ≡ slice_index (starts self.now) n }
+    {
+        if self.wide == 0 {
+            self.starts32.get(n).copied().unwrap_or(0).into()
+        } else {
+            self.starts64.get(n).copied().unwrap_or(0)
+        }
+    }
+
+    /// The number of the nth stored column.
+    pub(crate) fn column(&self, n: usize) -> u32
+        requires { n < count self.now }
+        ensures { result ≡ column self.now n }
+    {
+        if self.kind == 0 {
+            self.columns[n]
+        } else {
+            n as u32
+        }
+    }
+
+    /// Where the nth stored column starts and ends.
+    fn bounds(&self, n: usize) -> (usize, usize)
+        requires n { n < count self.now }
+        requires lengths { HaveLengths self.now }
+        requires rising { (k : ℕ) → k < count self.now → slice_index (starts self.now) k ≤ slice_index (starts self.now) (k + 1) }
+        ensures start { result.0 ≡ slice_index (starts self.now) n }
+        ensures end { result.1 ≡ slice_index (starts self.now) (n + 1) }
+        ensures order { result.0 ≤ result.1 }
+        ensures rows { result.1 ≤ length self.now.rows.now }
+        ensures values { result.1 ≤ length self.now.values.now }
+    {
+        (self.start(n) as usize, self.start(n + 1) as usize)
+    }
+
+    /// The rows of the nth stored column, and the value at each.
+    pub(crate) fn nth_column(&self, n: usize) -> (&'static [u32], &'static [u64])
+        requires n { n < count self.now }
+        requires lengths { HaveLengths self.now }
+        requires rising { (k : ℕ) → k < count self.now → slice_index (starts self.now) k ≤ slice_index (starts self.now) (k + 1) }
+        ensures rows { result.0.now ≡ rows_in self.now n }
+        ensures values { result.1.now ≡ values_in self.now n }
+    {
+        let (start, end) = self.bounds(n);
+        (&self.rows[start..end], &self.values[start..end])
+    }
+
+    /// Whether the kind and the width are known.
+    fn has_form(&self) -> bool
+        ensures { IsTrue result ↔ HasForm self.now }
+    {
+        self.kind <= 1 && self.wide <= 1
+    }
+
+    /// Whether there are as many starts as there have to be.
+    fn has_starts(&self) -> bool
+        ensures { IsTrue result ↔ ((length (starts self.now) ≡ count self.now + 1) ⊎ ((self.now.kind ≡ 0) × (length self.now.columns.now ≡ 0) × (length (starts self.now) ≡ 0))) }
+    {
+        let none = self.kind == 0 && self.columns.is_empty() && self.starts_len() == 0;
+        self.starts_len().checked_sub(1) == Some(self.count()) || none
+    }
+
+    /// Whether the lengths agree.
+    fn have_lengths(&self) -> bool
+        ensures { IsTrue result ↔ HaveLengths self.now }
+    {
+        self.has_starts()
+            && self.start(0) == 0
+            && self.start(self.count()) == self.rows.len() as u64
+            && self.values.len() == self.rows.len()
+    }
+
+    /// Whether no start is below the one before it.
+    fn starts_rise(&self) -> bool
+        requires { count self.now < usize.MAX }
+        ensures { IsTrue result ↔ ((n : ℕ) → n < count self.now → slice_index (starts self.now) n ≤ slice_index (starts self.now) (n + 1)) }
+    {
+        for n in 0..self.count() {
+            if self.start(n + 1) < self.start(n) {
+                return false;
+            }
+        }
+        true
+    }
+
+    /// Whether the rows of each stored column ascend.
+    fn rows_ascend(&self) -> bool
+        requires lengths { HaveLengths self.now }
+        requires rising { (k : ℕ) → k < count self.now → slice_index (starts self.now) k ≤ slice_index (starts self.now) (k + 1) }
+        ensures { IsTrue result ↔ ((n : ℕ) → n < count self.now → AllPairs (λ i j. i < j) (rows_in self.now n)) }
+    {
+        for n in 0..self.count() {
+            let (rows, _values) = self.nth_column(n);
+            if !ascends(rows) {
+                return false;
+            }
+        }
+        true
+    }
+
+    /// Whether what has to ascend does.
+    fn are_ordered(&self) -> bool
+        requires { HaveLengths self.now }
+        ensures { IsTrue result ↔ AreOrdered self.now }
+    {
+        self.starts_rise() && (self.kind != 0 || ascends(self.columns)) && self.rows_ascend()
+    }
+
+    /// Whether all columns and rows are inside the shape.
+    fn are_inside(&self) -> bool
+        ensures { IsTrue result ↔ AreInside self.now }
+    {
+        (self.kind != 0 || are_below(self.columns, self.ncols)) && are_below(self.rows, self.nrows)
+    }
+
+    /// The shape of the matrix.
+    pub(crate) fn shape(&self) -> Shape
+        requires { Fits self.now }
+        ensures { result ≡ shape_of self.now }
+    {
+        Shape::new(self.nrows, self.ncols).unwrap()
+    }
+
+    /// Whether the lists are those of a matrix over the semiring, or else the first fault. It costs a few instructions
+    /// for each stored column and for each entry, and no memory.
+    #[tactic(auto, unfolding(crate::specs::Refusals::matrix_faults))]
+    pub(crate) fn check<S: Semiring>(&self) -> Result<(), Fault>
+        ensures ok { IfOk result (λ _. AreLists S.arithmetic self.now) }
+        ensures fault { IfErr result (matrix_faults S.arithmetic self.now (λ _. ⊥)) }
+    {
+        if !self.has_form() {
+            return Err(Fault::Form);
+        }
+        if self.nrows > LIMIT || self.ncols > LIMIT {
+            return Err(Fault::TooLarge);
+        }
+        if !self.have_lengths() {
+            return Err(Fault::Lengths);
+        }
+        if !self.are_ordered() {
+            return Err(Fault::Order);
+        }
+        if !self.are_inside() {
+            return Err(Fault::Place);
+        }
+        if !are_values::<S>(self.values) {
+            return Err(Fault::Value);
+        }
+        Ok(())
+    }
+}
+
+/// Whether each number is below the next.
+fn ascends(numbers: &[u32]) -> bool
+    ensures { IsTrue result ↔ AllPairs (λ i j. i < j) numbers.now }
+{
+    for n in 1..numbers.len() {
+        if numbers[n] <= numbers[n - 1] {
+            return false;
+        }
+    }
+    true
+}
+
+/// Whether all numbers are below a limit.
+fn are_below(numbers: &[u32], limit: u32) -> bool
+    ensures { IsTrue result ↔ All (λ i. i < limit) numbers.now }
+{
+    numbers.iter().all(|number| *number < limit)
+}
+
+/// Whether all numbers are values of the semiring.
+fn are_values<S: Semiring>(numbers: &[u64]) -> bool
+    ensures { IsTrue result ↔ All (IsValue S.arithmetic) numbers.now }
+{
+    numbers.iter().all(|number| S::is_value(*number))
+}

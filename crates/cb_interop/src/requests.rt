@@ -1,0 +1,114 @@
+//! Operations on matrices that are lent, whose answer is a matrix.
+//!
+//! A list of columns becomes a block, the kernel makes a block of such blocks, and its lists are given away.
+ghost use Rattle.std.specs.Prelude.{◌≡◌, length, map, All, IfSome, IfOk};
+ghost use Rattle.cb_operations.specs.OperationAnswers.{operand_count_of, Agree, answer_of, shapes_in};
+ghost use Rattle.cb_interop.specs.Lists.{shape_of, matrices, AreLists};
+ghost use Rattle.cb_semirings.specs.Names.{arithmetic_of, numbered};
+ghost use Rattle.cb_interop.specs.Refusals.{over, Over, faults_of};
+ghost use Rattle.cb_interop.specs.Answers.{prune_of, HasMade, IsAnswer};
+
+use crate::checks::check;
+use crate::faults::Fault;
+use crate::incoming::blocks_of;
+use crate::lists::Columns;
+use crate::outgoing::block_lists;
+use cb_dcsc::Block;
+use cb_matrix::Test;
+use cb_operations::Operation;
+use cb_semirings::{Semiring, SemiringName, over_semiring};
+use cb_serial::{binary, ternary, unary};
+use std::alloc::{AllocError, Global};
+
+/// To prune by the test of a number, 0 to 2, with its bound. No other number has a test.
+pub fn prune_of(test: u32, bound: u64) -> Option<Operation>
+    ensures operation { result ≡ prune_of test bound }
+    ensures count { IfSome result (λ o. 1 ≡ operand_count_of o) }
+{
+    match test {
+        0 => Some(Operation::Prune(Test::Below(bound))),
+        1 => Some(Operation::Prune(Test::Above(bound))),
+        2 => Some(Operation::Prune(Test::Equal(bound))),
+        _ => None,
+    }
+}
+
+/// What an operation makes of blocks whose shapes agree.
+fn of_blocks<S: Semiring>(
+    alloc: Global,
+    operation: Operation,
+    blocks: &[Block<S>],
+) -> Result<Block<S>, AllocError>
+    requires count { length blocks.now ≡ operand_count_of operation }
+    requires agree { Agree operation (shapes_in blocks.now) }
+    ensures { IfOk result (λ m. m ≡ answer_of operation S.arithmetic blocks.now) }
+{
+    match blocks {
+        [a] => unary(alloc, operation, a),
+        [a, b] => binary(alloc, operation, a, b),
+        [a, b, c] => ternary(alloc, operation, a, b, c),
+        _ => unreachable!(),
+    }
+}
+
+/// What an operation makes of matrices that are lent, which are well formed and whose shapes agree.
+fn of_lists<S: Semiring>(
+    alloc: Global,
+    operation: Operation,
+    operands: &[Columns],
+) -> Result<Block<S>, AllocError>
+    requires count { length operands.now ≡ operand_count_of operation }
+    requires lists { All (AreLists S.arithmetic) operands.now }
+    requires agree { Agree operation (map shape_of operands.now) }
+    ensures { IfOk result (λ block. block ≡ answer_of operation S.arithmetic (matrices S.arithmetic operands.now)) }
+{
+    let blocks = blocks_of::<S>(alloc, operands)?;
+    of_blocks(alloc, operation, &blocks)
+}
+
+/// The lists of what an operation makes of matrices, over a semiring.
+fn answer_over<S: Semiring>(
+    alloc: Global,
+    side: u32,
+    operation: Option<Operation>,
+    operands: &[Columns],
+) -> Result<Columns, Fault>
+    requires count { IfSome operation (λ o. length operands.now ≡ operand_count_of o) }
+    ensures { IsAnswer (faults_of S.arithmetic side operation operands.now) (HasMade S.arithmetic operation operands.now) result }
+{
+    let known = check::<S>(side, operation, operands)?;
+    let block = of_lists::<S>(alloc, known, operands)?;
+    Ok(block_lists(alloc, block)?)
+}
+
+/// The lists of what an operation makes of matrices, over the semiring of a name.
+fn answer_named(
+    alloc: Global,
+    semiring: SemiringName,
+    side: u32,
+    operation: Option<Operation>,
+    operands: &[Columns],
+) -> Result<Columns, Fault>
+    requires count { IfSome operation (λ o. length operands.now ≡ operand_count_of o) }
+    ensures { IsAnswer (faults_of (arithmetic_of semiring) side operation operands.now) (HasMade (arithmetic_of semiring) operation operands.now) result }
+{
+    over_semiring!(semiring, answer_over::<_>(alloc, side, operation, operands))
+}
+
+/// The lists of what an operation makes of matrices, over the semiring of a number. There is no operation where no test has
+/// the number of a prune. The side of a grid is checked, and changes no answer.
+pub fn answer(
+    alloc: Global,
+    semiring: u32,
+    side: u32,
+    operation: Option<Operation>,
+    operands: &[Columns],
+) -> Result<Columns, Fault>
+    requires count { IfSome operation (λ o. length operands.now ≡ operand_count_of o) }
+    ensures { IsAnswer (over (numbered semiring) (λ s. faults_of s side operation operands.now)) (λ c. Over (numbered semiring) (λ s. HasMade s operation operands.now c)) result }
+{
+    match SemiringName::numbered(semiring) {
+        Some(name) => answer_named(alloc, name, side, operation, operands),
+        None => Err(Fault::Semiring),
+    }
+}

@@ -1,0 +1,98 @@
+//! Matrix Market texts.
+ghost use Rattle.std.specs.Prelude.{◌≡◌, IfOk};
+ghost use Rattle.cb_market.specs.Faults.{first_fault};
+ghost use Rattle.cb_market.specs.Reads.{Reads};
+ghost use Rattle.cb_market.specs.Text.{text_of};
+ghost use Rattle.cb_semirings.specs.Names.{arithmetic_of, numbered};
+ghost use Rattle.cb_interop.specs.Refusals.{over, Over, first_over, read_faults};
+ghost use Rattle.cb_interop.specs.Answers.{IsAnswer, IsRead, IsFaultLine};
+
+use crate::faults::Fault;
+use crate::incoming::matrix_block;
+use crate::lists::Columns;
+use crate::outgoing::block_lists;
+use cb_dcsc::Block;
+use cb_market::{Kind, read, text};
+use cb_matrix::Matrix;
+use cb_semirings::{Semiring, SemiringName, over_semiring};
+use std::alloc::{AllocError, Global};
+
+/// The bytes of a text.
+#[repr(C)]
+#[derive(Clone, Copy)]
+pub struct Text {
+    pub bytes: &'static [u8],
+}
+
+/// The text of a block, given away.
+pub(crate) fn block_text<S: Semiring>(alloc: Global, block: &Block<S>) -> Result<Text, AllocError>
+    ensures { IfOk result (λ t. t.bytes.now ≡ text_of S.arithmetic block.now) }
+{
+    let matrix = Matrix::<S>::from_ordered(block.shape(), block.entries()?);
+    let bytes = text(alloc, &matrix)?;
+    Ok(Text {
+        bytes: bytes.leak(),
+    })
+}
+
+/// The matrix that a text reads as. Where the text has a fault its line is put into `line`.
+pub(crate) fn read_block<S: Semiring>(
+    alloc: Global,
+    text: &[u8],
+    line: &mut u64,
+) -> Result<Block<S>, Fault>
+    ensures answer { IsAnswer (read_faults S.arithmetic text.now) (Reads S.arithmetic text.now) result }
+    ensures line { IsFaultLine (first_fault S.arithmetic text.now) result line.old line.new }
+{
+    match read::<S>(alloc, text) {
+        Ok(matrix) => Ok(matrix_block(alloc, &matrix)?),
+        Err(fault) => match fault.kind {
+            Kind::Memory => Err(Fault::Memory),
+            _ => {
+                *line = fault.line;
+                Err(Fault::Text)
+            }
+        },
+    }
+}
+
+/// The lists of the matrix that a text reads as, over a semiring. Where the text has a fault its line is put into `line`.
+fn read_over<S: Semiring>(alloc: Global, text: &[u8], line: &mut u64) -> Result<Columns, Fault>
+    ensures answer { IsAnswer (read_faults S.arithmetic text.now) (IsRead S.arithmetic text.now) result }
+    ensures line { IsFaultLine (first_fault S.arithmetic text.now) result line.old line.new }
+{
+    match read_block::<S>(alloc, text, line) {
+        Ok(block) => Ok(block_lists(alloc, block)?),
+        Err(fault) => Err(fault),
+    }
+}
+
+/// The lists of the matrix that a text reads as, over the semiring of a name.
+fn read_named(
+    alloc: Global,
+    semiring: SemiringName,
+    text: &[u8],
+    line: &mut u64,
+) -> Result<Columns, Fault>
+    ensures answer { IsAnswer (read_faults (arithmetic_of semiring) text.now) (IsRead (arithmetic_of semiring) text.now) result }
+    ensures line { IsFaultLine (first_fault (arithmetic_of semiring) text.now) result line.old line.new }
+{
+    over_semiring!(semiring, read_over::<_>(alloc, text, line))
+}
+
+/// The lists of the matrix that a text reads as, over the semiring of a number. Where the text has a fault its line is put
+/// into `line`.
+pub fn read_lists(
+    alloc: Global,
+    semiring: u32,
+    text: &[u8],
+    line: &mut u64,
+) -> Result<Columns, Fault>
+    ensures answer { IsAnswer (over (numbered semiring) (λ s. read_faults s text.now)) (λ c. Over (numbered semiring) (λ s. IsRead s text.now c)) result }
+    ensures line { IsFaultLine (first_over (numbered semiring) text.now) result line.old line.new }
+{
+    match SemiringName::numbered(semiring) {
+        Some(name) => read_named(alloc, name, text, line),
+        None => Err(Fault::Semiring),
+    }
+}

@@ -1,0 +1,137 @@
+//! The matrix of triples in any order, kept: those of one place are added up.
+ghost use Rattle.std.specs.Prelude.{◌≡◌, ◌↔◌, IsTrue, map, IfOk, IfErr};
+ghost use Rattle.cb_semirings.specs.Names.{arithmetic_of, numbered};
+ghost use Rattle.cb_matrix.specs.Values.{collected};
+ghost use Rattle.cb_interop.specs.Refusals.{over};
+ghost use Rattle.cb_interop.specs.Answers.{IsAnswer, NoFault};
+ghost use Rattle.cb_interop.specs.KeptAnswers.{OverName};
+ghost use Rattle.cb_interop.specs.Triples.{entry_of, AreWithin, AreTripleValues, triple_faults, IsKeptTriples};
+
+use crate::faults::Fault;
+use crate::incoming::matrix_block;
+use crate::keeping::Keep;
+use crate::kept::Kept;
+use cb_dcsc::Block;
+use cb_matrix::{Entry, Matrix, Shape};
+use cb_semirings::{Semiring, SemiringName, over_semiring};
+use std::alloc::{AllocError, Global};
+
+/// A row, a column, and a value that is given there.
+#[repr(C)]
+#[derive(Clone, Copy)]
+pub struct Triple {
+    pub row: u32,
+    pub column: u32,
+    pub value: u64,
+}
+
+/// The entries of triples, in a list of their own.
+fn entries_of(alloc: Global, triples: &[Triple]) -> Result<Vec<Entry>, AllocError>
+    ensures { IfOk result (λ v. v.items ≡ map entry_of triples.now) }
+{
+    let mut entries = Vec::with_capacity(alloc, triples.len())?;
+    for triple in triples {
+        entries.push(Entry {
+            row: triple.row,
+            column: triple.column,
+            value: triple.value,
+        })?;
+    }
+    Ok(entries)
+}
+
+/// Whether all places are inside a shape.
+fn are_within(shape: Shape, triples: &[Triple]) -> bool
+    ensures { IsTrue result ↔ AreWithin shape triples.now }
+{
+    let (rows, cols) = (shape.rows(), shape.cols());
+    triples
+        .iter()
+        .all(|triple| triple.row < rows && triple.column < cols)
+}
+
+/// Whether all values are values of the semiring.
+fn are_values<S: Semiring>(triples: &[Triple]) -> bool
+    ensures { IsTrue result ↔ AreTripleValues S.arithmetic triples.now }
+{
+    triples.iter().all(|triple| S::is_value(triple.value))
+}
+
+/// The shape of triples that are well formed, or else the first fault.
+#[tactic(auto, using(crate::proofs::KeptSearches::too_large_first, crate::proofs::KeptSearches::place_next, crate::proofs::KeptSearches::value_next, crate::proofs::KeptSearches::none_of_triples))]
+fn check<S: Semiring>(nrows: u32, ncols: u32, triples: &[Triple]) -> Result<Shape, Fault>
+    ensures shape { IfOk result (λ d. d ≡ record { rows = nrows; cols = ncols }) }
+    ensures within { IfOk result (λ d. AreWithin d triples.now) }
+    ensures values { IfOk result (λ _. AreTripleValues S.arithmetic triples.now) }
+    ensures none { IfOk result (λ _. NoFault (triple_faults S.arithmetic nrows ncols triples.now)) }
+    ensures fault { IfErr result (triple_faults S.arithmetic nrows ncols triples.now) }
+{
+    let Some(shape) = Shape::new(nrows, ncols) else {
+        return Err(Fault::TooLarge);
+    };
+    if !are_within(shape, triples) {
+        return Err(Fault::Place);
+    }
+    if !are_values::<S>(triples) {
+        return Err(Fault::Value);
+    }
+    Ok(shape)
+}
+
+/// The block of triples that are well formed.
+fn block_of<S: Semiring>(
+    alloc: Global,
+    shape: Shape,
+    triples: &[Triple],
+) -> Result<Block<S>, AllocError>
+    requires within { AreWithin shape triples.now }
+    requires values { AreTripleValues S.arithmetic triples.now }
+    ensures { IfOk result (λ m. m ≡ collected S.arithmetic shape (map entry_of triples.now)) }
+{
+    let entries = entries_of(alloc, triples)?;
+    let matrix = Matrix::<S>::collect(shape, entries)?;
+    matrix_block(alloc, &matrix)
+}
+
+/// The matrix of triples, kept.
+fn triples_over<S: Keep>(
+    alloc: Global,
+    nrows: u32,
+    ncols: u32,
+    triples: &[Triple],
+) -> Result<Kept, Fault>
+    ensures { IsAnswer (triple_faults S.arithmetic nrows ncols triples.now) (IsKeptTriples S.arithmetic S.name nrows ncols triples.now) result }
+{
+    let shape = check::<S>(nrows, ncols, triples)?;
+    let mut block = block_of::<S>(alloc, shape, triples)?;
+    Ok(S::keep(alloc, &mut block))
+}
+
+/// The same, over the semiring of a name.
+fn triples_named(
+    alloc: Global,
+    semiring: SemiringName,
+    nrows: u32,
+    ncols: u32,
+    triples: &[Triple],
+) -> Result<Kept, Fault>
+    ensures { IsAnswer (triple_faults (arithmetic_of semiring) nrows ncols triples.now) (IsKeptTriples (arithmetic_of semiring) semiring nrows ncols triples.now) result }
+{
+    over_semiring!(semiring, triples_over::<_>(alloc, nrows, ncols, triples))
+}
+
+/// The same, over the semiring of a number.
+pub fn keep_triples(
+    alloc: Global,
+    semiring: u32,
+    nrows: u32,
+    ncols: u32,
+    triples: &[Triple],
+) -> Result<Kept, Fault>
+    ensures { IsAnswer (over (numbered semiring) (λ s. triple_faults s nrows ncols triples.now)) (λ k. OverName (numbered semiring) (λ n. IsKeptTriples (arithmetic_of n) n nrows ncols triples.now k)) result }
+{
+    match SemiringName::numbered(semiring) {
+        Some(name) => triples_named(alloc, name, nrows, ncols, triples),
+        None => Err(Fault::Semiring),
+    }
+}

@@ -1,0 +1,93 @@
+//! Matrices as lists, and what is asked of all lists.
+use cb_interop::{Columns, Fault, Kept, lists_of};
+use std::alloc::Global;
+
+/// The matrix without rows and columns.
+pub const NONE: Columns = Columns {
+    nrows: 0,
+    ncols: 0,
+    kind: 0,
+    wide: 1,
+    columns: &[],
+    starts32: &[],
+    starts64: &[],
+    rows: &[],
+    values: &[],
+};
+
+/// A matrix of three columns of which the first and the last have entries: (0, 0, 1), (1, 0, 2), (1, 2, 3).
+pub const NAMED: Columns = Columns {
+    nrows: 2,
+    ncols: 3,
+    columns: &[0, 2],
+    starts64: &[0, 2, 3],
+    rows: &[0, 1, 1],
+    values: &[1, 2, 3],
+    ..NONE
+};
+
+/// The same by all its columns, with starts of 32 bits, and a zero that is listed.
+pub const ALL: Columns = Columns {
+    nrows: 2,
+    ncols: 3,
+    kind: 1,
+    wide: 0,
+    columns: &[],
+    starts32: &[0, 2, 3, 4],
+    starts64: &[],
+    rows: &[0, 1, 0, 1],
+    values: &[1, 2, 0, 3],
+};
+
+/// Its transpose.
+pub const TURNED: Columns = Columns {
+    nrows: 3,
+    ncols: 2,
+    columns: &[0, 1],
+    starts64: &[0, 1, 3],
+    rows: &[0, 0, 2],
+    ..NAMED
+};
+
+/// Edges from 0 to 1 of length 7, from 0 to 2 of length 2, and from 2 to 1 of length 4. None leads to 3 or from there.
+pub const GRAPH: Columns = Columns {
+    nrows: 4,
+    ncols: 4,
+    columns: &[1, 2],
+    rows: &[0, 2, 0],
+    values: &[7, 4, 2],
+    ..NAMED
+};
+
+/// The same with edges that are only there.
+pub const ROADS: Columns = Columns {
+    values: &[1, 1, 1],
+    ..GRAPH
+};
+
+/// Whether lists are the same, one by one.
+pub fn are_same(lists: &Columns, wanted: &Columns) -> bool {
+    (lists.nrows, lists.ncols) == (wanted.nrows, wanted.ncols)
+        && (lists.kind, lists.wide) == (wanted.kind, wanted.wide)
+        && lists.columns == wanted.columns
+        && lists.starts32 == wanted.starts32
+        && lists.starts64 == wanted.starts64
+        && lists.rows == wanted.rows
+        && lists.values == wanted.values
+}
+
+/// Whether a call answers these lists.
+pub fn is(answer: &Result<Columns, Fault>, wanted: &Columns) -> bool {
+    match answer {
+        Ok(lists) => are_same(lists, wanted),
+        Err(_fault) => false,
+    }
+}
+
+/// Whether a call keeps a matrix of these lists.
+pub fn keeps(alloc: Global, answer: &Result<Kept, Fault>, wanted: &Columns) -> bool {
+    match answer {
+        Ok(kept) => is(&lists_of(alloc, kept), wanted),
+        Err(_fault) => false,
+    }
+}

@@ -1,0 +1,14 @@
+//! Tests of `cb_interop`, through its public calls: worked examples over lists that are lent and over matrices that are
+//! kept, each fault by its code, and texts.
+#![tactic(auto)]
+
+#[cfg(test)]
+mod examples;
+#[cfg(test)]
+mod graphs;
+#[cfg(test)]
+mod operations;
+#[cfg(test)]
+mod refusals;
+#[cfg(test)]
+mod texts;
