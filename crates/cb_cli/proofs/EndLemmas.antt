@@ -1,28 +1,32 @@
 -- How jobs end, from how the calls end that they make.
 use Rattle.std.proofs.Common.{◌≡◌, ℕ, List, Bool, sym, subst}
-use Rattle.std.specs.Prelude.{Option, Result}
-use Rattle.cb_engines.specs.declared.engines.Engine.{Engine}
+use Rattle.std.specs.Prelude.{Option, Result, Vec}
 use Rattle.cb_operations.specs.declared.operations.Operation.{Operation}
 use Rattle.cb_semirings.specs.Names.{arithmetic_of}
 use Rattle.cb_semirings.specs.declared.names.SemiringName.{SemiringName}
 use Rattle.cb_words.specs.declared.jobs.Job.{Job}
 use Rattle.cb_words.specs.declared.jobs.Task.TheVariants.{Matrix}
 use Rattle.cb_cli.specs.Engines.{engine_for}
-use Rattle.cb_cli.specs.Answers.{IsAnswer, IsFault}
+use Rattle.cb_cli.specs.Answers.{IsAnswer, IsFault, IsAnswerOver, IsFaultOver}
+use Rattle.cb_cli.specs.Files.{bytes_of}
 use Rattle.cb_cli.specs.WriteEnds.{IsEnd, IsEndOf, IsEndOver}
+use Rattle.cb_cli.specs.declared.backends.Backend.{Backend}
 use Rattle.cb_cli.specs.declared.execution.JobFault.{JobFault}
 
-module _ {T : Type 0} (operation : Operation) (side : ℕ) (texts : List (List ℕ)) (old new : Option (List ℕ)) (failed : Bool) (r : Result T JobFault) where
+module _ {T A : Type 0} (operation : Operation) (backend : Backend) (texts : List (Vec ℕ A)) (old new : Option (List ℕ)) (failed : Bool) (r : Result T JobFault) where
   -- over the semiring of a name
-  pub over_named : (semiring name : SemiringName) (engine : Option Engine) → semiring ≡ name
-      → IsEndOver operation (arithmetic_of name) engine side texts old new failed r → IsEndOver operation (arithmetic_of semiring) engine side texts old new failed r
-  over_named semiring name engine e h = subst (λ s. IsEndOver operation (arithmetic_of s) engine side texts old new failed r) (sym e) h
+  pub over_named : (semiring name : SemiringName) → semiring ≡ name
+      → IsEndOver operation (arithmetic_of name) backend texts old new failed r → IsEndOver operation (arithmetic_of semiring) backend texts old new failed r
+  over_named semiring name e h = subst (λ s. IsEndOver operation (arithmetic_of s) backend texts old new failed r) (sym e) h
 
-module _ {T : Type 0} (operation : Operation) (job : Job) (texts : List (List ℕ)) (old new : Option (List ℕ)) (failed : Bool) (r : Result T JobFault) where
-  -- a job that is an operation over a semiring
-  pub of_matrix : (semiring : SemiringName) (engine : Option Engine) → job.task ≡ Matrix operation semiring → engine ≡ engine_for job texts
-      → IsEndOver operation (arithmetic_of semiring) engine job.grid.side texts old new failed r → IsEndOf job texts old new failed r
-  of_matrix semiring engine e f h =
-      let g = engine_for job texts in
-      subst (λ t. IsEnd (IsAnswer t g job.grid.side texts) (IsFault t g job.grid.side texts) old new failed r) (sym e)
-      (subst (λ x. IsEndOver operation (arithmetic_of semiring) x job.grid.side texts old new failed r) f h)
+  -- of a job that is an operation over a semiring
+  pub of_matrix : (job : Job) (semiring : SemiringName) → job.task ≡ Matrix operation semiring
+      → backend.engine ≡ engine_for job (bytes_of texts) → backend.grid.side ≡ job.grid.side
+      → IsEndOver operation (arithmetic_of semiring) backend texts old new failed r → IsEndOf job (bytes_of texts) old new failed r
+  of_matrix job semiring e f g h =
+      let bytes = bytes_of texts in
+      let engine = engine_for job bytes in
+      let s = arithmetic_of semiring in
+      subst (λ t. IsEnd (IsAnswer t engine job.grid.side bytes) (IsFault t engine job.grid.side bytes) old new failed r) (sym e)
+      (subst (λ side. IsEnd (IsAnswerOver operation s engine side bytes) (IsFaultOver operation s engine side bytes) old new failed r) g
+      (subst (λ x. IsEnd (IsAnswerOver operation s x backend.grid.side bytes) (IsFaultOver operation s x backend.grid.side bytes) old new failed r) f h))

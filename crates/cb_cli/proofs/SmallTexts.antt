@@ -1,5 +1,5 @@
 -- Texts that are small, and one that isn't.
-use Rattle.std.proofs.Common.{◌≡◌, ℕ, zero, suc, ◌<◌, ◌≤◌, List, [], ◌∷◌, length, get_or, false, true, refl, sym, ap, ◌∙◌, subst, arith, Bool, ◌&&◌}
+use Rattle.std.proofs.Common.{◌≡◌, ℕ, zero, suc, ◌<◌, ◌≤◌, List, [], ◌∷◌, length, get_or, false, true, refl, subst, arith, Bool, ◌&&◌}
 use Rattle.std.proofs.lemmas.Bool.Decides.{nat_tests}
 use Rattle.std.specs.Prelude.{Vec, nat_lt}
 use Rattle.std.specs.List.{list_all}

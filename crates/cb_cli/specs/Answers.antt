@@ -13,6 +13,7 @@ use Rattle.cb_operations.specs.declared.operations.Operation.{Operation}
 use Rattle.cb_operations.specs.declared.refusals.Refusal.TheVariants as refusal_is
 use Rattle.cb_operations.specs.OperationAnswers.{Agree, answer_of, matrix_at, shapes_in}
 use Rattle.cb_engines.specs.declared.engines.Engine.{Engine}
+use Rattle.cb_engines.specs.declared.engines.Outcome.{Outcome}
 use Rattle.cb_searches.specs.Walks.{AreLevels, AreDistances}
 use Rattle.cb_searches.specs.Parents.{AreParents}
 use Rattle.cb_graphs.specs.Components.{AreComponents}
@@ -60,6 +61,10 @@ pub record IsAnswerOver (operation : Operation) (s : Arithmetic) (engine : Optio
   pub trace : Option TraceView
   pub kept : IsTrace engine operation side (shapes_in ms) trace
   pub whole : answer ≡ told s (answer_of operation s ms) trace
+
+-- the answer and the trace that a run leaves are those of the text that is right
+abbrev pub IsOutcomeOver : {S : Type 0} → Operation → Arithmetic → Option Engine → ℕ → List (List ℕ) → Outcome S → Type 0
+IsOutcomeOver operation s engine side texts done = IsAnswerOver operation s engine side texts (told s done.answer.matrix done.trace)
 
 -- why the text of a place is no matrix: its first fault, or want of memory with no fault before it
 abbrev pub IsTextFault : Arithmetic → ℕ → List ℕ → JobFault → Type 0
@@ -109,22 +114,22 @@ IsWalkFault s source engine side texts (Run fault) = (a : Sparse) × Reads s (te
 IsWalkFault s source engine side texts Memory = (a : Sparse) × Reads s (text_at texts 0) a × HasSource a.shape source
 IsWalkFault s source engine side texts Output = (a : Sparse) × Reads s (text_at texts 0) a × HasSource a.shape source
 
+-- the text reads as this matrix, and the source is one of its vertices
+abbrev pub IsWalkGraph : Arithmetic → ℕ → List (List ℕ) → Sparse → Type 0
+IsWalkGraph s source texts a = Reads s (text_at texts 0) a × HasSource a.shape source
+
 -- ---- by one thread, in the graph of the matrix that the text reads as in or-and
 -- the text reads as this matrix, which is square
 abbrev pub IsSquareGraph : List (List ℕ) → Sparse → Type 0
 IsSquareGraph texts a = Reads or_and (text_at texts 0) a × (a.shape.rows ≡ a.shape.cols)
 
--- the text reads as this matrix, and the source is one of its vertices
-abbrev pub IsWalkGraph : ℕ → List (List ℕ) → Sparse → Type 0
-IsWalkGraph source texts a = Reads or_and (text_at texts 0) a × HasSource a.shape source
-
 -- the pairs of vertices of the column that is the answer
 abbrev pub IsPairsText : (Sparse → Type 0) → List ℕ → Type 0
-IsPairsText is_answer answer = (column : Sparse) × is_answer column × (answer ≡ vertex_pairs_text_of column)
+IsPairsText is_answer answer = (column : Sparse) × IsMatrix min_plus column × is_answer column × (answer ≡ vertex_pairs_text_of column)
 
 -- the least parents of a search from a source, which is one of its vertices
 abbrev pub IsParentsAnswer : ℕ → List (List ℕ) → List ℕ → Type 0
-IsParentsAnswer source texts answer = (a : Sparse) × IsWalkGraph source texts a × IsPairsText (AreParents a source) answer
+IsParentsAnswer source texts answer = (a : Sparse) × IsWalkGraph or_and source texts a × IsPairsText (AreParents a source) answer
 
 -- why there are none: by one thread no run fails
 abbrev pub IsParentsFault : ℕ → List (List ℕ) → JobFault → Type 0

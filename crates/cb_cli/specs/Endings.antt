@@ -7,6 +7,7 @@ use Rattle.cb_cli.specs.Files.{AreTexts, IsUnloaded}
 use Rattle.cb_cli.specs.FaultLines.{name_at, line_of, unreadable_line_of}
 use Rattle.cb_cli.specs.Engines.{engine_for}
 use Rattle.cb_cli.specs.Answers.{IsAnswer, IsFault, status_of}
+use Rattle.cb_cli.specs.Statuses.{status_code}
 use Rattle.cb_words.specs.declared.jobs.Job.{Job}
 use Rattle.cb_words.specs.declared.jobs.UsageFault.{UsageFault}
 use Rattle.cb_words.specs.declared.jobs.UsageFault.TheVariants as asked_is
@@ -14,6 +15,7 @@ use Rattle.cb_cli.specs.declared.files.LoadFault.{LoadFault}
 use Rattle.cb_cli.specs.declared.files.LoadFault.TheVariants as load_is
 use Rattle.cb_cli.specs.declared.execution.JobFault.TheVariants as job_is
 use Rattle.cb_cli.specs.declared.endings.Ending.{Ending}
+use Rattle.cb_cli.specs.declared.endings.Status.{Status}
 use Rattle.cb_cli.specs.declared.endings.Ending.TheVariants.{Done, Usage, Memory, Unreadable, Fault}
 
 -- the status of each ending
@@ -72,8 +74,8 @@ names_of (Err fault) = []
 
 -- How the program ends, of words that ask for this over files: what is known to have gone out and to have been told, before
 -- and after, and the status.
-pub record IsRun (holds : List ℕ → List ℕ → Type 0) (refuses : List ℕ → Type 0) (asked : Result Job UsageFault) (out out_after errors errors_after : Option (List ℕ)) (status : ℕ) : Type 0 where
+pub record IsRun (holds : List ℕ → List ℕ → Type 0) (refuses : List ℕ → Type 0) (asked : Result Job UsageFault) (out out_after err err_after : Option (List ℕ)) (status : Status) : Type 0 where
   pub ending : Ending
   pub ends : IsEnding holds refuses asked out out_after ending
-  pub told : AppendsPrefix errors errors_after (told_of (names_of asked) ending)
-  pub status_is : status ≡ ending_status ending
+  pub told : AppendsPrefix err err_after (told_of (names_of asked) ending)
+  pub status_is : status_code status ≡ ending_status ending

@@ -5,7 +5,7 @@ use Rattle.cb_words.specs.declared.jobs.Job.{Job}
 use Rattle.cb_words.specs.declared.jobs.EngineName.{EngineName}
 use Rattle.cb_words.specs.declared.jobs.EngineName.TheVariants as name_is
 use Rattle.cb_engines.specs.declared.engines.Engine.{Engine}
-use Rattle.cb_cli.specs.declared.engine_names.TheConstants.{SMALL}
+use Rattle.cb_cli.specs.declared.backends.TheConstants.{SMALL}
 use Rattle.cb_engines.specs.declared.engines.Engine.TheVariants.{Threads, Traced}
 use Rattle.cb_engines.specs.declared.engine_faults.EngineFault.{EngineFault}
 use Rattle.cb_engines.specs.EngineRuns.{IsEngineFault}

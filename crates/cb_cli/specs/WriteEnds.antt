@@ -1,13 +1,14 @@
 -- How a call ends that is to write a text.
-use Rattle.std.specs.Prelude.{ℕ, ◌≡◌, ◌≢◌, ◌↔◌, Bool, true, List, Option, Result, OnOk, IfErr, IsErrOf}
+use Rattle.std.specs.Prelude.{ℕ, ◌≡◌, ◌≢◌, ◌↔◌, Bool, true, List, Option, Result, Vec, OnOk, IfErr, IsErrOf}
 use Rattle.cb_semirings.specs.Arithmetic.{Arithmetic}
 use Rattle.cb_operations.specs.declared.operations.Operation.{Operation}
-use Rattle.cb_engines.specs.declared.engines.Engine.{Engine}
 use Rattle.cb_words.specs.declared.jobs.Job.{Job}
 use Rattle.cb_cli.specs.Engines.{engine_for}
-use Rattle.cb_cli.specs.Answers.{IsAnswerOver, IsFaultOver, IsAnswer, IsFault}
+use Rattle.cb_cli.specs.Answers.{IsAnswerOver, IsFaultOver, IsAnswer, IsFault, IsUnwritten}
+use Rattle.cb_cli.specs.Files.{bytes_of}
 use Rattle.std.specs.Io.KnownBytes.{Appends, Keeps}
 use Rattle.cb_cli.specs.Sinks.{AppendsPrefix}
+use Rattle.cb_cli.specs.declared.backends.Backend.{Backend}
 use Rattle.cb_cli.specs.declared.execution.JobFault.{JobFault}
 use Rattle.cb_cli.specs.declared.execution.JobFault.TheVariants.{Output}
 
@@ -22,9 +23,19 @@ pub record IsEnd {T : Type 0} (IsText : List ℕ → Type 0) (IsFault : JobFault
   pub output : IsErrOf result Output → (t : List ℕ) × IsText t × AppendsPrefix before after t
   pub failed : IsErrOf result Output ↔ (has_failed ≡ true)
 
--- of an operation over a semiring, by an engine on a grid of this side, over texts
-abbrev pub IsEndOver : {T : Type 0} → Operation → Arithmetic → Option Engine → ℕ → List (List ℕ) → Option (List ℕ) → Option (List ℕ) → Bool → Result T JobFault → Type 0
-IsEndOver operation s engine side texts = IsEnd (IsAnswerOver operation s engine side texts) (IsFaultOver operation s engine side texts)
+-- of a call that is to write just this text
+abbrev pub IsTextEnd : {T : Type 0} → List ℕ → Option (List ℕ) → Option (List ℕ) → Bool → Result T JobFault → Type 0
+IsTextEnd text = IsEnd (λ t. t ≡ text) IsUnwritten
+
+-- of what has these answers of texts, and these faults
+abbrev pub IsEndOn : {T A : Type 0} → (List (List ℕ) → List ℕ → Type 0) → (List (List ℕ) → JobFault → Type 0) → List (Vec ℕ A)
+    → Option (List ℕ) → Option (List ℕ) → Bool → Result T JobFault → Type 0
+IsEndOn answers faults texts = IsEnd (answers (bytes_of texts)) (faults (bytes_of texts))
+
+-- of an operation over a semiring, by what computes it
+abbrev pub IsEndOver : {T A : Type 0} → Operation → Arithmetic → Backend → List (Vec ℕ A)
+    → Option (List ℕ) → Option (List ℕ) → Bool → Result T JobFault → Type 0
+IsEndOver operation s backend = IsEndOn (IsAnswerOver operation s backend.engine backend.grid.side) (IsFaultOver operation s backend.engine backend.grid.side)
 
 -- of a job over texts
 abbrev pub IsEndOf : {T : Type 0} → Job → List (List ℕ) → Option (List ℕ) → Option (List ℕ) → Bool → Result T JobFault → Type 0

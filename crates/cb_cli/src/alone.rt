@@ -25,14 +25,14 @@ pub fn compute_alone<S: Semiring>(
     ensures fault { IfErr result (IsFaultOf operation (wholes (list_of operands))) }
 {
     match operands {
-        Operands::One(matrix) => run(alloc, operation, &[matrix.into_block()]),
+        Operands::One(matrix) => run(alloc, operation, &[&matrix.into_block()]),
         Operands::Two(left, right) => {
-            run(alloc, operation, &[left.into_block(), right.into_block()])
+            run(alloc, operation, &[&left.into_block(), &right.into_block()])
         }
         Operands::Three(left, right, mask) => run(
             alloc,
             operation,
-            &[left.into_block(), right.into_block(), mask.into_block()],
+            &[&left.into_block(), &right.into_block(), &mask.into_block()],
         ),
     }
 }

@@ -129,44 +129,44 @@ fn usage_ending<K: Sink>(fault: UsageFault, out: &mut K) -> Ending
 }
 
 /// Prints what an ending tells. Nothing is printed where memory is refused to it.
-fn tell<E: Sink>(alloc: Global, names: &[String], ending: &Ending, errors: &mut E)
-    requires { E.has_failed errors.old ≡ false }
-    ensures { AppendsPrefix (E.written errors.old) (E.written errors.new) (told_of names.now ending.now) }
+fn tell<E: Sink>(alloc: Global, names: &[String], ending: &Ending, err: &mut E)
+    requires { E.has_failed err.old ≡ false }
+    ensures { AppendsPrefix (E.written err.old) (E.written err.new) (told_of names.now ending.now) }
 {
     if let Ok(text) = ending.told(alloc, names) {
-        let _ = put_all(errors, text.as_slice());
+        let _ = put_all(err, text.as_slice());
     }
 }
 
 /// Runs what the words of a command line ask for: the whole program, but for the words themselves.
-/// The answer or the help goes to `out`, what is told of a fault to `errors`.
+/// The answer or the help goes to `out`, what is told of a fault to `err`.
 ///
 /// The files are loaded in the job's order, before any of them is read, and the first fault ends the
-/// run. The status is that of the ending, and so is the text on `errors`, of which less may go out
-/// where memory is refused to it or the sink fails.
+/// run. The status is that of the ending, and so is the text on `err`, of which less may go out where
+/// memory is refused to it or the sink fails.
 pub fn run<R: Threads + Wait + Sync, F: FileSource, K: Sink, E: Sink>(
     rt: &R,
     alloc: Global,
     asked: Result<Job, UsageFault>,
     files: &F,
     out: &mut K,
-    errors: &mut E,
+    err: &mut E,
 ) -> Status
     requires out { K.has_failed out.old ≡ false }
-    requires errors { E.has_failed errors.old ≡ false }
-    ensures { IsRun (F.holds files.now) (F.refuses files.now) asked (K.written out.old) (K.written out.new) (E.written errors.old) (E.written errors.new) (status_code result) }
+    requires err { E.has_failed err.old ≡ false }
+    ensures { IsRun (F.holds files.now) (F.refuses files.now) asked (K.written out.old) (K.written out.new) (E.written err.old) (E.written err.new) result }
 {
     match asked {
         Ok(job) => {
             let ending = job_ending(rt, alloc, &job, files, out);
-            tell(alloc, job.files(), &ending, errors);
+            tell(alloc, job.files(), &ending, err);
             Status {
                 code: ending.status(),
             }
         }
         Err(fault) => {
             let ending = usage_ending(fault, out);
-            tell(alloc, &[], &ending, errors);
+            tell(alloc, &[], &ending, err);
             Status {
                 code: ending.status(),
             }

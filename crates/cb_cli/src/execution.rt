@@ -2,19 +2,19 @@
 ghost use Rattle.std.specs.Prelude.{◌≡◌, ◌≢◌, ℕ, vec_len, false, None, IfOk, IfErr};
 ghost use Rattle.cb_operations.specs.OperationAnswers.{operand_count_of};
 ghost use Rattle.cb_semirings.specs.Names.{arithmetic_of};
-ghost use Rattle.cb_cli.specs.Answers.{IsAnswerOver, IsFaultOver, status_of, told};
+ghost use Rattle.cb_cli.specs.Answers.{IsFaultOver, IsOutcomeOver, status_of};
 ghost use Rattle.cb_cli.specs.WriteEnds.{IsEndOf, IsEndOver};
 ghost use Rattle.cb_cli.specs.Files.{bytes_of};
 
 use crate::alone::compute_alone;
-use crate::engine_names::engine_for;
+use crate::backends::{Backend, backend_for};
 use crate::graph_answers::{put_components, put_parents, put_triangles};
 use crate::inputs::read_operands;
 use crate::output::{put_column, put_text_and_lines};
 use crate::sinks::Sink;
 use crate::trace_lines::lines_of;
 use crate::vertex_numbers::{distances_of, levels_of};
-use cb_engines::{Engine, Outcome};
+use cb_engines::Outcome;
 use cb_layout::{DistributedMatrix, Grid};
 use cb_market::{Kind, ReadFault};
 use cb_operations::{Operation, Refusal};
@@ -93,20 +93,20 @@ impl From<AllocError> for JobFault {
 fn answer_over<S: Semiring + Send + Sync, R: Threads + Wait + Sync>(
     rt: &R,
     alloc: Global,
-    engine: Option<Engine>,
-    grid: &Grid,
+    backend: &Backend<'_>,
     operation: Operation,
     texts: Vec<Vec<u8>>,
 ) -> Result<Outcome<S>, JobFault>
     requires { vec_len texts ≡ operand_count_of operation }
-    ensures ok { IfOk result (λ done. IsAnswerOver operation S.arithmetic engine.entry grid.now.side (bytes_of texts.items) (told S.arithmetic done.answer.matrix done.trace)) }
-    ensures fault { IfErr result (IsFaultOver operation S.arithmetic engine.entry grid.now.side (bytes_of texts.items)) }
+    ensures ok { IfOk result (IsOutcomeOver operation S.arithmetic backend.now.engine backend.now.grid.side (bytes_of texts.items)) }
+    ensures fault { IfErr result (IsFaultOver operation S.arithmetic backend.now.engine backend.now.grid.side (bytes_of texts.items)) }
     ensures unwritten { IfErr result (λ f. f ≢ JobFault.Output) }
 {
-    match engine {
-        None => answer_alone::<S, R>(rt, alloc, operation, texts),
+    let (grid, threads) = (&backend.grid, backend.threads);
+    match backend.engine {
+        None => answer_alone::<S, R>(rt, alloc, threads, operation, texts),
         Some(engine) => {
-            let operands = read_operands::<S, R>(rt, alloc, grid, operation, texts)?;
+            let operands = read_operands::<S, R>(rt, alloc, grid, threads, operation, texts)?;
             Ok(run(rt, alloc, engine, grid, operation, operands)?)
         }
     }
@@ -116,15 +116,16 @@ fn answer_over<S: Semiring + Send + Sync, R: Threads + Wait + Sync>(
 fn answer_alone<S: Semiring + Send + Sync, R: Threads + Sync>(
     rt: &R,
     alloc: Global,
+    threads: u32,
     operation: Operation,
     texts: Vec<Vec<u8>>,
 ) -> Result<Outcome<S>, JobFault>
     requires { vec_len texts ≡ operand_count_of operation }
-    ensures ok { IfOk result (λ done. (side : ℕ) → IsAnswerOver operation S.arithmetic None side (bytes_of texts.items) (told S.arithmetic done.answer.matrix done.trace)) }
+    ensures ok { IfOk result (λ done. (side : ℕ) → IsOutcomeOver operation S.arithmetic None side (bytes_of texts.items) done) }
     ensures fault { IfErr result (λ f. (side : ℕ) → IsFaultOver operation S.arithmetic None side (bytes_of texts.items) f) }
     ensures unwritten { IfErr result (λ f. f ≢ JobFault.Output) }
 {
-    let operands = read_operands::<S, R>(rt, alloc, &Grid::single(), operation, texts)?;
+    let operands = read_operands::<S, R>(rt, alloc, &Grid::single(), threads, operation, texts)?;
     let block = compute_alone(alloc, operation, operands)?;
     let answer = DistributedMatrix::from_block(alloc, block)?;
     Ok(Outcome {
@@ -138,29 +139,34 @@ fn answer_alone<S: Semiring + Send + Sync, R: Threads + Sync>(
 fn execute_over<S: Semiring + Send + Sync, R: Threads + Wait + Sync, K: Sink>(
     rt: &R,
     alloc: Global,
-    engine: Option<Engine>,
-    grid: &Grid,
+    backend: &Backend<'_>,
     operation: Operation,
     texts: Vec<Vec<u8>>,
     out: &mut K,
 ) -> Result<(), JobFault>
     requires texts { vec_len texts ≡ operand_count_of operation }
     requires works { K.has_failed out.old ≡ false }
-    ensures { IsEndOver operation S.arithmetic engine.entry grid.now.side (bytes_of texts.items) (K.written out.old) (K.written out.new) (K.has_failed out.new) result }
+    ensures { IsEndOver operation S.arithmetic backend.now texts.items (K.written out.old) (K.written out.new) (K.has_failed out.new) result }
 {
-    let done = answer_over::<S, R>(rt, alloc, engine, grid, operation, texts)?;
+    let done = answer_over::<S, R>(rt, alloc, backend, operation, texts)?;
     let Ok(lines) = lines_of(alloc, &done.trace) else {
         return Err(JobFault::Memory);
     };
-    put_text_and_lines(rt, alloc, &done.answer, lines.as_bytes(), out)
+    put_text_and_lines(
+        rt,
+        alloc,
+        backend.threads,
+        &done.answer,
+        lines.as_bytes(),
+        out,
+    )
 }
 
 /// Writes what an operation makes of texts over the semiring of a name.
 fn execute_named<R: Threads + Wait + Sync, K: Sink>(
     rt: &R,
     alloc: Global,
-    engine: Option<Engine>,
-    grid: &Grid,
+    backend: &Backend<'_>,
     operation: Operation,
     semiring: SemiringName,
     texts: Vec<Vec<u8>>,
@@ -168,19 +174,19 @@ fn execute_named<R: Threads + Wait + Sync, K: Sink>(
 ) -> Result<(), JobFault>
     requires texts { vec_len texts ≡ operand_count_of operation }
     requires works { K.has_failed out.old ≡ false }
-    ensures { IsEndOver operation (arithmetic_of semiring) engine.entry grid.now.side (bytes_of texts.items) (K.written out.old) (K.written out.new) (K.has_failed out.new) result }
+    ensures { IsEndOver operation (arithmetic_of semiring) backend.now texts.items (K.written out.old) (K.written out.new) (K.has_failed out.new) result }
 {
     over_semiring!(
         semiring,
-        execute_over::<_, R, K>(rt, alloc, engine, grid, operation, texts, out)
+        execute_over::<_, R, K>(rt, alloc, backend, operation, texts, out)
     )
 }
 
 /// Reads the texts of a job's files, in the job's order, and writes the text of its answer: of a matrix page by page,
 /// of levels, distances, parents or components a line for each vertex that has one, and, where the engine keeps a trace
-/// of an operation, a line for each of its events at the end. All memory is taken before the first byte goes out: a fault other than
-/// `Output` has written nothing. At `Output` a beginning of the text has gone out, and the sink has failed; it has
-/// failed in no other case.
+/// of an operation, a line for each of its events at the end. All memory is taken before the first byte goes out: a
+/// fault other than `Output` has written nothing. At `Output` a beginning of the text has gone out, and the sink has
+/// failed; it has failed in no other case.
 ///
 /// The faults come in their order: the first text that is no matrix, then shapes that don't agree, a graph whose
 /// matrix isn't square or a source that is none of its vertices, then want of memory, then `Output`. Costs the
@@ -197,23 +203,24 @@ pub fn execute<R: Threads + Wait + Sync, K: Sink>(
     requires works { K.has_failed out.old ≡ false }
     ensures { IsEndOf job.now (bytes_of texts.items) (K.written out.old) (K.written out.new) (K.has_failed out.new) result }
 {
-    let (engine, grid) = (engine_for(job, &texts), &job.grid);
+    let backend = backend_for(job, &texts);
+    let threads = backend.threads;
     match job.task {
         Task::Matrix {
             operation,
             semiring,
-        } => execute_named(rt, alloc, engine, grid, operation, semiring, texts, out),
+        } => execute_named(rt, alloc, &backend, operation, semiring, texts, out),
         Task::Levels { source } => {
-            let column = levels_of(rt, alloc, engine, grid, source, texts)?;
+            let column = levels_of(rt, alloc, &backend, source, texts)?;
             put_column(alloc, &column, out)
         }
         Task::Distances { source } => {
-            let column = distances_of(rt, alloc, engine, grid, source, texts)?;
+            let column = distances_of(rt, alloc, &backend, source, texts)?;
             put_column(alloc, &column, out)
         }
-        Task::Parents { source } => put_parents(rt, alloc, source, texts, out),
-        Task::Components => put_components(rt, alloc, texts, out),
-        Task::Triangles => put_triangles(rt, alloc, texts, out),
+        Task::Parents { source } => put_parents(rt, alloc, threads, source, texts, out),
+        Task::Components => put_components(rt, alloc, threads, texts, out),
+        Task::Triangles => put_triangles(rt, alloc, threads, texts, out),
     }
 }
 

@@ -1,5 +1,5 @@
-//! Reads the operands of a job, in the job's order, each in as many pieces side by side as the grid has ranks. Each text
-//! is given up once it is read.
+//! Reads the operands of a job, in the job's order, each in pieces side by side, by so many threads at most. Each text is
+//! given up once it is read.
 ghost use Rattle.std.specs.Prelude.{◌≡◌, ◌∷◌, [], length, vec_len, IfOk, IfErr};
 ghost use Rattle.cb_market.specs.Reads.{Reads};
 ghost use Rattle.cb_operations.specs.Operands.{list_of};
@@ -24,6 +24,7 @@ fn read_blocks<S: Semiring + Send + Sync, R: Threads + Sync>(
     rt: &R,
     alloc: Global,
     grid: &Grid,
+    threads: u32,
     which: usize,
     text: Vec<u8>,
 ) -> Result<DistributedMatrix<S>, JobFault>
@@ -32,7 +33,7 @@ fn read_blocks<S: Semiring + Send + Sync, R: Threads + Sync>(
     ensures fault { IfErr result (IsTextFault S.arithmetic which text.items) }
 {
     let pieces = Pieces {
-        most: u32::from(grid.ranks()),
+        most: threads,
         least_bytes: LEAST_BYTES,
     };
     match read_side_by_side::<S, R>(rt, alloc, grid, pieces, &text) {
@@ -46,6 +47,7 @@ pub fn read_one<S: Semiring + Send + Sync, R: Threads + Sync>(
     rt: &R,
     alloc: Global,
     grid: &Grid,
+    threads: u32,
     mut texts: Vec<Vec<u8>>,
 ) -> Result<DistributedMatrix<S>, JobFault>
     requires { vec_len texts ≡ 1 }
@@ -55,7 +57,7 @@ pub fn read_one<S: Semiring + Send + Sync, R: Threads + Sync>(
     ensures fault { IfErr result (IsReadFault S.arithmetic (bytes_of texts.items)) }
 {
     let text = texts.remove(0);
-    read_blocks(rt, alloc, grid, 0, text)
+    read_blocks(rt, alloc, grid, threads, 0, text)
 }
 
 /// The matrices of two texts.
@@ -63,6 +65,7 @@ fn read_two<S: Semiring + Send + Sync, R: Threads + Sync>(
     rt: &R,
     alloc: Global,
     grid: &Grid,
+    threads: u32,
     mut texts: Vec<Vec<u8>>,
 ) -> Result<(DistributedMatrix<S>, DistributedMatrix<S>), JobFault>
     requires { vec_len texts ≡ 2 }
@@ -72,8 +75,8 @@ fn read_two<S: Semiring + Send + Sync, R: Threads + Sync>(
 {
     let first = texts.remove(0);
     let second = texts.remove(0);
-    let left = read_blocks(rt, alloc, grid, 0, first)?;
-    let right = read_blocks(rt, alloc, grid, 1, second)?;
+    let left = read_blocks(rt, alloc, grid, threads, 0, first)?;
+    let right = read_blocks(rt, alloc, grid, threads, 1, second)?;
     Ok((left, right))
 }
 
@@ -82,6 +85,7 @@ fn read_three<S: Semiring + Send + Sync, R: Threads + Sync>(
     rt: &R,
     alloc: Global,
     grid: &Grid,
+    threads: u32,
     mut texts: Vec<Vec<u8>>,
 ) -> Result<
     (
@@ -99,9 +103,9 @@ fn read_three<S: Semiring + Send + Sync, R: Threads + Sync>(
     let first = texts.remove(0);
     let second = texts.remove(0);
     let third = texts.remove(0);
-    let left = read_blocks(rt, alloc, grid, 0, first)?;
-    let right = read_blocks(rt, alloc, grid, 1, second)?;
-    let mask = read_blocks(rt, alloc, grid, 2, third)?;
+    let left = read_blocks(rt, alloc, grid, threads, 0, first)?;
+    let right = read_blocks(rt, alloc, grid, threads, 1, second)?;
+    let mask = read_blocks(rt, alloc, grid, threads, 2, third)?;
     Ok((left, right, mask))
 }
 
@@ -110,6 +114,7 @@ pub fn read_operands<S: Semiring + Send + Sync, R: Threads + Sync>(
     rt: &R,
     alloc: Global,
     grid: &Grid,
+    threads: u32,
     operation: Operation,
     texts: Vec<Vec<u8>>,
 ) -> Result<Operands<DistributedMatrix<S>>, JobFault>
@@ -120,13 +125,13 @@ pub fn read_operands<S: Semiring + Send + Sync, R: Threads + Sync>(
     ensures fault { IfErr result (IsReadFault S.arithmetic (bytes_of texts.items)) }
 {
     match operation.operand_count() {
-        1 => Ok(Operands::One(read_one(rt, alloc, grid, texts)?)),
+        1 => Ok(Operands::One(read_one(rt, alloc, grid, threads, texts)?)),
         2 => {
-            let (left, right) = read_two(rt, alloc, grid, texts)?;
+            let (left, right) = read_two(rt, alloc, grid, threads, texts)?;
             Ok(Operands::Two(left, right))
         }
         _ => {
-            let (left, right, mask) = read_three(rt, alloc, grid, texts)?;
+            let (left, right, mask) = read_three(rt, alloc, grid, threads, texts)?;
             Ok(Operands::Three(left, right, mask))
         }
     }

@@ -14,12 +14,13 @@
 #![tactic(auto)]
 
 mod alone;
+mod backends;
 pub mod endings;
-mod engine_names;
 pub mod execution;
 pub mod fault_lines;
 pub mod files;
 mod graph_answers;
+mod graph_inputs;
 mod inputs;
 mod output;
 pub mod sinks;

@@ -4,9 +4,8 @@ ghost use Rattle.std.specs.Prelude.{◌≡◌, ◌++◌, [], ◌∷◌, true, fa
 ghost use Rattle.std.specs.Io.KnownBytes.{Appends};
 ghost use Rattle.cb_market.specs.Text.{number_line, text_of, vertex_text_of, vertex_pairs_text_of};
 ghost use Rattle.cb_writing.specs.Rounds.{written_on};
-ghost use Rattle.cb_cli.specs.Answers.{IsUnwritten};
 ghost use Rattle.cb_cli.specs.Sinks.{AppendsPrefix};
-ghost use Rattle.cb_cli.specs.WriteEnds.{IsEnd};
+ghost use Rattle.cb_cli.specs.WriteEnds.{IsTextEnd};
 
 use crate::execution::JobFault;
 use crate::sinks::{PutFault, Sink, put_all};
@@ -80,13 +79,16 @@ enum Paper<'a, S: Semiring> {
 }
 
 impl<'a, S: Semiring> Paper<'a, S> {
-    /// For as many threads as the matrix's grid has ranks.
-    fn new(alloc: Global, matrix: &'a DistributedMatrix<S>) -> Result<Self, AllocError> {
-        let threads = usize::from(matrix.grid().ranks());
+    /// For so many threads.
+    fn new(
+        alloc: Global,
+        threads: u32,
+        matrix: &'a DistributedMatrix<S>,
+    ) -> Result<Self, AllocError> {
         if threads < 2 {
             Ok(Paper::Page(Page::new(alloc)?))
         } else {
-            Ok(Paper::Round(Round::new(alloc, threads, matrix)?))
+            Ok(Paper::Round(Round::new(alloc, threads as usize, matrix)?))
         }
     }
 }
@@ -128,19 +130,20 @@ fn put_text_then_lines<'a, S: Semiring + Send + Sync, R: Threads + Sync, K: Sink
     put_all(out, lines)
 }
 
-/// Writes the text of a matrix and some lines after it, with as many threads as its grid has ranks. What it is written on
-/// is taken first, and no memory after it: at `Memory` nothing has gone out, and at `Output` a beginning of the whole.
+/// Writes the text of a matrix and some lines after it, with so many threads at most. What it is written on is taken
+/// first, and no memory after it: at `Memory` nothing has gone out, and at `Output` a beginning of the whole.
 pub fn put_text_and_lines<S: Semiring + Send + Sync, R: Threads + Sync, K: Sink>(
     rt: &R,
     alloc: Global,
+    threads: u32,
     matrix: &DistributedMatrix<S>,
     lines: &[u8],
     out: &mut K,
 ) -> Result<(), JobFault>
     requires { K.has_failed out.old ≡ false }
-    ensures { IsEnd (λ t. t ≡ text_of S.arithmetic matrix.now.matrix ++ lines.now) IsUnwritten (K.written out.old) (K.written out.new) (K.has_failed out.new) result }
+    ensures { IsTextEnd (text_of S.arithmetic matrix.now.matrix ++ lines.now) (K.written out.old) (K.written out.new) (K.has_failed out.new) result }
 {
-    let Ok(mut paper) = Paper::new(alloc, matrix) else {
+    let Ok(mut paper) = Paper::new(alloc, threads, matrix) else {
         return Err(JobFault::Memory);
     };
     match put_text_then_lines(rt, matrix, &mut paper, lines, out) {
@@ -152,7 +155,7 @@ pub fn put_text_and_lines<S: Semiring + Send + Sync, R: Threads + Sync, K: Sink>
 /// Writes a text that is made. At `Output` a beginning of it has gone out.
 fn put_made<K: Sink>(text: &[u8], out: &mut K) -> Result<(), JobFault>
     requires { K.has_failed out.old ≡ false }
-    ensures { IsEnd (λ t. t ≡ text.now) IsUnwritten (K.written out.old) (K.written out.new) (K.has_failed out.new) result }
+    ensures { IsTextEnd text.now (K.written out.old) (K.written out.new) (K.has_failed out.new) result }
 {
     match put_all(out, text) {
         Ok(()) => Ok(()),
@@ -169,7 +172,7 @@ pub fn put_column<K: Sink>(
 ) -> Result<(), JobFault>
     requires column { column.now.shape.cols ≡ 1 }
     requires works { K.has_failed out.old ≡ false }
-    ensures { IsEnd (λ t. t ≡ vertex_text_of column.now) IsUnwritten (K.written out.old) (K.written out.new) (K.has_failed out.new) result }
+    ensures { IsTextEnd (vertex_text_of column.now) (K.written out.old) (K.written out.new) (K.has_failed out.new) result }
 {
     match vertex_text(alloc, column) {
         Ok(text) => put_made(&text, out),
@@ -184,7 +187,7 @@ pub fn put_pairs<K: Sink>(
     out: &mut K,
 ) -> Result<(), JobFault>
     requires { K.has_failed out.old ≡ false }
-    ensures { IsEnd (λ t. t ≡ vertex_pairs_text_of column.now) IsUnwritten (K.written out.old) (K.written out.new) (K.has_failed out.new) result }
+    ensures { IsTextEnd (vertex_pairs_text_of column.now) (K.written out.old) (K.written out.new) (K.has_failed out.new) result }
 {
     match vertex_pairs_text(alloc, column) {
         Ok(text) => put_made(&text, out),
@@ -195,7 +198,7 @@ pub fn put_pairs<K: Sink>(
 /// Writes a number on a line, likewise.
 pub fn put_number<K: Sink>(alloc: Global, number: u64, out: &mut K) -> Result<(), JobFault>
     requires { K.has_failed out.old ≡ false }
-    ensures { IsEnd (λ t. t ≡ number_line (number ∷ [])) IsUnwritten (K.written out.old) (K.written out.new) (K.has_failed out.new) result }
+    ensures { IsTextEnd (number_line (number ∷ [])) (K.written out.old) (K.written out.new) (K.has_failed out.new) result }
 {
     match format!(in alloc; "{number}\n") {
         Ok(text) => put_made(text.as_bytes(), out),

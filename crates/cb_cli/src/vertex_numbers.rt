@@ -1,142 +1,77 @@
-//! How far the vertices of the graph of a text are from a source.
-ghost use Rattle.std.specs.Prelude.{◌≡◌, ◌≢◌, ℕ, vec_len, None, Some, IfOk, IfErr};
+//! How far the vertices of the graph of a text are from a source: by the ranks of a grid, or, without an engine, by the
+//! caller's thread in one block.
+ghost use Rattle.std.specs.Prelude.{◌≡◌, ◌≢◌, vec_len, IfOk, IfErr};
 ghost use Rattle.cb_semirings.specs.Tables.{min_plus, or_and};
 ghost use Rattle.cb_market.specs.Text.{vertex_text_of};
 ghost use Rattle.cb_searches.specs.Walks.{AreLevels, AreDistances};
 ghost use Rattle.cb_cli.specs.Answers.{IsWalkAnswer, IsWalkFault};
 ghost use Rattle.cb_cli.specs.Files.{bytes_of};
 
+use crate::backends::Backend;
 use crate::execution::JobFault;
+use crate::graph_inputs::graph_with_source;
 use crate::inputs::read_one;
-use cb_engines::Engine;
-use cb_layout::Grid;
 use cb_matrix::Matrix;
-use cb_run::{check_graph, distances, levels};
+use cb_run::{distances, levels};
 use cb_semirings::{MinPlus, OrAnd};
 use std::alloc::Global;
 use std::sync::Wait;
 use std::thread::Threads;
 
-/// The levels of the graph of a text from a source, by one thread in one block.
-fn levels_alone<R: Threads + Sync>(
-    rt: &R,
-    alloc: Global,
-    source: u32,
-    texts: Vec<Vec<u8>>,
-) -> Result<Matrix<MinPlus>, JobFault>
-    requires { vec_len texts ≡ 1 }
-    ensures ok { IfOk result (λ column. IsWalkAnswer AreLevels or_and source (bytes_of texts.items) (vertex_text_of column)) }
-    ensures column { IfOk result (λ column. column.shape.cols ≡ 1) }
-    ensures fault { IfErr result (λ f. (side : ℕ) → IsWalkFault or_and source None side (bytes_of texts.items) f) }
-    ensures unwritten { IfErr result (λ f. f ≢ JobFault.Output) }
-{
-    let graph = read_one::<OrAnd, R>(rt, alloc, &Grid::single(), texts)?;
-    check_graph(graph.shape(), source)?;
-    let column = cb_searches::levels(alloc, graph.into_block(), source)?;
-    let _shape = column.shape();
-    Ok(column)
-}
-
-/// The levels of the graph of a text from a source, by the ranks of a grid.
-fn levels_by_ranks<R: Threads + Wait + Sync>(
-    rt: &R,
-    alloc: Global,
-    engine: Engine,
-    grid: &Grid,
-    source: u32,
-    texts: Vec<Vec<u8>>,
-) -> Result<Matrix<MinPlus>, JobFault>
-    requires { vec_len texts ≡ 1 }
-    ensures ok { IfOk result (λ column. IsWalkAnswer AreLevels or_and source (bytes_of texts.items) (vertex_text_of column)) }
-    ensures column { IfOk result (λ column. column.shape.cols ≡ 1) }
-    ensures fault { IfErr result (IsWalkFault or_and source (Some engine.entry) grid.now.side (bytes_of texts.items)) }
-    ensures unwritten { IfErr result (λ f. f ≢ JobFault.Output) }
-{
-    let graph = read_one::<OrAnd, R>(rt, alloc, grid, texts)?;
-    let column = levels(rt, alloc, engine, graph, source)?;
-    let _shape = column.shape();
-    Ok(column)
-}
-
-/// The levels of the graph of a text from a source: by the ranks of a grid, or, without an engine, by one thread.
+/// The levels of the graph of a text from a source.
 pub fn levels_of<R: Threads + Wait + Sync>(
     rt: &R,
     alloc: Global,
-    engine: Option<Engine>,
-    grid: &Grid,
+    backend: &Backend<'_>,
     source: u32,
     texts: Vec<Vec<u8>>,
 ) -> Result<Matrix<MinPlus>, JobFault>
     requires { vec_len texts ≡ 1 }
     ensures ok { IfOk result (λ column. IsWalkAnswer AreLevels or_and source (bytes_of texts.items) (vertex_text_of column)) }
     ensures column { IfOk result (λ column. column.shape.cols ≡ 1) }
-    ensures fault { IfErr result (IsWalkFault or_and source engine.entry grid.now.side (bytes_of texts.items)) }
+    ensures fault { IfErr result (IsWalkFault or_and source backend.now.engine backend.now.grid.side (bytes_of texts.items)) }
     ensures unwritten { IfErr result (λ f. f ≢ JobFault.Output) }
 {
-    match engine {
-        None => levels_alone(rt, alloc, source, texts),
-        Some(engine) => levels_by_ranks(rt, alloc, engine, grid, source, texts),
+    match backend.engine {
+        None => {
+            let graph = graph_with_source::<OrAnd, R>(rt, alloc, backend.threads, source, texts)?;
+            let column = cb_searches::levels(alloc, graph, source)?;
+            Ok(column)
+        }
+        Some(engine) => {
+            let graph = read_one::<OrAnd, R>(rt, alloc, &backend.grid, backend.threads, texts)?;
+            let column = levels(rt, alloc, engine, graph, source)?;
+            let _shape = column.shape();
+            Ok(column)
+        }
     }
 }
 
-/// The distances in the graph of a text from a source, by one thread in one block.
-fn distances_alone<R: Threads + Sync>(
-    rt: &R,
-    alloc: Global,
-    source: u32,
-    texts: Vec<Vec<u8>>,
-) -> Result<Matrix<MinPlus>, JobFault>
-    requires { vec_len texts ≡ 1 }
-    ensures ok { IfOk result (λ column. IsWalkAnswer AreDistances min_plus source (bytes_of texts.items) (vertex_text_of column)) }
-    ensures column { IfOk result (λ column. column.shape.cols ≡ 1) }
-    ensures fault { IfErr result (λ f. (side : ℕ) → IsWalkFault min_plus source None side (bytes_of texts.items) f) }
-    ensures unwritten { IfErr result (λ f. f ≢ JobFault.Output) }
-{
-    let graph = read_one::<MinPlus, R>(rt, alloc, &Grid::single(), texts)?;
-    check_graph(graph.shape(), source)?;
-    let column = cb_searches::distances(alloc, graph.into_block(), source)?;
-    let _shape = column.shape();
-    Ok(column)
-}
-
-/// The distances in the graph of a text from a source, by the ranks of a grid.
-fn distances_by_ranks<R: Threads + Wait + Sync>(
-    rt: &R,
-    alloc: Global,
-    engine: Engine,
-    grid: &Grid,
-    source: u32,
-    texts: Vec<Vec<u8>>,
-) -> Result<Matrix<MinPlus>, JobFault>
-    requires { vec_len texts ≡ 1 }
-    ensures ok { IfOk result (λ column. IsWalkAnswer AreDistances min_plus source (bytes_of texts.items) (vertex_text_of column)) }
-    ensures column { IfOk result (λ column. column.shape.cols ≡ 1) }
-    ensures fault { IfErr result (IsWalkFault min_plus source (Some engine.entry) grid.now.side (bytes_of texts.items)) }
-    ensures unwritten { IfErr result (λ f. f ≢ JobFault.Output) }
-{
-    let graph = read_one::<MinPlus, R>(rt, alloc, grid, texts)?;
-    let column = distances(rt, alloc, engine, graph, source)?;
-    let _shape = column.shape();
-    Ok(column)
-}
-
-/// The distances in the graph of a text from a source, likewise.
+/// The distances in the graph of a text from a source.
 pub fn distances_of<R: Threads + Wait + Sync>(
     rt: &R,
     alloc: Global,
-    engine: Option<Engine>,
-    grid: &Grid,
+    backend: &Backend<'_>,
     source: u32,
     texts: Vec<Vec<u8>>,
 ) -> Result<Matrix<MinPlus>, JobFault>
     requires { vec_len texts ≡ 1 }
     ensures ok { IfOk result (λ column. IsWalkAnswer AreDistances min_plus source (bytes_of texts.items) (vertex_text_of column)) }
     ensures column { IfOk result (λ column. column.shape.cols ≡ 1) }
-    ensures fault { IfErr result (IsWalkFault min_plus source engine.entry grid.now.side (bytes_of texts.items)) }
+    ensures fault { IfErr result (IsWalkFault min_plus source backend.now.engine backend.now.grid.side (bytes_of texts.items)) }
     ensures unwritten { IfErr result (λ f. f ≢ JobFault.Output) }
 {
-    match engine {
-        None => distances_alone(rt, alloc, source, texts),
-        Some(engine) => distances_by_ranks(rt, alloc, engine, grid, source, texts),
+    match backend.engine {
+        None => {
+            let graph = graph_with_source::<MinPlus, R>(rt, alloc, backend.threads, source, texts)?;
+            let column = cb_searches::distances(alloc, graph, source)?;
+            Ok(column)
+        }
+        Some(engine) => {
+            let graph = read_one::<MinPlus, R>(rt, alloc, &backend.grid, backend.threads, texts)?;
+            let column = distances(rt, alloc, engine, graph, source)?;
+            let _shape = column.shape();
+            Ok(column)
+        }
     }
 }

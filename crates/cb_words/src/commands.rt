@@ -260,7 +260,7 @@ fn grid<'a>(alloc: Global) -> Arg<'a> {
 
 fn engine<'a>(alloc: Global) -> Arg<'a> {
     let help =
-        "What computes: plain one thread, ranks a thread for each of the grid's ranks [default: by the files]";
+        "What computes: plain one thread, ranks a thread for each of the grid's ranks [default: by the command and its files]";
     with_value(alloc, "engine", "ENGINE", help).value_parser(ENGINES.as_slice())
 }
 

@@ -54,6 +54,8 @@ pub struct Job {
     pub engine: EngineName,
     /// Whether small files may be computed by one thread instead, since neither ranks nor what runs them were asked for.
     pub may_be_alone: bool,
+    /// How many threads may read the files and write the answer, each a part of a text.
+    pub threads: u32,
     /// The names of the files, in the order in which they are read.
     pub files: Vec<String>,
     pub ghost file_count: { vec_len files ≡ file_count_of task },

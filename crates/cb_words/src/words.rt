@@ -91,6 +91,9 @@ fn files_of(
     Ok(Some(files))
 }
 
+/// More threads neither read nor write where the words leave open how many: the largest grid has as many ranks.
+const MOST_THREADS: usize = 36;
+
 /// How many letters a lane is for.
 fn lane_of(found: &ArgMatches<'_>) -> usize {
     found.get_one::<u32>("lane").unwrap_or(2) as usize
@@ -101,7 +104,21 @@ fn asks_for_trace(command: &str, found: &ArgMatches<'_>) -> bool {
     command == "multiply" && found.get_flag("trace")
 }
 
-/// What computes a command: where the words don't say, ranks in threads, unless there is one processor alone.
+/// Whether a command is about a graph.
+fn is_about_graph(command: &str) -> bool {
+    matches!(
+        command,
+        "bfs" | "relax" | "parents" | "components" | "triangles"
+    )
+}
+
+/// Whether one thread computes a command of which no engine is named, and no trace: all where there is one processor, and
+/// those about graphs. The rounds of a search are too short for ranks in threads; a grid that is asked for is for ranks.
+fn is_for_one(command: &str, found: &ArgMatches<'_>, processors: usize) -> bool {
+    !found.contains_id("grid") && (processors < 2 || is_about_graph(command))
+}
+
+/// What computes a command: where the words don't say, ranks in threads, unless it is for one.
 fn engine_of(command: &str, found: &ArgMatches<'_>, processors: usize) -> Option<EngineName> {
     let letters = lane_of(found);
     match found.get_str("engine") {
@@ -110,7 +127,7 @@ fn engine_of(command: &str, found: &ArgMatches<'_>, processors: usize) -> Option
         Some("ranks") => Some(EngineName::Ranks(letters)),
         Some(_) => None,
         None if asks_for_trace(command, found) => Some(EngineName::Traced(letters)),
-        None if processors < 2 && !found.contains_id("grid") => Some(EngineName::Plain),
+        None if is_for_one(command, found, processors) => Some(EngineName::Plain),
         None => Some(EngineName::Ranks(letters)),
     }
 }
@@ -136,6 +153,16 @@ fn grid_of(command: &str, found: &ArgMatches<'_>, processors: usize) -> Option<G
         None => side_for(processors),
     };
     Grid::new(side).ok()
+}
+
+/// How many threads may read and write a command's texts: one for the plain engine where it is named, as many as ranks
+/// where those or their grid are, and else as many as there are processors.
+fn threads_of(found: &ArgMatches<'_>, grid: &Grid, processors: usize) -> u32 {
+    match found.get_str("engine") {
+        Some("plain") => 1,
+        None if !found.contains_id("grid") => processors.clamp(1, MOST_THREADS) as u32,
+        _ => u32::from(grid.ranks()),
+    }
 }
 
 /// Whether the words leave open what computes a command.
@@ -225,6 +252,7 @@ fn job_of(
         grid,
         engine,
         may_be_alone: is_left_open(command, found),
+        threads: threads_of(found, &grid, processors),
         files,
     }))
 }
@@ -289,9 +317,10 @@ pub fn asked<R: Env + AllocGlobal + Threads>(rt: &R) -> Result<Job, UsageFault> 
     }
 }
 
-/// Reads the words of a command line, of which the first is the program's name. A job names as many
-/// files as its task reads. What the words leave open is chosen by how many processors there are. The words that are no job are a `UsageFault`, which holds the text
-/// to print. Costs what `clap` takes to build and to match the command line, under a millisecond.
+/// Reads the words of a command line, of which the first is the program's name. A job names as many files as its task
+/// reads. What the words leave open is chosen by the command and by how many processors there are. Words that are no job
+/// are a `UsageFault`, which holds the text to print. Costs what `clap` takes to build and to match the command line,
+/// under a millisecond.
 pub fn read_job(alloc: Global, words: &[String], processors: usize) -> Result<Job, UsageFault>
     ensures { IfOk result (λ job. vec_len job.files ≡ file_count_of job.task) }
 {

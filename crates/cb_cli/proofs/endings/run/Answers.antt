@@ -6,10 +6,10 @@ use Rattle.cb_cli.proofs.endings.run.Goals as goal
 pub returns-in-Ok : goal.returns-in-Ok
 returns-in-Ok g c =
     let ending = c.job_ending-ending.result in
-    let old = g.E.Sink.written c.args.errors.now in
-    let new = g.E.Sink.written c.tell.new.errors in
+    let old = g.E.Sink.written c.args.err.now in
+    let new = g.E.Sink.written c.tell.new.err in
     subst
-    (λ asked. IsRun (g.F.FileSource.holds c.args.files.now) (g.F.FileSource.refuses c.args.files.now) asked (g.K.Sink.written c.args.out.now) (g.K.Sink.written c.job_ending-ending.new.out) old new c.status.result)
+    (λ asked. IsRun (g.F.FileSource.holds c.args.files.now) (g.F.FileSource.refuses c.args.files.now) asked (g.K.Sink.written c.args.out.now) (g.K.Sink.written c.job_ending-ending.new.out) old new (record { code = c.status.result }))
     (sym c.in-Ok.is) (record {
       ending = ending;
       ends = c.job_ending-ending.ensures;
@@ -20,10 +20,10 @@ returns-in-Ok g c =
 pub returns-in-Err : goal.returns-in-Err
 returns-in-Err g c =
     let ending = c.usage_ending-ending.result in
-    let old = g.E.Sink.written c.args.errors.now in
-    let new = g.E.Sink.written c.tell-in-Err.new.errors in
+    let old = g.E.Sink.written c.args.err.now in
+    let new = g.E.Sink.written c.tell-in-Err.new.err in
     subst
-    (λ asked. IsRun (g.F.FileSource.holds c.args.files.now) (g.F.FileSource.refuses c.args.files.now) asked (g.K.Sink.written c.args.out.now) (g.K.Sink.written c.usage_ending-ending.new.out) old new c.status-in-Err.result)
+    (λ asked. IsRun (g.F.FileSource.holds c.args.files.now) (g.F.FileSource.refuses c.args.files.now) asked (g.K.Sink.written c.args.out.now) (g.K.Sink.written c.usage_ending-ending.new.out) old new (record { code = c.status-in-Err.result }))
     (sym c.in-Err.is) (record {
       ending = ending;
       ends = c.usage_ending-ending.ensures;

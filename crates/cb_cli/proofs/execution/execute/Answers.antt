@@ -7,5 +7,5 @@ use Rattle.cb_cli.proofs.execution.execute.Goals as goal
 pub returns-in-Matrix : goal.returns-in-Matrix
 returns-in-Matrix g c =
     let texts = bytes_of c.args.texts.items in
-    let chosen : c.engine_for-engine.result ≡ engine_for c.args.job.now texts = search rules in
-    of_matrix _ c.args.job.now texts _ _ _ _ _ _ c.in-Matrix.is chosen c.execute_named.ensures
+    let chosen : c.backend_for-backend.result.engine ≡ engine_for c.args.job.now texts = search rules in
+    of_matrix _ c.backend_for-backend.result c.args.texts.items _ _ _ _ c.args.job.now _ c.in-Matrix.is chosen c.backend_for-backend.ensures.side c.execute_named.ensures

@@ -2,8 +2,8 @@ use Rattle.std.proofs.Common.{◌≡◌, take, length, true}
 use Rattle.std.specs.Prelude.{nat_lt}
 use Rattle.std.specs.List.{list_all}
 use Rattle.cb_cli.specs.Files.{bytes_of}
-use Rattle.cb_cli.specs.declared.engine_names.TheConstants.{SMALL}
-use Rattle.cb_cli.proofs.engine_names.are_small.Given as goal
+use Rattle.cb_cli.specs.declared.backends.TheConstants.{SMALL}
+use Rattle.cb_cli.proofs.backends.are_small.Given as goal
 
 -- those so far are
 abbrev pub invariant-loop-n : goal.invariant-loop-n
