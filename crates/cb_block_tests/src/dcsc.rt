@@ -1,24 +1,29 @@
 //! Worked examples, with ample memory and with each allocation refused in turn.
 ghost use Rattle.std.specs.Prelude.{◌≡◌};
 
+use crate::samples::{entries, has_entries, is_right_or_refused};
 use cb_dcsc::{Block, BlockFault};
 use cb_matrix::{Entry, LIMIT, Shape};
 use cb_samples::{SampleFault, block, entry, shape};
-use cb_semirings::{MinPlus, OrAnd, PlusTimes};
+use cb_semirings::{MinPlus, OrAnd, PlusTimes, Semiring};
 use std::alloc::{AllocError, Global};
 use std::test::Fail;
 
-fn spread() -> [Entry; 3] {
-    [entry(0, 3, 5), entry(2, 3, 6), entry(1, 900, 7)]
-}
+/// The last row and the last column of the largest sides.
+const LAST: u32 = LIMIT - 1;
 
-/// The block of four rows and a thousand columns with these entries.
-fn wide(alloc: Global, entries: &[Entry]) -> Result<Block<PlusTimes>, SampleFault> {
-    block(alloc, 4, 1000, entries)
+/// The lists of a block: the columns that have entries, where those of each stand among all, and the rows and the values of
+/// these.
+#[derive(Clone, Copy)]
+struct Lists {
+    columns: &'static [u32],
+    ranges: &'static [(usize, usize)],
+    rows: &'static [u32],
+    values: &'static [u64],
 }
 
 /// Whether the entries of the columns of a block stand at these places among all.
-fn has_ranges(block: &Block<PlusTimes>, ranges: &[(usize, usize)]) -> bool {
+fn has_ranges<S: Semiring>(block: &Block<S>, ranges: &[(usize, usize)]) -> bool {
     if block.columns() != ranges.len() {
         return false;
     }
@@ -30,42 +35,86 @@ fn has_ranges(block: &Block<PlusTimes>, ranges: &[(usize, usize)]) -> bool {
     true
 }
 
-/// Whether a block has these columns, the entries of each at these places among all, and the entries these rows and
-/// values.
-fn has_lists(
-    block: &Block<PlusTimes>,
-    columns: &[u32],
-    ranges: &[(usize, usize)],
-    rows: &[u32],
-    values: &[u64],
-) -> bool {
-    block.column_numbers() == columns
-        && has_ranges(block, ranges)
-        && block.row_numbers() == rows
-        && block.values() == values
+/// Whether a block has these lists.
+fn has_lists<S: Semiring>(block: &Block<S>, lists: &Lists) -> bool {
+    block.column_numbers() == lists.columns
+        && has_ranges(block, lists.ranges)
+        && block.row_numbers() == lists.rows
+        && block.values() == lists.values
 }
 
-#[test]
-fn the_lists_hold_the_columns_that_have_entries(rt: HostRuntime) -> Result<(), Fail> {
-    let block = wide(rt.alloc(), &spread())?;
+/// Entries of two among a thousand columns.
+const SPREAD: &'static [Entry] = entries![(0, 3, 5), (2, 3, 6), (1, 900, 7)];
+
+const OF_SPREAD: Lists = Lists {
+    columns: &[3, 900],
+    ranges: &[(0, 2), (2, 3)],
+    rows: &[0, 2, 1],
+    values: &[5, 6, 7],
+};
+
+const NONE: Lists = Lists {
+    columns: &[],
+    ranges: &[],
+    rows: &[],
+    values: &[],
+};
+
+/// The sides of a block (rows, columns), its entries, and its lists. The second is a vector, whose row 0 isn't stored; the
+/// third has the largest sides, which cost what its entries cost.
+const BLOCKS: [((u32, u32), &'static [Entry], Lists); 6] = [
+    ((4, 1000), SPREAD, OF_SPREAD),
+    (
+        (3, 1),
+        entries![(1, 0, 5), (2, 0, 1)],
+        Lists {
+            columns: &[0],
+            ranges: &[(0, 2)],
+            rows: &[1, 2],
+            values: &[5, 1],
+        },
+    ),
+    (
+        (LIMIT, LIMIT),
+        entries![(0, 0, 1), (LAST, LAST, 9)],
+        Lists {
+            columns: &[0, LAST],
+            ranges: &[(0, 1), (1, 2)],
+            rows: &[0, LAST],
+            values: &[1, 9],
+        },
+    ),
+    ((0, 0), &[], NONE),
+    ((3, 3), &[], NONE),
+    ((LIMIT, LIMIT), &[], NONE),
+];
+
+/// Whether the block of these entries, and its copy, have these lists and these entries; or why there is none.
+fn is_held(
+    alloc: Global,
+    sides: (u32, u32),
+    given: &[Entry],
+    lists: &Lists,
+) -> Result<bool, SampleFault> {
+    let block = block::<PlusTimes>(alloc, sides.0, sides.1, given)?;
     let copy = block.try_clone()?;
-    assert_eq!(rt; copy.shape(), shape(4, 1000)?);
-    for one in [&block, &copy] {
-        assert!(rt; has_lists(one, &[3, 900], &[(0, 2), (2, 3)], &[0, 2, 1], &[5, 6, 7]));
-    }
-    Ok(())
+    let entries = copy.entries()?;
+    let is_shaped = (copy.shape().rows(), copy.shape().cols()) == sides;
+    let is_copied = is_shaped && has_lists(&copy, lists) && entries.as_slice() == given;
+    Ok(is_copied && has_lists(&block, lists) && has_entries(&block, given))
 }
 
-/// A vector is one column, in which row 0 came to zero and isn't stored.
 #[test]
-fn the_lists_of_a_vector_hold_one_column(rt: HostRuntime) -> Result<(), Fail> {
-    let mut vector = Block::<PlusTimes>::empty(rt.alloc(), shape(3, 1)?);
-    vector.push_column(0, &[1, 2], &[5, 1])?;
-    let same = block(rt.alloc(), 3, 1, &[entry(1, 0, 5), entry(2, 0, 1)])?;
-    for one in [&vector, &same] {
-        assert!(rt; has_lists(one, &[0], &[(0, 2)], &[1, 2], &[5, 1]));
+fn the_lists_hold_the_columns_that_have_entries(rt: HostRuntime) {
+    for (sides, given, lists) in &BLOCKS {
+        assert!(rt; is_held(rt.alloc(), *sides, given, lists) == Ok(true));
     }
-    Ok(())
+}
+
+/// Passes whichever single allocation is refused (`rt try --test --fail-alloc N`, for each N in turn).
+#[test]
+fn refused_memory_is_said(rt: HostRuntime) {
+    assert!(rt; is_right_or_refused(is_held(rt.alloc(), (4, 1000), SPREAD, &OF_SPREAD)));
 }
 
 /// A block of four rows and a thousand columns that grew by one entry, and then took room for more.
@@ -82,65 +131,61 @@ fn grown(alloc: Global, shape: Shape) -> Result<Vec<Entry>, AllocError>
 #[test]
 fn a_block_grows_by_entries(rt: HostRuntime) -> Result<(), Fail> {
     let entries = grown(rt.alloc(), shape(4, 1000)?)?;
-    assert_eq!(rt; entries.as_slice(), [entry(2, 3, 6)].as_slice());
+    assert!(rt; entries.as_slice() == [entry(2, 3, 6)].as_slice());
     Ok(())
 }
 
-#[test]
-fn a_block_without_entries_has_empty_lists(rt: HostRuntime) -> Result<(), Fail> {
-    for side in [0, 3, LIMIT] {
-        let block = block(rt.alloc(), side, side, &[])?;
-        assert!(rt; has_lists(&block, &[], &[], &[], &[]));
-    }
-    Ok(())
+/// Entries of which no block is made, and why.
+const FAULTS: [(&'static [Entry], BlockFault); 4] = [
+    (
+        entries![(2, 3, 6), (0, 3, 5), (1, 900, 7)],
+        BlockFault::Order(1),
+    ),
+    (
+        entries![(0, 3, 5), (4, 3, 6), (1, 900, 0)],
+        BlockFault::Place(1),
+    ),
+    (
+        entries![(0, 3, 5), (2, 3, 6), (1, 900, 0)],
+        BlockFault::Zero(2),
+    ),
+    (entries![(0, 3, 5), (0, 3, 0)], BlockFault::Order(1)),
+];
+
+/// Why these entries make no block of four rows and a thousand columns.
+fn fault_of(alloc: Global, entries: &[Entry]) -> Option<SampleFault> {
+    block::<PlusTimes>(alloc, 4, 1000, entries).err()
 }
 
 #[test]
 fn the_first_fault_is_named(rt: HostRuntime) {
-    let swapped = [entry(2, 3, 6), entry(0, 3, 5), entry(1, 900, 7)];
-    let outside = [entry(0, 3, 5), entry(4, 3, 6), entry(1, 900, 0)];
-    let zero = [entry(0, 3, 5), entry(2, 3, 6), entry(1, 900, 0)];
-    let twice = [entry(0, 3, 5), entry(0, 3, 0)];
-    for (entries, fault) in [
-        (swapped.as_slice(), BlockFault::Order(1)),
-        (outside.as_slice(), BlockFault::Place(1)),
-        (zero.as_slice(), BlockFault::Zero(2)),
-        (twice.as_slice(), BlockFault::Order(1)),
-    ] {
-        let refused = wide(rt.alloc(), entries).err();
-        assert_eq!(rt; refused, Some(SampleFault::Block(fault)));
+    for (entries, fault) in FAULTS {
+        assert!(rt; fault_of(rt.alloc(), entries) == Some(SampleFault::Block(fault)));
     }
 }
 
-#[test]
-fn a_block_is_walked_by_columns(rt: HostRuntime) -> Result<(), Fail> {
-    let block = wide(rt.alloc(), &spread())?;
-    assert!(rt; block.len() == 3 && block.columns() == 2);
-    assert!(rt; block.column_number(1) == 900);
-    assert!(rt; block.nth_column(0) == ([0, 2].as_slice(), [5, 6].as_slice()));
-    for n in 0..3 {
-        assert!(rt; block.entry_at(n) == spread()[n]);
+/// Whether the block of the spread entries is walked by its two columns, and looked up by columns and places.
+fn is_walked(block: &Block<MinPlus>) -> bool {
+    block.columns() == 2
+        && block.column_number(1) == 900
+        && block.nth_column(0) == ([0, 2].as_slice(), [5, 6].as_slice())
+        && block.column(900) == ([1].as_slice(), [7].as_slice())
+        && block.column(4) == ([].as_slice(), [].as_slice())
+        && block.range(3) == (0, 2)
+}
+
+/// Whether a place has its entry, or the zero.
+fn is_looked_up(block: &Block<MinPlus>) -> bool {
+    if block.shape().rows() != 4 || block.shape().cols() != 1000 {
+        return false;
     }
-    Ok(())
+    block.get(2, 3) == 6 && block.get(1, 3) == u64::MAX
 }
 
 #[test]
-fn a_block_is_looked_up_by_columns_and_places(rt: HostRuntime) -> Result<(), Fail> {
-    let block = block::<MinPlus>(rt.alloc(), 4, 1000, &spread())?;
-    assert!(rt; block.column(900) == ([1].as_slice(), [7].as_slice()));
-    assert!(rt; block.column(4) == ([].as_slice(), [].as_slice()));
-    assert!(rt; block.range(3) == (0, 2));
-    assert!(rt; block.get(2, 3) == 6 && block.get(1, 3) == u64::MAX);
-    Ok(())
-}
-
-#[test]
-fn the_largest_sides_cost_what_the_entries_cost(rt: HostRuntime) -> Result<(), Fail> {
-    let last = entry(LIMIT - 1, LIMIT - 1, 9);
-    let block = block::<PlusTimes>(rt.alloc(), LIMIT, LIMIT, &[entry(0, 0, 1), last])?;
-    assert!(rt; block.shape().rows() == LIMIT && block.get(last.row, last.column) == 9);
-    assert!(rt; block.len() == 2);
-    assert!(rt; block.entry_at(1) == last);
+fn a_block_is_walked_and_looked_up(rt: HostRuntime) -> Result<(), Fail> {
+    let block = block::<MinPlus>(rt.alloc(), 4, 1000, SPREAD)?;
+    assert!(rt; is_walked(&block) && is_looked_up(&block));
     Ok(())
 }
 
@@ -151,7 +196,13 @@ fn a_column_is_stored_whole(rt: HostRuntime) -> Result<(), Fail> {
     block.push_column(3, &[1], &[6])?;
     block.push_column(5, &[], &[])?;
     block.push_column(900, &[0, 2], &[7, 8])?;
-    assert!(rt; has_lists(&block, &[3, 900], &[(0, 1), (1, 3)], &[1, 0, 2], &[6, 7, 8]));
+    let lists = Lists {
+        columns: &[3, 900],
+        ranges: &[(0, 1), (1, 3)],
+        rows: &[1, 0, 2],
+        values: &[6, 7, 8],
+    };
+    assert!(rt; has_lists(&block, &lists));
     Ok(())
 }
 
@@ -165,46 +216,25 @@ fn taken_over(block: Block<OrAnd>) -> Block<MinPlus>
 
 #[test]
 fn a_block_is_taken_over_to_another_semiring(rt: HostRuntime) -> Result<(), Fail> {
-    let given = [entry(0, 3, 1), entry(2, 3, 1), entry(1, 900, 1)];
-    let other = taken_over(block(rt.alloc(), 4, 1000, &given)?);
-    assert!(rt; other.shape().rows() == 4 && other.shape().cols() == 1000);
-    assert!(rt; other.row_numbers() == [0, 2, 1].as_slice());
-    assert!(rt; other.column_numbers() == [3, 900].as_slice());
-    assert!(rt; other.values() == [1, 1, 1].as_slice());
-    assert!(rt; other.get(1, 900) == 1 && other.get(0, 0) == u64::MAX);
+    let given: &[Entry] = entries![(0, 3, 1), (2, 3, 1), (1, 900, 1)];
+    let other = taken_over(block(rt.alloc(), 4, 1000, given)?);
+    assert!(rt; has_entries(&other, given) && other.get(0, 0) == u64::MAX);
     Ok(())
+}
+
+/// Whether a block gives its lists away.
+fn gives(block: Block<PlusTimes>, lists: &Lists) -> bool {
+    let (columns, rows, values) = block.into_lists();
+    columns.as_slice() == lists.columns
+        && rows.as_slice() == lists.rows
+        && values.as_slice() == lists.values
 }
 
 #[test]
 fn a_block_gives_its_lists_away(rt: HostRuntime) -> Result<(), Fail> {
-    let block = wide(rt.alloc(), &spread())?;
-    let (columns, rows, values) = block.into_lists();
-    assert!(rt; columns.as_slice() == [3, 900].as_slice());
-    assert!(rt; rows.as_slice() == [0, 2, 1].as_slice());
-    assert!(rt; values.as_slice() == [5, 6, 7].as_slice());
+    let block = block(rt.alloc(), 4, 1000, SPREAD)?;
+    assert!(rt; gives(block, &OF_SPREAD));
     Ok(())
-}
-
-/// Whether a block's copy that takes room has the entries too, which are spread.
-fn has_copy(block: &Block<PlusTimes>) -> Result<bool, AllocError> {
-    let mut copy = block.try_clone()?;
-    let _ = copy.reserve(100);
-    Ok(copy.len() == 3 && copy.get(1, 900) == 7)
-}
-
-/// Whether the block of these entries has them, and its copy too; or why there is none.
-fn is_held(alloc: Global, given: &[Entry]) -> Result<bool, SampleFault> {
-    let block = wide(alloc, given)?;
-    Ok(has_copy(&block)? && block.entries()?.as_slice() == given)
-}
-
-/// Each call that takes memory, one after another. Where memory is refused a call says so and nothing else
-/// (`rt try --test --fail-alloc N`, for each N in turn).
-#[test]
-fn refused_memory_is_said(rt: HostRuntime) {
-    let refused = SampleFault::Block(BlockFault::Memory);
-    let held = is_held(rt.alloc(), &spread());
-    assert!(rt; held == Ok(true) || held == Err(refused));
 }
 
 /// Whether a block has so many entries and columns, and this value in row 2 of column 3, or none of them.
@@ -213,7 +243,7 @@ fn has_all_or_nothing(block: &Block<PlusTimes>, all: bool, held: (usize, usize, 
     (block.len(), block.columns(), block.get(2, 3)) == wanted
 }
 
-/// The same for the call that a block grows by: where it is refused, the block is as it was.
+/// Passes whichever single allocation is refused: where the call that a block grows by is refused, the block is as it was.
 #[test]
 fn a_refused_push_stores_nothing(rt: HostRuntime) -> Result<(), Fail> {
     let mut block = Block::<PlusTimes>::empty(rt.alloc(), shape(4, 1000)?);

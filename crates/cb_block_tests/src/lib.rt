@@ -12,6 +12,8 @@ mod dense;
 #[cfg(test)]
 mod elementwise;
 #[cfg(test)]
+mod masked;
+#[cfg(test)]
 mod matrix;
 #[cfg(test)]
 mod product;
@@ -22,6 +24,6 @@ mod reshape;
 #[cfg(test)]
 mod samples;
 #[cfg(test)]
-mod semirings;
+mod selections;
 #[cfg(test)]
-mod vectors;
+mod semirings;

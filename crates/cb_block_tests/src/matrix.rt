@@ -1,9 +1,13 @@
 //! Worked examples, with ample memory and with each allocation refused in turn.
+use crate::samples::entries;
 use cb_matrix::{Entry, EntryFault, LIMIT, Matrix, ProductFault, Shape};
 use cb_samples::{are_values, entry, shape};
-use cb_semirings::{MaxMin, MinPlus, OrAnd, PlusTimes, Semiring};
+use cb_semirings::{MinPlus, OrAnd, PlusTimes, Semiring};
 use std::alloc::{AllocError, Global};
 use std::test::Fail;
+
+/// The last row and the last column of the largest sides.
+const LAST: u32 = LIMIT - 1;
 
 /// The matrix of so many rows and columns with the sums of these entries.
 pub(crate) fn matrix<S: Semiring>(
@@ -18,96 +22,99 @@ pub(crate) fn matrix<S: Semiring>(
     Ok(Matrix::from_entries(alloc, shape(rows, cols)?, entries)?)
 }
 
-/// The product of two matrices of these sides: rows, inner side, columns.
-fn product<S: Semiring>(
-    alloc: Global,
+/// Two factors and the entries of their product. The first has so many rows and columns, and the second as many rows as the
+/// first has columns, and so many columns.
+struct Factors {
     sides: [u32; 3],
-    left: &[Entry],
-    right: &[Entry],
-) -> Result<Matrix<S>, Fail> {
-    let a = matrix::<S>(alloc, sides[0], sides[1], left)?;
-    let b = matrix::<S>(alloc, sides[1], sides[2], right)?;
-    Ok(Matrix::plain_product(alloc, &a, &b)?)
+    left: &'static [Entry],
+    right: &'static [Entry],
+    product: &'static [Entry],
 }
 
-/// Whether that product has its shape and these entries.
-fn is_product<S: Semiring>(
-    alloc: Global,
-    sides: [u32; 3],
-    left: &[Entry],
-    right: &[Entry],
-    wanted: &[Entry],
-) -> Result<bool, Fail> {
-    let outer = shape(sides[0], sides[2])?;
-    let made = product::<S>(alloc, sides, left, right)?;
-    Ok(made.shape() == outer && made.entries() == wanted)
+/// Whether two matrices have their product.
+fn is_product<S: Semiring>(alloc: Global, factors: &Factors) -> Result<bool, Fail> {
+    let [rows, inner, cols] = factors.sides;
+    let outer = shape(rows, cols)?;
+    let a = matrix::<S>(alloc, rows, inner, factors.left)?;
+    let b = matrix::<S>(alloc, inner, cols, factors.right)?;
+    let made = Matrix::plain_product(alloc, &a, &b)?;
+    Ok(made.shape() == outer && made.entries() == factors.product)
 }
 
 /// Two by two; matrices without rows and columns; three sides that differ; the largest sides, which cost what the
 /// entries cost; and a product and a sum that come to zero and aren't stored.
-#[test]
-fn plain_products_of_plus_times(rt: HostRuntime) -> Result<(), Fail> {
-    let last = LIMIT - 1;
-    let cases: [([u32; 3], &[Entry], &[Entry], &[Entry]); 6] = [
-        (
-            [2, 2, 2],
-            &[entry(0, 0, 1), entry(0, 1, 2), entry(1, 1, 3)],
-            &[entry(0, 1, 1), entry(1, 0, 4)],
-            &[entry(0, 0, 8), entry(1, 0, 12), entry(0, 1, 1)],
-        ),
-        ([0, 0, 0], &[], &[], &[]),
-        (
-            [3, 2, 1],
-            &[entry(2, 0, 5), entry(0, 1, 3)],
-            &[entry(1, 0, 7)],
-            &[entry(0, 0, 21)],
-        ),
-        (
-            [LIMIT; 3],
-            &[entry(0, last, 7)],
-            &[entry(last, 4, 3)],
-            &[entry(0, 4, 21)],
-        ),
-        (
-            [1, 1, 1],
-            &[entry(0, 0, 1 << 32)],
-            &[entry(0, 0, 1 << 32)],
-            &[],
-        ),
-        (
-            [1, 2, 1],
-            &[entry(0, 0, 1), entry(0, 1, u64::MAX)],
-            &[entry(0, 0, 1), entry(1, 0, 1)],
-            &[],
-        ),
-    ];
-    for (sides, left, right, wanted) in cases {
-        assert!(rt; is_product::<PlusTimes>(rt.alloc(), sides, left, right, wanted)?);
-    }
-    Ok(())
-}
+const OF_PLUS_TIMES: [Factors; 6] = [
+    Factors {
+        sides: [2, 2, 2],
+        left: entries![(0, 0, 1), (0, 1, 2), (1, 1, 3)],
+        right: entries![(0, 1, 1), (1, 0, 4)],
+        product: entries![(0, 0, 8), (1, 0, 12), (0, 1, 1)],
+    },
+    Factors {
+        sides: [0, 0, 0],
+        left: &[],
+        right: &[],
+        product: &[],
+    },
+    Factors {
+        sides: [3, 2, 1],
+        left: entries![(2, 0, 5), (0, 1, 3)],
+        right: entries![(1, 0, 7)],
+        product: entries![(0, 0, 21)],
+    },
+    Factors {
+        sides: [LIMIT; 3],
+        left: entries![(0, LAST, 7)],
+        right: entries![(LAST, 4, 3)],
+        product: entries![(0, 4, 21)],
+    },
+    Factors {
+        sides: [1, 1, 1],
+        left: entries![(0, 0, 1 << 32)],
+        right: entries![(0, 0, 1 << 32)],
+        product: &[],
+    },
+    Factors {
+        sides: [1, 2, 1],
+        left: entries![(0, 0, 1), (0, 1, u64::MAX)],
+        right: entries![(0, 0, 1), (1, 0, 1)],
+        product: &[],
+    },
+];
 
 /// Min-plus stops at infinity.
-#[test]
-fn plain_products_of_min_plus(rt: HostRuntime) -> Result<(), Fail> {
-    let far = [entry(0, 0, u64::MAX - 1)];
-    for (step, wanted) in [(1, [].as_slice()), (0, far.as_slice())] {
-        let right = [entry(0, 0, step)];
-        assert!(rt; is_product::<MinPlus>(rt.alloc(), [1; 3], &far, &right, wanted)?);
-    }
-    Ok(())
-}
+const OF_MIN_PLUS: [Factors; 2] = [
+    Factors {
+        sides: [1, 1, 1],
+        left: entries![(0, 0, u64::MAX - 1)],
+        right: entries![(0, 0, 1)],
+        product: &[],
+    },
+    Factors {
+        sides: [1, 1, 1],
+        left: entries![(0, 0, u64::MAX - 1)],
+        right: entries![(0, 0, 0)],
+        product: entries![(0, 0, u64::MAX - 1)],
+    },
+];
 
-/// A relation is squared, and the wider of two ways is taken.
+/// A relation is squared.
+const OF_OR_AND: Factors = Factors {
+    sides: [3, 3, 3],
+    left: entries![(1, 0, 1), (0, 1, 1), (2, 2, 1)],
+    right: entries![(1, 0, 1), (0, 1, 1), (2, 2, 1)],
+    product: entries![(0, 0, 1), (1, 1, 1), (2, 2, 1)],
+};
+
 #[test]
-fn plain_products_of_relations_and_capacities(rt: HostRuntime) -> Result<(), Fail> {
-    let pairs = [entry(1, 0, 1), entry(0, 1, 1), entry(2, 2, 1)];
-    let square = [entry(0, 0, 1), entry(1, 1, 1), entry(2, 2, 1)];
-    assert!(rt; is_product::<OrAnd>(rt.alloc(), [3; 3], &pairs, &pairs, &square)?);
-    let out = [entry(0, 0, 5), entry(0, 1, 2)];
-    let on = [entry(0, 0, 3), entry(1, 0, 9)];
-    let wider = [entry(0, 0, 3)];
-    assert!(rt; is_product::<MaxMin>(rt.alloc(), [1, 2, 1], &out, &on, &wider)?);
+fn plain_products(rt: HostRuntime) -> Result<(), Fail> {
+    for factors in &OF_PLUS_TIMES {
+        assert!(rt; is_product::<PlusTimes>(rt.alloc(), factors)?);
+    }
+    for factors in &OF_MIN_PLUS {
+        assert!(rt; is_product::<MinPlus>(rt.alloc(), factors)?);
+    }
+    assert!(rt; is_product::<OrAnd>(rt.alloc(), &OF_OR_AND)?);
     Ok(())
 }
 
@@ -145,76 +152,90 @@ fn list_makes<S: Semiring>(
     Ok(has_entries(&made, wanted)?)
 }
 
-/// Whether entries, as a slice and as a list, make a matrix of one row and two columns with this one.
-fn both_make<S: Semiring>(alloc: Global, given: &[Entry], wanted: Entry) -> Result<bool, Fail> {
-    let sides = shape(1, 2)?;
-    Ok(
-        slice_makes::<S>(alloc, sides, given, &[wanted])?
-            && list_makes::<S>(alloc, sides, given, &[wanted])?,
-    )
+/// Whether entries, as a slice and as a list, make a matrix of one row and two columns with these, or are answered so.
+fn both_make<S: Semiring>(
+    alloc: Global,
+    given: &[Entry],
+    wanted: &[Entry],
+    answer: Result<bool, EntryFault>,
+) -> bool {
+    let Some(sides) = Shape::new(1, 2) else {
+        return false;
+    };
+    slice_makes::<S>(alloc, sides, given, wanted) == answer
+        && list_makes::<S>(alloc, sides, given, wanted) == answer
 }
 
 #[test]
-fn doubles_are_added_by_the_semiring(rt: HostRuntime) -> Result<(), Fail> {
-    let twice = [entry(0, 0, 3), entry(0, 0, 4)];
-    let ones = [entry(0, 0, 1), entry(0, 0, 1)];
-    assert!(rt; both_make::<PlusTimes>(rt.alloc(), &twice, entry(0, 0, 7))?);
-    assert!(rt; both_make::<MinPlus>(rt.alloc(), &twice, entry(0, 0, 3))?);
-    assert!(rt; both_make::<OrAnd>(rt.alloc(), &ones, entry(0, 0, 1))?);
-    Ok(())
+fn doubles_are_added_by_the_semiring(rt: HostRuntime) {
+    let twice: &[Entry] = entries![(0, 0, 3), (0, 0, 4)];
+    let ones: &[Entry] = entries![(0, 0, 1), (0, 0, 1)];
+    let (alloc, right) = (rt.alloc(), Ok(true));
+    assert!(rt; both_make::<PlusTimes>(alloc, twice, entries![(0, 0, 7)], right));
+    assert!(rt; both_make::<MinPlus>(alloc, twice, entries![(0, 0, 3)], right));
+    assert!(rt; both_make::<OrAnd>(alloc, ones, entries![(0, 0, 1)], right));
 }
 
 #[test]
-fn the_first_entry_outside_is_named(rt: HostRuntime) -> Result<(), Fail> {
-    let given = [entry(0, 0, 3), entry(0, 2, 4), entry(2, 0, 5)];
-    let side = shape(2, 2)?;
-    for made in [
-        slice_makes::<PlusTimes>(rt.alloc(), side, &given, &given),
-        list_makes::<PlusTimes>(rt.alloc(), side, &given, &given),
-    ] {
-        assert_eq!(rt; made, Err(EntryFault::Place(1)));
-    }
-    assert_eq!(rt; Shape::new(LIMIT, LIMIT + 1), None);
-    Ok(())
+fn the_first_entry_outside_is_named(rt: HostRuntime) {
+    let given: &[Entry] = entries![(0, 0, 3), (0, 2, 4), (2, 0, 5)];
+    let named = Err(EntryFault::Place(1));
+    assert!(rt; both_make::<PlusTimes>(rt.alloc(), given, given, named));
+    assert!(rt; Shape::new(LIMIT, LIMIT + 1).is_none());
 }
 
 #[test]
 fn shapes_that_do_not_meet_have_no_product(rt: HostRuntime) -> Result<(), Fail> {
     let wide = Matrix::<PlusTimes>::empty(rt.alloc(), shape(2, 3)?);
     let product = Matrix::plain_product(rt.alloc(), &wide, &wide);
-    assert_eq!(rt; product.err(), Some(ProductFault::Shapes));
+    assert!(rt; product.err() == Some(ProductFault::Shapes));
     assert!(rt; wide.is_empty());
-    assert_eq!(rt; wide.shape().with_columns_of(shape(3, 5)?), shape(2, 5)?);
+    assert!(rt; wide.shape().with_columns_of(shape(3, 5)?) == shape(2, 5)?);
     Ok(())
 }
 
-/// The values at those of some places that are inside a matrix of three rows and four columns with these entries.
-fn looked_up(alloc: Global, given: &[Entry], places: &[(u32, u32)]) -> Result<Vec<u64>, Fail> {
-    let matrix = matrix::<MinPlus>(alloc, 3, 4, given)?;
-    let mut values = Vec::new(alloc);
-    for (row, column) in places {
-        if *row < matrix.rows() && *column < matrix.cols() {
-            values.push(matrix.get(*row, *column))?;
+/// The value at a place, where it is inside.
+fn looked_up(matrix: &Matrix<MinPlus>, row: u32, column: u32) -> Option<u64> {
+    if row < matrix.rows() && column < matrix.cols() {
+        Some(matrix.get(row, column))
+    } else {
+        None
+    }
+}
+
+/// Places, and the values there of a matrix of three rows and four columns with entries at the first three.
+const PLACES: [(u32, u32, Option<u64>); 7] = [
+    (0, 1, Some(5)),
+    (2, 1, Some(6)),
+    (1, 3, Some(7)),
+    (1, 1, Some(u64::MAX)),
+    (2, 3, Some(u64::MAX)),
+    (3, 1, None),
+    (0, 4, None),
+];
+
+/// Whether each place has its value.
+fn has_places(matrix: &Matrix<MinPlus>) -> bool {
+    for (row, column, value) in PLACES {
+        if looked_up(matrix, row, column) != value {
+            return false;
         }
     }
-    Ok(values)
+    true
+}
+
+/// Whether its entries are counted by column and then by row.
+fn is_counted(matrix: &Matrix<MinPlus>) -> bool {
+    matrix.len() == 3
+        && matrix.entry_at(0) == entry(0, 1, 5)
+        && matrix.entry_at(2) == entry(1, 3, 7)
 }
 
 #[test]
-fn a_place_has_its_entry_or_zero(rt: HostRuntime) -> Result<(), Fail> {
-    let given = [entry(2, 1, 6), entry(0, 1, 5), entry(1, 3, 7)];
-    let places = [(0, 1), (2, 1), (1, 3), (1, 1), (2, 3), (3, 1), (0, 4)];
-    let found = looked_up(rt.alloc(), &given, &places)?;
-    assert_eq!(rt; found.as_slice(), [5, 6, 7, u64::MAX, u64::MAX].as_slice());
-    Ok(())
-}
-
-#[test]
-fn entries_are_counted_by_column_and_then_by_row(rt: HostRuntime) -> Result<(), Fail> {
-    let given = [entry(2, 1, 6), entry(0, 1, 5), entry(1, 3, 7)];
-    let matrix = matrix::<MinPlus>(rt.alloc(), 3, 4, &given)?;
-    assert!(rt; matrix.len() == 3);
-    assert!(rt; matrix.entry_at(0) == entry(0, 1, 5) && matrix.entry_at(2) == entry(1, 3, 7));
+fn a_matrix_is_looked_up_by_places_and_walked(rt: HostRuntime) -> Result<(), Fail> {
+    let given: &[Entry] = entries![(2, 1, 6), (0, 1, 5), (1, 3, 7)];
+    let matrix = matrix::<MinPlus>(rt.alloc(), 3, 4, given)?;
+    assert!(rt; has_places(&matrix) && is_counted(&matrix));
     Ok(())
 }
 

@@ -1,399 +1,443 @@
 //! Worked examples, with ample memory and with each allocation refused in turn.
 use crate::matrix::matrix;
+use crate::samples::{entries, has_entries, is_right_or_refused};
 use cb_dcsc::BlockFault;
 use cb_matrix::{Entry, LIMIT, Matrix};
 use cb_product::{multiply, multiply_into};
 use cb_samples::{SampleFault, block, entry};
-use cb_semirings::{MinFirst, MinPlus, MinSecond, OrAnd, PlusPair, PlusTimes, Semiring};
-use std::alloc::Global;
+use cb_semirings::{PlusPair, PlusTimes, Semiring};
+use std::alloc::{AllocError, Global};
 use std::test::Fail;
 
-/// The entries of the product of two blocks, of these sides: rows, inner side, columns.
-fn product<S: Semiring>(
-    alloc: Global,
+/// The last row and the last column of the largest sides.
+const LAST: u32 = LIMIT - 1;
+
+/// Two factors and the entries of their product. The first has so many rows and columns, and the second as many rows as the
+/// first has columns, and so many columns.
+#[derive(Clone, Copy)]
+struct Factors<'a> {
     sides: [u32; 3],
-    left: &[Entry],
-    right: &[Entry],
-) -> Result<Vec<Entry>, SampleFault> {
-    let a = block::<S>(alloc, sides[0], sides[1], left)?;
-    let b = block::<S>(alloc, sides[1], sides[2], right)?;
-    Ok(multiply(alloc, &a, &b)?.entries()?)
+    left: &'a [Entry],
+    right: &'a [Entry],
+    product: &'a [Entry],
 }
 
-/// The same of a product that is added to a block.
-fn added<S: Semiring>(
-    alloc: Global,
-    sides: [u32; 3],
-    left: &[Entry],
-    right: &[Entry],
-    own: &[Entry],
-) -> Result<Vec<Entry>, SampleFault> {
-    let a = block::<S>(alloc, sides[0], sides[1], left)?;
-    let b = block::<S>(alloc, sides[1], sides[2], right)?;
-    let start = block::<S>(alloc, sides[0], sides[2], own)?;
-    match multiply_into(alloc, &a, &b, start) {
-        Ok(sum) => Ok(sum.entries()?),
-        Err((_, refused)) => Err(refused.into()),
-    }
-}
-
-/// Two by two; a sum that comes to zero; the largest sides, which cost what the entries cost; and columns that name
-/// one column and are scaled copies of it, where 2 times 2^63 is zero.
-#[test]
-fn products_of_plus_times(rt: HostRuntime) -> Result<(), Fail> {
-    let last = LIMIT - 1;
-    let to_zero = [
-        entry(0, 0, 1),
-        entry(2, 0, 1),
-        entry(0, 1, u64::MAX),
-        entry(1, 1, 5),
-    ];
-    let cases: [([u32; 3], &[Entry], &[Entry], &[Entry]); 4] = [
-        (
-            [2, 2, 2],
-            &[entry(0, 0, 1), entry(0, 1, 2), entry(1, 1, 3)],
-            &[entry(1, 0, 4), entry(0, 1, 1)],
-            &[entry(0, 0, 8), entry(1, 0, 12), entry(0, 1, 1)],
-        ),
-        (
-            [3, 2, 1],
-            &to_zero,
-            &[entry(0, 0, 1), entry(1, 0, 1)],
-            &[entry(1, 0, 5), entry(2, 0, 1)],
-        ),
-        (
-            [LIMIT; 3],
-            &[entry(0, last, 7), entry(last, last, 5)],
-            &[entry(last, 4, 3)],
-            &[entry(0, 4, 21), entry(last, 4, 15)],
-        ),
-        (
-            [3, 2, 2],
-            &[entry(0, 0, 1 << 63), entry(2, 0, 3), entry(1, 1, 9)],
-            &[entry(0, 0, 2), entry(1, 1, 5)],
-            &[entry(2, 0, 6), entry(1, 1, 45)],
-        ),
-    ];
-    for (sides, left, right, wanted) in cases {
-        let found = product::<PlusTimes>(rt.alloc(), sides, left, right)?;
-        assert_eq!(rt; found.as_slice(), wanted);
-    }
-    Ok(())
-}
-
-/// Among 5 rows the products are summed row by row, among 2,147,483,647 the columns are joined.
-#[test]
-fn three_columns_meet_in_one_row(rt: HostRuntime) -> Result<(), Fail> {
-    let left = [
-        entry(1, 0, 1),
-        entry(3, 0, 2),
-        entry(0, 1, 4),
-        entry(1, 1, 8),
-        entry(1, 2, 16),
-        entry(4, 2, 32),
-    ];
-    let ones = [entry(0, 0, 1), entry(1, 0, 1), entry(2, 0, 1)];
-    let sums = [(0, 4), (1, 25), (3, 2), (4, 32)].map(|(row, value)| entry(row, 0, value));
-    for rows in [5, LIMIT] {
-        let found = product::<PlusTimes>(rt.alloc(), [rows, 3, 1], &left, &ones)?;
-        assert_eq!(rt; found.as_slice(), sums.as_slice());
-    }
-    Ok(())
-}
-
-/// Two by two, where a sum comes to zero; blocks without entries, by which nothing is added; and a tall accumulator,
-/// which is merged in, and whose own columns come along.
-#[test]
-fn products_that_are_added(rt: HostRuntime) -> Result<(), Fail> {
-    let own = [
-        entry(7, 0, 1),
-        entry(5, 1, 1),
-        entry(8, 1, 1),
-        entry(3, 2, 1),
-    ];
-    let tall = [
-        entry(7, 0, 1),
-        entry(5, 1, 21),
-        entry(8, 1, 1),
-        entry(9, 1, 430),
-        entry(3, 2, 1),
-    ];
-    let cases: [([u32; 3], [&[Entry]; 3], &[Entry]); 4] = [
-        (
-            [2, 2, 2],
-            [&[], &[entry(1, 0, 4)], &[entry(0, 1, 7)]],
-            &[entry(0, 1, 7)],
-        ),
-        (
-            [2, 2, 2],
-            [&[entry(0, 0, 1)], &[], &[entry(0, 1, 7)]],
-            &[entry(0, 1, 7)],
-        ),
-        (
-            [2, 2, 2],
-            [
-                &[entry(0, 0, 1), entry(0, 1, 2), entry(1, 1, 3)],
-                &[entry(1, 0, 4), entry(0, 1, 1)],
-                &[entry(0, 1, u64::MAX), entry(1, 1, 5)],
-            ],
-            &[entry(0, 0, 8), entry(1, 0, 12), entry(1, 1, 5)],
-        ),
-        (
-            [LIMIT, 2, 3],
-            [
-                &[entry(5, 0, 2), entry(9, 0, 3), entry(9, 1, 4)],
-                &[entry(0, 1, 10), entry(1, 1, 100)],
-                &own,
-            ],
-            &tall,
-        ),
-    ];
-    for (sides, [left, right, own], wanted) in cases {
-        let sum = added::<PlusTimes>(rt.alloc(), sides, left, right, own)?;
-        assert_eq!(rt; sum.as_slice(), wanted);
-    }
-    Ok(())
-}
-
-/// The first column of the product has one term, the second none, the third names a column without entries, and in the
-/// last, of two terms, a sum comes to zero.
-#[test]
-fn columns_without_terms_stay_as_they_are(rt: HostRuntime) -> Result<(), Fail> {
-    let left = [entry(1, 0, 2), entry(4, 0, 3), entry(2, 2, 5)];
-    let right = [
-        entry(0, 0, 10),
-        entry(1, 2, 7),
-        entry(0, 3, 1),
-        entry(2, 3, 1),
-    ];
-    let own = [
-        entry(0, 0, 1),
-        entry(4, 0, 6),
-        entry(3, 1, 8),
-        entry(5, 1, 9),
-        entry(1, 2, 4),
-        entry(2, 2, u64::MAX),
-        entry(2, 3, u64::MAX - 4),
-    ];
-    let wanted = [
-        entry(0, 0, 1),
-        entry(1, 0, 20),
-        entry(4, 0, 36),
-        entry(3, 1, 8),
-        entry(5, 1, 9),
-        entry(1, 2, 4),
-        entry(2, 2, u64::MAX),
-        entry(1, 3, 2),
-        entry(4, 3, 3),
-    ];
-    for rows in [6, LIMIT] {
-        let sum = added::<PlusTimes>(rt.alloc(), [rows, 3, 4], &left, &right, &own)?;
-        assert_eq!(rt; sum.as_slice(), wanted.as_slice());
-    }
-    Ok(())
-}
-
-/// One column scaled by 2, by 3 and by 1, and joined with a column of which it makes a row zero, with none, and with
-/// one of other rows. 2 times 2^63 is zero.
-#[test]
-fn one_term_is_joined(rt: HostRuntime) -> Result<(), Fail> {
-    let left = [entry(0, 0, 1), entry(2, 0, 1 << 63), entry(5, 0, 7)];
-    let right = [entry(0, 0, 2), entry(0, 1, 3), entry(0, 2, 1)];
-    let own = [
-        entry(2, 0, 4),
-        entry(5, 0, u64::MAX - 13),
-        entry(1, 2, 6),
-        entry(7, 2, 9),
-    ];
-    let wanted = [
-        entry(0, 0, 2),
-        entry(2, 0, 4),
-        entry(0, 1, 3),
-        entry(2, 1, 1 << 63),
-        entry(5, 1, 21),
-        entry(0, 2, 1),
-        entry(1, 2, 6),
-        entry(2, 2, 1 << 63),
-        entry(5, 2, 7),
-        entry(7, 2, 9),
-    ];
-    for rows in [8, LIMIT] {
-        let sum = added::<PlusTimes>(rt.alloc(), [rows, 1, 3], &left, &right, &own)?;
-        assert_eq!(rt; sum.as_slice(), wanted.as_slice());
-    }
-    Ok(())
-}
-
-#[test]
-fn blocks_without_rows_columns_or_entries_have_empty_products(rt: HostRuntime) -> Result<(), Fail> {
-    for sides in [[0, 0, 0], [0, 3, 2], [2, 0, 3], [2, 3, 0], [2, 3, 4]] {
-        let found = product::<PlusTimes>(rt.alloc(), sides, &[], &[])?;
-        assert_eq!(rt; found.len(), 0);
-    }
-    Ok(())
+/// Whether two blocks have their product.
+fn is_product<S: Semiring>(alloc: Global, factors: &Factors<'_>) -> Result<bool, SampleFault> {
+    let [rows, inner, cols] = factors.sides;
+    let a = block::<S>(alloc, rows, inner, factors.left)?;
+    let b = block::<S>(alloc, inner, cols, factors.right)?;
+    let product = multiply(alloc, &a, &b)?;
+    Ok(has_entries(&product, factors.product))
 }
 
 /// Entries in columns 1, 3, 4 and 6, and in none before, between and behind them.
-fn gapped() -> [Entry; 5] {
-    [
-        entry(1, 1, 10),
-        entry(0, 3, 30),
-        entry(2, 3, 31),
-        entry(4, 4, 40),
-        entry(3, 6, 60),
-    ]
+const GAPPED: &'static [Entry] = entries![
+    (1, 1, 10),
+    (0, 3, 30),
+    (2, 3, 31),
+    (4, 4, 40),
+    (3, 6, 60)
+];
+
+/// Three columns that meet in row 1.
+const MEETING: &'static [Entry] = entries![
+    (1, 0, 1),
+    (3, 0, 2),
+    (0, 1, 4),
+    (1, 1, 8),
+    (1, 2, 16),
+    (4, 2, 32)
+];
+
+const SUMS_OF_MEETING: &'static [Entry] = entries![(0, 0, 4), (1, 0, 25), (3, 0, 2), (4, 0, 32)];
+
+const PRODUCTS: [Factors<'static>; 12] = [
+    // two by two
+    Factors {
+        sides: [2, 2, 2],
+        left: entries![(0, 0, 1), (0, 1, 2), (1, 1, 3)],
+        right: entries![(1, 0, 4), (0, 1, 1)],
+        product: entries![(0, 0, 8), (1, 0, 12), (0, 1, 1)],
+    },
+    // a sum that comes to zero
+    Factors {
+        sides: [3, 2, 1],
+        left: entries![(0, 0, 1), (2, 0, 1), (0, 1, u64::MAX), (1, 1, 5)],
+        right: entries![(0, 0, 1), (1, 0, 1)],
+        product: entries![(1, 0, 5), (2, 0, 1)],
+    },
+    // the largest sides, which cost what the entries cost
+    Factors {
+        sides: [LIMIT; 3],
+        left: entries![(0, LAST, 7), (LAST, LAST, 5)],
+        right: entries![(LAST, 4, 3)],
+        product: entries![(0, 4, 21), (LAST, 4, 15)],
+    },
+    // columns that name one column and are scaled copies of it, where 2 times 2^63 is zero
+    Factors {
+        sides: [3, 2, 2],
+        left: entries![(0, 0, 1 << 63), (2, 0, 3), (1, 1, 9)],
+        right: entries![(0, 0, 2), (1, 1, 5)],
+        product: entries![(2, 0, 6), (1, 1, 45)],
+    },
+    // one column of the largest sides
+    Factors {
+        sides: [LIMIT, LIMIT, 1],
+        left: entries![(0, 7, 4), (LAST, LAST, 3)],
+        right: entries![(LAST, 0, 2)],
+        product: entries![(LAST, 0, 6)],
+    },
+    // among 5 rows the products are summed row by row, among 2,147,483,647 the columns are joined
+    Factors {
+        sides: [5, 3, 1],
+        left: MEETING,
+        right: entries![(0, 0, 1), (1, 0, 1), (2, 0, 1)],
+        product: SUMS_OF_MEETING,
+    },
+    Factors {
+        sides: [LIMIT, 3, 1],
+        left: MEETING,
+        right: entries![(0, 0, 1), (1, 0, 1), (2, 0, 1)],
+        product: SUMS_OF_MEETING,
+    },
+    // neither block has entries
+    Factors {
+        sides: [2, 3, 4],
+        left: &[],
+        right: &[],
+        product: &[],
+    },
+    // a column that has entries, and some that have none, before, between and behind those that do: each is asked for by
+    // a block of its own, and searched for
+    Factors {
+        sides: [5, 8, 1],
+        left: GAPPED,
+        right: entries![(3, 0, 1)],
+        product: entries![(0, 0, 30), (2, 0, 31)],
+    },
+    Factors {
+        sides: [5, 8, 1],
+        left: GAPPED,
+        right: entries![(0, 0, 1)],
+        product: &[],
+    },
+    Factors {
+        sides: [5, 8, 1],
+        left: GAPPED,
+        right: entries![(5, 0, 1)],
+        product: &[],
+    },
+    Factors {
+        sides: [5, 8, 1],
+        left: GAPPED,
+        right: entries![(7, 0, 1)],
+        product: &[],
+    },
+];
+
+#[test]
+fn products_of_plus_times(rt: HostRuntime) {
+    for (number, factors) in PRODUCTS.iter().enumerate() {
+        let is_right = is_product::<PlusTimes>(rt.alloc(), factors) == Ok(true);
+        assert!(rt; is_right, "{number}");
+    }
 }
 
-/// Eight columns are asked for, all by one column of the right block: of 8 columns the index has starts, and of
-/// 2,147,483,647 it is hashed. Then each is asked for by a block of its own, and searched for.
 #[test]
-fn each_index_finds_columns_with_and_without_entries(rt: HostRuntime) -> Result<(), Fail> {
-    let alloc = rt.alloc();
-    let mut all = Vec::new(alloc);
-    for column in 0..8 {
-        all.push(entry(column, 0, 1))?;
+fn blocks_without_rows_or_columns_have_empty_products(rt: HostRuntime) {
+    for sides in [[0, 0, 0], [0, 3, 2], [2, 0, 3], [2, 3, 0]] {
+        let factors = Factors {
+            sides,
+            left: &[],
+            right: &[],
+            product: &[],
+        };
+        assert!(rt; is_product::<PlusTimes>(rt.alloc(), &factors) == Ok(true));
     }
-    let wanted = [
-        entry(0, 0, 30),
-        entry(1, 0, 10),
-        entry(2, 0, 31),
-        entry(3, 0, 60),
-        entry(4, 0, 40),
-    ];
-    for cols in [8, LIMIT] {
-        let found = product::<PlusTimes>(alloc, [5, cols, 1], &gapped(), &all)?;
-        assert_eq!(rt; found.as_slice(), wanted.as_slice());
-    }
-    let own: [&[Entry]; 8] = [
-        &[],
-        &[entry(1, 0, 10)],
-        &[],
-        &[entry(0, 0, 30), entry(2, 0, 31)],
-        &[entry(4, 0, 40)],
-        &[],
-        &[entry(3, 0, 60)],
-        &[],
-    ];
-    for (one, wanted) in all.iter().zip(&own) {
-        let found = product::<PlusTimes>(alloc, [5, 8, 1], &gapped(), &[*one])?;
-        assert_eq!(rt; found.as_slice(), *wanted);
-    }
-    Ok(())
 }
 
-/// The left block has entries in every 200,000,000th column, and every 25,000,000th is asked for: one in eight of these
-/// has an entry. The index is hashed.
-#[test]
-fn columns_that_are_not_in_the_left_block_add_nothing(rt: HostRuntime) -> Result<(), Fail> {
-    let alloc = rt.alloc();
-    let mut left = Vec::new(alloc);
-    let mut wanted = Vec::new(alloc);
-    for n in 0..8u32 {
-        let value = u64::from(n) + 1;
-        left.push(entry(n, n.wrapping_mul(200_000_000), value))?;
-        wanted.push(entry(n, 5, value.wrapping_mul(3)))?;
+/// Rows that are so far apart, from the first on, so many of them, in one column.
+fn rows_apart(
+    alloc: Global,
+    step: u32,
+    count: u32,
+    column: u32,
+    value: u64,
+) -> Result<Vec<Entry>, AllocError> {
+    let mut entries = Vec::new(alloc);
+    for n in 0..count {
+        entries.push(entry(n.wrapping_mul(step), column, value))?;
     }
-    let mut right = Vec::new(alloc);
-    for n in 0..64u32 {
-        right.push(entry(n.wrapping_mul(25_000_000), 5, 3))?;
-    }
-    let found = product::<PlusTimes>(alloc, [LIMIT; 3], &left, &right)?;
-    assert_eq!(rt; found.as_slice(), wanted.as_slice());
-    Ok(())
+    Ok(entries)
 }
 
-/// Rows at both ends of the words that mark them, and one that is named twice. The first columns are joined, the last
-/// are summed.
+/// Whether eight columns of a block with columns in gaps are found, all asked for by one column.
+fn finds_eight(alloc: Global, cols: u32) -> Result<bool, SampleFault> {
+    let all = rows_apart(alloc, 1, 8, 0, 1)?;
+    let factors = Factors {
+        sides: [5, cols, 1],
+        left: GAPPED,
+        right: all.as_slice(),
+        product: entries![(0, 0, 30), (1, 0, 10), (2, 0, 31), (3, 0, 60), (4, 0, 40)],
+    };
+    is_product::<PlusTimes>(alloc, &factors)
+}
+
+/// Entries in every 200,000,000th column.
+const FAR_APART: &'static [Entry] = entries![
+    (0, 0, 1),
+    (1, 200_000_000, 2),
+    (2, 400_000_000, 3),
+    (3, 600_000_000, 4),
+    (4, 800_000_000, 5),
+    (5, 1_000_000_000, 6),
+    (6, 1_200_000_000, 7),
+    (7, 1_400_000_000, 8)
+];
+
+/// Whether every 25,000,000th column is asked for of a block where one in eight of these has an entry.
+fn finds_one_in_eight(alloc: Global) -> Result<bool, SampleFault> {
+    let asked = rows_apart(alloc, 25_000_000, 64, 5, 3)?;
+    let factors = Factors {
+        sides: [LIMIT; 3],
+        left: FAR_APART,
+        right: asked.as_slice(),
+        product: entries![
+            (0, 5, 3),
+            (1, 5, 6),
+            (2, 5, 9),
+            (3, 5, 12),
+            (4, 5, 15),
+            (5, 5, 18),
+            (6, 5, 21),
+            (7, 5, 24)
+        ],
+    };
+    is_product::<PlusTimes>(alloc, &factors)
+}
+
+/// Of 8 columns the index has starts, of 2,147,483,647 it is hashed.
 #[test]
-fn marked_rows_come_in_order(rt: HostRuntime) -> Result<(), Fail> {
-    let left = [
-        entry(0, 0, 1),
-        entry(64, 0, 2),
-        entry(127, 0, 4),
-        entry(199, 0, 8),
-        entry(63, 1, 16),
-        entry(64, 1, 32),
-        entry(128, 1, 64),
-    ];
-    let sums = [(0, 1), (63, 16), (64, 34), (127, 4), (128, 64), (199, 8)];
-    let mut ones = Vec::new(rt.alloc());
-    let mut wanted = Vec::new(rt.alloc());
+fn each_index_finds_columns_with_and_without_entries(rt: HostRuntime) {
+    assert!(rt; finds_eight(rt.alloc(), 8) == Ok(true));
+    assert!(rt; finds_eight(rt.alloc(), LIMIT) == Ok(true));
+    assert!(rt; finds_one_in_eight(rt.alloc()) == Ok(true));
+}
+
+/// Ten columns, each with these entries.
+fn ten_columns(alloc: Global, rows: &[(u32, u64)]) -> Result<Vec<Entry>, AllocError> {
+    let mut entries = Vec::new(alloc);
     for column in 0..10 {
-        ones.push(entry(0, column, 1))?;
-        ones.push(entry(1, column, 1))?;
-        for (row, value) in sums {
-            wanted.push(entry(row, column, value))?;
+        for (row, value) in rows {
+            entries.push(entry(*row, column, *value))?;
         }
     }
-    let found = product::<PlusTimes>(rt.alloc(), [200, 2, 10], &left, &ones)?;
-    assert_eq!(rt; found.as_slice(), wanted.as_slice());
-    Ok(())
+    Ok(entries)
 }
 
-#[test]
-fn semirings_add_and_multiply_in_their_own_way(rt: HostRuntime) -> Result<(), Fail> {
-    let pairs = [entry(1, 0, 1), entry(0, 1, 1), entry(2, 2, 1)];
-    let square = product::<OrAnd>(rt.alloc(), [3; 3], &pairs, &pairs)?;
-    let diagonal = [entry(0, 0, 1), entry(1, 1, 1), entry(2, 2, 1)];
-    assert_eq!(rt; square.as_slice(), diagonal.as_slice());
-    let far = [entry(0, 0, u64::MAX - 1)];
-    let farther = product::<MinPlus>(rt.alloc(), [1; 3], &far, &[entry(0, 0, 1)])?;
-    assert_eq!(rt; farther.len(), 0);
-    Ok(())
+/// Rows at both ends of the words that mark them, and one that is named twice.
+const MARKED: &'static [Entry] = entries![
+    (0, 0, 1),
+    (64, 0, 2),
+    (127, 0, 4),
+    (199, 0, 8),
+    (63, 1, 16),
+    (64, 1, 32),
+    (128, 1, 64)
+];
+
+/// Whether ten columns of a product have these rows in order.
+fn has_marked_rows(alloc: Global) -> Result<bool, SampleFault> {
+    let right = ten_columns(alloc, &[(0, 1), (1, 1)])?;
+    let sums = [(0, 1), (63, 16), (64, 34), (127, 4), (128, 64), (199, 8)];
+    let product = ten_columns(alloc, &sums)?;
+    let factors = Factors {
+        sides: [200, 2, 10],
+        left: MARKED,
+        right: right.as_slice(),
+        product: product.as_slice(),
+    };
+    is_product::<PlusTimes>(alloc, &factors)
 }
 
-/// Of five rows the products are summed row by row, of 2,147,483,647 the columns are joined. A value of the accumulator
-/// is no product, and stays a value: 5, and not 1.
+/// The first columns are joined, the last are summed.
 #[test]
-fn pairs_are_counted_and_own_values_stay(rt: HostRuntime) -> Result<(), Fail> {
-    let left = [entry(0, 0, 7), entry(0, 1, 9), entry(1, 1, 3)];
-    let right = [entry(0, 0, 4), entry(1, 0, 6), entry(1, 1, 8)];
-    let own = [
-        entry(0, 0, 5),
-        entry(4, 0, 5),
-        entry(3, 1, 5),
-        entry(2, 2, 5),
-    ];
-    let wanted = [
-        entry(0, 0, 7),
-        entry(1, 0, 1),
-        entry(4, 0, 5),
-        entry(0, 1, 1),
-        entry(1, 1, 1),
-        entry(3, 1, 5),
-        entry(2, 2, 5),
-    ];
-    for rows in [5, LIMIT] {
-        let sum = added::<PlusPair>(rt.alloc(), [rows, 2, 3], &left, &right, &own)?;
-        assert_eq!(rt; sum.as_slice(), wanted.as_slice());
+fn marked_rows_come_in_order(rt: HostRuntime) {
+    assert!(rt; has_marked_rows(rt.alloc()) == Ok(true));
+}
+
+/// Two factors, a block, and the sum of their product and the block.
+#[derive(Clone, Copy)]
+struct Added<'a> {
+    sides: [u32; 3],
+    left: &'a [Entry],
+    right: &'a [Entry],
+    own: &'a [Entry],
+    sum: &'a [Entry],
+}
+
+/// Whether the product of two blocks is added to the third; or, where memory is refused, whether the third is handed back
+/// as it was.
+fn is_sum<S: Semiring>(
+    alloc: Global,
+    added: &Added<'_>,
+) -> Result<Result<bool, bool>, SampleFault> {
+    let [rows, inner, cols] = added.sides;
+    let a = block::<S>(alloc, rows, inner, added.left)?;
+    let b = block::<S>(alloc, inner, cols, added.right)?;
+    let own = block::<S>(alloc, rows, cols, added.own)?;
+    match multiply_into(alloc, &a, &b, own) {
+        Ok(sum) => Ok(Ok(has_entries(&sum, added.sum))),
+        Err((same, _)) => Ok(Err(has_entries(&same, added.own))),
     }
-    Ok(())
 }
 
-/// A matrix times a column that names vertices, and a row of names times a matrix: each vertex gets the least name of
-/// its neighbours, 0 too.
+/// A column with one term; one with none; one that names a column without entries; and one of two terms, where a sum comes
+/// to zero.
+const WITHOUT_TERMS: Added<'static> = Added {
+    sides: [6, 3, 4],
+    left: entries![(1, 0, 2), (4, 0, 3), (2, 2, 5)],
+    right: entries![(0, 0, 10), (1, 2, 7), (0, 3, 1), (2, 3, 1)],
+    own: entries![
+        (0, 0, 1),
+        (4, 0, 6),
+        (3, 1, 8),
+        (5, 1, 9),
+        (1, 2, 4),
+        (2, 2, u64::MAX),
+        (2, 3, u64::MAX - 4)
+    ],
+    sum: entries![
+        (0, 0, 1),
+        (1, 0, 20),
+        (4, 0, 36),
+        (3, 1, 8),
+        (5, 1, 9),
+        (1, 2, 4),
+        (2, 2, u64::MAX),
+        (1, 3, 2),
+        (4, 3, 3)
+    ],
+};
+
+/// One column scaled by 2, by 3 and by 1, and joined with a column of which it makes a row zero, with none, and with
+/// one of other rows. 2 times 2^63 is zero.
+const ONE_TERM: Added<'static> = Added {
+    sides: [8, 1, 3],
+    left: entries![(0, 0, 1), (2, 0, 1 << 63), (5, 0, 7)],
+    right: entries![(0, 0, 2), (0, 1, 3), (0, 2, 1)],
+    own: entries![(2, 0, 4), (5, 0, u64::MAX - 13), (1, 2, 6), (7, 2, 9)],
+    sum: entries![
+        (0, 0, 2),
+        (2, 0, 4),
+        (0, 1, 3),
+        (2, 1, 1 << 63),
+        (5, 1, 21),
+        (0, 2, 1),
+        (1, 2, 6),
+        (2, 2, 1 << 63),
+        (5, 2, 7),
+        (7, 2, 9)
+    ],
+};
+
+const OWN: Added<'static> = Added {
+    sides: [5, 2, 3],
+    left: entries![(0, 0, 7), (0, 1, 9), (1, 1, 3)],
+    right: entries![(0, 0, 4), (1, 0, 6), (1, 1, 8)],
+    own: entries![(0, 0, 5), (4, 0, 5), (3, 1, 5), (2, 2, 5)],
+    sum: entries![
+        (0, 0, 7),
+        (1, 0, 1),
+        (4, 0, 5),
+        (0, 1, 1),
+        (1, 1, 1),
+        (3, 1, 5),
+        (2, 2, 5)
+    ],
+};
+
+/// A value that is added to is no product, and stays a value: with plus-pair 5, and not 1. Among five rows, and among
+/// 2,147,483,647.
+const PAIRS: [Added<'static>; 2] = [
+    OWN,
+    Added {
+        sides: [LIMIT, 2, 3],
+        ..OWN
+    },
+];
+
+const SMALL: Added<'static> = Added {
+    sides: [2, 2, 3],
+    left: entries![(0, 0, 1), (0, 1, 2), (1, 1, 3)],
+    right: entries![(0, 0, 10), (1, 0, 100), (0, 2, 3)],
+    own: entries![(0, 0, 5), (1, 0, 5), (1, 1, 7)],
+    sum: entries![(0, 0, 215), (1, 0, 305), (1, 1, 7), (0, 2, 3)],
+};
+
+const SUMS: [Added<'static>; 8] = [
+    // a block without entries, by which nothing is added
+    Added {
+        sides: [2, 2, 2],
+        left: &[],
+        right: entries![(1, 0, 4)],
+        own: entries![(0, 1, 7)],
+        sum: entries![(0, 1, 7)],
+    },
+    Added {
+        sides: [2, 2, 2],
+        left: entries![(0, 0, 1)],
+        right: &[],
+        own: entries![(0, 1, 7)],
+        sum: entries![(0, 1, 7)],
+    },
+    // two by two, where a sum comes to zero
+    Added {
+        sides: [2, 2, 2],
+        left: entries![(0, 0, 1), (0, 1, 2), (1, 1, 3)],
+        right: entries![(1, 0, 4), (0, 1, 1)],
+        own: entries![(0, 1, u64::MAX), (1, 1, 5)],
+        sum: entries![(0, 0, 8), (1, 0, 12), (1, 1, 5)],
+    },
+    // a tall block, which is merged in, and whose own columns come along
+    Added {
+        sides: [LIMIT, 2, 3],
+        left: entries![(5, 0, 2), (9, 0, 3), (9, 1, 4)],
+        right: entries![(0, 1, 10), (1, 1, 100)],
+        own: entries![(7, 0, 1), (5, 1, 1), (8, 1, 1), (3, 2, 1)],
+        sum: entries![(7, 0, 1), (5, 1, 21), (8, 1, 1), (9, 1, 430), (3, 2, 1)],
+    },
+    WITHOUT_TERMS,
+    ONE_TERM,
+    // of 2,147,483,647 rows the columns are joined, where of a few the products are summed row by row
+    Added {
+        sides: [LIMIT, 3, 4],
+        ..WITHOUT_TERMS
+    },
+    Added {
+        sides: [LIMIT, 1, 3],
+        ..ONE_TERM
+    },
+];
+
 #[test]
-fn the_least_name_of_a_neighbour_is_found(rt: HostRuntime) -> Result<(), Fail> {
-    let edges = [
-        entry(1, 0, 8),
-        entry(2, 0, 9),
-        entry(2, 1, 1),
-        entry(0, 2, 3),
-        entry(1, 2, 2),
-    ];
-    let column = [entry(0, 0, 0), entry(2, 0, 6)];
-    let found = product::<MinSecond>(rt.alloc(), [3, 3, 1], &edges, &column)?;
-    let wanted = [entry(0, 0, 6), entry(1, 0, 0), entry(2, 0, 0)];
-    assert_eq!(rt; found.as_slice(), wanted.as_slice());
-    let row = [entry(0, 1, 5), entry(0, 2, 4)];
-    let found = product::<MinFirst>(rt.alloc(), [1, 3, 3], &row, &edges)?;
-    let wanted = [entry(0, 0, 4), entry(0, 1, 4), entry(0, 2, 5)];
-    assert_eq!(rt; found.as_slice(), wanted.as_slice());
-    Ok(())
+fn products_that_are_added(rt: HostRuntime) {
+    for (number, added) in SUMS.iter().enumerate() {
+        let is_right = is_sum::<PlusTimes>(rt.alloc(), added) == Ok(Ok(true));
+        assert!(rt; is_right, "{number}");
+    }
+}
+
+#[test]
+fn own_values_are_no_products(rt: HostRuntime) {
+    for pairs in &PAIRS {
+        assert!(rt; is_sum::<PlusPair>(rt.alloc(), pairs) == Ok(Ok(true)));
+    }
 }
 
 /// Thirty columns of 45 entries each, spread over so many rows, of which many meet.
-fn spread(alloc: Global, rows: u32) -> Result<Vec<Entry>, Fail> {
+fn spread(alloc: Global, rows: u32) -> Result<Vec<Entry>, AllocError> {
     let step = rows / 46;
     let mut entries = Vec::new(alloc);
     for column in 0..30u32 {
@@ -406,43 +450,63 @@ fn spread(alloc: Global, rows: u32) -> Result<Vec<Entry>, Fail> {
 }
 
 /// A column that names all thirty, one that names three, and one that names one.
-fn named(alloc: Global) -> Result<Vec<Entry>, Fail> {
+fn named(alloc: Global) -> Result<Vec<Entry>, AllocError> {
     let mut entries = Vec::new(alloc);
     for row in 0..30u32 {
         entries.push(entry(row, 0, u64::from(row) + 2))?;
     }
-    let others = [(4, 1, 3), (9, 1, 1 << 63), (11, 1, 5), (7, 2, 9)];
-    for (row, column, value) in others {
+    for (row, column, value) in [(4, 1, 3), (9, 1, 1 << 63), (11, 1, 5), (7, 2, 9)] {
         entries.push(entry(row, column, value))?;
     }
     Ok(entries)
 }
 
-/// The entries of the product by its definition, row by column.
+/// The product of two matrices by its definition, row by column, and its sum with a third.
 fn plain(
     alloc: Global,
     sides: [u32; 3],
-    left: &[Entry],
-    right: &[Entry],
-) -> Result<Vec<Entry>, Fail> {
-    let a = matrix::<PlusTimes>(alloc, sides[0], sides[1], left)?;
-    let b = matrix::<PlusTimes>(alloc, sides[1], sides[2], right)?;
+    given: [&[Entry]; 3],
+) -> Result<(Matrix<PlusTimes>, Matrix<PlusTimes>), Fail> {
+    let [rows, inner, cols] = sides;
+    let [left, right, own] = given;
+    let a = matrix::<PlusTimes>(alloc, rows, inner, left)?;
+    let b = matrix::<PlusTimes>(alloc, inner, cols, right)?;
     let product = Matrix::plain_product(alloc, &a, &b)?;
-    Ok(product.entries().to_vec(alloc)?)
+    let mut both = product.entries().to_vec(alloc)?;
+    both.extend_from_slice(own)?;
+    let sum = matrix::<PlusTimes>(alloc, rows, cols, &both)?;
+    Ok((product, sum))
 }
 
-/// The entries of the sum of two matrices of so many rows and columns.
-fn plain_sum(
-    alloc: Global,
-    rows: u32,
-    cols: u32,
-    left: &[Entry],
-    right: &[Entry],
-) -> Result<Vec<Entry>, Fail> {
-    let mut both = left.to_vec(alloc)?;
-    both.extend_from_slice(right)?;
-    let sum = matrix::<PlusTimes>(alloc, rows, cols, &both)?;
-    Ok(sum.entries().to_vec(alloc)?)
+/// Whether the product of two blocks, and its sum with a third, are the plain ones.
+fn are_plain(alloc: Global, sides: [u32; 3], given: [&[Entry]; 3]) -> Result<bool, Fail> {
+    let [left, right, own] = given;
+    let (product, sum) = plain(alloc, sides, given)?;
+    let factors = Factors {
+        sides,
+        left,
+        right,
+        product: product.entries(),
+    };
+    let added = Added {
+        sides,
+        left,
+        right,
+        own,
+        sum: sum.entries(),
+    };
+    Ok(is_product::<PlusTimes>(alloc, &factors)? && is_sum::<PlusTimes>(alloc, &added)? == Ok(true))
+}
+
+/// Whether they are among so many rows.
+fn is_plain_among(alloc: Global, rows: u32) -> Result<bool, Fail> {
+    let (left, right) = (spread(alloc, rows)?, named(alloc)?);
+    let own: &[Entry] = entries![(0, 0, 7), (1, 0, 8), (0, 1, 5), (3, 3, 1)];
+    are_plain(
+        alloc,
+        [rows, 30, 4],
+        [left.as_slice(), right.as_slice(), own],
+    )
 }
 
 /// Among 5,000 rows the first two columns are made by the sparse accumulator, among 2,147,483,647 one by the heap and
@@ -450,75 +514,44 @@ fn plain_sum(
 /// is that of the plain product.
 #[test]
 fn each_way_gives_the_plain_product(rt: HostRuntime) -> Result<(), Fail> {
-    let right = named(rt.alloc())?;
-    let own = [
-        entry(0, 0, 7),
-        entry(1, 0, 8),
-        entry(0, 1, 5),
-        entry(3, 3, 1),
-    ];
     for rows in [5000, LIMIT] {
-        let (alloc, sides) = (rt.alloc(), [rows, 30, 4]);
-        let left = spread(alloc, rows)?;
-        let wanted = plain(alloc, sides, &left, &right)?;
-        let found = product::<PlusTimes>(alloc, sides, &left, &right)?;
-        assert_eq!(rt; found.as_slice(), wanted.as_slice());
-        let wanted = plain_sum(alloc, rows, 4, &found, &own)?;
-        let sum = added::<PlusTimes>(alloc, sides, &left, &right, &own)?;
-        assert_eq!(rt; sum.as_slice(), wanted.as_slice());
+        assert!(rt; is_plain_among(rt.alloc(), rows)?);
     }
     Ok(())
 }
 
 /// Passes whichever single allocation is refused (`rt try --test --fail-alloc N`, for each N in turn): the answer
-/// is right, or memory was wanting. Among 2,147,483,647 rows the columns are joined.
+/// is right, or memory was wanting.
 #[test]
 fn a_refused_product_answers_memory(rt: HostRuntime) {
-    let left = [entry(0, 0, 1), entry(0, 1, 2), entry(1, 1, 3)];
-    let right = [entry(0, 0, 10), entry(1, 0, 100)];
-    let sums = [entry(0, 0, 210), entry(1, 0, 300)];
-    for rows in [2, LIMIT] {
-        match product::<PlusTimes>(rt.alloc(), [rows, 2, 1], &left, &right) {
-            Ok(found) => assert_eq!(rt; found.as_slice(), sums.as_slice()),
-            Err(fault) => assert_eq!(rt; fault, SampleFault::Block(BlockFault::Memory)),
-        }
+    for factors in &PRODUCTS {
+        let is_right = is_product::<PlusTimes>(rt.alloc(), factors);
+        assert!(rt; is_right_or_refused(is_right));
     }
 }
 
-/// The sum, or the accumulator as it was.
-fn sum_or_start(
-    alloc: Global,
-    sides: [u32; 3],
-    left: &[Entry],
-    right: &[Entry],
-    own: &[Entry],
-) -> Result<(bool, Vec<Entry>), SampleFault> {
-    let a = block::<PlusTimes>(alloc, sides[0], sides[1], left)?;
-    let b = block::<PlusTimes>(alloc, sides[1], sides[2], right)?;
-    let start = block::<PlusTimes>(alloc, sides[0], sides[2], own)?;
-    match multiply_into(alloc, &a, &b, start) {
-        Ok(sum) => Ok((true, sum.entries()?)),
-        Err((same, _)) => Ok((false, same.entries()?)),
+/// Whether a product is added, or where memory was wanting the block is back as it was.
+fn is_sum_or_refused(alloc: Global, added: &Added<'_>) -> bool {
+    match is_sum::<PlusTimes>(alloc, added) {
+        Ok(Ok(is_right)) => is_right,
+        Ok(Err(is_back)) => is_back,
+        Err(fault) => fault == SampleFault::Block(BlockFault::Memory),
     }
 }
 
-/// The same for a product that is added: where memory was wanting the accumulator is back as it was.
+/// Among two rows, and among 2,147,483,647, where the columns are joined.
+const SMALL_AND_TALL: [Added<'static>; 2] = [
+    SMALL,
+    Added {
+        sides: [LIMIT, 2, 3],
+        ..SMALL
+    },
+];
+
+/// The same for a product that is added.
 #[test]
-fn a_refused_product_hands_the_accumulator_back(rt: HostRuntime) {
-    let left = [entry(0, 0, 1), entry(0, 1, 2), entry(1, 1, 3)];
-    let right = [entry(0, 0, 10), entry(1, 0, 100), entry(0, 2, 3)];
-    let own = [entry(0, 0, 5), entry(1, 0, 5), entry(1, 1, 7)];
-    let sums = [
-        entry(0, 0, 215),
-        entry(1, 0, 305),
-        entry(1, 1, 7),
-        entry(0, 2, 3),
-    ];
-    for rows in [2, LIMIT] {
-        let Ok((is_sum, found)) = sum_or_start(rt.alloc(), [rows, 2, 3], &left, &right, &own) else {
-            continue;
-        };
-        let wanted: &[Entry] = if is_sum { &sums } else { &own };
-        assert_eq!(rt; found.as_slice(), wanted);
+fn a_refused_product_hands_the_block_back(rt: HostRuntime) {
+    for added in &SMALL_AND_TALL {
+        assert!(rt; is_sum_or_refused(rt.alloc(), added));
     }
 }

@@ -1,131 +1,130 @@
 //! Sums of rows and of columns, with ample memory and with each allocation refused in turn.
-use cb_dcsc::BlockFault;
+use crate::samples::{entries, has_entries, is_right_or_refused};
+use cb_dcsc::Block;
 use cb_matrix::{Entry, LIMIT};
 use cb_reductions::{column_sums, row_sums};
-use cb_samples::{SampleFault, block, entry};
-use cb_semirings::{MaxMin, MinPlus, OrAnd, PlusTimes, Semiring};
-use std::alloc::Global;
-use std::test::Fail;
+use cb_samples::{SampleFault, block};
+use cb_semirings::{MinPlus, PlusTimes, Semiring};
+use std::alloc::{AllocError, Global};
+
+/// The last row and the last column of the largest sides.
+const LAST: u32 = LIMIT - 1;
 
 /// The sides of a block (rows, columns), its entries, and the sums of its rows and of its columns as they are stored.
-type Case<'a> = ((u32, u32), &'a [Entry], &'a [Entry], &'a [Entry]);
-
-/// Whether the sums of the rows and of the columns of a block are these, in one column and in one row.
-fn sums_are<S: Semiring>(alloc: Global, case: &Case<'_>) -> Result<bool, SampleFault> {
-    let (sides, given, by_row, by_column) = *case;
-    let whole = block::<S>(alloc, sides.0, sides.1, given)?;
-    let rows = row_sums(alloc, &whole)?;
-    let columns = column_sums(alloc, &whole)?;
-    let are_shaped = rows.shape().rows() == sides.0
-        && rows.shape().cols() == 1
-        && columns.shape().rows() == 1
-        && columns.shape().cols() == sides.1;
-    let are_entries = rows.entries()?.as_slice() == by_row
-        && columns.entries()?.as_slice() == by_column;
-    Ok(are_shaped && are_entries)
+struct Case {
+    sides: (u32, u32),
+    given: &'static [Entry],
+    by_row: &'static [Entry],
+    by_column: &'static [Entry],
 }
 
-/// The number of the first case that isn't so.
-fn wrong_case<S: Semiring>(
+/// Whether the sums of the rows of a block are these, in one column.
+fn are_row_sums<S: Semiring>(
     alloc: Global,
-    cases: &[Case<'_>],
-) -> Result<Option<usize>, SampleFault> {
-    for (number, case) in cases.iter().enumerate() {
-        if !sums_are::<S>(alloc, case)? {
-            return Ok(Some(number));
-        }
+    whole: &Block<S>,
+    wanted: &[Entry],
+) -> Result<bool, AllocError> {
+    let sums = row_sums(alloc, whole)?;
+    let is_shaped = sums.shape().rows() == whole.shape().rows() && sums.shape().cols() == 1;
+    Ok(is_shaped && has_entries(&sums, wanted))
+}
+
+/// Whether those of its columns are these, in one row.
+fn are_column_sums<S: Semiring>(
+    alloc: Global,
+    whole: &Block<S>,
+    wanted: &[Entry],
+) -> Result<bool, AllocError> {
+    let sums = column_sums(alloc, whole)?;
+    let is_shaped = sums.shape().rows() == 1 && sums.shape().cols() == whole.shape().cols();
+    Ok(is_shaped && has_entries(&sums, wanted))
+}
+
+/// Whether both are as said.
+fn are_sums<S: Semiring>(alloc: Global, case: &Case) -> Result<bool, SampleFault> {
+    let whole = block::<S>(alloc, case.sides.0, case.sides.1, case.given)?;
+    let are_rows_right = are_row_sums(alloc, &whole, case.by_row)?;
+    let are_columns_right = are_column_sums(alloc, &whole, case.by_column)?;
+    Ok(are_rows_right && are_columns_right)
+}
+
+const CASES: [Case; 7] = [
+    // entries of one row and of one column
+    Case {
+        sides: (5, 4),
+        given: entries![(0, 0, 1), (2, 0, 4), (0, 1, 2), (2, 3, 7), (3, 3, 8)],
+        by_row: entries![(0, 0, 3), (2, 0, 11), (3, 0, 8)],
+        by_column: entries![(0, 0, 5), (0, 1, 2), (0, 3, 15)],
+    },
+    // sums of 2^64, which are zero
+    Case {
+        sides: (2, 2),
+        given: entries![(0, 0, u64::MAX), (1, 0, 1), (1, 1, 1)],
+        by_row: entries![(0, 0, u64::MAX), (1, 0, 2)],
+        by_column: entries![(0, 1, 1)],
+    },
+    Case {
+        sides: (1, 2),
+        given: entries![(0, 0, u64::MAX), (0, 1, 1)],
+        by_row: &[],
+        by_column: entries![(0, 0, u64::MAX), (0, 1, 1)],
+    },
+    // no entries
+    Case {
+        sides: (0, 0),
+        given: &[],
+        by_row: &[],
+        by_column: &[],
+    },
+    Case {
+        sides: (3, 0),
+        given: &[],
+        by_row: &[],
+        by_column: &[],
+    },
+    Case {
+        sides: (0, 3),
+        given: &[],
+        by_row: &[],
+        by_column: &[],
+    },
+    // the largest sides, which cost what the entries cost
+    Case {
+        sides: (LIMIT, LIMIT),
+        given: entries![(LAST, 0, 2), (0, LAST, 3), (LAST, LAST, 4)],
+        by_row: entries![(0, 0, 3), (LAST, 0, 6)],
+        by_column: entries![(0, 0, 2), (0, LAST, 7)],
+    },
+];
+
+#[test]
+fn entries_are_added_up(rt: HostRuntime) {
+    for (number, case) in CASES.iter().enumerate() {
+        assert!(rt;
+            are_sums::<PlusTimes>(rt.alloc(), case) == Ok(true),
+            "{number}"
+        );
     }
-    Ok(None)
 }
 
-/// Entries of one row and of one column; sides of 0 and of 1; no entries; sums of 2^64, which are zero; and the largest
-/// sides, which cost what the entries cost.
-#[test]
-fn entries_are_added_up(rt: HostRuntime) -> Result<(), Fail> {
-    let last = LIMIT - 1;
-    let given = [
-        entry(0, 0, 1),
-        entry(2, 0, 4),
-        entry(0, 1, 2),
-        entry(2, 3, 7),
-        entry(3, 3, 8),
-    ];
-    let cases: [Case<'_>; 7] = [
-        (
-            (5, 4),
-            &given,
-            &[entry(0, 0, 3), entry(2, 0, 11), entry(3, 0, 8)],
-            &[entry(0, 0, 5), entry(0, 1, 2), entry(0, 3, 15)],
-        ),
-        (
-            (2, 2),
-            &[entry(0, 0, u64::MAX), entry(1, 0, 1), entry(1, 1, 1)],
-            &[entry(0, 0, u64::MAX), entry(1, 0, 2)],
-            &[entry(0, 1, 1)],
-        ),
-        (
-            (1, 2),
-            &[entry(0, 0, u64::MAX), entry(0, 1, 1)],
-            &[],
-            &[entry(0, 0, u64::MAX), entry(0, 1, 1)],
-        ),
-        ((0, 0), &[], &[], &[]),
-        ((3, 0), &[], &[], &[]),
-        ((0, 3), &[], &[], &[]),
-        (
-            (LIMIT, LIMIT),
-            &[entry(last, 0, 2), entry(0, last, 3), entry(last, last, 4)],
-            &[entry(0, 0, 3), entry(last, 0, 6)],
-            &[entry(0, 0, 2), entry(0, last, 7)],
-        ),
-    ];
-    assert_eq!(rt; wrong_case::<PlusTimes>(rt.alloc(), &cases)?, None);
-    Ok(())
-}
+/// The least of each row and of each column.
+const LEAST: Case = Case {
+    sides: (2, 2),
+    given: entries![(0, 0, 4), (1, 0, 9), (0, 1, 3)],
+    by_row: entries![(0, 0, 3), (1, 0, 9)],
+    by_column: entries![(0, 0, 4), (0, 1, 3)],
+};
 
-/// The least, any, and the greatest.
 #[test]
-fn sums_are_those_of_the_semiring(rt: HostRuntime) -> Result<(), Fail> {
-    let alloc = rt.alloc();
-    let given = [entry(0, 0, 4), entry(1, 0, 9), entry(0, 1, 3)];
-    let least: Case<'_> = (
-        (2, 2),
-        &given,
-        &[entry(0, 0, 3), entry(1, 0, 9)],
-        &[entry(0, 0, 4), entry(0, 1, 3)],
-    );
-    assert!(rt; sums_are::<MinPlus>(alloc, &least)?);
-    let greatest: Case<'_> = (
-        (2, 2),
-        &given,
-        &[entry(0, 0, 4), entry(1, 0, 9)],
-        &[entry(0, 0, 9), entry(0, 1, 3)],
-    );
-    assert!(rt; sums_are::<MaxMin>(alloc, &greatest)?);
-    let marks = [entry(0, 0, 1), entry(1, 0, 1), entry(0, 1, 1)];
-    let any: Case<'_> = (
-        (2, 3),
-        &marks,
-        &[entry(0, 0, 1), entry(1, 0, 1)],
-        &[entry(0, 0, 1), entry(0, 1, 1)],
-    );
-    assert!(rt; sums_are::<OrAnd>(alloc, &any)?);
-    Ok(())
+fn sums_are_those_of_the_semiring(rt: HostRuntime) {
+    assert!(rt; are_sums::<MinPlus>(rt.alloc(), &LEAST) == Ok(true));
 }
 
 /// It passes whichever single allocation is refused (`rt try --test --fail-alloc N`, for each N in turn): the call says
 /// so, or its answer is the right one.
 #[test]
 fn refused_memory_is_said(rt: HostRuntime) {
-    let case: Case<'_> = (
-        (3, 2),
-        &[entry(0, 0, 1), entry(2, 0, 4), entry(0, 1, 2)],
-        &[entry(0, 0, 3), entry(2, 0, 4)],
-        &[entry(0, 0, 5), entry(0, 1, 2)],
-    );
-    let is_right_or_refused = match sums_are::<PlusTimes>(rt.alloc(), &case) {
-        Ok(is_right) => is_right,
-        Err(fault) => fault == SampleFault::Block(BlockFault::Memory),
-    };
-    assert!(rt; is_right_or_refused);
+    for case in &CASES {
+        assert!(rt; is_right_or_refused(are_sums::<PlusTimes>(rt.alloc(), case)));
+    }
 }

@@ -6,135 +6,147 @@ use cb_semirings::{
 
 const TOP: u64 = u64::MAX;
 
-/// What a semiring says, through the bound.
-fn constants<S: DistributiveSemiring>() -> (u64, u64, u64, bool) {
-    (S::zero(), S::one(), S::pattern(), S::writes_pattern())
+/// The zero, what a file's -1, 0, 7 and 2^64 - 1 stand for, the negatives of 0 and 1, and whether values are left out.
+struct Numbers {
+    zero: u64,
+    accepted: [Option<u64>; 4],
+    negatives: [Option<u64>; 2],
+    writes_pattern: bool,
 }
 
-#[test]
-fn each_semiring_has_its_zero_and_one(rt: HostRuntime) {
-    assert_eq!(rt; constants::<PlusTimes>(), (0, 1, 1, false));
-    assert_eq!(rt; constants::<MinPlus>(), (TOP, 0, 1, false));
-    assert_eq!(rt; constants::<OrAnd>(), (0, 1, 1, true));
-    assert_eq!(rt; constants::<MaxMin>(), (0, TOP, 1, false));
+/// Of the semirings whose sum is that of whole numbers.
+const PLUS: Numbers = Numbers {
+    zero: 0,
+    accepted: [Some(TOP), Some(0), Some(7), Some(TOP)],
+    negatives: [Some(0), Some(TOP)],
+    writes_pattern: false,
+};
+
+/// Of those whose sum is the least.
+const MIN: Numbers = Numbers {
+    zero: TOP,
+    accepted: [None, Some(0), Some(7), None],
+    negatives: [None, None],
+    writes_pattern: false,
+};
+
+/// Of those whose sum is the greatest.
+const MAX: Numbers = Numbers {
+    zero: 0,
+    accepted: [None, Some(0), Some(7), Some(TOP)],
+    negatives: [None, None],
+    writes_pattern: false,
+};
+
+const RELATION: Numbers = Numbers {
+    zero: 0,
+    accepted: [Some(1), Some(0), Some(1), Some(1)],
+    negatives: [None, None],
+    writes_pattern: true,
+};
+
+/// Two values, their sum and their product.
+type Row = (u64, u64, u64, u64);
+
+/// Whether two values have their sum and their product.
+fn makes<S: Semiring>(row: &Row) -> bool {
+    let (left, right, sum, product) = *row;
+    S::is_value(left)
+        && S::is_value(right)
+        && S::add(left, right) == sum
+        && S::mul(left, right) == product
 }
 
-#[test]
-fn sums_and_products_are_those_of_the_tables(rt: HostRuntime) {
-    for (found, wanted) in [
-        (PlusTimes::add(TOP, 3), 2),
-        (PlusTimes::mul(1 << 32, 1 << 32), 0),
-        (MinPlus::add(3, 4), 3),
-        (MinPlus::mul(TOP - 1, 1), TOP),
-        (MinPlus::mul(TOP, 4), TOP),
-        (OrAnd::add(1, 0), 1),
-        (OrAnd::mul(1, 0), 0),
-        (MaxMin::add(3, 4), 4),
-        (MaxMin::mul(3, 4), 3),
-    ] {
-        assert_eq!(rt; found, wanted);
-    }
+/// Whether numbers are taken, and written, as said.
+fn has_numbers<S: Semiring>(wanted: &Numbers) -> bool {
+    let [minus_one, zero, seven, top] = wanted.accepted;
+    S::zero() == wanted.zero
+        && S::pattern() == 1
+        && S::writes_pattern() == wanted.writes_pattern
+        && S::accept(true, 1) == minus_one
+        && S::accept(true, 0) == zero
+        && S::accept(false, 7) == seven
+        && S::accept(false, TOP) == top
 }
 
-#[test]
-fn numbers_of_files_are_taken_by_the_range_of_the_semiring(rt: HostRuntime) {
-    for (negative, magnitude, plus_times, min_plus, or_and, max_min) in [
-        (true, 1, Some(TOP), None, Some(1), None),
-        (true, 0, Some(0), Some(0), Some(0), Some(0)),
-        (false, 7, Some(7), Some(7), Some(1), Some(7)),
-        (false, TOP, Some(TOP), None, Some(1), Some(TOP)),
-    ] {
-        for (taken, wanted) in [
-            (PlusTimes::accept(negative, magnitude), plus_times),
-            (MinPlus::accept(negative, magnitude), min_plus),
-            (OrAnd::accept(negative, magnitude), or_and),
-            (MaxMin::accept(negative, magnitude), max_min),
-        ] {
-            assert!(rt; taken == wanted);
+/// Whether 0 and 1 have their negatives.
+fn has_negatives<S: Semiring>(wanted: &Numbers) -> bool {
+    let [of_zero, of_one] = wanted.negatives;
+    S::is_value(0) && S::is_value(1) && S::negative(0) == of_zero && S::negative(1) == of_one
+}
+
+/// Whether a semiring is that of its table.
+fn is_as_said<S: Semiring>(numbers: &Numbers, rows: &[Row]) -> bool {
+    for row in rows {
+        if !makes::<S>(row) {
+            return false;
         }
     }
+    has_numbers::<S>(numbers) && has_negatives::<S>(numbers)
 }
 
+const HALF: u64 = 1 << 32;
+
 #[test]
-fn only_plus_times_has_negatives(rt: HostRuntime) {
-    for (found, wanted) in [
-        (PlusTimes::negative(5), Some(TOP - 4)),
-        (PlusTimes::negative(0), Some(0)),
-        (MinPlus::negative(5), None),
-        (OrAnd::negative(1), None),
-        (MaxMin::negative(5), None),
-    ] {
-        assert!(rt; found == wanted);
-    }
-    assert!(rt; OrAnd::is_value(1) && !OrAnd::is_value(2));
+fn sums_products_and_numbers_are_those_of_the_tables(rt: HostRuntime) {
+    assert!(rt; is_as_said::<PlusTimes>(&PLUS, &[(TOP, 3, 2, TOP - 2), (HALF, HALF, 1 << 33, 0)]));
+    assert!(rt;
+        is_as_said::<MinPlus>(
+            &MIN,
+            &[(3, 4, 3, 7), (TOP - 1, 1, 1, TOP), (TOP, 4, 4, TOP)]
+        )
+    );
+    assert!(rt; is_as_said::<OrAnd>(&RELATION, &[(1, 0, 1, 0)]) && !OrAnd::is_value(2));
+    assert!(rt; is_as_said::<MaxMin>(&MAX, &[(3, 4, 4, 3)]));
+}
+
+/// Whether those are right whose sum is that of whole numbers.
+fn are_of_plus() -> bool {
+    is_as_said::<PlusPair>(
+        &PLUS,
+        &[(7, 9, 16, 1), (7, 0, 7, 0), (0, 9, 9, 0), (TOP, 3, 2, 1)],
+    ) && is_as_said::<PlusMin>(&PLUS, &[(7, 9, 16, 7), (0, 9, 9, 0)])
+        && is_as_said::<PlusFirst>(&PLUS, &[(7, 9, 16, 7), (7, 0, 7, 0)])
+        && is_as_said::<PlusSecond>(&PLUS, &[(7, 9, 16, 9), (0, 9, 9, 0)])
+}
+
+/// Whether those are right whose sum is the least.
+fn are_of_min() -> bool {
+    is_as_said::<MinFirst>(&MIN, &[(7, 9, 7, 7), (7, TOP, 7, TOP), (0, 9, 0, 0)])
+        && is_as_said::<MinSecond>(&MIN, &[(7, 9, 7, 9), (TOP, 9, 9, TOP), (7, 0, 0, 0)])
+        && is_as_said::<MinMax>(&MIN, &[(7, 9, 7, 9), (TOP, 0, 0, TOP), (0, 0, 0, 0)])
+}
+
+/// Whether those are right whose sum is the greatest.
+fn are_of_max() -> bool {
+    is_as_said::<MaxFirst>(&MAX, &[(7, 9, 9, 7), (7, 0, 7, 0)])
+        && is_as_said::<MaxSecond>(&MAX, &[(7, 9, 9, 9), (0, 9, 9, 0)])
+        && is_as_said::<MaxPlus>(
+            &MAX,
+            &[
+                (7, 9, 9, 16),
+                (7, 0, 7, 0),
+                (0, 9, 9, 0),
+                (TOP, 9, TOP, TOP),
+            ],
+        )
 }
 
 /// 7 and 9, each with the zero, and two whose sum is past the top.
 #[test]
 fn binary_operators_take_the_place_of_products(rt: HostRuntime) {
-    for (found, wanted) in [
-        (PlusPair::mul(7, 9), 1),
-        (PlusPair::mul(7, 0), 0),
-        (PlusPair::mul(0, 9), 0),
-        (PlusMin::mul(7, 9), 7),
-        (PlusMin::mul(0, 9), 0),
-        (PlusFirst::mul(7, 9), 7),
-        (PlusFirst::mul(7, 0), 0),
-        (PlusSecond::mul(7, 9), 9),
-        (PlusSecond::mul(0, 9), 0),
-        (MinFirst::mul(7, 9), 7),
-        (MinFirst::mul(7, TOP), TOP),
-        (MinFirst::mul(0, 9), 0),
-        (MinSecond::mul(7, 9), 9),
-        (MinSecond::mul(TOP, 9), TOP),
-        (MinSecond::mul(7, 0), 0),
-        (MaxFirst::mul(7, 9), 7),
-        (MaxFirst::mul(7, 0), 0),
-        (MaxSecond::mul(7, 9), 9),
-        (MaxSecond::mul(0, 9), 0),
-        (MaxPlus::mul(7, 9), 16),
-        (MaxPlus::mul(7, 0), 0),
-        (MaxPlus::mul(0, 9), 0),
-        (MaxPlus::mul(TOP, 9), TOP),
-        (MinMax::mul(7, 9), 9),
-        (MinMax::mul(TOP, 0), TOP),
-        (MinMax::mul(0, 0), 0),
-        (PlusPair::add(TOP, 3), 2),
-        (MinSecond::add(7, 9), 7),
-        (MaxPlus::add(7, 9), 9),
-    ] {
-        assert_eq!(rt; found, wanted);
-    }
+    assert!(rt; are_of_plus());
+    assert!(rt; are_of_min());
+    assert!(rt; are_of_max());
 }
 
-/// The zero, what a file's -1, 0, 7 and 2^64 - 1 stand for, and whether values are written.
-fn rest<S: Semiring>() -> (u64, [Option<u64>; 4], bool) {
-    let taken = [(true, 1), (true, 0), (false, 7), (false, TOP)];
-    (
-        S::zero(),
-        taken.map(|(negative, magnitude)| S::accept(negative, magnitude)),
-        S::writes_pattern(),
-    )
+/// Whether a product with one changes nothing, where this is the one.
+fn has_one<S: DistributiveSemiring>(one: u64, value: u64) -> bool {
+    S::is_value(one) && S::is_value(value) && S::one() == one && S::mul(one, value) == value
 }
 
 #[test]
-fn another_product_changes_nothing_else(rt: HostRuntime) {
-    let plus = (0, [Some(TOP), Some(0), Some(7), Some(TOP)], false);
-    let min = (TOP, [None, Some(0), Some(7), None], false);
-    let max = (0, [None, Some(0), Some(7), Some(TOP)], false);
-    for (found, wanted) in [
-        (rest::<PlusPair>(), plus),
-        (rest::<PlusMin>(), plus),
-        (rest::<PlusFirst>(), plus),
-        (rest::<PlusSecond>(), plus),
-        (rest::<MinFirst>(), min),
-        (rest::<MinSecond>(), min),
-        (rest::<MaxFirst>(), max),
-        (rest::<MaxSecond>(), max),
-        (rest::<MaxPlus>(), max),
-        (rest::<MinMax>(), min),
-    ] {
-        assert!(rt; found == wanted);
-    }
-    assert!(rt; PlusPair::negative(5) == Some(TOP - 4) && MaxPlus::negative(5) == None);
+fn each_distributive_semiring_has_its_one(rt: HostRuntime) {
+    assert!(rt; has_one::<PlusTimes>(1, 7) && has_one::<MinPlus>(0, 7));
+    assert!(rt; has_one::<OrAnd>(1, 1) && has_one::<MaxMin>(TOP, 7));
 }

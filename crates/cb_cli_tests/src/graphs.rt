@@ -1,5 +1,9 @@
 //! Levels, distances, parents and components of the vertices of a graph, and its triangles, by `execute`.
-use crate::products::{Example, failed_alone, failed_example, text};
+use crate::products::{Example, failed_alone, failed_example, text, writes_with};
+use std::alloc::{AllocError, Global};
+use std::sync::Wait;
+use std::test::Fail;
+use std::thread::Threads;
 
 /// A cycle of three vertices, and a fourth with an edge to itself.
 pub const CYCLE: &str =
@@ -99,4 +103,86 @@ fn have_levels_and_distances(rt: HostRuntime) {
 fn have_parents_components_and_triangles(rt: HostRuntime) {
     let failed = failed_alone(&rt, &ALONE);
     assert!(rt; failed.is_none(), "{}", failed.unwrap_or(""));
+}
+
+/// How many vertices the tree has in which edges lead from vertex N to 2 N and 2 N + 1. Its text has more than 512 KB, so it
+/// is read in two pieces.
+const VERTICES: u32 = 50_000;
+
+const TREE: &str = "%%MatrixMarket matrix coordinate pattern general\n50000 50000 49999\n";
+
+/// What a line says of a vertex of the tree.
+#[derive(Clone, Copy)]
+enum Column {
+    Edge,
+    Level,
+    Parent,
+}
+
+/// Writes the line of a vertex.
+fn put_line(text: &mut String, vertex: u32, column: Column) -> Result<(), AllocError> {
+    let parent = vertex / 2;
+    let level = 31_u32.saturating_sub(vertex.leading_zeros());
+    match column {
+        Column::Edge => write!(text, "{parent} {vertex}\n"),
+        Column::Level => write!(text, "{vertex} {level}\n"),
+        Column::Parent => write!(text, "{vertex} {parent}\n"),
+    }
+}
+
+/// A text that begins so, with a line for each vertex from the second on.
+fn lines(alloc: Global, head: &str, column: Column) -> Result<String, AllocError> {
+    let mut text = String::from_str(alloc, head)?;
+    for vertex in 2..=VERTICES {
+        put_line(&mut text, vertex, column)?;
+    }
+    Ok(text)
+}
+
+/// A command on the tree, the options of its runs, and what it writes.
+struct Large {
+    line: &'static str,
+    ways: &'static [&'static str],
+    head: &'static str,
+    column: Column,
+}
+
+const LARGE: [Large; 3] = [
+    Large {
+        line: "cbgrid bfs a --source 1",
+        ways: &["", "--engine plain", "--grid 2"],
+        head: "1 0\n",
+        column: Column::Level,
+    },
+    Large {
+        line: "cbgrid relax a --source 1",
+        ways: &["", "--engine plain", "--grid 2"],
+        head: "1 0\n",
+        column: Column::Level,
+    },
+    Large {
+        line: "cbgrid parents a --source 1",
+        ways: &[""],
+        head: "",
+        column: Column::Parent,
+    },
+];
+
+/// Whether a command on the tree writes in each run what it should.
+fn is_written<R: Threads + Wait + Sync + AllocGlobal>(
+    rt: &R,
+    tree: &str,
+    large: &Large,
+) -> Result<bool, AllocError> {
+    let wanted = lines(rt.alloc(), large.head, large.column)?;
+    Ok(writes_with(rt, large.ways, large.line, &[tree], wanted.as_str()))
+}
+
+#[test]
+fn are_the_same_of_a_text_in_pieces(rt: HostRuntime) -> Result<(), Fail> {
+    let tree = lines(rt.alloc(), TREE, Column::Edge)?;
+    for large in &LARGE {
+        assert!(rt; is_written(&rt, tree.as_str(), large)?, "{}", large.line);
+    }
+    Ok(())
 }

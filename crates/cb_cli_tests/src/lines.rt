@@ -210,25 +210,33 @@ fn ask_for_each_task(rt: HostRuntime) {
     }
 }
 
-/// What a line chooses where there are so many processors: the engine, the side of the grid, and whether small files may be
-/// computed alone.
-type Choice = (&'static str, usize, EngineName, u32, bool);
+/// What a line chooses where there are so many processors: the engine, the side of the grid, whether small files may be
+/// computed alone, and how many threads may read and write.
+type Choice = (&'static str, usize, EngineName, u32, bool, u32);
 
-const CHOICES: [Choice; 17] = [
-    ("cbgrid multiply a b", 1, EngineName::Plain, 1, true),
-    ("cbgrid multiply a b", 2, EngineName::Ranks(2), 2, true),
-    ("cbgrid multiply a b", 8, EngineName::Ranks(2), 2, true),
-    ("cbgrid transpose a", 9, EngineName::Ranks(2), 3, true),
-    ("cbgrid bfs a --source 1", 16, EngineName::Ranks(2), 4, true),
-    ("cbgrid add a b", 25, EngineName::Ranks(2), 5, true),
-    ("cbgrid add a b", 999, EngineName::Ranks(2), 6, true),
-    ("cbgrid add a b --grid 3", 1, EngineName::Ranks(2), 3, false),
+const CHOICES: [Choice; 25] = [
+    ("cbgrid multiply a b", 1, EngineName::Plain, 1, true, 1),
+    ("cbgrid multiply a b", 2, EngineName::Ranks(2), 2, true, 2),
+    ("cbgrid multiply a b", 8, EngineName::Ranks(2), 2, true, 8),
+    ("cbgrid transpose a", 9, EngineName::Ranks(2), 3, true, 9),
+    ("cbgrid spmv a x", 16, EngineName::Ranks(2), 4, true, 16),
+    ("cbgrid add a b", 25, EngineName::Ranks(2), 5, true, 25),
+    ("cbgrid add a b", 999, EngineName::Ranks(2), 6, true, 36),
+    (
+        "cbgrid add a b --grid 3",
+        1,
+        EngineName::Ranks(2),
+        3,
+        false,
+        9,
+    ),
     (
         "cbgrid multiply --mask m a --grid 6 b --engine plain",
         4,
         EngineName::Plain,
         6,
         false,
+        1,
     ),
     (
         "cbgrid transpose a --engine ranks",
@@ -236,6 +244,7 @@ const CHOICES: [Choice; 17] = [
         EngineName::Ranks(2),
         2,
         false,
+        4,
     ),
     (
         "cbgrid transpose a --engine ranks",
@@ -243,6 +252,7 @@ const CHOICES: [Choice; 17] = [
         EngineName::Ranks(2),
         1,
         false,
+        1,
     ),
     (
         "cbgrid transpose a --lane 1",
@@ -250,13 +260,7 @@ const CHOICES: [Choice; 17] = [
         EngineName::Ranks(1),
         2,
         false,
-    ),
-    (
-        "cbgrid bfs a --lane=64 --source 1 --engine ranks",
         4,
-        EngineName::Ranks(64),
-        2,
-        false,
     ),
     (
         "cbgrid transpose a --engine plain --lane 64",
@@ -264,6 +268,7 @@ const CHOICES: [Choice; 17] = [
         EngineName::Plain,
         2,
         false,
+        1,
     ),
     (
         "cbgrid multiply a b --trace",
@@ -271,6 +276,7 @@ const CHOICES: [Choice; 17] = [
         EngineName::Traced(2),
         2,
         false,
+        1,
     ),
     (
         "cbgrid multiply a b --trace",
@@ -278,6 +284,7 @@ const CHOICES: [Choice; 17] = [
         EngineName::Traced(2),
         2,
         false,
+        36,
     ),
     (
         "cbgrid multiply --trace a b --mask m --lane 7 --engine ranks",
@@ -285,22 +292,84 @@ const CHOICES: [Choice; 17] = [
         EngineName::Traced(7),
         2,
         false,
+        4,
     ),
+    (
+        "cbgrid bfs a --source 1",
+        16,
+        EngineName::Plain,
+        4,
+        true,
+        16,
+    ),
+    (
+        "cbgrid relax a --source 1",
+        4,
+        EngineName::Plain,
+        2,
+        true,
+        4,
+    ),
+    (
+        "cbgrid relax a --source 1 --lane 5",
+        4,
+        EngineName::Plain,
+        2,
+        false,
+        4,
+    ),
+    (
+        "cbgrid relax a --source 1 --grid 3",
+        1,
+        EngineName::Ranks(2),
+        3,
+        false,
+        9,
+    ),
+    (
+        "cbgrid bfs a --source 1 --engine plain",
+        4,
+        EngineName::Plain,
+        2,
+        false,
+        1,
+    ),
+    (
+        "cbgrid bfs a --lane=64 --source 1 --engine ranks",
+        4,
+        EngineName::Ranks(64),
+        2,
+        false,
+        4,
+    ),
+    (
+        "cbgrid parents a --source 1",
+        4,
+        EngineName::Plain,
+        2,
+        true,
+        4,
+    ),
+    ("cbgrid components a", 999, EngineName::Plain, 6, true, 36),
+    ("cbgrid triangles a", 1, EngineName::Plain, 1, true, 1),
 ];
 
 /// Whether a line chooses so.
 fn chooses(alloc: Global, choice: &Choice) -> bool {
-    let (line, processors, engine, side, may_be_alone) = *choice;
+    let (line, processors, engine, side, may_be_alone, threads) = *choice;
     match job_by(alloc, line, processors) {
         Ok(job) => {
-            job.engine == engine && job.grid.side() == side && job.may_be_alone == may_be_alone
+            job.engine == engine
+                && job.grid.side() == side
+                && job.may_be_alone == may_be_alone
+                && job.threads == threads
         }
         Err(_) => false,
     }
 }
 
 #[test]
-fn choose_the_engine_and_the_grid(rt: HostRuntime) {
+fn choose_the_engine_the_grid_and_the_threads(rt: HostRuntime) {
     for choice in &CHOICES {
         assert!(rt; chooses(rt.alloc(), choice), "{}", choice.0);
     }

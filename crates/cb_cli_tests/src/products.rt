@@ -99,7 +99,7 @@ const RUNS: [&str; 9] = [
 ];
 
 /// Whether a command line with each of these options more writes just this text.
-fn writes_with<R: Threads + Wait + Sync + AllocGlobal>(
+pub fn writes_with<R: Threads + Wait + Sync + AllocGlobal>(
     rt: &R,
     all_options: &[&str],
     line: &str,

@@ -8,6 +8,8 @@
 #[cfg(test)]
 mod components;
 #[cfg(test)]
+mod graphs;
+#[cfg(test)]
 mod parents;
 #[cfg(test)]
 mod triangles;

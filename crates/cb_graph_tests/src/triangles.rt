@@ -1,184 +1,104 @@
 //! Counts of triangles.
+use crate::graphs::{graph, has};
 use cb_graphs::{triangles, triangles_of};
-use cb_matrix::{Entry, LIMIT};
-use cb_samples::{SampleFault, block, entry};
-use cb_semirings::OrAnd;
+use cb_matrix::LIMIT;
+use cb_samples::SampleFault;
 use std::alloc::Global;
 use std::test::Fail;
 
-/// How many triangles a square block of this side with these edges has.
-fn count_of(alloc: Global, side: u32, edges: &[Entry]) -> Result<u64, SampleFault> {
-    let graph = block::<OrAnd>(alloc, side, side, edges)?;
-    Ok(triangles(alloc, &graph)?)
+/// How many vertices a graph has, its edges, and how many triangles: no vertex; no edges; loops alone; two edges; a cycle of
+/// three in one direction, and with all entries in both and loops; a square, and a square with one diagonal; all six edges of
+/// four vertices; two triangles at one vertex; a star; and of 2,147,483,647 vertices three that have edges.
+const COUNTS: [(u32, &[(u32, u32)], u64); 12] = [
+    (0, &[], 0),
+    (3, &[], 0),
+    (3, &[(0, 0), (1, 1), (2, 2)], 0),
+    (3, &[(0, 1), (1, 2)], 0),
+    (3, &[(2, 0), (0, 1), (1, 2)], 1),
+    (3, BOTH_WAYS, 1),
+    (4, &[(3, 0), (0, 1), (1, 2), (2, 3)], 0),
+    (4, SQUARE, 2),
+    (4, &[(0, 1), (0, 2), (1, 2), (0, 3), (1, 3), (2, 3)], 4),
+    (5, &[(1, 0), (2, 0), (2, 1), (3, 2), (4, 2), (3, 4)], 2),
+    (5, &[(0, 2), (1, 2), (3, 2), (4, 2)], 0),
+    (LIMIT, &[(LAST, 5), (5, 9), (9, LAST)], 1),
+];
+
+/// How many vertices a graph has, its edges, and of how many triangles each vertex is part, where it is of any: no vertex;
+/// loops alone; a triangle with all entries in both directions and loops; a square with one diagonal; two triangles at one
+/// vertex, of which each has a loop.
+const COUNTS_OF: [(u32, &[(u32, u32)], &[(u32, u64)]); 5] = [
+    (0, &[], &[]),
+    (3, &[(0, 0), (1, 1), (2, 2)], &[]),
+    (3, BOTH_WAYS, &[(0, 1), (1, 1), (2, 1)]),
+    (4, SQUARE, &[(0, 2), (1, 1), (2, 2), (3, 1)]),
+    (6, TWO_AT_ONE, &[(0, 1), (1, 1), (2, 2), (3, 1), (4, 1)]),
+];
+
+const LAST: u32 = LIMIT - 1;
+
+const BOTH_WAYS: &[(u32, u32)] = &[
+    (0, 0),
+    (1, 0),
+    (2, 0),
+    (0, 1),
+    (1, 1),
+    (2, 1),
+    (0, 2),
+    (1, 2),
+];
+
+const SQUARE: &[(u32, u32)] = &[(3, 0), (0, 1), (0, 2), (1, 2), (2, 3)];
+
+const TWO_AT_ONE: &[(u32, u32)] = &[
+    (1, 0),
+    (2, 0),
+    (1, 1),
+    (2, 1),
+    (2, 2),
+    (3, 2),
+    (4, 2),
+    (5, 3),
+    (3, 4),
+    (4, 4),
+];
+
+/// Whether a graph has so many triangles.
+fn counts(
+    alloc: Global,
+    side: u32,
+    edges: &[(u32, u32)],
+    wanted: u64,
+) -> Result<bool, SampleFault> {
+    let graph = graph(alloc, side, edges)?;
+    let found = triangles(alloc, &graph)?;
+    Ok(found == wanted)
 }
 
-/// The entries of the column of how many triangles each vertex is part of, by column and then by row.
-fn counts_of(alloc: Global, side: u32, edges: &[Entry]) -> Result<Vec<Entry>, SampleFault> {
-    let graph = block::<OrAnd>(alloc, side, side, edges)?;
+/// Whether each vertex of a graph is part of so many.
+fn counts_of(
+    alloc: Global,
+    side: u32,
+    edges: &[(u32, u32)],
+    wanted: &[(u32, u64)],
+) -> Result<bool, SampleFault> {
+    let graph = graph(alloc, side, edges)?;
     let column = triangles_of(alloc, &graph)?;
-    Ok(column.entries().to_vec(alloc)?)
+    Ok(has(&column, wanted))
 }
 
-/// No vertex; no edges; loops alone; two edges; a cycle of three in one direction, and with all entries in both and loops;
-/// a square, and a square with one diagonal; all six edges of four vertices; two triangles at one vertex; a star.
 #[test]
 fn each_triangle_counts_once(rt: HostRuntime) -> Result<(), Fail> {
-    let cases: [(u32, &[Entry], u64); 11] = [
-        (0, &[], 0),
-        (3, &[], 0),
-        (3, &[entry(0, 0, 1), entry(1, 1, 1), entry(2, 2, 1)], 0),
-        (3, &[entry(0, 1, 1), entry(1, 2, 1)], 0),
-        (3, &[entry(2, 0, 1), entry(0, 1, 1), entry(1, 2, 1)], 1),
-        (
-            3,
-            &[
-                entry(0, 0, 1),
-                entry(1, 0, 1),
-                entry(2, 0, 1),
-                entry(0, 1, 1),
-                entry(1, 1, 1),
-                entry(2, 1, 1),
-                entry(0, 2, 1),
-                entry(1, 2, 1),
-            ],
-            1,
-        ),
-        (
-            4,
-            &[
-                entry(3, 0, 1),
-                entry(0, 1, 1),
-                entry(1, 2, 1),
-                entry(2, 3, 1),
-            ],
-            0,
-        ),
-        (
-            4,
-            &[
-                entry(3, 0, 1),
-                entry(0, 1, 1),
-                entry(0, 2, 1),
-                entry(1, 2, 1),
-                entry(2, 3, 1),
-            ],
-            2,
-        ),
-        (
-            4,
-            &[
-                entry(0, 1, 1),
-                entry(0, 2, 1),
-                entry(1, 2, 1),
-                entry(0, 3, 1),
-                entry(1, 3, 1),
-                entry(2, 3, 1),
-            ],
-            4,
-        ),
-        (
-            5,
-            &[
-                entry(1, 0, 1),
-                entry(2, 0, 1),
-                entry(2, 1, 1),
-                entry(3, 2, 1),
-                entry(4, 2, 1),
-                entry(3, 4, 1),
-            ],
-            2,
-        ),
-        (
-            5,
-            &[
-                entry(0, 2, 1),
-                entry(1, 2, 1),
-                entry(3, 2, 1),
-                entry(4, 2, 1),
-            ],
-            0,
-        ),
-    ];
-    for (side, edges, wanted) in cases {
-        let found = count_of(rt.alloc(), side, edges)?;
-        assert_eq!(rt; found, wanted);
+    for (side, edges, wanted) in &COUNTS {
+        assert!(rt; counts(rt.alloc(), *side, edges, *wanted)?);
     }
     Ok(())
 }
 
-/// Of 2,147,483,647 vertices, three have edges.
-#[test]
-fn the_last_vertex_is_in_a_triangle(rt: HostRuntime) -> Result<(), Fail> {
-    let last = LIMIT - 1;
-    let edges = [entry(last, 5, 1), entry(5, 9, 1), entry(9, last, 1)];
-    let found = count_of(rt.alloc(), LIMIT, &edges)?;
-    assert_eq!(rt; found, 1);
-    Ok(())
-}
-
-/// No vertex; loops alone; a triangle with all entries in both directions and loops; a square with one diagonal; two
-/// triangles at one vertex, of which each has a loop.
 #[test]
 fn each_vertex_counts_its_triangles(rt: HostRuntime) -> Result<(), Fail> {
-    let cases: [(u32, &[Entry], &[Entry]); 5] = [
-        (0, &[], &[]),
-        (3, &[entry(0, 0, 1), entry(1, 1, 1), entry(2, 2, 1)], &[]),
-        (
-            3,
-            &[
-                entry(0, 0, 1),
-                entry(1, 0, 1),
-                entry(2, 0, 1),
-                entry(0, 1, 1),
-                entry(1, 1, 1),
-                entry(2, 1, 1),
-                entry(0, 2, 1),
-                entry(1, 2, 1),
-            ],
-            &[entry(0, 0, 1), entry(1, 0, 1), entry(2, 0, 1)],
-        ),
-        (
-            4,
-            &[
-                entry(3, 0, 1),
-                entry(0, 1, 1),
-                entry(0, 2, 1),
-                entry(1, 2, 1),
-                entry(2, 3, 1),
-            ],
-            &[
-                entry(0, 0, 2),
-                entry(1, 0, 1),
-                entry(2, 0, 2),
-                entry(3, 0, 1),
-            ],
-        ),
-        (
-            6,
-            &[
-                entry(1, 0, 1),
-                entry(2, 0, 1),
-                entry(1, 1, 1),
-                entry(2, 1, 1),
-                entry(2, 2, 1),
-                entry(3, 2, 1),
-                entry(4, 2, 1),
-                entry(5, 3, 1),
-                entry(3, 4, 1),
-                entry(4, 4, 1),
-            ],
-            &[
-                entry(0, 0, 1),
-                entry(1, 0, 1),
-                entry(2, 0, 2),
-                entry(3, 0, 1),
-                entry(4, 0, 1),
-            ],
-        ),
-    ];
-    for (side, edges, wanted) in cases {
-        let found = counts_of(rt.alloc(), side, edges)?;
-        assert_eq!(rt; found.as_slice(), wanted);
+    for (side, edges, wanted) in &COUNTS_OF {
+        assert!(rt; counts_of(rt.alloc(), *side, edges, wanted)?);
     }
     Ok(())
 }

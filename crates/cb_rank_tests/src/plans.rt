@@ -50,6 +50,22 @@ pub(crate) fn stores_from_0(alloc: Global, number: u64) -> Option<Vec<RankStore<
     vec![in alloc; first, second].ok()
 }
 
+/// A plan whose first rank begins with a number, with stores that fit it.
+fn fitted(
+    alloc: Global,
+    plan: CheckedPlan,
+    number: u64,
+) -> Option<(CheckedPlan, Vec<RankStore<PlusTimes>>)>
+    ensures { IfSome result (λ p. Fits p.0.ranks p.0.starts p.1.items) }
+{
+    let stores = stores_from_0(alloc, number)?;
+    if plan.fits(&stores) {
+        Some((plan, stores))
+    } else {
+        None
+    }
+}
+
 /// A plan with stores that fit it: rank 0 sends its number to rank 1, which doubles it in slot 1, and sends that back
 /// to slot 2. These are nine halves.
 pub(crate) fn doubling(
@@ -71,12 +87,7 @@ pub(crate) fn doubling(
         Act::Shut { from: 1, to: 0 },
     ];
     let plan = plan_from_0(alloc, &acts)?;
-    let stores = stores_from_0(alloc, number)?;
-    if plan.fits(&stores) {
-        Some((plan, stores))
-    } else {
-        None
-    }
+    fitted(alloc, plan, number)
 }
 
 /// A plan with stores that fit it: rank 0 sends its number to rank 1, which sends it back, so often.
@@ -91,16 +102,11 @@ pub(crate) fn rally(alloc: Global, rounds: u32) -> Option<(CheckedPlan, Vec<Rank
     acts.push(Act::Shut { from: 0, to: 1 }).ok()?;
     acts.push(Act::Shut { from: 1, to: 0 }).ok()?;
     let plan = plan_from_0(alloc, &acts)?;
-    let stores = stores_from_0(alloc, 3)?;
-    if plan.fits(&stores) {
-        Some((plan, stores))
-    } else {
-        None
-    }
+    fitted(alloc, plan, 3)
 }
 
 /// What a slot holds.
-#[derive(Clone, Copy, Debug, PartialEq, Eq, Drop)]
+#[derive(Clone, Copy, PartialEq, Drop)]
 pub(crate) enum Held {
     Nothing,
     /// A block, with this number in row 0 of column 0.

@@ -9,7 +9,6 @@ use cb_rank::{Arrival, Rank, Supply, Want};
 use cb_samples::{block, entry, shape};
 use cb_semirings::PlusTimes;
 use std::alloc::Global;
-use std::test::Fail;
 
 mod letters;
 mod operations;
@@ -26,10 +25,10 @@ fn letter(number: u64, tag: u32, body: Body<Block<PlusTimes>>) -> Arrival<Block<
 }
 
 /// A block goes from rank 1 to slots 0, 1 and 2 of rank 0, which does an operation, and posts a slot back.
-fn plan(alloc: Global, op: Op, slot: u16) -> Result<CheckedPlan, Fail> {
+fn plan(alloc: Global, op: Op, slot: u16) -> Option<CheckedPlan> {
     let zero = Op::Zero {
         into: 0,
-        shape: shape(1, 1)?,
+        shape: shape(1, 1).ok()?,
     };
     let acts = [
         Act::Work { rank: 1, op: zero },
@@ -41,21 +40,25 @@ fn plan(alloc: Global, op: Op, slot: u16) -> Result<CheckedPlan, Fail> {
         Act::Shut { from: 0, to: 1 },
         Act::Shut { from: 1, to: 0 },
     ];
-    Ok(plan_of(alloc, &[], &acts).ok_or("a plan")?)
+    plan_of(alloc, &[], &acts)
+}
+
+/// Empty stores of two ranks.
+fn empty_stores(alloc: Global) -> Option<Vec<RankStore<PlusTimes>>> {
+    let first = RankStore::new(alloc).ok()?;
+    let second = RankStore::new(alloc).ok()?;
+    vec![in alloc; first, second].ok()
 }
 
 /// Rank 0 of that plan, whose slots are empty.
-fn rank_0(alloc: Global, op: Op, slot: u16) -> Result<Rank<PlusTimes>, Fail> {
+fn rank_0(alloc: Global, op: Op, slot: u16) -> Option<Rank<PlusTimes>> {
     let plan = plan(alloc, op, slot)?;
-    let mut stores = vec![in alloc; RankStore::new(alloc)?, RankStore::new(alloc)?]?;
+    let mut stores = empty_stores(alloc)?;
     if plan.ranks() == 0 || !plan.fits(&stores) {
-        return Err("the stores fit".into());
+        return None;
     }
     let store = stores.swap_remove(0);
-    match Rank::start(alloc, &plan, 0, store) {
-        Ok(rank) => Ok(rank),
-        Err((_store, refused)) => Err(refused.into()),
-    }
+    Rank::start(alloc, &plan, 0, store).ok()
 }
 
 /// Whether a Take or an End accepts this arrival.
@@ -68,25 +71,38 @@ fn accepts(rank: &mut Rank<PlusTimes>, arrival: Arrival<Block<PlusTimes>>) -> bo
 }
 
 /// The letter that fills one of slots 0, 1 and 2: the number 2, 3 or 5, or that it was lost at rank 10, 11 or 12.
-fn operand(alloc: Global, slot: u16, lost: bool) -> Result<Body<Block<PlusTimes>>, Fail>
+fn operand(alloc: Global, slot: u16, lost: bool) -> Option<Body<Block<PlusTimes>>>
     requires { slot < 3 }
 {
     if lost {
-        return Ok(Body::Lost(10 + slot));
+        return Some(Body::Lost(10 + slot));
     }
     let number = [2, 3, 5][slot as usize];
-    Ok(Body::Sheet(block(alloc, 1, 1, &[entry(0, 0, number)])?))
+    Some(Body::Sheet(block(alloc, 1, 1, &[entry(0, 0, number)]).ok()?))
 }
 
-/// Takes the operands, some of which are lost.
-fn take_operands(alloc: Global, rank: &mut Rank<PlusTimes>, lost: [bool; 3]) -> Result<(), Fail> {
+/// Whether a rank takes its operands, some of which are lost.
+fn takes_operands(alloc: Global, rank: &mut Rank<PlusTimes>, lost: [bool; 3]) -> bool {
     for slot in 0..3u16 {
-        let body = operand(alloc, slot, lost[slot as usize])?;
+        let Some(body) = operand(alloc, slot, lost[slot as usize]) else {
+            return false;
+        };
         if !accepts(rank, letter(u64::from(slot), 5 + u32::from(slot), body)) {
-            return Err("a letter that is awaited".into());
+            return false;
         }
     }
-    Ok(())
+    true
+}
+
+/// Whether a rank does its operation.
+fn works(rank: &mut Rank<PlusTimes>, supply: Supply) -> bool {
+    match rank.want() {
+        Want::Work => {
+            rank.work(supply);
+            true
+        }
+        _ => false,
+    }
 }
 
 /// Rank 0 after its operation on 2, 3 and 5, some of which are lost.
@@ -96,18 +112,17 @@ fn worked(
     slot: u16,
     lost: [bool; 3],
     supply: Supply,
-) -> Result<Rank<PlusTimes>, Fail> {
+) -> Option<Rank<PlusTimes>> {
     let mut rank = rank_0(alloc, op, slot)?;
-    take_operands(alloc, &mut rank, lost)?;
-    match rank.want() {
-        Want::Work => rank.work(supply),
-        _ => return Err("no Work".into()),
+    if takes_operands(alloc, &mut rank, lost) && works(&mut rank, supply) {
+        Some(rank)
+    } else {
+        None
     }
-    Ok(rank)
 }
 
 /// What a slot holds after all halves so far.
-#[derive(Clone, Copy, Debug, PartialEq, Eq, Drop)]
+#[derive(Clone, Copy, PartialEq, Drop)]
 enum Held {
     Nothing,
     /// How many entries a block has, and the sum of their values.
@@ -115,18 +130,25 @@ enum Held {
     LostAt(u16),
 }
 
-fn contents_of(store: &RankStore<PlusTimes>, n: u16) -> Result<Held, Fail>
+/// How many entries a block has, and the sum of their values.
+fn sum_of(block: &Block<PlusTimes>) -> (usize, u64) {
+    let mut sum = 0u64;
+    for value in block.values() {
+        sum = sum.wrapping_add(*value);
+    }
+    (block.len(), sum)
+}
+
+/// What a slot holds.
+fn contents_of(store: &RankStore<PlusTimes>, n: u16) -> Held
     requires { n < SLOTS }
 {
     match store.slot(n) {
-        Slot::Empty => Ok(Held::Nothing),
-        Slot::Lost(origin) => Ok(Held::LostAt(*origin)),
+        Slot::Empty => Held::Nothing,
+        Slot::Lost(origin) => Held::LostAt(*origin),
         Slot::Sheet(block) => {
-            let entries = block.entries()?;
-            let sum = entries
-                .iter()
-                .fold(0u64, |sum, entry| sum.wrapping_add(entry.value));
-            Ok(Held::Entries(entries.len(), sum))
+            let (count, sum) = sum_of(block);
+            Held::Entries(count, sum)
         }
     }
 }

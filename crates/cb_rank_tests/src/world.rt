@@ -1,12 +1,12 @@
-//! Worlds of two ranks, whose events come in any order: with ample memory, and with memory refused to a step, to an
-//! operation, and to the world itself.
+//! Worlds of two ranks, whose events come in any order: with ample memory, and with memory refused to a post and to an
+//! operation.
 use crate::plans::{Held, contents_at, doubling, plan_from_0, send, stores_from_0};
 use cb_letters::Capacity;
 use cb_plan::{Act, CheckedPlan, RankStore};
 use cb_rank::Moved;
 use cb_semirings::PlusTimes;
 use cb_world::{Event, World};
-use std::alloc::{AllocError, Global};
+use std::alloc::Global;
 use std::test::Fail;
 
 /// The world in which 6 is doubled, whose lanes hold one letter.
@@ -69,7 +69,7 @@ fn waits_and_finishes(world: &mut World<PlusTimes>) -> bool {
 fn a_rank_waits_for_its_letter(rt: HostRuntime) -> Result<(), Fail> {
     let mut world = world(rt.alloc()).ok_or("a world")?;
     assert!(rt; waits_and_finishes(&mut world));
-    assert_eq!(rt; doubles(world), Some(WHOLE));
+    assert!(rt; doubles(world) == Some(WHOLE));
     Ok(())
 }
 
@@ -90,28 +90,23 @@ fn waits_for_room(world: &mut World<PlusTimes>) -> bool {
     as_said & (world.remaining() == 5 && world.refusals() == 1)
 }
 
-/// Rank 0 sends its block twice, over a lane for one letter. Where it has to wait it asks for no memory.
-#[test]
-fn a_full_lane_holds_up_its_sender(rt: HostRuntime) -> Result<(), Fail> {
+/// The world in which rank 0 sends its block twice.
+fn sending_twice(alloc: Global) -> Option<World<PlusTimes>> {
     let acts = [
         send(0, 1, 7, 0, 1),
         send(0, 1, 7, 0, 2),
         Act::Shut { from: 0, to: 1 },
         Act::Shut { from: 1, to: 0 },
     ];
-    let plan = plan_from_0(rt.alloc(), &acts).ok_or("a plan")?;
-    let mut world = world_of(rt.alloc(), &plan).ok_or("a world")?;
-    assert!(rt; waits_for_room(&mut world));
-    Ok(())
+    let plan = plan_from_0(alloc, &acts)?;
+    world_of(alloc, &plan)
 }
 
+/// Its lanes hold one letter. Where a rank has to wait it asks for no memory.
 #[test]
-fn ranks_may_step_in_rounds(rt: HostRuntime) -> Result<(), Fail> {
-    let mut world = world(rt.alloc()).ok_or("a world")?;
-    for _ in 0..9 {
-        world.run(&[Event::Step(1), Event::Step(0)]);
-    }
-    assert_eq!(rt; doubles(world), Some(WHOLE));
+fn a_full_lane_holds_up_its_sender(rt: HostRuntime) -> Result<(), Fail> {
+    let mut world = sending_twice(rt.alloc()).ok_or("a world")?;
+    assert!(rt; waits_for_room(&mut world));
     Ok(())
 }
 
@@ -132,58 +127,12 @@ fn starved_after(
     doubles(world)
 }
 
+/// Memory is refused to an operation of rank 1, and to a post of rank 0.
 #[test]
-fn a_starved_operation_is_lost_at_its_rank(rt: HostRuntime) {
+fn what_is_starved_is_lost_at_its_rank(rt: HostRuntime) {
     let steps = [Event::Step(0), Event::Step(1)];
-    assert_eq!(rt;
-        starved_after(rt.alloc(), &steps, 1, Moved::Worked),
-        Some([(Held::LostAt(1), 0), (Held::LostAt(1), 1)])
-    );
-}
-
-#[test]
-fn a_starved_post_is_lost_at_its_rank(rt: HostRuntime) {
-    assert_eq!(rt;
-        starved_after(rt.alloc(), &[], 0, Moved::Posted),
-        Some([(Held::LostAt(0), 1), (Held::LostAt(0), 0)])
-    );
-}
-
-/// How often memory was refused where the half after so many others is starved.
-fn refusals_of_half(alloc: Global, n: usize) -> Option<u64> {
-    let mut world = world(alloc)?;
-    for _ in 0..n {
-        let _moved = world.step(Event::Step(world.ready()?));
-    }
-    let _moved = world.step(Event::Starve(world.ready()?));
-    world.finish();
-    Some(world.refusals())
-}
-
-/// A Starve at each of the nine halves: three ask for memory.
-#[test]
-fn each_half_may_be_starved(rt: HostRuntime) {
-    let mut refused: usize = 0;
-    for n in 0..9usize {
-        if refusals_of_half(rt.alloc(), n) == Some(1) {
-            refused += 1;
-        }
-    }
-    assert_eq!(rt; refused, 3);
-}
-
-/// Passes whichever single growth is refused (`rt try --test --fail-alloc N`, for each N in turn): a refused start
-/// hands the stores back, and a world that started comes to its end.
-#[test]
-fn a_world_ends_whatever_is_refused(rt: HostRuntime) {
-    let Some((plan, stores)) = doubling(rt.alloc(), 6) else {
-        return;
-    };
-    match World::start(rt.alloc(), &plan, stores, Capacity::nearest(1)) {
-        Ok(mut world) => {
-            world.finish();
-            assert!(rt; world.all_done());
-        }
-        Err((stores, AllocError)) => assert!(rt; plan.fits(&stores)),
-    }
+    let operation = starved_after(rt.alloc(), &steps, 1, Moved::Worked);
+    assert!(rt; operation == Some([(Held::LostAt(1), 0), (Held::LostAt(1), 1)]));
+    let post = starved_after(rt.alloc(), &[], 0, Moved::Posted);
+    assert!(rt; post == Some([(Held::LostAt(0), 1), (Held::LostAt(0), 0)]));
 }

@@ -1,15 +1,13 @@
 //! Least walks of more edges than a search makes rounds, in graphs whose numbers are kept in a list and in a tree.
 use crate::examples::of_entries;
-use crate::walks::{By, distances_by};
+use crate::walks::distances_alone;
 use cb_engines::EngineFault;
 use cb_matrix::{Entry, Matrix};
 use cb_run::OperationFault;
 use cb_samples::entry;
 use cb_semirings::MinPlus;
 use std::alloc::{AllocError, Global};
-use std::sync::Wait;
 use std::test::Fail;
-use std::thread::Threads;
 
 /// The greatest number below infinity.
 const GREATEST: u64 = u64::MAX - 1;
@@ -53,23 +51,31 @@ fn are_of_chain(found: &Matrix<MinPlus>) -> bool {
 }
 
 /// The distances from vertex 0 in a graph of these edges, by one thread, or None where there is no memory for the graph.
-fn found<R: Threads + Wait + Sync>(
-    rt: &R,
+fn found(
     alloc: Global,
     vertices: u32,
     edges: &[Entry],
 ) -> Option<Result<Matrix<MinPlus>, OperationFault>> {
     let graph = of_entries(alloc, vertices, vertices, edges)?;
-    Some(distances_by(rt, alloc, By::One, &graph, 0))
+    Some(distances_alone(alloc, &graph, 0))
+}
+
+/// Whether the distances in the graph of the chain are right; or, where memory may be refused, whether that is said.
+fn is_chain(alloc: Global, vertices: u32, edges: &[Entry], may_be_refused: bool) -> bool {
+    match found(alloc, vertices, edges) {
+        Some(Ok(numbers)) => are_of_chain(&numbers),
+        Some(Err(fault)) => {
+            may_be_refused && fault == OperationFault::Failed(EngineFault::Memory)
+        }
+        None => may_be_refused,
+    }
 }
 
 #[test]
 fn a_chain_is_followed_to_its_end(rt: HostRuntime) -> Result<(), Fail> {
-    let alloc = rt.alloc();
-    let edges = chain(alloc)?;
+    let edges = chain(rt.alloc())?;
     for vertices in VERTICES {
-        let numbers = found(&rt, alloc, vertices, &edges).ok_or("a graph")?;
-        assert!(rt; are_of_chain(&numbers?), "{vertices}");
+        assert!(rt; is_chain(rt.alloc(), vertices, &edges, false), "{vertices}");
     }
     Ok(())
 }
@@ -126,34 +132,32 @@ fn are_listed(found: &Matrix<MinPlus>, numbers: &[u64]) -> bool {
         && found.entries().iter().all(|entry| numbers.get(entry.row as usize) == Some(&entry.value))
 }
 
+/// Whether the lattice in a graph of so many vertices has the numbers of many looks.
+fn has_lattice(alloc: Global, vertices: u32) -> Option<bool> {
+    let edges = lattice(alloc).ok()?;
+    let wanted = by_looks(alloc, SIDE * SIDE, &edges).ok()?;
+    let numbers = found(alloc, vertices, &edges)?.ok()?;
+    Some(are_listed(&numbers, &wanted))
+}
+
+/// As many vertices as the grid has, whose numbers are in a list; and many more, in a tree.
 #[test]
-fn a_lattice_has_the_numbers_of_many_looks(rt: HostRuntime) -> Result<(), Fail> {
-    let alloc = rt.alloc();
-    let edges = lattice(alloc)?;
-    let wanted = by_looks(alloc, SIDE * SIDE, &edges)?;
-    // As many vertices as the grid has, whose numbers are in a list; and many more, in a tree.
+fn a_lattice_has_the_numbers_of_many_looks(rt: HostRuntime) {
     for vertices in [SIDE * SIDE, 2_147_483_647] {
-        let numbers = found(&rt, alloc, vertices, &edges).ok_or("a graph")?;
-        assert!(rt; are_listed(&numbers?, &wanted), "{vertices}");
+        assert!(rt;
+            has_lattice(rt.alloc(), vertices) == Some(true),
+            "{vertices}"
+        );
     }
-    Ok(())
 }
 
 /// It passes whichever single allocation is refused (`rt try --test --fail-alloc N`, for each N in turn).
 #[test]
-fn refused_memory_is_said_by_long_walks(rt: HostRuntime) -> Result<(), Fail> {
-    let alloc = rt.alloc();
-    let Ok(edges) = chain(alloc) else {
-        return Ok(());
+fn refused_memory_is_said_by_long_walks(rt: HostRuntime) {
+    let Ok(edges) = chain(rt.alloc()) else {
+        return;
     };
     for vertices in VERTICES {
-        match found(&rt, alloc, vertices, &edges) {
-            Some(Ok(numbers)) => assert!(rt; are_of_chain(&numbers)),
-            Some(Err(fault)) => {
-                assert_eq!(rt; fault, OperationFault::Failed(EngineFault::Memory));
-            }
-            None => {}
-        }
+        assert!(rt; is_chain(rt.alloc(), vertices, &edges, true));
     }
-    Ok(())
 }

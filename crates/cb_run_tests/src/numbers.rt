@@ -1,6 +1,5 @@
 //! The numbers of a graph's vertices, which a search keeps in a list or in a tree, are the same.
-use crate::walks::{By, Graph, SEARCHES, distances_or_refusal, has_distances};
-use std::test::Fail;
+use crate::walks::{By, Graph, SEARCHES, Search, finds, finds_or_says};
 
 /// A source 2, and a vertex 7 whose number falls from 9 to 4.
 const GRAPH: Graph = Graph {
@@ -15,22 +14,21 @@ const GRAPH: Graph = Graph {
 const VERTICES: [u32; 4] = [8, 12, 16, 2_147_483_647];
 
 #[test]
-fn a_list_and_a_tree_have_the_same_numbers(rt: HostRuntime) -> Result<(), Fail> {
+fn a_list_and_a_tree_have_the_same_numbers(rt: HostRuntime) {
     for vertices in VERTICES {
         let graph = Graph { vertices, ..GRAPH };
         for by in SEARCHES {
-            assert!(rt; has_distances(&rt, rt.alloc(), by, &graph)?, "{vertices}");
+            let is_right = finds(&rt, rt.alloc(), by, Search::Distances, &graph);
+            assert!(rt; is_right, "{vertices}");
         }
     }
-    Ok(())
 }
 
 /// It passes whichever single allocation is refused (`rt try --test --fail-alloc N`, for each N in turn).
 #[test]
-fn refused_memory_is_said_by_numbers(rt: HostRuntime) -> Result<(), Fail> {
+fn refused_memory_is_said_by_numbers(rt: HostRuntime) {
     for vertices in VERTICES {
         let graph = Graph { vertices, ..GRAPH };
-        assert!(rt; distances_or_refusal(&rt, rt.alloc(), By::One, &graph));
+        assert!(rt; finds_or_says(&rt, rt.alloc(), By::One, Search::Distances, &graph));
     }
-    Ok(())
 }

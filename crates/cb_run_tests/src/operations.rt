@@ -1,7 +1,5 @@
 //! Each operation of two small matrices and a column, by each engine and by one thread.
-use crate::examples::{
-    ENGINES, MASKED, PRODUCT, Place, RUNS, grid, has, is_right_or_refused, matrix, operands,
-};
+use crate::examples::{ENGINES, MASKED, PRODUCT, Place, RUNS, grid, has, is_refusal, matrix};
 use cb_dcsc::Block;
 use cb_engines::Engine;
 use cb_layout::Grid;
@@ -49,42 +47,39 @@ struct Given {
     column: Matrix<PlusTimes>,
 }
 
+/// The rows and the columns of a matrix, and its entries.
+type Sample = (u32, u32, &'static [Place]);
+
+const FIRST: Sample = (2, 2, &[(0, 0, 1), (0, 1, 2), (1, 1, 3)]);
+
+const SECOND: Sample = (2, 2, &[(1, 0, 4), (0, 1, 1)]);
+
+const COLUMN: Sample = (2, 1, &[(0, 0, 5), (1, 0, 7)]);
+
+const SMALL: Sample = (1, 1, &[]);
+
 /// Those of which each operation has an answer. The mask is the first matrix.
-fn agreeing(alloc: Global) -> Option<Given> {
-    let (left, right) = operands::<PlusTimes>(alloc)?;
-    let (mask, _) = operands::<PlusTimes>(alloc)?;
-    let column = matrix(alloc, 2, 1, &[(0, 0, 5), (1, 0, 7)])?;
-    Some(Given {
-        left,
-        right,
-        mask,
-        column,
-    })
-}
+const AGREEING: [Sample; 4] = [FIRST, SECOND, FIRST, COLUMN];
 
 /// Those of which no operation of several operands has an answer: the second matrix is too small, and the column has two.
-fn disagreeing(alloc: Global) -> Option<Given> {
-    let (left, column) = operands::<PlusTimes>(alloc)?;
-    let (mask, _) = operands::<PlusTimes>(alloc)?;
-    let right = matrix(alloc, 1, 1, &[])?;
-    Some(Given {
-        left,
-        right,
-        mask,
-        column,
-    })
-}
+const DISAGREEING: [Sample; 4] = [FIRST, SMALL, FIRST, SECOND];
 
 /// Those whose mask alone is too small.
-fn masked_too_small(alloc: Global) -> Option<Given> {
-    let (left, right) = operands::<PlusTimes>(alloc)?;
-    let (column, _) = operands::<PlusTimes>(alloc)?;
-    let mask = matrix(alloc, 1, 1, &[])?;
+const MASKED_TOO_SMALL: [Sample; 4] = [FIRST, SECOND, SMALL, COLUMN];
+
+/// A matrix.
+fn sample(alloc: Global, sample: Sample) -> Option<Matrix<PlusTimes>> {
+    matrix(alloc, sample.0, sample.1, sample.2)
+}
+
+/// The first matrix, the second, the mask and the column.
+fn matrices(alloc: Global, samples: [Sample; 4]) -> Option<Given> {
+    let [left, right, mask, column] = samples;
     Some(Given {
-        left,
-        right,
-        mask,
-        column,
+        left: sample(alloc, left)?,
+        right: sample(alloc, right)?,
+        mask: sample(alloc, mask)?,
+        column: sample(alloc, column)?,
     })
 }
 
@@ -131,15 +126,15 @@ fn made_alone(
 ) -> Result<Block<PlusTimes>, SerialFault> {
     let a = block(alloc, &given.left)?;
     match operation.operand_count() {
-        1 => cb_serial::run(alloc, operation, &[a]),
+        1 => cb_serial::run(alloc, operation, &[&a]),
         2 => {
             let b = block(alloc, given.second(operation))?;
-            cb_serial::run(alloc, operation, &[a, b])
+            cb_serial::run(alloc, operation, &[&a, &b])
         }
         _ => {
             let b = block(alloc, given.second(operation))?;
             let mask = block(alloc, &given.mask)?;
-            cb_serial::run(alloc, operation, &[a, b, mask])
+            cb_serial::run(alloc, operation, &[&a, &b, &mask])
         }
     }
 }
@@ -150,47 +145,65 @@ fn block_has(block: &Block<PlusTimes>, wanted: &[Place]) -> Result<bool, AllocEr
     Ok(has(&matrix, wanted))
 }
 
-/// Whether each operation makes by an engine what it should.
+/// Whether each operation makes by an engine what it should; or, where memory may be refused, says so.
 fn makes_all<R: Threads + Wait + Sync>(
     rt: &R,
     alloc: Global,
     engine: Engine,
     grid: &Grid,
     given: &Given,
-) -> Result<bool, OperationFault> {
+    may_be_refused: bool,
+) -> bool {
     for (operation, wanted) in ANSWERS {
-        let answer = made(rt, alloc, engine, grid, given, operation)?;
-        if !has(&answer, wanted) {
-            return Ok(false);
+        let is_right = match made(rt, alloc, engine, grid, given, operation) {
+            Ok(answer) => has(&answer, wanted),
+            Err(fault) => may_be_refused && is_refusal(engine, fault),
+        };
+        if !is_right {
+            return false;
         }
     }
-    Ok(true)
+    true
+}
+
+/// Whether each operation makes in each run what it should.
+fn makes_all_in_each_run<R: Threads + Wait + Sync>(rt: &R, alloc: Global, given: &Given) -> bool {
+    for (engine, side) in RUNS {
+        let Ok(grid) = Grid::new(side) else {
+            return false;
+        };
+        if !makes_all(rt, alloc, engine, &grid, given, false) {
+            return false;
+        }
+    }
+    true
 }
 
 #[test]
 fn each_operation_in_each_run(rt: HostRuntime) -> Result<(), Fail> {
-    let given = agreeing(rt.alloc()).ok_or("memory")?;
-    for (engine, side) in RUNS {
-        assert!(rt; makes_all(&rt, rt.alloc(), engine, &grid(side)?, &given)?);
-    }
+    let given = matrices(rt.alloc(), AGREEING).ok_or("memory")?;
+    assert!(rt; makes_all_in_each_run(&rt, rt.alloc(), &given));
     Ok(())
 }
 
-/// Whether each operation makes by one thread what it should.
-fn makes_all_alone(alloc: Global, given: &Given) -> Result<bool, SerialFault> {
+/// Whether each operation makes by one thread what it should; or, where memory may be refused, says so.
+fn makes_all_alone(alloc: Global, given: &Given, may_be_refused: bool) -> bool {
     for (operation, wanted) in ANSWERS {
-        let answer = made_alone(alloc, given, operation)?;
-        if !block_has(&answer, wanted)? {
-            return Ok(false);
+        let is_right = match made_alone(alloc, given, operation) {
+            Ok(answer) => block_has(&answer, wanted).unwrap_or(may_be_refused),
+            Err(fault) => may_be_refused && fault == SerialFault::Memory,
+        };
+        if !is_right {
+            return false;
         }
     }
-    Ok(true)
+    true
 }
 
 #[test]
 fn each_operation_by_one_thread(rt: HostRuntime) -> Result<(), Fail> {
-    let given = agreeing(rt.alloc()).ok_or("memory")?;
-    assert!(rt; makes_all_alone(rt.alloc(), &given)?);
+    let given = matrices(rt.alloc(), AGREEING).ok_or("memory")?;
+    assert!(rt; makes_all_alone(rt.alloc(), &given, false));
     Ok(())
 }
 
@@ -215,59 +228,36 @@ fn refused<R: Threads + Wait + Sync>(
     true
 }
 
-#[test]
-fn shapes_are_refused(rt: HostRuntime) -> Result<(), Fail> {
-    let alloc = rt.alloc();
-    let grid = grid(2)?;
-    let given = disagreeing(alloc).ok_or("memory")?;
-    assert!(rt; refused(&rt, alloc, &grid, &given, &OF_SEVERAL));
-    let given = masked_too_small(alloc).ok_or("memory")?;
-    assert!(rt; refused(&rt, alloc, &grid, &given, &[Operation::MultiplyMasked]));
-    Ok(())
-}
-
-/// Whether each operation makes by an engine what it should, or says that there was no memory.
-fn makes_or_says<R: Threads + Wait + Sync>(
+/// Whether each of some operations is refused of these matrices over four ranks, and by one thread.
+fn refuse<R: Threads + Wait + Sync>(
     rt: &R,
     alloc: Global,
-    engine: Engine,
-    grid: &Grid,
-    given: &Given,
-) -> bool {
-    for (operation, wanted) in ANSWERS {
-        let answer = made(rt, alloc, engine, grid, given, operation);
-        if !is_right_or_refused(engine, answer, wanted) {
-            return false;
-        }
-    }
-    true
+    samples: [Sample; 4],
+    operations: &[Operation],
+) -> Option<bool> {
+    let grid = Grid::new(2).ok()?;
+    let given = matrices(alloc, samples)?;
+    Some(refused(rt, alloc, &grid, &given, operations))
 }
 
-/// The same by one thread.
-fn makes_alone_or_says(alloc: Global, given: &Given) -> bool {
-    for (operation, wanted) in ANSWERS {
-        let is_right = match made_alone(alloc, given, operation) {
-            Ok(answer) => block_has(&answer, wanted).unwrap_or(true),
-            Err(fault) => fault == SerialFault::Memory,
-        };
-        if !is_right {
-            return false;
-        }
-    }
-    true
+#[test]
+fn shapes_are_refused(rt: HostRuntime) {
+    let masked = [Operation::MultiplyMasked];
+    assert!(rt; refuse(&rt, rt.alloc(), DISAGREEING, &OF_SEVERAL) == Some(true));
+    assert!(rt; refuse(&rt, rt.alloc(), MASKED_TOO_SMALL, &masked) == Some(true));
 }
 
 /// It passes whichever single allocation is refused (`rt try --test --fail-alloc N`, for each N in turn): the call
 /// says so, or its answer is the right one.
 #[test]
 fn refused_memory_is_said(rt: HostRuntime) -> Result<(), Fail> {
-    let Some(given) = agreeing(rt.alloc()) else {
+    let Some(given) = matrices(rt.alloc(), AGREEING) else {
         return Ok(());
     };
     let grid = grid(2)?;
     for engine in ENGINES {
-        assert!(rt; makes_or_says(&rt, rt.alloc(), engine, &grid, &given));
+        assert!(rt; makes_all(&rt, rt.alloc(), engine, &grid, &given, true));
     }
-    assert!(rt; makes_alone_or_says(rt.alloc(), &given));
+    assert!(rt; makes_all_alone(rt.alloc(), &given, true));
     Ok(())
 }

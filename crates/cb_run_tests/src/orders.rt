@@ -1,5 +1,5 @@
-//! Worked products in orders of many kinds, on grids of several sides.
-use crate::examples::{MASKED, PRODUCT, grid, has, is_refusal, operands};
+//! A worked product in orders of many kinds, on grids of several sides.
+use crate::examples::{PRODUCT, grid, has, is_right_or_refused, operands};
 use cb_engines::{Engine, EngineFault};
 use cb_layout::Grid;
 use cb_matrix::Matrix;
@@ -13,6 +13,9 @@ use std::test::Fail;
 use std::thread::Threads;
 
 const SIDES: [u32; 3] = [1, 2, 3];
+
+/// Two factors.
+type Factors = (Matrix<PlusTimes>, Matrix<PlusTimes>);
 
 /// A hundred rounds, in each of which every rank has an event, from the last to the first. One may be starved.
 fn backwards(alloc: Global, ranks: u16, starved: Option<u16>) -> Result<Vec<Event>, AllocError> {
@@ -34,44 +37,25 @@ fn product<R: Threads + Wait + Sync>(
     rt: &R,
     alloc: Global,
     grid: &Grid,
+    factors: &Factors,
     letters: usize,
     order: &[Event],
 ) -> Result<Matrix<PlusTimes>, OperationFault> {
-    let Some((left, right)) = operands::<PlusTimes>(alloc) else {
-        return Err(OperationFault::Failed(EngineFault::Memory));
-    };
     let engine = Engine::InOrder(letters, order);
-    let operands = Operands::Two(&left, &right);
+    let operands = Operands::Two(&factors.0, &factors.1);
     run_matrices(rt, alloc, engine, grid, Operation::Multiply, operands)
 }
 
-/// The same, kept where the first of the two has entries.
-fn masked<R: Threads + Wait + Sync>(
-    rt: &R,
-    alloc: Global,
-    grid: &Grid,
-    letters: usize,
-    order: &[Event],
-) -> Result<Matrix<PlusTimes>, OperationFault> {
-    let Some((left, right)) = operands::<PlusTimes>(alloc) else {
-        return Err(OperationFault::Failed(EngineFault::Memory));
-    };
-    let engine = Engine::InOrder(letters, order);
-    let operands = Operands::Three(&left, &right, &left);
-    run_matrices(rt, alloc, engine, grid, Operation::MultiplyMasked, operands)
-}
-
-/// Whether a product and the same under a mask have the entries that they should.
+/// Whether the product has the entries that it should.
 fn makes<R: Threads + Wait + Sync>(
     rt: &R,
     alloc: Global,
     grid: &Grid,
+    factors: &Factors,
     letters: usize,
     order: &[Event],
-) -> Result<bool, OperationFault> {
-    let product = product(rt, alloc, grid, letters, order)?;
-    let masked = masked(rt, alloc, grid, letters, order)?;
-    Ok(has(&product, &PRODUCT) && has(&masked, &MASKED))
+) -> bool {
+    product(rt, alloc, grid, factors, letters, order).is_ok_and(|made| has(&made, &PRODUCT))
 }
 
 /// Whether a product is made where each rank in turn has all events.
@@ -79,49 +63,66 @@ fn makes_alone<R: Threads + Wait + Sync>(
     rt: &R,
     alloc: Global,
     grid: &Grid,
-) -> Result<bool, OperationFault> {
+    factors: &Factors,
+) -> bool {
     for rank in 0..grid.ranks() {
-        let alone = [Event::Step(rank); 40];
-        if !makes(rt, alloc, grid, 2, &alone)? {
-            return Ok(false);
+        if !makes(rt, alloc, grid, factors, 2, &[Event::Step(rank); 40]) {
+            return false;
+        }
+    }
+    true
+}
+
+/// Whether it is made in rounds from the last rank to the first, over lanes for one letter.
+fn makes_backwards<R: Threads + Wait + Sync>(
+    rt: &R,
+    alloc: Global,
+    grid: &Grid,
+    factors: &Factors,
+) -> bool {
+    match backwards(alloc, grid.ranks(), None) {
+        Ok(rounds) => makes(rt, alloc, grid, factors, 1, &rounds),
+        Err(_) => false,
+    }
+}
+
+#[test]
+fn any_order_makes_the_product(rt: HostRuntime) -> Result<(), Fail> {
+    let factors = operands(rt.alloc()).ok_or("memory")?;
+    for side in SIDES {
+        let grid = grid(side)?;
+        assert!(rt; makes(&rt, rt.alloc(), &grid, &factors, 64, &[]));
+        assert!(rt; makes_backwards(&rt, rt.alloc(), &grid, &factors));
+        assert!(rt; makes_alone(&rt, rt.alloc(), &grid, &factors));
+    }
+    Ok(())
+}
+
+/// Whether each rank is named where it is starved.
+fn are_named<R: Threads + Wait + Sync>(
+    rt: &R,
+    alloc: Global,
+    grid: &Grid,
+    factors: &Factors,
+) -> Result<bool, AllocError> {
+    for rank in 0..grid.ranks() {
+        let order = backwards(alloc, grid.ranks(), Some(rank))?;
+        match product(rt, alloc, grid, factors, 1, &order) {
+            Err(OperationFault::Failed(EngineFault::Lost { rank: lost, .. })) if lost == rank => {}
+            _ => return Ok(false),
         }
     }
     Ok(true)
 }
 
 #[test]
-fn any_order_makes_the_product(rt: HostRuntime) -> Result<(), Fail> {
-    for side in SIDES {
-        let grid = grid(side)?;
-        let rounds = backwards(rt.alloc(), grid.ranks(), None)?;
-        assert!(rt; makes(&rt, rt.alloc(), &grid, 64, &[])?);
-        assert!(rt; makes(&rt, rt.alloc(), &grid, 1, &rounds)?);
-        assert!(rt; makes_alone(&rt, rt.alloc(), &grid)?);
-    }
-    Ok(())
-}
-
-/// Whether a rank that is starved is the one that is named.
-fn is_named<R: Threads + Wait + Sync>(
-    rt: &R,
-    alloc: Global,
-    grid: &Grid,
-    rank: u16,
-) -> Result<bool, AllocError> {
-    let order = backwards(alloc, grid.ranks(), Some(rank))?;
-    let answer = product(rt, alloc, grid, 1, &order);
-    Ok(
-        matches!(answer, Err(OperationFault::Failed(EngineFault::Lost { rank: lost, .. })) if lost == rank),
-    )
-}
-
-#[test]
 fn a_starved_rank_is_named(rt: HostRuntime) -> Result<(), Fail> {
+    let factors = operands(rt.alloc()).ok_or("memory")?;
     for side in SIDES {
-        let grid = grid(side)?;
-        for rank in 0..grid.ranks() {
-            assert!(rt; is_named(&rt, rt.alloc(), &grid, rank)?, "{rank}");
-        }
+        assert!(rt;
+            are_named(&rt, rt.alloc(), &grid(side)?, &factors)?,
+            "{side}"
+        );
     }
     Ok(())
 }
@@ -130,11 +131,11 @@ fn a_starved_rank_is_named(rt: HostRuntime) -> Result<(), Fail> {
 /// says so, or its answer is the right one.
 #[test]
 fn refused_memory_is_said_in_each_order(rt: HostRuntime) -> Result<(), Fail> {
-    let order = [Event::Step(3), Event::Starve(9), Event::Step(0)];
-    let is_right = match product(&rt, rt.alloc(), &grid(2)?, 1, &order) {
-        Ok(product) => has(&product, &PRODUCT),
-        Err(fault) => is_refusal(Engine::InOrder(1, &[]), fault),
+    let Some(factors) = operands(rt.alloc()) else {
+        return Ok(());
     };
-    assert!(rt; is_right);
+    let order = [Event::Step(3), Event::Starve(9), Event::Step(0)];
+    let made = product(&rt, rt.alloc(), &grid(2)?, &factors, 1, &order);
+    assert!(rt; is_right_or_refused(Engine::InOrder(1, &[]), made, &PRODUCT));
     Ok(())
 }

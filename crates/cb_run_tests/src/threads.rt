@@ -1,10 +1,10 @@
 //! That ranks run in threads of their own, as the process sees it from outside.
-use crate::examples::{has, matrix, operands};
-use crate::walks::{By, PATH, levels_by};
+use crate::examples::{PRODUCT, has, operands};
+use crate::walks::{By, PATH, Search, finds};
 use cb_engines::Engine;
-use cb_layout::{DistributedMatrix, Grid};
+use cb_layout::Grid;
 use cb_operations::{Operands, Operation};
-use cb_run::run;
+use cb_run::run_matrices;
 use cb_semirings::PlusTimes;
 use std::alloc::{Alloc, Global};
 use std::rt::Files;
@@ -39,16 +39,11 @@ fn does<R: Threads + Wait + Sync>(
         Job::Product => {
             let grid = Grid::new(2).ok()?;
             let (left, right) = operands::<PlusTimes>(alloc)?;
-            let left = DistributedMatrix::scatter(alloc, grid, &left).ok()?;
-            let right = DistributedMatrix::scatter(alloc, grid, &right).ok()?;
-            let operands = Operands::Two(left, right);
-            Some(run(rt, alloc, engine, &grid, Operation::Multiply, operands).is_ok())
+            let operands = Operands::Two(&left, &right);
+            let product = run_matrices(rt, alloc, engine, &grid, Operation::Multiply, operands);
+            Some(product.is_ok_and(|product| has(&product, &PRODUCT)))
         }
-        Job::Walk => {
-            let graph = matrix(alloc, PATH.vertices, PATH.vertices, PATH.edges)?;
-            let found = levels_by(rt, alloc, By::Ranks(engine, 2), &graph, PATH.source);
-            Some(found.is_ok_and(|found| has(&found, PATH.found)))
-        }
+        Job::Walk => { Some(finds(rt, alloc, By::Ranks(engine, 2), Search::Levels, &PATH)) }
     }
 }
 
@@ -112,10 +107,8 @@ fn ranks_have_threads_of_their_own(rt: HostRuntime) -> Result<(), Fail> {
         (Engine::InOrder(2, &[]), Job::Product, false),
     ];
     for (engine, job, threads) in rows {
-        assert_eq!(rt;
-            has_a_thread_for_each(&rt, rt.alloc(), engine, job)?,
-            threads
-        );
+        let are_seen = has_a_thread_for_each(&rt, rt.alloc(), engine, job)?;
+        assert!(rt; are_seen == threads);
     }
     Ok(())
 }

@@ -65,91 +65,174 @@ pub enum By {
 /// One of each kind.
 pub const SEARCHES: [By; 2] = [By::One, By::Ranks(Engine::Threads(2), 2)];
 
-/// The levels of a graph from a source.
-pub fn levels_by<R: Threads + Wait + Sync>(
+/// The levels of a graph from a source, by ranks.
+fn levels_by_ranks<R: Threads + Wait + Sync>(
+    rt: &R,
+    alloc: Global,
+    engine: Engine,
+    side: u32,
+    graph: &Matrix<OrAnd>,
+    source: u32,
+) -> Result<Matrix<MinPlus>, OperationFault> {
+    let Ok(grid) = Grid::new(side) else {
+        return Err(OperationFault::Refused(Refusal::Shapes));
+    };
+    let spread = DistributedMatrix::scatter(alloc, grid, graph)?;
+    levels(rt, alloc, engine, spread, source)
+}
+
+/// The same by one thread.
+fn levels_alone(
+    alloc: Global,
+    graph: &Matrix<OrAnd>,
+    source: u32,
+) -> Result<Matrix<MinPlus>, OperationFault> {
+    check_graph(graph.shape(), source)?;
+    let block = Block::from_ordered(alloc, graph.shape(), graph.entries())?;
+    Ok(cb_searches::levels(alloc, block, source)?)
+}
+
+/// The levels.
+fn levels_by<R: Threads + Wait + Sync>(
     rt: &R,
     alloc: Global,
     by: By,
     graph: &Matrix<OrAnd>,
     source: u32,
 ) -> Result<Matrix<MinPlus>, OperationFault> {
-    if let By::Ranks(engine, side) = by {
-        let Ok(grid) = Grid::new(side) else {
-            return Err(OperationFault::Refused(Refusal::Shapes));
-        };
-        let spread = DistributedMatrix::scatter(alloc, grid, graph)?;
-        return levels(rt, alloc, engine, spread, source);
+    match by {
+        By::Ranks(engine, side) => levels_by_ranks(rt, alloc, engine, side, graph, source),
+        By::One => levels_alone(alloc, graph, source),
     }
+}
+
+/// The distances of a graph from a source, by ranks.
+fn distances_by_ranks<R: Threads + Wait + Sync>(
+    rt: &R,
+    alloc: Global,
+    engine: Engine,
+    side: u32,
+    graph: &Matrix<MinPlus>,
+    source: u32,
+) -> Result<Matrix<MinPlus>, OperationFault> {
+    let Ok(grid) = Grid::new(side) else {
+        return Err(OperationFault::Refused(Refusal::Shapes));
+    };
+    let spread = DistributedMatrix::scatter(alloc, grid, graph)?;
+    distances(rt, alloc, engine, spread, source)
+}
+
+/// The same by one thread.
+pub fn distances_alone(
+    alloc: Global,
+    graph: &Matrix<MinPlus>,
+    source: u32,
+) -> Result<Matrix<MinPlus>, OperationFault> {
     check_graph(graph.shape(), source)?;
     let block = Block::from_ordered(alloc, graph.shape(), graph.entries())?;
-    Ok(cb_searches::levels(alloc, block, source)?)
+    Ok(cb_searches::distances(alloc, block, source)?)
 }
 
 /// The distances.
-pub fn distances_by<R: Threads + Wait + Sync>(
+fn distances_by<R: Threads + Wait + Sync>(
     rt: &R,
     alloc: Global,
     by: By,
     graph: &Matrix<MinPlus>,
     source: u32,
 ) -> Result<Matrix<MinPlus>, OperationFault> {
-    if let By::Ranks(engine, side) = by {
-        let Ok(grid) = Grid::new(side) else {
-            return Err(OperationFault::Refused(Refusal::Shapes));
-        };
-        let spread = DistributedMatrix::scatter(alloc, grid, graph)?;
-        return distances(rt, alloc, engine, spread, source);
+    match by {
+        By::Ranks(engine, side) => distances_by_ranks(rt, alloc, engine, side, graph, source),
+        By::One => distances_alone(alloc, graph, source),
     }
-    check_graph(graph.shape(), source)?;
-    let block = Block::from_ordered(alloc, graph.shape(), graph.entries())?;
-    Ok(cb_searches::distances(alloc, block, source)?)
 }
 
-/// Whether a graph has its levels.
-fn has_levels<R: Threads + Wait + Sync>(
+/// What is looked for in a graph.
+#[derive(Clone, Copy)]
+pub enum Search {
+    Levels,
+    Distances,
+}
+
+/// What a search finds in a graph; None where there is no memory for the graph.
+fn found<R: Threads + Wait + Sync>(
     rt: &R,
     alloc: Global,
     by: By,
+    search: Search,
     wanted: &Graph,
-) -> Result<bool, Fail> {
-    let graph = matrix(alloc, wanted.vertices, wanted.vertices, wanted.edges).ok_or("a graph")?;
-    let found = levels_by(rt, alloc, by, &graph, wanted.source)?;
-    Ok(has(&found, wanted.found))
+) -> Option<Result<Matrix<MinPlus>, OperationFault>> {
+    let (vertices, edges, source) = (wanted.vertices, wanted.edges, wanted.source);
+    match search {
+        Search::Levels => {
+            let graph = matrix(alloc, vertices, vertices, edges)?;
+            Some(levels_by(rt, alloc, by, &graph, source))
+        }
+        Search::Distances => {
+            let graph = matrix(alloc, vertices, vertices, edges)?;
+            Some(distances_by(rt, alloc, by, &graph, source))
+        }
+    }
 }
 
-/// Whether it has its distances.
-pub fn has_distances<R: Threads + Wait + Sync>(
+/// Whether a search finds just the numbers that it should.
+pub fn finds<R: Threads + Wait + Sync>(
     rt: &R,
     alloc: Global,
     by: By,
+    search: Search,
     wanted: &Graph,
-) -> Result<bool, Fail> {
-    let graph = matrix(alloc, wanted.vertices, wanted.vertices, wanted.edges).ok_or("a graph")?;
-    let found = distances_by(rt, alloc, by, &graph, wanted.source)?;
-    Ok(has(&found, wanted.found))
+) -> bool {
+    match found(rt, alloc, by, search, wanted) {
+        Some(Ok(numbers)) => has(&numbers, wanted.found),
+        _ => false,
+    }
 }
 
-#[test]
-fn levels_of_paths(rt: HostRuntime) -> Result<(), Fail> {
-    for graph in [&PATH, &SPARSE_PATH] {
-        assert!(rt; has_levels(&rt, rt.alloc(), By::One, graph)?);
-        for (engine, side) in RUNS {
-            assert!(rt; has_levels(&rt, rt.alloc(), By::Ranks(engine, side), graph)?);
-        }
+/// Whether it finds them, or says that there was no memory.
+pub fn finds_or_says<R: Threads + Wait + Sync>(
+    rt: &R,
+    alloc: Global,
+    by: By,
+    search: Search,
+    wanted: &Graph,
+) -> bool {
+    match (found(rt, alloc, by, search, wanted), by) {
+        (Some(Ok(numbers)), _) => has(&numbers, wanted.found),
+        (Some(Err(fault)), By::Ranks(engine, _)) => is_refusal(engine, fault),
+        (Some(Err(fault)), By::One) => fault == OperationFault::Failed(EngineFault::Memory),
+        (None, _) => true,
     }
-    Ok(())
 }
 
-/// A cycle of no weight, and a long walk that weighs less than an edge.
-#[test]
-fn distances_of_worked_graphs(rt: HostRuntime) -> Result<(), Fail> {
-    for graph in [&CYCLE, &WINDING_PATH] {
-        assert!(rt; has_distances(&rt, rt.alloc(), By::One, graph)?);
-        for (engine, side) in RUNS {
-            assert!(rt; has_distances(&rt, rt.alloc(), By::Ranks(engine, side), graph)?);
+/// Whether one thread and each run finds them.
+fn all_find<R: Threads + Wait + Sync>(
+    rt: &R,
+    alloc: Global,
+    search: Search,
+    wanted: &Graph,
+) -> bool {
+    for (engine, side) in RUNS {
+        if !finds(rt, alloc, By::Ranks(engine, side), search, wanted) {
+            return false;
         }
     }
-    Ok(())
+    finds(rt, alloc, By::One, search, wanted)
+}
+
+/// Levels of paths; distances with a cycle of no weight, and with a long walk that weighs less than an edge.
+const SEARCHED: [(Search, Graph); 4] = [
+    (Search::Levels, PATH),
+    (Search::Levels, SPARSE_PATH),
+    (Search::Distances, CYCLE),
+    (Search::Distances, WINDING_PATH),
+];
+
+#[test]
+fn levels_and_distances_of_worked_graphs(rt: HostRuntime) {
+    for (search, graph) in &SEARCHED {
+        assert!(rt; all_find(&rt, rt.alloc(), *search, graph));
+    }
 }
 
 /// A path from vertex 0 to 20, an edge of this weight from there to each vertex from 21 to 59, one from each of these to
@@ -194,85 +277,61 @@ fn are_of_fan(weight: u64, found: &Matrix<MinPlus>) -> bool {
         && found.entries().iter().all(|entry| entry.column == 0 && entry.value == number(entry.row))
 }
 
+/// Whether the numbers of both graphs are found.
+fn finds_fans<R: Threads + Wait + Sync>(
+    rt: &R,
+    alloc: Global,
+    by: By,
+    even: &Matrix<OrAnd>,
+    heavy: &Matrix<MinPlus>,
+) -> bool {
+    levels_by(rt, alloc, by, even, 0).is_ok_and(|found| are_of_fan(1, &found))
+        && distances_by(rt, alloc, by, heavy, 0).is_ok_and(|found| are_of_fan(5, &found))
+}
+
 #[test]
 fn many_numbers_fall_in_a_round(rt: HostRuntime) -> Result<(), Fail> {
-    let alloc = rt.alloc();
-    let even = even_fan(alloc).ok_or("a graph")?;
-    let heavy = heavy_fan(alloc).ok_or("a graph")?;
+    let even = even_fan(rt.alloc()).ok_or("a graph")?;
+    let heavy = heavy_fan(rt.alloc()).ok_or("a graph")?;
     for by in SEARCHES {
-        assert!(rt; are_of_fan(1, &levels_by(&rt, alloc, by, &even, 0)?));
-        assert!(rt; are_of_fan(5, &distances_by(&rt, alloc, by, &heavy, 0)?));
+        assert!(rt; finds_fans(&rt, rt.alloc(), by, &even, &heavy));
     }
     Ok(())
+}
+
+/// Whether a graph and a source are refused so, by ranks and by one thread.
+fn are_refused<R: Threads + Wait + Sync>(
+    rt: &R,
+    alloc: Global,
+    graph: &Matrix<OrAnd>,
+    source: u32,
+    refusal: Refusal,
+) -> bool {
+    for by in SEARCHES {
+        let fault = levels_by(rt, alloc, by, graph, source).err();
+        if fault != Some(OperationFault::Refused(refusal)) {
+            return false;
+        }
+    }
+    true
 }
 
 #[test]
 fn graphs_and_sources_are_refused(rt: HostRuntime) -> Result<(), Fail> {
-    let alloc = rt.alloc();
-    let path = matrix(alloc, 4, 4, PATH.edges).ok_or("a graph")?;
-    let wide = matrix(alloc, 2, 3, &[]).ok_or("a matrix")?;
-    for (graph, source, refusal) in [
-        (&path, 4, Refusal::Source),
-        (&path, 8, Refusal::Source),
-        (&wide, 8, Refusal::NotSquare),
-    ] {
-        for by in SEARCHES {
-            let found = levels_by(&rt, alloc, by, graph, source);
-            assert_eq!(rt; found.err(), Some(OperationFault::Refused(refusal)));
-        }
-    }
+    let path = matrix(rt.alloc(), 4, 4, PATH.edges).ok_or("a graph")?;
+    let wide = matrix(rt.alloc(), 2, 3, &[]).ok_or("a matrix")?;
+    assert!(rt; are_refused(&rt, rt.alloc(), &path, 4, Refusal::Source));
+    assert!(rt; are_refused(&rt, rt.alloc(), &wide, 8, Refusal::NotSquare));
     Ok(())
-}
-
-/// Whether an answer has just these entries, or is a fault that want of memory has.
-fn is_right_or_refused(
-    by: By,
-    answer: Result<Matrix<MinPlus>, OperationFault>,
-    wanted: &[Place],
-) -> bool {
-    match (answer, by) {
-        (Ok(matrix), _) => has(&matrix, wanted),
-        (Err(fault), By::Ranks(engine, _)) => is_refusal(engine, fault),
-        (Err(fault), By::One) => fault == OperationFault::Failed(EngineFault::Memory),
-    }
-}
-
-/// Whether a graph has its levels, or there was no memory.
-fn levels_or_refusal<R: Threads + Wait + Sync>(
-    rt: &R,
-    alloc: Global,
-    by: By,
-    wanted: &Graph,
-) -> bool {
-    let Some(graph) = matrix(alloc, wanted.vertices, wanted.vertices, wanted.edges) else {
-        return true;
-    };
-    let answer = levels_by(rt, alloc, by, &graph, wanted.source);
-    is_right_or_refused(by, answer, wanted.found)
-}
-
-/// The same of distances.
-pub fn distances_or_refusal<R: Threads + Wait + Sync>(
-    rt: &R,
-    alloc: Global,
-    by: By,
-    wanted: &Graph,
-) -> bool {
-    let Some(graph) = matrix(alloc, wanted.vertices, wanted.vertices, wanted.edges) else {
-        return true;
-    };
-    let answer = distances_by(rt, alloc, by, &graph, wanted.source);
-    is_right_or_refused(by, answer, wanted.found)
 }
 
 /// It passes whichever single allocation is refused (`rt try --test --fail-alloc N`, for each N in turn): the
 /// call says so, or its answer is the right one.
 #[test]
-fn refused_memory_is_said_by_walks(rt: HostRuntime) -> Result<(), Fail> {
+fn refused_memory_is_said_by_walks(rt: HostRuntime) {
     for by in SEARCHES {
-        assert!(rt; levels_or_refusal(&rt, rt.alloc(), by, &PATH));
-        assert!(rt; levels_or_refusal(&rt, rt.alloc(), by, &SPARSE_PATH));
-        assert!(rt; distances_or_refusal(&rt, rt.alloc(), by, &CYCLE));
+        for (search, graph) in &SEARCHED {
+            assert!(rt; finds_or_says(&rt, rt.alloc(), by, *search, graph));
+        }
     }
-    Ok(())
 }

@@ -13,7 +13,7 @@ use std::test::Fail;
 const COPY: Op = Op::Copy { a: 0, into: 3 };
 
 /// Rank 0 after that copy.
-fn copied(alloc: Global, lost: bool) -> Result<Rank<PlusTimes>, Fail> {
+fn copied(alloc: Global, lost: bool) -> Option<Rank<PlusTimes>> {
     worked(alloc, COPY, 3, [lost, false, false], Supply::Granted)
 }
 
@@ -56,33 +56,26 @@ fn is_done_at_the_end(rank: &mut Rank<PlusTimes>) -> bool {
 
 #[test]
 fn a_program_is_done_half_by_half(rt: HostRuntime) -> Result<(), Fail> {
-    let mut rank = copied(rt.alloc(), false)?;
+    let mut rank = copied(rt.alloc(), false).ok_or("a rank")?;
     assert!(rt; is_done_at_the_end(&mut rank));
-    assert_eq!(rt; contents_of(&rank.into_store(), 3)?, Held::Entries(1, 2));
+    assert!(rt; contents_of(&rank.into_store(), 3) == Held::Entries(1, 2));
     Ok(())
 }
 
 /// The rank at which what is posted for the copy was lost, where no memory is granted for it, and how often memory
 /// was refused.
-fn lost_at(alloc: Global, lost: bool) -> Result<(Option<u16>, u64), Fail> {
+fn lost_at(alloc: Global, lost: bool) -> Option<(u16, u64)> {
     let mut rank = copied(alloc, lost)?;
-    let origin = match posted(&mut rank, Supply::Refused) {
-        Some((_, Body::Lost(origin))) => Some(origin),
+    match posted(&mut rank, Supply::Refused) {
+        Some((_, Body::Lost(origin))) => Some((origin, rank.refusals())),
         _ => None,
-    };
-    Ok((origin, rank.refusals()))
+    }
 }
 
 #[test]
-fn a_refused_copy_is_lost_at_this_rank(rt: HostRuntime) -> Result<(), Fail> {
-    assert_eq!(rt; lost_at(rt.alloc(), false)?, (Some(0), 1));
-    Ok(())
-}
-
-#[test]
-fn a_lost_slot_is_posted_with_its_origin(rt: HostRuntime) -> Result<(), Fail> {
-    assert_eq!(rt; lost_at(rt.alloc(), true)?, (Some(10), 0));
-    Ok(())
+fn a_refused_copy_is_lost_at_this_rank_and_a_lost_slot_at_its_origin(rt: HostRuntime) {
+    assert!(rt; lost_at(rt.alloc(), false) == Some((0, 1)));
+    assert!(rt; lost_at(rt.alloc(), true) == Some((10, 0)));
 }
 
 /// A letter to a first Take that is right but for what is named.
@@ -105,21 +98,25 @@ fn takes_none(rank: &mut Rank<PlusTimes>, strays: [Arrival<Block<PlusTimes>>; 6]
     none
 }
 
-#[test]
-fn a_take_takes_no_other_letter(rt: HostRuntime) -> Result<(), Fail> {
-    let mut rank = rank_0(rt.alloc(), COPY, 3)?;
-    let wide = Block::empty(rt.alloc(), shape(1, 2)?);
-    let strays = [
+/// Letters that are right but for the sender, the addressee, the tag, the kind, and the shape; and an end.
+fn strays(wide: Block<PlusTimes>) -> [Arrival<Block<PlusTimes>>; 6] {
+    [
         other(0, 0, 5, Body::Lost(4)),
         other(1, 1, 5, Body::Lost(4)),
         other(1, 0, 6, Body::Lost(4)),
         other(1, 0, 5, Body::Close),
         other(1, 0, 5, Body::Sheet(wide)),
         Arrival::End(1),
-    ];
-    assert!(rt; takes_none(&mut rank, strays));
+    ]
+}
+
+#[test]
+fn a_take_takes_no_other_letter(rt: HostRuntime) -> Result<(), Fail> {
+    let shape = shape(1, 2)?;
+    let mut rank = rank_0(rt.alloc(), COPY, 3).ok_or("a rank")?;
+    assert!(rt; takes_none(&mut rank, strays(Block::empty(rt.alloc(), shape))));
     assert!(rt; accepts(&mut rank, letter(0, 5, Body::Lost(4))));
-    assert_eq!(rt; contents_of(&rank.into_store(), 0)?, Held::LostAt(4));
+    assert!(rt; contents_of(&rank.into_store(), 0) == Held::LostAt(4));
     Ok(())
 }
 
@@ -134,7 +131,7 @@ fn takes_its_end_alone(rank: &mut Rank<PlusTimes>) -> bool {
 
 #[test]
 fn an_end_takes_no_letter(rt: HostRuntime) -> Result<(), Fail> {
-    let mut rank = copied(rt.alloc(), true)?;
+    let mut rank = copied(rt.alloc(), true).ok_or("a rank")?;
     let _letter = posted(&mut rank, Supply::Granted);
     assert!(rt; shuts(&mut rank));
     assert!(rt; takes_its_end_alone(&mut rank));

@@ -1,0 +1,662 @@
+//! Entries selected by their place, values replaced, diagonals, and rows and columns by their numbers: worked rows,
+//! random blocks against a slow reference, and each allocation refused in turn.
+ghost use Rattle.std.specs.Prelude.{◌↔◌, ◌<◌, All, IsTrue};
+
+use cb_dcsc::{Block, BlockFault};
+use cb_matrix::{Entry, LIMIT};
+use cb_samples::{SampleFault, block, entry};
+use cb_selections::{
+    Diagonal, Function, Region, apply, diagonal, diagonal_matrix, extract, kronecker, select,
+};
+use cb_semirings::{MinPlus, OrAnd, PlusTimes, Semiring};
+use std::alloc::{AllocError, Global};
+
+const TOP: u64 = u64::MAX;
+
+const LAST: u32 = LIMIT - 1;
+
+/// What is asked of a block.
+#[derive(Clone, Copy)]
+enum Ask<'a> {
+    Select(Region),
+    Apply(Function),
+    Diagonal,
+    DiagonalMatrix,
+    Extract(&'a [u32], &'a [u32]),
+    /// The Kronecker product with a block of these sides.
+    Kronecker((u32, u32), &'a [Entry]),
+}
+
+/// What is made, the sides of the block (rows, columns) and its entries, and the sides and the entries of what is made.
+type Case<'a> = (Ask<'a>, (u32, u32), &'a [Entry], (u32, u32), &'a [Entry]);
+
+/// Whether all numbers are below a bound.
+fn are_below(numbers: &[u32], bound: u32) -> bool
+    ensures { IsTrue result ↔ All (λ n. n < bound) numbers.now }
+{
+    numbers.iter().all(|number| *number < bound)
+}
+
+/// What is made of a block.
+fn made_of<S: Semiring>(
+    alloc: Global,
+    whole: &Block<S>,
+    ask: &Ask<'_>,
+) -> Result<Block<S>, SampleFault> {
+    let shape = whole.shape();
+    match ask {
+        Ask::Select(region) => Ok(select(alloc, whole, *region)?),
+        Ask::Apply(function) => {
+            if !function.fits::<S>(shape) {
+                return Err(SampleFault::Value);
+            }
+            Ok(apply(alloc, whole, *function)?)
+        }
+        Ask::Diagonal => Ok(diagonal(alloc, whole)?),
+        Ask::DiagonalMatrix => {
+            if shape.cols() != 1 {
+                return Err(SampleFault::Shape);
+            }
+            Ok(diagonal_matrix(alloc, whole)?)
+        }
+        Ask::Extract(rows, cols) => extracted(alloc, whole, rows, cols),
+        Ask::Kronecker(sides, given) => paired(alloc, whole, *sides, given),
+    }
+}
+
+/// The rows and columns of a block with some numbers.
+fn extracted<S: Semiring>(
+    alloc: Global,
+    whole: &Block<S>,
+    rows: &[u32],
+    cols: &[u32],
+) -> Result<Block<S>, SampleFault> {
+    let shape = whole.shape();
+    let limit = LIMIT as usize;
+    if rows.len() > limit || cols.len() > limit {
+        return Err(SampleFault::Shape);
+    }
+    if !are_below(rows, shape.rows()) || !are_below(cols, shape.cols()) {
+        return Err(SampleFault::Shape);
+    }
+    Ok(extract(alloc, whole, rows, cols)?)
+}
+
+/// The Kronecker product of a block with one of these sides.
+fn paired<S: Semiring>(
+    alloc: Global,
+    whole: &Block<S>,
+    sides: (u32, u32),
+    given: &[Entry],
+) -> Result<Block<S>, SampleFault> {
+    let shape = whole.shape();
+    let rows = u64::from(shape.rows()) * u64::from(sides.0);
+    let cols = u64::from(shape.cols()) * u64::from(sides.1);
+    if rows > u64::from(LIMIT) || cols > u64::from(LIMIT) {
+        return Err(SampleFault::Shape);
+    }
+    let other = block::<S>(alloc, sides.0, sides.1, given)?;
+    Ok(kronecker(alloc, whole, &other)?)
+}
+
+/// Whether what is made is what the case wants.
+fn is_right<S: Semiring>(alloc: Global, case: &Case<'_>) -> Result<bool, SampleFault> {
+    let (ask, sides, given, wanted_sides, wanted) = case;
+    let whole = block::<S>(alloc, sides.0, sides.1, given)?;
+    let made = made_of(alloc, &whole, ask)?;
+    let shape = made.shape();
+    let entries = made.entries()?;
+    Ok((shape.rows(), shape.cols()) == *wanted_sides && entries.as_slice() == *wanted)
+}
+
+/// Whether each case is right.
+fn all_right<S: Semiring>(alloc: Global, cases: &[Case<'_>]) -> bool {
+    for case in cases {
+        match is_right::<S>(alloc, case) {
+            Ok(true) => {}
+            _ => return false,
+        }
+    }
+    true
+}
+
+/// Four by five.
+fn given() -> [Entry; 8] {
+    [
+        entry(0, 0, 1),
+        entry(2, 0, 2),
+        entry(1, 1, 3),
+        entry(3, 1, 4),
+        entry(0, 2, 5),
+        entry(2, 3, 6),
+        entry(3, 3, 7),
+        entry(0, 4, 8),
+    ]
+}
+
+/// The main diagonal.
+const MAIN: Diagonal = Diagonal { row: 0, column: 0 };
+
+/// The diagonal two above it.
+const ABOVE: Diagonal = Diagonal { row: 0, column: 2 };
+
+/// The diagonal two below it, by another of its places than the first.
+const BELOW: Diagonal = Diagonal { row: 3, column: 1 };
+
+/// The last row's diagonal in the first column.
+const LOWEST: Diagonal = Diagonal {
+    row: LAST,
+    column: 0,
+};
+
+/// Both triangles, with and without the main diagonal; a diagonal and what is around it; sides of 0; no entries; and the
+/// corners of the largest sides.
+#[test]
+fn entries_are_selected_by_their_place(rt: HostRuntime) {
+    let cases: [Case<'_>; 12] = [
+        (
+            Ask::Select(Region::Lower(MAIN)),
+            (4, 5),
+            &given(),
+            (4, 5),
+            &[
+                entry(0, 0, 1),
+                entry(2, 0, 2),
+                entry(1, 1, 3),
+                entry(3, 1, 4),
+                entry(3, 3, 7),
+            ],
+        ),
+        (
+            Ask::Select(Region::Upper(MAIN)),
+            (4, 5),
+            &given(),
+            (4, 5),
+            &[
+                entry(0, 0, 1),
+                entry(1, 1, 3),
+                entry(0, 2, 5),
+                entry(2, 3, 6),
+                entry(3, 3, 7),
+                entry(0, 4, 8),
+            ],
+        ),
+        (
+            Ask::Select(Region::Lower(BELOW)),
+            (4, 5),
+            &given(),
+            (4, 5),
+            &[entry(2, 0, 2), entry(3, 1, 4)],
+        ),
+        (
+            Ask::Select(Region::Upper(ABOVE)),
+            (4, 5),
+            &given(),
+            (4, 5),
+            &[entry(0, 2, 5), entry(0, 4, 8)],
+        ),
+        (
+            Ask::Select(Region::On(BELOW)),
+            (4, 5),
+            &given(),
+            (4, 5),
+            &[entry(2, 0, 2), entry(3, 1, 4)],
+        ),
+        (
+            Ask::Select(Region::On(ABOVE)),
+            (4, 5),
+            &given(),
+            (4, 5),
+            &[entry(0, 2, 5)],
+        ),
+        (
+            Ask::Select(Region::Off(MAIN)),
+            (4, 5),
+            &given(),
+            (4, 5),
+            &[
+                entry(2, 0, 2),
+                entry(3, 1, 4),
+                entry(0, 2, 5),
+                entry(2, 3, 6),
+                entry(0, 4, 8),
+            ],
+        ),
+        (Ask::Select(Region::Lower(MAIN)), (0, 0), &[], (0, 0), &[]),
+        (
+            Ask::Select(Region::Off(MAIN)),
+            (LIMIT, 3),
+            &[],
+            (LIMIT, 3),
+            &[],
+        ),
+        (
+            Ask::Select(Region::Lower(LOWEST)),
+            (LIMIT, LIMIT),
+            &[entry(0, 0, 1), entry(LAST, 0, TOP), entry(LAST, LAST, 2)],
+            (LIMIT, LIMIT),
+            &[entry(LAST, 0, TOP)],
+        ),
+        (
+            Ask::Select(Region::Upper(LOWEST)),
+            (LIMIT, LIMIT),
+            &[entry(0, 0, 1), entry(LAST, 0, TOP), entry(LAST, LAST, 2)],
+            (LIMIT, LIMIT),
+            &[entry(0, 0, 1), entry(LAST, 0, TOP), entry(LAST, LAST, 2)],
+        ),
+        (
+            Ask::Select(Region::On(MAIN)),
+            (LIMIT, LIMIT),
+            &[entry(0, 0, 1), entry(LAST, 0, TOP), entry(LAST, LAST, 2)],
+            (LIMIT, LIMIT),
+            &[entry(0, 0, 1), entry(LAST, LAST, 2)],
+        ),
+    ];
+    assert!(rt; all_right::<PlusTimes>(rt.alloc(), &cases));
+}
+
+/// Diagonals of tall, wide and square blocks, of sides of 0, without entries, and of the largest sides; and columns on
+/// diagonals.
+#[test]
+fn diagonals_are_columns(rt: HostRuntime) {
+    let cases: [Case<'_>; 8] = [
+        (
+            Ask::Diagonal,
+            (4, 5),
+            &given(),
+            (4, 1),
+            &[entry(0, 0, 1), entry(1, 0, 3), entry(3, 0, 7)],
+        ),
+        (
+            Ask::Diagonal,
+            (5, 2),
+            &[entry(0, 0, 1), entry(4, 0, 2), entry(1, 1, 3)],
+            (2, 1),
+            &[entry(0, 0, 1), entry(1, 0, 3)],
+        ),
+        (Ask::Diagonal, (0, 3), &[], (0, 1), &[]),
+        (Ask::Diagonal, (3, 3), &[], (3, 1), &[]),
+        (
+            Ask::Diagonal,
+            (LIMIT, LIMIT),
+            &[entry(LAST, 0, 1), entry(LAST, LAST, TOP)],
+            (LIMIT, 1),
+            &[entry(LAST, 0, TOP)],
+        ),
+        (
+            Ask::DiagonalMatrix,
+            (LIMIT, 1),
+            &[entry(0, 0, 3), entry(7, 0, 4), entry(LAST, 0, TOP)],
+            (LIMIT, LIMIT),
+            &[entry(0, 0, 3), entry(7, 7, 4), entry(LAST, LAST, TOP)],
+        ),
+        (Ask::DiagonalMatrix, (0, 1), &[], (0, 0), &[]),
+        (Ask::DiagonalMatrix, (4, 1), &[], (4, 4), &[]),
+    ];
+    assert!(rt; all_right::<PlusTimes>(rt.alloc(), &cases));
+}
+
+/// Constants, sums, products and numbers of rows and columns, where those that are zero aren't stored.
+#[test]
+fn values_are_replaced(rt: HostRuntime) {
+    let cases: [Case<'_>; 8] = [
+        (
+            Ask::Apply(Function::Constant(9)),
+            (2, 2),
+            &[entry(0, 0, 1), entry(1, 1, TOP)],
+            (2, 2),
+            &[entry(0, 0, 9), entry(1, 1, 9)],
+        ),
+        (
+            Ask::Apply(Function::Constant(0)),
+            (2, 2),
+            &[entry(0, 0, 1), entry(1, 1, TOP)],
+            (2, 2),
+            &[],
+        ),
+        (
+            Ask::Apply(Function::Sum(1)),
+            (2, 2),
+            &[entry(0, 0, 1), entry(1, 1, TOP)],
+            (2, 2),
+            &[entry(0, 0, 2)],
+        ),
+        (
+            Ask::Apply(Function::LeftProduct(3)),
+            (2, 2),
+            &[entry(0, 0, 1), entry(1, 1, TOP)],
+            (2, 2),
+            &[entry(0, 0, 3), entry(1, 1, TOP - 2)],
+        ),
+        (
+            Ask::Apply(Function::RightProduct(1 << 63)),
+            (2, 2),
+            &[entry(0, 0, 2), entry(1, 1, 3)],
+            (2, 2),
+            &[entry(1, 1, 1 << 63)],
+        ),
+        (
+            Ask::Apply(Function::Row),
+            (LIMIT, 2),
+            &[entry(0, 0, 2), entry(LAST, 0, 3), entry(1, 1, 3)],
+            (LIMIT, 2),
+            &[entry(LAST, 0, u64::from(LAST)), entry(1, 1, 1)],
+        ),
+        (
+            Ask::Apply(Function::Column),
+            (2, LIMIT),
+            &[entry(0, 0, 2), entry(1, 1, 3), entry(0, LAST, 3)],
+            (2, LIMIT),
+            &[entry(1, 1, 1), entry(0, LAST, u64::from(LAST))],
+        ),
+        (Ask::Apply(Function::Row), (0, 0), &[], (0, 0), &[]),
+    ];
+    assert!(rt; all_right::<PlusTimes>(rt.alloc(), &cases));
+}
+
+/// Rows and columns in another order, left out and more than once; none; and the last of the largest sides.
+#[test]
+fn rows_and_columns_are_extracted(rt: HostRuntime) {
+    let cases: [Case<'_>; 5] = [
+        (
+            Ask::Extract(&[3, 0, 0], &[3, 1, 3, 0]),
+            (4, 5),
+            &given(),
+            (3, 4),
+            &[
+                entry(0, 0, 7),
+                entry(0, 1, 4),
+                entry(0, 2, 7),
+                entry(1, 3, 1),
+                entry(2, 3, 1),
+            ],
+        ),
+        (Ask::Extract(&[], &[1, 1]), (4, 5), &given(), (0, 2), &[]),
+        (Ask::Extract(&[2], &[]), (4, 5), &given(), (1, 0), &[]),
+        (Ask::Extract(&[], &[]), (0, 0), &[], (0, 0), &[]),
+        (
+            Ask::Extract(&[LAST, 0], &[0, LAST]),
+            (LIMIT, LIMIT),
+            &[entry(LAST, 0, 1), entry(LAST, LAST, TOP)],
+            (2, 2),
+            &[entry(0, 0, 1), entry(0, 1, TOP)],
+        ),
+    ];
+    assert!(rt; all_right::<PlusTimes>(rt.alloc(), &cases));
+}
+
+/// Each entry of the first block becomes a copy of the second, scaled; where a product is zero nothing is stored; sides of
+/// 0; and the most rows that there may be.
+#[test]
+fn products_of_kronecker(rt: HostRuntime) {
+    let second = [entry(0, 0, 1), entry(1, 0, 2), entry(1, 2, 1 << 63)];
+    let cases: [Case<'_>; 4] = [
+        (
+            Ask::Kronecker((2, 3), &second),
+            (2, 2),
+            &[entry(1, 0, 3), entry(0, 1, 2)],
+            (4, 6),
+            &[
+                entry(2, 0, 3),
+                entry(3, 0, 6),
+                entry(3, 2, 1 << 63),
+                entry(0, 3, 2),
+                entry(1, 3, 4),
+            ],
+        ),
+        (
+            Ask::Kronecker((0, 3), &[]),
+            (2, 2),
+            &given_corner(),
+            (0, 6),
+            &[],
+        ),
+        (
+            Ask::Kronecker((2, 3), &[]),
+            (2, 2),
+            &given_corner(),
+            (4, 6),
+            &[],
+        ),
+        (
+            Ask::Kronecker((LIMIT, 1), &[entry(0, 0, 2), entry(LAST, 0, 3)]),
+            (1, 2),
+            &[entry(0, 1, TOP)],
+            (LIMIT, 2),
+            &[entry(0, 1, TOP - 1), entry(LAST, 1, TOP - 2)],
+        ),
+    ];
+    assert!(rt; all_right::<PlusTimes>(rt.alloc(), &cases));
+}
+
+/// Two by two, one entry.
+fn given_corner() -> [Entry; 1] {
+    [entry(1, 1, 5)]
+}
+
+/// A number that follows from another without a pattern that matters here.
+fn next(state: u64) -> u64 {
+    state
+        .wrapping_mul(6_364_136_223_846_793_005)
+        .wrapping_add(1_442_695_040_888_963_407)
+}
+
+/// Entries at about a quarter of the places of these sides.
+fn scattered(alloc: Global, seed: u64, sides: (u32, u32)) -> Result<Vec<Entry>, AllocError> {
+    let mut entries = Vec::new(alloc);
+    let mut state = seed;
+    for column in 0..sides.1 {
+        for row in 0..sides.0 {
+            state = next(state);
+            if state >> 62 == 0 {
+                entries.push(entry(row, column, (state >> 33) | 1))?;
+            }
+        }
+    }
+    Ok(entries)
+}
+
+/// The value of the entry at a place, or 0.
+fn value_among(entries: &[Entry], row: u32, column: u32) -> u64 {
+    for entry in entries {
+        if entry.row == row && entry.column == column {
+            return entry.value;
+        }
+    }
+    0
+}
+
+/// Whether a place is in a region, by the numbers of diagonals.
+fn is_in(region: Region, row: u32, column: u32) -> bool {
+    let number = i64::from(column).wrapping_sub(i64::from(row));
+    match region {
+        Region::Lower(d) => number <= i64::from(d.column).wrapping_sub(i64::from(d.row)),
+        Region::Upper(d) => number >= i64::from(d.column).wrapping_sub(i64::from(d.row)),
+        Region::On(d) => number == i64::from(d.column).wrapping_sub(i64::from(d.row)),
+        Region::Off(d) => number != i64::from(d.column).wrapping_sub(i64::from(d.row)),
+    }
+}
+
+/// What a function makes of a value at a place, over plus-times.
+fn function_value(function: Function, row: u32, column: u32, value: u64) -> u64 {
+    match function {
+        Function::Constant(number) => number,
+        Function::Sum(number) => value.wrapping_add(number),
+        Function::LeftProduct(number) => value.wrapping_mul(number),
+        Function::RightProduct(number) => value.wrapping_mul(number),
+        Function::Row => u64::from(row),
+        Function::Column => u64::from(column),
+    }
+}
+
+/// What is wanted at a place, of a block with these entries.
+fn wanted(given: &[Entry], ask: &Ask<'_>, row: u32, column: u32) -> u64 {
+    match ask {
+        Ask::Select(region) => {
+            if is_in(*region, row, column) {
+                value_among(given, row, column)
+            } else {
+                0
+            }
+        }
+        Ask::Apply(function) => match value_among(given, row, column) {
+            0 => 0,
+            value => function_value(*function, row, column, value),
+        },
+        Ask::Diagonal => value_among(given, row, row),
+        Ask::DiagonalMatrix => {
+            if row == column {
+                value_among(given, row, 0)
+            } else {
+                0
+            }
+        }
+        Ask::Extract(rows, cols) => match (rows.get(row as usize), cols.get(column as usize)) {
+            (Some(i), Some(j)) => value_among(given, *i, *j),
+            _ => 0,
+        },
+        Ask::Kronecker(sides, other) => {
+            if sides.0 == 0 || sides.1 == 0 {
+                return 0;
+            }
+            let (height, width) = *sides;
+            value_among(given, row / height, column / width).wrapping_mul(value_among(
+                other,
+                row % height,
+                column % width,
+            ))
+        }
+    }
+}
+
+/// Whether what is made of a random block has what is wanted at each place, and no other entry.
+fn agrees(alloc: Global, seed: u64, sides: (u32, u32), ask: &Ask<'_>) -> Result<bool, SampleFault> {
+    let given = scattered(alloc, seed, sides)?;
+    let whole = block::<PlusTimes>(alloc, sides.0, sides.1, &given)?;
+    let made = made_of(alloc, &whole, ask)?;
+    let shape = made.shape();
+    let mut stored = 0usize;
+    for column in 0..shape.cols() {
+        for row in 0..shape.rows() {
+            let value = wanted(&given, ask, row, column);
+            if value != 0 {
+                stored = stored.saturating_add(1);
+            }
+            if made.get(row, column) != value {
+                return Ok(false);
+            }
+        }
+    }
+    Ok(made.len() == stored)
+}
+
+/// Whether each ask agrees on blocks of these sides.
+fn all_agree(alloc: Global, sides: (u32, u32), asks: &[Ask<'_>]) -> bool {
+    for seed in 1..4u64 {
+        for ask in asks {
+            match agrees(alloc, seed, sides, ask) {
+                Ok(true) => {}
+                _ => return false,
+            }
+        }
+    }
+    true
+}
+
+/// Every region, function and call, on random blocks, against what each means place by place.
+#[test]
+fn random_blocks_agree_with_a_slow_reference(rt: HostRuntime) {
+    let second = [entry(0, 0, 3), entry(2, 0, 1), entry(1, 1, 7)];
+    let asks = [
+        Ask::Select(Region::Lower(MAIN)),
+        Ask::Select(Region::Upper(MAIN)),
+        Ask::Select(Region::Lower(ABOVE)),
+        Ask::Select(Region::Upper(BELOW)),
+        Ask::Select(Region::On(BELOW)),
+        Ask::Select(Region::Off(ABOVE)),
+        Ask::Apply(Function::Sum(TOP)),
+        Ask::Apply(Function::LeftProduct(6)),
+        Ask::Apply(Function::Row),
+        Ask::Apply(Function::Column),
+        Ask::Diagonal,
+        Ask::Extract(&[6, 0, 0, 3, 6], &[8, 1, 1, 0]),
+        Ask::Kronecker((3, 2), &second),
+    ];
+    assert!(rt; all_agree(rt.alloc(), (7, 9), &asks));
+    assert!(rt; all_agree(rt.alloc(), (9, 1), &[Ask::DiagonalMatrix]));
+}
+
+/// A constant has to be a value: 2 is none of true and false. The numbers of rows have to be, too.
+#[test]
+fn numbers_that_are_no_values_are_told(rt: HostRuntime) {
+    let given = [entry(0, 0, 1)];
+    let alloc = rt.alloc();
+    let two = (
+        Ask::Apply(Function::Constant(2)),
+        (2, 2),
+        given.as_slice(),
+        (2, 2),
+        given.as_slice(),
+    );
+    let one = (
+        Ask::Apply(Function::Constant(1)),
+        (2, 2),
+        given.as_slice(),
+        (2, 2),
+        given.as_slice(),
+    );
+    let row = (
+        Ask::Apply(Function::Row),
+        (3, 2),
+        given.as_slice(),
+        (3, 2),
+        given.as_slice(),
+    );
+    assert!(rt; matches!(is_right::<OrAnd>(alloc, &two), Err(SampleFault::Value)));
+    assert!(rt; matches!(is_right::<OrAnd>(alloc, &one), Ok(true)));
+    assert!(rt; matches!(is_right::<OrAnd>(alloc, &row), Err(SampleFault::Value)));
+}
+
+/// Whether the answer is right, or memory was wanting.
+fn is_right_or_wants_memory(alloc: Global, case: &Case<'_>) -> bool {
+    match is_right::<MinPlus>(alloc, case) {
+        Ok(right) => right,
+        Err(fault) => fault == SampleFault::Block(BlockFault::Memory),
+    }
+}
+
+/// Passes whichever single allocation is refused (`rt try --test --fail-alloc N`, for each N in turn).
+#[test]
+fn refused_memory_is_said(rt: HostRuntime) {
+    let given = [entry(0, 0, 4), entry(1, 1, 0)];
+    let column = [entry(0, 0, 4), entry(1, 0, 0)];
+    let cases: [Case<'_>; 6] = [
+        (
+            Ask::Select(Region::Lower(MAIN)),
+            (2, 2),
+            &given,
+            (2, 2),
+            &given,
+        ),
+        (Ask::Apply(Function::Sum(9)), (2, 2), &given, (2, 2), &given),
+        (Ask::Diagonal, (2, 2), &given, (2, 1), &column),
+        (Ask::DiagonalMatrix, (2, 1), &column, (2, 2), &given),
+        (
+            Ask::Extract(&[0, 1], &[0, 1]),
+            (2, 2),
+            &given,
+            (2, 2),
+            &given,
+        ),
+        (
+            Ask::Kronecker((1, 1), &[entry(0, 0, 0)]),
+            (2, 2),
+            &given,
+            (2, 2),
+            &given,
+        ),
+    ];
+    for case in &cases {
+        assert!(rt; is_right_or_wants_memory(rt.alloc(), case));
+    }
+}
