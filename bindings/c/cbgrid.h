@@ -206,8 +206,8 @@ int cbgrid_multiply(uint32_t semiring, uint32_t grid, const struct cbgrid_column
                     struct cbgrid_columns *out);
 
 /* The product of a and b, kept where mask has an entry; what value the mask has there doesn't matter.
- * CBGRID_SHAPES where a and b don't meet, or the mask has not the product's shape. The mask is applied to
- * the whole product, so it saves no time. */
+ * CBGRID_SHAPES where a and b don't meet, or the mask has not the product's shape. Only the entries that the
+ * mask allows are computed: it costs the mask's entries, and the products of entries in the mask's columns. */
 int cbgrid_multiply_masked(uint32_t semiring, uint32_t grid, const struct cbgrid_columns *a,
                            const struct cbgrid_columns *b, const struct cbgrid_columns *mask,
                            struct cbgrid_columns *out);

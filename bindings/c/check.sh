@@ -32,6 +32,32 @@ done <"$out/names.map"
 needed=$(readelf -d "$out/libcbgrid.so" | sed -n 's/.*(NEEDED).*\[\(.*\)\]/\1/p')
 [ -n "$libs" ] || [ "$needed" = libc.so.6 ] || fail "libcbgrid.so needs $needed"
 
+# A program finds the installed library by pkg-config and by CMake.
+installed=$(cd "$out/installed" && pwd)
+if command -v pkg-config >/dev/null; then
+    flags=$(PKG_CONFIG_PATH="$installed/lib/pkgconfig" pkg-config --cflags --libs "cbgrid = $version")
+    # shellcheck disable=SC2086
+    "${CC:-cc}" example.c $flags $libs -o "$out/by_pkg_config"
+    LD_LIBRARY_PATH="$installed/lib" "$out/by_pkg_config" | cmp - example.out || fail "pkg-config leads to another library"
+fi
+if [ -z "$libs" ] && command -v cmake >/dev/null; then
+    rm -rf "$out/by_cmake" && mkdir -p "$out/by_cmake/project" && cp example.c "$out/by_cmake/project"
+    cat >"$out/by_cmake/project/CMakeLists.txt" <<CMAKE
+cmake_minimum_required(VERSION 3.13)
+project(example C)
+find_package(cbgrid $version REQUIRED)
+add_executable(example example.c)
+target_link_libraries(example cbgrid::cbgrid)
+add_executable(example_static example.c)
+target_link_libraries(example_static cbgrid::static)
+CMAKE
+    cmake -S "$out/by_cmake/project" -B "$out/by_cmake" -DCMAKE_PREFIX_PATH="$installed" >"$out/by_cmake.log" 2>&1 &&
+        cmake --build "$out/by_cmake" >>"$out/by_cmake.log" 2>&1 || fail "CMake doesn't find the library: see $out/by_cmake.log"
+    for it in example example_static; do
+        "$out/by_cmake/$it" | cmp - example.out || fail "CMake leads to another library"
+    done
+fi
+
 if command -v "${CXX:-c++}" >/dev/null; then
     "${CXX:-c++}" -x c++ -fsyntax-only -Wall -Wextra cbgrid.h || fail "cbgrid.h is no C++"
 fi

@@ -1,7 +1,28 @@
-"""The wheel holds libcbgrid.so, so it is one for a platform; but no version of Python is bound to it."""
+"""The wheel holds libcbgrid.so, so it is one for a platform; but no version of Python is bound to it.
+
+In a clone of the repository the library is built first, with every proof, where it is missing or older than its
+sources. Beside a copy of these files alone it has to be there.
+"""
+
+import os
+import subprocess
 
 from setuptools import Distribution, setup
+from setuptools.command.build_py import build_py
 from wheel.bdist_wheel import bdist_wheel
+
+HERE = os.path.dirname(os.path.abspath(__file__))
+BUILD = os.path.join(HERE, "..", "build")
+LIBRARY = os.path.join(HERE, "src", "cbgrid", "libcbgrid.so")
+
+
+class BuildWithLibrary(build_py):
+    def run(self):
+        if os.path.isfile(BUILD):
+            subprocess.run([BUILD, "library"], check=True)
+        elif not os.path.isfile(LIBRARY):
+            raise SystemExit("src/cbgrid/libcbgrid.so isn't there: build in a clone of the repository")
+        super().run()
 
 
 class BinaryDistribution(Distribution):
@@ -14,4 +35,4 @@ class PlatformWheel(bdist_wheel):
         return "py3", "none", super().get_tag()[2]
 
 
-setup(distclass=BinaryDistribution, cmdclass={"bdist_wheel": PlatformWheel})
+setup(distclass=BinaryDistribution, cmdclass={"build_py": BuildWithLibrary, "bdist_wheel": PlatformWheel})
