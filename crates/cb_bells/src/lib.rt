@@ -1,15 +1,15 @@
 //! How a thread waits at one end of a ring for what the thread at the other end does.
 //!
-//! It looks again and again, and pauses between two looks by a `Backoff` of its own: at first for one turn of the
-//! processor, then for two, up to 64, then four times it yields the processor to any other thread. From then on it
-//! sleeps. So a short wait costs no call of the system, and a long one no time of the processor.
+//! It looks again and again, and pauses between looks by a `Backoff` of its own: at first for one spin, then two, up to
+//! 64; then it yields the processor four times; from then on it sleeps. So a short wait makes no system call, and a
+//! long one takes no processor time.
 //!
-//! The two ends share a bell, which wakes the sleeper. Who is about to sleep announces it at the bell and looks once
-//! more; the other end rings after each item that it pushes or pops, and as it goes, which costs a look at whether
-//! anyone waits. All steps on the ring and on the bell are in one order, so either the one who waits sees the change, or the
-//! one who makes it sees that there is someone to wake.
+//! The two ends share a bell, which wakes the sleeper. A thread that is about to sleep announces it at the bell and
+//! looks once more; the other end rings after each item that it pushes or pops, and when it is dropped, which costs a
+//! look at whether anyone waits. All steps on the ring and on the bell are in one order, so either the waiting thread
+//! sees the change, or the other end sees that there is someone to wake.
 //!
-//! That a sleeper wakes is not claimed: no contract sees it.
+//! It isn't claimed that a sleeper wakes: no contract sees it.
 #![tactic(auto)]
 
 ghost use Rattle.std.specs.Prelude.{◌≡◌, ◌<◌, length, IsTrue};
@@ -36,7 +36,7 @@ impl Bell {
         Ok((Bell { events }, Bell { events: theirs }))
     }
 
-    /// Wakes who sleeps at the other end.
+    /// Wakes the thread that sleeps at the other end.
     pub fn ring(&self) {
         self.events.notify_all();
     }
@@ -46,7 +46,7 @@ impl Bell {
 pub trait RingEnd {
     ghost use Rattle.std.specs.Prelude.{IsTrue};
 
-    /// Nothing was done at this end but to look at the other.
+    /// This end only looked at the other.
     ghost looked: { Self → Self → Type 0 };
 
     /// The next push or pop succeeds.
@@ -57,7 +57,7 @@ pub trait RingEnd {
         ensures looked { looked self.old self.new }
         ensures ready { IsTrue result → ready self.new };
 
-    /// Whether the other end was dropped. Nothing is claimed of the answer.
+    /// Whether the other end was dropped. Nothing is claimed about the answer.
     fn is_left(&mut self) -> bool
         ensures { looked self.old self.new };
 
@@ -102,7 +102,7 @@ impl<T, P: Protocol<T>> RingEnd for Consumer<T, Global, P> {
     }
 }
 
-/// Waits until an end is ready, or else the other end is gone. Answers whether it is ready.
+/// Waits until an end is ready or the other end is gone. Returns whether it is ready.
 pub fn wait_at<E: RingEnd, R: Wait>(rt: &R, end: &mut E, bell: &Bell) -> bool
     ensures looked { E.looked end.old end.new }
     ensures ready { IsTrue result → E.ready end.new }
@@ -126,7 +126,7 @@ pub fn wait_at<E: RingEnd, R: Wait>(rt: &R, end: &mut E, bell: &Bell) -> bool
     unreachable!()
 }
 
-/// Sleeps until the bell rings, where the end isn't ready and the other end isn't gone.
+/// Sleeps until the bell rings, unless the end is ready or the other end is gone.
 fn sleep_at<E: RingEnd, R: Wait>(rt: &R, end: &mut E, bell: &Bell)
     ensures { E.looked end.old end.new }
 {

@@ -6,11 +6,11 @@ use Rattle.cb_plan.specs.declared.plans.PlanFaultKind.TheVariants as kind_is
 use Rattle.cb_plan.specs.declared.plans.TheConstants.{MOST_ACTS}
 use Rattle.cb_plan.specs.Plans.{PlanView}
 
--- with these acts more the plan isn't too long
+-- with these more acts the plan isn't too long
 abbrev pub IsWithinLimit : PlanView → List Act → Type 0
 IsWithinLimit plan acts = length plan.acts + length acts ≤ MOST_ACTS
 
--- so many acts more are more than a plan may have
+-- this many more acts are more than a plan may have
 abbrev pub IsTooLong : PlanView → List Act → Type 0
 IsTooLong plan acts = MOST_ACTS < length plan.acts + length acts
 
@@ -22,7 +22,7 @@ too_long plan = record { act = length plan.acts; kind = kind_is.TooLong }
 abbrev pub no_memory : PlanFault
 no_memory = record { act = 0; kind = kind_is.Memory }
 
--- why the acts were refused: the plan would be too long, or else there was no memory
+-- why the acts were refused: the plan would be too long, or else memory was refused
 abbrev pub IsRefusal : PlanView → List Act → PlanFault → Type 0
 IsRefusal plan acts fault = (IsTooLong plan acts × (fault ≡ too_long plan)) ⊎ (fault ≡ no_memory)
 
@@ -31,12 +31,12 @@ pub record HasRoom (plan : PlanView) (acts : List Act) : Type 0 where
   pub memory : length plan.acts + length acts ≤ plan.room
   pub limit : IsWithinLimit plan acts
 
--- the plan has these acts more
+-- the plan has these more acts
 pub record Grew (acts : List Act) (old new : PlanView) : Type 0 where
   pub ranks_are : new.ranks ≡ old.ranks
   pub acts_are : new.acts ≡ old.acts ++ acts
 
--- it has these acts more where there was room for them, and what was left of the room is still there
+-- if there was room for these acts, the plan has them too, and what was left of the room is still there
 pub record Appended (acts : List Act) (old new : PlanView) : Type 0 where
   pub grew : Grew acts old new
   pub room : old.room ≤ new.room

@@ -41,11 +41,11 @@ copied_at rank slot into = if slot == into then [] else act_is.Work rank (op_is.
 abbrev pub turned_at : ℕ → List ℕ → List ℕ
 turned_at place members = drop place members ++ take place members
 
--- the members turned so that the root is first
+-- the members rotated so that the root is first
 abbrev pub turned : List ℕ → ℕ → List ℕ
 turned members root = turned_at (place_of members root) members
 
--- in a turned list, member p gets the block from member (p-1)/2, who has it
+-- in a rotated list, member p gets the block from member (p-1)/2, which has it
 abbrev pub tree_move : List ℕ → Tag → ℕ → ℕ → ℕ → Act
 tree_move ms tag slot into p =
     act_is.Move (member ms ((p - 1) / 2)) (member ms p) tag (if (p - 1) / 2 == 0 then slot else into) into
@@ -61,7 +61,7 @@ abbrev pub gather_acts : List ℕ → ℕ → Tag → ℕ → ℕ → List Act
 gather_acts members root tag slot into =
     map (λ t. sent (member members t) root tag slot (into + t)) (range_with_len 0 (length members))
 
--- the slot of a member other than the root goes to the root, who adds it
+-- the slot of a member other than the root goes to the root, which adds it
 abbrev pub added_from : ℕ → Tag → ℕ → ℕ → ℕ → ℕ → List Act
 added_from root tag slot into scratch m =
     if m == root then [] else act_is.Move m root tag slot scratch ∷ act_is.Work root (op_is.Add into scratch into) ∷ []
@@ -95,7 +95,7 @@ shut_acts ranks = flat_map (shut_from ranks) (range_with_len 0 ranks)
 abbrev pub spread : {M : Type 0} → List ℕ → ℕ → Option M → State M → State M
 spread members into x state r n = if is_member members r && into == n then x else state r n
 
--- whether a slot is one of those from a number on, as many as there are members
+-- whether a slot is in the run of slots from a number on, one for each member
 abbrev pub is_in_run : List ℕ → ℕ → ℕ → Bool
 is_in_run members into n = nat_le into n && nat_lt n (into + length members)
 

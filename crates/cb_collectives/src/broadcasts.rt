@@ -12,9 +12,9 @@ use cb_plan::{Act, Plan, PlanFault};
 
 /// The root's `slot` goes to slot `into` of every member.
 ///
-/// The members are turned so that the root is first and the others follow cyclically. Member p of the turned list
-/// gets the block from member (p - 1) / 2, so it reaches the last of n members in about log n Moves. Appends at
-/// most n acts.
+/// The members are rotated so that the root comes first and the others follow cyclically. Member p of the rotated list
+/// gets the block from member (p - 1) / 2, so it reaches the last of n members in about log n Moves. Appends at most n
+/// acts.
 #[tactic(auto, using(crate::proofs::Spread::broadcast_spreads, crate::proofs::Counts::count_broadcast))]
 pub fn broadcast(
     plan: &mut Plan,
@@ -36,7 +36,7 @@ pub fn broadcast(
     send_down(plan, members, place_in(members, root), tag, slot, into)
 }
 
-/// How many acts it takes: a Move to each member but the root, and a Copy where the slots differ.
+/// How many acts it takes: a Move to each member but the root, and a Copy if the slots differ.
 fn acts_among(members: &[u16], slot: u16, into: u16) -> usize
     requires { 0 < length members.now }
     ensures { result ≡ length members.now - (if slot == into then 1 else 0) }
@@ -77,7 +77,7 @@ fn send_down(
     Ok(())
 }
 
-/// The member so many places after the one at a place, cyclically.
+/// The member this many places after the one at a place, cyclically.
 fn member_after(members: &[u16], place: usize, steps: usize) -> u16
     requires place { place < length members.now }
     requires steps { steps < length members.now }

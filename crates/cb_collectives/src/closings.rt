@@ -8,7 +8,7 @@ ghost use Rattle.cb_collectives.specs.Collectives.{shut_lane, shut_from, shut_ac
 use crate::steps::append;
 use cb_plan::{Act, Plan, PlanFault};
 
-/// Every lane between two ranks of the plan is shut, by sender and then by addressee.
+/// Shuts every lane between two ranks of the plan, by sender and then by addressee.
 #[tactic(auto, using(crate::proofs::ShutMeaning::shut_nothing, crate::proofs::Counts::count_shut))]
 pub fn shut_all(plan: &mut Plan) -> Result<(), PlanFault>
     ensures ranks { plan.new.ranks ≡ plan.old.ranks }
@@ -22,7 +22,7 @@ pub fn shut_all(plan: &mut Plan) -> Result<(), PlanFault>
     shut_lanes(plan, ranks)
 }
 
-/// All lanes are shut. There is room for these acts.
+/// Shuts all lanes. There is room for these acts.
 fn shut_lanes(plan: &mut Plan, ranks: u16) -> Result<(), PlanFault>
     requires room { HasRoom plan.now (shut_acts ranks) }
     ensures granted { IsOk result }
@@ -34,7 +34,7 @@ fn shut_lanes(plan: &mut Plan, ranks: u16) -> Result<(), PlanFault>
     Ok(())
 }
 
-/// The lanes from a rank to each other rank are shut. There is room for these acts.
+/// Shuts the lanes from a rank to each other rank. There is room for these acts.
 fn shut_lanes_from(plan: &mut Plan, ranks: u16, from: u16) -> Result<(), PlanFault>
     requires room { HasRoom plan.now (shut_from ranks from) }
     ensures granted { IsOk result }
@@ -46,7 +46,7 @@ fn shut_lanes_from(plan: &mut Plan, ranks: u16, from: u16) -> Result<(), PlanFau
     Ok(())
 }
 
-/// The lane between two ranks is shut. There is room for the act.
+/// Shuts the lane between two ranks. There is room for the act.
 fn shut(plan: &mut Plan, from: u16, to: u16) -> Result<(), PlanFault>
     requires room { HasRoom plan.now (shut_lane from to) }
     ensures granted { IsOk result }

@@ -11,7 +11,7 @@ use cb_plan::{Plan, PlanFault, SLOTS};
 
 /// Each member sends a slot to each member: slot `slot + t` of member s goes to slot `into + s` of member t.
 ///
-/// The slots exist, and the two runs of slots don't meet. Appends the square of the members' number of acts.
+/// The slots exist, and the two runs of slots don't overlap. For n members it appends n * n acts.
 #[tactic(auto, using(crate::proofs::SendMeaning::all_to_all_exchanges, crate::proofs::Counts::count_all_to_all))]
 pub fn all_to_all(
     plan: &mut Plan,

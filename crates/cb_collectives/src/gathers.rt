@@ -9,7 +9,7 @@ use crate::steps::send;
 use cb_letters::Tag;
 use cb_plan::{Plan, PlanFault, SLOTS};
 
-/// The `slot` of each member goes to the root: to slot `into` that of the first member, and so on.
+/// The `slot` of each member goes to the root: that of the first member to slot `into`, and so on.
 ///
 /// The slots that are set exist, and `slot` isn't one of them. Appends an act for each member.
 #[tactic(auto, using(crate::proofs::SendMeaning::gather_gathers, crate::proofs::Counts::count_gather))]

@@ -12,9 +12,9 @@ use crate::steps::{append, work};
 use cb_letters::Tag;
 use cb_plan::{Act, Op, Plan, PlanFault};
 
-/// Slot `into` of the root becomes the sum of the `slot` of all members: the root's own first, and then the
-/// others in list order. Slot `scratch` of the root is left with anything. Over a semiring, each place of the sum
-/// has the sum of the members' values there. Appends 2n - 1 acts for n members.
+/// Slot `into` of the root becomes the sum of the `slot` of all members: the root's own first, and then the others in
+/// list order. Slot `scratch` of the root may be left with anything. Over a semiring, each place of the sum has the sum
+/// of the members' values there. Appends 2n - 1 acts for n members.
 #[tactic(auto, using(crate::proofs::ReduceMeaning::reduce_sums, crate::proofs::Totals::members_add_up, crate::proofs::Counts::count_reduce))]
 pub fn reduce(
     plan: &mut Plan,
@@ -42,7 +42,7 @@ pub fn reduce(
     add_members(plan, members, root, tag, slot, into, scratch)
 }
 
-/// The slots of the members other than the root are added to the root's. There is room for these acts.
+/// Adds the slots of the members other than the root to the root's. There is room for these acts.
 fn add_members(
     plan: &mut Plan,
     members: &[u16],
@@ -62,8 +62,8 @@ fn add_members(
     Ok(())
 }
 
-/// The slot of a member other than the root goes to `scratch` of the root, who adds it to `into`. There is room
-/// for these acts.
+/// The slot of a member other than the root goes to `scratch` of the root, which adds it to `into`. There is room for
+/// these acts.
 fn add_member(
     plan: &mut Plan,
     member: u16,

@@ -1,4 +1,4 @@
-//! Acts that are appended where there is room for them, and places in the list of members.
+//! Acts that are appended into room taken before, and places in the list of members.
 ghost use Rattle.std.specs.Prelude.{◌≡◌, ◌==◌, true, List, [], ◌∷◌, IsOk};
 ghost use Rattle.std.specs.List.{position};
 ghost use Rattle.cb_collectives.specs.Appends.{HasRoom, Appended};
@@ -25,7 +25,7 @@ pub fn work(plan: &mut Plan, rank: u16, op: Op) -> Result<(), PlanFault>
     append(plan, Act::Work { rank, op })
 }
 
-/// A slot of a rank goes to another slot of the same rank. Where the two are one, nothing is to be done.
+/// A slot of a rank goes to another slot of the same rank. If the two are one, nothing is done.
 pub fn copy_at(plan: &mut Plan, rank: u16, slot: u16, into: u16) -> Result<(), PlanFault>
     requires { HasRoom plan.now (copied_at rank slot into) }
     ensures granted { IsOk result }

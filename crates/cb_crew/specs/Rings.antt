@@ -8,7 +8,7 @@ use Rattle.rtrb.specs.declared.end.End.{End}
 use Rattle.rtrb.specs.declared.producer.Producer.{Producer}
 use Rattle.rtrb.specs.declared.consumer.Consumer.{Consumer}
 
--- what tells a ring from every other
+-- what distinguishes a ring from every other
 abbrev pub RingName : Type 0
 RingName = Ptr × Ptr × Names × Global
 

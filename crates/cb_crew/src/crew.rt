@@ -10,7 +10,7 @@ use std::alloc::Global;
 use std::mem;
 use std::sync::Wait;
 
-/// A worker for each rank, none of them with a task. A crew that is dropped has ended: its workers' threads return.
+/// A worker for each rank, none of them with a task. Dropping a crew ends it: its workers' threads return.
 #[derive(Drop)]
 pub struct Crew<T: Task, J: Naming> {
     pub(crate) idle: Vec<Idle<T, J>>,
@@ -19,8 +19,8 @@ pub struct Crew<T: Task, J: Naming> {
 impl<T: Task, J: Naming> Crew<T, J> {
     ghost use Rattle.std.specs.Prelude.{OnOk, OnErr};
 
-    /// One round: the k-th worker gets the k-th task, and once all have answered the answers come back in order. On a
-    /// fault the crew has ended, and has no workers.
+    /// One round: the k-th worker gets the k-th task, and once all have answered, the answers come back in order. After
+    /// a fault the crew has ended, and has no workers.
     ///
     /// It takes memory for three lists with a place for each worker, and wakes each worker that sleeps.
     pub fn run<R: Wait>(
@@ -53,7 +53,7 @@ impl<T: Task, J: Naming> Crew<T, J> {
     }
 }
 
-/// Gives each worker its task, into the room for so many.
+/// Gives each worker its task, into room for that many.
 fn give_all<T: Task, J: Naming>(
     idle: Vec<Idle<T, J>>,
     tasks: Vec<T>,
@@ -73,7 +73,7 @@ fn give_all<T: Task, J: Naming>(
     Ok(busy)
 }
 
-/// Waits for each worker's answer, into the room for so many.
+/// Waits for each worker's answer, into room for that many.
 fn wait_all<T: Task, J: Naming, R: Wait>(
     rt: &R,
     busy: Vec<Busy<T, J>>,

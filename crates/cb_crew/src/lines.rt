@@ -1,5 +1,5 @@
-//! A line from one thread to another: a ring of one place, and a bell for who waits. What is known of an item that
-//! comes is what its type says.
+//! A line from one thread to another: a ring of one place, and a bell for a thread that waits. What is known of a
+//! received item is what its type says.
 use cb_bells::{Bell, wait_at};
 use rtrb::{Consumer, Producer, PushError, RingBuffer};
 use std::alloc::{AllocError, Global};
@@ -31,7 +31,7 @@ pub(crate) fn line<X: Drop>(alloc: Global) -> Result<(Sender<X>, Receiver<X>), A
 }
 
 impl<X: Drop> Sender<X> {
-    /// Sends an item, or hands it back where the last one wasn't received yet.
+    /// Sends an item, or hands it back if the last one wasn't received yet.
     pub(crate) fn send(&mut self, item: X) -> Result<(), X> {
         match self.ring.push(item) {
             Ok(()) => {
@@ -44,7 +44,7 @@ impl<X: Drop> Sender<X> {
 }
 
 impl<X: Drop> Receiver<X> {
-    /// Waits for an item. There is none where the sender is gone.
+    /// Waits for an item. There is none if the sender is gone.
     pub(crate) fn receive<R: Wait>(&mut self, rt: &R) -> Option<X> {
         if !wait_at(rt, &mut self.ring, &self.bell) {
             return None;

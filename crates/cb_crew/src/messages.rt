@@ -1,4 +1,4 @@
-//! What goes between a crew and its workers.
+//! What a crew and its workers send each other.
 ghost use Rattle.std.specs.Prelude.{ℕ, List, ◌≡◌, length, Some};
 ghost use Rattle.rtrb.specs.Ring.{received, known_items};
 ghost use Rattle.cb_crew.specs.Rings.{taken_ring, last_item};
@@ -7,12 +7,12 @@ use rtrb::Consumer;
 use std::marker::{Model, PhantomData};
 use std::sync::Wait;
 
-/// What a worker carries out, and answers.
+/// What a worker carries out and answers.
 pub trait Task: Drop + Send {
     /// What the answer is made of.
     type Answer: Drop + Send;
 
-    /// What an answer is to its task.
+    /// How an answer relates to its task.
     ghost does: { Self → Self.Answer → Type 0 };
 
     /// Does the task, and answers it.
@@ -20,7 +20,7 @@ pub trait Task: Drop + Send {
         ensures { does self result };
 }
 
-/// Says which ring is whose. It is picked as a crew starts.
+/// Says whose each ring is. It is picked as a crew starts.
 pub trait Naming {
     ghost use Rattle.std.specs.Prelude.{ℕ, Option};
     ghost use Rattle.cb_crew.specs.Rings.{RingName};

@@ -33,7 +33,7 @@ pub trait Rounds: Drop {
     /// What it may answer.
     ghost leaves: { Self → Self.Outcome → Type 0 };
 
-    /// Does the rounds, by a crew that was just started, and ends as they are over.
+    /// Does the rounds, by a crew that was just started, and returns when they are over.
     fn go<J: Naming, R: Wait>(
         self,
         rt: &R,
@@ -62,8 +62,8 @@ fn open<T: Drop>(alloc: Global, workers: u16) -> Result<Vec<(Producer<T>, Consum
     Ok(rings)
 }
 
-/// Starts a crew of so many workers, each in a thread of its own, does the rounds, and ends the crew, once every thread
-/// has ended. The fault is one of starting: memory was refused, or a thread.
+/// Starts a crew of this many workers, each in a thread of its own, does the rounds, ends the crew, and returns once
+/// every thread has ended. A fault is one of starting: memory was refused, or a thread.
 pub fn start<B: Rounds, R: Threads + Wait + Sync>(
     rt: &R,
     alloc: Global,

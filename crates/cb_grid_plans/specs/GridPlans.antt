@@ -35,7 +35,7 @@ mirrored q r = (r % q) * q + r / q
 abbrev pub mirror_acts : ℕ → List Act
 mirror_acts q = map (λ r. sent r (mirrored q r) (tagged 0) 1 2) (range_with_len 0 (q * q))
 
--- each rank transposes its block, and they change sides
+-- each rank transposes its block, and the blocks cross the diagonal
 abbrev pub transpose_acts : ℕ → List Act
 transpose_acts q = (each_rank q (λ _. op_is.Transpose 0 1) ++ mirror_acts q) ++ shut_acts (q * q)
 
@@ -49,7 +49,7 @@ abbrev pub IsTransposePlan : List Act → ℕ → Extent → Type 0
 IsTransposePlan acts q shape =
     (s : Arithmetic) (a : Sparse) → a.shape ≡ shape → (state : State Sparse) → HasParts s q a 0 state → Leaves s q acts state (transposed s a)
 
--- what is left of it without the entries that pass the test
+-- the same, with what is left of the matrix without the entries that pass the test
 abbrev pub IsPrunePlan : List Act → ℕ → Extent → Test → Type 0
 IsPrunePlan acts q shape test =
     (s : Arithmetic) (a : Sparse) → a.shape ≡ shape → (state : State Sparse) → HasParts s q a 0 state → Leaves s q acts state (pruned s (passes test) a)
@@ -59,7 +59,7 @@ abbrev pub IsSumPlan : List Act → ℕ → Extent → Type 0
 IsSumPlan acts q shape =
     (s : Arithmetic) (a b : Sparse) → a.shape ≡ shape → b.shape ≡ shape → (state : State Sparse) → HasParts s q a 0 state → HasParts s q b 1 state → Leaves s q acts state (sum_of s a b)
 
--- their product place by place
+-- the same, with their product place by place
 abbrev pub IsTimesPlan : List Act → ℕ → Extent → Type 0
 IsTimesPlan acts q shape =
     (s : Arithmetic) (a b : Sparse) → a.shape ≡ shape → b.shape ≡ shape → (state : State Sparse) → HasParts s q a 0 state → HasParts s q b 1 state → Leaves s q acts state (times_of s a b)

@@ -22,7 +22,7 @@ own_cut rows width t = op_is.Cut (10 + t) rows (0, width) (30 + t)
 abbrev pub own_cuts : ℕ → ℕ × ℕ → ℕ → List Op
 own_cuts q rows width = map (own_cut rows width) (range_with_len 0 q)
 
--- a rank keeps these rows of what came, and adds them up in slot 2
+-- a rank keeps these rows of what it got, and adds them up in slot 2
 abbrev pub own_ops : ℕ → ℕ × ℕ → ℕ → List Op
 own_ops q rows width = own_cuts q rows width ++ sum_ops q
 
@@ -34,8 +34,7 @@ own_sums q shape r = own_ops q (part q 1 (r / q)) (part_length q shape.cols (r %
 abbrev pub gathered_sums : ℕ → Extent → List Act
 gathered_sums q shape = piece_broadcasts q ++ each_works q (own_sums q shape)
 
--- ---- the plans
--- each rank adds up the columns of its block, and the ranks of a column add up what they have
+-- ---- the plans each rank adds up the columns of its block, and the ranks of a column add up their sums
 abbrev pub column_sums_acts : ℕ → Extent → List Act
 column_sums_acts q shape = each_rank q (λ _. op_is.ColumnSums 0 1) ++ gathered_sums q shape
 
@@ -60,7 +59,7 @@ abbrev pub IsColumnSumsPlan : List Act → ℕ → Extent → Type 0
 IsColumnSumsPlan acts q shape =
     (s : Arithmetic) → IsSemiring s → (a : Sparse) → IsMatrix s a → a.shape ≡ shape → (state : State Sparse) → HasParts s q a 0 state → Leaves s q acts state (column_sums s a)
 
--- or of its rows
+-- the same, with the sums of its rows
 abbrev pub IsRowSumsPlan : List Act → ℕ → Extent → Type 0
 IsRowSumsPlan acts q shape =
     (s : Arithmetic) → IsSemiring s → (a : Sparse) → IsMatrix s a → a.shape ≡ shape → (state : State Sparse) → HasParts s q a 0 state → Leaves s q acts state (row_sums s a)

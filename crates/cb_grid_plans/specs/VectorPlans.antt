@@ -61,15 +61,15 @@ part_broadcasts q j = flat_map (piece_broadcast q j) (range_with_len 0 q)
 abbrev pub piece_broadcasts : ℕ → List Act
 piece_broadcasts q = flat_map (part_broadcasts q) (range_with_len 0 q)
 
--- piece t, placed in the part that it is of, is added to slot 3
+-- piece t, placed in its part, is added to slot 3
 abbrev pub add_piece : ℕ → Extent → ℕ → List Op
 add_piece q whole t = op_is.Place (10 + t) whole (part_start q whole.rows t, 0) 4 ∷ op_is.Add 3 4 3 ∷ []
 
--- the part of the vector is made of its pieces, and the rank's block is multiplied by it
+-- the part of the vector is assembled from its pieces, and the rank's block is multiplied by it
 abbrev pub product_ops : ℕ → Extent → List Op
 product_ops q whole = op_is.Zero 3 whole ∷ (flat_map (add_piece q whole) (range_with_len 0 q) ++ op_is.MulVec 0 3 5 ∷ [])
 
--- piece t of a product with so many rows goes to slot 20 + t
+-- piece t of a product with this many rows goes to slot 20 + t
 abbrev pub piece_cut : ℕ → ℕ → ℕ → Op
 piece_cut q rows t = op_is.Cut 5 (part q rows t) (0, 1) (20 + t)
 
@@ -83,11 +83,11 @@ exchange q i = all_to_all_acts (row_group q i) (tagged 6) 20 30
 abbrev pub exchanges : ℕ → List Act
 exchanges q = flat_map (exchange q) (range_with_len 0 q)
 
--- another of the pieces that came is added to the first
+-- another of the received pieces is added to the first
 abbrev pub next_summand : ℕ → Op
 next_summand s = op_is.Add 2 (31 + s) 2
 
--- the pieces that came are added up in slot 2
+-- the received pieces are added up in slot 2
 abbrev pub sum_ops : ℕ → List Op
 sum_ops q = op_is.Copy 30 2 ∷ map next_summand (range_with_len 0 (q - 1))
 

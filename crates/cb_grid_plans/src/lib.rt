@@ -1,11 +1,11 @@
 //! Plans over a grid of ranks: the transpose, sums and products place by place, entries dropped by a test, and the
 //! product of a matrix and a vector.
 //!
-//! Rank (i, j) keeps the block of the first matrix in row part i and column part j in its slot 0, that of the
-//! second in slot 1, and that of the answer in slot 2; slot 0 is left as it was. Operations place by place need no
-//! letters but those that shut the lanes. In a transpose each rank sends its transposed block across the diagonal.
-//! A vector is spread over all ranks, a piece in slot 1 of each; the pieces go down the columns of ranks, and those of
-//! the products along their rows.
+//! Rank (i, j) keeps the block of the first matrix in row part i and column part j in its slot 0, that of the second in
+//! slot 1, and that of the answer in slot 2; slot 0 is left as it was. Operations place by place need no letters except
+//! those that shut the lanes. In a transpose each rank sends its transposed block across the diagonal. A vector is
+//! spread over all ranks, a piece in slot 1 of each; the pieces go down the columns of ranks, and those of the products
+//! along the rows.
 //!
 //! `specs/GridPlans` and `specs/VectorPlans` have the acts of each plan, and what they leave.
 #![tactic(auto)]

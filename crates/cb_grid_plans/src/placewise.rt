@@ -88,7 +88,7 @@ fn two_operands(shape: Shape) -> [Operand; 2]
     ]
 }
 
-/// The plan in which each rank does one operation, which the operands let it do.
+/// The plan in which each rank does one operation, which its operands allow.
 fn placewise(
     alloc: Global,
     grid: &Grid,

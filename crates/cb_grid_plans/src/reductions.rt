@@ -1,9 +1,9 @@
 //! The sums of the columns, and of the rows, of a matrix.
 //!
-//! Each rank adds up the columns of its block. These sums go to all ranks of its column, and each of them adds up, of the
-//! one row that they make, what its part of the answer has: the first row of ranks all of it, the others nothing. The rows
-//! of a matrix are the columns of its transpose: so each rank adds up the columns of its transposed block, sends the
-//! sums across the diagonal, and what is made of them there comes back, transposed.
+//! Each rank adds up the columns of its block. These sums go to all ranks of its column. Together they make one row, of
+//! which each rank adds up its part of the answer: the first row of ranks all of it, the others nothing. The rows of a
+//! matrix are the columns of its transpose. So for them each rank adds up the columns of its transposed block and sends
+//! the sums across the diagonal, and what is made of them there comes back, transposed.
 ghost use Rattle.std.specs.Prelude.{◌≡◌, ◌<◌, ◌*◌, ◌/◌, ◌%◌, ◌++◌, ℕ, List, map, IfOk, IfErr, OnOk};
 ghost use Rattle.std.specs.List.{range_with_len};
 ghost use Rattle.cb_plan.specs.Checks.{started, none_shut};
@@ -64,7 +64,7 @@ pub fn grid_row_sums(alloc: Global, grid: &Grid, a: Shape) -> Result<Planned, Pl
     finish_one(alloc, grid, plan, a)
 }
 
-/// The plan that these acts are, from a matrix of this shape, once all lanes are shut after them.
+/// The plan that these acts make, from a matrix of this shape, once all lanes are shut after them.
 fn finish_one(alloc: Global, grid: &Grid, plan: Plan, a: Shape) -> Result<Planned, PlanFault>
     requires ranks { plan.ranks ≡ grid.now.side * grid.now.side }
     requires limit { IsWithinLimit plan (shut_acts (grid.now.side * grid.now.side)) }
@@ -145,14 +145,14 @@ fn turn_back(plan: &mut Plan, grid: &Grid) -> Result<(), PlanFault>
     send_across(plan, grid)
 }
 
-/// As many rows as a shape has columns, and as many columns as it has rows.
+/// The shape with rows and columns exchanged.
 fn turned(shape: Shape) -> Shape
     ensures { result ≡ turned shape }
 {
     Shape::new(shape.cols(), shape.rows()).unwrap()
 }
 
-/// The sums of the blocks of a column of ranks are added up, each rank of it keeping its rows.
+/// Adds up the sums of the blocks of a column of ranks; each rank keeps its rows.
 fn gather_sums(plan: &mut Plan, alloc: Global, grid: &Grid, a: Shape) -> Result<(), PlanFault>
     requires { IsWithinLimit plan.now (gathered_sums grid.now.side a) }
     ensures acts { OnOk result (Grew (gathered_sums grid.now.side a) plan.old plan.new) }
@@ -162,7 +162,7 @@ fn gather_sums(plan: &mut Plan, alloc: Global, grid: &Grid, a: Shape) -> Result<
     keep_own_sums(plan, grid, a)
 }
 
-/// Each rank cuts its rows out of the sums that came, and adds them up.
+/// Each rank cuts its rows out of the sums that it got, and adds them up.
 fn keep_own_sums(plan: &mut Plan, grid: &Grid, a: Shape) -> Result<(), PlanFault>
     requires { IsWithinLimit plan.now (each_works grid.now.side (own_sums grid.now.side a)) }
     ensures acts { OnOk result (Grew (each_works grid.now.side (own_sums grid.now.side a)) plan.old plan.new) }
@@ -178,7 +178,7 @@ fn keep_own_sums(plan: &mut Plan, grid: &Grid, a: Shape) -> Result<(), PlanFault
     Ok(())
 }
 
-/// A rank cuts these rows out of the sums that came, which are so wide, and adds them up.
+/// A rank cuts these rows out of the sums that it got, which have this width, and adds them up.
 fn keep_own(
     plan: &mut Plan,
     grid: &Grid,
@@ -194,7 +194,7 @@ fn keep_own(
     add_up(plan, grid, rank)
 }
 
-/// A rank cuts these rows out of the sums that came, which are so wide.
+/// A rank cuts these rows out of the sums that it got, which have this width.
 fn cut_own(
     plan: &mut Plan,
     grid: &Grid,

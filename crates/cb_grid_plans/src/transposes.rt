@@ -1,4 +1,4 @@
-//! The transpose: each rank transposes its block, and the blocks change sides.
+//! The transpose: each rank transposes its block, and the blocks cross the diagonal.
 ghost use Rattle.std.specs.Prelude.{◌≡◌, ◌<◌, ◌*◌, IfOk, IfErr, OnOk};
 ghost use Rattle.cb_plan.specs.Runnable.{IsRunnable};
 ghost use Rattle.cb_plan_parts.specs.PlanParts.{operand_starts};

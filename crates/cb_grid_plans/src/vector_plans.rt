@@ -1,8 +1,8 @@
 //! A matrix times a vector that is spread over all ranks.
 //!
 //! Rank (t, j) has piece t of part j of the vector. The pieces of part j go down column j of ranks, where each rank
-//! makes the part of them and multiplies its block by it. The products of a row of ranks are the summands of one
-//! part of the result: each is cut into pieces, and rank (i, t) gets piece t of each and adds them up.
+//! assembles the part and multiplies its block by it. The products of a row of ranks are the summands of one part of
+//! the result: each is cut into pieces, and rank (i, t) gets piece t of each and adds them up.
 ghost use Rattle.std.specs.Prelude.{◌≡◌, ◌<◌, ◌≤◌, ◌+◌, ◌-◌, ◌*◌, ◌/◌, ◌%◌, ◌++◌, ℕ, List, map, flat_map, All, AllPairs, IfOk, IfErr, OnOk};
 ghost use Rattle.std.specs.List.{range_with_len};
 ghost use Rattle.cb_plan.specs.Runnable.{IsRunnable};
@@ -22,10 +22,10 @@ use cb_plan::{Act, Op, Plan, PlanFault, Planned, Start};
 use cb_plan_parts::finish;
 use std::alloc::{AllocError, Global};
 
-/// The slot in which a rank makes its part of the vector.
+/// The slot in which a rank assembles its part of the vector.
 const PART: u16 = 3;
 
-/// The slot of a piece that stands in its place of the part.
+/// The slot of a piece in its place in the part.
 const PLACED: u16 = 4;
 
 /// The slot of the product of a rank's block and its part of the vector.
@@ -175,7 +175,7 @@ fn part_of_vector(grid: &Grid, rank: u16, a: Shape) -> Shape
     Shape::new(rows, 1).unwrap()
 }
 
-/// A rank makes its part of the vector, which has this shape, and multiplies its block by it.
+/// A rank assembles its part of the vector, which has this shape, and multiplies its block by it.
 fn multiply_block(plan: &mut Plan, grid: &Grid, rank: u16, part: Shape) -> Result<(), PlanFault>
     requires { IsWithinLimit plan.now (works rank (product_ops grid.now.side part)) }
     ensures acts { OnOk result (Grew (works rank (product_ops grid.now.side part)) plan.old plan.new) }
@@ -232,7 +232,7 @@ fn cut_products(plan: &mut Plan, grid: &Grid, a: Shape) -> Result<(), PlanFault>
     Ok(())
 }
 
-/// A rank cuts its product, which has so many rows, into pieces.
+/// A rank cuts its product, which has this many rows, into pieces.
 fn cut_product(plan: &mut Plan, grid: &Grid, rank: u16, rows: u32) -> Result<(), PlanFault>
     requires { IsWithinLimit plan.now (works rank (cut_ops grid.now.side rows)) }
     ensures acts { OnOk result (Grew (works rank (cut_ops grid.now.side rows)) plan.old plan.new) }

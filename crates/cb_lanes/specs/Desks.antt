@@ -30,7 +30,7 @@ pub record AreOfOneOpening (ids : List Identity) : Type 0 where
   pub ranks : (k : ℕ) → k < length ids → (length (identity_at ids k).outgoing ≡ length ids) × (length (identity_at ids k).incoming ≡ length ids)
   pub rings : (i j : ℕ) → i < length ids → j < length ids → slice_index_or (identity_at ids i).outgoing j None ≡ slice_index_or (identity_at ids j).incoming i None
 
--- two desks that have the ends of the two lanes between them
+-- two desks, each with its ends of the two lanes between them
 pub record AreLinked (a b : Identity) : Type 0 where
   pub apart : a.me ≢ b.me
   pub there : slice_index_or a.outgoing b.me None ≡ slice_index_or b.incoming a.me None
@@ -61,7 +61,7 @@ module _ {P : Type 0} where
   abbrev pub identity : Desk P → Identity
   identity d = record { me = d.me; outgoing = map outgoing_ring d.outgoing.items; incoming = map incoming_ring d.incoming.items }
 
-  -- nothing was posted, nor is less room known
+  -- nothing was posted, and no less room is known
   abbrev pub KeepsPosted : Desk P → Desk P → Type 0
   KeepsPosted a b = (k : ℕ) → (posted_to b k ≡ posted_to a k) × (room_to a k ≤ room_to b k) × (capacity_to b k ≡ capacity_to a k)
 
@@ -91,7 +91,7 @@ module _ {P : Type 0} where
   abbrev pub has_letter : Desk P → ℕ → Type 0
   has_letter d from = 0 < length (known_by (slice_index_or d.incoming.items from None))
 
-  -- as many letters were posted to this rank as the lane has places
+  -- at least as many letters were posted to this rank as the lane has places
   abbrev pub may_be_full : Desk P → ℕ → Type 0
   may_be_full d to = capacity_to d to ≤ length (posted_to d to)
 
@@ -103,7 +103,8 @@ module _ {P : Type 0} where
   abbrev pub Posts : Desk P → ℕ → Letter P → Desk P → Type 0
   Posts a to x b = (identity b ≡ identity a) × AddsPosted a b to x × KeepsTaken a b
 
-  -- a take from this rank answered this, and nothing else happened. The lane has ended just where the last letter taken is a close mark; then nothing more is taken. What was taken is numbered
+  -- a take from this rank answered this, and nothing else happened. The lane has ended exactly if the last letter taken
+  -- is a close mark; then nothing more is taken. What was taken is numbered
   abbrev pub Takes : Desk P → ℕ → Taken P → Desk P → Type 0
   Takes a from r b =
       (identity b ≡ identity a)
@@ -139,14 +140,14 @@ module _ {P : Type 0} where
   abbrev pub IsSettled : Desk P → Desk P → ℕ → ℕ → Type 0
   IsSettled sender receiver from to = IsPrefix (taken_from receiver from) (posted_to sender to)
 
-  -- that for both lanes between two of the desks
+  -- the same for both lanes between two of the desks
   abbrev pub IsPairSettled : List (Desk P) → ℕ → ℕ → Type 0
   IsPairSettled desks low high =
       (a b : Desk P)
       → IsSettled (slice_index_or desks low a) (slice_index_or desks high b) low high
       × IsSettled (slice_index_or desks high b) (slice_index_or desks low a) high low
 
-  -- the letters that one of these desks posted to the rank of another, oldest first; none where there is no such desk
+  -- the letters that one of these desks posted to the rank of another, oldest first; none if there is no such desk
   abbrev pub posted_in : List (Desk P) → ℕ → ℕ → List (Letter P)
   posted_in desks from to = option_map_or (λ d. posted_to d to) (slice_get desks from) []
 
@@ -154,7 +155,7 @@ module _ {P : Type 0} where
   abbrev pub taken_in : List (Desk P) → ℕ → ℕ → List (Letter P)
   taken_in desks from to = option_map_or (λ d. taken_from d from) (slice_get desks to) []
 
-  -- what was taken on a lane is a beginning of what was posted there, and all of it where the close mark was taken
+  -- what was taken on a lane is a prefix of what was posted there, and all of it if the close mark was taken
   pub record IsSettledLane (posted taken : List (Letter P)) : Type 0 where
     pub prefix : IsPrefix taken posted
     pub whole : ends_closed taken ≡ true → taken ≡ posted

@@ -10,7 +10,7 @@ use Rattle.cb_letters.specs.declared.Letter.{Letter}
 use Rattle.cb_lanes.specs.declared.ends.Poster.{Poster}
 use Rattle.cb_lanes.specs.declared.ends.Taker.{Taker}
 
--- what tells a ring from every other
+-- what distinguishes a ring from every other
 abbrev pub RingName : Type 0
 RingName = Ptr × Ptr × Names × Global
 
@@ -68,7 +68,8 @@ module _ {P : Type 0} where
   abbrev pub AreColumns : List (Vec (Option (Taker P)) Global) → ℕ → Type 0
   AreColumns columns n = (j : ℕ) (d : Vec (Option (Taker P)) Global) → j < length columns → length (slice_index_or columns j d).items ≡ n
 
-  -- a new lane was opened from this rank to each: the end that posts is in the row, and the other is the last of its column
+  -- a new lane was opened from this rank to each: the posting end is in the row, and the taking end is the last of its
+  -- column
   abbrev pub IsRow : ℕ → ℕ → List (Option (Poster P)) → List (Vec (Option (Taker P)) Global) → List (Vec (Option (Taker P)) Global) → Type 0
   IsRow from c row old new =
       (j : ℕ) (d : Vec (Option (Taker P)) Global) → j < length row

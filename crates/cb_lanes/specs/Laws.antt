@@ -1,4 +1,4 @@
--- What calls of a desk leave of how its lanes stand: the laws of ports.
+-- How lanes stand after the calls of a desk: the laws of ports.
 use Rattle.std.proofs.Common.{ℕ, ◌≡◌, ◌≢◌, ◌<◌, ◌≤◌, [], ◌∷◌, ◌++◌, length, refl, sym, ◌∙◌, ap, subst, arith, length-append, ⊎_elim}
 use Rattle.std.specs.Prelude.{None}
 use Rattle.std.proofs.lemmas.Bool.{cases_order}
@@ -31,11 +31,11 @@ module _ {P : Type 0} where
   stands : (p q : Desk P) (k : ℕ) → identity q ≡ identity p → posted_to q k ≡ posted_to p k → standing q k ≡ standing p k
   stands p q k e f = same_standing (standing q k) (standing p k) (same_me p q e) (same_stranger p q k e) (ap ends_closed f) (ap length f)
 
-  -- what a lane keeps where its letters and its room are kept
+  -- what a lane keeps if its letters and its room are kept
   at_lane : (p q : Desk P) → identity q ≡ identity p → (k : ℕ) → (posted_to q k ≡ posted_to p k) × (room_to p k ≤ room_to q k) × (capacity_to q k ≡ capacity_to p k) → (standing q k ≡ standing p k) × (has_room p k → has_room q k)
   at_lane p q e k h = (stands p q k e h.0, λ room. let more = h.1 in omega arith)
 
-  -- where nothing happened, every lane stands as it stood
+  -- if nothing happened, every lane stands as it stood
   pub kept : (p q : Desk P) → Keeps p q → (k : ℕ) → (standing q k ≡ standing p k) × (has_room p k → has_room q k)
   kept p q h k = at_lane p q h.0 k (h.1 k)
 

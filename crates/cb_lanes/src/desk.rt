@@ -6,10 +6,10 @@ use cb_letters::{Body, Letter, PostRefusal, Tag, Taken};
 use std::alloc::{AllocError, Global};
 use std::sync::Wait;
 
-/// The ends of one rank's lanes: those that post, by addressee, and those that take, by sender. At the
-/// rank's own place there is none. No call takes memory, and each costs the same however many ranks
-/// there are and letters have gone through. A desk that is dropped leaves its lanes: then the waiting
-/// calls of the other ranks' desks answer `Gone`.
+/// The ends of one rank's lanes: those that post, by addressee, and those that take, by sender. There is none for the
+/// rank itself. No call takes memory, and its cost doesn't depend on how many ranks there are or how many letters have
+/// gone through. A desk that is dropped leaves its lanes: then the waiting calls of the other ranks' desks report
+/// `Gone`.
 #[derive(Drop)]
 pub struct Desk<P> {
     pub(crate) me: u16,
@@ -29,9 +29,9 @@ impl<P: Drop> Desk<P> {
     ghost use Rattle.cb_lanes.specs.Numbers.{AreNumbered};
     ghost use Rattle.cb_lanes.specs.Desks.{posted_to, taken_from, room_to, is_stranger, identity, KeepsPosted, KeepsTaken, AddsPosted, AddsTaken, standing, has_room, has_letter, may_be_full, AreLinked, Keeps, IsSettled};
 
-    /// Posts a letter to this rank, and answers its number on the lane. A refusal hands the body back, and
-    /// is looked for in the order of `PostRefusal`. It is `Full` only where as many letters were posted as
-    /// the lane has places.
+    /// Posts a letter to this rank, and returns its number on the lane. A refusal hands the body back; refusals are
+    /// checked in the order of `PostRefusal`. It is `Full` only if at least as many letters were posted as the lane has
+    /// places.
     pub fn try_post(
         &mut self,
         to: u16,
@@ -55,7 +55,7 @@ impl<P: Drop> Desk<P> {
         }
     }
 
-    /// Posts the mark that ends the lane to this rank, and answers its number. It is refused as a letter is.
+    /// Posts the mark that ends the lane to this rank, and returns its number. It is refused like a letter.
     pub fn try_close(&mut self, to: u16) -> Result<u64, PostRefusal>
         ensures identity { identity self.new ≡ identity self.old }
         ensures taken { KeepsTaken self.old self.new }
@@ -77,8 +77,8 @@ impl<P: Drop> Desk<P> {
         }
     }
 
-    /// Takes the oldest letter from this rank that is there. The close mark is answered by `End`, and so is
-    /// every later take.
+    /// Takes the oldest available letter from this rank. The take that reaches the close mark returns `End`, and so
+    /// does every later one.
     pub fn try_take(&mut self, from: u16) -> Taken<P>
         ensures identity { identity self.new ≡ identity self.old }
         ensures posted { KeepsPosted self.old self.new }
@@ -98,8 +98,8 @@ impl<P: Drop> Desk<P> {
         }
     }
 
-    /// Whether there is room for a letter to this rank: then the next post to it isn't `Full`. There is none
-    /// to a stranger. It looks at the other end of the ring, so it takes `&mut self`.
+    /// Whether there is room for a letter to this rank: if so, the next post to it isn't `Full`. There is none for a
+    /// stranger. It looks at the other end of the ring, so it takes `&mut self`.
     pub fn room(&mut self, to: u16) -> bool
         ensures identity { identity self.new ≡ identity self.old }
         ensures posted { KeepsPosted self.old self.new }
@@ -124,14 +124,14 @@ impl<P: Drop> Desk<P> {
         self.me
     }
 
-    /// Whether there is no lane between this desk and this rank: it is the desk's own, or no rank.
+    /// Whether there is no lane between this desk and this rank, because that is the desk's own, or no rank.
     pub fn is_stranger(&self, rank: u16) -> bool
         ensures { result ≡ is_stranger self.now rank }
     {
         rank == self.me || rank as usize >= self.outgoing.len()
     }
 
-    /// How many letters were posted to this rank, the close mark among them.
+    /// How many letters were posted to this rank, the close mark included.
     pub fn posted(&self, to: u16) -> u64
         requires { is_stranger self.now to ≡ false }
         ensures { result ≡ length (posted_to self.now to) }
@@ -142,7 +142,7 @@ impl<P: Drop> Desk<P> {
         }
     }
 
-    /// How many letters were taken from this rank, the close mark among them.
+    /// How many letters were taken from this rank, the close mark included.
     pub fn taken(&self, from: u16) -> u64
         requires { is_stranger self.now from ≡ false }
         ensures { result ≡ length (taken_from self.now from) }
@@ -153,8 +153,8 @@ impl<P: Drop> Desk<P> {
         }
     }
 
-    /// Waits for room for a letter to this rank, and answers whether there is some: else the desk at the other end of
-    /// the lane is gone.
+    /// Waits for room for a letter to this rank, and returns whether there is some. If not, the desk at the other end
+    /// of the lane is gone.
     pub(crate) fn await_room(&mut self, rt: &impl Wait, to: u16) -> bool
         requires { is_stranger self.old to ≡ false }
         ensures identity { identity self.new ≡ identity self.old }
@@ -168,8 +168,8 @@ impl<P: Drop> Desk<P> {
         }
     }
 
-    /// Waits for a letter from this rank, and answers whether there is one: else the desk at the other end of the lane
-    /// is gone.
+    /// Waits for a letter from this rank, and returns whether there is one. If not, the desk at the other end of the
+    /// lane is gone.
     pub(crate) fn await_letter(&mut self, rt: &impl Wait, from: u16) -> bool
         requires { is_stranger self.old from ≡ false }
         ensures identity { identity self.new ≡ identity self.old }

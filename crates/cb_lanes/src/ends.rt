@@ -10,9 +10,8 @@ use rtrb::{Consumer, Producer, Protocol, PushError};
 use std::alloc::Global;
 use std::sync::Wait;
 
-/// The rule of a lane's ring: its letters are numbered from 0 on, each below the last number, which isn't
-/// given out, and a close mark has tag 0. So both ends can count in a `u64`. It says nothing of what the
-/// letters are about.
+/// The rule of a lane's ring: its letters are numbered from 0, each number is below the last one, which isn't used, and
+/// a close mark has tag 0. So both ends can count in a `u64`. It says nothing about the content of letters.
 #[derive(Clone, Copy)]
 pub struct Numbered;
 
@@ -61,7 +60,7 @@ impl<P: Drop> Poster<P> {
         }
     }
 
-    /// Posts a letter or a close mark, and answers its number. A refusal hands the body back.
+    /// Posts a letter or a close mark, and returns its number. A refusal hands the body back.
     #[tactic(auto, using(cb_letters::proofs::Marks::marks))]
     pub(crate) fn post(
         &mut self,
@@ -110,7 +109,7 @@ impl<P: Drop> Poster<P> {
         !self.ring.is_full()
     }
 
-    /// Waits for room, and answers whether there is some: else the other end is gone.
+    /// Waits for room, and returns whether there is some. If not, the other end is gone.
     pub(crate) fn await_room(&mut self, rt: &impl Wait) -> bool
         ensures looked { ProducerLooked self.old.ring self.new.ring }
         ensures room { IsTrue result → 0 < known_free self.new.ring }
@@ -144,7 +143,7 @@ impl<P: Drop> Taker<P> {
         }
     }
 
-    /// Takes the oldest letter that is there. `End` comes with the close mark and ever after.
+    /// Takes the oldest available letter. `End` comes with the close mark and ever after.
     #[tactic(auto, using(cb_letters::proofs::Marks::marks))]
     pub(crate) fn take(&mut self) -> Taken<P>
         ensures ring { SameConsumer self.old.ring self.new.ring }
@@ -169,7 +168,7 @@ impl<P: Drop> Taker<P> {
         Taken::Letter(letter)
     }
 
-    /// Waits for a letter, and answers whether there is one: else the other end is gone.
+    /// Waits for a letter, and returns whether there is one. If not, the other end is gone.
     pub(crate) fn await_letter(&mut self, rt: &impl Wait) -> bool
         ensures ring { SameConsumer self.old.ring self.new.ring }
         ensures received { received self.new.ring ≡ received self.old.ring }

@@ -1,7 +1,7 @@
 //! Opening the lanes between all ranks.
 //!
-//! The ends are made row by row: the ends that post of one rank's lanes are a row, and those that take
-//! are put at the end of the columns of the ranks that take. Desk k is row k with column k.
+//! The ends are made row by row: the posting ends of one rank's lanes are a row, and the taking ends are appended to
+//! the columns of the ranks that take. Desk k is row k with column k.
 ghost use Rattle.std.specs.Prelude.{ℕ, ◌≡◌, ◌≢◌, ◌+◌, ◌<◌, ◌==◌, ◌^◌, length, map, slice_index_or, IfOk};
 ghost use Rattle.cb_lanes.specs.Desks.{identity, AreOfOneOpening, IsNewDesk};
 ghost use Rattle.cb_lanes.specs.Ends.{IsNewLane, AreRows, AreColumns, AreNewLanes, IsRow};
@@ -41,7 +41,7 @@ fn open_lane<P: Drop>(
     ))
 }
 
-/// The ends that post of the lanes from one rank; the ends that take go to the columns.
+/// The posting ends of the lanes from one rank; the taking ends go to the columns.
 fn open_row<P: Drop>(
     alloc: Global,
     from: u16,
@@ -62,8 +62,7 @@ fn open_row<P: Drop>(
     Ok(row)
 }
 
-/// The lanes from each rank to each: the ends that post by their sender, those that take by their
-/// addressee.
+/// The lanes from each rank to each: the posting ends by sender, the taking ends by addressee.
 pub(crate) fn open_lanes<P: Drop>(
     alloc: Global,
     ranks: u16,

@@ -1,5 +1,5 @@
-//! A desk as the ends of one rank's lanes. It knows of a free place where its end of the ring saw one, and
-//! a lane may be full where as many letters were posted as it has places.
+//! A desk as the ends of one rank's lanes. It knows of a free place if its end of the ring saw one, and a lane may be
+//! full if at least as many letters were posted as it has places.
 ghost use Rattle.std.specs.Prelude.{◌≡◌, false, None, IfOk, IfErr, IsOk};
 ghost use Rattle.cb_letters.specs.Letters.{is_close};
 ghost use Rattle.cb_letters.specs.Standing.{standing_refusal, MayRefuse, next_letter};

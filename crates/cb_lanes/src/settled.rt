@@ -1,4 +1,4 @@
-//! The lanes once no rank runs any more.
+//! The lanes once no rank runs.
 ghost use Rattle.std.specs.Prelude.{ℕ, ◌≡◌, ◌<◌, length, slice_index_or};
 ghost use Rattle.cb_lanes.specs.declared.desk.Desk.{Desk};
 
@@ -15,7 +15,7 @@ pub struct Settled<P> {
 impl<P: Drop> Settled<P> {
     ghost use Rattle.cb_lanes.specs.Lanes.{posted_on, taken_on, IsLane};
 
-    /// How many letters were posted on the lane from one rank to another, the close mark among them.
+    /// How many letters were posted on the lane from one rank to another, the close mark included.
     pub fn posted(&self, from: u16, to: u16) -> u64
         requires { IsLane self.now from to }
         ensures { result ≡ length (posted_on self.now from to) }
@@ -23,7 +23,7 @@ impl<P: Drop> Settled<P> {
         self.desks[from as usize].posted(to)
     }
 
-    /// How many letters were taken on the lane from one rank to another, the close mark among them.
+    /// How many letters were taken on the lane from one rank to another, the close mark included.
     pub fn taken(&self, from: u16, to: u16) -> u64
         requires { IsLane self.now from to }
         ensures { result ≡ length (taken_on self.now from to) }

@@ -6,8 +6,8 @@ ghost use Rattle.cb_lanes.specs.Lanes.{rank_count, posted_on, taken_on};
 use crate::desk::Desk;
 use crate::settled::Settled;
 
-/// Takes back all desks of one `open`, in order of their ranks, and looks at both ends of each lane: what
-/// was taken is a beginning of what was posted, and all of it where the close mark was taken.
+/// Takes back all desks of one `open`, in order of their ranks, and looks at both ends of each lane: what was taken is
+/// a prefix of what was posted, and all of it if the close mark was taken.
 pub fn settle<P: Drop>(desks: Vec<Desk<P>>) -> Settled<P>
     requires { AreOfOneOpening (map identity desks.items) }
     ensures ranks { rank_count result ≡ length desks.items }

@@ -1,4 +1,4 @@
-//! The calls that wait: each tries, waits until the lane has room, or a letter, and tries again. It gives up where the
+//! The calls that wait: each tries, waits until the lane has room, or a letter, and tries again. It gives up if the
 //! desk at the other end is gone.
 ghost use Rattle.std.specs.Prelude.{ℕ, ◌≡◌, ◌≢◌, ◌∷◌, ◌++◌, length, IfOk, IfErr, None, true, false, ◌↔◌};
 ghost use Rattle.cb_letters.specs.Letters.{is_close, mark_tag};
@@ -11,26 +11,25 @@ use crate::desk::Desk;
 use cb_letters::{Body, Letter, PostRefusal, Tag, Taken};
 use std::sync::Wait;
 
-/// The desk of this rank is gone, and no letter of its is left.
+/// The desk of this rank is gone, and none of its letters is left.
 #[derive(Clone, Copy, Debug, PartialEq, Eq, Drop)]
 pub struct Gone(pub u16);
 
-/// Why a waiting post or close was refused, in the order in which the reasons are looked at.
+/// Why a waiting post or close was refused, in the order in which the reasons are checked.
 #[derive(Clone, Copy, Debug, PartialEq, Eq, Drop)]
 pub enum WaitRefusal {
     /// There is no such lane: the other rank is the desk's own, or no rank.
     Stranger,
     /// The close mark was posted.
     Closed,
-    /// All numbers of the lane were given out, up to 2^64-2.
+    /// All numbers of the lane have been used, up to 2^64-2.
     Spent,
     /// The lane is full, and the desk of this rank is gone.
     Gone(u16),
 }
 
 impl<P: Drop> Desk<P> {
-    /// Posts a letter to this rank as soon as there is room, and answers its number. A refusal hands the
-    /// body back.
+    /// Posts a letter to this rank as soon as there is room, and returns its number. A refusal hands the body back.
     pub fn post(
         &mut self,
         rt: &impl Wait,
@@ -58,7 +57,7 @@ impl<P: Drop> Desk<P> {
         }
     }
 
-    /// Posts the mark that ends the lane to this rank as soon as there is room, and answers its number.
+    /// Posts the mark that ends the lane to this rank as soon as there is room, and returns its number.
     pub fn close(&mut self, rt: &impl Wait, to: u16) -> Result<u64, WaitRefusal>
         ensures accepted { IfOk result (λ number. (standing_refusal (standing self.old to) ≡ None) × (number ≡ (standing self.old to).posted) × Posts self.old to (next_letter (standing self.old to) to mark_tag Body.Close) self.new) }
         ensures refused { IfErr result (λ e. MayGiveUp (standing self.old to) to e × Keeps self.old self.new) }

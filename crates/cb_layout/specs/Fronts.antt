@@ -1,4 +1,4 @@
--- How far the blocks in one column of the grid are walked.
+-- How far the walk over the blocks in one column of the grid has come.
 use Rattle.std.specs.Prelude.{◌≡◌, ℕ, ◌+◌, ◌*◌, ◌<◌, ◌≤◌, List, length, slice_index, slice_index_or, IfSome, IfNone}
 use Rattle.cb_matrix.specs.declared.TheConstants.{LIMIT}
 use Rattle.cb_matrix.specs.Sparse.{Extent, Sparse}
@@ -20,7 +20,7 @@ pub record IsLeast (columns : List ℕ) (i column : ℕ) : Type 0 where
   pub least : (k : ℕ) → k < 6 → column ≤ slice_index columns k
   pub first : (k : ℕ) → k < i → column < slice_index columns k
 
--- for each row of the grid its block's next column, where it has one, and else a number past all columns
+-- for each row of the grid its block's next column, or, if it has none, a number past all columns
 pub record AreNext (q : ℕ) (blocks : List Sparse) (j : ℕ) (done columns : List ℕ) : Type 0 where
   pub rows : (k : ℕ) → k < q → slice_index columns k ≡ slice_index_or (columns_in q blocks j k) (slice_index done k) NO_COLUMN
   pub others : (k : ℕ) → q ≤ k → k < 6 → slice_index columns k ≡ NO_COLUMN

@@ -21,7 +21,7 @@ column_group q j = map (λ i. i * q + j) (range_with_len 0 q)
 abbrev pub part_start : ℕ → ℕ → ℕ → ℕ
 part_start q d i = min (i * div_ceil d q) d
 
--- part i: where it begins and where it ends, which is not in it
+-- part i: where it begins and where it ends, the end excluded
 abbrev pub part : ℕ → ℕ → ℕ → ℕ × ℕ
 part q d i = (part_start q d i, part_start q d (i + 1))
 

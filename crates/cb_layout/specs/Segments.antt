@@ -1,4 +1,4 @@
--- A matrix over a grid, column by column: of each column one segment for each block that has entries in it.
+-- A matrix over a grid, column by column: for each column one segment for each block that has entries in it.
 use Rattle.std.specs.Prelude.{◌≡◌, ℕ, ◌+◌, ◌<◌, ◌≤◌, ◌==◌, ◌&&◌, ◌||◌, nat_lt, nat_le, Bool, List, map, filter, length, slice_index}
 use Rattle.cb_semirings.specs.Arithmetic.{Arithmetic}
 use Rattle.cb_matrix.specs.declared.Entry.{Entry}

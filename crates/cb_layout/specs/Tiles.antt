@@ -61,6 +61,6 @@ result_tiles q shape = record {
   column = λ _ k. k;
 }
 
--- of each block: all its entries where its number is below n, and none else
+-- all entries of each block whose number is below n, and none of the others
 abbrev pub before_rank : List Sparse → ℕ → ℕ → List Entry
 before_rank blocks n r = cond (nat_lt r n) (block_at blocks r).entries []

@@ -11,7 +11,7 @@ use Rattle.cb_layout.specs.Blocks.{part_with, place_in_part}
 abbrev pub piece_start : ℕ → ℕ → ℕ → ℕ → ℕ
 piece_start q d i t = part_start q d i + part_start q (part_length q d i) t
 
--- piece t of part i: where it begins and where it ends, which is not in it
+-- piece t of part i: where it begins and where it ends, the end excluded
 abbrev pub piece : ℕ → ℕ → ℕ → ℕ → ℕ × ℕ
 piece q d i t = (piece_start q d i t, piece_start q d i (t + 1))
 

@@ -41,8 +41,8 @@ impl<S: Semiring> Model for DistributedMatrix<S> {
 }
 
 impl<S: Semiring> DistributedMatrix<S> {
-    /// The matrix of a shape that these blocks glue to, one for each rank, in the order of their numbers. It takes
-    /// no memory.
+    /// The matrix of a shape that these blocks glue to, one for each rank in the order of their numbers. It takes no
+    /// memory.
     pub fn from_blocks(grid: Grid, shape: Shape, blocks: Vec<Block<S>>) -> Self
         requires count { length blocks.items ≡ grid.side * grid.side }
         requires shapes { (i j : ℕ) → i < grid.side → j < grid.side → (block_at blocks.items (i * grid.side + j)).shape ≡ part_shape grid.side shape i j }
@@ -59,7 +59,7 @@ impl<S: Semiring> DistributedMatrix<S> {
         }
     }
 
-    /// A matrix cut over a grid. The cost is that of the stored entries, and of one block for each rank.
+    /// A matrix cut over a grid. The cost is that of the stored entries and of one block for each rank.
     pub fn scatter(alloc: Global, grid: Grid, matrix: &Matrix<S>) -> Result<Self, AllocError>
         ensures { IfOk result (λ m. m ≡ record { side = grid.side; matrix = matrix.now }) }
     {
@@ -67,7 +67,7 @@ impl<S: Semiring> DistributedMatrix<S> {
         Ok(Self::from_blocks(grid, matrix.shape(), blocks))
     }
 
-    /// The matrix of a shape without entries, over a grid, with room for so many entries, spread evenly. The cost is
+    /// The matrix of a shape without entries, over a grid, with room for this many entries, spread evenly. The cost is
     /// that of one block for each rank.
     pub fn with_room(
         alloc: Global,
@@ -82,8 +82,8 @@ impl<S: Semiring> DistributedMatrix<S> {
         Ok(Self::from_blocks(grid, shape, blocks))
     }
 
-    /// Stores one entry more, after all the others. On refusal the matrix is as it was. In constant time, but for the
-    /// growth of lists.
+    /// Stores one more entry, after all the others. A refusal leaves the matrix as it was. In constant time, except
+    /// when lists grow.
     pub fn push(&mut self, entry: Entry) -> Result<(), AllocError>
         requires inside { IsInside self.old.matrix.shape entry }
         requires order { All (λ e. IsBefore e entry) self.old.matrix.entries }
@@ -100,7 +100,7 @@ impl<S: Semiring> DistributedMatrix<S> {
     }
 
     /// The matrix with the entries of another one over the same grid, of the same shape, each of which comes after all
-    /// of its own. Where memory is refused both are given up. The cost is that of one block for each rank, and of the
+    /// of its own. If memory is refused, both are dropped. The cost is that of one block for each rank, and of the
     /// other's entries in blocks where this one has entries too.
     pub fn append(self, other: Self) -> Result<Self, AllocError>
         requires side { other.side ≡ self.side }
@@ -133,8 +133,8 @@ impl<S: Semiring> DistributedMatrix<S> {
         self.grid
     }
 
-    /// How many rows and columns there are. The stored entries are inside them, ascend by column and then row, and
-    /// are other than zero: this call says so too.
+    /// How many rows and columns there are. The contract also says that the stored entries are inside them, ascend by
+    /// column and then row, and aren't zero.
     pub fn shape(&self) -> Shape
         ensures shape { result ≡ self.now.matrix.shape }
         ensures matrix { IsMatrix S.arithmetic self.now.matrix }
@@ -164,7 +164,7 @@ impl<S: Semiring> DistributedMatrix<S> {
         &self.blocks
     }
 
-    /// The same, given up.
+    /// The same, by value.
     pub fn into_blocks(self) -> Vec<Block<S>>
         ensures count { length result.items ≡ self.side * self.side }
         ensures blocks { (i j : ℕ) → i < self.side → j < self.side → block_at result.items (i * self.side + j) ≡ block_of S.arithmetic self.side self.matrix i j }
@@ -172,8 +172,8 @@ impl<S: Semiring> DistributedMatrix<S> {
         self.blocks
     }
 
-    /// The same matrix over another semiring, whose values its values are too. No entry is copied: it takes memory
-    /// for one block's header for each rank. Where that is refused the matrix is given up.
+    /// The same matrix over another semiring, in which its values are values too. No entry is copied: it takes memory
+    /// for one block's header for each rank. If that is refused, the matrix is dropped.
     pub fn recast<T: Semiring>(self, alloc: Global) -> Result<DistributedMatrix<T>, AllocError>
         requires values { All (λ e. IsValue T.arithmetic e.value × (e.value ≢ T.arithmetic.zero)) self.matrix.entries }
         ensures { IfOk result (λ m. m ≡ self) }
@@ -186,7 +186,7 @@ impl<S: Semiring> DistributedMatrix<S> {
         })
     }
 
-    /// The stored entries, column by column: of each column the segments in its blocks, from the first row on.
+    /// The stored entries, column by column: for each column the segments in its blocks, from the first row on.
     pub fn segments(&self) -> Segments<'_, S>
         ensures { result ≡ self.now.matrix.entries }
     {
@@ -211,7 +211,7 @@ fn append_blocks<S: Semiring>(
     Ok(())
 }
 
-/// The same blocks over another semiring, whose values their values are too.
+/// The same blocks over another semiring, in which their values are values too.
 fn recast_blocks<S: Semiring, T: Semiring>(
     alloc: Global,
     blocks: Vec<Block<S>>,

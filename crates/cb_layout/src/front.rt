@@ -1,4 +1,4 @@
-//! How far the blocks in one column of the grid are walked, column by column.
+//! How far the walk over the blocks in one column of the grid has come, column by column.
 ghost use Rattle.std.specs.Prelude.{◌≡◌, ℕ, List, ◌<◌, ◌≤◌, ◌+◌, ◌*◌, length, IfSome, IfNone, ◌⊎◌, slice_index, slice_index_or, slice_set};
 ghost use Rattle.cb_layout.specs.Blocks.{block_at};
 ghost use Rattle.cb_layout.specs.Fronts.{IsFront, IsLeast, AreNext};
@@ -8,21 +8,21 @@ use cb_dcsc::Block;
 use cb_matrix::Shape;
 use cb_semirings::Semiring;
 
-/// Stands for the column of a block without a next one: a shape's columns end before it.
+/// Stands for the next column of a block that has none: a shape's columns end before it.
 pub(crate) const NO_COLUMN: u32 = u32::MAX;
 
-/// A column of the grid, and how far each of its blocks is walked.
+/// A column of the grid, and how far the walk over each of its blocks has come.
 #[derive(Clone, Copy)]
 pub(crate) struct Front {
     /// Which column of the grid.
     pub column: u32,
     /// Its first column in the whole matrix.
     pub left: u32,
-    /// How many of its columns with entries are done of the block in each row.
+    /// For the block in each row, how many of its columns with entries are done.
     pub done: [usize; 6],
-    /// The column that comes next in each, or that there is none.
+    /// The column that comes next in each, if any.
     pub columns: [u32; 6],
-    /// The first row that has the least of these, and that column, unless there is none.
+    /// The first row that has the least of these, and that column, if any.
     pub first: Option<(u32, u32)>,
 }
 
@@ -48,8 +48,8 @@ impl Front {
         }
     }
 
-    /// Goes on by one column of the block in a row of the grid, which has these columns. It is changed in place: a copy
-    /// for each column would cost more than all else.
+    /// Advances by one column of the block in a row of the grid, which has these columns. It is changed in place: a
+    /// copy for each column would cost more than everything else.
     pub fn step(&mut self, row: u32, numbers: &[u32])
         requires row { row < 6 }
         requires some { slice_index self.old.done row < length numbers.now }
@@ -99,14 +99,14 @@ pub(crate) fn block_in<'a, S: Semiring>(
     &blocks[usize::from(grid.rank(row, column))]
 }
 
-/// The nth of the columns that have entries, or that there is none.
+/// The nth of the columns that have entries, if any.
 fn nth_or_none(columns: &[u32], n: usize) -> u32
     ensures { result ≡ slice_index_or columns.now n NO_COLUMN }
 {
     columns.get(n).copied().unwrap_or(NO_COLUMN)
 }
 
-/// The first row of the grid that has the least column, and that column, unless there is none.
+/// The first row of the grid that has the least column, and that column, if any.
 fn least(columns: &[u32; 6]) -> Option<(u32, u32)>
     ensures some { IfSome result (λ t. IsLeast columns.now t.0 t.1) }
     ensures none { IfNone result ((k : ℕ) → k < 6 → slice_index columns.now k ≡ NO_COLUMN) }
@@ -121,7 +121,7 @@ fn least(columns: &[u32; 6]) -> Option<(u32, u32)>
     Some((row, column))
 }
 
-/// Of two rows with their columns the one with the lesser column, and the first where they are equal.
+/// Of two rows with their columns, the one with the lesser column; the first if they are equal.
 fn lesser(first: (u32, u32), second: (u32, u32)) -> (u32, u32)
     ensures { (((result.0 ≡ first.0) × (result.1 ≡ first.1)) × (first.1 ≤ second.1)) ⊎ (((result.0 ≡ second.0) × (result.1 ≡ second.1)) × (second.1 < first.1)) }
 {

@@ -12,11 +12,10 @@ use cb_semirings::Semiring;
 use std::alloc::{AllocError, Global};
 
 impl Grid {
-    /// The matrix of a shape from the block of each rank, in the order of their numbers: at each place it has
-    /// the value of the block that the place is in, so the blocks are its cuts. The columns of the blocks are
-    /// merged, so the entries come in the matrix's order; for each stored column of a block the least of six
-    /// numbers is found, which are the next columns of the blocks beside it. The cost is that of the stored
-    /// entries, and never of the shape.
+    /// The matrix of a shape from the block of each rank, in the order of their numbers: at each place it has the value
+    /// of the block that the place is in, so the blocks are its cuts. The columns of the blocks are merged, so the
+    /// entries come in the matrix's order; each stored column of a block takes the least of six numbers, the next
+    /// columns of the blocks in its column of the grid. The cost is that of the stored entries, never of the shape.
     pub fn gather<S: Semiring>(
         &self,
         alloc: Global,

@@ -1,9 +1,9 @@
 //! Matrices and vectors over a square grid of ranks.
 //!
-//! A grid of side q has q times q ranks; the one in row i and column j has the number i*q + j. A dimension of
-//! d places is cut into q parts of `d.div_ceil(q)` places each: the last parts have fewer, or none. Rank (i, j)
-//! keeps the block of a matrix in row part i and column part j, with places counted from the block's corner.
-//! [`Grid::scatter`] cuts a matrix into these blocks and [`Grid::gather`] glues them together again.
+//! A grid of side q has q times q ranks; the one in row i and column j has the number i*q + j. A dimension of d places
+//! is cut into q parts of `d.div_ceil(q)` places each: the last parts have fewer, or none. Rank (i, j) keeps the block
+//! of a matrix in row part i and column part j, with places counted from the block's corner. [`Grid::scatter`] cuts a
+//! matrix into these blocks and [`Grid::gather`] glues them together again.
 //!
 //! A vector is a matrix of one column. It is spread over all ranks: each part is cut again into q pieces by the
 //! same rule. Of an input ([`Grid::scatter_input`]) piece t of part j is kept by rank (t, j), and of a result
@@ -32,7 +32,7 @@ pub use traversal::{Segment, Segments};
 /// The greatest side of a grid.
 pub const LARGEST_SIDE: u32 = 6;
 
-/// A side of a grid that is not 1 to 6.
+/// A side of a grid that isn't from 1 to 6.
 #[derive(Clone, Copy, Debug, PartialEq, Eq, Error)]
 #[error("a grid has a side of 1 to 6")]
 pub struct Side;
@@ -99,7 +99,7 @@ impl Grid {
         (i * self.side + j) as u16
     }
 
-    /// The ranks of a row, ascending. They stand in the value itself: no memory is asked for.
+    /// The ranks of a row, ascending. They are stored in the value itself, without an allocation.
     pub fn row_group(&self, alloc: Global, row: u32) -> SmallVec<u16, 6>
         requires { row < self.now.side }
         ensures { result.items ≡ row_group self.now.side row }
@@ -111,7 +111,7 @@ impl Grid {
         group
     }
 
-    /// The ranks of a column, ascending. They stand in the value itself: no memory is asked for.
+    /// The ranks of a column, ascending. They are stored in the value itself, without an allocation.
     pub fn column_group(&self, alloc: Global, column: u32) -> SmallVec<u16, 6>
         requires { column < self.now.side }
         ensures { result.items ≡ column_group self.now.side column }

@@ -38,14 +38,14 @@ impl Grid {
         Ok(blocks)
     }
 
-    /// Room in each block for so many entries in all: entries that are spread evenly give some blocks a little more
-    /// than their share.
+    /// The room in each block for this many entries in all: entries that are spread evenly give some blocks a little
+    /// more than their share.
     pub(crate) fn room(&self, entries: usize) -> usize {
         let each = entries / usize::from(self.ranks());
         each.saturating_add(each / 16)
     }
 
-    /// A block without entries for each rank, with room for so many.
+    /// A block without entries for each rank, with room for this many.
     pub(crate) fn empty_blocks<S: Semiring>(
         &self,
         alloc: Global,
@@ -99,7 +99,7 @@ impl Grid {
         (usize::from(self.rank(i, j)), local)
     }
 
-    /// The part of a dimension that a place is in, and its place there. In the first part nothing is divided.
+    /// The part of a dimension that a place is in, and its place there. In the first part no division is made.
     pub(crate) fn in_part(&self, d: u32, place: u32) -> (u32, u32)
         requires { place < d }
         ensures part { result.0 ≡ part_with self.now.side d place }
@@ -114,7 +114,7 @@ impl Grid {
     }
 }
 
-/// A block without entries, with room for so many.
+/// A block without entries, with room for this many.
 fn roomy<S: Semiring>(alloc: Global, shape: Shape, entries: usize) -> Result<Block<S>, AllocError>
     ensures { IfOk result (λ block. block ≡ empty_matrix shape) }
 {
@@ -123,7 +123,7 @@ fn roomy<S: Semiring>(alloc: Global, shape: Shape, entries: usize) -> Result<Blo
     Ok(block)
 }
 
-/// Stores one entry more in one of the blocks, after all the others. On refusal the blocks are as they were.
+/// Stores one more entry in one of the blocks, after all the others. A refusal leaves the blocks as they were.
 pub(crate) fn deliver<S: Semiring>(
     blocks: &mut Vec<Block<S>>,
     rank: usize,

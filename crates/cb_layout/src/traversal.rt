@@ -25,8 +25,8 @@ pub struct Segment<'a> {
     pub values: &'a [u64],
 }
 
-/// The segments of a matrix over a grid that are left, by column and then by row: in contracts, the stored
-/// entries that are left. Each costs the least of six numbers, and nothing costs by a dimension.
+/// The segments of a matrix over a grid that are left, by column and then by row: in contracts, the stored entries that
+/// are left. Each costs the least of six numbers; no cost depends on a dimension.
 #[derive(Drop)]
 pub struct Segments<'a, S: Semiring> {
     grid: Grid,
@@ -78,7 +78,7 @@ impl<'a, S: Semiring> Segments<'a, S> {
         }
     }
 
-    /// The next segment, which has an entry at least, or None where no entry is left.
+    /// The next segment, which has at least one entry, or None if no entry is left.
     pub fn next_segment(&mut self) -> Option<Segment<'a>>
         ensures some { IfSome result (λ g. self.old ≡ shifted g.top g.column g.rows.now g.values.now ++ self.new) }
         ensures none { IfNone result ((self.old ≡ []) × (self.new ≡ [])) }
@@ -105,8 +105,8 @@ impl<'a, S: Semiring> Segments<'a, S> {
     }
 }
 
-/// Where the columns of the front are all done, it goes to the start of the next column of the grid that has entries, or
-/// of the last column where there is none.
+/// If all columns of the front are done, goes to the start of the next column of the grid that has entries, or of the
+/// last column if none has.
 fn reach<S: Semiring>(grid: Grid, shape: Shape, blocks: &[Block<S>], front: &mut Front)
     requires blocks { AreBlocks S.arithmetic grid.side shape blocks.now }
     requires front { IsFront grid.side shape blocks.now front.old }

@@ -1,10 +1,12 @@
--- Lists of posts and takes, and which of them are legal. No load is looked at, so that a list that keeps no loads is judged by the same words, over letters whose load is the unit type.
+-- Lists of posts and takes, and which of them are legal. What letters carry plays no part, so the same definitions
+-- judge a list that doesn't keep it, over letters that carry the unit type.
 use Rattle.std.specs.Prelude.{ℕ, ◌≡◌, true, false, ◌&&◌, ◌==◌, if◌then◌else◌, List, [], ◌∷◌, ◌++◌, length, Some, slice_get}
 use Rattle.cb_letters.specs.declared.Letter.{Letter}
 use Rattle.cb_letters.specs.Letters.{is_close}
 use Rattle.cb_letters.specs.Posted.{ends_closed}
 
--- on the lane from one rank to another a letter was posted, or taken. Of a close mark this is the closing of the lane, and its end
+-- on the lane from one rank to another a letter was posted, or taken; for a close mark this is the closing of the lane,
+-- or its end
 pub data Event (P : Type 0) : Type 0 where
   Sent : ℕ → ℕ → Letter P → Event P
   Got : ℕ → ℕ → Letter P → Event P
@@ -31,7 +33,7 @@ module _ {P : Type 0} where
       × (is_close x.body ≡ true → x.tag.0 ≡ 0)
   MayFollow past (Got from to x) = slice_get (posts_on from to past) (length (takes_on from to past)) ≡ Some x
 
-  -- each event may follow those before it, of which the first list are the oldest
+  -- each event may follow those before it; the first list has the oldest
   abbrev pub AreLegalAfter : List (Event P) → List (Event P) → Type 0
   AreLegalAfter past [] = Unit {0}
   AreLegalAfter past (e ∷ es) = MayFollow past e × AreLegalAfter (past ++ e ∷ []) es

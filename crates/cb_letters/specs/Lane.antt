@@ -50,7 +50,8 @@ module _ {P : Type 0} where
     pub addressee : x.to ≡ to
     pub numbered : x.number ≡ number
 
-  -- the lane from one rank to another: what is queued is addressed so, and numbered from the number taken on; only the last of it may be a close mark; and the lane is closed, while letters are queued, just where the last is one
+  -- the lane from one rank to another: what is queued is addressed so, and numbered from the number taken on; only the
+  -- last letter may be a close mark; and while letters are queued, the lane is closed exactly if the last is one
   pub record IsLane (from to : ℕ) (l : Lane P) : Type 0 where
     pub letters : (k : ℕ) (d : Letter P) → k < length l.queue → IsAddressed from to (l.taken + k) (slice_index_or l.queue k d)
     pub mark : NothingAfterClose l.queue

@@ -1,4 +1,4 @@
--- What a letter says.
+-- What a letter carries.
 use Rattle.std.specs.Prelude.{Bool, true, false}
 use Rattle.cb_letters.specs.declared.Body.{Body}
 use Rattle.cb_letters.specs.declared.Body.TheVariants.{Sheet, Lost, Close}

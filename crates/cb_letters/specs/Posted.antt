@@ -13,11 +13,11 @@ module _ {P : Type 0} where
   ends_closed (x ∷ []) = is_close x.body
   ends_closed (x ∷ (y ∷ ys)) = ends_closed (y ∷ ys)
 
-  -- only the last of the letters may be a close mark: no shorter beginning of them ends with one
+  -- only the last of the letters may be a close mark: no proper prefix of them ends with one
   abbrev pub NothingAfterClose : List (Letter P) → Type 0
   NothingAfterClose xs = (k : ℕ) → k < length xs → ends_closed (take k xs) ≡ false
 
-  -- how a lane stands on which this sender posted these letters, where there is such a lane
+  -- how a lane stands on which this sender posted these letters, if there is such a lane
   abbrev pub standing_by : ℕ → Bool → List (Letter P) → Standing
   standing_by sender is_stranger xs = record { sender = sender; is_stranger = is_stranger; is_closed = ends_closed xs; posted = length xs }
 

@@ -1,4 +1,4 @@
--- How a lane stands, as the rank that posts on it can tell: what may be posted, but for the room.
+-- How a lane stands, as the rank that posts on it can tell: what may be posted, room aside.
 use Rattle.std.specs.Prelude.{ℕ, ◌≡◌, ◌+◌, ◌-◌, ◌^◌, ◌==◌, Bool, if◌then◌else◌, Option, Some, None}
 use Rattle.cb_letters.specs.declared.Body.{Body}
 use Rattle.cb_letters.specs.declared.Letter.{Letter}
@@ -7,14 +7,15 @@ use Rattle.cb_letters.specs.declared.PostRefusal.{PostRefusal}
 use Rattle.cb_letters.specs.declared.PostRefusal.TheVariants.{Stranger, Closed, Spent, Full}
 use Rattle.cb_letters.specs.Letters.{is_close}
 
--- who posts on the lane; whether there is no such lane, since the other rank is the sender or no rank; whether a close mark was posted; how many letters were posted, the mark among them
+-- who posts on the lane; whether there is no such lane, because the other rank is the sender or no rank; whether a
+-- close mark was posted; how many letters were posted, the mark included
 pub record Standing : Type 0 where
   pub sender : ℕ
   pub is_stranger : Bool
   pub is_closed : Bool
   pub posted : ℕ
 
--- a lane can number this many letters: the number that is the last of its type isn't given out
+-- a lane can number this many letters: the last number of the type isn't used
 abbrev pub last_number : ℕ
 last_number = 2 ^ 64 - 1
 
@@ -25,7 +26,8 @@ standing_refusal s =
     else (if s.is_closed then Some Closed
     else (if s.posted == last_number then Some Spent else None))
 
--- a post may be refused for this reason: as full only where nothing else refuses it, and for another reason only where that is the first to hold
+-- a post may be refused for this reason: as full only if nothing else refuses it, and for another reason only if that
+-- is the first to hold
 abbrev pub MayRefuse : Standing → Type 0 → PostRefusal → Type 0
 MayRefuse s may_be_full Full = (standing_refusal s ≡ None) × may_be_full
 MayRefuse s may_be_full Stranger = standing_refusal s ≡ Some Stranger

@@ -7,13 +7,13 @@ ghost use Rattle.cb_letters.specs.Standing.{Standing, standing_refusal, MayRefus
 
 use crate::{Body, PostRefusal, Tag, Taken};
 
-/// One rank's ends of its lanes: it posts to other ranks, and takes from them. No call waits, and none
-/// takes memory.
+/// One rank's ends of its lanes: it posts to other ranks, and takes from them. No call waits, or takes
+/// memory.
 ///
 /// Kinds of ports differ in what they can see: the end of a ring knows what went through it, and
-/// mailboxes in one place show what is queued. So each kind says by `keeps`, `posts` and `takes` what a
-/// call did to it, and by `has_room` and `may_be_full` what it knows of the places. How each lane
-/// stands, and so every refusal but `Full`, is the same for all kinds.
+/// mailboxes in one place show what is queued. So each kind defines by `keeps`, `posts` and `takes`
+/// what a call did to it, and by `has_room` and `may_be_full` what it knows of free places. How each
+/// lane stands, and so every refusal but `Full`, is the same for all kinds.
 pub trait Ports<P> {
     // how the lane to this rank stands
     ghost standing: { Self → ℕ → Standing };
@@ -33,30 +33,29 @@ pub trait Ports<P> {
     // a take from this rank gave this answer, and nothing else happened
     ghost takes: { Self → ℕ → Taken P → Self → Type 0 };
 
-    /// Whether there is room for a letter to this rank: then the next post to it isn't `Full`. There
-    /// is none to a stranger.
+    /// Whether there is room for a letter to this rank: if so, the next post to it isn't `Full`. There
+    /// is none for a stranger.
     fn room(&mut self, to: u16) -> bool
         ensures keeps { keeps self.old self.new }
         ensures room { IsTrue result → has_room self.new to }
         ensures full { result ≡ false → (standing self.old to).is_stranger ≡ false → may_be_full self.old to }
         ensures stranger { (standing self.old to).is_stranger ≡ true → result ≡ false };
 
-    /// Posts a letter to this rank, and answers its number. On refusal the body comes back, and
-    /// nothing is posted.
+    /// Posts a letter to this rank, and returns its number. A refusal returns the body, and posts
+    /// nothing.
     fn try_post(&mut self, to: u16, tag: Tag, body: Body<P>) -> Result<u64, (PostRefusal, Body<P>)>
         requires { is_close body ≡ false }
         ensures accepted { IfOk result (λ number. (standing_refusal (standing self.old to) ≡ None) × (number ≡ (standing self.old to).posted) × posts self.old to (next_letter (standing self.old to) to tag body) self.new) }
         ensures refused { IfErr result (λ e. MayRefuse (standing self.old to) (may_be_full self.old to) e.0 × (e.1 ≡ body) × keeps self.old self.new) }
         ensures succeeds { has_room self.old to → standing_refusal (standing self.old to) ≡ None → IsOk result };
 
-    /// Posts the mark that ends the lane to this rank, and answers its number. On refusal nothing is
-    /// posted.
+    /// Posts the mark that ends the lane to this rank, and returns its number. A refusal posts nothing.
     fn try_close(&mut self, to: u16) -> Result<u64, PostRefusal>
         ensures accepted { IfOk result (λ number. (standing_refusal (standing self.old to) ≡ None) × (number ≡ (standing self.old to).posted) × posts self.old to (next_letter (standing self.old to) to mark_tag Body.Close) self.new) }
         ensures refused { IfErr result (λ e. MayRefuse (standing self.old to) (may_be_full self.old to) e × keeps self.old self.new) }
         ensures succeeds { has_room self.old to → standing_refusal (standing self.old to) ≡ None → IsOk result };
 
-    /// Takes the oldest letter from this rank that is there.
+    /// Takes the oldest available letter from this rank.
     fn try_take(&mut self, from: u16) -> Taken<P>
         ensures takes { takes self.old from result self.new }
         ensures stranger { (result ≡ Taken.Stranger) ↔ ((standing self.old from).is_stranger ≡ true) };

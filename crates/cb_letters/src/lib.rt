@@ -1,16 +1,16 @@
-//! What goes through a lane, and the words in which every crate speaks of lanes.
+//! What goes through a lane, and the vocabulary of lanes for every crate.
 //!
-//! There is one lane for each two different ranks and each direction: a bounded queue of letters from
-//! a sender to an addressee, for as many as its [`Capacity`] says. A letter carries a sheet, or the word that a sheet was lost, and a tag of
-//! its sender's choice. Each lane numbers its letters from 0 on. The last letter of a lane is its close
-//! mark: it has a place and a number as every letter has, its tag is 0, and nothing is posted after it.
-//! A post is refused to a stranger, on a closed lane, on a lane whose numbers are spent, and on a full
-//! one, and is looked at in this order. A take answers the oldest letter, the end of a lane once its
-//! close mark is reached and ever after, or that nothing is there.
+//! There is one lane for each two different ranks and each direction: a bounded queue of letters from a sender to an
+//! addressee, which holds as many as its [`Capacity`] says. A letter carries a sheet, or the news that a sheet was
+//! lost, and a tag of its sender's choice. Each lane numbers its letters from 0. The last letter of a lane is its close
+//! mark: it has a place and a number like any letter, its tag is 0, and nothing is posted after it. A post is refused,
+//! in this order, to a stranger, on a closed lane, on a lane whose numbers are spent, and on a full lane. A take gives
+//! the oldest letter; or the end of the lane, once its close mark is reached and ever after; or says that nothing is
+//! there.
 //!
-//! `specs/` says what a lane is and what its calls answer (`Lane`), what two ends that don't share
-//! a lane's queue know of it (`Posted`), what stands against a post (`Standing`), and which lists of posts and takes are legal
-//! (`Events`). [`Ports`] are the ends of one rank's lanes, whatever they are made of.
+//! `specs/` says what a lane is and what its calls answer (`Lane`), what two ends that don't share a lane's queue know
+//! of it (`Posted`), why a post is refused (`Standing`), and which lists of posts and takes are legal (`Events`).
+//! [`Ports`] are the ends of one rank's lanes, whatever they are made of.
 #![tactic(auto)]
 
 mod capacities;
@@ -29,9 +29,9 @@ pub struct Tag(pub u32);
 /// What a letter carries.
 #[derive(Debug, PartialEq, Eq, Drop)]
 pub enum Body<P> {
-    /// A load of the sender's.
+    /// What the sender sends.
     Sheet(P),
-    /// There was no memory for the sheet: the rank at which it was lost first.
+    /// Memory for the sheet was refused: the rank at which it was first lost.
     Lost(u16),
     /// The mark that ends the lane.
     Close,
@@ -52,7 +52,7 @@ pub struct Letter<P> {
 pub enum Taken<P> {
     /// The oldest letter of the lane, which isn't its close mark.
     Letter(Letter<P>),
-    /// The close mark was taken, now or before.
+    /// The close mark was taken, now or earlier.
     End,
     /// No letter is there, and the close mark wasn't taken.
     Empty,
@@ -60,14 +60,14 @@ pub enum Taken<P> {
     Stranger,
 }
 
-/// Why a post or a close was refused, in the order in which the reasons are looked at.
+/// Why a post or a close was refused, in the order in which the reasons are checked.
 #[derive(Clone, Copy, Debug, PartialEq, Eq, Drop)]
 pub enum PostRefusal {
     /// There is no such lane: the other rank is the rank itself, or no rank.
     Stranger,
     /// The close mark was posted.
     Closed,
-    /// All numbers of the lane were given out, up to 2^64-2.
+    /// All numbers of the lane have been used, up to 2^64-2.
     Spent,
     /// The lane has no free place.
     Full,

@@ -1,4 +1,4 @@
--- A plan that runs: what is left of it has no fault, and means what the whole meant.
+-- A plan that runs: what is left of it has no fault, and completes the meaning of the whole.
 use Rattle.std.specs.Prelude.{◌≡◌, ℕ, List, None, drop}
 use Rattle.cb_semirings.specs.Arithmetic.{Arithmetic}
 use Rattle.cb_matrix.specs.Sparse.{Sparse}

@@ -14,8 +14,8 @@ use cb_reshape::{cut, place, transpose};
 use cb_semirings::Semiring;
 use std::alloc::{AllocError, Global};
 
-/// Does an operation whose operands are there, with the shapes that it asks for. On refusal the slots are as
-/// they were; an operation that needs no memory isn't refused.
+/// Does an operation whose operands are there, with the shapes that it requires. A refusal leaves the slots as they
+/// were; an operation that needs no memory isn't refused.
 pub fn work<S: Semiring>(alloc: Global, store: &mut RankStore<S>, op: &Op) -> Result<(), AllocError>
     requires slots { all_below SLOTS (target_of op.now ∷ operands_of op.now) ≡ true }
     requires filled { all_filled (shapes_in store.old) (operands_of op.now) ≡ true }
@@ -73,7 +73,7 @@ fn made_by<S: Semiring>(
     }
 }
 
-/// Adds the product of two blocks to a third, which is neither of them and gives its place to the sum.
+/// Adds the product of two blocks to a third, which is neither of them and is replaced by the sum.
 fn accumulate<S: Semiring>(
     alloc: Global,
     store: &mut RankStore<S>,

@@ -1,7 +1,7 @@
-//! What one rank, or one thread, does of a plan by itself on its blocks.
+//! The part of a plan that one rank, or one thread, does by itself on its blocks.
 //!
-//! [`work`] does an operation on the slots of one rank by the block kernels: products, sums, transposes, cuts and
-//! the rest. [`run_plain`] does a checked plan on one thread, act by act, on stores that it fits.
+//! [`work`] does an operation on the slots of one rank by the block kernels: products, sums, transposes, cuts and the
+//! rest. [`run_plain`] runs a checked plan on one thread, act by act, on stores that it fits.
 #![tactic(auto)]
 
 mod kernels;

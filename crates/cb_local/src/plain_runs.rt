@@ -1,4 +1,4 @@
-//! A checked plan, done act by act on one thread.
+//! A checked plan, run act by act on one thread.
 ghost use Rattle.std.specs.Prelude.{◌≡◌, length, IfOk, OnOk};
 ghost use Rattle.cb_plan.specs.Meaning.{act, meaning};
 ghost use Rattle.cb_plan.specs.Algebras.{matrices};
@@ -11,8 +11,7 @@ use cb_plan::{Act, CheckedPlan, RankStore, SLOTS};
 use cb_semirings::Semiring;
 use std::alloc::{AllocError, Global};
 
-/// Does the acts of a plan one after the other, on stores that fit it. Where memory is refused the stores are
-/// given up.
+/// Does the acts of a plan one after the other, on stores that fit it. If memory is refused, the stores are dropped.
 ///
 /// Costs what the operations cost, and a copy of each block that is moved.
 pub fn run_plain<S: Semiring>(

@@ -1,4 +1,4 @@
--- Calls of a mailbox beside what they answered: what the caller sees of the letters of each lane.
+-- Calls of a mailbox with their answers: what the caller sees of the letters of each lane.
 use Rattle.std.specs.Prelude.{ℕ, ◌≡◌, ◌<◌, ◌≤◌, ◌==◌, Bool, true, false, not, List, [], ◌∷◌, ◌++◌, filter, All, AllPairs}
 use Rattle.cb_letters.specs.declared.Letter.{Letter}
 use Rattle.cb_letters.specs.declared.Body.TheVariants as Body
@@ -17,7 +17,7 @@ module _ {P : Type 0} where
   when true x = x ∷ []
   when false x = []
 
-  -- the letter that a call had accepted on the lane from one rank to another, by the number that it was answered
+  -- the letter of a call that was accepted on the lane from one rank to another, by the number that it got
   abbrev pub accepted_by : ℕ → ℕ → Call P → Answer P → List (Letter P)
   accepted_by from to (Post f tag body) (Posted n) = when (f == from) (record { from = f; to = to; number = n; tag = tag; body = body })
   accepted_by from to (Close f) (Posted n) = when (f == from) (record { from = f; to = to; number = n; tag = mark_tag; body = Body.Close })
@@ -28,7 +28,7 @@ module _ {P : Type 0} where
   taken_by from (Take f) (Took (Taken.Letter x)) = when (f == from) x
   taken_by from call answered = []
 
-  -- the letters that the calls had accepted on a lane, in order
+  -- the letters of the calls that were accepted on a lane, in order
   abbrev pub accepted_on : ℕ → ℕ → List (Call P) → List (Answer P) → List (Letter P)
   accepted_on from to (c ∷ cs) (a ∷ answers) = accepted_by from to c a ++ accepted_on from to cs answers
   accepted_on from to cs answers = []

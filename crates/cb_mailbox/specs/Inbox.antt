@@ -17,7 +17,7 @@ module _ {P : Type 0} where
   abbrev pub is_stranger : Inbox P → ℕ → Bool
   is_stranger box from = (from == box.me) || nat_le (length box.lanes) from
 
-  -- the lane from this sender; no rank's has no place
+  -- the lane from this sender; that of no rank has no place
   abbrev pub lane_from : Inbox P → ℕ → Lane P
   lane_from box from = slice_index_or box.lanes from (new_lane 0)
 

@@ -31,13 +31,13 @@ answers = Posted 0 ∷ Posted 1 ∷ Refused Refusal.Closed (Some (Body.Lost 6)) 
 accepted : accepted_on 1 0 calls answers ≡ first ∷ mark ∷ []
 accepted = refl
 
--- the post was taken, and the mark is no letter that is handed out
+-- the post was taken, and the mark isn't handed out as a letter
 taken : taken_on 1 calls answers ≡ first ∷ []
 taken = refl
 
 all_given : without_marks (accepted_on 1 0 calls answers) ≡ taken_on 1 calls answers
 all_given = refl
 
--- nothing is told of another lane
+-- nothing is said of another lane
 elsewhere : accepted_on 2 0 calls answers ≡ []
 elsewhere = refl

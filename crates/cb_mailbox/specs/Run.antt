@@ -66,7 +66,7 @@ module _ {P : Type 0} where
   events box [] = []
   events box (c ∷ cs) = events_of box c ++ events (after box c) cs
 
-  -- on each lane, what was queued and then posted is what was taken and what is queued then
+  -- on each lane, what was queued and then posted is what was taken and what is queued afterwards
   abbrev pub IsBalanced : Inbox P → Inbox P → List (Event P) → Type 0
   IsBalanced old new es =
       (from : ℕ) → is_stranger old from ≡ false

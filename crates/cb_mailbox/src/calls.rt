@@ -16,7 +16,7 @@ pub enum Call<P> {
     Close { from: u16 },
 }
 
-/// What a call of a mailbox answered.
+/// The answer to a call of a mailbox.
 #[derive(Debug, PartialEq, Eq, Drop)]
 pub enum Answer<P> {
     /// A post or a close was accepted: the number of its letter.
@@ -27,8 +27,8 @@ pub enum Answer<P> {
 }
 
 impl<P: Drop> Mailbox<P> {
-    /// Makes the calls one after the other, and answers what each answered, in order. Memory is taken
-    /// for all answers before the first call; where it is refused the calls come back and none was made.
+    /// Makes the calls one after the other, and returns their answers in order. Memory for all answers is taken before
+    /// the first call; if it is refused, the calls come back and none was made.
     #[tactic(auto, using(crate::proofs::Runs::runs, crate::proofs::Balance::balance))]
     pub fn run(
         &mut self,

@@ -3,16 +3,15 @@
 //! `open` takes the memory of all queues. From then on a call costs the same however many letters have
 //! gone through, and no call but `run` takes memory.
 //!
-//! - `post` and `close` append at the sender's queue and answer the number on that lane: 0, 1, 2 and so
-//!   on, the close mark among them. They are refused to a stranger (the rank itself, or no rank), after
-//!   a close, when the numbers are spent, and when the queue is full, in this order. A refused call
-//!   changes nothing and hands its body back.
-//! - `take` answers the oldest letter of one sender. At the close mark it answers `End`, and ever after.
-//! - `run` makes a list of calls. Room for all answers is taken first, so a refused `run` did nothing.
+//! - `post` and `close` append to the sender's queue and return the number on that lane: 0, 1, 2 and so on, the close
+//!   mark included. They are refused to a stranger (the rank itself, or no rank), after a close, when the numbers are
+//!   spent, and when the queue is full, in this order. A refused call changes nothing and hands its body back.
+//! - `take` returns the oldest letter of one sender. At the close mark and ever after it returns `End`.
+//! - `run` makes a list of calls. Room for all answers is taken first, so a refused `run` does nothing.
 //!
-//! Every call answers and changes as one lane per sender does (`cb_letters`' `Lane`). Over any list of
-//! calls what was queued and accepted is, lane by lane, what was taken and is queued; and on a new
-//! mailbox the accepted posts and takes are legal (`cb_letters`' `Events`).
+//! A mailbox behaves like one lane per sender (`cb_letters`' `Lane`). Over any list of calls, on each lane, what was
+//! queued and then accepted is what was taken and what is queued in the end; and on a new mailbox the accepted posts
+//! and takes are legal (`cb_letters`' `Events`).
 #![tactic(auto)]
 
 mod calls;
@@ -30,7 +29,7 @@ use queue::Queue;
 use std::alloc::{AllocError, Global};
 use std::marker::Model;
 
-/// The letters on their way to one rank, in a queue for each sender.
+/// The letters in transit to one rank, in a queue for each sender.
 #[derive(Drop)]
 pub struct Mailbox<P> {
     me: u16,
@@ -49,8 +48,8 @@ impl<P> Model for Mailbox<P> {
 }
 
 impl<P: Drop> Mailbox<P> {
-    /// The mailbox of rank `me` among `ranks`. Its queues have `capacity` places each, taken here at
-    /// once; the one from itself, which nobody posts to, has none.
+    /// The mailbox of rank `me` among `ranks`. Each queue has `capacity` places, allocated here; the one from itself,
+    /// to which nobody posts, has none.
     #[tactic(auto, using(crate::proofs::Inboxes::lanes))]
     pub fn open(
         alloc: Global,
@@ -70,7 +69,7 @@ impl<P: Drop> Mailbox<P> {
         Ok(Mailbox { me, lanes })
     }
 
-    /// Posts a letter of the sender `from`, and answers its number on that lane.
+    /// Posts a letter of the sender `from`, and returns its number on that lane.
     pub fn post(
         &mut self,
         from: u16,
@@ -89,7 +88,7 @@ impl<P: Drop> Mailbox<P> {
         self.lanes[from as usize].post(from, me, tag, body)
     }
 
-    /// Posts the mark that ends the lane of the sender `from`, and answers its number.
+    /// Posts the mark that ends the lane of the sender `from`, and returns its number.
     pub fn close(&mut self, from: u16) -> Result<u64, PostRefusal>
         ensures accepted { IfOk result (λ number. (post_refusal self.old from ≡ None) × (number ≡ posted (lane_from self.old from)) × (self.new ≡ with_lane self.old from (append (lane_from self.old from) (next_letter self.old from mark_tag Body.Close)))) }
         ensures refused { IfErr result (λ e. post_refusal self.old from ≡ Some e) }
@@ -105,8 +104,8 @@ impl<P: Drop> Mailbox<P> {
         }
     }
 
-    /// Takes the oldest letter of the sender `from`. The close mark is answered by `End`, and so is
-    /// every later take.
+    /// Takes the oldest letter of the sender `from`. The take that reaches the close mark returns `End`, and so does
+    /// every later one.
     pub fn take(&mut self, from: u16) -> Taken<P>
         ensures stranger { is_stranger self.old from ≡ true → (result ≡ Taken.Stranger) × (self.new ≡ self.old) }
         ensures letter { (x : Letter P) → result ≡ Taken.Letter x → IsAddressed from self.old.me (lane_from self.old from).taken x }
@@ -134,7 +133,7 @@ impl<P: Drop> Mailbox<P> {
         self.lanes[from as usize].has_room()
     }
 
-    /// How many letters the sender `from` posted, its close mark among them.
+    /// How many letters the sender `from` posted, its close mark included.
     pub fn posted(&self, from: u16) -> u64
         requires { is_stranger self.now from ≡ false }
         ensures { result ≡ posted (lane_from self.now from) }
@@ -142,7 +141,7 @@ impl<P: Drop> Mailbox<P> {
         self.lanes[from as usize].posted()
     }
 
-    /// How many letters of the sender `from` were taken, its close mark among them.
+    /// How many letters of the sender `from` were taken, its close mark included.
     pub fn taken(&self, from: u16) -> u64
         requires { is_stranger self.now from ≡ false }
         ensures { result ≡ (lane_from self.now from).taken }

@@ -20,7 +20,7 @@ abbrev pub first_failed : List (Bool × Kind) → Option Kind
 first_failed [] = None
 first_failed (check ∷ checks) = cond check.0 (first_failed checks) (Some check.1)
 
--- the word at a place of a line, or else no byte
+-- the word at a place of a line, or no byte if there is none
 abbrev pub word : ℕ → List (List ℕ) → List ℕ
 word i [] = []
 word zero (w ∷ ws) = w
@@ -45,18 +45,18 @@ is_supported s field Symmetric = true
 is_supported s Integer SkewSymmetric = has_negatives s
 is_supported s Pattern SkewSymmetric = false
 
--- the header that a line's words are
+-- the header that a line's words make
 abbrev pub header_of : List (List ℕ) → Header
 header_of ws = record { field = unwrap_or (field_in (word 3 ws)) Integer; symmetry = unwrap_or (symmetry_in (word 4 ws)) General }
 
--- a coordinate matrix with a field and a symmetry that are read
+-- a coordinate matrix with a field and a symmetry that are supported
 abbrev pub is_read : Arithmetic → List (List ℕ) → Bool
 is_read s ws =
     is_name (word 1 ws) (codes "matrix") && is_name (word 2 ws) (codes "coordinate")
     && is_some (field_in (word 3 ws)) && is_some (symmetry_in (word 4 ws))
     && is_supported s (header_of ws).field (header_of ws).symmetry
 
--- the checks of the words of the first line, which begins by a blank or not
+-- the checks of the words of the first line, which may begin with a blank
 abbrev pub header_checks : Arithmetic → Bool → List (List ℕ) → List (Bool × Kind)
 header_checks s begins_blank ws =
     (not begins_blank && (length ws == 5) && bytes_eq (word 0 ws) (codes "%%MatrixMarket"), BadHeader)
@@ -70,7 +70,7 @@ header_fault s begins_blank ws = first_failed (header_checks s begins_blank ws)
 abbrev pub size_of : List (List ℕ) → Size
 size_of ws = record { shape = record { rows = number (word 0 ws); cols = number (word 1 ws) }; count = number (word 2 ws) }
 
--- any shape, or for a symmetry of entries a square
+-- any shape, or a square if entries are mirrored
 abbrev pub is_shape : Symmetry → Extent → Bool
 is_shape General shape = true
 is_shape Symmetric shape = shape.rows == shape.cols
@@ -117,13 +117,13 @@ abbrev pub words_wanted : Field → ℕ
 words_wanted Integer = 3
 words_wanted Pattern = 2
 
--- above the diagonal, where entries stand for those above it
+-- above the diagonal, in a matrix whose entries stand for those above it
 abbrev pub is_above : Symmetry → ℕ → ℕ → Bool
 is_above General row column = false
 is_above Symmetric row column = nat_lt row column
 is_above SkewSymmetric row column = nat_lt row column
 
--- on the diagonal, where that is zero
+-- on the diagonal, in a matrix whose diagonal is zero
 abbrev pub is_on_diagonal : Symmetry → ℕ → ℕ → Bool
 is_on_diagonal General row column = false
 is_on_diagonal Symmetric row column = false

@@ -1,4 +1,4 @@
--- A text from a place within it on: what is left of a line, and the text after it.
+-- A text from a place on: what is left of a line, and the text after it.
 use Rattle.std.specs.Prelude.{◌≡◌, ℕ, ◌^◌, ◌<◌, Bool, true, cond, ◌&&◌, ◌||◌, ◌==◌, nat_lt, List, [], ◌∷◌, length, Option, Some, None}
 use Rattle.cb_market.specs.declared.words.Number.{Number}
 use Rattle.cb_market.specs.declared.words.Number.TheVariants.{NotWhole, TooLarge, Whole}

@@ -16,7 +16,7 @@ abbrev pub at_line : ℕ → Option Kind → Option ReadFault → Option ReadFau
 at_line n (Some kind) later = Some (record { line = n; kind = kind })
 at_line n None later = later
 
--- of the entries: `left` are still wanted, and the text has `n - 1` lines
+-- of the entries: `left` are still missing, and the text has `n - 1` lines
 unfoldable pub entries_fault : Arithmetic → Header → Extent → ℕ → ℕ → List (ℕ × List (List ℕ)) → Option ReadFault
 entries_fault s header shape n zero [] = None
 entries_fault s header shape n (suc left) [] = Some (record { line = n; kind = MissingEntries })
@@ -56,11 +56,11 @@ lines_matrix s (line ∷ lines) = body_matrix s (header_of (words line)) (kept_l
 unfoldable pub matrix_in : Arithmetic → List ℕ → Sparse
 matrix_in s text = lines_matrix s (lines text)
 
--- an answer that is the first fault, or want of memory at a line with no fault before it or at it
+-- a result that is the first fault, or want of memory at a line with no fault before it or at it
 abbrev pub IsAnswer : Option ReadFault → ReadFault → Type 0
 IsAnswer first f = (first ≡ Some f) ⊎ ((f.kind ≡ Memory) × IfSome first (λ g. f.line < g.line))
 
--- an answer at a line: its fault, or want of memory where it has none
+-- a result at a line: its fault, or want of memory if it has none
 abbrev pub IsLineAnswer : ℕ → Option Kind → ReadFault → Type 0
 IsLineAnswer n fault f = (f.line ≡ n) × ((fault ≡ Some f.kind) ⊎ ((fault ≡ None) × (f.kind ≡ Memory)))
 

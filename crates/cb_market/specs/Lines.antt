@@ -12,7 +12,7 @@ unfoldable pub cut_lines : List ℕ → List (List ℕ)
 cut_lines [] = []
 cut_lines (c ∷ text) = cond (c == 10) ([] ∷ cut_lines text) (onto_first c (cut_lines text))
 
--- a line without the carriage return at its end, where it has one
+-- a line without the carriage return at its end, if it has one
 unfoldable pub without_return : List ℕ → List ℕ
 without_return [] = []
 without_return (c ∷ []) = cond (c == 13) [] (c ∷ [])

@@ -37,7 +37,7 @@ pub record Part : Type 0 where
 abbrev pub joined : Part → Part → Part
 joined p q = record { side = p.side; shape = p.shape; lines = p.lines + q.lines; entries = p.entries ++ q.entries }
 
--- Each line of a text that isn't skipped is that of an entry, and at each place this is what they give there.
+-- Each line of a text that isn't skipped is that of an entry, and this is what they give at each place.
 pub record IsPart (s : Arithmetic) (header : Header) (shape : Extent) (side : ℕ) (text : List ℕ) (p : Part) : Type 0 where
   pub on_grid : p.side ≡ side
   pub in_shape : p.shape ≡ shape

@@ -41,7 +41,7 @@ pub record IsHeader (s : Arithmetic) (line : List ℕ) (header : Header) : Type 
   pub symmetry : IsName (word 4 (words line)) (symmetry_name header.symmetry)
   pub supported : is_supported s header.field header.symmetry ≡ true
 
--- a square, but for a matrix whose entries stand for themselves alone
+-- a square, except for a matrix whose entries stand for themselves alone
 abbrev pub IsShape : Symmetry → Extent → Type 0
 IsShape General shape = Unit {0}
 IsShape Symmetric shape = shape.rows ≡ shape.cols
@@ -81,7 +81,8 @@ AreEntries s header shape [] (e ∷ es) = ⊥
 AreEntries s header shape (ws ∷ lines) [] = ⊥
 AreEntries s header shape (ws ∷ lines) (e ∷ es) = IsEntry s header shape ws e × AreEntries s header shape lines es
 
--- The first line is the header; of the further lines those that aren't skipped are the size line and as many entries as it announces; the matrix has that shape, and at each place the sum of what the entries give there.
+-- The first line is the header; the further lines that aren't skipped are the size line and as many entries as it
+-- announces; the matrix has that shape, and at each place the sum of what the entries give there.
 pub record Reads (s : Arithmetic) (text : List ℕ) (m : Sparse) : Type 0 where
   pub header : Header
   pub size : Size
@@ -98,7 +99,7 @@ pub record Reads (s : Arithmetic) (text : List ℕ) (m : Sparse) : Type 0 where
   pub count : length entries ≡ size.count
   pub matrix : m ≡ collected s size.shape (flat_map (given_by s header.symmetry) entries)
 
--- The two statements about a text are one: it has a first fault or reads as a matrix, never both, and never as two.
+-- The two statements about a text agree: it has a first fault or reads as a matrix, never both, and never as two.
 pub record IsFaultOrMatrix (s : Arithmetic) (text : List ℕ) : Type 0 where
   pub either : first_fault s text ≡ None → (m : Sparse) × Reads s text m
   pub never_both : (m : Sparse) → Reads s text m → first_fault s text ≡ None

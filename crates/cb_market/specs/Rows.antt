@@ -63,7 +63,7 @@ rows =
     ∷ (min_plus, skew (codes "2 2 1/2 1 3/"), fault 1 Unsupported)
     ∷ []
 
--- the first fault of each row's text is the one that the row has
+-- the first fault of each row's text is the one in the row
 table : map (λ (r : Row). first_fault r.0 r.1) rows ≡ map (λ (r : Row). r.2) rows
 unfolding rows first_fault lines cut_lines without_return words entries_fault
 table = refl

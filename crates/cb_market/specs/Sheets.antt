@@ -1,4 +1,4 @@
--- A sheet of a text: the lines of some entries, which can be made apart from all others.
+-- A sheet of a text: the lines of some entries, which can be made independently of all others.
 use Rattle.std.specs.Prelude.{ℕ, List, ◌++◌, flat_map}
 use Rattle.cb_semirings.specs.Arithmetic.{Arithmetic}
 use Rattle.cb_matrix.specs.declared.Entry.{Entry}

@@ -25,7 +25,7 @@ header_line false = codes "%%MatrixMarket matrix coordinate integer general" ++ 
 abbrev pub size_line : Sparse → List ℕ
 size_line m = number_line (m.shape.rows ∷ m.shape.cols ∷ length m.entries ∷ [])
 
--- the header, and the size line of a matrix of a shape with so many entries
+-- the header, and the size line of a matrix of a shape with this many entries
 abbrev pub head_of : Bool → Extent → ℕ → List ℕ
 head_of is_pattern shape count = header_line is_pattern ++ number_line (shape.rows ∷ shape.cols ∷ count ∷ [])
 

@@ -20,7 +20,7 @@ use cb_matrix::{Entry, Shape};
 use cb_semirings::Semiring;
 use std::alloc::{AllocError, Global};
 
-/// Whether a place is above the diagonal, where entries stand for those above it.
+/// Whether a place is above the diagonal, in a matrix whose entries stand for those above it.
 fn is_above(symmetry: Symmetry, row: u32, column: u32) -> bool
     ensures { result ≡ is_above symmetry row column }
 {
@@ -31,7 +31,7 @@ fn is_above(symmetry: Symmetry, row: u32, column: u32) -> bool
     }
 }
 
-/// Whether a place is on the diagonal, where that is zero.
+/// Whether a place is on the diagonal, in a matrix whose diagonal is zero.
 fn is_on_diagonal(symmetry: Symmetry, row: u32, column: u32) -> bool
     ensures { result ≡ is_on_diagonal symmetry row column }
 {
@@ -42,7 +42,7 @@ fn is_on_diagonal(symmetry: Symmetry, row: u32, column: u32) -> bool
     }
 }
 
-/// The place of an entry, by words that are numbers.
+/// The place of an entry, from words that are numbers.
 #[inline(always)]
 fn place_of(
     symmetry: Symmetry,
@@ -183,8 +183,8 @@ fn most_given(symmetry: Symmetry) -> usize
     }
 }
 
-/// How many entries room is taken for: as many as are announced, but no more than the text that
-/// follows can give. A short text that announces many takes no room for them.
+/// How many entries room is taken for: as many as are announced, but no more than the text that follows
+/// can give. So a short text that announces many entries takes no room for them.
 pub fn room_for_entries(header: Header, count: u32, text: &[u8]) -> usize
     ensures { result ≡ room_of header count (length text.now) }
 {
@@ -227,8 +227,8 @@ impl<'a> Scanner<'a> {
         }
     }
 
-    /// The entry of a line of three short numbers at the front, or its fault, and goes to the next
-    /// line. None before any other line, where it stays.
+    /// Reads the entry of a line of three short numbers at the front, or its fault, and goes to the
+    /// next line. Before any other line it returns None and stays there.
     #[inline(always)]
     fn plain_entry<S: Semiring>(
         &mut self,
@@ -260,8 +260,8 @@ impl<'a> Scanner<'a> {
         }
     }
 
-    /// The entry of the next line that isn't skipped, or its fault, and the line's number. Goes to the
-    /// line after it.
+    /// Reads the entry of the next line that isn't skipped, or its fault, and the line's number. Goes
+    /// to the line after it.
     #[inline(always)]
     pub fn next_entry<S: Semiring>(
         &mut self,
@@ -287,7 +287,8 @@ impl<'a> Scanner<'a> {
         Some((line, found))
     }
 
-    /// The entries of a text, from the line after its size on, added to those that are gathered.
+    /// Reads the entries of a text, from the line after its size line on, and adds them to those that
+    /// are gathered.
     pub fn entries<S: Semiring>(
         &mut self,
         alloc: Global,

@@ -11,8 +11,8 @@ use cb_semirings::Semiring;
 use std::alloc::{AllocError, Global};
 use std::marker::Model;
 
-/// The entries of a text: in the blocks of a grid as long as they ascend by column and then row and
-/// none is zero, and else in a list.
+/// The entries of a text: in the blocks of a grid as long as they ascend by column and then row and none is zero, and
+/// otherwise in a list.
 #[derive(Drop)]
 pub struct Gathered<S: Semiring> {
     blocks: DistributedMatrix<S>,
@@ -45,7 +45,7 @@ fn place_number(entry: Entry) -> u64
     u64::from(entry.column) * (1 << 32) + u64::from(entry.row)
 }
 
-/// The entries of a matrix over a grid in a list, with room for so many.
+/// The entries of a matrix over a grid in a list, with room for this many.
 fn in_list<S: Semiring>(
     alloc: Global,
     blocks: &DistributedMatrix<S>,
@@ -74,7 +74,7 @@ fn listed<S: Semiring>(
 }
 
 impl<S: Semiring> Gathered<S> {
-    /// No entries, and room for so many: in the blocks of a grid, or else in a list.
+    /// No entries, and room for this many: in the blocks of a grid, or in a list.
     pub fn start(
         alloc: Global,
         grid: Grid,
@@ -97,8 +97,8 @@ impl<S: Semiring> Gathered<S> {
         })
     }
 
-    /// Adds an entry after all the others. In constant time, but for the growth of lists, and for the
-    /// one entry that ends an ascent: it moves all the others into the list.
+    /// Adds an entry after all the others. In constant time, except when lists grow, and except for the one entry that
+    /// ends an ascent: it moves all the others into the list.
     pub fn push(&mut self, alloc: Global, entry: Entry) -> Result<(), AllocError>
         requires inside { IsInside self.old.shape entry }
         requires value { IsValue S.arithmetic entry.value }
@@ -126,9 +126,9 @@ impl<S: Semiring> Gathered<S> {
         Ok(())
     }
 
-    /// Adds all entries of another after all the others. They stay in blocks where both are in blocks and the other's
-    /// come after these. Where memory is refused both are given up. The cost is that of the other's entries, and, where
-    /// an ascent ends, of these too.
+    /// Adds all entries of another after all the others. They stay in blocks if both are in blocks and the other's come
+    /// after these. If memory is refused, both are dropped. The cost is that of the other's entries, and, if an ascent
+    /// ends, of these too.
     pub fn append(self, alloc: Global, other: Self) -> Result<Self, AllocError>
         requires side { other.side ≡ self.side }
         requires shape { other.shape ≡ self.shape }
@@ -177,7 +177,7 @@ impl<S: Semiring> Gathered<S> {
         })
     }
 
-    /// The same entries, by column and then by row also where they are in a list. Those of one place keep their order.
+    /// The same entries, by column and then by row even if they are in a list. Those of one place keep their order.
     pub fn sorted(self) -> Result<Self, AllocError>
         ensures places { IfOk result (λ g. AreSamePlaces g.entries self.entries) }
         ensures side { IfOk result (λ g. g.side ≡ self.side) }
@@ -197,7 +197,7 @@ impl<S: Semiring> Gathered<S> {
         })
     }
 
-    /// All entries in a list. Where they are in blocks it gets room for so many.
+    /// All entries in a list. If they are in blocks, it gets room for this many.
     fn into_list(self, alloc: Global, room: usize) -> Result<Vec<Entry>, AllocError>
         ensures entries { IfOk result (λ v. v.items ≡ self.entries) }
         ensures inside { IfOk result (λ v. All (IsInside self.shape) v.items) }

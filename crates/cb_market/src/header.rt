@@ -82,7 +82,7 @@ fn is_supported<S: Semiring>(field: Field, symmetry: Symmetry) -> bool
     }
 }
 
-/// The header that the four words after the first are, if it is one that is read.
+/// The header that the four words after the first make, if it is supported.
 fn header_of<S: Semiring>(
     object: &Word<'_>,
     format: &Word<'_>,
@@ -108,7 +108,7 @@ fn header_of<S: Semiring>(
 }
 
 impl<'a> Scanner<'a> {
-    /// The header of a text, whose first line this is.
+    /// The header of a text that begins with this line.
     pub fn header<S: Semiring>(&mut self) -> Result<Header, Kind>
         ensures ok { IfOk result (λ h. (header_fault S.arithmetic (begins_blank (line_at self.old.rest.now)) (words (line_at self.old.rest.now)) ≡ None) × (h ≡ header_of (words (line_at self.old.rest.now)))) }
         ensures fault { IfErr result (λ k. header_fault S.arithmetic (begins_blank (line_at self.old.rest.now)) (words (line_at self.old.rest.now)) ≡ Some k) }

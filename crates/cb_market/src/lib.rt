@@ -1,18 +1,17 @@
 //! Sparse matrices as Matrix Market texts, read and written.
 //!
-//! A text is lines of words. The first line is the header: that this is a coordinate matrix, whether
-//! its entries have values (`integer`) or not (`pattern`), and whether an entry stands for the
-//! mirrored place too (`symmetric`, `skew-symmetric`) or for its own alone (`general`). The size
-//! line has the rows, the columns and the number of entries, and each further line is an entry.
-//! Empty lines and comments are skipped. The format is that of Boisvert, Pozo and Remington, The
-//! Matrix Market Exchange Formats (NISTIR 5935).
+//! A text is lines of words. The first line is the header. It says that this is a coordinate matrix, whether its
+//! entries have values (`integer`) or not (`pattern`), and whether an entry stands for the mirrored place too
+//! (`symmetric`, `skew-symmetric`) or for its own alone (`general`). The size line has the rows, the columns and the
+//! number of entries, and each further line is an entry. Empty lines and comments are skipped. The format is that of
+//! Boisvert, Pozo and Remington, The Matrix Market Exchange Formats (NISTIR 5935).
 //!
-//! `specs/Reads.antt` says line by line when a text reads as a matrix, and `specs/Faults.antt` which
-//! fault of a text is its first. Every text has a first fault or reads as exactly one matrix, and
-//! never both; `read` answers accordingly. `text` writes the one text of a matrix, which reads as it.
+//! `specs/Reads.antt` says line by line when a text reads as a matrix, and `specs/Faults.antt` which fault of a text is
+//! its first. Every text has a first fault or reads as exactly one matrix, never both; `read` returns the one or the
+//! other. `text` writes the one text of a matrix, which reads as it.
 //!
-//! The reader is one cursor that goes over each byte at most twice. It keeps nothing of the text but the
-//! entries, and takes room for them by what the text can hold and not by what it announces.
+//! The reader is one cursor that goes over each byte at most twice. It keeps only the entries of the text, and takes
+//! room for them by what the text can hold, not by what it announces.
 #![tactic(auto)]
 
 ghost use Rattle.std.specs.Prelude.{◌≡◌};
@@ -24,19 +23,19 @@ use thiserror::Error;
 #[derive(Clone, Copy, Debug, PartialEq, Eq, Error)]
 #[error("{}", self.text())]
 pub enum Kind {
-    /// The first line is not five words of which the first is `%%MatrixMarket`.
+    /// The first line is not five words that begin with `%%MatrixMarket`.
     BadHeader,
-    /// An object, format, field or symmetry that is not read, or not in this semiring.
+    /// An object, format, field or symmetry that is not supported, or not in this semiring.
     Unsupported,
     /// The size line is not three numbers, or there is none.
     BadSize,
     /// More than 2,147,483,647 rows, columns or entries are announced.
     TooLarge,
-    /// A symmetric or skew-symmetric matrix hasn't as many columns as rows.
+    /// A symmetric or skew-symmetric matrix doesn't have as many columns as rows.
     NotSquare,
     /// The line of an entry has too few or too many words.
     BadLine,
-    /// A row or a column is not digits alone, or a value not a sign or none and digits.
+    /// A row or a column is not digits alone, or a value is not digits after an optional sign.
     BadNumber,
     /// A row or a column is 0, or more than the size line announces.
     IndexRange,

@@ -19,7 +19,7 @@ pub struct Opening<'a> {
 }
 
 impl<'a> Opening<'a> {
-    /// The opening of a text. None where the header or the size line has a fault.
+    /// The opening of a text. None if the header or the size line has a fault.
     pub fn of<S: Semiring>(text: &'a [u8]) -> Option<Opening<'a>>
         ensures { IfSome result (λ o. IsOpening S.arithmetic text.now o.header o.size o.line o.entries.now) }
     {
@@ -44,8 +44,8 @@ impl<'a> Opening<'a> {
 }
 
 impl<'a> Scanner<'a> {
-    /// The size that the next line that isn't skipped announces, and goes to the line after it. None where it has a
-    /// fault, or there is none.
+    /// Reads the size that the next line that isn't skipped announces, and goes to the line after it. None if that line
+    /// has a fault, or there is none.
     fn size_of_entries<S: Semiring>(&mut self, header: Header) -> Option<Size>
         requires { self.old.line + length (lines self.old.rest.now) < 2 ^ 64 }
         ensures shape { IfSome result (λ z. IsTrue (is_shape header.symmetry z.shape)) }

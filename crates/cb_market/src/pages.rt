@@ -1,4 +1,4 @@
-//! Pages: bytes of a text, written one after the other until there is no room for a line more.
+//! Pages: bytes of a text, written one after the other until there is no room for another line.
 ghost use Rattle.std.specs.Prelude.{◌≡◌, ◌↔◌, ◌+◌, ◌<◌, ◌≤◌, [], ◌∷◌, ◌++◌, length, take, decimal, IfOk, IsTrue};
 
 use itoa::write_digits;
@@ -8,7 +8,7 @@ use std::marker::Model;
 /// How many bytes a page holds.
 pub(crate) const SIZE: usize = 65_536;
 
-/// How many bytes a line of three numbers may have: at most 20 digits each, and a byte after each.
+/// How many bytes a line of three numbers may have: at most 20 digits for each, and a byte after each.
 pub(crate) const LINE: usize = 63;
 
 /// Bytes of a text, at most 65,536. In contracts it is these bytes.
@@ -39,7 +39,7 @@ impl Page {
         Ok(Page { bytes, end: 0 })
     }
 
-    /// Forgets what was written.
+    /// Discards what was written.
     pub fn clear(&mut self)
         ensures { self.new ≡ [] }
     {
@@ -78,7 +78,7 @@ impl Page {
     }
 }
 
-/// Writes a number and a byte after it from a place on, and answers the place after them.
+/// Writes a number and a byte after it from a place on, and returns the place after them.
 pub(crate) fn put_number(buffer: &mut [u8], at: usize, number: u64, after: u8) -> usize
     requires { at + 21 ≤ length buffer.old }
     ensures end { result ≡ at + length (decimal number) + 1 }
@@ -91,7 +91,7 @@ pub(crate) fn put_number(buffer: &mut [u8], at: usize, number: u64, after: u8) -
     end + 1
 }
 
-/// Writes some bytes and a byte after them from a place on, and answers the place after them.
+/// Writes some bytes and a byte after them from a place on, and returns the place after them.
 pub(crate) fn put_bytes(buffer: &mut [u8], at: usize, bytes: &[u8], after: u8) -> usize
     requires { at + length bytes.now < length buffer.old }
     ensures end { result ≡ at + length bytes.now + 1 }
@@ -117,7 +117,7 @@ pub(crate) fn digits(number: u64) -> usize
     count + short_digits(left)
 }
 
-/// How many digits a number of at most four has.
+/// How many digits a number of at most four digits has.
 #[tactic(auto, using(crate::proofs::Digits::one_digit, crate::proofs::Digits::two_digits, crate::proofs::Digits::three_digits, crate::proofs::Digits::four_digits))]
 fn short_digits(number: u64) -> usize
     requires { number < 10000 }

@@ -1,8 +1,8 @@
 //! A piece of the entries of a text, read alone.
 //!
-//! A text is parted where lines end. What its entries give is what those of its pieces give, one after the other, and
-//! where no piece has a fault and they have together as many entries as are announced, the text has none. A fault is
-//! not looked at here: that is for a reader that goes over the whole text.
+//! A text is cut where lines end. Its entries give what those of its pieces give, one after the other. If no piece has
+//! a fault and together they have as many entries as are announced, the text has no fault. Faults are not reported
+//! here: that is for a reader that goes over the whole text.
 ghost use Rattle.std.specs.Prelude.{◌≡◌, ◌++◌, ◌+◌, ◌^◌, ◌<◌, ◌≤◌, [], true, length, IsTrue, IfOk, IfSome};
 ghost use Rattle.cb_matrix.specs.Values.{collected};
 ghost use Rattle.cb_market.specs.Lines.{lines, kept};
@@ -36,7 +36,7 @@ impl<S: Semiring> Model for Piece<S> {
     ghost view = { λ a. record { side = a.entries.side; shape = a.entries.shape; lines = a.lines; entries = a.entries.entries } };
 }
 
-/// Parts a text behind the last line feed before a place, or at its start where none is.
+/// Cuts a text behind the last line feed before a place, or at its start if there is none.
 pub fn parted<'a>(text: &'a [u8], place: usize) -> (&'a [u8], &'a [u8])
     requires { place ≤ length text.now }
     ensures whole { is_whole result.0.now ≡ true }
@@ -52,10 +52,10 @@ pub fn parted<'a>(text: &'a [u8], place: usize) -> (&'a [u8], &'a [u8])
     (&text[..end], &text[end..])
 }
 
-/// The entries of a piece of a text. It takes room for as many as so many bytes can give: those of the piece, or more
-/// where other pieces are to be appended. None where a line has a fault, where there are more entries than are
-/// announced, or where memory is refused. One pass over the bytes; entries that don't ascend are
-/// sorted, so that pieces of a text which doesn't ascend leave the sort of the whole sorted runs.
+/// The entries of a piece of a text. It takes room for as many as this many bytes can give: those of the piece, or more
+/// if other pieces are to be appended. None if a line has a fault, if there are more entries than are announced, or if
+/// memory is refused. One pass over the bytes; entries that don't ascend are sorted, so that the final sort finds
+/// sorted runs.
 pub fn read_piece<S: Semiring>(
     alloc: Global,
     grid: Grid,
@@ -116,7 +116,7 @@ impl<'a> Scanner<'a> {
 }
 
 impl<S: Semiring> Piece<S> {
-    /// The same entries, by column and then by row. None where memory is refused.
+    /// The same entries, by column and then by row. None if memory is refused.
     fn sorted(self) -> Option<Self>
         ensures places { IfSome result (λ p. AreSamePlaces p.entries self.entries) }
         ensures rest { IfSome result (λ p. (p.side ≡ self.side) × (p.shape ≡ self.shape) × (p.lines ≡ self.lines)) }
@@ -135,8 +135,8 @@ impl<S: Semiring> Piece<S> {
         self.lines
     }
 
-    /// This piece and the one after it. Where memory is refused, or there are 2^32 lines or more, both are given up.
-    /// The cost is that of the entries of the second, and, where an ascent ends, of both.
+    /// This piece and the one after it. If memory is refused, or there are 2^32 lines or more, both are dropped. The
+    /// cost is that of the entries of the second, and, if an ascent ends, of both.
     pub fn append(self, alloc: Global, next: Self) -> Option<Self>
         requires side { next.side ≡ self.side }
         requires shape { next.shape ≡ self.shape }

@@ -104,8 +104,9 @@ fn gathered<S: Semiring>(
 /// The matrix that a text reads as, or its first fault. A place's value is the sum of what the
 /// entries give there; a sum of zero is not stored.
 ///
-/// Memory is answered with the line at which it was refused, and only where no fault stands before
-/// that line or at it; the line past the last is that of what is looked for at the end. One pass over the bytes; then the entries are sorted and added in place.
+/// Memory is reported with the line at which it was refused, and only if there is no fault at that line or before it;
+/// the line past the last is that of what is looked for at the end. One pass over the bytes; then the entries are
+/// sorted and added in place.
 pub fn read<S: Semiring>(alloc: Global, text: &[u8]) -> Result<Matrix<S>, ReadFault>
     ensures ok { IfOk result (λ m. Reads S.arithmetic text.now m) }
     ensures fault { IfErr result (IsAnswer (first_fault S.arithmetic text.now)) }
@@ -127,8 +128,8 @@ pub fn read<S: Semiring>(alloc: Global, text: &[u8]) -> Result<Matrix<S>, ReadFa
 
 /// The matrix that a text reads as, in the blocks of a grid, or its first fault. All else is as in [`read`].
 ///
-/// Entries that ascend by column and then row, none of them zero, go straight into the blocks. Any
-/// others are listed, sorted and added as in [`read`], and the list is given up once the blocks have them.
+/// Entries that ascend by column and then row, none of them zero, go straight into the blocks. Any others are listed,
+/// sorted and added as in [`read`], and the list is dropped once the blocks have them.
 pub fn read_distributed<S: Semiring>(
     alloc: Global,
     grid: &Grid,

@@ -15,7 +15,7 @@ use itoa::Buffer;
 pub(crate) const LONGEST_LINE: usize = 43;
 
 impl<'a, S: Semiring> EntriesLeft<'a, S> {
-    /// The same entries once more.
+    /// A copy of the entries that are left.
     pub(crate) fn fork(&self) -> EntriesLeft<'a, S>
         ensures { result ≡ self.now }
     {
@@ -25,7 +25,7 @@ impl<'a, S: Semiring> EntriesLeft<'a, S> {
         }
     }
 
-    /// Takes off the next run: entries of one column in one block, at most so many. None where no entry is left.
+    /// Takes off the next run: at most this many entries of one column in one block. None if no entry is left.
     fn next_run(&mut self, most: usize) -> Option<Segment<'a>>
         requires { 0 < most }
         ensures some { IfSome result (λ g. self.old ≡ shifted g.top g.column g.rows.now g.values.now ++ self.new) }
@@ -41,7 +41,7 @@ impl<'a, S: Semiring> EntriesLeft<'a, S> {
         Some(first_of(segment, count))
     }
 
-    /// Passes over the next entries, at most so many, and answers how many. It costs a step for each segment.
+    /// Skips at most this many of the next entries, and returns how many. It costs a step for each segment.
     pub(crate) fn skip(&mut self, most: usize) -> usize
         ensures rest { self.new ≡ drop most self.old }
         ensures count { result ≡ min most (length self.old) }
@@ -56,7 +56,7 @@ impl<'a, S: Semiring> EntriesLeft<'a, S> {
         most - left
     }
 
-    /// Writes the lines of the next entries, at most so many, from a place of the buffer on, and answers the place
+    /// Writes the lines of at most this many of the next entries from a place of the buffer on, and returns the place
     /// after them.
     pub(crate) fn put_first(&mut self, buffer: &mut [u8], start: usize, most: usize) -> usize
         requires { start + most * LONGEST_LINE ≤ length buffer.old }
@@ -92,7 +92,7 @@ fn first_of(segment: Segment<'_>, count: usize) -> Segment<'_>
     }
 }
 
-/// Writes the lines of a run from a place of the buffer on, and answers the place after them.
+/// Writes the lines of a run from a place of the buffer on, and returns the place after them.
 fn put_run(buffer: &mut [u8], start: usize, is_pattern: bool, run: Segment<'_>) -> usize
     requires lengths { length run.values.now ≡ length run.rows.now }
     requires room { start + length run.rows.now * LONGEST_LINE ≤ length buffer.old }
@@ -128,7 +128,7 @@ fn put_rows(
     end
 }
 
-/// Writes the line of an entry from a place of the buffer on, by the digits of its column, and answers the place
+/// Writes the line of an entry from a place of the buffer on, with the digits of its column, and returns the place
 /// after it.
 fn put_one(
     buffer: &mut [u8],

@@ -1,7 +1,7 @@
-//! A cursor over the bytes of a text, which goes over each byte once, or twice where a line isn't plain.
+//! A cursor over the bytes of a text, which goes over each byte once, or twice in a line that isn't plain.
 //!
-//! The cursor is the bytes that are left. What each step promises is said in the lines and words of
-//! these (`specs/Cursor.antt`).
+//! The cursor is the bytes that are left. What each step promises is stated in the lines and words of these
+//! (`specs/Cursor.antt`).
 ghost use Rattle.std.specs.Prelude.{◌≡◌, ◌+◌, ◌^◌, ◌<◌, ◌≤◌, MatchOption, IfSome, IfNone, [], ◌∷◌, length};
 ghost use Rattle.cb_market.specs.Lines.{is_blank, number, words, lines, kept_from};
 ghost use Rattle.cb_market.specs.Cursor.{is_line_end, line_at, after_line, is_word_end, front_digits, after_digits, front_word, after_word, after_blanks, after_sign, if_small, number_of};
@@ -78,7 +78,7 @@ impl<'a> Scanner<'a> {
         }
     }
 
-    /// Takes the digits at the front, and gives their number if it is below 2^64.
+    /// Takes the digits at the front, and returns their number if it is below 2^64.
     fn digits(&mut self) -> Option<u64>
         ensures number { result ≡ if_small (number (front_digits self.old.rest.now)) }
         ensures rest { self.new.rest.now ≡ after_digits self.old.rest.now }
@@ -124,7 +124,7 @@ impl<'a> Scanner<'a> {
         }
     }
 
-    /// Takes the word at the front, and gives the number that it writes.
+    /// Takes the word at the front, and returns the number that it writes.
     #[inline(always)]
     fn number(&mut self) -> Number
         ensures number { result ≡ number_of (front_word self.old.rest.now) }
@@ -183,7 +183,7 @@ impl<'a> Scanner<'a> {
         self.line += 1;
     }
 
-    /// Goes on to a line that isn't skipped, and gives its first word.
+    /// Goes on to a line that isn't skipped, and returns its first word.
     pub fn kept_line(&mut self) -> Option<Word<'a>>
         requires { self.old.line + length (lines self.old.rest.now) < 2 ^ 64 }
         ensures none { IfNone result (kept_from self.old.line self.old.rest.now ≡ []) }

@@ -1,8 +1,8 @@
 //! Sheets: parts of a text, which are dealt out in order and can then be written side by side.
 //!
 //! A text is a head and a line for each entry, so any run of entries has a run of lines. A sheet is given the next
-//! entries of a text, as many as their longest lines would leave room for. What it has of the text is settled then,
-//! and writing it needs nothing of any other sheet.
+//! entries of a text, as many as would fit with the longest lines. That fixes its part of the text, and writing it
+//! needs nothing from any other sheet.
 ghost use Rattle.std.specs.Prelude.{◌≡◌, ◌+◌, ◌*◌, ◌≤◌, ◌<◌, [], ◌∷◌, ◌++◌, length, take, if◌then◌else◌, true, false, IfOk};
 ghost use Rattle.cb_market.specs.Sheets.{lines_of, share_of};
 ghost use Rattle.cb_market.specs.Text.{head_of, header_line};
@@ -16,19 +16,19 @@ use cb_semirings::Semiring;
 use std::alloc::{AllocError, Global};
 use std::marker::Model;
 
-/// How many lines a sheet can have room for.
+/// The most lines that a sheet can have room for.
 pub const MOST_LINES: usize = 1_048_576;
 
 /// How many bytes the header and the size line may have: 49, and three numbers of 20 digits with a byte after each.
 const LONGEST_HEAD: usize = 112;
 
-/// A part of the text of a matrix over a grid. In contracts it is what is written of it, and what is left to write.
+/// A part of the text of a matrix over a grid. In contracts it is what is written, and what is left to write.
 #[derive(Drop)]
 pub struct Sheet<'a, S: Semiring> {
     /// Of these the first `end` are written.
     bytes: Vec<u8>,
     end: usize,
-    /// How many lines there is room for, beside the head.
+    /// How many lines there is room for, besides the head.
     lines: usize,
     /// The entries whose lines are left to write are the first `count` of these.
     entries: EntriesLeft<'a, S>,
@@ -49,7 +49,7 @@ impl<'a, S: Semiring> Model for Sheet<'a, S> {
 }
 
 impl<'a, S: Semiring> Sheet<'a, S> {
-    /// A sheet without bytes, with room for so many lines of a text. Nothing later takes memory.
+    /// A sheet without bytes, with room for this many lines of a text. Nothing later takes memory.
     pub fn new(
         alloc: Global,
         lines: usize,
@@ -69,9 +69,9 @@ impl<'a, S: Semiring> Sheet<'a, S> {
         })
     }
 
-    /// Takes the next part of a text in place of what the sheet had: as many lines as it has room for. The head, where
-    /// it is left, is written at once, and the lines are left to [`write`](Sheet::write). Answers whether there is
-    /// some. It costs a step for each segment.
+    /// Takes the next part of a text in place of what the sheet had: as many lines as it has room for. If the head is
+    /// left, it is written at once; the lines are left to [`write`](Sheet::write). Returns whether there was a next
+    /// part. It costs a step for each segment.
     pub fn take_from(&mut self, text: &mut TextPages<'a, S>) -> bool
         ensures text { text.old ≡ share_of self.new ++ text.new }
         ensures some { result ≡ true → 0 < length (share_of self.new) }
@@ -84,8 +84,8 @@ impl<'a, S: Semiring> Sheet<'a, S> {
         end + count > 0
     }
 
-    /// Writes what is left to write. The walk over the entries is a copy, the thread's own: in the sheet, which stands
-    /// beside others, each step of it would take the line of the cache from another thread.
+    /// Writes what is left to write. The thread walks a copy of its own: if it stepped the walk in the sheet, which has
+    /// neighbours in memory, each step would take a cache line from another thread.
     pub fn write(&mut self)
         ensures { self.new ≡ record { written = share_of self.old; left = [] } }
     {
@@ -103,9 +103,9 @@ impl<'a, S: Semiring> Sheet<'a, S> {
 }
 
 impl<'a, S: Semiring> TextPages<'a, S> {
-    /// Takes off the head, where it is left, which is written at the start of the buffer, and the lines of the next
-    /// entries, at most so many. Answers how many bytes the head has, and entries of which the first are these, and
-    /// how many they are.
+    /// Takes off the head, if it is left, and writes it at the start of the buffer; then takes off the lines of at most
+    /// this many of the next entries. Returns how many bytes the head has, entries of which the first are these, and
+    /// how many these are.
     fn next_part(&mut self, buffer: &mut [u8], most: usize) -> (usize, EntriesLeft<'a, S>, usize)
         requires { LONGEST_HEAD ≤ length buffer.old }
         ensures text { self.old ≡ (take result.0 buffer.new ++ lines_of S.arithmetic (take result.2 result.1)) ++ self.new }
@@ -123,7 +123,7 @@ impl<'a, S: Semiring> TextPages<'a, S> {
     }
 }
 
-/// Writes the header and the size line at the start of a buffer, if they are left, and answers how many bytes they
+/// Writes the header and the size line at the start of a buffer, if they are left, and returns how many bytes they
 /// have.
 fn put_head_if(
     is_left: bool,
@@ -143,7 +143,7 @@ fn put_head_if(
     }
 }
 
-/// Writes the header and the size line at the start of a buffer, and answers how many bytes they have.
+/// Writes the header and the size line at the start of a buffer, and returns how many bytes they have.
 fn put_head(buffer: &mut [u8], is_pattern: bool, shape: Shape, entries: usize) -> usize
     requires { LONGEST_HEAD ≤ length buffer.old }
     ensures head { take result buffer.new ≡ head_of is_pattern shape entries }

@@ -56,7 +56,7 @@ fn size_of(header: Header, rows: &Word<'_>, cols: &Word<'_>, count: &Word<'_>) -
 }
 
 impl<'a> Scanner<'a> {
-    /// The size that a line announces, whose first word is given.
+    /// The size that a line with this first word announces.
     fn size(&mut self, header: Header, first: &Word<'_>) -> Result<Size, Kind>
         ensures ok { IfOk result (λ z. (size_fault header (first.now.bytes.now ∷ words (line_at self.old.rest.now)) ≡ None) × (z ≡ size_of (first.now.bytes.now ∷ words (line_at self.old.rest.now)))) }
         ensures fault { IfErr result (λ k. size_fault header (first.now.bytes.now ∷ words (line_at self.old.rest.now)) ≡ Some k) }

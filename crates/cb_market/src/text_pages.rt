@@ -13,9 +13,8 @@ use std::marker::Model;
 
 /// What is left to write of the text of a matrix over a grid. In contracts it is these bytes.
 ///
-/// The entries are taken from the blocks as they lie, column by column, and the digits of a column are made
-/// once for the entries of it that stand in one block. The cost is that of the stored entries, and no call
-/// takes memory.
+/// The entries are taken from the blocks in place, column by column, and the digits of a column are made once for its
+/// entries in one block. The cost is that of the stored entries, and no call takes memory.
 #[derive(Drop)]
 pub struct TextPages<'a, S: Semiring> {
     pub(crate) shape: Shape,
@@ -48,8 +47,8 @@ impl<'a, S: Semiring> TextPages<'a, S> {
         }
     }
 
-    /// Writes the next lines on an emptied page, as many as there is room for, and answers whether there are
-    /// some. Where it answers false the whole text is written.
+    /// Empties a page and writes the next lines on it, as many as there is room for. Returns whether there were any; if
+    /// not, the whole text is written.
     pub fn next_page(&mut self, page: &mut Page) -> bool
         ensures page { self.old ≡ page.new ++ self.new }
         ensures some { result ≡ true → 0 < length page.new }
@@ -65,8 +64,7 @@ impl<'a, S: Semiring> TextPages<'a, S> {
     }
 }
 
-/// The entries of a matrix over a grid that are left, of which one segment may be begun. In contracts it is
-/// these entries.
+/// The entries of a matrix over a grid that are left; one segment may be partly done. In contracts it is these entries.
 #[derive(Drop)]
 pub(crate) struct EntriesLeft<'a, S: Semiring> {
     pub(crate) segment: Segment<'a>,
@@ -113,8 +111,8 @@ impl<'a, S: Semiring> EntriesLeft<'a, S> {
         }
     }
 
-    /// Writes lines of the segment that is begun, or, where it is done, of the next one: one line at least, and
-    /// as many as there is room for. Answers false where there is none.
+    /// Writes lines of the segment that is begun, or, if it is done, of the next one: at least one line, and as many as
+    /// there is room for. Returns false if there is none.
     fn put_some(&mut self, page: &mut Page) -> bool
         requires { length page.old + LINE ≤ SIZE }
         ensures lines { page.new ++ flat_map (entry_line S.arithmetic.writes_pattern) self.new ≡ page.old ++ flat_map (entry_line S.arithmetic.writes_pattern) self.old }
@@ -130,7 +128,7 @@ impl<'a, S: Semiring> EntriesLeft<'a, S> {
     }
 }
 
-/// The segment, or, where it has no entry, the next one. None where there is none either.
+/// The segment, or, if it has no entry, the next one. None if there is none either.
 pub(crate) fn begun<'a, S: Semiring>(
     segment: Segment<'a>,
     segments: &mut Segments<'a, S>,
@@ -165,7 +163,7 @@ pub(crate) fn rest_of(segment: Segment<'_>, done: usize) -> Segment<'_>
     }
 }
 
-/// Writes the lines of the entries of a segment, as many as there is room for, and answers how many.
+/// Writes the lines of the entries of a segment, as many as there is room for, and returns how many.
 fn put_segment(page: &mut Page, is_pattern: bool, segment: Segment<'_>) -> usize
     requires lengths { length segment.values.now ≡ length segment.rows.now }
     requires room { length page.old + LINE ≤ SIZE }
@@ -177,8 +175,8 @@ fn put_segment(page: &mut Page, is_pattern: bool, segment: Segment<'_>) -> usize
     put_column(page, is_pattern, top, column, segment.rows, segment.values)
 }
 
-/// Writes the lines of the entries of a column, whose rows count from `top`, as many as there is room for, and
-/// answers how many.
+/// Writes the lines of the entries of a column, whose rows count from `top`, as many as there is room for, and returns
+/// how many.
 fn put_column(
     page: &mut Page,
     is_pattern: bool,
@@ -205,7 +203,7 @@ fn put_column(
     rows.len()
 }
 
-/// Writes the line of an entry, by the digits of its column.
+/// Writes the line of an entry, with the digits of its column.
 fn put_entry(page: &mut Page, is_pattern: bool, row: u64, column: &[u8], value: u64)
     requires room { length page.old + LINE ≤ SIZE }
     requires digits { length column.now ≤ 20 }

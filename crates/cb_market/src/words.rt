@@ -7,7 +7,7 @@ ghost use Rattle.cb_market.specs.Checks.{is_name, place_in, small_in, value_in};
 use cb_matrix::LIMIT;
 use cb_semirings::Semiring;
 
-/// The number that a word writes by digits alone, after a sign or none.
+/// The number that a word of digits, after an optional sign, writes.
 #[derive(Clone, Copy)]
 pub enum Number {
     NotWhole,
@@ -25,7 +25,7 @@ pub struct Word<'a> {
 }
 
 impl<'a> Word<'a> {
-    /// Whether a line that begins by it is a comment.
+    /// Whether a line that begins with it is a comment.
     pub fn is_comment(&self) -> bool
         ensures { result ≡ is_comment self.now.bytes.now }
     {
@@ -49,7 +49,7 @@ impl<'a> Word<'a> {
         self.bytes.eq_ignore_ascii_case(name)
     }
 
-    /// Whether it is a sign or none, and digits alone.
+    /// Whether it is digits alone, after an optional sign.
     pub fn is_value(&self) -> bool
         ensures { result ≡ is_value_word self.now.bytes.now }
     {

@@ -1,4 +1,4 @@
-//! Writing a text. The lines of some entries are made on a page, and then appended.
+//! Writing a text. The lines of some entries are written on a page, which is then appended.
 ghost use Rattle.std.specs.Prelude.{◌≡◌, ◌+◌, ◌≤◌, ◌++◌, IfOk, OnOk, [], ◌∷◌, length, map, decimal, flat_map};
 ghost use Rattle.cb_market.specs.Reads.{Reads};
 ghost use Rattle.cb_market.specs.Text.{text_of, entry_line, head_of, vertex_text_of, vertex_pairs_text_of, with_value_from_one, line_of};
@@ -11,7 +11,7 @@ use std::alloc::{AllocError, Global};
 /// How many lines go to a text at once. A page has room for as many.
 const LINES: usize = 1_024;
 
-/// Which numbers of an entry its line has. Rows and columns are counted from 1.
+/// Which numbers of an entry are on its line. Rows and columns count from 1.
 #[derive(Clone, Copy)]
 enum Line {
     /// The row and the column.
@@ -23,7 +23,7 @@ enum Line {
 }
 
 impl Line {
-    /// The line of a matrix's entry, whose value is not written in a pattern.
+    /// The line of a matrix's entry; a pattern has no values.
     fn of_entry(is_pattern: bool) -> Line
         ensures { line_of result ≡ entry_line is_pattern }
     {
@@ -61,7 +61,7 @@ fn put_line(page: &mut Page, line: Line, entry: Entry)
     }
 }
 
-/// Appends the lines of at most 1,024 entries, which are made on the page.
+/// Writes the lines of at most 1,024 entries on the page, and appends them.
 fn put_page(
     text: &mut Vec<u8>,
     page: &mut Page,
@@ -108,8 +108,8 @@ pub(crate) fn put_head(page: &mut Page, is_pattern: bool, shape: Shape, entries:
     page.put(entries as u64, b'\n');
 }
 
-/// The text of a matrix: a header, a size line, and a line for each entry by column and then by row.
-/// Read again it gives the same matrix, if there are at most 2,147,483,647 entries.
+/// The text of a matrix: a header, a size line, and a line for each entry by column and then by row. It reads back as
+/// the same matrix, if there are at most 2,147,483,647 entries.
 pub fn text<S: Semiring>(alloc: Global, matrix: &Matrix<S>) -> Result<Vec<u8>, AllocError>
     ensures text { IfOk result (λ bytes. bytes.items ≡ text_of S.arithmetic matrix.now) }
     ensures law { IfOk result (λ bytes. length matrix.now.entries ≤ LIMIT → Reads S.arithmetic bytes.items matrix.now) }
@@ -125,8 +125,7 @@ pub fn text<S: Semiring>(alloc: Global, matrix: &Matrix<S>) -> Result<Vec<u8>, A
     Ok(text)
 }
 
-/// The stored entries of a vector, as a line each: the number of the vertex, counted from 1, and its
-/// value. No header.
+/// The stored entries of a vector, one line each: the number of the vertex, counted from 1, and its value. No header.
 pub fn vertex_text(alloc: Global, vector: &Matrix<MinPlus>) -> Result<Vec<u8>, AllocError>
     requires { vector.now.shape.cols ≡ 1 }
     ensures { IfOk result (λ bytes. bytes.items ≡ vertex_text_of vector.now) }
@@ -153,8 +152,8 @@ fn counted_from_one(alloc: Global, vector: &Matrix<MinPlus>) -> Result<Vec<Entry
     Ok(counted)
 }
 
-/// The stored entries of a vector whose values are vertices, as a line each: the number of the vertex and that of its
-/// value, both counted from 1. No header. It takes room for a copy of the entries beside the text.
+/// The stored entries of a vector whose values are vertices, one line each: the number of the vertex and that of its
+/// value, both counted from 1. No header. Besides the text it takes room for a copy of the entries.
 pub fn vertex_pairs_text(alloc: Global, vector: &Matrix<MinPlus>) -> Result<Vec<u8>, AllocError>
     ensures { IfOk result (λ bytes. bytes.items ≡ vertex_pairs_text_of vector.now) }
 {

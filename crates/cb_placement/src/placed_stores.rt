@@ -26,7 +26,7 @@ pub fn blank<S: Semiring>(alloc: Global, ranks: u16) -> Result<Vec<RankStore<S>>
 }
 
 /// The stores of the ranks of a grid, with the blocks of each matrix in its slot, and nothing else. The blocks are
-/// moved, and none is copied.
+/// moved, not copied.
 pub fn laid_out<S: Semiring>(
     alloc: Global,
     grid: &Grid,
@@ -66,7 +66,7 @@ pub fn fill<S: Semiring>(stores: &mut Vec<RankStore<S>>, slot: u16, blocks: Vec<
     }
 }
 
-/// Moves the blocks out of a slot of the ranks. Their other slots are as they were.
+/// Moves the blocks out of a slot of the ranks. Their other slots stay as they were.
 ///
 /// `Memory` comes before any block is moved. `Lost` names the origin of the lost block of the least rank whose slot is
 /// lost; the blocks of the ranks before it are dropped.

@@ -66,7 +66,7 @@ reads_filled state (act_is.Move from to tag slot into) = is_some (state from slo
 reads_filled state (act_is.Work rank op) = all_filled (state rank) (operands_of op)
 reads_filled state (act_is.Shut from to) = true
 
--- where something is empty, nothing is demanded of its shape
+-- if something is empty, nothing is required of its shape
 abbrev pub demand : Option Bool → Bool
 demand (Some b) = b
 demand None = true
@@ -74,7 +74,7 @@ demand None = true
 abbrev pub same_shape : Extent → Extent → Bool
 same_shape a b = (a.rows == b.rows) && (a.cols == b.cols)
 
--- the shapes that an operation asks for
+-- the shapes that an operation requires
 abbrev pub shapes_agree : (ℕ → Option Extent) → Op → Bool
 shapes_agree slots (op_is.Zero into shape) = true
 shapes_agree slots (op_is.MulAdd a b acc) = demand (three (λ a b acc. (a.cols == b.rows) && (acc.rows == a.rows) && (acc.cols == b.cols)) (slots a) (slots b) (slots acc))
@@ -130,18 +130,18 @@ all_hold f (n ∷ ns) = f n && all_hold f ns
 abbrev pub are_all_shut : ℕ → Lanes → Bool
 are_all_shut ranks shut = all_hold (λ s. all_hold (λ t. (s == t) || shut s t) (range_with_len 0 ranks)) (range_with_len 0 ranks)
 
--- the fault of this kind at act n, or else those that come later
+-- the fault of this kind at act n, or else a later one
 abbrev pub fault_or : ℕ → Option PlanFaultKind → Option PlanFault → Option PlanFault
 fault_or n (Some kind) later = Some (record { act = n; kind = kind })
 fault_or n None later = later
 
--- the first fault of the acts from number n on, where the blocks before them have these shapes
+-- the first fault of the acts from number n on, if the blocks before them have these shapes
 unfoldable pub fault_from : ℕ → ℕ → State Extent → Lanes → List Act → Option PlanFault
 fault_from ranks n state shut [] = if are_all_shut ranks shut then None else Some (record { act = n; kind = kind_is.NotShut })
 fault_from ranks n state shut (a ∷ acts) =
     fault_or n (act_fault ranks state shut a) (fault_from ranks (n + 1) (act shapes a state) (shut_after a shut) acts)
 
--- one slot more is filled
+-- one more slot is filled
 abbrev pub with_start : Start → State Extent → State Extent
 with_start s state r n = if s.rank == r && s.slot == n then Some s.shape else state r n
 

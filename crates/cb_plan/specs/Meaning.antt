@@ -20,7 +20,7 @@ pub record Algebra (M : Type 0) : Type 0 where
   pub column_sums : M → M
   -- the rows and columns from the first number of a pair up to the second
   pub cut : ℕ × ℕ → ℕ × ℕ → M → M
-  -- inside a block of a shape, its first place at a corner
+  -- inside a block of a shape, with its first place at a corner
   pub place : Extent → ℕ × ℕ → M → M
   pub mul_vec : M → M → M
   pub prune : Test → M → M

@@ -28,7 +28,7 @@ count_of (act_is.Move from to tag slot into) r = if from == r then 1 else (if to
 count_of (act_is.Work rank op) r = if rank == r then 1 else 0
 count_of (act_is.Shut from to) r = if from == r then 1 else (if to == r then 1 else 0)
 
--- the acts before the one whose half is number `done` in the program of the rank; all acts where there is none
+-- the acts before the one whose half is number `done` in the program of the rank; all acts if there is none
 abbrev pub before : List Act → ℕ → ℕ → List Act
 before [] r done = []
 before (a ∷ acts) r done = if nat_lt done (count_of a r) then [] else a ∷ before acts r (done - count_of a r)

@@ -9,7 +9,7 @@ use Rattle.cb_plan.specs.Checks.{plan_fault}
 pub record PlanView : Type 0 where
   pub ranks : ℕ
   pub acts : List Act
-  -- so many acts have room without more memory
+  -- how many acts there is room for without more memory
   pub room : ℕ
 
 pub record CheckedView : Type 0 where
@@ -18,7 +18,7 @@ pub record CheckedView : Type 0 where
   pub starts : List Start
   pub acts : List Act
 
--- two starts name two slots
+-- two starts name different slots
 abbrev pub IsElsewhere : Start → Start → Type 0
 IsElsewhere a b = (a.rank ≢ b.rank) ⊎ (a.slot ≢ b.slot)
 

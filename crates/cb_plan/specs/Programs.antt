@@ -16,7 +16,7 @@ abbrev pub take_of : ℕ → Tag → ℕ → Option Extent → List Half
 take_of from tag into (Some shape) = half_is.Take from tag into shape ∷ []
 take_of from tag into None = []
 
--- the half of an act that a rank does, where the slots before it have these shapes
+-- the half of an act that a rank does, if the slots before it have these shapes
 abbrev pub halves_of : State Extent → Act → ℕ → List Half
 halves_of state (act_is.Move from to tag slot into) r =
     if from == r then half_is.Post to tag slot ∷ [] else (if to == r then take_of from tag into (state from slot) else [])
@@ -35,7 +35,7 @@ project_from state (a ∷ acts) r = halves_of state a r ++ project_from (act sha
 abbrev pub project : List Start → List Act → ℕ → List Half
 project starts acts r = project_from (started starts) acts r
 
--- what is there of a program after the first i acts, with what the check knows then; whole has all its halves
+-- what there is of a program after the first i acts, with what the check knows then; whole has all its halves
 pub record Projects (ranks : ℕ) (acts : List Act) (r i : ℕ) (o : CheckState) (halves whole : List Half) : Type 0 where
   pub ranks_are : o.ranks ≡ ranks
   pub no_fault : fault_from ranks i (slots_in o.slots) (lanes_in o.shut) (drop i acts) ≡ None

@@ -67,7 +67,7 @@ all_stand stores (s ∷ ss) = stands stores s && all_stand stores ss
 abbrev pub count_filled : List (List (Slot Sparse)) → ℕ
 count_filled stores = sum_by (count_by is_filled) stores
 
--- a store of 256 slots for each rank; sheets stand just where the starts say, with their shapes; nothing is lost
+-- a store of 256 slots for each rank; sheets stand exactly where the starts say, with their shapes; nothing is lost
 pub record Fits (ranks : ℕ) (starts : List Start) (stores : List (List (Slot Sparse))) : Type 0 where
   pub table : IsTable ranks SLOTS stores
   pub shapes : shapes_of stores ≡ started starts

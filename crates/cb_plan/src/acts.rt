@@ -2,8 +2,7 @@
 use cb_letters::Tag;
 use cb_matrix::{Shape, Test};
 
-/// An operation on the slots of one rank. Its operands are read before its slot is set, so one slot may stand in
-/// it twice.
+/// An operation on the slots of one rank. Its operands are read before its slot is set, so it may name one slot twice.
 #[derive(Clone, Copy, Drop)]
 pub enum Op {
     /// The block of a shape without entries.
@@ -39,14 +38,14 @@ pub enum Op {
         a: u16,
         into: u16,
     },
-    /// The part in some rows and columns, each from the first number up to the second, which is not in it.
+    /// The part in a range of rows and of columns, each from the first number up to the second, which is excluded.
     Cut {
         a: u16,
         rows: (u32, u32),
         cols: (u32, u32),
         into: u16,
     },
-    /// The block inside a larger shape, its row 0 and column 0 at a row and a column of it.
+    /// The block inside a larger shape, with its row 0 and column 0 at a row and a column of that shape.
     Place {
         a: u16,
         shape: Shape,
@@ -70,7 +69,7 @@ pub enum Op {
         a: u16,
         into: u16,
     },
-    /// Nothing is left in the slot, which isn't empty before.
+    /// The slot, which isn't empty before, is emptied.
     Clear {
         slot: u16,
     },
@@ -131,7 +130,7 @@ pub enum Act {
     },
 }
 
-/// What one rank does of an act.
+/// What one rank does for an act.
 #[derive(Clone, Copy, Drop)]
 pub enum Half {
     /// It posts a copy of a slot.

@@ -72,7 +72,7 @@ impl CheckState {
 }
 
 impl CheckState {
-    /// Whether the act names ranks of the plan alone.
+    /// Whether the act names only ranks of the plan.
     fn names_ranks(&self, act: Act) -> bool
         ensures { result ≡ all_below self.now.ranks (ranks_of act) }
     {
@@ -134,7 +134,7 @@ impl CheckState {
     ghost use Rattle.cb_plan.specs.Meaning.{two};
     ghost use Rattle.cb_plan.specs.Checks.{demand};
 
-    /// The shape of two slots that have one shape.
+    /// The common shape of two slots.
     fn common_shape(&self, rank: u16, a: u16, b: u16) -> Result<Option<Shape>, PlanFaultKind>
         requires rank { rank < self.now.ranks }
         requires slots { IsTrue (all_below SLOTS (a ∷ b ∷ [])) }
@@ -146,8 +146,8 @@ impl CheckState {
         demanded(a.rows() == b.rows() && a.cols() == b.cols(), a)
     }
 
-    /// The shape of what an operation makes, or None where it leaves its slot empty. Refused are operands of
-    /// other shapes than it asks for.
+    /// The shape of what an operation makes, or None if it leaves its slot empty. Operands whose shapes aren't those
+    /// that it requires are refused.
     fn made_by(&self, rank: u16, op: Op) -> Result<Option<Shape>, PlanFaultKind>
         requires rank { rank < self.now.ranks }
         requires slots { IsTrue (all_below SLOTS (operands_of op)) }
@@ -184,7 +184,7 @@ impl CheckState {
     }
 }
 
-/// A shape, where what was demanded holds.
+/// A shape, if what is required holds.
 fn demanded(holds: bool, shape: Shape) -> Result<Option<Shape>, PlanFaultKind>
     ensures { result ≡ (if holds then Ok (Some shape) else Err PlanFaultKind.Shape) }
 {
@@ -203,14 +203,14 @@ fn sum_with_product(a: Shape, b: Shape, acc: Shape) -> Result<Option<Shape>, Pla
     demanded(agree, acc)
 }
 
-/// The shape of the product of a block and a vector, where they have one.
+/// The shape of the product of a block and a vector, if they have one.
 fn vector_product(a: Shape, x: Shape) -> Result<Option<Shape>, PlanFaultKind>
     ensures { result ≡ (if (a.cols == x.rows) && (x.cols == 1) then Ok (Some (record { rows = a.rows; cols = x.cols })) else Err PlanFaultKind.Shape) }
 {
     demanded(a.cols() == x.rows() && x.cols() == 1, a.with_columns_of(x))
 }
 
-/// The shape of these rows and columns of a shape, where it has them.
+/// The shape of these rows and columns of a shape, if it has them.
 fn part_of(shape: Shape, rows: (u32, u32), cols: (u32, u32)) -> Result<Option<Shape>, PlanFaultKind>
     ensures { result ≡ (if nat_le rows.0 rows.1 && nat_le rows.1 shape.rows && nat_le cols.0 cols.1 && nat_le cols.1 shape.cols then Ok (Some (record { rows = rows.1 - rows.0; cols = cols.1 - cols.0 })) else Err PlanFaultKind.Shape) }
 {
@@ -225,7 +225,7 @@ fn part_of(shape: Shape, rows: (u32, u32), cols: (u32, u32)) -> Result<Option<Sh
     }
 }
 
-/// Whether a shape is inside a larger one where its first place stands at a row and a column of it.
+/// Whether a shape is inside a larger one if its first place stands at a row and a column of that one.
 fn is_place(part: Shape, shape: Shape, at: (u32, u32)) -> bool
     ensures { result ≡ (nat_le (at.0 + part.rows) shape.rows && nat_le (at.1 + part.cols) shape.cols) }
 {
@@ -315,7 +315,7 @@ impl CheckState {
 impl CheckState {
     ghost use Rattle.cb_plan.specs.Checks.{IsSound};
 
-    /// Goes past an act that has no fault.
+    /// Advances past an act that has no fault.
     pub(crate) fn pass(&mut self, act: &Act)
         requires { IsSound self.old.ranks (slots_in self.old.slots) (lanes_in self.old.shut) act.now }
         ensures { DidAct act.now self.old self.new }

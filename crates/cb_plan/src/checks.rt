@@ -27,11 +27,10 @@ impl Model for CheckedPlan {
 }
 
 impl CheckedPlan {
-    /// Checks a plan: the answer is the fault of the first act that has one, and there the first in the order of
-    /// [`PlanFaultKind`]. A refused plan comes back as it was. What the starts name exists, and each slot is
-    /// named once.
+    /// Checks a plan. The fault is that of the first act that has one, and there the first in the order of
+    /// [`PlanFaultKind`]. A refused plan comes back as it was. The starts must name what exists, and each slot once.
     ///
-    /// Each act costs the same. Beside a copy of the starts the check takes room for 256 shapes a rank, and for
+    /// Each act costs the same. Besides a copy of the starts, the check takes room for 256 shapes per rank, and for
     /// each lane.
     pub fn check(
         alloc: Global,
@@ -84,8 +83,8 @@ impl CheckedPlan {
 impl Planned {
     ghost use Rattle.cb_plan.specs.Runnable.{IsRunnable};
 
-    /// The plan as one that was checked, and the slot that has each rank's part of the answer. A plan that is
-    /// proved to run isn't looked at again: its parts are moved, and no memory is taken.
+    /// The plan as one that was checked, and the slot that has each rank's part of the answer. A plan that is proved to
+    /// run isn't checked again: its parts are moved, and no memory is taken.
     pub fn into_checked(self) -> (CheckedPlan, u16)
         requires { IsRunnable self }
         ensures plan { result.0 ≡ record { ranks = self.plan.ranks; starts = self.starts.items; acts = self.plan.acts } }

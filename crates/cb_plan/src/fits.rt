@@ -11,8 +11,8 @@ impl CheckedPlan {
     /// Whether there is one store for each rank, the sheets stand just where the starts say, with their shapes,
     /// and nothing is lost.
     ///
-    /// The starts name each slot once: so where each of them finds its block, and no more slots are filled than
-    /// there are starts, nothing else is there. Costs a step for each slot and one for each start.
+    /// The starts name each slot once. So if each of them finds its block, and no more slots are filled than there are
+    /// starts, nothing else is there. Costs a step for each slot and one for each start.
     pub fn fits<S: Semiring>(&self, stores: &[RankStore<S>]) -> bool
         ensures { IsTrue result ↔ Fits self.now.ranks self.now.starts stores.now }
     {

@@ -1,16 +1,16 @@
 //! Plans: what the ranks of a grid do, act by act, and what it means.
 //!
 //! Each rank has 256 slots, and a slot is empty or holds a block. An act moves a copy of a slot from one rank to
-//! another, does one operation on the slots of one rank, or shuts the lane between two ranks for ever. The
-//! meaning of a plan is that of its acts one after the other, as if there were one thread: `specs/Meaning` says
-//! it over blocks of any kind.
+//! another, does one operation on the slots of one rank, or shuts the lane between two ranks for good. The meaning of a
+//! plan is that of its acts one after the other, as if there were one thread: `specs/Meaning` defines it over blocks of
+//! any kind.
 //!
-//! A [`Plan`] grows act by act. [`CheckedPlan::check`] finds its first fault, and does for this what the plan
-//! means, on the shapes of the blocks alone: in a plan that passes no operation meets an empty slot or a shape
-//! that it can't take, and each lane is shut once, after its last letter. A plan that its maker proves to run
-//! (`specs/Runnable`) isn't looked at again: [`Planned::into_checked`]. A checked plan is done on stores that it
-//! [`fits`](CheckedPlan::fits): by one thread, or by ranks that run apart. [`CheckedPlan::project`] gives the
-//! program of each of them; `specs/PlanLetters` says what they post to each other.
+//! A [`Plan`] grows act by act. [`CheckedPlan::check`] finds its first fault by doing the plan on the shapes of the
+//! blocks alone. In a plan that passes, no operation meets an empty slot or a wrong shape, and each lane is shut once,
+//! after its last letter. A plan that its maker proves to run (`specs/Runnable`) isn't checked again:
+//! [`Planned::into_checked`]. A checked plan is run on stores that it [`fits`](CheckedPlan::fits): by one thread, or by
+//! ranks that run apart. [`CheckedPlan::project`] gives the program of each of them; `specs/PlanLetters` says what they
+//! post to each other.
 #![tactic(auto)]
 
 mod acts;

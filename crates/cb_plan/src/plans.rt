@@ -11,7 +11,7 @@ use thiserror::Error;
 /// How many acts a plan may have.
 pub const MOST_ACTS: usize = 4_294_967_295;
 
-/// What may be wrong with a plan, in the order in which it is looked for at an act.
+/// What may be wrong with a plan, in the order in which it is checked at an act.
 #[derive(Clone, Copy, Debug, PartialEq, Eq, Error)]
 pub enum PlanFaultKind {
     /// A rank is not below the plan's number of ranks.
@@ -26,7 +26,7 @@ pub enum PlanFaultKind {
     /// A slot that is read is empty there.
     #[error("a slot that is read is empty")]
     EmptySlot,
-    /// The shapes aren't those that the operation asks for.
+    /// The shapes aren't those that the operation requires.
     #[error("shapes don't agree")]
     Shape,
     /// The lane was shut before.
@@ -38,13 +38,13 @@ pub enum PlanFaultKind {
     /// The plan has as many acts as a plan may have.
     #[error("too many acts")]
     TooLong,
-    /// There is no memory.
+    /// Memory was refused.
     #[error("out of memory")]
     Memory,
 }
 
-/// What is wrong with a plan, and at which act, counted from 0. NotShut and TooLong have the plan's length for
-/// their act, Memory has 0.
+/// What is wrong with a plan, and at which act, counted from 0. For NotShut and TooLong the act is the plan's length,
+/// for Memory it is 0.
 #[derive(Clone, Copy, Debug, PartialEq, Eq, Error)]
 #[error("act {act}: {kind}")]
 pub struct PlanFault {
@@ -91,7 +91,7 @@ impl Model for Plan {
 impl Plan {
     ghost use Rattle.cb_plan.specs.declared.plans.PlanFaultKind.TheVariants.{TooLong, Memory};
 
-    /// The plan without acts, for so many ranks. It takes no memory.
+    /// The plan without acts, for this many ranks. It takes no memory.
     pub fn new(alloc: Global, ranks: u16) -> Plan
         ensures ranks { result.ranks ≡ ranks }
         ensures acts { result.acts ≡ [] }
@@ -124,8 +124,8 @@ impl Plan {
         &self.acts
     }
 
-    /// Makes room, so that the next `count` pushes take no memory. Where there is room already, as there is for
-    /// none, nothing is taken.
+    /// Makes room, so that the next `count` pushes take no memory. If there is room already, or `count` is 0, nothing
+    /// is taken.
     pub fn reserve(&mut self, count: usize) -> Result<(), AllocError>
         ensures ranks { self.new.ranks ≡ self.old.ranks }
         ensures acts { self.new.acts ≡ self.old.acts }
@@ -137,7 +137,7 @@ impl Plan {
         Ok(())
     }
 
-    /// Appends an act. Refused are TooLong, then Memory; the plan is then as it was.
+    /// Appends an act, or is refused with TooLong, then Memory; the plan is then as it was.
     pub fn push(&mut self, act: Act) -> Result<(), PlanFault>
         ensures ranks { self.new.ranks ≡ self.old.ranks }
         ensures acts { self.new.acts ≡ (if is_ok result then self.old.acts ++ act ∷ [] else self.old.acts) }
@@ -146,7 +146,7 @@ impl Plan {
         ensures long { length self.old.acts ≡ MOST_ACTS → result ≡ Err (record { act = MOST_ACTS; kind = TooLong }) }
         ensures faults { IfErr result (λ e. (e ≡ record { act = MOST_ACTS; kind = TooLong }) ⊎ (e ≡ record { act = 0; kind = Memory })) }
     {
-        // For the borrow check alone, which knows a type that an act holds only where the body names it.
+        // For the borrow check alone, which knows a type that an act holds only if the body names it.
         let _none: Option<Op> = None;
         if self.acts.len() == MOST_ACTS {
             return Err(self.too_long());
@@ -158,7 +158,7 @@ impl Plan {
         Ok(())
     }
 
-    /// That the plan can't have more acts.
+    /// The fault that the plan can't have more acts.
     fn too_long(&self) -> PlanFault
         ensures { result ≡ record { act = length self.now.acts; kind = TooLong } }
     {
@@ -168,8 +168,8 @@ impl Plan {
         }
     }
 
-    /// Makes room for `count` acts more, so that the next pushes can't be refused. TooLong is answered before
-    /// memory is asked for, which is where there isn't room already.
+    /// Makes room for `count` more acts, so that the next pushes can't be refused. TooLong is reported before memory is
+    /// asked for, and memory is asked for only if there isn't room already.
     pub fn make_room(&mut self, count: usize) -> Result<(), PlanFault>
         ensures ranks { self.new.ranks ≡ self.old.ranks }
         ensures acts { self.new.acts ≡ self.old.acts }

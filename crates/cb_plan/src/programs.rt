@@ -1,4 +1,4 @@
-//! The program of a rank: what it does of each act of a checked plan.
+//! The program of a rank: what it does for each act of a checked plan.
 ghost use Rattle.std.specs.Prelude.{◌≡◌, ◌<◌, length, IfOk, OnOk, ◌++◌, None};
 ghost use Rattle.cb_plan.specs.Checks.{IsSound, slots_in, lanes_in};
 ghost use Rattle.cb_plan.specs.Programs.{halves_of, half_list, project};
@@ -9,10 +9,10 @@ use crate::checks::CheckedPlan;
 use std::alloc::{AllocError, Global};
 
 impl CheckedPlan {
-    /// The program of a rank: its half of each act that has one, in the plan's order. The shape of a sheet that
-    /// is taken is the one that the check gives it.
+    /// The program of a rank: its half of each act that has one, in the plan's order. A sheet that is taken has the
+    /// shape that the check gives it.
     ///
-    /// Costs the same for each act, beside the room that the check takes.
+    /// Costs the same for each act, besides the room that the check takes.
     pub fn project(&self, alloc: Global, rank: u16) -> Result<Vec<Half>, AllocError>
         requires { rank < self.now.ranks }
         ensures { IfOk result (λ halves. halves.items ≡ project self.now.starts self.now.acts rank) }
@@ -40,7 +40,7 @@ impl CheckState {
     ghost use Rattle.cb_plan.specs.Checks.{fault_from};
     ghost use Rattle.cb_plan.specs.Programs.{project_from};
 
-    /// Appends what a rank does of the acts from here on, which have no fault.
+    /// Appends what a rank does for the acts from here on, which have no fault.
     fn append_halves(
         &mut self,
         acts: &[Act],
@@ -57,7 +57,7 @@ impl CheckState {
         Ok(())
     }
 
-    /// What a rank does of an act that has no fault here.
+    /// What a rank does for an act that has no fault here.
     fn half_of(&self, act: &Act, rank: u16) -> Option<Half>
         requires { IsSound self.now.ranks (slots_in self.now.slots) (lanes_in self.now.shut) act.now }
         ensures { half_list result ≡ halves_of (slots_in self.now.slots) act.now rank }

@@ -22,7 +22,7 @@ pub enum Slot<B> {
     Empty,
     /// A block.
     Sheet(B),
-    /// What was to be there is lost: the rank at which memory was refused.
+    /// What should be there is lost: the rank at which memory was refused.
     Lost(u16),
 }
 
@@ -97,7 +97,7 @@ impl<S: Semiring> RankStore<S> {
         self.set(n, Slot::Lost(origin));
     }
 
-    /// Leaves a slot empty.
+    /// Empties a slot.
     pub fn clear(&mut self, n: u16)
         requires { n < SLOTS }
         ensures value { self.new ≡ slice_set self.old n Empty }
@@ -106,7 +106,7 @@ impl<S: Semiring> RankStore<S> {
         self.set(n, Slot::Empty);
     }
 
-    /// What is in a slot, which is left empty.
+    /// Takes what is in a slot, and leaves it empty.
     pub fn take(&mut self, n: u16) -> Slot<Block<S>>
         requires { n < SLOTS }
         ensures value { result ≡ get_or self.old n Empty }

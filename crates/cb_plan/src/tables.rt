@@ -20,7 +20,7 @@ impl<T> Model for Row<T> {
 }
 
 impl<T: Copy> Row<T> {
-    /// A row that has one value everywhere.
+    /// A row with one value everywhere.
     fn new(alloc: Global, cols: usize, blank: T) -> Result<Self, AllocError>
         ensures { IfOk result (λ row. row ≡ replicate cols blank) }
     {
@@ -63,7 +63,7 @@ impl<T> Model for Table<T> {
 }
 
 impl<T: Copy> Table<T> {
-    /// A table that has one value everywhere.
+    /// A table with one value everywhere.
     pub(crate) fn new(alloc: Global, rows: usize, cols: usize, blank: T) -> Result<Self, AllocError>
         ensures { IfOk result (λ t. t ≡ replicate rows (replicate cols blank)) }
     {

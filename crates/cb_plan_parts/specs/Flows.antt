@@ -5,7 +5,7 @@ use Rattle.cb_plan.specs.declared.acts.Act.{Act}
 use Rattle.cb_plan.specs.Meaning.{State}
 use Rattle.cb_plan.specs.Checks.{Lanes, Passes, lanes_after}
 
--- where the blocks before them have these shapes, and these lanes are shut
+-- if the blocks before them have these shapes, and these lanes are shut
 pub record Flows (ranks : ℕ) (shut : Lanes) (state : State Extent) (acts : List Act) : Type 0 where
   pub passes : Passes ranks state shut acts
   pub lanes : lanes_after acts shut ≡ shut

@@ -25,7 +25,7 @@ tagged n = record { 0 = n }
 abbrev pub each_rank : ℕ → (ℕ → Op) → List Act
 each_rank q op = map (λ r. act_is.Work r (op r)) (range_with_len 0 (q * q))
 
--- a slot of a rank is its part of a matrix of this shape that has no entries
+-- a slot of a rank becomes its part of a matrix of this shape without entries
 abbrev pub zero_op : ℕ → ℕ → Extent → ℕ → Op
 zero_op q slot shape r = op_is.Zero slot (part_shape q shape (r / q) (r % q))
 

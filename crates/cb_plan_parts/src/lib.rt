@@ -5,8 +5,8 @@
 //! blocks by the collectives of `cb_collectives` along the rows and columns of ranks, and ends when all lanes are
 //! shut ([`finish`]), which makes it a plan that can be run.
 //!
-//! `specs/PlanParts` says what these acts and starts are, `specs/Flows` what it is for acts to pass the check.
-//! The lemmas that such plans share are listed in `proofs/Lib`.
+//! `specs/PlanParts` defines these acts and starts, `specs/Flows` says when acts pass the check. `proofs/Lib` lists the
+//! lemmas that such plans share.
 #![tactic(auto)]
 
 mod endings;

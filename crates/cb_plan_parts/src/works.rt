@@ -7,7 +7,7 @@ use cb_layout::Grid;
 use cb_matrix::Shape;
 use cb_plan::{Act, Op, Plan, PlanFault};
 
-/// Every rank does an operation. Where memory is refused the plan is as it was.
+/// Every rank does an operation. If memory is refused, the plan is as it was.
 pub fn work_everywhere(plan: &mut Plan, grid: &Grid, op: &Op) -> Result<(), PlanFault>
     requires { IsWithinLimit plan.now (each_rank grid.now.side (λ _. op.now)) }
     ensures acts { OnOk result (Grew (each_rank grid.now.side (λ _. op.now)) plan.old plan.new) }
@@ -21,7 +21,7 @@ pub fn work_everywhere(plan: &mut Plan, grid: &Grid, op: &Op) -> Result<(), Plan
     Ok(())
 }
 
-/// A slot of every rank is its part of a matrix of this shape that has no entries. Where memory is refused the plan is
+/// A slot of every rank becomes its part of a matrix of this shape without entries. If memory is refused, the plan is
 /// as it was.
 pub fn zero_everywhere(
     plan: &mut Plan,

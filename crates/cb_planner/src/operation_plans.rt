@@ -13,11 +13,11 @@ use cb_plan::Planned;
 use cb_summa::{summa, summa_masked};
 use std::alloc::{AllocError, Global};
 
-/// The plan by which the ranks of a grid make what an operation makes of matrices of these shapes, which agree.
+/// The plan by which the ranks of a grid compute an operation on matrices of these shapes, which agree.
 ///
 /// The blocks of the first matrix stand in slot 0 of the ranks, those of the second in slot 1, and those of a mask in
 /// slot 7. A product by a vector is planned like one of two matrices, and the vector lies over the grid as they do. It
-/// costs memory in proportion to the acts of the plan, whatever the shapes are.
+/// takes memory in proportion to the acts of the plan, whatever the shapes are.
 pub fn plan_of(
     alloc: Global,
     grid: &Grid,

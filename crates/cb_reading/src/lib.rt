@@ -1,13 +1,13 @@
 //! Matrix Market texts, read by several threads at once.
 //!
-//! A text is parted where lines end, and parted again, until there are as many pieces as are wanted; each is read by a
-//! thread of its own, straight into blocks of a grid as long as its entries ascend. Two pieces that are read become one,
-//! block by block, until there is one. Where that is the whole text, without a fault and with as many entries as are
-//! announced, its matrix is at hand. Everything else, a fault or memory that is refused, is left to
-//! [`cb_market::read_distributed`], which goes over the text again on one thread and says what is wrong first.
+//! A text is cut where lines end, and each part again, until there are as many pieces as are wanted; each is read by a
+//! thread of its own, straight into blocks of a grid as long as its entries ascend. Neighbouring pieces are joined,
+//! block by block, until there is one. If that is the whole text, without a fault and with as many entries as are
+//! announced, its matrix is done. Anything else, a fault or refused memory, is left to [`cb_market::read_distributed`],
+//! which reads the text again on one thread and reports the first fault.
 //!
-//! Where no thread can be had its piece is read by the caller's. Beside the text memory is that of the blocks, and, while
-//! two pieces become one, that of the second again.
+//! If no thread is available, the caller's thread reads the piece. Besides the text, memory is that of the blocks, and,
+//! while two pieces are joined, that of the second again.
 #![tactic(auto)]
 
 ghost use Rattle.std.specs.Prelude.{◌≡◌, ◌<◌, ◌≤◌, IsTrue, IfOk, IfErr, IfSome, length};
@@ -24,28 +24,28 @@ use cb_semirings::Semiring;
 use std::alloc::Global;
 use std::thread::{Threads, join};
 
-/// Into how many pieces a text is parted.
+/// How many pieces a text is cut into.
 #[derive(Clone, Copy)]
 pub struct Pieces {
-    /// No more than so many.
+    /// At most this many.
     pub most: u32,
-    /// As few as have so many bytes each. Lines stay whole, so that one of two neighbours may have fewer.
+    /// As few as have this many bytes each. Lines stay whole, so one of two neighbours may have fewer.
     pub least_bytes: usize,
 }
 
 impl Pieces {
-    /// How many pieces so many bytes are parted into.
+    /// How many pieces this many bytes are cut into.
     fn of(&self, bytes: usize) -> u32 {
         let fitting = bytes / self.least_bytes.max(1);
         fitting.min(self.most as usize) as u32
     }
 }
 
-/// The matrix that a text reads as, in the blocks of a grid, or its first fault, as
-/// [`cb_market::read_distributed`] answers it. Pieces of the text are read by as many threads.
+/// The matrix that a text reads as, in the blocks of a grid, or its first fault, as [`cb_market::read_distributed`]
+/// reports it. Each piece of the text is read by a thread.
 ///
-/// Each thread goes over its piece once, and then entries are copied once, to become one with those before them. A text
-/// with a fault is read twice.
+/// Each thread goes over its piece once; then entries are copied once, to join those before them. A text with a fault
+/// is read twice.
 pub fn read_side_by_side<S: Semiring + Send + Sync, R: Threads + Sync>(
     rt: &R,
     alloc: Global,
@@ -65,8 +65,8 @@ pub fn read_side_by_side<S: Semiring + Send + Sync, R: Threads + Sync>(
     read_distributed::<S>(alloc, grid, text)
 }
 
-/// The matrix that a text reads as, in the blocks of a grid, by two threads or more. None where there would be one
-/// piece, where the text has a fault, and where memory is refused.
+/// The matrix that a text reads as, in the blocks of a grid, by two threads or more. None if there would be one piece,
+/// if the text has a fault, or if memory is refused.
 pub fn read_in_pieces<S: Semiring + Send + Sync, R: Threads + Sync>(
     rt: &R,
     alloc: Global,
@@ -97,7 +97,7 @@ pub fn read_in_pieces<S: Semiring + Send + Sync, R: Threads + Sync>(
     complete(&plan, whole)
 }
 
-/// The matrix of all entries of a text, where they are as many as are announced.
+/// The matrix of all entries of a text, if they are as many as are announced.
 fn complete<S: Semiring>(plan: &Plan, whole: Piece<S>) -> Option<DistributedMatrix<S>>
     ensures count { IfSome result (λ _. whole.lines ≡ plan.now.size.count) }
     ensures matrix { IfSome result (λ m. m ≡ record { side = whole.side; matrix = collected S.arithmetic whole.shape whole.entries }) }
@@ -112,7 +112,7 @@ fn complete<S: Semiring>(plan: &Plan, whole: Piece<S>) -> Option<DistributedMatr
     }
 }
 
-/// What all pieces of a text are read by.
+/// What reading each piece of a text needs.
 #[derive(Drop)]
 struct Plan {
     alloc: Global,
@@ -121,7 +121,7 @@ struct Plan {
     size: Size,
 }
 
-/// Of so many bytes those of the first `low` of `count` pieces.
+/// Of this many bytes, those of the first `low` of `count` pieces.
 fn share(bytes: usize, low: u32, count: u32) -> usize
     requires some { 0 < count }
     requires few { low ≤ count }
@@ -130,8 +130,8 @@ fn share(bytes: usize, low: u32, count: u32) -> usize
     bytes / count as usize * low as usize
 }
 
-/// Reads a part of the entries of a text in so many pieces. It takes room for the entries of as many bytes as `room`
-/// has: those of this part, and of the parts that are to become one with it.
+/// Reads a part of the entries of a text in this many pieces. It takes room for the entries of `room` bytes: those of
+/// this part, and of the parts that are to join it.
 fn read_part<S: Semiring + Send + Sync, R: Threads + Sync>(
     rt: &R,
     plan: &Plan,

@@ -25,7 +25,7 @@ acts_on_grid_4 = refl
 acts_on_grid_5 : acts_on 5 ≡ 1000
 acts_on_grid_5 = refl
 
--- a letter goes by each move and by each close of a lane, and is taken: these are two halves, and work is one
+-- each move and each close of a lane posts a letter, which is taken: these are two halves, and work is one
 abbrev letters : Act → ℕ
 letters (act_is.Move from to tag slot into) = 1
 letters (act_is.Work rank op) = 0

@@ -15,7 +15,7 @@ use Rattle.cb_collectives.specs.Collectives.{broadcast_acts, shut_acts}
 use Rattle.cb_plan_parts.specs.declared.first_slots.Operand.{Operand}
 use Rattle.cb_plan_parts.specs.PlanParts.{tagged, each_rank, zero_op, HasParts}
 
--- the slots that a stage's blocks come into: two stages in a row have different ones
+-- the slots that a stage's blocks arrive in: successive stages have different ones
 abbrev pub left_slot : ℕ → ℕ
 left_slot k = 3 + 2 * (k % 2)
 
@@ -54,7 +54,7 @@ result_shape a b = record { rows = a.rows; cols = b.cols }
 abbrev pub mask_op : ℕ → Op
 mask_op r = op_is.Mask 2 7 2
 
--- slot 2 of each rank gets the part of the product: nothing at first, and then the product of each stage more,
+-- slot 2 of each rank gets its part of the product: nothing at first, and then the product of one stage after another,
 -- while the blocks of the next one come
 abbrev pub product_acts : ℕ → Extent → Extent → List Act
 product_acts q a b =
@@ -81,12 +81,12 @@ abbrev pub stages_sum : {M : Type 0} → Algebra M → (ℕ → M) → (ℕ → 
 stages_sum ops left right acc zero = acc
 stages_sum ops left right acc (suc k) = ops.mul_add (left k) (right k) (stages_sum ops left right acc k)
 
--- where slots 0 and 1 have the parts of two matrices, slot 2 has in the end the parts of their product
+-- if slots 0 and 1 have the parts of two matrices, slot 2 has in the end the parts of their product
 abbrev pub MakesProduct : List Act → ℕ → Arithmetic → Sparse → Sparse → Type 0
 MakesProduct acts q s a b =
     (state : State Sparse) → HasParts s q a 0 state → HasParts s q b 1 state → HasParts s q (product s a b) 2 (meaning (matrices s) acts state)
 
--- where slot 7 has those of a mask too, slot 2 has in the end the parts of the masked product
+-- if slot 7 has those of a mask too, slot 2 has in the end the parts of the masked product
 abbrev pub MakesMaskedProduct : List Act → ℕ → Arithmetic → Sparse → Sparse → Sparse → Type 0
 MakesMaskedProduct acts q s a b m =
     (state : State Sparse) → HasParts s q a 0 state → HasParts s q b 1 state → HasParts s q m 7 state →

@@ -1,13 +1,13 @@
 //! Sparse SUMMA: the plan of a matrix product over a square grid of ranks.
 //!
-//! Rank (i, j) keeps the block of the first matrix in row part i and column part j in its slot 0, that of the
-//! second in slot 1, and that of the product in slot 2. In stage k the blocks of column k of the first matrix go
-//! along their rows of ranks, those of row k of the second along their columns, and each rank adds the product of
-//! the two that it got to slot 2. The blocks of a stage come while the one before is at work, so two stages in a
-//! row take turns with two pairs of slots: 3 and 4, 5 and 6.
+//! Rank (i, j) keeps the block of the first matrix in row part i and column part j in its slot 0, that of the second in
+//! slot 1, and that of the product in slot 2. In stage k the blocks of column k of the first matrix go along their rows
+//! of ranks, those of row k of the second along their columns, and each rank adds the product of the two that it got to
+//! slot 2. The blocks of a stage arrive while the stage before is at work, so successive stages alternate between two
+//! pairs of slots: 3 and 4, 5 and 6.
 //!
-//! On a grid of side q each rank gets 2(q-1) blocks and keeps at most seven at a time, eight with a mask, whatever
-//! the matrices are. A plan for the largest grid has 1,944 acts, 1,980 with a mask: none is near a plan's limit.
+//! On a grid of side q each rank gets 2(q-1) blocks and keeps at most seven at a time, eight with a mask, whatever the
+//! matrices are. A plan for the largest grid has 1,944 acts, 1,980 with a mask, far below a plan's limit.
 //!
 //! SUMMA is by van de Geijn and Watts (Concurrency: Practice and Experience, 1997); over sparse blocks it is in
 //! Buluç and Gilbert, Parallel sparse matrix-matrix multiplication and indexing (SIAM Journal on Scientific

@@ -13,8 +13,8 @@ use cb_plan::{Op, Plan, PlanFault, Planned};
 use cb_plan_parts::{Operand, finish, operand_starts, work_everywhere};
 use std::alloc::{AllocError, Global};
 
-/// The plan of the product of a matrix of shape `a` and one of shape `b`, under a mask of the product's shape
-/// whose blocks stand in slot 7: of the product only what is at the places of the mask's entries is kept.
+/// The plan of the product of a matrix of shape `a` and one of shape `b`, under a mask of the product's shape whose
+/// blocks stand in slot 7. The product is kept only at the places of the mask's entries.
 pub fn summa_masked(alloc: Global, grid: &Grid, a: Shape, b: Shape) -> Result<Planned, PlanFault>
     requires { a.cols ≡ b.rows }
     ensures ranks { IfOk result (λ p. p.plan.ranks ≡ grid.now.side * grid.now.side) }

@@ -13,7 +13,7 @@ use cb_plan::{Op, Plan, PlanFault};
 use cb_plan_parts::{work_everywhere, zero_everywhere};
 use std::alloc::Global;
 
-/// Slot 2 of each rank gets its block of the product. The blocks of each stage but the first come before the
+/// Slot 2 of each rank gets its block of the product. From the second stage on, the blocks of a stage come before the
 /// products of the stage before it.
 pub fn multiply(
     plan: &mut Plan,

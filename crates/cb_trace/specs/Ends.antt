@@ -1,4 +1,4 @@
--- What a trace keeps of each lane, so that what comes next is judged without a look at the earlier events.
+-- What a trace keeps of each lane, so that the next event is judged without looking at the earlier ones.
 use Rattle.std.specs.Prelude.{ℕ, ◌≡◌, ◌+◌, ◌-◌, ◌*◌, ◌<◌, ◌==◌, Bool, true, false, if◌then◌else◌, List, length, Some, slice_get, slice_index, slice_set}
 use Rattle.cb_letters.specs.declared.Letter.{Letter}
 use Rattle.cb_letters.specs.Events.{Event, Sent, posts_on, takes_on}
@@ -34,7 +34,7 @@ next_after (Closed e) place l next = next_after_post l place next
 next_after (Took e) place l next = next
 next_after (Ended e) place l next = next
 
--- the places in which a lane's event is looked up or noted are among so many
+-- the places in which a lane's event is looked up or noted are below this number
 abbrev pub IsWithin : TraceEvent → LaneEnds → ℕ → Type 0
 IsWithin (Posted e) l room = 0 < l.posted → l.newest < room
 IsWithin (Closed e) l room = 0 < l.posted → l.newest < room
@@ -48,7 +48,8 @@ module _ {P : Type 0} where
     pub found : slice_get past place ≡ Some (Sent from to letter)
     pub numbered : letter.number ≡ number
 
-  -- what is kept of the lane from one rank to another is so after these events. `next` has, at the place of a letter's post, the place at which the lane's next was posted
+  -- what is kept of the lane from one rank to another after these events. `next` has, at the place of a letter's post,
+  -- the place at which the lane's next letter was posted
   pub record AreEnds (past : List (Event P)) (next : List ℕ) (from to : ℕ) (l : LaneEnds) : Type 0 where
     pub posted : l.posted ≡ length (posts_on from to past)
     pub taken : l.taken ≡ length (takes_on from to past)
@@ -59,7 +60,7 @@ module _ {P : Type 0} where
     pub last : (p n : ℕ) → IsPost past from to p n → n + 1 ≡ l.posted → p ≡ l.newest
     pub links : (p n : ℕ) → IsPost past from to p n → n + 1 < l.posted → IsPost past from to (slice_index next p) (n + 1)
 
-  -- the lanes between so many ranks, the one from f to t as number f * ranks + t, are kept so
+  -- the lanes between this many ranks are kept so, the one from f to t as number f * ranks + t
   pub record AreLanes (ranks : ℕ) (past : List (Event P)) (next : List ℕ) (lanes : List LaneEnds) : Type 0 where
     pub count : length lanes ≡ ranks * ranks
     pub each : (f t : ℕ) (l : LaneEnds) → f < ranks → t < ranks → slice_get lanes (f * ranks + t) ≡ Some l → AreEnds past next f t l

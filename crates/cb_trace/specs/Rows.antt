@@ -37,7 +37,7 @@ not_before may = none-some (letter_in letter (Sheet tt)) may
 not_after : MayFollow (map event_of example) (event_of (Posted (record mark { number = 2 }))) → ⊥
 not_after may = false≢true (sym may.3)
 
--- the letter is taken as what it is, and not as the end of the lane
+-- the letter is taken as a letter, not as the end of the lane
 not_the_end : MayFollow (map event_of (Posted letter ∷ [])) (event_of (Ended letter)) → ⊥
 not_the_end may =
     false≢true (ap (λ (x : Letter (Unit {0})). is_close x.body) (same_Some (letter_in letter (Sheet tt)) (letter_in letter Close) may))

@@ -1,4 +1,4 @@
--- Which lists of events a trace may hold. Legal is what the rules of lanes say, over letters whose loads aren't looked at.
+-- Which lists of events a trace may hold. They must be legal by the rules of lanes, whatever the letters carry.
 use Rattle.std.specs.Prelude.{◌≡◌, ◌≢◌, ℕ, ◌<◌, ◌≤◌, ◌==◌, List, [], ◌∷◌, ◌++◌, map, filter, length, get_or, All, Result, Ok, Err}
 use Rattle.cb_letters.specs.declared.Letter.{Letter}
 use Rattle.cb_letters.specs.declared.Body.{Body}
@@ -14,7 +14,7 @@ use Rattle.cb_trace.specs.declared.traces.TraceRefusal.TheVariants.{Illegal, Roo
 abbrev pub letter_in : Envelope → Body Unit → Letter Unit
 letter_in e body = record { from = e.from; to = e.to; number = e.number; tag = e.tag; body = body }
 
--- what happened, in the words of lanes
+-- what happened, as an event of a lane
 abbrev pub event_of : TraceEvent → Event Unit
 event_of (Posted e) = Sent e.from e.to (letter_in e (Sheet tt))
 event_of (Took e) = Got e.from e.to (letter_in e (Sheet tt))
@@ -34,7 +34,7 @@ owner (Took e) = e.to
 owner (Closed e) = e.from
 owner (Ended e) = e.to
 
--- the lane from this rank to that one is between two of so many ranks
+-- the lane from this rank to that one is between two different ranks of this many
 abbrev pub IsOnLane : ℕ → Envelope → Type 0
 IsOnLane ranks e = (e.from < ranks) × (e.to < ranks) × (e.from ≢ e.to)
 
@@ -57,7 +57,7 @@ pub record IsTrace (t : TraceView) : Type 0 where
   pub lanes : AreOnLanes t.ranks t.events
   pub room : length t.events ≤ t.room
 
--- an event may be recorded next, but for the room: it is on a lane of the trace, and may follow what is there
+-- an event may be recorded next, room aside: it is on a lane of the trace, and may follow what is there
 abbrev pub MayRecord : TraceView → TraceEvent → Type 0
 MayRecord t e = IsOnLane t.ranks (envelope_of e) × MayFollow (map event_of t.events) (event_of e)
 
@@ -66,7 +66,8 @@ abbrev pub IsRefusal : TraceView → TraceEvent → TraceRefusal → Type 0
 IsRefusal t e Illegal = MayRecord t e → ⊥
 IsRefusal t e Room = MayRecord t e × (length t.events ≡ t.room)
 
--- an event that is recorded is the last of the trace that is left, at the place that is answered, and what was found stands before it; where it is refused the trace is left as it was found
+-- an event that is recorded is the last of the trace that is left, at the place that is returned, and what was found
+-- stands before it; if it is refused, the trace is left as it was found
 abbrev pub Records : TraceEvent → Result ℕ TraceRefusal → TraceView → TraceView → Type 0
 Records e (Ok place) found left = (place ≡ length found.events) × (left ≡ record found { events = found.events ++ e ∷ [] })
 Records e (Err refusal) found left = IsRefusal found e refusal × (left ≡ found)

@@ -4,11 +4,11 @@ ghost use Rattle.cb_trace.specs.Ends.{lane_after, next_after, after_post, next_a
 
 use crate::events::TraceEvent;
 
-/// A lane, as its two ends stand. Its letters make a chain through the events: from the place of the oldest that wasn't
-/// taken on, each leads to the next that was posted.
+/// The state of a lane at its two ends. Its letters form a chain through the events: from the place of the oldest that
+/// wasn't taken, each leads to the next that was posted.
 #[derive(Clone, Copy, Drop)]
 pub struct LaneEnds {
-    /// How many letters were posted, a close mark among them, and how many of them were taken.
+    /// How many letters were posted, a close mark included, and how many of them were taken.
     pub posted: u64,
     pub taken: u64,
     pub is_closed: bool,
@@ -35,8 +35,8 @@ impl LaneEnds {
         !self.is_closed && number == self.posted
     }
 
-    /// An event of this lane was recorded, at this place. `next` has, at the place of a letter's post, the place at which
-    /// the lane's next letter was posted.
+    /// Records that an event of this lane stands at this place. `next` has, at the place of a letter's post, the place
+    /// at which the lane's next letter was posted.
     pub fn record(&mut self, event: &TraceEvent, place: usize, next: &mut [usize])
         requires posted { self.old.posted + 1 < 2 ^ 64 }
         requires taken { self.old.taken + 1 < 2 ^ 64 }

@@ -4,7 +4,7 @@ ghost use Rattle.cb_trace.specs.Traces.{envelope_of, owner};
 
 use cb_letters::Tag;
 
-/// Which letter it is: the ranks that it goes from and to, its number on the lane between them, and its tag. A close
+/// Identifies a letter: the ranks that it goes from and to, its number on the lane between them, and its tag. A close
 /// mark has tag 0. (The source, the destination and the tag of a message are its envelope in MPI: A Message-Passing
 /// Interface Standard, section 3.2.3.)
 #[derive(Clone, Copy, Debug, PartialEq, Eq, Drop)]

@@ -19,9 +19,9 @@ impl SharedTrace {
         }
     }
 
-    /// Records an event as the last, and answers its place. It waits while another thread records.
+    /// Records an event as the last, and returns its place. It waits while another thread records.
     ///
-    /// The trace that it finds is what the threads that had the lock before left there. Which that is no clause says.
+    /// The trace that it finds is what the threads that had the lock before left there. No clause says which that is.
     pub fn record<R: Wait>(&self, rt: &R, event: TraceEvent) -> Result<usize, TraceRefusal>
         ensures { (found : TraceView) × (left : TraceView) × IsTrace found × IsTrace left × Records event result found left }
     {

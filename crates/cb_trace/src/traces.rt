@@ -9,10 +9,10 @@ use std::alloc::{AllocError, Global};
 use std::marker::Model;
 use thiserror::Error;
 
-/// Why an event isn't recorded, in the order in which the reasons are looked for.
+/// Why an event isn't recorded, in the order in which the reasons are checked.
 #[derive(Clone, Copy, Debug, PartialEq, Eq, Error)]
 pub enum TraceRefusal {
-    /// It may not follow the events that are there, or it is on no lane between two of the ranks.
+    /// It may not follow the events that are there, or it isn't on a lane between two of the ranks.
     #[error("not legal here")]
     Illegal,
     /// The trace is full.
@@ -20,7 +20,7 @@ pub enum TraceRefusal {
     Room,
 }
 
-/// A legal list of events of so many ranks, with room for a number of them.
+/// A legal list of events of a number of ranks, with room for a number of events.
 #[derive(Drop)]
 pub struct Trace {
     ranks: u16,
@@ -50,8 +50,8 @@ impl Model for Trace {
 }
 
 impl Trace {
-    /// An empty trace of so many ranks, with room for so many events. It takes all the memory that it will ever need:
-    /// for each event a few words, and for each two ranks.
+    /// An empty trace of this many ranks, with room for this many events. It takes all the memory that it will ever
+    /// need: a few words for each event and for each two ranks.
     pub fn with_room(alloc: Global, ranks: u16, room: usize) -> Result<Trace, AllocError>
         ensures { IfOk result (λ trace. trace ≡ record { ranks = ranks; room = room; events = [] }) }
     {
@@ -65,7 +65,7 @@ impl Trace {
         })
     }
 
-    /// Between how many ranks the lanes are.
+    /// How many ranks the lanes are between.
     pub fn ranks(&self) -> u16
         ensures { result ≡ self.now.ranks }
     {
@@ -104,8 +104,8 @@ impl Trace {
         &self.events
     }
 
-    /// Records an event as the last. It costs the same however many are there, and takes no memory. On refusal nothing
-    /// changes.
+    /// Records an event as the last. The cost doesn't depend on how many are there, and no memory is taken. A refusal
+    /// changes nothing.
     pub fn record(&mut self, event: TraceEvent) -> Result<(), TraceRefusal>
         ensures ok { IfOk result (λ _. self.new ≡ record self.old { events = self.old.events ++ event ∷ [] }) }
         ensures err { OnErr result (self.new ≡ self.old) }
@@ -132,7 +132,7 @@ impl Trace {
         envelope.from as usize * self.ranks as usize + envelope.to as usize
     }
 
-    /// Whether this event may be recorded next, but for the room.
+    /// Whether this event may be recorded next, room aside.
     fn may_record(&self, event: &TraceEvent) -> bool
         ensures { result ≡ true ↔ MayRecord self.now event.now }
     {
@@ -160,7 +160,7 @@ impl Trace {
     }
 
     /// Whether these are the ranks' own lists of what they did, one for each rank in order: the events of each in the
-    /// trace, in order, are its list. It costs a look at each event for each rank.
+    /// trace, in order, are its list. It looks at each event once for each rank.
     pub fn matches(&self, logs: &[Vec<TraceEvent>]) -> bool
         ensures { result ≡ true ↔ AreLogsOf self.now (map (λ log. log.items) logs.now) }
     {

@@ -1,4 +1,4 @@
-//! Where a thread passes before it writes a sheet.
+//! A gate that a thread passes before it writes a sheet.
 
 /// Called before each sheet of a round is written, by the thread that writes it. It may look, count and wait.
 pub trait Gate: Sync {

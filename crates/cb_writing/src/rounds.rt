@@ -12,10 +12,10 @@ use std::marker::Model;
 use std::thread;
 use std::thread::Threads;
 
-/// How many lines a sheet has room for, where there are many.
+/// How many lines a sheet has room for, if there are many.
 const LINES: usize = 65_536;
 
-/// So few lines are not worth a thread.
+/// Fewer lines aren't worth a thread.
 const FEW: usize = 16_384;
 
 /// Some sheets of a text, at least one. In contracts it is what is written on them, one after the other.
@@ -36,8 +36,8 @@ impl<'a, S: Semiring> Model for Round<'a, S> {
 }
 
 impl<'a, S: Semiring> Round<'a, S> {
-    /// Sheets for the text of a matrix, nothing written on them: one for each thread, or fewer where the matrix has
-    /// too few entries for so many. They take at most 2.9 MB each.
+    /// Empty sheets for the text of a matrix: one for each thread, or fewer if the matrix has too few entries for that
+    /// many. They take at most 2.9 MB each.
     pub fn new(
         alloc: Global,
         threads: usize,
@@ -51,8 +51,7 @@ impl<'a, S: Semiring> Round<'a, S> {
         Round::with_lines(alloc, sheets, lines, matrix)
     }
 
-    /// So many sheets for the text of a matrix, with room for so many lines each, and nothing written on them. A line
-    /// takes 43 bytes.
+    /// This many empty sheets for the text of a matrix, with room for this many lines each. A line takes 43 bytes.
     pub fn with_lines(
         alloc: Global,
         sheets: usize,
@@ -71,7 +70,7 @@ impl<'a, S: Semiring> Round<'a, S> {
         Ok(Round { sheets: blank })
     }
 
-    /// The sheets in order, on which the bytes of the round are.
+    /// The sheets in order, which hold the bytes of the round.
     pub fn sheets(&self) -> &[Sheet<'a, S>]
         ensures { written_on result.now ≡ self.now }
     {
@@ -80,9 +79,9 @@ impl<'a, S: Semiring> Round<'a, S> {
 }
 
 impl<'a, S: Semiring + Send + Sync> Round<'a, S> {
-    /// Takes the next part of a text in place of what was on the sheets, as much as they have room for, and answers
-    /// whether there is some. The sheets are written side by side, each by a thread, or by the caller's where there is
-    /// work for one alone or no other can be had. Where it answers false the whole text is written.
+    /// Takes the next part of a text in place of what was on the sheets, as much as they have room for, and returns
+    /// whether there was any; if not, the whole text is written. The sheets are written side by side, each by a thread,
+    /// or by the caller's if there is work for only one or no other is available.
     ///
     /// The caller's thread goes over the entries too, at the cost of a step for each segment.
     pub fn fill<R: Threads + Sync>(&mut self, rt: &R, text: &mut TextPages<'a, S>) -> bool
@@ -93,7 +92,7 @@ impl<'a, S: Semiring + Send + Sync> Round<'a, S> {
         self.fill_through(rt, text, &OpenGate)
     }
 
-    /// The same, where each thread passes a gate before it writes a sheet.
+    /// The same, but each thread passes a gate before it writes a sheet.
     pub fn fill_through<R: Threads + Sync, G: Gate>(
         &mut self,
         rt: &R,
@@ -111,7 +110,7 @@ impl<'a, S: Semiring + Send + Sync> Round<'a, S> {
     }
 }
 
-/// Gives each sheet in order the next part of a text, and answers how many have some of it.
+/// Gives each sheet in order the next part of a text, and returns how many have some of it.
 fn deal<'a, S: Semiring>(sheets: &mut [Sheet<'a, S>], text: &mut TextPages<'a, S>) -> usize
     ensures text { text.old ≡ dealt_to sheets.new ++ text.new }
     ensures some { 0 < result → 0 < length (dealt_to sheets.new) }
@@ -126,7 +125,7 @@ fn deal<'a, S: Semiring>(sheets: &mut [Sheet<'a, S>], text: &mut TextPages<'a, S
     dealt
 }
 
-/// Writes each sheet, in at most so many threads.
+/// Writes each sheet, in at most this many threads.
 fn write_all<'a, S: Semiring + Send + Sync, R: Threads + Sync, G: Gate>(
     rt: &R,
     sheets: &mut [Sheet<'a, S>],

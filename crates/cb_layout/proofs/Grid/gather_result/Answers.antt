@@ -1,7 +1,8 @@
 use Rattle.std.proofs.Common.{◌≡◌, ◌+◌, ◌*◌, ◌/◌, ◌%◌, ◌<◌, length, ap, sym, subst, ◌∙◌, arith}
 use Rattle.std.specs.Prelude.{All}
-use Rattle.std.proofs.lemmas.List.{get_or_read}
+use Rattle.std.proofs.lemmas.List.{get_or_read, length-map}
 use Rattle.std.proofs.lemmas.List.Elements.{All-weaker}
+use Rattle.cb_matrix.specs.declared.Entry.{Entry}
 use Rattle.cb_matrix.specs.Sparse.{Sparse}
 use Rattle.cb_matrix.specs.Values.{empty_matrix}
 use Rattle.cb_layout.specs.Blocks.{block_at}
@@ -86,3 +87,14 @@ returns-clause-cuts g c i t l k =
     ∙ pieces_all s q pos shape c.requires.column bs c.requires.count c.requires.shapes c.stored.ensures.matrices laws c.loop-rank.entries.items c.loop-rank.rank end c.loop-rank.invariant in
     pieces_are_cuts s q pos shape c.requires.column bs c.requires.count c.requires.shapes c.stored.ensures.matrices laws i t l k
     ∙ ap (λ (m : Sparse). piece_of s q m i t) (sym whole)
+
+pub append_column-requires-clause-lengths : goal.append_column-requires-clause-lengths
+append_column-requires-clause-lengths g c =
+    let es = c.index-blocks-from.result.entries in
+    ap length c.values.ensures ∙ length-map es (λ (e : Entry). e.value) ∙ sym (length-map es (λ (e : Entry). e.row)) ∙ sym (ap length c.row_numbers.ensures)
+
+pub collect-requires-clause-inside : goal.collect-requires-clause-inside
+collect-requires-clause-inside g c = c.loop-rank.invariant.inside
+
+pub collect-requires-clause-values : goal.collect-requires-clause-values
+collect-requires-clause-values g c = c.loop-rank.invariant.are_values

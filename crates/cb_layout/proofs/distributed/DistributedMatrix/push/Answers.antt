@@ -1,7 +1,7 @@
-use Rattle.std.proofs.Common.{◌≡◌, ◌≤◌, length, ap, arith}
+use Rattle.std.proofs.Common.{◌≡◌, ◌≤◌, length, ap, arith, subst, sym}
 use Rattle.std.proofs.lemmas.List.{length_push}
 use Rattle.cb_matrix.specs.Sparse.{Sparse}
-use Rattle.cb_layout.specs.Distributed.{Distributed, glued_blocks}
+use Rattle.cb_layout.specs.Distributed.{AreBlocks, Distributed, glued_blocks}
 use Rattle.cb_layout.proofs.BlockColumns.{counted_below}
 use Rattle.cb_layout.proofs.GrownBlocks.{rank_grown, inside_grown, order_grown, blocks_grown}
 use Rattle.cb_layout.proofs.distributed.DistributedMatrix.push.Goals as goal
@@ -63,3 +63,9 @@ returns-clause-ok g c =
     let both = blocks_grown s laws a.grid.side a.shape a.blocks.items c.self.invariant.0 c.args.self.now.matrix whole c.args.entry c.requires.inside c.requires.order c.requires.value c.requires.not_zero _ (rw (c.in_block-rank.ensures.rank, c.in_block-rank.ensures.entry) at c.in_ok-deliver.ensures.ok) in
     let side = ap (λ (d : Distributed). d.side) c.self.view_is in
     λ t. record { side = side t; matrix = both.1 t }
+
+pub invariant_of-self : goal.invariant_of-self
+invariant_of-self g c =
+    let s = g.S.Semiring.arithmetic in
+    let a = c.self.inside in
+    subst (λ bs. AreBlocks s a.grid.side a.shape bs × (a.len ≡ length (glued_blocks s a.grid.side a.shape bs).entries)) (sym c.in_err-deliver.ensures.err) c.self.invariant
