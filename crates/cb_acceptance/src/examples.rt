@@ -48,7 +48,7 @@ pub(crate) fn right(alloc: Global) -> Option<Matrix<PlusTimes>> {
 }
 
 /// Their product.
-pub(crate) fn product(alloc: Global) -> Option<Matrix<PlusTimes>> {
+fn product(alloc: Global) -> Option<Matrix<PlusTimes>> {
     matrix(
         alloc,
         2,
@@ -66,21 +66,39 @@ pub(crate) fn fill(stores: &mut [RankStore<PlusTimes>], slot: u16, blocks: Vec<B
     }
 }
 
+/// Empty stores for so many ranks.
+fn empty_stores(alloc: Global, ranks: u16) -> Option<Vec<RankStore<PlusTimes>>> {
+    let mut stores = Vec::new(alloc);
+    for _ in 0..ranks {
+        stores.push(RankStore::new(alloc).ok()?).ok()?;
+    }
+    Some(stores)
+}
+
+/// Puts the blocks of a matrix into a slot of each rank.
+fn lay_out(
+    alloc: Global,
+    grid: &Grid,
+    stores: &mut [RankStore<PlusTimes>],
+    slot: u16,
+    matrix: &Matrix<PlusTimes>,
+) -> Option<()> {
+    if slot >= SLOTS {
+        return None;
+    }
+    fill(stores, slot, grid.scatter(alloc, matrix).ok()?);
+    Some(())
+}
+
 /// A store for each rank, with the blocks of each matrix in its slot, and nothing else.
 pub(crate) fn laid_out(
     alloc: Global,
     grid: &Grid,
     operands: &[(u16, &Matrix<PlusTimes>)],
 ) -> Option<Vec<RankStore<PlusTimes>>> {
-    let mut stores = Vec::new(alloc);
-    for _ in 0..grid.ranks() {
-        stores.push(RankStore::new(alloc).ok()?).ok()?;
-    }
+    let mut stores = empty_stores(alloc, grid.ranks())?;
     for (slot, matrix) in operands {
-        if *slot >= SLOTS {
-            return None;
-        }
-        fill(&mut stores, *slot, grid.scatter(alloc, matrix).ok()?);
+        lay_out(alloc, grid, &mut stores, *slot, matrix)?;
     }
     Some(stores)
 }
@@ -130,7 +148,7 @@ pub(crate) fn two_by_two(alloc: Global, side: u32) -> Option<Example>
 }
 
 /// What a rank leaves of the result.
-#[derive(Clone, Copy, Debug, PartialEq, Eq, Drop)]
+#[derive(Clone, Copy, PartialEq, Drop)]
 pub(crate) enum Held {
     /// Nothing, or more than one entry.
     Other,
@@ -220,7 +238,7 @@ pub(crate) fn kept(found: &[RankStore<PlusTimes>], wanted: &[RankStore<PlusTimes
 }
 
 /// Whether the ranks of a grid leave the blocks of a matrix.
-pub(crate) fn leave(
+fn leave(
     alloc: Global,
     grid: &Grid,
     stores: &[RankStore<PlusTimes>],
@@ -239,4 +257,15 @@ pub(crate) fn leave(
         }
     }
     Some(true)
+}
+
+/// Whether the ranks of the grid of a side leave the blocks of the product of the two matrices of 2 by 2.
+pub(crate) fn leave_product(
+    alloc: Global,
+    side: u32,
+    stores: &[RankStore<PlusTimes>],
+) -> Option<bool> {
+    let grid = grid(side)?;
+    let wanted = product(alloc)?;
+    leave(alloc, &grid, stores, &wanted)
 }

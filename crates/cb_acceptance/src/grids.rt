@@ -4,7 +4,7 @@ ghost use Rattle.cb_plan.specs.Stores.{Fits};
 
 use crate::events::{ends, letters, stores_of, world};
 use crate::examples::{
-    Example, Held, fill, fitted, grid, laid_out, leave, left, matrix, one, product, product_of,
+    Example, Held, fill, fitted, grid, laid_out, leave_product, left, matrix, one, product_of,
     result_of, results, right, two_by_two,
 };
 use cb_grid_plans::grid_vector;
@@ -26,24 +26,35 @@ const SIDES: [(u32, u64, u64); 6] = [
     (6, 3564, 1620),
 ];
 
-/// Whether the product of two matrices on the grid of a side takes so many halves and letters, and the ranks leave it.
-fn finishes(alloc: Global, side: u32, halves: u64, posted: u64) -> Option<bool> {
-    let grid = grid(side)?;
+/// What the ranks leave of the product of two matrices on the grid of a side, if it takes so many halves and letters.
+fn finished(
+    alloc: Global,
+    side: u32,
+    halves: u64,
+    posted: u64,
+) -> Option<Vec<RankStore<PlusTimes>>> {
+    let ranks = grid(side)?.ranks();
     let (plan, stores) = two_by_two(alloc, side)?;
     let mut world = world(alloc, &plan, stores)?;
-    let as_said = ends(&mut world, halves);
-    let is_posted = letters(&world, grid.ranks()) == (posted, posted);
-    let stores = stores_of(world)?;
-    let wanted = product(alloc)?;
-    let is_left = leave(alloc, &grid, &stores, &wanted)?;
-    Some(as_said && is_posted && is_left)
+    if !ends(&mut world, halves) || letters(&world, ranks) != (posted, posted) {
+        return None;
+    }
+    stores_of(world)
+}
+
+/// Whether it takes so many, and they leave the product.
+fn finishes(alloc: Global, side: u32, halves: u64, posted: u64) -> Option<bool> {
+    let stores = finished(alloc, side, halves, posted)?;
+    leave_product(alloc, side, &stores)
 }
 
 #[test]
 fn worlds_finish_on_grids_of_every_side(rt: HostRuntime) {
-    for (side, halves, posted) in &SIDES {
-        let is_right = finishes(rt.alloc(), *side, *halves, *posted) == Some(true);
-        assert!(rt; is_right, "side {side}");
+    for (side, halves, posted) in SIDES {
+        assert!(rt;
+            finishes(rt.alloc(), side, halves, posted) == Some(true),
+            "side {side}"
+        );
     }
 }
 

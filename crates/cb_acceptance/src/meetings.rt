@@ -53,7 +53,7 @@ impl Pair {
 }
 
 /// How far a rank is at one of its passes.
-#[derive(Clone, Copy, Debug, PartialEq, Eq, Drop)]
+#[derive(Clone, Copy, PartialEq, Drop)]
 enum Moment {
     /// It has done nothing.
     Start,

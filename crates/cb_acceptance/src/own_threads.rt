@@ -7,7 +7,7 @@ ghost use Rattle.cb_ranks.specs.Runs.{IsNewRun};
 
 use crate::examples::{Held, product_blocks, results, two_by_two};
 use cb_dcsc::Block;
-use cb_lanes::{Desk, Gone, Settled, open, settle};
+use cb_lanes::{Desk, Settled, settle};
 use cb_letters::Capacity;
 use cb_plan::RankStore;
 use cb_ranks::{OpenGate, assemble, run_rank};
@@ -146,17 +146,4 @@ fn run_product<R: Threads + Wait + Sync>(rt: &R, alloc: Global) -> Option<(u64, 
 #[test]
 fn ranks_on_threads_of_the_test_leave_the_product(rt: HostRuntime) {
     assert!(rt; run_product(&rt, rt.alloc()) == Some((20, product_blocks())));
-}
-
-/// Whom the first of two desks finds gone, where the other is.
-fn gone<R: Wait>(rt: &R, alloc: Global) -> Option<Gone> {
-    let mut desks = open::<Block<PlusTimes>>(alloc, 2, Capacity::nearest(1)).ok()?;
-    drop(desks.pop());
-    let mut first = desks.pop()?;
-    first.take(rt, 1).err()
-}
-
-#[test]
-fn a_desk_that_is_gone_is_not_waited_for(rt: HostRuntime) {
-    assert!(rt; gone(&rt, rt.alloc()) == Some(Gone(1)));
 }

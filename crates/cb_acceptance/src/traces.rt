@@ -1,11 +1,12 @@
 //! The traces of a product's ranks in threads.
 ghost use Rattle.std.specs.Prelude.{◌<◌};
 
-use crate::examples::{grid, leave, product, two_by_two};
+use crate::examples::{grid, leave_product, two_by_two};
 use cb_letters::Capacity;
+use cb_plan::RankStore;
 use cb_rank::{Rank, Want};
 use cb_ranks::{Gate, OpenGate, run_traced};
-use cb_semirings::Semiring;
+use cb_semirings::{PlusTimes, Semiring};
 use cb_trace::{Trace, TraceEvent};
 use std::alloc::{AllocError, Global};
 use std::sync::{Mutex, Wait};
@@ -51,7 +52,21 @@ fn is_taken_again(alloc: Global, trace: &Trace) -> Option<bool> {
     Some(again.events() == trace.events())
 }
 
-/// Whether a traced run of the product on the grid of a side leaves it, and a legal trace with so many events of each kind.
+/// What the ranks of a traced run of the product on the grid of a side leave, and its trace.
+fn traced<R: Threads + Wait + Sync>(
+    rt: &R,
+    alloc: Global,
+    side: u32,
+    letters: usize,
+) -> Option<(Vec<RankStore<PlusTimes>>, Trace)> {
+    let (plan, stores) = two_by_two(alloc, side)?;
+    let capacity = Capacity::nearest(letters);
+    let (finished, trace) = run_traced(rt, alloc, &plan, stores, capacity, &OpenGate).ok()?;
+    let (stores, _refusals) = finished.into_parts();
+    Some((stores, trace))
+}
+
+/// Whether it leaves the product, and a legal trace with so many events of each kind.
 fn is_traced<R: Threads + Wait + Sync>(
     rt: &R,
     alloc: Global,
@@ -59,16 +74,10 @@ fn is_traced<R: Threads + Wait + Sync>(
     kinds: [usize; 4],
     letters: usize,
 ) -> Option<bool> {
-    let grid = grid(side)?;
-    let (plan, stores) = two_by_two(alloc, side)?;
-    let capacity = Capacity::nearest(letters);
-    let (finished, trace) = run_traced(rt, alloc, &plan, stores, capacity, &OpenGate).ok()?;
-    let (stores, _refusals) = finished.into_parts();
-    let has_kinds = trace.ranks() == grid.ranks() && kinds_of(&trace) == kinds;
-    let is_legal = is_taken_again(alloc, &trace)?;
-    let wanted = product(alloc)?;
-    let is_left = leave(alloc, &grid, &stores, &wanted)?;
-    Some(has_kinds && is_legal && is_left)
+    let ranks = grid(side)?.ranks();
+    let (stores, trace) = traced(rt, alloc, side, letters)?;
+    let has_kinds = trace.ranks() == ranks && kinds_of(&trace) == kinds;
+    Some(has_kinds && is_taken_again(alloc, &trace)? && leave_product(alloc, side, &stores)?)
 }
 
 #[test]

@@ -1,7 +1,6 @@
 //! Whole runs: what goes to each stream, and the status.
 use crate::lines::job;
-use crate::products::{FIRST, PRODUCT, SECOND};
-use crate::sinks::Short;
+use crate::products::{FIRST, PRODUCT, SECOND, Short};
 use cb_cli::endings::run;
 use cb_cli::files::{FileSource, Unreadable};
 use cb_cli::sinks::WriterSink;
@@ -64,11 +63,11 @@ fn outcome_of<R: Threads + Wait + Sync + AllocGlobal>(rt: &R, line: &str, room: 
     let alloc = rt.alloc();
     let asked = job(alloc, line);
     let mut out = WriterSink::new(Short::new(alloc, room, usize::MAX));
-    let mut errors = WriterSink::new(Vec::new(alloc));
+    let mut errors = WriterSink::new(Short::new(alloc, usize::MAX, usize::MAX));
     let status = run(rt, alloc, asked, &Table::new(alloc), &mut out, &mut errors);
     Outcome {
         out: out.into_inner().into_bytes(),
-        errors: errors.into_inner(),
+        errors: errors.into_inner().into_bytes(),
         code: status.code(),
     }
 }
@@ -155,7 +154,17 @@ fn are_told_apart(rt: HostRuntime) {
     }
 }
 
-/// Usage goes to standard error alone, help to standard output alone.
+/// Whether usage goes to standard error alone, or help to standard output alone.
+fn goes_to_its_stream<R: Threads + Wait + Sync + AllocGlobal>(
+    rt: &R,
+    line: &str,
+    is_help: bool,
+) -> bool {
+    let run = outcome_of(rt, line, usize::MAX);
+    let code = if is_help { 0 } else { 2 };
+    run.out.is_empty() != is_help && run.errors.is_empty() == is_help && run.code == code
+}
+
 #[test]
 fn of_usage_and_help_go_to_their_streams(rt: HostRuntime) {
     for (line, is_help) in [
@@ -163,23 +172,21 @@ fn of_usage_and_help_go_to_their_streams(rt: HostRuntime) {
         ("cbgrid --help", true),
         ("cbgrid multiply --help", true),
     ] {
-        let run = outcome_of(&rt, line, usize::MAX);
-        assert!(rt; run.out.is_empty() != is_help, "{line}");
-        assert!(rt; run.errors.is_empty() == is_help, "{line}");
-        assert!(rt; run.code == if is_help { 0 } else { 2 }, "{line}");
+        assert!(rt; goes_to_its_stream(&rt, line, is_help), "{line}");
     }
+}
+
+/// Whether a line writes the product, or nothing for want of memory.
+fn is_product_or_refused<R: Threads + Wait + Sync + AllocGlobal>(rt: &R, line: &str) -> bool {
+    let run = outcome_of(rt, line, usize::MAX);
+    let is_right = run.code == 0 && run.out.as_slice() == PRODUCT.as_bytes();
+    let is_refused = (run.code == 6 || run.code == 3) && run.out.is_empty();
+    is_right || is_refused
 }
 
 /// This test is also run with each of its allocations refused in turn.
 #[test]
 fn are_right_or_want_of_memory(rt: HostRuntime) {
-    for line in [
-        "cbgrid multiply a.mtx b.mtx",
-        "cbgrid multiply a.mtx b.mtx --engine plain",
-    ] {
-        let run = outcome_of(&rt, line, usize::MAX);
-        let is_right = run.code == 0 && run.out.as_slice() == PRODUCT.as_bytes();
-        let is_refused = (run.code == 6 || run.code == 3) && run.out.is_empty();
-        assert!(rt; is_right || is_refused);
-    }
+    assert!(rt; is_product_or_refused(&rt, "cbgrid multiply a.mtx b.mtx"));
+    assert!(rt; is_product_or_refused(&rt, "cbgrid multiply a.mtx b.mtx --engine plain"));
 }

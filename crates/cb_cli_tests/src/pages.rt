@@ -33,7 +33,7 @@ fn stop_where_the_writer_fails(rt: HostRuntime) -> Result<(), Fail> {
     let (column, row) = (ones(rt.alloc(), false)?, ones(rt.alloc(), true)?);
     let texts = [column.as_str(), row.as_str()];
     let whole = answer(&rt, MULTIPLY, &texts)?;
-    assert_eq!(rt; whole.len(), 97_303);
+    assert!(rt; whole.len() == 97_303);
     for room in [0, 65_000, 65_536, 97_302] {
         let is_cut = is_cut(&rt, MULTIPLY, &texts, whole.as_slice(), room, usize::MAX);
         assert!(rt; is_cut, "{room}");

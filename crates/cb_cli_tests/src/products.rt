@@ -5,8 +5,8 @@ use crate::lines::job;
 use cb_cli::execution::{JobFault, execute};
 use cb_cli::sinks::{Sink, WriterSink};
 use std::alloc::{AllocError, Global};
+use std::io::{self, Write};
 use std::sync::Wait;
-use std::test::Fail;
 use std::thread::Threads;
 
 /// The text of a matrix of integers, by its lines after the header.
@@ -30,6 +30,48 @@ const UNTIDY: &str =
     "%%MatrixMarket MATRIX Coordinate INTEGER General\r\n%\r\n\r\n3 3 3\r\n1 3 +5\r\n\t2 1 007\r\n3 2 -1";
 
 pub const SKEW: &str = "%%MatrixMarket matrix coordinate integer skew-symmetric\n2 2 1\n2 1 3\n";
+
+/// A writer that takes at most `step` bytes at a time, and `room` in all: then it fails, or if `stops` answers that it
+/// took none.
+#[derive(Drop)]
+pub struct Short {
+    room: usize,
+    step: usize,
+    pub stops: bool,
+    bytes: Vec<u8>,
+}
+
+impl Short {
+    pub fn new(alloc: Global, room: usize, step: usize) -> Short {
+        Short {
+            room,
+            step,
+            stops: false,
+            bytes: Vec::new(alloc),
+        }
+    }
+
+    /// What was taken.
+    pub fn into_bytes(self) -> Vec<u8> {
+        self.bytes
+    }
+}
+
+impl Write for Short {
+    fn write(&mut self, bytes: &[u8]) -> io::Result<usize> {
+        let count = bytes.len().min(self.room).min(self.step);
+        if count == 0 && !self.stops {
+            return Err(io::Error::from(io::ErrorKind::BrokenPipe));
+        }
+        self.bytes.extend_from_slice(&bytes[..count])?;
+        self.room -= count;
+        Ok(count)
+    }
+
+    fn flush(&mut self) -> io::Result<()> {
+        Ok(())
+    }
+}
 
 fn bytes_of(alloc: Global, texts: &[&str]) -> Result<Vec<Vec<u8>>, AllocError> {
     let mut bytes = Vec::with_capacity(alloc, texts.len())?;
@@ -67,9 +109,9 @@ pub fn answer<R: Threads + Wait + Sync + AllocGlobal>(
     line: &str,
     texts: &[&str],
 ) -> Result<Vec<u8>, JobFault> {
-    let mut out = WriterSink::new(Vec::new(rt.alloc()));
+    let mut out = WriterSink::new(Short::new(rt.alloc(), usize::MAX, usize::MAX));
     run_into(rt, line, texts, &mut out)?;
-    Ok(out.into_inner())
+    Ok(out.into_inner().into_bytes())
 }
 
 /// Whether a command line writes just this text.

@@ -1,7 +1,7 @@
 //! Jobs that have no answer: what is told, with nothing written.
 use crate::graphs::{CYCLE, WEIGHTLESS};
 use crate::lines::read_fault;
-use crate::products::{FIRST, SECOND, SKEW, run_into, text};
+use crate::products::{FIRST, SECOND, SKEW, Short, run_into, text};
 use cb_cli::execution::JobFault;
 use cb_cli::sinks::WriterSink;
 use cb_market::{Kind, ReadFault};
@@ -139,9 +139,9 @@ fn is_refused<R: Threads + Wait + Sync + AllocGlobal>(
     texts: &[&str],
     fault: JobFault,
 ) -> bool {
-    let mut out = WriterSink::new(Vec::new(rt.alloc()));
+    let mut out = WriterSink::new(Short::new(rt.alloc(), usize::MAX, usize::MAX));
     let answer = run_into(rt, line, texts, &mut out);
-    answer == Err(fault) && out.into_inner().is_empty()
+    answer == Err(fault) && out.into_inner().into_bytes().is_empty()
 }
 
 #[test]

@@ -1,8 +1,8 @@
 //! Products that are traced. The lines of a trace are read back here by the rules of lanes alone: a lane's letters are
 //! numbered from 0 on, each is posted and then taken, by its number and with its tag, and nothing follows the close.
 
-use crate::products::{FIRST, PRODUCT, SECOND, answer, text};
-use crate::sinks::{Short, write_to};
+use crate::products::{FIRST, PRODUCT, SECOND, Short, answer, text};
+use crate::sinks::write_to;
 use cb_market::read;
 use cb_semirings::PlusTimes;
 use std::alloc::{AllocError, Global};
@@ -112,20 +112,6 @@ fn is_a_trace(alloc: Global, lines: &str, ranks: usize, count: usize) -> Result<
     Ok(true)
 }
 
-/// Whether a text is a product's and then the lines of a trace of so many ranks, so many.
-fn is_traced(
-    alloc: Global,
-    text: &str,
-    product: &str,
-    ranks: usize,
-    count: usize,
-) -> Result<bool, AllocError> {
-    match text.strip_prefix(product) {
-        Some(lines) => is_a_trace(alloc, lines, ranks, count),
-        None => Ok(false),
-    }
-}
-
 /// Whether two texts read as the same entries.
 fn read_alike(alloc: Global, text: &str, product: &str) -> bool {
     let found = read::<PlusTimes>(alloc, text.as_bytes());
@@ -136,39 +122,70 @@ fn read_alike(alloc: Global, text: &str, product: &str) -> bool {
     }
 }
 
-/// Whether a command line writes a product, and then the lines of a trace of so many ranks, so many, which whoever reads
-/// the whole passes over.
-fn is_told<R: Threads + Wait + Sync + AllocGlobal>(
-    rt: &R,
-    line: &str,
-    texts: &[&str],
-    product: &str,
+/// A command line, the texts of its files, the text of the product that it writes, and how many ranks and lines the trace
+/// after it has.
+struct Traced {
+    line: &'static str,
+    texts: &'static [&'static str],
+    product: &'static str,
     ranks: usize,
     count: usize,
-) -> Result<bool, Fail> {
-    let text = String::from_utf8(answer(rt, line, texts)?).map_err(|_| "text")?;
-    let alloc = rt.alloc();
-    let is_passed_over = read_alike(alloc, text.as_str(), product);
-    Ok(is_passed_over && is_traced(alloc, text.as_str(), product, ranks, count)?)
 }
 
 /// A trace of one rank has no line.
+const TRACED: [Traced; 4] = [
+    Traced {
+        line: "cbgrid multiply a b --trace --grid 2 --lane 1",
+        texts: &[FIRST, SECOND],
+        product: PRODUCT,
+        ranks: 4,
+        count: 40,
+    },
+    Traced {
+        line: "cbgrid multiply a b --trace --grid 2 --lane 64",
+        texts: &[FIRST, SECOND],
+        product: PRODUCT,
+        ranks: 4,
+        count: 40,
+    },
+    Traced {
+        line: "cbgrid multiply a b --trace --grid 1",
+        texts: &[FIRST, SECOND],
+        product: PRODUCT,
+        ranks: 1,
+        count: 0,
+    },
+    Traced {
+        line: "cbgrid multiply a b --mask m --trace --lane 1",
+        texts: &[FIRST, SECOND, MASK],
+        product: KEPT,
+        ranks: 4,
+        count: 40,
+    },
+];
+
+/// Whether a text is a product's and then the lines of its trace, which whoever reads the whole passes over.
+fn is_told(alloc: Global, text: &str, traced: &Traced) -> Result<bool, AllocError> {
+    match text.strip_prefix(traced.product) {
+        Some(lines) if read_alike(alloc, text, traced.product) => {
+            is_a_trace(alloc, lines, traced.ranks, traced.count)
+        }
+        _ => Ok(false),
+    }
+}
+
+/// Whether a command line writes its product and then its trace.
+fn tells<R: Threads + Wait + Sync + AllocGlobal>(rt: &R, traced: &Traced) -> Result<bool, Fail> {
+    let bytes = answer(rt, traced.line, traced.texts)?;
+    let text = String::from_utf8(bytes).map_err(|_| "text")?;
+    Ok(is_told(rt.alloc(), text.as_str(), traced)?)
+}
+
 #[test]
 fn follow_the_product(rt: HostRuntime) -> Result<(), Fail> {
-    for (options, ranks, count) in [
-        ("--grid 2 --lane 1", 4, 40),
-        ("--grid 2 --lane 64", 4, 40),
-        ("--grid 1", 1, 0),
-    ] {
-        let line = format!(in rt.alloc(); "cbgrid multiply a b --trace {options}")?;
-        let texts = [FIRST, SECOND];
-        assert!(rt;
-            is_told(&rt, line.as_str(), &texts, PRODUCT, ranks, count)?,
-            "{options}"
-        );
+    for traced in &TRACED {
+        assert!(rt; tells(&rt, traced)?, "{}", traced.line);
     }
-    let line = "cbgrid multiply a b --mask m --trace --lane 1";
-    assert!(rt; is_told(&rt, line, &[FIRST, SECOND, MASK], KEPT, 4, 40)?);
     Ok(())
 }
 

@@ -58,12 +58,27 @@ fn searches_in_lists(rt: HostRuntime) {
     assert!(rt; are_searches(rt.alloc(), 6));
 }
 
-/// Whether the searches of a kept graph over or-and are right.
+/// Whether the levels of a kept graph over or-and are right.
+fn has_levels(alloc: Global, graph: &Kept) -> bool {
+    keeps(alloc, &kept_levels(alloc, graph, 0), &NEAR)
+}
+
+/// Whether its parents are.
+fn has_parents(alloc: Global, graph: &Kept) -> bool {
+    keeps(alloc, &kept_parents(alloc, graph, 0), &PARENTS)
+}
+
+/// Whether its components are.
+fn has_components(alloc: Global, graph: &Kept) -> bool {
+    keeps(alloc, &kept_components(alloc, graph), &LEAST)
+}
+
+/// Whether all that is asked of it is.
 fn are_kept_searches(alloc: Global, graph: &Kept) -> bool {
-    let near = keeps(alloc, &kept_levels(alloc, graph, 0), &NEAR);
-    let parents = keeps(alloc, &kept_parents(alloc, graph, 0), &PARENTS);
-    let least = keeps(alloc, &kept_components(alloc, graph), &LEAST);
-    near && parents && least && matches!(kept_triangles(alloc, graph), Ok(1))
+    has_levels(alloc, graph)
+        && has_parents(alloc, graph)
+        && has_components(alloc, graph)
+        && matches!(kept_triangles(alloc, graph), Ok(1))
 }
 
 /// The same of what a call keeps.

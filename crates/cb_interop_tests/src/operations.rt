@@ -282,23 +282,20 @@ static KEPT_ROWS: [(Operation, Columns); 8] = [
     ),
 ];
 
+/// What an operation makes of a kept matrix, which is each of its operands.
+fn made(alloc: Global, operation: Operation, kept: &Kept) -> Result<Kept, Fault> {
+    match operation.operand_count() {
+        1 => operate(alloc, Some(operation), &[kept]),
+        2 => operate(alloc, Some(operation), &[kept, kept]),
+        3 => operate(alloc, Some(operation), &[kept, kept, kept]),
+        _ => Err(Fault::Test),
+    }
+}
+
 /// Whether a row's operation makes what it should of a kept matrix.
 fn is_made_of_kept(alloc: Global, kept: &Kept, row: &(Operation, Columns)) -> bool {
     let (operation, wanted) = row;
-    match operation.operand_count() {
-        1 => keeps(alloc, &operate(alloc, Some(*operation), &[kept]), wanted),
-        2 => keeps(
-            alloc,
-            &operate(alloc, Some(*operation), &[kept, kept]),
-            wanted,
-        ),
-        3 => keeps(
-            alloc,
-            &operate(alloc, Some(*operation), &[kept, kept, kept]),
-            wanted,
-        ),
-        _ => false,
-    }
+    keeps(alloc, &made(alloc, *operation, kept), wanted)
 }
 
 /// Whether each row's does, of the graph.
