@@ -2,6 +2,7 @@
 //! random blocks against a slow reference, and each allocation refused in turn.
 ghost use Rattle.std.specs.Prelude.{◌↔◌, ◌<◌, All, IsTrue};
 
+use crate::samples::entries;
 use cb_dcsc::{Block, BlockFault};
 use cb_matrix::{Entry, LIMIT};
 use cb_samples::{SampleFault, block, entry};
@@ -14,6 +15,8 @@ use std::alloc::{AllocError, Global};
 const TOP: u64 = u64::MAX;
 
 const LAST: u32 = LIMIT - 1;
+
+const LAST_VALUE: u64 = LAST as u64;
 
 /// What is asked of a block.
 #[derive(Clone, Copy)]
@@ -121,18 +124,16 @@ fn all_right<S: Semiring>(alloc: Global, cases: &[Case<'_>]) -> bool {
 }
 
 /// Four by five.
-fn given() -> [Entry; 8] {
-    [
-        entry(0, 0, 1),
-        entry(2, 0, 2),
-        entry(1, 1, 3),
-        entry(3, 1, 4),
-        entry(0, 2, 5),
-        entry(2, 3, 6),
-        entry(3, 3, 7),
-        entry(0, 4, 8),
-    ]
-}
+const GIVEN: &[Entry] = entries![
+    (0, 0, 1),
+    (2, 0, 2),
+    (1, 1, 3),
+    (3, 1, 4),
+    (0, 2, 5),
+    (2, 3, 6),
+    (3, 3, 7),
+    (0, 4, 8)
+];
 
 /// The main diagonal.
 const MAIN: Diagonal = Diagonal { row: 0, column: 0 };
@@ -149,289 +150,258 @@ const LOWEST: Diagonal = Diagonal {
     column: 0,
 };
 
+/// Two by two, one entry.
+const CORNER: &[Entry] = entries![(1, 1, 5)];
+
+/// Two by three.
+const SECOND: &[Entry] = entries![(0, 0, 1), (1, 0, 2), (1, 2, 1 << 63)];
+
 /// Both triangles, with and without the main diagonal; a diagonal and what is around it; sides of 0; no entries; and the
 /// corners of the largest sides.
-#[test]
-fn entries_are_selected_by_their_place(rt: HostRuntime) {
-    let cases: [Case<'_>; 12] = [
-        (
-            Ask::Select(Region::Lower(MAIN)),
-            (4, 5),
-            &given(),
-            (4, 5),
-            &[
-                entry(0, 0, 1),
-                entry(2, 0, 2),
-                entry(1, 1, 3),
-                entry(3, 1, 4),
-                entry(3, 3, 7),
-            ],
-        ),
-        (
-            Ask::Select(Region::Upper(MAIN)),
-            (4, 5),
-            &given(),
-            (4, 5),
-            &[
-                entry(0, 0, 1),
-                entry(1, 1, 3),
-                entry(0, 2, 5),
-                entry(2, 3, 6),
-                entry(3, 3, 7),
-                entry(0, 4, 8),
-            ],
-        ),
-        (
-            Ask::Select(Region::Lower(BELOW)),
-            (4, 5),
-            &given(),
-            (4, 5),
-            &[entry(2, 0, 2), entry(3, 1, 4)],
-        ),
-        (
-            Ask::Select(Region::Upper(ABOVE)),
-            (4, 5),
-            &given(),
-            (4, 5),
-            &[entry(0, 2, 5), entry(0, 4, 8)],
-        ),
-        (
-            Ask::Select(Region::On(BELOW)),
-            (4, 5),
-            &given(),
-            (4, 5),
-            &[entry(2, 0, 2), entry(3, 1, 4)],
-        ),
-        (
-            Ask::Select(Region::On(ABOVE)),
-            (4, 5),
-            &given(),
-            (4, 5),
-            &[entry(0, 2, 5)],
-        ),
-        (
-            Ask::Select(Region::Off(MAIN)),
-            (4, 5),
-            &given(),
-            (4, 5),
-            &[
-                entry(2, 0, 2),
-                entry(3, 1, 4),
-                entry(0, 2, 5),
-                entry(2, 3, 6),
-                entry(0, 4, 8),
-            ],
-        ),
-        (Ask::Select(Region::Lower(MAIN)), (0, 0), &[], (0, 0), &[]),
-        (
-            Ask::Select(Region::Off(MAIN)),
-            (LIMIT, 3),
-            &[],
-            (LIMIT, 3),
-            &[],
-        ),
-        (
-            Ask::Select(Region::Lower(LOWEST)),
-            (LIMIT, LIMIT),
-            &[entry(0, 0, 1), entry(LAST, 0, TOP), entry(LAST, LAST, 2)],
-            (LIMIT, LIMIT),
-            &[entry(LAST, 0, TOP)],
-        ),
-        (
-            Ask::Select(Region::Upper(LOWEST)),
-            (LIMIT, LIMIT),
-            &[entry(0, 0, 1), entry(LAST, 0, TOP), entry(LAST, LAST, 2)],
-            (LIMIT, LIMIT),
-            &[entry(0, 0, 1), entry(LAST, 0, TOP), entry(LAST, LAST, 2)],
-        ),
-        (
-            Ask::Select(Region::On(MAIN)),
-            (LIMIT, LIMIT),
-            &[entry(0, 0, 1), entry(LAST, 0, TOP), entry(LAST, LAST, 2)],
-            (LIMIT, LIMIT),
-            &[entry(0, 0, 1), entry(LAST, LAST, 2)],
-        ),
-    ];
-    assert!(rt; all_right::<PlusTimes>(rt.alloc(), &cases));
-}
+const SELECTED: [Case<'static>; 12] = [
+    (
+        Ask::Select(Region::Lower(MAIN)),
+        (4, 5),
+        GIVEN,
+        (4, 5),
+        entries![(0, 0, 1), (2, 0, 2), (1, 1, 3), (3, 1, 4), (3, 3, 7)],
+    ),
+    (
+        Ask::Select(Region::Upper(MAIN)),
+        (4, 5),
+        GIVEN,
+        (4, 5),
+        entries![
+            (0, 0, 1),
+            (1, 1, 3),
+            (0, 2, 5),
+            (2, 3, 6),
+            (3, 3, 7),
+            (0, 4, 8)
+        ],
+    ),
+    (
+        Ask::Select(Region::Lower(BELOW)),
+        (4, 5),
+        GIVEN,
+        (4, 5),
+        entries![(2, 0, 2), (3, 1, 4)],
+    ),
+    (
+        Ask::Select(Region::Upper(ABOVE)),
+        (4, 5),
+        GIVEN,
+        (4, 5),
+        entries![(0, 2, 5), (0, 4, 8)],
+    ),
+    (
+        Ask::Select(Region::On(BELOW)),
+        (4, 5),
+        GIVEN,
+        (4, 5),
+        entries![(2, 0, 2), (3, 1, 4)],
+    ),
+    (
+        Ask::Select(Region::On(ABOVE)),
+        (4, 5),
+        GIVEN,
+        (4, 5),
+        entries![(0, 2, 5)],
+    ),
+    (
+        Ask::Select(Region::Off(MAIN)),
+        (4, 5),
+        GIVEN,
+        (4, 5),
+        entries![(2, 0, 2), (3, 1, 4), (0, 2, 5), (2, 3, 6), (0, 4, 8)],
+    ),
+    (Ask::Select(Region::Lower(MAIN)), (0, 0), &[], (0, 0), &[]),
+    (
+        Ask::Select(Region::Off(MAIN)),
+        (LIMIT, 3),
+        &[],
+        (LIMIT, 3),
+        &[],
+    ),
+    (
+        Ask::Select(Region::Lower(LOWEST)),
+        (LIMIT, LIMIT),
+        entries![(0, 0, 1), (LAST, 0, TOP), (LAST, LAST, 2)],
+        (LIMIT, LIMIT),
+        entries![(LAST, 0, TOP)],
+    ),
+    (
+        Ask::Select(Region::Upper(LOWEST)),
+        (LIMIT, LIMIT),
+        entries![(0, 0, 1), (LAST, 0, TOP), (LAST, LAST, 2)],
+        (LIMIT, LIMIT),
+        entries![(0, 0, 1), (LAST, 0, TOP), (LAST, LAST, 2)],
+    ),
+    (
+        Ask::Select(Region::On(MAIN)),
+        (LIMIT, LIMIT),
+        entries![(0, 0, 1), (LAST, 0, TOP), (LAST, LAST, 2)],
+        (LIMIT, LIMIT),
+        entries![(0, 0, 1), (LAST, LAST, 2)],
+    ),
+];
 
 /// Diagonals of tall, wide and square blocks, of sides of 0, without entries, and of the largest sides; and columns on
 /// diagonals.
-#[test]
-fn diagonals_are_columns(rt: HostRuntime) {
-    let cases: [Case<'_>; 8] = [
-        (
-            Ask::Diagonal,
-            (4, 5),
-            &given(),
-            (4, 1),
-            &[entry(0, 0, 1), entry(1, 0, 3), entry(3, 0, 7)],
-        ),
-        (
-            Ask::Diagonal,
-            (5, 2),
-            &[entry(0, 0, 1), entry(4, 0, 2), entry(1, 1, 3)],
-            (2, 1),
-            &[entry(0, 0, 1), entry(1, 0, 3)],
-        ),
-        (Ask::Diagonal, (0, 3), &[], (0, 1), &[]),
-        (Ask::Diagonal, (3, 3), &[], (3, 1), &[]),
-        (
-            Ask::Diagonal,
-            (LIMIT, LIMIT),
-            &[entry(LAST, 0, 1), entry(LAST, LAST, TOP)],
-            (LIMIT, 1),
-            &[entry(LAST, 0, TOP)],
-        ),
-        (
-            Ask::DiagonalMatrix,
-            (LIMIT, 1),
-            &[entry(0, 0, 3), entry(7, 0, 4), entry(LAST, 0, TOP)],
-            (LIMIT, LIMIT),
-            &[entry(0, 0, 3), entry(7, 7, 4), entry(LAST, LAST, TOP)],
-        ),
-        (Ask::DiagonalMatrix, (0, 1), &[], (0, 0), &[]),
-        (Ask::DiagonalMatrix, (4, 1), &[], (4, 4), &[]),
-    ];
-    assert!(rt; all_right::<PlusTimes>(rt.alloc(), &cases));
-}
+const DIAGONALS: [Case<'static>; 8] = [
+    (
+        Ask::Diagonal,
+        (4, 5),
+        GIVEN,
+        (4, 1),
+        entries![(0, 0, 1), (1, 0, 3), (3, 0, 7)],
+    ),
+    (
+        Ask::Diagonal,
+        (5, 2),
+        entries![(0, 0, 1), (4, 0, 2), (1, 1, 3)],
+        (2, 1),
+        entries![(0, 0, 1), (1, 0, 3)],
+    ),
+    (Ask::Diagonal, (0, 3), &[], (0, 1), &[]),
+    (Ask::Diagonal, (3, 3), &[], (3, 1), &[]),
+    (
+        Ask::Diagonal,
+        (LIMIT, LIMIT),
+        entries![(LAST, 0, 1), (LAST, LAST, TOP)],
+        (LIMIT, 1),
+        entries![(LAST, 0, TOP)],
+    ),
+    (
+        Ask::DiagonalMatrix,
+        (LIMIT, 1),
+        entries![(0, 0, 3), (7, 0, 4), (LAST, 0, TOP)],
+        (LIMIT, LIMIT),
+        entries![(0, 0, 3), (7, 7, 4), (LAST, LAST, TOP)],
+    ),
+    (Ask::DiagonalMatrix, (0, 1), &[], (0, 0), &[]),
+    (Ask::DiagonalMatrix, (4, 1), &[], (4, 4), &[]),
+];
 
 /// Constants, sums, products and numbers of rows and columns, where those that are zero aren't stored.
-#[test]
-fn values_are_replaced(rt: HostRuntime) {
-    let cases: [Case<'_>; 8] = [
-        (
-            Ask::Apply(Function::Constant(9)),
-            (2, 2),
-            &[entry(0, 0, 1), entry(1, 1, TOP)],
-            (2, 2),
-            &[entry(0, 0, 9), entry(1, 1, 9)],
-        ),
-        (
-            Ask::Apply(Function::Constant(0)),
-            (2, 2),
-            &[entry(0, 0, 1), entry(1, 1, TOP)],
-            (2, 2),
-            &[],
-        ),
-        (
-            Ask::Apply(Function::Sum(1)),
-            (2, 2),
-            &[entry(0, 0, 1), entry(1, 1, TOP)],
-            (2, 2),
-            &[entry(0, 0, 2)],
-        ),
-        (
-            Ask::Apply(Function::LeftProduct(3)),
-            (2, 2),
-            &[entry(0, 0, 1), entry(1, 1, TOP)],
-            (2, 2),
-            &[entry(0, 0, 3), entry(1, 1, TOP - 2)],
-        ),
-        (
-            Ask::Apply(Function::RightProduct(1 << 63)),
-            (2, 2),
-            &[entry(0, 0, 2), entry(1, 1, 3)],
-            (2, 2),
-            &[entry(1, 1, 1 << 63)],
-        ),
-        (
-            Ask::Apply(Function::Row),
-            (LIMIT, 2),
-            &[entry(0, 0, 2), entry(LAST, 0, 3), entry(1, 1, 3)],
-            (LIMIT, 2),
-            &[entry(LAST, 0, u64::from(LAST)), entry(1, 1, 1)],
-        ),
-        (
-            Ask::Apply(Function::Column),
-            (2, LIMIT),
-            &[entry(0, 0, 2), entry(1, 1, 3), entry(0, LAST, 3)],
-            (2, LIMIT),
-            &[entry(1, 1, 1), entry(0, LAST, u64::from(LAST))],
-        ),
-        (Ask::Apply(Function::Row), (0, 0), &[], (0, 0), &[]),
-    ];
-    assert!(rt; all_right::<PlusTimes>(rt.alloc(), &cases));
-}
+const REPLACED: [Case<'static>; 8] = [
+    (
+        Ask::Apply(Function::Constant(9)),
+        (2, 2),
+        entries![(0, 0, 1), (1, 1, TOP)],
+        (2, 2),
+        entries![(0, 0, 9), (1, 1, 9)],
+    ),
+    (
+        Ask::Apply(Function::Constant(0)),
+        (2, 2),
+        entries![(0, 0, 1), (1, 1, TOP)],
+        (2, 2),
+        &[],
+    ),
+    (
+        Ask::Apply(Function::Sum(1)),
+        (2, 2),
+        entries![(0, 0, 1), (1, 1, TOP)],
+        (2, 2),
+        entries![(0, 0, 2)],
+    ),
+    (
+        Ask::Apply(Function::LeftProduct(3)),
+        (2, 2),
+        entries![(0, 0, 1), (1, 1, TOP)],
+        (2, 2),
+        entries![(0, 0, 3), (1, 1, TOP - 2)],
+    ),
+    (
+        Ask::Apply(Function::RightProduct(1 << 63)),
+        (2, 2),
+        entries![(0, 0, 2), (1, 1, 3)],
+        (2, 2),
+        entries![(1, 1, 1 << 63)],
+    ),
+    (
+        Ask::Apply(Function::Row),
+        (LIMIT, 2),
+        entries![(0, 0, 2), (LAST, 0, 3), (1, 1, 3)],
+        (LIMIT, 2),
+        entries![(LAST, 0, LAST_VALUE), (1, 1, 1)],
+    ),
+    (
+        Ask::Apply(Function::Column),
+        (2, LIMIT),
+        entries![(0, 0, 2), (1, 1, 3), (0, LAST, 3)],
+        (2, LIMIT),
+        entries![(1, 1, 1), (0, LAST, LAST_VALUE)],
+    ),
+    (Ask::Apply(Function::Row), (0, 0), &[], (0, 0), &[]),
+];
 
 /// Rows and columns in another order, left out and more than once; none; and the last of the largest sides.
-#[test]
-fn rows_and_columns_are_extracted(rt: HostRuntime) {
-    let cases: [Case<'_>; 5] = [
-        (
-            Ask::Extract(&[3, 0, 0], &[3, 1, 3, 0]),
-            (4, 5),
-            &given(),
-            (3, 4),
-            &[
-                entry(0, 0, 7),
-                entry(0, 1, 4),
-                entry(0, 2, 7),
-                entry(1, 3, 1),
-                entry(2, 3, 1),
-            ],
-        ),
-        (Ask::Extract(&[], &[1, 1]), (4, 5), &given(), (0, 2), &[]),
-        (Ask::Extract(&[2], &[]), (4, 5), &given(), (1, 0), &[]),
-        (Ask::Extract(&[], &[]), (0, 0), &[], (0, 0), &[]),
-        (
-            Ask::Extract(&[LAST, 0], &[0, LAST]),
-            (LIMIT, LIMIT),
-            &[entry(LAST, 0, 1), entry(LAST, LAST, TOP)],
-            (2, 2),
-            &[entry(0, 0, 1), entry(0, 1, TOP)],
-        ),
-    ];
-    assert!(rt; all_right::<PlusTimes>(rt.alloc(), &cases));
-}
+const EXTRACTED: [Case<'static>; 5] = [
+    (
+        Ask::Extract(&[3, 0, 0], &[3, 1, 3, 0]),
+        (4, 5),
+        GIVEN,
+        (3, 4),
+        entries![(0, 0, 7), (0, 1, 4), (0, 2, 7), (1, 3, 1), (2, 3, 1)],
+    ),
+    (Ask::Extract(&[], &[1, 1]), (4, 5), GIVEN, (0, 2), &[]),
+    (Ask::Extract(&[2], &[]), (4, 5), GIVEN, (1, 0), &[]),
+    (Ask::Extract(&[], &[]), (0, 0), &[], (0, 0), &[]),
+    (
+        Ask::Extract(&[LAST, 0], &[0, LAST]),
+        (LIMIT, LIMIT),
+        entries![(LAST, 0, 1), (LAST, LAST, TOP)],
+        (2, 2),
+        entries![(0, 0, 1), (0, 1, TOP)],
+    ),
+];
 
 /// Each entry of the first block becomes a copy of the second, scaled; where a product is zero nothing is stored; sides of
 /// 0; and the most rows that there may be.
+const KRONECKER: [Case<'static>; 4] = [
+    (
+        Ask::Kronecker((2, 3), SECOND),
+        (2, 2),
+        entries![(1, 0, 3), (0, 1, 2)],
+        (4, 6),
+        entries![(2, 0, 3), (3, 0, 6), (3, 2, 1 << 63), (0, 3, 2), (1, 3, 4)],
+    ),
+    (Ask::Kronecker((0, 3), &[]), (2, 2), CORNER, (0, 6), &[]),
+    (Ask::Kronecker((2, 3), &[]), (2, 2), CORNER, (4, 6), &[]),
+    (
+        Ask::Kronecker((LIMIT, 1), entries![(0, 0, 2), (LAST, 0, 3)]),
+        (1, 2),
+        entries![(0, 1, TOP)],
+        (LIMIT, 2),
+        entries![(0, 1, TOP - 1), (LAST, 1, TOP - 2)],
+    ),
+];
+
 #[test]
-fn products_of_kronecker(rt: HostRuntime) {
-    let second = [entry(0, 0, 1), entry(1, 0, 2), entry(1, 2, 1 << 63)];
-    let cases: [Case<'_>; 4] = [
-        (
-            Ask::Kronecker((2, 3), &second),
-            (2, 2),
-            &[entry(1, 0, 3), entry(0, 1, 2)],
-            (4, 6),
-            &[
-                entry(2, 0, 3),
-                entry(3, 0, 6),
-                entry(3, 2, 1 << 63),
-                entry(0, 3, 2),
-                entry(1, 3, 4),
-            ],
-        ),
-        (
-            Ask::Kronecker((0, 3), &[]),
-            (2, 2),
-            &given_corner(),
-            (0, 6),
-            &[],
-        ),
-        (
-            Ask::Kronecker((2, 3), &[]),
-            (2, 2),
-            &given_corner(),
-            (4, 6),
-            &[],
-        ),
-        (
-            Ask::Kronecker((LIMIT, 1), &[entry(0, 0, 2), entry(LAST, 0, 3)]),
-            (1, 2),
-            &[entry(0, 1, TOP)],
-            (LIMIT, 2),
-            &[entry(0, 1, TOP - 1), entry(LAST, 1, TOP - 2)],
-        ),
-    ];
-    assert!(rt; all_right::<PlusTimes>(rt.alloc(), &cases));
+fn entries_are_selected_by_their_place(rt: HostRuntime) {
+    assert!(rt; all_right::<PlusTimes>(rt.alloc(), &SELECTED));
 }
 
-/// Two by two, one entry.
-fn given_corner() -> [Entry; 1] {
-    [entry(1, 1, 5)]
+#[test]
+fn diagonals_are_columns(rt: HostRuntime) {
+    assert!(rt; all_right::<PlusTimes>(rt.alloc(), &DIAGONALS));
+}
+
+#[test]
+fn values_are_replaced(rt: HostRuntime) {
+    assert!(rt; all_right::<PlusTimes>(rt.alloc(), &REPLACED));
+}
+
+#[test]
+fn rows_and_columns_are_extracted(rt: HostRuntime) {
+    assert!(rt; all_right::<PlusTimes>(rt.alloc(), &EXTRACTED));
+}
+
+#[test]
+fn products_of_kronecker(rt: HostRuntime) {
+    assert!(rt; all_right::<PlusTimes>(rt.alloc(), &KRONECKER));
 }
 
 /// A number that follows from another without a pattern that matters here.
@@ -625,38 +595,38 @@ fn is_right_or_wants_memory(alloc: Global, case: &Case<'_>) -> bool {
     }
 }
 
+/// Two by two over min-plus, with a path of length 0.
+const SMALL: &[Entry] = entries![(0, 0, 4), (1, 1, 0)];
+
+/// Its diagonal.
+const SMALL_COLUMN: &[Entry] = entries![(0, 0, 4), (1, 0, 0)];
+
+/// Each call, where little is made.
+const REFUSED: [Case<'static>; 6] = [
+    (
+        Ask::Select(Region::Lower(MAIN)),
+        (2, 2),
+        SMALL,
+        (2, 2),
+        SMALL,
+    ),
+    (Ask::Apply(Function::Sum(9)), (2, 2), SMALL, (2, 2), SMALL),
+    (Ask::Diagonal, (2, 2), SMALL, (2, 1), SMALL_COLUMN),
+    (Ask::DiagonalMatrix, (2, 1), SMALL_COLUMN, (2, 2), SMALL),
+    (Ask::Extract(&[0, 1], &[0, 1]), (2, 2), SMALL, (2, 2), SMALL),
+    (
+        Ask::Kronecker((1, 1), entries![(0, 0, 0)]),
+        (2, 2),
+        SMALL,
+        (2, 2),
+        SMALL,
+    ),
+];
+
 /// Passes whichever single allocation is refused (`rt try --test --fail-alloc N`, for each N in turn).
 #[test]
 fn refused_memory_is_said(rt: HostRuntime) {
-    let given = [entry(0, 0, 4), entry(1, 1, 0)];
-    let column = [entry(0, 0, 4), entry(1, 0, 0)];
-    let cases: [Case<'_>; 6] = [
-        (
-            Ask::Select(Region::Lower(MAIN)),
-            (2, 2),
-            &given,
-            (2, 2),
-            &given,
-        ),
-        (Ask::Apply(Function::Sum(9)), (2, 2), &given, (2, 2), &given),
-        (Ask::Diagonal, (2, 2), &given, (2, 1), &column),
-        (Ask::DiagonalMatrix, (2, 1), &column, (2, 2), &given),
-        (
-            Ask::Extract(&[0, 1], &[0, 1]),
-            (2, 2),
-            &given,
-            (2, 2),
-            &given,
-        ),
-        (
-            Ask::Kronecker((1, 1), &[entry(0, 0, 0)]),
-            (2, 2),
-            &given,
-            (2, 2),
-            &given,
-        ),
-    ];
-    for case in &cases {
+    for case in &REFUSED {
         assert!(rt; is_right_or_wants_memory(rt.alloc(), case));
     }
 }
