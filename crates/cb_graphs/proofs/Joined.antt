@@ -3,7 +3,7 @@ use Rattle.std.proofs.Common.{◌≡◌, ◌≢◌, ℕ, ◌<◌, ◌≤◌, tru
 use Rattle.std.specs.Prelude.{All, AllPairs, Contains, ◌==◌}
 use Rattle.std.proofs.lemmas.Bool.{cases_eq, cases_lt, eq-eqb, eqb-true}
 use Rattle.std.proofs.lemmas.List.{length-map, get_or_default}
-use Rattle.std.proofs.lemmas.List.Elements.{All-nil, All-cons, All-head, All-filter, All-weaker, All-get_or, Contains-get_or, filter_passes}
+use Rattle.std.proofs.lemmas.List.Elements.{All-nil, All-cons, All-head, All-filter, All-weaker, All-get_or, All-contains, Contains-get_or, filter_passes}
 use Rattle.std.proofs.lemmas.Option.{none-some, same_Some}
 use Rattle.cb_semirings.specs.Tables.{min_plus, or_and}
 use Rattle.cb_matrix.specs.declared.Entry.{Entry}
@@ -108,3 +108,11 @@ components_are a both d is column shape values = record {
       });
   none = λ v bare. values v ∙ ⊎_elim (λ (q : d v ≡ infinite). q) (λ (some : d v ≡ infinite → ⊥). absurd (bare (is.labels.entered v some))) (cases_eq (d v) infinite);
 }
+
+-- where each column that has entries has them in the other direction too, so have all
+pub meet_all : (s : Sparse) (is : IsMatrix or_and s) (vs : List ℕ) → All (λ e. Contains vs e.column) s.entries → ((k : ℕ) → k < length vs → All (λ u. at or_and s (get_or vs k 0) u ≢ 0) (rows_of (in_column (get_or vs k 0) s.entries))) → IsUndirected s
+meet_all s is vs held met u v edge =
+    let there : Contains vs v = edge_listed s is vs held u v edge in
+    let here : get_or vs there.0 0 ≡ v = get_or_default vs there.0 0 v there.1 ∙ there.2 in
+    All-contains (λ u. at or_and s v u ≢ 0) (rows_of (in_column v s.entries)) u
+    (subst (λ (w : ℕ). All (λ u. at or_and s w u ≢ 0) (rows_of (in_column w s.entries))) here (met there.0 there.1)) (edge_row s is u v edge)

@@ -1,12 +1,12 @@
 -- A square matrix and its transposed one, added: it has each entry in both directions.
-use Rattle.std.proofs.Common.{◌≡◌, ℕ, ◌<◌, ◌≤◌, ⊎_elim, ◌∙◌, arith}
+use Rattle.std.proofs.Common.{◌≡◌, ℕ, ◌<◌, ◌≤◌, ⊎_elim, ap, ◌∙◌, arith}
 use Rattle.std.specs.Prelude.{max}
-use Rattle.std.proofs.lemmas.Bool.{cases_lt}
+use Rattle.std.proofs.lemmas.Bool.{cases_eq, cases_lt}
 use Rattle.cb_semirings.specs.Tables.{or_and}
 use Rattle.cb_semirings.specs.Laws.{or_and_is_semiring}
-use Rattle.cb_matrix.specs.Sparse.{Sparse, IsMatrix, at}
+use Rattle.cb_matrix.specs.Sparse.{Sparse, Extent, IsMatrix, at}
 use Rattle.cb_matrix.specs.Operations.{transposed}
-use Rattle.cb_matrix.proofs.Made.{at-matrix_of, at-outside, IsMatrix-matrix_of}
+use Rattle.cb_matrix.proofs.Made.{at-matrix_of, at-outside, shape-matrix_of, same_matrix, IsMatrix-matrix_of}
 use Rattle.cb_matrix.proofs.Totals.{value_at-value}
 use Rattle.cb_graphs.specs.Components.{undirected}
 use Rattle.cb_graphs.specs.Floods.{IsUndirected}
@@ -43,3 +43,19 @@ module _ (a : Sparse) (is : IsMatrix or_and a) (square : a.shape.rows ≡ a.shap
       (cases_lt v a.shape.rows))
       (λ (l : a.shape.rows ≤ u). absurd (some (outside u v (λ m _. omega arith))))
       (cases_lt u a.shape.rows)
+
+  -- where each entry has one in the other direction already, it is the matrix
+  pub undirected_same : IsUndirected a → undirected a ≡ a
+  undirected_same both =
+      same_matrix or_and (undirected a) a undirected_matrix is (shape-matrix_of or_and a.shape (λ i j. max (at or_and a i j) (at or_and (transposed or_and a) i j)))
+      (λ i j l k.
+      let e : (undirected a).shape ≡ a.shape = shape-matrix_of or_and a.shape (λ i j. max (at or_and a i j) (at or_and (transposed or_and a) i j)) in
+      let li : i < a.shape.rows = omega (arith, l, ap (λ (x : Extent). x.rows) e) in
+      let lj : j < a.shape.rows = omega (arith, k, square, ap (λ (x : Extent). x.cols) e) in
+      undirected_at i j li lj ∙ ⊎_elim
+      (λ (none : at or_and a i j ≡ 0). ⊎_elim
+      (λ (back : at or_and a j i ≡ 0). omega (arith, none, back))
+      (λ (some : at or_and a j i ≡ 0 → ⊥). absurd (both j i some none))
+      (cases_eq (at or_and a j i) 0))
+      (λ (some : at or_and a i j ≡ 0 → ⊥). omega (arith, some, bit i j, bit j i))
+      (cases_eq (at or_and a i j) 0))

@@ -5,6 +5,9 @@
 #![tactic(auto)]
 
 mod connected;
+mod marks;
+mod neighbours;
+mod symmetry;
 mod triangle_counts;
 
 pub use connected::components;
