@@ -1,5 +1,6 @@
--- RuleLaws: rules, and what they make of zeros and values. Walks: a cursor, and what is past a place.
--- Progress: what has been made of two blocks so far.
+-- RuleLaws: rules applied to zeros and to values. Walks: a cursor, and what is past a place.
+-- Progress: the state of a joint walk over two blocks. Complements: what the complement of a mask allows.
 pub mod RuleLaws
 pub mod Walks
 pub mod Progress
+pub mod Complements

@@ -1,14 +1,18 @@
--- Rules, and what they make of two zeros, and of values.
+-- Rules applied to two zeros, and to values.
 use Rattle.std.specs.Prelude.{◌≡◌, ℕ, Bool, true, false, cond, not, ◌==◌, refl}
 use Rattle.cb_semirings.specs.Arithmetic.{Arithmetic, IsValue, IsSemiring}
 use Rattle.cb_matrix.specs.declared.passing.Test.{Test}
 use Rattle.cb_matrix.specs.Passing.{passes}
 
--- the first value where the second is other than z, and z elsewhere
+-- the first value if the second isn't z, or else z
 abbrev pub where_stored : ℕ → ℕ → ℕ → ℕ
 where_stored z x y = cond (not (y == z)) x z
 
--- the value, or z where it passes the test
+-- the first value if the second is z, otherwise z
+abbrev pub where_absent : ℕ → ℕ → ℕ → ℕ
+where_absent z x y = cond (not (y == z)) z x
+
+-- the value, or z if it passes the test
 abbrev pub unless_passes : ℕ → Test → ℕ → ℕ
 unless_passes z test x = cond (passes test x) z x
 
@@ -25,6 +29,12 @@ where_stored-zero z = same_twice (not (z == z)) z
 
 pub where_stored-value : (s : Arithmetic) → IsSemiring s → (x y : ℕ) → IsValue s x → IsValue s (where_stored s.zero x y)
 where_stored-value s laws x y h = either s (not (y == s.zero)) x s.zero h laws.zero_value
+
+pub where_absent-zero : (z : ℕ) → where_absent z z z ≡ z
+where_absent-zero z = same_twice (not (z == z)) z
+
+pub where_absent-value : (s : Arithmetic) → IsSemiring s → (x y : ℕ) → IsValue s x → IsValue s (where_absent s.zero x y)
+where_absent-value s laws x y h = either s (not (y == s.zero)) s.zero x laws.zero_value h
 
 pub unless_passes-zero : (z : ℕ) (test : Test) → unless_passes z test z ≡ z
 unless_passes-zero z test = same_twice (passes test z) z

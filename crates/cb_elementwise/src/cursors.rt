@@ -1,7 +1,6 @@
 //! A walk over the entries of a block, by column and then by row.
 //!
-//! A cursor counts the columns that it has passed beside the entries, so that each step takes a few instructions
-//! and no search.
+//! A cursor counts columns as well as entries, so each step takes a few instructions and no search.
 ghost use Rattle.std.specs.Prelude.{◌≡◌, ℕ, ◌<◌, ◌+◌, length, drop, Option};
 ghost use Rattle.cb_matrix.specs.declared.Entry.{Entry};
 ghost use Rattle.cb_dcsc.specs.Columns.{columns_with_entries};
@@ -12,19 +11,19 @@ use cb_dcsc::Block;
 use cb_matrix::Entry;
 use cb_semirings::Semiring;
 
-/// The place of an entry among those of a block, or past them all.
+/// A position among the entries of a block, or past the last of them.
 #[derive(Clone, Copy)]
 pub(crate) struct Cursor {
-    /// Which of the columns that have entries it is in.
+    /// The column that it is in, among those that have entries.
     nth: usize,
-    /// Which of all entries it is at.
+    /// The entry that it is at, among all.
     at: usize,
     /// Where the entries of its column end.
     end: usize,
 }
 
 impl Cursor {
-    /// At the first entry.
+    /// A cursor at the first entry.
     pub(crate) fn start<S: Semiring>(block: &Block<S>) -> Cursor
         ensures stands { Stands block.now.entries result }
         ensures all { drop result.at block.now.entries ≡ block.now.entries }
@@ -36,7 +35,7 @@ impl Cursor {
         }
     }
 
-    /// The entry that it is at.
+    /// The entry that it is at, if any.
     pub(crate) fn entry<S: Semiring>(&self, block: &Block<S>) -> Option<Entry>
         requires { Stands block.now.entries self.now }
         ensures { result ≡ first_of (drop self.now.at block.now.entries) }
@@ -52,7 +51,7 @@ impl Cursor {
         }
     }
 
-    /// At the entry after this one.
+    /// A cursor at the next entry.
     fn next<S: Semiring>(&self, block: &Block<S>) -> Cursor
         requires stands { Stands block.now.entries self.now }
         requires some { self.now.at < length block.now.entries }
@@ -72,7 +71,7 @@ impl Cursor {
         }
     }
 
-    /// The value of the entry that it is at, if that has this place, and then the cursor moves on; or else zero.
+    /// If the entry that it is at has this place, moves on and returns the entry's value. Otherwise returns zero.
     pub(crate) fn take<S: Semiring>(&mut self, block: &Block<S>, place: Entry) -> u64
         requires { Stands block.now.entries self.old }
         ensures stands { Stands block.now.entries self.new }

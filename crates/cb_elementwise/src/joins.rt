@@ -1,10 +1,9 @@
-//! The walk over two blocks.
+//! The joint walk over two blocks.
 ghost use Rattle.std.specs.Prelude.{◌≡◌, ℕ, ◌<◌, length, All, IfOk, OnOk, Option};
 ghost use Rattle.cb_semirings.specs.Arithmetic.{IsValue};
-ghost use Rattle.cb_matrix.specs.Sparse.{at, IsMatrix, IsInside, IsBefore};
-ghost use Rattle.cb_matrix.specs.Values.{matrix_of};
+ghost use Rattle.cb_matrix.specs.Sparse.{IsMatrix, IsInside, IsBefore};
 ghost use Rattle.cb_elementwise.specs.Walks.{earlier};
-ghost use Rattle.cb_elementwise.specs.Progress.{with_stored};
+ghost use Rattle.cb_elementwise.specs.Progress.{with_stored, combined_matrix};
 
 use crate::cursors::Cursor;
 use crate::rules::Rule;
@@ -13,8 +12,8 @@ use cb_matrix::Entry;
 use cb_semirings::Semiring;
 use std::alloc::{AllocError, Global};
 
-/// The block that has at each place what the rule makes of the values there. It has room for so many entries
-/// from the start.
+/// The block that has at each place what the rule makes of the two values there. It gets room for this many entries at
+/// the start.
 pub(crate) fn joined<S: Semiring, R: Rule<S>>(
     alloc: Global,
     rule: &R,
@@ -23,11 +22,10 @@ pub(crate) fn joined<S: Semiring, R: Rule<S>>(
     room: usize,
 ) -> Result<Block<S>, AllocError>
     requires { right.now.shape ≡ left.now.shape }
-    ensures { IfOk result (λ m. m ≡ matrix_of S.arithmetic left.now.shape (λ i j. R.combined rule.now (at S.arithmetic left.now i j) (at S.arithmetic right.now i j))) }
+    ensures { IfOk result (λ m. m ≡ combined_matrix S.arithmetic (R.combined rule.now) left.now right.now) }
 {
     let shape = left.shape();
-    // For the proof alone: the call says that the entries of the block are in order.
-    let _shape = right.shape();
+    prove_eq!(right.shape(), shape);
     let mut out = Block::empty(alloc, shape);
     out.reserve(room)?;
     let mut at_left = Cursor::start(left);
@@ -46,7 +44,7 @@ pub(crate) fn joined<S: Semiring, R: Rule<S>>(
     Ok(out)
 }
 
-/// The entry whose place comes first, and the first of two at one place.
+/// The entry whose place comes first; of two at the same place, the left one.
 fn earlier(left: Option<Entry>, right: Option<Entry>) -> Option<Entry>
     ensures { result ≡ earlier left right }
 {

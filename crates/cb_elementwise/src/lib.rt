@@ -1,32 +1,32 @@
-//! Operations on blocks place by place: sums, products, masks, and entries dropped by a test.
+//! Element-wise operations on blocks: sums, products, masks, and entries dropped by a test.
 //!
-//! The value at a place of the result depends on the values at that place alone. So all of them are one walk:
-//! the entries of two blocks are met in the order of their places, by column and then by row; at each place that
-//! one of the blocks has an entry at, a rule makes a value of the two values there, a place without an entry
-//! having the semiring's zero; and the value is stored unless it is zero. `rules` has the rules, `cursors` the
-//! walk over one block, and `joins` the walk over two. A block that is pruned is joined with the block that has
-//! no entries.
+//! The value at a place of the result depends on the values at that place alone. So one walk does them all: it visits
+//! the entries of two blocks in the order of their places, by column and then by row. At each place where one of the
+//! blocks has an entry, a rule combines the two values; a place without an entry has the semiring's zero. The result is
+//! stored unless it is zero. `rules` has the rules, `cursors` the walk over one block, and `joins` the joint walk over
+//! two. To prune a block, it is joined with an empty block.
 //!
-//! Each call costs what the stored entries of its operands cost, whatever the dimensions are. The operations are
-//! those of Kepner and Gilbert, Graph Algorithms in the Language of Linear Algebra (SIAM 2011), section 2.
+//! The cost of each call is proportional to the stored entries of its operands, whatever their dimensions. The
+//! operations are those of Kepner and Gilbert, Graph Algorithms in the Language of Linear Algebra (SIAM 2011), section 2.
 #![tactic(auto)]
 
 ghost use Rattle.std.specs.Prelude.{◌≡◌, ◌≢◌, ◌↔◌, ℕ, ◌<◌, ◌≤◌, ◌+◌, IsTrue, List, [], ◌∷◌, ◌++◌, length, All, IfOk, IfSome, IfNone, OnOk, OnErr};
 ghost use Rattle.cb_matrix.specs.Operations.{sum_of, times_of, pruned, masked};
 ghost use Rattle.cb_matrix.specs.Passing.{passes};
+ghost use Rattle.cb_elementwise.specs.Complements.{excluded};
 
 mod cursors;
 mod joins;
 mod rules;
 
 use crate::joins::joined;
-use crate::rules::{Product, Restriction, Sum};
+use crate::rules::{Exclusion, Product, Restriction, Sum};
 use cb_dcsc::Block;
 use cb_matrix::Test;
 use cb_semirings::Semiring;
 use std::alloc::{AllocError, Global};
 
-/// The sum at each place of two blocks of one shape. A sum that is zero is not stored.
+/// The element-wise sum of two blocks of one shape. Sums of zero aren't stored.
 ///
 /// Costs a few instructions for each entry of the two.
 pub fn add<S: Semiring>(
@@ -41,7 +41,7 @@ pub fn add<S: Semiring>(
     joined(alloc, &Sum, left, right, room)
 }
 
-/// The product at each place of two blocks of one shape. A product that is zero is not stored.
+/// The element-wise product of two blocks of one shape. Products of zero aren't stored.
 ///
 /// Costs a few instructions for each entry of the two.
 pub fn times<S: Semiring>(
@@ -56,8 +56,8 @@ pub fn times<S: Semiring>(
     joined(alloc, &Product, left, right, room)
 }
 
-/// The entries of a block at the places where a mask of its shape has an entry. What value the mask has there
-/// doesn't matter.
+/// The entries of a block at the places where a mask of the same shape has an entry. The values of the mask don't
+/// matter.
 ///
 /// Costs a few instructions for each entry of the two.
 pub fn mask<S: Semiring>(
@@ -72,9 +72,24 @@ pub fn mask<S: Semiring>(
     joined(alloc, &Restriction, block, mask, room)
 }
 
+/// The entries of a block at the places where a mask of its shape has none: what the complement of the mask allows.
+/// What values the mask has doesn't matter.
+///
+/// Costs a few instructions for each entry of the two.
+pub fn exclude<S: Semiring>(
+    alloc: Global,
+    block: &Block<S>,
+    mask: &Block<S>,
+) -> Result<Block<S>, AllocError>
+    requires { mask.now.shape ≡ block.now.shape }
+    ensures { IfOk result (λ kept. kept ≡ excluded S.arithmetic block.now mask.now) }
+{
+    joined(alloc, &Exclusion, block, mask, block.len())
+}
+
 /// The block without the entries whose value passes the test.
 ///
-/// Costs a few instructions for each entry. No room is taken before it is needed, since few may be left.
+/// Costs a few instructions for each entry. Room is taken only as it is needed, since few entries may be left.
 pub fn prune<S: Semiring>(
     alloc: Global,
     block: &Block<S>,

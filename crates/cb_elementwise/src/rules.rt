@@ -1,14 +1,14 @@
-//! What a place of the result has, from what two blocks have there.
+//! Rules: the value of a place, given the values of two blocks there.
 ghost use Rattle.std.specs.Prelude.{◌≡◌, ℕ, cond, ◌==◌, not};
 ghost use Rattle.cb_semirings.specs.Arithmetic.{IsValue};
-ghost use Rattle.cb_elementwise.specs.RuleLaws.{unless_passes, unless_passes-zero, unless_passes-value, where_stored, where_stored-zero, where_stored-value};
+ghost use Rattle.cb_elementwise.specs.RuleLaws.{unless_passes, unless_passes-zero, unless_passes-value, where_stored, where_stored-zero, where_stored-value, where_absent, where_absent-zero, where_absent-value};
 
 use cb_matrix::Test;
 use cb_semirings::Semiring;
 
-/// A value from two values of a semiring, and zero from two zeros.
+/// A rule combines two values of a semiring into one, and two zeros into zero.
 pub(crate) trait Rule<S: Semiring> {
-    /// The value.
+    /// The combined value.
     ghost combined: { Self → ℕ → ℕ → ℕ };
 
     fn combine(&self, left: u64, right: u64) -> u64
@@ -53,7 +53,7 @@ impl<S: Semiring> Rule<S> for Product {
     }
 }
 
-/// The first value, where the second is other than zero.
+/// The first value if the second isn't zero.
 #[derive(Drop)]
 pub(crate) struct Restriction;
 
@@ -66,6 +66,22 @@ impl<S: Semiring> Rule<S> for Restriction {
 
     fn combine(&self, left: u64, right: u64) -> u64 {
         if right == S::zero() { S::zero() } else { left }
+    }
+}
+
+/// The first value, where the second is zero.
+#[derive(Drop)]
+pub(crate) struct Exclusion;
+
+impl<S: Semiring> Rule<S> for Exclusion {
+    ghost combined = { λ rule x y. where_absent S.arithmetic.zero x y };
+
+    ghost zeros = { λ rule. where_absent-zero S.arithmetic.zero };
+
+    ghost values = { λ rule x y h k. where_absent-value S.arithmetic S.is_semiring x y h };
+
+    fn combine(&self, left: u64, right: u64) -> u64 {
+        if right == S::zero() { left } else { S::zero() }
     }
 }
 

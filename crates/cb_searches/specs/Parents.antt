@@ -23,11 +23,11 @@ pub record AreParents (a : Sparse) (source : ℕ) (column : Sparse) : Type 0 whe
   pub parents : (v : ℕ) → v < a.shape.rows → at min_plus column v 0 ≢ infinite → IsLeastParent a source (at min_plus column v 0) v
   pub none : (v : ℕ) → v < a.shape.rows → at min_plus column v 0 ≡ infinite → (u : ℕ) → ¬ IsParent a source u v
 
--- the first of some vertices whose number is below n, or else infinity
+-- the first vertex whose number is below n, or else infinity
 unfoldable pub first_below : (ℕ → ℕ) → ℕ → List ℕ → ℕ
 first_below d n [] = infinite
 first_below d n (u ∷ us) = cond (nat_lt (d u) n) u (first_below d n us)
 
--- of the vertices from which an edge leads to v, the first whose number is below that of v, or else infinity
+-- the first vertex with an edge to v whose number is below that of v, or else infinity
 abbrev pub first_nearer : Sparse → (ℕ → ℕ) → ℕ → ℕ
 first_nearer a d v = first_below d (d v) (rows_of (in_column v a.entries))

@@ -1,4 +1,4 @@
--- Vertices on their way to be settled: the numbers known so far, and those of them that may still lower others.
+-- Vertices that settle one after another: the numbers so far, and those of them that may still lower others.
 use Rattle.std.specs.Prelude.{◌≡◌, ◌≢◌, ℕ, ◌+◌, ◌≤◌, ◌⊎◌, List, length, Contains}
 use Rattle.std.specs.List.{sum_by, range_with_len}
 use Rattle.cb_semirings.specs.Tables.{min_plus}
@@ -9,15 +9,15 @@ use Rattle.cb_searches.specs.declared.numbers.Numbers.{Numbers}
 use Rattle.cb_searches.specs.Walks.{IsWalk, cost, infinite}
 use Rattle.cb_searches.specs.Numbers.{number_at}
 
--- the entries of a block are the edges of a graph, rows and columns exchanged
+-- the entries of a block are the edges of a graph, with rows and columns exchanged
 abbrev pub AreEdges : Sparse → Sparse → Type 0
 AreEdges edges a = (u v : ℕ) → at min_plus edges v u ≡ at min_plus a u v
 
--- the number of a vertex, as an entry of a column has it
+-- a vertex and its number, from an entry of a column
 abbrev pub tentative : Entry → Tentative
 tentative e = record { number = e.value; vertex = e.row }
 
--- a vertex waits with the number that it has
+-- a vertex waits with its number
 abbrev pub IsWaiting : (ℕ → ℕ) → List Tentative → ℕ → Type 0
 IsWaiting d waiting v = Contains waiting (record { number = d v; vertex = v })
 
@@ -32,14 +32,16 @@ pub record IsSettling (a : Sparse) (source : ℕ) (d : ℕ → ℕ) (waiting : L
   pub reached : (v : ℕ) → d v ≢ infinite → (walk : List ℕ) × IsWalk min_plus a source v walk × (cost a walk ≡ d v)
   pub settled : (u : ℕ) → IsWaiting d waiting u ⊎ IsRelaxed a d u
 
--- a bound for the work that is left: a number that falls lessens the sum of all and waits, and one that is taken out waits no more
+-- a bound for the remaining work: a number that falls makes the sum of all less and waits once more; a number that is
+-- popped waits no more
 abbrev pub work_left : {X : Type 0} → ℕ → Numbers → List X → ℕ
 work_left n known waiting = sum_by (number_at known) (range_with_len 0 n) + length waiting
 
--- where vertices settle with the old numbers and what waited, they do with the new ones and what waits
+-- if vertices settle with the old numbers and what waited, they settle with the new ones and what waits
 abbrev pub KeepSettling : Sparse → Numbers → List Tentative → Numbers → List Tentative → Type 0
-KeepSettling edges old waited new waiting = (a : Sparse) (source : ℕ) → AreEdges edges a → IsSettling a source (number_at old) waited → IsSettling a source (number_at new) waiting
+KeepSettling edges old waited new waiting = (a : Sparse) (source : ℕ) → AreEdges edges a →
+    IsSettling a source (number_at old) waited → IsSettling a source (number_at new) waiting
 
--- no more work is left after than before
+-- there is no more work left than before
 abbrev pub IsNoMoreWork : {X : Type 0} → ℕ → Numbers → List X → Numbers → List X → Type 0
 IsNoMoreWork n old waited new waiting = work_left n new waiting ≤ work_left n old waited

@@ -1,5 +1,5 @@
 -- Walks in the graph of a square matrix, in which a stored entry (i, j) is an edge from i to j, and the columns of
--- the least numbers that they count.
+-- levels and distances.
 use Rattle.std.specs.Prelude.{◌≡◌, ◌≢◌, ℕ, ◌-◌, ◌^◌, ◌<◌, ◌≤◌, min, Option, Some, None, List, [], ◌∷◌, length, map, All}
 use Rattle.std.specs.List.{sum}
 use Rattle.cb_semirings.specs.Arithmetic.{Arithmetic}
@@ -12,11 +12,12 @@ pairs [] = []
 pairs (u ∷ []) = []
 pairs (u ∷ v ∷ vs) = (u, v) ∷ pairs (v ∷ vs)
 
--- the first vertex, if any, and the last
+-- the first vertex, if any
 abbrev pub first : List ℕ → Option ℕ
 first [] = None
 first (u ∷ us) = Some u
 
+-- the last vertex, if any
 abbrev pub last : List ℕ → Option ℕ
 last [] = None
 last (u ∷ []) = Some u
@@ -36,15 +37,15 @@ infinite = 2 ^ 64 - 1
 abbrev pub steps : List ℕ → ℕ
 steps walk = length (pairs walk)
 
--- its cost: the values of its pairs, added
+-- the cost of a walk: the sum of the values of its pairs
 abbrev pub cost : Sparse → List ℕ → ℕ
 cost a walk = sum (map (λ (p : ℕ × ℕ). at min_plus a p.0 p.1) (pairs walk))
 
--- its weight: its cost, stopped at infinity
+-- the weight of a walk: its cost, saturating at infinity
 abbrev pub weight : Sparse → List ℕ → ℕ
 weight a walk = min (cost a walk) infinite
 
--- there is a walk that counts n, and no walk counts less
+-- a walk counts n, and no walk counts less
 pub record IsLeast (s : Arithmetic) (a : Sparse) (from to : ℕ) (count : List ℕ → ℕ) (n : ℕ) : Type 0 where
   pub reached : (walk : List ℕ) × IsWalk s a from to walk × (count walk ≡ n)
   pub least : (walk : List ℕ) → IsWalk s a from to walk → n ≤ count walk
@@ -53,14 +54,14 @@ pub record IsLeast (s : Arithmetic) (a : Sparse) (from to : ℕ) (count : List �
 abbrev pub column_shape : Sparse → Extent
 column_shape a = record { rows = a.shape.rows; cols = 1 }
 
--- A column has the least length of a walk from the source to each vertex, and nothing where there is no walk.
+-- A column has the least length of a walk from the source to each vertex, and nothing for a vertex without a walk.
 pub record AreLevels (a : Sparse) (source : ℕ) (column : Sparse) : Type 0 where
   pub shape : column.shape ≡ column_shape a
   pub levels : (v : ℕ) → v < a.shape.rows → at min_plus column v 0 ≢ infinite → IsLeast or_and a source v steps (at min_plus column v 0)
   pub none : (v : ℕ) → v < a.shape.rows → at min_plus column v 0 ≡ infinite → (walk : List ℕ) → ¬ IsWalk or_and a source v walk
 
--- A column has the least weight of a walk from the source to each vertex, and nothing where that is infinite or there
--- is no walk.
+-- A column has the least weight of a walk from the source to each vertex, and nothing if that is infinite or there is
+-- no walk.
 pub record AreDistances (a : Sparse) (source : ℕ) (column : Sparse) : Type 0 where
   pub shape : column.shape ≡ column_shape a
   pub distances : (v : ℕ) → v < a.shape.rows → at min_plus column v 0 ≢ infinite → IsLeast min_plus a source v (weight a) (at min_plus column v 0)

@@ -1,13 +1,13 @@
 //! Vertices settled one after another, the least number first.
 //!
-//! A vertex whose number fell waits in a heap with that number. The least that waits is taken out, and the edges from
-//! its vertex are relaxed; where one lowers a number, that waits in turn. No weight is negative, so nothing that comes
-//! later is less: the number is a distance, and its vertex is settled. An entry of the heap whose vertex has a lower
-//! number by now is passed over, so nothing is ever looked for in the heap.
+//! A vertex whose number fell waits in a heap with that number. The vertex with the least number is popped, and the
+//! edges from it are relaxed; each vertex whose number falls is pushed in turn. Weights aren't negative, so no later
+//! number is less: the number is a distance, and its vertex is settled. A popped number that isn't its vertex's any
+//! more is skipped, so the heap is never searched.
 //!
-//! It is the algorithm of Dijkstra, A Note on Two Problems in Connexion with Graphs (Numerische Mathematik 1959, problem
-//! 2), with a binary heap. The order only keeps the work small. What makes the numbers distances holds in any order:
-//! each is the cost of a walk, and a vertex that doesn't wait can lower no other; in the end none waits.
+//! This is the algorithm of Dijkstra, A Note on Two Problems in Connexion with Graphs (Numerische Mathematik 1959,
+//! problem 2), with a binary heap. The order only keeps the work small. The proof holds in any order: each number is
+//! the cost of a walk, and a vertex that doesn't wait can lower no other; in the end none waits.
 ghost use Rattle.std.specs.Prelude.{◌≡◌, ◌==◌, ℕ, ◌<◌, ◌≤◌, min, cond, map, [], ◌∷◌, All, Contains, IfOk, OnOk};
 ghost use Rattle.std.proofs.Common.{rules};
 ghost use Rattle.std.specs.Cmp.{partial_order_from_own_ties};
@@ -23,7 +23,7 @@ use std::alloc::{AllocError, Global};
 use std::cmp::Ordering;
 use std::collections::BinaryHeap;
 
-/// A vertex and the number that it fell to. The least number is the greatest.
+/// A vertex and the number that it fell to. The order is reversed, so that the heap pops the least number first.
 #[derive(Clone, Copy)]
 pub(crate) struct Tentative {
     number: u64,
@@ -72,11 +72,11 @@ ghost use Rattle.cb_dcsc.specs.Columns.{in_column, rows_of, values_of};
 ghost use Rattle.cb_searches.specs.Numbers.{number_at, AreNumbers};
 ghost use Rattle.cb_searches.specs.Settling.{KeepSettling, IsNoMoreWork, tentative};
 
-/// Settles every vertex, where those of these entries are all that may still lower others: the numbers become distances.
-/// The edges are the entries of the transposed matrix.
+/// Settles every vertex, given the vertices that may still lower others: the numbers become distances. The edges are
+/// the entries of the transposed matrix.
 ///
-/// It takes time for the edges of the vertices that settle, and for each number that falls that of a push and of a pop,
-/// the logarithm of how many wait; memory for the heap, at most an entry for each that waits at first and for each edge.
+/// Costs a few instructions for each edge of the vertices that settle, and a push and a pop for each number that falls,
+/// logarithmic in how many wait. The heap has at most an entry for each vertex that waits at first and for each edge.
 pub(crate) fn settle(
     alloc: Global,
     known: &mut Numbers,
@@ -136,7 +136,7 @@ fn relax_edges(
     ensures work { OnOk result (IsNoMoreWork edges.now.shape.rows known.old (heap_items waiting.old) known.new (heap_items waiting.new)) }
     ensures settling { OnOk result (KeepSettling edges.now known.old (from ∷ heap_items waiting.old) known.new (heap_items waiting.new)) }
 {
-    // For the proof alone: the block is a matrix.
+    // For the proof alone: the contract of this call says that the rows of a column ascend and are inside the block.
     let _shape = edges.shape();
     let (rows, values) = edges_of(edges, from.vertex);
     for n in 0..rows.len() {
@@ -149,8 +149,8 @@ fn relax_edges(
     Ok(())
 }
 
-/// The edges from a vertex: a column of the block. Where each column before it has entries too, it is the one of that
-/// number among those that have; else it is searched for.
+/// The edges from a vertex: a column of the block. If all columns before it have entries too, its number is its place
+/// among them; otherwise a binary search finds it.
 #[inline(always)]
 fn edges_of(edges: &Block<MinPlus>, vertex: u32) -> (&[u32], &[u64])
     ensures rows { result.0.now ≡ rows_of (in_column vertex edges.now.entries) }
@@ -163,7 +163,7 @@ fn edges_of(edges: &Block<MinPlus>, vertex: u32) -> (&[u32], &[u64])
     edges.column(vertex)
 }
 
-/// Where the number is below what is known of the vertex, it is taken over, and waits.
+/// Lowers the number of a vertex, which then waits with it, if the new number is less.
 #[inline(always)]
 fn lower(
     known: &mut Numbers,

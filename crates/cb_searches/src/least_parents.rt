@@ -1,9 +1,8 @@
 //! Parents in a breadth-first search.
 //!
-//! The parents of a vertex are those one level nearer to the source from which an edge leads to it. An edge from a vertex
-//! that is reached leads at most one level farther, so once the levels are known, a parent is whatever is nearer. The
-//! block of the graph, column by column, lists for each vertex where the edges to it come from, ascending: the first that
-//! is nearer is its least parent.
+//! A parent of a vertex is one level nearer to the source and has an edge to it. An edge leads at most one level
+//! farther, so once the levels are known, every nearer vertex with an edge to a vertex is a parent. Each column of the
+//! block lists the sources of the edges to its vertex, ascending: the first one that is nearer is the least parent.
 ghost use Rattle.std.specs.Prelude.{◌≡◌, ℕ, ◌<◌, IfOk};
 ghost use Rattle.cb_semirings.specs.Tables.{min_plus};
 ghost use Rattle.cb_matrix.specs.Sparse.{IsMatrix, at};
@@ -20,12 +19,12 @@ use cb_matrix::{Entry, Matrix};
 use cb_semirings::{MinPlus, OrAnd};
 use std::alloc::{AllocError, Global};
 
-/// The least parent of each vertex in a breadth-first search from a source, in the graph of a square block: the least of
-/// the vertices from which an edge leads to it and which are one level nearer. The answer is a column, in which the value
-/// of a vertex is its parent, counted from 0; the source and vertices without a walk are not stored.
+/// The least parent of each vertex in a breadth-first search from a source, in the graph of a square block: the least
+/// vertex that is one level nearer and has an edge to it. The result is a column of parents, counted from 0; the source
+/// and unreachable vertices aren't stored.
 ///
-/// The search costs what [`levels`](crate::levels) does, with a second block, the transposed one, until it ends. Then
-/// each stored column is read up to the first row that is nearer, at the cost of looking up a number a row.
+/// The search costs what [`levels`](crate::levels) does, and holds the transposed block until it ends. Then each column
+/// that has entries is read up to the first row that is nearer, with one look-up a row.
 pub fn parents(
     alloc: Global,
     graph: &Block<OrAnd>,
@@ -36,26 +35,28 @@ pub fn parents(
     ensures parents { IfOk result (AreParents graph.now source) }
     ensures matrix { IfOk result (IsMatrix min_plus) }
 {
-    let _rows = graph.shape().rows();
+    let shape = graph.shape();
+    prove_eq!(shape.rows(), shape.cols());
     let search = whole_search(alloc, graph, source)?;
     let column = parent_column(alloc, graph, search.known())?;
-    let _shape = column.shape();
+    prove_eq!(column.shape(), column_shape(shape));
     Ok(column)
 }
 
-/// The search in which each entry weighs 1, to its end.
+/// The finished search in which each entry weighs 1.
 fn whole_search(alloc: Global, graph: &Block<OrAnd>, source: u32) -> Result<Search, AllocError>
     requires square { graph.now.shape.rows ≡ graph.now.shape.cols }
     requires source { source < graph.now.shape.rows }
     ensures { IfOk result (λ search. (k : ℕ) × IsWholeSearch graph.now source k search) }
 {
-    let _shape = graph.shape();
+    let shape = graph.shape();
+    prove_eq!(shape.rows(), shape.cols());
     let turned = cb_reshape::transpose(alloc, graph)?;
     let edges = turned.recast();
     search_by_edges(alloc, &edges, source)
 }
 
-/// For each vertex, the first nearer one of those from which an edge leads to it, as a column.
+/// For each vertex the first nearer one with an edge to it, as a column.
 fn parent_column(
     alloc: Global,
     graph: &Block<OrAnd>,
@@ -65,8 +66,8 @@ fn parent_column(
     ensures shape { IfOk result (λ m. m.shape ≡ column_shape graph.now) }
     ensures values { IfOk result (λ m. (v : ℕ) → at min_plus m v 0 ≡ first_nearer graph.now (number_at known.now) v) }
 {
-    let shape = column_shape(graph.shape());
-    let _rows = shape.rows();
+    let shape = graph.shape();
+    prove_eq!(shape.rows(), shape.cols());
     let columns = graph.column_numbers();
     let mut entries = Vec::new(alloc);
     for n in 0..columns.len() {
@@ -81,10 +82,10 @@ fn parent_column(
             })?;
         }
     }
-    Ok(Matrix::from_ordered(shape, entries))
+    Ok(Matrix::from_ordered(column_shape(shape), entries))
 }
 
-/// The first of some vertices whose number is below this one, or else infinity.
+/// The first vertex whose number is below this one, or else infinity.
 fn first_below(known: &Numbers, vertices: &[u32], number: u64) -> u64
     ensures { result ≡ first_below (number_at known.now) number vertices.now }
 {

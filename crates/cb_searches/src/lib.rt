@@ -1,11 +1,12 @@
 //! Searches in the graph of a square matrix, in which a stored entry (i, j) is an edge from i to j.
 //!
-//! A [`Search`] is a state: the numbers of the vertices as they are known so far, which near the least weights of walks from
-//! one vertex, round by round. Who holds the matrix makes the rounds: in one block by [`Search::round`], or by any means
-//! that multiplies the transposed matrix by a column, by [`Search::advance`]. [`distances`] and [`levels`] search in one
-//! block: they make a few rounds, and then settle what is left vertex after vertex. In a level each edge weighs 1, and
-//! [`parents`] tells from which vertices the levels were reached. [`Numbers`] are what a search knows of the vertices, for
-//! other kernels that give vertices numbers.
+//! A [`Search`] is a state: the vertices' numbers so far, which approach the least weights of walks from one vertex,
+//! round by round. The holder of the matrix makes the rounds: in one block by [`Search::round`], or by
+//! [`Search::advance`] with the product of the transposed matrix and a column, however it is computed. [`distances`]
+//! and [`levels`] search in one block: they make a few rounds, and then settle the remaining vertices one after
+//! another. For levels each edge weighs 1, and [`parents`] finds the vertices from which the levels were reached.
+//! [`distances_from`] and [`levels_from`] search from several sources. [`Numbers`] holds a search's numbers of vertices;
+//! other kernels that number vertices use it too.
 #![tactic(auto)]
 
 mod dijkstra;
@@ -14,8 +15,10 @@ mod numbers;
 mod one_block;
 mod relaxations;
 mod searches;
+mod several_sources;
 
 pub use least_parents::parents;
 pub use numbers::Numbers;
 pub use one_block::{distances, levels};
 pub use searches::{Search, column_shape, vector_product};
+pub use several_sources::{distances_from, levels_from};

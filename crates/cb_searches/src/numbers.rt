@@ -1,7 +1,7 @@
-//! The numbers of the vertices of a graph, as a search knows them.
+//! The numbers that a search gives to the vertices of a graph.
 //!
-//! A list with a place for each vertex answers at once, but costs memory and time for each vertex, and a graph may have
-//! many more vertices than entries. So there it is a tree of the vertices that have a number.
+//! A list with a place for each vertex is fastest, but costs memory and time for each vertex, and a graph may have many
+//! more vertices than entries. Such a graph gets a tree of the vertices that have a number.
 ghost use Rattle.std.specs.Prelude.{◌≡◌, ◌≢◌, ℕ, ◌<◌, ◌==◌, cond, length, slice_index_or, IfOk, OnOk};
 ghost use Rattle.cb_semirings.specs.Tables.{min_plus};
 ghost use Rattle.cb_matrix.specs.Sparse.{at};
@@ -14,20 +14,20 @@ use cb_semirings::MinPlus;
 use std::alloc::{AllocError, Global};
 use std::collections::BTreeMap;
 
-/// How many vertices for each entry a list has places for at most.
+/// The most vertices for each entry that are numbered in a list.
 const VERTICES_PER_ENTRY: usize = 4;
 
-/// The numbers of the vertices of a graph as they are known so far: infinite where none is.
+/// The numbers of the vertices of a graph so far. A vertex without a number has infinity.
 #[derive(Drop)]
 pub enum Numbers {
-    /// That of each vertex.
+    /// The number of each vertex.
     Dense(Vec<u64>),
-    /// Those that aren't infinite.
+    /// The finite numbers.
     Tree(BTreeMap<u32, u64>),
 }
 
 impl Numbers {
-    /// What is known at first in a graph of so many vertices and entries: the source has the number 0.
+    /// The numbers at the start, in a graph with this many vertices and entries: the source has 0.
     pub fn begin(
         alloc: Global,
         vertices: u32,
@@ -44,8 +44,8 @@ impl Numbers {
         Ok(known)
     }
 
-    /// No number is known, in a graph of so many vertices and entries. Memory is that of a number for each vertex, or
-    /// less, where there are many more vertices than entries.
+    /// No numbers, in a graph with this many vertices and entries. Takes memory for a number for each vertex, or none
+    /// yet if there are many more vertices than entries.
     pub fn unknown(alloc: Global, vertices: u32, entries: usize) -> Result<Self, AllocError>
         ensures infinite { IfOk result (λ known. (v : ℕ) → number_at known v ≡ infinite) }
         ensures numbers { IfOk result (λ known. AreNumbers vertices known) }
@@ -58,7 +58,7 @@ impl Numbers {
         }
     }
 
-    /// The number of a vertex, or `u64::MAX` where none is known.
+    /// The number of a vertex, or `u64::MAX` if it has none.
     pub fn number_of(&self, vertex: u32) -> u64
         ensures { result ≡ number_at self.now vertex }
     {
@@ -68,7 +68,7 @@ impl Numbers {
         }
     }
 
-    /// Gives a vertex a number.
+    /// Gives a vertex a number. In constant time in a list, and logarithmic in a tree.
     pub fn set(&mut self, vertex: u32, number: u64) -> Result<(), AllocError>
         requires vertex { (n : ℕ) × AreNumbers n self.old × (vertex < n) }
         ensures values { OnOk result ((v : ℕ) → number_at self.new v ≡ cond (v == vertex) number (number_at self.old v)) }
@@ -83,8 +83,8 @@ impl Numbers {
         Ok(())
     }
 
-    /// Those that aren't infinite as a column. Costs a few instructions for each place of the list, or for each vertex
-    /// in the tree.
+    /// The finite numbers as a column. Costs a few instructions for each place of the list, or for each vertex in the
+    /// tree.
     pub fn column(&self, alloc: Global, shape: Shape) -> Result<Matrix<MinPlus>, AllocError>
         requires column { shape.cols ≡ 1 }
         requires numbers { AreNumbers shape.rows self.now }
@@ -98,7 +98,7 @@ impl Numbers {
     }
 }
 
-/// The numbers of a list that aren't infinite, as a column.
+/// The finite numbers of a list, as a column.
 fn list_column(alloc: Global, shape: Shape, list: &[u64]) -> Result<Matrix<MinPlus>, AllocError>
     requires column { shape.cols ≡ 1 }
     requires length { length list.now ≡ shape.rows }

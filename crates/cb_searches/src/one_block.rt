@@ -1,8 +1,8 @@
 //! The search in the graph of one block.
 //!
-//! The block is transposed once and given up. A few rounds are made on the transposed one, each [`Search::round`]: they
-//! read the edges in order, which is quickest where most vertices are few edges away. After them the vertices that are
-//! left [settle](crate::dijkstra) one after another, so that long walks take no rounds.
+//! The block is transposed once and dropped. A few rounds, each by [`Search::round`], use the transposed block: they
+//! read the edges in order, which is fastest while most vertices are a few edges away. Then the remaining vertices
+//! [settle](crate::dijkstra) one after another, so long walks take no further rounds.
 ghost use Rattle.std.specs.Prelude.{◌≡◌, ℕ, ◌<◌, IfOk};
 ghost use Rattle.cb_semirings.specs.Tables.{min_plus};
 ghost use Rattle.cb_matrix.specs.Sparse.{Sparse, IsMatrix};
@@ -10,22 +10,22 @@ ghost use Rattle.cb_matrix.specs.Operations.{transposed};
 ghost use Rattle.cb_searches.specs.Walks.{AreDistances, AreLevels};
 ghost use Rattle.cb_searches.specs.Searches.{HasEdges, IsWholeSearch};
 
-use crate::searches::Search;
+use crate::searches::{Search, column_shape};
 use cb_dcsc::Block;
 use cb_matrix::Matrix;
 use cb_semirings::{MinPlus, OrAnd};
 use std::alloc::{AllocError, Global};
 
-/// After how many rounds vertices settle one after another. Where most vertices are few edges away, fewer rounds do.
+/// The most rounds before vertices settle one after another. Fewer do if all vertices are a few edges away.
 const ROUNDS: u32 = 16;
 
-/// The distance of each vertex from a source, in the graph of a square block: the least weight of a walk, where a walk's
-/// weight is the sum of its entries' values, which stops at 2^64-1. The answer is a column; vertices without a walk, or
-/// with an infinite distance, are not stored.
+/// The distance of each vertex from a source, in the graph of a square block: the least weight of a walk. A walk's
+/// weight is the sum of its entries' values, saturating at 2^64 - 1. The result is a column; unreachable vertices and
+/// those at an infinite distance aren't stored.
 ///
-/// The block is given up once it is transposed. At most 16 rounds are made. One costs what the entries of the vertices
-/// that fell in the round before cost, and at most a few instructions for each vertex where at least one in 32 fell.
-/// What is then left is the algorithm of Dijkstra (1959) with a heap: it costs the entries of the vertices that it
+/// The block is dropped once it is transposed. At most 16 rounds are made. A round costs a few instructions for each
+/// entry of the vertices whose numbers fell in the round before, and, if at least one vertex in 32 fell, for each
+/// vertex. The rest is the algorithm of Dijkstra (1959) with a heap: it costs the entries of the vertices that it
 /// reaches, and for each number that falls the logarithm of how many wait.
 pub fn distances(
     alloc: Global,
@@ -37,17 +37,18 @@ pub fn distances(
     ensures distances { IfOk result (AreDistances graph source) }
     ensures matrix { IfOk result (IsMatrix min_plus) }
 {
-    let _shape = graph.shape();
+    let shape = graph.shape();
+    prove_eq!(shape.rows(), shape.cols());
     let edges = turned(alloc, graph)?;
     let column = nearest_by_edges(alloc, &edges, source)?;
-    let _shape = column.shape();
+    prove_eq!(column.shape(), column_shape(shape));
     Ok(column)
 }
 
 /// The level of each vertex from a source, in the graph of a square block: the least number of entries of a walk. The
-/// answer is a column; vertices without a walk are not stored. The level of a vertex is its distance where each entry
-/// weighs 1, as each stored value does already: no entry is copied, and the cost is that of [`distances`]. This is the
-/// breadth-first search of Buluç and Gilbert, The Combinatorial BLAS (IJHPCA 2011), section 5.
+/// result is a column; unreachable vertices aren't stored. A level is a distance in which each entry weighs 1, as each
+/// stored value already does: no entry is copied, and the cost is that of [`distances`]. This is the breadth-first
+/// search of Buluç and Gilbert, The Combinatorial BLAS (IJHPCA 2011), section 5.
 pub fn levels(
     alloc: Global,
     graph: Block<OrAnd>,
@@ -58,20 +59,20 @@ pub fn levels(
     ensures levels { IfOk result (AreLevels graph source) }
     ensures matrix { IfOk result (IsMatrix min_plus) }
 {
-    let _rows = graph.shape().rows();
+    let shape = graph.shape();
+    prove_eq!(shape.rows(), shape.cols());
     distances(alloc, graph.recast(), source)
 }
 
-/// The block transposed; it is given up.
-fn turned(alloc: Global, graph: Block<MinPlus>) -> Result<Block<MinPlus>, AllocError>
+/// The transposed block. The block is dropped.
+pub(crate) fn turned(alloc: Global, graph: Block<MinPlus>) -> Result<Block<MinPlus>, AllocError>
     ensures { IfOk result (λ edges. edges ≡ transposed min_plus graph) }
 {
     cb_reshape::transpose(alloc, &graph)
 }
 
-/// The least weight of a walk from the source to each vertex of the graph of a square matrix, of which this is the
-/// transposed one, as one block.
-fn nearest_by_edges(
+/// The distance of each vertex from the source, given the transposed matrix of the graph as one block.
+pub(crate) fn nearest_by_edges(
     alloc: Global,
     edges: &Block<MinPlus>,
     source: u32,
@@ -84,8 +85,7 @@ fn nearest_by_edges(
     search.column(alloc)
 }
 
-/// The search from the source in the graph of a square matrix, of which this is the transposed one, as one block, to its
-/// end.
+/// The finished search from the source, given the transposed matrix of the graph as one block.
 pub(crate) fn search_by_edges(
     alloc: Global,
     edges: &Block<MinPlus>,

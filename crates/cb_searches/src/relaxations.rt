@@ -1,14 +1,14 @@
 //! Edges relaxed in a list of the numbers of all vertices.
 //!
-//! To relax an edge is to lower the number of the vertex that it leads to, where that of the one that it comes from and
-//! the edge's weight make less. The list takes the sums itself, so no product is made, and who fell is read from the
-//! list and a copy of it from before.
-ghost use Rattle.std.specs.Prelude.{◌≡◌, ℕ, ◌<◌, ◌≤◌, min, length, slice_index_or, All, IfOk, OnOk};
+//! To relax an edge is to lower the number of the vertex that it leads to, if the number of the vertex that it comes
+//! from plus the edge's weight is less. The sums go straight into the list, so no product is made, and a copy of the
+//! list from before shows which numbers fell.
+ghost use Rattle.std.specs.Prelude.{◌≡◌, ℕ, ◌≤◌, length, All, IfOk, OnOk};
 ghost use Rattle.cb_semirings.specs.Tables.{min_plus};
 ghost use Rattle.cb_matrix.specs.Sparse.{at};
-ghost use Rattle.cb_matrix.specs.Values.{product, product_shape};
+ghost use Rattle.cb_matrix.specs.Values.{product_shape};
 ghost use Rattle.cb_searches.specs.Walks.{infinite};
-ghost use Rattle.cb_searches.specs.Numbers.{fallen};
+ghost use Rattle.cb_searches.specs.Numbers.{fallen, listed_at, reached_by, AreLeast, HaveFallen, HaveStayed};
 
 use cb_dcsc::Block;
 use cb_dense::add_product;
@@ -16,9 +16,9 @@ use cb_matrix::{Entry, Matrix, Shape};
 use cb_semirings::MinPlus;
 use std::alloc::{AllocError, Global};
 
-/// Relaxes the edges that come from the vertices whose numbers fell, and answers the numbers that fall, as a column.
-/// The edges are the entries of the transposed matrix. It costs what [`add_product`] does, and a few instructions for
-/// each vertex. Where there is no memory for a copy of the list, the list stays as it was.
+/// Relaxes the edges from the vertices whose numbers fell, and returns the numbers that fall now, as a column. The
+/// edges are the entries of the transposed matrix. Costs what [`add_product`] does, and a few instructions for each
+/// vertex. If memory for a copy of the list is refused, the list stays as it was.
 pub(crate) fn relax_list(
     alloc: Global,
     list: &mut [u64],
@@ -31,10 +31,10 @@ pub(crate) fn relax_list(
     requires column { fell.now.shape.cols ≡ 1 }
     ensures length { length list.new ≡ length list.old }
     ensures values { All (λ x. x ≤ infinite) list.new }
-    ensures least { OnOk result ((v : ℕ) → slice_index_or list.new v infinite ≡ min (slice_index_or list.old v infinite) (at min_plus (product min_plus edges.now fell.now) v 0)) }
+    ensures least { OnOk result (AreLeast (listed_at list.old) (reached_by edges.now fell.now) (listed_at list.new)) }
     ensures shape { IfOk result (λ m. m.shape ≡ product_shape edges.now fell.now) }
-    ensures new { IfOk result (λ m. (v : ℕ) → at min_plus (product min_plus edges.now fell.now) v 0 < slice_index_or list.old v infinite → at min_plus m v 0 ≡ at min_plus (product min_plus edges.now fell.now) v 0) }
-    ensures old { IfOk result (λ m. (v : ℕ) → slice_index_or list.old v infinite ≤ at min_plus (product min_plus edges.now fell.now) v 0 → at min_plus m v 0 ≡ infinite) }
+    ensures new { IfOk result (HaveFallen (listed_at list.old) (reached_by edges.now fell.now)) }
+    ensures old { IfOk result (HaveStayed (listed_at list.old) (reached_by edges.now fell.now)) }
 {
     let shape = edges.shape().with_columns_of(fell.shape());
     let before = Vec::from_slice(alloc, list)?;

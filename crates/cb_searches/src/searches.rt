@@ -1,19 +1,19 @@
 //! A search for the least weights of walks from one vertex of a graph, round by round.
 //!
-//! The numbers known so far near the least ones. A round multiplies the transposed matrix by the numbers that fell in
-//! the round before, in min-plus, and takes over what is lower. It ends when none falls, at the latest after as many
-//! rounds as there are vertices.
+//! The numbers approach the least ones. A round multiplies the transposed matrix by the numbers that fell in the round
+//! before, in min-plus, and takes over the lower ones. The search ends when no number falls, at the latest after as
+//! many rounds as there are vertices.
 //!
-//! Where the transposed matrix is one block, a round makes no product where the numbers are in a list and many of them fell:
-//! it [relaxes the edges](crate::relaxations) in the list itself.
-ghost use Rattle.std.specs.Prelude.{◌≡◌, ◌≢◌, ◌↔◌, ℕ, ◌+◌, ◌<◌, ◌≤◌, min, filter, [], All, AllPairs, IfOk, OnOk, IsTrue};
+//! If the transposed matrix is one block, the numbers are in a list and many of them fell, a round makes no product: it
+//! [relaxes the edges](crate::relaxations) in the list itself.
+ghost use Rattle.std.specs.Prelude.{◌≡◌, ◌≢◌, ℕ, ◌<◌, filter, All, AllPairs, IfOk, OnOk};
 ghost use Rattle.cb_semirings.specs.Tables.{min_plus};
-ghost use Rattle.cb_matrix.specs.Sparse.{Sparse, IsMatrix, at, value_at};
+ghost use Rattle.cb_matrix.specs.Sparse.{Sparse, IsMatrix, value_at};
 ghost use Rattle.cb_matrix.specs.Values.{product, product_shape};
 ghost use Rattle.cb_matrix.specs.Operations.{transposed};
 ghost use Rattle.cb_searches.specs.Walks.{infinite, AreDistances};
-ghost use Rattle.cb_searches.specs.Numbers.{number_at, AreNumbers, is_lower};
-ghost use Rattle.cb_searches.specs.Searches.{HasEnded, IsSearch, IsWholeSearch};
+ghost use Rattle.cb_searches.specs.Numbers.{number_at, number_in, reached_by, AreLeast, HaveFallen, HaveStayed, AreNumbers, is_lower};
+ghost use Rattle.cb_searches.specs.Searches.{HasEnded, IsSearch, IsWholeSearch, IsNextRound};
 
 use crate::dijkstra::settle;
 use crate::numbers::Numbers;
@@ -23,20 +23,20 @@ use cb_matrix::{Entry, Matrix, Shape};
 use cb_semirings::{MinPlus, Semiring};
 use std::alloc::{AllocError, Global};
 
-/// For how many vertices at most, for each that fell, a round walks a list of the numbers of all.
+/// The most vertices for each that fell with which a round goes over the list of all numbers.
 const VERTICES_PER_FALLEN: usize = 32;
 
-/// The numbers of the vertices as they are known so far.
+/// A search: the numbers of the vertices so far, and those that fell in the last round.
 #[derive(Drop)]
 pub struct Search {
     known: Numbers,
-    /// Those that fell in the last round, in a column.
+    /// The numbers that fell in the last round, as a column.
     fell: Matrix<MinPlus>,
 }
 
 impl Search {
-    /// At first the source has the number 0, in the graph of a square matrix of this shape with so many entries. Memory is
-    /// that of a number for each vertex, or less, where there are many more vertices than entries.
+    /// A search in the graph of a square matrix of this shape, with this many entries. At first the source has the
+    /// number 0. Takes memory for a number for each vertex, or less if there are many more vertices than entries.
     pub fn begin(
         alloc: Global,
         shape: Shape,
@@ -59,39 +59,41 @@ impl Search {
         &self.fell
     }
 
-    /// The numbers as they are known so far.
+    /// The numbers so far.
     pub(crate) fn known(&self) -> &Numbers
         ensures { result.now ≡ self.now.known }
     {
         &self.known
     }
 
-    /// One round more: what it reached, where that is lower, is taken over.
+    /// One more round, given what it reaches: lower numbers are taken over.
     pub fn advance(self, alloc: Global, reached: &Matrix<MinPlus>) -> Result<Self, AllocError>
         requires round { (a : Sparse) × (source : ℕ) × (k : ℕ) × IsSearch a source k self × (reached.now ≡ product min_plus (transposed min_plus a) self.fell) }
-        ensures { IfOk result (λ next. (a : Sparse) (source k : ℕ) → IsSearch a source k self → reached.now ≡ product min_plus (transposed min_plus a) self.fell → IsSearch a source (k + 1) next) }
+        ensures { IfOk result (IsNextRound (λ a. reached.now ≡ product min_plus (transposed min_plus a) self.fell) self) }
     {
-        let _shape = self.fell.shape();
+        let shape = self.fell.shape();
+        prove_eq!(shape.cols(), 1);
         let mut known = self.known;
         let fell = take_lower(alloc, &mut known, reached)?;
         Ok(Search { known, fell })
     }
 
-    /// One round more, on the transposed matrix as one block. Where the numbers are in a list, and at least one vertex
-    /// in 32 fell, the edges are relaxed in the list, at a few instructions for each vertex; else what is reached is a
-    /// product.
+    /// One more round, given the transposed matrix as one block. If the numbers are in a list and at least one vertex
+    /// in 32 fell, the edges are relaxed in the list, at a few instructions for each vertex. Otherwise the round makes
+    /// a product.
     pub fn round(self, alloc: Global, edges: &Block<MinPlus>) -> Result<Self, AllocError>
         requires round { (a : Sparse) × (source : ℕ) × (k : ℕ) × IsSearch a source k self × (edges.now ≡ transposed min_plus a) }
-        ensures { IfOk result (λ next. (a : Sparse) (source k : ℕ) → IsSearch a source k self → edges.now ≡ transposed min_plus a → IsSearch a source (k + 1) next) }
+        ensures { IfOk result (IsNextRound (λ a. edges.now ≡ transposed min_plus a) self) }
     {
-        let _shape = self.fell.shape();
+        let shape = self.fell.shape();
+        prove_eq!(shape.cols(), 1);
         let mut known = self.known;
         let fell = relax(alloc, &mut known, edges, &self.fell)?;
         Ok(Search { known, fell })
     }
 
-    /// In place of all rounds that are left, on the transposed matrix as one block: vertices [settle](crate::dijkstra)
-    /// one after another, until no number can fall.
+    /// Replaces all remaining rounds, given the transposed matrix as one block: vertices [settle](crate::dijkstra) one
+    /// after another, until no number can fall.
     pub(crate) fn settle(self, alloc: Global, edges: &Block<MinPlus>) -> Result<Self, AllocError>
         requires round { (a : Sparse) × (source : ℕ) × (k : ℕ) × IsSearch a source k self × (edges.now ≡ transposed min_plus a) }
         ensures { IfOk result (λ s. (a : Sparse) (source k : ℕ) → IsSearch a source k self → edges.now ≡ transposed min_plus a → IsWholeSearch a source k s) }
@@ -114,21 +116,21 @@ impl Search {
     }
 }
 
-/// The shape of a column with a place for each row.
+/// The shape of a column with as many rows as this shape.
 pub fn column_shape(shape: Shape) -> Shape
     ensures { result ≡ record { rows = shape.rows; cols = 1 } }
 {
     Shape::new(shape.rows(), 1).unwrap()
 }
 
-/// Whether an entry is below what is known of its row.
+/// Whether an entry is below the number of its row.
 fn is_lower(known: &Numbers, entry: &Entry) -> bool
     ensures { result ≡ is_lower known.now entry.now }
 {
     entry.value < known.number_of(entry.row)
 }
 
-/// The entries below what is known of their rows.
+/// The entries below the numbers of their rows.
 fn lower_entries(
     alloc: Global,
     known: &Numbers,
@@ -145,7 +147,7 @@ fn lower_entries(
     Ok(lower)
 }
 
-/// Takes over the entries' values.
+/// Takes over the values of the entries.
 fn take_over(known: &mut Numbers, entries: &[Entry]) -> Result<(), AllocError>
     requires numbers { (n : ℕ) × AreNumbers n known.old × All (λ e. (e.row < n) × (e.value < infinite)) entries.now }
     requires rows { AllPairs (λ d e. d.row ≢ e.row) entries.now }
@@ -159,7 +161,7 @@ fn take_over(known: &mut Numbers, entries: &[Entry]) -> Result<(), AllocError>
     Ok(())
 }
 
-/// Takes over the values below those known, and answers their entries.
+/// Takes over the values below the numbers so far, and returns their entries.
 fn take_lower(
     alloc: Global,
     known: &mut Numbers,
@@ -168,10 +170,10 @@ fn take_lower(
     requires column { reached.now.shape.cols ≡ 1 }
     requires finite { AreNumbers reached.now.shape.rows known.old }
     ensures finite { OnOk result (AreNumbers reached.now.shape.rows known.new) }
-    ensures least { OnOk result ((v : ℕ) → number_at known.new v ≡ min (number_at known.old v) (at min_plus reached.now v 0)) }
+    ensures least { OnOk result (AreLeast (number_at known.old) (number_in reached.now) (number_at known.new)) }
     ensures shape { IfOk result (λ fell. fell.shape ≡ reached.now.shape) }
-    ensures new { IfOk result (λ fell. (v : ℕ) → at min_plus reached.now v 0 < number_at known.old v → at min_plus fell v 0 ≡ at min_plus reached.now v 0) }
-    ensures old { IfOk result (λ fell. (v : ℕ) → number_at known.old v ≤ at min_plus reached.now v 0 → at min_plus fell v 0 ≡ infinite) }
+    ensures new { IfOk result (HaveFallen (number_at known.old) (number_in reached.now)) }
+    ensures old { IfOk result (HaveStayed (number_at known.old) (number_in reached.now)) }
 {
     let shape = reached.shape();
     let lower = lower_entries(alloc, known, reached.entries())?;
@@ -179,8 +181,7 @@ fn take_lower(
     Ok(Matrix::from_ordered(shape, lower))
 }
 
-/// Takes over what one round reaches from the numbers that fell, where it is below what is known, and answers the
-/// numbers that fall.
+/// Takes over the lower numbers that one round reaches from those that fell, and returns them.
 fn relax(
     alloc: Global,
     known: &mut Numbers,
@@ -191,10 +192,10 @@ fn relax(
     requires column { fell.now.shape.cols ≡ 1 }
     requires finite { AreNumbers edges.now.shape.rows known.old }
     ensures finite { OnOk result (AreNumbers edges.now.shape.rows known.new) }
-    ensures least { OnOk result ((v : ℕ) → number_at known.new v ≡ min (number_at known.old v) (at min_plus (product min_plus edges.now fell.now) v 0)) }
+    ensures least { OnOk result (AreLeast (number_at known.old) (reached_by edges.now fell.now) (number_at known.new)) }
     ensures shape { IfOk result (λ m. m.shape ≡ product_shape edges.now fell.now) }
-    ensures new { IfOk result (λ m. (v : ℕ) → at min_plus (product min_plus edges.now fell.now) v 0 < number_at known.old v → at min_plus m v 0 ≡ at min_plus (product min_plus edges.now fell.now) v 0) }
-    ensures old { IfOk result (λ m. (v : ℕ) → number_at known.old v ≤ at min_plus (product min_plus edges.now fell.now) v 0 → at min_plus m v 0 ≡ infinite) }
+    ensures new { IfOk result (HaveFallen (number_at known.old) (reached_by edges.now fell.now)) }
+    ensures old { IfOk result (HaveStayed (number_at known.old) (reached_by edges.now fell.now)) }
 {
     if let Numbers::Dense(list) = known {
         if list.len() / VERTICES_PER_FALLEN <= fell.len() {
@@ -205,7 +206,7 @@ fn relax(
     take_lower(alloc, known, &reached)
 }
 
-/// The product of a block and a vector, a column of as many rows as the block has columns.
+/// The product of a block and a vector, which is a column with as many rows as the block has columns.
 pub fn vector_product<S: Semiring>(
     alloc: Global,
     block: &Block<S>,

@@ -15,7 +15,7 @@ use Rattle.cb_product.specs.InColumns.{AreInColumns}
 use Rattle.cb_product.proofs.StoredColumn.{AddsColumn}
 use Rattle.cb_selections.specs.Selections.{pair_shape, pair_value, kronecker}
 use Rattle.cb_selections.proofs.ColumnsMade.{IsMadeTo, made_none, made_past, made_more, made_all, absent_value}
-use Rattle.cb_selections.proofs.Pairs.{pairs_none, pairs_next, pairs_all, pair_none, pair_next, pair_all}
+use Rattle.cb_selections.proofs.NumberPairs.{pairs_none, pairs_next, pairs_all, pair_none, pair_next, pair_all}
 use Rattle.cb_selections.proofs.PairedRows.{pair_left, pair_right}
 
 module _ (s : Arithmetic) (laws : IsSemiring s) (a b : Sparse) (is : IsMatrix s a) (is' : IsMatrix s b) (cs ds : List ℕ) (cs_up : AllPairs (λ c d. c < d) cs) (ds_up : AllPairs (λ c d. c < d) ds) (cs_in : All (λ c. c < a.shape.cols) cs) (ds_in : All (λ d. d < b.shape.cols) ds) (cs_all : AreInColumns cs a.entries) (ds_all : AreInColumns ds b.entries) where

@@ -12,7 +12,8 @@ use Rattle.cb_selections.specs.Selections.{selected}
 use Rattle.cb_selections.proofs.DiagonalPlaces.{zero_where}
 use Rattle.cb_selections.proofs.ReplacedColumn.{of_stored-some, of_stored-none}
 
-stored_where : (z : ℕ) (b : Bool) (x : ℕ) → of_stored z (where_true z b) x ≡ where_true z b x
+-- a value replaced by itself or by zero
+pub stored_where : (z : ℕ) (b : Bool) (x : ℕ) → of_stored z (where_true z b) x ≡ where_true z b x
 stored_where z b x =
     ⊎_elim
     (λ (e : x ≡ z). of_stored-none z (where_true z b) x e ∙ sym (ap (where_true z b) e ∙ zero_where z b))

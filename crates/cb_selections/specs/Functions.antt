@@ -1,10 +1,10 @@
--- What becomes of the value of an entry.
+-- Functions of the value and the place of an entry.
 use Rattle.std.specs.Prelude.{ℕ}
 use Rattle.cb_semirings.specs.Arithmetic.{Arithmetic}
 use Rattle.cb_selections.specs.declared.functions.Function.{Function}
 use Rattle.cb_selections.specs.declared.functions.Function.TheVariants.{Constant, Sum, LeftProduct, RightProduct, Row, Column}
 
--- the number that a function takes beside the value at the place (i, j)
+-- the operand of a function at the place (i, j): the number that it uses beside the value
 abbrev pub operand_of : Function → ℕ → ℕ → ℕ
 operand_of (Constant n) i j = n
 operand_of (Sum n) i j = n
@@ -13,7 +13,7 @@ operand_of (RightProduct n) i j = n
 operand_of Row i j = i
 operand_of Column i j = j
 
--- what it makes of the value x at the place (i, j)
+-- the result of a function for the value x at the place (i, j)
 abbrev pub function_value : Arithmetic → Function → ℕ → ℕ → ℕ → ℕ
 function_value s (Constant n) i j x = n
 function_value s (Sum n) i j x = s.add x n

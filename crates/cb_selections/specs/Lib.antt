@@ -1,5 +1,5 @@
--- Regions: places by their diagonal. Functions: what becomes of a value. Replaced: stored values replaced, place by place.
--- RuleLaws: rules make values of values. Selections: what the calls of this crate make, as matrices by their values.
+-- Regions: places by their diagonal. Functions: functions of values and places. Replaced: stored values replaced, place by
+-- place. RuleLaws: rules make values from values. Selections: the results of this crate's calls, by their values.
 pub mod Regions
 pub mod Functions
 pub mod Replaced

@@ -1,4 +1,4 @@
--- What rules make of values are values.
+-- Rules make values from values.
 use Rattle.std.specs.Prelude.{ℕ, Bool, true, false}
 use Rattle.cb_semirings.specs.Arithmetic.{Arithmetic, IsValue, IsSemiring}
 use Rattle.cb_selections.specs.declared.functions.Function.{Function}
@@ -10,7 +10,8 @@ pub where_true-value : (s : Arithmetic) → IsSemiring s → (test : Bool) (x : 
 where_true-value s laws true x h = h
 where_true-value s laws false x h = laws.zero_value
 
-pub function_value-value : (s : Arithmetic) → IsSemiring s → (f : Function) (i j x : ℕ) → IsValue s (operand_of f i j) → IsValue s x → IsValue s (function_value s f i j x)
+pub function_value-value : (s : Arithmetic) → IsSemiring s → (f : Function) (i j x : ℕ) → IsValue s (operand_of f i j)
+    → IsValue s x → IsValue s (function_value s f i j x)
 function_value-value s laws (Constant n) i j x k h = k
 function_value-value s laws (Sum n) i j x k h = laws.add_value x n h k
 function_value-value s laws (LeftProduct n) i j x k h = laws.mul_value n x k h

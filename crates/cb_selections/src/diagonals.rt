@@ -1,4 +1,4 @@
-//! The diagonal of a block as a column, and a column as a diagonal.
+//! The diagonal of a block as a column, and a column as the diagonal of a block.
 ghost use Rattle.std.specs.Prelude.{◌≡◌, ◌≢◌, ℕ, ◌<◌, ◌≤◌, ◌++◌, length, min, All, AllPairs, IfOk, OnOk};
 ghost use Rattle.cb_semirings.specs.Arithmetic.{IsValue};
 ghost use Rattle.cb_matrix.specs.Combined.{stored};
@@ -13,7 +13,7 @@ use cb_matrix::Entry;
 use cb_semirings::Semiring;
 use std::alloc::{AllocError, Global};
 
-/// The diagonal of a block, in a block of one column with as many rows as the diagonal has places.
+/// The main diagonal of a block, as a block of one column with as many rows as the diagonal has places.
 ///
 /// Costs a binary search for each column that has entries.
 pub fn diagonal<S: Semiring>(alloc: Global, block: &Block<S>) -> Result<Block<S>, AllocError>
@@ -26,7 +26,7 @@ pub fn diagonal<S: Semiring>(alloc: Global, block: &Block<S>) -> Result<Block<S>
     Ok(out)
 }
 
-/// The square block that has the entries of a column on its diagonal.
+/// The square block with the entries of a column on its main diagonal.
 ///
 /// Costs a few instructions for each entry.
 pub fn diagonal_matrix<S: Semiring>(
@@ -43,7 +43,7 @@ pub fn diagonal_matrix<S: Semiring>(
     Ok(out)
 }
 
-/// Stores the diagonal of a block in a column that has no entries.
+/// Stores the diagonal of a block in an empty column.
 fn push_diagonal<S: Semiring>(out: &mut Block<S>, block: &Block<S>) -> Result<(), AllocError>
     requires matrix { IsMatrix S.arithmetic block.now }
     requires out_matrix { IsMatrix S.arithmetic out.old }
@@ -91,7 +91,7 @@ fn value_at<S: Semiring>(rows: &[u32], values: &[u64], row: u32) -> u64
     }
 }
 
-/// Stores the entries of a column on the diagonal of a square block that has none.
+/// Stores the entries of a column on the diagonal of an empty square block.
 fn push_places<S: Semiring>(out: &mut Block<S>, column: &Block<S>) -> Result<(), AllocError>
     requires matrix { IsMatrix S.arithmetic column.now }
     requires out_matrix { IsMatrix S.arithmetic out.old }

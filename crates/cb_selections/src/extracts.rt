@@ -11,10 +11,10 @@ use cb_reshape::transpose;
 use cb_semirings::Semiring;
 use std::alloc::{AllocError, Global};
 
-/// The rows and the columns of a block with some numbers, in the order of these; a number may come more than once.
+/// The rows and columns of a block with the given numbers, in that order. A number may appear more than once.
 ///
-/// Costs a binary search for each number and a few instructions for each entry of the columns and of what is made of
-/// them, and two transposes.
+/// Costs a binary search for each number, a few instructions for each entry of the columns and of the result, and two
+/// transposes.
 pub fn extract<S: Semiring>(
     alloc: Global,
     block: &Block<S>,
@@ -33,7 +33,7 @@ pub fn extract<S: Semiring>(
     transpose(alloc, &some_rows)
 }
 
-/// The columns of a block with some numbers, in the order of these.
+/// The columns of a block with the given numbers, in that order.
 fn columns_by<S: Semiring>(
     alloc: Global,
     block: &Block<S>,
@@ -48,7 +48,7 @@ fn columns_by<S: Semiring>(
     Ok(out)
 }
 
-/// Stores the columns with some numbers in a block that has no entries.
+/// Stores the columns with the given numbers in an empty block.
 fn push_columns<S: Semiring>(
     out: &mut Block<S>,
     block: &Block<S>,

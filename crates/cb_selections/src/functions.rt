@@ -1,4 +1,4 @@
-//! What becomes of the value of an entry.
+//! Functions that give an entry a new value.
 ghost use Rattle.std.specs.Prelude.{◌≡◌, ◌↔◌, ℕ, ◌<◌, IsTrue};
 ghost use Rattle.cb_semirings.specs.Arithmetic.{IsValue};
 ghost use Rattle.cb_selections.specs.Functions.{operand_of, function_value};
@@ -9,7 +9,7 @@ use cb_semirings::Semiring;
 /// A function of the value of an entry and of its place. Rows and columns are counted from 0.
 #[derive(Clone, Copy)]
 pub enum Function {
-    /// This number.
+    /// Always this number.
     Constant(u64),
     /// The sum of the value and this number.
     Sum(u64),
@@ -24,7 +24,7 @@ pub enum Function {
 }
 
 impl Function {
-    /// Whether the number that it takes is a value of the semiring at each place of a shape.
+    /// Whether its operand is a value of the semiring at every place of a shape.
     pub fn fits<S: Semiring>(&self, shape: Shape) -> bool
         ensures { IsTrue result ↔ ((i j : ℕ) → i < shape.rows → j < shape.cols → IsValue S.arithmetic (operand_of self.now i j)) }
     {
@@ -37,7 +37,7 @@ impl Function {
         S::is_value(self.operand(shape.rows() - 1, shape.cols() - 1))
     }
 
-    /// The number that it takes beside the value at a place.
+    /// Its operand at a place: the number that it uses beside the value.
     fn operand(&self, row: u32, column: u32) -> u64
         ensures { result ≡ operand_of self.now row column }
     {
@@ -51,7 +51,7 @@ impl Function {
         }
     }
 
-    /// What it makes of a value at a place.
+    /// Its result for a value at a place.
     pub(crate) fn value<S: Semiring>(&self, row: u32, column: u32, value: u64) -> u64
         requires value { IsValue S.arithmetic value }
         requires operand { IsValue S.arithmetic (operand_of self.now row column) }

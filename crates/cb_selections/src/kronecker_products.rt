@@ -2,9 +2,8 @@
 ghost use Rattle.std.specs.Prelude.{◌≡◌, ◌≢◌, ℕ, ◌<◌, ◌≤◌, ◌*◌, ◌+◌, length, All, AllPairs, IfOk, OnOk};
 ghost use Rattle.cb_matrix.specs.Sparse.{IsMatrix};
 ghost use Rattle.cb_matrix.specs.Values.{empty_matrix};
-ghost use Rattle.cb_dcsc.specs.Columns.{row_value};
 ghost use Rattle.cb_product.specs.SparseColumn.{IsSparseColumn};
-ghost use Rattle.cb_selections.specs.Selections.{kronecker, pair_shape, pair_value};
+ghost use Rattle.cb_selections.specs.Selections.{kronecker, pair_shape, IsPaired};
 
 use crate::shape_of;
 use cb_dcsc::Block;
@@ -12,8 +11,8 @@ use cb_matrix::LIMIT;
 use cb_semirings::Semiring;
 use std::alloc::{AllocError, Global};
 
-/// The Kronecker product of two blocks: in place of each value of the first stand its products with all of the second.
-/// A product that is zero is not stored.
+/// The Kronecker product of two blocks: each value of the first is replaced by its products with all of the second.
+/// Products of zero aren't stored.
 ///
 /// Costs a few instructions for each pair of an entry of the first and one of the second.
 pub fn kronecker<S: Semiring>(
@@ -35,7 +34,7 @@ pub fn kronecker<S: Semiring>(
     Ok(out)
 }
 
-/// Stores the Kronecker product in a block that has no entries. The lists are for one column at a time.
+/// Stores the Kronecker product in an empty block. The lists hold one column at a time.
 fn push_products<S: Semiring>(
     out: &mut Block<S>,
     kept_rows: &mut Vec<u32>,
@@ -74,7 +73,8 @@ fn push_products<S: Semiring>(
     Ok(())
 }
 
-/// Makes the two lists the rows and values of the products of two columns, of which the second has so many rows.
+/// Fills the two lists with the rows and values of the Kronecker product of two columns, of which the second has `height`
+/// rows.
 fn pair_column<S: Semiring>(
     kept_rows: &mut Vec<u32>,
     kept_values: &mut Vec<u64>,
@@ -89,7 +89,7 @@ fn pair_column<S: Semiring>(
     requires low { All (λ i. i < height) rows.now }
     requires limit { All (λ i. (i + 1) * height ≤ LIMIT) left_rows.now }
     ensures column { OnOk result (IsSparseColumn S.arithmetic kept_rows.new.items kept_values.new.items) }
-    ensures values { OnOk result ((i : ℕ) → row_value S.arithmetic.zero kept_rows.new.items kept_values.new.items i ≡ pair_value S.arithmetic height (row_value S.arithmetic.zero left_rows.now left_values.now) (row_value S.arithmetic.zero rows.now values.now) i) }
+    ensures values { OnOk result (IsPaired S.arithmetic height left_rows.now left_values.now rows.now values.now kept_rows.new.items kept_values.new.items) }
 {
     kept_rows.clear();
     kept_values.clear();

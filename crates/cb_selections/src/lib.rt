@@ -1,12 +1,12 @@
-//! Operations of one matrix that programs of GraphBLAS are made of: entries selected by their place, values replaced, the
-//! diagonal, rows and columns taken by their numbers, and the Kronecker product.
+//! Further operations that GraphBLAS programs consist of: entries selected by their place, values replaced, the diagonal,
+//! rows and columns extracted by their numbers, a part assigned, and the Kronecker product.
 //!
-//! Each walks the columns that have entries, in order, and stores what becomes of each; so each costs what the entries
-//! cost, whatever the dimensions are. What becomes of an entry is a rule (`rules`): a region of places (`regions`), or a
-//! function of the value and the place (`functions`); one walk (`replacements`) stores what a rule makes.
+//! Each goes over the columns that have entries, in order, so its cost is proportional to the entries, whatever the
+//! dimensions. A rule (`rules`) gives an entry its new value: it is a region of places (`regions`), or a function of the
+//! value and the place (`functions`). One walk (`replacements`) applies any rule.
 //!
-//! The operations are `GrB_select`, `GrB_apply`, `GrB_Matrix_diag`, `GrB_extract` and `GrB_kronecker` of The GraphBLAS C
-//! API Specification, version 2.1, section 4.3.
+//! The operations are `GrB_select`, `GrB_apply`, `GrB_Matrix_diag`, `GrB_extract`, `GrB_assign` and `GrB_kronecker` of The
+//! GraphBLAS C API Specification, version 2.1, section 4.3.
 #![tactic(auto)]
 
 ghost use Rattle.std.specs.Prelude.{◌≡◌, ℕ, ◌<◌, ◌≤◌, IfOk};
@@ -14,6 +14,7 @@ ghost use Rattle.cb_semirings.specs.Arithmetic.{IsValue};
 ghost use Rattle.cb_selections.specs.Functions.{operand_of};
 ghost use Rattle.cb_selections.specs.Selections.{selected, applied};
 
+mod assignments;
 mod diagonals;
 mod extracts;
 mod functions;
@@ -23,6 +24,7 @@ mod replacements;
 mod rules;
 
 use crate::replacements::replaced;
+pub use assignments::assign;
 use cb_dcsc::Block;
 use cb_matrix::{LIMIT, Shape};
 use cb_semirings::Semiring;
@@ -35,7 +37,7 @@ use std::alloc::{AllocError, Global};
 
 /// The entries of a block that are in a region.
 ///
-/// Costs a few instructions for each entry. No room is taken before it is needed, since few may be in the region.
+/// Costs a few instructions for each entry. Room is taken only as it is needed, since few entries may be in the region.
 pub fn select<S: Semiring>(
     alloc: Global,
     block: &Block<S>,
@@ -46,7 +48,7 @@ pub fn select<S: Semiring>(
     replaced(alloc, block, &region, 0)
 }
 
-/// What a function makes of the value of each entry. Where that is zero, no entry is stored.
+/// The block with a function applied to each entry. Results of zero aren't stored.
 ///
 /// Costs a few instructions for each entry.
 pub fn apply<S: Semiring>(
@@ -60,7 +62,7 @@ pub fn apply<S: Semiring>(
     replaced(alloc, block, &function, block.len())
 }
 
-/// The shape with so many rows and columns.
+/// The shape with this many rows and columns.
 fn shape_of(rows: u32, cols: u32) -> Shape
     requires rows { rows ≤ LIMIT }
     requires cols { cols ≤ LIMIT }

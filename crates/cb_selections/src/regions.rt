@@ -1,23 +1,23 @@
-//! Places by the diagonal that they are on.
+//! Regions of a matrix, bounded by a diagonal.
 ghost use Rattle.std.specs.Prelude.{◌≡◌, ◌+◌};
 ghost use Rattle.cb_selections.specs.Regions.{is_in};
 
-/// A diagonal, by a place on it. Where that has more columns before it than rows, the diagonal is above the main one.
+/// A diagonal, given by a place on it. If the place's column is greater than its row, the diagonal is above the main one.
 ///
-/// GraphBLAS gives a diagonal a number, its column less its row: `(0, k)` is a place on diagonal k, and `(k, 0)` one on
-/// diagonal -k.
+/// GraphBLAS numbers a diagonal by its column minus its row: row 0 and column k are on diagonal k, and row k and column 0
+/// on diagonal -k.
 #[derive(Clone, Copy)]
 pub struct Diagonal {
     pub row: u32,
     pub column: u32,
 }
 
-/// The places on a diagonal, on one side of it, or around it.
+/// The places on a diagonal, off it, or on one side of it.
 #[derive(Clone, Copy)]
 pub enum Region {
-    /// The lower triangle: the places on the diagonal and below it.
+    /// The lower triangle: the places on or below the diagonal.
     Lower(Diagonal),
-    /// The upper triangle: the places on the diagonal and above it.
+    /// The upper triangle: the places on or above the diagonal.
     Upper(Diagonal),
     /// The places on the diagonal.
     On(Diagonal),
@@ -52,7 +52,7 @@ impl Region {
 }
 
 impl Diagonal {
-    /// How far right and how far down a place is, both more by the same number: on the diagonal they are the same.
+    /// Two numbers that differ by how far the place is to the right of the diagonal; on the diagonal they are equal.
     fn distances(&self, row: u32, column: u32) -> (u64, u64)
         ensures right { result.0 ≡ column + self.now.row }
         ensures down { result.1 ≡ row + self.now.column }

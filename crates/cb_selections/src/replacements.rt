@@ -1,18 +1,17 @@
-//! The stored values of a block replaced by what a rule makes of them.
+//! Stored values of a block replaced by a rule.
 ghost use Rattle.std.specs.Prelude.{◌≡◌, ◌≢◌, ℕ, ◌<◌, length, All, AllPairs, IfOk, OnOk};
 ghost use Rattle.cb_semirings.specs.Arithmetic.{IsValue};
 ghost use Rattle.cb_matrix.specs.Sparse.{IsMatrix};
 ghost use Rattle.cb_matrix.specs.Values.{empty_matrix};
-ghost use Rattle.cb_dcsc.specs.Columns.{row_value};
 ghost use Rattle.cb_product.specs.SparseColumn.{IsSparseColumn};
-ghost use Rattle.cb_selections.specs.Replaced.{of_stored, replaced};
+ghost use Rattle.cb_selections.specs.Replaced.{replaced, IsReplaced};
 
 use crate::rules::Rule;
 use cb_dcsc::Block;
 use cb_semirings::Semiring;
 use std::alloc::{AllocError, Global};
 
-/// The block with what the rule makes of each entry. It has room for so many entries from the start.
+/// The block with a rule applied to each entry. It gets room for this many entries at the start.
 pub(crate) fn replaced<S: Semiring, R: Rule<S>>(
     alloc: Global,
     block: &Block<S>,
@@ -30,7 +29,7 @@ pub(crate) fn replaced<S: Semiring, R: Rule<S>>(
     Ok(out)
 }
 
-/// Stores what the rule makes of each column in a block that has no entries. The lists are for one column at a time.
+/// Stores the block with the rule applied in an empty block. The lists hold one column at a time.
 fn push_columns<S: Semiring, R: Rule<S>>(
     out: &mut Block<S>,
     kept_rows: &mut Vec<u32>,
@@ -53,7 +52,7 @@ fn push_columns<S: Semiring, R: Rule<S>>(
     Ok(())
 }
 
-/// Makes the two lists the rows and values that a rule makes of those of a column, without zeros.
+/// Fills the two lists with the rows and values of a column after a rule, without zeros.
 fn replace_column<S: Semiring, R: Rule<S>>(
     kept_rows: &mut Vec<u32>,
     kept_values: &mut Vec<u64>,
@@ -65,7 +64,7 @@ fn replace_column<S: Semiring, R: Rule<S>>(
     requires fits { All (λ i. R.fits rule.now i column) rows.now }
     requires entries { IsSparseColumn S.arithmetic rows.now values.now }
     ensures column { OnOk result (IsSparseColumn S.arithmetic kept_rows.new.items kept_values.new.items) }
-    ensures values { OnOk result ((i : ℕ) → row_value S.arithmetic.zero kept_rows.new.items kept_values.new.items i ≡ of_stored S.arithmetic.zero (R.made rule.now i column) (row_value S.arithmetic.zero rows.now values.now i)) }
+    ensures values { OnOk result (IsReplaced S.arithmetic.zero (λ i. R.made rule.now i column) rows.now values.now kept_rows.new.items kept_values.new.items) }
 {
     kept_rows.clear();
     kept_values.clear();

@@ -1,4 +1,4 @@
-//! What becomes of an entry, by its place.
+//! Rules that give an entry a new value, by its place.
 ghost use Rattle.std.specs.Prelude.{◌≡◌, ℕ};
 ghost use Rattle.cb_semirings.specs.Arithmetic.{IsValue};
 ghost use Rattle.cb_selections.specs.Regions.{is_in};
@@ -10,12 +10,12 @@ use crate::functions::Function;
 use crate::regions::Region;
 use cb_semirings::Semiring;
 
-/// A value from the value of an entry and its place.
+/// A rule makes a value from the value and the place of an entry.
 pub(crate) trait Rule<S: Semiring> {
-    /// Whether it makes values of values at a place.
+    /// At this place it makes values from values.
     ghost fits: { Self → ℕ → ℕ → Type 0 };
 
-    /// The value, by row, column and what was there.
+    /// The new value, by row, column and old value.
     ghost made: { Self → ℕ → ℕ → ℕ → ℕ };
 
     fn make(&self, row: u32, column: u32, value: u64) -> u64
@@ -26,7 +26,7 @@ pub(crate) trait Rule<S: Semiring> {
     ghost values: { (rule : Self) (i j x : ℕ) → fits rule i j → IsValue S.arithmetic x → IsValue S.arithmetic (made rule i j x) };
 }
 
-/// The value in the region, and zero outside it.
+/// Keeps values in the region, and makes others zero.
 impl<S: Semiring> Rule<S> for Region {
     ghost fits = { λ rule i j. Unit {0} };
 
@@ -43,7 +43,7 @@ impl<S: Semiring> Rule<S> for Region {
     }
 }
 
-/// What the function makes of the value.
+/// Applies the function.
 impl<S: Semiring> Rule<S> for Function {
     ghost fits = { λ rule i j. IsValue S.arithmetic (operand_of rule i j) };
 

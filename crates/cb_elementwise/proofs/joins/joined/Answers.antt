@@ -9,7 +9,7 @@ loop-place-init g c =
     record {
       left = c.start-at_left.ensures.stands;
       right = c.start-at_right.ensures.stands;
-      joined = join_begin g.S.Semiring.arithmetic g.met.S.Semiring.is_semiring _ (rule.zeros c.args.rule.now) (rule.values c.args.rule.now) c.args.left.now c.args.right.now c.empty-out.result _ _ _ _ c.shape-shape.ensures.matrix c.shape-shape-2.ensures.matrix c.requires c.in_ok-reserve.ensures.same c.empty-out.ensures.value c.shape-shape.ensures.shape c.empty-out.ensures.matrix c.start-at_left.ensures.all c.start-at_right.ensures.all;
+      joined = join_begin g.S.Semiring.arithmetic g.met.S.Semiring.is_semiring _ (rule.zeros c.args.rule.now) (rule.values c.args.rule.now) c.args.left.now c.args.right.now c.empty-out.result _ _ _ _ c.shape-shape.ensures.matrix c.shape.ensures.matrix c.requires c.in_ok-reserve.ensures.same c.empty-out.ensures.value c.shape-shape.ensures.shape c.empty-out.ensures.matrix c.start-at_left.ensures.all c.start-at_right.ensures.all;
     }
 
 pub combine-value-requires-clause-left_is_value : goal.combine-value-requires-clause-left_is_value

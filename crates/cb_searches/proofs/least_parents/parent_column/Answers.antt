@@ -34,12 +34,13 @@ from_ordered-requires c =
     let a = c.args.graph.now in
     let f = first_nearer a (number_at c.args.known.now) in
     let vs = c.column_numbers-columns.result.now in
-    let shape = c.column_shape-shape.result in
+    let shape = c.column_shape.result in
     let all : c.loop-n.entries.items ≡ vertex_entries infinite f vs = c.loop-n.invariant ∙ ap (vertex_entries infinite f) (take_all c.loop-n.n vs (omega arith)) in
-    let rows : shape.rows ≡ a.shape.rows = ap (λ (e : Extent). e.rows) c.column_shape-shape.ensures ∙ ap (λ (e : Extent). e.rows) c.shape.ensures.shape in
-    let fits : a.shape.rows < infinite = omega (arith, rows, c.rows-rows.ensures.value, c.rows-rows.ensures.limit) in
+    let side : c.shape-shape.result.rows ≡ a.shape.rows = ap (λ (e : Extent). e.rows) c.shape-shape.ensures.shape in
+    let rows : shape.rows ≡ a.shape.rows = ap (λ (e : Extent). e.rows) c.column_shape.ensures ∙ side in
+    let fits : a.shape.rows < infinite = omega (arith, side, c.rows.ensures.value, c.rows.ensures.limit) in
     subst (λ (es : List Entry). IsMatrix min_plus (record { shape = shape; entries = es })) (sym all)
-    (vertex_matrix min_plus shape f vs (ap (λ (e : Extent). e.cols) c.column_shape-shape.ensures) (λ v. let h = nearer_fits a c.shape.ensures.matrix fits (number_at c.args.known.now) v in omega arith) c.column_numbers-columns.ensures.ascending
+    (vertex_matrix min_plus shape f vs (ap (λ (e : Extent). e.cols) c.column_shape.ensures) (λ v. let h = nearer_fits a c.shape-shape.ensures.matrix fits (number_at c.args.known.now) v in omega arith) c.column_numbers-columns.ensures.ascending
     (All-weaker (λ v. v < a.shape.cols) (λ v. v < shape.rows) (λ v l. omega (arith, l, rows, c.requires)) vs c.column_numbers-columns.ensures.inside))
 
 pub returns-clause-values : goal.returns-clause-values

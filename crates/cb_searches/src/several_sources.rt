@@ -1,0 +1,96 @@
+//! Searches from several sources of one graph, whose answers stand side by side.
+//!
+//! The block is transposed once, for all of them.
+ghost use Rattle.std.specs.Prelude.{◌≡◌, ℕ, ◌<◌, ◌≤◌, ◌++◌, length, map, slice_index, All, IfOk, OnOk};
+ghost use Rattle.cb_semirings.specs.Tables.{min_plus};
+ghost use Rattle.cb_matrix.specs.Sparse.{Sparse, IsMatrix};
+ghost use Rattle.cb_searches.specs.Searches.{HasEdges};
+ghost use Rattle.cb_searches.specs.SeveralSources.{AreDistancesFrom, AreLevelsFrom, in_column_of};
+
+use crate::one_block::{nearest_by_edges, turned};
+use cb_dcsc::Block;
+use cb_matrix::{Entry, LIMIT, Matrix, Shape};
+use cb_semirings::{MinPlus, OrAnd};
+use std::alloc::{AllocError, Global};
+
+/// The distance of each vertex from each of some sources, in the graph of a square block: column j has the distances from
+/// the jth source. Sources may come in any order, and more than once.
+///
+/// Costs a transpose, and a search for each source, each as [`distances`](crate::distances) has it.
+pub fn distances_from(
+    alloc: Global,
+    graph: Block<MinPlus>,
+    sources: &[u32],
+) -> Result<Matrix<MinPlus>, AllocError>
+    requires square { graph.shape.rows ≡ graph.shape.cols }
+    requires sources { All (λ v. v < graph.shape.rows) sources.now }
+    requires limit { length sources.now ≤ LIMIT }
+    ensures distances { IfOk result (AreDistancesFrom graph sources.now) }
+    ensures matrix { IfOk result (IsMatrix min_plus) }
+{
+    let _shape = graph.shape();
+    let edges = turned(alloc, graph)?;
+    let columns = columns_from(alloc, &edges, sources)?;
+    let _shape = columns.shape();
+    Ok(columns)
+}
+
+/// The level of each vertex from each of some sources, in the graph of a square block: column j has the levels from the
+/// jth source. The cost is that of [`distances_from`].
+pub fn levels_from(
+    alloc: Global,
+    graph: Block<OrAnd>,
+    sources: &[u32],
+) -> Result<Matrix<MinPlus>, AllocError>
+    requires square { graph.shape.rows ≡ graph.shape.cols }
+    requires sources { All (λ v. v < graph.shape.rows) sources.now }
+    requires limit { length sources.now ≤ LIMIT }
+    ensures levels { IfOk result (AreLevelsFrom graph sources.now) }
+    ensures matrix { IfOk result (IsMatrix min_plus) }
+{
+    let _rows = graph.shape().rows();
+    distances_from(alloc, graph.recast(), sources)
+}
+
+/// The distances from each source, side by side, in the graph of a square matrix of which this is the transposed one.
+fn columns_from(
+    alloc: Global,
+    edges: &Block<MinPlus>,
+    sources: &[u32],
+) -> Result<Matrix<MinPlus>, AllocError>
+    requires graph { (a : Sparse) × HasEdges edges.now a }
+    requires sources { All (λ v. v < edges.now.shape.cols) sources.now }
+    requires limit { length sources.now ≤ LIMIT }
+    ensures { IfOk result (λ m. (a : Sparse) → HasEdges edges.now a → AreDistancesFrom a sources.now m) }
+{
+    let shape = shape_of(edges.shape().cols(), sources.len() as u32);
+    let mut entries = Vec::new(alloc);
+    for n in 0..sources.len() {
+        let column = nearest_by_edges(alloc, edges, sources[n])?;
+        append(&mut entries, column.entries(), n as u32)?;
+    }
+    Ok(Matrix::from_ordered(shape, entries))
+}
+
+/// Appends the entries of a column, as those of this column.
+fn append(entries: &mut Vec<Entry>, column: &[Entry], number: u32) -> Result<(), AllocError>
+    ensures { OnOk result (entries.new.items ≡ entries.old.items ++ map (in_column_of number) column.now) }
+{
+    for entry in column {
+        entries.push(Entry {
+            row: entry.row,
+            column: number,
+            value: entry.value,
+        })?;
+    }
+    Ok(())
+}
+
+/// The shape with so many rows and columns.
+fn shape_of(rows: u32, cols: u32) -> Shape
+    requires rows { rows ≤ LIMIT }
+    requires cols { cols ≤ LIMIT }
+    ensures { result ≡ record { rows = rows; cols = cols } }
+{
+    Shape::new(rows, cols).unwrap()
+}
