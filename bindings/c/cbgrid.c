@@ -1,7 +1,7 @@
 /*
- * The C side of cbgrid: it looks for null pointers, puts a valid pointer in the place of a null one where a
- * list is empty, calls, and frees. Compressed rows are the compressed columns of the transpose, which two proved
- * calls turn. All else is the proved library's, crates/cb_ffi.
+ * The C side of cbgrid: it looks for null pointers, replaces the null pointer of an empty list by a valid one, gives a
+ * place on a diagonal for its number, calls, and frees. Compressed rows are the compressed columns of the transpose,
+ * which two proved calls turn. The proved library, crates/cb_ffi, does everything else.
  */
 #include "cbgrid.h"
 
@@ -119,8 +119,22 @@ uint32_t cbgrid_kernel_kept_column_sums(kept a, struct owned *out);
 uint32_t cbgrid_kernel_kept_add(kept a, kept b, struct owned *out);
 uint32_t cbgrid_kernel_kept_times(kept a, kept b, struct owned *out);
 uint32_t cbgrid_kernel_kept_prune(kept a, uint32_t test, uint64_t bound, struct owned *out);
+uint32_t cbgrid_kernel_kept_select(kept a, uint32_t region, uint32_t row, uint32_t column, struct owned *out);
+uint32_t cbgrid_kernel_kept_apply(kept a, uint32_t function, uint64_t number, struct owned *out);
+uint32_t cbgrid_kernel_kept_diagonal(kept a, struct owned *out);
+uint32_t cbgrid_kernel_kept_diagonal_matrix(kept a, struct owned *out);
+uint32_t cbgrid_kernel_kept_part(kept a, uint32_t row, uint32_t row_end, uint32_t column, uint32_t column_end,
+                                 struct owned *out);
+uint32_t cbgrid_kernel_kept_extract(kept a, const uint32_t *rows, size_t row_count, const uint32_t *columns,
+                                    size_t column_count, struct owned *out);
+uint32_t cbgrid_kernel_kept_kronecker(kept a, kept b, struct owned *out);
+uint32_t cbgrid_kernel_kept_assign(kept a, uint32_t row, uint32_t column, kept part, struct owned *out);
+uint32_t cbgrid_kernel_kept_exclude(kept a, kept mask, struct owned *out);
+uint64_t cbgrid_kernel_kept_total(kept a);
 uint32_t cbgrid_kernel_kept_levels(kept a, uint32_t source, struct owned *out);
 uint32_t cbgrid_kernel_kept_distances(kept a, uint32_t source, struct owned *out);
+uint32_t cbgrid_kernel_kept_levels_from(kept a, const uint32_t *sources, size_t count, struct owned *out);
+uint32_t cbgrid_kernel_kept_distances_from(kept a, const uint32_t *sources, size_t count, struct owned *out);
 uint32_t cbgrid_kernel_kept_parents(kept a, uint32_t source, struct owned *out);
 uint32_t cbgrid_kernel_kept_components(kept a, struct owned *out);
 uint32_t cbgrid_kernel_kept_triangles(kept a, uint64_t *out);
@@ -460,6 +474,74 @@ int cbgrid_matrix_prune(const struct cbgrid_matrix *a, uint32_t test, uint64_t b
     return hand(cbgrid_kernel_kept_prune((kept){a}, test, bound, &made), made, out);
 }
 
+int cbgrid_matrix_select(const struct cbgrid_matrix *a, uint32_t region, int64_t diagonal, struct cbgrid_matrix **out) {
+    struct owned made = {NULL};
+    if (!a || !out) return CBGRID_NULL_POINTER;
+    /* Diagonal k goes through (0, k), or (-k, 0). No matrix reaches one whose number is the limit or beyond it. */
+    int64_t limit = CBGRID_LIMIT, k = diagonal > limit ? limit : diagonal < -limit ? -limit : diagonal;
+    uint32_t row = k < 0 ? (uint32_t)-k : 0, column = k > 0 ? (uint32_t)k : 0;
+    return hand(cbgrid_kernel_kept_select((kept){a}, region, row, column, &made), made, out);
+}
+
+int cbgrid_matrix_apply(const struct cbgrid_matrix *a, uint32_t function, uint64_t number, struct cbgrid_matrix **out) {
+    struct owned made = {NULL};
+    if (!a || !out) return CBGRID_NULL_POINTER;
+    return hand(cbgrid_kernel_kept_apply((kept){a}, function, number, &made), made, out);
+}
+
+int cbgrid_matrix_diagonal(const struct cbgrid_matrix *a, struct cbgrid_matrix **out) {
+    struct owned made = {NULL};
+    if (!a || !out) return CBGRID_NULL_POINTER;
+    return hand(cbgrid_kernel_kept_diagonal((kept){a}, &made), made, out);
+}
+
+int cbgrid_matrix_diagonal_matrix(const struct cbgrid_matrix *a, struct cbgrid_matrix **out) {
+    struct owned made = {NULL};
+    if (!a || !out) return CBGRID_NULL_POINTER;
+    return hand(cbgrid_kernel_kept_diagonal_matrix((kept){a}, &made), made, out);
+}
+
+int cbgrid_matrix_part(const struct cbgrid_matrix *a, uint32_t row, uint32_t row_end, uint32_t column,
+                       uint32_t column_end, struct cbgrid_matrix **out) {
+    struct owned made = {NULL};
+    if (!a || !out) return CBGRID_NULL_POINTER;
+    return hand(cbgrid_kernel_kept_part((kept){a}, row, row_end, column, column_end, &made), made, out);
+}
+
+int cbgrid_matrix_extract(const struct cbgrid_matrix *a, const uint32_t *rows, size_t row_count,
+                          const uint32_t *columns, size_t column_count, struct cbgrid_matrix **out) {
+    struct owned made = {NULL};
+    if (!a || !out || (row_count && !rows) || (column_count && !columns)) return CBGRID_NULL_POINTER;
+    if (!row_count) rows = NOTHING32;
+    if (!column_count) columns = NOTHING32;
+    return hand(cbgrid_kernel_kept_extract((kept){a}, rows, row_count, columns, column_count, &made), made, out);
+}
+
+int cbgrid_matrix_kron(const struct cbgrid_matrix *a, const struct cbgrid_matrix *b, struct cbgrid_matrix **out) {
+    struct owned made = {NULL};
+    if (!a || !b || !out) return CBGRID_NULL_POINTER;
+    return hand(cbgrid_kernel_kept_kronecker((kept){a}, (kept){b}, &made), made, out);
+}
+
+int cbgrid_matrix_assign(const struct cbgrid_matrix *a, uint32_t row, uint32_t column,
+                         const struct cbgrid_matrix *part, struct cbgrid_matrix **out) {
+    struct owned made = {NULL};
+    if (!a || !part || !out) return CBGRID_NULL_POINTER;
+    return hand(cbgrid_kernel_kept_assign((kept){a}, row, column, (kept){part}, &made), made, out);
+}
+
+int cbgrid_matrix_exclude(const struct cbgrid_matrix *a, const struct cbgrid_matrix *mask, struct cbgrid_matrix **out) {
+    struct owned made = {NULL};
+    if (!a || !mask || !out) return CBGRID_NULL_POINTER;
+    return hand(cbgrid_kernel_kept_exclude((kept){a}, (kept){mask}, &made), made, out);
+}
+
+int cbgrid_matrix_reduce_all(const struct cbgrid_matrix *a, uint64_t *out) {
+    if (!a || !out) return CBGRID_NULL_POINTER;
+    *out = cbgrid_kernel_kept_total((kept){a});
+    return CBGRID_OK;
+}
+
 int cbgrid_matrix_levels(const struct cbgrid_matrix *a, uint32_t source, struct cbgrid_matrix **out) {
     struct owned made = {NULL};
     if (!a || !out) return CBGRID_NULL_POINTER;
@@ -470,6 +552,22 @@ int cbgrid_matrix_distances(const struct cbgrid_matrix *a, uint32_t source, stru
     struct owned made = {NULL};
     if (!a || !out) return CBGRID_NULL_POINTER;
     return hand(cbgrid_kernel_kept_distances((kept){a}, source, &made), made, out);
+}
+
+int cbgrid_matrix_levels_from(const struct cbgrid_matrix *a, const uint32_t *sources, size_t count,
+                              struct cbgrid_matrix **out) {
+    struct owned made = {NULL};
+    if (!a || !out || (count && !sources)) return CBGRID_NULL_POINTER;
+    if (!count) sources = NOTHING32;
+    return hand(cbgrid_kernel_kept_levels_from((kept){a}, sources, count, &made), made, out);
+}
+
+int cbgrid_matrix_distances_from(const struct cbgrid_matrix *a, const uint32_t *sources, size_t count,
+                                 struct cbgrid_matrix **out) {
+    struct owned made = {NULL};
+    if (!a || !out || (count && !sources)) return CBGRID_NULL_POINTER;
+    if (!count) sources = NOTHING32;
+    return hand(cbgrid_kernel_kept_distances_from((kept){a}, sources, count, &made), made, out);
 }
 
 int cbgrid_matrix_parents(const struct cbgrid_matrix *a, uint32_t source, struct cbgrid_matrix **out) {

@@ -1,10 +1,10 @@
 /*
- * cbgrid: sparse matrices over semirings. Products, sums, transposes, reductions, pruning and Matrix Market
- * texts; and of graphs levels, distances, parents, components and triangles.
+ * cbgrid: sparse matrices over semirings. It multiplies, adds, transposes, reduces, prunes and selects, reads and
+ * writes Matrix Market texts, and finds levels, distances, parents, components and triangles of graphs.
  *
- * Matrices are passed as compressed columns, and results are returned in the same form. A call checks the
- * caller's arrays where they are, and copies their entries once into a block of its own. The arrays need no
- * conversion and are never written to. For matrices that are used more than once, see `Kept matrices` below.
+ * You pass a matrix as compressed columns and get results in the same form. A call checks your arrays where they
+ * are and copies their entries once into a block of its own. The arrays need no conversion, and no call writes to
+ * them. If you use a matrix more than once, keep it: see `Kept matrices` below.
  *
  *     uint32_t starts[] = {0, 1, 3}, rows[] = {0, 0, 1};
  *     uint64_t values[] = {1, 2, 3};
@@ -13,34 +13,32 @@
  *     if (code) fprintf(stderr, "%s\n", cbgrid_message(code));
  *     else cbgrid_free_columns(&square);
  *
- * Counting. Rows, columns and vertices count from 0; the lines and the entries of a text count from 1,
- * as in every Matrix Market text. Lengths are numbers of elements, but the length of a text, which is
- * in bytes.
+ * Counting. Rows, columns and vertices count from 0. The lines and the entries of a text count from 1, as in every
+ * Matrix Market text. A length is a number of elements; the length of a text is in bytes.
  *
- * Errors. A call answers CBGRID_OK (0) where it has written its answer, and otherwise the code of the
- * first fault, in the order in which the codes stand below (those of a matrix for each operand in
- * turn); null pointers are looked for before all others, and CBGRID_MEMORY may come at any time. At
- * any code but CBGRID_OK `out` is as it was. No call prints, exits, aborts or keeps state between
- * calls; there is nothing to start or to shut down.
+ * Errors. A call returns CBGRID_OK (0) if it has written its result. Otherwise it returns the code of the first
+ * fault and leaves `out` as it was. It looks for null pointers first, then for the other faults in the order of
+ * their codes below, those of a matrix for each operand in turn. CBGRID_MEMORY may come at any time. No call
+ * prints, exits, aborts or keeps state between calls. You need not start the library or shut it down.
  *
- * Memory. Results are malloc'ed; release them with cbgrid_free_columns and cbgrid_free_text. `out` is only
- * written, so free a result that it still holds before you reuse it. `out` may be one of the
- * operands where that operand's lists are the caller's own. An operand may be an answer of an earlier
- * call, and one matrix may stand for several operands.
+ * Memory. Results are malloc'ed; release them with cbgrid_free_columns and cbgrid_free_text. A call only writes to
+ * `out`, so free a result that it still holds before you reuse it. `out` may be one of the operands if that
+ * operand's lists are your own. An operand may be the result of an earlier call, and one matrix may stand for
+ * several operands.
  *
- * Threads. Every function may be called from any number of threads at once, also on the same operands,
- * as long as no thread writes to lists or structs that a running call reads. A call runs on the
- * caller's thread alone. No function may be called from a signal handler.
+ * Threads. Any number of threads may call any function at once, also on the same operands, as long as no thread
+ * writes to lists or structs that a running call reads. A call runs on the caller's thread alone. Don't call a
+ * function from a signal handler.
  *
- * What is proved. Each call is proved, for every input, to stay inside the lists that it is lent, to
- * return, and to answer as its sentence here says, with the answer exact to the last value; the proofs
- * are run whenever libcb_ffi.a is built (docs/PROMISES.md). Not proved: this header, cbgrid.c (null
- * pointers, messages, freeing; that compressed rows are the compressed columns of the transpose; the
- * triples of a kept matrix), the C compiler and malloc. And the caller is trusted to lend what a struct
- * says: pointers that are aligned for their type, at as many elements as the length says, which nobody
- * changes while a call runs; and kept matrices that nobody has freed.
+ * What is proved. It is proved that each call, for every input, stays inside the lists that it is lent, returns,
+ * and gives the result that its sentence here describes, exact to the last value. The proofs run whenever
+ * libcb_ffi.a is built (docs/PROMISES.md). Not proved are this header and cbgrid.c (null pointers, messages,
+ * freeing; that compressed rows are the compressed columns of the transpose; the triples of a kept matrix; which
+ * place stands for a diagonal), the C compiler and malloc. The library trusts you to lend what a struct says:
+ * pointers that are aligned for their type, to as many elements as the length says, which nobody changes while a
+ * call runs; and kept matrices that nobody has freed.
  *
- * The code needs x86-64-v2 (any x86-64 processor since about 2009), and does not look whether it is there.
+ * The code needs x86-64-v2 (any x86-64 processor since about 2009), and doesn't check for it.
  */
 #ifndef CBGRID_H
 #define CBGRID_H
@@ -52,14 +50,14 @@
 extern "C" {
 #endif
 
-/* The version of the library: what cbgrid_version answers. */
+/* The version of the library, which cbgrid_version returns. */
 #define CBGRID_VERSION "0.1.0"
 
 /* The most rows or columns that a matrix can have. */
 #define CBGRID_LIMIT 2147483647u
 
 /*
- * What adds and multiplies values. The zero of a semiring is the value of every place without an entry.
+ * How values are added and multiplied. A place without an entry has the semiring's zero.
  *
  *                     values           sum               product                        zero
  *   PLUS_TIMES        0 to 2^64 - 1    modulo 2^64       modulo 2^64                    0
@@ -77,8 +75,8 @@ extern "C" {
  *   MAX_PLUS          0 to 2^64 - 1    the greatest      the sum, at most 2^64 - 1      0
  *   MIN_MAX           0 to 2^64 - 1    the least         the greatest                   2^64 - 1
  *
- * In each of them a product is zero where one of the two is: so the products of the last ten are as told
- * where neither is.
+ * In each of them a product with zero is zero. For the last ten the table gives the product of two values other
+ * than zero.
  */
 enum cbgrid_semiring {
     CBGRID_PLUS_TIMES = 0,
@@ -104,25 +102,46 @@ enum cbgrid_test {
     CBGRID_EQUAL = 2
 };
 
-/* What a call answers. */
+/*
+ * Which entries cbgrid_matrix_select keeps. Diagonal k consists of the places whose column is k more than their
+ * row: 0 is the main diagonal, 1 the one above it, -1 the one below.
+ */
+enum cbgrid_region {
+    CBGRID_LOWER = 0,        /* on diagonal k and below it: the lower triangle */
+    CBGRID_UPPER = 1,        /* on diagonal k and above it: the upper triangle */
+    CBGRID_ON_DIAGONAL = 2,  /* on diagonal k */
+    CBGRID_OFF_DIAGONAL = 3  /* everywhere else */
+};
+
+/* What cbgrid_matrix_apply puts in place of a value x at row i and column j. It takes a number n. */
+enum cbgrid_function {
+    CBGRID_CONSTANT = 0,       /* n */
+    CBGRID_SUM = 1,            /* the semiring's sum of x and n */
+    CBGRID_LEFT_PRODUCT = 2,   /* its product of n and x, in this order */
+    CBGRID_RIGHT_PRODUCT = 3,  /* its product of x and n */
+    CBGRID_ROW = 4,            /* i; it ignores n */
+    CBGRID_COLUMN = 5          /* j; it ignores n */
+};
+
+/* What a call returns. */
 enum cbgrid_code {
     CBGRID_OK = 0,
     CBGRID_SEMIRING = 1,     /* no such semiring */
     CBGRID_GRID = 2,         /* the side of the grid is not 1 to 6 */
-    CBGRID_TEST = 3,         /* no such test */
+    CBGRID_TEST = 3,         /* no such test, region or function */
     CBGRID_FORM = 4,         /* `kind` or `wide` is above 1 */
     CBGRID_TOO_LARGE = 5,    /* more rows or columns than CBGRID_LIMIT */
     CBGRID_LENGTHS = 6,      /* the lists' lengths don't agree, or the starts don't go from 0 to that of rows */
     CBGRID_ORDER = 7,        /* starts descend, or columns, or rows in a column, don't ascend strictly */
-    CBGRID_PLACE = 8,        /* an entry is outside the shape */
+    CBGRID_PLACE = 8,        /* an entry, row or column is outside the shape */
     CBGRID_VALUE = 9,        /* not a value of the semiring */
     CBGRID_SHAPES = 10,      /* the shapes of the operands don't agree */
-    CBGRID_NOT_SQUARE = 11,  /* a graph's matrix has not as many columns as rows */
+    CBGRID_NOT_SQUARE = 11,  /* the matrix of a graph isn't square */
     CBGRID_SOURCE = 12,      /* the graph has no such vertex */
     CBGRID_FORMAT = 13,      /* not a Matrix Market text of the profile (docs/FORMAT.md) */
     CBGRID_MEMORY = 14,      /* malloc refused memory */
-    CBGRID_NULL_POINTER = 15, /* an argument, or a list that is not empty, is a null pointer */
-    CBGRID_MIXED = 16         /* kept matrices are over other semirings than one another, or than the call's */
+    CBGRID_NULL_POINTER = 15, /* an argument, or a list that isn't empty, is a null pointer */
+    CBGRID_MIXED = 16         /* the semirings of kept matrices differ, or the call is over another one */
 };
 
 /* What `kind` and `wide` of struct cbgrid_columns may be. */
@@ -132,26 +151,25 @@ enum { CBGRID_STARTS_32 = 0, CBGRID_STARTS_64 = 1 };
 /*
  * A matrix in compressed columns.
  *
- * The entries stand column after column, in each column by row: the nth entry is at row rows[n] and has
- * the value values[n]. The entries of the kth stored column are those from starts[k] up to starts[k + 1].
- * In CBGRID_CSC every column is stored, and the kth is column k. In CBGRID_DCSC (doubly compressed
- * columns) the kth stored column is column columns[k], so a matrix of huge sides costs what its entries
- * cost.
+ * The entries are listed column by column, and by row in each column: the nth entry is in row rows[n] and has the
+ * value values[n]. The entries of the kth stored column are those from starts[k] up to starts[k + 1]. In
+ * CBGRID_CSC every column is stored, and the kth is column k. In CBGRID_DCSC (doubly compressed columns) the kth
+ * stored column is column columns[k], so a matrix with huge sides costs what its entries cost.
  *
  *   nrows, ncols    at most CBGRID_LIMIT each.
  *   kind            CBGRID_DCSC or CBGRID_CSC.
  *   wide            CBGRID_STARTS_32: the starts are starts32; CBGRID_STARTS_64: they are starts64.
- *                   The other list isn't looked at.
- *   columns         DCSC alone: ascend strictly, and are below ncols. CSC: not looked at.
- *   starts          one more than there are stored columns: ncols + 1 in CSC. Begin with 0, don't
+ *                   A call ignores the other list.
+ *   columns         DCSC only: strictly ascending, below ncols. CSC ignores them.
+ *   starts          one more than there are stored columns: ncols + 1 in CSC. They begin with 0, never
  *                   descend, and end with rows_len. In DCSC without stored columns they may be empty.
- *   rows            ascend strictly in each column, and are below nrows.
+ *   rows            strictly ascending in each column, below nrows.
  *   values          as many as rows; values of the semiring.
  *
- * An entry whose value is the semiring's zero is as if it weren't listed, and a stored column may have no
- * entries. A list of length 0 may have a null pointer.
+ * A call ignores an entry whose value is the semiring's zero. A stored column may have no entries. A list of
+ * length 0 may have a null pointer.
  *
- * An answer has CBGRID_DCSC and CBGRID_STARTS_64, names only columns that have entries, and lists no zero.
+ * A result is CBGRID_DCSC with CBGRID_STARTS_64, names only columns that have entries, and lists no zero.
  */
 struct cbgrid_columns {
     uint32_t nrows;
@@ -170,17 +188,17 @@ struct cbgrid_columns {
     size_t values_len;
 };
 
-/* Bytes of a Matrix Market text. No zero byte stands behind them. */
+/* The bytes of a Matrix Market text. No zero byte ends them. */
 struct cbgrid_text {
     const unsigned char *bytes;
     size_t len;
 };
 
 /*
- * A matrix over lists of the caller, which must last as long as the matrix is used. Nothing is copied or
- * looked at; whether the lists are right is looked at by the call that is given the matrix. `len` is the
- * length of rows and values; starts has ncols + 1 elements in CSC, and stored + 1 in DCSC, where stored is
- * the number of stored columns (and none where stored is 0 and starts is a null pointer).
+ * Makes a matrix over lists of your own, which must last as long as you use the matrix. These functions copy and
+ * check nothing; the call that gets the matrix checks its lists. `len` is the length of rows and of values. starts
+ * has ncols + 1 elements in CSC and stored + 1 in DCSC, where `stored` is the number of stored columns (none if
+ * stored is 0 and starts is a null pointer).
  */
 struct cbgrid_columns cbgrid_csc32(uint32_t nrows, uint32_t ncols, const uint32_t *starts, const uint32_t *rows,
                                    const uint64_t *values, size_t len);
@@ -192,87 +210,86 @@ struct cbgrid_columns cbgrid_dcsc64(uint32_t nrows, uint32_t ncols, const uint32
                                     const uint64_t *starts, const uint32_t *rows, const uint64_t *values, size_t len);
 
 /*
- * In the calls below `semiring` is one of enum cbgrid_semiring, and `grid` is the side of a grid, 1 to 6,
- * else CBGRID_GRID. The side is checked and changes nothing else: each call works on whole matrices, on the
- * caller's thread.
+ * In the calls below `semiring` is one of enum cbgrid_semiring, and `grid` is the side of a grid, 1 to 6, or else
+ * CBGRID_GRID. The side is checked and has no other effect: each call works on whole matrices, on the caller's
+ * thread.
  *
- * Codes that each of them may answer: CBGRID_SEMIRING where it is given a semiring, CBGRID_GRID,
- * CBGRID_FORM to CBGRID_VALUE, CBGRID_MEMORY, CBGRID_NULL_POINTER. Others are named beside the call.
+ * Each of them may return CBGRID_SEMIRING (if it takes a semiring), CBGRID_GRID, CBGRID_FORM to CBGRID_VALUE,
+ * CBGRID_MEMORY and CBGRID_NULL_POINTER. Each comment names any other codes of its call.
  */
 
-/* The product of a and b, which has at row i and column j the sum over k of a(i, k) times b(k, j).
- * CBGRID_SHAPES where a has not as many columns as b has rows. Costs the products of entries that meet. */
+/* The product of a and b: at row i and column j the sum over k of a(i, k) times b(k, j). CBGRID_SHAPES if a hasn't
+ * as many columns as b has rows. Costs the products of entries that meet. */
 int cbgrid_multiply(uint32_t semiring, uint32_t grid, const struct cbgrid_columns *a, const struct cbgrid_columns *b,
                     struct cbgrid_columns *out);
 
-/* The product of a and b, kept where mask has an entry; what value the mask has there doesn't matter.
- * CBGRID_SHAPES where a and b don't meet, or the mask has not the product's shape. Only the entries that the
- * mask allows are computed: it costs the mask's entries, and the products of entries in the mask's columns. */
+/* The product of a and b at the places where mask has an entry, whatever its value. CBGRID_SHAPES if a and b don't
+ * fit, or the mask hasn't the product's shape. The call computes only the entries that the mask allows: it costs
+ * the mask's entries and the products of entries in the mask's columns. */
 int cbgrid_multiply_masked(uint32_t semiring, uint32_t grid, const struct cbgrid_columns *a,
                            const struct cbgrid_columns *b, const struct cbgrid_columns *mask,
                            struct cbgrid_columns *out);
 
-/* The product of a and the vector x, a matrix of one column; so is the answer. CBGRID_SHAPES where x has
- * not one column, or not as many rows as a has columns. */
+/* The product of a and the vector x. Both x and the result are matrices of one column. CBGRID_SHAPES if x hasn't
+ * one column, or hasn't as many rows as a has columns. */
 int cbgrid_vector(uint32_t semiring, uint32_t grid, const struct cbgrid_columns *a, const struct cbgrid_columns *x,
                   struct cbgrid_columns *out);
 
 /* The transpose of a. */
 int cbgrid_transpose(uint32_t semiring, uint32_t grid, const struct cbgrid_columns *a, struct cbgrid_columns *out);
 
-/* The sum of each row of a, a matrix of one column with as many rows. A sum that is zero is no entry. Costs a
- * transpose of a. */
+/* The sum of each row of a, in one column with as many rows. A sum that is zero isn't stored. Costs a transpose
+ * of a. */
 int cbgrid_row_sums(uint32_t semiring, uint32_t grid, const struct cbgrid_columns *a, struct cbgrid_columns *out);
 
-/* The sum of each column of a, a matrix of one row with as many columns. A sum that is zero is no entry. */
+/* The sum of each column of a, in one row with as many columns. A sum that is zero isn't stored. */
 int cbgrid_column_sums(uint32_t semiring, uint32_t grid, const struct cbgrid_columns *a, struct cbgrid_columns *out);
 
-/* The sum, place by place, of two matrices of one shape, else CBGRID_SHAPES. */
+/* The element-wise sum of two matrices of one shape, or else CBGRID_SHAPES. */
 int cbgrid_add(uint32_t semiring, uint32_t grid, const struct cbgrid_columns *a, const struct cbgrid_columns *b,
                struct cbgrid_columns *out);
 
-/* The product, place by place, of two matrices of one shape, else CBGRID_SHAPES. */
+/* The element-wise product of two matrices of one shape, or else CBGRID_SHAPES. */
 int cbgrid_times(uint32_t semiring, uint32_t grid, const struct cbgrid_columns *a, const struct cbgrid_columns *b,
                  struct cbgrid_columns *out);
 
-/* a without the entries whose value passes the test (enum cbgrid_test, else CBGRID_TEST) against the bound.
+/* a without the entries whose value passes the test (enum cbgrid_test, or else CBGRID_TEST) against the bound.
  * Values are compared as whole numbers from 0 to 2^64 - 1. */
 int cbgrid_prune(uint32_t semiring, uint32_t grid, const struct cbgrid_columns *a, uint32_t test, uint64_t bound,
                  struct cbgrid_columns *out);
 
-/* How many edges lead at least from the source to each vertex of a graph (breadth-first search). a is
- * square, else CBGRID_NOT_SQUARE, over OR_AND: an entry at row i and column j is an edge from i to j.
- * CBGRID_SOURCE where the source is not below a's rows. The answer is a matrix of one column over MIN_PLUS,
- * with an entry for each vertex that is reached; the source has level 0, and a stored 0 is an entry like any
- * other there. Costs a transpose of a, and in each round the entries of the vertices whose number fell in the
- * round before. */
+/* Breadth-first search: the least number of edges from the source to each vertex of a graph. a is over OR_AND and
+ * square, or else CBGRID_NOT_SQUARE; an entry at row i and column j is an edge from i to j. CBGRID_SOURCE if the
+ * source isn't below a's rows. The result is one column over MIN_PLUS with an entry for each vertex that the
+ * source reaches. The source has level 0, which is stored: the zero of MIN_PLUS is 2^64 - 1. Costs a transpose of
+ * a, and in each round the entries of the vertices whose number fell in the round before. */
 int cbgrid_levels(uint32_t grid, const struct cbgrid_columns *a, uint32_t source, struct cbgrid_columns *out);
 
-/* The least sum of the values of edges that lead from the source to each vertex of a graph. The same as
- * cbgrid_levels, but that a is over MIN_PLUS: the value of an entry is the length of its edge. A vertex at
- * a distance of 2^64 - 1 or more has no entry. */
+/* Shortest paths: the least sum of edge lengths from the source to each vertex of a graph. Like cbgrid_levels, but a
+ * is over MIN_PLUS, and the value of an entry is the length of its edge. A vertex at a distance of 2^64 - 1 or more
+ * has no entry. */
 int cbgrid_distances(uint32_t grid, const struct cbgrid_columns *a, uint32_t source, struct cbgrid_columns *out);
 
-/* The matrix that `len` bytes of a Matrix Market text read as, in the profile of docs/FORMAT.md, else
- * CBGRID_FORMAT. At CBGRID_FORMAT alone, and where `line` is no null pointer, it gets the line of the text's
- * first fault, counted from 1. There is no `grid` here. */
+/* Reads the matrix of a Matrix Market text of `len` bytes, in the profile of docs/FORMAT.md, or else
+ * CBGRID_FORMAT. With CBGRID_FORMAT, and only then, it writes the line of the first fault, counted from 1, to
+ * `line`, unless that is a null pointer. */
 int cbgrid_read(uint32_t semiring, const void *text, size_t len, uint64_t *line, struct cbgrid_columns *out);
 
-/* The Matrix Market text of a: by column and then by row, `pattern` in OR_AND and `integer` in the others.
- * There is no `grid` here. cbgrid_read gives the same matrix back, where it has at most 2147483647 entries. */
+/* The Matrix Market text of a, by column and then by row: `pattern` in OR_AND, `integer` in the others.
+ * cbgrid_read gives the same matrix back if it has at most 2147483647 entries. */
 int cbgrid_text(uint32_t semiring, const struct cbgrid_columns *a, struct cbgrid_text *out);
 
-/* Give back an answer of a call above, and make it a matrix (a text) without anything, so that a second
- * time does nothing. Never for a matrix over lists of the caller's own. A null pointer is let be. */
+/* Free the result of a call above and leave it empty, so that a second call does nothing. Never pass a matrix over
+ * lists of your own. A null pointer is fine. */
 void cbgrid_free_columns(struct cbgrid_columns *matrix);
 void cbgrid_free_text(struct cbgrid_text *text);
 
 /*
  * ---- Kept matrices
  *
- * A call above checks the lists that it is lent, copies them into a block of its own, and answers lists. A kept
- * matrix is such a block, over one semiring: made once, never changed, used where it lies, and freed once. A
- * call on kept matrices copies no operand, and its answer is a new kept matrix.
+ * A call above checks the lists that it is lent, copies them into a block of its own, and returns lists. A kept
+ * matrix is such a block, over one semiring. You make it once, and free it once; it never changes. A call on kept
+ * matrices copies no operand, and its result is a new kept matrix.
  *
  *     struct cbgrid_matrix *graph, *walks;
  *     int code = cbgrid_matrix_of_columns(CBGRID_PLUS_TIMES, &lists, &graph);
@@ -281,56 +298,57 @@ void cbgrid_free_text(struct cbgrid_text *text);
  *     cbgrid_matrix_free(walks);
  *     cbgrid_matrix_free(graph);
  *
- * Errors. As above: the code of the first fault, and `out` is as it was. The codes of a call on kept matrices,
- * in the order in which they are looked for: CBGRID_NULL_POINTER, CBGRID_TEST, CBGRID_MIXED, CBGRID_SHAPES,
- * CBGRID_NOT_SQUARE, CBGRID_SOURCE; and CBGRID_MEMORY. Where memory is refused nothing is lost.
+ * Errors. As above: a call returns the code of the first fault and leaves `out` as it was. It looks for
+ * CBGRID_NULL_POINTER first. Unless the comment of a call gives another order, it then looks for CBGRID_TEST,
+ * CBGRID_MIXED, CBGRID_SHAPES, CBGRID_NOT_SQUARE and CBGRID_SOURCE, all before it takes memory. CBGRID_MEMORY
+ * comes last, and loses nothing.
  *
- * Threads. Any number of threads may use one matrix at once. A matrix may be freed when no running call uses it.
+ * Threads. Any number of threads may use one matrix at once. Free a matrix only when no running call uses it.
  */
 struct cbgrid_matrix;
 
-/* An entry: a row, a column, and the value there. */
+/* An entry: its row, its column and its value. */
 struct cbgrid_triple {
     uint32_t row;
     uint32_t column;
     uint64_t value;
 };
 
-/* Keeps the matrix of lists, over a semiring. CBGRID_SEMIRING, and CBGRID_FORM to CBGRID_VALUE. The lists are
- * copied once, and stay the caller's. */
+/* Keeps the matrix of lists, over a semiring. CBGRID_SEMIRING, and CBGRID_FORM to CBGRID_VALUE. It copies the lists
+ * once; they stay yours. */
 int cbgrid_matrix_of_columns(uint32_t semiring, const struct cbgrid_columns *lists, struct cbgrid_matrix **out);
 
-/* The same of compressed rows (CSR, or doubly compressed): `rows` has the lists of the transpose, so its nrows is
- * the number of columns of the matrix, its columns are the rows that are stored, and its rows are the column of
- * each entry. Costs a transpose more. */
+/* The same from compressed rows (CSR, or doubly compressed). `rows` has the lists of the transpose: its nrows is the
+ * number of columns of the matrix, its columns are the stored rows, and its rows are the columns of the entries.
+ * Costs a transpose more. */
 int cbgrid_matrix_of_rows(uint32_t semiring, const struct cbgrid_columns *rows, struct cbgrid_matrix **out);
 
-/* Keeps the matrix that has at each place the sum, in the semiring, of the values that are given there, in any
- * order. Sums that are the semiring's zero aren't stored. CBGRID_SEMIRING, CBGRID_TOO_LARGE, CBGRID_PLACE,
- * CBGRID_VALUE. Costs a sort of the triples, or a walk over them where they ascend by column and then row. */
+/* Keeps the matrix of triples, in any order. Values at one place are added up in the semiring, and a sum that is
+ * zero isn't stored. CBGRID_SEMIRING, CBGRID_TOO_LARGE, CBGRID_PLACE, CBGRID_VALUE, in this order. Costs a sort of
+ * the triples, or one walk if they ascend by column and then by row. */
 int cbgrid_matrix_of_triples(uint32_t semiring, uint32_t nrows, uint32_t ncols, const struct cbgrid_triple *triples,
                              size_t len, struct cbgrid_matrix **out);
 
-/* The lists of a matrix, as an answer of the calls above has them, and of its transpose, which are those of its
- * rows: a copy, which cbgrid_free_columns gives back. */
+/* Copies the lists of a matrix, or of its transpose, which are those of its rows, in the form of a result above.
+ * Free them with cbgrid_free_columns. */
 int cbgrid_matrix_columns(const struct cbgrid_matrix *a, struct cbgrid_columns *out);
 int cbgrid_matrix_rows(const struct cbgrid_matrix *a, struct cbgrid_columns *out);
 
-/* The entries of a matrix, by column and then by row, into room for as many as cbgrid_matrix_entries says. */
+/* Writes the entries of a matrix, by column and then by row, to `out`, which has room for cbgrid_matrix_entries. */
 int cbgrid_matrix_triples(const struct cbgrid_matrix *a, struct cbgrid_triple *out);
 
-/* The shape, the semiring (enum cbgrid_semiring), and how many entries are stored. 0 of a null pointer. */
+/* The shape, the semiring (enum cbgrid_semiring) and the number of stored entries; 0 for a null pointer. */
 uint32_t cbgrid_matrix_nrows(const struct cbgrid_matrix *a);
 uint32_t cbgrid_matrix_ncols(const struct cbgrid_matrix *a);
 uint32_t cbgrid_matrix_semiring(const struct cbgrid_matrix *a);
 uint64_t cbgrid_matrix_entries(const struct cbgrid_matrix *a);
 
-/* The value at a place, which is the semiring's zero where there is no entry. CBGRID_PLACE outside the shape.
- * Costs two binary searches. */
+/* The value at a place: the semiring's zero if it has no entry. CBGRID_PLACE outside the shape. Costs two binary
+ * searches. */
 int cbgrid_matrix_value(const struct cbgrid_matrix *a, uint32_t row, uint32_t column, uint64_t *out);
 
-/* What the calls of the same names do, above. All operands are over one semiring, else CBGRID_MIXED, and the
- * answer is over it. */
+/* These do what the calls of the same names above do. All operands are over one semiring, or else CBGRID_MIXED; so
+ * is the result. */
 int cbgrid_matrix_multiply(const struct cbgrid_matrix *a, const struct cbgrid_matrix *b, struct cbgrid_matrix **out);
 int cbgrid_matrix_multiply_masked(const struct cbgrid_matrix *a, const struct cbgrid_matrix *b,
                                   const struct cbgrid_matrix *mask, struct cbgrid_matrix **out);
@@ -342,35 +360,98 @@ int cbgrid_matrix_add(const struct cbgrid_matrix *a, const struct cbgrid_matrix 
 int cbgrid_matrix_times(const struct cbgrid_matrix *a, const struct cbgrid_matrix *b, struct cbgrid_matrix **out);
 int cbgrid_matrix_prune(const struct cbgrid_matrix *a, uint32_t test, uint64_t bound, struct cbgrid_matrix **out);
 
-/* Levels of a graph over OR_AND and distances of one over MIN_PLUS, else CBGRID_MIXED; the answer is over
+/*
+ * Select the entries of a that are in a region (enum cbgrid_region, or else CBGRID_TEST), of diagonal k = `diagonal`.
+ * A diagonal that a doesn't reach is allowed, and none of its places has an entry. Costs a walk over the entries.
+ */
+int cbgrid_matrix_select(const struct cbgrid_matrix *a, uint32_t region, int64_t diagonal, struct cbgrid_matrix **out);
+
+/*
+ * Replace the value of each entry by that of a function (enum cbgrid_function, or else CBGRID_TEST), which takes
+ * `number`. CBGRID_VALUE if what it takes isn't a value of the semiring: the number, or for CBGRID_ROW and
+ * CBGRID_COLUMN the number of the last row or column of a. (If a has no rows or no columns, any number will do.) A
+ * value that becomes zero isn't stored. Costs a walk over the entries.
+ */
+int cbgrid_matrix_apply(const struct cbgrid_matrix *a, uint32_t function, uint64_t number, struct cbgrid_matrix **out);
+
+/* The main diagonal of a, in one column with as many rows as a has rows or columns, whichever are fewer. Costs a
+ * binary search for each column that has entries. */
+int cbgrid_matrix_diagonal(const struct cbgrid_matrix *a, struct cbgrid_matrix **out);
+
+/* The square matrix with the column a on its main diagonal. CBGRID_SHAPES if a hasn't one column. */
+int cbgrid_matrix_diagonal_matrix(const struct cbgrid_matrix *a, struct cbgrid_matrix **out);
+
+/* The rows of a from `row` up to, but not including, `row_end`, and its columns from `column` up to `column_end`; they
+ * become row 0 and column 0 and so on. CBGRID_PLACE if a range descends or ends beyond a. Costs the entries of the
+ * part and two binary searches for each of its columns. */
+int cbgrid_matrix_part(const struct cbgrid_matrix *a, uint32_t row, uint32_t row_end, uint32_t column,
+                       uint32_t column_end, struct cbgrid_matrix **out);
+
+/* The matrix whose row i and column j are row rows[i] and column columns[j] of a, in any order, with repetitions.
+ * CBGRID_TOO_LARGE if a list has more than CBGRID_LIMIT elements, then CBGRID_PLACE if a has no such row or column. A
+ * list of length 0 may be a null pointer. Costs a binary search for each element, and two transposes of the result. */
+int cbgrid_matrix_extract(const struct cbgrid_matrix *a, const uint32_t *rows, size_t row_count,
+                          const uint32_t *columns, size_t column_count, struct cbgrid_matrix **out);
+
+/* The Kronecker product: in place of each value of a stand its products with all of b. CBGRID_MIXED if their semirings
+ * differ, then CBGRID_TOO_LARGE if the result has more than CBGRID_LIMIT rows or columns. Costs the entries of a times
+ * those of b. */
+int cbgrid_matrix_kron(const struct cbgrid_matrix *a, const struct cbgrid_matrix *b, struct cbgrid_matrix **out);
+
+/* a with `part` in place of the part of its shape that begins at (row, column): the entries of a in there are dropped,
+ * also where `part` has none. CBGRID_MIXED if their semirings differ, then CBGRID_PLACE if the part ends beyond a.
+ * Costs a walk over the entries of both. */
+int cbgrid_matrix_assign(const struct cbgrid_matrix *a, uint32_t row, uint32_t column,
+                         const struct cbgrid_matrix *part, struct cbgrid_matrix **out);
+
+/* The entries of a at the places where the mask has none, whatever its values: what the complement of the mask allows.
+ * CBGRID_MIXED if their semirings differ, then CBGRID_SHAPES if their shapes do. Costs a walk over the entries of
+ * both. */
+int cbgrid_matrix_exclude(const struct cbgrid_matrix *a, const struct cbgrid_matrix *mask, struct cbgrid_matrix **out);
+
+/* The semiring's sum of all values of a: its zero if a has no entries. Costs a walk over the values and takes no
+ * memory. */
+int cbgrid_matrix_reduce_all(const struct cbgrid_matrix *a, uint64_t *out);
+
+/* Levels in a graph over OR_AND and distances in one over MIN_PLUS, or else CBGRID_MIXED. The result is over
  * MIN_PLUS. Each copies the graph once, beside its transpose. */
 int cbgrid_matrix_levels(const struct cbgrid_matrix *a, uint32_t source, struct cbgrid_matrix **out);
 int cbgrid_matrix_distances(const struct cbgrid_matrix *a, uint32_t source, struct cbgrid_matrix **out);
 
+/* The same from each of `count` sources, in any order, with repetitions: column j of the result is that of sources[j].
+ * CBGRID_MIXED, then CBGRID_NOT_SQUARE, then CBGRID_TOO_LARGE if there are more than CBGRID_LIMIT sources, then
+ * CBGRID_SOURCE if one isn't a vertex. With a count of 0, `sources` may be a null pointer. The graph is copied and
+ * transposed once for all of them; then each source costs what its search costs. */
+int cbgrid_matrix_levels_from(const struct cbgrid_matrix *a, const uint32_t *sources, size_t count,
+                              struct cbgrid_matrix **out);
+int cbgrid_matrix_distances_from(const struct cbgrid_matrix *a, const uint32_t *sources, size_t count,
+                                 struct cbgrid_matrix **out);
+
 /*
- * Of a graph over OR_AND, else CBGRID_MIXED. The graph is not copied.
+ * For a graph over OR_AND, or else CBGRID_MIXED. They don't copy the graph.
  *
- *   parents     for each vertex that is reached from the source, but not the source: the least vertex from which
- *               an edge leads to it and whose level is one less. One column over MIN_PLUS; its values are vertices.
- *   components  for each vertex that has an entry in its row or its column: the least vertex that is joined to it
- *               by entries in either direction. One column over MIN_PLUS; its values are vertices.
- *   triangles   how many sets of three vertices are joined to one another, by entries in either direction; at
- *               most 2^64 - 1.
+ *   parents     for each vertex that the source reaches, other than the source: the least vertex one level nearer
+ *               that has an edge to it. One column over MIN_PLUS; its values are vertices.
+ *   components  for each vertex that has an entry in its row or its column: the least vertex of its component, where
+ *               an entry joins two vertices in both directions. One column over MIN_PLUS; its values are vertices.
+ *   triangles   the number of sets of three vertices that are joined to one another, by entries in either direction;
+ *               at most 2^64 - 1.
  */
 int cbgrid_matrix_parents(const struct cbgrid_matrix *a, uint32_t source, struct cbgrid_matrix **out);
 int cbgrid_matrix_components(const struct cbgrid_matrix *a, struct cbgrid_matrix **out);
 int cbgrid_matrix_triangles(const struct cbgrid_matrix *a, uint64_t *out);
 
+/* Reads a text into a kept matrix, and writes one, as cbgrid_read and cbgrid_text do. */
 int cbgrid_matrix_read(uint32_t semiring, const void *text, size_t len, uint64_t *line, struct cbgrid_matrix **out);
 int cbgrid_matrix_text(const struct cbgrid_matrix *a, struct cbgrid_text *out);
 
-/* Gives a matrix back. A null pointer is let be. */
+/* Frees a matrix. A null pointer is fine. */
 void cbgrid_matrix_free(struct cbgrid_matrix *a);
 
-/* The version of the library, as "0.1.0": a text that lasts for ever. */
+/* The version of the library, as "0.1.0": a static string. */
 const char *cbgrid_version(void);
 
-/* What a code says, in a few words of English: a text that lasts for ever. "no such code" for others. */
+/* A code in a few words of English, "no such code" for any other number: a static string. */
 const char *cbgrid_message(int code);
 
 #ifdef __cplusplus

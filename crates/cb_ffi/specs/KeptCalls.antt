@@ -2,6 +2,7 @@
 use Rattle.std.specs.Prelude.{◌≡◌, ℕ, ◌⊎◌, List, Option, Some}
 use Rattle.std.specs.Borrow.{MutBor}
 use Rattle.cb_semirings.specs.Names.{arithmetic_of, numbered}
+use Rattle.cb_semirings.specs.declared.names.SemiringName.TheVariants as name_is
 use Rattle.cb_operations.specs.declared.operations.Operation.{Operation}
 use Rattle.cb_interop.specs.declared.lists.Columns.{Columns}
 use Rattle.cb_interop.specs.declared.triples.Triple.{Triple}
@@ -10,6 +11,12 @@ use Rattle.cb_interop.specs.declared.faults.Fault.TheVariants.{Memory}
 use Rattle.cb_interop.specs.declared.kept.Kept.{Kept}
 use Rattle.cb_interop.specs.Refusals.{code_of, over, read_faults, text_faults}
 use Rattle.cb_interop.specs.KeptAnswers.{kept_faults, HasMadeKept, OverName, IsKeptOf}
+use Rattle.cb_interop.specs.declared.selections.Selection.{Selection}
+use Rattle.cb_interop.specs.Kept.{matrix_in}
+use Rattle.cb_interop.specs.KeptSelections.{kept_selection_faults, HasSelected, number_faults, IsKeptExtract}
+use Rattle.cb_interop.specs.declared.pairings.Pairing.{Pairing}
+use Rattle.cb_interop.specs.KeptPairings.{pair_faults, IsKeptPair}
+use Rattle.cb_interop.specs.KeptSources.{searches_faults, IsKeptLevelsFrom, IsKeptDistancesFrom}
 use Rattle.cb_interop.specs.Triples.{triple_faults, IsKeptTriples}
 use Rattle.cb_interop.specs.KeptTexts.{IsKeptRead}
 use Rattle.cb_ffi.specs.declared.handles.Owned.{Owned}
@@ -26,6 +33,24 @@ IsKeptCall faults is code old new = IsCall faults (Has is) code old new
 -- the same of an operation on matrices that are kept
 unfoldable pub IsKeptOperation : Option Operation → List Kept → ℕ → Owned → Owned → Type 0
 IsKeptOperation operation ks code old new = IsKeptCall (kept_faults operation ks) (HasMadeKept operation ks) code old new
+
+-- the same of what is made of one kept matrix place by place, of its rows and columns by their numbers, and of what is made
+-- of two kept matrices
+unfoldable pub IsSelectionCall : Option Selection → Kept → ℕ → Owned → Owned → Type 0
+IsSelectionCall selection k code old new = IsKeptCall (kept_selection_faults selection k) (HasSelected selection k) code old new
+
+unfoldable pub IsExtractCall : List ℕ → List ℕ → Kept → ℕ → Owned → Owned → Type 0
+IsExtractCall rows cols k code old new = IsKeptCall (number_faults rows cols (matrix_in k).shape) (IsKeptExtract rows cols k) code old new
+
+unfoldable pub IsPairCall : Pairing → Kept → Kept → ℕ → Owned → Owned → Type 0
+IsPairCall p a b code old new = IsKeptCall (pair_faults p a b) (IsKeptPair p a b) code old new
+
+-- the same of searches from several sources in the graph of a kept matrix
+unfoldable pub IsLevelsCall : List ℕ → Kept → ℕ → Owned → Owned → Type 0
+IsLevelsCall sources k code old new = IsKeptCall (searches_faults name_is.OrAnd k sources) (IsKeptLevelsFrom (matrix_in k) sources) code old new
+
+unfoldable pub IsDistancesCall : List ℕ → Kept → ℕ → Owned → Owned → Type 0
+IsDistancesCall sources k code old new = IsKeptCall (searches_faults name_is.MinPlus k sources) (IsKeptDistancesFrom (matrix_in k) sources) code old new
 
 -- C has got this matrix; or memory for it was refused, and C has what it had
 abbrev pub HasHandedOut : ℕ → Owned → Owned → Kept → Type 0

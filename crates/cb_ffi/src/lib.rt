@@ -32,16 +32,22 @@ ghost use Rattle.cb_interop.specs.Answers.{prune_of, HasDistances, HasLevels, Is
 ghost use Rattle.cb_interop.specs.Kept.{matrix_in, semiring_of};
 ghost use Rattle.cb_interop.specs.KeptAnswers.{IsSummary};
 ghost use Rattle.cb_interop.specs.KeptGraphs.{square_faults, IsKeptComponents, IsKeptParents};
+ghost use Rattle.cb_reductions.specs.Sums.{matrix_total};
+ghost use Rattle.cb_interop.specs.declared.pairings.Pairing.TheVariants as pairing_is;
+ghost use Rattle.cb_interop.specs.declared.selections.Selection.TheVariants as selection_is;
+ghost use Rattle.cb_interop.specs.KeptSelections.{function_of, region_of};
 ghost use Rattle.cb_interop.specs.KeptTexts.{search_faults, IsKeptDistances, IsKeptLevels, IsKeptText};
 ghost use Rattle.cb_ffi.specs.Calls.{IsCall, IsLine, IsOperationCall};
-ghost use Rattle.cb_ffi.specs.KeptCalls.{HasHandedOut, IsKeepCall, IsKeptCall, IsKeptOperation, IsReadCall, IsTriplesCall};
+ghost use Rattle.cb_ffi.specs.KeptCalls.{HasHandedOut, IsDistancesCall, IsExtractCall, IsKeepCall, IsKeptCall, IsKeptOperation, IsLevelsCall, IsPairCall, IsReadCall, IsSelectionCall, IsTriplesCall};
 
 mod handles;
 
 use cb_interop::{
-    Columns, Fault, Kept, Summary, Text, Triple, answer, distances, keep_lists, keep_triples,
-    kept_components, kept_distances, kept_levels, kept_parents, kept_triangles, levels, lists_of,
-    operate, prune_of, read_kept, read_lists, summary_of, text_of, text_of_lists, value_at,
+    Columns, Fault, Kept, Pairing, Selection, Summary, Text, Triple, answer, distances,
+    function_of, keep_lists, keep_triples, kept_components, kept_distances, kept_distances_from,
+    kept_extract, kept_levels, kept_levels_from, kept_pair, kept_parents, kept_selection,
+    kept_total, kept_triangles, levels, lists_of, operate, prune_of, read_kept, read_lists,
+    region_of, summary_of, text_of, text_of_lists, value_at,
 };
 use cb_operations::Operation;
 pub use handles::{Lent, Owned};
@@ -106,6 +112,41 @@ fn call_kept(
     ensures { IsKeptOperation operation (lent_in operands.now) result out.old out.new }
 {
     put_kept(alloc, out, operate(alloc, operation, operands))
+}
+
+/// Keeps what a selection makes of a matrix that is kept, or answers the number of the fault.
+fn select_kept(alloc: Global, selection: Option<Selection>, kept: &Kept, out: &mut Owned) -> u32
+    ensures { IsSelectionCall selection kept.now result out.old out.new }
+{
+    put_kept(alloc, out, kept_selection(alloc, selection, kept))
+}
+
+/// Keeps the rows and the columns of a matrix that is kept with some numbers, or answers the number of the fault.
+fn extract_kept(alloc: Global, kept: &Kept, rows: &[u32], columns: &[u32], out: &mut Owned) -> u32
+    ensures { IsExtractCall rows.now columns.now kept.now result out.old out.new }
+{
+    put_kept(alloc, out, kept_extract(alloc, kept, rows, columns))
+}
+
+/// Keeps what a pairing makes of two matrices that are kept, or answers the number of the fault.
+fn pair_kept(alloc: Global, pairing: Pairing, left: &Kept, right: &Kept, out: &mut Owned) -> u32
+    ensures { IsPairCall pairing left.now right.now result out.old out.new }
+{
+    put_kept(alloc, out, kept_pair(alloc, pairing, left, right))
+}
+
+/// Keeps the levels from several sources in a graph that is kept, or answers the number of the fault.
+fn levels_kept(alloc: Global, graph: &Kept, sources: &[u32], out: &mut Owned) -> u32
+    ensures { IsLevelsCall sources.now graph.now result out.old out.new }
+{
+    put_kept(alloc, out, kept_levels_from(alloc, graph, sources))
+}
+
+/// Keeps the distances from several sources in a graph that is kept, or answers the number of the fault.
+fn distances_kept(alloc: Global, graph: &Kept, sources: &[u32], out: &mut Owned) -> u32
+    ensures { IsDistancesCall sources.now graph.now result out.old out.new }
+{
+    put_kept(alloc, out, kept_distances_from(alloc, graph, sources))
 }
 
 /// The product of two matrices, over the semiring of a number.
@@ -417,6 +458,132 @@ pub extern "C" fn cbgrid_kernel_kept_prune(
     call_kept(alloc, prune_of(test, bound), &[borrowed(a)], out)
 }
 
+/// Keeps the entries of a matrix that is kept which are in the region of a number, by a place on its diagonal.
+#[unsafe(no_mangle)]
+pub extern "C" fn cbgrid_kernel_kept_select(
+    alloc: Global,
+    a: Lent,
+    region: u32,
+    row: u32,
+    column: u32,
+    out: &mut Owned,
+) -> u32
+    ensures { IsSelectionCall (region_of region row column) a.kept.now result out.old out.new }
+{
+    select_kept(alloc, region_of(region, row, column), borrowed(a), out)
+}
+
+/// Keeps what the function of a number, with the number that it takes, makes of each value of a matrix that is kept.
+#[unsafe(no_mangle)]
+pub extern "C" fn cbgrid_kernel_kept_apply(
+    alloc: Global,
+    a: Lent,
+    function: u32,
+    number: u64,
+    out: &mut Owned,
+) -> u32
+    ensures { IsSelectionCall (function_of function number) a.kept.now result out.old out.new }
+{
+    select_kept(alloc, function_of(function, number), borrowed(a), out)
+}
+
+/// Keeps the diagonal of a matrix that is kept, in one column.
+#[unsafe(no_mangle)]
+pub extern "C" fn cbgrid_kernel_kept_diagonal(alloc: Global, a: Lent, out: &mut Owned) -> u32
+    ensures { IsSelectionCall (Some selection_is.Diagonal) a.kept.now result out.old out.new }
+{
+    select_kept(alloc, Some(Selection::Diagonal), borrowed(a), out)
+}
+
+/// Keeps the square matrix that has a column, which is kept, on its diagonal.
+#[unsafe(no_mangle)]
+pub extern "C" fn cbgrid_kernel_kept_diagonal_matrix(alloc: Global, a: Lent, out: &mut Owned) -> u32
+    ensures { IsSelectionCall (Some selection_is.DiagonalMatrix) a.kept.now result out.old out.new }
+{
+    select_kept(alloc, Some(Selection::DiagonalMatrix), borrowed(a), out)
+}
+
+/// Keeps the part of a matrix that is kept in some rows and columns, each from a number up to another, which is not in it.
+#[unsafe(no_mangle)]
+pub extern "C" fn cbgrid_kernel_kept_part(
+    alloc: Global,
+    a: Lent,
+    row: u32,
+    row_end: u32,
+    column: u32,
+    column_end: u32,
+    out: &mut Owned,
+) -> u32
+    ensures { IsSelectionCall (Some (selection_is.Part (row, row_end) (column, column_end))) a.kept.now result out.old out.new }
+{
+    let part = Selection::Part((row, row_end), (column, column_end));
+    select_kept(alloc, Some(part), borrowed(a), out)
+}
+
+/// Keeps the rows and the columns of a matrix that is kept with some numbers, in the order of these.
+#[unsafe(no_mangle)]
+pub extern "C" fn cbgrid_kernel_kept_extract(
+    alloc: Global,
+    a: Lent,
+    rows: &[u32],
+    columns: &[u32],
+    out: &mut Owned,
+) -> u32
+    ensures { IsExtractCall rows.now columns.now a.kept.now result out.old out.new }
+{
+    extract_kept(alloc, borrowed(a), rows, columns, out)
+}
+
+/// Keeps the Kronecker product of two matrices that are kept.
+#[unsafe(no_mangle)]
+pub extern "C" fn cbgrid_kernel_kept_kronecker(
+    alloc: Global,
+    a: Lent,
+    b: Lent,
+    out: &mut Owned,
+) -> u32
+    ensures { IsPairCall pairing_is.Kronecker a.kept.now b.kept.now result out.old out.new }
+{
+    pair_kept(alloc, Pairing::Kronecker, borrowed(a), borrowed(b), out)
+}
+
+/// Keeps a matrix that is kept with another in place of the part that begins at a row and a column.
+#[unsafe(no_mangle)]
+pub extern "C" fn cbgrid_kernel_kept_assign(
+    alloc: Global,
+    a: Lent,
+    row: u32,
+    column: u32,
+    part: Lent,
+    out: &mut Owned,
+) -> u32
+    ensures { IsPairCall (pairing_is.Assign (row, column)) a.kept.now part.kept.now result out.old out.new }
+{
+    let pairing = Pairing::Assign((row, column));
+    pair_kept(alloc, pairing, borrowed(a), borrowed(part), out)
+}
+
+/// Keeps the entries of a matrix that is kept at the places where a mask, which is kept, has none.
+#[unsafe(no_mangle)]
+pub extern "C" fn cbgrid_kernel_kept_exclude(
+    alloc: Global,
+    a: Lent,
+    mask: Lent,
+    out: &mut Owned,
+) -> u32
+    ensures { IsPairCall pairing_is.Exclude a.kept.now mask.kept.now result out.old out.new }
+{
+    pair_kept(alloc, Pairing::Exclude, borrowed(a), borrowed(mask), out)
+}
+
+/// The sum of all values of a matrix that is kept, in its semiring.
+#[unsafe(no_mangle)]
+pub extern "C" fn cbgrid_kernel_kept_total(a: Lent) -> u64
+    ensures { result ≡ matrix_total (arithmetic_of (semiring_of a.kept.now)) (matrix_in a.kept.now) }
+{
+    kept_total(borrowed(a))
+}
+
 /// Keeps the level of each vertex of a graph that is kept over or-and, from a source: a column over min-plus.
 #[unsafe(no_mangle)]
 pub extern "C" fn cbgrid_kernel_kept_levels(
@@ -443,6 +610,33 @@ pub extern "C" fn cbgrid_kernel_kept_distances(
 {
     let answer = kept_distances(alloc, borrowed(a), source);
     put_kept(alloc, out, answer)
+}
+
+/// Keeps the level of each vertex of a graph that is kept over or-and, from each of some sources: a column over min-plus for
+/// each source.
+#[unsafe(no_mangle)]
+pub extern "C" fn cbgrid_kernel_kept_levels_from(
+    alloc: Global,
+    a: Lent,
+    sources: &[u32],
+    out: &mut Owned,
+) -> u32
+    ensures { IsLevelsCall sources.now a.kept.now result out.old out.new }
+{
+    levels_kept(alloc, borrowed(a), sources, out)
+}
+
+/// Keeps the distance of each vertex of a graph that is kept over min-plus, from each of some sources.
+#[unsafe(no_mangle)]
+pub extern "C" fn cbgrid_kernel_kept_distances_from(
+    alloc: Global,
+    a: Lent,
+    sources: &[u32],
+    out: &mut Owned,
+) -> u32
+    ensures { IsDistancesCall sources.now a.kept.now result out.old out.new }
+{
+    distances_kept(alloc, borrowed(a), sources, out)
 }
 
 /// Keeps the matrix of triples in any order, whose repetitions are added up, over the semiring of a number.

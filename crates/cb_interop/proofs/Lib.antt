@@ -3,7 +3,8 @@
 -- Nonzero: the entries of a column that aren't zero, one after another.
 -- Held: each matrix has lists in doubly compressed columns, and no others.
 -- Firsts: the first fault of a call.
--- KeptFirsts, KeptSearches, KeptGraphFaults: the first fault of a call on matrices that are kept.
+-- KeptFirsts, KeptSearches, KeptGraphFaults, KeptSelectionFaults, KeptPairingFaults, KeptSourceFaults: the first
+-- fault of a call on matrices that are kept.
 -- KeptTextsOfLists: the text of the matrix of lists is that of the matrix, kept.
 pub mod Rising
 pub mod WellFormed
@@ -14,3 +15,6 @@ pub mod KeptFirsts
 pub mod KeptSearches
 pub mod KeptGraphFaults
 pub mod KeptTextsOfLists
+pub mod KeptSelectionFaults
+pub mod KeptPairingFaults
+pub mod KeptSourceFaults

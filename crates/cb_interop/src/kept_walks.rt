@@ -47,7 +47,7 @@ pub(crate) fn graph_in<S: Keep>(kept: &Kept, source: u32) -> Result<&Block<S>, F
     Ok(graph)
 }
 
-/// A column, kept.
+/// A column, or several side by side, kept.
 pub(crate) fn keep_column(alloc: Global, column: &Matrix<MinPlus>) -> Result<Kept, AllocError>
     ensures { IfOk result (Keeps name_is.MinPlus column.now) }
 {

@@ -65,6 +65,28 @@ pub const ROADS: Columns = Columns {
     ..GRAPH
 };
 
+/// A matrix of sides of 2,147,483,647 with an entry in its last place.
+pub const FAR: Columns = Columns {
+    nrows: 2_147_483_647,
+    ncols: 2_147_483_647,
+    columns: &[2_147_483_646],
+    starts64: &[0, 1],
+    rows: &[2_147_483_646],
+    values: &[7],
+    ..NONE
+};
+
+/// A column of two ones.
+pub const VECTOR: Columns = Columns {
+    nrows: 3,
+    ncols: 1,
+    columns: &[0],
+    starts64: &[0, 2],
+    rows: &[0, 2],
+    values: &[1, 1],
+    ..NONE
+};
+
 /// Whether lists are the same, one by one.
 pub fn are_same(lists: &Columns, wanted: &Columns) -> bool {
     (lists.nrows, lists.ncols) == (wanted.nrows, wanted.ncols)
@@ -89,5 +111,13 @@ pub fn keeps(alloc: Global, answer: &Result<Kept, Fault>, wanted: &Columns) -> b
     match answer {
         Ok(kept) => is(&lists_of(alloc, kept), wanted),
         Err(_fault) => false,
+    }
+}
+
+/// The code of an answer, 0 where there is no fault.
+pub fn code<T>(answer: &Result<T, Fault>) -> u32 {
+    match answer {
+        Ok(_made) => 0,
+        Err(fault) => fault.code(),
     }
 }

@@ -1,8 +1,8 @@
 //! Searches in graphs, of lists and of kept matrices, and components and triangles.
-use crate::examples::{GRAPH, NONE, ROADS, is, keeps};
+use crate::examples::{GRAPH, NAMED, NONE, ROADS, code, is, keeps};
 use cb_interop::{
-    Columns, Fault, Kept, distances, keep_lists, kept_components, kept_distances, kept_levels,
-    kept_parents, kept_triangles, levels,
+    Columns, Fault, Kept, distances, keep_lists, kept_components, kept_distances,
+    kept_distances_from, kept_levels, kept_levels_from, kept_parents, kept_triangles, levels,
 };
 use std::alloc::Global;
 
@@ -107,4 +107,98 @@ fn searches_in_kept_matrices(rt: HostRuntime) {
 fn distances_in_a_kept_matrix(rt: HostRuntime) {
     let lengths = keep_lists(rt.alloc(), 1, &GRAPH);
     assert!(rt; are_distances_of(rt.alloc(), &lengths));
+}
+
+/// The distances from the third vertex, from the first one and from the third one again.
+const SEVERAL: Columns = Columns {
+    nrows: 4,
+    ncols: 3,
+    columns: &[0, 1, 2],
+    starts64: &[0, 2, 5, 7],
+    rows: &[1, 2, 0, 1, 2, 1, 2],
+    values: &[4, 0, 0, 6, 2, 4, 0],
+    ..NONE
+};
+
+/// The levels from there.
+const STEPS: Columns = Columns {
+    values: &[1, 0, 0, 1, 1, 1, 0],
+    ..SEVERAL
+};
+
+/// The levels from several sources, or else the distances.
+fn search(alloc: Global, is_levels: bool, graph: &Kept, sources: &[u32]) -> Result<Kept, Fault> {
+    if is_levels {
+        kept_levels_from(alloc, graph, sources)
+    } else {
+        kept_distances_from(alloc, graph, sources)
+    }
+}
+
+/// The same in lists that are kept over the semiring of a number.
+fn from(
+    alloc: Global,
+    is_levels: bool,
+    semiring: u32,
+    lists: &Columns,
+    sources: &[u32],
+) -> Result<Kept, Fault> {
+    match keep_lists(alloc, semiring, lists) {
+        Ok(graph) => search(alloc, is_levels, &graph, sources),
+        Err(fault) => Err(fault),
+    }
+}
+
+/// Whether the levels or distances from no sources are a matrix without columns.
+fn are_none(alloc: Global, is_levels: bool, semiring: u32) -> bool {
+    let wanted = Columns { nrows: 4, ..NONE };
+    keeps(
+        alloc,
+        &from(alloc, is_levels, semiring, &ROADS, &[]),
+        &wanted,
+    )
+}
+
+#[test]
+fn searches_from_several_sources(rt: HostRuntime) {
+    assert!(rt;
+        keeps(
+            rt.alloc(),
+            &from(rt.alloc(), true, 2, &ROADS, &[2, 0, 2]),
+            &STEPS
+        )
+    );
+    assert!(rt;
+        keeps(
+            rt.alloc(),
+            &from(rt.alloc(), false, 1, &GRAPH, &[2, 0, 2]),
+            &SEVERAL
+        )
+    );
+    assert!(rt; are_none(rt.alloc(), true, 2));
+    assert!(rt; are_none(rt.alloc(), false, 1));
+}
+
+/// Whether levels or distances are asked for, the number of a semiring, a graph, sources, and the code that they are
+/// refused by: another semiring, a matrix that isn't square, and a source that is no vertex.
+static REFUSED: [(bool, u32, Columns, &'static [u32], u32); 6] = [
+    (true, 1, ROADS, &[4], 16),
+    (false, 2, ROADS, &[4], 16),
+    (true, 2, Columns { nrows: 5, ..ROADS }, &[9], 11),
+    (false, 1, NAMED, &[9], 11),
+    (true, 2, ROADS, &[0, 4], 12),
+    (false, 1, GRAPH, &[4, 0], 12),
+];
+
+/// Whether a row's search is refused by the row's code.
+fn is_refused(alloc: Global, row: &(bool, u32, Columns, &'static [u32], u32)) -> bool {
+    let (is_levels, semiring, lists, sources, wanted) = row;
+    code(&from(alloc, *is_levels, *semiring, lists, sources)) == *wanted
+}
+
+#[test]
+fn each_fault_of_several_sources_has_its_code(rt: HostRuntime) {
+    for row in &REFUSED {
+        assert!(rt; is_refused(rt.alloc(), row));
+    }
 }

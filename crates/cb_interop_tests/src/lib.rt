@@ -9,6 +9,10 @@ mod graphs;
 #[cfg(test)]
 mod operations;
 #[cfg(test)]
+mod pairings;
+#[cfg(test)]
 mod refusals;
+#[cfg(test)]
+mod selections;
 #[cfg(test)]
 mod texts;

@@ -1,31 +1,9 @@
 //! Each operation, of lists and of the same matrices kept.
-use crate::examples::{ALL, GRAPH, NAMED, NONE, TURNED, are_same, keeps};
+use crate::examples::{ALL, FAR, GRAPH, NAMED, NONE, TURNED, VECTOR, are_same, keeps};
 use cb_interop::{Columns, Fault, Kept, answer, keep_lists, operate, summary_of, value_at};
 use cb_matrix::Test;
 use cb_operations::Operation;
 use std::alloc::Global;
-
-/// A matrix of sides of 2,147,483,647 with an entry in its last place.
-const FAR: Columns = Columns {
-    nrows: 2_147_483_647,
-    ncols: 2_147_483_647,
-    columns: &[2_147_483_646],
-    starts64: &[0, 1],
-    rows: &[2_147_483_646],
-    values: &[7],
-    ..NONE
-};
-
-/// A column of two ones.
-const VECTOR: Columns = Columns {
-    nrows: 3,
-    ncols: 1,
-    columns: &[0],
-    starts64: &[0, 2],
-    rows: &[0, 2],
-    values: &[1, 1],
-    ..NONE
-};
 
 /// The number of a semiring, an operation, its operands, and what it makes of them.
 type Row = (u32, Operation, &'static [Columns], Columns);

@@ -1,18 +1,8 @@
 //! Each fault by its code, and which of two is the first.
-use crate::examples::{ALL, GRAPH, NAMED, NONE, ROADS, TURNED};
-use cb_interop::{
-    Columns, Fault, Triple, answer, distances, keep_lists, keep_triples, levels, prune_of,
-};
+use crate::examples::{ALL, GRAPH, NAMED, NONE, ROADS, TURNED, code};
+use cb_interop::{Columns, Triple, answer, distances, keep_lists, keep_triples, levels, prune_of};
 use cb_operations::Operation;
 use std::alloc::Global;
-
-/// The code of an answer, 0 where there is no fault.
-fn code<T>(answer: &Result<T, Fault>) -> u32 {
-    match answer {
-        Ok(_made) => 0,
-        Err(fault) => fault.code(),
-    }
-}
 
 /// Lists that are no matrix of 2 by 3, or over none of the semiring of a number, and the code that they are refused by: of
 /// no known form, too large, of lengths that disagree, out of order, outside the shape, and of a value that is none.

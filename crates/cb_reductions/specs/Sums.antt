@@ -1,8 +1,10 @@
--- Sums of columns, in a matrix of one row.
-use Rattle.std.specs.Prelude.{ℕ, List, ◌++◌}
+-- Sums of columns, in a matrix of one row; and the sum of all values.
+use Rattle.std.specs.Prelude.{ℕ, List, ◌++◌, map}
+use Rattle.std.specs.List.{range_with_len}
 use Rattle.cb_semirings.specs.Arithmetic.{Arithmetic}
 use Rattle.cb_matrix.specs.declared.Entry.{Entry}
-use Rattle.cb_matrix.specs.Sparse.{Sparse}
+use Rattle.cb_matrix.specs.Sparse.{Sparse, at}
+use Rattle.cb_matrix.specs.Values.{total}
 use Rattle.cb_matrix.specs.Combined.{stored}
 
 -- an entry of row 0, unless its value is zero
@@ -12,3 +14,11 @@ sum_at s column value = stored s.zero (record { row = 0; column = column; value 
 -- a sum more, after all the others
 abbrev pub with_sum : Arithmetic → Sparse → ℕ → ℕ → Sparse
 with_sum s m column value = record { shape = m.shape; entries = m.entries ++ sum_at s column value }
+
+-- the sum of column j
+abbrev pub column_total : Arithmetic → Sparse → ℕ → ℕ
+column_total s a j = total s (map (λ i. at s a i j) (range_with_len 0 a.shape.rows))
+
+-- the sum of all values: that of the sums of the columns
+abbrev pub matrix_total : Arithmetic → Sparse → ℕ
+matrix_total s a = total s (map (column_total s a) (range_with_len 0 a.shape.cols))

@@ -1,4 +1,4 @@
-//! The sums of the rows and of the columns of a block.
+//! The sums of the rows and of the columns of a block, and of all its entries.
 //!
 //! A sum is over the sum of the semiring, and where it is zero no entry is stored. The entries of a column stand side by
 //! side, so columns are added up in one walk; rows are the columns of the transpose.
@@ -12,7 +12,7 @@ ghost use Rattle.cb_semirings.specs.Arithmetic.{IsValue};
 ghost use Rattle.cb_matrix.specs.Sparse.{IsMatrix};
 ghost use Rattle.cb_matrix.specs.Values.{total};
 ghost use Rattle.cb_matrix.specs.Operations.{column_sums, row_sums};
-ghost use Rattle.cb_reductions.specs.Sums.{with_sum};
+ghost use Rattle.cb_reductions.specs.Sums.{with_sum, matrix_total};
 
 use cb_dcsc::Block;
 use cb_matrix::{Entry, Shape};
@@ -46,6 +46,16 @@ pub fn row_sums<S: Semiring>(alloc: Global, block: &Block<S>) -> Result<Block<S>
     transpose(alloc, &sums)
 }
 
+/// The sum of all values of a block, which is zero where no entry is.
+///
+/// It takes one walk over the values, and no memory.
+pub fn total<S: Semiring>(block: &Block<S>) -> u64
+    ensures { result ≡ matrix_total S.arithmetic block.now }
+{
+    let _shape = block.shape();
+    sum_of_values::<S>(block.values())
+}
+
 /// One row, with as many columns as a shape has.
 fn one_row(shape: Shape) -> Shape
     ensures { result ≡ record { rows = 1; cols = shape.cols } }
@@ -63,7 +73,7 @@ fn push_sum<S: Semiring>(sums: &mut Block<S>, column: u32, values: &[u64]) -> Re
     ensures sums { OnOk result (sums.new ≡ with_sum S.arithmetic sums.old column (total S.arithmetic values.now)) }
     ensures matrix { OnOk result (IsMatrix S.arithmetic sums.new) }
 {
-    let value = total::<S>(values);
+    let value = sum_of_values::<S>(values);
     if value != S::zero() {
         sums.push(Entry {
             row: 0,
@@ -75,7 +85,7 @@ fn push_sum<S: Semiring>(sums: &mut Block<S>, column: u32, values: &[u64]) -> Re
 }
 
 /// The sum of some values.
-fn total<S: Semiring>(values: &[u64]) -> u64
+fn sum_of_values<S: Semiring>(values: &[u64]) -> u64
     requires { All (IsValue S.arithmetic) values.now }
     ensures sum { result ≡ total S.arithmetic values.now }
     ensures value { IsValue S.arithmetic result }

@@ -1,8 +1,8 @@
-"""Sparse matrices over semirings, by a kernel that is proved to answer what its contracts say.
+"""Sparse matrices over semirings, computed by a kernel that is proved to do what its contracts say.
 
-All functions take matrices of `scipy.sparse` with values of dtype int64 or uint64, in the formats csc, csr
-and coo. An answer that is a matrix has the class, the format and the dtype of the first one, with its entries
-sorted, none doubled, and none that is the semiring's zero; `bfs` and `relax` answer arrays.
+All functions accept matrices of `scipy.sparse` with values of dtype int64 or uint64, in the formats csc, csr
+and coo. A result that is a matrix has the class, the format and the dtype of the first one. Its entries are
+sorted, without duplicates, and none is the semiring's zero. `bfs` and `relax` return arrays.
 
 ===============  ================  ==============  =====================  ==============
 semiring         values            sum             product                zero
@@ -23,38 +23,40 @@ semiring         values            sum             product                zero
 ``min-max``      0 to 2**64 - 1    the least       the greatest           2**64 - 1
 ===============  ================  ==============  =====================  ==============
 
-In each of them a product is zero where one of the two is: so the products of the last ten are as told where
-neither is.
+In each of them a product with zero is zero. For the last ten the table gives the product of two values other
+than zero.
 
-A place that a matrix doesn't store has the semiring's zero, in every semiring; an entry that is stored with
-another value, 0 in ``min-plus`` say, is one. Places that are stored twice have the sum of what is stored there,
-as everywhere in scipy and in every semiring.
+A place that a matrix doesn't store has the semiring's zero, in every semiring. An entry that is stored with
+another value is an entry, for example 0 in ``min-plus``. Duplicate entries are added up as integers, as
+everywhere in scipy, whatever the semiring.
 
-**int64.** Arithmetic of ``plus-times``, ``plus-pair``, ``plus-first`` and ``plus-second`` is modulo 2**64, so
-answers for int64 are right modulo 2**64, signs included: they wrap as numpy's do. The other semirings compare
-values as whole numbers from 0 on, so a negative value is refused there, and an answer of ``min-plus`` or
-``max-plus`` that is above 2**63 - 1 raises OverflowError.
+**int64.** Arithmetic of ``plus-times``, ``plus-pair``, ``plus-first`` and ``plus-second`` is modulo 2**64. So
+results of int64 are right modulo 2**64, including their signs: they wrap as numpy's do. The other semirings
+compare values as whole numbers from 0 on and refuse negative ones. If a result of ``min-plus`` or ``max-plus``
+is above 2**63 - 1, they raise OverflowError.
 
-**Formats.** The lists of csc matrices are lent as they lie: the kernel reads and checks them there, copies
-their entries once into a block of its own, and writes nothing to them. Nothing is converted before, but that
-row numbers of 64 bits are copied to 32, and lists that aren't sorted are sorted in a copy. csr matrices are
-lent so too, each as the csc of its transpose: the product of two is the transpose of the product of their
-transposes. A csc matrix beside a csr one, a csr graph, and a csr matrix whose text is wanted, are transposed by
-the kernel first. coo matrices are sorted in a copy, and cost what their entries cost whatever their shape is; csc
-and csr take a list as long as one of their sides.
+**Formats.** The arrays of a csc matrix are passed as they are. The kernel reads and checks them in place,
+copies their entries once into a block of its own, and writes nothing to them. Two things are converted first:
+row numbers of 64 bits are copied to 32 bits, and unsorted entries are sorted in a copy. A csr matrix is passed
+as the csc of its transpose: the product of two is the transpose of the product of their transposes. The kernel
+itself transposes a csc matrix that meets a csr one, a csr graph, and a csr matrix whose text is wanted. A coo
+matrix is sorted in a copy, and costs what its entries cost, whatever its shape; csc and csr need an array as
+long as one of their sides.
 
-**Matrix.** A `Matrix` is a matrix of the library's own, over one semiring: it is built once from a matrix of scipy
-or numpy, never changes, and is used where it lies. All functions take a `Matrix` as their first matrix too, and
-answer one; the semiring is then its own. Its other operands may be of scipy.
+**Matrix.** A `Matrix` is a matrix of the library's own, over one semiring. It is built once from a matrix of
+scipy or numpy, never changes, and is used without a copy. All functions accept a `Matrix` as their first
+matrix, too. They then work over its semiring and return a `Matrix`; the other operands may be matrices of
+scipy.
 
-**grid.** The side of a grid, 1 to 6. The side is checked and changes nothing else: each call works on whole
-matrices, on the caller's thread.
+**grid.** The side of a grid, 1 to 6. It is checked and has no other effect: each call works on whole matrices,
+on the caller's thread.
 
-**Errors.** What is refused raises a `CbgridValueError` (a ValueError) or a `CbgridMemoryError` (a MemoryError),
-both of them `CbgridError` with a code; a wrong type or dtype raises TypeError.
+**Errors.** A refused argument raises a `CbgridValueError` (a ValueError), and want of memory a
+`CbgridMemoryError` (a MemoryError). Both are `CbgridError` and have a code. A wrong type or dtype raises
+TypeError.
 
-**Threads.** Calls let go of the interpreter's lock, and any number may run at once, also on the same matrices,
-as long as nobody writes to them meanwhile.
+**Threads.** Calls release the interpreter's lock. Any number of them may run at once, also on the same
+matrices, as long as nobody writes to these meanwhile.
 """
 
 from __future__ import annotations
@@ -161,6 +163,15 @@ def _source(vertex: int) -> int:
     return vertex
 
 
+def _sources(vertices: Any) -> np.ndarray:
+    vertices = np.asarray(vertices)
+    if vertices.dtype.kind not in "iu" and vertices.size or vertices.ndim != 1:
+        raise TypeError("source: a whole number or a list of whole numbers is wanted")
+    if vertices.size and not (vertices.min() >= 0 and vertices.max() < LIMIT):
+        raise error(SOURCE)
+    return np.ascontiguousarray(vertices, np.uint32)
+
+
 def _lent(operands: tuple, **how: int) -> list:
     """Lends operands, the first one once where it stands for others too."""
     first = _lists.lend(operands[0], **how)
@@ -202,7 +213,9 @@ def _check_pair(a: Any, b: Any) -> None:
         raise TypeError(f"a and b: values of one dtype are wanted, not {a.dtype} and {b.dtype}")
 
 
-def multiply(a: Sparse, b: Any, semiring: str | None = None, mask: Any = None, grid: int = 1) -> Sparse:
+def multiply(
+    a: Sparse, b: Any, semiring: str | None = None, mask: Any = None, grid: int = 1, complement: bool = False
+) -> Sparse:
     """Product of two matrices.
 
     Parameters
@@ -210,12 +223,15 @@ def multiply(a: Sparse, b: Any, semiring: str | None = None, mask: Any = None, g
     a, b : csc, csr or coo matrix or array of scipy.sparse, of int64 or uint64
         `a` has as many columns as `b` has rows. Both may be the same object.
     semiring : str
-        What adds and multiplies values: a name of the table of semirings above.
+        A name from the table of semirings above.
     mask : sparse matrix of the product's shape, optional
-        Keeps only the entries of the product at places where the mask has an entry. A stored value that is
-        the semiring's zero is none; which other value it has doesn't matter.
+        Keeps only the entries of the product at places where the mask has an entry, whatever its value. A stored
+        value that is the semiring's zero isn't an entry.
     grid : int
-        The side of a grid, 1 to 6. It is checked, and changes nothing else.
+        The side of a grid, 1 to 6. It is checked and has no other effect.
+    complement : bool
+        Whether the mask keeps only the entries at places where it has none. Only if `a` is a `Matrix`. The whole
+        product is made first.
 
     Returns
     -------
@@ -225,7 +241,7 @@ def multiply(a: Sparse, b: Any, semiring: str | None = None, mask: Any = None, g
     Raises
     ------
     CbgridValueError
-        The shapes don't agree, a value isn't one of the semiring, or an argument is none of those named.
+        The shapes don't agree, a value isn't one of the semiring, or another argument isn't as described above.
     CbgridMemoryError
         Memory was refused.
     OverflowError
@@ -240,7 +256,9 @@ def multiply(a: Sparse, b: Any, semiring: str | None = None, mask: Any = None, g
            [0, 9]])
     """
     if isinstance(a, Matrix):
-        return _of_kept(a, semiring, grid).multiply(b, mask)
+        return _of_kept(a, semiring, grid).multiply(b, mask, complement)
+    if complement:
+        raise TypeError("complement: a Matrix is wanted for a")
     _check_pair(a, b)
     turned = a.format == "csr"
     operands: tuple = (b, a) if turned else (a, b)
@@ -265,15 +283,15 @@ def spmv(a: Any, x: Vector, semiring: str | None = None, grid: int = 1) -> Vecto
     ----------
     a : csc, csr or coo matrix or array of scipy.sparse, of int64 or uint64
     x : numpy array of one dimension, or sparse matrix of one column, of the dtype of `a`
-        With as many elements as `a` has columns. A sparse `x` costs what its entries meet. In the semirings whose
-        zero is 2**64 - 1 an array has that where it has no entry, so it is of uint64.
+        With as many elements as `a` has columns. A sparse `x` costs the entries that its own ones meet. In the
+        semirings whose zero is 2**64 - 1, an array has this value where it has no entry, so it must be of uint64.
     semiring, grid
         As in `multiply`.
 
     Returns
     -------
     numpy array or sparse matrix of one column
-        As `x` is.
+        The same as `x`.
 
     Raises
     ------
@@ -317,13 +335,13 @@ def _check_vector(a: Any, x: Any, semiring: int, is_array: bool) -> None:
 
 
 def transpose(a: Sparse, semiring: str | None = None, grid: int = 1) -> Sparse:
-    """Transpose of a matrix, in the format of the matrix: unlike scipy's, that of a csc matrix is csc.
+    """Transpose of a matrix, in the format of the matrix. Unlike scipy's, the transpose of a csc matrix is csc.
 
     Parameters
     ----------
     a : csc, csr or coo matrix or array of scipy.sparse, of int64 or uint64
     semiring, grid
-        As in `multiply`. Stored entries whose value is the semiring's zero are dropped.
+        As in `multiply`. Stored values that are the semiring's zero are dropped.
 
     Returns
     -------
@@ -343,15 +361,15 @@ def reduce(a: Sparse, by: str = "rows", semiring: str | None = None, grid: int =
     ----------
     a : csc, csr or coo matrix or array of scipy.sparse, of int64 or uint64
     by : {"rows", "columns"}
-        Whose entries are added up.
+        What to add up.
     semiring, grid
         As in `multiply`.
 
     Returns
     -------
     sparse matrix
-        Of one column with as many rows as `a`, or of one row with as many columns, of the class and dtype of `a`. A
-        sum that is the semiring's zero is no entry.
+        One column with as many rows as `a`, or one row with as many columns, of the class and dtype of `a`. A sum
+        that is the semiring's zero isn't stored.
     """
     if isinstance(a, Matrix):
         return _of_kept(a, semiring, grid).sums(by)
@@ -365,10 +383,10 @@ def reduce(a: Sparse, by: str = "rows", semiring: str | None = None, grid: int =
 
 
 def add(a: Sparse, b: Any, semiring: str | None = None, grid: int = 1) -> Sparse:
-    """Sum of two matrices of one shape, place by place.
+    """Element-wise sum of two matrices of one shape.
 
-    By the semiring's sum: in ``min-plus`` the lesser of two values, in ``max-min`` the greater, in ``or-and`` the
-    union. A place that only one of them stores keeps its value.
+    It is the semiring's sum: the lesser of two values in ``min-plus``, the greater in ``max-min``, and the union in
+    ``or-and``. A place that only one of the two stores keeps its value.
 
     Parameters
     ----------
@@ -387,7 +405,7 @@ def add(a: Sparse, b: Any, semiring: str | None = None, grid: int = 1) -> Sparse
 
 
 def times(a: Sparse, b: Any, semiring: str | None = None, grid: int = 1) -> Sparse:
-    """Product of two matrices of one shape, place by place.
+    """Element-wise product of two matrices of one shape.
 
     Only places that both store can have an entry. In ``or-and`` it is the intersection.
 
@@ -413,11 +431,11 @@ def prune(a: Sparse, test: str, value: int, semiring: str | None = None, grid: i
     Parameters
     ----------
     a : csc, csr or coo matrix or array of scipy.sparse, of int64 or uint64
-        For "below" and "above" without negative values.
+        Without negative values for "below" and "above".
     test : {"below", "above", "equal"}
         Drops values that are strictly below `value`, strictly above it, or equal to it.
     value : int
-        0 to 2**64 - 1; with "equal" and int64 it may be negative.
+        0 to 2**64 - 1. With "equal" and int64 it may be negative.
     semiring, grid
         As in `multiply`.
 
@@ -442,30 +460,32 @@ def prune(a: Sparse, test: str, value: int, semiring: str | None = None, grid: i
     return _placed(library.cbgrid_prune, _semiring(semiring), grid, (a,), after, unsigned=not is_equal)
 
 
-def bfs(graph: Any, source: int, grid: int = 1) -> tuple[np.ndarray, np.ndarray]:
+def bfs(graph: Any, source: Any, grid: int = 1) -> Any:
     """Levels of the vertices of a graph, by breadth-first search.
 
     Parameters
     ----------
     graph : csc, csr or coo matrix or array of scipy.sparse, of int64 or uint64
-        Square. An entry at row i and column j is an edge from i to j, whatever its value is; a stored 0 is
-        none.
-    source : int
-        The vertex to start from, counted from 0.
+        Square. An entry at row i and column j is an edge from i to j, whatever its value. A stored 0 isn't an edge.
+    source : int, or list or numpy array of integers
+        The vertex to start from, counted from 0; or several, in any order, with repetitions.
     grid
         As in `multiply`.
 
     Returns
     -------
     vertices : numpy array of int32
-        The vertices that are reached, ascending, the source among them.
+        The vertices that the source reaches, including itself, in ascending order.
     levels : numpy array of int64
-        The least number of edges that lead from the source to each of them.
+        The least number of edges from the source to each of them.
+    csr_array of int64, or a `Matrix` over min-plus if `graph` is a `Matrix`
+        Instead, for several sources: a row for each, as `scipy.sparse.csgraph.dijkstra` gives one for each of its
+        `indices`, but only of the vertices that are reached. The 0 of the source itself is stored.
 
     Raises
     ------
     CbgridValueError
-        The graph isn't square, the source is no vertex, or `grid` is none.
+        The graph isn't square, `source` isn't one of its vertices, or `grid` isn't 1 to 6.
     CbgridMemoryError
         Memory was refused.
 
@@ -475,7 +495,12 @@ def bfs(graph: Any, source: int, grid: int = 1) -> tuple[np.ndarray, np.ndarray]
     >>> roads = scipy.sparse.csr_array(np.array([[0, 7, 2], [0, 0, 0], [0, 4, 0]]))
     >>> cbgrid.bfs(roads, 2)
     (array([1, 2], dtype=int32), array([1, 0]))
+    >>> cbgrid.bfs(roads, [0, 2]).toarray()
+    array([[0, 1, 1],
+           [0, 1, 0]])
     """
+    if np.ndim(source):
+        return _walks(graph, source, grid, is_levels=True)
     if isinstance(graph, Matrix):
         _grid(grid)
         vertices, levels = graph.walk(True, _source(source))
@@ -485,29 +510,31 @@ def bfs(graph: Any, source: int, grid: int = 1) -> tuple[np.ndarray, np.ndarray]
     return answer.rows(), answer.values(np.dtype(np.int64))
 
 
-def relax(graph: Any, source: int, grid: int = 1) -> tuple[np.ndarray, np.ndarray]:
+def relax(graph: Any, source: Any, grid: int = 1) -> Any:
     """Distances of the vertices of a graph from a source.
 
     Parameters
     ----------
     graph : csc, csr or coo matrix or array of scipy.sparse, of int64 or uint64
-        Square. An entry at row i and column j is an edge from i to j, and its value is the edge's length, from
-        0 on; a stored 0 is an edge of length 0.
+        Square. An entry at row i and column j is an edge from i to j, and its value is the length of the edge, which
+        isn't negative. A stored 0 is an edge of length 0.
     source, grid
         As in `bfs`.
 
     Returns
     -------
     vertices : numpy array of int32
-        The vertices that are reached, ascending, the source among them.
+        The vertices that the source reaches, including itself, in ascending order.
     distances : numpy array of the graph's dtype
-        The least sum of lengths of edges that lead from the source to each of them. A vertex at a distance of
-        2**64 - 1 or more isn't reached.
+        The length of a shortest path from the source to each of them. A vertex at a distance of 2**64 - 1 or more
+        counts as not reached.
+    csr_array of the graph's dtype, or a `Matrix` over min-plus
+        Instead, for several sources, as in `bfs`.
 
     Raises
     ------
     CbgridValueError
-        The graph isn't square, a length is negative, the source is no vertex, or `grid` is none.
+        The graph isn't square, a length is negative, `source` isn't one of its vertices, or `grid` isn't 1 to 6.
     CbgridMemoryError
         Memory was refused.
     OverflowError
@@ -520,6 +547,8 @@ def relax(graph: Any, source: int, grid: int = 1) -> tuple[np.ndarray, np.ndarra
     >>> cbgrid.relax(roads, 0)
     (array([0, 1, 2], dtype=int32), array([0, 6, 2]))
     """
+    if np.ndim(source):
+        return _walks(graph, source, grid, is_levels=False)
     if isinstance(graph, Matrix):
         _grid(grid)
         return graph.walk(False, _source(source))
@@ -537,6 +566,17 @@ def _walk(call: Any, graph: Any, source: int, grid: int, nonzero: bool) -> _list
     return _run(call, before, (graph,), after, **how)
 
 
+def _walks(graph: Any, sources: Any, grid: int, is_levels: bool) -> Any:
+    """The levels or distances from each of some sources, a row for each, in the form that the graph asks for."""
+    _grid(grid)
+    vertices = _sources(sources)
+    if isinstance(graph, Matrix):
+        return graph.walks(is_levels, vertices)
+    _lists.check_matrix(graph, "graph")
+    made = (_graph(graph) if is_levels else Matrix(graph, "min-plus")).walks(is_levels, vertices)
+    return made.to_scipy("csr", np.int64 if is_levels else graph.dtype)
+
+
 def _graph(graph: Any) -> Matrix:
     """A graph as a matrix that is kept over or-and."""
     if isinstance(graph, Matrix):
@@ -551,16 +591,16 @@ def parents(graph: Any, source: int) -> tuple[np.ndarray, np.ndarray]:
     Parameters
     ----------
     graph : csc, csr or coo matrix or array of scipy.sparse, of int64 or uint64, or a `Matrix` over or-and
-        Square. Edges are those of `bfs`.
+        Square. Its edges are those of `bfs`.
     source : int
         The vertex to start from, counted from 0.
 
     Returns
     -------
     vertices : numpy array of int32
-        The vertices that are reached, ascending, without the source.
+        The vertices that the source reaches, without itself, in ascending order.
     parents : numpy array of int64
-        Of each of them the least vertex before it on a shortest path from the source.
+        For each of them the least vertex that precedes it on a shortest path from the source.
 
     Examples
     --------
@@ -574,7 +614,7 @@ def parents(graph: Any, source: int) -> tuple[np.ndarray, np.ndarray]:
 
 
 def components(graph: Any) -> tuple[np.ndarray, np.ndarray]:
-    """Connected components of a graph, whose edges count in both directions.
+    """Connected components of a graph. Its edges count in both directions.
 
     Parameters
     ----------
@@ -584,9 +624,9 @@ def components(graph: Any) -> tuple[np.ndarray, np.ndarray]:
     Returns
     -------
     vertices : numpy array of int32
-        The vertices that have an edge, ascending.
+        The vertices that have an edge, in ascending order.
     components : numpy array of int64
-        Of each of them the least vertex of its component.
+        For each of them the least vertex of its component.
 
     Examples
     --------
@@ -600,7 +640,7 @@ def components(graph: Any) -> tuple[np.ndarray, np.ndarray]:
 
 
 def triangles(graph: Any) -> int:
-    """Number of triangles of a graph, whose edges count in both directions.
+    """Number of triangles in a graph. Its edges count in both directions.
 
     Parameters
     ----------
@@ -623,20 +663,19 @@ def triangles(graph: Any) -> int:
 
 
 def read(source: Any, semiring: str = "plus-times", format: str = "csc", dtype: Any = np.uint64) -> Any:
-    """The matrix that a Matrix Market text reads as.
+    """Read the matrix of a Matrix Market text.
 
     Parameters
     ----------
     source : bytes, str or os.PathLike
-        Bytes are the text itself; a str or a path names a file.
+        Bytes are the text itself; a str or a path is the name of a file.
     semiring : str
-        Entries that name one place twice are added by its sum. In ``or-and`` every number but 0 is 1.
+        Duplicate entries are added up in it. In ``or-and`` every number but 0 becomes 1.
     format : {"csc", "csr", "coo"}
-        The format of the answer. csc and csr take a list as long as one of the sides, coo doesn't.
+        The format of the result. csc and csr need an array as long as one of the sides; coo doesn't.
     dtype : {numpy.uint64, numpy.int64}
-        The dtype of the answer. For int64, values of ``plus-times``, ``plus-pair``, ``plus-first`` and
-        ``plus-second`` are taken modulo 2**64, so that -1 is read as -1; in the others a value above 2**63 - 1
-        raises OverflowError.
+        The dtype of the result. For int64, values in ``plus-times``, ``plus-pair``, ``plus-first`` and ``plus-second``
+        are taken modulo 2**64, so -1 is read as -1. In the others a value above 2**63 - 1 raises OverflowError.
 
     Returns
     -------
@@ -645,7 +684,7 @@ def read(source: Any, semiring: str = "plus-times", format: str = "csc", dtype: 
     Raises
     ------
     CbgridValueError
-        With code 13 and `line`, where the text is none of the profile.
+        The text doesn't follow the profile of docs/FORMAT.md. The error has code 13 and the `line` of the first fault.
     OSError
         The file can't be read.
     """
@@ -674,12 +713,12 @@ def _contents(source: Any) -> bytes:
 
 
 def text(matrix: Any, semiring: str | None = None) -> bytes:
-    """The Matrix Market text of a matrix: by column and then by row.
+    """Matrix Market text of a matrix, by column and then by row.
 
     Parameters
     ----------
     matrix : csc, csr or coo matrix or array of scipy.sparse, of int64 or uint64
-        In ``plus-times`` negative values are written modulo 2**64, and read again as they were.
+        In ``plus-times`` negative values are written modulo 2**64, and `read` gives them back.
     semiring
         As in `read`. In ``or-and`` the text is a ``pattern`` file.
 

@@ -68,8 +68,20 @@ _CALLS = {
     "cbgrid_matrix_add": [_kept, _kept, _made],
     "cbgrid_matrix_times": [_kept, _kept, _made],
     "cbgrid_matrix_prune": [_kept, _u32, ctypes.c_uint64, _made],
+    "cbgrid_matrix_select": [_kept, _u32, ctypes.c_int64, _made],
+    "cbgrid_matrix_apply": [_kept, _u32, ctypes.c_uint64, _made],
+    "cbgrid_matrix_diagonal": [_kept, _made],
+    "cbgrid_matrix_diagonal_matrix": [_kept, _made],
+    "cbgrid_matrix_part": [_kept, _u32, _u32, _u32, _u32, _made],
+    "cbgrid_matrix_extract": [_kept, _kept, ctypes.c_size_t, _kept, ctypes.c_size_t, _made],
+    "cbgrid_matrix_kron": [_kept, _kept, _made],
+    "cbgrid_matrix_assign": [_kept, _u32, _u32, _kept, _made],
+    "cbgrid_matrix_exclude": [_kept, _kept, _made],
+    "cbgrid_matrix_reduce_all": [_kept, ctypes.POINTER(ctypes.c_uint64)],
     "cbgrid_matrix_levels": [_kept, _u32, _made],
     "cbgrid_matrix_distances": [_kept, _u32, _made],
+    "cbgrid_matrix_levels_from": [_kept, _kept, ctypes.c_size_t, _made],
+    "cbgrid_matrix_distances_from": [_kept, _kept, ctypes.c_size_t, _made],
     "cbgrid_matrix_parents": [_kept, _u32, _made],
     "cbgrid_matrix_components": [_kept, _made],
     "cbgrid_matrix_triangles": [_kept, ctypes.POINTER(ctypes.c_uint64)],
@@ -108,18 +120,16 @@ library = _load()
 
 
 class CbgridError(Exception):
-    """A call that has no answer.
-
-    It is raised as a `CbgridValueError` or a `CbgridMemoryError`.
+    """A call failed. It is raised as a `CbgridValueError` or a `CbgridMemoryError`.
 
     Attributes
     ----------
     code : int
         The code of cbgrid.h, 1 to 16.
     message : str
-        What the code says, in a few words.
+        The code in a few words.
     line : int or None
-        For a text that is no matrix, the line of its first fault, counted from 1.
+        The line of the first fault of a text that can't be read, counted from 1.
     """
 
     def __init__(self, code: int, message: str, line: int | None = None) -> None:
@@ -133,7 +143,7 @@ class CbgridError(Exception):
 
 
 class CbgridValueError(CbgridError, ValueError):
-    """An argument is refused."""
+    """An argument was refused."""
 
 
 class CbgridMemoryError(CbgridError, MemoryError):

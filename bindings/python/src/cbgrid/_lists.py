@@ -24,7 +24,7 @@ _DTYPES = frozenset((_INT64, np.dtype(np.uint64)))
 
 
 def check_matrix(matrix: Any, name: str) -> None:
-    """Raises where an argument is no matrix that is taken here."""
+    """Raises an error unless an argument is a matrix that is accepted here."""
     form = getattr(matrix, "format", None)
     if form not in ("csc", "csr", "coo") or len(matrix.shape) != 2:
         what = f"format {form}" if isinstance(form, str) else type(matrix).__name__
@@ -37,7 +37,7 @@ def check_matrix(matrix: Any, name: str) -> None:
 
 
 def check_dtype(dtype: np.dtype, name: str) -> None:
-    """Raises where values are not whole numbers of 64 bits."""
+    """Raises an error unless values are whole numbers of 64 bits."""
     if dtype not in _DTYPES:
         raise TypeError(f"{name}: values of dtype int64 or uint64 are wanted, not {dtype} ({dtype.str})")
 
@@ -47,25 +47,25 @@ def _has_negative(values: np.ndarray) -> bool:
 
 
 def check_unsigned(values: np.ndarray) -> None:
-    """Raises where one of the values is negative."""
+    """Raises an error if one of the values is negative."""
     if _has_negative(values):
         raise error(VALUE, "negative value, where values are read as 0 to 2^64 - 1")
 
 
 def check_signed(values: np.ndarray) -> None:
-    """Raises where an answer for int64 operands is too large for int64."""
+    """Raises an error if a result of int64 operands is too large for int64."""
     if _has_negative(values):
         raise OverflowError("a value of the answer is above 2^63 - 1: use uint64")
 
 
 def _placed(array: np.ndarray) -> np.ndarray:
-    """The array, or where it isn't aligned or has gaps a copy."""
+    """The array, or a copy if it isn't aligned or has gaps."""
     flags = array.flags
     return array if flags.carray or flags.c_contiguous and flags.aligned else array.copy()
 
 
 def _address(array: np.ndarray) -> int | None:
-    """Where the elements of an array lie, which is aligned and has no gaps."""
+    """The address of the elements of an array that is aligned and has no gaps."""
     if not len(array):
         return None
     try:
@@ -75,7 +75,7 @@ def _address(array: np.ndarray) -> int | None:
 
 
 def _index32(array: np.ndarray, limit: int) -> np.ndarray:
-    """Row numbers of 32 bits: those of scipy where they are."""
+    """Row numbers of 32 bits: those of scipy if they have 32."""
     if array.dtype == _INT32:
         return array
     if not _are_below(array, limit):
@@ -110,7 +110,7 @@ def _lend_lists(
 def lend(
     matrix: Any, semiring: int, turned: bool, unsigned: bool, nonzero: bool = False, in_order: bool = False
 ) -> Columns:
-    """Lends a matrix, or its transpose where `turned`.
+    """Lends a matrix, or its transpose if `turned`.
 
     `unsigned` refuses negative values. `nonzero` lends 1 for each value that isn't 0. With `in_order` rows ascend in
     each column, and none is doubled; without it the kernel may find that this isn't so.
@@ -141,7 +141,7 @@ def lend(
 def _lend_transposed(
     matrix: Any, semiring: int, turned: bool, unsigned: bool, nonzero: bool, in_order: bool
 ) -> Columns:
-    """Lends a csr matrix by columns, or a csc one by rows where `turned`: the kernel's own transpose of it."""
+    """Lends a csr matrix by columns, or a csc one by rows if `turned`: the kernel's own transpose of it."""
     answer = Answer()
     lent = lend(matrix, semiring, not turned, unsigned, nonzero, in_order)
     code = library.cbgrid_transpose(semiring, 1, lent, answer.columns)
@@ -160,7 +160,7 @@ def _ones(values: np.ndarray) -> np.ndarray:
 
 
 def _lend_coordinates(matrix: Any, turned: bool, unsigned: bool, nonzero: bool, summed: bool) -> Columns:
-    """Lends a coo matrix: in doubly compressed columns, unless it has few, so its shape doesn't tell in the cost."""
+    """Lends a coo matrix in doubly compressed columns, unless it has few columns, so that its shape costs nothing."""
     nrows, ncols = reversed(matrix.shape) if turned else matrix.shape
     rows, columns = (matrix.col, matrix.row) if turned else (matrix.row, matrix.col)
     if not len(rows) == len(columns) == len(matrix.data):
@@ -321,7 +321,7 @@ def _bare(like: Any, shape: tuple[int, int]) -> Any:
 
 
 def lend_array(x: np.ndarray, turned: bool, unsigned: bool) -> Columns:
-    """Lends an array as a column, or as a row where `turned`."""
+    """Lends an array as a column, or as a row if `turned`."""
     length = len(x)
     if unsigned:
         check_unsigned(x)
@@ -333,7 +333,7 @@ def lend_array(x: np.ndarray, turned: bool, unsigned: bool) -> Columns:
 
 
 def column_of(answer: Answer, turned: bool, dtype: np.dtype) -> tuple[np.ndarray, np.ndarray]:
-    """The places of a column that have entries (of a row where `turned`), and the values there."""
+    """The places of a column (of a row if `turned`) that have entries, and the values there."""
     return answer.stored() if turned else answer.rows(), answer.values(dtype)
 
 

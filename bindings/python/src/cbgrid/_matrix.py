@@ -1,4 +1,4 @@
-"""Matrices that are kept: a matrix of the library's own, over one semiring, which never changes."""
+"""Kept matrices: matrices of the library's own, each over one semiring, which never change."""
 
 from __future__ import annotations
 
@@ -10,7 +10,7 @@ import numpy as np
 import scipy.sparse
 
 from . import _lists
-from ._library import LENGTHS, LIMIT, ORDER, PLACE, SEMIRING, SHAPES, TOO_LARGE, VALUE, Text, error, library
+from ._library import LENGTHS, LIMIT, ORDER, PLACE, SEMIRING, SHAPES, TEST, TOO_LARGE, VALUE, Text, error, library
 
 # In the order of their numbers.
 _NAMES = (
@@ -20,6 +20,8 @@ _NAMES = (
 SEMIRINGS = {name: number for number, name in enumerate(_NAMES)}
 _ZEROS = tuple(2**64 - 1 if name.startswith("min-") else 0 for name in _NAMES)
 _OR_AND = 2
+_REGIONS = {"lower": 0, "upper": 1, "diagonal": 2, "off-diagonal": 3}
+_FUNCTIONS = {"constant": 0, "sum": 1, "left-product": 2, "right-product": 3, "row": 4, "column": 5}
 _TRIPLE = np.dtype([("row", np.uint32), ("column", np.uint32), ("value", np.uint64)])
 _UINT64 = np.dtype(np.uint64)
 _void, _byref = ctypes.c_void_p, ctypes.byref
@@ -34,11 +36,13 @@ def number_of(name: str) -> int:
 
 
 def whole_numbers(values: Any, name: str) -> np.ndarray:
-    """Values of any integer type or bool as numbers from 0 to 2**64 - 1, without a copy where their type allows.
+    """Values of any integer type or bool as numbers from 0 to 2**64 - 1, without a copy if their type allows.
 
-    Raises where one of them is none, and names it.
+    A value that isn't one of these raises an error that names it.
     """
-    values = np.asarray(values)
+    given, values = values, np.asarray(values)
+    if values.dtype.kind == "f" and all(type(it) is int for it in given):
+        values = np.array(given, object)  # numpy makes floats of a list of integers below and above 2**63
     kind = values.dtype.kind
     if kind in "bu":
         return values.astype(_UINT64, copy=False)
@@ -78,16 +82,16 @@ def _numbers32(numbers: Any, limit: int, name: str) -> np.ndarray:
 class Matrix:
     """A matrix over a semiring, kept by the library: built once, never changed, freed when it is dropped.
 
-    Calls on it copy and convert nothing: its block is used where it lies, and an answer is another Matrix.
+    Calls on it copy and convert nothing, and their result is another Matrix.
 
     Parameters
     ----------
     source : csc, csr or coo matrix or array of scipy.sparse, numpy array of two dimensions, or Matrix
-        Of bool or any integer type. Each value is taken exactly: a negative one is refused by name, and so is one
-        above 2**64 - 1. Places that are stored twice have the sum of what is stored there, as everywhere in scipy.
-        Of a numpy array each element that is not the semiring's zero is an entry.
-    semiring : {"plus-times", "min-plus", "or-and", "max-min"}
-        What adds and multiplies values. A Matrix that is given keeps its own.
+        Of bool or any integer type. Each value is taken exactly; if one is negative or above 2**64 - 1, an error says
+        which. Duplicate entries are added up as integers, as everywhere in scipy. Each element of a numpy array that
+        isn't the semiring's zero becomes an entry.
+    semiring : str, optional
+        A name from the table of `help(cbgrid)`; ``plus-times`` by default. For a Matrix the default is its own.
 
     Examples
     --------
@@ -121,11 +125,12 @@ class Matrix:
 
     @classmethod
     def from_triples(cls, rows: Any, columns: Any, values: Any, shape: Any, semiring: str = "plus-times") -> Matrix:
-        """The matrix that has at each place the sum, in the semiring, of the values that are given there.
+        """The matrix of triples, in any order. Values at one place are added up in the semiring.
 
         Parameters
         ----------
         rows, columns, values : lists or numpy arrays of one length
+            An error says which list has a row, column or value that isn't allowed, and where.
         shape : (int, int)
         semiring
             As in `Matrix`.
@@ -166,28 +171,80 @@ class Matrix:
 
     @property
     def shape(self) -> tuple[int, int]:
-        """How many rows and columns there are."""
+        """The number of rows and of columns."""
         return library.cbgrid_matrix_nrows(self._at), library.cbgrid_matrix_ncols(self._at)
 
     @property
     def nnz(self) -> int:
-        """How many entries are stored: values other than the semiring's zero."""
+        """The number of stored entries: values other than the semiring's zero."""
         return library.cbgrid_matrix_entries(self._at)
 
     @property
     def zero(self) -> int:
-        """The value of each place without an entry."""
+        """The semiring's zero, the value at each place without an entry."""
         return _ZEROS[self._number]
 
-    def __getitem__(self, place: Any) -> int:
-        row, column = place
-        (nrows, ncols), row, column = self.shape, operator.index(row), operator.index(column)
-        row, column = row + nrows if row < 0 else row, column + ncols if column < 0 else column
-        if not (0 <= row < nrows and 0 <= column < ncols):
-            raise IndexError(f"no place ({row}, {column}) in {nrows} by {ncols}")
-        value = ctypes.c_uint64()
-        library.cbgrid_matrix_value(self._at, row, column, value)
-        return value.value
+    def __getitem__(self, place: Any) -> Any:
+        """The value at a place, or the Matrix of some rows and columns.
+
+        Two integers give a value, as an int. A slice or a list of integers in the place of one of them gives a Matrix
+        of those rows and columns, in their order; an integer beside it gives one row or one column. Two lists give each
+        of the rows in each of the columns, as in GraphBLAS and as `a[numpy.ix_(rows, columns)]` does; numpy would take
+        pairs. Negative integers count from the end.
+
+        Raises
+        ------
+        IndexError
+            The matrix doesn't have a row or a column. The message says which list names it, and where.
+        TypeError
+            The index isn't a pair of integers, slices and lists of integers.
+        """
+        if not isinstance(place, tuple) or len(place) != 2:
+            raise TypeError("a matrix takes a row and a column: a[i, j]")
+        rows, columns = place
+        if _is_grid(rows, columns):
+            rows, columns = rows[:, 0], columns[0]
+        nrows, ncols = self.shape
+        rows, columns = _indices(rows, nrows, "rows"), _indices(columns, ncols, "columns")
+        if isinstance(rows, int) and isinstance(columns, int):
+            value = ctypes.c_uint64()
+            library.cbgrid_matrix_value(self._at, rows, columns, value)
+            return value.value
+        return self._taken(*(range(it, it + 1) if isinstance(it, int) else it for it in (rows, columns)))
+
+    def _taken(self, rows: Any, columns: Any) -> Matrix:
+        """The rows and columns of ranges or lists of numbers."""
+        if all(isinstance(it, range) and it.step == 1 for it in (rows, columns)):
+            ends = ((it.start, max(it.start, it.stop)) for it in (rows, columns))
+            return self._made(library.cbgrid_matrix_part, *(end for pair in ends for end in pair))
+        row_numbers, row_places = self._listed(rows, 0)
+        column_numbers, column_places = self._listed(columns, 1)
+        made = self._extracted(row_numbers, column_numbers)
+        if row_places is None and column_places is None:
+            return made
+        at_rows, at_columns, values = made.to_triples()
+        at_rows = at_rows if row_places is None else row_places[at_rows]
+        at_columns = at_columns if column_places is None else column_places[at_columns]
+        return Matrix.from_triples(at_rows, at_columns, values, (len(rows), len(columns)), self.semiring)
+
+    def _listed(self, numbers: Any, axis: int) -> tuple[np.ndarray, np.ndarray | None]:
+        """The numbers of a list or a range, and None.
+
+        For a range much longer than there are entries: its rows or columns that have entries, and their places in it.
+        """
+        if not isinstance(numbers, range):
+            return numbers, None
+        if len(numbers) <= 2 * self.nnz + 1000:
+            return np.arange(numbers.start, numbers.stop, numbers.step, np.int64).astype(np.uint32), None
+        present = np.unique(self.to_triples()[axis]).astype(np.int64)
+        places, rest = np.divmod(present - numbers.start, numbers.step)
+        inside = (rest == 0) & (places >= 0) & (places < len(numbers))
+        return present[inside].astype(np.uint32), places[inside]
+
+    def _extracted(self, rows: np.ndarray, columns: np.ndarray) -> Matrix:
+        rows, columns = (np.ascontiguousarray(it, np.uint32) for it in (rows, columns))
+        lists = rows.ctypes.data, len(rows), columns.ctypes.data, len(columns)
+        return self._made(library.cbgrid_matrix_extract, *lists)
 
     def _lists(self) -> _lists.Answer:
         answer = _lists.Answer()
@@ -197,9 +254,9 @@ class Matrix:
         return answer
 
     def to_scipy(self, format: str = "csc", dtype: Any = np.uint64) -> Any:
-        """The same matrix of scipy.sparse, a csc_array, csr_array or coo_array of uint64 or int64.
+        """The matrix as a csc_array, csr_array or coo_array of uint64 or int64.
 
-        A value above 2**63 - 1 raises OverflowError for int64.
+        For int64 a value above 2**63 - 1 raises OverflowError.
         """
         dtype = np.dtype(dtype)
         _lists.check_dtype(dtype, "dtype")
@@ -222,7 +279,7 @@ class Matrix:
         return answer.rows(), columns, answer.values(_UINT64)
 
     def to_numpy(self) -> np.ndarray:
-        """The same matrix as an array, with the semiring's zero where there is no entry."""
+        """The matrix as an array, with the semiring's zero at each place without an entry."""
         made = np.full(self.shape, self.zero, _UINT64)
         rows, columns, values = self.to_triples()
         made[rows, columns] = values
@@ -234,11 +291,152 @@ class Matrix:
         return self._made(library.cbgrid_matrix_transpose)
 
     def sums(self, by: str = "rows") -> Matrix:
-        """The sum of each row, in one column, or of each column, in one row."""
+        """The sum of each row, in one column, or of each column, in one row. `by` is "rows" or "columns"."""
         calls = {"rows": library.cbgrid_matrix_row_sums, "columns": library.cbgrid_matrix_column_sums}
         if by not in calls:
             raise ValueError(f"by: one of {tuple(calls)} is wanted, not {by!r}")
         return self._made(calls[by])
+
+    def sum(self, axis: int | None = None) -> Any:
+        """The sum of all values in the semiring, as an int; or the sums along an axis, as a Matrix.
+
+        Parameters
+        ----------
+        axis : {None, 0, 1}
+            None adds up all values; the sum of no values is the semiring's zero. 0 adds up each column and gives one
+            row; 1 adds up each row and gives one column. Any other axis raises ValueError.
+        """
+        if axis is not None:
+            if axis not in (0, 1):
+                raise ValueError(f"axis: None, 0 or 1 is wanted, not {axis!r}")
+            return self.sums("rows" if axis else "columns")
+        total = ctypes.c_uint64()
+        code = library.cbgrid_matrix_reduce_all(self._at, _byref(total))
+        if code:
+            raise error(code)
+        return total.value
+
+    def select(self, region: str, k: int = 0) -> Matrix:
+        """The entries in a region.
+
+        Parameters
+        ----------
+        region : {"lower", "upper", "diagonal", "off-diagonal"}
+            The lower triangle (diagonal k and everything below it), the upper triangle (diagonal k and everything above
+            it), diagonal k, or everything but diagonal k. Any other name raises a CbgridValueError with code 3.
+        k : int
+            The number of a diagonal: 0 is the main diagonal, 1 the one above it, -1 the one below it. Any integer will
+            do; a diagonal outside the matrix has no entries.
+        """
+        if region not in _REGIONS:
+            raise error(TEST, f"region: one of {tuple(_REGIONS)} is wanted, not {region!r}")
+        diagonal = max(-LIMIT, min(operator.index(k), LIMIT))
+        return self._made(library.cbgrid_matrix_select, _REGIONS[region], diagonal)
+
+    def tril(self, k: int = 0) -> Matrix:
+        """The entries on diagonal k and below it, as `scipy.sparse.tril`."""
+        return self.select("lower", k)
+
+    def triu(self, k: int = 0) -> Matrix:
+        """The entries on diagonal k and above it, as `scipy.sparse.triu`."""
+        return self.select("upper", k)
+
+    def apply(self, function: str, number: int = 0) -> Matrix:
+        """The matrix with a function of each entry in place of its value. What becomes zero isn't stored.
+
+        Parameters
+        ----------
+        function : {"constant", "sum", "left-product", "right-product", "row", "column"}
+            `number` itself; the semiring's sum of the value and `number`; its product of `number` and the value, or of
+            the value and `number`; the row of the entry, or its column, counted from 0. Any other name raises a
+            CbgridValueError with code 3.
+        number : int
+            A value of the semiring, 0 to 2**64 - 1; any other raises a CbgridValueError with code 9. "row" and "column"
+            ignore it, but raise the same error if the number of the last row or column isn't a value of the semiring:
+            ``or-and`` has only 0 and 1.
+        """
+        if function not in _FUNCTIONS:
+            raise error(TEST, f"function: one of {tuple(_FUNCTIONS)} is wanted, not {function!r}")
+        number = operator.index(number)
+        if not 0 <= number < 2**64:
+            raise error(VALUE, f"number: 0 to 2^64 - 1 is wanted, not {number}")
+        return self._made(library.cbgrid_matrix_apply, _FUNCTIONS[function], number)
+
+    def diagonal(self) -> Matrix:
+        """The main diagonal, in one column with as many rows as the matrix has rows or columns, whichever are fewer."""
+        return self._made(library.cbgrid_matrix_diagonal)
+
+    @classmethod
+    def from_diagonal(cls, values: Any, semiring: str | None = None) -> Matrix:
+        """The square matrix with some values on its main diagonal.
+
+        Parameters
+        ----------
+        values : list or numpy array of one dimension, or Matrix or scipy.sparse matrix of one column
+            Of bool or any integer type. Each element of an array that isn't the semiring's zero becomes an entry. A
+            matrix that doesn't have one column raises a CbgridValueError with code 10.
+        semiring
+            As in `Matrix`.
+        """
+        if not isinstance(values, Matrix) and not scipy.sparse.issparse(values):
+            if np.ndim(values) != 1:
+                raise TypeError(f"values: an array of one dimension is wanted, not of {np.ndim(values)}")
+            values = whole_numbers(values if len(values) else np.empty(0, _UINT64), "values").reshape(-1, 1)
+        return cls(values, semiring)._made(library.cbgrid_matrix_diagonal_matrix)
+
+    def extract(self, rows: Any, columns: Any) -> Matrix:
+        """The matrix whose row i and column j are row `rows[i]` and column `columns[j]` of this one.
+
+        Parameters
+        ----------
+        rows, columns : lists or numpy arrays of integers
+            Counted from 0, in any order, with repetitions. If the matrix doesn't have one of them, a CbgridValueError
+            with code 8 says which list names it, and where. `a[rows, columns]` also takes slices and negative integers.
+        """
+        nrows, ncols = self.shape
+        return self._extracted(_numbers32(rows, nrows, "rows"), _numbers32(columns, ncols, "columns"))
+
+    def kron(self, other: Any) -> Matrix:
+        """The Kronecker product: each value is replaced by its products with all of the other matrix.
+
+        Parameters
+        ----------
+        other : Matrix or scipy.sparse matrix, or numpy array of two dimensions
+            A Matrix over another semiring raises a CbgridValueError with code 16; a product with more than 2**31 - 1
+            rows or columns raises one with code 5.
+        """
+        operand = self._wanted(other, "other")
+        return self._made(library.cbgrid_matrix_kron, operand._at)
+
+    def assign(self, row: int, column: int, part: Any) -> Matrix:
+        """The matrix with another in place of a part of it. What the part had is dropped, also where the other has
+        nothing.
+
+        Parameters
+        ----------
+        row, column : int
+            Where the part begins, counted from 0. If it ends beyond this matrix, a CbgridValueError with code 8 is
+            raised.
+        part : Matrix or scipy.sparse matrix, or numpy array of two dimensions
+            A Matrix over another semiring raises a CbgridValueError with code 16.
+        """
+        corner = operator.index(row), operator.index(column)
+        operand = self._wanted(part, "part")
+        if not all(0 <= it <= LIMIT for it in corner):
+            raise error(PLACE, f"row, column: a place of the matrix is wanted, not {corner}")
+        return self._made(library.cbgrid_matrix_assign, *corner, operand._at)
+
+    def exclude(self, mask: Any) -> Matrix:
+        """The entries at the places where a mask has none: what the complement of the mask allows.
+
+        Parameters
+        ----------
+        mask : Matrix or scipy.sparse matrix, or numpy array of two dimensions
+            Of the same shape, or else a CbgridValueError with code 10 is raised. What values it has doesn't matter. A
+            Matrix over another semiring raises a CbgridValueError with code 16.
+        """
+        operand = self._wanted(mask, "mask")
+        return self._made(library.cbgrid_matrix_exclude, operand._at)
 
     def _made(self, call: Any, *arguments: Any, number: int | None = None) -> Matrix:
         out = _void()
@@ -248,7 +446,7 @@ class Matrix:
         return Matrix._of(out.value, self._number if number is None else number)
 
     def _operand(self, other: Any) -> Matrix | None:
-        """Another operand: kept over the same semiring, where it isn't kept yet."""
+        """Another operand. If it isn't kept yet, it is kept over the same semiring."""
         if isinstance(other, Matrix):
             return other
         if scipy.sparse.issparse(other) or isinstance(other, np.ndarray) and other.ndim == 2:
@@ -265,7 +463,7 @@ class Matrix:
         return self._pair(library.cbgrid_matrix_multiply, other)
 
     def _by_array(self, x: np.ndarray) -> np.ndarray:
-        """The product by an array of one dimension, which is an array."""
+        """The product with an array of one dimension, as an array."""
         if len(x) != self.shape[1]:
             raise error(SHAPES)
         column = Matrix(whole_numbers(x, "x").reshape(-1, 1), self.semiring)
@@ -286,12 +484,18 @@ class Matrix:
     __rmul__ = __mul__
     __array_ufunc__ = None  # numpy's operators leave a Matrix to those above
 
-    def multiply(self, other: Any, mask: Any = None) -> Matrix:
-        """The product, kept where the mask has an entry."""
+    def multiply(self, other: Any, mask: Any = None, complement: bool = False) -> Matrix:
+        """The product, at the places where the mask has an entry if there is one.
+
+        With `complement`, it is the product at the places where the mask has no entry: the whole product, of which the
+        others are then dropped.
+        """
         operand = self._wanted(other, "b")
         if mask is None:
             return self._made(library.cbgrid_matrix_multiply, operand._at)
         kept = self._wanted(mask, "mask")
+        if complement:
+            return self._made(library.cbgrid_matrix_multiply, operand._at).exclude(kept)
         return self._made(library.cbgrid_matrix_multiply_masked, operand._at, kept._at)
 
     def _wanted(self, other: Any, name: str) -> Matrix:
@@ -304,23 +508,28 @@ class Matrix:
         return self._made(library.cbgrid_matrix_prune, test, bound)
 
     def walk(self, is_levels: bool, source: int) -> tuple[np.ndarray, np.ndarray]:
-        """The vertices that are reached from a source, and their levels or distances."""
+        """The vertices that a source reaches, and their levels or distances."""
         call = library.cbgrid_matrix_levels if is_levels else library.cbgrid_matrix_distances
         rows, _columns, values = self._made(call, source, number=1).to_triples()
         return rows, values
 
+    def walks(self, is_levels: bool, sources: np.ndarray) -> Matrix:
+        """The levels or distances from each of some sources, over min-plus: a row for each source."""
+        call = library.cbgrid_matrix_levels_from if is_levels else library.cbgrid_matrix_distances_from
+        return self._made(call, sources.ctypes.data, len(sources), number=1).T
+
     def parents(self, source: int) -> tuple[np.ndarray, np.ndarray]:
-        """The vertices that are reached from a source, but not the source, and the parent of each."""
+        """The vertices that a source reaches, without itself, and the parent of each."""
         rows, _columns, values = self._made(library.cbgrid_matrix_parents, source, number=1).to_triples()
         return rows, values
 
     def components(self) -> tuple[np.ndarray, np.ndarray]:
-        """The vertices that have entries, and the least vertex that is joined to each."""
+        """The vertices that have entries, and the least vertex of the component of each."""
         rows, _columns, values = self._made(library.cbgrid_matrix_components, number=1).to_triples()
         return rows, values
 
     def triangles(self) -> int:
-        """How many triangles the graph has."""
+        """The number of triangles of the graph."""
         count = ctypes.c_uint64()
         code = library.cbgrid_matrix_triangles(self._at, _byref(count))
         if code:
@@ -339,7 +548,7 @@ class Matrix:
             library.cbgrid_free_text(made)
 
     def __eq__(self, other: Any) -> Any:
-        """Whether two matrices are over one semiring, of one shape, and have the same entries."""
+        """Whether two matrices have the same semiring, shape and entries."""
         if not isinstance(other, Matrix):
             return NotImplemented
         if self is other:
@@ -353,6 +562,35 @@ class Matrix:
     def __repr__(self) -> str:
         nrows, ncols = self.shape
         return f"<cbgrid.Matrix of {nrows} by {ncols} over {self.semiring}, {self.nnz} entries>"
+
+
+def _is_grid(rows: Any, columns: Any) -> bool:
+    """Whether a pair is one of `numpy.ix_`."""
+    pair = (rows, columns)
+    return all(isinstance(it, np.ndarray) and it.ndim == 2 for it in pair) and rows.shape[1] == columns.shape[0] == 1
+
+
+def _indices(index: Any, length: int, name: str) -> Any:
+    """An index as an int, a range, or an array of numbers below a length."""
+    if isinstance(index, slice):
+        return range(*index.indices(length))
+    if isinstance(index, (list, tuple, np.ndarray)) and np.ndim(index):
+        numbers = np.asarray(index)
+        if numbers.dtype.kind not in "iu" and numbers.size:
+            raise TypeError(f"{name}: whole numbers are wanted, not {numbers.dtype}")
+        if numbers.ndim != 1:
+            raise TypeError(f"{name}: a list of numbers is wanted")
+        if numbers.dtype.kind == "i":
+            numbers = numbers.astype(np.int64)
+            numbers = np.where(numbers < 0, numbers + length, numbers)
+        if numbers.size and not (numbers.min() >= 0 and numbers.max() < length):
+            n = int(np.argmax((numbers < 0) | (numbers >= length)))
+            raise IndexError(f"{name}: entry {n} is {index[n]}, not {-length} to {length - 1}")
+        return numbers
+    number = operator.index(index)
+    if not -length <= number < length:
+        raise IndexError(f"{name}: {number} is not {-length} to {length - 1}")
+    return number % length
 
 
 def _from_triples(rows: Any, columns: Any, values: Any, shape: Any, semiring: str) -> Matrix:

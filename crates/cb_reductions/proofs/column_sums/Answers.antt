@@ -1,7 +1,6 @@
-use Rattle.std.proofs.Common.{◌≡◌, ◌<◌, length, take, get_or, sym, ap, subst, ◌∙◌, arith}
-use Rattle.std.specs.Prelude.{All, AllPairs}
+use Rattle.std.proofs.Common.{◌≡◌, ◌<◌, take, get_or, sym, ap, subst, ◌∙◌, arith}
+use Rattle.std.specs.Prelude.{All}
 use Rattle.cb_matrix.specs.Sparse.{Sparse}
-use Rattle.cb_dcsc.specs.Columns.{columns_with_entries}
 use Rattle.cb_reductions.proofs.SumsSoFar.{sums_at, sums_before, stored_total, sum_stored, all_sums_are}
 use Rattle.cb_reductions.proofs.column_sums.Goals as goal
 

@@ -1,0 +1,29 @@
+use Rattle.cb_interop.proofs.KeptPairingFaults.{makes_kronecker, makes_assigned, makes_excluded, suits_kronecker, suits_assigned, suits_excluded}
+use Rattle.cb_interop.proofs.kept_pairings.paired.Goals as goal
+
+pub kronecker-requires-clause-rows : goal.kronecker-requires-clause-rows
+kronecker-requires-clause-rows g c = (suits_kronecker c.args.pairing c.args.left.now.shape c.args.right.now.shape c.in-Kronecker.is c.requires).0
+
+pub kronecker-requires-clause-cols : goal.kronecker-requires-clause-cols
+kronecker-requires-clause-cols g c = (suits_kronecker c.args.pairing c.args.left.now.shape c.args.right.now.shape c.in-Kronecker.is c.requires).1
+
+pub assign-requires-clause-rows : goal.assign-requires-clause-rows
+assign-requires-clause-rows g c =
+    (suits_assigned c.args.pairing c.args.left.now.shape c.args.right.now.shape c.in-Assign.corner c.in-Assign.is c.requires).0
+
+pub assign-requires-clause-cols : goal.assign-requires-clause-cols
+assign-requires-clause-cols g c =
+    (suits_assigned c.args.pairing c.args.left.now.shape c.args.right.now.shape c.in-Assign.corner c.in-Assign.is c.requires).1
+
+pub exclude-requires : goal.exclude-requires
+exclude-requires g c = suits_excluded c.args.pairing c.args.left.now.shape c.args.right.now.shape c.in-Exclude.is c.requires
+
+pub returns-in-Kronecker : goal.returns-in-Kronecker
+returns-in-Kronecker g c = makes_kronecker g.S.Semiring.arithmetic c.args.left.now c.args.right.now c.args.pairing _ c.kronecker.result c.in-Kronecker.is c.kronecker.ensures
+
+pub returns-in-Assign : goal.returns-in-Assign
+returns-in-Assign g c =
+    makes_assigned g.S.Semiring.arithmetic c.args.left.now c.args.right.now c.args.pairing _ c.assign.result c.in-Assign.corner c.in-Assign.is c.assign.ensures
+
+pub returns-in-Exclude : goal.returns-in-Exclude
+returns-in-Exclude g c = makes_excluded g.S.Semiring.arithmetic c.args.left.now c.args.right.now c.args.pairing _ c.exclude.result c.in-Exclude.is c.exclude.ensures

@@ -1,0 +1,247 @@
+//! What is made of one kept matrix, place by place, kept; rows and columns by their numbers; and the sum of all values.
+ghost use Rattle.std.specs.Prelude.{◌≡◌, ◌↔◌, ◌<◌, ◌≤◌, length, All, IsTrue, Some, IfOk, IfErr};
+ghost use Rattle.cb_semirings.specs.Names.{arithmetic_of};
+ghost use Rattle.cb_matrix.specs.Operations.{cut};
+ghost use Rattle.cb_reductions.specs.Sums.{matrix_total};
+ghost use Rattle.cb_selections.specs.Selections.{selected, applied, diagonal_of, diagonal_matrix, extracted};
+ghost use Rattle.cb_interop.specs.Refusals.{Unless, IsMemory};
+ghost use Rattle.cb_interop.specs.declared.faults.Fault.TheVariants.{Place, Shapes, Value};
+ghost use Rattle.cb_interop.specs.Answers.{IsAnswer, NoFault};
+ghost use Rattle.cb_interop.specs.Kept.{Keeps, semiring_of, matrix_in};
+ghost use Rattle.cb_interop.specs.KeptSelections.{made_by, selection_faults, kept_selection_faults, HasSelected, TakesValues, IsRange, number_faults, IsKeptExtract};
+
+use crate::faults::Fault;
+use crate::keeping::Keep;
+use crate::kept::Kept;
+use crate::kept_operations::block_in;
+use crate::selections::Selection;
+use cb_dcsc::Block;
+use cb_matrix::{LIMIT, Shape};
+use cb_reductions::total;
+use cb_reshape::cut;
+use cb_selections::{Function, Region, apply, diagonal, diagonal_matrix, extract, select};
+use cb_semirings::{Semiring, SemiringName, over_semiring};
+use std::alloc::{AllocError, Global};
+
+/// The entries in a region.
+fn in_region<S: Semiring>(
+    alloc: Global,
+    block: &Block<S>,
+    region: Region,
+) -> Result<Block<S>, Fault>
+    ensures { IsAnswer IsMemory (λ m. m ≡ selected S.arithmetic region block.now) result }
+{
+    Ok(select(alloc, block, region)?)
+}
+
+/// The diagonal, in one column.
+fn diagonal_column<S: Semiring>(alloc: Global, block: &Block<S>) -> Result<Block<S>, Fault>
+    ensures { IsAnswer IsMemory (λ m. m ≡ diagonal_of S.arithmetic block.now) result }
+{
+    Ok(diagonal(alloc, block)?)
+}
+
+/// What a function makes of each value, where the number that it takes is one of the semiring.
+fn replaced<S: Semiring>(
+    alloc: Global,
+    block: &Block<S>,
+    function: Function,
+) -> Result<Block<S>, Fault>
+    ensures { IsAnswer (Unless (TakesValues S.arithmetic function block.now.shape) Value IsMemory) (λ m. m ≡ applied S.arithmetic function block.now) result }
+{
+    if !function.fits::<S>(block.shape()) {
+        return Err(Fault::Value);
+    }
+    Ok(apply(alloc, block, function)?)
+}
+
+/// The square block that has a column on its diagonal, where a block is one column.
+fn on_diagonal<S: Semiring>(alloc: Global, block: &Block<S>) -> Result<Block<S>, Fault>
+    ensures { IsAnswer (Unless (block.now.shape.cols ≡ 1) Shapes IsMemory) (λ m. m ≡ diagonal_matrix S.arithmetic block.now) result }
+{
+    if block.shape().cols() != 1 {
+        return Err(Fault::Shapes);
+    }
+    Ok(diagonal_matrix(alloc, block)?)
+}
+
+/// Whether the first number of a pair is at most the second, and that at most a bound.
+fn is_range(bound: u32, range: (u32, u32)) -> bool
+    ensures { IsTrue result ↔ IsRange bound range }
+{
+    range.0 <= range.1 && range.1 <= bound
+}
+
+/// The part of a block in some rows and columns, where it has them.
+fn part<S: Semiring>(
+    alloc: Global,
+    block: &Block<S>,
+    rows: (u32, u32),
+    cols: (u32, u32),
+) -> Result<Block<S>, Fault>
+    ensures { IsAnswer (Unless (IsRange block.now.shape.rows rows × IsRange block.now.shape.cols cols) Place IsMemory) (λ m. m ≡ cut S.arithmetic rows cols block.now) result }
+{
+    let shape = block.shape();
+    if !is_range(shape.rows(), rows) {
+        return Err(Fault::Place);
+    }
+    if !is_range(shape.cols(), cols) {
+        return Err(Fault::Place);
+    }
+    Ok(cut(alloc, block, rows, cols)?)
+}
+
+/// What a selection makes of a block.
+fn made<S: Semiring>(
+    alloc: Global,
+    selection: Selection,
+    block: &Block<S>,
+) -> Result<Block<S>, Fault>
+    ensures { IsAnswer (selection_faults (Some selection) S.arithmetic block.now) (λ m. m ≡ made_by selection S.arithmetic block.now) result }
+{
+    match selection {
+        Selection::Select(region) => in_region(alloc, block, region),
+        Selection::Apply(function) => replaced(alloc, block, function),
+        Selection::Diagonal => diagonal_column(alloc, block),
+        Selection::DiagonalMatrix => on_diagonal(alloc, block),
+        Selection::Part(rows, cols) => part(alloc, block, rows, cols),
+    }
+}
+
+/// What a selection makes of a kept matrix over a semiring, kept.
+fn made_over<S: Keep>(alloc: Global, selection: Selection, kept: &Kept) -> Result<Kept, Fault>
+    requires { semiring_of kept.now ≡ S.name }
+    ensures { IsAnswer (selection_faults (Some selection) S.arithmetic (matrix_in kept.now)) (Keeps S.name (made_by selection S.arithmetic (matrix_in kept.now))) result }
+{
+    let mut block = made(alloc, selection, block_in::<S>(kept))?;
+    Ok(S::keep(alloc, &mut block))
+}
+
+/// The same, over the semiring of a name.
+fn made_named(
+    alloc: Global,
+    semiring: SemiringName,
+    selection: Selection,
+    kept: &Kept,
+) -> Result<Kept, Fault>
+    requires { semiring_of kept.now ≡ semiring }
+    ensures { IsAnswer (selection_faults (Some selection) (arithmetic_of semiring) (matrix_in kept.now)) (Keeps semiring (made_by selection (arithmetic_of semiring) (matrix_in kept.now))) result }
+{
+    over_semiring!(semiring, made_over::<_>(alloc, selection, kept))
+}
+
+/// What a selection makes of a kept matrix, kept, where there is one: there is none where no region or function has the
+/// number.
+pub fn kept_selection(
+    alloc: Global,
+    selection: Option<Selection>,
+    kept: &Kept,
+) -> Result<Kept, Fault>
+    ensures { IsAnswer (kept_selection_faults selection kept.now) (HasSelected selection kept.now) result }
+{
+    match selection {
+        Some(known) => made_named(alloc, kept.semiring(), known, kept),
+        None => Err(Fault::Test),
+    }
+}
+
+/// Whether there are no more numbers of rows, and of columns, than a matrix can have rows or columns.
+fn are_few(rows: &[u32], cols: &[u32]) -> bool
+    ensures { IsTrue result ↔ (length rows.now ≤ LIMIT) × (length cols.now ≤ LIMIT) }
+{
+    rows.len() <= LIMIT as usize && cols.len() <= LIMIT as usize
+}
+
+/// Whether a shape has each of some rows and each of some columns.
+fn has_numbers(shape: Shape, rows: &[u32], cols: &[u32]) -> bool
+    ensures { IsTrue result ↔ (All (λ i. i < shape.rows) rows.now × All (λ j. j < shape.cols) cols.now) }
+{
+    let (height, width) = (shape.rows(), shape.cols());
+    rows.iter().all(|row| *row < height) && cols.iter().all(|column| *column < width)
+}
+
+/// That a shape has the rows and the columns, and no more of them are asked for than a matrix can have; or else the first
+/// fault.
+fn check_numbers(shape: Shape, rows: &[u32], cols: &[u32]) -> Result<(), Fault>
+    ensures row_limit { IfOk result (λ _. length rows.now ≤ LIMIT) }
+    ensures column_limit { IfOk result (λ _. length cols.now ≤ LIMIT) }
+    ensures rows { IfOk result (λ _. All (λ i. i < shape.rows) rows.now) }
+    ensures cols { IfOk result (λ _. All (λ j. j < shape.cols) cols.now) }
+    ensures none { IfOk result (λ _. NoFault (number_faults rows.now cols.now shape)) }
+    ensures fault { IfErr result (number_faults rows.now cols.now shape) }
+{
+    if !are_few(rows, cols) {
+        return Err(Fault::TooLarge);
+    }
+    if !has_numbers(shape, rows, cols) {
+        return Err(Fault::Place);
+    }
+    Ok(())
+}
+
+/// The rows and the columns of a kept matrix over a semiring with some numbers, kept.
+fn extract_over<S: Keep>(
+    alloc: Global,
+    kept: &Kept,
+    rows: &[u32],
+    cols: &[u32],
+) -> Result<Kept, AllocError>
+    requires over { semiring_of kept.now ≡ S.name }
+    requires rows { All (λ i. i < (matrix_in kept.now).shape.rows) rows.now }
+    requires cols { All (λ j. j < (matrix_in kept.now).shape.cols) cols.now }
+    requires row_limit { length rows.now ≤ LIMIT }
+    requires column_limit { length cols.now ≤ LIMIT }
+    ensures { IfOk result (Keeps S.name (extracted S.arithmetic rows.now cols.now (matrix_in kept.now))) }
+{
+    let mut block = extract(alloc, block_in::<S>(kept), rows, cols)?;
+    Ok(S::keep(alloc, &mut block))
+}
+
+/// The same, over the semiring of a name.
+fn extract_named(
+    alloc: Global,
+    semiring: SemiringName,
+    kept: &Kept,
+    rows: &[u32],
+    cols: &[u32],
+) -> Result<Kept, AllocError>
+    requires over { semiring_of kept.now ≡ semiring }
+    requires rows { All (λ i. i < (matrix_in kept.now).shape.rows) rows.now }
+    requires cols { All (λ j. j < (matrix_in kept.now).shape.cols) cols.now }
+    requires row_limit { length rows.now ≤ LIMIT }
+    requires column_limit { length cols.now ≤ LIMIT }
+    ensures { IfOk result (Keeps semiring (extracted (arithmetic_of semiring) rows.now cols.now (matrix_in kept.now))) }
+{
+    over_semiring!(semiring, extract_over::<_>(alloc, kept, rows, cols))
+}
+
+/// The rows and the columns of a kept matrix with some numbers, in the order of these, kept.
+pub fn kept_extract(alloc: Global, kept: &Kept, rows: &[u32], cols: &[u32]) -> Result<Kept, Fault>
+    ensures { IsAnswer (number_faults rows.now cols.now (matrix_in kept.now).shape) (IsKeptExtract rows.now cols.now kept.now) result }
+{
+    check_numbers(kept.shape(), rows, cols)?;
+    Ok(extract_named(alloc, kept.semiring(), kept, rows, cols)?)
+}
+
+/// The sum of all values of a kept matrix over a semiring.
+fn total_over<S: Keep>(kept: &Kept) -> u64
+    requires { semiring_of kept.now ≡ S.name }
+    ensures { result ≡ matrix_total S.arithmetic (matrix_in kept.now) }
+{
+    total(block_in::<S>(kept))
+}
+
+/// The same, over the semiring of a name.
+fn total_named(semiring: SemiringName, kept: &Kept) -> u64
+    requires { semiring_of kept.now ≡ semiring }
+    ensures { result ≡ matrix_total (arithmetic_of semiring) (matrix_in kept.now) }
+{
+    over_semiring!(semiring, total_over::<_>(kept))
+}
+
+/// The sum of all values of a kept matrix, in its semiring: its zero, where no entry is.
+pub fn kept_total(kept: &Kept) -> u64
+    ensures { result ≡ matrix_total (arithmetic_of (semiring_of kept.now)) (matrix_in kept.now) }
+{
+    total_named(kept.semiring(), kept)
+}
