@@ -9,7 +9,7 @@ use Rattle.cb_cli.specs.Files.{bytes_of, text_at}
 use Rattle.cb_operations.specs.OperationAnswers.{matrix_at}
 use Rattle.cb_cli.specs.Answers.{IsMatrixText, AreMatrices, IsTextFault, IsReadFault}
 use Rattle.cb_cli.specs.declared.execution.JobFault.{JobFault}
-use Rattle.cb_cli.specs.declared.execution.JobFault.TheVariants.{Read, Run, Memory, Output}
+use Rattle.cb_cli.specs.declared.execution.JobFault.TheVariants.{Read, Run, Unselected, Memory, Output}
 
 module _ {A : Type 0} where
   only_item : (xs : List (Vec ℕ A)) (t : Vec ℕ A) → length xs ≡ 1 → t ≡ get_or xs 0 t → bytes_of xs ≡ t.items ∷ []
@@ -92,6 +92,7 @@ module _ (s : Arithmetic) where
   at_place ts place l before (Read which fault) h =
       subst (λ n. IsReadFault s ts (Read n fault)) (sym h.0) (l, before, h.1)
   at_place ts place l before (Run fault) h = absurd h
+  at_place ts place l before (Unselected refusal) h = absurd h
   at_place ts place l before Memory h = absurd h
   at_place ts place l before Output h = absurd h
 

@@ -6,13 +6,14 @@ use Rattle.cb_engines.specs.declared.engines.Engine.{Engine}
 use Rattle.cb_run.specs.declared.operation_faults.OperationFault.TheVariants.{Refused, Failed}
 use Rattle.cb_cli.specs.Answers.{IsWalkFault}
 use Rattle.cb_cli.specs.declared.execution.JobFault.{JobFault}
-use Rattle.cb_cli.specs.declared.execution.JobFault.TheVariants.{Read, Run, Memory, Output}
+use Rattle.cb_cli.specs.declared.execution.JobFault.TheVariants.{Read, Run, Unselected, Memory, Output}
 
 module _ (s : Arithmetic) (source : ℕ) (texts : List (List ℕ)) where
   on_any_side : (side q : ℕ) (f : JobFault) → IsWalkFault s source None side texts f → IsWalkFault s source None q texts f
   on_any_side side q (Read which fault) h = h
   on_any_side side q (Run (Refused refusal)) h = h
   on_any_side side q (Run (Failed fault)) h = h
+  on_any_side side q (Unselected refusal) h = h
   on_any_side side q Memory h = h
   on_any_side side q Output h = h
 

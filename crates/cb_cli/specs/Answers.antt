@@ -1,7 +1,7 @@
 -- What a job answers, and when it is refused.
 use Rattle.std.specs.Prelude.{ℕ, ◌≡◌, ◌≢◌, ◌<◌, ◌⊎◌, ◌++◌, List, [], ◌∷◌, length, Option, Some, None}
 use Rattle.cb_semirings.specs.Arithmetic.{Arithmetic}
-use Rattle.cb_semirings.specs.Tables.{min_plus, or_and}
+use Rattle.cb_semirings.specs.Tables.{min_plus, or_and, plus_times}
 use Rattle.cb_matrix.specs.Sparse.{Sparse, Extent, IsMatrix}
 use Rattle.cb_market.specs.Faults as market
 use Rattle.cb_market.specs.Reads.{Reads}
@@ -17,19 +17,23 @@ use Rattle.cb_engines.specs.declared.engines.Outcome.{Outcome}
 use Rattle.cb_searches.specs.Walks.{AreLevels, AreDistances}
 use Rattle.cb_searches.specs.Parents.{AreParents}
 use Rattle.cb_graphs.specs.Components.{AreComponents}
-use Rattle.cb_graphs.specs.Triangles.{triangle_count, stopped}
+use Rattle.cb_graphs.specs.Triangles.{AreTriangleCounts, triangle_count, stopped}
 use Rattle.cb_run.specs.declared.operation_faults.OperationFault.{OperationFault}
 use Rattle.cb_run.specs.declared.operation_faults.OperationFault.TheVariants.{Refused, Failed}
 use Rattle.cb_run.specs.Outcomes.{IsTraceFor}
 use Rattle.cb_run.specs.Searched.{HasSource, IsGraphRefusal}
 use Rattle.cb_semirings.specs.Names.{arithmetic_of}
+use Rattle.cb_selections.specs.Selections.{kronecker}
 use Rattle.cb_words.specs.declared.jobs.Task.{Task}
-use Rattle.cb_words.specs.declared.jobs.Task.TheVariants.{Matrix, Levels, Distances, Parents, Components, Triangles}
+use Rattle.cb_words.specs.declared.jobs.Task.TheVariants.{Matrix, Levels, Distances, Parents, Components, Triangles, TriangleCounts, Selected, Kronecker}
+use Rattle.cb_words.specs.declared.selection_names.Selection.{Selection}
+use Rattle.cb_cli.specs.Selected.{Fits, FitsInShape, IsSelectionRefusal, selection_of}
+use Rattle.cb_cli.specs.declared.selection_refusals.SelectionRefusal.TheVariants.{NoValue, NotColumn, TooLarge}
 use Rattle.cb_cli.specs.Files.{text_at}
 use Rattle.cb_cli.specs.TraceTexts.{trace_lines}
 use Rattle.cb_cli.specs.Engines.{IsRunFault}
 use Rattle.cb_cli.specs.declared.execution.JobFault.{JobFault}
-use Rattle.cb_cli.specs.declared.execution.JobFault.TheVariants.{Read, Run, Memory, Output}
+use Rattle.cb_cli.specs.declared.execution.JobFault.TheVariants.{Read, Run, Unselected, Memory, Output}
 
 -- the text reads as some matrix
 abbrev pub IsMatrixText : Arithmetic → List ℕ → Type 0
@@ -88,6 +92,7 @@ IsRefusal operation ms engine side (Failed fault) = Agree operation (shapes_in m
 abbrev pub IsFaultOver : Operation → Arithmetic → Option Engine → ℕ → List (List ℕ) → JobFault → Type 0
 IsFaultOver operation s engine side texts (Read which fault) = IsReadFault s texts (Read which fault)
 IsFaultOver operation s engine side texts (Run fault) = (ms : List Sparse) × AreMatrices s texts ms × IsRefusal operation ms engine side fault
+IsFaultOver operation s engine side texts (Unselected refusal) = ⊥
 IsFaultOver operation s engine side texts Memory = (ms : List Sparse) × AreMatrices s texts ms × Agree operation (shapes_in ms)
 IsFaultOver operation s engine side texts Output = (ms : List Sparse) × AreMatrices s texts ms × Agree operation (shapes_in ms)
 
@@ -111,6 +116,7 @@ IsSearchRefusal d source engine side (Failed fault) = HasSource d source × IsRu
 abbrev pub IsWalkFault : Arithmetic → ℕ → Option Engine → ℕ → List (List ℕ) → JobFault → Type 0
 IsWalkFault s source engine side texts (Read which fault) = IsReadFault s texts (Read which fault)
 IsWalkFault s source engine side texts (Run fault) = (a : Sparse) × Reads s (text_at texts 0) a × IsSearchRefusal a.shape source engine side fault
+IsWalkFault s source engine side texts (Unselected refusal) = ⊥
 IsWalkFault s source engine side texts Memory = (a : Sparse) × Reads s (text_at texts 0) a × HasSource a.shape source
 IsWalkFault s source engine side texts Output = (a : Sparse) × Reads s (text_at texts 0) a × HasSource a.shape source
 
@@ -143,6 +149,11 @@ IsComponentsAnswer texts answer = (a : Sparse) × IsSquareGraph texts a × IsPai
 abbrev pub IsTrianglesAnswer : List (List ℕ) → List ℕ → Type 0
 IsTrianglesAnswer texts answer = (a : Sparse) × IsSquareGraph texts a × (answer ≡ number_line (stopped (triangle_count a) ∷ []))
 
+-- how many triangles each vertex is part of
+abbrev pub IsTriangleCountsAnswer : List (List ℕ) → List ℕ → Type 0
+IsTriangleCountsAnswer texts answer =
+    (a : Sparse) × IsSquareGraph texts a × ((column : Sparse) × IsMatrix plus_times column × AreTriangleCounts a column × (answer ≡ vertex_text_of column))
+
 -- Why there is no answer of a graph without a source: the text is no matrix; else it isn't square; and where neither
 -- holds, want of memory, or a sink that failed.
 abbrev pub IsSquareFault : List (List ℕ) → JobFault → Type 0
@@ -150,8 +161,54 @@ IsSquareFault texts (Read which fault) = IsReadFault or_and texts (Read which fa
 IsSquareFault texts (Run (Refused refusal_is.NotSquare)) = (a : Sparse) × Reads or_and (text_at texts 0) a × (a.shape.rows ≢ a.shape.cols)
 IsSquareFault texts (Run (Refused _)) = ⊥
 IsSquareFault texts (Run (Failed fault)) = ⊥
+IsSquareFault texts (Unselected refusal) = ⊥
 IsSquareFault texts Memory = (a : Sparse) × IsSquareGraph texts a
 IsSquareFault texts Output = (a : Sparse) × IsSquareGraph texts a
+
+-- ---- by one thread, over any semiring
+-- the text reads as this matrix, of which the selection can be made
+abbrev pub IsSelectable : Selection → Arithmetic → List (List ℕ) → Sparse → Type 0
+IsSelectable selection s texts a = Reads s (text_at texts 0) a × Fits selection s a.shape
+
+-- a matrix is what is selected of the one that the text reads as
+abbrev pub IsSelectedOf : Selection → Arithmetic → List (List ℕ) → Sparse → Type 0
+IsSelectedOf selection s texts m = (a : Sparse) × IsSelectable selection s texts a × (m ≡ selection_of selection s a)
+
+-- the text of what is selected
+abbrev pub IsSelectedAnswer : Selection → Arithmetic → List (List ℕ) → List ℕ → Type 0
+IsSelectedAnswer selection s texts answer = (m : Sparse) × IsSelectedOf selection s texts m × (answer ≡ text_of s m)
+
+-- Why nothing is selected: the text is no matrix; else the selection can't be made of it; and where neither holds, want of
+-- memory, or a sink that failed.
+abbrev pub IsSelectedFault : Selection → Arithmetic → List (List ℕ) → JobFault → Type 0
+IsSelectedFault selection s texts (Read which fault) = IsReadFault s texts (Read which fault)
+IsSelectedFault selection s texts (Run fault) = ⊥
+IsSelectedFault selection s texts (Unselected refusal) = (a : Sparse) × Reads s (text_at texts 0) a × IsSelectionRefusal selection s a.shape refusal
+IsSelectedFault selection s texts Memory = (a : Sparse) × IsSelectable selection s texts a
+IsSelectedFault selection s texts Output = (a : Sparse) × IsSelectable selection s texts a
+
+-- the texts read as these two matrices, whose Kronecker product has a shape
+abbrev pub AreFactors : Arithmetic → List (List ℕ) → Sparse → Sparse → Type 0
+AreFactors s texts a b = AreMatrices s texts (a ∷ b ∷ []) × FitsInShape a.shape b.shape
+
+-- a matrix is their Kronecker product
+abbrev pub IsKroneckerOf : Arithmetic → List (List ℕ) → Sparse → Type 0
+IsKroneckerOf s texts m = (a : Sparse) × (b : Sparse) × AreFactors s texts a b × (m ≡ kronecker s a b)
+
+-- its text
+abbrev pub IsKroneckerAnswer : Arithmetic → List (List ℕ) → List ℕ → Type 0
+IsKroneckerAnswer s texts answer = (m : Sparse) × IsKroneckerOf s texts m × (answer ≡ text_of s m)
+
+-- Why there is none: the first text that is no matrix; else the product has no shape; and where neither holds, want of
+-- memory, or a sink that failed.
+abbrev pub IsKroneckerFault : Arithmetic → List (List ℕ) → JobFault → Type 0
+IsKroneckerFault s texts (Read which fault) = IsReadFault s texts (Read which fault)
+IsKroneckerFault s texts (Run fault) = ⊥
+IsKroneckerFault s texts (Unselected NoValue) = ⊥
+IsKroneckerFault s texts (Unselected NotColumn) = ⊥
+IsKroneckerFault s texts (Unselected TooLarge) = (a : Sparse) × (b : Sparse) × AreMatrices s texts (a ∷ b ∷ []) × ¬ FitsInShape a.shape b.shape
+IsKroneckerFault s texts Memory = (a : Sparse) × (b : Sparse) × AreFactors s texts a b
+IsKroneckerFault s texts Output = (a : Sparse) × (b : Sparse) × AreFactors s texts a b
 
 -- What a task answers of texts, by an engine on a grid of this side: an operation over the semiring that it names, levels
 -- in or-and, distances in min-plus. Of these two no trace is told. The others are answered by one thread.
@@ -162,6 +219,9 @@ IsAnswer (Distances source) engine side = IsWalkAnswer AreDistances min_plus sou
 IsAnswer (Parents source) engine side = IsParentsAnswer source
 IsAnswer Components engine side = IsComponentsAnswer
 IsAnswer Triangles engine side = IsTrianglesAnswer
+IsAnswer TriangleCounts engine side = IsTriangleCountsAnswer
+IsAnswer (Selected selection semiring) engine side = IsSelectedAnswer selection (arithmetic_of semiring)
+IsAnswer (Kronecker semiring) engine side = IsKroneckerAnswer (arithmetic_of semiring)
 
 -- why it answers nothing
 abbrev pub IsFault : Task → Option Engine → ℕ → List (List ℕ) → JobFault → Type 0
@@ -171,6 +231,9 @@ IsFault (Distances source) engine side = IsWalkFault min_plus source engine side
 IsFault (Parents source) engine side = IsParentsFault source
 IsFault Components engine side = IsSquareFault
 IsFault Triangles engine side = IsSquareFault
+IsFault TriangleCounts engine side = IsSquareFault
+IsFault (Selected selection semiring) engine side = IsSelectedFault selection (arithmetic_of semiring)
+IsFault (Kronecker semiring) engine side = IsKroneckerFault (arithmetic_of semiring)
 
 -- why an answer that there is has not gone out whole
 abbrev pub IsUnwritten : JobFault → Type 0
@@ -186,5 +249,6 @@ abbrev pub status_of : JobFault → ℕ
 status_of (Read which fault) = read_status_of fault.kind
 status_of (Run (Refused refusal)) = 5
 status_of (Run (Failed fault)) = 6
+status_of (Unselected refusal) = 5
 status_of Memory = 6
 status_of Output = 7

@@ -9,8 +9,10 @@ use Rattle.cb_run.specs.declared.operation_faults.OperationFault.{OperationFault
 use Rattle.cb_run.specs.declared.operation_faults.OperationFault.TheVariants.{Refused, Failed}
 use Rattle.cb_serial.specs.declared.checked.SerialFault.{SerialFault}
 use Rattle.cb_serial.specs.declared.checked.SerialFault.TheVariants as serial_is
+use Rattle.cb_cli.specs.declared.selection_refusals.SelectionRefusal.{SelectionRefusal}
+use Rattle.cb_cli.specs.declared.selection_refusals.SelectionRefusal.TheVariants as selection_is
 use Rattle.cb_cli.specs.declared.execution.JobFault.{JobFault}
-use Rattle.cb_cli.specs.declared.execution.JobFault.TheVariants.{Read, Run, Memory, Output}
+use Rattle.cb_cli.specs.declared.execution.JobFault.TheVariants.{Read, Run, Unselected, Memory, Output}
 
 -- the name at a place, or nothing
 abbrev pub name_at : {A : Type 0} → List (String A) → ℕ → List ℕ
@@ -38,6 +40,12 @@ refusal_line_of refusal_is.Shapes = codes "cbgrid: shapes don't agree\n"
 refusal_line_of refusal_is.NotSquare = codes "cbgrid: matrix not square\n"
 refusal_line_of refusal_is.Source = codes "cbgrid: no such source\n"
 
+-- the line of matrices of which nothing is selected
+abbrev pub selection_line_of : SelectionRefusal → List ℕ
+selection_line_of selection_is.NoValue = codes "cbgrid: no value of the semiring\n"
+selection_line_of selection_is.NotColumn = codes "cbgrid: matrix not a column\n"
+selection_line_of selection_is.TooLarge = codes "cbgrid: product too large\n"
+
 -- the line of an engine's fault
 abbrev pub engine_line_of : EngineFault → List ℕ
 engine_line_of engine_is.Memory = codes "cbgrid: out of memory\n"
@@ -60,6 +68,7 @@ job_fault_of serial_is.Memory = Memory
 abbrev pub line_of : {A : Type 0} → List (String A) → JobFault → List ℕ
 line_of names (Read which fault) = read_line_of (name_at names which) fault.line (kind_text fault.kind)
 line_of names (Run fault) = run_line_of fault
+line_of names (Unselected refusal) = selection_line_of refusal
 line_of names Memory = codes "cbgrid: out of memory\n"
 line_of names Output = codes "cbgrid: can't write\n"
 

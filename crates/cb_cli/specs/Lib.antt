@@ -4,6 +4,7 @@ pub mod Writers
 pub mod FaultLines
 pub mod Files
 pub mod TraceTexts
+pub mod Selected
 pub mod Answers
 pub mod WriteEnds
 pub mod Endings

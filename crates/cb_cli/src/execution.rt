@@ -8,9 +8,11 @@ ghost use Rattle.cb_cli.specs.Files.{bytes_of};
 
 use crate::alone::compute_alone;
 use crate::backends::{Backend, backend_for};
-use crate::graph_answers::{put_components, put_parents, put_triangles};
+use crate::graph_answers::{put_components, put_parents, put_triangle_counts, put_triangles};
 use crate::inputs::read_operands;
 use crate::output::{put_column, put_text_and_lines};
+use crate::selection_answers::{put_kronecker, put_selected};
+use crate::selection_refusals::SelectionRefusal;
 use crate::sinks::Sink;
 use crate::trace_lines::lines_of;
 use crate::vertex_numbers::{distances_of, levels_of};
@@ -36,6 +38,9 @@ pub enum JobFault {
     /// The matrices are refused, or a run of ranks failed.
     #[error("{0}")]
     Run(OperationFault),
+    /// Nothing is selected of the matrices, or they have no Kronecker product.
+    #[error("{0}")]
+    Unselected(SelectionRefusal),
     /// Memory was refused, to the text of the answer or, where no ranks run, to the answer.
     #[error("out of memory")]
     Memory,
@@ -62,6 +67,16 @@ impl From<Refusal> for JobFault {
 
     fn from(refusal: Refusal) -> JobFault {
         JobFault::Run(OperationFault::Refused(refusal))
+    }
+}
+
+impl From<SelectionRefusal> for JobFault {
+    ghost use Rattle.cb_cli.specs.declared.execution.JobFault.TheVariants.{Unselected};
+
+    ghost from_gives = { λ refusal told. told ≡ Unselected refusal };
+
+    fn from(refusal: SelectionRefusal) -> JobFault {
+        JobFault::Unselected(refusal)
     }
 }
 
@@ -183,13 +198,13 @@ fn execute_named<R: Threads + Wait + Sync, K: Sink>(
 }
 
 /// Reads the texts of a job's files, in the job's order, and writes the text of its answer: of a matrix page by page,
-/// of levels, distances, parents or components a line for each vertex that has one, and, where the engine keeps a trace
+/// of levels, distances, parents, components or counts of triangles a line for each vertex that has one, and, where the engine keeps a trace
 /// of an operation, a line for each of its events at the end. All memory is taken before the first byte goes out: a
 /// fault other than `Output` has written nothing. At `Output` a beginning of the text has gone out, and the sink has
 /// failed; it has failed in no other case.
 ///
 /// The faults come in their order: the first text that is no matrix, then shapes that don't agree, a graph whose
-/// matrix isn't square or a source that is none of its vertices, then want of memory, then `Output`. Costs the
+/// matrix isn't square, a source that is none of its vertices or a selection that can't be made, then want of memory, then `Output`. Costs the
 /// reading, what is computed and the writing. Each text is given up once it is read, so that its memory is free for
 /// what is computed.
 pub fn execute<R: Threads + Wait + Sync, K: Sink>(
@@ -221,11 +236,17 @@ pub fn execute<R: Threads + Wait + Sync, K: Sink>(
         Task::Parents { source } => put_parents(rt, alloc, threads, source, texts, out),
         Task::Components => put_components(rt, alloc, threads, texts, out),
         Task::Triangles => put_triangles(rt, alloc, threads, texts, out),
+        Task::TriangleCounts => put_triangle_counts(rt, alloc, threads, texts, out),
+        Task::Selected {
+            selection,
+            semiring,
+        } => put_selected(rt, alloc, threads, selection, semiring, texts, out),
+        Task::Kronecker { semiring } => put_kronecker(rt, alloc, threads, semiring, texts, out),
     }
 }
 
 /// The status that the program ends with: 4 for a text that is no matrix, 5 for shapes that don't
-/// agree, a matrix that isn't square or a source that is no vertex, 6 for want of memory and for
+/// agree, a matrix that isn't square, a source that is no vertex or a selection that can't be made, 6 for want of memory and for
 /// ranks that weren't started, were left alone, tore a trace or lost a block, 7 for output.
 pub fn status(fault: &JobFault) -> u8
     ensures { result ≡ status_of fault.now }
@@ -237,6 +258,7 @@ pub fn status(fault: &JobFault) -> u8
         },
         JobFault::Run(OperationFault::Refused(_)) => 5,
         JobFault::Run(OperationFault::Failed(_)) => 6,
+        JobFault::Unselected(_) => 5,
         JobFault::Memory => 6,
         JobFault::Output => 7,
     }

@@ -1,8 +1,9 @@
 //! What a fault says.
 ghost use Rattle.std.specs.Prelude.{◌≡◌, IfOk};
-ghost use Rattle.cb_cli.specs.FaultLines.{line_of, name_at, read_line_of, not_started_line_of, gone_line_of, lost_line_of, refusal_line_of, engine_line_of, run_line_of, unreadable_line_of};
+ghost use Rattle.cb_cli.specs.FaultLines.{line_of, name_at, read_line_of, not_started_line_of, gone_line_of, lost_line_of, refusal_line_of, engine_line_of, run_line_of, selection_line_of, unreadable_line_of};
 
 use crate::execution::JobFault;
+use crate::selection_refusals::SelectionRefusal;
 use cb_engines::EngineFault;
 use cb_operations::Refusal;
 use cb_run::OperationFault;
@@ -69,6 +70,17 @@ fn refusal_line(alloc: Global, refusal: Refusal) -> Result<Vec<u8>, AllocError>
     }
 }
 
+/// The line for matrices of which nothing is selected.
+fn selection_line(alloc: Global, refusal: SelectionRefusal) -> Result<Vec<u8>, AllocError>
+    ensures { IfOk result (λ v. v.items ≡ selection_line_of refusal) }
+{
+    match refusal {
+        SelectionRefusal::NoValue => Vec::from_slice(alloc, b"cbgrid: no value of the semiring\n"),
+        SelectionRefusal::NotColumn => Vec::from_slice(alloc, b"cbgrid: matrix not a column\n"),
+        SelectionRefusal::TooLarge => Vec::from_slice(alloc, b"cbgrid: product too large\n"),
+    }
+}
+
 /// The line for an engine's fault.
 fn engine_line(alloc: Global, fault: EngineFault) -> Result<Vec<u8>, AllocError>
     ensures { IfOk result (λ v. v.items ≡ engine_line_of fault) }
@@ -102,6 +114,7 @@ pub fn fault_line(alloc: Global, names: &[String], fault: &JobFault) -> Result<V
             read_line(alloc, name_at(names, which), fault.line, fault.kind.text())
         }
         JobFault::Run(fault) => run_line(alloc, fault),
+        JobFault::Unselected(refusal) => selection_line(alloc, refusal),
         JobFault::Memory => Vec::from_slice(alloc, b"cbgrid: out of memory\n"),
         JobFault::Output => Vec::from_slice(alloc, b"cbgrid: can't write\n"),
     }

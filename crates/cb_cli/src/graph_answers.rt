@@ -1,14 +1,14 @@
 //! What one thread answers of the graph of a text: parents, components, triangles.
 ghost use Rattle.std.specs.Prelude.{◌≡◌, vec_len, false};
 ghost use Rattle.cb_searches.specs.Parents.{AreParents};
-ghost use Rattle.cb_cli.specs.Answers.{IsComponentsAnswer, IsParentsAnswer, IsParentsFault, IsSquareFault, IsTrianglesAnswer};
+ghost use Rattle.cb_cli.specs.Answers.{IsComponentsAnswer, IsParentsAnswer, IsParentsFault, IsSquareFault, IsTriangleCountsAnswer, IsTrianglesAnswer};
 ghost use Rattle.cb_cli.specs.WriteEnds.{IsEndOn};
 
 use crate::execution::JobFault;
 use crate::graph_inputs::{graph_with_source, square_graph};
-use crate::output::{put_number, put_pairs};
+use crate::output::{put_counts, put_number, put_pairs};
 use crate::sinks::Sink;
-use cb_graphs::{components, triangles};
+use cb_graphs::{components, triangles, triangles_of};
 use cb_searches::parents;
 use cb_semirings::OrAnd;
 use std::alloc::Global;
@@ -64,4 +64,21 @@ pub fn put_triangles<R: Threads + Sync, K: Sink>(
     let graph = square_graph(rt, alloc, threads, texts)?;
     let count = triangles(alloc, &graph)?;
     put_number(alloc, count, out)
+}
+
+/// Writes how many triangles each vertex is part of.
+pub fn put_triangle_counts<R: Threads + Sync, K: Sink>(
+    rt: &R,
+    alloc: Global,
+    threads: u32,
+    texts: Vec<Vec<u8>>,
+    out: &mut K,
+) -> Result<(), JobFault>
+    requires texts { vec_len texts ≡ 1 }
+    requires works { K.has_failed out.old ≡ false }
+    ensures { IsEndOn IsTriangleCountsAnswer IsSquareFault texts.items (K.written out.old) (K.written out.new) (K.has_failed out.new) result }
+{
+    let graph = square_graph(rt, alloc, threads, texts)?;
+    let column = triangles_of(alloc, &graph)?;
+    put_counts(alloc, &column, out)
 }

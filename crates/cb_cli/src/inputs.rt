@@ -61,7 +61,7 @@ pub fn read_one<S: Semiring + Send + Sync, R: Threads + Sync>(
 }
 
 /// The matrices of two texts.
-fn read_two<S: Semiring + Send + Sync, R: Threads + Sync>(
+pub fn read_two<S: Semiring + Send + Sync, R: Threads + Sync>(
     rt: &R,
     alloc: Global,
     grid: &Grid,

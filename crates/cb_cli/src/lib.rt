@@ -15,6 +15,7 @@
 
 mod alone;
 mod backends;
+mod count_lines;
 pub mod endings;
 pub mod execution;
 pub mod fault_lines;
@@ -23,6 +24,8 @@ mod graph_answers;
 mod graph_inputs;
 mod inputs;
 mod output;
+mod selection_answers;
+pub mod selection_refusals;
 pub mod sinks;
 mod trace_lines;
 mod vertex_numbers;

@@ -7,12 +7,13 @@ ghost use Rattle.cb_writing.specs.Rounds.{written_on};
 ghost use Rattle.cb_cli.specs.Sinks.{AppendsPrefix};
 ghost use Rattle.cb_cli.specs.WriteEnds.{IsTextEnd};
 
+use crate::count_lines::counts_text;
 use crate::execution::JobFault;
 use crate::sinks::{PutFault, Sink, put_all};
 use cb_layout::DistributedMatrix;
 use cb_market::{Page, Sheet, TextPages, vertex_pairs_text, vertex_text};
 use cb_matrix::Matrix;
-use cb_semirings::{MinPlus, Semiring};
+use cb_semirings::{MinPlus, PlusTimes, Semiring};
 use cb_writing::Round;
 use std::alloc::{AllocError, Global};
 use std::thread::Threads;
@@ -152,6 +153,20 @@ pub fn put_text_and_lines<S: Semiring + Send + Sync, R: Threads + Sync, K: Sink>
     }
 }
 
+/// Writes the text of a matrix, likewise.
+pub fn put_matrix<S: Semiring + Send + Sync, R: Threads + Sync, K: Sink>(
+    rt: &R,
+    alloc: Global,
+    threads: u32,
+    matrix: &DistributedMatrix<S>,
+    out: &mut K,
+) -> Result<(), JobFault>
+    requires { K.has_failed out.old ≡ false }
+    ensures { IsTextEnd (text_of S.arithmetic matrix.now.matrix) (K.written out.old) (K.written out.new) (K.has_failed out.new) result }
+{
+    put_text_and_lines(rt, alloc, threads, matrix, &[], out)
+}
+
 /// Writes a text that is made. At `Output` a beginning of it has gone out.
 fn put_made<K: Sink>(text: &[u8], out: &mut K) -> Result<(), JobFault>
     requires { K.has_failed out.old ≡ false }
@@ -176,6 +191,21 @@ pub fn put_column<K: Sink>(
 {
     match vertex_text(alloc, column) {
         Ok(text) => put_made(&text, out),
+        Err(_) => Err(JobFault::Memory),
+    }
+}
+
+/// Writes the vertex text of a column of counts, likewise.
+pub fn put_counts<K: Sink>(
+    alloc: Global,
+    column: &Matrix<PlusTimes>,
+    out: &mut K,
+) -> Result<(), JobFault>
+    requires { K.has_failed out.old ≡ false }
+    ensures { IsTextEnd (vertex_text_of column.now) (K.written out.old) (K.written out.new) (K.has_failed out.new) result }
+{
+    match counts_text(alloc, column) {
+        Ok(text) => put_made(text.as_bytes(), out),
         Err(_) => Err(JobFault::Memory),
     }
 }

@@ -49,7 +49,7 @@ const EXAMPLES: [Example; 6] = [
     },
 ];
 
-const ALONE: [Example; 8] = [
+const ALONE: [Example; 11] = [
     Example {
         line: "cbgrid parents a --source 1",
         texts: &[CYCLE],
@@ -90,6 +90,21 @@ const ALONE: [Example; 8] = [
         line: "cbgrid triangles a",
         texts: &[text!("0 0 0\n")],
         wanted: "0\n",
+    },
+    Example {
+        line: "cbgrid triangles a --by graph",
+        texts: &[SQUARE],
+        wanted: "2\n",
+    },
+    Example {
+        line: "cbgrid triangles a --by vertex",
+        texts: &[SQUARE],
+        wanted: "1 2\n2 1\n3 2\n4 1\n",
+    },
+    Example {
+        line: "cbgrid triangles --by=vertex a",
+        texts: &[WEIGHTLESS],
+        wanted: "",
     },
 ];
 

@@ -16,6 +16,8 @@ mod products;
 #[cfg(test)]
 mod refusals;
 #[cfg(test)]
+mod selections;
+#[cfg(test)]
 mod sinks;
 #[cfg(test)]
 mod traces;

@@ -1,13 +1,14 @@
 //! Command lines, and the lines of faults.
 use cb_cli::execution::{JobFault, status};
 use cb_cli::fault_lines::fault_line;
+use cb_cli::selection_refusals::SelectionRefusal;
 use cb_engines::EngineFault;
 use cb_market::{Kind, ReadFault};
 use cb_matrix::Test;
 use cb_operations::{Operation, Refusal};
 use cb_run::OperationFault;
 use cb_semirings::SemiringName;
-use cb_words::{EngineName, Job, Task, UsageFault, read_job};
+use cb_words::{EngineName, FunctionName, Job, RegionName, Selection, Task, UsageFault, read_job};
 use std::alloc::{AllocError, Global};
 use std::test::Fail;
 
@@ -41,6 +42,27 @@ macro_rules! over {
     };
 }
 
+/// What is selected of a matrix over a semiring.
+macro_rules! chosen {
+    ($semiring:ident, $selection:expr) => {
+        Task::Selected {
+            selection: $selection,
+            semiring: SemiringName::$semiring,
+        }
+    };
+}
+
+/// The entries in a region of a diagonal.
+macro_rules! kept {
+    ($region:ident, $right:literal, $down:literal) => {
+        Selection::Select {
+            region: RegionName::$region,
+            right: $right,
+            down: $down,
+        }
+    };
+}
+
 /// Why the file of a place is no matrix.
 macro_rules! read_fault {
     ($which:literal, $line:literal, $kind:ident) => {
@@ -63,7 +85,7 @@ struct Asked {
     files: &'static [&'static str],
 }
 
-const LINES: [Asked; 24] = [
+const LINES: [Asked; 38] = [
     Asked {
         line: "cbgrid multiply left.mtx right.mtx",
         task: over!(PlusTimes, Operation::Multiply),
@@ -186,6 +208,78 @@ const LINES: [Asked; 24] = [
         task: Task::Triangles,
         files: &["a"],
     },
+    Asked {
+        line: "cbgrid triangles a --by graph",
+        task: Task::Triangles,
+        files: &["a"],
+    },
+    Asked {
+        line: "cbgrid triangles --by vertex a",
+        task: Task::TriangleCounts,
+        files: &["a"],
+    },
+    Asked {
+        line: "cbgrid select a --region lower",
+        task: chosen!(PlusTimes, kept!(Lower, 0, 0)),
+        files: &["a"],
+    },
+    Asked {
+        line: "cbgrid select a --region=upper --diagonal 2147483647 --semiring or-and",
+        task: chosen!(OrAnd, kept!(Upper, 2_147_483_647, 0)),
+        files: &["a"],
+    },
+    Asked {
+        line: "cbgrid select --region diagonal --diagonal -2147483647 a",
+        task: chosen!(PlusTimes, kept!(On, 0, 2_147_483_647)),
+        files: &["a"],
+    },
+    Asked {
+        line: "cbgrid select --diagonal=-1 a --region off-diagonal",
+        task: chosen!(PlusTimes, kept!(Off, 0, 1)),
+        files: &["a"],
+    },
+    Asked {
+        line: "cbgrid apply a --function constant --value 0",
+        task: chosen!(PlusTimes, Selection::Apply(FunctionName::Constant(0))),
+        files: &["a"],
+    },
+    Asked {
+        line: "cbgrid apply --value=18446744073709551615 a --function plus",
+        task: chosen!(PlusTimes, Selection::Apply(FunctionName::Plus(u64::MAX))),
+        files: &["a"],
+    },
+    Asked {
+        line: "cbgrid apply a --function=times --value 3 --semiring max-plus",
+        task: chosen!(MaxPlus, Selection::Apply(FunctionName::Times(3))),
+        files: &["a"],
+    },
+    Asked {
+        line: "cbgrid apply a --function row",
+        task: chosen!(PlusTimes, Selection::Apply(FunctionName::Row)),
+        files: &["a"],
+    },
+    Asked {
+        line: "cbgrid apply --function column a",
+        task: chosen!(PlusTimes, Selection::Apply(FunctionName::Column)),
+        files: &["a"],
+    },
+    Asked {
+        line: "cbgrid diagonal a",
+        task: chosen!(PlusTimes, Selection::Diagonal),
+        files: &["a"],
+    },
+    Asked {
+        line: "cbgrid diagonal --as matrix x --semiring min-plus",
+        task: chosen!(MinPlus, Selection::DiagonalMatrix),
+        files: &["x"],
+    },
+    Asked {
+        line: "cbgrid kron a b --semiring max-min",
+        task: Task::Kronecker {
+            semiring: SemiringName::MaxMin,
+        },
+        files: &["a", "b"],
+    },
 ];
 
 /// Whether these are the files of a job, in this order.
@@ -214,7 +308,7 @@ fn ask_for_each_task(rt: HostRuntime) {
 /// computed alone, and how many threads may read and write.
 type Choice = (&'static str, usize, EngineName, u32, bool, u32);
 
-const CHOICES: [Choice; 25] = [
+const CHOICES: [Choice; 27] = [
     ("cbgrid multiply a b", 1, EngineName::Plain, 1, true, 1),
     ("cbgrid multiply a b", 2, EngineName::Ranks(2), 2, true, 2),
     ("cbgrid multiply a b", 8, EngineName::Ranks(2), 2, true, 8),
@@ -352,6 +446,15 @@ const CHOICES: [Choice; 25] = [
     ),
     ("cbgrid components a", 999, EngineName::Plain, 6, true, 36),
     ("cbgrid triangles a", 1, EngineName::Plain, 1, true, 1),
+    ("cbgrid kron a b", 4, EngineName::Plain, 2, true, 4),
+    (
+        "cbgrid select a --region lower",
+        16,
+        EngineName::Plain,
+        4,
+        true,
+        16,
+    ),
 ];
 
 /// Whether a line chooses so.
@@ -376,7 +479,7 @@ fn choose_the_engine_the_grid_and_the_threads(rt: HostRuntime) {
 }
 
 /// Lines that are refused for their words.
-const REFUSED: [&str; 62] = [
+const REFUSED: [&str; 94] = [
     "cbgrid multiply",
     "cbgrid multiply a",
     "cbgrid multiply a b c",
@@ -409,6 +512,38 @@ const REFUSED: [&str; 62] = [
     "cbgrid components a --engine plain",
     "cbgrid triangles",
     "cbgrid triangles a --semiring or-and",
+    "cbgrid triangles a --by edge",
+    "cbgrid triangles a --by vertex --by vertex",
+    "cbgrid select a",
+    "cbgrid select a --region",
+    "cbgrid select a --region middle",
+    "cbgrid select a --diagonal 1",
+    "cbgrid select a b --region lower",
+    "cbgrid select a --region lower --diagonal",
+    "cbgrid select a --region lower --diagonal main",
+    "cbgrid select a --region lower --diagonal 2147483648",
+    "cbgrid select a --region lower --diagonal -2147483648",
+    "cbgrid select a --region lower --region lower",
+    "cbgrid select a --region lower --engine plain",
+    "cbgrid apply a",
+    "cbgrid apply a --value 1",
+    "cbgrid apply a --function square",
+    "cbgrid apply a --function constant",
+    "cbgrid apply a --function plus",
+    "cbgrid apply a --function times",
+    "cbgrid apply a --function row --value 1",
+    "cbgrid apply a --function column --value 1",
+    "cbgrid apply a --function plus --value -1",
+    "cbgrid apply a --function plus --value 18446744073709551616",
+    "cbgrid apply --function row",
+    "cbgrid diagonal",
+    "cbgrid diagonal a b",
+    "cbgrid diagonal a --as row",
+    "cbgrid diagonal a --grid 2",
+    "cbgrid kron a",
+    "cbgrid kron a b c",
+    "cbgrid kron a b --semiring plus",
+    "cbgrid kron a b --lane 2",
     "cbgrid bfs a",
     "cbgrid bfs --source 1",
     "cbgrid bfs a b --source 1",
@@ -472,6 +607,10 @@ fn offer_help(rt: HostRuntime) {
         "cbgrid add --help",
         "cbgrid times --help",
         "cbgrid prune --help",
+        "cbgrid select --help",
+        "cbgrid apply -h",
+        "cbgrid diagonal --help",
+        "cbgrid kron --help",
         "cbgrid bfs --help",
         "cbgrid parents --help",
         "cbgrid components --help",
@@ -482,18 +621,49 @@ fn offer_help(rt: HostRuntime) {
     }
 }
 
-const CONFLICT: &str = "error: the argument '--trace' cannot be used with '--engine plain'
+/// Words that don't go together, and the text that they are refused with.
+const CONFLICTS: [(&str, &str); 3] = [
+    (
+        "cbgrid multiply --engine=plain a b --trace",
+        "error: the argument '--trace' cannot be used with '--engine plain'
 
 Usage: cbgrid multiply [OPTIONS] <A> <B>
 
 For more information, try '--help'.
-";
+",
+    ),
+    (
+        "cbgrid apply a --function plus",
+        "error: the argument '--value <N>' is required unless '--function' is row or column
+
+Usage: cbgrid apply [OPTIONS] --function <FUNCTION> <A>
+
+For more information, try '--help'.
+",
+    ),
+    (
+        "cbgrid apply a --function row --value 5",
+        "error: the argument '--value <N>' cannot be used if '--function' is row or column
+
+Usage: cbgrid apply [OPTIONS] --function <FUNCTION> <A>
+
+For more information, try '--help'.
+",
+    ),
+];
+
+/// Whether a line is refused with just this text.
+fn is_refused_so(alloc: Global, line: &str, wanted: &str) -> bool {
+    match job(alloc, line) {
+        Err(UsageFault::Usage(text)) => text.as_str() == wanted,
+        _ => false,
+    }
+}
 
 #[test]
-fn trace_ranks_in_threads_alone(rt: HostRuntime) {
-    match job(rt.alloc(), "cbgrid multiply --engine=plain a b --trace") {
-        Err(UsageFault::Usage(text)) => assert!(rt; text.as_str() == CONFLICT, "{text}"),
-        _ => assert!(rt; false),
+fn tell_which_words_do_not_go_together(rt: HostRuntime) {
+    for (line, wanted) in CONFLICTS {
+        assert!(rt; is_refused_so(rt.alloc(), line, wanted), "{line}");
     }
 }
 
@@ -504,7 +674,7 @@ fn ends_so(alloc: Global, fault: &JobFault, number: u8, line: &str) -> Result<bo
     Ok(status(fault) == number && told.as_slice() == line.as_bytes())
 }
 
-const FAULTS: [(JobFault, u8, &str); 11] = [
+const FAULTS: [(JobFault, u8, &str); 14] = [
     (
         read_fault!(1, 7, BadNumber),
         4,
@@ -552,6 +722,21 @@ const FAULTS: [(JobFault, u8, &str); 11] = [
         })),
         6,
         "cbgrid: lost at rank 7\n",
+    ),
+    (
+        JobFault::Unselected(SelectionRefusal::NoValue),
+        5,
+        "cbgrid: no value of the semiring\n",
+    ),
+    (
+        JobFault::Unselected(SelectionRefusal::NotColumn),
+        5,
+        "cbgrid: matrix not a column\n",
+    ),
+    (
+        JobFault::Unselected(SelectionRefusal::TooLarge),
+        5,
+        "cbgrid: product too large\n",
     ),
     (JobFault::Memory, 6, "cbgrid: out of memory\n"),
     (JobFault::Output, 7, "cbgrid: can't write\n"),

@@ -3,6 +3,7 @@ use crate::graphs::{CYCLE, WEIGHTLESS};
 use crate::lines::read_fault;
 use crate::products::{FIRST, SECOND, SKEW, Short, run_into, text};
 use cb_cli::execution::JobFault;
+use cb_cli::selection_refusals::SelectionRefusal;
 use cb_cli::sinks::WriterSink;
 use cb_market::{Kind, ReadFault};
 use cb_operations::Refusal;
@@ -26,6 +27,12 @@ const NOT_SQUARE: JobFault = JobFault::Run(OperationFault::Refused(Refusal::NotS
 
 const SOURCE: JobFault = JobFault::Run(OperationFault::Refused(Refusal::Source));
 
+const NO_VALUE: JobFault = JobFault::Unselected(SelectionRefusal::NoValue);
+
+const NOT_COLUMN: JobFault = JobFault::Unselected(SelectionRefusal::NotColumn);
+
+const TOO_LARGE: JobFault = JobFault::Unselected(SelectionRefusal::TooLarge);
+
 /// A command line, the texts of its files, and why it has no answer.
 struct Refused {
     line: &'static str,
@@ -33,7 +40,7 @@ struct Refused {
     fault: JobFault,
 }
 
-const REFUSALS: [Refused; 19] = [
+const REFUSALS: [Refused; 29] = [
     Refused {
         line: "cbgrid multiply a b",
         texts: &[BAD, WORSE],
@@ -129,6 +136,57 @@ const REFUSALS: [Refused; 19] = [
         line: "cbgrid triangles a",
         texts: &[WIDE],
         fault: NOT_SQUARE,
+    },
+    Refused {
+        line: "cbgrid triangles a --by vertex",
+        texts: &[WIDE],
+        fault: NOT_SQUARE,
+    },
+    Refused {
+        line: "cbgrid select a --region lower",
+        texts: &[BAD],
+        fault: read_fault!(0, 3, BadNumber),
+    },
+    // the text is read first
+    Refused {
+        line: "cbgrid apply a --function constant --value 2 --semiring or-and",
+        texts: &[WORSE],
+        fault: read_fault!(0, 1, BadHeader),
+    },
+    Refused {
+        line: "cbgrid apply a --function constant --value 2 --semiring or-and",
+        texts: &[WIDE],
+        fault: NO_VALUE,
+    },
+    Refused {
+        line: "cbgrid apply a --function column --semiring or-and",
+        texts: &[THREE],
+        fault: NO_VALUE,
+    },
+    Refused {
+        line: "cbgrid diagonal a --as matrix",
+        texts: &[WIDE],
+        fault: NOT_COLUMN,
+    },
+    Refused {
+        line: "cbgrid diagonal a --as matrix",
+        texts: &[text!("3 0 0\n")],
+        fault: NOT_COLUMN,
+    },
+    Refused {
+        line: "cbgrid kron a b",
+        texts: &[FIRST, WORSE],
+        fault: read_fault!(1, 1, BadHeader),
+    },
+    Refused {
+        line: "cbgrid kron a b",
+        texts: &[text!("46341 0 0\n"), text!("46341 0 0\n")],
+        fault: TOO_LARGE,
+    },
+    Refused {
+        line: "cbgrid kron a b",
+        texts: &[text!("0 65536 0\n"), text!("0 32768 0\n")],
+        fault: TOO_LARGE,
     },
 ];
 

@@ -10,12 +10,27 @@ static SIDES: [&str; 2] = ["rows", "columns"];
 
 static TESTS: [&str; 3] = ["below", "above", "equal"];
 
+static REGIONS: [&str; 4] = ["lower", "upper", "diagonal", "off-diagonal"];
+
+static FUNCTIONS: [&str; 5] = ["constant", "plus", "times", "row", "column"];
+
+static FORMS: [&str; 2] = ["column", "matrix"];
+
+static COUNTS: [&str; 2] = ["graph", "vertex"];
+
 /// The version of the program, and of the libraries for C and Python, which take it from here.
 const VERSION: &str = "0.1.0";
 
-/// What stands at the end of a help text: an example, and the statuses.
+/// What stands at the end of a help text: an example, and the statuses. Where the matrices of files are refused for other
+/// reasons than those of products and of graphs, these follow the example.
 macro_rules! after_help {
     ($example:literal) => {
+        after_help!(
+            $example,
+            "the shapes don't agree, a graph's matrix isn't square, or it has no such source"
+        )
+    };
+    ($example:literal, $refused:literal) => {
         concat!(
             "Example:\n  cbgrid ",
             $example,
@@ -25,7 +40,9 @@ Exit status:
   2  the words are no command line
   3  a file can't be read
   4  a file is no matrix
-  5  the shapes don't agree, a graph's matrix isn't square, or it has no such source
+  5  ",
+            $refused,
+            "
   6  memory was refused, or a thread
   7  the answer can't be written"
         )
@@ -41,6 +58,12 @@ enum Choice {
     By,
     Test,
     Value,
+    Region,
+    Diagonal,
+    Function,
+    Number,
+    Form,
+    Counts,
     Source,
     Grid,
     Engine,
@@ -128,6 +151,51 @@ const PRUNE: Outline = Outline {
     common: &BY_RANKS,
 };
 
+const SELECT: Outline = Outline {
+    name: "select",
+    about: "Write the entries of a matrix on one side of a diagonal, on it, or off it",
+    after_help: after_help!("select links.mtx --region lower --diagonal -1 > below.mtx"),
+    files: &["A"],
+    options: &[Choice::Semiring, Choice::Region, Choice::Diagonal],
+    common: &ALONE,
+};
+
+const APPLY: Outline = Outline {
+    name: "apply",
+    about: "Write what a function makes of the value of each entry of a matrix",
+    after_help: after_help!(
+        "apply roads.mtx --semiring min-plus --function times --value 5 > longer-roads.mtx",
+        "the number of the function is no value of the semiring"
+    ),
+    files: &["A"],
+    options: &[Choice::Semiring, Choice::Function, Choice::Number],
+    common: &ALONE,
+};
+
+const DIAGONAL: Outline = Outline {
+    name: "diagonal",
+    about: "Write the diagonal of a matrix as a column, or a column as the diagonal of a matrix",
+    after_help: after_help!(
+        "diagonal links.mtx > loops.mtx",
+        "a matrix whose column is asked for has more columns than one, or none"
+    ),
+    files: &["A"],
+    options: &[Choice::Semiring, Choice::Form],
+    common: &ALONE,
+};
+
+const KRON: Outline = Outline {
+    name: "kron",
+    about: "Write the Kronecker product of two matrices",
+    after_help: after_help!(
+        "kron pattern.mtx tile.mtx > tiles.mtx",
+        "the product has more than 2147483647 rows or columns"
+    ),
+    files: &["A", "B"],
+    options: &[Choice::Semiring],
+    common: &ALONE,
+};
+
 const BFS: Outline = Outline {
     name: "bfs",
     about: "Write how many edges lead from a source to each vertex, by breadth-first search",
@@ -169,12 +237,12 @@ const TRIANGLES: Outline = Outline {
     about: "Write how many triangles a graph has, of edges in either direction",
     after_help: after_help!("triangles friends.mtx"),
     files: &["A"],
-    options: &[],
+    options: &[Choice::Counts],
     common: &ALONE,
 };
 
 /// The commands, in the order in which help shows them.
-const OUTLINES: [&Outline; 12] = [
+const OUTLINES: [&Outline; 16] = [
     &MULTIPLY,
     &SPMV,
     &TRANSPOSE,
@@ -182,6 +250,10 @@ const OUTLINES: [&Outline; 12] = [
     &ADD,
     &TIMES,
     &PRUNE,
+    &SELECT,
+    &APPLY,
+    &DIAGONAL,
+    &KRON,
     &BFS,
     &RELAX,
     &PARENTS,
@@ -242,6 +314,49 @@ fn value<'a>(alloc: Global) -> Arg<'a> {
     .value_parser(value_parser!(u64))
 }
 
+fn region<'a>(alloc: Global) -> Arg<'a> {
+    let help = "The entries that are kept, by where they are from the diagonal of --diagonal";
+    with_value(alloc, "region", "REGION", help)
+        .required(true)
+        .value_parser(REGIONS.as_slice())
+}
+
+fn diagonal<'a>(alloc: Global) -> Arg<'a> {
+    let help = "How many columns the diagonal is right of the main one; if negative, left of it";
+    with_value(alloc, "diagonal", "K", help)
+        .allow_negative_numbers(true)
+        .value_parser(value_parser!(i64).range(-2_147_483_647..=2_147_483_647))
+        .default_value("0")
+}
+
+fn function<'a>(alloc: Global) -> Arg<'a> {
+    let help =
+        "What becomes of a value: the number of --value, the sum or the product with it, or its place's row or column";
+    with_value(alloc, "function", "FUNCTION", help)
+        .required(true)
+        .value_parser(FUNCTIONS.as_slice())
+}
+
+fn number<'a>(alloc: Global) -> Arg<'a> {
+    let help = "The number that constant, plus and times take";
+    with_value(alloc, "value", "N", help).value_parser(value_parser!(u64))
+}
+
+fn form<'a>(alloc: Global) -> Arg<'a> {
+    let help =
+        "What is written: the diagonal as a column, or a square matrix with the column on its diagonal";
+    with_value(alloc, "as", "FORM", help)
+        .value_parser(FORMS.as_slice())
+        .default_value("column")
+}
+
+fn counts<'a>(alloc: Global) -> Arg<'a> {
+    let help = "What triangles are counted of: the graph, or each vertex";
+    with_value(alloc, "by", "WHAT", help)
+        .value_parser(COUNTS.as_slice())
+        .default_value("graph")
+}
+
 fn source<'a>(alloc: Global) -> Arg<'a> {
     with_value(
         alloc,
@@ -285,6 +400,12 @@ fn option_of<'a>(alloc: Global, choice: Choice) -> Arg<'a> {
         Choice::By => by(alloc),
         Choice::Test => test(alloc),
         Choice::Value => value(alloc),
+        Choice::Region => region(alloc),
+        Choice::Diagonal => diagonal(alloc),
+        Choice::Function => function(alloc),
+        Choice::Number => number(alloc),
+        Choice::Form => form(alloc),
+        Choice::Counts => counts(alloc),
         Choice::Source => source(alloc),
         Choice::Grid => grid(alloc),
         Choice::Engine => engine(alloc),
@@ -340,6 +461,11 @@ fn command<'a>(alloc: Global, outline: &Outline) -> Result<Command<'a>, AllocErr
 /// The command of products, outside of the program.
 pub fn multiply_alone<'a>(alloc: Global) -> Result<Command<'a>, AllocError> {
     command(alloc, &MULTIPLY)?.bin_name("cbgrid multiply")
+}
+
+/// The command of functions, outside of the program.
+pub fn apply_alone<'a>(alloc: Global) -> Result<Command<'a>, AllocError> {
+    command(alloc, &APPLY)?.bin_name("cbgrid apply")
 }
 
 /// The program, without its commands.

@@ -2,6 +2,7 @@
 ghost use Rattle.std.specs.Prelude.{◌≡◌, vec_len};
 ghost use Rattle.cb_words.specs.Jobs.{file_count_of};
 
+use crate::selection_names::Selection;
 use cb_layout::Grid;
 use cb_operations::Operation;
 use cb_semirings::SemiringName;
@@ -32,6 +33,17 @@ pub enum Task {
     Components,
     /// How many triangles there are. The file is read in or-and.
     Triangles,
+    /// How many triangles each vertex is part of. The file is read in or-and.
+    TriangleCounts,
+    /// What is selected of the file's matrix, over a semiring.
+    Selected {
+        selection: Selection,
+        semiring: SemiringName,
+    },
+    /// The Kronecker product of the files' matrices over a semiring.
+    Kronecker {
+        semiring: SemiringName,
+    },
 }
 
 /// What runs the ranks.

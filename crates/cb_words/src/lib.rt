@@ -8,8 +8,12 @@
 #![tactic(auto)]
 
 mod commands;
+mod conflicts;
 mod jobs;
+mod selection_names;
+mod selection_words;
 mod words;
 
 pub use jobs::{EngineName, Job, Task, UsageFault};
+pub use selection_names::{FunctionName, RegionName, Selection};
 pub use words::{asked, read_job};

@@ -6,8 +6,10 @@ ghost use Rattle.clap.specs.Words.{kind_of};
 ghost use Rattle.cb_operations.specs.OperationAnswers.{operand_count_of};
 ghost use Rattle.cb_words.specs.Jobs.{AsksForText, file_count_of};
 
-use crate::commands::{multiply_alone, program};
+use crate::commands::program;
+use crate::conflicts::{Conflict, conflict_error, conflict_in};
 use crate::jobs::{EngineName, Job, Task, UsageFault};
+use crate::selection_words::selection_of;
 use cb_layout::Grid;
 use cb_matrix::Test;
 use cb_operations::Operation;
@@ -69,7 +71,9 @@ fn arguments(task: Task) -> &'static [&'static str]
     match task {
         Task::Matrix { operation, .. } => operands(operation),
         Task::Levels { .. } | Task::Distances { .. } | Task::Parents { .. } => &["A"],
-        Task::Components | Task::Triangles => &["A"],
+        Task::Components | Task::Triangles | Task::TriangleCounts => &["A"],
+        Task::Selected { .. } => &["A"],
+        Task::Kronecker { .. } => &["A", "B"],
     }
 }
 
@@ -112,10 +116,17 @@ fn is_about_graph(command: &str) -> bool {
     )
 }
 
-/// Whether one thread computes a command of which no engine is named, and no trace: all where there is one processor, and
-/// those about graphs. The rounds of a search are too short for ranks in threads; a grid that is asked for is for ranks.
+/// Whether a command has no plan for ranks, besides those about graphs.
+fn is_of_blocks(command: &str) -> bool {
+    matches!(command, "select" | "apply" | "diagonal" | "kron")
+}
+
+/// Whether one thread computes a command of which no engine is named, and no trace: all where there is one processor,
+/// those about graphs, and those without a plan. The rounds of a search are too short for ranks in threads; a grid that is
+/// asked for is for ranks.
 fn is_for_one(command: &str, found: &ArgMatches<'_>, processors: usize) -> bool {
-    !found.contains_id("grid") && (processors < 2 || is_about_graph(command))
+    let is_one = processors < 2 || is_about_graph(command) || is_of_blocks(command);
+    !found.contains_id("grid") && is_one
 }
 
 /// What computes a command: where the words don't say, ranks in threads, unless it is for one.
@@ -208,24 +219,53 @@ fn operation_of(command: &str, found: &ArgMatches<'_>) -> Option<Operation> {
     }
 }
 
+/// The task of a command that starts from a source.
+fn walk_of(command: &str, found: &ArgMatches<'_>) -> Option<Task> {
+    let source = source_of(found)?;
+    match command {
+        "bfs" => Some(Task::Levels { source }),
+        "relax" => Some(Task::Distances { source }),
+        "parents" => Some(Task::Parents { source }),
+        _ => None,
+    }
+}
+
+/// The task of a command that selects from one matrix.
+fn selected_of(command: &str, found: &ArgMatches<'_>) -> Option<Task> {
+    let selection = selection_of(command, found)?;
+    let semiring = semiring_of(found)?;
+    Some(Task::Selected {
+        selection,
+        semiring,
+    })
+}
+
+/// The task of Kronecker products.
+fn kronecker_of(found: &ArgMatches<'_>) -> Option<Task> {
+    let semiring = semiring_of(found)?;
+    Some(Task::Kronecker { semiring })
+}
+
+/// The task of a command over matrices.
+fn matrix_of(command: &str, found: &ArgMatches<'_>) -> Option<Task> {
+    let operation = operation_of(command, found)?;
+    let semiring = semiring_of(found)?;
+    Some(Task::Matrix {
+        operation,
+        semiring,
+    })
+}
+
 /// The task of a command.
 fn task_of(command: &str, found: &ArgMatches<'_>) -> Option<Task> {
     match command {
-        "bfs" => Some(Task::Levels {
-            source: source_of(found)?,
-        }),
-        "relax" => Some(Task::Distances {
-            source: source_of(found)?,
-        }),
-        "parents" => Some(Task::Parents {
-            source: source_of(found)?,
-        }),
+        "bfs" | "relax" | "parents" => walk_of(command, found),
         "components" => Some(Task::Components),
+        "triangles" if found.get_str("by") == Some("vertex") => Some(Task::TriangleCounts),
         "triangles" => Some(Task::Triangles),
-        _ => Some(Task::Matrix {
-            operation: operation_of(command, found)?,
-            semiring: semiring_of(found)?,
-        }),
+        "select" | "apply" | "diagonal" => selected_of(command, found),
+        "kron" => kronecker_of(found),
+        _ => matrix_of(command, found),
     }
 }
 
@@ -257,28 +297,9 @@ fn job_of(
     }))
 }
 
-/// Whether a trace of ranks is asked for that are to run on one thread.
-fn is_trace_of_one_thread(matches: &ArgMatches<'_>) -> bool {
-    match matches.subcommand() {
-        Some(("multiply", found)) => {
-            found.get_flag("trace") && found.get_str("engine") == Some("plain")
-        }
-        _ => false,
-    }
-}
-
-/// What is wrong with such words.
-fn conflict(alloc: Global) -> Result<clap::Error, AllocError> {
-    let mut command = multiply_alone(alloc)?;
-    command.error(
-        ErrorKind::ArgumentConflict,
-        "the argument '--trace' cannot be used with '--engine plain'",
-    )
-}
-
-/// Why such words are no job.
-fn trace_of_one_thread(alloc: Global) -> Result<UsageFault, AllocError> {
-    let error = conflict(alloc)?;
+/// Why words that don't go together are no job.
+fn conflict_fault(alloc: Global, conflict: Conflict) -> Result<UsageFault, AllocError> {
+    let error = conflict_error(alloc, conflict)?;
     Ok(fault_of(alloc, &error))
 }
 
@@ -328,8 +349,8 @@ pub fn read_job(alloc: Global, words: &[String], processors: usize) -> Result<Jo
         Ok(matches) => matches,
         Err(error) => return Err(fault_of(alloc, &error)),
     };
-    if is_trace_of_one_thread(&matches) {
-        return Err(trace_of_one_thread(alloc)?);
+    if let Some(conflict) = conflict_in(&matches) {
+        return Err(conflict_fault(alloc, conflict)?);
     }
     match job_of(alloc, &matches, processors)? {
         Some(job) => Ok(job),

@@ -1,0 +1,63 @@
+//! Reads what a command line selects.
+use crate::selection_names::{FunctionName, RegionName, Selection};
+use clap::ArgMatches;
+
+/// How many columns right of the main diagonal that of `--diagonal` is, and how many rows below it: one of them is 0.
+fn diagonal_of(found: &ArgMatches<'_>) -> Option<(u32, u32)> {
+    let number = found.get_one::<i64>("diagonal")?;
+    let distance = u32::try_from(number.unsigned_abs()).ok()?;
+    if number < 0 {
+        Some((0, distance))
+    } else {
+        Some((distance, 0))
+    }
+}
+
+fn region_of(found: &ArgMatches<'_>) -> Option<RegionName> {
+    match found.get_str("region")? {
+        "lower" => Some(RegionName::Lower),
+        "upper" => Some(RegionName::Upper),
+        "diagonal" => Some(RegionName::On),
+        "off-diagonal" => Some(RegionName::Off),
+        _ => None,
+    }
+}
+
+/// The entries that `select` keeps.
+fn kept_of(found: &ArgMatches<'_>) -> Option<Selection> {
+    let (right, down) = diagonal_of(found)?;
+    let region = region_of(found)?;
+    Some(Selection::Select {
+        region,
+        right,
+        down,
+    })
+}
+
+fn function_of(found: &ArgMatches<'_>) -> Option<FunctionName> {
+    let number = found.get_one::<u64>("value");
+    match found.get_str("function")? {
+        "constant" => Some(FunctionName::Constant(number?)),
+        "plus" => Some(FunctionName::Plus(number?)),
+        "times" => Some(FunctionName::Times(number?)),
+        "row" => Some(FunctionName::Row),
+        "column" => Some(FunctionName::Column),
+        _ => None,
+    }
+}
+
+/// Whether the function of `apply` takes a number.
+pub fn takes_number(found: &ArgMatches<'_>) -> bool {
+    !matches!(found.get_str("function"), Some("row" | "column"))
+}
+
+/// What a command makes of one matrix.
+pub fn selection_of(command: &str, found: &ArgMatches<'_>) -> Option<Selection> {
+    match command {
+        "select" => kept_of(found),
+        "apply" => Some(Selection::Apply(function_of(found)?)),
+        "diagonal" if found.get_str("as") == Some("matrix") => Some(Selection::DiagonalMatrix),
+        "diagonal" => Some(Selection::Diagonal),
+        _ => None,
+    }
+}
