@@ -1,7 +1,10 @@
-/* Loaded before a program (LD_PRELOAD), it refuses one allocation: the one whose number, from 1, REFUSED_ALLOCATION
- * names. Where it came to that it makes the file that REFUSED_MARK names. */
+/* Loaded before a program (LD_PRELOAD), it refuses one allocation, or one thread: the one whose number, from 1,
+ * REFUSED_ALLOCATION or REFUSED_THREAD names. Where it came to that it makes the file that REFUSED_MARK names. */
+#define _GNU_SOURCE
+#include <dlfcn.h>
 #include <errno.h>
 #include <fcntl.h>
+#include <pthread.h>
 #include <stdatomic.h>
 #include <stddef.h>
 #include <stdlib.h>
@@ -12,17 +15,26 @@ extern void *__libc_calloc(size_t, size_t);
 extern void *__libc_realloc(void *, size_t);
 extern void *__libc_memalign(size_t, size_t);
 
-static atomic_long left = -1;
-static const char *mark;
+typedef int starter(pthread_t *, const pthread_attr_t *, void *(*)(void *), void *);
 
-__attribute__((constructor)) static void begin(void) {
-    const char *number = getenv("REFUSED_ALLOCATION");
-    mark = getenv("REFUSED_MARK");
-    left = number ? atol(number) : -1;
+static atomic_long allocations = -1, threads = -1;
+static const char *mark;
+static starter *start_thread;
+
+static long number_in(const char *name) {
+    const char *number = getenv(name);
+    return number ? atol(number) : -1;
 }
 
-static int is_refused(void) {
-    if (left < 0 || atomic_fetch_sub(&left, 1) != 1) {
+__attribute__((constructor)) static void begin(void) {
+    start_thread = (starter *)dlsym(RTLD_NEXT, "pthread_create");
+    mark = getenv("REFUSED_MARK");
+    threads = number_in("REFUSED_THREAD");
+    allocations = number_in("REFUSED_ALLOCATION");
+}
+
+static int comes_to(atomic_long *left) {
+    if (*left < 0 || atomic_fetch_sub(left, 1) != 1) {
         return 0;
     }
     if (mark) {
@@ -31,8 +43,19 @@ static int is_refused(void) {
             close(made);
         }
     }
+    return 1;
+}
+
+static int is_refused(void) {
+    if (!comes_to(&allocations)) {
+        return 0;
+    }
     errno = ENOMEM;
     return 1;
+}
+
+int pthread_create(pthread_t *thread, const pthread_attr_t *attributes, void *(*start)(void *), void *given) {
+    return comes_to(&threads) ? EAGAIN : start_thread(thread, attributes, start, given);
 }
 
 void *malloc(size_t size) {

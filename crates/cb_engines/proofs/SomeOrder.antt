@@ -24,7 +24,7 @@ use Rattle.cb_world.proofs.NoDeadlock.{someone_acts, none_remains, all_done_by, 
 use Rattle.cb_world.proofs.FirstState.{begins}
 use Rattle.cb_ranks.specs.Runs.{fresh}
 use Rattle.cb_ranks.specs.Finished.{FinishedView, FinishesPlan, course_in}
-use Rattle.cb_engines.specs.Orders.{IsNearest, IsLeftInSomeOrder}
+use Rattle.cb_engines.specs.Orders.{IsLeftInOrder, IsNearest}
 use Rattle.cb_engines.proofs.LanesInStep.{lane_stays}
 use Rattle.cb_world.proofs.NewWorlds.{some_world}
 use Rattle.cb_engines.proofs.RanksInStep.{StandsAt, AllTaken, rank_stays, drop_next, next_stands}
@@ -145,7 +145,7 @@ nearest_is_some letters capacity near =
 
 -- what ranks left that each did its program by itself is what some order of their steps leaves
 pub left_in_some_order : (s : Arithmetic) (p : CheckedView) (first : List (List (Slot Sparse))) (f : FinishedView) (letters capacity : ℕ) → IsNearest letters capacity → Fits p.ranks p.starts first → FinishesPlan s p first f →
-    (stores : List (List (Slot Sparse))) (refusals : List ℕ) → stores ≡ f.stores → refusals ≡ f.refusals → IsLeftInSomeOrder s p first stores refusals letters
+    (stores : List (List (Slot Sparse))) (refusals : List ℕ) → stores ≡ f.stores → refusals ≡ f.refusals → (order : List Event) × IsLeftInOrder s p first stores refusals letters order
 left_in_some_order s p first f letters capacity near fits done stores refusals stores_are refusals_are =
     let new = some_world p first capacity fits in
     let begun : WorldView = new.0 in

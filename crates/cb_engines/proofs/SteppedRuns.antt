@@ -20,7 +20,13 @@ use Rattle.cb_world.specs.declared.events.Event.{Event}
 use Rattle.cb_engines.specs.declared.engines.Engine.{Engine}
 use Rattle.cb_engines.specs.declared.engines.Engine.TheVariants.{Threads, Traced, InOrder}
 use Rattle.cb_engines.specs.EngineRuns.{checked_of}
-use Rattle.cb_engines.specs.Orders.{IsLeftInOrder, IsOrdered, IsSteppedRun, IsOrderedRun}
+use Rattle.cb_engines.specs.Orders.{IsLeftInOrder, IsOrdered, IsSteppedRun, IsOrderedRun, OfItsOrder}
+
+-- what holds of an engine's order, or of some, has what follows from it of any
+pub of_its_order : (engine : Engine) (this that : ℕ → List Event → Type 0) → ((letters : ℕ) (order : List Event) → this letters order → that letters order) → OfItsOrder engine this → OfItsOrder engine that
+of_its_order (Threads letters) this that so holds = (holds.0, so letters holds.0 holds.1)
+of_its_order (Traced letters) this that so holds = (holds.0, so letters holds.0 holds.1)
+of_its_order (InOrder letters order) this that so holds = so letters order.now holds
 
 -- the blocks that were taken out of a slot of all ranks are those that stood there
 module _ (n : ℕ) (stores : List (List (Slot Sparse))) (blocks : List Sparse) (count : length blocks ≡ length stores) (are : (r : ℕ) → r < length stores → state_of stores r n ≡ Some (block_at blocks r)) where
@@ -49,6 +55,6 @@ module _ (s : Arithmetic) (q : ℕ) (planned : Planned) (operands : List (ℕ ×
 
   -- a run of a plan that was checked is one of the plan
   pub ordered_run : (engine : Engine) → IsOrdered s engine p first stores refusals → IsOrderedRun s engine q planned operands shape answer refusals
-  ordered_run (Threads letters) left = (left.0, stepped_run letters left.0 left.1)
-  ordered_run (Traced letters) left = (left.0, stepped_run letters left.0 left.1)
-  ordered_run (InOrder letters order) left = stepped_run letters order.now left
+  ordered_run engine left =
+      of_its_order engine (λ letters order. IsLeftInOrder s p first stores refusals letters order)
+      (λ letters order. IsSteppedRun s q planned operands shape letters order answer refusals) stepped_run left

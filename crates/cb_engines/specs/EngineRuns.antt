@@ -6,6 +6,7 @@ use Rattle.cb_plan.specs.declared.stores.Slot.{Slot}
 use Rattle.cb_plan.specs.declared.stores.Slot.TheVariants as slot_is
 use Rattle.cb_plan.specs.Plans.{CheckedView}
 use Rattle.cb_plan.specs.PlanTables.{cell}
+use Rattle.cb_placement.specs.Losses.{IsFirstLoss}
 use Rattle.cb_ranks.specs.Traced.{HasProgram}
 use Rattle.cb_trace.specs.Traces.{TraceView, AreLegalEvents, AreOnLanes}
 use Rattle.cb_engines.specs.declared.engines.Engine.{Engine}
@@ -50,8 +51,21 @@ IsEngineFault engine ranks (Gone r) = HasThreads engine × (r < ranks)
 IsEngineFault engine ranks TraceTorn = KeepsTrace engine
 IsEngineFault engine ranks (Lost r count) = (r < ranks) × (0 < count)
 
--- why the blocks that ranks left can't be gathered: want of memory, or one that is lost at a rank that was refused it, so often
-abbrev pub IsLossFault : List ℕ → EngineFault → Type 0
-IsLossFault refusals Memory = Unit {0}
-IsLossFault refusals (Lost r count) = (r < length refusals) × (0 < count) × (count ≡ get_or refusals r 0)
-IsLossFault refusals _ = ⊥
+-- the fault isn't that of a lost block
+abbrev pub IsNoLoss : EngineFault → Type 0
+IsNoLoss (Lost r count) = ⊥
+IsNoLoss _ = Unit {0}
+
+-- ranks left blocks in slot n: of those that are lost, the least rank's is lost at rank r, one of them, which was refused
+-- memory so often
+pub record IsLostBlock (n : ℕ) (stores : List (List (Slot Sparse))) (refusals : List ℕ) (r count : ℕ) : Type 0 where
+  pub first : IsFirstLoss n stores r
+  pub rank : r < length refusals
+  pub some : 0 < count
+  pub own : count ≡ get_or refusals r 0
+
+-- why the blocks that ranks left in slot n can't be gathered: want of memory, or one of them that is lost
+abbrev pub IsLossFault : ℕ → List (List (Slot Sparse)) → List ℕ → EngineFault → Type 0
+IsLossFault n stores refusals Memory = Unit {0}
+IsLossFault n stores refusals (Lost r count) = IsLostBlock n stores refusals r count
+IsLossFault n stores refusals _ = ⊥

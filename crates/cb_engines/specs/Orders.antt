@@ -12,7 +12,9 @@ use Rattle.cb_placement.specs.Answers.{gathered}
 use Rattle.cb_world.specs.declared.events.Event.{Event}
 use Rattle.cb_world.specs.Worlds.{WorldView, IsNewWorld, AllDone}
 use Rattle.cb_world.specs.WorldSteps.{RunsBy, FinishesBy}
-use Rattle.cb_engines.specs.EngineRuns.{checked_of}
+use Rattle.cb_engines.specs.EngineRuns.{IsLostBlock, checked_of}
+use Rattle.cb_engines.specs.declared.engine_faults.EngineFault.{EngineFault}
+use Rattle.cb_engines.specs.declared.engine_faults.EngineFault.TheVariants.{Lost}
 use Rattle.cb_engines.specs.declared.engines.Engine.{Engine}
 use Rattle.cb_engines.specs.declared.engines.Engine.TheVariants.{Threads, Traced, InOrder}
 
@@ -38,15 +40,15 @@ pub record IsLeftInOrder (s : Arithmetic) (p : CheckedView) (first stores : List
   pub slots : stores ≡ map (λ x. x.slots) last.ranks
   pub counts : refusals ≡ map (λ x. x.refusals) last.ranks
 
--- what ranks leave that were stepped in some order
-abbrev pub IsLeftInSomeOrder : Arithmetic → CheckedView → List (List (Slot Sparse)) → List (List (Slot Sparse)) → List ℕ → ℕ → Type 0
-IsLeftInSomeOrder s p first stores refusals letters = (order : List Event) × IsLeftInOrder s p first stores refusals letters order
+-- this holds of the engine's order, or, where its ranks run in threads, of some order, over lanes for the engine's letters
+abbrev pub OfItsOrder : Engine → (ℕ → List Event → Type 0) → Type 0
+OfItsOrder (InOrder letters order) holds = holds letters order.now
+OfItsOrder (Threads letters) holds = (order : List Event) × holds letters order
+OfItsOrder (Traced letters) holds = (order : List Event) × holds letters order
 
 -- an engine leaves what ranks leave that are stepped: in its order, or, where its ranks run in threads, in some order
 abbrev pub IsOrdered : Arithmetic → Engine → CheckedView → List (List (Slot Sparse)) → List (List (Slot Sparse)) → List ℕ → Type 0
-IsOrdered s (InOrder letters order) p first stores refusals = IsLeftInOrder s p first stores refusals letters order.now
-IsOrdered s (Threads letters) p first stores refusals = IsLeftInSomeOrder s p first stores refusals letters
-IsOrdered s (Traced letters) p first stores refusals = IsLeftInSomeOrder s p first stores refusals letters
+IsOrdered s engine p first stores refusals = OfItsOrder engine (λ letters order. IsLeftInOrder s p first stores refusals letters order)
 
 -- Ranks of a plan began with the blocks of these matrices in these slots, were stepped in an order, and the answer is the
 -- matrix of this shape that their slots for it hold at the end.
@@ -59,8 +61,19 @@ pub record IsSteppedRun (s : Arithmetic) (q : ℕ) (planned : Planned) (operands
 
 -- an engine answers what ranks make that are stepped: in its order, or, where its ranks run in threads, in some order
 abbrev pub IsOrderedRun : Arithmetic → Engine → ℕ → Planned → List (ℕ × Sparse) → Extent → Distributed → List ℕ → Type 0
-IsOrderedRun s (InOrder letters order) q planned operands shape answer refusals = IsSteppedRun s q planned operands shape letters order.now answer refusals
-IsOrderedRun s (Threads letters) q planned operands shape answer refusals =
-    (order : List Event) × IsSteppedRun s q planned operands shape letters order answer refusals
-IsOrderedRun s (Traced letters) q planned operands shape answer refusals =
-    (order : List Event) × IsSteppedRun s q planned operands shape letters order answer refusals
+IsOrderedRun s engine q planned operands shape answer refusals = OfItsOrder engine (λ letters order. IsSteppedRun s q planned operands shape letters order answer refusals)
+
+-- Ranks of a plan began with the blocks of these matrices in these slots, were stepped in an order, and lost a block of the
+-- answer, at rank r, which was refused memory so often.
+pub record IsSteppedLoss (s : Arithmetic) (q : ℕ) (planned : Planned) (operands : List (ℕ × Sparse)) (letters : ℕ) (order : List Event) (r count : ℕ) : Type 0 where
+  pub first : List (List (Slot Sparse))
+  pub has : HasOperands s q operands first
+  pub stores : List (List (Slot Sparse))
+  pub refusals : List ℕ
+  pub left : IsLeftInOrder s (checked_of planned) first stores refusals letters order
+  pub lost : IsLostBlock planned.result stores refusals r count
+
+-- where a block is lost, ranks lose it that are stepped in the engine's order, or, where they run in threads, in some order
+abbrev pub IsOrderedLoss : Arithmetic → Engine → ℕ → Planned → List (ℕ × Sparse) → EngineFault → Type 0
+IsOrderedLoss s engine q planned operands (Lost r count) = OfItsOrder engine (λ letters order. IsSteppedLoss s q planned operands letters order r count)
+IsOrderedLoss s engine q planned operands _ = Unit {0}

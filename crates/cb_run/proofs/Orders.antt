@@ -8,34 +8,39 @@ use Rattle.cb_plan.specs.Plans.{CheckedView}
 use Rattle.cb_world.specs.declared.events.Event.{Event}
 use Rattle.cb_operations.specs.declared.operations.Operation.{Operation}
 use Rattle.cb_operations.specs.declared.operations.Operation.TheVariants.{Multiply, MultiplyMasked, MultiplyVector, Transpose, RowSums, ColumnSums, Add, Times, Prune}
-use Rattle.cb_operations.specs.OperationAnswers.{shape_of, shapes_in}
+use Rattle.cb_operations.specs.OperationAnswers.{matrix_at, shape_of, shapes_in}
 use Rattle.cb_planner.specs.OperationPlans.{Computes, placed_operands}
 use Rattle.cb_engines.specs.declared.engines.Engine.{Engine}
 use Rattle.cb_engines.specs.declared.engines.Engine.TheVariants.{Threads, Traced, InOrder}
-use Rattle.cb_engines.specs.Orders.{IsSteppedRun, IsOrderedRun}
+use Rattle.cb_engines.specs.declared.engine_faults.EngineFault.{EngineFault}
+use Rattle.cb_engines.specs.declared.engine_faults.EngineFault.TheVariants.{Memory, NotStarted, Gone, TraceTorn, Lost}
+use Rattle.cb_engines.specs.Orders.{IsSteppedLoss, IsSteppedRun, IsOrderedLoss, IsOrderedRun}
+use Rattle.cb_engines.proofs.SteppedRuns.{of_its_order}
 use Rattle.cb_vectors.specs.SpreadVectors.{MultipliesVectors}
-use Rattle.cb_vectors.specs.VectorOrders.{IsSteppedProduct, IsOrderedProduct}
-use Rattle.cb_run.specs.Outcomes.{IsSteppedFor, IsOrderedFor}
+use Rattle.cb_vectors.specs.VectorOrders.{IsSteppedProduct, IsSteppedProductLoss, IsOrderedProduct}
+use Rattle.cb_run.specs.declared.operation_faults.OperationFault.TheVariants.{Failed}
+use Rattle.cb_run.specs.Outcomes.{ByPlan, IsSteppedFor, IsOrderedFor, IsSteppedLossFor, IsLossFor}
+
+-- what holds of a plan that computes another operation than a product by a vector
+by_plan : (operation : Operation) → operation ≢ MultiplyVector → (q : ℕ) (shapes : List Extent) (of_vectors : CheckedView → Type 0) (of_others : Planned → Type 0) (planned : Planned) → Computes operation q shapes planned → of_others planned → ByPlan operation q shapes of_vectors of_others
+by_plan Multiply other q shapes of_vectors of_others planned computes holds = (planned, computes, holds)
+by_plan MultiplyMasked other q shapes of_vectors of_others planned computes holds = (planned, computes, holds)
+by_plan MultiplyVector other q shapes of_vectors of_others planned computes holds = absurd (other refl)
+by_plan Transpose other q shapes of_vectors of_others planned computes holds = (planned, computes, holds)
+by_plan RowSums other q shapes of_vectors of_others planned computes holds = (planned, computes, holds)
+by_plan ColumnSums other q shapes of_vectors of_others planned computes holds = (planned, computes, holds)
+by_plan Add other q shapes of_vectors of_others planned computes holds = (planned, computes, holds)
+by_plan Times other q shapes of_vectors of_others planned computes holds = (planned, computes, holds)
+by_plan (Prune test) other q shapes of_vectors of_others planned computes holds = (planned, computes, holds)
 
 module _ (s : Arithmetic) (q : ℕ) (ms : List Sparse) where
-  stepped_for : (operation : Operation) → operation ≢ MultiplyVector → (planned : Planned) → Computes operation q (shapes_in ms) planned → (letters : ℕ) (order : List Event) (answer : Distributed) (refusals : List ℕ) →
-      IsSteppedRun s q planned (placed_operands ms) (shape_of operation (shapes_in ms)) letters order answer refusals → IsSteppedFor s operation q ms letters order answer refusals
-  stepped_for Multiply other planned computes letters order answer refusals run = (planned, computes, run)
-  stepped_for MultiplyMasked other planned computes letters order answer refusals run = (planned, computes, run)
-  stepped_for MultiplyVector other planned computes letters order answer refusals run = absurd (other refl)
-  stepped_for Transpose other planned computes letters order answer refusals run = (planned, computes, run)
-  stepped_for RowSums other planned computes letters order answer refusals run = (planned, computes, run)
-  stepped_for ColumnSums other planned computes letters order answer refusals run = (planned, computes, run)
-  stepped_for Add other planned computes letters order answer refusals run = (planned, computes, run)
-  stepped_for Times other planned computes letters order answer refusals run = (planned, computes, run)
-  stepped_for (Prune test) other planned computes letters order answer refusals run = (planned, computes, run)
-
   -- of these operands in these slots, and with this shape
   stepped_there : (operation : Operation) → operation ≢ MultiplyVector → (planned : Planned) → Computes operation q (shapes_in ms) planned →
       (shape : Extent) → shape ≡ shape_of operation (shapes_in ms) → (there : List (ℕ × Sparse)) → there ≡ placed_operands ms → (letters : ℕ) (order : List Event) (answer : Distributed) (refusals : List ℕ) →
       IsSteppedRun s q planned there shape letters order answer refusals → IsSteppedFor s operation q ms letters order answer refusals
   stepped_there operation other planned computes shape shaped there placed letters order answer refusals run =
-      stepped_for operation other planned computes letters order answer refusals
+      by_plan operation other q (shapes_in ms) (λ plan. IsSteppedProduct s q plan (matrix_at ms 0) (matrix_at ms 1) answer.matrix letters order refusals)
+      (λ p. IsSteppedRun s q p (placed_operands ms) (shape_of operation (shapes_in ms)) letters order answer refusals) planned computes
       (subst (λ (d : Extent). IsSteppedRun s q planned (placed_operands ms) d letters order answer refusals) shaped
       (subst (λ (ps : List (ℕ × Sparse)). IsSteppedRun s q planned ps shape letters order answer refusals) placed run))
 
@@ -49,6 +54,25 @@ module _ (s : Arithmetic) (q : ℕ) (ms : List Sparse) where
       (run.0, stepped_there operation other planned computes shape shaped there placed letters run.0 answer refusals run.1)
   ordered_for operation other (InOrder letters order) planned computes shape shaped there placed answer refusals run =
       stepped_there operation other planned computes shape shaped there placed letters order.now answer refusals run
+
+  lost_there : (operation : Operation) → operation ≢ MultiplyVector → (planned : Planned) → Computes operation q (shapes_in ms) planned →
+      (there : List (ℕ × Sparse)) → there ≡ placed_operands ms → (letters : ℕ) (order : List Event) (r count : ℕ) →
+      IsSteppedLoss s q planned there letters order r count → IsSteppedLossFor s operation q ms letters order r count
+  lost_there operation other planned computes there placed letters order r count loss =
+      by_plan operation other q (shapes_in ms) (λ plan. IsSteppedProductLoss s q plan (matrix_at ms 0) (matrix_at ms 1) letters order r count)
+      (λ p. IsSteppedLoss s q p (placed_operands ms) letters order r count) planned computes
+      (subst (λ (ps : List (ℕ × Sparse)). IsSteppedLoss s q planned ps letters order r count) placed loss)
+
+  -- a loss by an operation's plan is one of the operation
+  pub lost_for : (operation : Operation) → operation ≢ MultiplyVector → (engine : Engine) (planned : Planned) → Computes operation q (shapes_in ms) planned →
+      (there : List (ℕ × Sparse)) → there ≡ placed_operands ms → (e : EngineFault) → IsOrderedLoss s engine q planned there e → IsLossFor s engine operation q ms (Failed e)
+  lost_for operation other engine planned computes there placed Memory loss = tt
+  lost_for operation other engine planned computes there placed (NotStarted r) loss = tt
+  lost_for operation other engine planned computes there placed (Gone r) loss = tt
+  lost_for operation other engine planned computes there placed TraceTorn loss = tt
+  lost_for operation other engine planned computes there placed (Lost r count) loss =
+      of_its_order engine (λ letters order. IsSteppedLoss s q planned there letters order r count) (λ letters order. IsSteppedLossFor s operation q ms letters order r count)
+      (λ letters order is. lost_there operation other planned computes there placed letters order r count is) loss
 
 -- so is one of a plan of products by vectors
 pub ordered_vector : (s : Arithmetic) (engine : Engine) (q : ℕ) (a x : Sparse) (plan : CheckedView) → MultipliesVectors q a.shape plan → (answer : Distributed) (y : Sparse) → answer.matrix ≡ y → (refusals : List ℕ) →

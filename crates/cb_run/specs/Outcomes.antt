@@ -13,13 +13,14 @@ use Rattle.cb_operations.specs.declared.operations.Operation.TheVariants.{Multip
 use Rattle.cb_operations.specs.OperationAnswers.{Agree, answer_of, extent_at, matrix_at, shape_of, shapes_in}
 use Rattle.cb_plan.specs.Plans.{CheckedView}
 use Rattle.cb_vectors.specs.SpreadVectors.{MultipliesVectors}
-use Rattle.cb_vectors.specs.VectorOrders.{IsSteppedProduct}
+use Rattle.cb_vectors.specs.VectorOrders.{IsSteppedProduct, IsSteppedProductLoss}
 use Rattle.cb_engines.specs.declared.engines.Engine.{Engine}
 use Rattle.cb_engines.specs.declared.engines.Engine.TheVariants.{Threads, Traced, InOrder}
 use Rattle.cb_engines.specs.declared.engines.Outcome.{Outcome}
+use Rattle.cb_engines.specs.declared.engine_faults.EngineFault.TheVariants.{Lost}
 use Rattle.cb_engines.specs.EngineRuns.{IsEngineFault, IsTraceOf, checked_of}
 use Rattle.cb_world.specs.declared.events.Event.{Event}
-use Rattle.cb_engines.specs.Orders.{IsSteppedRun}
+use Rattle.cb_engines.specs.Orders.{IsSteppedLoss, IsSteppedRun, OfItsOrder}
 use Rattle.cb_planner.specs.OperationPlans.{Computes, placed_operands}
 use Rattle.cb_run.specs.declared.operation_faults.OperationFault.{OperationFault}
 use Rattle.cb_run.specs.declared.operation_faults.OperationFault.TheVariants.{Refused, Failed}
@@ -45,14 +46,24 @@ IsTraceFor (Traced letters) operation q shapes t =
     (plan : CheckedView) × IsPlanFor operation q shapes plan × IsTraceOf (Traced letters) plan t
 IsTraceFor engine operation q shapes t = t ≡ None
 
+-- the first holds of a plan for products by vectors, or, of any other operation, the second of a plan that computes it
+abbrev pub ByPlan : Operation → ℕ → List Extent → (CheckedView → Type 0) → (Planned → Type 0) → Type 0
+ByPlan MultiplyVector q shapes of_vectors of_others = (plan : CheckedView) × MultipliesVectors q (extent_at shapes 0) plan × of_vectors plan
+ByPlan operation q shapes of_vectors of_others = (planned : Planned) × Computes operation q shapes planned × of_others planned
+
 -- what ranks that are stepped in an order make, by a plan for the operation
 abbrev pub IsSteppedFor : Arithmetic → Operation → ℕ → List Sparse → ℕ → List Event → Distributed → List ℕ → Type 0
-IsSteppedFor s MultiplyVector q ms letters order answer refusals =
-    (plan : CheckedView) × MultipliesVectors q (extent_at (shapes_in ms) 0) plan
-    × IsSteppedProduct s q plan (matrix_at ms 0) (matrix_at ms 1) answer.matrix letters order refusals
 IsSteppedFor s operation q ms letters order answer refusals =
-    (planned : Planned) × Computes operation q (shapes_in ms) planned
-    × IsSteppedRun s q planned (placed_operands ms) (shape_of operation (shapes_in ms)) letters order answer refusals
+    ByPlan operation q (shapes_in ms)
+    (λ plan. IsSteppedProduct s q plan (matrix_at ms 0) (matrix_at ms 1) answer.matrix letters order refusals)
+    (λ planned. IsSteppedRun s q planned (placed_operands ms) (shape_of operation (shapes_in ms)) letters order answer refusals)
+
+-- they lose a block of the answer, or of the matrix of a product by a vector: at rank r, which was refused memory so often
+abbrev pub IsSteppedLossFor : Arithmetic → Operation → ℕ → List Sparse → ℕ → List Event → ℕ → ℕ → Type 0
+IsSteppedLossFor s operation q ms letters order r count =
+    ByPlan operation q (shapes_in ms)
+    (λ plan. IsSteppedProductLoss s q plan (matrix_at ms 0) (matrix_at ms 1) letters order r count)
+    (λ planned. IsSteppedLoss s q planned (placed_operands ms) letters order r count)
 
 -- a product of two matrices of which one has no entries
 abbrev pub IsEmptyProduct : Operation → List Sparse → Type 0
@@ -82,3 +93,13 @@ abbrev pub IsRefusal : Engine → Operation → ℕ → List Sparse → Operatio
 IsRefusal engine operation q ms (Refused Shapes) = ¬ Agree operation (shapes_in ms)
 IsRefusal engine operation q ms (Refused _) = ⊥
 IsRefusal engine operation q ms (Failed fault) = Agree operation (shapes_in ms) × IsEngineFault engine (q * q) fault
+
+-- where a block is lost, ranks lose it that are stepped: in the engine's order, or, where they run in threads, in some order
+abbrev pub IsLossFor : Arithmetic → Engine → Operation → ℕ → List Sparse → OperationFault → Type 0
+IsLossFor s engine operation q ms (Failed (Lost r count)) = OfItsOrder engine (λ letters order. IsSteppedLossFor s operation q ms letters order r count)
+IsLossFor s engine operation q ms _ = Unit {0}
+
+-- ranks that are stepped make this whole matrix, with some counts of refusals: in the engine's order, or, where they run in
+-- threads, in some order
+abbrev pub IsMadeInOrder : Arithmetic → Engine → Operation → ℕ → List Sparse → Sparse → Type 0
+IsMadeInOrder s engine operation q ms answer = (refusals : List ℕ) × IsOrderedFor s engine operation q ms (record { side = q; matrix = answer }) refusals

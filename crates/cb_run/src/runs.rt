@@ -3,7 +3,7 @@ ghost use Rattle.std.specs.Prelude.{◌≡◌, ◌≢◌, length, map, All, IfOk
 ghost use Rattle.cb_matrix.specs.Sparse.{IsMatrix};
 ghost use Rattle.cb_operations.specs.Operands.{list_of};
 ghost use Rattle.cb_operations.specs.OperationAnswers.{operand_count_of, Agree, answer_of, shape_of, shapes_in};
-ghost use Rattle.cb_run.specs.Outcomes.{IsOutcome, IsRefusal, LieOver, wholes};
+ghost use Rattle.cb_run.specs.Outcomes.{IsLossFor, IsMadeInOrder, IsOutcome, IsRefusal, LieOver, wholes};
 
 use crate::OperationFault;
 use crate::scattered_operands::{empty_product, placed, plan_in, scattered, shape_in};
@@ -34,6 +34,7 @@ pub fn run<S: Semiring + Send + Sync, R: Threads + Wait + Sync>(
     requires sides { LieOver grid.now.side operands }
     ensures ok { IfOk result (IsOutcome S.arithmetic engine.entry operation grid.now.side (wholes (list_of operands))) }
     ensures fault { IfErr result (IsRefusal engine.entry operation grid.now.side (wholes (list_of operands))) }
+    ensures lost { IfErr result (IsLossFor S.arithmetic engine.entry operation grid.now.side (wholes (list_of operands))) }
 {
     let Some(shape) = shape_in(operation, &operands) else {
         return Err(OperationFault::Refused(Refusal::Shapes));
@@ -71,6 +72,7 @@ fn run_plan<S: Semiring + Send + Sync, R: Threads + Wait + Sync>(
     requires matrices { All (IsMatrix S.arithmetic) (wholes (list_of operands)) }
     ensures ok { IfOk result (IsOutcome S.arithmetic engine.entry operation grid.now.side (wholes (list_of operands))) }
     ensures fault { IfErr result (IsRefusal engine.entry operation grid.now.side (wholes (list_of operands))) }
+    ensures lost { IfErr result (IsLossFor S.arithmetic engine.entry operation grid.now.side (wholes (list_of operands))) }
 {
     let planned = plan_in(alloc, grid, operation, &operands)?;
     let operands = placed(alloc, operands)?;
@@ -92,7 +94,9 @@ pub fn run_matrices<S: Semiring + Send + Sync, R: Threads + Wait + Sync>(
     requires { operand_count_of operation ≡ length (list_of operands) }
     ensures ok { IfOk result (λ m. m ≡ answer_of operation S.arithmetic (map (λ m. m.now) (list_of operands.entry))) }
     ensures agree { IfOk result (λ m. Agree operation (shapes_in (map (λ m. m.now) (list_of operands.entry)))) }
+    ensures order { IfOk result (IsMadeInOrder S.arithmetic engine.entry operation grid.now.side (map (λ m. m.now) (list_of operands.entry))) }
     ensures fault { IfErr result (IsRefusal engine.entry operation grid.now.side (map (λ m. m.now) (list_of operands.entry))) }
+    ensures lost { IfErr result (IsLossFor S.arithmetic engine.entry operation grid.now.side (map (λ m. m.now) (list_of operands.entry))) }
 {
     let operands = scattered(alloc, grid, operation, operands)?;
     let outcome = run(rt, alloc, engine, grid, operation, operands)?;

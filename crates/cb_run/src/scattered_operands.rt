@@ -8,7 +8,7 @@ ghost use Rattle.cb_engines.specs.declared.engines.Engine.{Engine};
 ghost use Rattle.cb_operations.specs.declared.refusals.Refusal.TheVariants.{Shapes};
 ghost use Rattle.cb_planner.specs.OperationPlans.{Computes, placed_operands};
 ghost use Rattle.cb_run.specs.declared.operation_faults.OperationFault.TheVariants.{Refused};
-ghost use Rattle.cb_run.specs.Outcomes.{IsEmptyProduct, IsRefusal, LieOver, wholes};
+ghost use Rattle.cb_run.specs.Outcomes.{IsEmptyProduct, IsLossFor, IsRefusal, LieOver, wholes};
 
 use crate::OperationFault;
 use cb_layout::{DistributedMatrix, Grid};
@@ -132,6 +132,7 @@ pub fn scattered<S: Semiring>(
     ensures matrices { IfOk result (λ o. wholes (list_of o) ≡ map (λ m. m.now) (list_of operands.entry)) }
     ensures count { IfOk result (λ o. operand_count_of operation ≡ length (list_of o)) }
     ensures fault { IfErr result (λ e. (engine : Engine) → IsRefusal engine operation grid.now.side (map (λ m. m.now) (list_of operands.entry)) e) }
+    ensures lost { IfErr result (λ e. (engine : Engine) → IsLossFor S.arithmetic engine operation grid.now.side (map (λ m. m.now) (list_of operands.entry)) e) }
 {
     match operands {
         Operands::One(matrix) => {

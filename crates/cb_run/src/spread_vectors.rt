@@ -3,7 +3,8 @@ ghost use Rattle.std.specs.Prelude.{◌≡◌, ◌*◌, length, IfOk, IfErr};
 ghost use Rattle.cb_operations.specs.Operands.{list_of};
 ghost use Rattle.cb_operations.specs.OperationAnswers.{Agree, shapes_in};
 ghost use Rattle.cb_engines.specs.EngineRuns.{IsEngineFault};
-ghost use Rattle.cb_run.specs.Outcomes.{IsOutcome, LieOver, wholes};
+ghost use Rattle.cb_run.specs.Outcomes.{IsLossFor, IsOutcome, LieOver, wholes};
+ghost use Rattle.cb_run.specs.declared.operation_faults.OperationFault.TheVariants.{Failed};
 
 use cb_engines::{Engine, EngineFault, Outcome};
 use cb_layout::{DistributedMatrix, Grid};
@@ -28,6 +29,7 @@ pub fn run_vector<S: Semiring + Send + Sync, R: Threads + Wait + Sync>(
     requires agree { Agree Operation.MultiplyVector (shapes_in (wholes (list_of operands))) }
     ensures ok { IfOk result (IsOutcome S.arithmetic engine.entry Operation.MultiplyVector grid.now.side (wholes (list_of operands))) }
     ensures fault { IfErr result (IsEngineFault engine.entry (grid.now.side * grid.now.side)) }
+    ensures lost { IfErr result (λ e. IsLossFor S.arithmetic engine.entry Operation.MultiplyVector grid.now.side (wholes (list_of operands)) (Failed e)) }
 {
     let Operands::Two(matrix, vector) = operands else {
         unreachable!()

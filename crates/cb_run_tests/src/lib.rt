@@ -7,6 +7,8 @@ mod examples;
 #[cfg(test)]
 mod factors;
 #[cfg(test)]
+mod left_alone;
+#[cfg(test)]
 mod long_walks;
 #[cfg(test)]
 mod numbers;

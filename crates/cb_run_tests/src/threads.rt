@@ -1,5 +1,5 @@
 //! That ranks run in threads of their own, as the process sees it from outside.
-use crate::examples::{PRODUCT, has, operands};
+use crate::examples::{PRODUCT, has, matrix, operands};
 use crate::walks::{By, PATH, Search, finds};
 use cb_engines::Engine;
 use cb_layout::Grid;
@@ -25,6 +25,7 @@ fn threads_now<R: Files + Alloc>(rt: &R) -> Option<u32> {
 #[derive(Clone, Copy)]
 enum Job {
     Product,
+    Vector,
     Walk,
 }
 
@@ -42,6 +43,21 @@ fn does<R: Threads + Wait + Sync>(
             let operands = Operands::Two(&left, &right);
             let product = run_matrices(rt, alloc, engine, &grid, Operation::Multiply, operands);
             Some(product.is_ok_and(|product| has(&product, &PRODUCT)))
+        }
+        Job::Vector => {
+            let grid = Grid::new(2).ok()?;
+            let (left, _right) = operands::<PlusTimes>(alloc)?;
+            let ones = matrix(alloc, 2, 1, &[(0, 0, 1), (1, 0, 1)])?;
+            let operands = Operands::Two(&left, &ones);
+            let product = run_matrices(
+                rt,
+                alloc,
+                engine,
+                &grid,
+                Operation::MultiplyVector,
+                operands,
+            );
+            Some(product.is_ok_and(|product| has(&product, &[(0, 0, 3), (1, 0, 3)])))
         }
         Job::Walk => { Some(finds(rt, alloc, By::Ranks(engine, 2), Search::Levels, &PATH)) }
     }
@@ -102,6 +118,7 @@ fn has_a_thread_for_each<R: Threads + Wait + Files + Alloc + Sync>(
 fn ranks_have_threads_of_their_own(rt: HostRuntime) -> Result<(), Fail> {
     let rows = [
         (Engine::Threads(2), Job::Product, true),
+        (Engine::Threads(2), Job::Vector, true),
         (Engine::Threads(2), Job::Walk, true),
         (Engine::Traced(2), Job::Product, true),
         (Engine::InOrder(2, &[]), Job::Product, false),

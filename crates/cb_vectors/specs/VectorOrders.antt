@@ -1,13 +1,15 @@
 -- Products by vectors, made by ranks that are stepped in an order.
-use Rattle.std.specs.Prelude.{ℕ, List}
+use Rattle.std.specs.Prelude.{ℕ, ◌⊎◌, List}
 use Rattle.cb_semirings.specs.Arithmetic.{Arithmetic}
 use Rattle.cb_matrix.specs.Sparse.{Sparse}
 use Rattle.cb_plan.specs.declared.stores.Slot.{Slot}
 use Rattle.cb_plan.specs.Plans.{CheckedView}
 use Rattle.cb_world.specs.declared.events.Event.{Event}
 use Rattle.cb_engines.specs.declared.engines.Engine.{Engine}
-use Rattle.cb_engines.specs.declared.engines.Engine.TheVariants.{Threads, Traced, InOrder}
-use Rattle.cb_engines.specs.Orders.{IsLeftInOrder}
+use Rattle.cb_engines.specs.declared.engine_faults.EngineFault.{EngineFault}
+use Rattle.cb_engines.specs.declared.engine_faults.EngineFault.TheVariants.{Memory, Lost}
+use Rattle.cb_engines.specs.EngineRuns.{IsLostBlock}
+use Rattle.cb_engines.specs.Orders.{IsLeftInOrder, OfItsOrder}
 use Rattle.cb_vectors.specs.SpreadVectors.{HasSpread, HasProduct}
 
 -- ranks of a plan began with the parts of a and the pieces of x, were stepped in an order, and have the pieces of y at the end
@@ -20,6 +22,30 @@ pub record IsSteppedProduct (s : Arithmetic) (q : ℕ) (plan : CheckedView) (a x
 
 -- an engine answers what ranks make that are stepped: in its order, or, where its ranks run in threads, in some order
 abbrev pub IsOrderedProduct : Arithmetic → Engine → ℕ → CheckedView → Sparse → Sparse → Sparse → List ℕ → Type 0
-IsOrderedProduct s (InOrder letters order) q plan a x y refusals = IsSteppedProduct s q plan a x y letters order.now refusals
-IsOrderedProduct s (Threads letters) q plan a x y refusals = (order : List Event) × IsSteppedProduct s q plan a x y letters order refusals
-IsOrderedProduct s (Traced letters) q plan a x y refusals = (order : List Event) × IsSteppedProduct s q plan a x y letters order refusals
+IsOrderedProduct s engine q plan a x y refusals = OfItsOrder engine (λ letters order. IsSteppedProduct s q plan a x y letters order refusals)
+
+-- ranks left a part of the matrix lost, in slot 0, or a piece of the product, in slot 2: at rank r, which was refused memory
+-- so often
+abbrev pub LosePart : List (List (Slot Sparse)) → List ℕ → ℕ → ℕ → Type 0
+LosePart stores refusals r count = IsLostBlock 0 stores refusals r count ⊎ IsLostBlock 2 stores refusals r count
+
+-- why the parts and the pieces that ranks left can't be gathered: want of memory, or one of them that is lost
+abbrev pub IsProductLoss : List (List (Slot Sparse)) → List ℕ → EngineFault → Type 0
+IsProductLoss stores refusals Memory = Unit {0}
+IsProductLoss stores refusals (Lost r count) = LosePart stores refusals r count
+IsProductLoss stores refusals _ = ⊥
+
+-- ranks of a plan began with the parts of a and the pieces of x, were stepped in an order, and lost a part of a or a piece of
+-- the product
+pub record IsSteppedProductLoss (s : Arithmetic) (q : ℕ) (plan : CheckedView) (a x : Sparse) (letters : ℕ) (order : List Event) (r count : ℕ) : Type 0 where
+  pub first : List (List (Slot Sparse))
+  pub has : HasSpread s q a x first
+  pub stores : List (List (Slot Sparse))
+  pub refusals : List ℕ
+  pub left : IsLeftInOrder s plan first stores refusals letters order
+  pub lost : LosePart stores refusals r count
+
+-- where one is lost, ranks lose it that are stepped: in the engine's order, or, where they run in threads, in some order
+abbrev pub IsOrderedProductLoss : Arithmetic → Engine → ℕ → CheckedView → Sparse → Sparse → EngineFault → Type 0
+IsOrderedProductLoss s engine q plan a x (Lost r count) = OfItsOrder engine (λ letters order. IsSteppedProductLoss s q plan a x letters order r count)
+IsOrderedProductLoss s engine q plan a x _ = Unit {0}

@@ -8,9 +8,9 @@ ghost use Rattle.std.specs.Prelude.{◌≡◌, ◌*◌, IfOk, IfErr};
 ghost use Rattle.cb_matrix.specs.Sparse.{Sparse};
 ghost use Rattle.cb_matrix.specs.Values.{product};
 ghost use Rattle.cb_grid_plans.specs.VectorPlans.{column};
-ghost use Rattle.cb_engines.specs.EngineRuns.{IsEngineFault, IsLossFault, IsTraceOf, LostWhereRefused};
+ghost use Rattle.cb_engines.specs.EngineRuns.{IsEngineFault, IsTraceOf, LostWhereRefused};
 ghost use Rattle.cb_vectors.specs.SpreadVectors.{HasProduct, HasSpread, MultipliesVectors};
-ghost use Rattle.cb_vectors.specs.VectorOrders.{IsOrderedProduct};
+ghost use Rattle.cb_vectors.specs.VectorOrders.{IsOrderedProduct, IsOrderedProductLoss, IsProductLoss};
 
 use cb_engines::{Engine, EngineFault, Left};
 use cb_grid_plans::{LEFT, RESULT, RIGHT, grid_vector};
@@ -67,6 +67,7 @@ pub fn multiply_vector<S: Semiring + Send + Sync, R: Threads + Wait + Sync>(
     ensures order { IfOk result (λ m. IsOrderedProduct S.arithmetic engine.entry grid.now.side plan.now matrix.matrix vector.now m.product m.refusals.items) }
     ensures trace { IfOk result (λ m. IsTraceOf engine.entry plan.now m.trace) }
     ensures fault { IfErr result (IsEngineFault engine.entry (grid.now.side * grid.now.side)) }
+    ensures lost { IfErr result (IsOrderedProductLoss S.arithmetic engine.entry grid.now.side plan.now matrix.matrix vector.now) }
 {
     let (a, x) = (matrix.shape(), vector.shape());
     let stores = spread(alloc, grid, matrix, vector)?;
@@ -99,7 +100,7 @@ fn collect<S: Semiring>(
     requires left { (a : Sparse) × (y : Sparse) × (a.shape ≡ shape) × (y.shape ≡ made) × HasProduct S.arithmetic grid.now.side a y stores.items }
     ensures product { IfOk result (λ p. (a y : Sparse) → a.shape ≡ shape → y.shape ≡ made → HasProduct S.arithmetic grid.now.side a y stores.items → p.1 ≡ y) }
     ensures same { IfOk result (λ p. (a y : Sparse) → a.shape ≡ shape → y.shape ≡ made → HasProduct S.arithmetic grid.now.side a y stores.items → p.0 ≡ record { side = grid.now.side; matrix = a }) }
-    ensures fault { IfErr result (IsLossFault refusals.now) }
+    ensures fault { IfErr result (IsProductLoss stores.items refusals.now) }
 {
     let mut stores = stores;
     let blocks = match drain(alloc, &mut stores, LEFT) {

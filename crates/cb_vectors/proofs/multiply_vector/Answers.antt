@@ -61,6 +61,6 @@ returns-clause-order g c =
     (left_means s c.args.plan.now c.in_ok-stores.stores.items c.in_ok-stores-2.field-0.stores.items c.in_ok-stores-2.field-0.refusals.items c.in_ok-stores-2.ensures.left) in
     let made : product_shape a c.args.vector.now ≡ c.with_columns_of.result = sym (c.with_columns_of.ensures ∙ (λ k. record { rows = (c.shape-a.ensures.shape k).rows; cols = (c.shape-x.ensures.shape k).cols })) in
     let made_is = c.in_ok-matrix.ensures.product a (product s a c.args.vector.now) (sym c.shape-a.ensures.shape) made has in
-    ordered_product s c.args.engine c.args.grid.now.side c.args.plan.now a c.args.vector.now c.in_ok-matrix.product c.in_ok-stores.stores.items c.in_ok-stores.ensures
-    c.in_ok-stores-2.field-0.stores.items c.in_ok-stores-2.field-0.refusals.items c.in_ok-stores-2.ensures.order
+    ordered_product s c.args.grid.now.side c.args.plan.now a c.args.vector.now c.in_ok-stores.stores.items c.in_ok-stores.ensures
+    c.in_ok-stores-2.field-0.stores.items c.in_ok-stores-2.field-0.refusals.items c.args.engine c.in_ok-matrix.product c.in_ok-stores-2.ensures.order
     (subst (λ (y : Sparse). HasProduct s c.args.grid.now.side a y c.in_ok-stores-2.field-0.stores.items) (sym made_is) has)

@@ -1,10 +1,11 @@
+use Rattle.std.proofs.Common.{rules}
 use Rattle.std.specs.Prelude.{map}
 use Rattle.cb_operations.specs.Operands.{list_of}
 use Rattle.cb_operations.specs.OperationAnswers.{answer_of, shapes_in}
 use Rattle.cb_placement.proofs.LaidOutOperands.{whole_matrix}
 use Rattle.cb_run.specs.Outcomes.{wholes}
 use Rattle.cb_run.proofs.Operations.{made_there, trace_for}
-use Rattle.cb_run.proofs.Orders.{ordered_for}
+use Rattle.cb_run.proofs.Orders.{lost_for, ordered_for}
 use Rattle.cb_run.proofs.runs.run_plan.Goals as goal
 
 pub compute-requires-clause-sides : goal.compute-requires-clause-sides
@@ -34,3 +35,9 @@ returns-clause-ok g c =
           c.in_ok-compute.field-0.answer c.in_ok-compute.field-0.refusals.items c.in_ok-compute.ensures.order;
       trace = trace_for c.args.operation c.requires.other c.args.grid.now.side c.args.engine (shapes_in ms) c.in_ok-planned.planned c.in_ok-planned.ensures c.in_ok-compute.field-0.trace c.in_ok-compute.ensures.trace;
     }
+
+pub returns-in_err-compute-clause-lost : goal.returns-in_err-compute-clause-lost
+returns-in_err-compute-clause-lost g c =
+    let lost = lost_for g.S.Semiring.arithmetic c.args.grid.now.side (wholes (list_of c.args.operands)) c.args.operation c.requires.other c.args.engine c.in_ok-planned.planned c.in_ok-planned.ensures
+    (map whole_matrix c.in_ok-operands.operands.items) c.in_ok-operands.ensures.slots c.in_err-compute.field-0.0 c.in_err-compute.ensures.lost in
+    search (rules, lost)
