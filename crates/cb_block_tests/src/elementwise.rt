@@ -1,6 +1,6 @@
 //! Worked examples, with ample memory and with each allocation refused in turn.
 use crate::samples::{entries, has_entries, is_right_or_refused};
-use cb_elementwise::{add, mask, prune, times};
+use cb_elementwise::{add, exclude, mask, prune, times};
 use cb_matrix::{Entry, LIMIT, Test};
 use cb_samples::{SampleFault, block};
 use cb_semirings::{MinPlus, PlusTimes, Semiring};
@@ -17,6 +17,7 @@ enum Join {
     Add,
     Times,
     Mask,
+    Exclude,
 }
 
 /// Two blocks of these sides (rows, columns), and the entries that they make together.
@@ -37,6 +38,7 @@ fn is_joined<S: Semiring>(alloc: Global, case: &Case) -> Result<bool, SampleFaul
         Join::Add => add(alloc, &a, &b),
         Join::Times => times(alloc, &a, &b),
         Join::Mask => mask(alloc, &a, &b),
+        Join::Exclude => exclude(alloc, &a, &b),
     };
     Ok(has_entries(&made?, case.wanted))
 }
@@ -67,7 +69,7 @@ const FAR: &'static [Entry] = entries![(LAST, 0, 2), (LAST, LAST, 3)];
 
 const FARTHER: &'static [Entry] = entries![(0, LAST, 4), (LAST, LAST, 5)];
 
-const CASES: [Case; 13] = [
+const CASES: [Case; 17] = [
     Case {
         join: Join::Add,
         sides: (2, 2),
@@ -102,6 +104,20 @@ const CASES: [Case; 13] = [
         left: GIVEN,
         right: &[],
         wanted: &[],
+    },
+    Case {
+        join: Join::Exclude,
+        sides: (2, 2),
+        left: FIRST,
+        right: SECOND,
+        wanted: entries![(0, 0, 1), (1, 1, 3)],
+    },
+    Case {
+        join: Join::Exclude,
+        sides: (2, 2),
+        left: GIVEN,
+        right: &[],
+        wanted: GIVEN,
     },
     // what comes to zero isn't stored
     Case {
@@ -140,6 +156,13 @@ const CASES: [Case; 13] = [
         right: FARTHER,
         wanted: entries![(LAST, LAST, 3)],
     },
+    Case {
+        join: Join::Exclude,
+        sides: (LIMIT, LIMIT),
+        left: FAR,
+        right: FARTHER,
+        wanted: entries![(LAST, 0, 2)],
+    },
     // no entries
     Case {
         join: Join::Add,
@@ -162,6 +185,13 @@ const CASES: [Case; 13] = [
         right: &[],
         wanted: &[],
     },
+    Case {
+        join: Join::Exclude,
+        sides: (1, 0),
+        left: &[],
+        right: &[],
+        wanted: &[],
+    },
 ];
 
 #[test]
@@ -173,7 +203,7 @@ fn sums_products_and_masks(rt: HostRuntime) {
 }
 
 /// Distances stop at infinity; and a mask's entry counts by being stored: the 0 of min-plus is its one.
-const OF_MIN_PLUS: [Case; 3] = [
+const OF_MIN_PLUS: [Case; 4] = [
     Case {
         join: Join::Add,
         sides: (1, 1),
@@ -194,6 +224,13 @@ const OF_MIN_PLUS: [Case; 3] = [
         left: entries![(0, 0, 6), (0, 2, 7)],
         right: entries![(0, 1, 0), (0, 2, 0)],
         wanted: entries![(0, 2, 7)],
+    },
+    Case {
+        join: Join::Exclude,
+        sides: (1, 3),
+        left: entries![(0, 0, 6), (0, 2, 7)],
+        right: entries![(0, 1, 0), (0, 2, 0)],
+        wanted: entries![(0, 0, 6)],
     },
 ];
 

@@ -1,4 +1,4 @@
-//! Entries selected by their place, values replaced, diagonals, and rows and columns by their numbers: worked rows,
+//! Entries selected by their place, values replaced, diagonals, rows and columns by their numbers, and parts: worked rows,
 //! random blocks against a slow reference, and each allocation refused in turn.
 ghost use Rattle.std.specs.Prelude.{◌↔◌, ◌<◌, All, IsTrue};
 
@@ -7,7 +7,8 @@ use cb_dcsc::{Block, BlockFault};
 use cb_matrix::{Entry, LIMIT};
 use cb_samples::{SampleFault, block, entry};
 use cb_selections::{
-    Diagonal, Function, Region, apply, diagonal, diagonal_matrix, extract, kronecker, select,
+    Diagonal, Function, Region, apply, assign, diagonal, diagonal_matrix, extract, kronecker,
+    select,
 };
 use cb_semirings::{MinPlus, OrAnd, PlusTimes, Semiring};
 use std::alloc::{AllocError, Global};
@@ -28,6 +29,8 @@ enum Ask<'a> {
     Extract(&'a [u32], &'a [u32]),
     /// The Kronecker product with a block of these sides.
     Kronecker((u32, u32), &'a [Entry]),
+    /// A block of these sides in place of the part at the corner, which is given first.
+    Assign((u32, u32), (u32, u32), &'a [Entry]),
 }
 
 /// What is made, the sides of the block (rows, columns) and its entries, and the sides and the entries of what is made.
@@ -64,6 +67,7 @@ fn made_of<S: Semiring>(
         }
         Ask::Extract(rows, cols) => extracted(alloc, whole, rows, cols),
         Ask::Kronecker(sides, given) => paired(alloc, whole, *sides, given),
+        Ask::Assign(corner, sides, given) => assigned(alloc, whole, *corner, *sides, given),
     }
 }
 
@@ -100,6 +104,24 @@ fn paired<S: Semiring>(
     }
     let other = block::<S>(alloc, sides.0, sides.1, given)?;
     Ok(kronecker(alloc, whole, &other)?)
+}
+
+/// A block with one of these sides in place of a part.
+fn assigned<S: Semiring>(
+    alloc: Global,
+    whole: &Block<S>,
+    corner: (u32, u32),
+    sides: (u32, u32),
+    given: &[Entry],
+) -> Result<Block<S>, SampleFault> {
+    let shape = whole.shape();
+    let down = u64::from(corner.0) + u64::from(sides.0);
+    let right = u64::from(corner.1) + u64::from(sides.1);
+    if down > u64::from(shape.rows()) || right > u64::from(shape.cols()) {
+        return Err(SampleFault::Shape);
+    }
+    let part = block::<S>(alloc, sides.0, sides.1, given)?;
+    Ok(assign(alloc, whole, corner, &part)?)
 }
 
 /// Whether what is made is what the case wants.
@@ -379,6 +401,62 @@ const KRONECKER: [Case<'static>; 4] = [
     ),
 ];
 
+/// A part inside, whose entries go and come; one at the end; the whole; none; and the corner of the largest sides.
+const ASSIGNED: [Case<'static>; 5] = [
+    (
+        Ask::Assign((1, 1), (2, 3), SECOND),
+        (4, 5),
+        GIVEN,
+        (4, 5),
+        entries![
+            (0, 0, 1),
+            (2, 0, 2),
+            (1, 1, 1),
+            (2, 1, 2),
+            (3, 1, 4),
+            (0, 2, 5),
+            (2, 3, 1 << 63),
+            (3, 3, 7),
+            (0, 4, 8)
+        ],
+    ),
+    (
+        Ask::Assign((2, 3), (2, 2), CORNER),
+        (4, 5),
+        GIVEN,
+        (4, 5),
+        entries![
+            (0, 0, 1),
+            (2, 0, 2),
+            (1, 1, 3),
+            (3, 1, 4),
+            (0, 2, 5),
+            (0, 4, 8),
+            (3, 4, 5)
+        ],
+    ),
+    (Ask::Assign((0, 0), (4, 5), &[]), (4, 5), GIVEN, (4, 5), &[]),
+    (
+        Ask::Assign((4, 5), (0, 0), &[]),
+        (4, 5),
+        GIVEN,
+        (4, 5),
+        GIVEN,
+    ),
+    (
+        Ask::Assign((LAST, LAST), (1, 1), entries![(0, 0, 9)]),
+        (LIMIT, LIMIT),
+        entries![(LAST, 0, 1), (LAST, LAST, TOP)],
+        (LIMIT, LIMIT),
+        entries![(LAST, 0, 1), (LAST, LAST, 9)],
+    ),
+];
+
+#[test]
+fn parts_are_assigned(rt: HostRuntime) {
+    assert!(rt; all_right::<PlusTimes>(rt.alloc(), &ASSIGNED));
+}
+
 #[test]
 fn entries_are_selected_by_their_place(rt: HostRuntime) {
     assert!(rt; all_right::<PlusTimes>(rt.alloc(), &SELECTED));
@@ -496,6 +574,12 @@ fn wanted(given: &[Entry], ask: &Ask<'_>, row: u32, column: u32) -> u64 {
                 column % width,
             ))
         }
+        Ask::Assign(corner, sides, part) => {
+            match (row.checked_sub(corner.0), column.checked_sub(corner.1)) {
+                (Some(i), Some(j)) if i < sides.0 && j < sides.1 => value_among(part, i, j),
+                _ => value_among(given, row, column),
+            }
+        }
     }
 }
 
@@ -551,6 +635,7 @@ fn random_blocks_agree_with_a_slow_reference(rt: HostRuntime) {
         Ask::Diagonal,
         Ask::Extract(&[6, 0, 0, 3, 6], &[8, 1, 1, 0]),
         Ask::Kronecker((3, 2), &second),
+        Ask::Assign((3, 5), (3, 2), &second),
     ];
     assert!(rt; all_agree(rt.alloc(), (7, 9), &asks));
     assert!(rt; all_agree(rt.alloc(), (9, 1), &[Ask::DiagonalMatrix]));
@@ -602,7 +687,7 @@ const SMALL: &[Entry] = entries![(0, 0, 4), (1, 1, 0)];
 const SMALL_COLUMN: &[Entry] = entries![(0, 0, 4), (1, 0, 0)];
 
 /// Each call, where little is made.
-const REFUSED: [Case<'static>; 6] = [
+const REFUSED: [Case<'static>; 7] = [
     (
         Ask::Select(Region::Lower(MAIN)),
         (2, 2),
@@ -616,6 +701,13 @@ const REFUSED: [Case<'static>; 6] = [
     (Ask::Extract(&[0, 1], &[0, 1]), (2, 2), SMALL, (2, 2), SMALL),
     (
         Ask::Kronecker((1, 1), entries![(0, 0, 0)]),
+        (2, 2),
+        SMALL,
+        (2, 2),
+        SMALL,
+    ),
+    (
+        Ask::Assign((0, 0), (2, 2), SMALL),
         (2, 2),
         SMALL,
         (2, 2),

@@ -9,10 +9,10 @@ use std::test::Fail;
 const LAST: u32 = LIMIT - 1;
 
 /// How many vertices a graph has, its edges, and the least vertex of the component of each vertex that has an edge: no
-/// vertex; no edges; a loop alone; one edge, in either direction and in both; two components that lie between each other; a
-/// chain whose least vertex is in its middle; two stars that an edge between their ends joins; and of 2,147,483,647 vertices
-/// three that have edges.
-const COMPONENTS: [(u32, &[(u32, u32)], &[(u32, u64)]); 10] = [
+/// vertex; no edges; a loop alone; one edge, in either direction and in both; two components that lie between each
+/// other; a chain whose least vertex is in its middle; a chain of which all entries but one have one in the other
+/// direction; two stars that an edge between their ends joins; and of 2,147,483,647 vertices three that have edges.
+const COMPONENTS: [(u32, &[(u32, u32)], &[(u32, u64)]); 11] = [
     (0, &[], &[]),
     (3, &[], &[]),
     (3, &[(1, 1)], &[(1, 1)]),
@@ -25,6 +25,7 @@ const COMPONENTS: [(u32, &[(u32, u32)], &[(u32, u64)]); 10] = [
         &[(5, 1), (4, 3), (1, 4)],
         &[(1, 1), (3, 1), (4, 1), (5, 1)],
     ),
+    (3, &[(1, 0), (0, 1), (2, 1)], &[(0, 0), (1, 0), (2, 0)]),
     (
         7,
         &[(6, 2), (1, 3), (6, 4), (1, 5), (4, 5)],

@@ -1,5 +1,5 @@
 //! What the calls on graphs answer, at graphs small enough to follow by eye: parents in a breadth-first search,
-//! connected components, and triangles.
+//! levels and distances from several sources, connected components, and triangles.
 //!
 //! The tests named for refused memory accept the right answer or the error for want of memory; the others need ample
 //! memory.
@@ -11,5 +11,7 @@ mod components;
 mod graphs;
 #[cfg(test)]
 mod parents;
+#[cfg(test)]
+mod several_sources;
 #[cfg(test)]
 mod triangles;

@@ -8,8 +8,9 @@ use std::test::Fail;
 
 /// How many vertices a graph has, its edges, and how many triangles: no vertex; no edges; loops alone; two edges; a cycle of
 /// three in one direction, and with all entries in both and loops; a square, and a square with one diagonal; all six edges of
-/// four vertices; two triangles at one vertex; a star; and of 2,147,483,647 vertices three that have edges.
-const COUNTS: [(u32, &[(u32, u32)], u64); 12] = [
+/// four vertices; two triangles at one vertex; a star; a triangle of which all entries but one have one in the other
+/// direction; and of 2,147,483,647 vertices three that have edges.
+const COUNTS: [(u32, &[(u32, u32)], u64); 13] = [
     (0, &[], 0),
     (3, &[], 0),
     (3, &[(0, 0), (1, 1), (2, 2)], 0),
@@ -21,6 +22,7 @@ const COUNTS: [(u32, &[(u32, u32)], u64); 12] = [
     (4, &[(0, 1), (0, 2), (1, 2), (0, 3), (1, 3), (2, 3)], 4),
     (5, &[(1, 0), (2, 0), (2, 1), (3, 2), (4, 2), (3, 4)], 2),
     (5, &[(0, 2), (1, 2), (3, 2), (4, 2)], 0),
+    (3, &[(1, 0), (2, 0), (0, 1), (2, 1), (0, 2)], 1),
     (LIMIT, &[(LAST, 5), (5, 9), (9, LAST)], 1),
 ];
 

@@ -1,6 +1,8 @@
-//! Worked examples of mailboxes, of lanes between threads and of traces, run through their public calls alone.
+//! Worked examples of mailboxes, of lanes between threads, of traces and of crews, run through their public calls alone.
 #![tactic(auto)]
 
+#[cfg(test)]
+mod crew;
 #[cfg(test)]
 mod lanes;
 #[cfg(test)]

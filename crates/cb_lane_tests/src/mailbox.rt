@@ -1,5 +1,5 @@
 //! The worked examples of a mailbox, by their answers.
-ghost use Rattle.std.specs.Prelude.{◌≡◌, ◌<◌, All, length, false};
+ghost use Rattle.std.specs.Prelude.{◌≡◌, ◌<◌, All, IfOk, IfSome, false};
 ghost use Rattle.cb_mailbox.specs.Inbox.{is_stranger};
 ghost use Rattle.cb_mailbox.specs.Run.{IsPostable};
 
@@ -32,27 +32,41 @@ fn refused(refusal: PostRefusal, sheet: u64) -> Answer<u64> {
     Answer::Refused(refusal, Some(Body::Sheet(sheet)))
 }
 
+/// Whether a mailbox answers so to these calls.
+fn is_answered(
+    alloc: Global,
+    mailbox: &mut Mailbox<u64>,
+    calls: Vec<Call<u64>>,
+    expected: &[Answer<u64>],
+) -> bool
+    requires { All IsPostable calls.items }
+{
+    match mailbox.run(alloc, calls) {
+        Ok(answers) => answers.as_slice() == expected,
+        Err(_) => false,
+    }
+}
+
 /// Whether rank `me` of `ranks`, with queues of two places, answers so to these calls.
 fn answers_so(
     alloc: Global,
     me: u16,
     ranks: u16,
     calls: Vec<Call<u64>>,
-    expected: Vec<Answer<u64>>,
+    expected: &[Answer<u64>],
 ) -> Result<bool, AllocError>
     requires me { me < ranks }
     requires postable { All IsPostable calls.items }
 {
     let mut mailbox = Mailbox::open(alloc, me, ranks, Capacity::nearest(2))?;
-    match mailbox.run(alloc, calls) {
-        Ok(answers) => Ok(answers == expected),
-        Err((_calls, refused)) => Err(refused),
-    }
+    Ok(is_answered(alloc, &mut mailbox, calls, expected))
 }
 
-#[test]
-fn one_sender_fills_its_queue_and_closes(rt: HostRuntime) -> Result<(), Fail> {
-    let calls = vec![in rt.alloc();
+/// Calls of one sender, that fill its queue and close it.
+fn calls_of_one(alloc: Global) -> Result<Vec<Call<u64>>, AllocError>
+    ensures { IfOk result (λ calls. All IsPostable calls.items) }
+{
+    Ok(vec![in alloc;
         post(1, 10),
         post(1, 11),
         post(1, 12),
@@ -65,8 +79,12 @@ fn one_sender_fills_its_queue_and_closes(rt: HostRuntime) -> Result<(), Fail> {
         Call::Take { from: 1 },
         Call::Take { from: 1 },
         Call::Take { from: 1 },
-    ]?;
-    let expected = vec![in rt.alloc();
+    ]?)
+}
+
+/// The answers to them.
+fn answers_to_one(alloc: Global) -> Result<Vec<Answer<u64>>, AllocError> {
+    Ok(vec![in alloc;
         Answer::Posted(0),
         Answer::Posted(1),
         refused(PostRefusal::Full, 12),
@@ -79,14 +97,22 @@ fn one_sender_fills_its_queue_and_closes(rt: HostRuntime) -> Result<(), Fail> {
         took(1, 0, 2, 13),
         Answer::Took(Taken::End),
         Answer::Took(Taken::End),
-    ]?;
-    assert!(rt; answers_so(rt.alloc(), 0, 2, calls, expected)?);
-    Ok(())
+    ]?)
 }
 
 #[test]
-fn two_senders_have_a_queue_each(rt: HostRuntime) -> Result<(), Fail> {
-    let calls = vec![in rt.alloc();
+fn one_sender_fills_its_queue_and_closes(rt: HostRuntime) -> Result<(), Fail> {
+    let expected = answers_to_one(rt.alloc())?;
+    let calls = calls_of_one(rt.alloc())?;
+    assert!(rt; answers_so(rt.alloc(), 0, 2, calls, &expected)?);
+    Ok(())
+}
+
+/// Calls of two senders, and about senders that are none.
+fn calls_of_two(alloc: Global) -> Result<Vec<Call<u64>>, AllocError>
+    ensures { IfOk result (λ calls. All IsPostable calls.items) }
+{
+    Ok(vec![in alloc;
         post(0, 10),
         post(1, 11),
         post(0, 12),
@@ -96,8 +122,12 @@ fn two_senders_have_a_queue_each(rt: HostRuntime) -> Result<(), Fail> {
         Call::Take { from: 0 },
         Call::Take { from: 9 },
         Call::Take { from: 2 },
-    ]?;
-    let expected = vec![in rt.alloc();
+    ]?)
+}
+
+/// The answers of rank 2 to them.
+fn answers_to_two(alloc: Global) -> Result<Vec<Answer<u64>>, AllocError> {
+    Ok(vec![in alloc;
         Answer::Posted(0),
         Answer::Posted(0),
         Answer::Posted(1),
@@ -107,8 +137,14 @@ fn two_senders_have_a_queue_each(rt: HostRuntime) -> Result<(), Fail> {
         Answer::Took(Taken::Empty),
         Answer::Took(Taken::Stranger),
         Answer::Took(Taken::Stranger),
-    ]?;
-    assert!(rt; answers_so(rt.alloc(), 2, 3, calls, expected)?);
+    ]?)
+}
+
+#[test]
+fn two_senders_have_a_queue_each(rt: HostRuntime) -> Result<(), Fail> {
+    let expected = answers_to_two(rt.alloc())?;
+    let calls = calls_of_two(rt.alloc())?;
+    assert!(rt; answers_so(rt.alloc(), 2, 3, calls, &expected)?);
     Ok(())
 }
 
@@ -125,63 +161,106 @@ fn standing(mailbox: &Mailbox<u64>, from: u16) -> (bool, u64, u64, bool)
     )
 }
 
-/// Whether the counts of the lane from rank 1 follow the calls that fill its one place, with a letter and then with
-/// the mark, and empty it.
-fn counts_follow(mailbox: &mut Mailbox<u64>) -> bool
-    requires { (mailbox.old.me ≡ 0) × (length mailbox.old.lanes ≡ 2) }
+/// Whether the one place of the lane from rank 1 is filled by a letter, and then has no room for the mark.
+fn fills(mailbox: &mut Mailbox<u64>) -> bool
+    requires { is_stranger mailbox.old 1 ≡ false }
+    ensures { is_stranger mailbox.new 1 ≡ false }
 {
-    let new = standing(mailbox, 1) == (true, 0, 0, false);
-    if mailbox.post(1, Tag(7), Body::Lost(1)) != Ok(0) {
-        return false;
+    let mut as_said = standing(mailbox, 1) == (true, 0, 0, false);
+    as_said &= matches!(mailbox.post(1, Tag(7), Body::Lost(1)), Ok(0));
+    as_said &= standing(mailbox, 1) == (false, 1, 0, false);
+    as_said & (mailbox.close(1) == Err(PostRefusal::Full))
+}
+
+/// Whether the lane is emptied of its letter, takes the mark, and is drained once that is taken too.
+fn drains(mailbox: &mut Mailbox<u64>) -> bool
+    requires { is_stranger mailbox.old 1 ≡ false }
+{
+    let mut as_said = matches!(mailbox.take(1), Taken::Letter(_));
+    as_said &= mailbox.close(1) == Ok(1);
+    as_said &= standing(mailbox, 1) == (false, 2, 1, false);
+    as_said &= matches!(mailbox.take(1), Taken::End);
+    as_said & (standing(mailbox, 1) == (true, 2, 2, true))
+}
+
+/// Whether a letter that rank 0 posts to itself comes back.
+fn refuses_its_own(mailbox: &mut Mailbox<u64>) -> bool {
+    match mailbox.post(0, Tag(7), Body::Sheet(5)) {
+        Err((PostRefusal::Stranger, Body::Sheet(sheet))) => sheet == 5,
+        _ => false,
     }
-    let full = standing(mailbox, 1) == (false, 1, 0, false);
-    if mailbox.close(1) != Err(PostRefusal::Full) {
-        return false;
-    }
-    let stranger = (PostRefusal::Stranger, Body::Sheet(5));
-    if mailbox.post(0, Tag(7), Body::Sheet(5)) != Err(stranger) {
-        return false;
-    }
-    if !matches!(mailbox.take(1), Taken::Letter(_)) || mailbox.close(1) != Ok(1) {
-        return false;
-    }
-    let closed = standing(mailbox, 1) == (false, 2, 1, false);
-    if mailbox.take(1) != Taken::End {
-        return false;
-    }
-    new && full && closed && standing(mailbox, 1) == (true, 2, 2, true)
 }
 
 #[test]
 fn counts_and_room_follow_the_calls(rt: HostRuntime) -> Result<(), Fail> {
     let mut mailbox = Mailbox::open(rt.alloc(), 0, 2, Capacity::nearest(1))?;
-    assert!(rt; counts_follow(&mut mailbox));
+    assert!(rt; fills(&mut mailbox) && drains(&mut mailbox));
+    assert!(rt; refuses_its_own(&mut mailbox));
     Ok(())
+}
+
+/// Posts from ranks 1 and 2, and a take.
+fn three_calls(alloc: Global) -> Option<Vec<Call<u64>>>
+    ensures { IfSome result (λ calls. All IsPostable calls.items) }
+{
+    vec![in alloc; post(1, 10), post(2, 20), Call::Take { from: 2 }].ok()
+}
+
+/// Whether they are answered as they should be.
+fn are_three(answers: &[Answer<u64>]) -> bool {
+    matches!(
+        answers,
+        [
+            Answer::Posted(0),
+            Answer::Posted(0),
+            Answer::Took(Taken::Letter(Letter {
+                from: 2,
+                to: 0,
+                number: 0,
+                tag: Tag(7),
+                body: Body::Sheet(20),
+            })),
+        ]
+    )
+}
+
+/// Whether a mailbox in which nothing was posted answers them so.
+fn answers_three(alloc: Global, mailbox: &mut Mailbox<u64>, calls: Vec<Call<u64>>) -> bool
+    requires first { is_stranger mailbox.old 1 ≡ false }
+    requires second { is_stranger mailbox.old 2 ≡ false }
+    requires postable { All IsPostable calls.items }
+{
+    let is_new = mailbox.posted(1) == 0 && mailbox.posted(2) == 0;
+    match mailbox.run(alloc, calls) {
+        Ok(answers) => is_new && are_three(&answers),
+        Err(_) => false,
+    }
+}
+
+/// Whether a mailbox answers them so, at once or, if their run is refused, when it is made again.
+fn answers_three_in_the_end(
+    alloc: Global,
+    mailbox: &mut Mailbox<u64>,
+    calls: Vec<Call<u64>>,
+) -> bool
+    requires first { is_stranger mailbox.old 1 ≡ false }
+    requires second { is_stranger mailbox.old 2 ≡ false }
+    requires postable { All IsPostable calls.items }
+{
+    match mailbox.run(alloc, calls) {
+        Ok(answers) => are_three(&answers),
+        Err((calls, AllocError)) => answers_three(alloc, mailbox, calls),
+    }
 }
 
 /// Passes whichever single growth is refused (`rt try --test --fail-alloc N`, for each N in turn): a
 /// refused `open` answers so, and a refused `run` hands back calls that can be run again.
 #[test]
-fn a_refused_run_can_be_made_again(rt: HostRuntime) -> Result<(), Fail> {
+fn a_refused_run_can_be_made_again(rt: HostRuntime) {
     let Ok(mut mailbox) = Mailbox::open(rt.alloc(), 0, 3, Capacity::nearest(2)) else {
-        return Ok(());
+        return;
     };
-    let Ok(calls) = vec![in rt.alloc(); post(1, 10), post(2, 20), Call::Take { from: 2 }] else {
-        return Ok(());
-    };
-    let answers = match mailbox.run(rt.alloc(), calls) {
-        Ok(answers) => answers,
-        Err((calls, AllocError)) => {
-            assert_eq!(rt; (mailbox.posted(1), mailbox.posted(2)), (0, 0));
-            mailbox
-                .run(rt.alloc(), calls)
-                .map_err(|(_, refused)| refused)?
-        }
-    };
-    let Ok(expected) = vec![in rt.alloc(); Answer::Posted(0), Answer::Posted(0), took(2, 0, 0, 20)]
-    else {
-        return Ok(());
-    };
-    assert_eq!(rt; answers, expected);
-    Ok(())
+    if let Some(calls) = three_calls(rt.alloc()) {
+        assert!(rt; answers_three_in_the_end(rt.alloc(), &mut mailbox, calls));
+    }
 }

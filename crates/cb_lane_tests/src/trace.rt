@@ -200,36 +200,84 @@ fn is_matched(
     Ok(trace.matches(&logs))
 }
 
+/// A letter is posted and taken, and its lane closed.
+const SENT: TraceEvent = TraceEvent::Posted(Envelope {
+    from: 0,
+    to: 1,
+    number: 0,
+    tag: Tag(7),
+});
+
+const GOT: TraceEvent = TraceEvent::Took(Envelope {
+    from: 0,
+    to: 1,
+    number: 0,
+    tag: Tag(7),
+});
+
+const SHUT: TraceEvent = TraceEvent::Closed(Envelope {
+    from: 0,
+    to: 1,
+    number: 1,
+    tag: Tag(0),
+});
+
+/// The same letter with another tag.
+const OTHER: TraceEvent = TraceEvent::Posted(Envelope {
+    from: 0,
+    to: 1,
+    number: 0,
+    tag: Tag(8),
+});
+
+/// The trace of two ranks with these three events.
+fn small_trace(alloc: Global) -> Option<Trace> {
+    let mut trace = Trace::with_room(alloc, 2, 4).ok()?;
+    for event in [SENT, SHUT, GOT] {
+        trace.record(event).ok()?;
+    }
+    Some(trace)
+}
+
+/// What is wrong with the logs of two ranks, the logs, and whether the trace matches them.
+type Logs = (
+    &'static str,
+    &'static [TraceEvent],
+    &'static [TraceEvent],
+    bool,
+);
+
+const LOGS: [Logs; 7] = [
+    ("nothing", &[SENT, SHUT], &[GOT], true),
+    ("too short", &[SENT], &[GOT], false),
+    ("an empty log", &[SENT, SHUT], &[], false),
+    ("too long", &[SENT, SHUT], &[GOT, GOT], false),
+    ("another order", &[SHUT, SENT], &[GOT], false),
+    ("another rank's", &[GOT], &[SENT, SHUT], false),
+    ("another tag", &[OTHER, SHUT], &[GOT], false),
+];
+
+/// The first row in which the trace doesn't match as it should.
+fn wrong_logs(alloc: Global, trace: &Trace) -> Option<&'static str> {
+    for (name, first, second, answer) in &LOGS {
+        if is_matched(alloc, trace, first, second) != Ok(*answer) {
+            return Some(*name);
+        }
+    }
+    None
+}
+
+/// Whether the trace matches where the second log is missing.
+fn matches_one_log(alloc: Global, trace: &Trace) -> Result<bool, AllocError> {
+    let one = vec![in alloc; Vec::from_slice(alloc, &[SENT, SHUT])?]?;
+    Ok(trace.matches(&one))
+}
+
 #[test]
 fn logs_match_as_a_whole(rt: HostRuntime) -> Result<(), Fail> {
-    let alloc = rt.alloc();
-    let mut trace = Trace::with_room(alloc, 2, 4)?;
-    let sent = posted(0, 1, 0, 7);
-    let got = took(0, 1, 0, 7);
-    let shut = closed(0, 1, 1);
-    record_all(
-        &rt,
-        &mut trace,
-        &[(sent, LEGAL), (shut, LEGAL), (got, LEGAL)],
-    );
-    let rows: [(&str, &[TraceEvent], &[TraceEvent], bool); 7] = [
-        ("the logs", &[sent, shut], &[got], true),
-        ("too short", &[sent], &[got], false),
-        ("an empty log", &[sent, shut], &[], false),
-        ("too long", &[sent, shut], &[got, got], false),
-        ("another order", &[shut, sent], &[got], false),
-        ("another rank's", &[got], &[sent, shut], false),
-        ("another tag", &[posted(0, 1, 0, 8), shut], &[got], false),
-    ];
-    for (name, first, second, answer) in &rows {
-        assert_eq!(rt;
-            is_matched(alloc, &trace, first, second)?,
-            *answer,
-            "{name}"
-        );
-    }
-    let one = vec![in alloc; Vec::from_slice(alloc, &[sent, shut])?]?;
-    assert!(rt; !trace.matches(&one), "a log is missing");
+    let trace = small_trace(rt.alloc()).ok_or("a trace")?;
+    assert!(rt; wrong_logs(rt.alloc(), &trace) == None);
+    assert!(rt; matches_one_log(rt.alloc(), &trace) == Ok(false));
     Ok(())
 }
 

@@ -2,6 +2,7 @@
 ghost use Rattle.std.specs.Prelude.{◌<◌, IfOk};
 ghost use Rattle.cb_plan.specs.Runnable.{IsRunnable};
 
+use crate::samples::entries;
 use cb_dcsc::Block;
 use cb_grid_plans::{
     LEFT, RESULT, RIGHT, grid_add, grid_column_sums, grid_prune, grid_row_sums, grid_times,
@@ -11,7 +12,7 @@ use cb_layout::Grid;
 use cb_local::run_plain;
 use cb_matrix::{Entry, Matrix, Shape, Test};
 use cb_plan::{PlanFault, PlanFaultKind, Planned, RankStore, SLOTS, Slot};
-use cb_samples::{are_values, entry, shape};
+use cb_samples::{are_values, shape};
 use cb_semirings::PlusTimes;
 use std::alloc::Global;
 use std::test::Fail;
@@ -45,11 +46,19 @@ fn plan_of(kernel: Kernel, alloc: Global, grid: &Grid, shape: Shape) -> Result<P
     }
 }
 
-/// The matrix of a shape with these entries.
-fn matrix(alloc: Global, shape: Shape, entries: &[Entry]) -> Result<Matrix<PlusTimes>, Fail> {
+/// Rows and columns.
+type Sides = (u32, u32);
+
+/// The matrix of so many rows and columns with these entries.
+fn matrix(
+    alloc: Global,
+    (rows, cols): Sides,
+    entries: &[Entry],
+) -> Result<Matrix<PlusTimes>, Fail> {
     if !are_values::<PlusTimes>(entries) {
         return Err("values".into());
     }
+    let shape = shape(rows, cols)?;
     Ok(Matrix::from_entries(alloc, shape, entries).map_err(|_| "a matrix")?)
 }
 
@@ -71,13 +80,15 @@ fn fill(stores: &mut [RankStore<PlusTimes>], slot: u16, blocks: Vec<Block<PlusTi
     }
 }
 
-/// A kernel, the shape of its operands, the entries of the first and of the second, where it takes one, and the shape
-/// and the entries of what it makes of them.
-type Example<'a> = (Kernel, Shape, &'a [Entry], &'a [Entry], Shape, &'a [Entry]);
-
-/// Whether a kernel takes a second operand.
-fn takes_two(kernel: Kernel) -> bool {
-    matches!(kernel, Kernel::Add | Kernel::Times)
+/// What a kernel makes of operands: their sides and entries, and those of the result.
+struct Example {
+    kernel: Kernel,
+    sides: Sides,
+    left: &'static [Entry],
+    /// Of the second operand, where it takes one.
+    right: Option<&'static [Entry]>,
+    result: Sides,
+    wanted: &'static [Entry],
 }
 
 /// Puts the blocks of the matrix with these entries into a slot of the ranks.
@@ -86,14 +97,28 @@ fn lay(
     grid: &Grid,
     stores: &mut [RankStore<PlusTimes>],
     slot: u16,
-    shape: Shape,
+    sides: Sides,
     entries: &[Entry],
 ) -> Result<(), Fail>
     requires { slot < SLOTS }
 {
-    let operand = matrix(alloc, shape, entries)?;
+    let operand = matrix(alloc, sides, entries)?;
     fill(stores, slot, grid.scatter(alloc, &operand)?);
     Ok(())
+}
+
+/// The stores of the ranks with the operands of an example in their slots.
+fn operands(
+    alloc: Global,
+    grid: &Grid,
+    example: &Example,
+) -> Result<Vec<RankStore<PlusTimes>>, Fail> {
+    let mut stores = no_blocks(alloc, grid)?;
+    lay(alloc, grid, &mut stores, LEFT, example.sides, example.left)?;
+    if let Some(right) = example.right {
+        lay(alloc, grid, &mut stores, RIGHT, example.sides, right)?;
+    }
+    Ok(stores)
 }
 
 /// The stores after a plan that leaves its result in its slot.
@@ -117,7 +142,7 @@ fn are_same(found: &Block<PlusTimes>, wanted: &Block<PlusTimes>) -> Result<bool,
 }
 
 /// Whether the ranks of a grid have these blocks as their results.
-fn leave(stores: &[RankStore<PlusTimes>], blocks: &[Block<PlusTimes>]) -> Result<bool, Fail> {
+fn have(stores: &[RankStore<PlusTimes>], blocks: &[Block<PlusTimes>]) -> Result<bool, Fail> {
     for (store, block) in stores.iter().zip(blocks.iter()) {
         let Slot::Sheet(found) = store.slot(RESULT) else {
             return Ok(false);
@@ -129,96 +154,108 @@ fn leave(stores: &[RankStore<PlusTimes>], blocks: &[Block<PlusTimes>]) -> Result
     Ok(stores.len() == blocks.len())
 }
 
-/// Whether a kernel makes what is said on the grid of a side.
-fn makes(alloc: Global, side: u32, example: &Example<'_>) -> Result<bool, Fail> {
-    let (kernel, shape, left, right, result, wanted) = *example;
-    let grid = Grid::new(side).map_err(|_| "a side")?;
-    let Ok(planned) = plan_of(kernel, alloc, &grid, shape) else {
-        return Err("a plan".into());
-    };
-    let mut stores = no_blocks(alloc, &grid)?;
-    lay(alloc, &grid, &mut stores, LEFT, shape, left)?;
-    if takes_two(kernel) {
-        lay(alloc, &grid, &mut stores, RIGHT, shape, right)?;
-    }
-    let after = after(alloc, planned, stores)?;
-    let wanted = matrix(alloc, result, wanted)?;
-    leave(&after, &grid.scatter(alloc, &wanted)?)
+/// Whether the ranks of a grid have the blocks of what an example makes as their results.
+fn leave(
+    alloc: Global,
+    grid: &Grid,
+    stores: &[RankStore<PlusTimes>],
+    example: &Example,
+) -> Result<bool, Fail> {
+    let wanted = matrix(alloc, example.result, example.wanted)?;
+    let blocks = grid.scatter(alloc, &wanted)?;
+    have(stores, &blocks)
 }
 
-/// The number of the first example that isn't made, and the side of the grid where it isn't.
-fn wrong_example(alloc: Global, examples: &[Example<'_>]) -> Result<Option<(usize, u32)>, Fail> {
-    for (number, example) in examples.iter().enumerate() {
-        for side in SIDES {
-            if !makes(alloc, side, example)? {
-                return Ok(Some((number, side)));
-            }
+/// The stores of the ranks of a grid after the plan of an example.
+fn worked(
+    alloc: Global,
+    grid: &Grid,
+    example: &Example,
+) -> Result<Vec<RankStore<PlusTimes>>, Fail> {
+    let shape = shape(example.sides.0, example.sides.1)?;
+    let stores = operands(alloc, grid, example)?;
+    match plan_of(example.kernel, alloc, grid, shape) {
+        Ok(planned) => after(alloc, planned, stores),
+        Err(_) => Err("a plan".into()),
+    }
+}
+
+/// Whether a kernel makes what is said on the grid of a side.
+fn makes(alloc: Global, side: u32, example: &Example) -> Result<bool, Fail> {
+    let grid = Grid::new(side).map_err(|_| "a side")?;
+    let stores = worked(alloc, &grid, example)?;
+    leave(alloc, &grid, &stores, example)
+}
+
+/// Whether it does so on the grid of each side.
+fn makes_on_each(alloc: Global, example: &Example) -> Result<bool, Fail> {
+    for side in SIDES {
+        if !makes(alloc, side, example)? {
+            return Ok(false);
         }
     }
-    Ok(None)
+    Ok(true)
 }
 
+const MANY: &[Entry] = entries![(2, 0, 6), (1, 1, 5), (0, 4, 7), (2, 4, 3)];
+
 /// The transpose, sums of rows and of columns, the sum and the product place by place, and entries dropped.
+const EXAMPLES: [Example; 6] = [
+    Example {
+        kernel: Kernel::Transpose,
+        sides: (3, 5),
+        left: entries![(2, 0, 6), (1, 1, 5), (0, 4, 7)],
+        right: None,
+        result: (5, 3),
+        wanted: entries![(4, 0, 7), (1, 1, 5), (0, 2, 6)],
+    },
+    Example {
+        kernel: Kernel::RowSums,
+        sides: (3, 5),
+        left: MANY,
+        right: None,
+        result: (3, 1),
+        wanted: entries![(0, 0, 7), (1, 0, 5), (2, 0, 9)],
+    },
+    Example {
+        kernel: Kernel::ColumnSums,
+        sides: (3, 5),
+        left: MANY,
+        right: None,
+        result: (1, 5),
+        wanted: entries![(0, 0, 6), (0, 1, 5), (0, 4, 10)],
+    },
+    Example {
+        kernel: Kernel::Add,
+        sides: (4, 3),
+        left: entries![(0, 0, 7), (3, 2, 5)],
+        right: Some(entries![(0, 0, 1), (2, 1, 9)]),
+        result: (4, 3),
+        wanted: entries![(0, 0, 8), (2, 1, 9), (3, 2, 5)],
+    },
+    Example {
+        kernel: Kernel::Times,
+        sides: (4, 3),
+        left: entries![(0, 0, 7), (3, 2, 5)],
+        right: Some(entries![(0, 0, 2), (2, 1, 9)]),
+        result: (4, 3),
+        wanted: entries![(0, 0, 14)],
+    },
+    Example {
+        kernel: Kernel::Prune(Test::Below(6)),
+        sides: (2, 7),
+        left: entries![(0, 0, 7), (1, 2, 5), (1, 6, 9)],
+        right: None,
+        result: (2, 7),
+        wanted: entries![(0, 0, 7), (1, 6, 9)],
+    },
+];
+
 #[test]
 fn each_kernel_makes_its_result_on_each_grid(rt: HostRuntime) -> Result<(), Fail> {
-    let (a, wide, tall, flat) = (shape(4, 3)?, shape(3, 5)?, shape(5, 3)?, shape(2, 7)?);
-    let many = [
-        entry(2, 0, 6),
-        entry(1, 1, 5),
-        entry(0, 4, 7),
-        entry(2, 4, 3),
-    ];
-    let examples: [Example<'_>; 6] = [
-        (
-            Kernel::Transpose,
-            wide,
-            &[entry(2, 0, 6), entry(1, 1, 5), entry(0, 4, 7)],
-            &[],
-            tall,
-            &[entry(4, 0, 7), entry(1, 1, 5), entry(0, 2, 6)],
-        ),
-        (
-            Kernel::RowSums,
-            wide,
-            &many,
-            &[],
-            shape(3, 1)?,
-            &[entry(0, 0, 7), entry(1, 0, 5), entry(2, 0, 9)],
-        ),
-        (
-            Kernel::ColumnSums,
-            wide,
-            &many,
-            &[],
-            shape(1, 5)?,
-            &[entry(0, 0, 6), entry(0, 1, 5), entry(0, 4, 10)],
-        ),
-        (
-            Kernel::Add,
-            a,
-            &[entry(0, 0, 7), entry(3, 2, 5)],
-            &[entry(0, 0, 1), entry(2, 1, 9)],
-            a,
-            &[entry(0, 0, 8), entry(2, 1, 9), entry(3, 2, 5)],
-        ),
-        (
-            Kernel::Times,
-            a,
-            &[entry(0, 0, 7), entry(3, 2, 5)],
-            &[entry(0, 0, 2), entry(2, 1, 9)],
-            a,
-            &[entry(0, 0, 14)],
-        ),
-        (
-            Kernel::Prune(Test::Below(6)),
-            flat,
-            &[entry(0, 0, 7), entry(1, 2, 5), entry(1, 6, 9)],
-            &[],
-            flat,
-            &[entry(0, 0, 7), entry(1, 6, 9)],
-        ),
-    ];
-    assert!(rt; wrong_example(rt.alloc(), &examples)?.is_none());
+    for (number, example) in EXAMPLES.iter().enumerate() {
+        assert!(rt; makes_on_each(rt.alloc(), example)?, "example {number}");
+    }
     Ok(())
 }
 
@@ -269,16 +306,12 @@ fn spread_product(
 
 /// A matrix of 6 by 5 times a vector, whatever the grid: the values of the product from its first row on.
 fn six_by_five(alloc: Global, side: u32) -> Result<[u64; 3], Fail> {
-    let a = [
-        entry(0, 0, 1),
-        entry(2, 1, 4),
-        entry(0, 3, 2),
-        entry(1, 3, 3),
-        entry(4, 4, 5),
-    ];
-    let a = matrix(alloc, shape(6, 5)?, &a)?;
-    let x = [entry(0, 0, 7), entry(1, 0, 6), entry(3, 0, 5)];
-    let x = matrix(alloc, shape(5, 1)?, &x)?;
+    let a = matrix(
+        alloc,
+        (6, 5),
+        entries![(0, 0, 1), (2, 1, 4), (0, 3, 2), (1, 3, 3), (4, 4, 5)],
+    )?;
+    let x = matrix(alloc, (5, 1), entries![(0, 0, 7), (1, 0, 6), (3, 0, 5)])?;
     match spread_product(alloc, side, &a, &x)?.as_slice() {
         [[_, first], [_, second], [_, third]] => Ok([*first, *second, *third]),
         _ => Err("three entries".into()),
@@ -295,9 +328,8 @@ fn multiplies_a_vector(rt: HostRuntime) -> Result<(), Fail> {
 
 /// Whether a matrix of two by two times a vector on the grid of side 2 has these values, at their ranks.
 fn two_by_two_has(alloc: Global, wanted: &[[u64; 2]]) -> Result<bool, Fail> {
-    let a = [entry(0, 0, 1), entry(0, 1, 2), entry(1, 1, 3)];
-    let a = matrix(alloc, shape(2, 2)?, &a)?;
-    let x = matrix(alloc, shape(2, 1)?, &[entry(0, 0, 5), entry(1, 0, 7)])?;
+    let a = matrix(alloc, (2, 2), entries![(0, 0, 1), (0, 1, 2), (1, 1, 3)])?;
+    let x = matrix(alloc, (2, 1), entries![(0, 0, 5), (1, 0, 7)])?;
     let found = spread_product(alloc, 2, &a, &x)?;
     Ok(found.as_slice() == wanted)
 }
@@ -317,24 +349,26 @@ fn has_acts_or_no_memory(planned: Result<Planned, PlanFault>, acts: usize) -> bo
     }
 }
 
+/// Kernels, and how many acts the plan of each has on the grid of side 2.
+const ACTS: [(Kernel, usize); 7] = [
+    (Kernel::Transpose, 20),
+    (Kernel::RowSums, 60),
+    (Kernel::ColumnSums, 40),
+    (Kernel::Add, 16),
+    (Kernel::Times, 16),
+    (Kernel::Prune(Test::Above(3)), 16),
+    (Kernel::Vector, 68),
+];
+
 /// It passes whichever single allocation is refused (`rt try --test --fail-alloc N`, for each N in turn): the
 /// call says so, or its plan is the right one.
 #[test]
 fn refused_memory_is_said(rt: HostRuntime) -> Result<(), Fail> {
-    let alloc = rt.alloc();
     let grid = Grid::new(2).map_err(|_| "a side")?;
     let shape = shape(3, 5)?;
-    let counts = [
-        (Kernel::Transpose, 20),
-        (Kernel::RowSums, 60),
-        (Kernel::ColumnSums, 40),
-        (Kernel::Add, 16),
-        (Kernel::Times, 16),
-        (Kernel::Prune(Test::Above(3)), 16),
-        (Kernel::Vector, 68),
-    ];
-    for (kernel, acts) in counts {
-        assert!(rt; has_acts_or_no_memory(plan_of(kernel, alloc, &grid, shape), acts));
+    for (kernel, acts) in &ACTS {
+        let planned = plan_of(*kernel, rt.alloc(), &grid, shape);
+        assert!(rt; has_acts_or_no_memory(planned, *acts), "{acts} acts");
     }
     Ok(())
 }

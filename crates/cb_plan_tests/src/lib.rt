@@ -1,5 +1,5 @@
-//! Worked examples of plans: how they grow, are checked and run, the acts that the collectives append, and what
-//! the plans over a grid leave.
+//! Worked examples of grids and of plans: how a matrix lies over a grid; how plans grow, are checked and run; the acts that
+//! the collectives append; and what the plans over a grid leave.
 #![tactic(auto)]
 
 #[cfg(test)]
@@ -9,6 +9,10 @@ mod distribution;
 #[cfg(test)]
 mod kernels;
 #[cfg(test)]
+mod layout;
+#[cfg(test)]
 mod plan;
+#[cfg(test)]
+mod samples;
 #[cfg(test)]
 mod summa;

@@ -11,11 +11,14 @@ use cb_dcsc::Block;
 use cb_lanes::{Desk, Gone};
 use cb_letters::Capacity;
 use cb_rank::{Moved, Rank, Supply};
-use cb_ranks::{Finished, Member, OpenGate, RunFault, assemble, run_rank, run_threads, run_traced};
-use cb_semirings::PlusTimes;
+use cb_ranks::{
+    Finished, Gate, Member, OpenGate, RunFault, assemble, run_rank, run_threads, run_traced,
+};
+use cb_semirings::{PlusTimes, Semiring};
 use cb_trace::{Trace, TraceEvent};
 use std::alloc::Global;
 use std::sync::Wait;
+use std::sync::atomic::{AtomicU64, Ordering};
 use std::thread::Threads;
 
 /// The ranks of the doubling of 3, new, with new desks for one letter a lane.
@@ -145,33 +148,61 @@ fn is_whole_or_lost(finished: Finished<PlusTimes>) -> bool {
     }
 }
 
+/// Counts the passes of all ranks.
+#[derive(Drop)]
+struct Counter {
+    passes: AtomicU64,
+}
+
+impl Counter {
+    const fn new() -> Counter {
+        Counter {
+            passes: AtomicU64::new(0),
+        }
+    }
+
+    /// Whether a rank has passed.
+    fn has_any(&self) -> bool {
+        self.passes.load(Ordering::SeqCst) > 0
+    }
+}
+
+impl<S: Semiring> Gate<S> for Counter {
+    fn pass(&self, _rank: u16, _state: &Rank<S>) {
+        self.passes.fetch_add(1, Ordering::SeqCst);
+    }
+}
+
 /// What is left of two ranks in threads, over lanes for so many letters, where there is memory for their plan.
 fn ran<R: Threads + Wait + Sync>(
     rt: &R,
     alloc: Global,
     letters: usize,
+    gate: &Counter,
 ) -> Option<Result<Finished<PlusTimes>, RunFault>> {
     let (plan, stores) = doubling(alloc, 3)?;
     let capacity = Capacity::nearest(letters);
-    Some(run_threads(rt, alloc, &plan, stores, capacity, &OpenGate))
+    Some(run_threads(rt, alloc, &plan, stores, capacity, gate))
 }
 
 #[test]
 fn ranks_in_threads_leave_the_double(rt: HostRuntime) {
-    let is_whole = match ran(&rt, rt.alloc(), 1) {
+    let counter = Counter::new();
+    let is_whole = match ran(&rt, rt.alloc(), 1, &counter) {
         Some(Ok(finished)) => left_at_0(finished) == Some((Held::Number(6), (0, 0))),
         _ => false,
     };
-    assert!(rt; is_whole);
+    assert!(rt; is_whole && counter.has_any());
 }
 
-/// Passes whichever single growth is refused (`rt try --test --fail-alloc N`, for each N in turn): either no thread is
-/// started, or every rank does its whole program, and what is lost is counted.
+/// Passes whichever single growth is refused (`rt try --test --fail-alloc N`, for each N in turn): either memory is refused
+/// before any rank runs, or every rank does its whole program, and what is lost is counted.
 #[test]
 fn refused_memory_is_answered_or_counted(rt: HostRuntime) {
-    let is_right = match ran(&rt, rt.alloc(), 2) {
+    let counter = Counter::new();
+    let is_right = match ran(&rt, rt.alloc(), 2, &counter) {
         Some(Ok(finished)) => is_whole_or_lost(finished),
-        Some(Err(fault)) => fault == RunFault::Memory,
+        Some(Err(fault)) => fault == RunFault::Memory && !counter.has_any(),
         None => true,
     };
     assert!(rt; is_right);

@@ -7,7 +7,6 @@ use cb_rank::Moved;
 use cb_semirings::PlusTimes;
 use cb_world::{Event, World};
 use std::alloc::Global;
-use std::test::Fail;
 
 /// The world in which 6 is doubled, whose lanes hold one letter.
 fn world(alloc: Global) -> Option<World<PlusTimes>> {
@@ -65,12 +64,17 @@ fn waits_and_finishes(world: &mut World<PlusTimes>) -> bool {
     as_said & (world.remaining() == 0 && world.ready().is_none() && world.refusals() == 0)
 }
 
+/// What the ranks then hold.
+fn doubles_after_waiting(alloc: Global) -> Option<[(Held, u64); 2]> {
+    let mut world = world(alloc)?;
+    let as_said = waits_and_finishes(&mut world);
+    let doubles = doubles(world)?;
+    if as_said { Some(doubles) } else { None }
+}
+
 #[test]
-fn a_rank_waits_for_its_letter(rt: HostRuntime) -> Result<(), Fail> {
-    let mut world = world(rt.alloc()).ok_or("a world")?;
-    assert!(rt; waits_and_finishes(&mut world));
-    assert!(rt; doubles(world) == Some(WHOLE));
-    Ok(())
+fn a_rank_waits_for_its_letter(rt: HostRuntime) {
+    assert!(rt; doubles_after_waiting(rt.alloc()) == Some(WHOLE));
 }
 
 /// Whether rank 0 waits to post its second letter until the first is taken, and then is refused memory for it.
@@ -102,12 +106,16 @@ fn sending_twice(alloc: Global) -> Option<World<PlusTimes>> {
     world_of(alloc, &plan)
 }
 
+/// Whether it waits so.
+fn sends_when_there_is_room(alloc: Global) -> Option<bool> {
+    let mut world = sending_twice(alloc)?;
+    Some(waits_for_room(&mut world))
+}
+
 /// Its lanes hold one letter. Where a rank has to wait it asks for no memory.
 #[test]
-fn a_full_lane_holds_up_its_sender(rt: HostRuntime) -> Result<(), Fail> {
-    let mut world = sending_twice(rt.alloc()).ok_or("a world")?;
-    assert!(rt; waits_for_room(&mut world));
-    Ok(())
+fn a_full_lane_holds_up_its_sender(rt: HostRuntime) {
+    assert!(rt; sends_when_there_is_room(rt.alloc()) == Some(true));
 }
 
 /// What the ranks hold where one of them is starved after these steps, if it moves so and memory is refused once.

@@ -7,7 +7,6 @@ use cb_rank::{Arrival, Rank, Supply, Want};
 use cb_samples::shape;
 use cb_semirings::PlusTimes;
 use std::alloc::Global;
-use std::test::Fail;
 
 /// Slot 0 is copied to slot 3, which is posted.
 const COPY: Op = Op::Copy { a: 0, into: 3 };
@@ -54,12 +53,17 @@ fn is_done_at_the_end(rank: &mut Rank<PlusTimes>) -> bool {
     as_said & (rank.want() == Want::Done && rank.is_done() && rank.refusals() == 0)
 }
 
+/// What slot 3 holds at the end of such a rank.
+fn left_at_the_end(alloc: Global) -> Option<Held> {
+    let mut rank = copied(alloc, false)?;
+    let is_done = is_done_at_the_end(&mut rank);
+    let held = contents_of(&rank.into_store(), 3);
+    if is_done { Some(held) } else { None }
+}
+
 #[test]
-fn a_program_is_done_half_by_half(rt: HostRuntime) -> Result<(), Fail> {
-    let mut rank = copied(rt.alloc(), false).ok_or("a rank")?;
-    assert!(rt; is_done_at_the_end(&mut rank));
-    assert!(rt; contents_of(&rank.into_store(), 3) == Held::Entries(1, 2));
-    Ok(())
+fn a_program_is_done_half_by_half(rt: HostRuntime) {
+    assert!(rt; left_at_the_end(rt.alloc()) == Some(Held::Entries(1, 2)));
 }
 
 /// The rank at which what is posted for the copy was lost, where no memory is granted for it, and how often memory
@@ -110,14 +114,19 @@ fn strays(wide: Block<PlusTimes>) -> [Arrival<Block<PlusTimes>>; 6] {
     ]
 }
 
+/// What slot 0 holds of a rank that takes none of them, and then the letter that it waits for.
+fn taken_after_strays(alloc: Global) -> Option<Held> {
+    let wide = Block::empty(alloc, shape(1, 2).ok()?);
+    let mut rank = rank_0(alloc, COPY, 3)?;
+    let mut as_said = takes_none(&mut rank, strays(wide));
+    as_said &= accepts(&mut rank, letter(0, 5, Body::Lost(4)));
+    let held = contents_of(&rank.into_store(), 0);
+    if as_said { Some(held) } else { None }
+}
+
 #[test]
-fn a_take_takes_no_other_letter(rt: HostRuntime) -> Result<(), Fail> {
-    let shape = shape(1, 2)?;
-    let mut rank = rank_0(rt.alloc(), COPY, 3).ok_or("a rank")?;
-    assert!(rt; takes_none(&mut rank, strays(Block::empty(rt.alloc(), shape))));
-    assert!(rt; accepts(&mut rank, letter(0, 5, Body::Lost(4))));
-    assert!(rt; contents_of(&rank.into_store(), 0) == Held::LostAt(4));
-    Ok(())
+fn a_take_takes_no_other_letter(rt: HostRuntime) {
+    assert!(rt; taken_after_strays(rt.alloc()) == Some(Held::LostAt(4)));
 }
 
 /// Whether a rank that waits for the end of the lane from rank 1 takes no close mark and no other lane's end.
@@ -129,11 +138,15 @@ fn takes_its_end_alone(rank: &mut Rank<PlusTimes>) -> bool {
     !mark && !other_end && waits && end
 }
 
-#[test]
-fn an_end_takes_no_letter(rt: HostRuntime) -> Result<(), Fail> {
-    let mut rank = copied(rt.alloc(), true).ok_or("a rank")?;
+/// Whether a rank that has posted its copy and closed its lane does so.
+fn ends_alone(alloc: Global) -> Option<bool> {
+    let mut rank = copied(alloc, true)?;
     let _letter = posted(&mut rank, Supply::Granted);
-    assert!(rt; shuts(&mut rank));
-    assert!(rt; takes_its_end_alone(&mut rank));
-    Ok(())
+    let is_shut = shuts(&mut rank);
+    Some(is_shut & takes_its_end_alone(&mut rank))
+}
+
+#[test]
+fn an_end_takes_no_letter(rt: HostRuntime) {
+    assert!(rt; ends_alone(rt.alloc()) == Some(true));
 }

@@ -1,5 +1,0 @@
-//! Texts read by several threads, by the public calls of `cb_reading`.
-#![tactic(auto)]
-
-#[cfg(test)]
-mod texts;

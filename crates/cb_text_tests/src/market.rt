@@ -1,0 +1,5 @@
+//! Texts read and written on one thread.
+mod faults;
+mod matrices;
+mod memory;
+mod pages;

@@ -1,0 +1,3 @@
+//! Texts of matrices over grids, written side by side.
+mod rounds;
+mod threads;
