@@ -1,15 +1,15 @@
-//! How a thread waits at one end of a ring for what the thread at the other end does.
+//! How a thread waits at one end of a ring for the thread at the other end.
 //!
-//! It looks again and again, and pauses between looks by a `Backoff` of its own: at first for one spin, then two, up to
-//! 64; then it yields the processor four times; from then on it sleeps. So a short wait makes no system call, and a
-//! long one takes no processor time.
+//! It polls, and pauses between polls as a `Backoff` says: first for one spin, then two, up to 64; then it yields the
+//! processor four times; from then on it sleeps. So a short wait makes no system call, and a long one takes no processor
+//! time.
 //!
-//! The two ends share a bell, which wakes the sleeper. A thread that is about to sleep announces it at the bell and
-//! looks once more; the other end rings after each item that it pushes or pops, and when it is dropped, which costs a
-//! look at whether anyone waits. All steps on the ring and on the bell are in one order, so either the waiting thread
+//! The two ends share a bell, which wakes the sleeper. A thread that is about to sleep announces this at the bell and
+//! polls once more. The other end rings after each item that it pushes or pops, and when it is dropped; if nobody waits,
+//! that costs one read. All operations on the ring and on the bell are in one total order, so either the waiting thread
 //! sees the change, or the other end sees that there is someone to wake.
 //!
-//! It isn't claimed that a sleeper wakes: no contract sees it.
+//! No contract claims that a sleeper wakes.
 #![tactic(auto)]
 
 ghost use Rattle.std.specs.Prelude.{◌≡◌, ◌<◌, length, IsTrue};
@@ -29,7 +29,7 @@ pub struct Bell {
 }
 
 impl Bell {
-    /// The bell of a new ring, for each of its ends. It takes memory once.
+    /// The bell of a new ring, once for each of its ends. Allocates once.
     pub fn pair(alloc: Global) -> Result<(Bell, Bell), AllocError> {
         let events = Arc::new(alloc, EventCount::new())?;
         let theirs = Arc::try_clone(&events)?;
@@ -46,7 +46,7 @@ impl Bell {
 pub trait RingEnd {
     ghost use Rattle.std.specs.Prelude.{IsTrue};
 
-    /// This end only looked at the other.
+    /// This end only looked at the other end.
     ghost looked: { Self → Self → Type 0 };
 
     /// The next push or pop succeeds.
@@ -57,7 +57,7 @@ pub trait RingEnd {
         ensures looked { looked self.old self.new }
         ensures ready { IsTrue result → ready self.new };
 
-    /// Whether the other end was dropped. Nothing is claimed about the answer.
+    /// Whether the other end was dropped. The contract claims nothing about the answer.
     fn is_left(&mut self) -> bool
         ensures { looked self.old self.new };
 
@@ -102,14 +102,14 @@ impl<T, P: Protocol<T>> RingEnd for Consumer<T, Global, P> {
     }
 }
 
-/// Waits until an end is ready or the other end is gone. Returns whether it is ready.
+/// Waits until an end is ready or the other end is gone, and returns whether it is ready.
 pub fn wait_at<E: RingEnd, R: Wait>(rt: &R, end: &mut E, bell: &Bell) -> bool
     ensures looked { E.looked end.old end.new }
     ensures ready { IsTrue result → E.ready end.new }
 {
     let backoff = Backoff::new();
     for _ in rt.forever() {
-        // Before the look, so that what the other end did just before it went isn't missed.
+        // Asked before polling, so that what the other end did just before it was dropped isn't missed.
         let is_left = end.is_left();
         if end.is_ready() {
             return true;

@@ -27,7 +27,7 @@ copy_is_sound ranks state shut rank slot into v a b c d = record {
   open_lane = refl;
 }
 
--- the moves of a tree pass where the members differ
+-- the moves of a tree pass if the members differ
 module _ (ranks : ℕ) (ms : List ℕ) (tag : Tag) (slot into : ℕ) (v : Extent) (shut : Lanes) (open_lanes : (s t : ℕ) → shut s t ≡ false)
     (exist : (p : ℕ) → p < length ms → get_or ms p 0 < ranks) (differ : (p q : ℕ) → p < q → q < length ms → get_or ms p 0 ≢ get_or ms q 0) (slot_exists : slot < 256) (into_exists : into < 256) where
   moves_pass : (a n : ℕ) (state : State Extent) → 1 ≤ a → a + n ≤ length ms →
@@ -52,7 +52,7 @@ module _ (ranks : ℕ) (ms : List ℕ) (tag : Tag) (slot into : ℕ) (v : Extent
         moves_pass (a + 1) n next (omega arith) (omega arith) has' first',
       )
 
--- a broadcast passes where the members are distinct ranks, the root's slot is filled and the lanes are open
+-- a broadcast passes if the members are distinct ranks, the root's slot is filled and the lanes are open
 pub broadcast_passes : (ranks : ℕ) (members : List ℕ) (root : ℕ) (tag : Tag) (slot into : ℕ) (v : Extent) (shut : Lanes) (state : State Extent) →
     is_member members root ≡ true → AreDistinct members → ((p : ℕ) → p < length members → member members p < ranks) → slot < 256 → into < 256 →
     ((s t : ℕ) → shut s t ≡ false) → state root slot ≡ Some v → Passes ranks state shut (broadcast_acts members root tag slot into)

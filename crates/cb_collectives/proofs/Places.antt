@@ -94,7 +94,7 @@ place_of-member (m ∷ ms) (suc p) distinct l =
     absurd (cc (there, none)))
     (λ f. rw f (let h = place_of-member ms p (distinct_tail m ms distinct) (omega arith) in omega arith))
 
--- a rank is the member with a number where that number is its place
+-- a rank is the member with a number if that number is its place
 pub at_place : (members : List ℕ) (p r : ℕ) → AreDistinct members → p < length members → (member members p == r) ≡ (is_member members r && place_of members r == p)
 at_place members p r distinct l =
     split (member members p == r)
@@ -144,7 +144,7 @@ at_turned k members p l m =
     let e : p - length (drop k members) ≡ k + p - length members = grind (arith, nat_tests) in
     rw t (get_or-append_right (drop k members) (take k members) p 0 b ∙ rw e (get_or-take k members (k + p - length members) 0 (omega arith))))
 
--- the members of a turned list exist where those of the list do
+-- the members of a turned list exist if those of the list do
 pub turned-below : (members : List ℕ) (root ranks : ℕ) → ((p : ℕ) → p < length members → member members p < ranks) → place_of members root < length members → (p : ℕ) → p < length (turned members root) → member (turned members root) p < ranks
 turned-below members root ranks below place p l =
     let k = place_of members root in
@@ -152,7 +152,7 @@ turned-below members root ranks below place p l =
     let m : p < length members = omega arith in
     rw (at_turned k members p place m) (below (turned_place k (length members) p) (turned_place-below k (length members) p place m))
 
--- a turned list has no repetitions where the list has none
+-- a turned list has no repetitions if the list has none
 pub turned-differ : (members : List ℕ) (root : ℕ) → AreDistinct members → place_of members root < length members → (p q : ℕ) → p < q → q < length (turned members root) → member (turned members root) p ≢ member (turned members root) q
 turned-differ members root distinct place p q l m e =
     let k = place_of members root in

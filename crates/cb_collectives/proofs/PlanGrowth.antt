@@ -1,4 +1,4 @@
--- How a plan grows, and how it does in a loop over a range where it has room.
+-- How a plan grows, and how it does in a loop over a range if it has room.
 use Rattle.std.proofs.Common.{◌≡◌, ℕ, zero, suc, ◌+◌, ◌<◌, ◌≤◌, List, [], ◌∷◌, ◌++◌, map, length, get_or, take, length-append, refl, sym, ap, ◌∙◌, arith, append_assoc, append-nil, add-one, take-suc}
 use Rattle.std.specs.List.{range_with_len, flat_map}
 use Rattle.std.proofs.lemmas.List.FromFn.{length-map-range_with_len, map-range_with_len_more}
@@ -16,7 +16,7 @@ grew_none plan = record { ranks_are = refl; acts_are = sym (append-nil plan.acts
 pub grew_both : (xs ys : List Act) (first now next : PlanView) → Grew xs first now → Grew ys now next → Grew (xs ++ ys) first next
 grew_both xs ys first now next h k = record { ranks_are = k.ranks_are ∙ h.ranks_are; acts_are = k.acts_are ∙ ap (λ zs. zs ++ ys) h.acts_are ∙ append_assoc first.acts xs ys }
 
--- the same, where there is room
+-- the same, if there is room
 pub appended_none : (plan : PlanView) → Appended [] plan plan
 appended_none plan = record { grew = grew_none plan; room = omega arith }
 

@@ -17,7 +17,7 @@ use Rattle.cb_plan.proofs.PassingActs.{passes-append}
 sent_keeps_lanes : (from to : ℕ) (tag : Tag) (slot into : ℕ) (shut : Lanes) → shut_after (sent from to tag slot into) shut ≡ shut
 sent_keeps_lanes from to tag slot into shut = split (from == to) (λ t. rw t refl) (λ t. rw t refl)
 
--- what is filled stays so where what is sent is filled
+-- what is filled stays so if what is sent is filled
 sent_keeps_filled : (state : State Extent) (from to : ℕ) (tag : Tag) (slot into : ℕ) → is_some (state from slot) ≡ true → (r n : ℕ) → is_some (state r n) ≡ true → is_some (act shapes (sent from to tag slot into) state r n) ≡ true
 sent_keeps_filled state from to tag slot into filled r n h =
     ap (λ x. is_some x) (act_sent shapes from to tag slot into state r n) ∙ split (to == r && into == n) (λ t. rw t filled) (λ t. rw t h)
@@ -64,7 +64,7 @@ module _ (ranks : ℕ) (tag : Tag) (shut : Lanes) (open_lanes : (s t : ℕ) → 
         subst (λ (lanes : Lanes). Passes ranks (act shapes x state) lanes (sends (a + 1) n)) (sym (sent_keeps_lanes (from a) (to a) tag (slot a) (into a) shut)) rest,
       )
 
--- a gather passes where the members are ranks, their slots are filled and the lanes are open
+-- a gather passes if the members are ranks, their slots are filled and the lanes are open
 pub gather_passes : (ranks : ℕ) (members : List ℕ) (root : ℕ) (tag : Tag) (slot into : ℕ) (shut : Lanes) (state : State Extent) →
     ((p : ℕ) → p < length members → member members p < ranks) → root < ranks → slot < 256 → into + length members ≤ 256 →
     ((s t : ℕ) → shut s t ≡ false) → ((p : ℕ) → p < length members → is_some (state (member members p) slot) ≡ true) → Passes ranks state shut (gather_acts members root tag slot into)
@@ -89,7 +89,7 @@ module _ (ranks : ℕ) (members : List ℕ) (tag : Tag) (slot into : ℕ) (shut 
       (sym (sends_keep_lanes ranks tag shut open_lanes (λ k. member members a) (member members) (λ k. slot + k) (λ k. into + a) (length members) exist 0 (length members)))
       (all_pass_from (a + 1) n (meaning shapes first state) (omega arith) (λ p q m o. keeps (member members p) (slot + q) (filled p q m o))))
 
-  -- an exchange passes where the members are ranks, what they send is filled and the lanes are open
+  -- an exchange passes if the members are ranks, what they send is filled and the lanes are open
   pub all_to_all_passes : (state : State Extent) → ((p q : ℕ) → p < length members → q < length members → is_some (state (member members p) (slot + q)) ≡ true) →
       Passes ranks state shut (all_to_all_acts members tag slot into)
   all_to_all_passes state filled = all_pass_from 0 (length members) state (omega arith) filled

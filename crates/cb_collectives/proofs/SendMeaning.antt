@@ -18,7 +18,7 @@ act_sent ops from to tag slot into state r n =
     (λ t. let e : from ≡ to = grind (arith, nat_tests) in rw (t, e) refl)
     (λ f. rw f refl)
 
--- where list k of acts sets slot into + k of some ranks, and what it reads isn't in the run, the lists set the run
+-- if list k of acts sets slot into + k of some ranks, and what it reads isn't in the run, the lists set the run
 module _ {M : Type 0} (ops : Algebra M) (f : ℕ → List Act) (sender : ℕ → ℕ) (gets : ℕ → Bool) (held : ℕ → ℕ) (into : ℕ) where
   fills : (a n b : ℕ) (state : State M) → into + a ≡ b →
       ((k : ℕ) → a ≤ k → k < a + n → (state : State M) (r x : ℕ) → meaning ops (f k) state r x ≡ (if gets r && into + k == x then state (sender k) (held r) else state r x)) →

@@ -1,4 +1,4 @@
--- Acts that shut all lanes pass the check where the lanes are open, and leave them shut.
+-- Acts that shut all lanes pass the check if the lanes are open, and leave them shut.
 use Rattle.std.proofs.Common.{◌≡◌, ◌≢◌, ℕ, zero, suc, ◌+◌, ◌<◌, ◌≤◌, Bool, true, false, refl, ap, ◌∙◌, arith}
 use Rattle.std.specs.Prelude.{◌==◌, ◌&&◌, ◌||◌, not, if◌then◌else◌, nat_lt, nat_le}
 use Rattle.std.specs.List.{range_with_len, flat_map}
@@ -84,7 +84,7 @@ all_pass ranks a (suc n) state shut l is_open =
     (all_pass ranks (a + 1) n (meaning shapes (shut_from ranks a) state) (lanes_after (shut_from ranks a) shut) (omega arith)
     (λ s t k. let e : (a == s) ≡ false = grind (arith, nat_tests) in lanes_from a 0 ranks shut s t ∙ rw e (is_open s t (omega arith))))
 
--- where all lanes are open, the acts that shut them pass
+-- if all lanes are open, the acts that shut them pass
 pub shut_acts_pass : (ranks : ℕ) (state : State Extent) (shut : Lanes) → ((s t : ℕ) → shut s t ≡ false) → Passes ranks state shut (shut_acts ranks)
 shut_acts_pass ranks state shut is_open = all_pass ranks 0 ranks state shut (omega arith) (λ s t k. is_open s t)
 

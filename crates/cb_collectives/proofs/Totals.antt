@@ -28,7 +28,7 @@ other_member (m ∷ ms) root r h =
     (λ t. later_member m ms r (other_member ms root r (rw t at h)))
     (λ t. split (m == r) (λ u. rw u refl) (λ u. let k : is_member (others ms root) r ≡ true = rw (t, u) at h in rw u (other_member ms root r k)))
 
--- where the root isn't among them, all are others
+-- if the root isn't among them, all are others
 none_left : (ms : List ℕ) (root : ℕ) → is_member ms root ≡ false → others ms root ≡ ms
 none_left [] root h = refl
 none_left (m ∷ ms) root h =

@@ -1,5 +1,5 @@
 -- Worked collectives, computed.
-use Rattle.std.specs.Prelude.{◌≡◌, ℕ, ◌+◌, ◌-◌, ◌*◌, ◌==◌, nat_le, nat_lt, ◌&&◌, if◌then◌else◌, List, [], ◌∷◌, Some, None, refl}
+use Rattle.std.specs.Prelude.{◌≡◌, ℕ, ◌+◌, ◌-◌, ◌*◌, ◌==◌, nat_le, nat_lt, ◌&&◌, if◌then◌else◌, List, [], ◌∷◌, Some, None, refl, Option, map}
 use Rattle.cb_letters.specs.declared.Tag.{Tag}
 use Rattle.cb_plan.specs.declared.acts.Op.TheVariants as op_is
 use Rattle.cb_plan.specs.declared.acts.Act.{Act}
@@ -71,7 +71,7 @@ shut_of_3 : shut_acts 3 ≡
     ∷ []
 shut_of_3 = refl
 
--- blocks of 1 by 1 by their only value
+-- blocks of 1 by 1, given by their only value
 abbrev numbers : Algebra ℕ
 numbers = record {
   empty = λ shape. 0;
@@ -94,14 +94,18 @@ state r n = if nat_lt r 3 && n == 0 then Some (5 + r) else (if nat_lt r 3 && nat
 abbrev after : List Act → State ℕ
 after acts = meaning numbers acts state
 
-after_broadcast : (after (broadcast_acts three_members 1 tag_4 0 1) 0 1 ∷ after (broadcast_acts three_members 1 tag_4 0 1) 1 1 ∷ after (broadcast_acts three_members 1 tag_4 0 1) 2 1 ∷ []) ≡ Some 6 ∷ Some 6 ∷ Some 6 ∷ []
+-- what these acts leave in these slots, each given by its rank and number
+abbrev pub left_in : List Act → List (ℕ × ℕ) → List (Option ℕ)
+left_in acts slots = map (λ (p : ℕ × ℕ). after acts p.0 p.1) slots
+
+after_broadcast : left_in (broadcast_acts three_members 1 tag_4 0 1) ((0, 1) ∷ (1, 1) ∷ (2, 1) ∷ []) ≡ Some 6 ∷ Some 6 ∷ Some 6 ∷ []
 after_broadcast = refl
 
-after_gather : (after (gather_acts three_members 0 tag_4 0 10) 0 10 ∷ after (gather_acts three_members 0 tag_4 0 10) 0 11 ∷ after (gather_acts three_members 0 tag_4 0 10) 0 12 ∷ []) ≡ Some 5 ∷ Some 6 ∷ Some 7 ∷ []
+after_gather : left_in (gather_acts three_members 0 tag_4 0 10) ((0, 10) ∷ (0, 11) ∷ (0, 12) ∷ []) ≡ Some 5 ∷ Some 6 ∷ Some 7 ∷ []
 after_gather = refl
 
 after_reduce : after (reduce_acts three_members 2 tag_4 0 2 3) 2 2 ≡ Some 18
 after_reduce = refl
 
-after_all_to_all : (after (all_to_all_acts three_members tag_4 20 30) 1 30 ∷ after (all_to_all_acts three_members tag_4 20 30) 1 31 ∷ after (all_to_all_acts three_members tag_4 20 30) 1 32 ∷ []) ≡ Some 101 ∷ Some 111 ∷ Some 121 ∷ []
+after_all_to_all : left_in (all_to_all_acts three_members tag_4 20 30) ((1, 30) ∷ (1, 31) ∷ (1, 32) ∷ []) ≡ Some 101 ∷ Some 111 ∷ Some 121 ∷ []
 after_all_to_all = refl

@@ -1,14 +1,16 @@
 -- The acts of the collectives, and what they do to the slots.
-use Rattle.std.specs.Prelude.{◌≡◌, ℕ, ◌+◌, ◌-◌, ◌/◌, ◌<◌, Bool, true, false, not, ◌&&◌, ◌==◌, nat_le, nat_lt, if◌then◌else◌, List, [], ◌∷◌, ◌++◌, length, get_or, take, drop, map, filter, flat_map, Option, Some}
+use Rattle.std.specs.Prelude.{◌≡◌, ℕ, ◌+◌, ◌-◌, ◌/◌, ◌<◌, Bool, true, false, not, ◌&&◌, ◌==◌, nat_le, nat_lt, if◌then◌else◌, Option, Some}
+use Rattle.std.specs.Prelude.{List, [], ◌∷◌, ◌++◌, length, get_or, take, drop, map, filter, flat_map}
 use Rattle.std.specs.List.{range_with_len, list_any, position_or_len}
-use Rattle.cb_semirings.specs.Arithmetic.{Arithmetic}
+use Rattle.cb_semirings.specs.Arithmetic.{Arithmetic, IsSemiring}
 use Rattle.cb_matrix.specs.Sparse.{Sparse, IsMatrix, at}
 use Rattle.cb_matrix.specs.Values.{total}
 use Rattle.cb_letters.specs.declared.Tag.{Tag}
 use Rattle.cb_plan.specs.declared.acts.Op.TheVariants as op_is
 use Rattle.cb_plan.specs.declared.acts.Act.{Act}
 use Rattle.cb_plan.specs.declared.acts.Act.TheVariants as act_is
-use Rattle.cb_plan.specs.Meaning.{Algebra, State, two}
+use Rattle.cb_plan.specs.Algebras.{matrices}
+use Rattle.cb_plan.specs.Meaning.{Algebra, State, meaning, two}
 
 abbrev pub is_member : List ℕ → ℕ → Bool
 is_member members r = list_any (λ m. m == r) members
@@ -25,7 +27,7 @@ AreDistinct members = are_distinct members ≡ true
 abbrev pub member : List ℕ → ℕ → ℕ
 member members p = get_or members p 0
 
--- the place of a rank in the list: the number of the first member that it is
+-- the place of a rank in the list: where it first stands
 abbrev pub place_of : List ℕ → ℕ → ℕ
 place_of members r = position_or_len (λ m. m == r) members
 
@@ -45,7 +47,7 @@ turned_at place members = drop place members ++ take place members
 abbrev pub turned : List ℕ → ℕ → List ℕ
 turned members root = turned_at (place_of members root) members
 
--- in a rotated list, member p gets the block from member (p-1)/2, which has it
+-- in the rotated list, member p gets the block from member (p-1)/2, which already has it
 abbrev pub tree_move : List ℕ → Tag → ℕ → ℕ → ℕ → Act
 tree_move ms tag slot into p =
     act_is.Move (member ms ((p - 1) / 2)) (member ms p) tag (if (p - 1) / 2 == 0 then slot else into) into
@@ -91,11 +93,19 @@ shut_from ranks from = flat_map (shut_lane from) (range_with_len 0 ranks)
 abbrev pub shut_acts : ℕ → List Act
 shut_acts ranks = flat_map (shut_from ranks) (range_with_len 0 ranks)
 
--- a slot of each member has one content
+-- these acts change the slots in this way, over matrices with any operations
+abbrev pub Means : List Act → (State Sparse → State Sparse) → Type 0
+Means acts change = (ops : Algebra Sparse) → (state : State Sparse) → meaning ops acts state ≡ change state
+
+-- a slot of each member has the same content
 abbrev pub spread : {M : Type 0} → List ℕ → ℕ → Option M → State M → State M
 spread members into x state r n = if is_member members r && into == n then x else state r n
 
--- whether a slot is in the run of slots from a number on, one for each member
+-- slot `into` of each member gets what the root's slot has
+abbrev pub spread_from : {M : Type 0} → List ℕ → ℕ → ℕ → ℕ → State M → State M
+spread_from members root slot into state = spread members into (state root slot) state
+
+-- whether a slot is one of the slots from a number on, one for each member
 abbrev pub is_in_run : List ℕ → ℕ → ℕ → Bool
 is_in_run members into n = nat_le into n && nat_lt n (into + length members)
 
@@ -108,20 +118,25 @@ gathered members root slot into state r n =
 abbrev pub others : List ℕ → ℕ → List ℕ
 others members root = filter (λ m. not (m == root)) members
 
--- a content, and those of a slot of some ranks added to it in turn
+-- the contents of a slot of these ranks, added one after another to a content
 abbrev pub sum_with : {M : Type 0} → Algebra M → State M → ℕ → Option M → List ℕ → Option M
 sum_with ops state slot x [] = x
 sum_with ops state slot x (m ∷ ms) = sum_with ops state slot (two ops.add x (state m slot)) ms
 
--- the sum of the slot of all members, the root's own first, and then in list order
+-- the sum of a slot over all members, the root's own first, and then in list order
 abbrev pub sum_of_members : {M : Type 0} → Algebra M → List ℕ → ℕ → ℕ → State M → Option M
 sum_of_members ops members root slot state = sum_with ops state slot (state root slot) (others members root)
 
--- the sum stands in a slot of the root, another of its slots may have anything, and all else is as it was
+-- slot `into` of the root has the sum, its slot `scratch` may have anything, and every other slot is as before
 abbrev pub IsReduced : {M : Type 0} → Algebra M → List ℕ → ℕ → ℕ → ℕ → ℕ → State M → State M → Type 0
 IsReduced ops members root slot into scratch before after =
     (r n : ℕ) → (root == r && scratch == n) ≡ false →
     after r n ≡ (if root == r && into == n then sum_of_members ops members root slot before else before r n)
+
+-- these acts reduce the members' slots at the root, over matrices with any operations
+abbrev pub Reduces : List Act → List ℕ → ℕ → ℕ → ℕ → ℕ → Type 0
+Reduces acts members root slot into scratch =
+    (ops : Algebra Sparse) → (state : State Sparse) → IsReduced ops members root slot into scratch state (meaning ops acts state)
 
 -- slot into + s of the member at place t is what slot slot + t of member s was
 abbrev pub exchanged : {M : Type 0} → List ℕ → ℕ → ℕ → State M → State M
@@ -133,8 +148,15 @@ abbrev pub HasBlocks : Arithmetic → List ℕ → ℕ → (ℕ → Sparse) → 
 HasBlocks s members slot block state =
     (m : ℕ) → is_member members m ≡ true → (state m slot ≡ Some (block m)) × IsMatrix s (block m)
 
--- there is a block of the shape of the root's, and at each place it has the sum of the members' values there
+-- a content is a block of the root's shape, which has at each place the sum of the members' values there
 abbrev pub AddsUp : Arithmetic → List ℕ → ℕ → (ℕ → Sparse) → Option Sparse → Type 0
 AddsUp s members root block content =
     (sum : Sparse) × (content ≡ Some sum) × (sum.shape ≡ (block root).shape)
     × ((i j : ℕ) → i < (block root).shape.rows → j < (block root).shape.cols → at s sum i j ≡ total s (map (λ m. at s (block m) i j) members))
+
+-- over a semiring, the sum of the members' blocks adds them up at each place
+abbrev pub MembersAddUp : List ℕ → ℕ → ℕ → Type 0
+MembersAddUp members root slot =
+    (s : Arithmetic) → IsSemiring s → (state : State Sparse) (block : ℕ → Sparse)
+    → HasBlocks s members slot block state
+    → AddsUp s members root block (sum_of_members (matrices s) members root slot state)

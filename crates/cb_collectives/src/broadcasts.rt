@@ -1,20 +1,18 @@
-//! From one member to all, by a tree.
+//! Broadcast: from one member to all, along a tree.
 ghost use Rattle.std.specs.Prelude.{◌≡◌, ◌==◌, ◌<◌, ◌≤◌, ◌+◌, ◌-◌, ℕ, true, List, ◌++◌, length, take, drop, map, if◌then◌else◌, is_ok, IsOk, IfErr, Err};
 ghost use Rattle.std.specs.List.{range_with_len};
-ghost use Rattle.cb_matrix.specs.Sparse.{Sparse};
-ghost use Rattle.cb_plan.specs.Meaning.{Algebra, State, meaning};
 ghost use Rattle.cb_collectives.specs.Appends.{IsTooLong, IsRefusal, too_long, HasRoom, Appended};
-ghost use Rattle.cb_collectives.specs.Collectives.{is_member, member, turned_at, tree_moves, broadcast_acts, spread};
+ghost use Rattle.cb_collectives.specs.Collectives.{is_member, member, turned_at, tree_moves, broadcast_acts, spread_from, Means};
 
 use crate::steps::{append, copy_at, place_in};
 use cb_letters::Tag;
 use cb_plan::{Act, Plan, PlanFault};
 
-/// The root's `slot` goes to slot `into` of every member.
+/// Copies the root's `slot` to slot `into` of every member.
 ///
 /// The members are rotated so that the root comes first and the others follow cyclically. Member p of the rotated list
-/// gets the block from member (p - 1) / 2, so it reaches the last of n members in about log n Moves. Appends at most n
-/// acts.
+/// gets the block from member (p - 1) / 2, so the block reaches the last of n members after about log n Moves. Appends at
+/// most n acts.
 #[tactic(auto, using(crate::proofs::Spread::broadcast_spreads, crate::proofs::Counts::count_broadcast))]
 pub fn broadcast(
     plan: &mut Plan,
@@ -29,14 +27,14 @@ pub fn broadcast(
     ensures acts { plan.new.acts ≡ (if is_ok result then plan.old.acts ++ broadcast_acts members.now root tag slot into else plan.old.acts) }
     ensures long { IsTooLong plan.old (broadcast_acts members.now root tag slot into) → result ≡ Err (too_long plan.old) }
     ensures faults { IfErr result (IsRefusal plan.old (broadcast_acts members.now root tag slot into)) }
-    ensures means { (ops : Algebra Sparse) → (state : State Sparse) → meaning ops (broadcast_acts members.now root tag slot into) state ≡ spread members.now into (state root slot) state }
+    ensures means { Means (broadcast_acts members.now root tag slot into) (spread_from members.now root slot into) }
 {
     plan.make_room(acts_among(members, slot, into))?;
     copy_at(plan, root, slot, into)?;
     send_down(plan, members, place_in(members, root), tag, slot, into)
 }
 
-/// How many acts it takes: a Move to each member but the root, and a Copy if the slots differ.
+/// The number of acts: a Move to each member but the root, and a Copy if the slots differ.
 fn acts_among(members: &[u16], slot: u16, into: u16) -> usize
     requires { 0 < length members.now }
     ensures { result ≡ length members.now - (if slot == into then 1 else 0) }
@@ -48,7 +46,7 @@ fn acts_among(members: &[u16], slot: u16, into: u16) -> usize
     }
 }
 
-/// The Moves of the tree, whose root has this place in the list. There is room for them.
+/// Appends the Moves of the tree whose root has this place in the list. There is room for them.
 fn send_down(
     plan: &mut Plan,
     members: &[u16],
@@ -77,7 +75,7 @@ fn send_down(
     Ok(())
 }
 
-/// The member this many places after the one at a place, cyclically.
+/// The member `steps` places after the one at `place`, cyclically.
 fn member_after(members: &[u16], place: usize, steps: usize) -> u16
     requires place { place < length members.now }
     requires steps { steps < length members.now }

@@ -1,9 +1,7 @@
-//! All lanes are shut.
+//! Shutting all lanes.
 ghost use Rattle.std.specs.Prelude.{◌≡◌, ◌<◌, ◌≤◌, ◌+◌, ◌-◌, ◌*◌, ℕ, true, List, ◌++◌, length, if◌then◌else◌, is_ok, IsOk, IfErr, Err};
-ghost use Rattle.cb_matrix.specs.Sparse.{Sparse};
-ghost use Rattle.cb_plan.specs.Meaning.{Algebra, State, meaning};
 ghost use Rattle.cb_collectives.specs.Appends.{IsTooLong, IsRefusal, too_long, HasRoom, Appended};
-ghost use Rattle.cb_collectives.specs.Collectives.{shut_lane, shut_from, shut_acts};
+ghost use Rattle.cb_collectives.specs.Collectives.{shut_lane, shut_from, shut_acts, Means};
 
 use crate::steps::append;
 use cb_plan::{Act, Plan, PlanFault};
@@ -15,7 +13,7 @@ pub fn shut_all(plan: &mut Plan) -> Result<(), PlanFault>
     ensures acts { plan.new.acts ≡ (if is_ok result then plan.old.acts ++ shut_acts plan.old.ranks else plan.old.acts) }
     ensures long { IsTooLong plan.old (shut_acts plan.old.ranks) → result ≡ Err (too_long plan.old) }
     ensures faults { IfErr result (IsRefusal plan.old (shut_acts plan.old.ranks)) }
-    ensures means { (ops : Algebra Sparse) → (state : State Sparse) → meaning ops (shut_acts plan.old.ranks) state ≡ state }
+    ensures means { Means (shut_acts plan.old.ranks) (λ state. state) }
 {
     let ranks = plan.ranks();
     plan.make_room(usize::from(ranks) * usize::from(ranks.saturating_sub(1)))?;

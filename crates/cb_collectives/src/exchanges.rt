@@ -1,9 +1,7 @@
-//! From all members to all.
+//! All-to-all: from each member to each.
 ghost use Rattle.std.specs.Prelude.{◌≡◌, ◌<◌, ◌≤◌, ◌+◌, ◌*◌, ◌⊎◌, List, ◌++◌, length, if◌then◌else◌, is_ok, IsOk, IfErr, Err};
-ghost use Rattle.cb_matrix.specs.Sparse.{Sparse};
-ghost use Rattle.cb_plan.specs.Meaning.{Algebra, State, meaning};
 ghost use Rattle.cb_collectives.specs.Appends.{IsTooLong, IsRefusal, too_long, HasRoom, Appended};
-ghost use Rattle.cb_collectives.specs.Collectives.{AreDistinct, sent_from, all_to_all_acts, exchanged};
+ghost use Rattle.cb_collectives.specs.Collectives.{AreDistinct, sent_from, all_to_all_acts, exchanged, Means};
 
 use crate::steps::send;
 use cb_letters::Tag;
@@ -11,7 +9,7 @@ use cb_plan::{Plan, PlanFault, SLOTS};
 
 /// Each member sends a slot to each member: slot `slot + t` of member s goes to slot `into + s` of member t.
 ///
-/// The slots exist, and the two runs of slots don't overlap. For n members it appends n * n acts.
+/// The slots must exist, and those read must not overlap those set. Appends n * n acts for n members.
 #[tactic(auto, using(crate::proofs::SendMeaning::all_to_all_exchanges, crate::proofs::Counts::count_all_to_all))]
 pub fn all_to_all(
     plan: &mut Plan,
@@ -28,13 +26,13 @@ pub fn all_to_all(
     ensures acts { plan.new.acts ≡ (if is_ok result then plan.old.acts ++ all_to_all_acts members.now tag slot into else plan.old.acts) }
     ensures long { IsTooLong plan.old (all_to_all_acts members.now tag slot into) → result ≡ Err (too_long plan.old) }
     ensures faults { IfErr result (IsRefusal plan.old (all_to_all_acts members.now tag slot into)) }
-    ensures means { (ops : Algebra Sparse) → (state : State Sparse) → meaning ops (all_to_all_acts members.now tag slot into) state ≡ exchanged members.now slot into state }
+    ensures means { Means (all_to_all_acts members.now tag slot into) (exchanged members.now slot into) }
 {
     plan.make_room(members.len() * members.len())?;
     exchange(plan, members, tag, slot, into)
 }
 
-/// The acts of all members. There is room for them.
+/// Appends the acts of all members. There is room for them.
 fn exchange(
     plan: &mut Plan,
     members: &[u16],
@@ -54,7 +52,7 @@ fn exchange(
     Ok(())
 }
 
-/// The slots of member s, from `slot` on, go to slot `into` of each member. There is room for these acts.
+/// Sends the slots of member s, from `slot` on, to slot `into` of each member. There is room for these acts.
 fn send_from(
     plan: &mut Plan,
     members: &[u16],

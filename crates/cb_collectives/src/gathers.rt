@@ -1,17 +1,16 @@
-//! From all members to one.
+//! Gather: from all members to one.
 ghost use Rattle.std.specs.Prelude.{◌≡◌, ◌<◌, ◌≤◌, ◌+◌, ◌⊎◌, List, ◌++◌, length, if◌then◌else◌, is_ok, IsOk, IfErr, Err};
-ghost use Rattle.cb_matrix.specs.Sparse.{Sparse};
-ghost use Rattle.cb_plan.specs.Meaning.{Algebra, State, meaning};
 ghost use Rattle.cb_collectives.specs.Appends.{IsTooLong, IsRefusal, too_long, HasRoom, Appended};
-ghost use Rattle.cb_collectives.specs.Collectives.{gather_acts, gathered};
+ghost use Rattle.cb_collectives.specs.Collectives.{gather_acts, gathered, Means};
 
 use crate::steps::send;
 use cb_letters::Tag;
 use cb_plan::{Plan, PlanFault, SLOTS};
 
-/// The `slot` of each member goes to the root: that of the first member to slot `into`, and so on.
+/// Sends the `slot` of each member to the root: the first member's to slot `into`, the next one's to the slot after it,
+/// and so on.
 ///
-/// The slots that are set exist, and `slot` isn't one of them. Appends an act for each member.
+/// The slots that are set must exist, and `slot` must not be one of them. Appends an act for each member.
 #[tactic(auto, using(crate::proofs::SendMeaning::gather_gathers, crate::proofs::Counts::count_gather))]
 pub fn gather(
     plan: &mut Plan,
@@ -27,13 +26,13 @@ pub fn gather(
     ensures acts { plan.new.acts ≡ (if is_ok result then plan.old.acts ++ gather_acts members.now root tag slot into else plan.old.acts) }
     ensures long { IsTooLong plan.old (gather_acts members.now root tag slot into) → result ≡ Err (too_long plan.old) }
     ensures faults { IfErr result (IsRefusal plan.old (gather_acts members.now root tag slot into)) }
-    ensures means { (ops : Algebra Sparse) → (state : State Sparse) → meaning ops (gather_acts members.now root tag slot into) state ≡ gathered members.now root slot into state }
+    ensures means { Means (gather_acts members.now root tag slot into) (gathered members.now root slot into) }
 {
     plan.make_room(members.len())?;
     send_to_root(plan, members, root, tag, slot, into)
 }
 
-/// The acts of the members, one each. There is room for them.
+/// Appends the members' acts, one each. There is room for them.
 fn send_to_root(
     plan: &mut Plan,
     members: &[u16],

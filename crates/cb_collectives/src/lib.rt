@@ -1,9 +1,9 @@
-//! Collectives: acts that concern all members of a list of ranks.
+//! Collectives: acts of all members of a list of ranks.
 //!
 //! Each call appends the acts of one collective to a plan. It takes room for all of them before it appends the first,
 //! so a refused call leaves the plan as it was; its cost is proportional to the acts that it appends.
-//! `specs/Collectives` lists the acts of each collective, and says what these acts do to the slots of the ranks, over
-//! blocks of any kind.
+//! `specs/Collectives` lists the acts of each collective, and defines what they do to the slots of the ranks, over blocks
+//! of any kind.
 #![tactic(auto)]
 
 mod broadcasts;

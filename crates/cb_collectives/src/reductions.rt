@@ -1,20 +1,16 @@
-//! The sum of what all members have, at one of them.
+//! Reduce: the sum of what all members have, at one of them.
 ghost use Rattle.std.specs.Prelude.{◌≡◌, ◌≢◌, ◌<◌, ◌≤◌, ◌+◌, ℕ, true, List, [], ◌∷◌, ◌++◌, length, if◌then◌else◌, is_ok, IsOk, IfErr, Err};
 ghost use Rattle.std.specs.List.{flat_map};
-ghost use Rattle.cb_matrix.specs.Sparse.{Sparse};
-ghost use Rattle.cb_semirings.specs.Arithmetic.{Arithmetic, IsSemiring};
-ghost use Rattle.cb_plan.specs.Algebras.{matrices};
-ghost use Rattle.cb_plan.specs.Meaning.{Algebra, State, meaning};
 ghost use Rattle.cb_collectives.specs.Appends.{IsTooLong, IsRefusal, too_long, HasRoom, Appended};
-ghost use Rattle.cb_collectives.specs.Collectives.{is_member, AreDistinct, added_from, reduce_acts, IsReduced, sum_of_members, HasBlocks, AddsUp};
+ghost use Rattle.cb_collectives.specs.Collectives.{is_member, AreDistinct, added_from, reduce_acts, Reduces, MembersAddUp};
 
 use crate::steps::{append, work};
 use cb_letters::Tag;
 use cb_plan::{Act, Op, Plan, PlanFault};
 
-/// Slot `into` of the root becomes the sum of the `slot` of all members: the root's own first, and then the others in
-/// list order. Slot `scratch` of the root may be left with anything. Over a semiring, each place of the sum has the sum
-/// of the members' values there. Appends 2n - 1 acts for n members.
+/// Sums the `slot` of all members into slot `into` of the root: the root's own first, and then the others in list order.
+/// Slot `scratch` of the root may be left with anything. Over a semiring, each place of the sum has the sum of the
+/// members' values there. Appends 2n - 1 acts for n members.
 #[tactic(auto, using(crate::proofs::ReduceMeaning::reduce_sums, crate::proofs::Totals::members_add_up, crate::proofs::Counts::count_reduce))]
 pub fn reduce(
     plan: &mut Plan,
@@ -34,8 +30,8 @@ pub fn reduce(
     ensures acts { plan.new.acts ≡ (if is_ok result then plan.old.acts ++ reduce_acts members.now root tag slot into scratch else plan.old.acts) }
     ensures long { IsTooLong plan.old (reduce_acts members.now root tag slot into scratch) → result ≡ Err (too_long plan.old) }
     ensures faults { IfErr result (IsRefusal plan.old (reduce_acts members.now root tag slot into scratch)) }
-    ensures means { (ops : Algebra Sparse) → (state : State Sparse) → IsReduced ops members.now root slot into scratch state (meaning ops (reduce_acts members.now root tag slot into scratch) state) }
-    ensures sums { (s : Arithmetic) → IsSemiring s → (state : State Sparse) (block : ℕ → Sparse) → HasBlocks s members.now slot block state → AddsUp s members.now root block (sum_of_members (matrices s) members.now root slot state) }
+    ensures means { Reduces (reduce_acts members.now root tag slot into scratch) members.now root slot into scratch }
+    ensures sums { MembersAddUp members.now root slot }
 {
     plan.make_room(members.len() + (members.len() - 1))?;
     work(plan, root, Op::Copy { a: slot, into })?;
@@ -62,7 +58,7 @@ fn add_members(
     Ok(())
 }
 
-/// The slot of a member other than the root goes to `scratch` of the root, which adds it to `into`. There is room for
+/// Sends the slot of a member other than the root to `scratch` of the root, which adds it to `into`. There is room for
 /// these acts.
 fn add_member(
     plan: &mut Plan,

@@ -1,4 +1,4 @@
-//! Acts that are appended into room taken before, and places in the list of members.
+//! Appending acts for which there is room, and finding members in the list.
 ghost use Rattle.std.specs.Prelude.{◌≡◌, ◌==◌, true, List, [], ◌∷◌, IsOk};
 ghost use Rattle.std.specs.List.{position};
 ghost use Rattle.cb_collectives.specs.Appends.{HasRoom, Appended};
@@ -25,7 +25,7 @@ pub fn work(plan: &mut Plan, rank: u16, op: Op) -> Result<(), PlanFault>
     append(plan, Act::Work { rank, op })
 }
 
-/// A slot of a rank goes to another slot of the same rank. If the two are one, nothing is done.
+/// Copies a slot of a rank to another slot of the same rank. If they are the same slot, nothing is done.
 pub fn copy_at(plan: &mut Plan, rank: u16, slot: u16, into: u16) -> Result<(), PlanFault>
     requires { HasRoom plan.now (copied_at rank slot into) }
     ensures granted { IsOk result }
@@ -37,7 +37,7 @@ pub fn copy_at(plan: &mut Plan, rank: u16, slot: u16, into: u16) -> Result<(), P
     work(plan, rank, Op::Copy { a: slot, into })
 }
 
-/// A slot of one rank goes to a slot of another, or of the same rank. There is room for the act.
+/// Sends a slot of one rank to a slot of another, or of the same rank. There is room for the act.
 pub fn send(
     plan: &mut Plan,
     from: u16,
@@ -63,7 +63,7 @@ pub fn send(
     append(plan, act)
 }
 
-/// The place of a member in the list.
+/// The place of a member in the list: where it first stands.
 pub fn place_in(members: &[u16], rank: u16) -> usize
     requires { is_member members.now rank ≡ true }
     ensures { result ≡ place_of members.now rank }

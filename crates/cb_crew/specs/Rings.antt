@@ -1,4 +1,4 @@
--- Which ring an end is of.
+-- The names of rings: which ring an end belongs to.
 use Rattle.std.specs.Prelude.{◌≡◌, ℕ, zero, suc, List, [], ◌∷◌, Option, Some, None}
 use denote.RawPtr.{Ptr}
 use Rattle.std.specs.declared.alloc.Global.{Global}
@@ -37,7 +37,11 @@ module _ {T P : Type 0} where
   ring_at (x ∷ xs) zero = Some (put_ring x.0)
   ring_at (x ∷ xs) (suc k) = ring_at xs k
 
-  -- both ends of each are there, and nothing was put in
+  -- the k-th ring has the k-th of these names
+  abbrev pub AreNamed : (ℕ → Option RingName) → List (Producer T Global P × Consumer T Global P) → Type 0
+  AreNamed name rings = (k : ℕ) → name k ≡ ring_at rings k
+
+  -- these are both ends of each ring, and nothing was put in
   abbrev pub AreNewRings : List (Producer T Global P × Consumer T Global P) → Type 0
   AreNewRings [] = Unit {0}
   AreNewRings (x ∷ xs) = (IsPair x.0 x.1 × (sent x.0 ≡ []) × (received x.1 ≡ [])) × AreNewRings xs

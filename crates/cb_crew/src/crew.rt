@@ -1,9 +1,9 @@
-//! All workers of a crew: how it starts, what a round is, and how it ends.
+//! A crew: all its workers, and a round of their work.
 ghost use Rattle.std.specs.Prelude.{◌≡◌, ◌≤◌, [], length, map, IfOk, vec_len, vec_capacity};
 ghost use Rattle.std.specs.List.{AllZip};
 ghost use Rattle.cb_crew.specs.Crews.{size, task_of};
 
-use crate::faults::CrewFault;
+use crate::crew_faults::CrewFault;
 use crate::messages::{Naming, Task};
 use crate::workers::{Busy, Idle};
 use std::alloc::Global;
@@ -19,8 +19,8 @@ pub struct Crew<T: Task, J: Naming> {
 impl<T: Task, J: Naming> Crew<T, J> {
     ghost use Rattle.std.specs.Prelude.{OnOk, OnErr};
 
-    /// One round: the k-th worker gets the k-th task, and once all have answered, the answers come back in order. After
-    /// a fault the crew has ended, and has no workers.
+    /// One round: the k-th worker gets the k-th task, and the answers come back in order once all workers have answered.
+    /// After a fault the crew has ended, and has no workers.
     ///
     /// It takes memory for three lists with a place for each worker, and wakes each worker that sleeps.
     pub fn run<R: Wait>(
@@ -45,7 +45,7 @@ impl<T: Task, J: Naming> Crew<T, J> {
         Ok(answers)
     }
 
-    /// How many workers there are.
+    /// The number of workers.
     pub fn workers(&self) -> usize
         ensures { result ≡ size self.now }
     {
@@ -53,7 +53,7 @@ impl<T: Task, J: Naming> Crew<T, J> {
     }
 }
 
-/// Gives each worker its task, into room for that many.
+/// Gives each worker its task. `room` has a place for each busy worker.
 fn give_all<T: Task, J: Naming>(
     idle: Vec<Idle<T, J>>,
     tasks: Vec<T>,
@@ -73,7 +73,7 @@ fn give_all<T: Task, J: Naming>(
     Ok(busy)
 }
 
-/// Waits for each worker's answer, into room for that many.
+/// Waits for each worker's answer. `room` and `answers` have a place for each.
 fn wait_all<T: Task, J: Naming, R: Wait>(
     rt: &R,
     busy: Vec<Busy<T, J>>,

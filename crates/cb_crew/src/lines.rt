@@ -1,5 +1,5 @@
-//! A line from one thread to another: a ring of one place, and a bell for a thread that waits. What is known of a
-//! received item is what its type says.
+//! A line from one thread to another: a ring of one place, and a bell for the thread that waits. The receiver knows of an
+//! item only what its type says.
 use cb_bells::{Bell, wait_at};
 use rtrb::{Consumer, Producer, PushError, RingBuffer};
 use std::alloc::{AllocError, Global};
@@ -31,7 +31,7 @@ pub(crate) fn line<X: Drop>(alloc: Global) -> Result<(Sender<X>, Receiver<X>), A
 }
 
 impl<X: Drop> Sender<X> {
-    /// Sends an item, or hands it back if the last one wasn't received yet.
+    /// Sends an item, or hands it back if the one before it wasn't received yet.
     pub(crate) fn send(&mut self, item: X) -> Result<(), X> {
         match self.ring.push(item) {
             Ok(()) => {
@@ -44,7 +44,7 @@ impl<X: Drop> Sender<X> {
 }
 
 impl<X: Drop> Receiver<X> {
-    /// Waits for an item. There is none if the sender is gone.
+    /// Waits for an item. Returns None if the sender is gone.
     pub(crate) fn receive<R: Wait>(&mut self, rt: &R) -> Option<X> {
         if !wait_at(rt, &mut self.ring, &self.bell) {
             return None;
@@ -56,7 +56,7 @@ impl<X: Drop> Receiver<X> {
 impl<X: Drop> Drop for Sender<X> {
     fn drop(self) {
         let Sender { ring, bell } = self;
-        // First, so that who is woken finds it gone.
+        // Dropped first, so that whoever is woken finds this end gone.
         drop(ring);
         bell.ring();
     }

@@ -7,20 +7,20 @@ use rtrb::Consumer;
 use std::marker::{Model, PhantomData};
 use std::sync::Wait;
 
-/// What a worker carries out and answers.
+/// A task: what a worker carries out and answers.
 pub trait Task: Drop + Send {
-    /// What the answer is made of.
+    /// The type of its answer.
     type Answer: Drop + Send;
 
     /// How an answer relates to its task.
     ghost does: { Self → Self.Answer → Type 0 };
 
-    /// Does the task, and answers it.
+    /// Does the task, and returns the answer.
     fn carry_out<R: Wait>(self, rt: &R) -> Self::Answer
         ensures { does self result };
 }
 
-/// Says whose each ring is. It is picked as a crew starts.
+/// Says which ring belongs to each worker. It is chosen as a crew starts.
 pub trait Naming {
     ghost use Rattle.std.specs.Prelude.{ℕ, Option};
     ghost use Rattle.cb_crew.specs.Rings.{RingName};
@@ -28,7 +28,7 @@ pub trait Naming {
     ghost ring: { ℕ → Option RingName };
 }
 
-/// The end of a worker's ring that takes tasks out.
+/// The taking end of a worker's ring.
 #[derive(Drop)]
 pub(crate) struct Slip<T, J: Naming> {
     pub(crate) rank: u16,
@@ -37,14 +37,14 @@ pub(crate) struct Slip<T, J: Naming> {
     ghost name: { J.ring rank ≡ Some (taken_ring ring) },
 }
 
-/// A slip with one task to take out.
+/// A slip with one task to take.
 #[derive(Drop)]
 pub(crate) struct Job<T, J: Naming> {
     pub(crate) slip: Slip<T, J>,
     ghost one: { length (known_items slip.ring) ≡ 1 },
 }
 
-/// A slip, and the answer to the task that was taken out last.
+/// A slip, and the answer to the task that was taken last.
 #[derive(Drop)]
 pub(crate) struct Answer<T: Task, J: Naming> {
     pub(crate) slip: Slip<T, J>,

@@ -1,11 +1,11 @@
-//! Starting the threads of a crew, and what is done with it in their scope.
+//! Starting a crew's threads, and doing rounds of work in their scope.
 ghost use Rattle.std.specs.Prelude.{ℕ, ◌≡◌, ◌<◌, ◌^◌, [], length, Some, IfOk, vec_len, vec_capacity};
 ghost use Rattle.rtrb.specs.Ring.{sent, received, IsPair};
 ghost use Rattle.cb_crew.specs.Crews.{size};
-ghost use Rattle.cb_crew.specs.Rings.{put_ring, ring_at, AreNewRings};
+ghost use Rattle.cb_crew.specs.Rings.{put_ring, AreNamed, AreNewRings};
 
 use crate::crew::Crew;
-use crate::faults::CrewFault;
+use crate::crew_faults::CrewFault;
 use crate::lines::line;
 use crate::messages::{Naming, Slip, Task};
 use crate::workers::{Idle, Worker, serve};
@@ -16,24 +16,24 @@ use std::sync::Wait;
 use std::thread;
 use std::thread::{Scope, Threads};
 
-/// What is done with a crew, in as many rounds as it takes.
+/// What is done with a crew, in any number of rounds.
 pub trait Rounds: Drop {
     ghost use Rattle.std.specs.Prelude.{ℕ, ◌≡◌};
     ghost use Rattle.cb_crew.specs.Crews.{size};
 
-    /// What the workers get.
+    /// The tasks that the workers get.
     type Task: Task;
 
-    /// What is answered once the rounds are over.
+    /// What the rounds return.
     type Outcome;
 
-    /// How many workers it takes.
+    /// How many workers they need.
     ghost workers: { Self → ℕ };
 
-    /// What it may answer.
+    /// Which results they may return.
     ghost leaves: { Self → Self.Outcome → Type 0 };
 
-    /// Does the rounds, by a crew that was just started, and returns when they are over.
+    /// Does the rounds with a crew that has just been started.
     fn go<J: Naming, R: Wait>(
         self,
         rt: &R,
@@ -50,7 +50,7 @@ impl Naming for Brand {
     ghost ring = { λ _. None };
 }
 
-/// The two ends of a new ring for the tasks of each worker.
+/// The two ends of a new ring for each worker's tasks.
 fn open<T: Drop>(alloc: Global, workers: u16) -> Result<Vec<(Producer<T>, Consumer<T>)>, AllocError>
     ensures count { IfOk result (λ rings. length rings.items ≡ workers) }
     ensures new { IfOk result (λ rings. AreNewRings rings.items) }
@@ -62,8 +62,8 @@ fn open<T: Drop>(alloc: Global, workers: u16) -> Result<Vec<(Producer<T>, Consum
     Ok(rings)
 }
 
-/// Starts a crew of this many workers, each in a thread of its own, does the rounds, ends the crew, and returns once
-/// every thread has ended. A fault is one of starting: memory was refused, or a thread.
+/// Starts a crew of this many workers, each in a thread of its own, does the rounds, ends the crew, and returns once every
+/// thread has ended. It fails only if memory or a thread is refused at the start.
 pub fn start<B: Rounds, R: Threads + Wait + Sync>(
     rt: &R,
     alloc: Global,
@@ -85,7 +85,7 @@ fn start_over<B: Rounds, J: Naming + Send + Sync, R: Threads + Wait + Sync>(
     rounds: B,
 ) -> Result<B::Outcome, CrewFault>
     requires new { AreNewRings rings.items }
-    requires names { (k : ℕ) → J.ring k ≡ ring_at rings.items k }
+    requires names { AreNamed J.ring rings.items }
     requires few { length rings.items < 2 ^ 16 }
     requires workers { B.workers rounds ≡ length rings.items }
     ensures { IfOk result (λ x. B.leaves rounds x) }
@@ -94,7 +94,7 @@ fn start_over<B: Rounds, J: Naming + Send + Sync, R: Threads + Wait + Sync>(
         thread::scope_env(),
         rt,
         move |scope| -> Result<B::Outcome, CrewFault>
-            requires { AreNewRings rings.items × ((k : ℕ) → J.ring k ≡ ring_at rings.items k) × (length rings.items < 2 ^ 16) × (B.workers rounds ≡ length rings.items) }
+            requires { AreNewRings rings.items × AreNamed J.ring rings.items × (length rings.items < 2 ^ 16) × (B.workers rounds ≡ length rings.items) }
             ensures { IfOk result (λ x. B.leaves rounds x) }
         {
             let mut crew = hire_all::<_, B::Task, J, R>(scope, rt, alloc, rings)?;
@@ -111,7 +111,7 @@ fn hire_all<'s, E, T: Task + 's, J: Naming + Send + Sync + 's, R: Wait + Sync>(
     rings: Vec<(Producer<T>, Consumer<T>)>,
 ) -> Result<Crew<T, J>, CrewFault>
     requires new { AreNewRings rings.items }
-    requires names { (k : ℕ) → J.ring k ≡ ring_at rings.items k }
+    requires names { AreNamed J.ring rings.items }
     requires few { length rings.items < 2 ^ 16 }
     ensures { IfOk result (λ crew. size crew ≡ length rings.items) }
 {

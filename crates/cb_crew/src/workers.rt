@@ -1,4 +1,4 @@
-//! One worker: what its thread does, and the crew's end of it.
+//! One worker: the crew's view of it, and what its thread does.
 ghost use Rattle.std.specs.Prelude.{◌≡◌, Some, IfSome};
 ghost use Rattle.rtrb.specs.Ring.{sent, received};
 ghost use Rattle.cb_crew.specs.Rings.{put_ring, last_item};
@@ -19,7 +19,7 @@ pub(crate) struct Worker<T: Task, J: Naming> {
     ghost name: { J.ring rank ≡ Some (put_ring tasks) },
 }
 
-/// A worker without a task. Its slip is here.
+/// A worker without a task. The crew has its slip.
 #[derive(Drop)]
 pub(crate) struct Idle<T: Task, J: Naming> {
     pub(crate) worker: Worker<T, J>,
@@ -77,7 +77,7 @@ impl<T: Task, J: Naming> Busy<T, J> {
     }
 }
 
-/// What a worker's thread does: one job after the other, until the crew is gone.
+/// What a worker's thread does: one job after another, until the crew is gone.
 pub(crate) fn serve<T: Task, J: Naming, R: Wait>(
     rt: &R,
     jobs: Receiver<Job<T, J>>,

@@ -1,4 +1,4 @@
-//! Why entries make no block.
+//! Faults of entries that make no block.
 ghost use Rattle.std.specs.Prelude.{◌≡◌, ◌==◌, ℕ, ◌<◌, Option, Some, None, Bool, not};
 ghost use Rattle.cb_dcsc.specs.BlockFaults.{fault_of, first_fault, is_late};
 
@@ -7,7 +7,7 @@ use cb_semirings::Semiring;
 use std::alloc::AllocError;
 use thiserror::Error;
 
-/// Why entries make no block. Each fault but `Memory` has the index of the first entry that has one.
+/// Why some entries make no block. Each fault except `Memory` has the index of the first faulty entry.
 #[derive(Clone, Copy, Debug, PartialEq, Eq, Error)]
 pub enum BlockFault {
     /// The entry is outside the shape.
@@ -46,7 +46,7 @@ fn is_late(before: Option<Entry>, entry: &Entry) -> bool
     }
 }
 
-/// The fault of the entry with this index, after the one before it.
+/// The fault of the entry with this index, which comes after the entry before it.
 fn fault_of<S: Semiring>(
     shape: Shape,
     index: usize,

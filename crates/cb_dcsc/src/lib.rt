@@ -1,19 +1,20 @@
 //! Sparse blocks in doubly compressed columns.
 //!
-//! A block is a matrix that costs what its entries cost. Nothing in it is as long as a row or a column of its
-//! shape, so a block of 2,147,483,647 by 2,147,483,647 with three entries holds three entries.
+//! The memory of a block depends on its entries alone. No list in it is as long as a row or a column of its shape: a
+//! block of 2,147,483,647 by 2,147,483,647 with three entries holds three entries.
 //!
-//! It has four lists: the columns that have entries, ascending (JC); where the entries of each of these
-//! columns start, and where the last of them end (CP); and the row (IR) and the value (NUM) of every entry,
-//! by column and then by row. A block without entries has four empty lists. This is the layout of Buluç and
-//! Gilbert, Parallel Sparse Matrix-Matrix Multiplication and Indexing (SIAM J. Sci. Comput. 2012, section 3),
-//! without their AUX index: a column is found by binary search in JC.
+//! It has four lists: the columns that have entries, ascending (JC); where the entries of each of these columns start,
+//! and where the last of them end (CP); and the row (IR) and the value (NUM) of every entry, by column and then by row.
+//! A block without entries has four empty lists. This is the layout of Buluç and Gilbert, Parallel Sparse Matrix-Matrix
+//! Multiplication and Indexing (SIAM J. Sci. Comput. 2012, section 3), without their AUX index: a column is found by
+//! binary search in JC.
 //!
-//! The lists are private. Callers see a block as a shape and its stored entries, the same record that a matrix
-//! of `cb_matrix` is, and walk it by its columns, each lent as two slices.
+//! The lists are private. Callers see a block as a shape and its stored entries, the same record as for a matrix of
+//! `cb_matrix`, and iterate over its columns, each borrowed as two slices.
 #![tactic(auto)]
 
-ghost use Rattle.std.specs.Prelude.{◌≡◌, ◌≢◌, ◌↔◌, ℕ, ◌<◌, ◌≤◌, ◌+◌, ◌-◌, IsTrue, List, [], ◌∷◌, ◌++◌, length, All, AllPairs, Contains, IfOk, IsErrOf, OnOk, OnErr, Some, vec_len, vec_capacity, slice_index, slice_index_or, slice_range};
+ghost use Rattle.std.specs.Prelude.{◌≡◌, ◌≢◌, ◌↔◌, ℕ, ◌<◌, ◌≤◌, ◌+◌, ◌-◌, IsTrue, List, [], ◌∷◌, ◌++◌, length, All, AllPairs, Contains};
+ghost use Rattle.std.specs.Prelude.{IfOk, IsErrOf, OnOk, OnErr, Some, vec_len, vec_capacity, slice_index, slice_index_or, slice_range};
 ghost use Rattle.cb_semirings.specs.Arithmetic.{IsValue};
 ghost use Rattle.cb_dcsc.specs.Compressed.{opened, entries_in, with_column, csc_matrix, AreStarts, AreNonempty};
 
@@ -26,13 +27,13 @@ use std::alloc::{AllocError, Global};
 use std::marker::{Model, PhantomData};
 use std::mem::swap;
 
-/// A sparse matrix, by the columns that have entries.
+/// A sparse matrix, stored by the columns that have entries.
 #[derive(Debug, Drop)]
 pub struct Block<S: Semiring> {
     shape: Shape,
     /// JC: the columns that have entries.
     columns: Vec<u32>,
-    /// CP: where the entries of each column start, and where the last ones end.
+    /// CP: where the entries of each column start, and where those of the last one end.
     starts: Vec<usize>,
     /// IR: the row of each entry.
     rows: Vec<u32>,
@@ -74,8 +75,8 @@ impl<S: Semiring> Block<S> {
         }
     }
 
-    /// How many rows and columns there are. Every block keeps its stored entries inside its shape, ascending by
-    /// column and then row, and other than zero: this call says so too.
+    /// How many rows and columns there are. The contract also says that the stored entries are inside them, ascend by
+    /// column and then row, and aren't zero.
     pub fn shape(&self) -> Shape
         ensures shape { result ≡ self.now.shape }
         ensures matrix { IsMatrix S.arithmetic self.now }
@@ -97,7 +98,7 @@ impl<S: Semiring> Block<S> {
         self.columns.len()
     }
 
-    /// The number of the nth column that has entries.
+    /// The number of the nth column that has entries, in constant time.
     pub fn column_number(&self, n: usize) -> u32
         requires { n < length (columns_with_entries self.now.entries) }
         ensures { result ≡ slice_index (columns_with_entries self.now.entries) n }
@@ -129,7 +130,7 @@ impl<S: Semiring> Block<S> {
         &self.values
     }
 
-    /// Where the entries of the nth column that has entries stand among all.
+    /// Where the entries of the nth column that has entries start and end among all entries.
     pub fn nth_range(&self, n: usize) -> (usize, usize)
         requires { n < length (columns_with_entries self.now.entries) }
         ensures some { result.0 < result.1 }
@@ -139,7 +140,7 @@ impl<S: Semiring> Block<S> {
         bounds(&self.starts, n)
     }
 
-    /// Where the entries of a column stand among all, by a binary search.
+    /// Where the entries of a column start and end among all entries, by a binary search.
     pub fn range(&self, column: u32) -> (usize, usize)
         ensures order { result.0 ≤ result.1 }
         ensures within { result.1 ≤ length self.now.entries }
@@ -151,8 +152,8 @@ impl<S: Semiring> Block<S> {
         }
     }
 
-    /// The rows and values of a column, the rows ascending, by a binary search. Both are empty where the column
-    /// has no entries, also past the shape.
+    /// The rows of a column, ascending, and its values, by a binary search. Both are empty if the column has no entries
+    /// or is outside the shape.
     pub fn column(&self, column: u32) -> (&[u32], &[u64])
         ensures rows { result.0.now ≡ rows_of (in_column column self.now.entries) }
         ensures values { result.1.now ≡ values_of (in_column column self.now.entries) }
@@ -165,7 +166,7 @@ impl<S: Semiring> Block<S> {
         }
     }
 
-    /// The rows and values of the nth column that has entries.
+    /// The rows and values of the nth column that has entries, in constant time.
     #[inline(always)]
     pub fn nth_column(&self, n: usize) -> (&[u32], &[u64])
         requires { n < length (columns_with_entries self.now.entries) }
@@ -192,8 +193,8 @@ impl<S: Semiring> Block<S> {
         }
     }
 
-    /// A stored entry, by column and then by row. Its column is found by a binary search: to walk all entries,
-    /// take the columns one after another.
+    /// The stored entry with an index, counted by column and then by row. Its column is found by a binary search; to
+    /// iterate over all entries, take the columns one after another.
     pub fn entry_at(&self, index: usize) -> Entry
         requires { index < length self.now.entries }
         ensures { result ≡ slice_index_or self.now.entries index result }
@@ -206,7 +207,7 @@ impl<S: Semiring> Block<S> {
         }
     }
 
-    /// All stored entries, by column and then by row.
+    /// A list of all stored entries, by column and then by row.
     pub fn entries(&self) -> Result<Vec<Entry>, AllocError>
         ensures { IfOk result (λ v. v.items ≡ self.now.entries) }
     {
@@ -219,8 +220,8 @@ impl<S: Semiring> Block<S> {
         Ok(entries)
     }
 
-    /// The block of these entries, which stand by column and then by row, none of them zero. Answers the fault
-    /// of the first entry that has one: outside the shape, then not after the entry before it, then zero.
+    /// The block of entries that ascend by column and then by row, none of them zero. Otherwise the fault of the first
+    /// faulty entry: it is outside the shape, or else not after the entry before it, or else zero.
     pub fn from_sorted(alloc: Global, shape: Shape, entries: &[Entry]) -> Result<Self, BlockFault>
         requires { All (λ e. IsValue S.arithmetic e.value) entries.now }
         ensures ok { IfOk result (λ m. m ≡ record { shape = shape; entries = entries.now }) }
@@ -234,8 +235,7 @@ impl<S: Semiring> Block<S> {
         Ok(Self::from_ordered(alloc, shape, entries)?)
     }
 
-    /// The block of entries that are known to be inside the shape, to ascend by column and then by row, and to be
-    /// other than zero.
+    /// The block of entries that are inside the shape, ascend by column and then by row, and aren't zero.
     pub fn from_ordered(alloc: Global, shape: Shape, entries: &[Entry]) -> Result<Self, AllocError>
         requires inside { All (IsInside shape) entries.now }
         requires order { AllPairs IsBefore entries.now }
@@ -251,11 +251,11 @@ impl<S: Semiring> Block<S> {
         Ok(block)
     }
 
-    /// The block of a matrix in compressed columns (CSC): where each column of the shape starts and the last one
-    /// ends, and the row and the value of each entry, by column and then by row. The lists of rows and of values are
-    /// given up, and become the block's.
+    /// The block of a matrix in compressed columns (CSC): where each column of the shape starts and the last one ends,
+    /// and the row and the value of each entry, by column and then by row. The lists of rows and of values are consumed
+    /// and become the block's.
     ///
-    /// Costs a few instructions for each column of the shape, and no look at an entry.
+    /// Costs a few instructions for each column of the shape. No entry is read.
     pub fn from_csc(
         alloc: Global,
         shape: Shape,
@@ -281,7 +281,7 @@ impl<S: Semiring> Block<S> {
         })
     }
 
-    /// A copy of its own.
+    /// A copy. Fails only if memory for its lists is refused.
     pub fn try_clone(&self) -> Result<Self, AllocError>
         ensures { IfOk result (λ copy. copy ≡ self.now) }
     {
@@ -296,7 +296,7 @@ impl<S: Semiring> Block<S> {
         })
     }
 
-    /// The same block over another semiring, whose values its values are too. Nothing is copied.
+    /// The same block over another semiring, in which its values are values too. Nothing is copied.
     pub fn recast<T: Semiring>(self) -> Block<T>
         requires values { All (λ e. IsValue T.arithmetic e.value × (e.value ≢ T.arithmetic.zero)) self.entries }
         ensures { result ≡ self }
@@ -319,8 +319,8 @@ impl<S: Semiring> Block<S> {
         }
     }
 
-    /// The lists of the block, given away without a copy: the columns that have entries, ascending, and the row and the
-    /// value of each entry, by column and then by row.
+    /// The lists of the block, without a copy: the columns that have entries, ascending, and the row and the value of each
+    /// entry, by column and then by row.
     pub fn into_lists(self) -> (Vec<u32>, Vec<u32>, Vec<u64>)
         ensures columns { result.0.items ≡ columns_with_entries self.entries }
         ensures rows { result.1.items ≡ rows_of self.entries }
@@ -335,8 +335,8 @@ impl<S: Semiring> Block<S> {
         (columns, rows, values)
     }
 
-    /// Takes room for this many entries more, and for as many columns as they can stand in, so that storing
-    /// them moves none.
+    /// Takes room for this many more entries, and for as many columns as they can have, so that storing them moves no
+    /// list.
     pub fn reserve(&mut self, entries: usize) -> Result<(), AllocError>
         ensures same { self.new ≡ self.old }
     {
@@ -351,7 +351,7 @@ impl<S: Semiring> Block<S> {
         Ok(())
     }
 
-    /// Stores one entry more, after all the others. On refusal the block is as it was.
+    /// Stores one more entry, after all the others. A refusal of memory leaves the block as it was.
     pub fn push(&mut self, entry: Entry) -> Result<(), AllocError>
         requires inside { IsInside self.old.shape entry }
         requires order { All (λ e. IsBefore e entry) self.old.entries }
@@ -377,8 +377,8 @@ impl<S: Semiring> Block<S> {
         Ok(())
     }
 
-    /// Stores a whole column after all the others, by its rows, which ascend, and the value at each. A column
-    /// without rows is not stored. On refusal the block is as it was.
+    /// Stores a whole column after all the others, by its rows, which ascend, and the value at each. A column without
+    /// rows is not stored. A refusal of memory leaves the block as it was.
     #[inline(always)]
     pub fn push_column(
         &mut self,
@@ -410,9 +410,9 @@ impl<S: Semiring> Block<S> {
         Ok(())
     }
 
-    /// Stores all entries of another block of the same shape after all the others. A column may go on: the last one of
-    /// this block can be the first one of the other. On refusal some of the entries are stored. The cost is that of the
-    /// entries stored more; a block without entries takes over the other's lists, which costs nothing.
+    /// Stores all entries of another block of the same shape after all the others. The last column of this block may
+    /// continue in the other. If memory is refused, some of the entries are stored. The cost is that of the other's
+    /// entries, or none if this block has no entries: then it takes over the other's lists.
     pub fn append(&mut self, other: &mut Block<S>) -> Result<(), AllocError>
         requires shape { other.old.shape ≡ self.old.shape }
         requires matrix { IsMatrix S.arithmetic (with_entries self.old other.old.entries) }
@@ -438,8 +438,8 @@ impl<S: Semiring> Block<S> {
         Ok(())
     }
 
-    /// Stores entries of one column after all the others, by their rows and values: one by one where the last column goes
-    /// on, and else as a whole column. On refusal some are stored.
+    /// Stores entries of one column after all the others, by their rows and values: one by one if they continue the last
+    /// column, and otherwise as a whole column. If memory is refused, some are stored.
     fn push_part(&mut self, column: u32, rows: &[u32], values: &[u64]) -> Result<(), AllocError>
         requires lengths { length values.now ≡ length rows.now }
         requires matrix { IsMatrix S.arithmetic (with_column self.old column rows.now values.now) }
@@ -454,7 +454,8 @@ impl<S: Semiring> Block<S> {
         self.push_column(column, rows, values)
     }
 
-    /// Stores entries of one column after all the others, by their rows and values. On refusal some are stored.
+    /// Stores entries of one column after all the others, by their rows and values. If memory is refused, some are
+    /// stored.
     fn push_rows(&mut self, column: u32, rows: &[u32], values: &[u64]) -> Result<(), AllocError>
         requires lengths { length values.now ≡ length rows.now }
         requires matrix { IsMatrix S.arithmetic (with_column self.old column rows.now values.now) }
@@ -471,7 +472,7 @@ impl<S: Semiring> Block<S> {
     }
 }
 
-/// Where the nth part starts, and where it ends.
+/// Where the nth part starts and ends.
 fn bounds(starts: &[usize], n: usize) -> (usize, usize)
     requires { n + 1 < length starts.now }
     ensures start { result.0 ≡ slice_index starts.now n }
@@ -480,7 +481,7 @@ fn bounds(starts: &[usize], n: usize) -> (usize, usize)
     (starts[n], starts[n + 1])
 }
 
-/// The part that an index is in: the last start that isn't past it.
+/// The part that has an index: that of the last start that isn't above it.
 fn part_of(starts: &[usize], index: usize) -> usize
     requires some { 0 < length starts.now }
     requires first { slice_index starts.now 0 ≤ index }
@@ -508,7 +509,7 @@ fn part<'a, T: Copy>(starts: &[usize], items: &'a [T], n: usize) -> &'a [T]
     &items[start..end]
 }
 
-/// Adds the entries of one column.
+/// Appends the entries of one column.
 fn append_column(
     entries: &mut Vec<Entry>,
     column: u32,
@@ -528,7 +529,7 @@ fn append_column(
     Ok(())
 }
 
-/// Whether the last of some numbers is this one.
+/// Whether this number is the last of some.
 fn ends_with(numbers: &[u32], number: u32) -> bool
     ensures { IsTrue result ↔ ((0 < length numbers.now) × (slice_index numbers.now (length numbers.now - 1) ≡ number)) }
 {
@@ -538,7 +539,7 @@ fn ends_with(numbers: &[u32], number: u32) -> bool
     }
 }
 
-/// Names one column more, and where its part ends.
+/// Appends the number of one more column, and where its part ends. A refusal leaves the lists as they were.
 #[inline(always)]
 fn start_column(
     columns: &mut Vec<u32>,
@@ -573,8 +574,8 @@ fn extend_reserved<T: Copy>(list: &mut Vec<T>, items: &[T])
     }
 }
 
-/// The columns that have entries, and where each starts and the last one ends, of columns that follow one another.
-/// There are so many entries.
+/// The columns that have entries, and where each starts and the last one ends, given where each column of the shape
+/// does. There are this many entries.
 fn nonempty_columns(
     alloc: Global,
     count: u32,

@@ -1,17 +1,19 @@
--- The lemmas on plans of one product by a spread vector and of operations place by place. Crates above cite:
+-- Lemmas on the plan of a product by a spread vector and on those of element-wise operations. Crates above cite:
 --
--- VectorStarts: what slots the ranks start with: `vector_starts_there`, the matrix's part and the vector's piece in
+-- VectorStarts: the slots with which the ranks start: `vector_starts_there`, the matrix's part and the vector's piece in
 --   their slots; `vector_starts_elsewhere`, nothing in any other.
 pub mod VectorStarts
--- For this crate alone. Blocks: what is done place by place to the blocks of matrices makes the blocks of the result, and the transpose.
--- Pointwise: what one operation of each rank leaves. Mirror: blocks that change sides. Lengths: the plans are short.
+-- For this crate alone. Blocks: element-wise operations on the blocks of matrices make the blocks of the result, and so
+-- does the transpose. Pointwise: what one operation of each rank leaves. Mirror: blocks that cross the diagonal. Lengths:
+-- the plans are short. Sides: the side of a grid, by its number of ranks.
 pub mod Blocks
 pub mod Pointwise
 pub mod Mirror
 pub mod Lengths
+pub mod Sides
 -- The product by a spread vector. Programs: operations of each rank, one after the other. Pieces: what each step
 -- does to the slots. Assembly: the pieces make the parts of a vector, and the pieces of the products those of the
--- result. SpreadProduct: so the plan makes the product. VectorFlow: it passes the check. Loops: how it is pushed.
+-- result. SpreadProduct: the plan makes the product. VectorFlow: it passes the check. Loops: how its acts are appended.
 -- VectorLengths: it is short.
 pub mod Programs
 pub mod Pieces
@@ -20,7 +22,7 @@ pub mod SpreadProduct
 pub mod VectorFlow
 pub mod VectorLengths
 pub mod Loops
--- Sums of columns and of rows. GatheredSums: what each step does to the slots. SumsOfBlocks: so the plans make the sums.
+-- Sums of columns and of rows. GatheredSums: what each step does to the slots. SumsOfBlocks: the plans make the sums.
 -- ReductionFlow: they pass the check. ReductionLengths: they are short.
 pub mod GatheredSums
 pub mod SumsOfBlocks

@@ -13,7 +13,7 @@ use Rattle.cb_grid_plans.specs.VectorPlans.{works}
 
 -- the acts of the next number, which are given by an equation
 module _ (f : ℕ → List Act) (i : ℕ) (first now : PlanView) (acts : List Act) (is : acts ≡ f i) where
-  -- where the acts of all numbers are within the limit of a plan, so are those of the next one
+  -- if the acts of all numbers are within the limit of a plan, so are those of the next one
   pub next_within : (n : ℕ) → i < n → IsWithinLimit first (flat_map f (range_with_len 0 n)) → Grew (flat_map f (range_with_len 0 i)) first now → IsWithinLimit now acts
   next_within n l w h = subst (λ xs. IsWithinLimit now xs) (sym is) (within_next f i first now n l w h)
 

@@ -59,7 +59,7 @@ later_in a n p f = grind (arith, nat_tests)
 all_in : (m p : ℕ) → p < m → (nat_le 0 p && nat_lt p (0 + m)) ≡ true
 all_in m p l = grind (arith, nat_tests)
 
--- one is on the other side of another where that is on the other side of it
+-- if one rank is on the other side of another, that one is on the other side of it
 mirrored_both : (q a r : ℕ) → a < q * q → r < q * q → (mirrored q a == r) ≡ (mirrored q r == a)
 mirrored_both q a r l m =
     split (mirrored q a == r)
@@ -141,7 +141,7 @@ is_transpose_plan q shape s a e state has =
           ∙ each_elsewhere ops q (λ _. op_is.Transpose 0 1) state r 0 (omega arith);
     }
 
--- blocks that change sides pass the check, where each rank has one in slot 1
+-- blocks that change sides pass the check, if each rank has one in slot 1
 pub mirror_flow : (q : ℕ) → 0 < q → (state : State Extent) → ((i j : ℕ) → i < q → j < q → is_some (state (i * q + j) 1) ≡ true) → Flows (q * q) none_shut state (mirror_acts q)
 mirror_flow q pos state filled =
     let exist : (k : ℕ) → k < q * q → (k < q * q) × (mirrored q k < q * q) × (1 < 256) × (2 < 256) = λ k l. (l, mirrored_below q k pos l, omega arith, omega arith) in
@@ -151,7 +151,7 @@ mirror_flow q pos state filled =
       lanes = sends_keep_lanes (q * q) (tagged 0) none_shut (λ s t. refl) (λ k. k) (mirrored q) (λ _. 1) (λ _. 2) (q * q) exist 0 (q * q);
     }
 
--- and so does a transpose, where each rank has its part of a matrix
+-- and so does a transpose, if each rank has its part of a matrix
 module _ (q : ℕ) (pos : 0 < q) (a : Extent) (state : State Extent) (left : (i j : ℕ) → i < q → j < q → state (i * q + j) 0 ≡ Some (part_shape q a i j)) where
   turns_flow : Flows (q * q) none_shut state (each_rank q (λ _. op_is.Transpose 0 1))
   turns_flow = each_flows q pos none_shut (λ _. op_is.Transpose 0 1) state (λ i j l h.

@@ -114,7 +114,7 @@ abbrev pub CanDo : ℕ → ℕ → (ℕ → Option Extent) → List Op → Type 
 CanDo ranks rank slots [] = Unit {0}
 CanDo ranks rank slots (op ∷ ops) = CanWork ranks rank slots op × CanDo ranks rank (after_op shapes op slots) ops
 
--- two lists of operations find what they ask for where the first does, and the second after it
+-- two lists of operations find what they ask for if the first does, and the second after it
 pub can_do_both : (ranks rank : ℕ) (slots : ℕ → Option Extent) (xs ys : List Op) → CanDo ranks rank slots xs → CanDo ranks rank (after_ops shapes xs slots) ys → CanDo ranks rank slots (xs ++ ys)
 can_do_both ranks rank slots [] ys h k = k
 can_do_both ranks rank slots (x ∷ xs) ys h k = (h.0, can_do_both ranks rank (after_op shapes x slots) xs ys h.1 k)
@@ -128,7 +128,7 @@ works_flow ranks rank shut (x ∷ xs) state can =
     let rest = works_flow ranks rank shut xs next (subst (λ (slots : ℕ → Option Extent). CanDo ranks rank slots xs) (sym is) can.1) in
     record { passes = (work_is_sound ranks rank state shut x can.0, rest.passes); lanes = rest.lanes }
 
--- the operations of all ranks, where each rank can do its own
+-- the operations of all ranks, if each rank can do its own
 pub each_works_flow : (q : ℕ) (shut : Lanes) (xs : ℕ → List Op) (state : State Extent) → ((r : ℕ) → r < q * q → CanDo (q * q) r (state r) (xs r)) → Flows (q * q) shut state (each_works q xs)
 each_works_flow q shut xs state can =
     flows_each (q * q) shut (λ r. works r (xs r)) (λ k st. (r : ℕ) → k ≤ r → r < q * q → CanDo (q * q) r (st r) (xs r)) (q * q)

@@ -28,7 +28,7 @@ use Rattle.cb_grid_plans.proofs.VectorFlow.{below, pieces_flow, can_sum}
 use Rattle.cb_grid_plans.proofs.Mirror.{mirror_flow}
 use Rattle.cb_grid_plans.proofs.GatheredSums.{own_rows, after_broadcasts, sums_gathered, has_sums, after_turns, has_turns, after_turned_sums, has_turned_sums, after_mirror, has_mirrored, after_copies, has_copies, turned_means}
 
--- one row of so many columns
+-- one row of this many columns
 abbrev row : ℕ → Extent
 row width = record { rows = 1; cols = width }
 

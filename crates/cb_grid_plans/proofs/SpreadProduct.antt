@@ -101,7 +101,7 @@ module _ {M : Type 0} (ops : Algebra M) (q : ℕ) (few : q ≤ 6) (shape : Exten
         ap (λ slots. slots 2) (each_works_here ops q (λ _. sum_ops q) after_exchanges (i * q + t) (rank_below q i t l h))
         ∙ sum_made ops q (product_piece i t) (after_exchanges (i * q + t)) (λ j k. has_summands i t j l h (omega arith))
 
--- the same sum where the blocks are the same
+-- the same sum if the blocks are the same
 summed_same : {M : Type 0} (ops : Algebra M) (f g : ℕ → M) → ((k : ℕ) → f k ≡ g k) → (n : ℕ) → summed ops f n ≡ summed ops g n
 summed_same ops f g same n = ap (λ h. summed ops h n) (λ i k. same k i)
 

@@ -20,7 +20,7 @@ use Rattle.cb_grid_plans.specs.VectorPlans.{column, input_start_at, vector_start
 use Rattle.cb_grid_plans.proofs.VectorFlow.{spread_flow}
 
 module _ (q : ℕ) (shape : Extent) where
-  -- what a slot of a rank has after its starts, where it had x before
+  -- what a slot of a rank has after its starts, if it had x before
   abbrev pub held : ℕ → ℕ → Option Extent → Option Extent
   held r n x = if 1 == n then Some (piece_shape q (column shape.cols) (r % q) (r / q)) else (if 0 == n then Some (part_shape q shape (r / q) (r % q)) else x)
 

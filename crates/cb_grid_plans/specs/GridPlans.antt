@@ -1,4 +1,4 @@
--- The plans of the transpose, of sums and products place by place, and of dropped entries.
+-- The plans of the transpose, of element-wise sums and products, and of pruning.
 use Rattle.std.specs.Prelude.{◌≡◌, ℕ, ◌+◌, ◌*◌, ◌/◌, ◌%◌, List, [], ◌∷◌, ◌++◌, map}
 use Rattle.std.specs.List.{range_with_len}
 use Rattle.cb_semirings.specs.Arithmetic.{Arithmetic}
@@ -39,27 +39,29 @@ mirror_acts q = map (λ r. sent r (mirrored q r) (tagged 0) 1 2) (range_with_len
 abbrev pub transpose_acts : ℕ → List Act
 transpose_acts q = (each_rank q (λ _. op_is.Transpose 0 1) ++ mirror_acts q) ++ shut_acts (q * q)
 
--- from a state, the acts leave the parts of a matrix in slot 2, and slot 0 as it was
+-- from this state, the acts leave the parts of a matrix in slot 2, and don't change slot 0
 pub record Leaves (s : Arithmetic) (q : ℕ) (acts : List Act) (state : State Sparse) (m : Sparse) : Type 0 where
   pub parts : HasParts s q m 2 (meaning (matrices s) acts state)
   pub kept : (r : ℕ) → meaning (matrices s) acts state r 0 ≡ state r 0
 
--- with any semiring and any matrix of this shape whose parts are in slot 0, the acts leave its transpose
+-- over any semiring, the acts leave the transpose of any matrix of this shape whose parts are in slot 0
 abbrev pub IsTransposePlan : List Act → ℕ → Extent → Type 0
 IsTransposePlan acts q shape =
     (s : Arithmetic) (a : Sparse) → a.shape ≡ shape → (state : State Sparse) → HasParts s q a 0 state → Leaves s q acts state (transposed s a)
 
--- the same, with what is left of the matrix without the entries that pass the test
+-- over any semiring, the acts leave the same matrix without the entries that pass the test
 abbrev pub IsPrunePlan : List Act → ℕ → Extent → Test → Type 0
 IsPrunePlan acts q shape test =
     (s : Arithmetic) (a : Sparse) → a.shape ≡ shape → (state : State Sparse) → HasParts s q a 0 state → Leaves s q acts state (pruned s (passes test) a)
 
--- with any two matrices of this shape whose parts are in slots 0 and 1, the acts leave their sum
+-- over any semiring, the acts leave the sum of any two matrices of this shape whose parts are in slots 0 and 1
 abbrev pub IsSumPlan : List Act → ℕ → Extent → Type 0
 IsSumPlan acts q shape =
-    (s : Arithmetic) (a b : Sparse) → a.shape ≡ shape → b.shape ≡ shape → (state : State Sparse) → HasParts s q a 0 state → HasParts s q b 1 state → Leaves s q acts state (sum_of s a b)
+    (s : Arithmetic) (a b : Sparse) → a.shape ≡ shape → b.shape ≡ shape → (state : State Sparse)
+    → HasParts s q a 0 state → HasParts s q b 1 state → Leaves s q acts state (sum_of s a b)
 
--- the same, with their product place by place
+-- over any semiring, the acts leave the element-wise product of two such matrices
 abbrev pub IsTimesPlan : List Act → ℕ → Extent → Type 0
 IsTimesPlan acts q shape =
-    (s : Arithmetic) (a b : Sparse) → a.shape ≡ shape → b.shape ≡ shape → (state : State Sparse) → HasParts s q a 0 state → HasParts s q b 1 state → Leaves s q acts state (times_of s a b)
+    (s : Arithmetic) (a b : Sparse) → a.shape ≡ shape → b.shape ≡ shape → (state : State Sparse)
+    → HasParts s q a 0 state → HasParts s q b 1 state → Leaves s q acts state (times_of s a b)

@@ -15,26 +15,27 @@ use Rattle.cb_grid_plans.specs.GridPlans.{mirror_acts, Leaves}
 use Rattle.cb_grid_plans.specs.VectorPlans.{each_works, piece_broadcasts, sum_ops}
 
 -- ---- the sums of each column of ranks
--- of the sums that came from rank t of a column, the rows that a rank has of the answer
+-- a rank cuts its rows of the answer out of the sums that came from rank t of its column
 abbrev pub own_cut : ℕ × ℕ → ℕ → ℕ → Op
 own_cut rows width t = op_is.Cut (10 + t) rows (0, width) (30 + t)
 
 abbrev pub own_cuts : ℕ → ℕ × ℕ → ℕ → List Op
 own_cuts q rows width = map (own_cut rows width) (range_with_len 0 q)
 
--- a rank keeps these rows of what it got, and adds them up in slot 2
+-- a rank keeps these rows of what it received, and adds them up in slot 2
 abbrev pub own_ops : ℕ → ℕ × ℕ → ℕ → List Op
 own_ops q rows width = own_cuts q rows width ++ sum_ops q
 
--- those rows are its part of one row
+-- the rows that a rank keeps are its part of one row
 abbrev pub own_sums : ℕ → Extent → ℕ → List Op
 own_sums q shape r = own_ops q (part q 1 (r / q)) (part_length q shape.cols (r % q))
 
--- the sums of blocks of a matrix of this shape, in slot 1, come to all ranks of a column, and each makes its part of the answer
+-- the column sums of a matrix's blocks, in slot 1, go to all ranks of a column, and each makes its part of the answer
 abbrev pub gathered_sums : ℕ → Extent → List Act
 gathered_sums q shape = piece_broadcasts q ++ each_works q (own_sums q shape)
 
--- ---- the plans each rank adds up the columns of its block, and the ranks of a column add up their sums
+-- ---- the plans
+-- each rank sums the columns of its block, and the ranks of a column add up their sums
 abbrev pub column_sums_acts : ℕ → Extent → List Act
 column_sums_acts q shape = each_rank q (λ _. op_is.ColumnSums 0 1) ++ gathered_sums q shape
 
@@ -42,11 +43,11 @@ column_sums_acts q shape = each_rank q (λ _. op_is.ColumnSums 0 1) ++ gathered_
 abbrev pub turned : Extent → Extent
 turned shape = record { rows = shape.cols; cols = shape.rows }
 
--- each rank adds up the columns of its block's transpose and sends the sums across the diagonal
+-- each rank sums the columns of its transposed block and sends the sums across the diagonal
 abbrev pub turned_sums_acts : ℕ → List Act
 turned_sums_acts q = each_rank q (λ _. op_is.Transpose 0 1) ++ (each_rank q (λ _. op_is.ColumnSums 1 1) ++ (mirror_acts q ++ each_rank q (λ _. op_is.Copy 2 1)))
 
--- what they make there goes back, transposed
+-- the result there goes back, transposed
 abbrev pub turn_back_acts : ℕ → List Act
 turn_back_acts q = each_rank q (λ _. op_is.Transpose 2 1) ++ mirror_acts q
 
@@ -54,12 +55,14 @@ abbrev pub row_sums_acts : ℕ → Extent → List Act
 row_sums_acts q shape = turned_sums_acts q ++ (gathered_sums q (turned shape) ++ turn_back_acts q)
 
 -- ---- what they leave
--- with any semiring and any matrix of this shape whose parts are in slot 0, the acts leave the sums of its columns
+-- over any semiring, the acts leave the column sums of any matrix of this shape whose parts are in slot 0
 abbrev pub IsColumnSumsPlan : List Act → ℕ → Extent → Type 0
 IsColumnSumsPlan acts q shape =
-    (s : Arithmetic) → IsSemiring s → (a : Sparse) → IsMatrix s a → a.shape ≡ shape → (state : State Sparse) → HasParts s q a 0 state → Leaves s q acts state (column_sums s a)
+    (s : Arithmetic) → IsSemiring s → (a : Sparse) → IsMatrix s a → a.shape ≡ shape → (state : State Sparse)
+    → HasParts s q a 0 state → Leaves s q acts state (column_sums s a)
 
--- the same, with the sums of its rows
+-- over any semiring, the acts leave the row sums of such a matrix
 abbrev pub IsRowSumsPlan : List Act → ℕ → Extent → Type 0
 IsRowSumsPlan acts q shape =
-    (s : Arithmetic) → IsSemiring s → (a : Sparse) → IsMatrix s a → a.shape ≡ shape → (state : State Sparse) → HasParts s q a 0 state → Leaves s q acts state (row_sums s a)
+    (s : Arithmetic) → IsSemiring s → (a : Sparse) → IsMatrix s a → a.shape ≡ shape → (state : State Sparse)
+    → HasParts s q a 0 state → Leaves s q acts state (row_sums s a)

@@ -1,4 +1,4 @@
--- The plan of a matrix times a vector, which is spread over all ranks.
+-- The plan of a matrix times a vector that is spread over all ranks.
 use Rattle.std.specs.Prelude.{◌≡◌, ◌<◌, ℕ, ◌+◌, ◌-◌, ◌*◌, ◌/◌, ◌%◌, List, [], ◌∷◌, ◌++◌, map, flat_map, Some}
 use Rattle.std.specs.List.{range_with_len}
 use Rattle.cb_semirings.specs.Arithmetic.{Arithmetic, IsSemiring}
@@ -20,7 +20,7 @@ use Rattle.cb_plan_parts.specs.PlanParts.{tagged, part_start_at, HasParts}
 abbrev pub column : ℕ → Extent
 column rows = record { rows = rows; cols = 1 }
 
--- ---- where the vectors lie
+-- ---- where the vectors are
 -- slot n of rank (t, j) has piece t of part j of an input
 abbrev pub HasInput : Arithmetic → ℕ → Sparse → ℕ → State Sparse → Type 0
 HasInput s q x n state = (t j : ℕ) → t < q → j < q → state (t * q + j) n ≡ Some (piece_of s q x j t)
@@ -29,7 +29,7 @@ HasInput s q x n state = (t j : ℕ) → t < q → j < q → state (t * q + j) n
 abbrev pub HasResult : Arithmetic → ℕ → Sparse → ℕ → State Sparse → Type 0
 HasResult s q y n state = (i t : ℕ) → i < q → t < q → state (i * q + t) n ≡ Some (piece_of s q y i t)
 
--- a slot of a rank has its piece of an input that a matrix of this shape is multiplied by
+-- a slot of a rank has its piece of an input by which a matrix of this shape is multiplied
 abbrev pub input_start_at : ℕ → ℕ → ℕ → Extent → Start
 input_start_at q slot r shape = record { rank = r; slot = slot; shape = piece_shape q (column shape.cols) (r % q) (r / q) }
 
@@ -37,7 +37,7 @@ input_start_at q slot r shape = record { rank = r; slot = slot; shape = piece_sh
 abbrev pub vector_starts_at : ℕ → Extent → ℕ → List Start
 vector_starts_at q shape r = part_start_at q 0 r shape ∷ input_start_at q 1 r shape ∷ []
 
--- what all ranks have
+-- what all ranks have before the first act
 abbrev pub vector_starts : ℕ → Extent → List Start
 vector_starts q shape = flat_map (vector_starts_at q shape) (range_with_len 0 (q * q))
 
@@ -54,7 +54,7 @@ each_works q ops = flat_map (λ r. works r (ops r)) (range_with_len 0 (q * q))
 abbrev pub piece_broadcast : ℕ → ℕ → ℕ → List Act
 piece_broadcast q j t = broadcast_acts (column_group q j) (t * q + j) (tagged t) 1 (10 + t)
 
--- and so does each piece of part j
+-- each piece of part j goes down column j
 abbrev pub part_broadcasts : ℕ → ℕ → List Act
 part_broadcasts q j = flat_map (piece_broadcast q j) (range_with_len 0 q)
 
@@ -76,7 +76,7 @@ piece_cut q rows t = op_is.Cut 5 (part q rows t) (0, 1) (20 + t)
 abbrev pub cut_ops : ℕ → ℕ → List Op
 cut_ops q rows = map (piece_cut q rows) (range_with_len 0 q)
 
--- along row i of ranks each gets its piece of each product
+-- in row i of ranks, each rank receives its piece of each product
 abbrev pub exchange : ℕ → ℕ → List Act
 exchange q i = all_to_all_acts (row_group q i) (tagged 6) 20 30
 
@@ -91,14 +91,14 @@ next_summand s = op_is.Add 2 (31 + s) 2
 abbrev pub sum_ops : ℕ → List Op
 sum_ops q = op_is.Copy 30 2 ∷ map next_summand (range_with_len 0 (q - 1))
 
--- what a rank does with its block of a matrix of this shape
+-- a rank multiplies its block of a matrix of this shape
 abbrev pub products_at : ℕ → Extent → ℕ → List Op
 products_at q shape r = product_ops q (column (part_length q shape.cols (r % q)))
 
 abbrev pub cuts_at : ℕ → Extent → ℕ → List Op
 cuts_at q shape r = cut_ops q (part_length q shape.rows (r / q))
 
--- the vector comes to the ranks, each of them multiplies, and the pieces of the products are added where they belong
+-- the vector goes to the ranks, each multiplies its block, and the pieces of the products are added where they belong
 abbrev pub spread_product_acts : ℕ → Extent → List Act
 spread_product_acts q shape =
     piece_broadcasts q
@@ -111,13 +111,13 @@ abbrev pub vector_acts : ℕ → Extent → List Act
 vector_acts q shape = spread_product_acts q shape ++ shut_acts (q * q)
 
 -- ---- what they leave
--- from a state, the acts leave the pieces of a result in slot 2, and slot 0 as it was
+-- from this state, the acts leave the pieces of a result in slot 2, and don't change slot 0
 pub record LeavesResult (s : Arithmetic) (q : ℕ) (acts : List Act) (state : State Sparse) (y : Sparse) : Type 0 where
   pub pieces : HasResult s q y 2 (meaning (matrices s) acts state)
   pub kept : (r : ℕ) → meaning (matrices s) acts state r 0 ≡ state r 0
 
--- with any semiring, any matrix of this shape whose parts are in slot 0 and any vector whose pieces are in slot 1,
--- the acts leave their product
+-- over any semiring, the acts leave the product of any matrix of this shape whose parts are in slot 0 and any vector
+-- whose pieces are in slot 1
 abbrev pub IsVectorPlan : List Act → ℕ → Extent → Type 0
 IsVectorPlan acts q shape =
     (s : Arithmetic) → IsSemiring s → (a x : Sparse) → IsMatrix s a → IsMatrix s x → a.shape ≡ shape → x.shape ≡ column shape.cols →

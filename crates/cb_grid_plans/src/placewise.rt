@@ -1,9 +1,8 @@
-//! Operations place by place: each rank works on its own blocks.
-ghost use Rattle.std.specs.Prelude.{◌≡◌, ◌*◌, IfOk, IfErr};
-ghost use Rattle.cb_plan.specs.Checks.{started, none_shut};
+//! Element-wise operations: each rank works on its own blocks.
+ghost use Rattle.std.specs.Prelude.{◌≡◌, ◌<◌, ◌*◌, IfOk, IfErr};
 ghost use Rattle.cb_plan.specs.Runnable.{IsRunnable};
 ghost use Rattle.cb_plan_parts.specs.PlanParts.{each_rank, operand_starts, NamesSlots};
-ghost use Rattle.cb_plan_parts.specs.Flows.{Flows};
+ghost use Rattle.cb_plan_parts.specs.Flows.{FlowsFrom};
 ghost use Rattle.cb_plan_parts.specs.Growth.{no_memory};
 ghost use Rattle.cb_grid_plans.specs.GridPlans.{one_operand, two_operands, placewise_acts, IsSumPlan, IsTimesPlan, IsPrunePlan};
 
@@ -24,7 +23,6 @@ pub fn grid_add(alloc: Global, grid: &Grid, a: Shape) -> Result<Planned, PlanFau
     ensures sum { IfOk result (λ p. IsSumPlan p.plan.acts grid.now.side a) }
     ensures fault { IfErr result (λ e. e ≡ no_memory) }
 {
-    let _side = grid.side();
     let op = Op::Add {
         a: LEFT,
         b: RIGHT,
@@ -33,7 +31,7 @@ pub fn grid_add(alloc: Global, grid: &Grid, a: Shape) -> Result<Planned, PlanFau
     placewise(alloc, grid, &op, &two_operands(a))
 }
 
-/// The plan of the product place by place of two matrices of this shape.
+/// The plan of the element-wise product of two matrices of this shape.
 pub fn grid_times(alloc: Global, grid: &Grid, a: Shape) -> Result<Planned, PlanFault>
     ensures ranks { IfOk result (λ p. p.plan.ranks ≡ grid.now.side * grid.now.side) }
     ensures starts { IfOk result (λ p. p.starts.items ≡ operand_starts grid.now.side (two_operands a)) }
@@ -43,7 +41,6 @@ pub fn grid_times(alloc: Global, grid: &Grid, a: Shape) -> Result<Planned, PlanF
     ensures product { IfOk result (λ p. IsTimesPlan p.plan.acts grid.now.side a) }
     ensures fault { IfErr result (λ e. e ≡ no_memory) }
 {
-    let _side = grid.side();
     let op = Op::Times {
         a: LEFT,
         b: RIGHT,
@@ -62,7 +59,6 @@ pub fn grid_prune(alloc: Global, grid: &Grid, a: Shape, test: Test) -> Result<Pl
     ensures rest { IfOk result (λ p. IsPrunePlan p.plan.acts grid.now.side a test) }
     ensures fault { IfErr result (λ e. e ≡ no_memory) }
 {
-    let _side = grid.side();
     let op = Op::Prune {
         a: LEFT,
         test,
@@ -88,7 +84,7 @@ fn two_operands(shape: Shape) -> [Operand; 2]
     ]
 }
 
-/// The plan in which each rank does one operation, which its operands allow.
+/// The plan in which each rank does one operation, whose operands it has.
 fn placewise(
     alloc: Global,
     grid: &Grid,
@@ -96,7 +92,7 @@ fn placewise(
     operands: &[Operand],
 ) -> Result<Planned, PlanFault>
     requires slots { NamesSlots operands.now }
-    requires flows { Flows (grid.now.side * grid.now.side) none_shut (started (operand_starts grid.now.side operands.now)) (each_rank grid.now.side (λ _. op.now)) }
+    requires flows { 0 < grid.now.side → FlowsFrom grid.now.side operands.now (each_rank grid.now.side (λ _. op.now)) }
     ensures ranks { IfOk result (λ p. p.plan.ranks ≡ grid.now.side * grid.now.side) }
     ensures starts { IfOk result (λ p. p.starts.items ≡ operand_starts grid.now.side operands.now) }
     ensures acts { IfOk result (λ p. p.plan.acts ≡ placewise_acts grid.now.side op.now) }
@@ -104,7 +100,6 @@ fn placewise(
     ensures runnable { IfOk result (λ p. IsRunnable p) }
     ensures fault { IfErr result (λ e. e ≡ no_memory) }
 {
-    let _side = grid.side();
     let mut plan = Plan::new(alloc, grid.ranks());
     work_everywhere(&mut plan, grid, op)?;
     let Ok(starts) = operand_starts(alloc, grid, operands) else {

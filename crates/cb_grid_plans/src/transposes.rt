@@ -28,7 +28,6 @@ pub fn grid_transpose(alloc: Global, grid: &Grid, a: Shape) -> Result<Planned, P
     ensures transpose { IfOk result (λ p. IsTransposePlan p.plan.acts grid.now.side a) }
     ensures fault { IfErr result (λ e. e ≡ no_memory) }
 {
-    let _side = grid.side();
     let mut plan = Plan::new(alloc, grid.ranks());
     let transpose = Op::Transpose {
         a: LEFT,
@@ -42,7 +41,7 @@ pub fn grid_transpose(alloc: Global, grid: &Grid, a: Shape) -> Result<Planned, P
     finish(grid, plan, starts, RESULT)
 }
 
-/// The transposed blocks go across the diagonal.
+/// Sends the transposed blocks across the diagonal.
 pub(crate) fn send_across(plan: &mut Plan, grid: &Grid) -> Result<(), PlanFault>
     requires { IsWithinLimit plan.now (mirror_acts grid.now.side) }
     ensures acts { OnOk result (Grew (mirror_acts grid.now.side) plan.old plan.new) }

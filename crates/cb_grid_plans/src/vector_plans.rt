@@ -1,8 +1,8 @@
 //! A matrix times a vector that is spread over all ranks.
 //!
 //! Rank (t, j) has piece t of part j of the vector. The pieces of part j go down column j of ranks, where each rank
-//! assembles the part and multiplies its block by it. The products of a row of ranks are the summands of one part of
-//! the result: each is cut into pieces, and rank (i, t) gets piece t of each and adds them up.
+//! assembles the part and multiplies its block by it. The products in row i of ranks are the summands of part i of the
+//! result. Each is cut into pieces; rank (i, t) receives piece t of each and adds them up.
 ghost use Rattle.std.specs.Prelude.{◌≡◌, ◌<◌, ◌≤◌, ◌+◌, ◌-◌, ◌*◌, ◌/◌, ◌%◌, ◌++◌, ℕ, List, map, flat_map, All, AllPairs, IfOk, IfErr, OnOk};
 ghost use Rattle.std.specs.List.{range_with_len};
 ghost use Rattle.cb_plan.specs.Runnable.{IsRunnable};
@@ -11,7 +11,9 @@ ghost use Rattle.cb_plan.specs.declared.stores.TheConstants.{SLOTS};
 ghost use Rattle.cb_layout.specs.Parts.{part_length};
 ghost use Rattle.cb_layout.specs.Vectors.{piece_shape};
 ghost use Rattle.cb_plan_parts.specs.Growth.{IsWithinLimit, Grew, no_memory};
-ghost use Rattle.cb_grid_plans.specs.VectorPlans.{column, vector_starts_at, vector_starts, works, each_works, piece_broadcast, part_broadcasts, piece_broadcasts, add_piece, product_ops, piece_cut, cut_ops, exchange, exchanges, next_summand, sum_ops, products_at, cuts_at, spread_product_acts, vector_acts, IsVectorPlan};
+ghost use Rattle.cb_grid_plans.specs.VectorPlans.{column, vector_starts_at, vector_starts, works, each_works, vector_acts, IsVectorPlan};
+ghost use Rattle.cb_grid_plans.specs.VectorPlans.{piece_broadcast, part_broadcasts, piece_broadcasts, add_piece, product_ops, products_at};
+ghost use Rattle.cb_grid_plans.specs.VectorPlans.{piece_cut, cut_ops, cuts_at, exchange, exchanges, next_summand, sum_ops, spread_product_acts};
 
 use crate::{LEFT, RESULT, RIGHT};
 use cb_collectives::{all_to_all, broadcast};
@@ -25,26 +27,26 @@ use std::alloc::{AllocError, Global};
 /// The slot in which a rank assembles its part of the vector.
 const PART: u16 = 3;
 
-/// The slot of a piece in its place in the part.
+/// The slot of a piece at its place in the part.
 const PLACED: u16 = 4;
 
 /// The slot of the product of a rank's block and its part of the vector.
 const PRODUCT: u16 = 5;
 
-/// The first of the slots that the pieces of a part come to.
+/// The first of the slots in which a rank receives the pieces of its part.
 pub(crate) const PIECES: u16 = 10;
 
-/// The first of the slots of a product's pieces.
+/// The first of the slots for the pieces of a rank's product.
 const CUTS: u16 = 20;
 
-/// The first of the slots that a rank's summands come to.
+/// The first of the slots in which a rank receives its summands.
 pub(crate) const SUMMANDS: u16 = 30;
 
-/// The plan of a matrix of this shape times a vector. The vector and the result are spread over all ranks: piece t
-/// of part j of the vector stands in slot 1 of rank (t, j) before the first act, and piece t of part i of the
-/// result in slot 2 of rank (i, t) after the last.
+/// The plan of a matrix of this shape times a vector. The vector and the result are spread over all ranks: piece t of part
+/// j of the vector is in slot 1 of rank (t, j) before the first act, and piece t of part i of the result is in slot 2 of
+/// rank (i, t) after the last.
 ///
-/// On a grid of side q each rank sends and gets about 2(q-1) pieces. This is the product of Buluç and Gilbert, The
+/// On a grid of side q each rank sends and receives about 2(q-1) pieces. This is the product of Buluç and Gilbert, The
 /// Combinatorial BLAS (IJHPCA 2011), section 4.
 pub fn grid_vector(alloc: Global, grid: &Grid, a: Shape) -> Result<Planned, PlanFault>
     ensures ranks { IfOk result (λ p. p.plan.ranks ≡ grid.now.side * grid.now.side) }
@@ -55,7 +57,6 @@ pub fn grid_vector(alloc: Global, grid: &Grid, a: Shape) -> Result<Planned, Plan
     ensures product { IfOk result (λ p. IsVectorPlan p.plan.acts grid.now.side a) }
     ensures fault { IfErr result (λ e. e ≡ no_memory) }
 {
-    let _side = grid.side();
     let mut plan = Plan::new(alloc, grid.ranks());
     multiply_spread(&mut plan, alloc, grid, a)?;
     let Ok(starts) = vector_starts(alloc, grid, a) else {
@@ -106,7 +107,7 @@ fn input_shape(grid: &Grid, rank: u16, a: Shape) -> Shape
     Shape::new(rows, 1).unwrap()
 }
 
-/// Slot 2 of each rank gets its piece of the product.
+/// Leaves in slot 2 of each rank its piece of the product.
 fn multiply_spread(plan: &mut Plan, alloc: Global, grid: &Grid, a: Shape) -> Result<(), PlanFault>
     requires { IsWithinLimit plan.now (spread_product_acts grid.now.side a) }
     ensures acts { OnOk result (Grew (spread_product_acts grid.now.side a) plan.old plan.new) }
@@ -119,7 +120,7 @@ fn multiply_spread(plan: &mut Plan, alloc: Global, grid: &Grid, a: Shape) -> Res
     add_summands(plan, grid)
 }
 
-/// Each piece of the vector goes down a column of ranks.
+/// Broadcasts each piece of the vector down its column of ranks.
 pub(crate) fn broadcast_pieces(plan: &mut Plan, alloc: Global, grid: &Grid) -> Result<(), PlanFault>
     requires { IsWithinLimit plan.now (piece_broadcasts grid.now.side) }
     ensures acts { OnOk result (Grew (piece_broadcasts grid.now.side) plan.old plan.new) }
@@ -131,7 +132,7 @@ pub(crate) fn broadcast_pieces(plan: &mut Plan, alloc: Global, grid: &Grid) -> R
     Ok(())
 }
 
-/// Each piece of part j goes down its column of ranks.
+/// Broadcasts each piece of part j down column j of ranks.
 fn broadcast_part(plan: &mut Plan, alloc: Global, grid: &Grid, j: u32) -> Result<(), PlanFault>
     requires column { j < grid.now.side }
     requires limit { IsWithinLimit plan.now (part_broadcasts grid.now.side j) }
@@ -175,7 +176,7 @@ fn part_of_vector(grid: &Grid, rank: u16, a: Shape) -> Shape
     Shape::new(rows, 1).unwrap()
 }
 
-/// A rank assembles its part of the vector, which has this shape, and multiplies its block by it.
+/// A rank assembles its part of the vector, of this shape, and multiplies its block by it.
 fn multiply_block(plan: &mut Plan, grid: &Grid, rank: u16, part: Shape) -> Result<(), PlanFault>
     requires { IsWithinLimit plan.now (works rank (product_ops grid.now.side part)) }
     ensures acts { OnOk result (Grew (works rank (product_ops grid.now.side part)) plan.old plan.new) }
@@ -195,7 +196,7 @@ fn multiply_block(plan: &mut Plan, grid: &Grid, rank: u16, part: Shape) -> Resul
     work(plan, rank, &[product])
 }
 
-/// A rank adds the pieces of its part of the vector, each in its place.
+/// A rank adds the pieces to its part of the vector, each at its place.
 fn add_pieces(plan: &mut Plan, grid: &Grid, rank: u16, part: Shape) -> Result<(), PlanFault>
     requires { IsWithinLimit plan.now (works rank (flat_map (add_piece grid.now.side part) (range_with_len 0 grid.now.side))) }
     ensures acts { OnOk result (Grew (works rank (flat_map (add_piece grid.now.side part) (range_with_len 0 grid.now.side))) plan.old plan.new) }
@@ -232,7 +233,7 @@ fn cut_products(plan: &mut Plan, grid: &Grid, a: Shape) -> Result<(), PlanFault>
     Ok(())
 }
 
-/// A rank cuts its product, which has this many rows, into pieces.
+/// A rank cuts its product, of this many rows, into pieces.
 fn cut_product(plan: &mut Plan, grid: &Grid, rank: u16, rows: u32) -> Result<(), PlanFault>
     requires { IsWithinLimit plan.now (works rank (cut_ops grid.now.side rows)) }
     ensures acts { OnOk result (Grew (works rank (cut_ops grid.now.side rows)) plan.old plan.new) }
@@ -250,7 +251,7 @@ fn cut_product(plan: &mut Plan, grid: &Grid, rank: u16, rows: u32) -> Result<(),
     Ok(())
 }
 
-/// Along each row of ranks each rank gets its piece of each product.
+/// In each row of ranks, each rank receives its piece of each product.
 fn exchange_pieces(plan: &mut Plan, alloc: Global, grid: &Grid) -> Result<(), PlanFault>
     requires { IsWithinLimit plan.now (exchanges grid.now.side) }
     ensures acts { OnOk result (Grew (exchanges grid.now.side) plan.old plan.new) }
@@ -263,7 +264,7 @@ fn exchange_pieces(plan: &mut Plan, alloc: Global, grid: &Grid) -> Result<(), Pl
     Ok(())
 }
 
-/// Each rank adds up the pieces that it got.
+/// Each rank adds up the pieces that it received.
 fn add_summands(plan: &mut Plan, grid: &Grid) -> Result<(), PlanFault>
     requires { IsWithinLimit plan.now (each_works grid.now.side (λ _. sum_ops grid.now.side)) }
     ensures acts { OnOk result (Grew (each_works grid.now.side (λ _. sum_ops grid.now.side)) plan.old plan.new) }
@@ -275,7 +276,7 @@ fn add_summands(plan: &mut Plan, grid: &Grid) -> Result<(), PlanFault>
     Ok(())
 }
 
-/// A rank adds up the pieces that it got.
+/// A rank adds up the pieces that it received.
 pub(crate) fn add_up(plan: &mut Plan, grid: &Grid, rank: u16) -> Result<(), PlanFault>
     requires { IsWithinLimit plan.now (works rank (sum_ops grid.now.side)) }
     ensures acts { OnOk result (Grew (works rank (sum_ops grid.now.side)) plan.old plan.new) }
@@ -289,7 +290,7 @@ pub(crate) fn add_up(plan: &mut Plan, grid: &Grid, rank: u16) -> Result<(), Plan
     add_others(plan, grid, rank)
 }
 
-/// A rank adds to the first piece the others that it got.
+/// A rank adds the other pieces that it received to the first.
 fn add_others(plan: &mut Plan, grid: &Grid, rank: u16) -> Result<(), PlanFault>
     requires { IsWithinLimit plan.now (works rank (map next_summand (range_with_len 0 (grid.now.side - 1)))) }
     ensures acts { OnOk result (Grew (works rank (map next_summand (range_with_len 0 (grid.now.side - 1)))) plan.old plan.new) }

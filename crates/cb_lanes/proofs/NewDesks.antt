@@ -6,8 +6,8 @@ use Rattle.std.proofs.Math.Seq.{get_or-append_seam}
 use Rattle.std.proofs.lemmas.Bool.{cases_lt}
 use Rattle.std.specs.declared.vec.Vec.{Vec}
 use Rattle.std.specs.declared.alloc.Global.{Global}
-use Rattle.cb_lanes.specs.declared.ends.Poster.{Poster}
-use Rattle.cb_lanes.specs.declared.ends.Taker.{Taker}
+use Rattle.cb_lanes.specs.declared.ring_ends.Poster.{Poster}
+use Rattle.cb_lanes.specs.declared.ring_ends.Taker.{Taker}
 use Rattle.cb_lanes.specs.declared.desk.Desk.{Desk}
 use Rattle.cb_lanes.specs.Ends.{AreNewLanes, AreRows, AreColumns, outgoing_ring, incoming_ring, sent_by, received_by, room_of, capacity_of, out_at, in_at}
 use Rattle.cb_lanes.specs.Desks.{Identity, identity, identity_at, AreOfOneOpening, IsNewDesk, HaveLanes}

@@ -3,13 +3,14 @@ use Rattle.std.specs.Prelude.{ℕ, ◌≡◌, ◌≢◌, ◌≤◌, ◌<◌, ◌
 use Rattle.std.specs.Option.{option_map_or}
 use Rattle.cb_letters.specs.declared.Letter.{Letter}
 use Rattle.cb_letters.specs.declared.Taken.{Taken}
-use Rattle.cb_letters.specs.Standing.{Standing}
+use Rattle.cb_letters.specs.declared.PostRefusal.{PostRefusal}
+use Rattle.cb_letters.specs.Standing.{Standing, MayRefuse}
 use Rattle.cb_letters.specs.Posted.{standing_by, GrowsBy, is_end, ends_closed}
 use mathlib.Core.List.{IsPrefix}
 use Rattle.std.specs.declared.vec.Vec.{Vec}
 use Rattle.std.specs.declared.alloc.Global.{Global}
-use Rattle.cb_lanes.specs.declared.ends.Poster.{Poster}
-use Rattle.cb_lanes.specs.declared.ends.Taker.{Taker}
+use Rattle.cb_lanes.specs.declared.ring_ends.Poster.{Poster}
+use Rattle.cb_lanes.specs.declared.ring_ends.Taker.{Taker}
 use Rattle.cb_lanes.specs.declared.desk.Desk.{Desk}
 use Rattle.cb_lanes.specs.Numbers.{AreNumbered}
 use Rattle.cb_lanes.specs.Ends.{RingName, sent_by, room_of, capacity_of, received_by, known_by, outgoing_ring, incoming_ring}
@@ -24,17 +25,25 @@ pub record Identity : Type 0 where
 abbrev pub identity_at : List Identity → ℕ → Identity
 identity_at ids k = slice_index_or ids k (record { me = 0; outgoing = []; incoming = [] })
 
--- these are all desks of one opening, in order of their ranks: the end that one posts on and the end that the other takes from are of one ring
+-- the ring of the lane to this rank
+abbrev pub ring_to : Identity → ℕ → Option RingName
+ring_to a k = slice_index_or a.outgoing k None
+
+-- the ring of the lane from this rank
+abbrev pub ring_from : Identity → ℕ → Option RingName
+ring_from a k = slice_index_or a.incoming k None
+
+-- all desks of one opening, in order of their ranks: a lane's posting end and its taking end are of one ring
 pub record AreOfOneOpening (ids : List Identity) : Type 0 where
   pub places : (k : ℕ) → k < length ids → (identity_at ids k).me ≡ k
   pub ranks : (k : ℕ) → k < length ids → (length (identity_at ids k).outgoing ≡ length ids) × (length (identity_at ids k).incoming ≡ length ids)
-  pub rings : (i j : ℕ) → i < length ids → j < length ids → slice_index_or (identity_at ids i).outgoing j None ≡ slice_index_or (identity_at ids j).incoming i None
+  pub rings : (i j : ℕ) → i < length ids → j < length ids → ring_to (identity_at ids i) j ≡ ring_from (identity_at ids j) i
 
--- two desks, each with its ends of the two lanes between them
+-- two desks hold the ends of the two lanes between them
 pub record AreLinked (a b : Identity) : Type 0 where
   pub apart : a.me ≢ b.me
-  pub there : slice_index_or a.outgoing b.me None ≡ slice_index_or b.incoming a.me None
-  pub back : slice_index_or b.outgoing a.me None ≡ slice_index_or a.incoming b.me None
+  pub there : ring_to a b.me ≡ ring_from b a.me
+  pub back : ring_to b a.me ≡ ring_from a b.me
   pub inside_a : (b.me < length a.outgoing) × (b.me < length a.incoming)
   pub inside_b : (a.me < length b.outgoing) × (a.me < length b.incoming)
 
@@ -47,7 +56,7 @@ module _ {P : Type 0} where
   abbrev pub taken_from : Desk P → ℕ → List (Letter P)
   taken_from d from = received_by (slice_index_or d.incoming.items from None)
 
-  -- for how many more letters to this rank the desk knows that there is room
+  -- for how many more letters to this rank the desk knows of room
   abbrev pub room_to : Desk P → ℕ → ℕ
   room_to d to = room_of (slice_index_or d.outgoing.items to None)
 
@@ -75,7 +84,7 @@ module _ {P : Type 0} where
       × (capacity_to b to ≡ capacity_to a to)
       × ((k : ℕ) → k ≢ to → (posted_to b k ≡ posted_to a k) × (room_to a k ≤ room_to b k) × (capacity_to b k ≡ capacity_to a k))
 
-  -- what was taken from this rank grew by a take that answers this, and nothing else did
+  -- what was taken from this rank grew by a take with this answer, and nothing else did
   abbrev pub AddsTaken : Desk P → Desk P → ℕ → Taken P → Type 0
   AddsTaken a b from r = GrowsBy (taken_from a from) (taken_from b from) r × ((k : ℕ) → k ≢ from → taken_from b k ≡ taken_from a k)
 
@@ -95,6 +104,10 @@ module _ {P : Type 0} where
   abbrev pub may_be_full : Desk P → ℕ → Type 0
   may_be_full d to = capacity_to d to ≤ length (posted_to d to)
 
+  -- a post to this rank may be refused for this reason
+  abbrev pub MayRefusePost : Desk P → ℕ → PostRefusal → Type 0
+  MayRefusePost d to reason = MayRefuse (standing d to) (may_be_full d to) reason
+
   -- nothing was posted and nothing taken
   abbrev pub Keeps : Desk P → Desk P → Type 0
   Keeps a b = (identity b ≡ identity a) × KeepsPosted a b × KeepsTaken a b
@@ -103,8 +116,8 @@ module _ {P : Type 0} where
   abbrev pub Posts : Desk P → ℕ → Letter P → Desk P → Type 0
   Posts a to x b = (identity b ≡ identity a) × AddsPosted a b to x × KeepsTaken a b
 
-  -- a take from this rank answered this, and nothing else happened. The lane has ended exactly if the last letter taken
-  -- is a close mark; then nothing more is taken. What was taken is numbered
+  -- a take from this rank gave this answer, and nothing else happened. The lane has ended exactly if the last letter taken
+  -- is a close mark, and then nothing more is taken. The letters taken are numbered from 0
   abbrev pub Takes : Desk P → ℕ → Taken P → Desk P → Type 0
   Takes a from r b =
       (identity b ≡ identity a)
@@ -114,7 +127,7 @@ module _ {P : Type 0} where
       × (ends_closed (taken_from a from) ≡ true → taken_from b from ≡ taken_from a from)
       × AreNumbered (taken_from b from)
 
-  -- the desk of rank k of n, with lanes for c letters, on which nothing was posted or taken
+  -- the desk of rank k of n, whose lanes have room for c letters; nothing was posted or taken
   pub record IsNewDesk (c n k : ℕ) (d : Desk P) : Type 0 where
     pub me : d.me ≡ k
     pub ranks : length d.outgoing.items ≡ n
@@ -147,11 +160,11 @@ module _ {P : Type 0} where
       → IsSettled (slice_index_or desks low a) (slice_index_or desks high b) low high
       × IsSettled (slice_index_or desks high b) (slice_index_or desks low a) high low
 
-  -- the letters that one of these desks posted to the rank of another, oldest first; none if there is no such desk
+  -- the letters that the first rank's desk posted to the second rank, oldest first; none if there is no such desk
   abbrev pub posted_in : List (Desk P) → ℕ → ℕ → List (Letter P)
   posted_in desks from to = option_map_or (λ d. posted_to d to) (slice_get desks from) []
 
-  -- the letters that the other of them took from the one, oldest first
+  -- the letters that the second rank's desk took from the first rank, oldest first
   abbrev pub taken_in : List (Desk P) → ℕ → ℕ → List (Letter P)
   taken_in desks from to = option_map_or (λ d. taken_from d from) (slice_get desks to) []
 
@@ -159,3 +172,9 @@ module _ {P : Type 0} where
   pub record IsSettledLane (posted taken : List (Letter P)) : Type 0 where
     pub prefix : IsPrefix taken posted
     pub whole : ends_closed taken ≡ true → taken ≡ posted
+
+  -- this holds of each lane between two of these desks
+  abbrev pub AreSettledLanes : List (Desk P) → Type 0
+  AreSettledLanes desks =
+      (from to : ℕ) → from < length desks → to < length desks → from ≢ to
+      → IsSettledLane (posted_in desks from to) (taken_in desks from to)

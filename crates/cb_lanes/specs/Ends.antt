@@ -1,5 +1,5 @@
--- The ends of lanes that a desk holds, in order of the other rank. The one at the desk's own number is absent.
-use Rattle.std.specs.Prelude.{ℕ, ◌≡◌, ◌≢◌, ◌+◌, ◌<◌, ◌==◌, not, List, [], length, Option, Some, None, is_some, slice_index_or}
+-- The ends of lanes that a desk holds, by the rank at the other end. There is none at the desk's own number.
+use Rattle.std.specs.Prelude.{ℕ, ◌≡◌, ◌≢◌, ◌+◌, ◌≤◌, ◌<◌, ◌==◌, false, not, List, [], ◌∷◌, ◌++◌, length, Option, Some, None, is_some, slice_index_or}
 use Rattle.std.specs.declared.vec.Vec.{Vec}
 use denote.RawPtr.{Ptr}
 use Rattle.std.specs.declared.alloc.Global.{Global}
@@ -7,8 +7,10 @@ use Rattle.rtrb.specs.Shared.{Names}
 use Rattle.rtrb.specs.Ring.{sent, received, known_free, known_items, producer_capacity}
 use Rattle.rtrb.specs.declared.end.End.{End}
 use Rattle.cb_letters.specs.declared.Letter.{Letter}
-use Rattle.cb_lanes.specs.declared.ends.Poster.{Poster}
-use Rattle.cb_lanes.specs.declared.ends.Taker.{Taker}
+use Rattle.cb_letters.specs.Posted.{standing_by}
+use Rattle.cb_letters.specs.Standing.{Standing}
+use Rattle.cb_lanes.specs.declared.ring_ends.Poster.{Poster}
+use Rattle.cb_lanes.specs.declared.ring_ends.Taker.{Taker}
 
 -- what distinguishes a ring from every other
 abbrev pub RingName : Type 0
@@ -18,6 +20,22 @@ abbrev pub ring_name : {T P : Type 0} → End T Global P → RingName
 ring_name e = (e.words, e.slots, e.names, e.heap)
 
 module _ {P : Type 0} where
+  -- how the lane stands on which this rank posts by this end
+  abbrev pub standing_at : ℕ → Poster P → Standing
+  standing_at from lane = standing_by from false (sent lane.ring)
+
+  -- at least as many letters were posted as the lane has places
+  abbrev pub MayBeFull : Poster P → Type 0
+  MayBeFull lane = producer_capacity lane.ring ≤ length (sent lane.ring)
+
+  -- one more letter was posted at this end
+  abbrev pub Sends : Poster P → Poster P → Letter P → Type 0
+  Sends old new x = sent new.ring ≡ sent old.ring ++ x ∷ []
+
+  -- no letter was posted at this end
+  abbrev pub KeepsSent : Poster P → Poster P → Type 0
+  KeepsSent old new = sent new.ring ≡ sent old.ring
+
   abbrev pub sent_by : Option (Poster P) → List (Letter P)
   sent_by None = []
   sent_by (Some lane) = sent lane.ring
@@ -34,7 +52,7 @@ module _ {P : Type 0} where
   received_by None = []
   received_by (Some lane) = received lane.ring
 
-  -- the letters that were seen in the ring and not taken yet
+  -- the letters that this end has seen in the ring and not taken yet
   abbrev pub known_by : Option (Taker P) → List (Letter P)
   known_by None = []
   known_by (Some lane) = known_items lane.ring
@@ -47,7 +65,7 @@ module _ {P : Type 0} where
   incoming_ring None = None
   incoming_ring (Some lane) = Some (ring_name lane.ring.end)
 
-  -- the two ends of the lane between these ranks, which is new and holds at most c letters; a rank has no lane to itself
+  -- the two ends of a new lane from one rank to another, with room for c letters; a rank has no lane to itself
   abbrev pub IsNewLane : ℕ → ℕ → ℕ → Option (Poster P) → Option (Taker P) → Type 0
   IsNewLane from to c o i =
       (is_some o ≡ not (from == to))
@@ -68,7 +86,7 @@ module _ {P : Type 0} where
   abbrev pub AreColumns : List (Vec (Option (Taker P)) Global) → ℕ → Type 0
   AreColumns columns n = (j : ℕ) (d : Vec (Option (Taker P)) Global) → j < length columns → length (slice_index_or columns j d).items ≡ n
 
-  -- a new lane was opened from this rank to each: the posting end is in the row, and the taking end is the last of its
+  -- a new lane was opened from this rank to each: its posting end is in the row, and its taking end is the last of its
   -- column
   abbrev pub IsRow : ℕ → ℕ → List (Option (Poster P)) → List (Vec (Option (Taker P)) Global) → List (Vec (Option (Taker P)) Global) → Type 0
   IsRow from c row old new =
@@ -87,7 +105,7 @@ module _ {P : Type 0} where
   abbrev pub AreRows : List (Vec (Option (Poster P)) Global) → ℕ → Type 0
   AreRows rows n = (i : ℕ) (r : Vec (Option (Poster P)) Global) → i < length rows → length (row_at rows i r) ≡ n
 
-  -- the rows and the columns have the ends of new lanes, from the rank of the row to that of the column
+  -- rows and columns hold the ends of new lanes, each from the row's rank to the column's
   abbrev pub AreNewLanes : ℕ → List (Vec (Option (Poster P)) Global) → List (Vec (Option (Taker P)) Global) → Type 0
   AreNewLanes c rows columns =
       (i j : ℕ) (r : Vec (Option (Poster P)) Global) (d : Vec (Option (Taker P)) Global)

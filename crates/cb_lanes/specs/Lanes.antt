@@ -1,11 +1,11 @@
--- The lanes of desks that were brought together.
+-- The lanes of desks that were settled.
 use Rattle.std.specs.Prelude.{ℕ, ◌≢◌, ◌<◌, List, length}
 use Rattle.cb_letters.specs.declared.Letter.{Letter}
 use Rattle.cb_lanes.specs.declared.settled.Settled.{Settled}
 use Rattle.cb_lanes.specs.Desks.{posted_in, taken_in}
 
 module _ {P : Type 0} where
-  -- how many ranks have lanes
+  -- the number of ranks
   abbrev pub rank_count : Settled P → ℕ
   rank_count s = length s.desks.items
 

@@ -1,5 +1,5 @@
--- How lanes stand after the calls of a desk: the laws of ports.
-use Rattle.std.proofs.Common.{ℕ, ◌≡◌, ◌≢◌, ◌<◌, ◌≤◌, [], ◌∷◌, ◌++◌, length, refl, sym, ◌∙◌, ap, subst, arith, length-append, ⊎_elim}
+-- The laws of ports, for desks: how lanes stand after a desk's calls.
+use Rattle.std.proofs.Common.{ℕ, ◌≡◌, ◌<◌, ◌≤◌, [], ◌∷◌, ◌++◌, length, refl, sym, ◌∙◌, ap, subst, arith, length-append, ⊎_elim}
 use Rattle.std.specs.Prelude.{None}
 use Rattle.std.proofs.lemmas.Bool.{cases_order}
 use Rattle.std.proofs.lemmas.List.{length-map}
@@ -7,7 +7,7 @@ use Rattle.cb_letters.specs.declared.Letter.{Letter}
 use Rattle.cb_letters.specs.declared.Taken.{Taken}
 use Rattle.cb_letters.specs.declared.Taken.TheVariants as Answers
 use Rattle.cb_letters.specs.Posted.{ends_closed}
-use Rattle.cb_letters.specs.Standing.{standing_refusal, stands_after}
+use Rattle.cb_letters.specs.Standing.{standing_refusal, stands_after, KeepsLane, CountsOn}
 use Rattle.cb_letters.proofs.Standings.{same_standing}
 use Rattle.cb_letters.proofs.Marks.{ends_closed-append}
 use Rattle.cb_lanes.specs.declared.desk.Desk.{Desk}
@@ -15,11 +15,11 @@ use Rattle.cb_lanes.specs.Ends.{outgoing_ring}
 use Rattle.cb_lanes.specs.Desks.{identity, posted_to, taken_from, room_to, capacity_to, is_stranger, standing, has_room, Keeps, Posts, Takes}
 
 module _ {P : Type 0} where
-  -- one desk, whatever happened to it, has one rank
+  -- a desk keeps its rank
   same_me : (p q : Desk P) → identity q ≡ identity p → q.me ≡ p.me
   same_me p q e = ap (λ i. i.me) e
 
-  -- and as many ranks
+  -- and its number of ranks
   same_count : (p q : Desk P) → identity q ≡ identity p → length q.outgoing.items ≡ length p.outgoing.items
   same_count p q e = sym (length-map q.outgoing.items outgoing_ring) ∙ ap (λ i. length i.outgoing) e ∙ length-map p.outgoing.items outgoing_ring
 
@@ -31,17 +31,19 @@ module _ {P : Type 0} where
   stands : (p q : Desk P) (k : ℕ) → identity q ≡ identity p → posted_to q k ≡ posted_to p k → standing q k ≡ standing p k
   stands p q k e f = same_standing (standing q k) (standing p k) (same_me p q e) (same_stranger p q k e) (ap ends_closed f) (ap length f)
 
-  -- what a lane keeps if its letters and its room are kept
-  at_lane : (p q : Desk P) → identity q ≡ identity p → (k : ℕ) → (posted_to q k ≡ posted_to p k) × (room_to p k ≤ room_to q k) × (capacity_to q k ≡ capacity_to p k) → (standing q k ≡ standing p k) × (has_room p k → has_room q k)
+  -- a lane whose letters and room are kept is kept
+  at_lane : (p q : Desk P) → identity q ≡ identity p → (k : ℕ)
+      → (posted_to q k ≡ posted_to p k) × (room_to p k ≤ room_to q k) × (capacity_to q k ≡ capacity_to p k)
+      → KeepsLane standing has_room p q k
   at_lane p q e k h = (stands p q k e h.0, λ room. let more = h.1 in omega arith)
 
-  -- if nothing happened, every lane stands as it stood
-  pub kept : (p q : Desk P) → Keeps p q → (k : ℕ) → (standing q k ≡ standing p k) × (has_room p k → has_room q k)
+  -- if nothing happened, every lane is kept
+  pub kept : (p q : Desk P) → Keeps p q → (k : ℕ) → KeepsLane standing has_room p q k
   kept p q h k = at_lane p q h.0 k (h.1 k)
 
-  -- a letter that is posted counts on its own lane alone
+  -- a posted letter counts on its own lane alone
   pub posted : (p q : Desk P) (to : ℕ) (x : Letter P) → Posts p to x q → standing_refusal (standing p to) ≡ None
-      → (standing q to ≡ stands_after x (standing p to)) × ((k : ℕ) → k ≢ to → (standing q k ≡ standing p k) × (has_room p k → has_room q k))
+      → CountsOn standing has_room p q to x
   posted p q to x h none =
       let size = length-append (posted_to p to) (x ∷ []) in (
         same_standing (standing q to) (stands_after x (standing p to)) (same_me p q h.0) (same_stranger p q to h.0)
@@ -50,11 +52,11 @@ module _ {P : Type 0} where
         λ k n. at_lane p q h.0 k (h.1.2 k n),
       )
 
-  -- a take changes no lane that letters are posted to
-  pub taken : (p q : Desk P) (from : ℕ) (r : Taken P) → Takes p from r q → (k : ℕ) → (standing q k ≡ standing p k) × (has_room p k → has_room q k)
+  -- a take changes no lane on which this rank posts
+  pub taken : (p q : Desk P) (from : ℕ) (r : Taken P) → Takes p from r q → (k : ℕ) → KeepsLane standing has_room p q k
   taken p q from r h k = at_lane p q h.0 k (h.1 k)
 
-  -- a take that answered `Empty` changed nothing
+  -- a take that returns `Empty` changes nothing
   pub empty : (p q : Desk P) (from : ℕ) → Takes p from Answers.Empty q → Keeps p q
   empty p q from h = (h.0, h.1, same)
     where
@@ -65,7 +67,7 @@ module _ {P : Type 0} where
           (λ w. h.2.1 k (λ e. ⊎_elim (λ (o : k < from). absurd (omega arith)) (λ (o : from < k). absurd (omega arith)) w))
           (cases_order k from)
 
-  -- what was kept before a post is no part of it
+  -- a post may be seen from any earlier state that kept everything
   pub kept_posts : (p q r : Desk P) (to : ℕ) (x : Letter P) → Keeps p q → Posts q to x r → Posts p to x r
   kept_posts p q r to x h g =
       let here = h.1 to in (

@@ -1,15 +1,14 @@
 //! A rank's desk: the ends of its lanes to and from every other rank.
 ghost use Rattle.std.specs.Prelude.{ℕ, ◌≡◌, ◌<◌, ◌^◌, ◌==◌, None, not, length, is_some, slice_index_or};
 
-use crate::ends::{Poster, Taker};
+use crate::ring_ends::{Poster, Taker};
 use cb_letters::{Body, Letter, PostRefusal, Tag, Taken};
 use std::alloc::{AllocError, Global};
 use std::sync::Wait;
 
-/// The ends of one rank's lanes: those that post, by addressee, and those that take, by sender. There is none for the
-/// rank itself. No call takes memory, and its cost doesn't depend on how many ranks there are or how many letters have
-/// gone through. A desk that is dropped leaves its lanes: then the waiting calls of the other ranks' desks report
-/// `Gone`.
+/// The ends of one rank's lanes: the posting ends by addressee, and the taking ends by sender. There is none for the rank
+/// itself. No call takes memory, and its cost depends neither on the number of ranks nor on how many letters have gone
+/// through. Once a desk is dropped, calls of other desks that wait for it return `Gone`.
 #[derive(Drop)]
 pub struct Desk<P> {
     pub(crate) me: u16,
@@ -25,9 +24,10 @@ impl<P: Drop> Desk<P> {
     ghost use mathlib.Core.List.{IsPrefix};
     ghost use Rattle.cb_letters.specs.Letters.{is_close, mark_tag};
     ghost use Rattle.cb_letters.specs.Posted.{is_end, ends_closed};
-    ghost use Rattle.cb_letters.specs.Standing.{standing_refusal, MayRefuse, next_letter};
+    ghost use Rattle.cb_letters.specs.Standing.{standing_refusal, IsAccepted};
     ghost use Rattle.cb_lanes.specs.Numbers.{AreNumbered};
-    ghost use Rattle.cb_lanes.specs.Desks.{posted_to, taken_from, room_to, is_stranger, identity, KeepsPosted, KeepsTaken, AddsPosted, AddsTaken, standing, has_room, has_letter, may_be_full, AreLinked, Keeps, IsSettled};
+    ghost use Rattle.cb_lanes.specs.Desks.{identity, is_stranger, posted_to, taken_from, standing, has_room, has_letter, may_be_full, MayRefusePost};
+    ghost use Rattle.cb_lanes.specs.Desks.{Keeps, KeepsPosted, KeepsTaken, AddsPosted, AddsTaken, ring_to, ring_from, AreLinked, IsSettled};
 
     /// Posts a letter to this rank, and returns its number on the lane. A refusal hands the body back; refusals are
     /// checked in the order of `PostRefusal`. It is `Full` only if at least as many letters were posted as the lane has
@@ -41,8 +41,8 @@ impl<P: Drop> Desk<P> {
         requires { is_close body ≡ false }
         ensures identity { identity self.new ≡ identity self.old }
         ensures taken { KeepsTaken self.old self.new }
-        ensures accepted { IfOk result (λ number. (standing_refusal (standing self.old to) ≡ None) × (number ≡ (standing self.old to).posted) × AddsPosted self.old self.new to (next_letter (standing self.old to) to tag body)) }
-        ensures refused { IfErr result (λ e. MayRefuse (standing self.old to) (may_be_full self.old to) e.0 × (e.1 ≡ body) × KeepsPosted self.old self.new) }
+        ensures accepted { IfOk result (λ number. IsAccepted (standing self.old to) to tag body number (AddsPosted self.old self.new to)) }
+        ensures refused { IfErr result (λ e. MayRefusePost self.old to e.0 × (e.1 ≡ body) × KeepsPosted self.old self.new) }
         ensures succeeds { has_room self.old to → standing_refusal (standing self.old to) ≡ None → IsOk result }
     {
         if self.is_stranger(to) {
@@ -55,12 +55,12 @@ impl<P: Drop> Desk<P> {
         }
     }
 
-    /// Posts the mark that ends the lane to this rank, and returns its number. It is refused like a letter.
+    /// Posts the mark that ends the lane to this rank, and returns its number. It is refused as a letter is.
     pub fn try_close(&mut self, to: u16) -> Result<u64, PostRefusal>
         ensures identity { identity self.new ≡ identity self.old }
         ensures taken { KeepsTaken self.old self.new }
-        ensures accepted { IfOk result (λ number. (standing_refusal (standing self.old to) ≡ None) × (number ≡ (standing self.old to).posted) × AddsPosted self.old self.new to (next_letter (standing self.old to) to mark_tag Body.Close)) }
-        ensures refused { IfErr result (λ e. MayRefuse (standing self.old to) (may_be_full self.old to) e × KeepsPosted self.old self.new) }
+        ensures accepted { IfOk result (λ number. IsAccepted (standing self.old to) to mark_tag Body.Close number (AddsPosted self.old self.new to)) }
+        ensures refused { IfErr result (λ e. MayRefusePost self.old to e × KeepsPosted self.old self.new) }
         ensures succeeds { has_room self.old to → standing_refusal (standing self.old to) ≡ None → IsOk result }
     {
         if self.is_stranger(to) {
@@ -98,8 +98,8 @@ impl<P: Drop> Desk<P> {
         }
     }
 
-    /// Whether there is room for a letter to this rank: if so, the next post to it isn't `Full`. There is none for a
-    /// stranger. It looks at the other end of the ring, so it takes `&mut self`.
+    /// Whether there is room for a letter to this rank. If so, the next post to it isn't refused as `Full`. A stranger has
+    /// none. It looks at the other end of the ring, so it takes `&mut self`.
     pub fn room(&mut self, to: u16) -> bool
         ensures identity { identity self.new ≡ identity self.old }
         ensures posted { KeepsPosted self.old self.new }
@@ -124,14 +124,14 @@ impl<P: Drop> Desk<P> {
         self.me
     }
 
-    /// Whether there is no lane between this desk and this rank, because that is the desk's own, or no rank.
+    /// Whether this desk has no lane to this rank, because it is the desk's own rank, or no rank.
     pub fn is_stranger(&self, rank: u16) -> bool
         ensures { result ≡ is_stranger self.now rank }
     {
         rank == self.me || rank as usize >= self.outgoing.len()
     }
 
-    /// How many letters were posted to this rank, the close mark included.
+    /// The number of letters posted to this rank, the close mark included.
     pub fn posted(&self, to: u16) -> u64
         requires { is_stranger self.now to ≡ false }
         ensures { result ≡ length (posted_to self.now to) }
@@ -142,7 +142,7 @@ impl<P: Drop> Desk<P> {
         }
     }
 
-    /// How many letters were taken from this rank, the close mark included.
+    /// The number of letters taken from this rank, the close mark included.
     pub fn taken(&self, from: u16) -> u64
         requires { is_stranger self.now from ≡ false }
         ensures { result ≡ length (taken_from self.now from) }
@@ -153,8 +153,7 @@ impl<P: Drop> Desk<P> {
         }
     }
 
-    /// Waits for room for a letter to this rank, and returns whether there is some. If not, the desk at the other end
-    /// of the lane is gone.
+    /// Waits for room for a letter to this rank. Returns false if the desk at the other end of the lane is gone.
     pub(crate) fn await_room(&mut self, rt: &impl Wait, to: u16) -> bool
         requires { is_stranger self.old to ≡ false }
         ensures identity { identity self.new ≡ identity self.old }
@@ -168,8 +167,7 @@ impl<P: Drop> Desk<P> {
         }
     }
 
-    /// Waits for a letter from this rank, and returns whether there is one. If not, the desk at the other end of the
-    /// lane is gone.
+    /// Waits for a letter from this rank. Returns false if the desk at the other end of the lane is gone.
     pub(crate) fn await_letter(&mut self, rt: &impl Wait, from: u16) -> bool
         requires { is_stranger self.old from ≡ false }
         ensures identity { identity self.new ≡ identity self.old }
@@ -183,11 +181,11 @@ impl<P: Drop> Desk<P> {
         }
     }
 
-    /// Looks at both ends of the lane from this desk to another.
+    /// Compares both ends of the lane from this desk to another.
     pub(crate) fn settle_lane(&mut self, other: &mut Desk<P>)
         requires apart { self.old.me ≢ other.old.me }
         requires within { (other.old.me < length self.old.outgoing.items) × (self.old.me < length other.old.incoming.items) }
-        requires ring { slice_index_or (identity self.old).outgoing other.old.me None ≡ slice_index_or (identity other.old).incoming self.old.me None }
+        requires ring { ring_to (identity self.old) other.old.me ≡ ring_from (identity other.old) self.old.me }
         ensures identity { (identity self.new ≡ identity self.old) × (identity other.new ≡ identity other.old) }
         ensures sender { KeepsPosted self.old self.new × KeepsTaken self.old self.new }
         ensures receiver { KeepsPosted other.old other.new × KeepsTaken other.old other.new }
@@ -203,7 +201,7 @@ impl<P: Drop> Desk<P> {
         }
     }
 
-    /// Looks at both lanes between this desk and another.
+    /// Compares both ends of each of the two lanes between this desk and another.
     pub(crate) fn settle_with(&mut self, other: &mut Desk<P>)
         requires { AreLinked (identity self.old) (identity other.old) }
         ensures sender { Keeps self.old self.new }

@@ -1,13 +1,13 @@
 //! Opening the lanes between all ranks.
 //!
-//! The ends are made row by row: the posting ends of one rank's lanes are a row, and the taking ends are appended to
-//! the columns of the ranks that take. Desk k is row k with column k.
+//! The lanes are made row by row: the posting ends of one rank's lanes are a row, and the taking ends are appended to the
+//! columns of their addressees. Desk k holds row k and column k.
 ghost use Rattle.std.specs.Prelude.{ℕ, ◌≡◌, ◌≢◌, ◌+◌, ◌<◌, ◌==◌, ◌^◌, length, map, slice_index_or, IfOk};
 ghost use Rattle.cb_lanes.specs.Desks.{identity, AreOfOneOpening, IsNewDesk};
 ghost use Rattle.cb_lanes.specs.Ends.{IsNewLane, AreRows, AreColumns, AreNewLanes, IsRow};
 
 use crate::desk::Desk;
-use crate::ends::{Numbered, Poster, Taker};
+use crate::ring_ends::{Numbered, Poster, Taker};
 use cb_bells::Bell;
 use cb_letters::{Capacity, Letter};
 use rtrb::RingBuffer;
@@ -18,7 +18,7 @@ type Row<P> = Vec<Option<Poster<P>>>;
 
 type Column<P> = Vec<Option<Taker<P>>>;
 
-/// The two ends of the lane from one rank to another. There is none from a rank to itself.
+/// The two ends of the lane from one rank to another. A rank has no lane to itself.
 fn open_lane<P: Drop>(
     alloc: Global,
     from: u16,
@@ -41,7 +41,7 @@ fn open_lane<P: Drop>(
     ))
 }
 
-/// The posting ends of the lanes from one rank; the taking ends go to the columns.
+/// The posting ends of the lanes from one rank. The taking ends go to the columns.
 fn open_row<P: Drop>(
     alloc: Global,
     from: u16,
@@ -84,9 +84,8 @@ pub(crate) fn open_lanes<P: Drop>(
     Ok((rows, columns))
 }
 
-/// The desks of all ranks, in order of their numbers, with a new lane for at most `capacity` letters from
-/// each rank to each other. All memory that lanes ever use is taken here: `ranks * (ranks - 1)` rings, each with a
-/// bell.
+/// The desks of all ranks, in order of their numbers, with a new lane for at most `capacity` letters from each rank to
+/// each other. All memory that lanes ever use is allocated here: `ranks * (ranks - 1)` rings, each with a bell.
 pub fn open<P: Drop>(
     alloc: Global,
     ranks: u16,

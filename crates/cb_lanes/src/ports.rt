@@ -1,8 +1,8 @@
-//! A desk as the ends of one rank's lanes. It knows of a free place if its end of the ring saw one, and a lane may be
-//! full if at least as many letters were posted as it has places.
+//! A desk implements `Ports`. It knows of a free place if its end of the ring saw one, and a lane may be full if at least
+//! as many letters were posted as it has places.
 ghost use Rattle.std.specs.Prelude.{◌≡◌, false, None, IfOk, IfErr, IsOk};
 ghost use Rattle.cb_letters.specs.Letters.{is_close};
-ghost use Rattle.cb_letters.specs.Standing.{standing_refusal, MayRefuse, next_letter};
+ghost use Rattle.cb_letters.specs.Standing.{standing_refusal, IsAccepted};
 ghost use Rattle.cb_lanes.specs.Desks as desks;
 ghost use Rattle.cb_lanes.specs.Laws as laws;
 
@@ -38,8 +38,8 @@ impl<P: Drop> Ports<P> for Desk<P> {
 
     fn try_post(&mut self, to: u16, tag: Tag, body: Body<P>) -> Result<u64, (PostRefusal, Body<P>)>
         requires { is_close body ≡ false }
-        ensures accepted { IfOk result (λ number. (standing_refusal (desks.standing self.old to) ≡ None) × (number ≡ (desks.standing self.old to).posted) × desks.Posts self.old to (next_letter (desks.standing self.old to) to tag body) self.new) }
-        ensures refused { IfErr result (λ e. MayRefuse (desks.standing self.old to) (desks.may_be_full self.old to) e.0 × (e.1 ≡ body) × desks.Keeps self.old self.new) }
+        ensures accepted { IfOk result (λ number. IsAccepted (desks.standing self.old to) to tag body number (λ x. desks.Posts self.old to x self.new)) }
+        ensures refused { IfErr result (λ e. desks.MayRefusePost self.old to e.0 × (e.1 ≡ body) × desks.Keeps self.old self.new) }
         ensures succeeds { desks.has_room self.old to → standing_refusal (desks.standing self.old to) ≡ None → IsOk result }
     {
         Desk::try_post(self, to, tag, body)

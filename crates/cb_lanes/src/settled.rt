@@ -1,10 +1,10 @@
-//! The lanes once no rank runs.
+//! The lanes after all ranks have stopped.
 ghost use Rattle.std.specs.Prelude.{ℕ, ◌≡◌, ◌<◌, length, slice_index_or};
 ghost use Rattle.cb_lanes.specs.declared.desk.Desk.{Desk};
 
 use crate::desk::Desk;
 
-/// What was posted and taken on each lane, once all desks were brought together by `settle`.
+/// What was posted and taken on each lane: all desks, brought together by `settle`.
 #[derive(Drop)]
 pub struct Settled<P> {
     pub(crate) desks: Vec<Desk<P>>,
@@ -15,7 +15,7 @@ pub struct Settled<P> {
 impl<P: Drop> Settled<P> {
     ghost use Rattle.cb_lanes.specs.Lanes.{posted_on, taken_on, IsLane};
 
-    /// How many letters were posted on the lane from one rank to another, the close mark included.
+    /// The number of letters posted on the lane from one rank to another, the close mark included.
     pub fn posted(&self, from: u16, to: u16) -> u64
         requires { IsLane self.now from to }
         ensures { result ≡ length (posted_on self.now from to) }
@@ -23,7 +23,7 @@ impl<P: Drop> Settled<P> {
         self.desks[from as usize].posted(to)
     }
 
-    /// How many letters were taken on the lane from one rank to another, the close mark included.
+    /// The number of letters taken on the lane from one rank to another, the close mark included.
     pub fn taken(&self, from: u16, to: u16) -> u64
         requires { IsLane self.now from to }
         ensures { result ≡ length (taken_on self.now from to) }

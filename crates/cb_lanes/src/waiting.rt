@@ -1,11 +1,10 @@
-//! The calls that wait: each tries, waits until the lane has room, or a letter, and tries again. It gives up if the
-//! desk at the other end is gone.
+//! The calls that wait. Each tries, waits until the lane has room or a letter, and tries again. It gives up if the desk at
+//! the other end is gone.
 ghost use Rattle.std.specs.Prelude.{ℕ, ◌≡◌, ◌≢◌, ◌∷◌, ◌++◌, length, IfOk, IfErr, None, true, false, ◌↔◌};
 ghost use Rattle.cb_letters.specs.Letters.{is_close, mark_tag};
-ghost use Rattle.cb_letters.specs.Posted.{ends_closed};
-ghost use Rattle.cb_letters.specs.Standing.{standing_refusal, next_letter};
-ghost use Rattle.cb_lanes.specs.Desks.{standing, taken_from, is_stranger, Keeps, Posts, Takes};
-ghost use Rattle.cb_lanes.specs.Waiting.{MayGiveUp};
+ghost use Rattle.cb_letters.specs.Standing.{IsAccepted};
+ghost use Rattle.cb_lanes.specs.Desks.{standing, is_stranger, Keeps, Posts, Takes};
+ghost use Rattle.cb_lanes.specs.Waiting.{MayGiveUp, FindsGone};
 
 use crate::desk::Desk;
 use cb_letters::{Body, Letter, PostRefusal, Tag, Taken};
@@ -38,7 +37,7 @@ impl<P: Drop> Desk<P> {
         body: Body<P>,
     ) -> Result<u64, (WaitRefusal, Body<P>)>
         requires { is_close body ≡ false }
-        ensures accepted { IfOk result (λ number. (standing_refusal (standing self.old to) ≡ None) × (number ≡ (standing self.old to).posted) × Posts self.old to (next_letter (standing self.old to) to tag body) self.new) }
+        ensures accepted { IfOk result (λ number. IsAccepted (standing self.old to) to tag body number (λ x. Posts self.old to x self.new)) }
         ensures refused { IfErr result (λ e. MayGiveUp (standing self.old to) to e.0 × (e.1 ≡ body) × Keeps self.old self.new) }
     {
         let body = match self.try_post(to, tag, body) {
@@ -59,7 +58,7 @@ impl<P: Drop> Desk<P> {
 
     /// Posts the mark that ends the lane to this rank as soon as there is room, and returns its number.
     pub fn close(&mut self, rt: &impl Wait, to: u16) -> Result<u64, WaitRefusal>
-        ensures accepted { IfOk result (λ number. (standing_refusal (standing self.old to) ≡ None) × (number ≡ (standing self.old to).posted) × Posts self.old to (next_letter (standing self.old to) to mark_tag Body.Close) self.new) }
+        ensures accepted { IfOk result (λ number. IsAccepted (standing self.old to) to mark_tag Body.Close number (λ x. Posts self.old to x self.new)) }
         ensures refused { IfErr result (λ e. MayGiveUp (standing self.old to) to e × Keeps self.old self.new) }
     {
         match self.try_close(to) {
@@ -78,12 +77,12 @@ impl<P: Drop> Desk<P> {
         }
     }
 
-    /// Takes the oldest letter from this rank as soon as there is one: never `Empty`.
+    /// Takes the oldest letter from this rank as soon as there is one. Never returns `Empty`.
     pub fn take(&mut self, rt: &impl Wait, from: u16) -> Result<Taken<P>, Gone>
         ensures waited { IfOk result (λ r. r ≢ Taken.Empty) }
         ensures stranger { IfOk result (λ r. (r ≡ Taken.Stranger) ↔ (is_stranger self.old from ≡ true)) }
         ensures taken { IfOk result (λ r. Takes self.old from r self.new) }
-        ensures gone { IfErr result (λ e. (e.0 ≡ from) × (is_stranger self.old from ≡ false) × (ends_closed (taken_from self.old from) ≡ false) × Keeps self.old self.new) }
+        ensures gone { IfErr result (λ e. (e.0 ≡ from) × FindsGone self.old from self.new) }
     {
         match self.try_take(from) {
             Taken::Empty => {}

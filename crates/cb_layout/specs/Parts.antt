@@ -1,11 +1,11 @@
 -- A square grid of side q: the rank in row i and column j has the number i*q + j.
--- A dimension d is cut into q parts of div_ceil d q places, of which the last ones may have fewer, or none.
+-- A dimension d is cut into q parts of div_ceil d q places; the last parts may have fewer, or none.
 use Rattle.std.specs.Prelude.{ℕ, ◌+◌, ◌-◌, ◌*◌, List, map, min}
 use Rattle.std.specs.List.{range_with_len}
 use Rattle.std.specs.Int.{div_ceil}
 use Rattle.cb_matrix.specs.Sparse.{Extent}
 
--- What a grid is: its side.
+-- a grid, given by its side
 pub record Square : Type 0 where
   pub side : ℕ
 
@@ -17,7 +17,7 @@ row_group q i = map (λ j. i * q + j) (range_with_len 0 q)
 abbrev pub column_group : ℕ → ℕ → List ℕ
 column_group q j = map (λ i. i * q + j) (range_with_len 0 q)
 
--- where part i of a dimension d begins, and where the one before it ends
+-- where part i of a dimension d begins, and part i - 1 ends
 abbrev pub part_start : ℕ → ℕ → ℕ → ℕ
 part_start q d i = min (i * div_ceil d q) d
 
@@ -25,7 +25,7 @@ part_start q d i = min (i * div_ceil d q) d
 abbrev pub part : ℕ → ℕ → ℕ → ℕ × ℕ
 part q d i = (part_start q d i, part_start q d (i + 1))
 
--- how many places part i has
+-- the number of places of part i
 abbrev pub part_length : ℕ → ℕ → ℕ → ℕ
 part_length q d i = part_start q d (i + 1) - part_start q d i
 

@@ -1,5 +1,4 @@
--- A shape cut into tiles, of which blocks are one case and pieces of a vector another; and the entries that are
--- gathered from them so far.
+-- A shape cut into tiles, such as blocks or pieces of a vector; and the entries gathered from them so far.
 use Rattle.std.specs.Prelude.{◌≡◌, ℕ, ◌+◌, ◌*◌, ◌/◌, ◌%◌, ◌<◌, nat_lt, cond, List, [], All}
 use Rattle.cb_semirings.specs.Arithmetic.{Arithmetic, IsValue}
 use Rattle.cb_matrix.specs.declared.Entry.{Entry}
@@ -9,7 +8,7 @@ use Rattle.cb_layout.specs.Parts.{part_start, part_shape}
 use Rattle.cb_layout.specs.Blocks.{block_at, part_with, place_in_part}
 use Rattle.cb_layout.specs.Vectors.{piece_start, piece_shape, piece_with, place_in_piece}
 
--- where each tile's corner is, and its shape; and for a place the tile that it is in, and the place in that tile
+-- the corner and the shape of each tile; and for each place of the shape, its tile and its place in that tile
 pub record Tiles : Type 0 where
   pub count : ℕ
   pub top : ℕ → ℕ

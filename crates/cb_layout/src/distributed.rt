@@ -1,12 +1,11 @@
-//! A matrix that lies over a grid of ranks.
+//! A matrix over a grid of ranks.
 ghost use Rattle.std.specs.Prelude.{◌≡◌, ◌≢◌, ◌↔◌, ℕ, ◌<◌, ◌+◌, ◌*◌, [], length, All, IfOk, OnOk, OnErr, IsTrue};
 ghost use Rattle.cb_semirings.specs.Arithmetic.{IsValue};
 ghost use Rattle.cb_matrix.specs.Sparse.{IsMatrix, IsInside, IsBefore};
 ghost use Rattle.cb_matrix.specs.Values.{empty_matrix};
 ghost use Rattle.cb_dcsc.specs.Columns.{with_entry, with_entries};
-ghost use Rattle.cb_layout.specs.Parts.{part_shape};
-ghost use Rattle.cb_layout.specs.Blocks.{block_at, block_of, joined_block};
-ghost use Rattle.cb_layout.specs.Distributed.{AreBlocks, glued_blocks};
+ghost use Rattle.cb_layout.specs.Blocks.{AreBlocksOf, HavePartShapes, block_at, joined_block};
+ghost use Rattle.cb_layout.specs.Distributed.{glued_blocks};
 
 use crate::gather::stored;
 use crate::scatter::deliver;
@@ -18,34 +17,33 @@ use std::alloc::{AllocError, Global};
 use std::marker::Model;
 
 /// A matrix whose blocks are kept by the ranks of a grid: the distributed sparse matrix of The Combinatorial BLAS.
-/// In contracts it is the side of its grid and the whole matrix, which its blocks glue to.
+/// Contracts see the side of its grid and the whole matrix, which its blocks are glued to.
 #[derive(Drop)]
 pub struct DistributedMatrix<S: Semiring> {
     grid: Grid,
     shape: Shape,
-    /// How many entries all blocks store.
+    /// The number of entries that all blocks store.
     len: usize,
     /// The block of each rank, in the order of their numbers.
     blocks: Vec<Block<S>>,
 }
 
 impl<S: Semiring> Model for DistributedMatrix<S> {
-    ghost use Rattle.std.specs.Prelude.{◌≡◌, length};
-    ghost use Rattle.cb_layout.specs.Distributed.{Distributed, AreBlocks, glued_blocks};
+    ghost use Rattle.cb_layout.specs.Distributed.{Distributed, HaveEntries, glued_blocks};
 
     ghost Value = { Distributed };
 
     ghost view = { λ a. record { side = a.grid.side; matrix = glued_blocks S.arithmetic a.grid.side a.shape a.blocks.items } };
 
-    ghost invariant = { λ a. AreBlocks S.arithmetic a.grid.side a.shape a.blocks.items × (a.len ≡ length (glued_blocks S.arithmetic a.grid.side a.shape a.blocks.items).entries) };
+    ghost invariant = { λ a. HaveEntries S.arithmetic a.grid.side a.shape a.blocks.items a.len };
 }
 
 impl<S: Semiring> DistributedMatrix<S> {
-    /// The matrix of a shape that these blocks glue to, one for each rank in the order of their numbers. It takes no
+    /// The matrix of a shape that these blocks are glued to, one for each rank in the order of their numbers. It takes no
     /// memory.
     pub fn from_blocks(grid: Grid, shape: Shape, blocks: Vec<Block<S>>) -> Self
         requires count { length blocks.items ≡ grid.side * grid.side }
-        requires shapes { (i j : ℕ) → i < grid.side → j < grid.side → (block_at blocks.items (i * grid.side + j)).shape ≡ part_shape grid.side shape i j }
+        requires shapes { HavePartShapes grid.side shape blocks.items }
         ensures { result ≡ record { side = grid.side; matrix = glued_blocks S.arithmetic grid.side shape blocks.items } }
     {
         let _side = grid.side();
@@ -82,8 +80,8 @@ impl<S: Semiring> DistributedMatrix<S> {
         Ok(Self::from_blocks(grid, shape, blocks))
     }
 
-    /// Stores one more entry, after all the others. A refusal leaves the matrix as it was. In constant time, except
-    /// when lists grow.
+    /// Stores one more entry, after all the others. A refusal leaves the matrix as it was. Takes constant time, unless a
+    /// list grows.
     pub fn push(&mut self, entry: Entry) -> Result<(), AllocError>
         requires inside { IsInside self.old.matrix.shape entry }
         requires order { All (λ e. IsBefore e entry) self.old.matrix.entries }
@@ -99,9 +97,9 @@ impl<S: Semiring> DistributedMatrix<S> {
         Ok(())
     }
 
-    /// The matrix with the entries of another one over the same grid, of the same shape, each of which comes after all
-    /// of its own. If memory is refused, both are dropped. The cost is that of one block for each rank, and of the
-    /// other's entries in blocks where this one has entries too.
+    /// The matrix with the entries of another one of the same grid and shape appended. They must all come after its own.
+    /// If memory is refused, both are dropped. The cost is that of one block for each rank, and of the other's entries in
+    /// blocks where both have entries.
     pub fn append(self, other: Self) -> Result<Self, AllocError>
         requires side { other.side ≡ self.side }
         requires shape { other.matrix.shape ≡ self.matrix.shape }
@@ -119,21 +117,21 @@ impl<S: Semiring> DistributedMatrix<S> {
         })
     }
 
-    /// The whole matrix, in memory of its own. The cost is that of the stored entries.
+    /// The whole matrix, as a copy. The cost is that of the stored entries.
     pub fn gather(&self, alloc: Global) -> Result<Matrix<S>, AllocError>
         ensures { IfOk result (λ m. m ≡ self.now.matrix) }
     {
         self.grid.gather(alloc, &self.blocks, self.shape)
     }
 
-    /// The grid that it lies over.
+    /// Its grid.
     pub fn grid(&self) -> Grid
         ensures { result ≡ record { side = self.now.side } }
     {
         self.grid
     }
 
-    /// How many rows and columns there are. The contract also says that the stored entries are inside them, ascend by
+    /// Its numbers of rows and columns. The contract also says that the stored entries are inside this shape, ascend by
     /// column and then row, and aren't zero.
     pub fn shape(&self) -> Shape
         ensures shape { result ≡ self.now.matrix.shape }
@@ -142,7 +140,7 @@ impl<S: Semiring> DistributedMatrix<S> {
         self.shape
     }
 
-    /// How many entries are stored.
+    /// The number of stored entries.
     pub fn len(&self) -> usize
         ensures { result ≡ length self.now.matrix.entries }
     {
@@ -159,21 +157,21 @@ impl<S: Semiring> DistributedMatrix<S> {
     /// The block of each rank, in the order of their numbers.
     pub fn blocks(&self) -> &[Block<S>]
         ensures count { length result.now ≡ self.now.side * self.now.side }
-        ensures blocks { (i j : ℕ) → i < self.now.side → j < self.now.side → block_at result.now (i * self.now.side + j) ≡ block_of S.arithmetic self.now.side self.now.matrix i j }
+        ensures blocks { AreBlocksOf S.arithmetic self.now.side self.now.matrix result.now }
     {
         &self.blocks
     }
 
-    /// The same, by value.
+    /// The block of each rank, by value.
     pub fn into_blocks(self) -> Vec<Block<S>>
         ensures count { length result.items ≡ self.side * self.side }
-        ensures blocks { (i j : ℕ) → i < self.side → j < self.side → block_at result.items (i * self.side + j) ≡ block_of S.arithmetic self.side self.matrix i j }
+        ensures blocks { AreBlocksOf S.arithmetic self.side self.matrix result.items }
     {
         self.blocks
     }
 
-    /// The same matrix over another semiring, in which its values are values too. No entry is copied: it takes memory
-    /// for one block's header for each rank. If that is refused, the matrix is dropped.
+    /// The same matrix over another semiring, of which its values must also be values. No entry is copied: it takes memory
+    /// for one block header per rank. If that is refused, the matrix is dropped.
     pub fn recast<T: Semiring>(self, alloc: Global) -> Result<DistributedMatrix<T>, AllocError>
         requires values { All (λ e. IsValue T.arithmetic e.value × (e.value ≢ T.arithmetic.zero)) self.matrix.entries }
         ensures { IfOk result (λ m. m ≡ self) }
@@ -194,7 +192,7 @@ impl<S: Semiring> DistributedMatrix<S> {
     }
 }
 
-/// Stores the entries of each of these blocks in the block of the same rank, after all the others.
+/// Appends the entries of each of the other blocks to the block of the same rank.
 fn append_blocks<S: Semiring>(
     blocks: &mut Vec<Block<S>>,
     others: &mut Vec<Block<S>>,
@@ -211,7 +209,7 @@ fn append_blocks<S: Semiring>(
     Ok(())
 }
 
-/// The same blocks over another semiring, in which their values are values too.
+/// The same blocks over another semiring, of which their values must also be values.
 fn recast_blocks<S: Semiring, T: Semiring>(
     alloc: Global,
     blocks: Vec<Block<S>>,

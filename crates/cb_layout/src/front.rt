@@ -1,14 +1,14 @@
-//! How far the walk over the blocks in one column of the grid has come, column by column.
+//! How far a walk over the blocks in one column of the grid has come, column by column.
 ghost use Rattle.std.specs.Prelude.{◌≡◌, ℕ, List, ◌<◌, ◌≤◌, ◌+◌, ◌*◌, length, IfSome, IfNone, ◌⊎◌, slice_index, slice_index_or, slice_set};
 ghost use Rattle.cb_layout.specs.Blocks.{block_at};
-ghost use Rattle.cb_layout.specs.Fronts.{IsFront, IsLeast, AreNext};
+ghost use Rattle.cb_layout.specs.Fronts.{IsFront, IsLeast, IsLesser, AreNext};
 
 use crate::Grid;
 use cb_dcsc::Block;
 use cb_matrix::Shape;
 use cb_semirings::Semiring;
 
-/// Stands for the next column of a block that has none: a shape's columns end before it.
+/// The next column of a block that has none: a shape's columns end before it.
 pub(crate) const NO_COLUMN: u32 = u32::MAX;
 
 /// A column of the grid, and how far the walk over each of its blocks has come.
@@ -18,11 +18,11 @@ pub(crate) struct Front {
     pub column: u32,
     /// Its first column in the whole matrix.
     pub left: u32,
-    /// For the block in each row, how many of its columns with entries are done.
+    /// For the block in each row, the number of its columns with entries that are done.
     pub done: [usize; 6],
     /// The column that comes next in each, if any.
     pub columns: [u32; 6],
-    /// The first row that has the least of these, and that column, if any.
+    /// The least of these, with the first row that has it, if any.
     pub first: Option<(u32, u32)>,
 }
 
@@ -48,8 +48,8 @@ impl Front {
         }
     }
 
-    /// Advances by one column of the block in a row of the grid, which has these columns. It is changed in place: a
-    /// copy for each column would cost more than everything else.
+    /// Advances past one column of the block in a row of the grid, which has these columns. The front is changed in place:
+    /// a copy for each column would cost more than everything else.
     pub fn step(&mut self, row: u32, numbers: &[u32])
         requires row { row < 6 }
         requires some { slice_index self.old.done row < length numbers.now }
@@ -106,7 +106,7 @@ fn nth_or_none(columns: &[u32], n: usize) -> u32
     columns.get(n).copied().unwrap_or(NO_COLUMN)
 }
 
-/// The first row of the grid that has the least column, and that column, if any.
+/// The least column, with the first row of the grid that has it, if any.
 fn least(columns: &[u32; 6]) -> Option<(u32, u32)>
     ensures some { IfSome result (λ t. IsLeast columns.now t.0 t.1) }
     ensures none { IfNone result ((k : ℕ) → k < 6 → slice_index columns.now k ≡ NO_COLUMN) }
@@ -121,9 +121,9 @@ fn least(columns: &[u32; 6]) -> Option<(u32, u32)>
     Some((row, column))
 }
 
-/// Of two rows with their columns, the one with the lesser column; the first if they are equal.
+/// The one of two rows that has the lesser column, or the first if their columns are equal.
 fn lesser(first: (u32, u32), second: (u32, u32)) -> (u32, u32)
-    ensures { (((result.0 ≡ first.0) × (result.1 ≡ first.1)) × (first.1 ≤ second.1)) ⊎ (((result.0 ≡ second.0) × (result.1 ≡ second.1)) × (second.1 < first.1)) }
+    ensures { IsLesser first second result }
 {
     if first.1 <= second.1 { first } else { second }
 }

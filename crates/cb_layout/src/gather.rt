@@ -1,9 +1,10 @@
-//! Blocks glued together into one matrix.
+//! Gather: blocks are glued together into one matrix.
 ghost use Rattle.std.specs.Prelude.{◌≡◌, ℕ, ◌<◌, ◌+◌, ◌*◌, ◌^◌, ◌++◌, length, min, sum_by, All, IfOk, OnOk, slice_index};
 ghost use Rattle.cb_matrix.specs.Sparse.{IsMatrix};
-ghost use Rattle.cb_layout.specs.Parts.{part_start, part_shape};
-ghost use Rattle.cb_layout.specs.Blocks.{block_at, block_of, glued};
-ghost use Rattle.cb_layout.specs.Segments.{shifted};
+ghost use Rattle.cb_layout.specs.Parts.{part_start};
+ghost use Rattle.cb_layout.specs.Blocks.{AreBlocksOf, HavePartShapes, block_at};
+ghost use Rattle.cb_layout.specs.Distributed.{glued_blocks};
+ghost use Rattle.cb_layout.specs.Segments.{shifted, entries_of};
 
 use crate::{Grid, Segment, Segments};
 use cb_dcsc::Block;
@@ -12,10 +13,10 @@ use cb_semirings::Semiring;
 use std::alloc::{AllocError, Global};
 
 impl Grid {
-    /// The matrix of a shape from the block of each rank, in the order of their numbers: at each place it has the value
-    /// of the block that the place is in, so the blocks are its cuts. The columns of the blocks are merged, so the
-    /// entries come in the matrix's order; each stored column of a block takes the least of six numbers, the next
-    /// columns of the blocks in its column of the grid. The cost is that of the stored entries, never of the shape.
+    /// The matrix of a shape from the block of each rank, in the order of their numbers. The blocks are merged column by
+    /// column, so the entries come in the matrix's order. Each stored column of a block costs finding the least of six
+    /// numbers: the next columns of the blocks in its column of the grid. The cost is that of the stored entries, never of
+    /// the shape.
     pub fn gather<S: Semiring>(
         &self,
         alloc: Global,
@@ -23,9 +24,9 @@ impl Grid {
         shape: Shape,
     ) -> Result<Matrix<S>, AllocError>
         requires count { length blocks.now ≡ self.now.side * self.now.side }
-        requires shapes { (i j : ℕ) → i < self.now.side → j < self.now.side → (block_at blocks.now (i * self.now.side + j)).shape ≡ part_shape self.now.side shape i j }
-        ensures glued { IfOk result (λ m. m ≡ glued S.arithmetic self.now.side shape (λ i j. block_at blocks.now (i * self.now.side + j))) }
-        ensures cuts { IfOk result (λ m. (i j : ℕ) → i < self.now.side → j < self.now.side → block_at blocks.now (i * self.now.side + j) ≡ block_of S.arithmetic self.now.side m i j) }
+        requires shapes { HavePartShapes self.now.side shape blocks.now }
+        ensures glued { IfOk result (λ m. m ≡ glued_blocks S.arithmetic self.now.side shape blocks.now) }
+        ensures cuts { IfOk result (λ m. AreBlocksOf S.arithmetic self.now.side m blocks.now) }
     {
         let _side = self.side();
         let mut entries = Vec::new(alloc);
@@ -54,7 +55,7 @@ impl Grid {
     }
 }
 
-/// How many entries all blocks store.
+/// The number of entries that all blocks store.
 pub(crate) fn stored<S: Semiring>(blocks: &[Block<S>]) -> usize
     ensures count { result ≡ min (sum_by (λ block. length block.entries) blocks.now) usize.MAX }
     ensures matrices { (r : ℕ) → r < length blocks.now → IsMatrix S.arithmetic (block_at blocks.now r) }
@@ -71,7 +72,7 @@ pub(crate) fn stored<S: Semiring>(blocks: &[Block<S>]) -> usize
 fn append_segment(entries: &mut Vec<Entry>, segment: Segment<'_>) -> Result<(), AllocError>
     requires lengths { length segment.values.now ≡ length segment.rows.now }
     requires fits { All (λ i. segment.top + i < 2 ^ 32) segment.rows.now }
-    ensures { OnOk result (entries.new.items ≡ entries.old.items ++ shifted segment.entry.top segment.entry.column segment.entry.rows.now segment.entry.values.now) }
+    ensures { OnOk result (entries.new.items ≡ entries.old.items ++ entries_of segment.entry) }
 {
     let (rows, values) = (segment.rows, segment.values);
     append_column(entries, segment.top, segment.column, rows, values)

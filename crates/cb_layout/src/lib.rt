@@ -1,13 +1,13 @@
 //! Matrices and vectors over a square grid of ranks.
 //!
 //! A grid of side q has q times q ranks; the one in row i and column j has the number i*q + j. A dimension of d places
-//! is cut into q parts of `d.div_ceil(q)` places each: the last parts have fewer, or none. Rank (i, j) keeps the block
-//! of a matrix in row part i and column part j, with places counted from the block's corner. [`Grid::scatter`] cuts a
-//! matrix into these blocks and [`Grid::gather`] glues them together again.
+//! is cut into q parts of `d.div_ceil(q)` places each; the last parts may have fewer, or none. Rank (i, j) keeps the
+//! block of a matrix in row part i and column part j, with places counted from the block's corner. [`Grid::scatter`]
+//! cuts a matrix into these blocks, and [`Grid::gather`] glues them together again.
 //!
-//! A vector is a matrix of one column. It is spread over all ranks: each part is cut again into q pieces by the
-//! same rule. Of an input ([`Grid::scatter_input`]) piece t of part j is kept by rank (t, j), and of a result
-//! ([`Grid::gather_result`]) piece t of part i by rank (i, t).
+//! A vector is a matrix of one column. It is spread over all ranks: each part is cut again into q pieces in the same way.
+//! Rank (t, j) keeps piece t of part j of an input ([`Grid::scatter_input`]), and rank (i, t) keeps piece t of part i of
+//! a result ([`Grid::gather_result`]).
 //!
 //! This is the two-dimensional distribution of Buluç and Gilbert, The Combinatorial BLAS (IJHPCA 2011).
 #![tactic(auto)]
@@ -32,7 +32,7 @@ pub use traversal::{Segment, Segments};
 /// The greatest side of a grid.
 pub const LARGEST_SIDE: u32 = 6;
 
-/// A side of a grid that isn't from 1 to 6.
+/// A grid can't have this side: it isn't from 1 to 6.
 #[derive(Clone, Copy, Debug, PartialEq, Eq, Error)]
 #[error("a grid has a side of 1 to 6")]
 pub struct Side;
@@ -60,7 +60,7 @@ impl Grid {
     ghost use Rattle.cb_layout.specs.Parts.{row_group, column_group, part_start};
     ghost use Rattle.std.specs.Int.{div_ceil};
 
-    /// The grid of a side from 1 to 6.
+    /// The grid of this side, which must be from 1 to 6.
     pub fn new(q: u32) -> Result<Grid, Side>
         ensures ok { IsOk result ↔ ((1 ≤ q) × (q ≤ 6)) }
         ensures side { IfOk result (λ grid. grid.side ≡ q) }
@@ -72,7 +72,7 @@ impl Grid {
         }
     }
 
-    /// How many rows of ranks there are, and how many columns.
+    /// The number of rows of ranks, and of columns.
     pub fn side(&self) -> u32
         ensures value { result ≡ self.now.side }
         ensures some { 1 ≤ result }
@@ -81,7 +81,7 @@ impl Grid {
         self.side
     }
 
-    /// How many ranks there are.
+    /// The number of ranks.
     pub fn ranks(&self) -> u16
         ensures value { result ≡ self.now.side * self.now.side }
         ensures some { 1 ≤ result }
@@ -99,7 +99,7 @@ impl Grid {
         (i * self.side + j) as u16
     }
 
-    /// The ranks of a row, ascending. They are stored in the value itself, without an allocation.
+    /// The ranks of a row, ascending, stored inline without an allocation.
     pub fn row_group(&self, alloc: Global, row: u32) -> SmallVec<u16, 6>
         requires { row < self.now.side }
         ensures { result.items ≡ row_group self.now.side row }
@@ -111,7 +111,7 @@ impl Grid {
         group
     }
 
-    /// The ranks of a column, ascending. They are stored in the value itself, without an allocation.
+    /// The ranks of a column, ascending, stored inline without an allocation.
     pub fn column_group(&self, alloc: Global, column: u32) -> SmallVec<u16, 6>
         requires { column < self.now.side }
         ensures { result.items ≡ column_group self.now.side column }
@@ -123,7 +123,7 @@ impl Grid {
         group
     }
 
-    /// The places of part i of a dimension of d places: the first, and the one after the last. In constant time.
+    /// The places of part i of a dimension of d places: the first, and the one after the last. Takes constant time.
     pub fn range(&self, d: u32, i: u32) -> (u32, u32)
         requires { i < self.now.side }
         ensures start { result.0 ≡ part_start self.now.side d i }
@@ -134,7 +134,7 @@ impl Grid {
     }
 }
 
-/// Where part i of a dimension of d places begins, where each part but the last ones has this length.
+/// Where part i of a dimension of d places begins, if the parts have this length.
 fn start(length: u32, d: u32, i: u32) -> u32
     ensures { result ≡ min (i * length) d }
 {

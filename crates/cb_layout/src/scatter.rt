@@ -1,12 +1,12 @@
-//! A matrix cut into one block for each rank.
-ghost use Rattle.std.specs.Prelude.{◌≡◌, ◌≢◌, ℕ, ◌<◌, ◌≤◌, ◌+◌, ◌*◌, ◌/◌, ◌%◌, List, map, length, All, IfOk, OnOk, OnErr, slice_set};
-ghost use Rattle.std.specs.List.{range_with_len};
+//! Scatter: a matrix is cut into one block for each rank.
+ghost use Rattle.std.specs.Prelude.{◌≡◌, ◌≢◌, ℕ, ◌<◌, ◌≤◌, ◌+◌, ◌*◌, ◌/◌, ◌%◌, List, length, All, IfOk, OnOk, OnErr, slice_set};
 ghost use Rattle.cb_semirings.specs.Arithmetic.{IsValue};
 ghost use Rattle.cb_matrix.specs.Sparse.{IsMatrix, IsInside, IsBefore};
 ghost use Rattle.cb_matrix.specs.Values.{empty_matrix};
 ghost use Rattle.cb_dcsc.specs.Columns.{with_entry};
 ghost use Rattle.cb_layout.specs.Parts.{part_length, part_shape};
-ghost use Rattle.cb_layout.specs.Blocks.{block_of, block_at, part_with, place_in_part, glued};
+ghost use Rattle.cb_layout.specs.Blocks.{AreBlocksOf, AreRankMatrices, block_at, blank_blocks, part_with, place_in_part, placed_in_block};
+ghost use Rattle.cb_layout.specs.Distributed.{glued_blocks};
 
 use crate::Grid;
 use cb_dcsc::Block;
@@ -15,18 +15,18 @@ use cb_semirings::Semiring;
 use std::alloc::{AllocError, Global};
 
 impl Grid {
-    /// The block of each rank, in the order of their numbers: what the matrix has in its row part and column
-    /// part, with places counted from the block's corner. Glued together they are the matrix again. The cost is
-    /// that of the stored entries, and of one block for each rank.
+    /// The block of each rank, in the order of their numbers: its row part and column part of the matrix, with places
+    /// counted from the block's corner. Glued together, the blocks are the matrix again. The cost is that of the stored
+    /// entries, and of one block for each rank.
     pub fn scatter<S: Semiring>(
         &self,
         alloc: Global,
         matrix: &Matrix<S>,
     ) -> Result<Vec<Block<S>>, AllocError>
         ensures count { IfOk result (λ v. length v.items ≡ self.now.side * self.now.side) }
-        ensures blocks { IfOk result (λ v. (i j : ℕ) → i < self.now.side → j < self.now.side → block_at v.items (i * self.now.side + j) ≡ block_of S.arithmetic self.now.side matrix.now i j) }
-        ensures matrices { IfOk result (λ v. (i j : ℕ) → i < self.now.side → j < self.now.side → IsMatrix S.arithmetic (block_at v.items (i * self.now.side + j))) }
-        ensures law { IfOk result (λ v. glued S.arithmetic self.now.side matrix.now.shape (λ i j. block_at v.items (i * self.now.side + j)) ≡ matrix.now) }
+        ensures blocks { IfOk result (λ v. AreBlocksOf S.arithmetic self.now.side matrix.now v.items) }
+        ensures matrices { IfOk result (λ v. AreRankMatrices S.arithmetic self.now.side v.items) }
+        ensures law { IfOk result (λ v. glued_blocks S.arithmetic self.now.side matrix.now.shape v.items ≡ matrix.now) }
     {
         let _side = self.side();
         let shape = matrix.shape();
@@ -38,8 +38,8 @@ impl Grid {
         Ok(blocks)
     }
 
-    /// The room in each block for this many entries in all: entries that are spread evenly give some blocks a little
-    /// more than their share.
+    /// The room to make in each block for this many entries in all: a little more than an equal share, since even entries
+    /// that are spread evenly give some blocks more than others.
     pub(crate) fn room(&self, entries: usize) -> usize {
         let each = entries / usize::from(self.ranks());
         each.saturating_add(each / 16)
@@ -52,7 +52,7 @@ impl Grid {
         shape: Shape,
         each: usize,
     ) -> Result<Vec<Block<S>>, AllocError>
-        ensures { IfOk result (λ v. v.items ≡ map (λ r. empty_matrix (part_shape self.now.side shape (r / self.now.side) (r % self.now.side))) (range_with_len 0 (self.now.side * self.now.side))) }
+        ensures { IfOk result (λ v. v.items ≡ blank_blocks self.now.side shape) }
     {
         let mut blocks = Vec::new(alloc);
         for rank in 0..self.ranks() {
@@ -73,7 +73,7 @@ impl Grid {
         Shape::new(rows, cols).unwrap()
     }
 
-    /// How many places part i of a dimension of d places has. In constant time.
+    /// The number of places of part i of a dimension of d places. In constant time.
     pub fn part_length(&self, d: u32, i: u32) -> u32
         requires { i < self.now.side }
         ensures value { result ≡ part_length self.now.side d i }
@@ -87,7 +87,7 @@ impl Grid {
     pub(crate) fn in_block(&self, shape: Shape, entry: Entry) -> (usize, Entry)
         requires { IsInside shape entry }
         ensures rank { result.0 ≡ part_with self.now.side shape.rows entry.row * self.now.side + part_with self.now.side shape.cols entry.column }
-        ensures entry { result.1 ≡ record { row = place_in_part self.now.side shape.rows entry.row; column = place_in_part self.now.side shape.cols entry.column; value = entry.value } }
+        ensures entry { result.1 ≡ placed_in_block self.now.side shape entry }
     {
         let (i, row) = self.in_part(shape.rows(), entry.row);
         let (j, column) = self.in_part(shape.cols(), entry.column);
@@ -99,7 +99,7 @@ impl Grid {
         (usize::from(self.rank(i, j)), local)
     }
 
-    /// The part of a dimension that a place is in, and its place there. In the first part no division is made.
+    /// The part of a dimension that a place is in, and its place in that part. Avoids a division in the first part.
     pub(crate) fn in_part(&self, d: u32, place: u32) -> (u32, u32)
         requires { place < d }
         ensures part { result.0 ≡ part_with self.now.side d place }
@@ -123,7 +123,7 @@ fn roomy<S: Semiring>(alloc: Global, shape: Shape, entries: usize) -> Result<Blo
     Ok(block)
 }
 
-/// Stores one more entry in one of the blocks, after all the others. A refusal leaves the blocks as they were.
+/// Stores one more entry in the block of a rank, after all its others. A refusal leaves the blocks as they were.
 pub(crate) fn deliver<S: Semiring>(
     blocks: &mut Vec<Block<S>>,
     rank: usize,

@@ -1,4 +1,4 @@
-//! A matrix over the grid of one rank: its only block is the whole of it.
+//! Matrices over the grid of one rank: the only block is the whole matrix.
 ghost use Rattle.std.specs.Prelude.{◌≡◌, IfOk};
 
 use crate::{DistributedMatrix, Grid};
@@ -16,7 +16,7 @@ impl Grid {
 }
 
 impl<S: Semiring> DistributedMatrix<S> {
-    /// The matrix over the grid of one rank that has this block. No entry is copied.
+    /// This block, as a matrix over the grid of one rank. No entry is copied.
     pub fn from_block(alloc: Global, block: Block<S>) -> Result<Self, AllocError>
         ensures { IfOk result (λ m. m ≡ record { side = 1; matrix = block }) }
     {

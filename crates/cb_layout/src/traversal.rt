@@ -1,4 +1,4 @@
-//! A matrix over a grid, walked in its own order: column by column, and in each column from the first row on.
+//! A walk over a matrix on a grid in the matrix's order: column by column, and by row in each column.
 ghost use Rattle.std.specs.Prelude.{◌≡◌, ℕ, ◌<◌, ◌≤◌, ◌+◌, ◌*◌, [], ◌++◌, length, All, IfSome, IfNone};
 ghost use Rattle.cb_layout.specs.Distributed.{AreBlocks, glued_blocks};
 ghost use Rattle.cb_layout.specs.Fronts.{IsFront};
@@ -12,12 +12,12 @@ use cb_semirings::Semiring;
 use std::alloc::AllocError;
 use std::marker::Model;
 
-/// The entries of one column that stand in one block.
+/// The entries of one column in one block.
 #[derive(Clone, Copy)]
 pub struct Segment<'a> {
     /// The column in the whole matrix.
     pub column: u32,
-    /// The row of the whole matrix from which the rows count.
+    /// The row of the whole matrix from which the rows are counted.
     pub top: u32,
     /// The rows, ascending.
     pub rows: &'a [u32],
@@ -25,8 +25,8 @@ pub struct Segment<'a> {
     pub values: &'a [u64],
 }
 
-/// The segments of a matrix over a grid that are left, by column and then by row: in contracts, the stored entries that
-/// are left. Each costs the least of six numbers; no cost depends on a dimension.
+/// The remaining segments of a matrix over a grid, by column and then by row. Contracts see the remaining entries. Each
+/// segment costs finding the least of six numbers; no cost depends on a dimension.
 #[derive(Drop)]
 pub struct Segments<'a, S: Semiring> {
     grid: Grid,
@@ -51,7 +51,7 @@ impl<'a, S: Semiring> Model for Segments<'a, S> {
 }
 
 impl<'a, S: Semiring> Segments<'a, S> {
-    /// All segments of the matrix of a shape that blocks over a grid glue to.
+    /// All segments of the matrix of a shape that blocks over a grid are glued to.
     pub(crate) fn new(grid: Grid, shape: Shape, blocks: &'a [Block<S>]) -> Segments<'a, S>
         requires { AreBlocks S.arithmetic grid.side shape blocks.now }
         ensures { result ≡ (glued_blocks S.arithmetic grid.side shape blocks.now).entries }
@@ -65,7 +65,7 @@ impl<'a, S: Semiring> Segments<'a, S> {
         }
     }
 
-    /// A second walk over the segments that are left, in constant time.
+    /// A second walk over the remaining segments. Takes constant time.
     pub fn fork(&self) -> Segments<'a, S>
         ensures { result ≡ self.now }
     {
@@ -78,7 +78,7 @@ impl<'a, S: Semiring> Segments<'a, S> {
         }
     }
 
-    /// The next segment, which has at least one entry, or None if no entry is left.
+    /// The next segment, with at least one entry, or None if no entry remains.
     pub fn next_segment(&mut self) -> Option<Segment<'a>>
         ensures some { IfSome result (λ g. self.old ≡ shifted g.top g.column g.rows.now g.values.now ++ self.new) }
         ensures none { IfNone result ((self.old ≡ []) × (self.new ≡ [])) }
@@ -105,8 +105,7 @@ impl<'a, S: Semiring> Segments<'a, S> {
     }
 }
 
-/// If all columns of the front are done, goes to the start of the next column of the grid that has entries, or of the
-/// last column if none has.
+/// If the front is done, moves it to the next column of the grid that has entries, or to the last column if none has.
 fn reach<S: Semiring>(grid: Grid, shape: Shape, blocks: &[Block<S>], front: &mut Front)
     requires blocks { AreBlocks S.arithmetic grid.side shape blocks.now }
     requires front { IsFront grid.side shape blocks.now front.old }

@@ -1,11 +1,10 @@
 //! Vectors spread over all ranks. A vector is a matrix of one column.
 ghost use Rattle.std.specs.Prelude.{◌≡◌, ℕ, ◌<◌, ◌≤◌, ◌+◌, ◌*◌, ◌/◌, ◌%◌, List, map, length, IfOk, OnOk};
-ghost use Rattle.std.specs.List.{range_with_len};
-ghost use Rattle.cb_matrix.specs.Sparse.{IsMatrix, IsInside};
-ghost use Rattle.cb_matrix.specs.Values.{empty_matrix};
+ghost use Rattle.cb_matrix.specs.Sparse.{IsInside};
 ghost use Rattle.cb_layout.specs.Parts.{part_length};
-ghost use Rattle.cb_layout.specs.Blocks.{block_at, part_with};
-ghost use Rattle.cb_layout.specs.Vectors.{piece_start, piece_shape, piece_of, piece_with, place_in_piece, glued_pieces};
+ghost use Rattle.cb_layout.specs.Blocks.{AreRankMatrices, block_at, part_with};
+ghost use Rattle.cb_layout.specs.Vectors.{piece_start, piece_shape, piece_with, place_in_piece, blank_pieces, glued_input, glued_result};
+ghost use Rattle.cb_layout.specs.Vectors.{AreInputPieces, AreResultPieces, HavePieceShapes};
 ghost use Rattle.cb_layout.specs.Tiles.{result_tiles, IsGathered, before_rank};
 
 use crate::Grid;
@@ -17,9 +16,8 @@ use cb_semirings::Semiring;
 use std::alloc::{AllocError, Global};
 
 impl Grid {
-    /// The piece of each rank of an input vector, in the order of their numbers: rank (t, j) keeps piece t of
-    /// part j, with rows counted from the piece's first. The cost is that of the stored entries, and of one block
-    /// for each rank.
+    /// The piece of an input vector for each rank, in the order of their numbers: rank (t, j) keeps piece t of part j,
+    /// with rows counted from the piece's first. The cost is that of the stored entries, and of one block for each rank.
     pub fn scatter_input<S: Semiring>(
         &self,
         alloc: Global,
@@ -27,9 +25,9 @@ impl Grid {
     ) -> Result<Vec<Block<S>>, AllocError>
         requires { vector.now.shape.cols ≡ 1 }
         ensures count { IfOk result (λ v. length v.items ≡ self.now.side * self.now.side) }
-        ensures pieces { IfOk result (λ v. (t j : ℕ) → t < self.now.side → j < self.now.side → block_at v.items (t * self.now.side + j) ≡ piece_of S.arithmetic self.now.side vector.now j t) }
-        ensures matrices { IfOk result (λ v. (t j : ℕ) → t < self.now.side → j < self.now.side → IsMatrix S.arithmetic (block_at v.items (t * self.now.side + j))) }
-        ensures law { IfOk result (λ v. glued_pieces S.arithmetic self.now.side vector.now.shape (λ j t. block_at v.items (t * self.now.side + j)) ≡ vector.now) }
+        ensures pieces { IfOk result (λ v. AreInputPieces S.arithmetic self.now.side vector.now v.items) }
+        ensures matrices { IfOk result (λ v. AreRankMatrices S.arithmetic self.now.side v.items) }
+        ensures law { IfOk result (λ v. glued_input S.arithmetic self.now.side vector.now.shape v.items ≡ vector.now) }
     {
         let _side = self.side();
         let shape = vector.shape();
@@ -47,7 +45,7 @@ impl Grid {
         alloc: Global,
         shape: Shape,
     ) -> Result<Vec<Block<S>>, AllocError>
-        ensures { IfOk result (λ v. v.items ≡ map (λ r. empty_matrix (piece_shape self.now.side shape (r % self.now.side) (r / self.now.side))) (range_with_len 0 (self.now.side * self.now.side))) }
+        ensures { IfOk result (λ v. v.items ≡ blank_pieces self.now.side shape) }
     {
         let mut blocks = Vec::new(alloc);
         for rank in 0..self.ranks() {
@@ -68,7 +66,7 @@ impl Grid {
         Shape::new(rows, shape.cols()).unwrap()
     }
 
-    /// The rank that keeps an entry of an input vector, and the entry with its place in that rank's piece.
+    /// The rank that keeps an entry of an input vector, and the entry with its place in the rank's piece.
     fn in_piece(&self, shape: Shape, entry: Entry) -> (usize, Entry)
         requires { IsInside shape entry }
         ensures rank { result.0 ≡ piece_with self.now.side shape.rows entry.row * self.now.side + part_with self.now.side shape.rows entry.row }
@@ -84,9 +82,8 @@ impl Grid {
         (usize::from(self.rank(t, j)), local)
     }
 
-    /// The vector of a shape from the piece of each rank of a result, in the order of their numbers: rank (i, t)
-    /// keeps piece t of part i, so the pieces follow one another, and are the vector's cuts. The cost is that of the
-    /// stored entries.
+    /// The vector of a shape from the pieces of a result, in the order of the ranks' numbers: rank (i, t) keeps piece t
+    /// of part i, so the pieces follow one another. The cost is that of the stored entries.
     pub fn gather_result<S: Semiring>(
         &self,
         alloc: Global,
@@ -95,9 +92,9 @@ impl Grid {
     ) -> Result<Matrix<S>, AllocError>
         requires column { shape.cols ≡ 1 }
         requires count { length blocks.now ≡ self.now.side * self.now.side }
-        requires shapes { (i t : ℕ) → i < self.now.side → t < self.now.side → (block_at blocks.now (i * self.now.side + t)).shape ≡ piece_shape self.now.side shape i t }
-        ensures glued { IfOk result (λ m. m ≡ glued_pieces S.arithmetic self.now.side shape (λ i t. block_at blocks.now (i * self.now.side + t))) }
-        ensures cuts { IfOk result (λ m. (i t : ℕ) → i < self.now.side → t < self.now.side → block_at blocks.now (i * self.now.side + t) ≡ piece_of S.arithmetic self.now.side m i t) }
+        requires shapes { HavePieceShapes self.now.side shape blocks.now }
+        ensures glued { IfOk result (λ m. m ≡ glued_result S.arithmetic self.now.side shape blocks.now) }
+        ensures cuts { IfOk result (λ m. AreResultPieces S.arithmetic self.now.side m blocks.now) }
     {
         let mut entries = Vec::new(alloc);
         entries.reserve(stored(blocks))?;

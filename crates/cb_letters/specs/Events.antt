@@ -1,5 +1,5 @@
--- Lists of posts and takes, and which of them are legal. What letters carry plays no part, so the same definitions
--- judge a list that doesn't keep it, over letters that carry the unit type.
+-- Lists of posts and takes, and which of them are legal. What letters carry plays no part. So the same definitions
+-- apply to a list that keeps no loads: its letters carry the unit type.
 use Rattle.std.specs.Prelude.{ℕ, ◌≡◌, true, false, ◌&&◌, ◌==◌, if◌then◌else◌, List, [], ◌∷◌, ◌++◌, length, Some, slice_get}
 use Rattle.cb_letters.specs.declared.Letter.{Letter}
 use Rattle.cb_letters.specs.Letters.{is_close}
@@ -24,7 +24,8 @@ module _ {P : Type 0} where
   takes_on from to (Sent f t x ∷ es) = takes_on from to es
   takes_on from to (Got f t x ∷ es) = if (f == from) && (t == to) then x ∷ takes_on from to es else takes_on from to es
 
-  -- an event may follow these: a letter that is posted is of its lane, which isn't closed, and has its next number, and a close mark has tag 0; the n-th letter taken is the n-th posted
+  -- an event may follow these. A letter is posted on its own lane, which isn't closed, with the lane's next number, and a
+  -- close mark has tag 0; the n-th letter taken is the n-th posted
   abbrev pub MayFollow : List (Event P) → Event P → Type 0
   MayFollow past (Sent from to x) =
       (x.from ≡ from) × (x.to ≡ to)
@@ -38,6 +39,6 @@ module _ {P : Type 0} where
   AreLegalAfter past [] = Unit {0}
   AreLegalAfter past (e ∷ es) = MayFollow past e × AreLegalAfter (past ++ e ∷ []) es
 
-  -- a list of events that began on new lanes is legal
+  -- a list of events that starts on new lanes is legal
   abbrev pub AreLegal : List (Event P) → Type 0
   AreLegal es = AreLegalAfter [] es

@@ -1,6 +1,9 @@
 -- The lane from one rank to another: a bounded queue that can be closed.
-use Rattle.std.specs.Prelude.{ℕ, ◌≡◌, ◌<◌, ◌+◌, ◌==◌, Bool, true, false, ◌||◌, if◌then◌else◌, List, [], ◌∷◌, ◌++◌, length, Option, Some, None, nat_lt, drop, min, slice_index_or}
+use Rattle.std.specs.Prelude.{ℕ, ◌≡◌, ◌<◌, ◌+◌, ◌==◌, Bool, true, false, ◌||◌, if◌then◌else◌, List, [], ◌∷◌, ◌++◌, length}
+use Rattle.std.specs.Prelude.{Option, Some, None, nat_lt, drop, min, slice_index_or}
+use Rattle.cb_letters.specs.declared.Body.{Body}
 use Rattle.cb_letters.specs.declared.Letter.{Letter}
+use Rattle.cb_letters.specs.declared.Tag.{Tag}
 use Rattle.cb_letters.specs.declared.Taken.{Taken}
 use Rattle.cb_letters.specs.declared.Taken.TheVariants as Answers
 use Rattle.cb_letters.specs.declared.PostRefusal.{PostRefusal}
@@ -9,7 +12,7 @@ use Rattle.cb_letters.specs.Letters.{is_close}
 use Rattle.cb_letters.specs.Standing.{last_number}
 use Rattle.cb_letters.specs.Posted.{ends_closed, NothingAfterClose}
 
--- the letters posted and not taken, oldest first; how many there may be; how many were taken; whether a close mark was posted
+-- the letters that wait, oldest first; how many may wait; how many were taken; whether a close mark was posted
 pub record Lane (P : Type 0) : Type 0 where
   pub queue : List (Letter P)
   pub capacity : ℕ
@@ -44,14 +47,22 @@ module _ {P : Type 0} where
   abbrev pub append : Lane P → Letter P → Lane P
   append l x = record l { queue = l.queue ++ x ∷ []; closed = l.closed || is_close x.body }
 
+  -- a letter was accepted on the lane from one rank to another: nothing refused it, it got the next number, and it is
+  -- queued last
+  abbrev pub Accepts : Lane P → ℕ → ℕ → Tag → Body P → ℕ → Lane P → Type 0
+  Accepts old from to tag body number new =
+      (refusal old ≡ None)
+      × (number ≡ posted old)
+      × (new ≡ append old (record { from = from; to = to; number = number; tag = tag; body = body }))
+
   -- a letter from one rank to another with this number
   pub record IsAddressed (from to number : ℕ) (x : Letter P) : Type 0 where
     pub sender : x.from ≡ from
     pub addressee : x.to ≡ to
     pub numbered : x.number ≡ number
 
-  -- the lane from one rank to another: what is queued is addressed so, and numbered from the number taken on; only the
-  -- last letter may be a close mark; and while letters are queued, the lane is closed exactly if the last is one
+  -- a lane from one rank to another: its queued letters have these two ends, and numbers that continue those taken; only
+  -- the last may be a close mark; and while letters are queued, the lane is closed exactly if the last is one
   pub record IsLane (from to : ℕ) (l : Lane P) : Type 0 where
     pub letters : (k : ℕ) (d : Letter P) → k < length l.queue → IsAddressed from to (l.taken + k) (slice_index_or l.queue k d)
     pub mark : NothingAfterClose l.queue

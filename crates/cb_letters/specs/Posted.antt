@@ -17,18 +17,18 @@ module _ {P : Type 0} where
   abbrev pub NothingAfterClose : List (Letter P) → Type 0
   NothingAfterClose xs = (k : ℕ) → k < length xs → ends_closed (take k xs) ≡ false
 
-  -- how a lane stands on which this sender posted these letters, if there is such a lane
+  -- how a lane stands once this sender has posted these letters on it, if there is such a lane
   abbrev pub standing_by : ℕ → Bool → List (Letter P) → Standing
   standing_by sender is_stranger xs = record { sender = sender; is_stranger = is_stranger; is_closed = ends_closed xs; posted = length xs }
 
-  -- the answer is that the lane ended
+  -- the answer is that the lane has ended
   abbrev pub is_end : Taken P → Bool
   is_end (Answers.Letter x) = false
   is_end Answers.End = true
   is_end Answers.Empty = false
   is_end Answers.Stranger = false
 
-  -- what was taken grows from old to new by a take that answers this
+  -- what was taken grows from old to new by a take with this answer
   abbrev pub GrowsBy : List (Letter P) → List (Letter P) → Taken P → Type 0
   GrowsBy old new (Answers.Letter x) = (new ≡ old ++ x ∷ []) × (x.number ≡ length old)
   GrowsBy old new Answers.End = (new ≡ old) ⊎ ((x : Letter P) × (new ≡ old ++ x ∷ []))

@@ -1,5 +1,5 @@
--- How a lane stands, as the rank that posts on it can tell: what may be posted, room aside.
-use Rattle.std.specs.Prelude.{ℕ, ◌≡◌, ◌+◌, ◌-◌, ◌^◌, ◌==◌, Bool, if◌then◌else◌, Option, Some, None}
+-- The state of a lane as the rank that posts on it sees it: what may be posted, room aside.
+use Rattle.std.specs.Prelude.{ℕ, ◌≡◌, ◌≢◌, ◌+◌, ◌-◌, ◌^◌, ◌==◌, Bool, if◌then◌else◌, Option, Some, None}
 use Rattle.cb_letters.specs.declared.Body.{Body}
 use Rattle.cb_letters.specs.declared.Letter.{Letter}
 use Rattle.cb_letters.specs.declared.Tag.{Tag}
@@ -15,11 +15,11 @@ pub record Standing : Type 0 where
   pub is_closed : Bool
   pub posted : ℕ
 
--- a lane can number this many letters: the last number of the type isn't used
+-- how many letters a lane can number: the last number of the type isn't used
 abbrev pub last_number : ℕ
 last_number = 2 ^ 64 - 1
 
--- why nothing more can be posted, whatever the room
+-- why nothing more can be posted, even if there is room
 abbrev pub standing_refusal : Standing → Option PostRefusal
 standing_refusal s =
     if s.is_stranger then Some Stranger
@@ -42,3 +42,16 @@ module _ {P : Type 0} where
   -- how the lane stands once this letter is posted
   abbrev pub stands_after : Letter P → Standing → Standing
   stands_after x s = record s { is_closed = is_close x.body; posted = s.posted + 1 }
+
+  -- a post was accepted: nothing refused it, it got the next number, and the letter with that number is posted
+  abbrev pub IsAccepted : Standing → ℕ → Tag → Body P → ℕ → (Letter P → Type 0) → Type 0
+  IsAccepted s to tag body number posts = (standing_refusal s ≡ None) × (number ≡ s.posted) × posts (next_letter s to tag body)
+
+module _ {Q : Type 0} (standing : Q → ℕ → Standing) (has_room : Q → ℕ → Type 0) where
+  -- between these states of a rank's ends, one lane keeps its standing, and room if it had any
+  abbrev pub KeepsLane : Q → Q → ℕ → Type 0
+  KeepsLane p q k = (standing q k ≡ standing p k) × (has_room p k → has_room q k)
+
+  -- a letter counts on its own lane, and changes no other
+  abbrev pub CountsOn : {P : Type 0} → Q → Q → ℕ → Letter P → Type 0
+  CountsOn p q to x = (standing q to ≡ stands_after x (standing p to)) × ((k : ℕ) → k ≢ to → KeepsLane p q k)

@@ -1,11 +1,11 @@
-//! How many letters a lane may hold.
+//! The capacity of a lane.
 ghost use Rattle.std.specs.Prelude.{◌≡◌, ◌≤◌, ◌<◌, ◌↔◌, IsSome, IfSome};
 
 use std::marker::Model;
 
 /// How many letters a lane may hold: at least 1.
 ///
-/// A lane for none would block its sender for ever. Room for all letters of all lanes is taken when they are made.
+/// A lane without room would block its sender forever. Room for all letters of all lanes is allocated when they are made.
 #[derive(Clone, Copy, Debug, PartialEq, Eq)]
 pub struct Capacity {
     letters: usize,
@@ -24,7 +24,7 @@ impl Model for Capacity {
 }
 
 impl Capacity {
-    /// Room for this many letters; none if that is 0.
+    /// Room for this many letters, or None for 0.
     pub fn new(letters: usize) -> Option<Capacity>
         ensures some { IsSome result ↔ (1 ≤ letters) }
         ensures value { IfSome result (λ capacity. capacity ≡ letters) }
@@ -35,7 +35,7 @@ impl Capacity {
         Some(Capacity { letters })
     }
 
-    /// Room for this many letters, or for the nearest number from 1 to 64.
+    /// Room for this many letters, brought into the range from 1 to 64.
     pub fn nearest(letters: usize) -> Capacity
         ensures none { letters ≡ 0 → result ≡ 1 }
         ensures within { 1 ≤ letters → letters ≤ 64 → result ≡ letters }
@@ -46,7 +46,7 @@ impl Capacity {
         }
     }
 
-    /// How many letters there is room for.
+    /// The number of letters that there is room for.
     pub fn get(self) -> usize
         ensures value { result ≡ self }
         ensures some { 1 ≤ result }

@@ -1,15 +1,16 @@
-//! What goes through a lane, and the vocabulary of lanes for every crate.
+//! Letters and lanes: the vocabulary that every crate about messages shares.
 //!
-//! There is one lane for each two different ranks and each direction: a bounded queue of letters from a sender to an
-//! addressee, which holds as many as its [`Capacity`] says. A letter carries a sheet, or the news that a sheet was
-//! lost, and a tag of its sender's choice. Each lane numbers its letters from 0. The last letter of a lane is its close
-//! mark: it has a place and a number like any letter, its tag is 0, and nothing is posted after it. A post is refused,
-//! in this order, to a stranger, on a closed lane, on a lane whose numbers are spent, and on a full lane. A take gives
-//! the oldest letter; or the end of the lane, once its close mark is reached and ever after; or says that nothing is
-//! there.
+//! There is one lane from each rank to each other: a bounded queue of letters from a sender to an addressee, with room
+//! for a [`Capacity`]. A letter carries a sheet, or the news that a sheet was lost, and a tag of its sender's choice.
+//! Each lane numbers its letters from 0. Its last letter is its close mark, which takes a place and a number like any
+//! letter, has tag 0, and ends the lane: nothing is posted after it.
 //!
-//! `specs/` says what a lane is and what its calls answer (`Lane`), what two ends that don't share a lane's queue know
-//! of it (`Posted`), why a post is refused (`Standing`), and which lists of posts and takes are legal (`Events`).
+//! A post is refused, in this order, if the other rank is a stranger, if the lane is closed, if its numbers are spent,
+//! and if it is full. A take returns the oldest letter; or the end of the lane, once the close mark is reached and ever
+//! after; or that the lane is empty.
+//!
+//! `specs/` defines what a lane is and what its calls answer (`Lane`), what two ends that don't share a queue know of
+//! their lane (`Posted`), why a post is refused (`Standing`), and which lists of posts and takes are legal (`Events`).
 //! [`Ports`] are the ends of one rank's lanes, whatever they are made of.
 #![tactic(auto)]
 

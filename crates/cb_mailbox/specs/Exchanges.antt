@@ -17,7 +17,7 @@ module _ {P : Type 0} where
   when true x = x ∷ []
   when false x = []
 
-  -- the letter of a call that was accepted on the lane from one rank to another, by the number that it got
+  -- the letter that a call posted on the lane from one rank to another, with the number that the answer gave it
   abbrev pub accepted_by : ℕ → ℕ → Call P → Answer P → List (Letter P)
   accepted_by from to (Post f tag body) (Posted n) = when (f == from) (record { from = f; to = to; number = n; tag = tag; body = body })
   accepted_by from to (Close f) (Posted n) = when (f == from) (record { from = f; to = to; number = n; tag = mark_tag; body = Body.Close })
@@ -28,7 +28,7 @@ module _ {P : Type 0} where
   taken_by from (Take f) (Took (Taken.Letter x)) = when (f == from) x
   taken_by from call answered = []
 
-  -- the letters of the calls that were accepted on a lane, in order
+  -- the letters that the calls posted on a lane, in order
   abbrev pub accepted_on : ℕ → ℕ → List (Call P) → List (Answer P) → List (Letter P)
   accepted_on from to (c ∷ cs) (a ∷ answers) = accepted_by from to c a ++ accepted_on from to cs answers
   accepted_on from to cs answers = []
@@ -42,24 +42,27 @@ module _ {P : Type 0} where
   abbrev pub without_marks : List (Letter P) → List (Letter P)
   without_marks xs = filter (λ x. not (is_close x.body)) xs
 
-  -- each letter is taken at most once: of two of one sender the later has the greater number, and all have numbers that weren't taken before and are now
+  -- each letter is taken at most once: the numbers of one sender's letters increase, and each is one that wasn't taken
+  -- before and is now
   abbrev pub AreTakenOnce : Inbox P → Inbox P → List (Call P) → List (Answer P) → Type 0
   AreTakenOnce old new cs answers =
       (from : ℕ) → is_stranger old from ≡ false
       → AllPairs (λ x y. x.number < y.number) (taken_on from cs answers)
       × All (λ x. ((lane_from old from).taken ≤ x.number) × (x.number < (lane_from new from).taken)) (taken_on from cs answers)
 
-  -- letters are taken by their addressee alone: what a take from a sender hands out is addressed by that sender to the rank whose mailbox it is
+  -- letters are taken by their addressee alone: what a take from a sender hands out goes from that sender to the
+  -- mailbox's rank
   abbrev pub AreForAddressee : Inbox P → List (Call P) → List (Answer P) → Type 0
   AreForAddressee old cs answers = (from : ℕ) → is_stranger old from ≡ false → All (λ x. (x.from ≡ from) × (x.to ≡ old.me)) (taken_on from cs answers)
 
-  -- letters are taken per sender in posting order: those that were queued, followed by those that were accepted, are those that were taken, followed by those that are queued
+  -- letters are taken per sender in posting order: those queued before, followed by those accepted, are those taken,
+  -- followed by those queued now
   abbrev pub AreInPostingOrder : Inbox P → Inbox P → List (Call P) → List (Answer P) → Type 0
   AreInPostingOrder old new cs answers =
       (from : ℕ) → is_stranger old from ≡ false
       → without_marks ((lane_from old from).queue ++ accepted_on from old.me cs answers) ≡ taken_on from cs answers ++ without_marks (lane_from new from).queue
 
-  -- nothing is accepted after a close: on a lane that was closed nothing at all, and on another nothing after the close mark
+  -- nothing is accepted after a close: nothing on a lane that was closed before, and nothing after a close mark on any lane
   abbrev pub NothingAcceptedAfterClose : Inbox P → List (Call P) → List (Answer P) → Type 0
   NothingAcceptedAfterClose old cs answers =
       (from : ℕ) → is_stranger old from ≡ false

@@ -1,4 +1,5 @@
--- Calls of a mailbox and their answers, worked out: rank 1 posts to rank 0, closes its lane and posts once more, which is refused; rank 0 takes until the end.
+-- A worked example: rank 1 posts to rank 0, closes its lane and posts once more, which is refused; rank 0 takes until the
+-- end.
 use Rattle.std.specs.Prelude.{ℕ, ◌≡◌, List, [], ◌∷◌, Some, refl}
 use Rattle.cb_letters.specs.declared.Letter.{Letter}
 use Rattle.cb_letters.specs.declared.Tag.{Tag}

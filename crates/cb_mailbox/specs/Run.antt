@@ -1,4 +1,4 @@
--- Whole lists of calls.
+-- Lists of calls: what they answer, and what they leave.
 use Rattle.std.specs.Prelude.{ℕ, ◌≡◌, false, if◌then◌else◌, List, [], ◌∷◌, ◌++◌, Option, Some, None}
 use Rattle.cb_letters.specs.declared.Body.{Body}
 use Rattle.cb_letters.specs.declared.Letter.{Letter}
@@ -6,15 +6,15 @@ use Rattle.cb_letters.specs.declared.Taken.TheVariants as Taken
 use Rattle.cb_letters.specs.declared.PostRefusal.{PostRefusal}
 use Rattle.cb_letters.specs.Letters.{is_close, mark_tag}
 use Rattle.cb_letters.specs.Events.{Event, Sent, Got, posts_on, takes_on}
-use Rattle.cb_letters.specs.Lane.{new_lane, posted, append, take_answer, after_take}
+use Rattle.cb_letters.specs.Lane.{new_lane, posted, append, take_answer}
 use Rattle.cb_mailbox.specs.declared.calls.Call.{Call}
 use Rattle.cb_mailbox.specs.declared.calls.Call.TheVariants.{Post, Take, Close}
 use Rattle.cb_mailbox.specs.declared.calls.Answer.{Answer}
 use Rattle.cb_mailbox.specs.declared.calls.Answer.TheVariants.{Posted, Refused, Took}
-use Rattle.cb_mailbox.specs.Inbox.{Inbox, is_stranger, lane_from, with_lane, post_refusal, next_letter}
+use Rattle.cb_mailbox.specs.Inbox.{Inbox, is_stranger, lane_from, with_lane, with_take, post_refusal, next_letter}
 
 module _ {P : Type 0} where
-  -- a close mark is posted by Close alone
+  -- a post must not carry a close mark: only Close posts one
   abbrev pub IsPostable : Call P → Type 0
   IsPostable (Post from tag body) = is_close body ≡ false
   IsPostable (Take from) = Unit {0}
@@ -38,12 +38,14 @@ module _ {P : Type 0} where
   abbrev pub after : Inbox P → Call P → Inbox P
   after box (Post from tag body) = after_post (post_refusal box from) box (next_letter box from tag body)
   after box (Close from) = after_post (post_refusal box from) box (next_letter box from mark_tag Body.Close)
-  after box (Take from) = if is_stranger box from then box else with_lane box from (after_take (lane_from box from))
+  after box (Take from) = if is_stranger box from then box else with_take box from
 
+  -- the answers to a list of calls
   abbrev pub answers_to : Inbox P → List (Call P) → List (Answer P)
   answers_to box [] = []
   answers_to box (c ∷ cs) = answer box c ∷ answers_to (after box c) cs
 
+  -- the mailbox after a list of calls
   abbrev pub after_all : Inbox P → List (Call P) → Inbox P
   after_all box [] = box
   after_all box (c ∷ cs) = after_all (after box c) cs
@@ -56,12 +58,13 @@ module _ {P : Type 0} where
   take_events from to [] = []
   take_events from to (x ∷ xs) = Got from to x ∷ []
 
-  -- the letter that a call posts or takes, if any
+  -- the event of a call that posts or takes a letter; none for any other
   abbrev pub events_of : Inbox P → Call P → List (Event P)
   events_of box (Post from tag body) = post_events (post_refusal box from) (next_letter box from tag body)
   events_of box (Close from) = post_events (post_refusal box from) (next_letter box from mark_tag Body.Close)
   events_of box (Take from) = if is_stranger box from then [] else take_events from box.me (lane_from box from).queue
 
+  -- the events of a list of calls
   abbrev pub events : Inbox P → List (Call P) → List (Event P)
   events box [] = []
   events box (c ∷ cs) = events_of box c ++ events (after box c) cs

@@ -1,4 +1,4 @@
-//! Calls of a mailbox as values, and a whole list of them.
+//! Calls of a mailbox as values, and lists of them.
 ghost use Rattle.std.specs.Prelude.{◌≡◌, All, IfOk, OnOk, IfErr};
 ghost use Rattle.cb_mailbox.specs.Run.{IsPostable, answer, after, answers_to, after_all, events, IsBalanced, IsNew};
 ghost use Rattle.cb_mailbox.specs.Exchanges.{AreTakenOnce, AreForAddressee, AreInPostingOrder, NothingAcceptedAfterClose, HasGivenOutAll};
@@ -8,7 +8,7 @@ use crate::Mailbox;
 use cb_letters::{Body, PostRefusal, Tag, Taken};
 use std::alloc::{AllocError, Global};
 
-/// A call of a mailbox, with the sender whose lane it is about.
+/// A call of a mailbox, with the sender whose lane it uses.
 #[derive(Debug, PartialEq, Eq, Drop)]
 pub enum Call<P> {
     Post { from: u16, tag: Tag, body: Body<P> },
@@ -19,16 +19,16 @@ pub enum Call<P> {
 /// The answer to a call of a mailbox.
 #[derive(Debug, PartialEq, Eq, Drop)]
 pub enum Answer<P> {
-    /// A post or a close was accepted: the number of its letter.
+    /// A post or a close was accepted, and its letter has this number.
     Posted(u64),
-    /// A post, with its body, or a close was refused.
+    /// A post or a close was refused. A post gets its body back.
     Refused(PostRefusal, Option<Body<P>>),
     Took(Taken<P>),
 }
 
 impl<P: Drop> Mailbox<P> {
-    /// Makes the calls one after the other, and returns their answers in order. Memory for all answers is taken before
-    /// the first call; if it is refused, the calls come back and none was made.
+    /// Makes the calls one after the other, and returns their answers in order. Memory for all answers is allocated
+    /// before the first call; if it is refused, the calls come back and none was made.
     #[tactic(auto, using(crate::proofs::Runs::runs, crate::proofs::Balance::balance))]
     pub fn run(
         &mut self,

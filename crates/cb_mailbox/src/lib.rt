@@ -1,13 +1,13 @@
 //! A rank's mailbox in one place: a bounded queue of letters for each other rank that posts to it.
 //!
-//! `open` takes the memory of all queues. From then on a call costs the same however many letters have
-//! gone through, and no call but `run` takes memory.
+//! `open` allocates all queues. After that the cost of a call doesn't depend on how many letters have gone through, and
+//! only `run` takes memory.
 //!
 //! - `post` and `close` append to the sender's queue and return the number on that lane: 0, 1, 2 and so on, the close
 //!   mark included. They are refused to a stranger (the rank itself, or no rank), after a close, when the numbers are
 //!   spent, and when the queue is full, in this order. A refused call changes nothing and hands its body back.
 //! - `take` returns the oldest letter of one sender. At the close mark and ever after it returns `End`.
-//! - `run` makes a list of calls. Room for all answers is taken first, so a refused `run` does nothing.
+//! - `run` makes a list of calls. It allocates room for all answers first, so a refused `run` does nothing.
 //!
 //! A mailbox behaves like one lane per sender (`cb_letters`' `Lane`). Over any list of calls, on each lane, what was
 //! queued and then accepted is what was taken and what is queued in the end; and on a new mailbox the accepted posts
@@ -19,9 +19,9 @@ mod queue;
 
 ghost use Rattle.std.specs.Prelude.{ℕ, ◌≡◌, ◌<◌, length, Some, None, IfOk, IfErr, OnErr, IsTrue, true, false, ◌↔◌, if◌then◌else◌};
 ghost use Rattle.cb_letters.specs.Letters.{is_close, mark_tag};
-ghost use Rattle.cb_letters.specs.Lane.{new_lane, posted, append, IsDrained, HasRoom, IsAddressed, take_answer, after_take};
+ghost use Rattle.cb_letters.specs.Lane.{new_lane, posted, IsDrained, HasRoom, IsAddressed, take_answer};
 ghost use Rattle.cb_letters.specs.declared.Letter.{Letter};
-ghost use Rattle.cb_mailbox.specs.Inbox.{is_stranger, lane_from, with_lane, post_refusal, next_letter};
+ghost use Rattle.cb_mailbox.specs.Inbox.{is_stranger, lane_from, with_take, post_refusal, AcceptsFrom};
 
 pub use calls::{Answer, Call};
 use cb_letters::{Body, Capacity, PostRefusal, Tag, Taken};
@@ -48,8 +48,8 @@ impl<P> Model for Mailbox<P> {
 }
 
 impl<P: Drop> Mailbox<P> {
-    /// The mailbox of rank `me` among `ranks`. Each queue has `capacity` places, allocated here; the one from itself,
-    /// to which nobody posts, has none.
+    /// The mailbox of rank `me` among `ranks`. Each queue has `capacity` places, allocated here. The queue from the rank
+    /// itself, to which nobody posts, has none.
     #[tactic(auto, using(crate::proofs::Inboxes::lanes))]
     pub fn open(
         alloc: Global,
@@ -77,7 +77,7 @@ impl<P: Drop> Mailbox<P> {
         body: Body<P>,
     ) -> Result<u64, (PostRefusal, Body<P>)>
         requires { is_close body ≡ false }
-        ensures accepted { IfOk result (λ number. (post_refusal self.old from ≡ None) × (number ≡ posted (lane_from self.old from)) × (self.new ≡ with_lane self.old from (append (lane_from self.old from) (next_letter self.old from tag body)))) }
+        ensures accepted { IfOk result (λ number. AcceptsFrom self.old from tag body number self.new) }
         ensures refused { IfErr result (λ e. (post_refusal self.old from ≡ Some e.0) × (e.1 ≡ body)) }
         ensures unchanged { OnErr result (self.new ≡ self.old) }
     {
@@ -90,7 +90,7 @@ impl<P: Drop> Mailbox<P> {
 
     /// Posts the mark that ends the lane of the sender `from`, and returns its number.
     pub fn close(&mut self, from: u16) -> Result<u64, PostRefusal>
-        ensures accepted { IfOk result (λ number. (post_refusal self.old from ≡ None) × (number ≡ posted (lane_from self.old from)) × (self.new ≡ with_lane self.old from (append (lane_from self.old from) (next_letter self.old from mark_tag Body.Close)))) }
+        ensures accepted { IfOk result (λ number. AcceptsFrom self.old from mark_tag Body.Close number self.new) }
         ensures refused { IfErr result (λ e. post_refusal self.old from ≡ Some e) }
         ensures unchanged { OnErr result (self.new ≡ self.old) }
     {
@@ -109,7 +109,7 @@ impl<P: Drop> Mailbox<P> {
     pub fn take(&mut self, from: u16) -> Taken<P>
         ensures stranger { is_stranger self.old from ≡ true → (result ≡ Taken.Stranger) × (self.new ≡ self.old) }
         ensures letter { (x : Letter P) → result ≡ Taken.Letter x → IsAddressed from self.old.me (lane_from self.old from).taken x }
-        ensures answer { is_stranger self.old from ≡ false → (result ≡ take_answer (lane_from self.old from)) × (self.new ≡ with_lane self.old from (after_take (lane_from self.old from))) }
+        ensures answer { is_stranger self.old from ≡ false → (result ≡ take_answer (lane_from self.old from)) × (self.new ≡ with_take self.old from) }
     {
         if self.is_stranger(from) {
             return Taken::Stranger;
@@ -117,7 +117,7 @@ impl<P: Drop> Mailbox<P> {
         self.lanes[from as usize].take()
     }
 
-    /// Whether the lane of the sender `from` is closed and all its letters were taken.
+    /// Whether the lane of the sender `from` is closed and all its letters are taken.
     pub fn drained(&self, from: u16) -> bool
         requires { is_stranger self.now from ≡ false }
         ensures { IsTrue result ↔ IsDrained (lane_from self.now from) }
@@ -133,7 +133,7 @@ impl<P: Drop> Mailbox<P> {
         self.lanes[from as usize].has_room()
     }
 
-    /// How many letters the sender `from` posted, its close mark included.
+    /// The number of letters that the sender `from` posted, its close mark included.
     pub fn posted(&self, from: u16) -> u64
         requires { is_stranger self.now from ≡ false }
         ensures { result ≡ posted (lane_from self.now from) }
@@ -141,7 +141,7 @@ impl<P: Drop> Mailbox<P> {
         self.lanes[from as usize].posted()
     }
 
-    /// How many letters of the sender `from` were taken, its close mark included.
+    /// The number of letters taken from the sender `from`, its close mark included.
     pub fn taken(&self, from: u16) -> u64
         requires { is_stranger self.now from ≡ false }
         ensures { result ≡ (lane_from self.now from).taken }

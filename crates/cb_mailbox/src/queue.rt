@@ -1,7 +1,7 @@
 //! One lane of a mailbox.
 ghost use Rattle.std.specs.Prelude.{ℕ, ◌≡◌, ◌≢◌, ◌+◌, ◌∷◌, ◌++◌, ◌<◌, ◌≤◌, ◌==◌, length, nat_lt, Some, None, IfOk, IfErr, IsTrue, ◌↔◌};
 ghost use Rattle.cb_letters.specs.Letters.{is_close};
-ghost use Rattle.cb_letters.specs.Lane.{new_lane, posted, refusal, append, IsDrained, HasRoom, take_answer, after_take};
+ghost use Rattle.cb_letters.specs.Lane.{new_lane, posted, refusal, Accepts, IsDrained, HasRoom, take_answer, after_take};
 
 use cb_letters::{Body, Letter, PostRefusal, Tag, Taken};
 use circular_buffer::HeapCircularBuffer;
@@ -38,7 +38,7 @@ impl<P: Drop> Queue<P> {
         })
     }
 
-    /// How many letters were posted.
+    /// The number of letters posted.
     pub(crate) fn posted(&self) -> u64
         ensures { result ≡ posted self.now }
     {
@@ -53,7 +53,7 @@ impl<P: Drop> Queue<P> {
         tag: Tag,
         body: Body<P>,
     ) -> Result<u64, (PostRefusal, Body<P>)>
-        ensures accepted { IfOk result (λ number. (refusal self.old ≡ None) × (number ≡ posted self.old) × (self.new ≡ append self.old (record { from = from; to = to; number = number; tag = tag; body = body }))) }
+        ensures accepted { IfOk result (λ number. Accepts self.old from to tag body number self.new) }
         ensures refused { IfErr result (λ e. (refusal self.old ≡ Some e.0) × (e.1 ≡ body) × (self.new ≡ self.old)) }
     {
         if self.closed {
@@ -78,7 +78,7 @@ impl<P: Drop> Queue<P> {
         Ok(number)
     }
 
-    /// Takes the oldest letter. The close mark is the end of the lane.
+    /// Takes the oldest letter. A close mark is returned as the end of the lane.
     pub(crate) fn take(&mut self) -> Taken<P>
         ensures answer { result ≡ take_answer self.old }
         ensures after { self.new ≡ after_take self.old }

@@ -1,4 +1,4 @@
--- The two statements about a text are one.
+-- The two statements about a text agree.
 use Rattle.std.proofs.Common.{◌≡◌, ℕ, suc, ◌+◌, ◌-◌, ◌≤◌, ◌<◌, Bool, true, false, not, Option, Some, None, List, [], ◌∷◌, ◌++◌, arith, length, sym, ap, ◌∙◌, refl, nat_le, zero, map, filter, subst, inr, ⊎_elim}
 use Rattle.std.specs.Prelude.{◌==◌, ◌&&◌, is_some, unwrap_or, codes, flat_map, bytes_eq, IfSome}
 use Rattle.std.specs.List.{enumerate_from}

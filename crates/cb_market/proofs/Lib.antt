@@ -1,6 +1,12 @@
-pub mod Numbers
+-- The toolbox of lemmas on texts, by topic; each lemma's own sentence stands over it.
+--
+-- Digits, Decimals, DigitByDigit: decimal numbers. FrontWords, WordNumbers: the number of a word. Cursor: a cursor's
+-- steps, as steps over lines and words. LineFaults, Bodies: the faults of entries and of a whole text. Law: the two
+-- statements about a text agree. EntryRoundTrip, MatrixRoundTrip: a matrix, written and read again. PartedTexts: a text
+-- in parts. Segments, EntryRuns, WrittenBytes: the lines of entries, as they are written.
+pub mod DigitByDigit
 pub mod Cursor
-pub mod Fronts
+pub mod FrontWords
 pub mod WordNumbers
 pub mod LineFaults
 pub mod Bodies
@@ -12,8 +18,10 @@ pub mod Digits
 pub mod Segments
 pub mod WrittenBytes
 pub mod EntryRuns
+pub mod PartedTexts
+-- For this crate alone. NumberLines: lines of numbers. NextEntries: the faults and the entries of a text, one entry on.
+-- Listed, Gatherings: the entries of a text, as they are gathered.
 mod NumberLines
 mod NextEntries
-pub mod PartedTexts
 mod Listed
 mod Gatherings

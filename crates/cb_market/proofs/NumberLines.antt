@@ -18,9 +18,9 @@ use Rattle.cb_market.specs.declared.header.Field.TheVariants.{Integer}
 use Rattle.cb_market.specs.Checks.{entry_fault, entry_of}
 use Rattle.cb_market.specs.Faults.{IsEntryOf, IsNextEntry}
 use Rattle.cb_market.proofs.Bodies.{entry_value}
-use Rattle.cb_market.proofs.Numbers.{if_small_fits}
+use Rattle.cb_market.proofs.DigitByDigit.{if_small_fits}
 use Rattle.cb_market.proofs.WordNumbers.{number_magnitude}
-use Rattle.cb_market.proofs.Fronts.{digit_no_end, after_digits_word, front_digits_word, number_front, ended}
+use Rattle.cb_market.proofs.FrontWords.{digit_no_end, after_digits_word, front_digits_word, number_front, ended}
 use Rattle.cb_market.proofs.Cursor.{words_first, words_blank, line_after_word, no_word, line_end_feed, kept_here, lines_more, after_line-lt}
 
 digits_split : (rest : List ℕ) → front_digits rest ++ after_digits rest ≡ rest

@@ -1,26 +1,28 @@
 -- The checks of each line, in their order, and what a line without a fault says.
-use Rattle.std.specs.Prelude.{ℕ, zero, suc, ◌-◌, ◌^◌, Bool, true, false, cond, not, ◌&&◌, ◌==◌, nat_le, nat_lt, List, [], ◌∷◌, map, length, codes, Some, None, Option, is_some, unwrap_or, bytes_eq}
+use Rattle.std.specs.Prelude.{◌≡◌, ℕ, zero, suc, ◌-◌, ◌^◌, Bool, true, false, cond, not, ◌&&◌, ◌==◌, nat_le, nat_lt}
+use Rattle.std.specs.Prelude.{List, [], ◌∷◌, map, length, codes, Some, None, Option, is_some, unwrap_or, bytes_eq}
 use Rattle.std.specs.Char.{to_ascii_lowercase}
 use Rattle.cb_semirings.specs.Arithmetic.{Arithmetic, has_negatives}
 use Rattle.cb_matrix.specs.declared.Entry.{Entry}
 use Rattle.cb_matrix.specs.declared.TheConstants.{LIMIT}
 use Rattle.cb_matrix.specs.Sparse.{Extent}
 use Rattle.cb_market.specs.declared.Kind.{Kind}
-use Rattle.cb_market.specs.declared.Kind.TheVariants.{BadHeader, Unsupported, BadSize, TooLarge, NotSquare, BadLine, BadNumber, IndexRange, AboveDiagonal, OnDiagonal, ValueRange}
+use Rattle.cb_market.specs.declared.Kind.TheVariants.{BadHeader, Unsupported, BadSize, TooLarge, NotSquare}
+use Rattle.cb_market.specs.declared.Kind.TheVariants.{BadLine, BadNumber, IndexRange, AboveDiagonal, OnDiagonal, ValueRange}
 use Rattle.cb_market.specs.declared.header.Header.{Header}
 use Rattle.cb_market.specs.declared.size.Size.{Size}
 use Rattle.cb_market.specs.declared.header.Field.{Field}
 use Rattle.cb_market.specs.declared.header.Field.TheVariants.{Integer, Pattern}
 use Rattle.cb_market.specs.declared.header.Symmetry.{Symmetry}
 use Rattle.cb_market.specs.declared.header.Symmetry.TheVariants.{General, Symmetric, SkewSymmetric}
-use Rattle.cb_market.specs.Lines.{is_number, number, is_value_word, is_negative, magnitude}
+use Rattle.cb_market.specs.Lines.{words, begins_blank, is_number, number, is_value_word, is_negative, magnitude}
 
 -- the kind of the first check that fails
 abbrev pub first_failed : List (Bool × Kind) → Option Kind
 first_failed [] = None
 first_failed (check ∷ checks) = cond check.0 (first_failed checks) (Some check.1)
 
--- the word at a place of a line, or no byte if there is none
+-- the word at a place of a line, or an empty one if there is none
 abbrev pub word : ℕ → List (List ℕ) → List ℕ
 word i [] = []
 word zero (w ∷ ws) = w
@@ -32,11 +34,16 @@ is_name word name = bytes_eq (map to_ascii_lowercase word) (map to_ascii_lowerca
 
 -- the field that a word names
 abbrev pub field_in : List ℕ → Option Field
-field_in word = cond (is_name word (codes "integer")) (Some Integer) (cond (is_name word (codes "pattern")) (Some Pattern) None)
+field_in word =
+    cond (is_name word (codes "integer")) (Some Integer)
+    (cond (is_name word (codes "pattern")) (Some Pattern) None)
 
 -- the symmetry that a word names
 abbrev pub symmetry_in : List ℕ → Option Symmetry
-symmetry_in word = cond (is_name word (codes "general")) (Some General) (cond (is_name word (codes "symmetric")) (Some Symmetric) (cond (is_name word (codes "skew-symmetric")) (Some SkewSymmetric) None))
+symmetry_in word =
+    cond (is_name word (codes "general")) (Some General)
+    (cond (is_name word (codes "symmetric")) (Some Symmetric)
+    (cond (is_name word (codes "skew-symmetric")) (Some SkewSymmetric) None))
 
 -- a skew-symmetric matrix has whole numbers, in a semiring that has negatives
 abbrev pub is_supported : Arithmetic → Field → Symmetry → Bool
@@ -44,6 +51,14 @@ is_supported s field General = true
 is_supported s field Symmetric = true
 is_supported s Integer SkewSymmetric = has_negatives s
 is_supported s Pattern SkewSymmetric = false
+
+-- the header of a matrix with values
+abbrev pub integers : Symmetry → Header
+integers symmetry = record { field = Integer; symmetry = symmetry }
+
+-- the header of a matrix without values
+abbrev pub patterns : Symmetry → Header
+patterns symmetry = record { field = Pattern; symmetry = symmetry }
 
 -- the header that a line's words make
 abbrev pub header_of : List (List ℕ) → Header
@@ -56,6 +71,19 @@ is_read s ws =
     && is_some (field_in (word 3 ws)) && is_some (symmetry_in (word 4 ws))
     && is_supported s (header_of ws).field (header_of ws).symmetry
 
+-- the words of a first line, whose banner doesn't matter here
+abbrev pub header_words : List ℕ → List ℕ → List ℕ → List ℕ → List (List ℕ)
+header_words object format field symmetry = [] ∷ object ∷ format ∷ field ∷ symmetry ∷ []
+
+-- whether the four words after the banner are supported
+abbrev pub are_read : Arithmetic → List ℕ → List ℕ → List ℕ → List ℕ → Bool
+are_read s object format field symmetry = is_read s (header_words object format field symmetry)
+
+-- the four words after the banner are supported, and make this header
+abbrev pub MakeHeader : Arithmetic → List ℕ → List ℕ → List ℕ → List ℕ → Header → Type 0
+MakeHeader s object format field symmetry header =
+    (are_read s object format field symmetry ≡ true) × (header ≡ header_of (header_words object format field symmetry))
+
 -- the checks of the words of the first line, which may begin with a blank
 abbrev pub header_checks : Arithmetic → Bool → List (List ℕ) → List (Bool × Kind)
 header_checks s begins_blank ws =
@@ -65,6 +93,10 @@ header_checks s begins_blank ws =
 
 abbrev pub header_fault : Arithmetic → Bool → List (List ℕ) → Option Kind
 header_fault s begins_blank ws = first_failed (header_checks s begins_blank ws)
+
+-- a first line without a fault makes this header
+abbrev pub MakesHeader : Arithmetic → List ℕ → Header → Type 0
+MakesHeader s line header = (header_fault s (begins_blank line) (words line) ≡ None) × (header ≡ header_of (words line))
 
 -- the size that a line's words announce
 abbrev pub size_of : List (List ℕ) → Size
@@ -86,6 +118,10 @@ size_checks header ws =
 
 abbrev pub size_fault : Header → List (List ℕ) → Option Kind
 size_fault header ws = first_failed (size_checks header ws)
+
+-- the words of a line without a fault announce this size
+abbrev pub AnnouncesSize : Header → List (List ℕ) → Size → Type 0
+AnnouncesSize header ws size = (size_fault header ws ≡ None) × (size ≡ size_of ws)
 
 -- a number from 1 to a limit
 abbrev pub is_within : ℕ → ℕ → Bool
@@ -129,7 +165,7 @@ is_on_diagonal General row column = false
 is_on_diagonal Symmetric row column = false
 is_on_diagonal SkewSymmetric row column = row == column
 
--- of a place, counted from 1
+-- the fault of a place, counted from 1
 abbrev pub place_fault : Symmetry → Extent → ℕ → ℕ → Option Kind
 place_fault symmetry shape row column =
     first_failed (
@@ -137,6 +173,11 @@ place_fault symmetry shape row column =
     ∷ (not (is_above symmetry row column), AboveDiagonal)
     ∷ (not (is_on_diagonal symmetry row column), OnDiagonal)
     ∷ [])
+
+-- a row and a column, counted from 1, without a fault name this place
+abbrev pub NamesPlace : Symmetry → Extent → ℕ → ℕ → ℕ × ℕ → Type 0
+NamesPlace symmetry shape row column place =
+    (place_fault symmetry shape row column ≡ None) × (place.0 ≡ row - 1) × (place.1 ≡ column - 1)
 
 -- the checks of the line of an entry
 abbrev pub entry_checks : Arithmetic → Header → Extent → List (List ℕ) → List (Bool × Kind)
@@ -154,7 +195,19 @@ entry_fault s header shape ws = first_failed (entry_checks s header shape ws)
 
 -- the entry that a line's words write
 abbrev pub entry_of : Arithmetic → Header → List (List ℕ) → Entry
-entry_of s header ws = record { row = number (word 0 ws) - 1; column = number (word 1 ws) - 1; value = unwrap_or (value_of s header.field (word 2 ws)) s.zero }
+entry_of s header ws = record {
+  row = number (word 0 ws) - 1;
+  column = number (word 1 ws) - 1;
+  value = unwrap_or (value_of s header.field (word 2 ws)) s.zero;
+}
+
+-- the words of a line without a fault write this entry
+abbrev pub WritesEntry : Arithmetic → Header → Extent → List (List ℕ) → Entry → Type 0
+WritesEntry s header shape ws e = (entry_fault s header shape ws ≡ None) × (e ≡ entry_of s header ws)
+
+-- the words of a line have this fault
+abbrev pub HasEntryFault : Arithmetic → Header → Extent → List (List ℕ) → Kind → Type 0
+HasEntryFault s header shape ws kind = entry_fault s header shape ws ≡ Some kind
 
 -- the entry at the mirrored place
 abbrev pub mirrored : ℕ → Entry → Entry
@@ -164,7 +217,8 @@ mirrored value e = record { row = e.column; column = e.row; value = value }
 abbrev pub negative_of : Arithmetic → ℕ → ℕ
 negative_of s value = unwrap_or (s.negative value) s.zero
 
--- what an entry gives: its value to its place; in a symmetric matrix also to the mirrored place, if that is another; in a skew-symmetric matrix its negative to the mirrored place
+-- what an entry gives: its value to its place; in a symmetric matrix also to the mirrored place, if that is another; in
+-- a skew-symmetric matrix its negative to the mirrored place
 abbrev pub given_by : Arithmetic → Symmetry → Entry → List Entry
 given_by s General e = e ∷ []
 given_by s Symmetric e = cond (e.row == e.column) (e ∷ []) (e ∷ mirrored e.value e ∷ [])

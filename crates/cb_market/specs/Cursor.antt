@@ -1,8 +1,8 @@
 -- A text from a place on: what is left of a line, and the text after it.
-use Rattle.std.specs.Prelude.{◌≡◌, ℕ, ◌^◌, ◌<◌, Bool, true, cond, ◌&&◌, ◌||◌, ◌==◌, nat_lt, List, [], ◌∷◌, length, Option, Some, None}
+use Rattle.std.specs.Prelude.{◌≡◌, ℕ, ◌+◌, ◌^◌, ◌<◌, Bool, true, cond, ◌&&◌, ◌||◌, ◌==◌, nat_lt, List, [], ◌∷◌, length, Option, Some, None}
 use Rattle.cb_market.specs.declared.words.Number.{Number}
 use Rattle.cb_market.specs.declared.words.Number.TheVariants.{NotWhole, TooLarge, Whole}
-use Rattle.cb_market.specs.Lines.{is_digit, is_number, is_blank, is_value_word, magnitude, words}
+use Rattle.cb_market.specs.Lines.{is_digit, is_number, is_blank, is_value_word, magnitude, words, kept_from}
 
 -- whether a line ends here: at the end of the text or a line feed, or at a carriage return before either
 abbrev pub is_line_end : List ℕ → Bool
@@ -15,10 +15,19 @@ abbrev pub line_at : List ℕ → List ℕ
 line_at [] = []
 line_at (c ∷ rest) = cond (is_line_end (c ∷ rest)) [] (c ∷ line_at rest)
 
+-- the words that are left of a line
+abbrev pub words_at : List ℕ → List (List ℕ)
+words_at text = words (line_at text)
+
 -- the text after a line
 abbrev pub after_line : List ℕ → List ℕ
 after_line [] = []
 after_line (c ∷ rest) = cond (c == 10) rest (after_line rest)
+
+-- The first line that isn't skipped, of a text whose first line has the number n, has the number m and begins with this
+-- word; the rest of the text is what comes after the word.
+abbrev pub IsKeptWord : ℕ → List ℕ → ℕ → List ℕ → List ℕ → Type 0
+IsKeptWord n text m word rest = kept_from n text ≡ (m, word ∷ words_at rest) ∷ kept_from (m + 1) (after_line rest)
 
 -- whether a word ends here
 abbrev pub is_word_end : List ℕ → Bool
@@ -47,7 +56,7 @@ abbrev pub after_blanks : List ℕ → List ℕ
 after_blanks [] = []
 after_blanks (c ∷ rest) = cond (is_blank c) (after_blanks rest) (c ∷ rest)
 
--- a number that fits 64 bits
+-- a number, if it fits in 64 bits
 abbrev pub if_small : ℕ → Option ℕ
 if_small n = cond (nat_lt n (2 ^ 64)) (Some n) None
 

@@ -8,32 +8,44 @@ use Rattle.cb_market.specs.declared.Kind.{Kind}
 use Rattle.cb_market.specs.declared.Kind.TheVariants.{BadHeader, BadSize, ExtraEntry, MissingEntries, Memory}
 use Rattle.cb_market.specs.declared.ReadFault.{ReadFault}
 use Rattle.cb_market.specs.declared.header.Header.{Header}
-use Rattle.cb_market.specs.Lines.{lines, words, kept_lines, kept_from, begins_blank}
-use Rattle.cb_market.specs.Checks.{header_fault, header_of, size_fault, size_of, entry_fault, entry_of, given_by}
+use Rattle.cb_market.specs.declared.size.Size.{Size}
+use Rattle.cb_market.specs.Lines.{lines, past_last, words, kept_lines, kept_from, begins_blank}
+use Rattle.cb_market.specs.Checks.{header_fault, header_of, size_fault, size_of}
+use Rattle.cb_market.specs.Checks.{entry_fault, entry_of, given_by, WritesEntry, HasEntryFault}
 
 -- a line's fault, or else a later one
 abbrev pub at_line : ℕ → Option Kind → Option ReadFault → Option ReadFault
 at_line n (Some kind) later = Some (record { line = n; kind = kind })
 at_line n None later = later
 
--- of the entries: `left` are still missing, and the text has `n - 1` lines
+-- the first fault of the entries: some are still missing, and the text has n - 1 lines
 unfoldable pub entries_fault : Arithmetic → Header → Extent → ℕ → ℕ → List (ℕ × List (List ℕ)) → Option ReadFault
 entries_fault s header shape n zero [] = None
 entries_fault s header shape n (suc left) [] = Some (record { line = n; kind = MissingEntries })
 entries_fault s header shape n zero (line ∷ lines) = Some (record { line = line.0; kind = ExtraEntry })
-entries_fault s header shape n (suc left) (line ∷ lines) = at_line line.0 (entry_fault s header shape line.1) (entries_fault s header shape n left lines)
+entries_fault s header shape n (suc left) (line ∷ lines) =
+    at_line line.0 (entry_fault s header shape line.1) (entries_fault s header shape n left lines)
 
--- of the size line and the entries: the lines that aren't skipped, of a text of `n - 1` lines
+-- the same for entries that are announced by this size, in a text whose first line has the number n
+abbrev pub entries_fault_from : Arithmetic → Header → Size → ℕ → List ℕ → Option ReadFault
+entries_fault_from s header size n text = entries_fault s header size.shape (past_last n text) size.count (kept_from n text)
+
+-- the first fault of the size line and the entries: the lines that aren't skipped, of a text of n - 1 lines
 abbrev pub body_fault : Arithmetic → Header → ℕ → List (ℕ × List (List ℕ)) → Option ReadFault
 body_fault s header n [] = Some (record { line = n; kind = BadSize })
 body_fault s header n (line ∷ lines) =
     let size = size_of line.1 in
     at_line line.0 (size_fault header line.1) (entries_fault s header size.shape n size.count lines)
 
--- of all lines
+-- the same for a text whose first line has the number n
+abbrev pub body_fault_from : Arithmetic → Header → ℕ → List ℕ → Option ReadFault
+body_fault_from s header n text = body_fault s header (past_last n text) (kept_from n text)
+
+-- the first fault of all lines, of a text of n - 1 lines
 abbrev pub lines_fault : Arithmetic → ℕ → List (List ℕ) → Option ReadFault
 lines_fault s n [] = Some (record { line = 1; kind = BadHeader })
-lines_fault s n (line ∷ lines) = at_line 1 (header_fault s (begins_blank line) (words line)) (body_fault s (header_of (words line)) n (kept_lines 2 lines))
+lines_fault s n (line ∷ lines) =
+    at_line 1 (header_fault s (begins_blank line) (words line)) (body_fault s (header_of (words line)) n (kept_lines 2 lines))
 
 -- the first fault of a text
 unfoldable pub first_fault : Arithmetic → List ℕ → Option ReadFault
@@ -43,11 +55,16 @@ first_fault s text = lines_fault s (length (lines text) + 1) (lines text)
 abbrev pub given : Arithmetic → Header → List (ℕ × List (List ℕ)) → List Entry
 given s header lines = flat_map (λ l. given_by s header.symmetry (entry_of s header l.1)) lines
 
--- the sums of what is given, in the shape that the size line announces
+-- the sum of what is given at each place, in the shape that the size line announces
 abbrev pub body_matrix : Arithmetic → Header → List (ℕ × List (List ℕ)) → Sparse
 body_matrix s header [] = empty_matrix (record { rows = 0; cols = 0 })
 body_matrix s header (line ∷ lines) = collected s (size_of line.1).shape (given s header lines)
 
+-- the same for a text whose first line has the number n
+abbrev pub body_matrix_from : Arithmetic → Header → ℕ → List ℕ → Sparse
+body_matrix_from s header n text = body_matrix s header (kept_from n text)
+
+-- the matrix of all lines
 abbrev pub lines_matrix : Arithmetic → List (List ℕ) → Sparse
 lines_matrix s [] = empty_matrix (record { rows = 0; cols = 0 })
 lines_matrix s (line ∷ lines) = body_matrix s (header_of (words line)) (kept_lines 2 lines)
@@ -56,29 +73,30 @@ lines_matrix s (line ∷ lines) = body_matrix s (header_of (words line)) (kept_l
 unfoldable pub matrix_in : Arithmetic → List ℕ → Sparse
 matrix_in s text = lines_matrix s (lines text)
 
--- a result that is the first fault, or want of memory at a line with no fault before it or at it
+-- a fault that is the first one, or refused memory at a line with no fault before it or at it
 abbrev pub IsAnswer : Option ReadFault → ReadFault → Type 0
 IsAnswer first f = (first ≡ Some f) ⊎ ((f.kind ≡ Memory) × IfSome first (λ g. f.line < g.line))
 
--- a result at a line: its fault, or want of memory if it has none
+-- a fault at a line: that of the line, or refused memory if it has none
 abbrev pub IsLineAnswer : ℕ → Option Kind → ReadFault → Type 0
 IsLineAnswer n fault f = (f.line ≡ n) × ((fault ≡ Some f.kind) ⊎ ((fault ≡ None) × (f.kind ≡ Memory)))
 
 -- the entry that a line's words write, or their fault
 abbrev pub IsEntryOf : Arithmetic → Header → Extent → List (List ℕ) → Result Entry Kind → Type 0
-IsEntryOf s header shape ws (Ok e) = (entry_fault s header shape ws ≡ None) × (e ≡ entry_of s header ws)
-IsEntryOf s header shape ws (Err kind) = entry_fault s header shape ws ≡ Some kind
+IsEntryOf s header shape ws (Ok e) = WritesEntry s header shape ws e
+IsEntryOf s header shape ws (Err kind) = HasEntryFault s header shape ws kind
 
--- The first line that isn't skipped, of a text whose first line has the number n, has the number m and writes this entry,
--- or has this fault; the rest is the text after it.
-pub record IsNextEntry (s : Arithmetic) (header : Header) (shape : Extent) (n : ℕ) (text : List ℕ) (m : ℕ) (found : Result Entry Kind) (rest : List ℕ) : Type 0 where
+-- The first line that isn't skipped, of a text whose first line has the number n, has the number m and writes this
+-- entry, or has this fault; the rest is the text after it.
+pub record IsNextEntry (s : Arithmetic) (header : Header) (shape : Extent)
+    (n : ℕ) (text : List ℕ) (m : ℕ) (found : Result Entry Kind) (rest : List ℕ) : Type 0 where
   pub line_words : List (List ℕ)
   pub kept : kept_from n text ≡ (m, line_words) ∷ kept_from (m + 1) rest
   pub found_is : IsEntryOf s header shape line_words found
-  pub count : m + 1 + length (lines rest) ≡ n + length (lines text)
+  pub count : past_last (m + 1) rest ≡ past_last n text
   pub later : n ≤ m
   pub shorter : length rest < length text
 
--- a fault at a line of a text whose first line has the number n, or at the one past its last
+-- a fault at a line of a text whose first line has the number n, or at the line past its last
 abbrev pub IsLineOf : ℕ → List ℕ → ReadFault → Type 0
-IsLineOf n text f = (n ≤ f.line) × (f.line ≤ n + length (lines text))
+IsLineOf n text f = (n ≤ f.line) × (f.line ≤ past_last n text)

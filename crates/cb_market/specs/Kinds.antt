@@ -1,7 +1,8 @@
 -- The kinds of faults, in words.
 use Rattle.std.specs.Prelude.{ℕ, List, codes}
 use Rattle.cb_market.specs.declared.Kind.{Kind}
-use Rattle.cb_market.specs.declared.Kind.TheVariants.{BadHeader, Unsupported, BadSize, TooLarge, NotSquare, BadLine, BadNumber, IndexRange, AboveDiagonal, ValueRange, ExtraEntry, MissingEntries, Memory, OnDiagonal}
+use Rattle.cb_market.specs.declared.Kind.TheVariants.{BadHeader, Unsupported, BadSize, TooLarge, NotSquare, BadLine, BadNumber}
+use Rattle.cb_market.specs.declared.Kind.TheVariants.{IndexRange, AboveDiagonal, ValueRange, ExtraEntry, MissingEntries, Memory, OnDiagonal}
 
 abbrev pub kind_text : Kind → List ℕ
 kind_text BadHeader = codes "not a Matrix Market header"

@@ -1,8 +1,9 @@
 -- Texts as lines, and lines as words.
-use Rattle.std.specs.Prelude.{ℕ, ◌+◌, ◌-◌, ◌*◌, Bool, true, false, cond, not, ◌&&◌, ◌||◌, ◌==◌, nat_le, List, [], ◌∷◌, map, filter}
+use Rattle.std.specs.Prelude.{ℕ, ◌+◌, ◌-◌, ◌*◌, Bool, true, false, cond, not, ◌&&◌, ◌||◌, ◌==◌, nat_le, List, [], ◌∷◌}
+use Rattle.std.specs.Prelude.{length, map, filter}
 use Rattle.std.specs.List.{enumerate_from}
 
--- a byte put before the first of some pieces
+-- a byte in front of the first piece
 abbrev pub onto_first : ℕ → List (List ℕ) → List (List ℕ)
 onto_first c [] = (c ∷ []) ∷ []
 onto_first c (piece ∷ pieces) = (c ∷ piece) ∷ pieces
@@ -21,6 +22,10 @@ without_return (c ∷ d ∷ line) = c ∷ without_return (d ∷ line)
 -- the lines of a text
 unfoldable pub lines : List ℕ → List (List ℕ)
 lines text = map without_return (cut_lines text)
+
+-- the number of the line past the last, of a text whose first line has the number n
+abbrev pub past_last : ℕ → List ℕ → ℕ
+past_last n text = n + length (lines text)
 
 -- a space or a tab
 abbrev pub is_blank : ℕ → Bool
@@ -82,10 +87,10 @@ is_skipped (word ∷ words) = is_comment word
 abbrev pub kept : List (List ℕ) → List (List (List ℕ))
 kept lines = filter (λ ws. not (is_skipped ws)) (map words lines)
 
--- the same with the line's number
+-- the same, with the numbers of the lines
 abbrev pub kept_lines : ℕ → List (List ℕ) → List (ℕ × List (List ℕ))
 kept_lines n lines = filter (λ l. not (is_skipped l.1)) (enumerate_from n (map words lines))
 
--- the same of a text whose first line has the number n
+-- the same, for a text whose first line has the number n
 unfoldable pub kept_from : ℕ → List ℕ → List (ℕ × List (List ℕ))
 kept_from n text = kept_lines n (lines text)

@@ -9,7 +9,7 @@ use Rattle.cb_market.specs.declared.size.Size.{Size}
 use Rattle.cb_market.specs.Gathered.{AreSamePlaces}
 use Rattle.cb_market.specs.Lines.{lines, kept, kept_from}
 use Rattle.cb_market.specs.Checks.{is_shape, entry_fault, entry_of, given_by}
-use Rattle.cb_market.specs.Faults.{body_fault, body_matrix, first_fault, matrix_in, entries_fault, given}
+use Rattle.cb_market.specs.Faults.{body_fault_from, body_matrix_from, first_fault, matrix_in, entries_fault_from, given}
 
 -- no text, or one whose last byte is a line feed
 abbrev pub is_whole : List ℕ → Bool
@@ -26,7 +26,8 @@ AreFaultless s header shape (ws ∷ lines) = (entry_fault s header shape ws ≡ 
 abbrev pub given_in : Arithmetic → Header → List (List (List ℕ)) → List Entry
 given_in s header lines = flat_map (λ ws. given_by s header.symmetry (entry_of s header ws)) lines
 
--- What was read: the side of the grid and the shape that it is for, how many lines had an entry, and what these give, place by place.
+-- What was read: the side of the grid and the shape that it is for, how many lines had an entry, and what these give,
+-- place by place.
 pub record Part : Type 0 where
   pub side : ℕ
   pub shape : Extent
@@ -48,12 +49,12 @@ pub record IsPart (s : Arithmetic) (header : Header) (shape : Extent) (side : �
 -- The lines after a header, of which the first has the number n, begin with a size: their first fault and what they
 -- give are those of the entries, which begin at a line.
 pub record IsBody (s : Arithmetic) (header : Header) (n : ℕ) (text : List ℕ) (size : Size) (line : ℕ) (entries : List ℕ) : Type 0 where
-  pub fault : body_fault s header (n + length (lines text)) (kept_from n text) ≡ entries_fault s header size.shape (line + length (lines entries)) size.count (kept_from line entries)
-  pub matrix : body_matrix s header (kept_from n text) ≡ collected s size.shape (given s header (kept_from line entries))
+  pub fault : body_fault_from s header n text ≡ entries_fault_from s header size line entries
+  pub matrix : body_matrix_from s header n text ≡ collected s size.shape (given s header (kept_from line entries))
 
 -- A text that begins with a header and a size: its first fault is that of its entries, which begin at a line, and its
 -- matrix has what they give.
 pub record IsOpening (s : Arithmetic) (text : List ℕ) (header : Header) (size : Size) (line : ℕ) (entries : List ℕ) : Type 0 where
   pub shape : is_shape header.symmetry size.shape ≡ true
-  pub fault : first_fault s text ≡ entries_fault s header size.shape (line + length (lines entries)) size.count (kept_from line entries)
+  pub fault : first_fault s text ≡ entries_fault_from s header size line entries
   pub matrix : matrix_in s text ≡ collected s size.shape (given s header (kept_from line entries))

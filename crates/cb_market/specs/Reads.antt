@@ -30,7 +30,8 @@ symmetry_name General = codes "general"
 symmetry_name Symmetric = codes "symmetric"
 symmetry_name SkewSymmetric = codes "skew-symmetric"
 
--- The first line begins with `%%MatrixMarket` and names a coordinate matrix, its field and its symmetry, which the semiring can have.
+-- The first line begins with `%%MatrixMarket` and names a coordinate matrix, its field and its symmetry, which the
+-- semiring can have.
 pub record IsHeader (s : Arithmetic) (line : List ℕ) (header : Header) : Type 0 where
   pub starts : begins_blank line ≡ false
   pub five_words : length (words line) ≡ 5

@@ -2,7 +2,8 @@
 use Rattle.std.specs.Prelude.{◌≡◌, ℕ, List, [], ◌∷◌, ◌++◌, codes, Some, None, Option, refl, cond, ◌==◌, map}
 use Rattle.cb_semirings.specs.Arithmetic.{Arithmetic}
 use Rattle.cb_semirings.specs.Tables.{plus_times, min_plus, or_and, max_min}
-use Rattle.cb_market.specs.declared.Kind.TheVariants.{BadHeader, Unsupported, BadSize, TooLarge, NotSquare, BadLine, BadNumber, IndexRange, AboveDiagonal, ValueRange, ExtraEntry, MissingEntries, OnDiagonal}
+use Rattle.cb_market.specs.declared.Kind.TheVariants.{BadHeader, Unsupported, BadSize, TooLarge, NotSquare, BadLine, BadNumber}
+use Rattle.cb_market.specs.declared.Kind.TheVariants.{IndexRange, AboveDiagonal, ValueRange, ExtraEntry, MissingEntries, OnDiagonal}
 use Rattle.cb_market.specs.declared.Kind.{Kind}
 use Rattle.cb_market.specs.declared.ReadFault.{ReadFault}
 use Rattle.cb_market.specs.Lines.{lines, cut_lines, without_return, words}

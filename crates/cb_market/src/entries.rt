@@ -1,13 +1,13 @@
 //! The entries of a text.
-ghost use Rattle.std.specs.Prelude.{◌≡◌, ◌+◌, ◌-◌, ◌*◌, ◌/◌, ◌^◌, ◌<◌, ◌≤◌, ◌++◌, IsTrue, IfOk, IfErr, OnOk, IfSome, OnSome, IfNone, [], ◌∷◌, length, Some, None};
+ghost use Rattle.std.specs.Prelude.{◌≡◌, ◌+◌, ◌*◌, ◌/◌, ◌^◌, ◌<◌, ◌++◌, IsTrue, IfOk, IfErr, OnOk, IfSome, OnSome, IfNone, [], ◌∷◌, length, Some, None};
 ghost use Rattle.cb_semirings.specs.Arithmetic.{IsValue};
 ghost use Rattle.cb_matrix.specs.Sparse.{IsInside};
-ghost use Rattle.cb_market.specs.declared.header.Field.TheVariants.{Integer, Pattern};
-ghost use Rattle.cb_market.specs.Lines.{is_number, number, words, lines, kept_from};
-ghost use Rattle.cb_market.specs.Cursor.{line_at, after_line};
-ghost use Rattle.cb_market.specs.Checks.{is_shape, is_above, is_on_diagonal, place_fault, entry_fault, entry_of, mirrored, negative_of, given_by};
+ghost use Rattle.cb_market.specs.Lines.{is_number, number, past_last, kept_from};
+ghost use Rattle.cb_market.specs.Cursor.{words_at, after_line};
+ghost use Rattle.cb_market.specs.Checks.{is_shape, is_above, is_on_diagonal, place_fault, mirrored, negative_of, given_by};
+ghost use Rattle.cb_market.specs.Checks.{integers, patterns, NamesPlace, WritesEntry, HasEntryFault};
 ghost use Rattle.cb_market.specs.Room.{shortest_line, most_given, room_of};
-ghost use Rattle.cb_market.specs.Faults.{entries_fault, given, IsAnswer, IsLineOf, IsNextEntry};
+ghost use Rattle.cb_market.specs.Faults.{entries_fault_from, given, IsAnswer, IsLineOf, IsNextEntry};
 
 use crate::gathered::Gathered;
 use crate::header::{Field, Header, Symmetry};
@@ -52,7 +52,7 @@ fn place_of(
 ) -> Result<(u32, u32), Kind>
     requires row { IsTrue (is_number row.now.bytes.now) }
     requires column { IsTrue (is_number column.now.bytes.now) }
-    ensures ok { IfOk result (λ p. (place_fault symmetry shape (number row.now.bytes.now) (number column.now.bytes.now) ≡ None) × (p.0 ≡ number row.now.bytes.now - 1) × (p.1 ≡ number column.now.bytes.now - 1)) }
+    ensures ok { IfOk result (NamesPlace symmetry shape (number row.now.bytes.now) (number column.now.bytes.now)) }
     ensures fault { IfErr result (λ k. place_fault symmetry shape (number row.now.bytes.now) (number column.now.bytes.now) ≡ Some k) }
 {
     let Some(row) = row.place(shape.rows()) else {
@@ -79,8 +79,8 @@ fn integer_entry<S: Semiring>(
     column: &Word<'_>,
     value: &Word<'_>,
 ) -> Result<Entry, Kind>
-    ensures ok { IfOk result (λ e. (entry_fault S.arithmetic (record { field = Integer; symmetry = symmetry }) shape (row.now.bytes.now ∷ column.now.bytes.now ∷ value.now.bytes.now ∷ []) ≡ None) × (e ≡ entry_of S.arithmetic (record { field = Integer; symmetry = symmetry }) (row.now.bytes.now ∷ column.now.bytes.now ∷ value.now.bytes.now ∷ []))) }
-    ensures fault { IfErr result (λ k. entry_fault S.arithmetic (record { field = Integer; symmetry = symmetry }) shape (row.now.bytes.now ∷ column.now.bytes.now ∷ value.now.bytes.now ∷ []) ≡ Some k) }
+    ensures ok { IfOk result (WritesEntry S.arithmetic (integers symmetry) shape (row.now.bytes.now ∷ column.now.bytes.now ∷ value.now.bytes.now ∷ [])) }
+    ensures fault { IfErr result (HasEntryFault S.arithmetic (integers symmetry) shape (row.now.bytes.now ∷ column.now.bytes.now ∷ value.now.bytes.now ∷ [])) }
 {
     if !(row.is_number() && column.is_number() && value.is_value()) {
         return Err(Kind::BadNumber);
@@ -99,8 +99,8 @@ fn pattern_entry<S: Semiring>(
     row: &Word<'_>,
     column: &Word<'_>,
 ) -> Result<Entry, Kind>
-    ensures ok { IfOk result (λ e. (entry_fault S.arithmetic (record { field = Pattern; symmetry = symmetry }) shape (row.now.bytes.now ∷ column.now.bytes.now ∷ []) ≡ None) × (e ≡ entry_of S.arithmetic (record { field = Pattern; symmetry = symmetry }) (row.now.bytes.now ∷ column.now.bytes.now ∷ []))) }
-    ensures fault { IfErr result (λ k. entry_fault S.arithmetic (record { field = Pattern; symmetry = symmetry }) shape (row.now.bytes.now ∷ column.now.bytes.now ∷ []) ≡ Some k) }
+    ensures ok { IfOk result (WritesEntry S.arithmetic (patterns symmetry) shape (row.now.bytes.now ∷ column.now.bytes.now ∷ [])) }
+    ensures fault { IfErr result (HasEntryFault S.arithmetic (patterns symmetry) shape (row.now.bytes.now ∷ column.now.bytes.now ∷ [])) }
 {
     if !(row.is_number() && column.is_number()) {
         return Err(Kind::BadNumber);
@@ -183,8 +183,8 @@ fn most_given(symmetry: Symmetry) -> usize
     }
 }
 
-/// How many entries room is taken for: as many as are announced, but no more than the text that follows
-/// can give. So a short text that announces many entries takes no room for them.
+/// The number of entries to take room for: as many as are announced, but no more than the rest of the text can give. So
+/// a short text that announces many entries takes little room.
 pub fn room_for_entries(header: Header, count: u32, text: &[u8]) -> usize
     ensures { result ≡ room_of header count (length text.now) }
 {
@@ -193,15 +193,15 @@ pub fn room_for_entries(header: Header, count: u32, text: &[u8]) -> usize
 }
 
 impl<'a> Scanner<'a> {
-    /// The entry of a line, whose first word is given.
+    /// The entry of a line with this first word.
     fn entry<S: Semiring>(
         &mut self,
         header: Header,
         shape: Shape,
         first: &Word<'_>,
     ) -> Result<Entry, Kind>
-        ensures ok { IfOk result (λ e. (entry_fault S.arithmetic header shape (first.now.bytes.now ∷ words (line_at self.old.rest.now)) ≡ None) × (e ≡ entry_of S.arithmetic header (first.now.bytes.now ∷ words (line_at self.old.rest.now)))) }
-        ensures fault { IfErr result (λ k. entry_fault S.arithmetic header shape (first.now.bytes.now ∷ words (line_at self.old.rest.now)) ≡ Some k) }
+        ensures ok { IfOk result (WritesEntry S.arithmetic header shape (first.now.bytes.now ∷ words_at self.old.rest.now)) }
+        ensures fault { IfErr result (HasEntryFault S.arithmetic header shape (first.now.bytes.now ∷ words_at self.old.rest.now)) }
         ensures after { after_line self.new.rest.now ≡ after_line self.old.rest.now }
         ensures line { self.new.line ≡ self.old.line }
     {
@@ -227,15 +227,15 @@ impl<'a> Scanner<'a> {
         }
     }
 
-    /// Reads the entry of a line of three short numbers at the front, or its fault, and goes to the
-    /// next line. Before any other line it returns None and stays there.
+    /// If a line of three short numbers is at the front, reads its entry or its fault, and goes to the next line.
+    /// Otherwise returns None and stays.
     #[inline(always)]
     fn plain_entry<S: Semiring>(
         &mut self,
         header: Header,
         shape: Shape,
     ) -> Option<Result<Entry, Kind>>
-        requires { self.old.line + length (lines self.old.rest.now) < 2 ^ 64 }
+        requires { past_last self.old.line self.old.rest.now < 2 ^ 64 }
         ensures some { IfSome result (λ found. IsNextEntry S.arithmetic header shape self.old.line self.old.rest.now self.old.line found self.new.rest.now) }
         ensures line { OnSome result (self.new.line ≡ self.old.line + 1) }
         ensures none { IfNone result ((self.new.line ≡ self.old.line) × (self.new.rest.now ≡ self.old.rest.now)) }
@@ -260,17 +260,17 @@ impl<'a> Scanner<'a> {
         }
     }
 
-    /// Reads the entry of the next line that isn't skipped, or its fault, and the line's number. Goes
-    /// to the line after it.
+    /// Reads the entry of the next line that isn't skipped, or its fault, with the line's number, and goes to the line
+    /// after it. None if there is no such line.
     #[inline(always)]
     pub fn next_entry<S: Semiring>(
         &mut self,
         header: Header,
         shape: Shape,
     ) -> Option<(u64, Result<Entry, Kind>)>
-        requires { self.old.line + length (lines self.old.rest.now) < 2 ^ 64 }
+        requires { past_last self.old.line self.old.rest.now < 2 ^ 64 }
         ensures none { IfNone result (kept_from self.old.line self.old.rest.now ≡ []) }
-        ensures end { IfNone result (self.new.line ≡ self.old.line + length (lines self.old.rest.now)) }
+        ensures end { IfNone result (self.new.line ≡ past_last self.old.line self.old.rest.now) }
         ensures some { IfSome result (λ p. IsNextEntry S.arithmetic header shape self.old.line self.old.rest.now p.0 p.1 self.new.rest.now) }
         ensures line { IfSome result (λ p. self.new.line ≡ p.0 + 1) }
     {
@@ -287,28 +287,26 @@ impl<'a> Scanner<'a> {
         Some((line, found))
     }
 
-    /// Reads the entries of a text, from the line after its size line on, and adds them to those that
-    /// are gathered.
+    /// Reads the entries of a text, from the line after its size line on, and adds them to the gathered ones.
     pub fn entries<S: Semiring>(
         &mut self,
         alloc: Global,
-        gathered: Gathered<S>,
+        entries: &mut Gathered<S>,
         header: Header,
         size: Size,
-    ) -> Result<Gathered<S>, ReadFault>
-        requires lines { self.old.line + length (lines self.old.rest.now) < 2 ^ 64 }
-        requires room { gathered.room ≡ room_of header size.count (length self.old.rest.now) }
-        requires same_shape { gathered.shape ≡ size.shape }
+    ) -> Result<(), ReadFault>
+        requires lines { past_last self.old.line self.old.rest.now < 2 ^ 64 }
+        requires room { entries.old.room ≡ room_of header size.count (length self.old.rest.now) }
+        requires same_shape { entries.old.shape ≡ size.shape }
         requires shape { IsTrue (is_shape header.symmetry size.shape) }
-        ensures none { IfOk result (λ g. entries_fault S.arithmetic header size.shape (self.old.line + length (lines self.old.rest.now)) size.count (kept_from self.old.line self.old.rest.now) ≡ None) }
-        ensures given { IfOk result (λ g. g.entries ≡ gathered.entries ++ given S.arithmetic header (kept_from self.old.line self.old.rest.now)) }
-        ensures side { IfOk result (λ g. g.side ≡ gathered.side) }
-        ensures shape { IfOk result (λ g. g.shape ≡ size.shape) }
-        ensures line { IfOk result (λ g. self.new.line ≡ self.old.line + length (lines self.old.rest.now)) }
-        ensures fault { IfErr result (IsAnswer (entries_fault S.arithmetic header size.shape (self.old.line + length (lines self.old.rest.now)) size.count (kept_from self.old.line self.old.rest.now))) }
+        ensures none { OnOk result (entries_fault_from S.arithmetic header size self.old.line self.old.rest.now ≡ None) }
+        ensures given { OnOk result (entries.new.entries ≡ entries.old.entries ++ given S.arithmetic header (kept_from self.old.line self.old.rest.now)) }
+        ensures side { entries.new.side ≡ entries.old.side }
+        ensures shape { entries.new.shape ≡ size.shape }
+        ensures line { OnOk result (self.new.line ≡ past_last self.old.line self.old.rest.now) }
+        ensures fault { IfErr result (IsAnswer (entries_fault_from S.arithmetic header size self.old.line self.old.rest.now)) }
         ensures place { IfErr result (IsLineOf self.old.line self.old.rest.now) }
     {
-        let mut entries = gathered;
         let mut left = size.count;
         loop {
             let Some((line, found)) = self.next_entry::<S>(header, size.shape) else {
@@ -324,7 +322,7 @@ impl<'a> Scanner<'a> {
                 Ok(entry) => entry,
                 Err(kind) => return Err(ReadFault { line, kind }),
             };
-            if give::<S>(alloc, &mut entries, header.symmetry, entry).is_err() {
+            if give::<S>(alloc, entries, header.symmetry, entry).is_err() {
                 return Err(ReadFault {
                     line,
                     kind: Kind::Memory,
@@ -335,6 +333,6 @@ impl<'a> Scanner<'a> {
         if left != 0 {
             return Err(self.fault(Kind::MissingEntries));
         }
-        Ok(entries)
+        Ok(())
     }
 }

@@ -139,8 +139,8 @@ impl<S: Semiring> Gathered<S> {
         if !self.ascends || !other.ascends || self.bound > other.first {
             return self.append_list(alloc, other);
         }
-        let (shape, _others) = (self.blocks.shape(), other.blocks.shape());
-        let _rows = shape.rows();
+        let shape = self.blocks.shape();
+        prove_eq!(other.blocks.shape(), shape);
         let first = self.first.min(other.first);
         let bound = self.bound.max(other.bound);
         let blocks = self.blocks.append(other.blocks)?;

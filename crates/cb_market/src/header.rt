@@ -1,9 +1,9 @@
 //! The first line of a text.
-ghost use Rattle.std.specs.Prelude.{◌≡◌, IfOk, IfErr, IfSome, IfNone, [], ◌∷◌, Some, None, true, false};
+ghost use Rattle.std.specs.Prelude.{◌≡◌, IfOk, IfErr, IfSome, IfNone, Some, false};
 ghost use Rattle.cb_semirings.specs.Arithmetic.{has_negatives};
-ghost use Rattle.cb_market.specs.Lines.{words, begins_blank};
-ghost use Rattle.cb_market.specs.Cursor.{line_at, after_line};
-ghost use Rattle.cb_market.specs.Checks.{field_in, symmetry_in, is_supported, is_read, header_fault, header_of};
+ghost use Rattle.cb_market.specs.Lines.{begins_blank};
+ghost use Rattle.cb_market.specs.Cursor.{line_at, words_at, after_line};
+ghost use Rattle.cb_market.specs.Checks.{field_in, symmetry_in, is_supported, are_read, MakeHeader, header_fault, MakesHeader};
 
 use crate::Kind;
 use crate::scanner::{Scanner, is_word_end};
@@ -89,8 +89,8 @@ fn header_of<S: Semiring>(
     field: &Word<'_>,
     symmetry: &Word<'_>,
 ) -> Option<Header>
-    ensures none { IfNone result (is_read S.arithmetic ([] ∷ object.now.bytes.now ∷ format.now.bytes.now ∷ field.now.bytes.now ∷ symmetry.now.bytes.now ∷ []) ≡ false) }
-    ensures some { IfSome result (λ h. (is_read S.arithmetic ([] ∷ object.now.bytes.now ∷ format.now.bytes.now ∷ field.now.bytes.now ∷ symmetry.now.bytes.now ∷ []) ≡ true) × (h ≡ header_of ([] ∷ object.now.bytes.now ∷ format.now.bytes.now ∷ field.now.bytes.now ∷ symmetry.now.bytes.now ∷ []))) }
+    ensures none { IfNone result (are_read S.arithmetic object.now.bytes.now format.now.bytes.now field.now.bytes.now symmetry.now.bytes.now ≡ false) }
+    ensures some { IfSome result (MakeHeader S.arithmetic object.now.bytes.now format.now.bytes.now field.now.bytes.now symmetry.now.bytes.now) }
 {
     if !(object.is_name(b"matrix") && format.is_name(b"coordinate")) {
         return None;
@@ -110,8 +110,8 @@ fn header_of<S: Semiring>(
 impl<'a> Scanner<'a> {
     /// The header of a text that begins with this line.
     pub fn header<S: Semiring>(&mut self) -> Result<Header, Kind>
-        ensures ok { IfOk result (λ h. (header_fault S.arithmetic (begins_blank (line_at self.old.rest.now)) (words (line_at self.old.rest.now)) ≡ None) × (h ≡ header_of (words (line_at self.old.rest.now)))) }
-        ensures fault { IfErr result (λ k. header_fault S.arithmetic (begins_blank (line_at self.old.rest.now)) (words (line_at self.old.rest.now)) ≡ Some k) }
+        ensures ok { IfOk result (MakesHeader S.arithmetic (line_at self.old.rest.now)) }
+        ensures fault { IfErr result (λ k. header_fault S.arithmetic (begins_blank (line_at self.old.rest.now)) (words_at self.old.rest.now) ≡ Some k) }
         ensures after { after_line self.new.rest.now ≡ after_line self.old.rest.now }
         ensures line { self.new.line ≡ self.old.line }
     {

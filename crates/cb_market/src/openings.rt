@@ -1,6 +1,6 @@
 //! The beginning of a text, before its entries.
-ghost use Rattle.std.specs.Prelude.{◌+◌, ◌^◌, ◌<◌, IsTrue, IfSome, length};
-ghost use Rattle.cb_market.specs.Lines.{lines};
+ghost use Rattle.std.specs.Prelude.{◌^◌, ◌<◌, IsTrue, IfSome};
+ghost use Rattle.cb_market.specs.Lines.{past_last};
 ghost use Rattle.cb_market.specs.Checks.{is_shape};
 ghost use Rattle.cb_market.specs.Pieces.{IsBody, IsOpening};
 
@@ -44,10 +44,10 @@ impl<'a> Opening<'a> {
 }
 
 impl<'a> Scanner<'a> {
-    /// Reads the size that the next line that isn't skipped announces, and goes to the line after it. None if that line
-    /// has a fault, or there is none.
+    /// Reads the size from the next line that isn't skipped, and goes to the line after it. None if that line has a
+    /// fault, or there is none.
     fn size_of_entries<S: Semiring>(&mut self, header: Header) -> Option<Size>
-        requires { self.old.line + length (lines self.old.rest.now) < 2 ^ 64 }
+        requires { past_last self.old.line self.old.rest.now < 2 ^ 64 }
         ensures shape { IfSome result (λ z. IsTrue (is_shape header.symmetry z.shape)) }
         ensures body { IfSome result (λ z. IsBody S.arithmetic header self.old.line self.old.rest.now z self.new.line self.new.rest.now) }
     {

@@ -1,10 +1,10 @@
 //! Reading a text.
 ghost use Rattle.std.specs.Prelude.{◌≡◌, ◌+◌, ◌^◌, ◌<◌, ◌≤◌, IfOk, IfErr, IsTrue, length, None};
-ghost use Rattle.cb_market.specs.Lines.{lines, kept_from};
+ghost use Rattle.cb_market.specs.Lines.{lines, past_last, kept_from};
 ghost use Rattle.cb_matrix.specs.Values.{collected};
 ghost use Rattle.cb_market.specs.Checks.{is_shape};
 ghost use Rattle.cb_market.specs.Cursor.{after_line};
-ghost use Rattle.cb_market.specs.Faults.{entries_fault, given, body_fault, body_matrix, first_fault, IsAnswer, IsLineOf};
+ghost use Rattle.cb_market.specs.Faults.{entries_fault_from, given, body_fault_from, body_matrix_from, first_fault, IsAnswer, IsLineOf};
 ghost use Rattle.cb_market.specs.Reads.{Reads, IsFaultOrMatrix};
 
 use crate::entries::room_for_entries;
@@ -27,12 +27,12 @@ impl<'a> Scanner<'a> {
         in_blocks: bool,
         header: Header,
     ) -> Result<Gathered<S>, ReadFault>
-        requires { self.old.line + length (lines self.old.rest.now) < 2 ^ 64 }
-        ensures none { IfOk result (λ _. body_fault S.arithmetic header (self.old.line + length (lines self.old.rest.now)) (kept_from self.old.line self.old.rest.now) ≡ None) }
-        ensures matrix { IfOk result (λ g. collected S.arithmetic g.shape g.entries ≡ body_matrix S.arithmetic header (kept_from self.old.line self.old.rest.now)) }
+        requires { past_last self.old.line self.old.rest.now < 2 ^ 64 }
+        ensures none { IfOk result (λ _. body_fault_from S.arithmetic header self.old.line self.old.rest.now ≡ None) }
+        ensures matrix { IfOk result (λ g. collected S.arithmetic g.shape g.entries ≡ body_matrix_from S.arithmetic header self.old.line self.old.rest.now) }
         ensures side { IfOk result (λ g. g.side ≡ grid.side) }
-        ensures end { IfOk result (λ _. self.new.line ≡ self.old.line + length (lines self.old.rest.now)) }
-        ensures fault { IfErr result (IsAnswer (body_fault S.arithmetic header (self.old.line + length (lines self.old.rest.now)) (kept_from self.old.line self.old.rest.now))) }
+        ensures end { IfOk result (λ _. self.new.line ≡ past_last self.old.line self.old.rest.now) }
+        ensures fault { IfErr result (IsAnswer (body_fault_from S.arithmetic header self.old.line self.old.rest.now)) }
         ensures place { IfErr result (IsLineOf self.old.line self.old.rest.now) }
     {
         let Some(first) = self.kept_line() else {
@@ -51,23 +51,24 @@ impl<'a> Scanner<'a> {
         header: Header,
         size: Size,
     ) -> Result<Gathered<S>, ReadFault>
-        requires lines { self.old.line + 1 + length (lines (after_line self.old.rest.now)) < 2 ^ 64 }
+        requires lines { past_last (self.old.line + 1) (after_line self.old.rest.now) < 2 ^ 64 }
         requires shape { IsTrue (is_shape header.symmetry size.shape) }
-        ensures none { IfOk result (λ _. entries_fault S.arithmetic header size.shape (self.old.line + 1 + length (lines (after_line self.old.rest.now))) size.count (kept_from (self.old.line + 1) (after_line self.old.rest.now)) ≡ None) }
+        ensures none { IfOk result (λ _. entries_fault_from S.arithmetic header size (self.old.line + 1) (after_line self.old.rest.now) ≡ None) }
         ensures shape { IfOk result (λ g. g.shape ≡ size.shape) }
         ensures given { IfOk result (λ g. g.entries ≡ given S.arithmetic header (kept_from (self.old.line + 1) (after_line self.old.rest.now))) }
         ensures side { IfOk result (λ g. g.side ≡ grid.side) }
-        ensures end { IfOk result (λ _. self.new.line ≡ self.old.line + 1 + length (lines (after_line self.old.rest.now))) }
-        ensures fault { IfErr result (IsAnswer (entries_fault S.arithmetic header size.shape (self.old.line + 1 + length (lines (after_line self.old.rest.now))) size.count (kept_from (self.old.line + 1) (after_line self.old.rest.now)))) }
-        ensures place { IfErr result (λ f. (self.old.line ≤ f.line) × (f.line ≤ self.old.line + 1 + length (lines (after_line self.old.rest.now)))) }
+        ensures end { IfOk result (λ _. self.new.line ≡ past_last (self.old.line + 1) (after_line self.old.rest.now)) }
+        ensures fault { IfErr result (IsAnswer (entries_fault_from S.arithmetic header size (self.old.line + 1) (after_line self.old.rest.now))) }
+        ensures place { IfErr result (λ f. (self.old.line ≤ f.line) × (f.line ≤ past_last (self.old.line + 1) (after_line self.old.rest.now))) }
     {
         let refused = self.fault(Kind::Memory);
         self.next_line();
         let room = room_for_entries(header, size.count, self.rest);
-        let Ok(start) = Gathered::start(alloc, grid, size.shape, room, in_blocks) else {
+        let Ok(mut entries) = Gathered::start(alloc, grid, size.shape, room, in_blocks) else {
             return Err(refused);
         };
-        self.entries::<S>(alloc, start, header, size)
+        self.entries::<S>(alloc, &mut entries, header, size)?;
+        Ok(entries)
     }
 }
 

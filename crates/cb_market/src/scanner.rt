@@ -3,8 +3,9 @@
 //! The cursor is the bytes that are left. What each step promises is stated in the lines and words of these
 //! (`specs/Cursor.antt`).
 ghost use Rattle.std.specs.Prelude.{◌≡◌, ◌+◌, ◌^◌, ◌<◌, ◌≤◌, MatchOption, IfSome, IfNone, [], ◌∷◌, length};
-ghost use Rattle.cb_market.specs.Lines.{is_blank, number, words, lines, kept_from};
-ghost use Rattle.cb_market.specs.Cursor.{is_line_end, line_at, after_line, is_word_end, front_digits, after_digits, front_word, after_word, after_blanks, after_sign, if_small, number_of};
+ghost use Rattle.cb_market.specs.Lines.{is_blank, number, past_last, kept_from};
+ghost use Rattle.cb_market.specs.Cursor.{is_line_end, words_at, after_line, IsKeptWord, is_word_end, front_digits, after_digits};
+ghost use Rattle.cb_market.specs.Cursor.{front_word, after_word, after_blanks, after_sign, if_small, number_of};
 
 use crate::words::{Number, Word, whole_number, with_digit};
 use crate::{Kind, ReadFault};
@@ -144,7 +145,7 @@ impl<'a> Scanner<'a> {
     /// The next word of the line.
     #[inline(always)]
     pub fn word(&mut self) -> Option<Word<'a>>
-        ensures word { MatchOption result (words (line_at self.old.rest.now) ≡ []) (λ w. words (line_at self.old.rest.now) ≡ w.bytes.now ∷ words (line_at self.new.rest.now)) }
+        ensures word { MatchOption result (words_at self.old.rest.now ≡ []) (λ w. words_at self.old.rest.now ≡ w.bytes.now ∷ words_at self.new.rest.now) }
         ensures after { after_line self.new.rest.now ≡ after_line self.old.rest.now }
         ensures line { self.new.line ≡ self.old.line }
     {
@@ -185,12 +186,12 @@ impl<'a> Scanner<'a> {
 
     /// Goes on to a line that isn't skipped, and returns its first word.
     pub fn kept_line(&mut self) -> Option<Word<'a>>
-        requires { self.old.line + length (lines self.old.rest.now) < 2 ^ 64 }
+        requires { past_last self.old.line self.old.rest.now < 2 ^ 64 }
         ensures none { IfNone result (kept_from self.old.line self.old.rest.now ≡ []) }
         ensures later { self.old.line ≤ self.new.line }
-        ensures end { IfNone result (self.new.line ≡ self.old.line + length (lines self.old.rest.now)) }
-        ensures some { IfSome result (λ w. kept_from self.old.line self.old.rest.now ≡ (self.new.line, w.bytes.now ∷ words (line_at self.new.rest.now)) ∷ kept_from (self.new.line + 1) (after_line self.new.rest.now)) }
-        ensures count { IfSome result (λ w. self.new.line + 1 + length (lines (after_line self.new.rest.now)) ≡ self.old.line + length (lines self.old.rest.now)) }
+        ensures end { IfNone result (self.new.line ≡ past_last self.old.line self.old.rest.now) }
+        ensures some { IfSome result (λ w. IsKeptWord self.old.line self.old.rest.now self.new.line w.bytes.now self.new.rest.now) }
+        ensures count { IfSome result (λ w. past_last (self.new.line + 1) (after_line self.new.rest.now) ≡ past_last self.old.line self.old.rest.now) }
         ensures shorter { IfSome result (λ w. length (after_line self.new.rest.now) < length self.old.rest.now) }
     {
         while !self.rest.is_empty() {

@@ -1,8 +1,7 @@
 //! The size line of a text.
 ghost use Rattle.std.specs.Prelude.{◌≡◌, IfOk, IfErr, [], ◌∷◌, Some, None};
-ghost use Rattle.cb_market.specs.Lines.{words};
-ghost use Rattle.cb_market.specs.Cursor.{line_at, after_line};
-ghost use Rattle.cb_market.specs.Checks.{is_shape, size_fault, size_of};
+ghost use Rattle.cb_market.specs.Cursor.{words_at, after_line};
+ghost use Rattle.cb_market.specs.Checks.{is_shape, size_fault, size_of, AnnouncesSize};
 
 use crate::header::{Header, Symmetry};
 use crate::scanner::Scanner;
@@ -31,7 +30,7 @@ fn is_shape(symmetry: Symmetry, shape: Shape) -> bool
 
 /// The size that three words announce.
 fn size_of(header: Header, rows: &Word<'_>, cols: &Word<'_>, count: &Word<'_>) -> Result<Size, Kind>
-    ensures ok { IfOk result (λ z. (size_fault header (rows.now.bytes.now ∷ cols.now.bytes.now ∷ count.now.bytes.now ∷ []) ≡ None) × (z ≡ size_of (rows.now.bytes.now ∷ cols.now.bytes.now ∷ count.now.bytes.now ∷ []))) }
+    ensures ok { IfOk result (AnnouncesSize header (rows.now.bytes.now ∷ cols.now.bytes.now ∷ count.now.bytes.now ∷ [])) }
     ensures fault { IfErr result (λ k. size_fault header (rows.now.bytes.now ∷ cols.now.bytes.now ∷ count.now.bytes.now ∷ []) ≡ Some k) }
 {
     if !(rows.is_number() && cols.is_number() && count.is_number()) {
@@ -58,8 +57,8 @@ fn size_of(header: Header, rows: &Word<'_>, cols: &Word<'_>, count: &Word<'_>) -
 impl<'a> Scanner<'a> {
     /// The size that a line with this first word announces.
     fn size(&mut self, header: Header, first: &Word<'_>) -> Result<Size, Kind>
-        ensures ok { IfOk result (λ z. (size_fault header (first.now.bytes.now ∷ words (line_at self.old.rest.now)) ≡ None) × (z ≡ size_of (first.now.bytes.now ∷ words (line_at self.old.rest.now)))) }
-        ensures fault { IfErr result (λ k. size_fault header (first.now.bytes.now ∷ words (line_at self.old.rest.now)) ≡ Some k) }
+        ensures ok { IfOk result (AnnouncesSize header (first.now.bytes.now ∷ words_at self.old.rest.now)) }
+        ensures fault { IfErr result (λ k. size_fault header (first.now.bytes.now ∷ words_at self.old.rest.now) ≡ Some k) }
         ensures after { after_line self.new.rest.now ≡ after_line self.old.rest.now }
         ensures line { self.new.line ≡ self.old.line }
     {
@@ -77,9 +76,9 @@ impl<'a> Scanner<'a> {
 
     /// The size that a line announces, or its fault there.
     pub fn size_line(&mut self, header: Header, first: &Word<'_>) -> Result<Size, ReadFault>
-        ensures none { IfOk result (λ z. size_fault header (first.now.bytes.now ∷ words (line_at self.old.rest.now)) ≡ None) }
-        ensures size { IfOk result (λ z. z ≡ size_of (first.now.bytes.now ∷ words (line_at self.old.rest.now))) }
-        ensures fault { IfErr result (λ f. (size_fault header (first.now.bytes.now ∷ words (line_at self.old.rest.now)) ≡ Some f.kind) × (f.line ≡ self.old.line)) }
+        ensures none { IfOk result (λ z. size_fault header (first.now.bytes.now ∷ words_at self.old.rest.now) ≡ None) }
+        ensures size { IfOk result (λ z. z ≡ size_of (first.now.bytes.now ∷ words_at self.old.rest.now)) }
+        ensures fault { IfErr result (λ f. (size_fault header (first.now.bytes.now ∷ words_at self.old.rest.now) ≡ Some f.kind) × (f.line ≡ self.old.line)) }
         ensures after { after_line self.new.rest.now ≡ after_line self.old.rest.now }
         ensures line { self.new.line ≡ self.old.line }
     {

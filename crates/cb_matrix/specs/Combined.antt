@@ -5,11 +5,11 @@ use Rattle.cb_matrix.specs.declared.Entry.{Entry}
 use Rattle.cb_matrix.specs.Sparse.{Extent, value_at, IsBefore, IsInside}
 use Rattle.cb_matrix.specs.Values.{total, values_at}
 
--- an entry, unless its value is zero
+-- a list of the entry, or of none if its value is z
 abbrev pub stored : ℕ → Entry → List Entry
 stored z e = cond (e.value == z) [] (e ∷ [])
 
--- `kept` has, in order, the sums of the values that `given` has at each place, where they are not zero
+-- `kept` has, in order, the sum of the values that `given` has at each place, unless it is zero
 pub record IsCombined (s : Arithmetic) (given kept : List Entry) : Type 0 where
   pub ascending : AllPairs IsBefore kept
   pub inside : (shape : Extent) → All (IsInside shape) given → All (IsInside shape) kept

@@ -1,5 +1,5 @@
--- Sparse: what a matrix is. Values: matrices by their values, sums, the product. Operations: placewise.
--- Passing: the test of prune. Combined and Products: what the steps of building a matrix and of the plain product make.
+-- Sparse: what a matrix is. Values: matrices by their values, sums, the product. Operations: each defined place by place.
+-- Passing: the tests of prune. Combined, Products: the steps that build a matrix and the plain product.
 pub mod Sparse
 pub mod Values
 pub mod Operations

@@ -1,4 +1,4 @@
--- What a sparse matrix is: a shape, and the entries that are stored, by column and then by row.
+-- A sparse matrix: a shape and the stored entries, by column and then by row.
 use Rattle.std.specs.Prelude.{◌≡◌, ◌≢◌, ℕ, ◌<◌, not, nat_lt, Bool, cond, ◌&&◌, ◌==◌, ◌⊎◌, List, [], ◌∷◌, All, AllPairs}
 use Rattle.cb_semirings.specs.Arithmetic.{Arithmetic, IsValue}
 use Rattle.cb_matrix.specs.declared.Entry.{Entry}
@@ -13,11 +13,11 @@ pub record Sparse : Type 0 where
   pub shape : Extent
   pub entries : List Entry
 
--- whether an entry names the place (i, j)
+-- whether an entry is at the place (i, j)
 abbrev pub is_at : ℕ → ℕ → Entry → Bool
 is_at i j e = (e.row == i) && (e.column == j)
 
--- by column, and then by row
+-- the first entry is before the second, by column and then by row
 abbrev pub IsBefore : Entry → Entry → Type 0
 IsBefore d e = (d.column < e.column) ⊎ ((d.column ≡ e.column) × (d.row < e.row))
 
@@ -25,7 +25,7 @@ IsBefore d e = (d.column < e.column) ⊎ ((d.column ≡ e.column) × (d.row < e.
 abbrev pub IsInside : Extent → Entry → Type 0
 IsInside shape e = (e.row < shape.rows) × (e.column < shape.cols)
 
--- the first value at the place (i, j), or else zero
+-- the value of the first entry at the place (i, j), or else z
 unfoldable pub value_at : ℕ → List Entry → ℕ → ℕ → ℕ
 value_at z [] i j = z
 value_at z (e ∷ es) i j = cond (is_at i j e) e.value (value_at z es i j)
@@ -34,7 +34,7 @@ value_at z (e ∷ es) i j = cond (is_at i j e) e.value (value_at z es i j)
 abbrev pub at : Arithmetic → Sparse → ℕ → ℕ → ℕ
 at s m i j = value_at s.zero m.entries i j
 
--- Each entry is inside the shape, has a value other than zero, and they ascend: so no two share a place.
+-- The entries are inside the shape, are values other than zero, and ascend: so no two share a place.
 pub record IsMatrix (s : Arithmetic) (m : Sparse) : Type 0 where
   pub ascending : AllPairs IsBefore m.entries
   pub inside : All (IsInside m.shape) m.entries

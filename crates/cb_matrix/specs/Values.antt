@@ -10,12 +10,12 @@ unfoldable pub total : Arithmetic → List ℕ → ℕ
 total s [] = s.zero
 total s (x ∷ xs) = s.add x (total s xs)
 
--- column j of f, in the rows below m: an entry for each value other than zero
+-- column j of f in the rows below a number: an entry for each value other than z
 unfoldable pub column_of : ℕ → (ℕ → ℕ → ℕ) → ℕ → ℕ → List Entry
 column_of z f j zero = []
 column_of z f j (suc i) = column_of z f j i ++ cond (f i j == z) [] (record { row = i; column = j; value = f i j } ∷ [])
 
--- the columns below n
+-- the columns of f below a number, one after another, each in the rows below m
 unfoldable pub columns_of : ℕ → (ℕ → ℕ → ℕ) → ℕ → ℕ → List Entry
 columns_of z f m zero = []
 columns_of z f m (suc j) = columns_of z f m j ++ column_of z f j m
@@ -28,7 +28,7 @@ matrix_of s shape f = record { shape = shape; entries = columns_of s.zero f shap
 abbrev pub empty_matrix : Extent → Sparse
 empty_matrix shape = record { shape = shape; entries = [] }
 
--- the values that are given at the place (i, j)
+-- the values given at the place (i, j)
 abbrev pub values_at : List Entry → ℕ → ℕ → List ℕ
 values_at es i j = map (λ e. e.value) (filter (is_at i j) es)
 
@@ -36,10 +36,10 @@ values_at es i j = map (λ e. e.value) (filter (is_at i j) es)
 abbrev pub collected : Arithmetic → Extent → List Entry → Sparse
 collected s shape es = matrix_of s shape (λ i j. total s (values_at es i j))
 
--- the rows of the first matrix, and the columns of the second
+-- the shape of a product: the rows of the first matrix, and the columns of the second
 abbrev pub product_shape : Sparse → Sparse → Extent
 product_shape a b = record { rows = a.shape.rows; cols = b.shape.cols }
 
--- the product of two matrices: the sum, for k below the columns of the first, of a(i,k) times b(k,j)
+-- the product of two matrices: at (i, j) the sum of a(i, k) times b(k, j) over all columns k of the first
 abbrev pub product : Arithmetic → Sparse → Sparse → Sparse
 product s a b = matrix_of s (product_shape a b) (λ i j. total s (map (λ k. s.mul (at s a i k) (at s b k j)) (range_with_len 0 a.shape.cols)))

@@ -1,4 +1,4 @@
-//! A matrix from entries in any order: they are sorted by place, and those of one place are added up.
+//! A matrix from entries in any order: they are sorted by place, and those at the same place are added up.
 ghost use Rattle.std.specs.Prelude.{◌≡◌, ◌↔◌, ◌≢◌, ℕ, ◌<◌, ◌≤◌, ◌++◌, ◌+◌, length, take, drop, All, AllPairs, IfOk, IfNone, IsErrOf, OnOk, Some, position, filter, IsPermutation};
 ghost use Rattle.cb_semirings.specs.Arithmetic.{IsValue};
 ghost use Rattle.cb_matrix.specs.Sparse.{is_at, IsNotAfter, IsInside, is_outside};
@@ -11,10 +11,10 @@ use cb_semirings::Semiring;
 use std::alloc::{AllocError, Global};
 use std::marker::PhantomData;
 
-/// The entries by column and then by row. Those of one place keep their order.
+/// The entries sorted by column and then by row. Those at the same place keep their order.
 ///
-/// It takes O(n log n) for n entries and the buffer of a stable sort, or O(n) and no memory where they
-/// ascend already.
+/// Costs O(n log n) time for n entries and the buffer of a stable sort. If they ascend already, it costs O(n) time and
+/// no memory.
 pub fn in_order(entries: Vec<Entry>) -> Result<Vec<Entry>, AllocError>
     ensures order { IfOk result (λ v. AllPairs IsNotAfter v.items) }
     ensures same { IfOk result (λ v. (i j : ℕ) → filter (is_at i j) v.items ≡ filter (is_at i j) entries.items) }
@@ -25,7 +25,7 @@ pub fn in_order(entries: Vec<Entry>) -> Result<Vec<Entry>, AllocError>
     Ok(sorted)
 }
 
-/// Stores an entry after the first `kept`, unless its value is zero. Answers how many are kept then.
+/// Stores an entry after the first `kept`, unless its value is zero. Returns how many are kept then.
 fn keep<S: Semiring>(entries: &mut [Entry], kept: usize, entry: Entry) -> usize
     requires { kept < length entries.old }
     ensures count { result ≤ kept + 1 }
@@ -39,8 +39,8 @@ fn keep<S: Semiring>(entries: &mut [Entry], kept: usize, entry: Entry) -> usize
     kept + 1
 }
 
-/// The sum at each place, where it is not zero, takes the place of the entries, from the front on.
-/// Answers how many sums there are.
+/// Replaces the entries by the sum at each place, unless that is zero, from the front on. Returns how many sums there
+/// are.
 fn combine<S: Semiring>(entries: &mut [Entry]) -> usize
     requires order { AllPairs IsNotAfter entries.old }
     requires values { All (λ e. IsValue S.arithmetic e.value) entries.old }
@@ -64,14 +64,14 @@ fn combine<S: Semiring>(entries: &mut [Entry]) -> usize
 }
 
 impl Shape {
-    /// Whether an entry's place is outside.
+    /// Whether an entry is outside the shape.
     fn is_outside(&self, entry: &Entry) -> bool
         ensures { result ≡ is_outside self.now entry.now }
     {
         !(entry.row < self.rows && entry.column < self.cols)
     }
 
-    /// The first entry whose place is outside.
+    /// The index of the first entry outside the shape.
     fn first_outside(&self, entries: &[Entry]) -> Option<usize>
         ensures first { result ≡ position (is_outside self.now) entries.now }
         ensures none { IfNone result (All (IsInside self.now) entries.now) }
@@ -81,11 +81,11 @@ impl Shape {
 }
 
 impl<S: Semiring> Matrix<S> {
-    /// The matrix that has at each place the sum of the values given there, from entries that are known
-    /// to be inside the shape. They may come in any order, and sums that are zero aren't stored.
+    /// The matrix that has at each place the sum of the values given there. The entries are inside the shape, and may
+    /// come in any order. Sums of zero aren't stored.
     ///
-    /// The list is given up, and sorted and added up in place: it takes O(n log n) for n entries and the
-    /// buffer of a stable sort, or O(n) and no memory where they ascend by column and then row.
+    /// The list is consumed; it is sorted and added up in place. Costs O(n log n) time for n entries and the buffer of a
+    /// stable sort. If they ascend by column and then row, it costs O(n) time and no memory.
     pub fn collect(shape: Shape, entries: Vec<Entry>) -> Result<Self, AllocError>
         requires inside { All (IsInside shape) entries.items }
         requires values { All (λ e. IsValue S.arithmetic e.value) entries.items }
@@ -101,11 +101,11 @@ impl<S: Semiring> Matrix<S> {
         })
     }
 
-    /// The matrix that has at each place the sum of the values given there. The entries may come in
-    /// any order, and sums that are zero aren't stored.
+    /// The matrix that has at each place the sum of the values given there. The entries may come in any order. Sums of
+    /// zero aren't stored.
     ///
-    /// It takes O(n log n) for n entries, and O(n) where they ascend by column and then row. Memory
-    /// is that of one copy, and, unless they ascend, the buffer of a stable sort.
+    /// Costs O(n log n) time for n entries, or O(n) if they ascend by column and then row. Memory is that of one copy
+    /// and, unless they ascend, the buffer of a stable sort.
     pub fn from_entries(alloc: Global, shape: Shape, entries: &[Entry]) -> Result<Self, EntryFault>
         requires { All (λ e. IsValue S.arithmetic e.value) entries.now }
         ensures ok { IfOk result (λ m. m ≡ collected S.arithmetic shape entries.now) }
@@ -118,7 +118,7 @@ impl<S: Semiring> Matrix<S> {
         Ok(Self::collect(shape, entries)?)
     }
 
-    /// The same from a list that is given up, as `collect` does it, for entries that may be outside.
+    /// The same from a list, which is consumed as in [`collect`](Self::collect).
     pub fn from_vec(shape: Shape, entries: Vec<Entry>) -> Result<Self, EntryFault>
         requires { All (λ e. IsValue S.arithmetic e.value) entries.items }
         ensures ok { IfOk result (λ m. m ≡ collected S.arithmetic shape entries.items) }
@@ -132,12 +132,12 @@ impl<S: Semiring> Matrix<S> {
 }
 
 impl<S: Semiring> Matrix<S> {
-    /// The product of two matrices: at row i and column j the sum of `left(i, k)` times `right(k, j)`
-    /// for each column k of the first.
+    /// The product of two matrices: at row i and column j the sum of `left(i, k)` times `right(k, j)` over all columns k
+    /// of the first.
     ///
-    /// Each stored entry of the first is held against each of the second, so it takes time quadratic
-    /// in the numbers of stored entries, whatever the shapes: a reference, not a kernel. Memory is
-    /// that of all products of two entries that meet, and the buffer of a stable sort.
+    /// Compares each stored entry of the first with each of the second, so its time is the product of their numbers of
+    /// entries, whatever the shapes: a reference, not a kernel. Memory is that of all products of matching entries, and
+    /// the buffer of a stable sort.
     pub fn plain_product(alloc: Global, left: &Self, right: &Self) -> Result<Self, ProductFault>
         ensures ok { IfOk result (λ m. m ≡ product S.arithmetic left.now right.now) }
         ensures shapes { IsErrOf result ProductFault.Shapes ↔ (left.now.shape.cols ≢ right.now.shape.rows) }
@@ -149,7 +149,7 @@ impl<S: Semiring> Matrix<S> {
         Ok(Self::collect(left.shape.with_columns_of(right.shape), products)?)
     }
 
-    /// The products of each two entries that meet, which make the product.
+    /// The products of all pairs of matching entries. Added up, they make the product of the matrices.
     fn products(&self, alloc: Global, right: &Self) -> Result<Vec<Entry>, AllocError>
         requires { self.now.shape.cols ≡ right.now.shape.rows }
         ensures inside { IfOk result (λ v. All (IsInside (product_shape self.now right.now)) v.items) }
@@ -164,7 +164,7 @@ impl<S: Semiring> Matrix<S> {
     }
 }
 
-/// Appends the products of an entry with those that it meets.
+/// Appends the products of an entry with all entries that it matches.
 fn append_products<S: Semiring>(
     products: &mut Vec<Entry>,
     left: &Entry,

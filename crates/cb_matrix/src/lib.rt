@@ -1,16 +1,16 @@
 //! Sparse matrices over a semiring: a shape, and the entries that are stored.
 //!
-//! A place without a stored entry has the semiring's zero. The stored entries are inside the shape,
-//! other than zero, and ascend by column and then by row, so no two share a place, and two matrices
-//! of one shape with the same value at each place are the same. Every call works on stored entries
-//! alone: a matrix of side 2,147,483,647 with one entry costs what one entry costs.
+//! A place without a stored entry has the semiring's zero. The stored entries are inside the shape, aren't zero, and
+//! ascend by column and then by row. So no two share a place, and two matrices of one shape with the same value at each
+//! place are equal. Every call works on stored entries alone: a matrix of side 2,147,483,647 with one entry costs what
+//! one entry costs.
 //!
-//! In contracts a matrix is its shape and its list of stored entries (`specs/Sparse.antt`). What a
-//! call makes is said place by place (`specs/Values.antt`, `specs/Operations.antt`): `matrix_of`
-//! turns a function of row and column into the matrix that has its values.
+//! In contracts a matrix is its shape and its list of stored entries (`specs/Sparse.antt`). The result of a call is
+//! defined place by place (`specs/Values.antt`, `specs/Operations.antt`): `matrix_of` turns a function of row and column
+//! into the matrix that has its values.
 //!
-//! A matrix is built from entries in any order, whose values at one place are added up. Its product
-//! with another is worked out here entry by entry, as a reference for faster kernels.
+//! A matrix is built from entries in any order; values at the same place are added up. The product of two matrices is
+//! computed here entry by entry, as a reference for faster kernels.
 #![tactic(auto)]
 
 ghost use Rattle.std.specs.Prelude.{◌≡◌, ◌↔◌, IsTrue, ◌<◌, ◌≤◌, [], length, IfOk, IfSome, IsSome, slice_index_or};
@@ -60,7 +60,7 @@ impl Model for Shape {
 }
 
 impl Shape {
-    /// The shape of so many rows and columns, or None where one of the two is past the limit.
+    /// The shape with this many rows and columns, or None if either is above the limit.
     pub fn new(rows: u32, cols: u32) -> Option<Shape>
         ensures some { IsSome result ↔ ((rows ≤ LIMIT) × (cols ≤ LIMIT)) }
         ensures value { IfSome result (λ s. (s.rows ≡ rows) × (s.cols ≡ cols)) }
@@ -88,7 +88,7 @@ impl Shape {
         self.cols
     }
 
-    /// These rows, and another shape's columns: the shape of the product of two matrices of these shapes.
+    /// The rows of this shape and the columns of another: the shape of the product of two matrices of these shapes.
     pub fn with_columns_of(&self, other: Shape) -> Shape
         ensures { result ≡ record { rows = self.now.rows; cols = other.cols } }
     {
@@ -99,7 +99,7 @@ impl Shape {
     }
 }
 
-/// A matrix, by its entries other than the zero of `S`.
+/// A matrix over the semiring `S`. Zeros aren't stored.
 #[derive(Debug, Drop)]
 pub struct Matrix<S: Semiring> {
     shape: Shape,
@@ -133,14 +133,12 @@ impl<S: Semiring> Matrix<S> {
         }
     }
 
-    /// How many rows and columns there are. Every matrix keeps its stored entries inside its shape,
-    /// ascending by column and then row, and other than zero: this call says so too.
+    /// How many rows and columns there are. The contract also says that the stored entries are inside them, ascend by
+    /// column and then row, and aren't zero.
     pub fn shape(&self) -> Shape
         ensures shape { result ≡ self.now.shape }
         ensures matrix { IsMatrix S.arithmetic self.now }
     {
-        // For the proof alone: to look at a field opens the value, and its invariant is at hand.
-        let _entries = &self.entries;
         self.shape
     }
 
@@ -172,8 +170,8 @@ impl<S: Semiring> Matrix<S> {
         self.entries.is_empty()
     }
 
-    /// The value at a place inside the shape: that of the entry stored there, or zero. It takes
-    /// O(log n) comparisons for n stored entries.
+    /// The value at a place inside the shape: that of the entry stored there, or zero. Costs O(log n) comparisons for n
+    /// stored entries.
     pub fn get(&self, row: u32, column: u32) -> u64
         requires row_inside { row < self.now.shape.rows }
         requires column_inside { column < self.now.shape.cols }
@@ -197,7 +195,7 @@ impl<S: Semiring> Matrix<S> {
         self.entries.as_slice()
     }
 
-    /// The stored entry of a number below `len`, counted by column and then by row.
+    /// The stored entry with an index below `len`, counted by column and then by row.
     pub fn entry_at(&self, index: usize) -> Entry
         requires { index < length self.now.entries }
         ensures { result ≡ slice_index_or self.now.entries index result }
@@ -205,7 +203,7 @@ impl<S: Semiring> Matrix<S> {
         self.entries[index]
     }
 
-    /// A copy, or an error where there is no memory for its entries.
+    /// A copy. Fails only if memory for its entries is refused.
     pub fn try_clone(&self) -> Result<Self, AllocError>
         ensures { IfOk result (λ copy. copy ≡ self.now) }
     {
@@ -217,13 +215,13 @@ impl<S: Semiring> Matrix<S> {
     }
 }
 
-/// Why entries make no matrix. A place outside is looked for before memory is asked for.
+/// Why some entries make no matrix. Places are checked before memory is requested.
 #[derive(Clone, Copy, Debug, PartialEq, Eq, Error)]
 pub enum EntryFault {
-    /// The number of the first entry whose place is outside the shape.
+    /// The entry with this index is the first outside the shape.
     #[error("entry {0} is outside the shape")]
     Place(usize),
-    /// There was no memory.
+    /// Memory was refused.
     #[error("out of memory")]
     Memory,
 }
@@ -238,13 +236,13 @@ impl From<AllocError> for EntryFault {
     }
 }
 
-/// Why two matrices have no product. Their shapes are looked at before memory is asked for.
+/// Why two matrices have no product. Shapes are checked before memory is requested.
 #[derive(Clone, Copy, Debug, PartialEq, Eq, Error)]
 pub enum ProductFault {
-    /// The first has not as many columns as the second has rows.
+    /// The first doesn't have as many columns as the second has rows.
     #[error("shapes don't agree")]
     Shapes,
-    /// There was no memory.
+    /// Memory was refused.
     #[error("out of memory")]
     Memory,
 }

@@ -1,4 +1,4 @@
-//! A matrix from entries that are known to be its stored entries.
+//! A matrix from its stored entries, in order.
 ghost use Rattle.std.specs.Prelude.{◌≡◌};
 ghost use Rattle.cb_matrix.specs.Sparse.{IsMatrix};
 
@@ -7,8 +7,8 @@ use cb_semirings::Semiring;
 use std::marker::PhantomData;
 
 impl<S: Semiring> Matrix<S> {
-    /// The matrix of these stored entries, which are known to be inside the shape, to ascend by column and then
-    /// by row, and to be other than zero. The list is given up: it takes no memory, and no look at an entry.
+    /// The matrix with these stored entries, which are inside the shape, ascend by column and then by row, and aren't
+    /// zero. The list is consumed: no entry is copied or read.
     pub fn from_ordered(shape: Shape, entries: Vec<Entry>) -> Self
         requires { IsMatrix S.arithmetic (record { shape = shape; entries = entries.items }) }
         ensures { result ≡ record { shape = shape; entries = entries.items } }

@@ -1,15 +1,15 @@
-//! Which values a test is for.
+//! Tests of values.
 ghost use Rattle.std.specs.Prelude.{◌≡◌};
 ghost use Rattle.cb_matrix.specs.Passing.{passes};
 
-/// Some of the values, as whole numbers.
+/// A test of a value, as a whole number.
 #[derive(Clone, Copy, Debug, PartialEq, Eq)]
 pub enum Test {
-    /// Those below this number.
+    /// Passes values below this number.
     Below(u64),
-    /// Those above this number.
+    /// Passes values above this number.
     Above(u64),
-    /// Those that are this number.
+    /// Passes values equal to this number.
     Equal(u64),
 }
 

@@ -3,7 +3,7 @@ use Rattle.std.specs.Prelude.{List, [], ◌∷◌}
 use Rattle.cb_operations.specs.declared.operations.Operands.{Operands}
 use Rattle.cb_operations.specs.declared.operations.Operands.TheVariants.{One, Two, Three}
 
--- they, in order
+-- the operands in order
 abbrev pub list_of : {M : Type 0} → Operands M → List M
 list_of (One a) = a ∷ []
 list_of (Two a b) = a ∷ b ∷ []

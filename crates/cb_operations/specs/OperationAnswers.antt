@@ -1,4 +1,4 @@
--- What an operation on matrices over a semiring takes, and what it makes of them.
+-- What each operation on matrices over a semiring takes, and its result.
 use Rattle.std.specs.Prelude.{◌≡◌, ℕ, List, map, slice_index_or}
 use Rattle.cb_semirings.specs.Arithmetic.{Arithmetic}
 use Rattle.cb_matrix.specs.Sparse.{Sparse, Extent}
@@ -6,9 +6,10 @@ use Rattle.cb_matrix.specs.Values.{empty_matrix, product}
 use Rattle.cb_matrix.specs.Operations.{masked, transposed, row_sums, column_sums, sum_of, times_of, pruned}
 use Rattle.cb_matrix.specs.Passing.{passes}
 use Rattle.cb_operations.specs.declared.operations.Operation.{Operation}
-use Rattle.cb_operations.specs.declared.operations.Operation.TheVariants.{Multiply, MultiplyMasked, MultiplyVector, Transpose, RowSums, ColumnSums, Add, Times, Prune}
+use Rattle.cb_operations.specs.declared.operations.Operation.TheVariants.{Multiply, MultiplyMasked, MultiplyVector, Transpose}
+use Rattle.cb_operations.specs.declared.operations.Operation.TheVariants.{RowSums, ColumnSums, Add, Times, Prune}
 
--- how many matrices it takes
+-- how many matrices an operation takes
 abbrev pub operand_count_of : Operation → ℕ
 operand_count_of Multiply = 2
 operand_count_of MultiplyMasked = 3
@@ -20,11 +21,11 @@ operand_count_of Add = 2
 operand_count_of Times = 2
 operand_count_of (Prune test) = 1
 
--- a shape of a list, or 0 by 0 where there is none
+-- the shape at a place of a list, or 0 by 0 if there is none
 abbrev pub extent_at : List Extent → ℕ → Extent
 extent_at shapes i = slice_index_or shapes i (record { rows = 0; cols = 0 })
 
--- a matrix of a list, or one of 0 by 0 where there is none
+-- the matrix at a place of a list, or a matrix of 0 by 0 if there is none
 abbrev pub matrix_at : List Sparse → ℕ → Sparse
 matrix_at operands i = slice_index_or operands i (empty_matrix (record { rows = 0; cols = 0 }))
 
@@ -32,7 +33,7 @@ matrix_at operands i = slice_index_or operands i (empty_matrix (record { rows = 
 abbrev pub outer : Extent → Extent → Extent
 outer a b = record { rows = a.rows; cols = b.cols }
 
--- these shapes agree
+-- the shapes of the operands agree
 abbrev pub Agree : Operation → List Extent → Type 0
 Agree Multiply ds = (extent_at ds 0).cols ≡ (extent_at ds 1).rows
 Agree MultiplyMasked ds = ((extent_at ds 0).cols ≡ (extent_at ds 1).rows) × (extent_at ds 2 ≡ outer (extent_at ds 0) (extent_at ds 1))
@@ -44,7 +45,7 @@ Agree Add ds = extent_at ds 0 ≡ extent_at ds 1
 Agree Times ds = extent_at ds 0 ≡ extent_at ds 1
 Agree (Prune test) ds = Unit {0}
 
--- the shape of what it makes of matrices of these shapes
+-- the shape of the result for operands of these shapes
 abbrev pub shape_of : Operation → List Extent → Extent
 shape_of Multiply ds = outer (extent_at ds 0) (extent_at ds 1)
 shape_of MultiplyMasked ds = outer (extent_at ds 0) (extent_at ds 1)
@@ -56,7 +57,7 @@ shape_of Add ds = extent_at ds 0
 shape_of Times ds = extent_at ds 0
 shape_of (Prune test) ds = extent_at ds 0
 
--- what it makes of these matrices, over a semiring
+-- the result for these operands, over a semiring
 abbrev pub answer_of : Operation → Arithmetic → List Sparse → Sparse
 answer_of Multiply s ms = product s (matrix_at ms 0) (matrix_at ms 1)
 answer_of MultiplyMasked s ms = masked s (product s (matrix_at ms 0) (matrix_at ms 1)) (matrix_at ms 2)
@@ -72,6 +73,7 @@ answer_of (Prune test) s ms = pruned s (passes test) (matrix_at ms 0)
 abbrev pub shapes_in : List Sparse → List Extent
 shapes_in ms = map (λ (m : Sparse). m.shape) ms
 
--- whatever matrices have these shapes, and over whatever semiring: what the operation makes of them has this shape
+-- for all operands of these shapes, over every semiring, the result has this shape
 abbrev pub IsShapeOfAnswers : Operation → List Extent → Extent → Type 0
-IsShapeOfAnswers operation shapes d = (s : Arithmetic) → (ms : List Sparse) → shapes_in ms ≡ shapes → (answer_of operation s ms).shape ≡ d
+IsShapeOfAnswers operation shapes d =
+    (s : Arithmetic) → (ms : List Sparse) → shapes_in ms ≡ shapes → (answer_of operation s ms).shape ≡ d

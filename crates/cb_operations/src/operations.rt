@@ -1,43 +1,44 @@
-//! An operation, and the shapes that it takes.
+//! Operations, and the shapes that they take.
 ghost use Rattle.std.specs.Prelude.{◌≡◌, ◌≤◌, length, IfSome, IfNone};
 ghost use Rattle.cb_operations.specs.OperationAnswers.{operand_count_of, Agree, IsShapeOfAnswers, shape_of};
 
 use cb_matrix::{Shape, Test};
 
-/// No operation takes more matrices.
+/// The most matrices that an operation takes.
 pub const MOST_OPERANDS: usize = 3;
 
-/// An operation on matrices over a semiring, whose answer is a matrix.
+/// An operation on matrices over a semiring, whose result is a matrix.
 #[derive(Clone, Copy, Debug, PartialEq, Eq)]
 pub enum Operation {
-    /// The product of the first matrix by the second, which has as many rows as the first has columns.
+    /// The product of two matrices. The second has as many rows as the first has columns.
     Multiply,
-    /// The same, kept where a third matrix of the product's shape has entries. Its values don't matter.
+    /// The same, under a mask: only the entries where a third matrix of the product's shape has an entry. The mask's
+    /// values don't matter.
     MultiplyMasked,
-    /// The product of a matrix by a vector, which is a matrix of one column.
+    /// The product of a matrix and a vector, which is a matrix of one column.
     MultiplyVector,
     /// The transpose of a matrix.
     Transpose,
-    /// The sum of each row of a matrix, in a matrix of one column.
+    /// The sum of each row of a matrix, as a matrix of one column.
     RowSums,
-    /// The sum of each column of a matrix, in a matrix of one row.
+    /// The sum of each column of a matrix, as a matrix of one row.
     ColumnSums,
-    /// The sum of two matrices of one shape, place by place.
+    /// The element-wise sum of two matrices of one shape.
     Add,
-    /// The product of two matrices of one shape, place by place.
+    /// The element-wise product of two matrices of one shape.
     Times,
     /// A matrix without the entries whose value passes the test.
     Prune(Test),
 }
 
-/// One, two or three operands, in order.
+/// The operands of an operation, in order.
 #[derive(Clone, Copy, Debug, PartialEq, Eq, Drop)]
 pub enum Operands<M> {
-    /// Of an operation on one matrix.
+    /// For an operation on one matrix.
     One(M),
-    /// Of an operation on two.
+    /// For an operation on two matrices.
     Two(M, M),
-    /// Of a product of two under a mask, which is the third.
+    /// For a product of two matrices under a mask, which is the third.
     Three(M, M, M),
 }
 
@@ -61,7 +62,7 @@ impl Operation {
         }
     }
 
-    /// The shape of what it makes of matrices of these shapes, or none where they don't agree.
+    /// The shape of its result for matrices of these shapes. None if they don't agree.
     pub fn shape_of(self, shapes: &[Shape]) -> Option<Shape>
         requires { length shapes.now ≡ operand_count_of self }
         ensures agree { IfSome result (λ d. Agree self shapes.now) }
@@ -86,7 +87,7 @@ impl Operation {
     }
 }
 
-/// The shape of the product of two matrices, or none where the first has other columns than the second has rows.
+/// The shape of the product of two matrices. None if the first doesn't have as many columns as the second has rows.
 fn product_shape(left: Shape, right: Shape) -> Option<Shape>
     ensures agree { IfSome result (λ d. left.cols ≡ right.rows) }
     ensures shape { IfSome result (λ d. d ≡ record { rows = left.rows; cols = right.cols }) }
@@ -98,8 +99,8 @@ fn product_shape(left: Shape, right: Shape) -> Option<Shape>
     Some(left.with_columns_of(right))
 }
 
-/// The shape of the product of a matrix and a vector, or none where the second has other than one column, or other rows
-/// than the first has columns.
+/// The shape of the product of a matrix and a vector. None if the vector doesn't have one column and as many rows as
+/// the matrix has columns.
 fn vector_shape(matrix: Shape, vector: Shape) -> Option<Shape>
     ensures agree { IfSome result (λ d. (matrix.cols ≡ vector.rows) × (vector.cols ≡ 1)) }
     ensures shape { IfSome result (λ d. d ≡ record { rows = matrix.rows; cols = vector.cols }) }
@@ -111,7 +112,7 @@ fn vector_shape(matrix: Shape, vector: Shape) -> Option<Shape>
     product_shape(matrix, vector)
 }
 
-/// A shape, or none where another is not the same.
+/// The shape of two matrices. None if they have different ones.
 fn same_shape(first: Shape, second: Shape) -> Option<Shape>
     ensures agree { IfSome result (λ d. first ≡ second) }
     ensures shape { IfSome result (λ d. d ≡ first) }
@@ -123,7 +124,7 @@ fn same_shape(first: Shape, second: Shape) -> Option<Shape>
     Some(first)
 }
 
-/// As many rows as a shape has columns, and as many columns as it has rows.
+/// A shape with rows and columns exchanged.
 fn turned(shape: Shape) -> Shape
     ensures { result ≡ record { rows = shape.cols; cols = shape.rows } }
 {

@@ -1,7 +1,7 @@
-//! Why an operation, or a search of a graph, isn't computed.
+//! Why an operation on matrices or graphs is refused.
 use thiserror::Error;
 
-/// Why something isn't computed, whoever would compute it, in the order in which the reasons are looked for.
+/// Why an operation is refused, whatever computes it. The reasons are checked in this order.
 #[derive(Clone, Copy, Debug, PartialEq, Eq, Error)]
 pub enum Refusal {
     /// The shapes of the operands don't agree.
@@ -10,7 +10,7 @@ pub enum Refusal {
     /// The matrix of a graph isn't square.
     #[error("matrix not square")]
     NotSquare,
-    /// The source is no vertex of the graph.
+    /// The source isn't a vertex of the graph.
     #[error("no such source")]
     Source,
 }

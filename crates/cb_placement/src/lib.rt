@@ -1,8 +1,8 @@
-//! Matrices in the slots of ranks: laid out before a plan, gathered after it.
+//! Matrices in the slots of ranks: laid out before a plan, and read out after it.
 //!
-//! [`laid_out`] moves the blocks of matrices that lie over a grid into the slots of its ranks, and [`drain`] moves the
-//! blocks of one slot out again. `specs/Answers` says when a plan makes a matrix of others that are laid out so:
-//! `Makes`, which a kernel's lemma proves and whoever runs the plan requires. Nothing here runs a plan.
+//! [`laid_out`] moves the blocks of matrices over a grid into the slots of its ranks, and [`drain`] moves the blocks of
+//! one slot out again. `specs/Answers` defines by `Makes` when a plan makes a matrix from others that are laid out so:
+//! each kernel has a lemma that proves it, and whoever runs the plan requires it. Nothing here runs a plan.
 #![tactic(auto)]
 
 ghost use Rattle.std.specs.Prelude.{◌≡◌};
@@ -20,7 +20,7 @@ pub enum DrainFault {
     /// Memory was refused.
     #[error("out of memory")]
     Memory,
-    /// A block is lost, because this rank was refused memory. If several are, it is that of the least rank.
+    /// A block is lost because this rank was refused memory. If several are lost, this is about that of the least rank.
     #[error("lost at rank {0}")]
     Lost(u16),
 }

@@ -1,4 +1,4 @@
-//! The slots of the ranks: filled with blocks before a plan, and read after it.
+//! The slots of the ranks: filled with blocks before a plan, and drained after it.
 ghost use Rattle.std.specs.Prelude.{◌≡◌, ◌≢◌, ◌<◌, ◌*◌, ℕ, map, length, replicate, Some, All, IfOk, IfErr, OnOk};
 ghost use Rattle.cb_layout.specs.Blocks.{block_at};
 ghost use Rattle.cb_plan.specs.declared.stores.Slot.TheVariants.{Empty};
@@ -52,7 +52,7 @@ fn distribute<S: Semiring>(stores: &mut Vec<RankStore<S>>, slot: u16, matrix: Di
     fill(stores, slot, matrix.into_blocks());
 }
 
-/// Moves one block into a slot of each rank.
+/// Moves one of the blocks into a slot of each rank.
 pub fn fill<S: Semiring>(stores: &mut Vec<RankStore<S>>, slot: u16, blocks: Vec<Block<S>>)
     requires slot { slot < SLOTS }
     requires count { length blocks.items ≡ length stores.old.items }
@@ -66,10 +66,10 @@ pub fn fill<S: Semiring>(stores: &mut Vec<RankStore<S>>, slot: u16, blocks: Vec<
     }
 }
 
-/// Moves the blocks out of a slot of the ranks. Their other slots stay as they were.
+/// Moves the blocks out of a slot of the ranks. Other slots don't change.
 ///
-/// `Memory` comes before any block is moved. `Lost` names the origin of the lost block of the least rank whose slot is
-/// lost; the blocks of the ranks before it are dropped.
+/// `Memory` is reported before any block is moved. `Lost` names the origin of the loss at the least rank whose slot is lost;
+/// the blocks of the ranks before it are dropped.
 #[tactic(auto, using(crate::proofs::DrainedSlots::taken, crate::proofs::DrainedSlots::never_empty, crate::proofs::DrainedSlots::first_loss))]
 pub fn drain<S: Semiring>(
     alloc: Global,

@@ -1,20 +1,20 @@
--- Lemmas on plans, by topic. The toolbox: crates above cite those of its lemmas that are `pub`.
+-- The toolbox of lemmas on plans, by topic. Crates above cite those that are `pub`.
 --
 -- Effects: what lists of acts do: `split`, a statement by the two cases of a test; `same_state`, states are
---   equal where their slots are; `meaning-append`, two lists of acts; `nothing_each`, lists of acts that
+--   equal if their slots are; `meaning-append`, two lists of acts; `nothing_each`, lists of acts that
 --   change nothing; `each_works`, an operation at each rank of a range.
--- ShapesOfMeaning: `shapes_of_meaning`, the shapes of what acts mean are what they mean for the shapes; `act_turns`
---   and `meaning_turns`, the same of each map that turns one kind of block into another (`shape_turns`).
--- SoundActs: an act is sound just where no fault is found in it, `no_fault` and `is_no_fault`.
--- PassingActs: acts that pass: `no_fault_next`, the next act where there is no fault; `passes-append` and
+-- ShapesOfMeaning: `shapes_of_meaning`, the shapes of the meaning are the meaning of the shapes; `act_turns` and
+--   `meaning_turns`, the same for each map from one kind of block to another (`shape_turns`).
+-- SoundActs: an act is sound exactly if no fault is found in it, `no_fault` and `is_no_fault`.
+-- PassingActs: acts that pass: `no_fault_next`, the next act if there is no fault; `passes-append` and
 --   `lanes_after-append`, of two lists; `move_is_sound` and `shut_is_sound`, of one act; `passes_check`, acts that
---   pass and shut each lane have no fault, and the other way round `checked_passes` and `checked_shuts`.
--- Faults: `next_element`, what is left of a list from the next element on.
+--   pass and shut each lane have no fault, and conversely `checked_passes` and `checked_shuts`.
+-- Faults: `next_element`, the rest of a list from the next element on.
 -- Ranges: lists over a range of numbers that grows, by an element (`pushed`) or by a list (`extended`).
 -- Cells: tables: `set_is_table` and `cell_after_set`, one place set; `blank_is_table` and `blank_cell`, one
 --   value everywhere.
--- ActOnStores: `read_at`, an element that was read by its number; `first_below`, numbers below a limit; the
---   blocks in the slots after one was set, `state_after_set` and `none_lost_after_set`.
+-- ActOnStores: `read_at`, an element read by its number; `first_below`, numbers below a limit; the
+--   blocks in the slots after one is set, `state_after_set` and `none_lost_after_set`.
 pub mod Effects
 pub mod ShapesOfMeaning
 pub mod SoundActs

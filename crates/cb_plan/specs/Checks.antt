@@ -1,5 +1,6 @@
 -- The first fault of a plan.
-use Rattle.std.specs.Prelude.{◌≡◌, ℕ, ◌+◌, Bool, true, false, not, ◌&&◌, ◌||◌, ◌==◌, nat_lt, nat_le, if◌then◌else◌, List, [], ◌∷◌, Option, Some, None, is_some}
+use Rattle.std.specs.Prelude.{◌≡◌, ℕ, ◌+◌, Bool, true, false, not, ◌&&◌, ◌||◌, ◌==◌, nat_lt, nat_le, if◌then◌else◌, List, [], ◌∷◌}
+use Rattle.std.specs.Prelude.{Option, Some, None, is_some, Result, Ok, Err}
 use Rattle.std.specs.List.{range_with_len}
 use Rattle.cb_matrix.specs.Sparse.{Extent}
 use Rattle.cb_plan.specs.declared.acts.Op.{Op}
@@ -60,13 +61,13 @@ is_apart (act_is.Move from to tag slot into) = not (from == to)
 is_apart (act_is.Work rank op) = true
 is_apart (act_is.Shut from to) = not (from == to)
 
--- whether what the act reads is there
+-- whether the slots that the act reads are filled
 abbrev pub reads_filled : State Extent → Act → Bool
 reads_filled state (act_is.Move from to tag slot into) = is_some (state from slot)
 reads_filled state (act_is.Work rank op) = all_filled (state rank) (operands_of op)
 reads_filled state (act_is.Shut from to) = true
 
--- if something is empty, nothing is required of its shape
+-- an empty slot meets any requirement on its shape
 abbrev pub demand : Option Bool → Bool
 demand (Some b) = b
 demand None = true
@@ -74,21 +75,37 @@ demand None = true
 abbrev pub same_shape : Extent → Extent → Bool
 same_shape a b = (a.rows == b.rows) && (a.cols == b.cols)
 
+-- whether two slots have the same shape
+abbrev pub have_same_shape : (ℕ → Option Extent) → ℕ → ℕ → Bool
+have_same_shape slots a b = demand (two same_shape (slots a) (slots b))
+
+-- whether the product of the first two can be added to the third
+abbrev pub can_add_product : Extent → Extent → Extent → Bool
+can_add_product a b acc = (a.cols == b.rows) && (acc.rows == a.rows) && (acc.cols == b.cols)
+
+-- whether a block has these rows and columns, each from the first number up to the second
+abbrev pub has_part : ℕ × ℕ → ℕ × ℕ → Extent → Bool
+has_part rows cols a = nat_le rows.0 rows.1 && nat_le rows.1 a.rows && nat_le cols.0 cols.1 && nat_le cols.1 a.cols
+
 -- the shapes that an operation requires
 abbrev pub shapes_agree : (ℕ → Option Extent) → Op → Bool
 shapes_agree slots (op_is.Zero into shape) = true
-shapes_agree slots (op_is.MulAdd a b acc) = demand (three (λ a b acc. (a.cols == b.rows) && (acc.rows == a.rows) && (acc.cols == b.cols)) (slots a) (slots b) (slots acc))
-shapes_agree slots (op_is.Add a b into) = demand (two same_shape (slots a) (slots b))
-shapes_agree slots (op_is.Times a b into) = demand (two same_shape (slots a) (slots b))
+shapes_agree slots (op_is.MulAdd a b acc) = demand (three can_add_product (slots a) (slots b) (slots acc))
+shapes_agree slots (op_is.Add a b into) = have_same_shape slots a b
+shapes_agree slots (op_is.Times a b into) = have_same_shape slots a b
 shapes_agree slots (op_is.Transpose a into) = true
 shapes_agree slots (op_is.ColumnSums a into) = true
-shapes_agree slots (op_is.Cut a rows cols into) = demand (one (λ a. nat_le rows.0 rows.1 && nat_le rows.1 a.rows && nat_le cols.0 cols.1 && nat_le cols.1 a.cols) (slots a))
+shapes_agree slots (op_is.Cut a rows cols into) = demand (one (has_part rows cols) (slots a))
 shapes_agree slots (op_is.Place a shape at into) = demand (one (λ a. nat_le (at.0 + a.rows) shape.rows && nat_le (at.1 + a.cols) shape.cols) (slots a))
 shapes_agree slots (op_is.MulVec a x into) = demand (two (λ a x. (a.cols == x.rows) && (x.cols == 1)) (slots a) (slots x))
 shapes_agree slots (op_is.Prune a test into) = true
 shapes_agree slots (op_is.Copy a into) = true
 shapes_agree slots (op_is.Clear slot) = true
-shapes_agree slots (op_is.Mask a m into) = demand (two same_shape (slots a) (slots m))
+shapes_agree slots (op_is.Mask a m into) = have_same_shape slots a m
+
+-- a shape, if what is required holds; else the fault that shapes don't agree
+abbrev pub shape_if : Bool → Option Extent → Result (Option Extent) PlanFaultKind
+shape_if holds shape = if holds then Ok shape else Err kind_is.Shape
 
 abbrev pub act_agrees : State Extent → Act → Bool
 act_agrees state (act_is.Move from to tag slot into) = true
@@ -141,7 +158,7 @@ fault_from ranks n state shut [] = if are_all_shut ranks shut then None else Som
 fault_from ranks n state shut (a ∷ acts) =
     fault_or n (act_fault ranks state shut a) (fault_from ranks (n + 1) (act shapes a state) (shut_after a shut) acts)
 
--- one more slot is filled
+-- the slots with one more start
 abbrev pub with_start : Start → State Extent → State Extent
 with_start s state r n = if s.rank == r && s.slot == n then Some s.shape else state r n
 
@@ -149,7 +166,7 @@ abbrev pub started_from : List Start → State Extent → State Extent
 started_from [] state = state
 started_from (s ∷ ss) state = started_from ss (with_start s state)
 
--- the shapes at the start
+-- the shapes before the first act
 abbrev pub started : List Start → State Extent
 started starts = started_from starts (λ _ _. None)
 
@@ -172,30 +189,30 @@ slots_in table r n = cell None table r n
 abbrev pub lanes_in : List (List Bool) → Lanes
 lanes_in table s t = cell false table s t
 
--- a slot for each rank and number, a lane for each two ranks
+-- the tables have a slot for each rank and number, and a lane from each rank to each
 pub record IsCheckState (o : CheckState) : Type 0 where
   pub slots : IsTable o.ranks SLOTS o.slots
   pub shut : IsTable o.ranks o.ranks o.shut
 
--- nothing is there, and no lane is shut
+-- every slot is empty, and no lane is shut
 pub record IsBlank (ranks : ℕ) (o : CheckState) : Type 0 where
   pub ranks_are : o.ranks ≡ ranks
   pub slots : slots_in o.slots ≡ (λ _ _. None)
   pub shut : lanes_in o.shut ≡ none_shut
 
--- what stands in the slots before the first act, and no lane is shut
+-- the slots have what the starts say, and no lane is shut
 pub record IsStarted (ranks : ℕ) (starts : List Start) (o : CheckState) : Type 0 where
   pub ranks_are : o.ranks ≡ ranks
   pub slots : slots_in o.slots ≡ started starts
   pub shut : lanes_in o.shut ≡ none_shut
 
--- the shapes after an act, and the lanes
+-- the shapes and the lanes after an act
 pub record DidAct (a : Act) (old new : CheckState) : Type 0 where
   pub ranks : new.ranks ≡ old.ranks
   pub slots : slots_in new.slots ≡ act shapes a (slots_in old.slots)
   pub shut : lanes_in new.shut ≡ shut_after a (lanes_in old.shut)
 
--- one slot has another shape
+-- one slot gets this shape, or becomes empty
 pub record SetSlot (r n : ℕ) (x : Option Extent) (old new : CheckState) : Type 0 where
   pub ranks : new.ranks ≡ old.ranks
   pub slots : slots_in new.slots ≡ (λ q k. if r == q && n == k then x else slots_in old.slots q k)

@@ -1,5 +1,5 @@
 -- Meaning: what acts do, over blocks of any kind. Algebras: on matrices, and on shapes alone.
--- Plans: what contracts see of a plan. Checks: the first fault of a plan. Programs: the halves of each rank.
+-- Plans: plans as contracts see them. Checks: the first fault of a plan. Programs: the halves of each rank.
 -- PlanLetters: what a plan posts on each lane. PlanTables: rows of equal length. Stores: the slots of the ranks.
 -- Runnable: a plan that can run as it is. PlanRows: worked plans.
 pub mod Meaning

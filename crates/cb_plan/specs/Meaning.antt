@@ -1,4 +1,4 @@
--- What a plan means, act by act, over blocks of any kind.
+-- The meaning of a plan, act by act, over blocks of any kind.
 use Rattle.std.specs.Prelude.{◌≡◌, ℕ, Bool, true, false, ◌&&◌, ◌==◌, if◌then◌else◌, List, [], ◌∷◌, Option, Some, None}
 use Rattle.cb_matrix.specs.Sparse.{Extent}
 use Rattle.cb_matrix.specs.declared.passing.Test.{Test}
@@ -59,7 +59,7 @@ target_of (op_is.Copy a into) = into
 target_of (op_is.Clear slot) = slot
 target_of (op_is.Mask a m into) = into
 
--- what it sets it to, from the slots of its rank
+-- what an operation sets its slot to, from the slots of its rank
 abbrev pub result_of : {M : Type 0} → Algebra M → Op → (ℕ → Option M) → Option M
 result_of ops (op_is.Zero into shape) slots = Some (ops.empty shape)
 result_of ops (op_is.MulAdd a b acc) slots = three ops.mul_add (slots a) (slots b) (slots acc)
@@ -75,7 +75,7 @@ result_of ops (op_is.Copy a into) slots = slots a
 result_of ops (op_is.Clear slot) slots = None
 result_of ops (op_is.Mask a m into) slots = two ops.mask (slots a) (slots m)
 
--- whether doing it may take memory: a block without entries and an empty slot take none
+-- whether an operation may take memory: a block without entries and an empty slot take none
 abbrev pub needs_memory : Op → Bool
 needs_memory (op_is.Zero into shape) = false
 needs_memory (op_is.Clear slot) = false
@@ -92,7 +92,7 @@ abbrev pub meaning : {M : Type 0} → Algebra M → List Act → State M → Sta
 meaning ops [] state = state
 meaning ops (a ∷ acts) state = meaning ops acts (act ops a state)
 
--- f turns the operations on one kind of block into those on another
+-- f carries the operations on one kind of block to those on another
 pub record Turns {M N : Type 0} (f : M → N) (ops : Algebra M) (images : Algebra N) : Type 0 where
   pub empty : (shape : Extent) → f (ops.empty shape) ≡ images.empty shape
   pub mul_add : (a b acc : M) → f (ops.mul_add a b acc) ≡ images.mul_add (f a) (f b) (f acc)

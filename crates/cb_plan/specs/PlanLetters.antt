@@ -1,4 +1,4 @@
--- What a plan posts on each lane, and how far a rank is in it.
+-- The letters of a plan on each lane, and how far a rank has come in the plan.
 use Rattle.std.specs.Prelude.{ℕ, ◌-◌, ◌&&◌, ◌==◌, nat_lt, if◌then◌else◌, List, [], ◌∷◌, ◌++◌, Option, Some, None}
 use Rattle.cb_letters.specs.declared.Tag.{Tag}
 use Rattle.cb_letters.specs.Letters.{mark_tag}
@@ -11,7 +11,7 @@ pub data Cargo (M : Type 0) : Type 0 where
   Sheet : Option M → Cargo M
   Mark : Cargo M
 
--- what an act posts on the lane from s to t: the tag, and what is carried
+-- what an act posts on the lane from s to t: a tag, and what the letter carries
 abbrev pub letter_of : {M : Type 0} → Act → State M → ℕ → ℕ → List (Tag × Cargo M)
 letter_of (act_is.Move from to tag slot into) state s t = if from == s && to == t then (tag, Sheet (state from slot)) ∷ [] else []
 letter_of (act_is.Work rank op) state s t = []
@@ -22,7 +22,7 @@ abbrev pub letters : {M : Type 0} → Algebra M → List Act → State M → ℕ
 letters ops [] state s t = []
 letters ops (a ∷ acts) state s t = letter_of a state s t ++ letters ops acts (act ops a state) s t
 
--- how many halves of an act a rank does: one, or none
+-- the number of halves of an act that a rank does: one, or none
 abbrev pub count_of : Act → ℕ → ℕ
 count_of (act_is.Move from to tag slot into) r = if from == r then 1 else (if to == r then 1 else 0)
 count_of (act_is.Work rank op) r = if rank == r then 1 else 0

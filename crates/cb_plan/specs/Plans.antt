@@ -1,7 +1,9 @@
--- What contracts see of a plan, and of one that was checked.
+-- A plan, and a checked plan, as contracts see them.
 use Rattle.std.specs.Prelude.{◌≡◌, ◌≢◌, ℕ, ◌<◌, ◌≤◌, ◌⊎◌, List, length, All, AllPairs, None}
 use Rattle.cb_plan.specs.declared.acts.Act.{Act}
 use Rattle.cb_plan.specs.declared.acts.Start.{Start}
+use Rattle.cb_plan.specs.declared.plans.PlanFault.{PlanFault}
+use Rattle.cb_plan.specs.declared.plans.PlanFaultKind.TheVariants as kind_is
 use Rattle.cb_plan.specs.declared.plans.TheConstants.{MOST_ACTS}
 use Rattle.cb_plan.specs.declared.stores.TheConstants.{SLOTS}
 use Rattle.cb_plan.specs.Checks.{plan_fault}
@@ -9,12 +11,20 @@ use Rattle.cb_plan.specs.Checks.{plan_fault}
 pub record PlanView : Type 0 where
   pub ranks : ℕ
   pub acts : List Act
-  -- how many acts there is room for without more memory
+  -- how many acts fit without more memory
   pub room : ℕ
+
+-- the fault of a plan that can't have more acts
+abbrev pub too_long : PlanView → PlanFault
+too_long plan = record { act = length plan.acts; kind = kind_is.TooLong }
+
+-- the fault that memory was refused
+abbrev pub no_memory : PlanFault
+no_memory = record { act = 0; kind = kind_is.Memory }
 
 pub record CheckedView : Type 0 where
   pub ranks : ℕ
-  -- what stands in the slots before the first act
+  -- the slots that are filled before the first act
   pub starts : List Start
   pub acts : List Act
 

@@ -11,7 +11,7 @@ use Rattle.cb_plan.specs.Meaning.{State, act}
 use Rattle.cb_plan.specs.Algebras.{shapes}
 use Rattle.cb_plan.specs.Checks.{CheckState, started, fault_from, slots_in, lanes_in}
 
--- a letter of the shape that the check gives its sheet; a checked plan moves no empty slot
+-- a take of a sheet with the shape that the check gives it; a checked plan moves no empty slot
 abbrev pub take_of : ℕ → Tag → ℕ → Option Extent → List Half
 take_of from tag into (Some shape) = half_is.Take from tag into shape ∷ []
 take_of from tag into None = []
@@ -35,7 +35,7 @@ project_from state (a ∷ acts) r = halves_of state a r ++ project_from (act sha
 abbrev pub project : List Start → List Act → ℕ → List Half
 project starts acts r = project_from (started starts) acts r
 
--- what there is of a program after the first i acts, with what the check knows then; whole has all its halves
+-- a rank's program after the first i acts, with the state of the check there; `whole` has all its halves
 pub record Projects (ranks : ℕ) (acts : List Act) (r i : ℕ) (o : CheckState) (halves whole : List Half) : Type 0 where
   pub ranks_are : o.ranks ≡ ranks
   pub no_fault : fault_from ranks i (slots_in o.slots) (lanes_in o.shut) (drop i acts) ≡ None

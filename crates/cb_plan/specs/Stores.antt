@@ -16,7 +16,7 @@ module _ {M : Type 0} where
   sheet_of (slot_is.Sheet m) = Some m
   sheet_of (slot_is.Lost origin) = None
 
-  -- the slot that holds it
+  -- the slot that holds this block, or none
   abbrev pub slot_of : Option M → Slot M
   slot_of None = slot_is.Empty
   slot_of (Some m) = slot_is.Sheet m

@@ -38,14 +38,14 @@ pub enum Op {
         a: u16,
         into: u16,
     },
-    /// The part in a range of rows and of columns, each from the first number up to the second, which is excluded.
+    /// The part of `a` in a range of rows and of columns, each from the first number up to the second, which is excluded.
     Cut {
         a: u16,
         rows: (u32, u32),
         cols: (u32, u32),
         into: u16,
     },
-    /// The block inside a larger shape, with its row 0 and column 0 at a row and a column of that shape.
+    /// `a` inside a larger shape, with its row 0 and column 0 at this row and column of that shape.
     Place {
         a: u16,
         shape: Shape,
@@ -69,7 +69,7 @@ pub enum Op {
         a: u16,
         into: u16,
     },
-    /// The slot, which isn't empty before, is emptied.
+    /// Empties the slot, which must be filled.
     Clear {
         slot: u16,
     },
@@ -110,7 +110,7 @@ impl Op {
 /// One act of a plan.
 #[derive(Clone, Copy, Drop)]
 pub enum Act {
-    /// A copy of slot `slot` of rank `from` goes to slot `into` of rank `to`, in a letter with this tag.
+    /// Rank `from` sends a copy of its slot `slot` to slot `into` of rank `to`, in a letter with this tag.
     Move {
         from: u16,
         to: u16,
@@ -158,7 +158,7 @@ pub enum Half {
     },
 }
 
-/// A block of this shape stands in this slot before the first act.
+/// A slot that has a block of this shape before the first act.
 #[derive(Clone, Copy, Drop)]
 pub struct Start {
     pub rank: u16,

@@ -1,6 +1,8 @@
-//! What the check knows of all slots and lanes between two acts.
-ghost use Rattle.std.specs.Prelude.{◌≡◌, ◌<◌, ◌+◌, ◌-◌, ℕ, true, None, Some, Ok, Err, length, All, IfOk, IsTrue, IsSome, is_some, [], ◌∷◌, ◌&&◌, ◌==◌, if◌then◌else◌, nat_le};
-ghost use Rattle.cb_plan.specs.Checks.{CheckState as CheckStateView, IsCheckState, IsBlank, DidAct, IsStarted, SetSlot, fault_in, slots_in, lanes_in, all_below, all_filled, ranks_of, slots_of, operands_of, is_apart, reads_filled, shapes_agree, act_agrees, is_open, same_shape};
+//! The state of the check between two acts: what it knows of all slots and lanes.
+ghost use Rattle.std.specs.Prelude.{◌≡◌, ◌<◌, ◌+◌, ◌-◌, ℕ, true, None, Some, length, All, IfOk, IsTrue, IsSome, is_some, [], ◌∷◌, ◌&&◌, ◌==◌, nat_le};
+ghost use Rattle.cb_plan.specs.Checks.{CheckState as CheckStateView, IsCheckState, IsBlank, IsStarted, DidAct, SetSlot, slots_in, lanes_in};
+ghost use Rattle.cb_plan.specs.Checks.{fault_in, all_below, all_filled, ranks_of, slots_of, operands_of, is_apart, reads_filled, act_agrees, is_open};
+ghost use Rattle.cb_plan.specs.Checks.{shapes_agree, shape_if, have_same_shape, can_add_product, has_part};
 ghost use Rattle.cb_plan.specs.Meaning.{target_of, result_of};
 ghost use Rattle.cb_plan.specs.Algebras.{shapes};
 
@@ -29,7 +31,7 @@ impl Model for CheckState {
 }
 
 impl CheckState {
-    /// All slots are empty, and all lanes open.
+    /// The state in which all slots are empty and all lanes open.
     fn new(alloc: Global, ranks: u16) -> Result<Self, AllocError>
         ensures { IfOk result (λ o. IsBlank ranks o) }
     {
@@ -40,7 +42,7 @@ impl CheckState {
         })
     }
 
-    /// What stands in the slots before the first act. All lanes are open.
+    /// The state before the first act: the slots have what the starts say, and all lanes are open.
     pub(crate) fn started(alloc: Global, ranks: u16, starts: &[Start]) -> Result<Self, AllocError>
         requires { All (λ s. (s.rank < ranks) × (s.slot < SLOTS)) starts.now }
         ensures { IfOk result (λ o. IsStarted ranks starts.now o) }
@@ -83,7 +85,7 @@ impl CheckState {
         }
     }
 
-    /// Whether a slot isn't empty.
+    /// Whether a slot is filled.
     fn is_filled(&self, rank: u16, slot: u16) -> bool
         requires rank { rank < self.now.ranks }
         requires slot { slot < SLOTS }
@@ -92,7 +94,7 @@ impl CheckState {
         self.slot(rank, slot).is_some()
     }
 
-    /// Whether none of some slots is empty.
+    /// Whether all of these slots are filled.
     fn are_filled(&self, rank: u16, slots: &[u16]) -> bool
         requires rank { rank < self.now.ranks }
         requires slots { IsTrue (all_below SLOTS slots.now) }
@@ -106,7 +108,7 @@ impl CheckState {
         true
     }
 
-    /// Whether the operands of an operation are there.
+    /// Whether the operands of an operation are all filled.
     fn has_operands(&self, rank: u16, op: Op) -> bool
         requires rank { rank < self.now.ranks }
         requires slots { IsTrue (all_below SLOTS (operands_of op)) }
@@ -131,15 +133,12 @@ impl CheckState {
 }
 
 impl CheckState {
-    ghost use Rattle.cb_plan.specs.Meaning.{two};
-    ghost use Rattle.cb_plan.specs.Checks.{demand};
-
     /// The common shape of two slots.
     fn common_shape(&self, rank: u16, a: u16, b: u16) -> Result<Option<Shape>, PlanFaultKind>
         requires rank { rank < self.now.ranks }
         requires slots { IsTrue (all_below SLOTS (a ∷ b ∷ [])) }
         requires filled { IsTrue (all_filled (slots_in self.now.slots rank) (a ∷ b ∷ [])) }
-        ensures { result ≡ (if demand (two same_shape (slots_in self.now.slots rank a) (slots_in self.now.slots rank b)) then Ok (slots_in self.now.slots rank a) else Err PlanFaultKind.Shape) }
+        ensures { result ≡ shape_if (have_same_shape (slots_in self.now.slots rank) a b) (slots_in self.now.slots rank a) }
     {
         let a = self.shape(rank, a);
         let b = self.shape(rank, b);
@@ -152,7 +151,7 @@ impl CheckState {
         requires rank { rank < self.now.ranks }
         requires slots { IsTrue (all_below SLOTS (operands_of op)) }
         requires filled { IsTrue (all_filled (slots_in self.now.slots rank) (operands_of op)) }
-        ensures { result ≡ (if shapes_agree (slots_in self.now.slots rank) op then Ok (result_of shapes op (slots_in self.now.slots rank)) else Err PlanFaultKind.Shape) }
+        ensures { result ≡ shape_if (shapes_agree (slots_in self.now.slots rank) op) (result_of shapes op (slots_in self.now.slots rank)) }
     {
         match op {
             Op::Zero { shape, .. } => Ok(Some(shape)),
@@ -186,7 +185,7 @@ impl CheckState {
 
 /// A shape, if what is required holds.
 fn demanded(holds: bool, shape: Shape) -> Result<Option<Shape>, PlanFaultKind>
-    ensures { result ≡ (if holds then Ok (Some shape) else Err PlanFaultKind.Shape) }
+    ensures { result ≡ shape_if holds (Some shape) }
 {
     if holds {
         Ok(Some(shape))
@@ -197,7 +196,7 @@ fn demanded(holds: bool, shape: Shape) -> Result<Option<Shape>, PlanFaultKind>
 
 /// The shape of a block to which the product of two others can be added.
 fn sum_with_product(a: Shape, b: Shape, acc: Shape) -> Result<Option<Shape>, PlanFaultKind>
-    ensures { result ≡ (if (a.cols == b.rows) && (acc.rows == a.rows) && (acc.cols == b.cols) then Ok (Some acc) else Err PlanFaultKind.Shape) }
+    ensures { result ≡ shape_if (can_add_product a b acc) (Some acc) }
 {
     let agree = a.cols() == b.rows() && acc.rows() == a.rows() && acc.cols() == b.cols();
     demanded(agree, acc)
@@ -205,14 +204,14 @@ fn sum_with_product(a: Shape, b: Shape, acc: Shape) -> Result<Option<Shape>, Pla
 
 /// The shape of the product of a block and a vector, if they have one.
 fn vector_product(a: Shape, x: Shape) -> Result<Option<Shape>, PlanFaultKind>
-    ensures { result ≡ (if (a.cols == x.rows) && (x.cols == 1) then Ok (Some (record { rows = a.rows; cols = x.cols })) else Err PlanFaultKind.Shape) }
+    ensures { result ≡ shape_if ((a.cols == x.rows) && (x.cols == 1)) (Some (record { rows = a.rows; cols = x.cols })) }
 {
     demanded(a.cols() == x.rows() && x.cols() == 1, a.with_columns_of(x))
 }
 
 /// The shape of these rows and columns of a shape, if it has them.
 fn part_of(shape: Shape, rows: (u32, u32), cols: (u32, u32)) -> Result<Option<Shape>, PlanFaultKind>
-    ensures { result ≡ (if nat_le rows.0 rows.1 && nat_le rows.1 shape.rows && nat_le cols.0 cols.1 && nat_le cols.1 shape.cols then Ok (Some (record { rows = rows.1 - rows.0; cols = cols.1 - cols.0 })) else Err PlanFaultKind.Shape) }
+    ensures { result ≡ shape_if (has_part rows cols shape) (Some (record { rows = rows.1 - rows.0; cols = cols.1 - cols.0 })) }
 {
     let is_inside = rows.0 <= rows.1
         && rows.1 <= shape.rows()
@@ -225,7 +224,7 @@ fn part_of(shape: Shape, rows: (u32, u32), cols: (u32, u32)) -> Result<Option<Sh
     }
 }
 
-/// Whether a shape is inside a larger one if its first place stands at a row and a column of that one.
+/// Whether a shape fits inside another one, with its first place at this row and column.
 fn is_place(part: Shape, shape: Shape, at: (u32, u32)) -> bool
     ensures { result ≡ (nat_le (at.0 + part.rows) shape.rows && nat_le (at.1 + part.cols) shape.cols) }
 {
@@ -257,7 +256,7 @@ fn names_slots(op: &Op) -> bool
 }
 
 impl CheckState {
-    /// What is wrong with an operation of a rank here, the least kind first.
+    /// The fault of a rank's operation here, if any: the first in the order of the kinds.
     fn fault_of_work(&self, rank: u16, op: &Op) -> Option<PlanFaultKind>
         requires { rank < self.now.ranks }
         ensures { result ≡ fault_in self.now (Act.Work rank op.now) }
@@ -271,7 +270,7 @@ impl CheckState {
         }
     }
 
-    /// What is wrong with an act here, the least kind first.
+    /// The fault of an act here, if any: the first in the order of the kinds.
     pub(crate) fn fault_of(&self, act: &Act) -> Option<PlanFaultKind>
         ensures { result ≡ fault_in self.now act.now }
     {
@@ -349,7 +348,7 @@ impl CheckState {
     ghost use Rattle.std.specs.List.{range_with_len};
     ghost use Rattle.cb_plan.specs.Checks.{all_hold, are_all_shut};
 
-    /// Whether a lane is shut. There is none from a rank to itself.
+    /// Whether a lane is shut. A rank has no lane to itself, which counts as shut.
     fn is_shut(&self, from: u16, to: u16) -> bool
         requires from { from < self.now.ranks }
         requires to { to < self.now.ranks }

@@ -1,4 +1,4 @@
-//! The check of a plan: the meaning of its acts, on shapes alone.
+//! The check of a plan: what its acts mean, on shapes alone.
 ghost use Rattle.std.specs.Prelude.{◌≡◌, ◌<◌, ◌≤◌, ◌⊎◌, ℕ, length, All, AllPairs, IfOk, IfErr, Option, Some, None};
 ghost use Rattle.cb_plan.specs.Checks.{plan_fault};
 ghost use Rattle.cb_plan.specs.Plans.{CheckedView, IsChecked, IsElsewhere};
@@ -11,7 +11,7 @@ use crate::stores::SLOTS;
 use std::alloc::{AllocError, Global};
 use std::marker::Model;
 
-/// A plan that has no fault, with what stands in the slots before its first act.
+/// A plan without faults, with the slots that are filled before its first act.
 #[derive(Drop)]
 pub struct CheckedPlan {
     plan: Plan,
@@ -63,7 +63,7 @@ impl CheckedPlan {
         self.plan.ranks()
     }
 
-    /// What stands in the slots before the first act.
+    /// The slots that are filled before the first act.
     pub fn starts(&self) -> &[Start]
         ensures starts { result.now ≡ self.now.starts }
         ensures checked { IsChecked self.now }

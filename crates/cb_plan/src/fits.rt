@@ -1,4 +1,4 @@
-//! Whether stores have what the starts of a plan say.
+//! Whether stores hold what the starts of a plan say.
 ghost use Rattle.std.specs.Prelude.{◌≡◌, ◌<◌, ◌≤◌, ◌↔◌, length, All, IsTrue, sum_by, count_by, get_or};
 ghost use Rattle.cb_plan.specs.Stores.{Fits, all_stand, count_filled, is_filled, stands};
 
@@ -8,8 +8,8 @@ use crate::stores::{RankStore, SLOTS, Slot};
 use cb_semirings::Semiring;
 
 impl CheckedPlan {
-    /// Whether there is one store for each rank, the sheets stand just where the starts say, with their shapes,
-    /// and nothing is lost.
+    /// Whether there is one store for each rank, with blocks exactly where the starts say, of their shapes, and nothing
+    /// lost.
     ///
     /// The starts name each slot once. So if each of them finds its block, and no more slots are filled than there are
     /// starts, nothing else is there. Costs a step for each slot and one for each start.
@@ -24,7 +24,7 @@ impl CheckedPlan {
     }
 }
 
-/// Whether a block of each start's shape stands where it says.
+/// Whether each start has a block of its shape in its slot.
 fn all_stand<S: Semiring>(starts: &[Start], stores: &[RankStore<S>]) -> bool
     requires { All (λ s. (s.rank < length stores.now) × (s.slot < SLOTS)) starts.now }
     ensures { result ≡ all_stand stores.now starts.now }
@@ -37,7 +37,7 @@ fn all_stand<S: Semiring>(starts: &[Start], stores: &[RankStore<S>]) -> bool
     true
 }
 
-/// Whether a block of the start's shape stands where it says.
+/// Whether a start has a block of its shape in its slot.
 fn stands<S: Semiring>(start: Start, stores: &[RankStore<S>]) -> bool
     requires rank { start.rank < length stores.now }
     requires slot { start.slot < SLOTS }
@@ -52,7 +52,7 @@ fn stands<S: Semiring>(start: Start, stores: &[RankStore<S>]) -> bool
     }
 }
 
-/// How many slots aren't empty.
+/// The number of slots that aren't empty.
 fn count_filled<S: Semiring>(stores: &[RankStore<S>]) -> usize
     requires { length stores.now ≤ u16.MAX }
     ensures value { result ≡ count_filled stores.now }

@@ -1,9 +1,8 @@
-//! Plans: what the ranks of a grid do, act by act, and what it means.
+//! Plans: what the ranks of a grid do, act by act, and what that means.
 //!
-//! Each rank has 256 slots, and a slot is empty or holds a block. An act moves a copy of a slot from one rank to
-//! another, does one operation on the slots of one rank, or shuts the lane between two ranks for good. The meaning of a
-//! plan is that of its acts one after the other, as if there were one thread: `specs/Meaning` defines it over blocks of
-//! any kind.
+//! Each rank has 256 slots, and a slot is empty or holds a block. An act sends a copy of a slot from one rank to another,
+//! does one operation on the slots of one rank, or shuts the lane from one rank to another for good. A plan means what
+//! its acts do one after the other, as in a single thread: `specs/Meaning` defines this over blocks of any kind.
 //!
 //! A [`Plan`] grows act by act. [`CheckedPlan::check`] finds its first fault by doing the plan on the shapes of the
 //! blocks alone. In a plan that passes, no operation meets an empty slot or a wrong shape, and each lane is shut once,

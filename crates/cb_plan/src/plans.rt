@@ -1,29 +1,29 @@
-//! Plans, which grow act by act, and what may be wrong with one.
-ghost use Rattle.std.specs.Prelude.{◌≡◌, ◌<◌, ◌≤◌, ◌+◌, List, [], ◌∷◌, ◌++◌, length, vec_capacity, if◌then◌else◌, is_ok, IsOk, IfErr, OnOk, IsErrOf, ◌↔◌, ◌⊎◌, Err};
+//! Plans, which grow act by act, and the faults that a plan may have.
+ghost use Rattle.std.specs.Prelude.{◌≡◌, ◌<◌, ◌≤◌, ◌+◌, [], ◌∷◌, ◌++◌, length, vec_capacity, if◌then◌else◌, is_ok, IsOk, IfErr, OnOk, ◌⊎◌, Err};
 ghost use Rattle.cb_plan.specs.declared.plans.TheConstants.{MOST_ACTS};
-ghost use Rattle.cb_plan.specs.Plans.{PlanView};
+ghost use Rattle.cb_plan.specs.Plans.{PlanView, too_long, no_memory};
 
 use crate::acts::{Act, Op, Start};
 use std::alloc::{AllocError, Global};
 use std::marker::Model;
 use thiserror::Error;
 
-/// How many acts a plan may have.
+/// The most acts that a plan may have.
 pub const MOST_ACTS: usize = 4_294_967_295;
 
-/// What may be wrong with a plan, in the order in which it is checked at an act.
+/// The kinds of faults of a plan, in the order in which they are checked at an act.
 #[derive(Clone, Copy, Debug, PartialEq, Eq, Error)]
 pub enum PlanFaultKind {
     /// A rank is not below the plan's number of ranks.
     #[error("no such rank")]
     NoRank,
-    /// An act goes from a rank to itself.
+    /// A Move or a Shut goes from a rank to itself.
     #[error("from a rank to itself")]
     SelfMove,
     /// A slot is `SLOTS` or more.
     #[error("no such slot")]
     NoSlot,
-    /// A slot that is read is empty there.
+    /// A slot that the act reads is empty.
     #[error("a slot that is read is empty")]
     EmptySlot,
     /// The shapes aren't those that the operation requires.
@@ -35,7 +35,7 @@ pub enum PlanFaultKind {
     /// Some lane isn't shut at the end.
     #[error("a lane isn't shut at the end")]
     NotShut,
-    /// The plan has as many acts as a plan may have.
+    /// The plan already has `MOST_ACTS` acts.
     #[error("too many acts")]
     TooLong,
     /// Memory was refused.
@@ -43,8 +43,8 @@ pub enum PlanFaultKind {
     Memory,
 }
 
-/// What is wrong with a plan, and at which act, counted from 0. For NotShut and TooLong the act is the plan's length,
-/// for Memory it is 0.
+/// A fault of a plan, and the number of its act, counted from 0. For NotShut and TooLong the act is the plan's length, for
+/// Memory it is 0.
 #[derive(Clone, Copy, Debug, PartialEq, Eq, Error)]
 #[error("act {act}: {kind}")]
 pub struct PlanFault {
@@ -65,7 +65,7 @@ impl From<AllocError> for PlanFault {
     }
 }
 
-/// A plan, what stands in the slots before it, and the slot that has each rank's part of the answer after it.
+/// A plan, the slots that are filled before it, and the slot that has each rank's part of the answer after it.
 #[derive(Drop)]
 pub struct Planned {
     pub plan: Plan,
@@ -102,14 +102,14 @@ impl Plan {
         }
     }
 
-    /// How many ranks it is for.
+    /// The number of its ranks.
     pub fn ranks(&self) -> u16
         ensures { result ≡ self.now.ranks }
     {
         self.ranks
     }
 
-    /// How many acts there are.
+    /// The number of its acts.
     pub fn len(&self) -> usize
         ensures value { result ≡ length self.now.acts }
         ensures limit { result ≤ MOST_ACTS }
@@ -124,8 +124,8 @@ impl Plan {
         &self.acts
     }
 
-    /// Makes room, so that the next `count` pushes take no memory. If there is room already, or `count` is 0, nothing
-    /// is taken.
+    /// Makes room, so that the next `count` pushes take no memory. If there is room already, or `count` is 0, it takes
+    /// none.
     pub fn reserve(&mut self, count: usize) -> Result<(), AllocError>
         ensures ranks { self.new.ranks ≡ self.old.ranks }
         ensures acts { self.new.acts ≡ self.old.acts }
@@ -137,7 +137,7 @@ impl Plan {
         Ok(())
     }
 
-    /// Appends an act, or is refused with TooLong, then Memory; the plan is then as it was.
+    /// Appends an act. It is refused with TooLong, then Memory; a refusal leaves the plan as it was.
     pub fn push(&mut self, act: Act) -> Result<(), PlanFault>
         ensures ranks { self.new.ranks ≡ self.old.ranks }
         ensures acts { self.new.acts ≡ (if is_ok result then self.old.acts ++ act ∷ [] else self.old.acts) }
@@ -146,7 +146,7 @@ impl Plan {
         ensures long { length self.old.acts ≡ MOST_ACTS → result ≡ Err (record { act = MOST_ACTS; kind = TooLong }) }
         ensures faults { IfErr result (λ e. (e ≡ record { act = MOST_ACTS; kind = TooLong }) ⊎ (e ≡ record { act = 0; kind = Memory })) }
     {
-        // For the borrow check alone, which knows a type that an act holds only if the body names it.
+        // For the borrow check alone: it knows a type inside an act only if the body names it.
         let _none: Option<Op> = None;
         if self.acts.len() == MOST_ACTS {
             return Err(self.too_long());
@@ -160,7 +160,7 @@ impl Plan {
 
     /// The fault that the plan can't have more acts.
     fn too_long(&self) -> PlanFault
-        ensures { result ≡ record { act = length self.now.acts; kind = TooLong } }
+        ensures { result ≡ too_long self.now }
     {
         PlanFault {
             act: self.acts.len() as u32,
@@ -176,8 +176,8 @@ impl Plan {
         ensures room { OnOk result ((length self.new.acts + count ≤ self.new.room) × (length self.new.acts + count ≤ MOST_ACTS)) }
         ensures granted { length self.old.acts + count ≤ MOST_ACTS → length self.old.acts + count ≤ self.old.room → IsOk result }
         ensures none { count ≡ 0 → IsOk result }
-        ensures long { MOST_ACTS < length self.old.acts + count → result ≡ Err (record { act = length self.old.acts; kind = TooLong }) }
-        ensures faults { IfErr result (λ e. ((MOST_ACTS < length self.old.acts + count) × (e ≡ record { act = length self.old.acts; kind = TooLong })) ⊎ (e ≡ record { act = 0; kind = Memory })) }
+        ensures long { MOST_ACTS < length self.old.acts + count → result ≡ Err (too_long self.old) }
+        ensures faults { IfErr result (λ e. ((MOST_ACTS < length self.old.acts + count) × (e ≡ too_long self.old)) ⊎ (e ≡ no_memory)) }
     {
         if count > MOST_ACTS - self.len() {
             return Err(self.too_long());

@@ -1,6 +1,7 @@
 //! The program of a rank: what it does for each act of a checked plan.
 ghost use Rattle.std.specs.Prelude.{◌≡◌, ◌<◌, length, IfOk, OnOk, ◌++◌, None};
 ghost use Rattle.cb_plan.specs.Checks.{IsSound, slots_in, lanes_in};
+ghost use Rattle.cb_plan.specs.Plans.{IsChecked};
 ghost use Rattle.cb_plan.specs.Programs.{halves_of, half_list, project};
 
 use crate::acts::{Act, Half, Op};
@@ -15,7 +16,8 @@ impl CheckedPlan {
     /// Costs the same for each act, besides the room that the check takes.
     pub fn project(&self, alloc: Global, rank: u16) -> Result<Vec<Half>, AllocError>
         requires { rank < self.now.ranks }
-        ensures { IfOk result (λ halves. halves.items ≡ project self.now.starts self.now.acts rank) }
+        ensures program { IfOk result (λ halves. halves.items ≡ project self.now.starts self.now.acts rank) }
+        ensures checked { IsChecked self.now }
     {
         let mut state = CheckState::started(alloc, self.ranks(), self.starts())?;
         let mut halves = Vec::new(alloc);

@@ -12,7 +12,7 @@ use std::alloc::{AllocError, Global};
 use std::marker::Model;
 use std::mem;
 
-/// How many slots a rank has.
+/// The number of slots of a rank.
 pub const SLOTS: u16 = 256;
 
 /// A slot of a rank, for blocks of any kind.
@@ -22,7 +22,7 @@ pub enum Slot<B> {
     Empty,
     /// A block.
     Sheet(B),
-    /// What should be there is lost: the rank at which memory was refused.
+    /// The block that should be there was lost when memory was refused at this rank.
     Lost(u16),
 }
 
@@ -116,7 +116,7 @@ impl<S: Semiring> RankStore<S> {
         mem::replace(&mut self.slots[n as usize], Slot::Empty)
     }
 
-    /// A copy of a slot. One without a block takes no memory.
+    /// A copy of a slot. If the slot has no block, this takes no memory.
     pub fn try_copy(&self, n: u16) -> Result<Slot<Block<S>>, AllocError>
         requires { n < SLOTS }
         ensures copy { IfOk result (λ slot. slot ≡ get_or self.now n Empty) }
@@ -151,7 +151,7 @@ impl<S: Semiring> RankStore<S> {
     }
 }
 
-/// How many of some slots aren't empty.
+/// The number of these slots that aren't empty.
 fn count_filled<B>(slots: &[Slot<B>]) -> usize
     ensures value { result ≡ count_by is_filled slots.now }
     ensures limit { result ≤ length slots.now }

@@ -15,7 +15,7 @@ use Rattle.cb_collectives.proofs.BroadcastCheck.{broadcast_passes, broadcast_kee
 use Rattle.cb_plan_parts.specs.Flows.{Flows}
 use Rattle.cb_plan_parts.proofs.Flows.{flows_each}
 
--- broadcasts in some groups, where each root has the slot filled
+-- broadcasts in some groups, if each root has the slot filled
 module _ (ranks : ℕ) (shut : Lanes) (open_lanes : (s t : ℕ) → shut s t ≡ false) (tag : Tag) (slot into : ℕ) (slot_exists : slot < 256) (into_exists : into < 256)
     (group : ℕ → List ℕ) (root : ℕ → ℕ) (content : ℕ → Extent) (last : ℕ) (differ_slots : slot ≢ into)
     (there : (g : ℕ) → g < last → is_member (group g) (root g) ≡ true)

@@ -26,7 +26,7 @@ flows-append ranks shut state xs ys h k = record {
   lanes = lanes_after-append xs ys shut ∙ ap (lanes_after ys) h.lanes ∙ k.lanes;
 }
 
--- acts for each number of a range, where what holds before those of one number holds after them for the next
+-- acts for each number of a range, if what holds before those of one number holds after them for the next
 pub flows_each : (ranks : ℕ) (shut : Lanes) (f : ℕ → List Act) (P : ℕ → State Extent → Type 0) (last : ℕ) →
     ((k : ℕ) (state : State Extent) → k < last → P k state → Flows ranks shut state (f k) × P (k + 1) (meaning shapes (f k) state)) →
     (k n : ℕ) (state : State Extent) → k + n ≡ last → P k state → Flows ranks shut state (flat_map f (range_with_len k n))
@@ -53,7 +53,7 @@ work_is_sound ranks rank state shut op h = record {
   open_lane = refl;
 }
 
--- an operation at each rank, where each rank can do its own
+-- an operation at each rank, if each rank can do its own
 pub works_flow : (ranks : ℕ) (shut : Lanes) (op : ℕ → Op) (a n : ℕ) (state : State Extent) → ((k : ℕ) → a ≤ k → k < a + n → CanWork ranks k (state k) (op k)) → Flows ranks shut state (map (λ k. act_is.Work k (op k)) (range_with_len a n))
 works_flow ranks shut op a zero state each = record { passes = tt; lanes = refl }
 works_flow ranks shut op a (suc n) state each =

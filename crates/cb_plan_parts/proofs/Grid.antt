@@ -11,7 +11,7 @@ use Rattle.cb_layout.specs.Parts.{row_group, column_group}
 use Rattle.cb_layout.proofs.Parts.{rank_below}
 use Rattle.cb_plan.proofs.Effects.{split}
 
--- a place of the grid is told by its number
+-- a place of the grid is determined by its number
 pub same_place : (q i j k l : ℕ) → j < q → l < q → i * q + j ≡ k * q + l → (i ≡ k) × (j ≡ l)
 same_place q i j k l a b e =
     (sym (div-mul-add i q j a) ∙ ap (λ x. x / q) e ∙ div-mul-add k q l b, sym (mod-mul-add i q j a) ∙ ap (λ x. x % q) e ∙ mod-mul-add k q l b)

@@ -41,7 +41,7 @@ module _ (q : ℕ) (few : q ≤ 6) where
   pub squared : q * q ≤ 36
   squared = mul-le q q 6 6 few few
 
-  -- and so many acts at most has an operation at each rank
+  -- an operation at each rank takes at most this many acts
   pub each_rank_at_most : (op : ℕ → Op) → length (each_rank q op) ≤ 36
   each_rank_at_most op = let x = length-map-range_with_len (λ r. act_is.Work r (op r)) 0 (q * q) in let y = squared in omega arith
 

@@ -15,7 +15,7 @@ use Rattle.cb_collectives.proofs.PlanGrowth.{length_up_to}
 use Rattle.cb_plan_parts.specs.Flows.{Flows}
 use Rattle.cb_plan_parts.specs.Growth.{IsWithinLimit, Grew, no_memory}
 
--- within the limit, a call is refused for want of memory alone
+-- within the limit, a call is refused only for want of memory
 pub only_memory : (plan : PlanView) (acts : List Act) (e : PlanFault) → IsWithinLimit plan acts → IsRefusal plan acts e → e ≡ no_memory
 only_memory plan acts e l h = ⊎_elim (λ (t : IsTooLong plan acts × (e ≡ too_long plan)). absurd (let m = t.0 in omega arith)) (λ (m : e ≡ no_memory). m) h
 
@@ -42,7 +42,7 @@ within_rest xs ys first now l h = let e = length-append xs ys in let f = ap leng
 
 -- a loop that extends the plan by a list of acts for each number
 module _ (f : ℕ → List Act) (i : ℕ) (first now : PlanView) where
-  -- the next number's acts are within the limit where all are
+  -- the next number's acts are within the limit if all are
   pub within_next : (n : ℕ) → i < n → IsWithinLimit first (flat_map f (range_with_len 0 n)) → Grew (flat_map f (range_with_len 0 i)) first now → IsWithinLimit now (f i)
   within_next n l w h =
       let e = ap length h.acts_are ∙ length-append first.acts (flat_map f (range_with_len 0 i)) in
@@ -53,9 +53,9 @@ module _ (f : ℕ → List Act) (i : ℕ) (first now : PlanView) where
   pub grew_next : (next : PlanView) → Grew (flat_map f (range_with_len 0 i)) first now → Grew (f i) now next → Grew (flat_map f (range_with_len 0 (i + 1))) first next
   grew_next next h k = record { ranks_are = k.ranks_are ∙ h.ranks_are; acts_are = extended f i first.acts now.acts next.acts h.acts_are k.acts_are }
 
-  -- the same where the acts are given by an equation
+  -- the same if the acts are given by an equation
   module _ (acts : List Act) (is : acts ≡ f i) where
-    -- they are refused for want of memory alone where all are within the limit
+    -- they are refused only for want of memory if all are within the limit
     pub refused_next : (n : ℕ) (e : PlanFault) → i < n → IsWithinLimit first (flat_map f (range_with_len 0 n)) → Grew (flat_map f (range_with_len 0 i)) first now → IsRefusal now acts e → e ≡ no_memory
     refused_next n e l w h r = only_memory now (f i) e (within_next n l w h) (subst (λ xs. IsRefusal now xs e) is r)
 
@@ -67,7 +67,7 @@ module _ (f : ℕ → List Act) (i : ℕ) (first now : PlanView) where
 pub grew_by_one : (f : ℕ → Act) (i : ℕ) (first now next : PlanView) → Grew (map f (range_with_len 0 i)) first now → next.ranks ≡ now.ranks → next.acts ≡ now.acts ++ f i ∷ [] → Grew (map f (range_with_len 0 (i + 1))) first next
 grew_by_one f i first now next h r k = record { ranks_are = r ∙ h.ranks_are; acts_are = pushed f i first.acts now.acts next.acts h.acts_are k }
 
--- where as many acts are within the limit, room is refused for want of memory alone
+-- if as many acts are within the limit, room is refused only for want of memory
 pub room_refused : (f : ℕ → Act) (n count : ℕ) (plan : PlanView) (e : PlanFault) → count ≡ n → IsWithinLimit plan (map f (range_with_len 0 n)) → (4294967295 < length plan.acts + count) × (e ≡ too_long plan) ⊎ (e ≡ no_memory) → e ≡ no_memory
 room_refused f n count plan e is l h =
     let k = length-map-range_with_len f 0 n in

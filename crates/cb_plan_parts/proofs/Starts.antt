@@ -58,7 +58,7 @@ all_starts P f a (suc m) h =
 apart : (s t : Start) (a : ℕ) → s.rank ≡ a → a + 1 ≤ t.rank → IsElsewhere s t
 apart s t a e l = inl (let ne : s.rank ≢ t.rank = omega arith in ne)
 
--- where each rank names its own slots, each once, no slot is named twice
+-- if each rank names its own slots, each once, no slot is named twice
 pub starts_once : (f : ℕ → List Start) → ((k : ℕ) → All (λ s. s.rank ≡ k) (f k)) → ((k : ℕ) → AllPairs IsElsewhere (f k)) → (a m : ℕ) → AllPairs IsElsewhere (flat_map f (range_with_len a m))
 starts_once f named once a zero = AllPairs-nil IsElsewhere
 starts_once f named once a (suc m) =
@@ -89,7 +89,7 @@ slots operands = map (λ (o : Operand). o.slot) operands
 abbrev pub with_shape : ℕ → Extent → Option Extent → ℕ → Option Extent
 with_shape n shape x k = if n == k then Some shape else x
 
--- what slot n of rank r has after the starts of the operands, where it had x before
+-- what slot n of rank r has after the starts of the operands, if it had x before
 abbrev pub shape_with : ℕ → ℕ → List Operand → ℕ → Option Extent → Option Extent
 shape_with q r [] n x = x
 shape_with q r (o ∷ os) n x = shape_with q r os n (with_shape o.slot (part_shape q o.shape (r / q) (r % q)) x n)
@@ -119,7 +119,7 @@ module _ (q : ℕ) where
     pub operands_elsewhere : (r n : ℕ) → q * q ≤ r → started (operand_starts q operands) r n ≡ None
     operands_elsewhere r n l = starts_elsewhere (starts_at q operands) (λ k n x. shape_with q k operands n x) (own_alone operands) (own_set operands) 0 (q * q) (λ _ _. None) r n (λ k _ m. let ne : k ≢ r = omega arith in ne)
 
-    -- slot n of each rank has its part of a shape, where the operands say so
+    -- slot n of each rank has its part of a shape, if the operands say so
     pub operand_parts : (n : ℕ) (shape : Extent) → ((r : ℕ) → shape_at q operands r n ≡ Some (part_shape q shape (r / q) (r % q))) → (i j : ℕ) → i < q → j < q → started (operand_starts q operands) (i * q + j) n ≡ Some (part_shape q shape i j)
     operand_parts n shape is i j l m = operands_there (i * q + j) n (rank_below q i j l m) ∙ is (i * q + j) ∙ at_place (λ x y. Some (part_shape q shape x y)) q i j m
 

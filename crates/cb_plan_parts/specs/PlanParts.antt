@@ -1,4 +1,4 @@
--- Matrices whose parts lie in the slots of the ranks of a square grid, and operations of all ranks.
+-- Matrices whose parts are in the slots of the ranks of a square grid, and operations of all ranks.
 use Rattle.std.specs.Prelude.{◌≡◌, ◌<◌, ℕ, ◌+◌, ◌*◌, ◌/◌, ◌%◌, Bool, true, ◌&&◌, List, map, flat_map, Some}
 use Rattle.std.specs.List.{range_with_len}
 use Rattle.cb_semirings.specs.Arithmetic.{Arithmetic}
@@ -17,7 +17,7 @@ use Rattle.cb_layout.specs.Parts.{part_shape}
 use Rattle.cb_layout.specs.Blocks.{block_of}
 use Rattle.cb_plan_parts.specs.declared.first_slots.Operand.{Operand}
 
--- a letter's tag, by its number
+-- the tag with this number
 abbrev pub tagged : ℕ → Tag
 tagged n = record { 0 = n }
 
@@ -37,7 +37,7 @@ part_start_at q slot r shape = record { rank = r; slot = slot; shape = part_shap
 abbrev pub starts_at : ℕ → List Operand → ℕ → List Start
 starts_at q operands r = map (λ o. part_start_at q o.slot r o.shape) operands
 
--- what all ranks have
+-- what all ranks have before the first act
 abbrev pub operand_starts : ℕ → List Operand → List Start
 operand_starts q operands = flat_map (starts_at q operands) (range_with_len 0 (q * q))
 

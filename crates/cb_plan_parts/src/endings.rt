@@ -1,4 +1,4 @@
-//! The end of a plan.
+//! The end of a plan: all lanes are shut.
 ghost use Rattle.std.specs.Prelude.{◌≡◌, ◌<◌, ◌*◌, ◌++◌, All, AllPairs, IfOk, IfErr};
 ghost use Rattle.cb_collectives.specs.Collectives.{shut_acts};
 ghost use Rattle.cb_plan.specs.Checks.{started, none_shut};
@@ -11,8 +11,8 @@ use cb_collectives::shut_all;
 use cb_layout::Grid;
 use cb_plan::{Plan, PlanFault, Planned, SLOTS, Start};
 
-/// The plan that these acts make once all lanes are shut after them. The starts stand before the first act, and after
-/// the last one each rank has its part of the answer in slot `answer`.
+/// Ends a plan: all lanes are shut after its acts. Before the first act the slots are as the starts say; after the last
+/// one each rank has its part of the answer in slot `answer`.
 pub fn finish(
     grid: &Grid,
     mut plan: Plan,

@@ -1,4 +1,4 @@
-//! What stands in the slots of the ranks before the first act.
+//! The slots that are filled before the first act of a plan.
 ghost use Rattle.std.specs.Prelude.{◌≡◌, ◌<◌, ◌≤◌, ◌+◌, ◌*◌, List, ◌++◌, All, AllPairs, IfOk, OnOk};
 ghost use Rattle.cb_plan.specs.Plans.{IsElsewhere};
 ghost use Rattle.cb_plan_parts.specs.PlanParts.{part_start_at, starts_at, operand_starts, NamesSlots};
@@ -8,14 +8,14 @@ use cb_matrix::Shape;
 use cb_plan::{SLOTS, Start};
 use std::alloc::{AllocError, Global};
 
-/// A matrix of this shape, of which each rank has its part in this slot.
+/// A matrix of this shape. Each rank has its part of it in this slot.
 #[derive(Clone, Copy, Debug)]
 pub struct Operand {
     pub slot: u16,
     pub shape: Shape,
 }
 
-/// The starts of a plan: rank by rank, its part of each operand. The operands' slots exist, and are different.
+/// The starts of a plan: rank by rank, its part of each operand. The operands' slots must exist and differ.
 pub fn operand_starts(
     alloc: Global,
     grid: &Grid,
@@ -49,7 +49,7 @@ fn push_starts(
     Ok(())
 }
 
-/// A slot of a rank has its part of a matrix of this shape.
+/// The start by which a slot of a rank has its part of a matrix of this shape.
 fn part_start(grid: &Grid, slot: u16, rank: u16, shape: Shape) -> Start
     requires { rank < grid.now.side * grid.now.side }
     ensures { result ≡ part_start_at grid.now.side slot rank shape }

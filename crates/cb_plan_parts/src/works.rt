@@ -1,4 +1,4 @@
-//! Operations that all ranks do, each on its own slots.
+//! Operations that every rank does on its own slots.
 ghost use Rattle.std.specs.Prelude.{◌≡◌, OnOk, OnErr, IfErr};
 ghost use Rattle.cb_plan_parts.specs.PlanParts.{each_rank, zero_op};
 ghost use Rattle.cb_plan_parts.specs.Growth.{IsWithinLimit, Grew, no_memory};
@@ -7,7 +7,7 @@ use cb_layout::Grid;
 use cb_matrix::Shape;
 use cb_plan::{Act, Op, Plan, PlanFault};
 
-/// Every rank does an operation. If memory is refused, the plan is as it was.
+/// Every rank does an operation. If memory is refused, the plan is as before.
 pub fn work_everywhere(plan: &mut Plan, grid: &Grid, op: &Op) -> Result<(), PlanFault>
     requires { IsWithinLimit plan.now (each_rank grid.now.side (λ _. op.now)) }
     ensures acts { OnOk result (Grew (each_rank grid.now.side (λ _. op.now)) plan.old plan.new) }
@@ -22,7 +22,7 @@ pub fn work_everywhere(plan: &mut Plan, grid: &Grid, op: &Op) -> Result<(), Plan
 }
 
 /// A slot of every rank becomes its part of a matrix of this shape without entries. If memory is refused, the plan is
-/// as it was.
+/// as before.
 pub fn zero_everywhere(
     plan: &mut Plan,
     grid: &Grid,

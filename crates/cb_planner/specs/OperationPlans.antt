@@ -7,17 +7,17 @@ use Rattle.cb_placement.specs.Answers.{Makes}
 use Rattle.cb_operations.specs.declared.operations.Operation.{Operation}
 use Rattle.cb_operations.specs.OperationAnswers.{shape_of, answer_of, shapes_in}
 
--- each of these slots with the matrix of its place
+-- each of these slots, with the matrix at its place in the list
 abbrev pub in_slots : List ℕ → List Sparse → List (ℕ × Sparse)
 in_slots [] ms = []
 in_slots (n ∷ ns) [] = []
 in_slots (n ∷ ns) (m ∷ ms) = (n, m) ∷ in_slots ns ms
 
--- matrices in the slots of the operands: 0 and 1, and 7 for a third, which is a mask
+-- these matrices, in the slots of operands: 0, 1, and 7 for a third, which is a mask
 abbrev pub placed_operands : List Sparse → List (ℕ × Sparse)
 placed_operands ms = in_slots (0 ∷ 1 ∷ 7 ∷ []) ms
 
--- On a grid of side q, over any semiring and for any matrices of these shapes: a plan makes what the operation makes of them.
+-- on a grid of side q, over any semiring, the plan makes the operation's answer from any matrices of these shapes
 abbrev pub Computes : Operation → ℕ → List Extent → Planned → Type 0
 Computes operation q shapes planned =
     (s : Arithmetic) → IsSemiring s → (ms : List Sparse) → All (IsMatrix s) ms → shapes_in ms ≡ shapes →

@@ -1,6 +1,6 @@
 //! The plan of each operation, by the shapes of its operands.
 //!
-//! [`plan_of`] returns a plan that is right over every semiring at once: `specs/OperationPlans` says so in one line.
+//! [`plan_of`] returns one plan that is right over every semiring, as `specs/OperationPlans` defines in one line.
 #![tactic(auto)]
 
 mod operation_plans;

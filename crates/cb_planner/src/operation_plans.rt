@@ -15,9 +15,9 @@ use std::alloc::{AllocError, Global};
 
 /// The plan by which the ranks of a grid compute an operation on matrices of these shapes, which agree.
 ///
-/// The blocks of the first matrix stand in slot 0 of the ranks, those of the second in slot 1, and those of a mask in
-/// slot 7. A product by a vector is planned like one of two matrices, and the vector lies over the grid as they do. It
-/// takes memory in proportion to the acts of the plan, whatever the shapes are.
+/// The blocks of the first matrix are in slot 0 of the ranks, those of the second in slot 1, and those of a mask in slot 7.
+/// A product by a vector is planned as one of two matrices, and the vector is cut over the grid as they are. The memory is
+/// proportional to the number of acts, whatever the shapes are.
 pub fn plan_of(
     alloc: Global,
     grid: &Grid,
@@ -54,7 +54,7 @@ fn product_plan(alloc: Global, grid: &Grid, shapes: &[Shape]) -> Result<Planned,
     Ok(planned)
 }
 
-/// The plan of the product of a matrix by a vector: that of two matrices, of which the second has one column.
+/// The plan of the product of a matrix by a vector: that of two matrices, the second with one column.
 fn vector_plan(alloc: Global, grid: &Grid, shapes: &[Shape]) -> Result<Planned, AllocError>
     requires count { length shapes.now ≡ operand_count_of Operation.MultiplyVector }
     requires agree { Agree Operation.MultiplyVector shapes.now }
@@ -128,7 +128,7 @@ fn sum_plan(alloc: Global, grid: &Grid, shapes: &[Shape]) -> Result<Planned, All
     Ok(planned)
 }
 
-/// The plan of the product place by place.
+/// The plan of the element-wise product.
 fn times_plan(alloc: Global, grid: &Grid, shapes: &[Shape]) -> Result<Planned, AllocError>
     requires count { length shapes.now ≡ operand_count_of Operation.Times }
     requires agree { Agree Operation.Times shapes.now }

@@ -92,7 +92,7 @@ lost_needs (op_is.Copy a into) slots o e = refl
 lost_needs (op_is.Clear slot) slots o e = cc
 lost_needs (op_is.Mask a m into) slots o e = refl
 
--- where shapes are one at its operands, an operation may be done on these where it may on those
+-- if shapes are one at its operands, an operation may be done on these if it may on those
 pub may_work : (op : Op) (f g : ℕ → Option Extent) → AreSame f g (operands_of op) → (all_filled g (operands_of op) ≡ true) × (shapes_agree g op ≡ true) → (all_filled f (operands_of op) ≡ true) × (shapes_agree f op ≡ true)
 may_work (op_is.Zero into shape) f g h k = k
 may_work (op_is.MulAdd a b acc) f g h k = rw (h.0, h.1.0, h.1.1.0) k

@@ -87,7 +87,7 @@ pub some_of : {M : Type 0} (w : Option M) → IsSome w → (m : M) × (w ≡ Som
 some_of (Some m) h = (m, refl)
 some_of None h = cc
 
--- what is posted for a slot stands for what the slot stands for
+-- what is posted for a slot agrees with the block that the slot agrees with
 pub copied : (refs refs' : ℕ → ℕ) (r : ℕ) (w : Option Sparse) (x : Slot Sparse) (b : Body Sparse) → ((o : ℕ) → refs o ≤ refs' o) → IsSome w → IsSlotOf refs w x → IsCopy r x b (refs r) (refs' r) → IsBodyOf refs' (Sheet w) b
 copied refs refs' r w (slot_is.Sheet m) (body_is.Sheet n) g some h c = rw (h, c.0) refl
 copied refs refs' r w (slot_is.Sheet m) (body_is.Lost o) g some h c = ((m, rw h refl), let e = c.1 in rw c.0 (omega arith))
@@ -100,7 +100,7 @@ copied refs refs' r w (slot_is.Lost o) (body_is.Sheet n) g some h c = absurd c
 copied refs refs' r w (slot_is.Lost o) body_is.Close g some h c = absurd c
 copied refs refs' r w slot_is.Empty b g some h c = absurd c
 
--- and what a letter leaves stands for what the letter stands for
+-- and what a letter leaves agrees with the block that the letter agrees with
 pub arrived_slot : (refs : ℕ → ℕ) (w : Option Sparse) (b : Body Sparse) → IsBodyOf refs (Sheet w) b → IsSlotOf refs w (slot_of_body b)
 arrived_slot refs w (body_is.Sheet m) h = cc
 arrived_slot refs w (body_is.Lost o) h = let e = h.0.1 in let m = h.0.0 in let is : w ≡ Some m = cc in (rw is refl, h.1)

@@ -30,7 +30,7 @@ pub or_assoc : (a b c : Bool) → (a || (b || c)) ≡ ((a || b) || c)
 or_assoc true b c = refl
 or_assoc false b c = refl
 
--- a lane is shut by two lists of halves where one of them shuts it
+-- a lane is shut by two lists of halves if one of them shuts it
 pub is_shut_to-append : (k : ℕ) (xs ys : List Half) → is_shut_to k (xs ++ ys) ≡ (is_shut_to k xs || is_shut_to k ys)
 is_shut_to-append k [] ys = refl
 is_shut_to-append k (half_is.Post to tag slot ∷ xs) ys = is_shut_to-append k xs ys
@@ -104,7 +104,7 @@ lanes_by_halves ranks shut (a ∷ acts) state r done k p =
     let cut = take_past (halves_of state a r) rest done (omega arith) in
     rw (f, cut, size, is_shut_to-append k (halves_of state a r) (take (done - count_of a r) rest)) (i ∙ ap (λ b. b || is_shut_to k (take (done - count_of a r) rest)) (shut_by_halves state shut a r k) ∙ sym (or_assoc (shut r k) (is_shut_to k (halves_of state a r)) (is_shut_to k (take (done - count_of a r) rest)))))
 
--- nothing stands against a post on a lane that is open, after so few halves
+-- nothing but room can refuse a post on a lane that is open, after so few halves
 pub is_open : (me : ℕ) (halves : List Half) (k : ℕ) → is_shut_to k halves ≡ false → length halves < 2 ^ 64 - 1 → standing_refusal (standing_by me halves k) ≡ None
 is_open me halves k e l =
     let few = posted_to_few k halves in

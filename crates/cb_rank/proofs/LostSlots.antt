@@ -17,7 +17,7 @@ use Rattle.cb_plan.proofs.Effects.{same_state}
 use Rattle.cb_rank.specs.Agreement.{IsSlotOf}
 use Rattle.cb_rank.specs.Leavings.{HoldsMeaning}
 
--- no count is above their sum, so where that is 0 each is
+-- no count is above their sum, so if that is 0 each is
 none_refused : (refusals : List ℕ) → sum refusals ≡ 0 → (k : ℕ) → get_or refusals k 0 ≡ 0
 none_refused refusals none k =
     ⊎_elim
@@ -25,7 +25,7 @@ none_refused refusals none k =
     (λ (l : length refusals ≤ k). get_or-eq_default refusals 0 {n = k} l)
     (cases_lt k (length refusals))
 
--- where no rank was refused memory, a slot holds what it stands for
+-- if no rank was refused memory, a slot holds what the plan means there
 holds : (refusals : ℕ → ℕ) (wanted : Option Sparse) (x : Slot Sparse) → ((k : ℕ) → refusals k ≡ 0) → IsSlotOf refusals wanted x → (sheet_of x ≡ wanted) × (is_lost x ≡ false)
 holds refusals wanted slot_is.Empty none h = (sym h, refl)
 holds refusals wanted (slot_is.Sheet m) none h = (sym h, refl)
@@ -41,7 +41,7 @@ whole_by refusals wanted stores slots none =
 
 -- what ranks leave of a plan
 module _ (s : Arithmetic) (p : CheckedView) (first stores : List (List (Slot Sparse))) (refusals : List ℕ) (left : HoldsMeaning s p first stores refusals) where
-  -- where no rank was refused memory, no slot is lost
+  -- if no rank was refused memory, no slot is lost
   pub none_lost : sum refusals ≡ 0 → NoneLost stores
   none_lost none = (left.whole none).1
 

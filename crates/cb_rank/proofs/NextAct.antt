@@ -47,7 +47,7 @@ act_of_half ranks shut (b ∷ acts) state r k h p is =
     let it = act_of_half ranks (shut_after b shut) acts (act shapes b state) r (k - count_of b r) h p.1 there in
     (it.0, rw f it.1, rw f it.2))
 
--- a rank's next act has no fault where the acts before it leave the shapes and the lanes
+-- a rank's next act has no fault if the acts before it leave the shapes and the lanes
 pub next_sound : (ranks : ℕ) (shut : Lanes) (acts : List Act) (state : State Extent) (r k : ℕ) (a : Act) → Passes ranks state shut acts → next_act acts r k ≡ Some a → IsSound ranks (meaning shapes (before acts r k) state) (lanes_after (before acts r k) shut) a
 next_sound ranks shut [] state r k a p is = cc
 next_sound ranks shut (b ∷ acts) state r k a p is =
@@ -63,7 +63,7 @@ apart_of ranks state shut from to tag slot into h = let e = h.apart in grind (ar
 pub apart_of_shut : (ranks : ℕ) (state : State Extent) (shut : Lanes) (from to : ℕ) → IsSound ranks state shut (act_is.Shut from to) → from ≢ to
 apart_of_shut ranks state shut from to h = let e = h.apart in grind (arith, nat_tests)
 
--- both of two numbers are below a limit where a list of them is
+-- both of two numbers are below a limit if a list of them is
 pub both_below : (ranks from to : ℕ) → all_below ranks (from ∷ to ∷ []) ≡ true → (from < ranks) × (to < ranks)
 both_below ranks from to e = let f = first_below ranks from (to ∷ []) e in (f.0, (first_below ranks to [] f.1).0)
 

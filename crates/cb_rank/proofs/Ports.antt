@@ -29,7 +29,7 @@ open_by x h is next k e =
     let same : is_shut_to k (done_halves x) ≡ is_shut_to k (take x.done _) = ap (λ hs. is_shut_to k (take x.done hs)) is.program in
     same ∙ sym halves ∙ e
 
--- what its ports say of that lane: it is one, and nothing stands against a post
+-- what its ports say of that lane: it is one, and nothing but room can refuse a post
 pub record IsOpenTo (x : RankView) (k : ℕ) (s : Standing) : Type 0 where
   pub lane : s.is_stranger ≡ false
   pub none : standing_refusal s ≡ None

@@ -239,7 +239,7 @@ few_halves x is =
     let same = ap length is.program in
     omega arith
 
--- what a rank counts: its refusals so far, and one more where it was refused
+-- what a rank counts: its refusals so far, and one more if it was refused
 pub copy_counts : (me : ℕ) (y : Slot Sparse) (b : Body Sparse) (n k : ℕ) → IsCopy me y b 0 k → IsCopy me y b n (n + k)
 copy_counts me (slot_is.Sheet m) (body_is.Sheet p) n k c = let e = c.1 in (c.0, omega arith)
 copy_counts me (slot_is.Sheet m) (body_is.Lost o) n k c = let e = c.1 in (c.0, omega arith)
@@ -266,11 +266,11 @@ bool_few false = omega arith
 pub hands_of : (x : RankView) (to : ℕ) (tag : Tag) (slot : ℕ) (body : Body Sparse) (b : Bool) → next_half x ≡ Some (half_is.Post to tag slot) → IsCopy x.me (slot_at x.slots slot) body 0 (from_bool b) → HandsOut x (next_half x) tag body (onward x x.slots (x.refusals + from_bool b))
 hands_of x to tag slot body b next copy = rw next (refl, copy_counts x.me (slot_at x.slots slot) body x.refusals (from_bool b) copy, refl)
 
--- where it was refused whenever it asked for memory, its count is one more
+-- if it was refused whenever it asked for memory, its count is one more
 pub starves : (x : RankView) (h : Half) (n : ℕ) (b : Bool) → next_half x ≡ Some h → n ≡ from_bool b → (asks_memory x.slots h ≡ true → b ≡ true) → IfSome (next_half x) (λ h. asks_memory x.slots h ≡ true → x.refusals + n ≡ x.refusals + 1)
 starves x h n b next count refused = rw next (λ asks. let e : from_bool b ≡ 1 = rw (refused asks) refl in omega arith)
 
--- an operation asks for memory where it needs some and no operand is lost
+-- an operation asks for memory if it needs some and no operand is lost
 pub asks : (needs : Bool) (lost : Option ℕ) → (if needs then is_whole lost else false) ≡ true → (needs ≡ true) × (lost ≡ None)
 asks true None e = (refl, refl)
 asks true (Some o) e = cc

@@ -35,7 +35,7 @@ wants_shut (Some (half_is.Work op)) w = absurd w
 wants_shut (Some (half_is.End from)) w = absurd w
 wants_shut None w = absurd w
 
--- and that of k where it wants to shut the lane to k
+-- and that of k if it wants to shut the lane to k
 pub wants_shut_to : (h : Option Half) (k : ℕ) → want_of h ≡ want_is.Shut k → h ≡ Some (half_is.Shut k)
 wants_shut_to (Some (half_is.Shut to)) k w = let same : to ≡ k = cc in ap (λ n. Some (half_is.Shut n)) same
 wants_shut_to (Some (half_is.Post to tag slot)) k w = cc

@@ -1,11 +1,10 @@
-//! Operations on the slots of a rank, some of which may be lost.
-ghost use Rattle.std.specs.Prelude.{◌≡◌, ◌≢◌, ℕ, true, false, ◌∷◌, [], Some, None, Option, slice_set, length};
-ghost use Rattle.cb_matrix.specs.Sparse.{Extent};
-ghost use Rattle.cb_plan.specs.Checks.{all_below, all_filled, operands_of, shapes_agree};
+//! Operations on the slots of a rank, of which some may be lost.
+ghost use Rattle.std.specs.Prelude.{◌≡◌, ◌≢◌, ℕ, true, false, ◌∷◌, [], Some, None, slice_set, length};
+ghost use Rattle.cb_plan.specs.Checks.{all_below, operands_of};
 ghost use Rattle.cb_plan.specs.Meaning.{needs_memory, target_of};
 ghost use Rattle.cb_plan.specs.declared.stores.Slot.TheVariants.{Lost};
-ghost use Rattle.cb_rank.specs.Halves.{slot_at, first_lost, reads_of, work_result};
-ghost use Rattle.cb_rank.specs.Ranks.{HasShape};
+ghost use Rattle.cb_rank.specs.Halves.{first_lost, reads_of, work_result};
+ghost use Rattle.cb_rank.specs.Ranks.{FitOperation};
 
 use crate::wants::Supply;
 use cb_dcsc::Block;
@@ -14,8 +13,8 @@ use cb_plan::{Op, RankStore, SLOTS, Slot};
 use cb_semirings::Semiring;
 use std::alloc::Global;
 
-/// Does an operation on the slots of a rank, whose slots have the shapes that the operation asks for, and answers
-/// whether memory was refused.
+/// Does an operation on the slots of a rank, and returns whether memory was refused. The slots must have the shapes that
+/// the operation requires.
 pub(crate) fn operate<S: Semiring>(
     alloc: Global,
     store: &mut RankStore<S>,
@@ -24,7 +23,7 @@ pub(crate) fn operate<S: Semiring>(
     supply: Supply,
 ) -> bool
     requires slots { all_below SLOTS (target_of op.now ∷ operands_of op.now) ≡ true }
-    requires shapes { (shape : ℕ → Option Extent) × (all_filled shape (operands_of op.now) ≡ true) × (shapes_agree shape op.now ≡ true) × ((n : ℕ) → HasShape (shape n) (slot_at store.old n)) }
+    requires shapes { FitOperation op.now store.old }
     ensures done { result ≡ false → store.new ≡ slice_set store.old (target_of op.now) (work_result S.arithmetic op.now store.old) }
     ensures lost { result ≡ true → store.new ≡ slice_set store.old (target_of op.now) (Lost me) }
     ensures cause { result ≡ true → (needs_memory op.now ≡ true) × (first_lost store.old (reads_of op.now) ≡ None) }
@@ -52,7 +51,7 @@ pub(crate) fn operate<S: Semiring>(
     false
 }
 
-/// The origin in the first of some slots that is lost.
+/// The origin of the first of these slots that is lost, if any.
 fn first_lost<S: Semiring>(store: &RankStore<S>, slots: &[u16]) -> Option<u16>
     requires { all_below SLOTS slots.now ≡ true }
     ensures { result ≡ first_lost store.now slots.now }

@@ -1,10 +1,10 @@
-//! A rank, and the halves that it does by itself.
-ghost use Rattle.std.specs.Prelude.{ℕ, OnErr, ◌≡◌, ◌+◌, ◌-◌, ◌≤◌, length, ◌<◌, ◌↔◌, true, Ok, IfOk, IfErr, OnOk, IsOk, IsTrue, None, Some, IfSome};
+//! A rank, and the halves of its program that it does by itself.
+ghost use Rattle.std.specs.Prelude.{ℕ, OnErr, ◌≡◌, ◌+◌, ◌-◌, ◌≤◌, length, ◌<◌, ◌↔◌, true, Ok, IfOk, IfErr, OnOk, IsOk, IsTrue, None, Some};
 ghost use Rattle.std.specs.Int.{from_bool};
 ghost use Rattle.cb_plan.specs.Stores.{is_filled};
-ghost use Rattle.cb_rank.specs.Halves.{slot_at, asks_memory, is_sheet, IsCopy, HasKind};
+ghost use Rattle.cb_rank.specs.Halves.{slot_at, is_sheet, IsCopy, HasKind};
 ghost use Rattle.cb_rank.specs.Ranks.{next_half, want_of, new_rank, FitsAt, IsRank, IsPost, IsShut, IsTakeOrEnd, IsAwaited, HasSlot, onward, slots_with};
-ghost use Rattle.cb_rank.specs.Steps.{HandsOut, Works};
+ghost use Rattle.cb_rank.specs.Steps.{HandsOut, Works, CountsRefusal};
 
 use crate::operations::operate;
 use crate::wants::{Arrival, Stray, Supply, Want};
@@ -30,18 +30,18 @@ pub struct Rank<S: Semiring> {
 }
 
 impl<S: Semiring> Model for Rank<S> {
-    ghost use Rattle.cb_rank.specs.Ranks.{RankView, IsRank};
+    ghost use Rattle.cb_rank.specs.Ranks.{RankView, rank_view, IsRank};
 
     ghost Value = { RankView };
 
-    ghost view = { λ r. record { plan = r.plan.value; me = r.me; program = r.program.items; done = r.done; slots = r.store; refusals = r.refusals } };
+    ghost view = { λ r. rank_view r.plan.value r.me r.program.items r.done r.store r.refusals };
 
-    ghost invariant = { λ r. IsRank (record { plan = r.plan.value; me = r.me; program = r.program.items; done = r.done; slots = r.store; refusals = r.refusals }) };
+    ghost invariant = { λ r. IsRank (rank_view r.plan.value r.me r.program.items r.done r.store r.refusals) };
 }
 
 impl<S: Semiring> Rank<S> {
-    /// A rank that has done nothing, with its part of a store that fits the plan. Where memory for its program is
-    /// refused, the store comes back.
+    /// A rank that has done nothing yet, with its part of stores that fit the plan. If memory for its program is refused,
+    /// the store comes back.
     pub fn start(
         alloc: Global,
         plan: &CheckedPlan,
@@ -53,8 +53,6 @@ impl<S: Semiring> Rank<S> {
         ensures new { IfOk result (λ r. r ≡ new_rank plan.now rank store) }
         ensures back { IfErr result (λ e. e.0 ≡ store) }
     {
-        // What it lends says that the plan was checked.
-        let _acts = plan.acts();
         let program = match plan.project(alloc, rank) {
             Ok(program) => program,
             Err(refused) => return Err((store, refused)),
@@ -93,14 +91,14 @@ impl<S: Semiring> Rank<S> {
         self.program.get(self.done).copied()
     }
 
-    /// How often this rank was refused memory.
+    /// The number of times that this rank was refused memory.
     pub fn refusals(&self) -> u64
         ensures { result ≡ self.now.refusals }
     {
         self.refusals
     }
 
-    /// How many halves are not done.
+    /// The number of halves that aren't done.
     pub fn remaining(&self) -> u64
         ensures value { result ≡ length self.now.program - self.now.done }
         ensures few { result ≤ MOST_ACTS }
@@ -115,7 +113,7 @@ impl<S: Semiring> Rank<S> {
         self.done == self.program.len()
     }
 
-    /// The slots as they stand.
+    /// The slots as they are now.
     pub fn into_store(self) -> RankStore<S>
         ensures { result ≡ self.slots }
     {
@@ -123,12 +121,12 @@ impl<S: Semiring> Rank<S> {
         store
     }
 
-    /// Does a Post, but for the posting: the tag and the body of the letter. That is a copy of the half's slot; for
-    /// a lost slot it is its origin, and where memory is refused it is this rank.
+    /// Does a Post except for the posting itself: returns the tag and the body of the letter. The body is a copy of the
+    /// half's slot; for a lost slot it is the slot's origin, and if memory is refused it is this rank.
     pub fn outgoing(&mut self, supply: Supply) -> (Tag, Body<Block<S>>)
         requires { IsPost (want_of (next_half self.old)) }
         ensures half { HandsOut self.old (next_half self.old) result.0 result.1 self.new }
-        ensures starved { supply ≡ Supply.Refused → IfSome (next_half self.old) (λ h. asks_memory self.old.slots h ≡ true → self.new.refusals ≡ self.old.refusals + 1) }
+        ensures starved { supply ≡ Supply.Refused → CountsRefusal self.old self.new }
     {
         let Some(Half::Post { tag, slot, .. }) = self.next() else {
             unreachable!()
@@ -139,13 +137,12 @@ impl<S: Semiring> Rank<S> {
         (tag, body)
     }
 
-    /// Does a Work. A lost operand makes the result lost, with the origin of the first one in the order of the
-    /// operation's fields; where memory is refused the result is lost at this rank. A Clear leaves a lost slot
-    /// empty.
+    /// Does a Work. If operands are lost, so is the result, with the origin of the first of them in the order of the
+    /// operation's fields. If memory is refused, the result is lost at this rank. A Clear also empties a lost slot.
     pub fn work(&mut self, supply: Supply)
         requires { want_of (next_half self.old) ≡ Want.Work }
         ensures half { Works S.arithmetic self.old (next_half self.old) self.new }
-        ensures starved { supply ≡ Supply.Refused → IfSome (next_half self.old) (λ h. asks_memory self.old.slots h ≡ true → self.new.refusals ≡ self.old.refusals + 1) }
+        ensures starved { supply ≡ Supply.Refused → CountsRefusal self.old self.new }
     {
         let Some(Half::Work(op)) = self.next() else {
             unreachable!()
@@ -155,7 +152,7 @@ impl<S: Semiring> Rank<S> {
         self.done += 1;
     }
 
-    /// Does a Shut, but for the posting of the close mark.
+    /// Does a Shut except for posting the close mark.
     pub fn shut(&mut self)
         requires { IsShut (want_of (next_half self.old)) }
         ensures { self.new ≡ onward self.old self.old.slots self.old.refusals }
@@ -163,9 +160,9 @@ impl<S: Semiring> Rank<S> {
         self.done += 1;
     }
 
-    /// Does a Take or an End with what has arrived, if that is what the half waits for: a letter of its sender, to
-    /// this rank, with its tag, that carries a sheet of the shape that the check gives it, or the word that it was
-    /// lost; at an End the end of its lane. Anything else comes back.
+    /// Does a Take or an End with what has arrived, if that is what the half waits for. For a Take this is a letter from
+    /// its sender to this rank, with its tag, that carries a sheet of the shape that the check gives it, or the news that
+    /// the sheet was lost; for an End it is the end of its lane. Anything else comes back.
     pub fn accept(&mut self, arrival: Arrival<Block<S>>) -> Result<(), Stray<Block<S>>>
         requires { IsTakeOrEnd (want_of (next_half self.old)) }
         ensures awaited { IsOk result ↔ IsAwaited (next_half self.old) self.old.me arrival }
@@ -212,7 +209,7 @@ fn is_awaited<S: Semiring>(half: &Half, me: u16, arrival: &Arrival<Block<S>>) ->
     }
 }
 
-/// Puts what has arrived, and is awaited, into its slot.
+/// Puts what has arrived, which is what the half waits for, into its slot.
 fn fill<S: Semiring>(store: &mut RankStore<S>, half: &Half, arrival: Arrival<Block<S>>)
     requires inside { HasSlot half.now }
     requires awaited { (me : ℕ) × IsAwaited (Some half.now) me arrival }
@@ -229,7 +226,7 @@ fn fill<S: Semiring>(store: &mut RankStore<S>, half: &Half, arrival: Arrival<Blo
     }
 }
 
-/// What rank `me` posts for a slot that isn't empty, and whether memory was refused for a copy.
+/// What rank `me` posts for a filled slot, and whether memory for a copy was refused.
 fn copy_of<S: Semiring>(
     store: &RankStore<S>,
     me: u16,
@@ -254,7 +251,7 @@ fn copy_of<S: Semiring>(
     }
 }
 
-/// Whether a Take of this shape may take this body.
+/// Whether a Take of this shape accepts this body.
 fn has_kind<S: Semiring>(shape: Shape, body: &Body<Block<S>>) -> bool
     ensures { IsTrue result ↔ HasKind shape body.now }
 {

@@ -1,8 +1,7 @@
-//! A step of a rank, through the ends of its lanes.
-ghost use Rattle.std.specs.Prelude.{◌⊎◌, ◌≢◌, ◌≡◌, ◌+◌, ◌↔◌, true, Ok, Err, Some, None, IfSome};
-ghost use Rattle.cb_rank.specs.Halves.{asks_memory};
+//! A step of a rank, through the ends of its lanes: its next half, if that can be done now.
+ghost use Rattle.std.specs.Prelude.{◌⊎◌, ◌≢◌, ◌≡◌, ◌↔◌, true, Ok, Err, Some, None};
 ghost use Rattle.cb_rank.specs.Ranks.{next_half, want_of, ArePortsOf, IsRank};
-ghost use Rattle.cb_rank.specs.Steps.{StepPosts, StepTakes, StepWorks};
+ghost use Rattle.cb_rank.specs.Steps.{StepPosts, StepTakes, StepWorks, CountsRefusalIf};
 
 use crate::ranks::Rank;
 use crate::wants::{Arrival, Moved, Stray, Supply, Want};
@@ -11,11 +10,11 @@ use cb_letters::{Ports, Taken};
 use cb_semirings::Semiring;
 
 impl<S: Semiring> Rank<S> {
-    /// Does the next half, if it can be done now, and says what it did. A Post and a Shut wait where there is no room
-    /// for their letter, and a Take and an End where none is there: then nothing changes, and no memory was asked
-    /// for. A letter that isn't the one that the half waits for is answered, and changes nothing but the ports.
+    /// Does the next half, if it can be done now, and returns what it did. A Post and a Shut wait if there is no room for
+    /// their letter, and a Take and an End if no letter is there; then nothing changes, and no memory is asked for. A
+    /// letter that the half doesn't wait for comes back as a [`Stray`], and only the ports change.
     ///
-    /// Costs what the half costs, whatever the length of the program.
+    /// The cost is that of the half, whatever the length of the program.
     pub fn step<Q: Ports<Block<S>>>(
         &mut self,
         ports: &mut Q,
@@ -25,7 +24,7 @@ impl<S: Semiring> Rank<S> {
         ensures posts { StepPosts Q.standing Q.has_room Q.may_be_full Q.keeps Q.posts (next_half self.old) result self.old ports.old self.new ports.new }
         ensures takes { StepTakes Q.takes (next_half self.old) result self.old ports.old self.new ports.new }
         ensures works { StepWorks S.arithmetic (next_half self.old) result self.old ports.old self.new ports.new }
-        ensures starved { supply ≡ Supply.Refused → IfSome (next_half self.old) (λ h. asks_memory self.old.slots h ≡ true → result ≢ Ok Moved.Waiting → self.new.refusals ≡ self.old.refusals + 1) }
+        ensures starved { supply ≡ Supply.Refused → CountsRefusalIf (result ≢ Ok Moved.Waiting) self.old self.new }
         ensures ports { ArePortsOf self.new (Q.standing ports.new) }
     {
         match self.want() {
@@ -41,13 +40,13 @@ impl<S: Semiring> Rank<S> {
         }
     }
 
-    /// A step at a Post. There is room before the copy is made.
+    /// A step at a Post. It makes the copy only if there is room.
     fn post<Q: Ports<Block<S>>>(&mut self, ports: &mut Q, to: u16, supply: Supply) -> Moved
         requires rank { IsRank self.old }
         requires want { want_of (next_half self.old) ≡ Want.Post to }
         requires ports { ArePortsOf self.old (Q.standing ports.old) }
         ensures posts { StepPosts Q.standing Q.has_room Q.may_be_full Q.keeps Q.posts (next_half self.old) (Ok result) self.old ports.old self.new ports.new }
-        ensures starved { supply ≡ Supply.Refused → IfSome (next_half self.old) (λ h. asks_memory self.old.slots h ≡ true → result ≢ Moved.Waiting → self.new.refusals ≡ self.old.refusals + 1) }
+        ensures starved { supply ≡ Supply.Refused → CountsRefusalIf (result ≢ Moved.Waiting) self.old self.new }
         ensures ports { ArePortsOf self.new (Q.standing ports.new) }
     {
         if !ports.room(to) {

@@ -1,4 +1,4 @@
-//! What a rank asks for, is given, and answers.
+//! What a rank waits for, what it is given, and what it reports.
 use cb_letters::Letter;
 
 /// The next half of a rank's program, by its kind and the rank at the lane's other end.
@@ -18,15 +18,15 @@ pub enum Want {
     Done,
 }
 
-/// Whether a half may take memory. Where it is refused, a copy of a sheet fails, and so does an operation that
-/// needs memory and has no lost operand, as if there were none.
+/// Whether a half is granted memory. If not, a copy of a sheet fails as if there were no memory, and so does an operation
+/// that needs memory and has no lost operand.
 #[derive(Clone, Copy, Debug, PartialEq, Eq, Drop)]
 pub enum Supply {
     Granted,
     Refused,
 }
 
-/// What a lane brought.
+/// What arrived on a lane.
 #[derive(Debug, PartialEq, Eq, Drop)]
 pub enum Arrival<P> {
     /// A letter.
@@ -35,7 +35,7 @@ pub enum Arrival<P> {
     End(u16),
 }
 
-/// What arrived isn't what the rank waits for.
+/// Something arrived that the rank doesn't wait for.
 #[derive(Debug, PartialEq, Eq, Drop)]
 pub struct Stray<P>(pub Arrival<P>);
 
@@ -52,7 +52,7 @@ pub enum Moved {
     Closed,
     /// It took a close mark.
     Drained,
-    /// Nothing: there is no room for its letter, or none has come.
+    /// Nothing: there is no room for its letter, or no letter has arrived.
     Waiting,
     /// Nothing: every half is done.
     Idle,

@@ -33,8 +33,8 @@ use std::thread;
 use std::thread::{Scope, Threads};
 
 /// Runs each rank of a plan in a thread of its own, over lanes for `capacity` letters from each rank to each
-/// other: what is left is what the plan means. Every rank does its whole program: where it is refused memory for a
-/// block the block is lost, and the count of refusals says so.
+/// other. At `Ok` every rank has done its whole program, and what is left is what the plan means: if a rank was
+/// refused memory for a block, the block is lost, and the count of refusals says so.
 ///
 /// All memory but that of the ranks' own work and of the threads is taken before the first thread is started. On a
 /// fault the stores are given up, once every thread has ended.

@@ -8,10 +8,10 @@ use Rattle.std.proofs.lemmas.List.Elements.{All-head, All-tail, All-append, All-
 use Rattle.cb_matrix.specs.declared.Entry.{Entry}
 use Rattle.cb_matrix.specs.Sparse.{Sparse, IsBefore}
 use Rattle.cb_dcsc.specs.Compressed.{entries_in}
-use Rattle.cb_dcsc.specs.Columns.{with_entry}
+use Rattle.cb_dcsc.specs.Columns.{with_entry, with_entries}
 use Rattle.cb_dcsc.proofs.Pieces.{length-entries_in}
 use Rattle.cb_reshape.specs.declared.parts.Part.{Part}
-use Rattle.cb_reshape.specs.Moving.{is_in, moved_entry, moved_entries, with_entries}
+use Rattle.cb_reshape.specs.Moving.{is_in, moved_entry, moved_entries}
 
 -- ---- what is in the part
 -- an entry in the rows and columns of the part is in it

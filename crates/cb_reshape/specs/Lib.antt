@@ -1,4 +1,4 @@
--- Exchange: rows and columns exchanged. Moving: a part of some entries, moved by a step. Rows: entries by their rows.
+-- Exchange: rows and columns exchanged. Moving: a part of some entries, moved. Rows: entries by their rows.
 pub mod Exchange
 pub mod Moving
 pub mod Rows

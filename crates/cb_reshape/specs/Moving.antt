@@ -1,11 +1,11 @@
--- A part of some entries, moved by a step.
-use Rattle.std.specs.Prelude.{ℕ, ◌+◌, ◌-◌, ◌≤◌, Bool, ◌&&◌, nat_le, nat_lt, List, ◌++◌, map, filter}
+-- A part of some entries, moved to another place.
+use Rattle.std.specs.Prelude.{ℕ, ◌+◌, ◌-◌, ◌≤◌, Bool, ◌&&◌, nat_le, nat_lt, List, map, filter}
 use Rattle.cb_matrix.specs.declared.Entry.{Entry}
 use Rattle.cb_matrix.specs.declared.TheConstants.{LIMIT}
-use Rattle.cb_matrix.specs.Sparse.{Sparse, Extent}
+use Rattle.cb_matrix.specs.Sparse.{Extent}
 use Rattle.cb_reshape.specs.declared.parts.Part.{Part}
 
--- whether a number is in a range, whose end is not in it
+-- whether a number is in a range, the end excluded
 abbrev pub is_within : ℕ × ℕ → ℕ → Bool
 is_within range n = nat_le range.0 n && nat_lt n range.1
 
@@ -13,19 +13,19 @@ is_within range n = nat_le range.0 n && nat_lt n range.1
 abbrev pub is_in : Part → Entry → Bool
 is_in part e = is_within part.rows e.row && is_within part.cols e.column
 
--- the entry, moved so that the first row and the first column of the part go to its corner
+-- an entry of the part, moved so that the part's first row and column are at its corner
 abbrev pub moved_entry : Part → Entry → Entry
-moved_entry part e = record { row = e.row - part.rows.0 + part.corner.0; column = e.column - part.cols.0 + part.corner.1; value = e.value }
+moved_entry part e = record {
+  row = e.row - part.rows.0 + part.corner.0;
+  column = e.column - part.cols.0 + part.corner.1;
+  value = e.value;
+}
 
 -- the entries of the part, moved
 abbrev pub moved_entries : Part → List Entry → List Entry
 moved_entries part es = map (moved_entry part) (filter (is_in part) es)
 
--- more entries, after those of a matrix
-abbrev pub with_entries : Sparse → List Entry → Sparse
-with_entries m es = record { shape = m.shape; entries = m.entries ++ es }
-
--- the part begins before it ends, and where it goes it is inside the shape, which keeps the limit
+-- The part's ranges don't end before they begin, and the moved part is inside the shape, which is within the limit.
 pub record Fits (shape : Extent) (part : Part) : Type 0 where
   pub rows : part.rows.0 ≤ part.rows.1
   pub cols : part.cols.0 ≤ part.cols.1

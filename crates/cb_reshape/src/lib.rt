@@ -1,13 +1,13 @@
-//! Blocks in another shape: transposed, cut out of, and placed in a larger one.
+//! Blocks in another shape: transposed, cut, or placed in a larger one.
 //!
-//! None of these changes a value: each entry goes to another place or is left out. To cut and to place keep the
-//! order of the entries, by column and then by row, so that one walk over the columns does both (`parts`): it
-//! takes the entries in some rows and columns and moves them by a step. The columns and the rows to take are found
-//! by binary search, so that what is left out is not read. To transpose turns that order into another: by a counting
-//! sort (`counting`), or, where a list as long as a dimension would be more than the block may cost, by comparisons.
+//! No value changes: each entry moves to another place or is left out. Cutting and placing keep the order of the entries,
+//! by column and then by row, so one walk over the columns does both (`parts`): it takes the entries in some rows and
+//! columns and shifts them. It finds these rows and columns by binary search, so what is left out is not read. The
+//! transpose needs the entries in another order: by a counting sort (`counting`), or, if a list as long as a dimension
+//! would cost more than the block, by comparisons.
 //!
-//! The operations are those of Buluç and Gilbert, The Combinatorial BLAS (Int. J. High Perform. Comput. Appl.
-//! 2011, section 4), by which a matrix is spread over a grid of processes and put together again.
+//! The operations are those by which Buluç and Gilbert, The Combinatorial BLAS (Int. J. High Perform. Comput. Appl. 2011,
+//! section 4), distribute a matrix over a grid of processes and put it together again.
 #![tactic(auto)]
 
 ghost use Rattle.std.specs.Prelude.{◌≡◌, ℕ, ◌≤◌, ◌+◌, ◌-◌, map, IfOk};
@@ -25,19 +25,19 @@ use cb_matrix::{Entry, LIMIT, Shape, in_order};
 use cb_semirings::Semiring;
 use std::alloc::{AllocError, Global};
 
-/// How many rows for each entry the transpose counts at most.
+/// The most rows for each entry that the transpose counts.
 const ROWS_PER_ENTRY: usize = 4;
 
-/// In how many bands of rows the transpose places the entries at most: each costs a walk over the block.
+/// The most bands of rows in which the transpose places the entries: each costs a pass over the block.
 const BANDS: usize = 8;
 
-/// How many entries a band has at least, unless it is the last: the places of so many stay in the caches.
+/// The fewest entries of a band, unless it is the last: the places of this many stay in the caches.
 const ENTRIES_PER_BAND: usize = 1 << 19;
 
 /// The block with rows and columns exchanged.
 ///
-/// Costs a few instructions for each entry, and where there are more than 524,288 entries, up to eight walks over
-/// them. Where there are more than four rows for each entry, it costs a sort of the entries.
+/// Costs a few instructions for each entry, in up to eight passes if there are more than 524,288 entries. If there are
+/// more than four rows for each entry, it sorts the entries instead.
 pub fn transpose<S: Semiring>(alloc: Global, block: &Block<S>) -> Result<Block<S>, AllocError>
     ensures { IfOk result (λ turned. turned ≡ transposed S.arithmetic block.now) }
 {
@@ -50,7 +50,7 @@ pub fn transpose<S: Semiring>(alloc: Global, block: &Block<S>) -> Result<Block<S
     transpose_by_sorting(alloc, block, shape)
 }
 
-/// The transpose of a block, whose shape is given, by a sort of its entries.
+/// The transpose of a block, by a sort of its entries. `shape` is that of the transpose.
 fn transpose_by_sorting<S: Semiring>(
     alloc: Global,
     block: &Block<S>,
@@ -66,11 +66,11 @@ fn transpose_by_sorting<S: Semiring>(
     Block::from_ordered(alloc, shape, &entries)
 }
 
-/// The part of a block in some rows and columns, each from the first number up to the second, which is not in it.
-/// Its first row and its first column are row 0 and column 0 of the result.
+/// The part of a block in a range of rows and a range of columns, each given by its first number and the one after its
+/// last. The first row and column of the part are row 0 and column 0 of the result.
 ///
-/// Costs a few instructions for each entry of the part and two binary searches for each of its columns that has
-/// entries, and two more for the columns themselves.
+/// Costs a few instructions for each entry of the part, two binary searches for each of its columns that has entries, and
+/// two more for the columns themselves.
 pub fn cut<S: Semiring>(
     alloc: Global,
     block: &Block<S>,
@@ -92,8 +92,8 @@ pub fn cut<S: Semiring>(
     moved(alloc, shape, block, part, 0)
 }
 
-/// The block inside a larger shape, its row 0 and column 0 at the corner, which is a row and a column. The places
-/// around it are without entries.
+/// The block placed in a larger shape, with its row 0 and column 0 at `corner`, a row and a column. No entries are around
+/// it.
 ///
 /// Costs a few instructions for each entry, and two binary searches for each column that has entries.
 pub fn place<S: Semiring>(
@@ -128,7 +128,7 @@ fn exchange(entries: &mut [Entry])
     }
 }
 
-/// The shape with so many rows and columns.
+/// The shape with this many rows and columns.
 fn shape_of(rows: u32, cols: u32) -> Shape
     requires rows { rows ≤ LIMIT }
     requires cols { cols ≤ LIMIT }
@@ -137,7 +137,7 @@ fn shape_of(rows: u32, cols: u32) -> Shape
     Shape::new(rows, cols).unwrap()
 }
 
-/// The shape with so many rows and columns, no more than another has.
+/// The shape with this many rows and columns, which are no more than those of `whole`.
 fn shape_within(whole: Shape, rows: u32, cols: u32) -> Shape
     requires rows { rows ≤ whole.rows }
     requires cols { cols ≤ whole.cols }

@@ -1,17 +1,18 @@
-//! A part of a block, moved by a step.
+//! A part of a block, moved to another place.
 ghost use Rattle.std.specs.Prelude.{◌≡◌, ◌≢◌, ℕ, ◌<◌, ◌≤◌, ◌+◌, ◌-◌, length, slice_index, All, AllPairs, IfOk, OnOk};
 ghost use Rattle.cb_semirings.specs.Arithmetic.{IsValue};
 ghost use Rattle.cb_matrix.specs.Sparse.{IsMatrix};
+ghost use Rattle.cb_dcsc.specs.Columns.{with_entries};
 ghost use Rattle.cb_dcsc.specs.Compressed.{entries_in};
-ghost use Rattle.cb_reshape.specs.Moving.{Fits, moved_entries, with_entries};
+ghost use Rattle.cb_reshape.specs.Moving.{Fits, moved_entries};
 
 use cb_dcsc::Block;
 use cb_matrix::{Entry, Shape};
 use cb_semirings::Semiring;
 use std::alloc::{AllocError, Global};
 
-/// Some rows and some columns, each from the first number up to the second, which is not in it, and where the
-/// first row and the first column go.
+/// A range of rows and a range of columns, each given by its first number and the one after its last, and the place to
+/// which the first row and column move.
 #[derive(Clone, Copy)]
 pub(crate) struct Part {
     pub rows: (u32, u32),
@@ -19,7 +20,7 @@ pub(crate) struct Part {
     pub corner: (u32, u32),
 }
 
-/// The part of a block, in a block of that shape. It has room for so many entries from the start.
+/// The part of a block, in a block of the given shape. It gets room for this many entries at the start.
 pub(crate) fn moved<S: Semiring>(
     alloc: Global,
     shape: Shape,
@@ -44,7 +45,7 @@ pub(crate) fn moved<S: Semiring>(
     Ok(out)
 }
 
-/// Appends the part of one column, whose number is in the part.
+/// Appends what the part has of one of its columns.
 fn append_column<S: Semiring>(
     out: &mut Block<S>,
     column: u32,
@@ -76,7 +77,7 @@ fn append_column<S: Semiring>(
     Ok(())
 }
 
-/// How many numbers are below a bound, of numbers that ascend.
+/// How many of these numbers, which ascend, are below a bound.
 fn first_from(numbers: &[u32], bound: u32) -> usize
     requires { AllPairs (λ i j. i < j) numbers.now }
     ensures within { result ≤ length numbers.now }

@@ -11,6 +11,10 @@ use Rattle.cb_semirings.specs.Tables.{plus_times, min_plus, or_and, max_min, wit
 wraps : (n : ℕ) → n % 2 ^ 64 < 2 ^ 64
 wraps n = mod-lt n (lit< tt)
 
+-- a sum of two products, modulo 2^64 at the end alone or at each step
+sum_of_products : (x y u v : ℕ) → (x * y + u * v) % 2 ^ 64 ≡ ((x * y) % 2 ^ 64 + (u * v) % 2 ^ 64) % 2 ^ 64
+sum_of_products x y u v = sym (mod-add-mod (x * y) (2 ^ 64) ((u * v) % 2 ^ 64) ∙ add-mod-mod (x * y) (u * v) (2 ^ 64))
+
 pub plus_times_is_semiring : IsSemiring plus_times
 plus_times_is_semiring = record {
   value_fits = λ x h. h;
@@ -30,8 +34,8 @@ plus_times_is_distributive = record {
   mul_assoc = λ x y z _ _ _. mul-mod_first (x * y) z (2 ^ 64) ∙ ap (λ n. n % 2 ^ 64) (mul_assoc x y z) ∙ sym (mul-mod_second x (y * z) (2 ^ 64));
   one_mul = λ x h. omega arith;
   mul_one = λ x h. omega arith;
-  mul_add = λ x y z _ _ _. mul-mod_second x (y + z) (2 ^ 64) ∙ ap (λ n. n % 2 ^ 64) (mul-add x y z) ∙ sym (mod-add-mod (x * y) (2 ^ 64) ((x * z) % 2 ^ 64) ∙ add-mod-mod (x * y) (x * z) (2 ^ 64));
-  add_mul = λ x y z _ _ _. mul-mod_first (x + y) z (2 ^ 64) ∙ ap (λ n. n % 2 ^ 64) (add-mul x y z) ∙ sym (mod-add-mod (x * z) (2 ^ 64) ((y * z) % 2 ^ 64) ∙ add-mod-mod (x * z) (y * z) (2 ^ 64));
+  mul_add = λ x y z _ _ _. mul-mod_second x (y + z) (2 ^ 64) ∙ ap (λ n. n % 2 ^ 64) (mul-add x y z) ∙ sum_of_products x y x z;
+  add_mul = λ x y z _ _ _. mul-mod_first (x + y) z (2 ^ 64) ∙ ap (λ n. n % 2 ^ 64) (add-mul x y z) ∙ sum_of_products x z y z;
 }
 
 accept_plus : (negative : Bool) (m : ℕ) → cond negative ((2 ^ 64 - m) % 2 ^ 64) (m % 2 ^ 64) < 2 ^ 64
@@ -174,24 +178,26 @@ max_min_reads_numbers = record {
 pub max_min_has_negatives : HasNegatives max_min
 max_min_has_negatives = record { negative_adds = λ x h. tt; all_or_none = λ x h. refl }
 
--- a choice between a number and the same
+-- a choice between a number and itself
 either_way : (b : Bool) (n : ℕ) → cond b n n ≡ n
 either_way true n = refl
 either_way false n = refl
 
--- what is chosen of values is one
-chosen_value : (b : Bool) (bound x y : ℕ) → x < bound → y < bound → cond b x y < bound
-chosen_value true bound x y h k = h
-chosen_value false bound x y h k = k
+-- a choice between zero and a value is a value
+zero_or_value : (s : Arithmetic) → IsValue s s.zero → (b : Bool) (y : ℕ) → IsValue s y → IsValue s (cond b s.zero y)
+zero_or_value s z true y k = z
+zero_or_value s z false y k = k
 
 module _ (s : Arithmetic) (operator : ℕ → ℕ → ℕ) where
-  -- another product keeps the laws, if it makes values of values
+  -- the laws hold with another product, if its products of values are values
   pub with_product_is_semiring : IsSemiring s → ((x y : ℕ) → IsValue s x → IsValue s y → IsValue s (operator x y)) → IsSemiring (with_product s operator)
   with_product_is_semiring laws values = record {
     value_fits = laws.value_fits;
     zero_value = laws.zero_value;
     add_value = laws.add_value;
-    mul_value = λ x y h k. chosen_value (x == s.zero) s.bound s.zero _ laws.zero_value (chosen_value (y == s.zero) s.bound s.zero _ laws.zero_value (values x y h k));
+    mul_value = λ x y h k.
+        let zero_or = zero_or_value s laws.zero_value in
+        zero_or (x == s.zero) _ (zero_or (y == s.zero) _ (values x y h k));
     add_comm = laws.add_comm;
     add_assoc = laws.add_assoc;
     zero_add = laws.zero_add;
@@ -199,7 +205,7 @@ module _ (s : Arithmetic) (operator : ℕ → ℕ → ℕ) where
     mul_zero = λ x h. ap (λ b. cond (x == s.zero) s.zero (cond b s.zero (operator x s.zero))) (eq-eqb s.zero s.zero refl) ∙ either_way (x == s.zero) s.zero;
   }
 
-  -- it takes the numbers of files as before
+  -- numbers in files become the same values
   pub with_product_reads_numbers : ReadsNumbers s → ReadsNumbers (with_product s operator)
   with_product_reads_numbers reads = record {
     pattern_value = reads.pattern_value;
@@ -212,7 +218,7 @@ module _ (s : Arithmetic) (operator : ℕ → ℕ → ℕ) where
   pub with_product_has_negatives : HasNegatives s → HasNegatives (with_product s operator)
   with_product_has_negatives has = record { negative_adds = has.negative_adds; all_or_none = has.all_or_none }
 
--- what the binary operators make of numbers below 2^64 is below it
+-- the binary operators on numbers below 2^64 stay below it
 pub plus_fits : (x y : ℕ) → x < 2 ^ 64 → y < 2 ^ 64 → plus x y < 2 ^ 64
 plus_fits x y h k = omega arith
 
@@ -222,7 +228,7 @@ min_fits x y h k = omega arith
 pub max_fits : (x y : ℕ) → x < 2 ^ 64 → y < 2 ^ 64 → max x y < 2 ^ 64
 max_fits x y h k = omega arith
 
--- so they make values of values, where all these numbers are values
+-- so they return values for values, if all these numbers are values
 pub full_values : (s : Arithmetic) (operator : ℕ → ℕ → ℕ) → s.bound ≡ 2 ^ 64 → ((x y : ℕ) → x < 2 ^ 64 → y < 2 ^ 64 → operator x y < 2 ^ 64)
     → (x y : ℕ) → IsValue s x → IsValue s y → IsValue s (operator x y)
 full_values s operator full fits x y h k = rw full (fits x y (rw full at h) (rw full at k))

@@ -22,7 +22,7 @@ arithmetic_of MaxSecond = max_second
 arithmetic_of MaxPlus = max_plus
 arithmetic_of MinMax = min_max
 
--- the semiring that a word names
+-- the semiring with a name
 abbrev pub named : List ℕ → Option SemiringName
 named word =
     if bytes_eq word (codes "plus-times") then Some PlusTimes
@@ -40,7 +40,7 @@ named word =
     else (if bytes_eq word (codes "max-plus") then Some MaxPlus
     else (if bytes_eq word (codes "min-max") then Some MinMax else None)))))))))))))
 
--- the semiring of a number
+-- the semiring with a number
 abbrev pub numbered : ℕ → Option SemiringName
 numbered n =
     if n == 0 then Some PlusTimes

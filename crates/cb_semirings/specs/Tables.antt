@@ -1,8 +1,8 @@
--- The semirings, as their tables.
+-- The semirings, each as the record of its operations.
 use Rattle.std.specs.Prelude.{ℕ, ◌+◌, ◌-◌, ◌*◌, ◌%◌, ◌^◌, min, max, true, false, cond, Some, None, nat_lt, ◌==◌}
 use Rattle.cb_semirings.specs.Arithmetic.{Arithmetic}
 
--- sums and products modulo 2^64; any number of a file, modulo 2^64
+-- sums and products modulo 2^64; accepts any number, modulo 2^64
 abbrev pub plus_times : Arithmetic
 plus_times = record {
   bound = 2 ^ 64;
@@ -15,7 +15,7 @@ plus_times = record {
   writes_pattern = false;
 }
 
--- the least of two; the sum, which stops at infinity, 2^64 - 1; a number of a file below infinity, with no minus sign but on 0
+-- minimum, and sum saturating at infinity, 2^64 - 1; accepts numbers below infinity, with a minus sign only on 0
 abbrev pub min_plus : Arithmetic
 min_plus = record {
   bound = 2 ^ 64;
@@ -28,7 +28,7 @@ min_plus = record {
   writes_pattern = false;
 }
 
--- whether one of two is true; whether both are; any number of a file, 0 for 0 and 1 for all others
+-- logical or, and logical and; accepts any number, 0 as 0 and all others as 1
 abbrev pub or_and : Arithmetic
 or_and = record {
   bound = 2;
@@ -41,7 +41,7 @@ or_and = record {
   writes_pattern = true;
 }
 
--- the greatest of two; the least of two; any number of a file below 2^64, with no minus sign but on 0
+-- maximum, and minimum; accepts numbers below 2^64, with a minus sign only on 0
 abbrev pub max_min : Arithmetic
 max_min = record {
   bound = 2 ^ 64;
@@ -54,7 +54,7 @@ max_min = record {
   writes_pattern = false;
 }
 
--- a semiring with another product: zero where one of two is zero, and else what a binary operator makes of them
+-- a semiring with another product: zero if one operand is zero, and otherwise the result of a binary operator
 abbrev pub with_product : Arithmetic → (ℕ → ℕ → ℕ) → Arithmetic
 with_product s operator = record {
   bound = s.bound;
@@ -67,58 +67,58 @@ with_product s operator = record {
   writes_pattern = s.writes_pattern;
 }
 
--- the binary operators: 1, whatever the two are
+-- the binary operators: always 1
 abbrev pub pair : ℕ → ℕ → ℕ
 pair x y = 1
 
--- the first of two
+-- the first operand
 abbrev pub first : ℕ → ℕ → ℕ
 first x y = x
 
--- the second of two
+-- the second operand
 abbrev pub second : ℕ → ℕ → ℕ
 second x y = y
 
--- the sum, which stops at 2^64 - 1
+-- the sum, saturating at 2^64 - 1
 abbrev pub plus : ℕ → ℕ → ℕ
 plus x y = min (x + y) (2 ^ 64 - 1)
 
--- sums modulo 2^64 of ones: how many products there are
+-- sums, modulo 2^64, of ones: how many products there are
 abbrev pub plus_pair : Arithmetic
 plus_pair = with_product plus_times pair
 
--- sums modulo 2^64 of the least of two
+-- sums, modulo 2^64, of minima
 abbrev pub plus_min : Arithmetic
 plus_min = with_product plus_times min
 
--- sums modulo 2^64 of the first of two
+-- sums, modulo 2^64, of first operands
 abbrev pub plus_first : Arithmetic
 plus_first = with_product plus_times first
 
--- sums modulo 2^64 of the second of two
+-- sums, modulo 2^64, of second operands
 abbrev pub plus_second : Arithmetic
 plus_second = with_product plus_times second
 
--- the least of the first of two
+-- minima of first operands
 abbrev pub min_first : Arithmetic
 min_first = with_product min_plus first
 
--- the least of the second of two
+-- minima of second operands
 abbrev pub min_second : Arithmetic
 min_second = with_product min_plus second
 
--- the greatest of the first of two
+-- maxima of first operands
 abbrev pub max_first : Arithmetic
 max_first = with_product max_min first
 
--- the greatest of the second of two
+-- maxima of second operands
 abbrev pub max_second : Arithmetic
 max_second = with_product max_min second
 
--- the greatest of sums, which stop at 2^64 - 1
+-- maxima of sums that saturate at 2^64 - 1
 abbrev pub max_plus : Arithmetic
 max_plus = with_product max_min plus
 
--- the least of the greatest of two
+-- minima of maxima
 abbrev pub min_max : Arithmetic
 min_max = with_product min_plus max

@@ -1,17 +1,15 @@
 //! Semirings over whole numbers, as sparse linear algebra uses them for graphs.
 //!
-//! A semiring is a set of values with a sum and a product. The sum commutes and associates, `zero` is
-//! neutral for it, and a product with `zero` is `zero`. So a place of a matrix without an entry can
-//! stand for `zero`, and the order in which products are added doesn't matter. This is what GraphBLAS
-//! calls a semiring: a commutative monoid and a binary operator. Algebra asks for more under that
-//! name, that the product associates, has a `one`, and distributes over the sum: a semiring with
-//! these laws is a [`DistributiveSemiring`]. No product of matrices needs them. [`WithProduct`] puts a
-//! semiring together of another one's sum and a binary operator.
+//! A semiring is a set of values with a sum and a product. The sum is commutative and associative, `zero` is its
+//! neutral element, and a product with `zero` is `zero`. So a place of a matrix without an entry stands for `zero`, and
+//! products may be added in any order. This is a semiring in the sense of GraphBLAS: a commutative monoid and a binary
+//! operator. Algebra asks for more: the product is associative, has a `one`, and distributes over the sum. A semiring
+//! with these laws is a [`DistributiveSemiring`]; no product of matrices needs them. [`WithProduct`] combines the sum of
+//! a semiring with a binary operator.
 //!
-//! The values are the whole numbers below a bound, at most 2^64. The operations of each type are
-//! one record of `specs/Tables.antt`, its laws are proved in `specs/Laws.antt`, and every crate
-//! above speaks of that record alone. A semiring also says how the numbers of a file become values,
-//! and how values are written.
+//! The values are the whole numbers below a bound, at most 2^64. The operations of each type are one record of
+//! `specs/Tables.antt`, its laws are proved in `specs/Laws.antt`, and all crates above use that record alone. A semiring
+//! also says how numbers in a file become values, and how values are written.
 //!
 //! [`SemiringName`] is the one table of the semirings' names and numbers, and [`over_semiring`] the one match that
 //! picks the type of a name.
@@ -40,8 +38,8 @@ pub use with_product::{
     PlusPair, PlusSecond, WithProduct,
 };
 
-/// A set of whole numbers with a sum that is a commutative monoid, and a product that its zero
-/// annihilates. No call takes memory, and each costs a few instructions.
+/// A set of whole numbers with a sum and a product. The sum is a commutative monoid, and a product with its zero is
+/// zero. No call takes memory, and each costs a few instructions.
 pub trait Semiring: Drop {
     ghost use Rattle.cb_semirings.specs.Arithmetic.{Arithmetic, IsValue, IsSemiring, ReadsNumbers, HasNegatives};
 
@@ -52,7 +50,7 @@ pub trait Semiring: Drop {
     fn is_value(number: u64) -> bool
         ensures { IsTrue result ↔ IsValue arithmetic number };
 
-    /// The value of a place without an entry: neutral for the sum.
+    /// The value of a place without an entry: the neutral element of the sum.
     fn zero() -> u64
         ensures { result ≡ arithmetic.zero };
 
@@ -68,17 +66,17 @@ pub trait Semiring: Drop {
         requires right_is_value { IsValue arithmetic right }
         ensures { result ≡ arithmetic.mul left right };
 
-    /// The value that added to this one gives zero, in a semiring that has negatives.
+    /// The negative of a value, which added to it gives zero. None if the semiring has no negatives.
     fn negative(value: u64) -> Option<u64>
         requires { IsValue arithmetic value }
         ensures { result ≡ arithmetic.negative value };
 
-    /// The value of an entry that a file names without a value.
+    /// The value of an entry that a file writes without one.
     fn pattern() -> u64
         ensures { result ≡ arithmetic.pattern };
 
-    /// The value that a number of a file stands for, by its sign and its magnitude; None where the
-    /// number is out of the semiring's range.
+    /// The value that a number in a file stands for, by its sign and its magnitude. None if the number is out of the
+    /// semiring's range.
     fn accept(negative: bool, magnitude: u64) -> Option<u64>
         ensures { result ≡ arithmetic.accept negative magnitude };
 
@@ -89,22 +87,22 @@ pub trait Semiring: Drop {
     /// The laws of a semiring.
     ghost is_semiring: { IsSemiring arithmetic };
 
-    /// What the numbers of a file stand for.
+    /// How numbers in a file become values.
     ghost reads_numbers: { ReadsNumbers arithmetic };
 
-    /// What negatives are.
+    /// The laws of negatives.
     ghost has_negatives: { HasNegatives arithmetic };
 }
 
-/// A semiring as algebra has it: the product associates, has a one, and distributes over the sum.
+/// A semiring in the sense of algebra: the product is associative, has a one, and distributes over the sum.
 pub trait DistributiveSemiring: Semiring {
     ghost use Rattle.std.specs.Prelude.{ℕ};
     ghost use Rattle.cb_semirings.specs.Arithmetic.{IsDistributive};
 
-    /// The value that is neutral for the product.
+    /// The neutral element of the product.
     ghost one: { ℕ };
 
-    /// The value that is neutral for the product.
+    /// The neutral element of the product.
     fn one() -> u64
         ensures { result ≡ one };
 

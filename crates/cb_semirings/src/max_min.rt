@@ -1,8 +1,8 @@
-//! The greatest, and the least: widest walks.
+//! Maximum and minimum, for widest walks.
 use crate::{DistributiveSemiring, Semiring};
 
-/// The numbers below 2^64: the sum is the greatest of two, the product the least. Capacities of the
-/// widest walks combine like this.
+/// The numbers below 2^64, with the maximum as the sum and the minimum as the product. The capacities of widest walks
+/// combine in this way.
 #[derive(Clone, Copy, Debug, PartialEq, Eq)]
 pub struct MaxMin;
 

@@ -1,8 +1,8 @@
-//! The least, and the sum: shortest walks.
+//! Minimum and sum, for shortest walks.
 use crate::{DistributiveSemiring, Semiring};
 
-/// The numbers below 2^64: the sum is the least of two, the product is their sum, which stops at
-/// 2^64 - 1. That number is infinity, the semiring's zero. Weights of shortest walks add like this.
+/// The numbers below 2^64, with the minimum as the sum and the sum as the product, saturating at 2^64 - 1. That number
+/// is infinity, the semiring's zero. The weights of shortest walks combine in this way.
 #[derive(Clone, Copy, Debug, PartialEq, Eq)]
 pub struct MinPlus;
 

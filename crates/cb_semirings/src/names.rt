@@ -1,5 +1,5 @@
-//! The semirings by name and by number. Whoever adds one adds a variant, its name, its number, and an arm to
-//! [`over_semiring`], and to `specs/Names` the same.
+//! The semirings by name and by number. A new one needs a variant, its name, its number and an arm of
+//! [`over_semiring`], and the same in `specs/Names`.
 ghost use Rattle.std.specs.Prelude.{◌≡◌};
 
 /// A semiring of this crate.
@@ -42,7 +42,7 @@ pub static NAMES: [&str; 14] = [
 impl SemiringName {
     ghost use Rattle.cb_semirings.specs.Names.{named, numbered};
 
-    /// The semiring of a name.
+    /// The semiring with a name.
     pub fn named(name: &str) -> Option<SemiringName>
         ensures { result ≡ named name.now }
     {
@@ -65,7 +65,7 @@ impl SemiringName {
         }
     }
 
-    /// The semiring of a number, as programs in C tell it.
+    /// The semiring with a number, by which programs in C name it.
     pub fn numbered(number: u32) -> Option<SemiringName>
         ensures { result ≡ numbered number }
     {
@@ -89,8 +89,8 @@ impl SemiringName {
     }
 }
 
-/// Calls a function over the semiring of a name. In its list of types the function has an underscore for the type of
-/// the semiring, and then its other types: `over_semiring!(name, multiply_all::<_, R>(rt, matrices))`.
+/// Calls a function over the semiring with a name. The first type argument of the call is an underscore, which stands
+/// for the type of the semiring: `over_semiring!(name, multiply_all::<_, R>(rt, matrices))`.
 #[macro_export]
 macro_rules! over_semiring {
     ($name:expr, $call:ident::<_ $(, $other:ty)*>($($argument:expr),* $(,)?)) => {

@@ -1,22 +1,22 @@
-//! Binary operators, which take the place of a semiring's product: see [`crate::WithProduct`].
+//! Binary operators that replace the product of a semiring: see [`crate::WithProduct`].
 ghost use Rattle.std.specs.Prelude.{◌≡◌};
 
-/// A binary operator on the numbers below 2^64, as GraphBLAS has them. No call takes memory.
+/// A binary operator on the numbers below 2^64, as in GraphBLAS. No call takes memory.
 pub trait Operator: Drop {
     ghost use Rattle.std.specs.Prelude.{ℕ, ◌<◌, ◌^◌};
 
-    /// What it makes of two numbers.
+    /// Its result for two numbers.
     ghost operator: { ℕ → ℕ → ℕ };
 
-    /// What it makes of two numbers.
+    /// Its result for two numbers.
     fn apply(left: u64, right: u64) -> u64
         ensures { result ≡ operator left right };
 
-    /// It stays below 2^64.
+    /// Its result is below 2^64.
     ghost fits: { (x y : ℕ) → x < 2 ^ 64 → y < 2 ^ 64 → operator x y < 2 ^ 64 };
 }
 
-/// 1, whatever the two are.
+/// Always 1.
 #[derive(Clone, Copy)]
 pub struct Pair;
 
@@ -33,7 +33,7 @@ impl Operator for Pair {
     }
 }
 
-/// The first of two.
+/// The first operand.
 #[derive(Clone, Copy)]
 pub struct First;
 
@@ -49,7 +49,7 @@ impl Operator for First {
     }
 }
 
-/// The second of two.
+/// The second operand.
 #[derive(Clone, Copy)]
 pub struct Second;
 
@@ -65,7 +65,7 @@ impl Operator for Second {
     }
 }
 
-/// The sum of two, which stops at 2^64 - 1.
+/// The sum, saturating at 2^64 - 1.
 #[derive(Clone, Copy)]
 pub struct Plus;
 
@@ -82,7 +82,7 @@ impl Operator for Plus {
     }
 }
 
-/// The least of two.
+/// The minimum.
 #[derive(Clone, Copy)]
 pub struct Min;
 
@@ -99,7 +99,7 @@ impl Operator for Min {
     }
 }
 
-/// The greatest of two.
+/// The maximum.
 #[derive(Clone, Copy)]
 pub struct Max;
 

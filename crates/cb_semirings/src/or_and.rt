@@ -1,8 +1,8 @@
-//! Or, and: which walks there are.
+//! Logical or and logical and, for reachability.
 use crate::{DistributiveSemiring, Semiring};
 
-/// 0 and 1: whether one of two holds, and whether both do. Every number of a file but 0 stands for 1,
-/// and entries are written without values.
+/// 0 and 1, with logical or as the sum and logical and as the product. Every number in a file except 0 stands for 1, and
+/// entries are written without values.
 #[derive(Clone, Copy, Debug, PartialEq, Eq)]
 pub struct OrAnd;
 

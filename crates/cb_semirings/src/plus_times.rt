@@ -1,8 +1,7 @@
 //! Sums and products of whole numbers, modulo 2^64.
 use crate::{DistributiveSemiring, Semiring};
 
-/// The numbers below 2^64, with sums and products modulo 2^64. A negative number of a file is taken
-/// modulo 2^64.
+/// The numbers below 2^64, with sums and products modulo 2^64. A negative number in a file is taken modulo 2^64.
 #[derive(Clone, Copy, Debug, PartialEq, Eq)]
 pub struct PlusTimes;
 

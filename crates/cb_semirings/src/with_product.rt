@@ -1,4 +1,4 @@
-//! A semiring with another product: a sum and a binary operator, as GraphBLAS puts a semiring together.
+//! A semiring with another product: a sum and a binary operator, as GraphBLAS combines them.
 use crate::operators::{First, Max, Min, Operator, Pair, Plus, Second};
 use crate::{MaxMin, MinPlus, PlusTimes, Semiring};
 use std::marker::PhantomData;
@@ -29,8 +29,8 @@ impl FullRange for MaxMin {
     ghost is_full = { refl };
 }
 
-/// The values, the zero and the sum of a semiring, with a binary operator for its product, where neither of two is zero:
-/// a product with zero is zero. It takes the numbers of files as the semiring does.
+/// The values, the zero and the sum of a semiring, with a binary operator as the product, except that a product with
+/// zero is zero. Numbers in files become values as in that semiring.
 #[derive(Drop)]
 pub struct WithProduct<S: FullRange, P: Operator>(PhantomData<(S, P)>);
 
@@ -83,32 +83,32 @@ impl<S: FullRange, P: Operator> Semiring for WithProduct<S, P> {
     }
 }
 
-/// The sum modulo 2^64, of ones: how many products there are. Triangles are counted like this.
+/// The sum, modulo 2^64, of a one for each product: how many products there are. Triangles are counted in this way.
 pub type PlusPair = WithProduct<PlusTimes, Pair>;
 
-/// The sum modulo 2^64, of the least of two.
+/// The sum, modulo 2^64, of minima.
 pub type PlusMin = WithProduct<PlusTimes, Min>;
 
-/// The sum modulo 2^64, of the first of two.
+/// The sum, modulo 2^64, of first operands.
 pub type PlusFirst = WithProduct<PlusTimes, First>;
 
-/// The sum modulo 2^64, of the second of two.
+/// The sum, modulo 2^64, of second operands.
 pub type PlusSecond = WithProduct<PlusTimes, Second>;
 
-/// The least, of the first of two: parents in a search that multiplies a row by a matrix.
+/// The minimum of first operands: parents in a search that multiplies a row by a matrix.
 pub type MinFirst = WithProduct<MinPlus, First>;
 
-/// The least, of the second of two: parents in a search that multiplies a matrix by a column.
+/// The minimum of second operands: parents in a search that multiplies a matrix by a column.
 pub type MinSecond = WithProduct<MinPlus, Second>;
 
-/// The greatest, of the first of two.
+/// The maximum of first operands.
 pub type MaxFirst = WithProduct<MaxMin, First>;
 
-/// The greatest, of the second of two.
+/// The maximum of second operands.
 pub type MaxSecond = WithProduct<MaxMin, Second>;
 
-/// The greatest, of sums, which stop at 2^64 - 1: the weights of longest walks.
+/// The maximum of sums that saturate at 2^64 - 1: the weights of longest walks.
 pub type MaxPlus = WithProduct<MaxMin, Plus>;
 
-/// The least, of the greatest of two: walks whose greatest weight is least.
+/// The minimum of maxima: walks whose greatest weight is least.
 pub type MinMax = WithProduct<MinPlus, Max>;

@@ -1,3 +1,3 @@
--- SerialFaults: why an operation makes nothing of blocks. Lent: what stands behind references.
+-- SerialFaults: why an operation on blocks fails. Lent: borrowed values.
 pub mod SerialFaults
 pub mod Lent

@@ -1,4 +1,4 @@
-//! The same of blocks whose shapes may not agree.
+//! Operations on blocks whose shapes may not agree.
 ghost use Rattle.std.specs.Prelude.{◌≡◌, length, IfOk, IfErr, IfSome, IfNone};
 ghost use Rattle.cb_operations.specs.OperationAnswers.{operand_count_of, Agree, answer_of, shapes_in};
 ghost use Rattle.cb_serial.specs.Lent.{lent_in};
@@ -12,10 +12,10 @@ use cb_semirings::Semiring;
 use std::alloc::{AllocError, Global};
 use thiserror::Error;
 
-/// Why an operation makes nothing of blocks, in the order in which the reasons are looked for.
+/// Why an operation on blocks fails. The reasons are checked in this order.
 #[derive(Clone, Copy, Debug, PartialEq, Eq, Error)]
 pub enum SerialFault {
-    /// It isn't computed, whoever would compute it.
+    /// The operation is refused, whatever would compute it.
     #[error("{0}")]
     Refused(Refusal),
     /// Memory was refused.
@@ -33,7 +33,7 @@ impl From<AllocError> for SerialFault {
     }
 }
 
-/// The shape of what an operation makes of blocks, or none where their shapes don't agree.
+/// The shape of an operation's result for blocks. None if their shapes don't agree.
 fn shape_in<S: Semiring>(operation: Operation, operands: &[&Block<S>]) -> Option<Shape>
     requires { length operands.now ≡ operand_count_of operation }
     ensures agree { IfSome result (λ _. Agree operation (shapes_in (lent_in operands.now))) }
@@ -47,8 +47,8 @@ fn shape_in<S: Semiring>(operation: Operation, operands: &[&Block<S>]) -> Option
     }
 }
 
-/// What an operation makes of blocks that are lent, in order. Shapes that don't agree are refused before memory is asked
-/// for; all else is as in [`compute`].
+/// The result of an operation on borrowed blocks, in order. Shapes that don't agree are refused before memory is
+/// requested; otherwise as [`compute`].
 pub fn run<S: Semiring>(
     alloc: Global,
     operation: Operation,

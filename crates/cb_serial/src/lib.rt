@@ -1,8 +1,8 @@
-//! Each operation on whole blocks, by the caller's thread alone: no grid, no plan, no runtime, and no fault but want of
-//! memory.
+//! Each operation on whole blocks, in the caller's thread: no grid, no plan and no runtime. It fails only if memory is
+//! refused.
 //!
-//! An operation costs what its kernel does, which is in proportion to entries and never to a dimension: see [`cb_product`],
-//! [`cb_masked`], [`cb_reshape`], [`cb_reductions`] and [`cb_elementwise`].
+//! The cost of an operation is that of its kernel, which is proportional to entries and never to a dimension: see
+//! [`cb_product`], [`cb_masked`], [`cb_reshape`], [`cb_reductions`] and [`cb_elementwise`].
 #![tactic(auto)]
 
 ghost use Rattle.std.specs.Prelude.{◌≡◌, [], ◌∷◌, length, IfOk};
@@ -17,7 +17,7 @@ use cb_semirings::Semiring;
 pub use checked::{SerialFault, run};
 use std::alloc::{AllocError, Global};
 
-/// What an operation on one matrix makes of a block.
+/// The result of an operation on one block.
 pub fn unary<S: Semiring>(
     alloc: Global,
     operation: Operation,
@@ -35,7 +35,7 @@ pub fn unary<S: Semiring>(
     }
 }
 
-/// What an operation on two matrices makes of blocks whose shapes agree.
+/// The result of an operation on two blocks, whose shapes agree.
 pub fn binary<S: Semiring>(
     alloc: Global,
     operation: Operation,
@@ -55,7 +55,7 @@ pub fn binary<S: Semiring>(
     }
 }
 
-/// What an operation on three matrices makes of blocks whose shapes agree.
+/// The result of an operation on three blocks, whose shapes agree.
 pub fn ternary<S: Semiring>(
     alloc: Global,
     operation: Operation,
@@ -73,7 +73,7 @@ pub fn ternary<S: Semiring>(
     }
 }
 
-/// What an operation makes of blocks that are lent, in order, and whose shapes agree.
+/// The result of an operation on borrowed blocks, in order, whose shapes agree.
 pub fn compute<S: Semiring>(
     alloc: Global,
     operation: Operation,

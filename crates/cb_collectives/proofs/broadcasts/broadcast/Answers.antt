@@ -4,6 +4,7 @@ use Rattle.cb_collectives.specs.Collectives.{turned, copied_at, tree_moves, broa
 use Rattle.cb_collectives.proofs.PlanGrowth.{room_left}
 use Rattle.cb_collectives.proofs.Counts.{count_broadcast}
 use Rattle.cb_collectives.proofs.Places.{place-below}
+use Rattle.cb_collectives.proofs.Spread.{broadcast_spreads}
 use Rattle.cb_collectives.proofs.broadcasts.broadcast.Goals as goal
 
 pub acts_among-requires : goal.acts_among-requires
@@ -30,3 +31,7 @@ returns-in_err-make_room-clause-faults c =
     let h = rw f at c.in_err-make_room.ensures.faults in
     let g = c.from_residual.ensures in
     search rules
+
+pub returns-in_err-make_room-clause-means : goal.returns-in_err-make_room-clause-means
+returns-in_err-make_room-clause-means c ops state =
+    broadcast_spreads ops c.args.members.now c.args.root c.args.tag c.args.slot c.args.into state c.requires.root

@@ -1,4 +1,4 @@
-use Rattle.std.proofs.Common.{◌≡◌, ◌*◌, ◌<◌, List, refl, sym, subst, ◌∙◌, ap, arith}
+use Rattle.std.proofs.Common.{◌≡◌, ◌*◌, List, refl, sym, subst, ◌∙◌, ap}
 use Rattle.std.proofs.lemmas.Result.{IfOk-weaker}
 use Rattle.cb_plan.specs.declared.plans.Planned.{Planned}
 use Rattle.cb_plan.specs.declared.acts.Act.{Act}
@@ -15,9 +15,8 @@ pub placewise-requires-clause-slots : goal.placewise-requires-clause-slots
 placewise-requires-clause-slots c = subst (λ (os : List Operand). NamesSlots os) (sym c.one_operand.ensures) refl
 
 pub placewise-requires-clause-flows : goal.placewise-requires-clause-flows
-placewise-requires-clause-flows c =
+placewise-requires-clause-flows c pos =
     let q = c.args.grid.now.side in
-    let pos : 0 < q = (let a = c.side-side.ensures.value in let b = c.side-side.ensures.some in omega arith) in
     subst (λ (os : List Operand). Flows (q * q) none_shut (started (operand_starts q os)) (each_rank q (λ _. op_is.Prune 0 c.args.test 2))) (sym c.one_operand.ensures) (prunes_flow q pos c.args.a c.args.test)
 
 pub returns-clause-starts : goal.returns-clause-starts

@@ -8,6 +8,7 @@ use Rattle.cb_plan_parts.specs.PlanParts.{each_rank, operand_starts}
 use Rattle.cb_plan_parts.specs.Growth.{IsWithinLimit}
 use Rattle.cb_plan_parts.proofs.LoopGrowth.{grew_all, grown_flows, within_new, within_first, within_rest}
 use Rattle.cb_grid_plans.specs.GridPlans.{placewise_acts}
+use Rattle.cb_grid_plans.proofs.Sides.{side_above, side_within}
 use Rattle.cb_grid_plans.proofs.Lengths.{placewise_at_most}
 use Rattle.cb_grid_plans.proofs.placewise.placewise.Goals as goal
 
@@ -17,7 +18,7 @@ whole q op new l e = within_new (placewise_acts q op) new e (let m = placewise_a
 pub work_everywhere-requires : goal.work_everywhere-requires
 work_everywhere-requires c =
     let q = c.args.grid.now.side in
-    let l : q ≤ 6 = (let a = c.side-side.ensures.value in let b = c.side-side.ensures.limit in omega arith) in
+    let l : q ≤ 6 = side_within _ _ c.ranks.ensures.value c.ranks.ensures.limit in
     within_first (each_rank q (λ _. c.args.op.now)) (shut_acts (q * q)) c.new-plan.result (whole q c.args.op.now c.new-plan.result l c.new-plan.ensures.acts)
 
 pub finish-requires-clause-ranks : goal.finish-requires-clause-ranks
@@ -26,14 +27,14 @@ finish-requires-clause-ranks c = c.in_ok-work_everywhere.ensures.acts.ranks_are 
 pub finish-requires-clause-limit : goal.finish-requires-clause-limit
 finish-requires-clause-limit c =
     let q = c.args.grid.now.side in
-    let l : q ≤ 6 = (let a = c.side-side.ensures.value in let b = c.side-side.ensures.limit in omega arith) in
+    let l : q ≤ 6 = side_within _ _ c.ranks.ensures.value c.ranks.ensures.limit in
     within_rest (each_rank q (λ _. c.args.op.now)) (shut_acts (q * q)) c.new-plan.result c.work_everywhere.new.plan (whole q c.args.op.now c.new-plan.result l c.new-plan.ensures.acts) c.in_ok-work_everywhere.ensures.acts
 
 pub finish-requires-clause-flows : goal.finish-requires-clause-flows
 finish-requires-clause-flows c =
     let q = c.args.grid.now.side in
     grown_flows (q * q) (operand_starts q c.args.operands.now) c.in-Ok.starts.items (each_rank q (λ _. c.args.op.now)) c.new-plan.result c.work_everywhere.new.plan
-    c.new-plan.ensures.acts c.in_ok-work_everywhere.ensures.acts c.in-Ok.ensures.starts c.requires.flows
+    c.new-plan.ensures.acts c.in_ok-work_everywhere.ensures.acts c.in-Ok.ensures.starts (c.requires.flows (side_above _ _ c.ranks.ensures.value c.ranks.ensures.some))
 
 pub returns-clause-starts : goal.returns-clause-starts
 returns-clause-starts c =

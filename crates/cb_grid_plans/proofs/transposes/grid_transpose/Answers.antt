@@ -10,6 +10,7 @@ use Rattle.cb_plan_parts.specs.PlanParts.{each_rank, operand_starts, NamesSlots}
 use Rattle.cb_plan_parts.specs.Growth.{IsWithinLimit, Grew}
 use Rattle.cb_plan_parts.proofs.LoopGrowth.{grew_all, grew_both, grown_flows, within_new, within_first, within_rest}
 use Rattle.cb_grid_plans.specs.GridPlans.{one_operand, mirror_acts, transpose_acts, IsTransposePlan}
+use Rattle.cb_grid_plans.proofs.Sides.{side_above, side_within}
 use Rattle.cb_grid_plans.proofs.Lengths.{transpose_at_most}
 use Rattle.cb_grid_plans.proofs.Mirror.{transpose_flow, is_transpose_plan}
 use Rattle.cb_grid_plans.proofs.transposes.grid_transpose.Goals as goal
@@ -28,13 +29,13 @@ most q new l e = within_first (turn q ++ mirror_acts q) (shut_acts (q * q)) new 
 pub work_everywhere-requires : goal.work_everywhere-requires
 work_everywhere-requires c =
     let q = c.args.grid.now.side in
-    let l : q ≤ 6 = (let a = c.side-side.ensures.value in let b = c.side-side.ensures.limit in omega arith) in
+    let l : q ≤ 6 = side_within _ _ c.ranks.ensures.value c.ranks.ensures.limit in
     within_first (turn q) (mirror_acts q) c.new-plan.result (most q c.new-plan.result l c.new-plan.ensures.acts)
 
 pub send_across-requires : goal.send_across-requires
 send_across-requires c =
     let q = c.args.grid.now.side in
-    let l : q ≤ 6 = (let a = c.side-side.ensures.value in let b = c.side-side.ensures.limit in omega arith) in
+    let l : q ≤ 6 = side_within _ _ c.ranks.ensures.value c.ranks.ensures.limit in
     within_rest (turn q) (mirror_acts q) c.new-plan.result c.work_everywhere.new.plan (most q c.new-plan.result l c.new-plan.ensures.acts) c.in_ok-work_everywhere.ensures.acts
 
 pub operand_starts-requires : goal.operand_starts-requires
@@ -50,14 +51,14 @@ finish-requires-clause-ranks c = c.in_ok-send_across.ensures.acts.ranks_are ∙ 
 pub finish-requires-clause-limit : goal.finish-requires-clause-limit
 finish-requires-clause-limit c =
     let q = c.args.grid.now.side in
-    let l : q ≤ 6 = (let a = c.side-side.ensures.value in let b = c.side-side.ensures.limit in omega arith) in
+    let l : q ≤ 6 = side_within _ _ c.ranks.ensures.value c.ranks.ensures.limit in
     within_rest (turn q ++ mirror_acts q) (shut_acts (q * q)) c.new-plan.result c.send_across.new.plan (whole q c.new-plan.result l c.new-plan.ensures.acts)
     (grown q c.new-plan.result c.work_everywhere.new.plan c.send_across.new.plan c.in_ok-work_everywhere.ensures.acts c.in_ok-send_across.ensures.acts)
 
 pub finish-requires-clause-flows : goal.finish-requires-clause-flows
 finish-requires-clause-flows c =
     let q = c.args.grid.now.side in
-    let pos : 0 < q = (let a = c.side-side.ensures.value in let b = c.side-side.ensures.some in omega arith) in
+    let pos : 0 < q = side_above _ _ c.ranks.ensures.value c.ranks.ensures.some in
     let is = c.in-Ok.ensures.starts ∙ ap (λ (os : List Operand). operand_starts q os) c.one_operand.ensures in
     grown_flows (q * q) (operand_starts q (one_operand c.args.a)) c.in-Ok.starts.items (turn q ++ mirror_acts q) c.new-plan.result c.send_across.new.plan
     c.new-plan.ensures.acts (grown q c.new-plan.result c.work_everywhere.new.plan c.send_across.new.plan c.in_ok-work_everywhere.ensures.acts c.in_ok-send_across.ensures.acts) is (transpose_flow q pos c.args.a)

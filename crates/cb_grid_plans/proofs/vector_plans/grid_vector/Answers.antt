@@ -8,6 +8,7 @@ use Rattle.cb_collectives.specs.Collectives.{shut_acts}
 use Rattle.cb_plan_parts.specs.Growth.{IsWithinLimit, Grew}
 use Rattle.cb_plan_parts.proofs.LoopGrowth.{grew_all, grown_flows, within_new, within_first, within_rest}
 use Rattle.cb_grid_plans.specs.VectorPlans.{vector_starts, spread_product_acts, vector_acts, IsVectorPlan}
+use Rattle.cb_grid_plans.proofs.Sides.{side_above, side_within}
 use Rattle.cb_grid_plans.proofs.VectorLengths.{vector_at_most}
 use Rattle.cb_grid_plans.proofs.VectorStarts.{vector_flow}
 use Rattle.cb_grid_plans.proofs.SpreadProduct.{is_vector_plan}
@@ -19,20 +20,20 @@ whole q a new l e = within_new (vector_acts q a) new e (let m = vector_at_most q
 pub multiply_spread-requires : goal.multiply_spread-requires
 multiply_spread-requires c =
     let q = c.args.grid.now.side in
-    let l : q ≤ 6 = (let a = c.side-side.ensures.value in let b = c.side-side.ensures.limit in omega arith) in
+    let l : q ≤ 6 = side_within _ _ c.ranks.ensures.value c.ranks.ensures.limit in
     within_first (spread_product_acts q c.args.a) (shut_acts (q * q)) c.new-plan.result (whole q c.args.a c.new-plan.result l c.new-plan.ensures.acts)
 
 pub finish-requires-clause-limit : goal.finish-requires-clause-limit
 finish-requires-clause-limit c =
     let q = c.args.grid.now.side in
-    let l : q ≤ 6 = (let a = c.side-side.ensures.value in let b = c.side-side.ensures.limit in omega arith) in
+    let l : q ≤ 6 = side_within _ _ c.ranks.ensures.value c.ranks.ensures.limit in
     within_rest (spread_product_acts q c.args.a) (shut_acts (q * q)) c.new-plan.result c.multiply_spread.new.plan (whole q c.args.a c.new-plan.result l c.new-plan.ensures.acts) c.in_ok-multiply_spread.ensures.acts
 
 pub finish-requires-clause-flows : goal.finish-requires-clause-flows
 finish-requires-clause-flows c =
     let q = c.args.grid.now.side in
-    let pos : 0 < q = (let a = c.side-side.ensures.value in let b = c.side-side.ensures.some in omega arith) in
-    let few : q ≤ 6 = (let a = c.side-side.ensures.value in let b = c.side-side.ensures.limit in omega arith) in
+    let pos : 0 < q = side_above _ _ c.ranks.ensures.value c.ranks.ensures.some in
+    let few : q ≤ 6 = side_within _ _ c.ranks.ensures.value c.ranks.ensures.limit in
     grown_flows (q * q) (vector_starts q c.args.a) c.in-Ok.starts.items (spread_product_acts q c.args.a) c.new-plan.result c.multiply_spread.new.plan
     c.new-plan.ensures.acts c.in_ok-multiply_spread.ensures.acts c.in-Ok.ensures.starts (vector_flow q c.args.a pos few)
 
@@ -43,8 +44,8 @@ acts_are q a acts new now e h is = is ∙ ap (λ xs. xs ++ shut_acts (q * q)) (g
 pub returns-clause-product : goal.returns-clause-product
 returns-clause-product c =
     let q = c.args.grid.now.side in
-    let pos : 0 < q = (let a = c.side-side.ensures.value in let b = c.side-side.ensures.some in omega arith) in
-    let few : q ≤ 6 = (let a = c.side-side.ensures.value in let b = c.side-side.ensures.limit in omega arith) in
+    let pos : 0 < q = side_above _ _ c.ranks.ensures.value c.ranks.ensures.some in
+    let few : q ≤ 6 = side_within _ _ c.ranks.ensures.value c.ranks.ensures.limit in
     IfOk-weaker c.finish.result (λ (p : Planned). p.plan.acts ≡ c.multiply_spread.new.plan.acts ++ shut_acts (q * q)) (λ p. IsVectorPlan p.plan.acts q c.args.a)
     (λ p e. subst (λ (acts : List Act). IsVectorPlan acts q c.args.a) (sym (acts_are q c.args.a p.plan.acts c.new-plan.result c.multiply_spread.new.plan c.new-plan.ensures.acts c.in_ok-multiply_spread.ensures.acts e)) (is_vector_plan q pos few c.args.a))
     c.finish.ensures.acts

@@ -1,6 +1,7 @@
 use Rattle.std.proofs.Common.{◌<◌, ◌+◌, ◌-◌, ap, ◌∙◌, arith, get_or, length, subst, sym}
 use Rattle.cb_matrix.specs.Sparse.{Extent, Sparse}
-use Rattle.cb_reshape.specs.Moving.{Fits, with_entries}
+use Rattle.cb_reshape.specs.Moving.{Fits}
+use Rattle.cb_dcsc.specs.Columns.{with_entries}
 use Rattle.cb_reshape.proofs.PartOfColumn.{taken_none, taken_more, taken_all, taken_before, old_before, stored_more, stored_none}
 use Rattle.cb_reshape.proofs.parts.append_column.Goals as goal
 

@@ -1,6 +1,6 @@
 use Rattle.std.proofs.Common.{rules, ◌∙◌, inl, inr}
 use Rattle.cb_market.proofs.scanner.Scanner.number.Goals.{else-self-before-via-then-self-before+else-is_word_end, else-self-before-via-else-self-before}
-use Rattle.cb_market.proofs.Fronts.{number_whole, number_rest, number_ended, number_none}
+use Rattle.cb_market.proofs.FrontWords.{number_whole, number_rest, number_ended, number_none}
 use Rattle.cb_market.proofs.scanner.Scanner.number.Goals as goal
 
 pub returns-then-is_word_end-clause-number : goal.returns-then-is_word_end-clause-number
