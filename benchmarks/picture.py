@@ -2,6 +2,7 @@
 from math import ceil, floor, log2
 
 COLOURS = {
+    "cbgrid's ranks": "#56b4e9",
     "plain C++": "#555555",
     "GraphBLAS": "#0072b2",
     "Eigen": "#009e73",

@@ -12,8 +12,8 @@ use std::test::Fail;
 /// The last row and the last column of the largest sides.
 const LAST: u32 = LIMIT - 1;
 
-/// The lists of a block: the columns that have entries, where those of each stand among all, and the rows and the values of
-/// these.
+/// The lists of a block: the columns that have entries, the range of each column's entries among all, and the rows and the
+/// values of the entries.
 #[derive(Clone, Copy)]
 struct Lists {
     columns: &'static [u32],
@@ -22,7 +22,7 @@ struct Lists {
     values: &'static [u64],
 }
 
-/// Whether the entries of the columns of a block stand at these places among all.
+/// Whether the columns of a block have these ranges of entries.
 fn has_ranges<S: Semiring>(block: &Block<S>, ranges: &[(usize, usize)]) -> bool {
     if block.columns() != ranges.len() {
         return false;
@@ -43,7 +43,7 @@ fn has_lists<S: Semiring>(block: &Block<S>, lists: &Lists) -> bool {
         && block.values() == lists.values
 }
 
-/// Entries of two among a thousand columns.
+/// Entries in two of a thousand columns.
 const SPREAD: &'static [Entry] = entries![(0, 3, 5), (2, 3, 6), (1, 900, 7)];
 
 const OF_SPREAD: Lists = Lists {
@@ -60,8 +60,8 @@ const NONE: Lists = Lists {
     values: &[],
 };
 
-/// The sides of a block (rows, columns), its entries, and its lists. The second is a vector, whose row 0 isn't stored; the
-/// third has the largest sides, which cost what its entries cost.
+/// The sides of a block (rows, columns), its entries, and its lists. The second is a vector, whose row 0 isn't stored. The
+/// third has the largest sides, which cost no more than its entries.
 const BLOCKS: [((u32, u32), &'static [Entry], Lists); 6] = [
     ((4, 1000), SPREAD, OF_SPREAD),
     (
@@ -89,7 +89,7 @@ const BLOCKS: [((u32, u32), &'static [Entry], Lists); 6] = [
     ((LIMIT, LIMIT), &[], NONE),
 ];
 
-/// Whether the block of these entries, and its copy, have these lists and these entries; or why there is none.
+/// Whether the block of these entries and its copy have these lists and entries; or why there is no block.
 fn is_held(
     alloc: Global,
     sides: (u32, u32),
@@ -113,11 +113,11 @@ fn the_lists_hold_the_columns_that_have_entries(rt: HostRuntime) {
 
 /// Passes whichever single allocation is refused (`rt try --test --fail-alloc N`, for each N in turn).
 #[test]
-fn refused_memory_is_said(rt: HostRuntime) {
+fn refused_memory_is_reported(rt: HostRuntime) {
     assert!(rt; is_right_or_refused(is_held(rt.alloc(), (4, 1000), SPREAD, &OF_SPREAD)));
 }
 
-/// A block of four rows and a thousand columns that grew by one entry, and then took room for more.
+/// The entries of a block of four rows and a thousand columns that grew by one entry and then took room for more.
 fn grown(alloc: Global, shape: Shape) -> Result<Vec<Entry>, AllocError>
     requires { shape ≡ record { rows = 4; cols = 1000 } }
 {
@@ -127,7 +127,7 @@ fn grown(alloc: Global, shape: Shape) -> Result<Vec<Entry>, AllocError>
     block.entries()
 }
 
-/// With ample memory each call that takes some succeeds.
+/// With ample memory every call that takes memory succeeds.
 #[test]
 fn a_block_grows_by_entries(rt: HostRuntime) -> Result<(), Fail> {
     let entries = grown(rt.alloc(), shape(4, 1000)?)?;
@@ -135,7 +135,7 @@ fn a_block_grows_by_entries(rt: HostRuntime) -> Result<(), Fail> {
     Ok(())
 }
 
-/// Entries of which no block is made, and why.
+/// Entries that make no block, and why.
 const FAULTS: [(&'static [Entry], BlockFault); 4] = [
     (
         entries![(2, 3, 6), (0, 3, 5), (1, 900, 7)],
@@ -164,7 +164,7 @@ fn the_first_fault_is_named(rt: HostRuntime) {
     }
 }
 
-/// Whether the block of the spread entries is walked by its two columns, and looked up by columns and places.
+/// Whether the block of the spread entries gives its columns by index and by number, and the range of a column.
 fn is_walked(block: &Block<MinPlus>) -> bool {
     block.columns() == 2
         && block.column_number(1) == 900
@@ -174,7 +174,7 @@ fn is_walked(block: &Block<MinPlus>) -> bool {
         && block.range(3) == (0, 2)
 }
 
-/// Whether a place has its entry, or the zero.
+/// Whether places have their values: those of entries, or zero.
 fn is_looked_up(block: &Block<MinPlus>) -> bool {
     if block.shape().rows() != 4 || block.shape().cols() != 1000 {
         return false;
@@ -189,7 +189,7 @@ fn a_block_is_walked_and_looked_up(rt: HostRuntime) -> Result<(), Fail> {
     Ok(())
 }
 
-/// A column comes after all the others; one without rows isn't stored.
+/// A column is appended after all others; one without rows isn't stored.
 #[test]
 fn a_column_is_stored_whole(rt: HostRuntime) -> Result<(), Fail> {
     let mut block = Block::<PlusTimes>::empty(rt.alloc(), shape(4, 1000)?);
@@ -206,7 +206,7 @@ fn a_column_is_stored_whole(rt: HostRuntime) -> Result<(), Fail> {
     Ok(())
 }
 
-/// A block of or-and is one of min-plus.
+/// A block over or-and is taken as one over min-plus.
 fn taken_over(block: Block<OrAnd>) -> Block<MinPlus>
     ensures { result ≡ block }
 {
@@ -222,7 +222,7 @@ fn a_block_is_taken_over_to_another_semiring(rt: HostRuntime) -> Result<(), Fail
     Ok(())
 }
 
-/// Whether a block gives its lists away.
+/// Whether a block is taken apart into these lists.
 fn gives(block: Block<PlusTimes>, lists: &Lists) -> bool {
     let (columns, rows, values) = block.into_lists();
     columns.as_slice() == lists.columns
@@ -237,13 +237,14 @@ fn a_block_gives_its_lists_away(rt: HostRuntime) -> Result<(), Fail> {
     Ok(())
 }
 
-/// Whether a block has so many entries and columns, and this value in row 2 of column 3, or none of them.
+/// Whether a block has this many entries and columns and this value in row 2 of column 3; or, if not `all`, nothing.
 fn has_all_or_nothing(block: &Block<PlusTimes>, all: bool, held: (usize, usize, u64)) -> bool {
     let wanted = if all { held } else { (0, 0, 0) };
     (block.len(), block.columns(), block.get(2, 3)) == wanted
 }
 
-/// Passes whichever single allocation is refused: where the call that a block grows by is refused, the block is as it was.
+/// Passes whichever single allocation is refused: if the call that would grow a block is refused, the block is
+/// unchanged.
 #[test]
 fn a_refused_push_stores_nothing(rt: HostRuntime) -> Result<(), Fail> {
     let mut block = Block::<PlusTimes>::empty(rt.alloc(), shape(4, 1000)?);

@@ -14,7 +14,7 @@ const TOP: u64 = u64::MAX;
 /// The last column of the largest sides.
 const LAST: u32 = LIMIT - 1;
 
-/// The vector of so many rows with these entries.
+/// The vector of this many rows with these entries.
 fn vector<S: Semiring>(alloc: Global, rows: u32, entries: &[Entry]) -> Result<Matrix<S>, Fail>
     ensures { IfOk result (λ m. m.shape ≡ record { rows = rows; cols = 1 }) }
 {
@@ -24,7 +24,8 @@ fn vector<S: Semiring>(alloc: Global, rows: u32, entries: &[Entry]) -> Result<Ma
     Ok(Matrix::from_entries(alloc, shape(rows, 1)?, entries)?)
 }
 
-/// Sums, a block of so many columns, with a row for each sum, a vector, and the sums with the product of the two added.
+/// Sums; a block of this many columns, with a row for each sum; a vector; and the sums with the product of the block and
+/// the vector added.
 struct Case {
     sums: &'static [u64],
     columns: u32,
@@ -33,7 +34,7 @@ struct Case {
     wanted: &'static [u64],
 }
 
-/// Whether the product is added.
+/// Whether adding the product gives the expected sums.
 fn is_added<S: Semiring>(alloc: Global, case: &Case) -> Result<bool, Fail> {
     let mut sums = case.sums.to_vec(alloc)?;
     let rows = u32::try_from(sums.len()).map_err(|_| "too many rows")?;
@@ -46,7 +47,7 @@ fn is_added<S: Semiring>(alloc: Global, case: &Case) -> Result<bool, Fail> {
     Ok(sums.as_slice() == case.wanted)
 }
 
-/// Four rows and five columns, of which two have no entries:
+/// Four rows and five columns, two of them without entries:
 ///
 /// ```text
 /// 1 . . 5 .
@@ -56,8 +57,8 @@ fn is_added<S: Semiring>(alloc: Global, case: &Case) -> Result<bool, Fail> {
 /// ```
 const GAPPED: &'static [Entry] = entries![(0, 0, 1), (2, 0, 2), (1, 2, 3), (2, 2, 4), (0, 3, 5)];
 
-/// With and without columns that have no entries, before, between and behind those that have some; a sum that comes to
-/// zero; a vector without entries; and 2,147,483,647 columns, of which two have entries.
+/// With and without empty columns before, between and after those that have entries; a sum that is zero; a vector without
+/// entries; and 2,147,483,647 columns, two of them with entries.
 const CASES: [Case; 6] = [
     Case {
         sums: &[0, 0, 0, 0],
@@ -103,7 +104,7 @@ const CASES: [Case; 6] = [
     },
 ];
 
-/// The least of what is there and of the walks by one edge more. Infinity is the zero.
+/// The minimum of each distance and of the walks by one more edge. Infinity is the zero.
 const LEAST: Case = Case {
     sums: &[20, 50, TOP, TOP],
     columns: 5,

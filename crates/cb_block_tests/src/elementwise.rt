@@ -11,7 +11,7 @@ const TOP: u64 = u64::MAX;
 /// The last row and the last column of the largest sides.
 const LAST: u32 = LIMIT - 1;
 
-/// What two blocks of one shape are put together by.
+/// How two blocks of one shape are combined.
 #[derive(Clone, Copy)]
 enum Join {
     Add,
@@ -20,7 +20,7 @@ enum Join {
     Exclude,
 }
 
-/// Two blocks of these sides (rows, columns), and the entries that they make together.
+/// Two blocks of these sides (rows, columns), and the entries of their combination.
 struct Case {
     join: Join,
     sides: (u32, u32),
@@ -29,7 +29,7 @@ struct Case {
     wanted: &'static [Entry],
 }
 
-/// Whether two blocks make these entries.
+/// Whether the combination of two blocks is the expected one.
 fn is_joined<S: Semiring>(alloc: Global, case: &Case) -> Result<bool, SampleFault> {
     let (rows, cols) = case.sides;
     let a = block::<S>(alloc, rows, cols, case.left)?;
@@ -43,7 +43,7 @@ fn is_joined<S: Semiring>(alloc: Global, case: &Case) -> Result<bool, SampleFaul
     Ok(has_entries(&made?, case.wanted))
 }
 
-/// Whether the test leaves these entries of a block of these sides.
+/// Whether pruning a block of these sides by a test leaves the expected entries.
 fn is_pruned(
     alloc: Global,
     sides: (u32, u32),
@@ -62,7 +62,7 @@ const FIRST: &'static [Entry] = entries![(0, 0, 1), (0, 1, 2), (1, 1, 3)];
 
 const SECOND: &'static [Entry] = entries![(1, 0, 4), (0, 1, 1)];
 
-/// What is masked, two by two.
+/// A block to mask, two by two.
 const GIVEN: &'static [Entry] = entries![(0, 0, 8), (1, 0, 12), (0, 1, 1)];
 
 const FAR: &'static [Entry] = entries![(LAST, 0, 2), (LAST, LAST, 3)];
@@ -119,7 +119,7 @@ const CASES: [Case; 17] = [
         right: &[],
         wanted: GIVEN,
     },
-    // what comes to zero isn't stored
+    // results that are zero aren't stored
     Case {
         join: Join::Add,
         sides: (2, 1),
@@ -134,7 +134,7 @@ const CASES: [Case; 17] = [
         right: entries![(0, 0, 1), (1, 0, 1 << 32)],
         wanted: entries![(0, 0, TOP)],
     },
-    // the largest sides, which cost what the entries cost
+    // the largest sides, which cost no more than the entries
     Case {
         join: Join::Add,
         sides: (LIMIT, LIMIT),
@@ -202,7 +202,7 @@ fn sums_products_and_masks(rt: HostRuntime) {
     }
 }
 
-/// Distances stop at infinity; and a mask's entry counts by being stored: the 0 of min-plus is its one.
+/// Sums of min-plus saturate at infinity; and a mask is structural, so a stored 0, the one of min-plus, is part of it.
 const OF_MIN_PLUS: [Case; 4] = [
     Case {
         join: Join::Add,
@@ -241,7 +241,8 @@ fn semirings_are_joined_in_their_own_way(rt: HostRuntime) {
     }
 }
 
-/// A block of these sides, a test, and what it leaves. What is dropped is strictly below, strictly above, or equal.
+/// A block of these sides, a test, and the entries that are left. Those that are dropped are strictly below, strictly
+/// above, or equal.
 const PRUNED: [((u32, u32), &'static [Entry], Test, &'static [Entry]); 9] = [
     ((2, 2), FIRST, Test::Above(1), entries![(0, 0, 1)]),
     (
@@ -276,10 +277,10 @@ fn entries_that_pass_the_test_are_dropped(rt: HostRuntime) {
     }
 }
 
-/// Passes whichever single allocation is refused (`rt try --test --fail-alloc N`, for each N in turn): the answer
-/// is right, or memory was wanting.
+/// Passes whichever single allocation is refused (`rt try --test --fail-alloc N`, for each N in turn): the result is
+/// right, or the error is want of memory.
 #[test]
-fn refused_memory_is_said(rt: HostRuntime) {
+fn refused_memory_is_reported(rt: HostRuntime) {
     for case in &CASES {
         assert!(rt; is_right_or_refused(is_joined::<PlusTimes>(rt.alloc(), case)));
     }

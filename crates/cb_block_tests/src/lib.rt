@@ -1,8 +1,8 @@
-//! What the calls of the libraries of blocks answer, at values from outside: semirings, matrices, doubly compressed
-//! blocks and the kernels over them.
+//! Tests of semirings, matrices, doubly compressed blocks and the kernels over them.
 //!
-//! Each module holds the tests of one library, through its public calls alone. Those named for refused memory accept
-//! the right answer or the error for want of memory; the others need ample memory.
+//! Each module tests one library through its public calls alone. Expected values are worked out by hand or by a slow
+//! reference. Tests named for refused memory accept the right result or the error for want of memory; the others need
+//! ample memory.
 #![tactic(auto)]
 
 #[cfg(test)]
@@ -15,6 +15,8 @@ mod elementwise;
 mod masked;
 #[cfg(test)]
 mod matrix;
+#[cfg(test)]
+mod panels;
 #[cfg(test)]
 mod product;
 #[cfg(test)]

@@ -1,5 +1,5 @@
-//! Worked examples, with ample memory and with each allocation refused in turn, and random products beside the product
-//! that is made whole and then masked.
+//! Worked examples, with ample memory and with each allocation refused in turn, and random products compared with the
+//! whole product, masked afterwards.
 ghost use Rattle.std.specs.Prelude.{◌≡◌, IfOk};
 ghost use Rattle.cb_matrix.specs.Values.{product_shape};
 
@@ -15,7 +15,7 @@ use std::alloc::{AllocError, Global};
 /// Entries, as row, column and value.
 type Places = &'static [(u32, u32, u64)];
 
-/// Two operands, of these sides (rows, inner side, columns), a mask, and what it leaves of their product.
+/// Two operands of these sides (rows, inner side, columns), a mask, and their product under it.
 struct Row {
     sides: [u32; 3],
     left: Places,
@@ -26,13 +26,14 @@ struct Row {
 
 const LAST: u32 = LIMIT - 1;
 
-/// The operands of two by two, whose product is 8, 12 below it, and 1 beside it.
+/// Two by two operands, whose product has 8, 12 below it, and 1 beside it.
 const LEFT: Places = &[(0, 0, 1), (0, 1, 2), (1, 1, 3)];
 
 const RIGHT: Places = &[(1, 0, 4), (0, 1, 1)];
 
-/// No entries in the mask; one everywhere; one where the product has one, and two where it has none; a column of the mask
-/// that the right operand doesn't have. Sums that wrap to zero. The largest sides. A column that is long for the mask's.
+/// A mask without entries, and one with an entry at every place; a mask with an entry where the product has one, and two
+/// where it has none; a column of the mask that is empty in the right operand; sums that wrap to zero; the largest sides;
+/// and a column that is long compared with the mask's.
 const OF_PLUS_TIMES: [Row; 7] = [
     Row {
         sides: [2, 2, 2],
@@ -122,7 +123,7 @@ const OF_PLUS_TIMES: [Row; 7] = [
     },
 ];
 
-/// A mask's entry counts by being stored: the 0 of min-plus is its one.
+/// A mask is structural, so a stored 0, the one of min-plus, is part of it.
 const OF_MIN_PLUS: Row = Row {
     sides: [2, 2, 2],
     left: &[(0, 0, 1), (1, 0, 0), (0, 1, 2)],
@@ -131,7 +132,8 @@ const OF_MIN_PLUS: Row = Row {
     wanted: &[(1, 0, 0), (0, 1, 4), (1, 1, 3)],
 };
 
-/// A triangle and an edge: under the graph, its square counts the triangles on each edge, in both directions.
+/// A triangle and an edge. The square of the graph, masked by the graph, counts the triangles on each edge in both
+/// directions.
 const TRIANGLE: Places = &[
     (1, 0, 1),
     (2, 0, 1),
@@ -158,7 +160,7 @@ const OF_PLUS_PAIR: Row = Row {
     ],
 };
 
-/// One entry more.
+/// Appends an entry.
 fn push(entries: &mut Vec<Entry>, entry: Entry) -> Result<(), AllocError> {
     entries.push(entry)?;
     Ok(())
@@ -180,7 +182,7 @@ fn of_places<S: Semiring>(
     block(alloc, rows, cols, &entries)
 }
 
-/// The entries of a row's product under its mask, and those that are wanted.
+/// The entries of a row's product under its mask, and the expected ones.
 fn made<S: Semiring>(alloc: Global, row: &Row) -> Result<(Vec<Entry>, Vec<Entry>), SampleFault> {
     let [rows, inner, cols] = row.sides;
     let left = of_places::<S>(alloc, rows, inner, row.left)?;
@@ -191,7 +193,7 @@ fn made<S: Semiring>(alloc: Global, row: &Row) -> Result<(Vec<Entry>, Vec<Entry>
     Ok((found.entries()?, wanted.entries()?))
 }
 
-/// Whether a row's product under its mask is the one that is wanted.
+/// Whether a row's product under its mask is the expected one.
 fn is_right<S: Semiring>(alloc: Global, row: &Row) -> bool {
     match made::<S>(alloc, row) {
         Ok((found, wanted)) => found.as_slice() == wanted.as_slice(),
@@ -199,7 +201,7 @@ fn is_right<S: Semiring>(alloc: Global, row: &Row) -> bool {
     }
 }
 
-/// Whether it is, or memory was wanting.
+/// Whether it is, or memory is refused.
 fn is_right_or_refused<S: Semiring>(alloc: Global, row: &Row) -> bool {
     match made::<S>(alloc, row) {
         Ok((found, wanted)) => found.as_slice() == wanted.as_slice(),
@@ -222,19 +224,19 @@ fn masked_products_of_other_semirings(rt: HostRuntime) {
 
 /// Passes whichever single allocation is refused (`rt try --test --fail-alloc N`, for each N in turn).
 #[test]
-fn a_refused_masked_product_answers_memory(rt: HostRuntime) {
+fn a_refused_masked_product_reports_memory(rt: HostRuntime) {
     assert!(rt; is_right_or_refused::<PlusPair>(rt.alloc(), &OF_PLUS_PAIR));
 }
 
-/// The next of some numbers without an order.
+/// The next pseudo-random number.
 fn next(number: u32) -> u32 {
     let number = number ^ number.wrapping_shl(13);
     let number = number ^ (number >> 17);
     number ^ number.wrapping_shl(5)
 }
 
-/// A block with an entry at about one place in so many, among the first rows and columns.
-fn random<S: Semiring>(
+/// A random block with an entry at about one in this many of the places of the first rows and columns.
+pub(crate) fn random<S: Semiring>(
     alloc: Global,
     rows: u32,
     cols: u32,
@@ -257,11 +259,11 @@ fn random<S: Semiring>(
     block(alloc, rows, cols, &entries)
 }
 
-/// A random round: the sides (rows, inner side, columns) of the shape, and of what has entries; and one in how many places
-/// of the left operand, the right one and the mask has an entry.
+/// A round of random operands: the sides (rows, inner side, columns), the sides of the part with entries, and one in how
+/// many places has an entry in the left operand, the right one and the mask.
 type Round = ([u32; 3], [u32; 3], [u32; 3]);
 
-/// Few rows and many; a dense left operand and a mask with few entries; the largest sides.
+/// Few rows and many; a dense left operand with a sparse mask; and the largest sides.
 const ROUNDS: [Round; 5] = [
     ([9, 7, 8], [9, 7, 8], [2, 2, 2]),
     ([60, 6, 5], [60, 6, 5], [1, 2, 40]),
@@ -270,7 +272,7 @@ const ROUNDS: [Round; 5] = [
     ([300, 200, 100], [20, 6, 5], [1, 1, 30]),
 ];
 
-/// Whether the product under a mask is the product, masked.
+/// Whether the product under a mask is the whole product, masked.
 fn agree<S: Semiring>(
     alloc: Global,
     left: &Block<S>,
@@ -286,7 +288,7 @@ fn agree<S: Semiring>(
     Ok(found.as_slice() == wanted.as_slice())
 }
 
-/// Whether it is in a random round.
+/// Whether it is so in a random round.
 fn is_same<S: Semiring>(alloc: Global, round: &Round, seed: u32) -> Result<bool, SampleFault> {
     let ([rows, inner, cols], [rows_used, inner_used, cols_used], [one, two, three]) = *round;
     let left = random::<S>(alloc, rows, inner, (rows_used, inner_used), one, seed)?;
@@ -295,7 +297,7 @@ fn is_same<S: Semiring>(alloc: Global, round: &Round, seed: u32) -> Result<bool,
     Ok(agree(alloc, &left, &right, &stencil)?)
 }
 
-/// Whether it is for all of some seeds.
+/// Whether it is so for several seeds.
 fn are_same<S: Semiring>(alloc: Global, round: &Round) -> bool {
     (1..20).all(|seed| matches!(is_same::<S>(alloc, round, seed * 7919), Ok(true)))
 }

@@ -9,7 +9,7 @@ use std::test::Fail;
 /// The last row and the last column of the largest sides.
 const LAST: u32 = LIMIT - 1;
 
-/// The matrix of so many rows and columns with the sums of these entries.
+/// The matrix of this many rows and columns with the sums of these entries.
 pub(crate) fn matrix<S: Semiring>(
     alloc: Global,
     rows: u32,
@@ -22,8 +22,8 @@ pub(crate) fn matrix<S: Semiring>(
     Ok(Matrix::from_entries(alloc, shape(rows, cols)?, entries)?)
 }
 
-/// Two factors and the entries of their product. The first has so many rows and columns, and the second as many rows as the
-/// first has columns, and so many columns.
+/// Two factors and the entries of their product. The sides are the rows of the first, the columns of the first, which are
+/// the rows of the second, and the columns of the second.
 struct Factors {
     sides: [u32; 3],
     left: &'static [Entry],
@@ -31,7 +31,7 @@ struct Factors {
     product: &'static [Entry],
 }
 
-/// Whether two matrices have their product.
+/// Whether the product of two matrices is the expected one.
 fn is_product<S: Semiring>(alloc: Global, factors: &Factors) -> Result<bool, Fail> {
     let [rows, inner, cols] = factors.sides;
     let outer = shape(rows, cols)?;
@@ -41,8 +41,8 @@ fn is_product<S: Semiring>(alloc: Global, factors: &Factors) -> Result<bool, Fai
     Ok(made.shape() == outer && made.entries() == factors.product)
 }
 
-/// Two by two; matrices without rows and columns; three sides that differ; the largest sides, which cost what the
-/// entries cost; and a product and a sum that come to zero and aren't stored.
+/// Two by two; no rows and columns; three different sides; the largest sides, which cost no more than the entries; and a
+/// product and a sum that are zero and aren't stored.
 const OF_PLUS_TIMES: [Factors; 6] = [
     Factors {
         sides: [2, 2, 2],
@@ -82,7 +82,7 @@ const OF_PLUS_TIMES: [Factors; 6] = [
     },
 ];
 
-/// Min-plus stops at infinity.
+/// Sums of min-plus saturate at infinity.
 const OF_MIN_PLUS: [Factors; 2] = [
     Factors {
         sides: [1, 1, 1],
@@ -98,7 +98,7 @@ const OF_MIN_PLUS: [Factors; 2] = [
     },
 ];
 
-/// A relation is squared.
+/// The square of a relation.
 const OF_OR_AND: Factors = Factors {
     sides: [3, 3, 3],
     left: entries![(1, 0, 1), (0, 1, 1), (2, 2, 1)],
@@ -124,7 +124,7 @@ fn has_entries<S: Semiring>(made: &Matrix<S>, wanted: &[Entry]) -> Result<bool, 
     Ok(copy.shape() == made.shape() && made.entries() == wanted && copy.entries() == wanted)
 }
 
-/// Whether entries make a matrix with these, or why they make none.
+/// Whether a slice of entries makes a matrix with these entries, or why it makes none.
 fn slice_makes<S: Semiring>(
     alloc: Global,
     shape: Shape,
@@ -138,7 +138,7 @@ fn slice_makes<S: Semiring>(
     Ok(has_entries(&made, wanted)?)
 }
 
-/// The same of a list that is given up.
+/// The same of a list that is moved in.
 fn list_makes<S: Semiring>(
     alloc: Global,
     shape: Shape,
@@ -152,7 +152,8 @@ fn list_makes<S: Semiring>(
     Ok(has_entries(&made, wanted)?)
 }
 
-/// Whether entries, as a slice and as a list, make a matrix of one row and two columns with these, or are answered so.
+/// Whether entries, as a slice and as a list, make a matrix of one row and two columns with these entries, or give this
+/// fault.
 fn both_make<S: Semiring>(
     alloc: Global,
     given: &[Entry],
@@ -194,7 +195,7 @@ fn shapes_that_do_not_meet_have_no_product(rt: HostRuntime) -> Result<(), Fail> 
     Ok(())
 }
 
-/// The value at a place, where it is inside.
+/// The value at a place, if the place is inside the matrix.
 fn looked_up(matrix: &Matrix<MinPlus>, row: u32, column: u32) -> Option<u64> {
     if row < matrix.rows() && column < matrix.cols() {
         Some(matrix.get(row, column))
@@ -203,7 +204,7 @@ fn looked_up(matrix: &Matrix<MinPlus>, row: u32, column: u32) -> Option<u64> {
     }
 }
 
-/// Places, and the values there of a matrix of three rows and four columns with entries at the first three.
+/// Places of a matrix of three rows and four columns, and their values. The first three have entries.
 const PLACES: [(u32, u32, Option<u64>); 7] = [
     (0, 1, Some(5)),
     (2, 1, Some(6)),
@@ -214,7 +215,7 @@ const PLACES: [(u32, u32, Option<u64>); 7] = [
     (0, 4, None),
 ];
 
-/// Whether each place has its value.
+/// Whether each place has the expected value.
 fn has_places(matrix: &Matrix<MinPlus>) -> bool {
     for (row, column, value) in PLACES {
         if looked_up(matrix, row, column) != value {
@@ -224,7 +225,7 @@ fn has_places(matrix: &Matrix<MinPlus>) -> bool {
     true
 }
 
-/// Whether its entries are counted by column and then by row.
+/// Whether its entries are numbered by column and then by row.
 fn is_counted(matrix: &Matrix<MinPlus>) -> bool {
     matrix.len() == 3
         && matrix.entry_at(0) == entry(0, 1, 5)
@@ -239,7 +240,7 @@ fn a_matrix_is_looked_up_by_places_and_walked(rt: HostRuntime) -> Result<(), Fai
     Ok(())
 }
 
-/// The diagonal of ones, out of order, with more entries than a sort takes in without memory.
+/// The diagonal of ones, out of order, with more entries than a sort can handle without memory.
 fn mixed_diagonal() -> [Entry; 24] {
     let mut given = [entry(0, 0, 1); 24];
     for index in 0..24u32 {
@@ -258,7 +259,7 @@ fn diagonal() -> [Entry; 24] {
     ordered
 }
 
-/// Whether the product of the diagonal with itself is the diagonal; or why it was refused.
+/// Whether the square of the diagonal is the diagonal; or why it was refused.
 fn is_its_square(alloc: Global, side: Shape, given: &[Entry]) -> Result<bool, ProductFault> {
     if !are_values::<PlusTimes>(given) {
         return Ok(false);
@@ -270,9 +271,9 @@ fn is_its_square(alloc: Global, side: Shape, given: &[Entry]) -> Result<bool, Pr
     Ok(square.entries() == matrix.entries())
 }
 
-/// Each call that takes memory, one after another. Where memory is refused a call says so, and nothing else.
+/// Every call that takes memory. If memory is refused, the call reports that and nothing else.
 #[test]
-fn refused_memory_is_said(rt: HostRuntime) -> Result<(), Fail> {
+fn refused_memory_is_reported(rt: HostRuntime) -> Result<(), Fail> {
     let (side, given, wanted) = (shape(24, 24)?, mixed_diagonal(), diagonal());
     for made in [
         slice_makes::<PlusTimes>(rt.alloc(), side, &given, &wanted),

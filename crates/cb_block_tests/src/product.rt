@@ -12,8 +12,8 @@ use std::test::Fail;
 /// The last row and the last column of the largest sides.
 const LAST: u32 = LIMIT - 1;
 
-/// Two factors and the entries of their product. The first has so many rows and columns, and the second as many rows as the
-/// first has columns, and so many columns.
+/// Two factors and the entries of their product. The sides are the rows of the first, the columns of the first, which are
+/// the rows of the second, and the columns of the second.
 #[derive(Clone, Copy)]
 struct Factors<'a> {
     sides: [u32; 3],
@@ -22,7 +22,7 @@ struct Factors<'a> {
     product: &'a [Entry],
 }
 
-/// Whether two blocks have their product.
+/// Whether the product of two blocks is the expected one.
 fn is_product<S: Semiring>(alloc: Global, factors: &Factors<'_>) -> Result<bool, SampleFault> {
     let [rows, inner, cols] = factors.sides;
     let a = block::<S>(alloc, rows, inner, factors.left)?;
@@ -31,7 +31,7 @@ fn is_product<S: Semiring>(alloc: Global, factors: &Factors<'_>) -> Result<bool,
     Ok(has_entries(&product, factors.product))
 }
 
-/// Entries in columns 1, 3, 4 and 6, and in none before, between and behind them.
+/// Entries in columns 1, 3, 4 and 6 alone.
 const GAPPED: &'static [Entry] = entries![
     (1, 1, 10),
     (0, 3, 30),
@@ -40,7 +40,7 @@ const GAPPED: &'static [Entry] = entries![
     (3, 6, 60)
 ];
 
-/// Three columns that meet in row 1.
+/// Three columns that share row 1.
 const MEETING: &'static [Entry] = entries![
     (1, 0, 1),
     (3, 0, 2),
@@ -60,21 +60,21 @@ const PRODUCTS: [Factors<'static>; 12] = [
         right: entries![(1, 0, 4), (0, 1, 1)],
         product: entries![(0, 0, 8), (1, 0, 12), (0, 1, 1)],
     },
-    // a sum that comes to zero
+    // a sum that is zero
     Factors {
         sides: [3, 2, 1],
         left: entries![(0, 0, 1), (2, 0, 1), (0, 1, u64::MAX), (1, 1, 5)],
         right: entries![(0, 0, 1), (1, 0, 1)],
         product: entries![(1, 0, 5), (2, 0, 1)],
     },
-    // the largest sides, which cost what the entries cost
+    // the largest sides, which cost no more than the entries
     Factors {
         sides: [LIMIT; 3],
         left: entries![(0, LAST, 7), (LAST, LAST, 5)],
         right: entries![(LAST, 4, 3)],
         product: entries![(0, 4, 21), (LAST, 4, 15)],
     },
-    // columns that name one column and are scaled copies of it, where 2 times 2^63 is zero
+    // columns that select one column and are scaled copies of it, where 2 times 2^63 is zero
     Factors {
         sides: [3, 2, 2],
         left: entries![(0, 0, 1 << 63), (2, 0, 3), (1, 1, 9)],
@@ -88,7 +88,7 @@ const PRODUCTS: [Factors<'static>; 12] = [
         right: entries![(LAST, 0, 2)],
         product: entries![(LAST, 0, 6)],
     },
-    // among 5 rows the products are summed row by row, among 2,147,483,647 the columns are joined
+    // with 5 rows the products are summed row by row, with 2,147,483,647 the columns are joined
     Factors {
         sides: [5, 3, 1],
         left: MEETING,
@@ -108,8 +108,8 @@ const PRODUCTS: [Factors<'static>; 12] = [
         right: &[],
         product: &[],
     },
-    // a column that has entries, and some that have none, before, between and behind those that do: each is asked for by
-    // a block of its own, and searched for
+    // a column that has entries, and columns without entries before, between and after those that do: each product
+    // looks up one of them
     Factors {
         sides: [5, 8, 1],
         left: GAPPED,
@@ -157,7 +157,7 @@ fn blocks_without_rows_or_columns_have_empty_products(rt: HostRuntime) {
     }
 }
 
-/// Rows that are so far apart, from the first on, so many of them, in one column.
+/// This many entries of one column, whose rows are `step` apart.
 fn rows_apart(
     alloc: Global,
     step: u32,
@@ -172,7 +172,7 @@ fn rows_apart(
     Ok(entries)
 }
 
-/// Whether eight columns of a block with columns in gaps are found, all asked for by one column.
+/// Whether eight columns of a block with gaps are looked up correctly by one column of the other factor.
 fn finds_eight(alloc: Global, cols: u32) -> Result<bool, SampleFault> {
     let all = rows_apart(alloc, 1, 8, 0, 1)?;
     let factors = Factors {
@@ -184,7 +184,7 @@ fn finds_eight(alloc: Global, cols: u32) -> Result<bool, SampleFault> {
     is_product::<PlusTimes>(alloc, &factors)
 }
 
-/// Entries in every 200,000,000th column.
+/// Entries in columns that are 200,000,000 apart.
 const FAR_APART: &'static [Entry] = entries![
     (0, 0, 1),
     (1, 200_000_000, 2),
@@ -196,7 +196,7 @@ const FAR_APART: &'static [Entry] = entries![
     (7, 1_400_000_000, 8)
 ];
 
-/// Whether every 25,000,000th column is asked for of a block where one in eight of these has an entry.
+/// Whether columns that are 25,000,000 apart are looked up correctly in a block where one in eight of them has an entry.
 fn finds_one_in_eight(alloc: Global) -> Result<bool, SampleFault> {
     let asked = rows_apart(alloc, 25_000_000, 64, 5, 3)?;
     let factors = Factors {
@@ -217,7 +217,7 @@ fn finds_one_in_eight(alloc: Global) -> Result<bool, SampleFault> {
     is_product::<PlusTimes>(alloc, &factors)
 }
 
-/// Of 8 columns the index has starts, of 2,147,483,647 it is hashed.
+/// With 8 columns the index is an array of starts, with 2,147,483,647 it is a hash table.
 #[test]
 fn each_index_finds_columns_with_and_without_entries(rt: HostRuntime) {
     assert!(rt; finds_eight(rt.alloc(), 8) == Ok(true));
@@ -236,7 +236,7 @@ fn ten_columns(alloc: Global, rows: &[(u32, u64)]) -> Result<Vec<Entry>, AllocEr
     Ok(entries)
 }
 
-/// Rows at both ends of the words that mark them, and one that is named twice.
+/// Rows at both ends of the words of a bitmap, one of them twice.
 const MARKED: &'static [Entry] = entries![
     (0, 0, 1),
     (64, 0, 2),
@@ -247,7 +247,7 @@ const MARKED: &'static [Entry] = entries![
     (128, 1, 64)
 ];
 
-/// Whether ten columns of a product have these rows in order.
+/// Whether each of ten columns of a product has its rows in order.
 fn has_marked_rows(alloc: Global) -> Result<bool, SampleFault> {
     let right = ten_columns(alloc, &[(0, 1), (1, 1)])?;
     let sums = [(0, 1), (63, 16), (64, 34), (127, 4), (128, 64), (199, 8)];
@@ -277,8 +277,8 @@ struct Added<'a> {
     sum: &'a [Entry],
 }
 
-/// Whether the product of two blocks is added to the third; or, where memory is refused, whether the third is handed back
-/// as it was.
+/// Whether the product of two blocks is added to the third; or, if memory is refused, whether the third is handed back
+/// unchanged.
 fn is_sum<S: Semiring>(
     alloc: Global,
     added: &Added<'_>,
@@ -293,8 +293,8 @@ fn is_sum<S: Semiring>(
     }
 }
 
-/// A column with one term; one with none; one that names a column without entries; and one of two terms, where a sum comes
-/// to zero.
+/// A column with one term; one with none; one that selects a column without entries; and one of two terms, where a sum is
+/// zero.
 const WITHOUT_TERMS: Added<'static> = Added {
     sides: [6, 3, 4],
     left: entries![(1, 0, 2), (4, 0, 3), (2, 2, 5)],
@@ -321,8 +321,8 @@ const WITHOUT_TERMS: Added<'static> = Added {
     ],
 };
 
-/// One column scaled by 2, by 3 and by 1, and joined with a column of which it makes a row zero, with none, and with
-/// one of other rows. 2 times 2^63 is zero.
+/// One column scaled by 2, by 3 and by 1. It is added to a column with which a row becomes zero, to none, and to one of
+/// other rows. 2 times 2^63 is zero.
 const ONE_TERM: Added<'static> = Added {
     sides: [8, 1, 3],
     left: entries![(0, 0, 1), (2, 0, 1 << 63), (5, 0, 7)],
@@ -358,8 +358,8 @@ const OWN: Added<'static> = Added {
     ],
 };
 
-/// A value that is added to is no product, and stays a value: with plus-pair 5, and not 1. Among five rows, and among
-/// 2,147,483,647.
+/// Values of the block that is added to aren't multiplied: over plus-pair a 5 stays 5 and doesn't become 1. With five rows,
+/// and with 2,147,483,647.
 const PAIRS: [Added<'static>; 2] = [
     OWN,
     Added {
@@ -377,7 +377,7 @@ const SMALL: Added<'static> = Added {
 };
 
 const SUMS: [Added<'static>; 8] = [
-    // a block without entries, by which nothing is added
+    // a factor without entries: nothing is added
     Added {
         sides: [2, 2, 2],
         left: &[],
@@ -392,7 +392,7 @@ const SUMS: [Added<'static>; 8] = [
         own: entries![(0, 1, 7)],
         sum: entries![(0, 1, 7)],
     },
-    // two by two, where a sum comes to zero
+    // two by two, where a sum is zero
     Added {
         sides: [2, 2, 2],
         left: entries![(0, 0, 1), (0, 1, 2), (1, 1, 3)],
@@ -400,7 +400,7 @@ const SUMS: [Added<'static>; 8] = [
         own: entries![(0, 1, u64::MAX), (1, 1, 5)],
         sum: entries![(0, 0, 8), (1, 0, 12), (1, 1, 5)],
     },
-    // a tall block, which is merged in, and whose own columns come along
+    // a tall block, which is merged in and has columns of its own
     Added {
         sides: [LIMIT, 2, 3],
         left: entries![(5, 0, 2), (9, 0, 3), (9, 1, 4)],
@@ -410,7 +410,7 @@ const SUMS: [Added<'static>; 8] = [
     },
     WITHOUT_TERMS,
     ONE_TERM,
-    // of 2,147,483,647 rows the columns are joined, where of a few the products are summed row by row
+    // with 2,147,483,647 rows the columns are joined; with a few the products are summed row by row
     Added {
         sides: [LIMIT, 3, 4],
         ..WITHOUT_TERMS
@@ -436,7 +436,7 @@ fn own_values_are_no_products(rt: HostRuntime) {
     }
 }
 
-/// Thirty columns of 45 entries each, spread over so many rows, of which many meet.
+/// Thirty columns of 45 entries each, spread over this many rows, of which columns share many.
 fn spread(alloc: Global, rows: u32) -> Result<Vec<Entry>, AllocError> {
     let step = rows / 46;
     let mut entries = Vec::new(alloc);
@@ -449,7 +449,7 @@ fn spread(alloc: Global, rows: u32) -> Result<Vec<Entry>, AllocError> {
     Ok(entries)
 }
 
-/// A column that names all thirty, one that names three, and one that names one.
+/// A column that selects all thirty, one that selects three, and one that selects one.
 fn named(alloc: Global) -> Result<Vec<Entry>, AllocError> {
     let mut entries = Vec::new(alloc);
     for row in 0..30u32 {
@@ -461,7 +461,7 @@ fn named(alloc: Global) -> Result<Vec<Entry>, AllocError> {
     Ok(entries)
 }
 
-/// The product of two matrices by its definition, row by column, and its sum with a third.
+/// The product of two matrices by the definition, row by column, and its sum with a third.
 fn plain(
     alloc: Global,
     sides: [u32; 3],
@@ -478,7 +478,7 @@ fn plain(
     Ok((product, sum))
 }
 
-/// Whether the product of two blocks, and its sum with a third, are the plain ones.
+/// Whether the product of two blocks and its sum with a third agree with the definition.
 fn are_plain(alloc: Global, sides: [u32; 3], given: [&[Entry]; 3]) -> Result<bool, Fail> {
     let [left, right, own] = given;
     let (product, sum) = plain(alloc, sides, given)?;
@@ -498,7 +498,7 @@ fn are_plain(alloc: Global, sides: [u32; 3], given: [&[Entry]; 3]) -> Result<boo
     Ok(is_product::<PlusTimes>(alloc, &factors)? && is_sum::<PlusTimes>(alloc, &added)? == Ok(true))
 }
 
-/// Whether they are among so many rows.
+/// Whether they agree with this many rows.
 fn is_plain_among(alloc: Global, rows: u32) -> Result<bool, Fail> {
     let (left, right) = (spread(alloc, rows)?, named(alloc)?);
     let own: &[Entry] = entries![(0, 0, 7), (1, 0, 8), (0, 1, 5), (3, 3, 1)];
@@ -509,9 +509,9 @@ fn is_plain_among(alloc: Global, rows: u32) -> Result<bool, Fail> {
     )
 }
 
-/// Among 5,000 rows the first two columns are made by the sparse accumulator, among 2,147,483,647 one by the heap and
-/// one by joining. The third has one term, and the last has none. In each way, and with an accumulator too, the answer
-/// is that of the plain product.
+/// With 5,000 rows the first two columns are computed by the sparse accumulator; with 2,147,483,647 one is computed by the
+/// heap and one by joining. The third has one term, and the last has none. Each way agrees with the definition, also when
+/// the product is added to a block.
 #[test]
 fn each_way_gives_the_plain_product(rt: HostRuntime) -> Result<(), Fail> {
     for rows in [5000, LIMIT] {
@@ -520,17 +520,17 @@ fn each_way_gives_the_plain_product(rt: HostRuntime) -> Result<(), Fail> {
     Ok(())
 }
 
-/// Passes whichever single allocation is refused (`rt try --test --fail-alloc N`, for each N in turn): the answer
-/// is right, or memory was wanting.
+/// Passes whichever single allocation is refused (`rt try --test --fail-alloc N`, for each N in turn): the result is
+/// right, or the error is want of memory.
 #[test]
-fn a_refused_product_answers_memory(rt: HostRuntime) {
+fn a_refused_product_reports_memory(rt: HostRuntime) {
     for factors in &PRODUCTS {
         let is_right = is_product::<PlusTimes>(rt.alloc(), factors);
         assert!(rt; is_right_or_refused(is_right));
     }
 }
 
-/// Whether a product is added, or where memory was wanting the block is back as it was.
+/// Whether a product is added; or, if memory is refused, whether the block is handed back unchanged.
 fn is_sum_or_refused(alloc: Global, added: &Added<'_>) -> bool {
     match is_sum::<PlusTimes>(alloc, added) {
         Ok(Ok(is_right)) => is_right,
@@ -539,7 +539,7 @@ fn is_sum_or_refused(alloc: Global, added: &Added<'_>) -> bool {
     }
 }
 
-/// Among two rows, and among 2,147,483,647, where the columns are joined.
+/// With two rows, and with 2,147,483,647, where the columns are joined.
 const SMALL_AND_TALL: [Added<'static>; 2] = [
     SMALL,
     Added {
@@ -548,7 +548,7 @@ const SMALL_AND_TALL: [Added<'static>; 2] = [
     },
 ];
 
-/// The same for a product that is added.
+/// The same for a product that is added to a block.
 #[test]
 fn a_refused_product_hands_the_block_back(rt: HostRuntime) {
     for added in &SMALL_AND_TALL {

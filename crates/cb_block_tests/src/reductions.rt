@@ -10,8 +10,8 @@ use std::alloc::{AllocError, Global};
 /// The last row and the last column of the largest sides.
 const LAST: u32 = LIMIT - 1;
 
-/// The sides of a block (rows, columns), its entries, the sums of its rows and of its columns as they are stored, and the
-/// sum of all its values.
+/// The sides of a block (rows, columns), its entries, the stored sums of its rows and of its columns, and the sum of all
+/// its values.
 struct Case {
     sides: (u32, u32),
     given: &'static [Entry],
@@ -31,7 +31,7 @@ fn are_row_sums<S: Semiring>(
     Ok(is_shaped && has_entries(&sums, wanted))
 }
 
-/// Whether those of its columns are these, in one row.
+/// Whether the sums of the columns are these, in one row.
 fn are_column_sums<S: Semiring>(
     alloc: Global,
     whole: &Block<S>,
@@ -42,7 +42,7 @@ fn are_column_sums<S: Semiring>(
     Ok(is_shaped && has_entries(&sums, wanted))
 }
 
-/// Whether all are as said.
+/// Whether all sums are as expected.
 fn are_sums<S: Semiring>(alloc: Global, case: &Case) -> Result<bool, SampleFault> {
     let whole = block::<S>(alloc, case.sides.0, case.sides.1, case.given)?;
     let are_rows_right = are_row_sums(alloc, &whole, case.by_row)?;
@@ -96,7 +96,7 @@ const CASES: [Case; 7] = [
         by_column: &[],
         of_all: 0,
     },
-    // the largest sides, which cost what the entries cost
+    // the largest sides, which cost no more than the entries
     Case {
         sides: (LIMIT, LIMIT),
         given: entries![(LAST, 0, 2), (0, LAST, 3), (LAST, LAST, 4)],
@@ -116,7 +116,7 @@ fn entries_are_added_up(rt: HostRuntime) {
     }
 }
 
-/// The least of each row and of each column.
+/// The minimum of each row and of each column.
 const LEAST: Case = Case {
     sides: (2, 2),
     given: entries![(0, 0, 4), (1, 0, 9), (0, 1, 3)],
@@ -130,10 +130,10 @@ fn sums_are_those_of_the_semiring(rt: HostRuntime) {
     assert!(rt; are_sums::<MinPlus>(rt.alloc(), &LEAST) == Ok(true));
 }
 
-/// It passes whichever single allocation is refused (`rt try --test --fail-alloc N`, for each N in turn): the call says
-/// so, or its answer is the right one.
+/// Passes whichever single allocation is refused (`rt try --test --fail-alloc N`, for each N in turn): the call reports
+/// it, or its result is right.
 #[test]
-fn refused_memory_is_said(rt: HostRuntime) {
+fn refused_memory_is_reported(rt: HostRuntime) {
     for case in &CASES {
         assert!(rt; is_right_or_refused(are_sums::<PlusTimes>(rt.alloc(), case)));
     }

@@ -12,7 +12,7 @@ const LAST: u32 = LIMIT - 1;
 /// Two by two.
 const FIRST: &'static [Entry] = entries![(0, 0, 1), (0, 1, 2), (1, 1, 3)];
 
-/// Four by five, with entries inside and around rows 1 to 2 of columns 1 to 3.
+/// Four by five, with entries in and around rows 1 to 2 of columns 1 to 3.
 const SCATTERED: &'static [Entry] = entries![
     (1, 0, 1),
     (0, 1, 2),
@@ -42,7 +42,7 @@ const CORNERS: &'static [Entry] = entries![(LAST, 0, 2), (0, LAST, 3), (LAST, LA
 /// The sides of a block (rows, columns), its entries, and those of its transpose.
 type Turned = ((u32, u32), &'static [Entry], &'static [Entry]);
 
-/// Whether a block has its transpose.
+/// Whether the transpose of a block is the expected one.
 fn is_turned(alloc: Global, case: &Turned) -> Result<bool, SampleFault> {
     let (sides, given, wanted) = *case;
     let outer = shape(sides.1, sides.0)?;
@@ -51,8 +51,8 @@ fn is_turned(alloc: Global, case: &Turned) -> Result<bool, SampleFault> {
     Ok(made.shape() == outer && has_entries(&made, wanted))
 }
 
-/// Two by two; four rows, which are counted, and 2,147,483,647, by which entries are sorted; blocks without entries; and
-/// the largest sides, which cost what the entries cost.
+/// Two by two; four rows, for which entries are sorted by counting, and 2,147,483,647, for which they are compared; blocks
+/// without entries; and the largest sides, which cost no more than the entries.
 const TRANSPOSES: [Turned; 10] = [
     ((2, 2), FIRST, entries![(0, 0, 1), (1, 0, 2), (1, 1, 3)]),
     ((4, 5), SCATTERED, BY_ROW),
@@ -81,8 +81,8 @@ fn transposing_orders_by_what_was_the_row(rt: HostRuntime) {
     }
 }
 
-/// A block of these sides (rows, columns); some rows and columns, each from the first number up to the second; and the
-/// entries of that part.
+/// A block of these sides (rows, columns); a range of rows and one of columns, each without its end; and the entries of
+/// that part.
 struct Part {
     sides: (u32, u32),
     given: &'static [Entry],
@@ -91,7 +91,7 @@ struct Part {
     wanted: &'static [Entry],
 }
 
-/// Whether a part of a block has its places.
+/// Whether a part of a block has the expected entries.
 fn is_part(alloc: Global, part: &Part) -> Result<bool, SampleFault> {
     let (sides, rows, cols) = (part.sides, part.rows, part.cols);
     if rows.0 > rows.1 || rows.1 > sides.0 || cols.0 > cols.1 || cols.1 > sides.1 {
@@ -103,7 +103,7 @@ fn is_part(alloc: Global, part: &Part) -> Result<bool, SampleFault> {
     Ok(made.shape() == inner && has_entries(&made, part.wanted))
 }
 
-/// Parts of one entry and of several, all of a block, nothing of it, and the last place of the largest sides.
+/// Parts with one entry and with several, the whole block, an empty part, and the last place of the largest sides.
 const PARTS: [Part; 7] = [
     Part {
         sides: (2, 2),
@@ -163,8 +163,8 @@ fn a_part_has_places_of_its_own(rt: HostRuntime) {
     }
 }
 
-/// A block of these sides (rows, columns) inside a larger one, its row 0 and column 0 at the corner, and the entries of
-/// that.
+/// A block of these sides (rows, columns), placed in a larger one with its row 0 and column 0 at the corner, and the
+/// entries of the larger one.
 struct Placed {
     sides: (u32, u32),
     given: &'static [Entry],
@@ -173,7 +173,7 @@ struct Placed {
     wanted: &'static [Entry],
 }
 
-/// Whether a block is placed there.
+/// Whether a block is placed as expected.
 fn is_placed(alloc: Global, placed: &Placed) -> Result<bool, SampleFault> {
     let (sides, whole, corner) = (placed.sides, placed.whole, placed.corner);
     let rows = corner.0.saturating_add(sides.0);
@@ -233,10 +233,10 @@ fn a_part_is_placed_at_its_corner(rt: HostRuntime) {
     }
 }
 
-/// Passes whichever single allocation is refused (`rt try --test --fail-alloc N`, for each N in turn): the answer
-/// is right, or memory was wanting.
+/// Passes whichever single allocation is refused (`rt try --test --fail-alloc N`, for each N in turn): the result is
+/// right, or the error is want of memory.
 #[test]
-fn refused_memory_is_said(rt: HostRuntime) {
+fn refused_memory_is_reported(rt: HostRuntime) {
     for case in &TRANSPOSES {
         assert!(rt; is_right_or_refused(is_turned(rt.alloc(), case)));
     }

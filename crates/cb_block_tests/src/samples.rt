@@ -1,11 +1,11 @@
-//! What the tests write out, and that what is written out is what is made, or is said to be none.
+//! How the tests write entries, and tests that `cb_samples` makes the blocks that it is asked for or reports why not.
 use cb_dcsc::{Block, BlockFault};
 use cb_samples::{SampleFault, block, entry};
 use cb_semirings::{OrAnd, PlusTimes, Semiring};
 use std::alloc::Global;
 use std::test::Fail;
 
-/// Entries, each by its row, its column and its value.
+/// Entries, each written as its row, column and value.
 macro_rules! entries {
     ($(($row:expr, $column:expr, $value:expr)),* $(,)?) => {
         &[$(cb_matrix::Entry { row: $row, column: $column, value: $value }),*]
@@ -14,7 +14,7 @@ macro_rules! entries {
 
 pub(crate) use entries;
 
-/// Whether a block has just these entries.
+/// Whether a block has exactly these entries.
 pub(crate) fn has_entries<S: Semiring>(block: &Block<S>, wanted: &[cb_matrix::Entry]) -> bool {
     if block.len() != wanted.len() {
         return false;
@@ -27,7 +27,7 @@ pub(crate) fn has_entries<S: Semiring>(block: &Block<S>, wanted: &[cb_matrix::En
     true
 }
 
-/// Whether it is right, or memory was wanting.
+/// Whether a result is right, or its error is want of memory.
 pub(crate) fn is_right_or_refused(made: Result<bool, SampleFault>) -> bool {
     match made {
         Ok(is_right) => is_right,
@@ -43,7 +43,7 @@ fn a_block_is_what_is_written_out(rt: HostRuntime) -> Result<(), Fail> {
     Ok(())
 }
 
-/// Why entries make no block of so many rows and one column.
+/// Why entries make no block of this many rows and one column.
 fn fault_of<S: Semiring>(
     alloc: Global,
     rows: u32,
@@ -53,7 +53,7 @@ fn fault_of<S: Semiring>(
 }
 
 #[test]
-fn what_is_no_block_is_said(rt: HostRuntime) {
+fn what_is_no_block_is_reported(rt: HostRuntime) {
     let large = fault_of::<PlusTimes>(rt.alloc(), u32::MAX, &[]);
     assert!(rt; large == Some(SampleFault::Shape));
     let value = fault_of::<OrAnd>(rt.alloc(), 1, entries![(0, 0, 2)]);

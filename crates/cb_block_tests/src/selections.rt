@@ -1,5 +1,5 @@
-//! Entries selected by their place, values replaced, diagonals, rows and columns by their numbers, and parts: worked rows,
-//! random blocks against a slow reference, and each allocation refused in turn.
+//! Selections: by place, of diagonals, of rows and columns by their numbers; replaced values, Kronecker products and
+//! assigned parts. Worked rows, random blocks against a slow reference, and each allocation refused in turn.
 ghost use Rattle.std.specs.Prelude.{◌↔◌, ◌<◌, All, IsTrue};
 
 use crate::samples::entries;
@@ -19,7 +19,7 @@ const LAST: u32 = LIMIT - 1;
 
 const LAST_VALUE: u64 = LAST as u64;
 
-/// What is asked of a block.
+/// A call on a block.
 #[derive(Clone, Copy)]
 enum Ask<'a> {
     Select(Region),
@@ -29,11 +29,11 @@ enum Ask<'a> {
     Extract(&'a [u32], &'a [u32]),
     /// The Kronecker product with a block of these sides.
     Kronecker((u32, u32), &'a [Entry]),
-    /// A block of these sides in place of the part at the corner, which is given first.
+    /// Assigns a block of these sides, the second pair, to the part at the corner, the first pair.
     Assign((u32, u32), (u32, u32), &'a [Entry]),
 }
 
-/// What is made, the sides of the block (rows, columns) and its entries, and the sides and the entries of what is made.
+/// A call, the sides (rows, columns) and entries of the block, and the sides and entries of the result.
 type Case<'a> = (Ask<'a>, (u32, u32), &'a [Entry], (u32, u32), &'a [Entry]);
 
 /// Whether all numbers are below a bound.
@@ -43,7 +43,7 @@ fn are_below(numbers: &[u32], bound: u32) -> bool
     numbers.iter().all(|number| *number < bound)
 }
 
-/// What is made of a block.
+/// The result of a call on a block.
 fn made_of<S: Semiring>(
     alloc: Global,
     whole: &Block<S>,
@@ -71,7 +71,7 @@ fn made_of<S: Semiring>(
     }
 }
 
-/// The rows and columns of a block with some numbers.
+/// The rows and columns of a block with these numbers.
 fn extracted<S: Semiring>(
     alloc: Global,
     whole: &Block<S>,
@@ -106,7 +106,7 @@ fn paired<S: Semiring>(
     Ok(kronecker(alloc, whole, &other)?)
 }
 
-/// A block with one of these sides in place of a part.
+/// A block with a block of these sides assigned to a part.
 fn assigned<S: Semiring>(
     alloc: Global,
     whole: &Block<S>,
@@ -124,7 +124,7 @@ fn assigned<S: Semiring>(
     Ok(assign(alloc, whole, corner, &part)?)
 }
 
-/// Whether what is made is what the case wants.
+/// Whether the result of a case is the expected one.
 fn is_right<S: Semiring>(alloc: Global, case: &Case<'_>) -> Result<bool, SampleFault> {
     let (ask, sides, given, wanted_sides, wanted) = case;
     let whole = block::<S>(alloc, sides.0, sides.1, given)?;
@@ -163,23 +163,23 @@ const MAIN: Diagonal = Diagonal { row: 0, column: 0 };
 /// The diagonal two above it.
 const ABOVE: Diagonal = Diagonal { row: 0, column: 2 };
 
-/// The diagonal two below it, by another of its places than the first.
+/// The diagonal two below it, named by a place that isn't its first.
 const BELOW: Diagonal = Diagonal { row: 3, column: 1 };
 
-/// The last row's diagonal in the first column.
+/// The diagonal that starts in the last row of the first column.
 const LOWEST: Diagonal = Diagonal {
     row: LAST,
     column: 0,
 };
 
-/// Two by two, one entry.
+/// Two by two, with one entry.
 const CORNER: &[Entry] = entries![(1, 1, 5)];
 
 /// Two by three.
 const SECOND: &[Entry] = entries![(0, 0, 1), (1, 0, 2), (1, 2, 1 << 63)];
 
-/// Both triangles, with and without the main diagonal; a diagonal and what is around it; sides of 0; no entries; and the
-/// corners of the largest sides.
+/// Both triangles, with and without the main diagonal; a diagonal, and all but it; sides of 0; no entries; and the corners
+/// of the largest sides.
 const SELECTED: [Case<'static>; 12] = [
     (
         Ask::Select(Region::Lower(MAIN)),
@@ -305,7 +305,7 @@ const DIAGONALS: [Case<'static>; 8] = [
     (Ask::DiagonalMatrix, (4, 1), &[], (4, 4), &[]),
 ];
 
-/// Constants, sums, products and numbers of rows and columns, where those that are zero aren't stored.
+/// Constants, sums, products, and the numbers of rows and columns. Zeros aren't stored.
 const REPLACED: [Case<'static>; 8] = [
     (
         Ask::Apply(Function::Constant(9)),
@@ -359,7 +359,7 @@ const REPLACED: [Case<'static>; 8] = [
     (Ask::Apply(Function::Row), (0, 0), &[], (0, 0), &[]),
 ];
 
-/// Rows and columns in another order, left out and more than once; none; and the last of the largest sides.
+/// Rows and columns in another order, some left out and some repeated; none; and the last of the largest sides.
 const EXTRACTED: [Case<'static>; 5] = [
     (
         Ask::Extract(&[3, 0, 0], &[3, 1, 3, 0]),
@@ -380,8 +380,8 @@ const EXTRACTED: [Case<'static>; 5] = [
     ),
 ];
 
-/// Each entry of the first block becomes a copy of the second, scaled; where a product is zero nothing is stored; sides of
-/// 0; and the most rows that there may be.
+/// Each entry of the first block becomes a scaled copy of the second, without products that are zero; sides of 0; and the
+/// most rows that a block can have.
 const KRONECKER: [Case<'static>; 4] = [
     (
         Ask::Kronecker((2, 3), SECOND),
@@ -401,7 +401,7 @@ const KRONECKER: [Case<'static>; 4] = [
     ),
 ];
 
-/// A part inside, whose entries go and come; one at the end; the whole; none; and the corner of the largest sides.
+/// A part inside, which loses and gains entries; one at the end; the whole; none; and the corner of the largest sides.
 const ASSIGNED: [Case<'static>; 5] = [
     (
         Ask::Assign((1, 1), (2, 3), SECOND),
@@ -482,14 +482,14 @@ fn products_of_kronecker(rt: HostRuntime) {
     assert!(rt; all_right::<PlusTimes>(rt.alloc(), &KRONECKER));
 }
 
-/// A number that follows from another without a pattern that matters here.
+/// The next pseudo-random number.
 fn next(state: u64) -> u64 {
     state
         .wrapping_mul(6_364_136_223_846_793_005)
         .wrapping_add(1_442_695_040_888_963_407)
 }
 
-/// Entries at about a quarter of the places of these sides.
+/// Random entries at about a quarter of the places.
 fn scattered(alloc: Global, seed: u64, sides: (u32, u32)) -> Result<Vec<Entry>, AllocError> {
     let mut entries = Vec::new(alloc);
     let mut state = seed;
@@ -514,7 +514,7 @@ fn value_among(entries: &[Entry], row: u32, column: u32) -> u64 {
     0
 }
 
-/// Whether a place is in a region, by the numbers of diagonals.
+/// Whether a place is in a region, computed from the numbers of diagonals.
 fn is_in(region: Region, row: u32, column: u32) -> bool {
     let number = i64::from(column).wrapping_sub(i64::from(row));
     match region {
@@ -525,7 +525,7 @@ fn is_in(region: Region, row: u32, column: u32) -> bool {
     }
 }
 
-/// What a function makes of a value at a place, over plus-times.
+/// The result of a function for a value at a place, over plus-times.
 fn function_value(function: Function, row: u32, column: u32, value: u64) -> u64 {
     match function {
         Function::Constant(number) => number,
@@ -537,7 +537,7 @@ fn function_value(function: Function, row: u32, column: u32, value: u64) -> u64 
     }
 }
 
-/// What is wanted at a place, of a block with these entries.
+/// The expected value at a place of the result of a call on a block with these entries.
 fn wanted(given: &[Entry], ask: &Ask<'_>, row: u32, column: u32) -> u64 {
     match ask {
         Ask::Select(region) => {
@@ -583,7 +583,7 @@ fn wanted(given: &[Entry], ask: &Ask<'_>, row: u32, column: u32) -> u64 {
     }
 }
 
-/// Whether what is made of a random block has what is wanted at each place, and no other entry.
+/// Whether the result of a call on a random block has the expected values.
 fn agrees(alloc: Global, seed: u64, sides: (u32, u32), ask: &Ask<'_>) -> Result<bool, SampleFault> {
     let given = scattered(alloc, seed, sides)?;
     let whole = block::<PlusTimes>(alloc, sides.0, sides.1, &given)?;
@@ -604,7 +604,7 @@ fn agrees(alloc: Global, seed: u64, sides: (u32, u32), ask: &Ask<'_>) -> Result<
     Ok(made.len() == stored)
 }
 
-/// Whether each ask agrees on blocks of these sides.
+/// Whether all calls agree with the reference on blocks of these sides.
 fn all_agree(alloc: Global, sides: (u32, u32), asks: &[Ask<'_>]) -> bool {
     for seed in 1..4u64 {
         for ask in asks {
@@ -617,7 +617,7 @@ fn all_agree(alloc: Global, sides: (u32, u32), asks: &[Ask<'_>]) -> bool {
     true
 }
 
-/// Every region, function and call, on random blocks, against what each means place by place.
+/// Every region, function and call on random blocks, compared with its definition place by place.
 #[test]
 fn random_blocks_agree_with_a_slow_reference(rt: HostRuntime) {
     let second = [entry(0, 0, 3), entry(2, 0, 1), entry(1, 1, 7)];
@@ -641,9 +641,9 @@ fn random_blocks_agree_with_a_slow_reference(rt: HostRuntime) {
     assert!(rt; all_agree(rt.alloc(), (9, 1), &[Ask::DiagonalMatrix]));
 }
 
-/// A constant has to be a value: 2 is none of true and false. The numbers of rows have to be, too.
+/// Constants and numbers of rows have to be values of the semiring: over or-and a 2 is refused.
 #[test]
-fn numbers_that_are_no_values_are_told(rt: HostRuntime) {
+fn numbers_that_are_not_values_are_refused(rt: HostRuntime) {
     let given = [entry(0, 0, 1)];
     let alloc = rt.alloc();
     let two = (
@@ -672,7 +672,7 @@ fn numbers_that_are_no_values_are_told(rt: HostRuntime) {
     assert!(rt; matches!(is_right::<OrAnd>(alloc, &row), Err(SampleFault::Value)));
 }
 
-/// Whether the answer is right, or memory was wanting.
+/// Whether the result is right, or the error is want of memory.
 fn is_right_or_wants_memory(alloc: Global, case: &Case<'_>) -> bool {
     match is_right::<MinPlus>(alloc, case) {
         Ok(right) => right,
@@ -686,7 +686,7 @@ const SMALL: &[Entry] = entries![(0, 0, 4), (1, 1, 0)];
 /// Its diagonal.
 const SMALL_COLUMN: &[Entry] = entries![(0, 0, 4), (1, 0, 0)];
 
-/// Each call, where little is made.
+/// Each call, with a small result.
 const REFUSED: [Case<'static>; 7] = [
     (
         Ask::Select(Region::Lower(MAIN)),
@@ -717,7 +717,7 @@ const REFUSED: [Case<'static>; 7] = [
 
 /// Passes whichever single allocation is refused (`rt try --test --fail-alloc N`, for each N in turn).
 #[test]
-fn refused_memory_is_said(rt: HostRuntime) {
+fn refused_memory_is_reported(rt: HostRuntime) {
     for case in &REFUSED {
         assert!(rt; is_right_or_wants_memory(rt.alloc(), case));
     }

@@ -1,4 +1,4 @@
-//! The tables of the semirings, at values from outside.
+//! The tables of the semirings, at values worked out by hand.
 use cb_semirings::{
     DistributiveSemiring, MaxFirst, MaxMin, MaxPlus, MaxSecond, MinFirst, MinMax, MinPlus,
     MinSecond, OrAnd, PlusFirst, PlusMin, PlusPair, PlusSecond, PlusTimes, Semiring,
@@ -6,7 +6,8 @@ use cb_semirings::{
 
 const TOP: u64 = u64::MAX;
 
-/// The zero, what a file's -1, 0, 7 and 2^64 - 1 stand for, the negatives of 0 and 1, and whether values are left out.
+/// The zero; what -1, 0, 7 and 2^64 - 1 in a file stand for; the negatives of 0 and 1; and whether files are written
+/// without values.
 struct Numbers {
     zero: u64,
     accepted: [Option<u64>; 4],
@@ -14,7 +15,7 @@ struct Numbers {
     writes_pattern: bool,
 }
 
-/// Of the semirings whose sum is that of whole numbers.
+/// The numbers of the semirings whose sum is addition.
 const PLUS: Numbers = Numbers {
     zero: 0,
     accepted: [Some(TOP), Some(0), Some(7), Some(TOP)],
@@ -22,7 +23,7 @@ const PLUS: Numbers = Numbers {
     writes_pattern: false,
 };
 
-/// Of those whose sum is the least.
+/// The numbers of those whose sum is the minimum.
 const MIN: Numbers = Numbers {
     zero: TOP,
     accepted: [None, Some(0), Some(7), None],
@@ -30,7 +31,7 @@ const MIN: Numbers = Numbers {
     writes_pattern: false,
 };
 
-/// Of those whose sum is the greatest.
+/// The numbers of those whose sum is the maximum.
 const MAX: Numbers = Numbers {
     zero: 0,
     accepted: [None, Some(0), Some(7), Some(TOP)],
@@ -45,10 +46,10 @@ const RELATION: Numbers = Numbers {
     writes_pattern: true,
 };
 
-/// Two values, their sum and their product.
+/// Two values, and their sum and product.
 type Row = (u64, u64, u64, u64);
 
-/// Whether two values have their sum and their product.
+/// Whether two values have this sum and this product.
 fn makes<S: Semiring>(row: &Row) -> bool {
     let (left, right, sum, product) = *row;
     S::is_value(left)
@@ -57,7 +58,7 @@ fn makes<S: Semiring>(row: &Row) -> bool {
         && S::mul(left, right) == product
 }
 
-/// Whether numbers are taken, and written, as said.
+/// Whether numbers are read and written as expected.
 fn has_numbers<S: Semiring>(wanted: &Numbers) -> bool {
     let [minus_one, zero, seven, top] = wanted.accepted;
     S::zero() == wanted.zero
@@ -69,14 +70,14 @@ fn has_numbers<S: Semiring>(wanted: &Numbers) -> bool {
         && S::accept(false, TOP) == top
 }
 
-/// Whether 0 and 1 have their negatives.
+/// Whether 0 and 1 have these negatives.
 fn has_negatives<S: Semiring>(wanted: &Numbers) -> bool {
     let [of_zero, of_one] = wanted.negatives;
     S::is_value(0) && S::is_value(1) && S::negative(0) == of_zero && S::negative(1) == of_one
 }
 
-/// Whether a semiring is that of its table.
-fn is_as_said<S: Semiring>(numbers: &Numbers, rows: &[Row]) -> bool {
+/// Whether a semiring has these numbers, sums and products.
+fn is_as_expected<S: Semiring>(numbers: &Numbers, rows: &[Row]) -> bool {
     for row in rows {
         if !makes::<S>(row) {
             return false;
@@ -89,39 +90,41 @@ const HALF: u64 = 1 << 32;
 
 #[test]
 fn sums_products_and_numbers_are_those_of_the_tables(rt: HostRuntime) {
-    assert!(rt; is_as_said::<PlusTimes>(&PLUS, &[(TOP, 3, 2, TOP - 2), (HALF, HALF, 1 << 33, 0)]));
     assert!(rt;
-        is_as_said::<MinPlus>(
+        is_as_expected::<PlusTimes>(&PLUS, &[(TOP, 3, 2, TOP - 2), (HALF, HALF, 1 << 33, 0)])
+    );
+    assert!(rt;
+        is_as_expected::<MinPlus>(
             &MIN,
             &[(3, 4, 3, 7), (TOP - 1, 1, 1, TOP), (TOP, 4, 4, TOP)]
         )
     );
-    assert!(rt; is_as_said::<OrAnd>(&RELATION, &[(1, 0, 1, 0)]) && !OrAnd::is_value(2));
-    assert!(rt; is_as_said::<MaxMin>(&MAX, &[(3, 4, 4, 3)]));
+    assert!(rt; is_as_expected::<OrAnd>(&RELATION, &[(1, 0, 1, 0)]) && !OrAnd::is_value(2));
+    assert!(rt; is_as_expected::<MaxMin>(&MAX, &[(3, 4, 4, 3)]));
 }
 
-/// Whether those are right whose sum is that of whole numbers.
+/// Whether the semirings whose sum is addition are right.
 fn are_of_plus() -> bool {
-    is_as_said::<PlusPair>(
+    is_as_expected::<PlusPair>(
         &PLUS,
         &[(7, 9, 16, 1), (7, 0, 7, 0), (0, 9, 9, 0), (TOP, 3, 2, 1)],
-    ) && is_as_said::<PlusMin>(&PLUS, &[(7, 9, 16, 7), (0, 9, 9, 0)])
-        && is_as_said::<PlusFirst>(&PLUS, &[(7, 9, 16, 7), (7, 0, 7, 0)])
-        && is_as_said::<PlusSecond>(&PLUS, &[(7, 9, 16, 9), (0, 9, 9, 0)])
+    ) && is_as_expected::<PlusMin>(&PLUS, &[(7, 9, 16, 7), (0, 9, 9, 0)])
+        && is_as_expected::<PlusFirst>(&PLUS, &[(7, 9, 16, 7), (7, 0, 7, 0)])
+        && is_as_expected::<PlusSecond>(&PLUS, &[(7, 9, 16, 9), (0, 9, 9, 0)])
 }
 
-/// Whether those are right whose sum is the least.
+/// Whether those whose sum is the minimum are right.
 fn are_of_min() -> bool {
-    is_as_said::<MinFirst>(&MIN, &[(7, 9, 7, 7), (7, TOP, 7, TOP), (0, 9, 0, 0)])
-        && is_as_said::<MinSecond>(&MIN, &[(7, 9, 7, 9), (TOP, 9, 9, TOP), (7, 0, 0, 0)])
-        && is_as_said::<MinMax>(&MIN, &[(7, 9, 7, 9), (TOP, 0, 0, TOP), (0, 0, 0, 0)])
+    is_as_expected::<MinFirst>(&MIN, &[(7, 9, 7, 7), (7, TOP, 7, TOP), (0, 9, 0, 0)])
+        && is_as_expected::<MinSecond>(&MIN, &[(7, 9, 7, 9), (TOP, 9, 9, TOP), (7, 0, 0, 0)])
+        && is_as_expected::<MinMax>(&MIN, &[(7, 9, 7, 9), (TOP, 0, 0, TOP), (0, 0, 0, 0)])
 }
 
-/// Whether those are right whose sum is the greatest.
+/// Whether those whose sum is the maximum are right.
 fn are_of_max() -> bool {
-    is_as_said::<MaxFirst>(&MAX, &[(7, 9, 9, 7), (7, 0, 7, 0)])
-        && is_as_said::<MaxSecond>(&MAX, &[(7, 9, 9, 9), (0, 9, 9, 0)])
-        && is_as_said::<MaxPlus>(
+    is_as_expected::<MaxFirst>(&MAX, &[(7, 9, 9, 7), (7, 0, 7, 0)])
+        && is_as_expected::<MaxSecond>(&MAX, &[(7, 9, 9, 9), (0, 9, 9, 0)])
+        && is_as_expected::<MaxPlus>(
             &MAX,
             &[
                 (7, 9, 9, 16),
@@ -132,7 +135,7 @@ fn are_of_max() -> bool {
         )
 }
 
-/// 7 and 9, each with the zero, and two whose sum is past the top.
+/// 7 and 9, each with zero, and two values whose sum overflows.
 #[test]
 fn binary_operators_take_the_place_of_products(rt: HostRuntime) {
     assert!(rt; are_of_plus());
@@ -140,7 +143,7 @@ fn binary_operators_take_the_place_of_products(rt: HostRuntime) {
     assert!(rt; are_of_max());
 }
 
-/// Whether a product with one changes nothing, where this is the one.
+/// Whether this is the one of a semiring, and multiplying a value by it changes nothing.
 fn has_one<S: DistributiveSemiring>(one: u64, value: u64) -> bool {
     S::is_value(one) && S::is_value(value) && S::one() == one && S::mul(one, value) == value
 }

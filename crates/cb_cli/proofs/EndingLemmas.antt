@@ -1,4 +1,4 @@
--- What goes out at the end of a run.
+-- What has been written at the end of a run.
 use Rattle.std.proofs.Common.{ℕ, List, Option, Some, None, refl}
 use Rattle.std.specs.Io.KnownBytes.{Keeps}
 use Rattle.cb_cli.specs.Files.{IsUnloaded}
@@ -7,7 +7,7 @@ use Rattle.cb_words.specs.declared.jobs.Job.{Job}
 use Rattle.cb_cli.specs.declared.files.LoadFault.{LoadFault}
 use Rattle.cb_cli.specs.declared.files.LoadFault.TheVariants.{Unreadable, Memory}
 
--- nothing has gone out
+-- nothing has been written
 keeps_same : (o : Option (List ℕ)) → Keeps o o
 keeps_same None = tt
 keeps_same (Some x) = refl

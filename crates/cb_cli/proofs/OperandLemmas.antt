@@ -96,15 +96,15 @@ module _ (s : Arithmetic) where
   at_place ts place l before Memory h = absurd h
   at_place ts place l before Output h = absurd h
 
-  -- the first text's fault, the second's where the first is a matrix, and the third's where both are
+  -- the first text's fault, the second's if the first is a matrix, and the third's if both are
   module _ (texts : List (List ℕ)) where
     pub first_told : (t : List ℕ) (ts : List (List ℕ)) → texts ≡ t ∷ ts → (f : JobFault) → IsTextFault s 0 t f → IsReadFault s texts f
     first_told t ts e f h = subst (λ xs. IsReadFault s xs f) (sym e) (at_place (t ∷ ts) 0 (omega arith) (before_first (t ∷ ts)) f h)
 
-    -- where the first text is a matrix, a fault of the second is what is told
+    -- if the first text is a matrix, a fault of the second is that of the texts
     pub second_told : (t u : List ℕ) (ts : List (List ℕ)) → texts ≡ t ∷ u ∷ ts → IsMatrixText s t → (f : JobFault) → IsTextFault s 1 u f → IsReadFault s texts f
     second_told t u ts e is_t f h = subst (λ xs. IsReadFault s xs f) (sym e) (at_place (t ∷ u ∷ ts) 1 (omega arith) (before_second t (u ∷ ts) is_t) f h)
 
-    -- where the first two are matrices, a fault of the third is
+    -- if the first two are matrices, a fault of the third is
     pub third_told : (t u v : List ℕ) (ts : List (List ℕ)) → texts ≡ t ∷ u ∷ v ∷ ts → IsMatrixText s t → IsMatrixText s u → (f : JobFault) → IsTextFault s 2 v f → IsReadFault s texts f
     third_told t u v ts e is_t is_u f h = subst (λ xs. IsReadFault s xs f) (sym e) (at_place (t ∷ u ∷ v ∷ ts) 2 (omega arith) (before_third t u (v ∷ ts) is_t is_u) f h)

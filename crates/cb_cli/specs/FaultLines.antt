@@ -1,4 +1,4 @@
--- The line that a fault prints.
+-- The lines that report faults.
 use Rattle.std.specs.Prelude.{◌++◌, [], ℕ, List, codes, decimal, String, string_bytes, unwrap_or, option_map, slice_get}
 use Rattle.cb_market.specs.Kinds.{kind_text}
 use Rattle.cb_operations.specs.declared.refusals.Refusal.{Refusal}
@@ -14,7 +14,7 @@ use Rattle.cb_cli.specs.declared.selection_refusals.SelectionRefusal.TheVariants
 use Rattle.cb_cli.specs.declared.execution.JobFault.{JobFault}
 use Rattle.cb_cli.specs.declared.execution.JobFault.TheVariants.{Read, Run, Unselected, Memory, Output}
 
--- the name at a place, or nothing
+-- the name at a position, or an empty one
 abbrev pub name_at : {A : Type 0} → List (String A) → ℕ → List ℕ
 name_at names i = unwrap_or (option_map string_bytes (slice_get names i)) []
 
@@ -22,31 +22,31 @@ name_at names i = unwrap_or (option_map string_bytes (slice_get names i)) []
 abbrev pub read_line_of : List ℕ → ℕ → List ℕ → List ℕ
 read_line_of name line text = codes "cbgrid: " ++ name ++ codes ":" ++ decimal line ++ codes ": " ++ text ++ codes "\n"
 
--- no thread could be started for a rank, counted from 0
+-- the thread of a rank, counted from 0, couldn't be started
 abbrev pub not_started_line_of : ℕ → List ℕ
 not_started_line_of rank = codes "cbgrid: rank " ++ decimal rank ++ codes " not started\n"
 
--- a rank was left alone by another
+-- a rank found the other end of a lane gone
 abbrev pub gone_line_of : ℕ → List ℕ
 gone_line_of rank = codes "cbgrid: rank " ++ decimal rank ++ codes " gone\n"
 
--- a block of the answer is lost, since memory was refused in this rank
+-- a block of the answer was lost because this rank was refused memory
 abbrev pub lost_line_of : ℕ → List ℕ
 lost_line_of origin = codes "cbgrid: lost at rank " ++ decimal origin ++ codes "\n"
 
--- the line of operands that are refused
+-- the line for refused operands
 abbrev pub refusal_line_of : Refusal → List ℕ
 refusal_line_of refusal_is.Shapes = codes "cbgrid: shapes don't agree\n"
 refusal_line_of refusal_is.NotSquare = codes "cbgrid: matrix not square\n"
 refusal_line_of refusal_is.Source = codes "cbgrid: no such source\n"
 
--- the line of matrices of which nothing is selected
+-- the line for a refused selection or Kronecker product
 abbrev pub selection_line_of : SelectionRefusal → List ℕ
 selection_line_of selection_is.NoValue = codes "cbgrid: no value of the semiring\n"
 selection_line_of selection_is.NotColumn = codes "cbgrid: matrix not a column\n"
 selection_line_of selection_is.TooLarge = codes "cbgrid: product too large\n"
 
--- the line of an engine's fault
+-- the line for an engine's fault
 abbrev pub engine_line_of : EngineFault → List ℕ
 engine_line_of engine_is.Memory = codes "cbgrid: out of memory\n"
 engine_line_of (engine_is.NotStarted rank) = not_started_line_of rank
@@ -54,17 +54,17 @@ engine_line_of (engine_is.Gone rank) = gone_line_of rank
 engine_line_of engine_is.TraceTorn = codes "cbgrid: trace torn\n"
 engine_line_of (engine_is.Lost rank refusals) = lost_line_of rank
 
--- the line of a run that has no answer
+-- the line for an operation or a search that has no answer
 abbrev pub run_line_of : OperationFault → List ℕ
 run_line_of (Refused refusal) = refusal_line_of refusal
 run_line_of (Failed fault) = engine_line_of fault
 
--- why the caller's thread alone makes nothing, as a job tells it
+-- the fault of a job for a fault of the caller's thread alone
 abbrev pub job_fault_of : SerialFault → JobFault
 job_fault_of (serial_is.Refused refusal) = Run (Refused refusal)
 job_fault_of serial_is.Memory = Memory
 
--- the line that the program prints for a fault, of the files with these names
+-- the line that reports a fault of a job with these files
 abbrev pub line_of : {A : Type 0} → List (String A) → JobFault → List ℕ
 line_of names (Read which fault) = read_line_of (name_at names which) fault.line (kind_text fault.kind)
 line_of names (Run fault) = run_line_of fault

@@ -1,4 +1,4 @@
--- What is selected of a matrix, and when it is refused.
+-- The selections from a matrix, and when they are refused.
 use Rattle.std.specs.Prelude.{ℕ, ◌≡◌, ◌<◌, ◌≤◌, ◌*◌}
 use Rattle.cb_semirings.specs.Arithmetic.{Arithmetic, IsValue}
 use Rattle.cb_matrix.specs.Sparse.{Sparse, Extent}
@@ -18,14 +18,14 @@ use Rattle.cb_words.specs.declared.selection_names.Selection.TheVariants.{Select
 use Rattle.cb_cli.specs.declared.selection_refusals.SelectionRefusal.{SelectionRefusal}
 use Rattle.cb_cli.specs.declared.selection_refusals.SelectionRefusal.TheVariants.{NoValue, NotColumn}
 
--- the region of a name, by the diagonal that is so many columns right of the main one, or so many rows below it
+-- the region of a name, by the diagonal that is this many columns right of the main one, or this many rows below it
 abbrev pub region_of : RegionName → ℕ → ℕ → Region
 region_of Lower right down = region_is.Lower (record { row = down; column = right })
 region_of Upper right down = region_is.Upper (record { row = down; column = right })
 region_of On right down = region_is.On (record { row = down; column = right })
 region_of Off right down = region_is.Off (record { row = down; column = right })
 
--- the function of a name; a product has the number on its right
+-- the function of a name; in a product the number is the right factor
 abbrev pub function_of : FunctionName → Function
 function_of (Constant n) = function_is.Constant n
 function_of (Plus n) = function_is.Sum n
@@ -33,14 +33,14 @@ function_of (Times n) = function_is.RightProduct n
 function_of Row = function_is.Row
 function_of Column = function_is.Column
 
--- what is selected of a matrix
+-- the selection from a matrix
 abbrev pub selection_of : Selection → Arithmetic → Sparse → Sparse
 selection_of (Select region right down) s a = selected s (region_of region right down) a
 selection_of (Apply function) s a = applied s (function_of function) a
 selection_of Diagonal s a = diagonal_of s a
 selection_of DiagonalMatrix s a = diagonal_matrix s a
 
--- a selection can be made of matrices of a shape: a function takes values of the semiring alone, and what is to be a
+-- a selection can be made from matrices of a shape: a function takes only values of the semiring, and what becomes a
 -- diagonal is a column
 abbrev pub Fits : Selection → Arithmetic → Extent → Type 0
 Fits (Select region right down) s d = Unit {0}
@@ -54,6 +54,6 @@ IsSelectionRefusal (Apply function) s d NoValue = ¬ Fits (Apply function) s d
 IsSelectionRefusal DiagonalMatrix s d NotColumn = ¬ Fits DiagonalMatrix s d
 IsSelectionRefusal _ s d _ = ⊥
 
--- the Kronecker product of matrices of two shapes has a shape
+-- the Kronecker product of matrices of two shapes isn't too large for a shape
 abbrev pub FitsInShape : Extent → Extent → Type 0
 FitsInShape d e = (d.rows * e.rows ≤ LIMIT) × (d.cols * e.cols ≤ LIMIT)

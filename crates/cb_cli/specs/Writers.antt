@@ -1,4 +1,4 @@
--- What a sink over a writer has.
+-- The parts of a sink over a writer.
 use Rattle.std.specs.Prelude.{Bool}
 use Rattle.cb_cli.specs.declared.sinks.WriterSink.{WriterSink}
 
@@ -7,6 +7,6 @@ module _ {W : Type 0} where
   abbrev pub writer_of : WriterSink W → W
   writer_of s = s.inner
 
-  -- whether a put failed, or took no byte of some
+  -- whether a put failed, or accepted none of its bytes
   abbrev pub has_failed_of : WriterSink W → Bool
   has_failed_of s = s.has_failed

@@ -1,4 +1,4 @@
-//! The lines of vertices that have counts.
+//! The text of counts of vertices.
 ghost use Rattle.std.specs.Prelude.{◌≡◌, ◌++◌, OnOk, IfOk, flat_map, string_bytes};
 ghost use Rattle.cb_market.specs.Text.{vertex_line, vertex_text_of};
 
@@ -6,7 +6,7 @@ use cb_matrix::{Entry, Matrix};
 use cb_semirings::PlusTimes;
 use std::alloc::{AllocError, Global};
 
-/// Writes the line of a vertex.
+/// Appends the line of a vertex.
 fn put_line(text: &mut String, entry: Entry) -> Result<(), AllocError>
     ensures { OnOk result (string_bytes text.new ≡ string_bytes text.old ++ vertex_line entry) }
 {
@@ -14,7 +14,7 @@ fn put_line(text: &mut String, entry: Entry) -> Result<(), AllocError>
     write!(text, "{vertex} {}\n", entry.value)
 }
 
-/// A line for each entry of a column: its row, counted from 1, and its value.
+/// One line for each entry of a column: its row, counted from 1, and its value.
 fn lines_of_counts(alloc: Global, entries: &[Entry]) -> Result<String, AllocError>
     ensures { IfOk result (λ text. string_bytes text ≡ flat_map vertex_line entries.now) }
 {

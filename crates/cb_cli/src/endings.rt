@@ -1,9 +1,8 @@
-//! How a run of the program ends: what goes to standard output, the text for standard error, and the
-//! status.
+//! How a run of the program ends: what goes to standard output, the text for standard error, and the exit status.
 ghost use Rattle.std.specs.Prelude.{◌≡◌, IfOk, false};
 ghost use Rattle.std.specs.Process.{exit_status};
 ghost use Rattle.cb_cli.specs.Sinks.{AppendsPrefix};
-ghost use Rattle.cb_cli.specs.Endings.{told_of, ending_status, unloaded_ending, IsJobEnding, IsUsageEnding, IsRun};
+ghost use Rattle.cb_cli.specs.Endings.{message_of, ending_status, unloaded_ending, IsJobEnding, IsUsageEnding, IsRun};
 ghost use Rattle.cb_cli.specs.Statuses.{status_code};
 
 use crate::execution::{JobFault, execute, status};
@@ -19,20 +18,20 @@ use std::thread::Threads;
 /// How a run ended.
 #[derive(Debug, Drop)]
 pub enum Ending {
-    /// The answer, or the help that was asked for, has gone out.
+    /// The answer, or the help that was asked for, has been written.
     Done,
-    /// The words are no command line, as this text says.
+    /// The command line is wrong. The text says why.
     Usage(String),
     /// Memory was refused before a text was read.
     Memory,
-    /// The file of this place among those of the job can't be read.
+    /// The file at this position in the job's list can't be read.
     Unreadable(usize),
-    /// The job has no answer, or what was asked for can't be written.
+    /// The job has no answer, or the answer or help can't be written.
     Fault(JobFault),
 }
 
 impl Ending {
-    /// The status that the program ends with.
+    /// The exit status of the program.
     pub fn status(&self) -> u8
         ensures { result ≡ ending_status self.now }
     {
@@ -45,9 +44,9 @@ impl Ending {
         }
     }
 
-    /// The text that the program prints on standard error, of a job with these files.
-    pub fn told(&self, alloc: Global, names: &[String]) -> Result<Vec<u8>, AllocError>
-        ensures { IfOk result (λ v. v.items ≡ told_of names.now self.now) }
+    /// The text for standard error, for a job with these files.
+    pub fn message(&self, alloc: Global, names: &[String]) -> Result<Vec<u8>, AllocError>
+        ensures { IfOk result (λ v. v.items ≡ message_of names.now self.now) }
     {
         match self {
             Ending::Done => Ok(Vec::new(alloc)),
@@ -59,14 +58,14 @@ impl Ending {
     }
 }
 
-/// The status of a run. Only `run` makes one, so a program whose `main` answers it ends as its run
-/// did.
+/// The exit status of a run. Only [`run`] makes one, so a program whose `main` returns it ends as its run did.
 #[derive(Clone, Copy, Debug, PartialEq, Eq)]
 pub struct Status {
     code: u8,
 }
 
 impl Status {
+    /// The number that the program ends with.
     pub fn code(&self) -> u8
         ensures { result ≡ status_code self.now }
     {
@@ -92,7 +91,7 @@ fn unloaded(fault: LoadFault) -> Ending
     }
 }
 
-/// Runs a job over its files, and writes its answer.
+/// Loads the files of a job, and writes its answer.
 fn job_ending<R: Threads + Wait + Sync, F: FileSource, K: Sink>(
     rt: &R,
     alloc: Global,
@@ -113,7 +112,7 @@ fn job_ending<R: Threads + Wait + Sync, F: FileSource, K: Sink>(
     }
 }
 
-/// Writes the help that was asked for, or keeps the text of usage for standard error.
+/// Writes the help that was asked for, or keeps a usage text for standard error.
 fn usage_ending<K: Sink>(fault: UsageFault, out: &mut K) -> Ending
     requires { K.has_failed out.old ≡ false }
     ensures { IsUsageEnding fault (K.written out.old) (K.written out.new) result }
@@ -128,22 +127,21 @@ fn usage_ending<K: Sink>(fault: UsageFault, out: &mut K) -> Ending
     }
 }
 
-/// Prints what an ending tells. Nothing is printed where memory is refused to it.
-fn tell<E: Sink>(alloc: Global, names: &[String], ending: &Ending, err: &mut E)
+/// Prints the text of an ending. If memory for the text is refused, nothing is printed.
+fn print_message<E: Sink>(alloc: Global, names: &[String], ending: &Ending, err: &mut E)
     requires { E.has_failed err.old ≡ false }
-    ensures { AppendsPrefix (E.written err.old) (E.written err.new) (told_of names.now ending.now) }
+    ensures { AppendsPrefix (E.written err.old) (E.written err.new) (message_of names.now ending.now) }
 {
-    if let Ok(text) = ending.told(alloc, names) {
+    if let Ok(text) = ending.message(alloc, names) {
         let _ = put_all(err, text.as_slice());
     }
 }
 
-/// Runs what the words of a command line ask for: the whole program, but for the words themselves.
-/// The answer or the help goes to `out`, what is told of a fault to `err`.
+/// Runs the program on a command line that was read. The answer or the help goes to `out`, the text of a fault to `err`.
 ///
-/// The files are loaded in the job's order, before any of them is read, and the first fault ends the
-/// run. The status is that of the ending, and so is the text on `err`, of which less may go out where
-/// memory is refused to it or the sink fails.
+/// The files are loaded in the job's order before any text is parsed, and the first fault ends the run. The status and
+/// the text on `err` are those of the ending. If memory for that text is refused, or `err` fails, only a beginning of it
+/// may be printed.
 pub fn run<R: Threads + Wait + Sync, F: FileSource, K: Sink, E: Sink>(
     rt: &R,
     alloc: Global,
@@ -159,14 +157,14 @@ pub fn run<R: Threads + Wait + Sync, F: FileSource, K: Sink, E: Sink>(
     match asked {
         Ok(job) => {
             let ending = job_ending(rt, alloc, &job, files, out);
-            tell(alloc, job.files(), &ending, err);
+            print_message(alloc, job.files(), &ending, err);
             Status {
                 code: ending.status(),
             }
         }
         Err(fault) => {
             let ending = usage_ending(fault, out);
-            tell(alloc, &[], &ending, err);
+            print_message(alloc, &[], &ending, err);
             Status {
                 code: ending.status(),
             }

@@ -1,21 +1,23 @@
-//! Runs a job.
+//! Runs a job on the texts of its files.
 ghost use Rattle.std.specs.Prelude.{◌≡◌, ◌≢◌, ℕ, vec_len, false, None, IfOk, IfErr};
 ghost use Rattle.cb_operations.specs.OperationAnswers.{operand_count_of};
 ghost use Rattle.cb_semirings.specs.Names.{arithmetic_of};
-ghost use Rattle.cb_cli.specs.Answers.{IsFaultOver, IsOutcomeOver, status_of};
-ghost use Rattle.cb_cli.specs.WriteEnds.{IsEndOf, IsEndOver};
+ghost use Rattle.cb_cli.specs.Answers.{IsFaultOver, IsOutcomeOver, status_of, text_count_of};
+ghost use Rattle.cb_cli.specs.WriteEnds.{IsEndOf, IsEndIn};
 ghost use Rattle.cb_cli.specs.Files.{bytes_of};
+ghost use Rattle.cb_cli.specs.declared.matrix_tasks.MatrixTask.TheVariants as task_is;
 
 use crate::alone::compute_alone;
 use crate::backends::{Backend, backend_for};
 use crate::graph_answers::{put_components, put_parents, put_triangle_counts, put_triangles};
 use crate::inputs::read_operands;
-use crate::output::{put_column, put_text_and_lines};
+use crate::matrix_tasks::MatrixTask;
+use crate::output::put_text_and_lines;
 use crate::selection_answers::{put_kronecker, put_selected};
 use crate::selection_refusals::SelectionRefusal;
 use crate::sinks::Sink;
 use crate::trace_lines::lines_of;
-use crate::vertex_numbers::{distances_of, levels_of};
+use crate::vertex_numbers::{put_distances, put_levels};
 use cb_engines::Outcome;
 use cb_layout::{DistributedMatrix, Grid};
 use cb_market::{Kind, ReadFault};
@@ -29,22 +31,22 @@ use std::sync::Wait;
 use std::thread::Threads;
 use thiserror::Error;
 
-/// Why a job has no answer, in the order in which the reasons are looked for.
+/// Why a job has no answer, or why the answer wasn't written, in the order in which the reasons are checked.
 #[derive(Clone, Copy, Debug, PartialEq, Eq, Error)]
 pub enum JobFault {
-    /// The text of a file is not a matrix, or memory was refused while it was read.
+    /// The text of file `which` isn't a matrix, or memory was refused while it was read.
     #[error("file {which}: {fault}")]
     Read { which: usize, fault: ReadFault },
-    /// The matrices are refused, or a run of ranks failed.
+    /// The operands or the source are refused, or the ranks failed.
     #[error("{0}")]
     Run(OperationFault),
-    /// Nothing is selected of the matrices, or they have no Kronecker product.
+    /// The selection can't be made from the matrix, or the Kronecker product is too large.
     #[error("{0}")]
     Unselected(SelectionRefusal),
-    /// Memory was refused, to the text of the answer or, where no ranks run, to the answer.
+    /// Memory was refused, for the text of the answer or, without ranks, for the answer itself.
     #[error("out of memory")]
     Memory,
-    /// The sink failed, after a beginning of the text that may have no byte.
+    /// The sink failed. A beginning of the text may have been written.
     #[error("can't write")]
     Output,
 }
@@ -103,8 +105,8 @@ impl From<AllocError> for JobFault {
     }
 }
 
-/// What an operation makes of texts over a semiring: by the ranks of a grid, or, without an engine, by the caller's
-/// thread alone on whole blocks. No list of the operands' entries is kept.
+/// Reads the operands of an operation and computes it over a semiring, by the ranks of a grid or, without an engine, on
+/// whole blocks.
 fn answer_over<S: Semiring + Send + Sync, R: Threads + Wait + Sync>(
     rt: &R,
     alloc: Global,
@@ -127,7 +129,7 @@ fn answer_over<S: Semiring + Send + Sync, R: Threads + Wait + Sync>(
     }
 }
 
-/// The same without an engine.
+/// Reads the operands and computes the operation on whole blocks, without an engine.
 fn answer_alone<S: Semiring + Send + Sync, R: Threads + Sync>(
     rt: &R,
     alloc: Global,
@@ -141,7 +143,7 @@ fn answer_alone<S: Semiring + Send + Sync, R: Threads + Sync>(
     ensures unwritten { IfErr result (λ f. f ≢ JobFault.Output) }
 {
     let operands = read_operands::<S, R>(rt, alloc, &Grid::single(), threads, operation, texts)?;
-    let block = compute_alone(alloc, operation, operands)?;
+    let block = compute_alone(rt, alloc, threads, operation, operands)?;
     let answer = DistributedMatrix::from_block(alloc, block)?;
     Ok(Outcome {
         answer,
@@ -150,8 +152,8 @@ fn answer_alone<S: Semiring + Send + Sync, R: Threads + Sync>(
     })
 }
 
-/// Writes what an operation makes of texts over a semiring, and then the lines of the trace, where one is kept.
-fn execute_over<S: Semiring + Send + Sync, R: Threads + Wait + Sync, K: Sink>(
+/// Writes the result of an operation over a semiring, and then the lines of the trace if the engine keeps one.
+fn put_operation<S: Semiring + Send + Sync, R: Threads + Wait + Sync, K: Sink>(
     rt: &R,
     alloc: Global,
     backend: &Backend<'_>,
@@ -161,7 +163,7 @@ fn execute_over<S: Semiring + Send + Sync, R: Threads + Wait + Sync, K: Sink>(
 ) -> Result<(), JobFault>
     requires texts { vec_len texts ≡ operand_count_of operation }
     requires works { K.has_failed out.old ≡ false }
-    ensures { IsEndOver operation S.arithmetic backend.now texts.items (K.written out.old) (K.written out.new) (K.has_failed out.new) result }
+    ensures { IsEndIn (task_is.Operation operation) S.arithmetic backend.now texts.items (K.written out.old) (K.written out.new) (K.has_failed out.new) result }
 {
     let done = answer_over::<S, R>(rt, alloc, backend, operation, texts)?;
     let Ok(lines) = lines_of(alloc, &done.trace) else {
@@ -177,36 +179,61 @@ fn execute_over<S: Semiring + Send + Sync, R: Threads + Wait + Sync, K: Sink>(
     )
 }
 
-/// Writes what an operation makes of texts over the semiring of a name.
+/// Writes the answer of a task on the matrices of texts over a semiring.
+fn execute_over<S: Semiring + Send + Sync, R: Threads + Wait + Sync, K: Sink>(
+    rt: &R,
+    alloc: Global,
+    backend: &Backend<'_>,
+    task: MatrixTask,
+    texts: Vec<Vec<u8>>,
+    out: &mut K,
+) -> Result<(), JobFault>
+    requires texts { vec_len texts ≡ text_count_of task }
+    requires works { K.has_failed out.old ≡ false }
+    ensures { IsEndIn task S.arithmetic backend.now texts.items (K.written out.old) (K.written out.new) (K.has_failed out.new) result }
+{
+    match task {
+        MatrixTask::Operation(operation) => {
+            put_operation::<S, R, K>(rt, alloc, backend, operation, texts, out)
+        }
+        MatrixTask::Selection(selection) => {
+            put_selected::<S, R, K>(rt, alloc, backend, selection, texts, out)
+        }
+        MatrixTask::Kronecker => put_kronecker::<S, R, K>(rt, alloc, backend, texts, out),
+    }
+}
+
+/// Writes the answer of a task on the matrices of texts over the semiring of a name.
 fn execute_named<R: Threads + Wait + Sync, K: Sink>(
     rt: &R,
     alloc: Global,
     backend: &Backend<'_>,
-    operation: Operation,
+    task: MatrixTask,
     semiring: SemiringName,
     texts: Vec<Vec<u8>>,
     out: &mut K,
 ) -> Result<(), JobFault>
-    requires texts { vec_len texts ≡ operand_count_of operation }
+    requires texts { vec_len texts ≡ text_count_of task }
     requires works { K.has_failed out.old ≡ false }
-    ensures { IsEndOver operation (arithmetic_of semiring) backend.now texts.items (K.written out.old) (K.written out.new) (K.has_failed out.new) result }
+    ensures { IsEndIn task (arithmetic_of semiring) backend.now texts.items (K.written out.old) (K.written out.new) (K.has_failed out.new) result }
 {
     over_semiring!(
         semiring,
-        execute_over::<_, R, K>(rt, alloc, backend, operation, texts, out)
+        execute_over::<_, R, K>(rt, alloc, backend, task, texts, out)
     )
 }
 
-/// Reads the texts of a job's files, in the job's order, and writes the text of its answer: of a matrix page by page,
-/// of levels, distances, parents, components or counts of triangles a line for each vertex that has one, and, where the engine keeps a trace
-/// of an operation, a line for each of its events at the end. All memory is taken before the first byte goes out: a
-/// fault other than `Output` has written nothing. At `Output` a beginning of the text has gone out, and the sink has
-/// failed; it has failed in no other case.
+/// Reads the texts of a job's files in the job's order, computes the answer, and writes its text.
 ///
-/// The faults come in their order: the first text that is no matrix, then shapes that don't agree, a graph whose
-/// matrix isn't square, a source that is none of its vertices or a selection that can't be made, then want of memory, then `Output`. Costs the
-/// reading, what is computed and the writing. Each text is given up once it is read, so that its memory is free for
-/// what is computed.
+/// A matrix is written page by page. Levels, distances, parents, components and counts of triangles take one line for
+/// each vertex that has one. If the engine keeps a trace of an operation, a line for each event follows.
+///
+/// All memory is taken before the first byte is written: at a fault other than `Output` nothing has been written. At
+/// `Output` the sink has failed, which it has in no other case, and a beginning of the text has been written.
+///
+/// The first fault in this order is returned: a text that isn't a matrix; shapes that don't agree, a graph whose matrix
+/// isn't square, a source that isn't a vertex, or a selection that can't be made; want of memory; `Output`. Each text is
+/// dropped once it is read, so that its memory is free for the computation.
 pub fn execute<R: Threads + Wait + Sync, K: Sink>(
     rt: &R,
     alloc: Global,
@@ -218,36 +245,39 @@ pub fn execute<R: Threads + Wait + Sync, K: Sink>(
     requires works { K.has_failed out.old ≡ false }
     ensures { IsEndOf job.now (bytes_of texts.items) (K.written out.old) (K.written out.new) (K.has_failed out.new) result }
 {
-    let backend = backend_for(job, &texts);
+    let backend = backend_for(job);
     let threads = backend.threads;
     match job.task {
         Task::Matrix {
             operation,
             semiring,
-        } => execute_named(rt, alloc, &backend, operation, semiring, texts, out),
-        Task::Levels { source } => {
-            let column = levels_of(rt, alloc, &backend, source, texts)?;
-            put_column(alloc, &column, out)
+        } => {
+            let task = MatrixTask::Operation(operation);
+            execute_named(rt, alloc, &backend, task, semiring, texts, out)
         }
-        Task::Distances { source } => {
-            let column = distances_of(rt, alloc, &backend, source, texts)?;
-            put_column(alloc, &column, out)
+        Task::Selected {
+            selection,
+            semiring,
+        } => {
+            let task = MatrixTask::Selection(selection);
+            execute_named(rt, alloc, &backend, task, semiring, texts, out)
         }
+        Task::Kronecker { semiring } => {
+            let task = MatrixTask::Kronecker;
+            execute_named(rt, alloc, &backend, task, semiring, texts, out)
+        }
+        Task::Levels { source } => put_levels(rt, alloc, &backend, source, texts, out),
+        Task::Distances { source } => put_distances(rt, alloc, &backend, source, texts, out),
         Task::Parents { source } => put_parents(rt, alloc, threads, source, texts, out),
         Task::Components => put_components(rt, alloc, threads, texts, out),
         Task::Triangles => put_triangles(rt, alloc, threads, texts, out),
         Task::TriangleCounts => put_triangle_counts(rt, alloc, threads, texts, out),
-        Task::Selected {
-            selection,
-            semiring,
-        } => put_selected(rt, alloc, threads, selection, semiring, texts, out),
-        Task::Kronecker { semiring } => put_kronecker(rt, alloc, threads, semiring, texts, out),
     }
 }
 
-/// The status that the program ends with: 4 for a text that is no matrix, 5 for shapes that don't
-/// agree, a matrix that isn't square, a source that is no vertex or a selection that can't be made, 6 for want of memory and for
-/// ranks that weren't started, were left alone, tore a trace or lost a block, 7 for output.
+/// The exit status of a fault: 4 for a text that isn't a matrix; 5 for shapes that don't agree, a matrix that isn't
+/// square, a source that isn't a vertex or a selection that can't be made; 6 for want of memory and for ranks that failed;
+/// 7 for a sink that failed.
 pub fn status(fault: &JobFault) -> u8
     ensures { result ≡ status_of fault.now }
 {

@@ -1,4 +1,4 @@
-//! What a fault says.
+//! The lines that report faults.
 ghost use Rattle.std.specs.Prelude.{◌≡◌, IfOk};
 ghost use Rattle.cb_cli.specs.FaultLines.{line_of, name_at, read_line_of, not_started_line_of, gone_line_of, lost_line_of, refusal_line_of, engine_line_of, run_line_of, selection_line_of, unreadable_line_of};
 
@@ -9,7 +9,7 @@ use cb_operations::Refusal;
 use cb_run::OperationFault;
 use std::alloc::{AllocError, Global};
 
-/// The name at a place, or nothing.
+/// The name at this position, or an empty one.
 pub fn name_at(names: &[String], which: usize) -> &str
     ensures { result.now ≡ name_at names.now which }
 {
@@ -19,7 +19,7 @@ pub fn name_at(names: &[String], which: usize) -> &str
     }
 }
 
-/// The line of a fault in a file.
+/// The line for a fault in a file.
 fn read_line(alloc: Global, name: &str, line: u64, text: &str) -> Result<Vec<u8>, AllocError>
     ensures { IfOk result (λ v. v.items ≡ read_line_of name.now line text.now) }
 {
@@ -27,7 +27,7 @@ fn read_line(alloc: Global, name: &str, line: u64, text: &str) -> Result<Vec<u8>
     Ok(text.into_bytes())
 }
 
-/// The line that the program prints for a file that can't be opened, or not be read to its end.
+/// The line for a file that can't be opened or can't be read to its end.
 pub fn unreadable_line(alloc: Global, name: &str) -> Result<Vec<u8>, AllocError>
     ensures { IfOk result (λ v. v.items ≡ unreadable_line_of name.now) }
 {
@@ -35,7 +35,7 @@ pub fn unreadable_line(alloc: Global, name: &str) -> Result<Vec<u8>, AllocError>
     Ok(text.into_bytes())
 }
 
-/// The line for a rank that no thread could be started for.
+/// The line for a rank whose thread couldn't be started.
 fn not_started_line(alloc: Global, rank: u16) -> Result<Vec<u8>, AllocError>
     ensures { IfOk result (λ v. v.items ≡ not_started_line_of rank) }
 {
@@ -43,7 +43,7 @@ fn not_started_line(alloc: Global, rank: u16) -> Result<Vec<u8>, AllocError>
     Ok(text.into_bytes())
 }
 
-/// The line for a rank that came to a lane whose other rank was gone.
+/// The line for a rank that found the other end of a lane gone.
 fn gone_line(alloc: Global, rank: u16) -> Result<Vec<u8>, AllocError>
     ensures { IfOk result (λ v. v.items ≡ gone_line_of rank) }
 {
@@ -51,7 +51,7 @@ fn gone_line(alloc: Global, rank: u16) -> Result<Vec<u8>, AllocError>
     Ok(text.into_bytes())
 }
 
-/// The line for a block of the answer that is lost, since memory was refused in this rank.
+/// The line for a block of the answer that was lost because this rank was refused memory.
 fn lost_line(alloc: Global, origin: u16) -> Result<Vec<u8>, AllocError>
     ensures { IfOk result (λ v. v.items ≡ lost_line_of origin) }
 {
@@ -59,7 +59,7 @@ fn lost_line(alloc: Global, origin: u16) -> Result<Vec<u8>, AllocError>
     Ok(text.into_bytes())
 }
 
-/// The line for operands that are refused.
+/// The line for refused operands.
 fn refusal_line(alloc: Global, refusal: Refusal) -> Result<Vec<u8>, AllocError>
     ensures { IfOk result (λ v. v.items ≡ refusal_line_of refusal) }
 {
@@ -70,7 +70,7 @@ fn refusal_line(alloc: Global, refusal: Refusal) -> Result<Vec<u8>, AllocError>
     }
 }
 
-/// The line for matrices of which nothing is selected.
+/// The line for a refused selection or Kronecker product.
 fn selection_line(alloc: Global, refusal: SelectionRefusal) -> Result<Vec<u8>, AllocError>
     ensures { IfOk result (λ v. v.items ≡ selection_line_of refusal) }
 {
@@ -94,7 +94,7 @@ fn engine_line(alloc: Global, fault: EngineFault) -> Result<Vec<u8>, AllocError>
     }
 }
 
-/// The line for a run that has no answer.
+/// The line for an operation or a search that has no answer.
 fn run_line(alloc: Global, fault: OperationFault) -> Result<Vec<u8>, AllocError>
     ensures { IfOk result (λ v. v.items ≡ run_line_of fault) }
 {
@@ -104,8 +104,8 @@ fn run_line(alloc: Global, fault: OperationFault) -> Result<Vec<u8>, AllocError>
     }
 }
 
-/// The line that the program prints for a fault of a job whose files have these names. It ends by a
-/// line feed; a fault of a file names the file and the line.
+/// The line that reports a fault of a job with these files, with its line feed. For a text that isn't a matrix it names
+/// the file and the line.
 pub fn fault_line(alloc: Global, names: &[String], fault: &JobFault) -> Result<Vec<u8>, AllocError>
     ensures { IfOk result (λ v. v.items ≡ line_of names.now fault.now) }
 {

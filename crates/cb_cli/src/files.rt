@@ -1,4 +1,4 @@
-//! Where the texts of a job come from.
+//! The files of a job, and the texts that are loaded from them.
 ghost use Rattle.std.specs.Prelude.{◌≡◌, ℕ, List, IfOk, IfErr, OnErr};
 ghost use Rattle.cb_cli.specs.Files.{AreTexts, IsUnloaded, bytes_of};
 
@@ -7,31 +7,32 @@ use std::alloc::{AllocError, Global};
 use std::fs;
 use std::rt::Files;
 
-/// A file that can't be opened, or not be read to its end.
+/// A file can't be opened, or can't be read to its end.
 #[derive(Clone, Copy, Debug, PartialEq, Eq)]
 pub struct Unreadable;
 
-/// Files by their names.
+/// A set of files, found by name.
 pub trait FileSource {
-    /// The file of a name may have these bytes.
+    /// The file with this name may contain these bytes.
     ghost holds: { Self → List ℕ → List ℕ → Type 0 };
 
-    /// The file of a name may be refused, for whatever cause.
+    /// The file with this name may be unreadable, for any reason.
     ghost refuses: { Self → List ℕ → Type 0 };
 
-    /// All bytes of the file of a name.
+    /// Reads all bytes of the file with this name.
     fn load(&self, name: &str) -> Result<Vec<u8>, Unreadable>
         ensures bytes { IfOk result (λ v. holds self.now name.now v.items) }
         ensures refused { OnErr result (refuses self.now name.now) };
 }
 
-/// The files of the system, of which no contract can say what they hold.
+/// The files of the system. Their contract promises nothing about the contents.
 #[derive(Drop)]
 pub struct SystemFiles<'a, R: Files + AllocGlobal> {
     rt: &'a R,
 }
 
 impl<'a, R: Files + AllocGlobal> SystemFiles<'a, R> {
+    /// The files that this handle reaches.
     pub fn new(rt: &'a R) -> SystemFiles<'a, R> {
         SystemFiles { rt }
     }
@@ -50,12 +51,12 @@ impl<R: Files + AllocGlobal> FileSource for SystemFiles<'_, R> {
     }
 }
 
-/// Why there are not all texts.
+/// Why the texts of a job can't all be loaded.
 #[derive(Clone, Copy, Debug, PartialEq, Eq)]
 pub enum LoadFault {
-    /// The file of this place among the names can't be read.
+    /// The file at this position in the list of names can't be read.
     Unreadable(usize),
-    /// Memory was refused to the list of texts.
+    /// Memory for the list of texts was refused.
     Memory,
 }
 
@@ -69,7 +70,7 @@ impl From<AllocError> for LoadFault {
     }
 }
 
-/// The texts of files, in the order of their names, or the first name whose file can't be read.
+/// Loads the files in the order of their names. The first file that can't be read ends it.
 pub fn texts_of<F: FileSource>(
     alloc: Global,
     files: &F,

@@ -1,4 +1,4 @@
-//! What one thread answers of the graph of a text: parents, components, triangles.
+//! Parents, components and triangles of the graph of a text, which one thread computes.
 ghost use Rattle.std.specs.Prelude.{◌≡◌, vec_len, false};
 ghost use Rattle.cb_searches.specs.Parents.{AreParents};
 ghost use Rattle.cb_cli.specs.Answers.{IsComponentsAnswer, IsParentsAnswer, IsParentsFault, IsSquareFault, IsTriangleCountsAnswer, IsTrianglesAnswer};
@@ -32,7 +32,7 @@ pub fn put_parents<R: Threads + Sync, K: Sink>(
     put_pairs(alloc, &column, out)
 }
 
-/// Writes the least vertex that is joined to each vertex.
+/// Writes the least vertex of the connected component of each vertex.
 pub fn put_components<R: Threads + Sync, K: Sink>(
     rt: &R,
     alloc: Global,
@@ -49,7 +49,7 @@ pub fn put_components<R: Threads + Sync, K: Sink>(
     put_pairs(alloc, &column, out)
 }
 
-/// Writes how many triangles there are.
+/// Writes the number of triangles.
 pub fn put_triangles<R: Threads + Sync, K: Sink>(
     rt: &R,
     alloc: Global,
@@ -66,7 +66,7 @@ pub fn put_triangles<R: Threads + Sync, K: Sink>(
     put_number(alloc, count, out)
 }
 
-/// Writes how many triangles each vertex is part of.
+/// Writes the number of triangles that each vertex is part of.
 pub fn put_triangle_counts<R: Threads + Sync, K: Sink>(
     rt: &R,
     alloc: Global,

@@ -1,4 +1,4 @@
-//! Reads the graph of a text into one block, in pieces side by side: for what one thread searches or counts.
+//! Reads the graph of a text into one block, for searches and counts by one thread. Several threads read a large text.
 ghost use Rattle.std.specs.Prelude.{◌≡◌, ◌≢◌, vec_len, None, IfOk, IfErr};
 ghost use Rattle.cb_cli.specs.Answers.{IsSquareFault, IsSquareGraph, IsWalkFault, IsWalkGraph};
 ghost use Rattle.cb_cli.specs.Files.{bytes_of};
@@ -13,7 +13,7 @@ use cb_semirings::{OrAnd, Semiring};
 use std::alloc::Global;
 use std::thread::Threads;
 
-/// The graph of a text, of which the source is a vertex.
+/// Reads the graph of a text. The source must be a vertex of it.
 pub fn graph_with_source<S: Semiring + Send + Sync, R: Threads + Sync>(
     rt: &R,
     alloc: Global,
@@ -31,7 +31,7 @@ pub fn graph_with_source<S: Semiring + Send + Sync, R: Threads + Sync>(
     Ok(graph.into_block())
 }
 
-/// The graph of a text, which is square.
+/// Reads the graph of a text. The matrix must be square.
 pub fn square_graph<R: Threads + Sync>(
     rt: &R,
     alloc: Global,

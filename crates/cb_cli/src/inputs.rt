@@ -1,5 +1,5 @@
-//! Reads the operands of a job, in the job's order, each in pieces side by side, by so many threads at most. Each text is
-//! given up once it is read.
+//! Reads the operands of a job, in the job's order. Each text is read in pieces, by at most `threads` threads, and dropped
+//! once it is read.
 ghost use Rattle.std.specs.Prelude.{◌≡◌, ◌∷◌, [], length, vec_len, IfOk, IfErr};
 ghost use Rattle.cb_market.specs.Reads.{Reads};
 ghost use Rattle.cb_operations.specs.Operands.{list_of};
@@ -16,10 +16,10 @@ use cb_semirings::Semiring;
 use std::alloc::Global;
 use std::thread::Threads;
 
-/// So many bytes at least are worth a thread.
+/// The least number of bytes for which a thread is started.
 const LEAST_BYTES: usize = 262_144;
 
-/// The matrix of the text of a place, in the blocks of a grid.
+/// Reads the text at position `which` into the blocks of a grid.
 fn read_blocks<S: Semiring + Send + Sync, R: Threads + Sync>(
     rt: &R,
     alloc: Global,
@@ -42,7 +42,7 @@ fn read_blocks<S: Semiring + Send + Sync, R: Threads + Sync>(
     }
 }
 
-/// The matrix of the only text, in the blocks of a grid.
+/// Reads the only text into the blocks of a grid.
 pub fn read_one<S: Semiring + Send + Sync, R: Threads + Sync>(
     rt: &R,
     alloc: Global,
@@ -60,7 +60,7 @@ pub fn read_one<S: Semiring + Send + Sync, R: Threads + Sync>(
     read_blocks(rt, alloc, grid, threads, 0, text)
 }
 
-/// The matrices of two texts.
+/// Reads two texts into the blocks of a grid.
 pub fn read_two<S: Semiring + Send + Sync, R: Threads + Sync>(
     rt: &R,
     alloc: Global,
@@ -80,7 +80,7 @@ pub fn read_two<S: Semiring + Send + Sync, R: Threads + Sync>(
     Ok((left, right))
 }
 
-/// The matrices of three texts.
+/// Reads three texts into the blocks of a grid.
 fn read_three<S: Semiring + Send + Sync, R: Threads + Sync>(
     rt: &R,
     alloc: Global,
@@ -109,7 +109,7 @@ fn read_three<S: Semiring + Send + Sync, R: Threads + Sync>(
     Ok((left, right, mask))
 }
 
-/// The operands of an operation, in the blocks of a grid.
+/// Reads the operands of an operation into the blocks of a grid.
 pub fn read_operands<S: Semiring + Send + Sync, R: Threads + Sync>(
     rt: &R,
     alloc: Global,

@@ -1,16 +1,16 @@
 //! The program `cbgrid`, as a library: from a job and texts to bytes and a status.
 //!
-//! `run` is a whole run but for the words: what goes to each stream and the status are its contract.
-//! It goes through four steps, each a call of its own:
-//! 1. `read_job` of `cb_words` reads the words of a command line, and answers a `Job`, a help text or a usage text.
+//! `run` does everything but read the command line. Its contract says what goes to each stream, and the exit status. A
+//! whole run takes four steps, each a call of its own:
+//! 1. `read_job` of `cb_words` reads the words of a command line: into a `Job`, a help text or a usage text.
 //! 2. `texts_of` loads the files that the job names, in the job's order, from a `FileSource`.
-//! 3. `execute` reads the texts into the blocks of the grid, giving up each, computes the answer and writes
-//!    its text to a `Sink`. All memory is taken before its first byte goes out, so every fault but a failed
-//!    write leaves the sink as it was, and after a failed write a beginning of the text has gone out.
-//! 4. An `Ending` tells the status that the program ends with, and what it prints on standard error.
+//! 3. `execute` reads the texts into the blocks of the grid, dropping each once it is read, computes the answer and writes
+//!    its text to a `Sink`. All memory is taken before the first byte is written, so every fault but a failed write leaves
+//!    the sink as it was. After a failed write a beginning of the text has been written.
+//! 4. An `Ending` gives the exit status and the text for standard error.
 //!
-//! The semiring and the engine are chosen while the program runs, by their names of `cb_words`: the contract of
-//! `execute` speaks of those that the job names.
+//! The semiring and the engine are chosen at run time, by the names in the job. The contract of `execute` is about the
+//! semiring and the engine that the job names.
 #![tactic(auto)]
 
 mod alone;
@@ -23,6 +23,7 @@ pub mod files;
 mod graph_answers;
 mod graph_inputs;
 mod inputs;
+mod matrix_tasks;
 mod output;
 mod selection_answers;
 pub mod selection_refusals;

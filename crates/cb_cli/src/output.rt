@@ -1,5 +1,5 @@
-//! Writes the text of an answer: of a matrix page by page, or by several threads in rounds of sheets, of a column of
-//! numbers at once.
+//! Writes the text of an answer. One thread writes a matrix page by page, several write it in rounds of sheets. The text
+//! of a column is made whole and then written.
 ghost use Rattle.std.specs.Prelude.{◌≡◌, ◌++◌, [], ◌∷◌, true, false, OnOk, OnErr};
 ghost use Rattle.std.specs.Io.KnownBytes.{Appends};
 ghost use Rattle.cb_market.specs.Text.{number_line, text_of, vertex_text_of, vertex_pairs_text_of};
@@ -18,7 +18,7 @@ use cb_writing::Round;
 use std::alloc::{AllocError, Global};
 use std::thread::Threads;
 
-/// Writes what is on sheets, one after the other. At `PutFault` a beginning of it has gone out.
+/// Writes the sheets, one after the other. At `PutFault` a beginning of their text has been written.
 fn put_sheets<S: Semiring, K: Sink>(sheets: &[Sheet<'_, S>], out: &mut K) -> Result<(), PutFault>
     requires { K.has_failed out.old ≡ false }
     ensures whole { OnOk result (Appends (K.written out.old) (K.written out.new) (written_on sheets.now)) }
@@ -32,7 +32,7 @@ fn put_sheets<S: Semiring, K: Sink>(sheets: &[Sheet<'_, S>], out: &mut K) -> Res
     Ok(())
 }
 
-/// Writes the text of a matrix, in as many rounds as it takes. At `PutFault` a beginning of it has gone out.
+/// Writes the text of a matrix in rounds. At `PutFault` a beginning of it has been written.
 fn put_rounds<'a, S: Semiring + Send + Sync, R: Threads + Sync, K: Sink>(
     rt: &R,
     matrix: &'a DistributedMatrix<S>,
@@ -52,7 +52,7 @@ fn put_rounds<'a, S: Semiring + Send + Sync, R: Threads + Sync, K: Sink>(
     Ok(())
 }
 
-/// Writes the text of a matrix, by as many pages as it takes. At `PutFault` a beginning of it has gone out.
+/// Writes the text of a matrix page by page. At `PutFault` a beginning of it has been written.
 fn put_pages<S: Semiring, K: Sink>(
     matrix: &DistributedMatrix<S>,
     page: &mut Page,
@@ -71,8 +71,8 @@ fn put_pages<S: Semiring, K: Sink>(
     Ok(())
 }
 
-/// What the text of a matrix is written on: by the caller's thread a page, which is the quickest where it is alone, by
-/// several the sheets of a round.
+/// What the text of a matrix is written on: one page by a single thread, for which it is fastest, or the sheets of a round
+/// by several.
 #[derive(Drop)]
 enum Paper<'a, S: Semiring> {
     Page(Page),
@@ -80,7 +80,7 @@ enum Paper<'a, S: Semiring> {
 }
 
 impl<'a, S: Semiring> Paper<'a, S> {
-    /// For so many threads.
+    /// Takes the memory to write a matrix with this many threads.
     fn new(
         alloc: Global,
         threads: u32,
@@ -94,7 +94,7 @@ impl<'a, S: Semiring> Paper<'a, S> {
     }
 }
 
-/// Writes the text of a matrix. At `PutFault` a beginning of it has gone out.
+/// Writes the text of a matrix. At `PutFault` a beginning of it has been written.
 fn put_text<'a, S: Semiring + Send + Sync, R: Threads + Sync, K: Sink>(
     rt: &R,
     matrix: &'a DistributedMatrix<S>,
@@ -113,7 +113,7 @@ fn put_text<'a, S: Semiring + Send + Sync, R: Threads + Sync, K: Sink>(
     }
 }
 
-/// Writes the text of a matrix, and then some lines. At `PutFault` a beginning of it all has gone out.
+/// Writes the text of a matrix, and then some lines. At `PutFault` a beginning of both has been written.
 fn put_text_then_lines<'a, S: Semiring + Send + Sync, R: Threads + Sync, K: Sink>(
     rt: &R,
     matrix: &'a DistributedMatrix<S>,
@@ -131,8 +131,8 @@ fn put_text_then_lines<'a, S: Semiring + Send + Sync, R: Threads + Sync, K: Sink
     put_all(out, lines)
 }
 
-/// Writes the text of a matrix and some lines after it, with so many threads at most. What it is written on is taken
-/// first, and no memory after it: at `Memory` nothing has gone out, and at `Output` a beginning of the whole.
+/// Writes the text of a matrix and some lines after it, with at most this many threads. All memory is taken first: at
+/// `Memory` nothing has been written, and at `Output` a beginning of the whole.
 pub fn put_text_and_lines<S: Semiring + Send + Sync, R: Threads + Sync, K: Sink>(
     rt: &R,
     alloc: Global,
@@ -153,7 +153,7 @@ pub fn put_text_and_lines<S: Semiring + Send + Sync, R: Threads + Sync, K: Sink>
     }
 }
 
-/// Writes the text of a matrix, likewise.
+/// Writes the text of a matrix, with the same faults.
 pub fn put_matrix<S: Semiring + Send + Sync, R: Threads + Sync, K: Sink>(
     rt: &R,
     alloc: Global,
@@ -167,7 +167,7 @@ pub fn put_matrix<S: Semiring + Send + Sync, R: Threads + Sync, K: Sink>(
     put_text_and_lines(rt, alloc, threads, matrix, &[], out)
 }
 
-/// Writes a text that is made. At `Output` a beginning of it has gone out.
+/// Writes a text. At `Output` a beginning of it has been written.
 fn put_made<K: Sink>(text: &[u8], out: &mut K) -> Result<(), JobFault>
     requires { K.has_failed out.old ≡ false }
     ensures { IsTextEnd text.now (K.written out.old) (K.written out.new) (K.has_failed out.new) result }
@@ -178,7 +178,7 @@ fn put_made<K: Sink>(text: &[u8], out: &mut K) -> Result<(), JobFault>
     }
 }
 
-/// Writes the vertex text of a column. All memory is taken first: at `Memory` nothing has gone out, and at `Output` a
+/// Writes the vertex text of a column. All memory is taken first: at `Memory` nothing has been written, and at `Output` a
 /// beginning of the text.
 pub fn put_column<K: Sink>(
     alloc: Global,
@@ -195,7 +195,7 @@ pub fn put_column<K: Sink>(
     }
 }
 
-/// Writes the vertex text of a column of counts, likewise.
+/// Writes the vertex text of a column of counts, with the same faults.
 pub fn put_counts<K: Sink>(
     alloc: Global,
     column: &Matrix<PlusTimes>,
@@ -210,7 +210,7 @@ pub fn put_counts<K: Sink>(
     }
 }
 
-/// Writes the pairs of vertices of a column, likewise.
+/// Writes the pairs of vertices of a column, with the same faults.
 pub fn put_pairs<K: Sink>(
     alloc: Global,
     column: &Matrix<MinPlus>,
@@ -225,7 +225,7 @@ pub fn put_pairs<K: Sink>(
     }
 }
 
-/// Writes a number on a line, likewise.
+/// Writes a number on a line, with the same faults.
 pub fn put_number<K: Sink>(alloc: Global, number: u64, out: &mut K) -> Result<(), JobFault>
     requires { K.has_failed out.old ≡ false }
     ensures { IsTextEnd (number_line (number ∷ [])) (K.written out.old) (K.written out.new) (K.has_failed out.new) result }

@@ -1,11 +1,13 @@
-//! What one thread makes of the matrices of texts, by the places of their entries: selections, Kronecker products.
+//! Selections and Kronecker products of the matrices of texts, which one thread computes.
 ghost use Rattle.std.specs.Prelude.{◌≡◌, ◌≢◌, vec_len, false, IfOk, IfErr};
-ghost use Rattle.cb_semirings.specs.Names.{arithmetic_of};
-ghost use Rattle.cb_cli.specs.Answers.{IsKroneckerAnswer, IsKroneckerFault, IsKroneckerOf, IsSelectedAnswer, IsSelectedFault, IsSelectedOf};
+ghost use Rattle.cb_selections.specs.Selections.{kronecker};
+ghost use Rattle.cb_cli.specs.Answers.{IsKroneckerFault, IsKroneckerOf, IsProductFault, IsSelectedFault, IsSelectedOf};
 ghost use Rattle.cb_cli.specs.Files.{bytes_of};
-ghost use Rattle.cb_cli.specs.Selected.{Fits, selection_of};
-ghost use Rattle.cb_cli.specs.WriteEnds.{IsEndOn};
+ghost use Rattle.cb_cli.specs.Selected.{Fits, FitsInShape, selection_of};
+ghost use Rattle.cb_cli.specs.WriteEnds.{IsEndIn};
+ghost use Rattle.cb_cli.specs.declared.matrix_tasks.MatrixTask.TheVariants as task_is;
 
+use crate::backends::Backend;
 use crate::execution::JobFault;
 use crate::inputs::{read_one, read_two};
 use crate::output::put_matrix;
@@ -14,12 +16,12 @@ use crate::sinks::Sink;
 use cb_dcsc::Block;
 use cb_layout::{DistributedMatrix, Grid};
 use cb_selections::{apply, diagonal, diagonal_matrix, kronecker, select};
-use cb_semirings::{Semiring, SemiringName, over_semiring};
+use cb_semirings::Semiring;
 use cb_words::Selection;
 use std::alloc::{AllocError, Global};
 use std::thread::Threads;
 
-/// What a selection makes of a block.
+/// The selection from a block.
 fn selected<S: Semiring>(
     alloc: Global,
     selection: Selection,
@@ -40,7 +42,7 @@ fn selected<S: Semiring>(
     }
 }
 
-/// What a selection makes of the matrix of a text.
+/// Reads a text, and makes the selection from its matrix.
 fn selected_matrix<S: Semiring + Send + Sync, R: Threads + Sync>(
     rt: &R,
     alloc: Global,
@@ -60,7 +62,22 @@ fn selected_matrix<S: Semiring + Send + Sync, R: Threads + Sync>(
     Ok(answer)
 }
 
-/// The Kronecker product of the matrices of two texts.
+/// The Kronecker product of two blocks, unless its shape is too large.
+fn kronecker_block<S: Semiring>(
+    alloc: Global,
+    left: &Block<S>,
+    right: &Block<S>,
+) -> Result<Block<S>, JobFault>
+    ensures ok { IfOk result (λ m. m ≡ kronecker S.arithmetic left.now right.now) }
+    ensures fits { IfOk result (λ _. FitsInShape left.now.shape right.now.shape) }
+    ensures fault { IfErr result (IsProductFault left.now.shape right.now.shape) }
+{
+    check_product(left.shape(), right.shape())?;
+    let block = kronecker(alloc, left, right)?;
+    Ok(block)
+}
+
+/// Reads two texts, and computes the Kronecker product of their matrices.
 fn kronecker_matrix<S: Semiring + Send + Sync, R: Threads + Sync>(
     rt: &R,
     alloc: Global,
@@ -73,80 +90,40 @@ fn kronecker_matrix<S: Semiring + Send + Sync, R: Threads + Sync>(
     ensures unwritten { IfErr result (λ f. f ≢ JobFault.Output) }
 {
     let (left, right) = read_two::<S, R>(rt, alloc, &Grid::single(), threads, texts)?;
-    check_product(left.shape(), right.shape())?;
-    let block = kronecker(alloc, &left.into_block(), &right.into_block())?;
+    let block = kronecker_block(alloc, &left.into_block(), &right.into_block())?;
     let answer = DistributedMatrix::from_block(alloc, block)?;
     Ok(answer)
 }
 
-/// Writes what a selection makes of the matrix of a text over a semiring.
-fn put_selected_over<S: Semiring + Send + Sync, R: Threads + Sync, K: Sink>(
+/// Writes the selection from the matrix of a text over a semiring.
+pub fn put_selected<S: Semiring + Send + Sync, R: Threads + Sync, K: Sink>(
     rt: &R,
     alloc: Global,
-    threads: u32,
+    backend: &Backend<'_>,
     selection: Selection,
     texts: Vec<Vec<u8>>,
     out: &mut K,
 ) -> Result<(), JobFault>
     requires texts { vec_len texts ≡ 1 }
     requires works { K.has_failed out.old ≡ false }
-    ensures { IsEndOn (IsSelectedAnswer selection S.arithmetic) (IsSelectedFault selection S.arithmetic) texts.items (K.written out.old) (K.written out.new) (K.has_failed out.new) result }
+    ensures { IsEndIn (task_is.Selection selection) S.arithmetic backend.now texts.items (K.written out.old) (K.written out.new) (K.has_failed out.new) result }
 {
-    let answer = selected_matrix::<S, R>(rt, alloc, threads, selection, texts)?;
-    put_matrix(rt, alloc, threads, &answer, out)
+    let answer = selected_matrix::<S, R>(rt, alloc, backend.threads, selection, texts)?;
+    put_matrix(rt, alloc, backend.threads, &answer, out)
 }
 
 /// Writes the Kronecker product of the matrices of two texts over a semiring.
-fn put_kronecker_over<S: Semiring + Send + Sync, R: Threads + Sync, K: Sink>(
+pub fn put_kronecker<S: Semiring + Send + Sync, R: Threads + Sync, K: Sink>(
     rt: &R,
     alloc: Global,
-    threads: u32,
+    backend: &Backend<'_>,
     texts: Vec<Vec<u8>>,
     out: &mut K,
 ) -> Result<(), JobFault>
     requires texts { vec_len texts ≡ 2 }
     requires works { K.has_failed out.old ≡ false }
-    ensures { IsEndOn (IsKroneckerAnswer S.arithmetic) (IsKroneckerFault S.arithmetic) texts.items (K.written out.old) (K.written out.new) (K.has_failed out.new) result }
+    ensures { IsEndIn task_is.Kronecker S.arithmetic backend.now texts.items (K.written out.old) (K.written out.new) (K.has_failed out.new) result }
 {
-    let answer = kronecker_matrix::<S, R>(rt, alloc, threads, texts)?;
-    put_matrix(rt, alloc, threads, &answer, out)
-}
-
-/// Writes what a selection makes of the matrix of a text over the semiring of a name.
-pub fn put_selected<R: Threads + Sync, K: Sink>(
-    rt: &R,
-    alloc: Global,
-    threads: u32,
-    selection: Selection,
-    semiring: SemiringName,
-    texts: Vec<Vec<u8>>,
-    out: &mut K,
-) -> Result<(), JobFault>
-    requires texts { vec_len texts ≡ 1 }
-    requires works { K.has_failed out.old ≡ false }
-    ensures { IsEndOn (IsSelectedAnswer selection (arithmetic_of semiring)) (IsSelectedFault selection (arithmetic_of semiring)) texts.items (K.written out.old) (K.written out.new) (K.has_failed out.new) result }
-{
-    over_semiring!(
-        semiring,
-        put_selected_over::<_, R, K>(rt, alloc, threads, selection, texts, out)
-    )
-}
-
-/// Writes the Kronecker product of the matrices of two texts over the semiring of a name.
-pub fn put_kronecker<R: Threads + Sync, K: Sink>(
-    rt: &R,
-    alloc: Global,
-    threads: u32,
-    semiring: SemiringName,
-    texts: Vec<Vec<u8>>,
-    out: &mut K,
-) -> Result<(), JobFault>
-    requires texts { vec_len texts ≡ 2 }
-    requires works { K.has_failed out.old ≡ false }
-    ensures { IsEndOn (IsKroneckerAnswer (arithmetic_of semiring)) (IsKroneckerFault (arithmetic_of semiring)) texts.items (K.written out.old) (K.written out.new) (K.has_failed out.new) result }
-{
-    over_semiring!(
-        semiring,
-        put_kronecker_over::<_, R, K>(rt, alloc, threads, texts, out)
-    )
+    let answer = kronecker_matrix::<S, R>(rt, alloc, backend.threads, texts)?;
+    put_matrix(rt, alloc, backend.threads, &answer, out)
 }

@@ -1,4 +1,4 @@
-//! Why nothing is selected of a matrix, or no Kronecker product is made.
+//! The refusals of selections and Kronecker products.
 ghost use Rattle.std.specs.Prelude.{◌≡◌, ◌≢◌, ◌↔◌, ◌*◌, ◌≤◌, IsTrue, IfErr, OnOk};
 ghost use Rattle.cb_cli.specs.Selected.{Fits, FitsInShape, IsSelectionRefusal, region_of, function_of};
 ghost use Rattle.cb_cli.specs.declared.selection_refusals.SelectionRefusal.TheVariants.{NotColumn, TooLarge};
@@ -9,21 +9,21 @@ use cb_semirings::Semiring;
 use cb_words::{FunctionName, RegionName, Selection};
 use thiserror::Error;
 
-/// Why the matrices of texts are refused.
+/// Why a selection or a Kronecker product of these matrices can't be made.
 #[derive(Clone, Copy, Debug, PartialEq, Eq, Error)]
 pub enum SelectionRefusal {
-    /// The number that a function takes is no value of the semiring.
+    /// A number that the function takes isn't a value of the semiring.
     #[error("no value of the semiring")]
     NoValue,
-    /// A matrix that is to be a column has more columns than one, or none.
+    /// The matrix must be a column, and has another number of columns than one.
     #[error("matrix not a column")]
     NotColumn,
-    /// A Kronecker product has more rows or columns than a matrix may have.
+    /// The Kronecker product has more rows or columns than a matrix may have.
     #[error("product too large")]
     TooLarge,
 }
 
-/// The region of a name, by a diagonal that has so many columns right of the main one, or rows below it.
+/// The region of a name, by the diagonal that is `right` columns right of the main one, or `down` rows below it.
 pub fn region_of(region: RegionName, right: u32, down: u32) -> Region
     ensures { result ≡ region_of region right down }
 {
@@ -52,7 +52,7 @@ pub fn function_of(function: FunctionName) -> Function
     }
 }
 
-/// Refuses a shape with a place at which a function takes a number that the semiring lacks.
+/// Checks that each number that a function takes in a matrix of this shape is a value of the semiring.
 fn check_function<S: Semiring>(function: FunctionName, shape: Shape) -> Result<(), SelectionRefusal>
     ensures ok { OnOk result (Fits (Selection.Apply function) S.arithmetic shape) }
     ensures refused { IfErr result (IsSelectionRefusal (Selection.Apply function) S.arithmetic shape) }
@@ -64,7 +64,7 @@ fn check_function<S: Semiring>(function: FunctionName, shape: Shape) -> Result<(
     }
 }
 
-/// Refuses a shape that isn't that of a column.
+/// Checks that a shape is that of a column.
 fn check_column(shape: Shape) -> Result<(), SelectionRefusal>
     ensures ok { OnOk result (shape.cols ≡ 1) }
     ensures refused { IfErr result (λ refusal. (refusal ≡ NotColumn) × (shape.cols ≢ 1)) }
@@ -76,7 +76,7 @@ fn check_column(shape: Shape) -> Result<(), SelectionRefusal>
     }
 }
 
-/// Refuses the shape of a matrix of which a selection can't be made.
+/// Checks that a selection can be made from a matrix of this shape.
 pub fn check_selection<S: Semiring>(
     selection: Selection,
     shape: Shape,
@@ -102,7 +102,7 @@ fn is_within_limit(left: u32, right: u32) -> bool
     }
 }
 
-/// Refuses the shapes of two matrices whose Kronecker product no shape holds.
+/// Checks that the Kronecker product of two matrices isn't too large for a shape.
 pub fn check_product(left: Shape, right: Shape) -> Result<(), SelectionRefusal>
     ensures ok { OnOk result (FitsInShape left right) }
     ensures refused { IfErr result (λ refusal. (refusal ≡ TooLarge) × ¬ FitsInShape left right) }

@@ -1,4 +1,4 @@
-//! Where the answer goes.
+//! Sinks, to which the answer and the text of a fault are written.
 ghost use Rattle.std.specs.Prelude.{◌≡◌, ◌≤◌, ◌<◌, ◌+◌, ◌||◌, ℕ, List, Bool, length, true, false, IfOk, OnOk, OnErr, IsErr, Option, Some, None};
 ghost use Rattle.std.specs.Io.KnownBytes.{Appends, WriteAppends};
 ghost use Rattle.std.specs.Io.{WritesAtMost};
@@ -6,32 +6,31 @@ ghost use Rattle.cb_cli.specs.Sinks.{put_failed, AppendsPrefix};
 
 use std::io::Write;
 
-/// A put that wrote nothing.
+/// A put that failed, or that accepted none of its bytes.
 #[derive(Clone, Copy, Debug, PartialEq, Eq)]
 pub struct PutFault;
 
-/// Takes bytes, some at a time. A put that fails, or that takes no byte of some, is a failure for
-/// good: `failed` tells so from then on, and turns true in no other way.
+/// Accepts bytes, some at a time. If a put fails, or accepts none of the bytes, the sink has failed for good: `failed` is
+/// true from then on, and never becomes true otherwise.
 pub trait Sink {
-    /// The bytes that were written, where they are known.
+    /// The bytes written so far, if they are known.
     ghost written: { Self → Option (List ℕ) };
 
-    /// Whether a put failed, or took no byte of some.
+    /// Whether a put failed, or accepted none of its bytes.
     ghost has_failed: { Self → Bool };
 
-    /// Writes a beginning of the bytes, and answers how many; none where it fails.
+    /// Writes a beginning of the bytes, and returns its length. If it fails, no byte is written.
     fn put(&mut self, bytes: &[u8]) -> Result<usize, PutFault>
         ensures bound { WritesAtMost result bytes.now }
         ensures bytes { WriteAppends (written self.old) (written self.new) result bytes.now }
         ensures failed { has_failed self.new ≡ (has_failed self.old || put_failed result bytes.now) };
 
-    /// Whether a put failed, or took no byte of some.
+    /// Whether a put failed, or accepted none of its bytes.
     fn failed(&self) -> bool
         ensures { result ≡ has_failed self.now };
 }
 
-/// A sink over a writer. Its bytes are those that the writer tells. A write that is interrupted
-/// counts as failed.
+/// A sink over a writer. Its bytes are those that the writer reports. An interrupted write counts as failed.
 #[derive(Drop)]
 pub struct WriterSink<W: Write + Drop> {
     inner: W,
@@ -41,7 +40,7 @@ pub struct WriterSink<W: Write + Drop> {
 impl<W: Write + Drop> WriterSink<W> {
     ghost use Rattle.cb_cli.specs.Writers.{writer_of, has_failed_of};
 
-    /// A sink to which nothing was put yet.
+    /// A sink over a writer, which hasn't failed.
     pub fn new(inner: W) -> WriterSink<W>
         ensures writer { writer_of result ≡ inner }
         ensures works { has_failed_of result ≡ false }
@@ -52,7 +51,7 @@ impl<W: Write + Drop> WriterSink<W> {
         }
     }
 
-    /// The writer, with what was put to it.
+    /// Returns the writer.
     pub fn into_inner(self) -> W
         ensures { result ≡ writer_of self }
     {
@@ -85,7 +84,7 @@ impl<W: Write + Drop> Sink for WriterSink<W> {
     }
 }
 
-/// Writes the whole text, by as many puts as it takes. At `PutFault` a beginning of it has gone out.
+/// Writes the whole text, by as many puts as it takes. At `PutFault` a beginning of it has been written.
 pub fn put_all<K: Sink>(out: &mut K, text: &[u8]) -> Result<(), PutFault>
     requires { K.has_failed out.old ≡ false }
     ensures whole { OnOk result (Appends (K.written out.old) (K.written out.new) text.now) }

@@ -1,11 +1,11 @@
-//! The lines that tell a trace.
-ghost use Rattle.std.specs.Prelude.{◌≡◌, ◌++◌, OnOk, IfOk, codes, decimal, string_bytes};
-ghost use Rattle.cb_cli.specs.TraceTexts.{event_words, line_of_event, trace_lines, trace_text};
+//! The lines of a trace.
+ghost use Rattle.std.specs.Prelude.{◌≡◌, ◌++◌, OnOk, IfOk, string_bytes};
+ghost use Rattle.cb_cli.specs.TraceTexts.{event_words, letter_line, line_of_event, mark_line, trace_lines, trace_text};
 
 use cb_trace::{Envelope, Trace, TraceEvent};
 use std::alloc::{AllocError, Global};
 
-/// Writes what was done, the ranks that the letter goes from and to, and its number.
+/// Appends the word of an event, the ranks that the letter goes from and to, and its number.
 fn put_words(text: &mut String, word: &str, envelope: Envelope) -> Result<(), AllocError>
     ensures { OnOk result (string_bytes text.new ≡ string_bytes text.old ++ event_words word.now envelope) }
 {
@@ -18,23 +18,23 @@ fn put_words(text: &mut String, word: &str, envelope: Envelope) -> Result<(), Al
     write!(text, "% {word} {from} {to} {number}")
 }
 
-/// Writes the line of a letter, with its tag.
+/// Appends the line of a letter, with its tag.
 fn put_letter(text: &mut String, word: &str, envelope: Envelope) -> Result<(), AllocError>
-    ensures { OnOk result (string_bytes text.new ≡ string_bytes text.old ++ event_words word.now envelope ++ codes " " ++ decimal envelope.tag.0 ++ codes "\n") }
+    ensures { OnOk result (string_bytes text.new ≡ string_bytes text.old ++ letter_line word.now envelope) }
 {
     put_words(text, word, envelope)?;
     write!(text, " {}\n", envelope.tag.0)
 }
 
-/// Writes the line of a close mark.
+/// Appends the line of a close mark.
 fn put_mark(text: &mut String, word: &str, envelope: Envelope) -> Result<(), AllocError>
-    ensures { OnOk result (string_bytes text.new ≡ string_bytes text.old ++ event_words word.now envelope ++ codes "\n") }
+    ensures { OnOk result (string_bytes text.new ≡ string_bytes text.old ++ mark_line word.now envelope) }
 {
     put_words(text, word, envelope)?;
     write!(text, "\n")
 }
 
-/// Writes the line of an event.
+/// Appends the line of an event.
 fn put_event(text: &mut String, event: &TraceEvent) -> Result<(), AllocError>
     ensures { OnOk result (string_bytes text.new ≡ string_bytes text.old ++ line_of_event event.now) }
 {
@@ -46,7 +46,7 @@ fn put_event(text: &mut String, event: &TraceEvent) -> Result<(), AllocError>
     }
 }
 
-/// The lines of these events, in their order, each ended by a line feed.
+/// The lines of these events in their order, each with its line feed.
 fn trace_text(alloc: Global, events: &[TraceEvent]) -> Result<String, AllocError>
     ensures { IfOk result (λ t. string_bytes t ≡ trace_text events.now) }
 {
@@ -57,7 +57,7 @@ fn trace_text(alloc: Global, events: &[TraceEvent]) -> Result<String, AllocError
     Ok(text)
 }
 
-/// The lines of the trace that was kept, or no byte where none was.
+/// The lines of a trace, or an empty text if there is none.
 pub fn lines_of(alloc: Global, trace: &Option<Trace>) -> Result<String, AllocError>
     ensures { IfOk result (λ t. string_bytes t ≡ trace_lines trace.now) }
 {

@@ -1,4 +1,4 @@
-//! Whole runs: what goes to each stream, and the status.
+//! Whole runs: what goes to each stream, and the exit status.
 use crate::lines::job;
 use crate::products::{FIRST, PRODUCT, SECOND, Short};
 use cb_cli::endings::run;
@@ -8,7 +8,7 @@ use std::alloc::Global;
 use std::sync::Wait;
 use std::thread::Threads;
 
-/// Files by name. All others can't be read.
+/// Files by name. No other file can be read.
 #[derive(Drop)]
 struct Table {
     alloc: Global,
@@ -50,7 +50,7 @@ impl FileSource for Table {
     }
 }
 
-/// What a run wrote to each stream, and its status.
+/// What a run wrote to each stream, and its exit status.
 #[derive(Drop)]
 struct Outcome {
     out: Vec<u8>,
@@ -58,7 +58,7 @@ struct Outcome {
     code: u8,
 }
 
-/// Runs a command line, over standard output with room for so many bytes.
+/// Runs a command line with room for this many bytes on standard output.
 fn outcome_of<R: Threads + Wait + Sync + AllocGlobal>(rt: &R, line: &str, room: usize) -> Outcome {
     let alloc = rt.alloc();
     let asked = job(alloc, line);
@@ -72,7 +72,7 @@ fn outcome_of<R: Threads + Wait + Sync + AllocGlobal>(rt: &R, line: &str, room: 
     }
 }
 
-/// A command line over the files, the room for what it writes, and how it ends.
+/// A command line on the files, the room for what it writes, and how it ends.
 struct Ending {
     line: &'static str,
     room: usize,
@@ -176,7 +176,7 @@ fn of_usage_and_help_go_to_their_streams(rt: HostRuntime) {
     }
 }
 
-/// Whether a line writes the product, or nothing for want of memory.
+/// Whether a command line writes the product, or nothing for want of memory.
 fn is_product_or_refused<R: Threads + Wait + Sync + AllocGlobal>(rt: &R, line: &str) -> bool {
     let run = outcome_of(rt, line, usize::MAX);
     let is_right = run.code == 0 && run.out.as_slice() == PRODUCT.as_bytes();

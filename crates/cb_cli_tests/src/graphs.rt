@@ -9,10 +9,10 @@ use std::thread::Threads;
 pub const CYCLE: &str =
     "%%MatrixMarket matrix coordinate pattern general\n4 4 4\n1 2\n2 3\n3 1\n4 4\n";
 
-/// Two vertices between which it costs nothing to go, and edges from each to a third.
+/// Two vertices joined by edges of weight 0, and an edge from each to a third.
 pub const WEIGHTLESS: &str = text!("3 3 4\n1 2 0\n2 1 0\n1 3 5\n2 3 2\n");
 
-/// A square of vertices with one diagonal, edges one way, and a fifth vertex without any.
+/// A square with one diagonal, its edges in one direction, and a fifth vertex without edges.
 const SQUARE: &str =
     "%%MatrixMarket matrix coordinate pattern general\n5 5 5\n1 2\n2 3\n4 3\n1 4\n1 3\n";
 
@@ -60,7 +60,7 @@ const ALONE: [Example; 11] = [
         texts: &[SQUARE],
         wanted: "2 1\n3 1\n4 1\n",
     },
-    // of two that are as near the lesser
+    // the lesser of two possible parents
     Example {
         line: "cbgrid parents --source 1 a",
         texts: &[text!("4 4 4\n1 3 1\n1 2 1\n3 4 1\n2 4 1\n")],
@@ -120,13 +120,13 @@ fn have_parents_components_and_triangles(rt: HostRuntime) {
     assert!(rt; failed.is_none(), "{}", failed.unwrap_or(""));
 }
 
-/// How many vertices the tree has in which edges lead from vertex N to 2 N and 2 N + 1. Its text has more than 512 KB, so it
+/// The number of vertices of the tree with edges from each vertex N to 2 N and 2 N + 1. Its text has more than 512 KB, so it
 /// is read in two pieces.
 const VERTICES: u32 = 50_000;
 
 const TREE: &str = "%%MatrixMarket matrix coordinate pattern general\n50000 50000 49999\n";
 
-/// What a line says of a vertex of the tree.
+/// What the line of a vertex of the tree says.
 #[derive(Clone, Copy)]
 enum Column {
     Edge,
@@ -145,7 +145,7 @@ fn put_line(text: &mut String, vertex: u32, column: Column) -> Result<(), AllocE
     }
 }
 
-/// A text that begins so, with a line for each vertex from the second on.
+/// A text of this beginning and then a line for each vertex from the second on.
 fn lines(alloc: Global, head: &str, column: Column) -> Result<String, AllocError> {
     let mut text = String::from_str(alloc, head)?;
     for vertex in 2..=VERTICES {
@@ -183,7 +183,7 @@ const LARGE: [Large; 3] = [
     },
 ];
 
-/// Whether a command on the tree writes in each run what it should.
+/// Whether a command on the tree writes the right text in each run.
 fn is_written<R: Threads + Wait + Sync + AllocGlobal>(
     rt: &R,
     tree: &str,

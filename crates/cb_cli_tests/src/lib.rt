@@ -1,4 +1,4 @@
-//! Worked examples of the command line: whole runs from texts to bytes, sinks that fail, and command lines.
+//! Worked examples of the command line: how it is read, whole runs from texts to bytes, and sinks that fail.
 #![tactic(auto)]
 
 #[cfg(test)]

@@ -12,7 +12,7 @@ use cb_words::{EngineName, FunctionName, Job, RegionName, Selection, Task, Usage
 use std::alloc::{AllocError, Global};
 use std::test::Fail;
 
-/// The words of a line.
+/// The words of a command line.
 fn words(alloc: Global, line: &str) -> Result<Vec<String>, AllocError> {
     let mut words = Vec::new(alloc);
     for word in line.split_whitespace() {
@@ -21,13 +21,13 @@ fn words(alloc: Global, line: &str) -> Result<Vec<String>, AllocError> {
     Ok(words)
 }
 
-/// The job of a line where there are so many processors, or why there is none.
+/// The job of a command line with this many processors, or why there is none.
 fn job_by(alloc: Global, line: &str, processors: usize) -> Result<Job, UsageFault> {
     let words = words(alloc, line)?;
     read_job(alloc, words.as_slice(), processors)
 }
 
-/// The job of a line where there are four processors, or why there is none.
+/// The job of a command line with four processors, or why there is none.
 pub fn job(alloc: Global, line: &str) -> Result<Job, UsageFault> {
     job_by(alloc, line, 4)
 }
@@ -42,7 +42,7 @@ macro_rules! over {
     };
 }
 
-/// What is selected of a matrix over a semiring.
+/// A selection from a matrix over a semiring.
 macro_rules! chosen {
     ($semiring:ident, $selection:expr) => {
         Task::Selected {
@@ -63,7 +63,7 @@ macro_rules! kept {
     };
 }
 
-/// Why the file of a place is no matrix.
+/// Why the file at a position isn't a matrix.
 macro_rules! read_fault {
     ($which:literal, $line:literal, $kind:ident) => {
         JobFault::Read {
@@ -78,7 +78,7 @@ macro_rules! read_fault {
 
 pub(crate) use read_fault;
 
-/// What a command line asks for: a task, over these files.
+/// What a command line asks for: a task on these files.
 struct Asked {
     line: &'static str,
     task: Task,
@@ -304,32 +304,37 @@ fn ask_for_each_task(rt: HostRuntime) {
     }
 }
 
-/// What a line chooses where there are so many processors: the engine, the side of the grid, whether small files may be
-/// computed alone, and how many threads may read and write.
-type Choice = (&'static str, usize, EngineName, u32, bool, u32);
+/// What a command line chooses with this many processors: the engine, the side of the grid, and how many threads may work.
+type Choice = (&'static str, usize, EngineName, u32, u32);
 
-const CHOICES: [Choice; 27] = [
-    ("cbgrid multiply a b", 1, EngineName::Plain, 1, true, 1),
-    ("cbgrid multiply a b", 2, EngineName::Ranks(2), 2, true, 2),
-    ("cbgrid multiply a b", 8, EngineName::Ranks(2), 2, true, 8),
-    ("cbgrid transpose a", 9, EngineName::Ranks(2), 3, true, 9),
-    ("cbgrid spmv a x", 16, EngineName::Ranks(2), 4, true, 16),
-    ("cbgrid add a b", 25, EngineName::Ranks(2), 5, true, 25),
-    ("cbgrid add a b", 999, EngineName::Ranks(2), 6, true, 36),
+const CHOICES: [Choice; 30] = [
+    ("cbgrid multiply a b", 1, EngineName::Plain, 1, 1),
+    ("cbgrid multiply a b", 2, EngineName::Plain, 2, 2),
+    ("cbgrid multiply a b --mask m", 8, EngineName::Plain, 2, 8),
     (
-        "cbgrid add a b --grid 3",
-        1,
+        "cbgrid multiply a b --grid 2",
+        8,
         EngineName::Ranks(2),
-        3,
-        false,
-        9,
+        2,
+        4,
     ),
+    (
+        "cbgrid multiply a b --lane 3",
+        8,
+        EngineName::Ranks(3),
+        2,
+        4,
+    ),
+    ("cbgrid transpose a", 9, EngineName::Plain, 3, 9),
+    ("cbgrid spmv a x", 16, EngineName::Plain, 4, 16),
+    ("cbgrid add a b", 25, EngineName::Plain, 5, 25),
+    ("cbgrid add a b", 999, EngineName::Plain, 6, 36),
+    ("cbgrid add a b --grid 3", 1, EngineName::Ranks(2), 3, 9),
     (
         "cbgrid multiply --mask m a --grid 6 b --engine plain",
         4,
         EngineName::Plain,
         6,
-        false,
         1,
     ),
     (
@@ -337,31 +342,28 @@ const CHOICES: [Choice; 27] = [
         4,
         EngineName::Ranks(2),
         2,
-        false,
         4,
+    ),
+    (
+        "cbgrid transpose a --engine ranks",
+        999,
+        EngineName::Ranks(2),
+        6,
+        36,
     ),
     (
         "cbgrid transpose a --engine ranks",
         1,
         EngineName::Ranks(2),
         1,
-        false,
         1,
     ),
-    (
-        "cbgrid transpose a --lane 1",
-        4,
-        EngineName::Ranks(1),
-        2,
-        false,
-        4,
-    ),
+    ("cbgrid transpose a --lane 1", 4, EngineName::Ranks(1), 2, 4),
     (
         "cbgrid transpose a --engine plain --lane 64",
         4,
         EngineName::Plain,
         2,
-        false,
         1,
     ),
     (
@@ -369,47 +371,29 @@ const CHOICES: [Choice; 27] = [
         1,
         EngineName::Traced(2),
         2,
-        false,
-        1,
+        4,
     ),
     (
         "cbgrid multiply a b --trace",
         99,
         EngineName::Traced(2),
         2,
-        false,
-        36,
+        4,
     ),
     (
         "cbgrid multiply --trace a b --mask m --lane 7 --engine ranks",
         4,
         EngineName::Traced(7),
         2,
-        false,
         4,
     ),
-    (
-        "cbgrid bfs a --source 1",
-        16,
-        EngineName::Plain,
-        4,
-        true,
-        16,
-    ),
-    (
-        "cbgrid relax a --source 1",
-        4,
-        EngineName::Plain,
-        2,
-        true,
-        4,
-    ),
+    ("cbgrid bfs a --source 1", 16, EngineName::Plain, 4, 16),
+    ("cbgrid relax a --source 1", 4, EngineName::Plain, 2, 4),
     (
         "cbgrid relax a --source 1 --lane 5",
         4,
-        EngineName::Plain,
+        EngineName::Ranks(5),
         2,
-        false,
         4,
     ),
     (
@@ -417,7 +401,6 @@ const CHOICES: [Choice; 27] = [
         1,
         EngineName::Ranks(2),
         3,
-        false,
         9,
     ),
     (
@@ -425,7 +408,6 @@ const CHOICES: [Choice; 27] = [
         4,
         EngineName::Plain,
         2,
-        false,
         1,
     ),
     (
@@ -433,40 +415,26 @@ const CHOICES: [Choice; 27] = [
         4,
         EngineName::Ranks(64),
         2,
-        false,
         4,
     ),
-    (
-        "cbgrid parents a --source 1",
-        4,
-        EngineName::Plain,
-        2,
-        true,
-        4,
-    ),
-    ("cbgrid components a", 999, EngineName::Plain, 6, true, 36),
-    ("cbgrid triangles a", 1, EngineName::Plain, 1, true, 1),
-    ("cbgrid kron a b", 4, EngineName::Plain, 2, true, 4),
+    ("cbgrid parents a --source 1", 4, EngineName::Plain, 2, 4),
+    ("cbgrid components a", 999, EngineName::Plain, 6, 36),
+    ("cbgrid triangles a", 1, EngineName::Plain, 1, 1),
+    ("cbgrid kron a b", 4, EngineName::Plain, 2, 4),
     (
         "cbgrid select a --region lower",
         16,
         EngineName::Plain,
         4,
-        true,
         16,
     ),
 ];
 
-/// Whether a line chooses so.
+/// Whether a command line makes this choice.
 fn chooses(alloc: Global, choice: &Choice) -> bool {
-    let (line, processors, engine, side, may_be_alone, threads) = *choice;
+    let (line, processors, engine, side, threads) = *choice;
     match job_by(alloc, line, processors) {
-        Ok(job) => {
-            job.engine == engine
-                && job.grid.side() == side
-                && job.may_be_alone == may_be_alone
-                && job.threads == threads
-        }
+        Ok(job) => job.engine == engine && job.grid.side() == side && job.threads == threads,
         Err(_) => false,
     }
 }
@@ -478,7 +446,7 @@ fn choose_the_engine_the_grid_and_the_threads(rt: HostRuntime) {
     }
 }
 
-/// Lines that are refused for their words.
+/// Command lines that are usage errors.
 const REFUSED: [&str; 94] = [
     "cbgrid multiply",
     "cbgrid multiply a",
@@ -621,7 +589,7 @@ fn offer_help(rt: HostRuntime) {
     }
 }
 
-/// Words that don't go together, and the text that they are refused with.
+/// Command lines whose options can't be combined, and the text of each usage error.
 const CONFLICTS: [(&str, &str); 3] = [
     (
         "cbgrid multiply --engine=plain a b --trace",
@@ -652,7 +620,7 @@ For more information, try '--help'.
     ),
 ];
 
-/// Whether a line is refused with just this text.
+/// Whether a command line is refused with exactly this text.
 fn is_refused_so(alloc: Global, line: &str, wanted: &str) -> bool {
     match job(alloc, line) {
         Err(UsageFault::Usage(text)) => text.as_str() == wanted,
@@ -661,7 +629,7 @@ fn is_refused_so(alloc: Global, line: &str, wanted: &str) -> bool {
 }
 
 #[test]
-fn tell_which_words_do_not_go_together(rt: HostRuntime) {
+fn report_options_that_cannot_be_combined(rt: HostRuntime) {
     for (line, wanted) in CONFLICTS {
         assert!(rt; is_refused_so(rt.alloc(), line, wanted), "{line}");
     }
@@ -670,8 +638,8 @@ fn tell_which_words_do_not_go_together(rt: HostRuntime) {
 /// Whether a fault of a job with the files `a.mtx` and `b.mtx` ends with this status, and prints this line.
 fn ends_so(alloc: Global, fault: &JobFault, number: u8, line: &str) -> Result<bool, AllocError> {
     let names = words(alloc, "a.mtx b.mtx")?;
-    let told = fault_line(alloc, names.as_slice(), fault)?;
-    Ok(status(fault) == number && told.as_slice() == line.as_bytes())
+    let printed = fault_line(alloc, names.as_slice(), fault)?;
+    Ok(status(fault) == number && printed.as_slice() == line.as_bytes())
 }
 
 const FAULTS: [(JobFault, u8, &str); 14] = [
@@ -743,7 +711,7 @@ const FAULTS: [(JobFault, u8, &str); 14] = [
 ];
 
 #[test]
-fn tell_why_there_is_no_answer(rt: HostRuntime) -> Result<(), Fail> {
+fn report_each_fault(rt: HostRuntime) -> Result<(), Fail> {
     for (fault, number, line) in &FAULTS {
         assert!(rt; ends_so(rt.alloc(), fault, *number, line)?, "{line}");
     }

@@ -1,4 +1,4 @@
-//! The transpose, sums of rows and columns, products by vectors, and operations place by place, by `execute`.
+//! The transpose, sums of rows and columns, products with vectors, and element-wise operations, by `execute`.
 use crate::products::{Example, FIRST, SECOND, failed_example, text};
 
 /// A matrix with one entry, below the diagonal.
@@ -25,13 +25,13 @@ const EXAMPLES: [Example; 17] = [
         texts: &[FIRST],
         wanted: text!("2 1 2\n1 1 2\n2 1 3\n"),
     },
-    // the last row has no entry, and neither has the answer
+    // the last row has no entry, and so the last place of the answer has none
     Example {
         line: "cbgrid reduce a --semiring min-plus --by rows",
         texts: &[text!("3 2 3\n1 1 4\n1 2 0\n2 2 7\n")],
         wanted: text!("3 1 2\n1 1 0\n2 1 7\n"),
     },
-    // a sum that is zero is no entry
+    // a sum that is zero isn't stored
     Example {
         line: "cbgrid reduce a --by columns",
         texts: &[text!("2 3 4\n1 1 18446744073709551615\n2 1 1\n1 3 2\n2 3 3\n")],
@@ -72,7 +72,7 @@ const EXAMPLES: [Example; 17] = [
         texts: &[FIRST, text!("2 1 2\n1 1 5\n2 1 7\n")],
         wanted: text!("2 1 2\n1 1 19\n2 1 21\n"),
     },
-    // each file in each other's place: no two answers are the same
+    // the files in other orders: no two answers are the same
     Example {
         line: "cbgrid multiply b a",
         texts: &[SECOND, FIRST],

@@ -1,4 +1,4 @@
-//! Answers whose text has more bytes than a page.
+//! Answers whose text is longer than a page.
 use crate::products::answer;
 use crate::sinks::is_cut;
 use cb_cli::execution::JobFault;
@@ -27,7 +27,7 @@ fn ones(alloc: Global, in_a_row: bool) -> Result<String, AllocError> {
     Ok(text)
 }
 
-/// Of a text on two pages as much goes out as the writer takes, whichever page it fails at.
+/// A text on two pages is written as far as the writer accepts it, whichever page it fails at.
 #[test]
 fn stop_where_the_writer_fails(rt: HostRuntime) -> Result<(), Fail> {
     let (column, row) = (ones(rt.alloc(), false)?, ones(rt.alloc(), true)?);

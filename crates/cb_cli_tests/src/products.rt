@@ -1,4 +1,4 @@
-//! Products of two texts, by `execute`, and what the other modules run commands with.
+//! Products of two texts, by `execute`, and the helpers with which the other modules run commands.
 ghost use Rattle.std.specs.Prelude.{◌≡◌, false};
 
 use crate::lines::job;
@@ -31,8 +31,8 @@ const UNTIDY: &str =
 
 pub const SKEW: &str = "%%MatrixMarket matrix coordinate integer skew-symmetric\n2 2 1\n2 1 3\n";
 
-/// A writer that takes at most `step` bytes at a time, and `room` in all: then it fails, or if `stops` answers that it
-/// took none.
+/// A writer that accepts at most `step` bytes at a time, and `room` in all. Then it fails or, with `stops`, returns that it
+/// accepted none.
 #[derive(Drop)]
 pub struct Short {
     room: usize,
@@ -51,7 +51,7 @@ impl Short {
         }
     }
 
-    /// What was taken.
+    /// The bytes that it accepted.
     pub fn into_bytes(self) -> Vec<u8> {
         self.bytes
     }
@@ -81,7 +81,7 @@ fn bytes_of(alloc: Global, texts: &[&str]) -> Result<Vec<Vec<u8>>, AllocError> {
     Ok(bytes)
 }
 
-/// Runs a command line over texts. What the test itself can't make is `Memory`.
+/// Runs a command line on texts. If the test itself is refused memory, that is `Memory` too.
 pub fn run_into<R: Threads + Wait + Sync + AllocGlobal, K: Sink>(
     rt: &R,
     line: &str,
@@ -91,11 +91,9 @@ pub fn run_into<R: Threads + Wait + Sync + AllocGlobal, K: Sink>(
     requires { K.has_failed out.old ≡ false }
 {
     let alloc = rt.alloc();
-    let Ok(mut job) = job(alloc, line) else {
+    let Ok(job) = job(alloc, line) else {
         return Err(JobFault::Memory);
     };
-    // The texts are small, and the ranks are what is tried.
-    job.may_be_alone = false;
     let bytes = bytes_of(alloc, texts)?;
     if bytes.len() != job.files().len() {
         return Err(JobFault::Memory);
@@ -103,7 +101,7 @@ pub fn run_into<R: Threads + Wait + Sync + AllocGlobal, K: Sink>(
     execute(rt, alloc, &job, bytes, out)
 }
 
-/// The bytes that a command line writes of some texts.
+/// The bytes that a command line writes for some texts.
 pub fn answer<R: Threads + Wait + Sync + AllocGlobal>(
     rt: &R,
     line: &str,
@@ -114,7 +112,7 @@ pub fn answer<R: Threads + Wait + Sync + AllocGlobal>(
     Ok(out.into_inner().into_bytes())
 }
 
-/// Whether a command line writes just this text.
+/// Whether a command line writes exactly this text.
 fn writes<R: Threads + Wait + Sync + AllocGlobal>(
     rt: &R,
     line: &str,
@@ -127,8 +125,9 @@ fn writes<R: Threads + Wait + Sync + AllocGlobal>(
     }
 }
 
-/// The options of runs with each engine on grids of several sides. Ranks in threads are as many as the side squared.
-const RUNS: [&str; 9] = [
+/// No options, by which no ranks run, and those of runs with each engine on grids of several sides.
+const RUNS: [&str; 10] = [
+    "",
     "--engine plain --grid 1",
     "--engine plain --grid 2",
     "--engine plain --grid 3",
@@ -140,7 +139,7 @@ const RUNS: [&str; 9] = [
     "--engine ranks --lane 1 --grid 4",
 ];
 
-/// Whether a command line with each of these options more writes just this text.
+/// Whether a command line writes exactly this text with each of these options added.
 pub fn writes_with<R: Threads + Wait + Sync + AllocGlobal>(
     rt: &R,
     all_options: &[&str],
@@ -166,7 +165,7 @@ pub struct Example {
     pub wanted: &'static str,
 }
 
-/// The first of these examples that isn't written in each run.
+/// The text of the first example that some run doesn't write.
 pub fn failed_example<R: Threads + Wait + Sync + AllocGlobal>(
     rt: &R,
     examples: &[Example],
@@ -179,7 +178,7 @@ pub fn failed_example<R: Threads + Wait + Sync + AllocGlobal>(
     None
 }
 
-/// The first of these examples that isn't written by one thread, whose commands take no word on ranks.
+/// The text of the first example that isn't written, of commands that one thread computes: they take no option for ranks.
 pub fn failed_alone<R: Threads + Wait + Sync + AllocGlobal>(
     rt: &R,
     examples: &[Example],
@@ -192,7 +191,7 @@ pub fn failed_alone<R: Threads + Wait + Sync + AllocGlobal>(
     None
 }
 
-/// Products over two files, and over one that is taken twice.
+/// Products of two files, and of a file with itself.
 const PRODUCTS: [Example; 20] = [
     // two by two
     Example {
@@ -290,7 +289,7 @@ const PRODUCTS: [Example; 20] = [
         ],
         wanted: text!("2 1 2\n1 1 2\n2 1 1\n"),
     },
-    // the least of what stands in the rows of b that a row of a names
+    // the least value in the rows of b that a row of a names
     Example {
         line: "cbgrid multiply a b --semiring min-second",
         texts: &[
@@ -305,7 +304,7 @@ const PRODUCTS: [Example; 20] = [
         texts: &[text!("0 3 0\n"), text!("3 2 1\n1 1 5\n")],
         wanted: text!("0 2 0\n"),
     },
-    // no inner places
+    // an inner dimension of 0
     Example {
         line: "cbgrid multiply a b",
         texts: &[text!("3 0 0\n"), text!("0 2 0\n")],
@@ -349,7 +348,7 @@ fn are_as_worked_out(rt: HostRuntime) {
     assert!(rt; failed.is_none(), "{}", failed.unwrap_or(""));
 }
 
-/// Grids of each side, with lanes for few letters and many, and the options that are taken where none is given.
+/// Grids of each side with lanes for few letters and for many, and the defaults.
 const LANES: [&str; 19] = [
     "",
     "--lane 1 --grid 1",

@@ -1,4 +1,4 @@
-//! Jobs that have no answer: what is told, with nothing written.
+//! Jobs that have no answer: the fault, and that nothing is written.
 use crate::graphs::{CYCLE, WEIGHTLESS};
 use crate::lines::read_fault;
 use crate::products::{FIRST, SECOND, SKEW, Short, run_into, text};
@@ -71,7 +71,7 @@ const REFUSALS: [Refused; 29] = [
         texts: &[FIRST, SECOND, text!("1 1 1\n1 1 1\n")],
         fault: SHAPES,
     },
-    // the vector in the matrix's place
+    // the vector and the matrix swapped
     Refused {
         line: "cbgrid spmv x a",
         texts: &[text!("2 1 2\n1 1 5\n2 1 7\n"), FIRST],
@@ -190,7 +190,7 @@ const REFUSALS: [Refused; 29] = [
     },
 ];
 
-/// Whether a command line has no answer for this reason, and writes nothing.
+/// Whether a command line fails with this fault, and writes nothing.
 fn is_refused<R: Threads + Wait + Sync + AllocGlobal>(
     rt: &R,
     line: &str,

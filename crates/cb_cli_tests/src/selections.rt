@@ -1,4 +1,4 @@
-//! Entries by their places, functions of values, diagonals and Kronecker products, by `execute`.
+//! Regions, functions of values, diagonals and Kronecker products, by `execute`.
 use crate::products::{Example, FIRST, SECOND, failed_alone, text};
 
 /// Two entries on the diagonal, two below it and one above it.
@@ -69,7 +69,7 @@ const APPLIED: [Example; 10] = [
         texts: &[FIRST],
         wanted: text!("2 2 3\n1 1 7\n1 2 7\n2 2 7\n"),
     },
-    // the zero of the semiring is no entry
+    // the zero of the semiring isn't stored
     Example {
         line: "cbgrid apply a --function constant --value 18446744073709551615 --semiring min-plus",
         texts: &[FIRST],
@@ -113,7 +113,7 @@ const APPLIED: [Example; 10] = [
         texts: &[FIRST],
         wanted: "%%MatrixMarket matrix coordinate pattern general\n2 2 2\n1 2\n2 2\n",
     },
-    // a matrix without places takes any number
+    // a matrix without places accepts any number
     Example {
         line: "cbgrid apply a --function constant --value 7 --semiring or-and",
         texts: &[text!("0 9 0\n")],

@@ -1,4 +1,4 @@
-//! Writers that take a few bytes at a time, that fail, and that stop taking.
+//! Writers that accept a few bytes at a time, that fail, and that accept no more.
 use crate::graphs::CYCLE;
 use crate::products::{FIRST, PRODUCT, SECOND, Short, run_into};
 use cb_cli::execution::JobFault;
@@ -17,7 +17,7 @@ pub struct Written {
 }
 
 impl Written {
-    /// Whether it failed after so many bytes, which are a beginning of this text, or it and more.
+    /// Whether it failed after this many bytes, which are a beginning of this text, or this text and more.
     pub fn is_cut(&self, text: &[u8], room: usize) -> bool {
         let bytes = self.bytes.as_slice();
         let is_beginning = text.starts_with(bytes) || bytes.starts_with(text);
@@ -28,7 +28,7 @@ impl Written {
     }
 }
 
-/// Runs a command line over texts, and a writer.
+/// Runs a command line on texts with a writer.
 pub fn write_to<R: Threads + Wait + Sync + AllocGlobal>(
     rt: &R,
     line: &str,
@@ -44,7 +44,7 @@ pub fn write_to<R: Threads + Wait + Sync + AllocGlobal>(
     }
 }
 
-/// Whether a command line is cut where a writer of this room fails, which takes at most `step` bytes at a time.
+/// Whether a run is cut where a writer with this room fails, which accepts at most `step` bytes at a time.
 pub fn is_cut<R: Threads + Wait + Sync + AllocGlobal>(
     rt: &R,
     line: &str,
@@ -57,7 +57,7 @@ pub fn is_cut<R: Threads + Wait + Sync + AllocGlobal>(
     write_to(rt, line, texts, writer).is_cut(text, room)
 }
 
-/// Whether it is cut by each room below a number.
+/// Whether it is cut with each room below `end`.
 fn is_cut_below<R: Threads + Wait + Sync + AllocGlobal>(
     rt: &R,
     line: &str,
@@ -88,7 +88,7 @@ fn get_a_beginning_where_they_fail(rt: HostRuntime) {
             12
         )
     );
-    // of the product or of the lines after it
+    // in the product, or in the lines after it
     for room in [0, 10, 73, 74, 75, 400] {
         let line = "cbgrid multiply a b --trace";
         let is_cut = is_cut(&rt, line, &[FIRST, SECOND], product, room, 7);
@@ -96,7 +96,7 @@ fn get_a_beginning_where_they_fail(rt: HostRuntime) {
     }
 }
 
-/// Whether a writer of this room, which takes at most `step` bytes at a time, gets the whole product.
+/// Whether a writer with this room, which accepts at most `step` bytes at a time, gets the whole product.
 fn is_whole<R: Threads + Wait + Sync + AllocGlobal>(rt: &R, room: usize, step: usize) -> bool {
     let writer = Short::new(rt.alloc(), room, step);
     let run = write_to(rt, MULTIPLY, &[FIRST, SECOND], writer);

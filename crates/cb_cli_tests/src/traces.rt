@@ -1,5 +1,5 @@
-//! Products that are traced. The lines of a trace are read back here by the rules of lanes alone: a lane's letters are
-//! numbered from 0 on, each is posted and then taken, by its number and with its tag, and nothing follows the close.
+//! Products with `--trace`. The lines of a trace are checked against the rules of lanes alone: the letters of a lane are
+//! numbered from 0, each is posted and then taken, with its number and its tag, and nothing follows the close mark.
 
 use crate::products::{FIRST, PRODUCT, SECOND, Short, answer, text};
 use crate::sinks::write_to;
@@ -14,8 +14,8 @@ const KEPT: &str = text!("2 2 1\n1 1 8\n");
 
 const MASK: &str = text!("2 2 1\n1 1 5\n");
 
-/// What a line of a trace tells: what was done, the ranks that the letter goes from and to, its number, and its tag,
-/// which a close mark hasn't.
+/// A line of a trace: the event, the ranks that the letter goes from and to, its number, and its tag, which a close mark
+/// lacks.
 #[derive(Clone, Copy)]
 struct Told<'a> {
     what: &'a str,
@@ -48,8 +48,7 @@ fn read_line(line: &str) -> Option<Told<'_>> {
     }
 }
 
-/// A lane as far as its lines tell it: the tags of the letters posted, of which a close mark has none, and how many
-/// were taken.
+/// A lane after some of its lines: the tags of what was posted, None for the close mark, and how many were taken.
 #[derive(Drop)]
 struct Lane {
     posted: Vec<Option<u32>>,
@@ -57,7 +56,7 @@ struct Lane {
 }
 
 impl Lane {
-    /// Whether the lane's next line may be this one. Then it is followed.
+    /// Follows a line of the lane, and returns whether it may come next.
     fn follows(&mut self, told: &Told<'_>) -> Result<bool, AllocError> {
         if matches!(told.what, "posted" | "closed") {
             let is_open = self.posted.last() != Some(&None);
@@ -71,13 +70,13 @@ impl Lane {
         Ok(is_there && is_next)
     }
 
-    /// Whether the lane was closed and all was taken.
+    /// Whether the lane was closed and everything was taken.
     fn is_done(&self) -> bool {
         self.posted.last() == Some(&None) && self.taken == self.posted.len()
     }
 }
 
-/// Whether the lines tell of the lane between two ranks what may be, to its end.
+/// Whether the lines of the lane between two ranks obey the rules, to its end.
 fn lane_is_right(alloc: Global, lines: &str, from: usize, to: usize) -> Result<bool, AllocError> {
     let mut lane = Lane {
         posted: Vec::new(alloc),
@@ -93,7 +92,7 @@ fn lane_is_right(alloc: Global, lines: &str, from: usize, to: usize) -> Result<b
     Ok(lane.is_done())
 }
 
-/// Whether the lines are so many, and tell what may be of each lane between so many ranks, and of no other.
+/// Whether there are this many lines, all of lanes between these ranks, and the lines of each lane obey the rules.
 fn is_a_trace(alloc: Global, lines: &str, ranks: usize, count: usize) -> Result<bool, AllocError> {
     let on_a_lane = lines.lines().filter(|line| match read_line(line) {
         Some(told) => told.from < ranks && told.to < ranks && told.from != told.to,
@@ -164,7 +163,7 @@ const TRACED: [Traced; 4] = [
     },
 ];
 
-/// Whether a text is a product's and then the lines of its trace, which whoever reads the whole passes over.
+/// Whether a text is that of a product and then the lines of its trace, which a reader of the whole text skips.
 fn is_told(alloc: Global, text: &str, traced: &Traced) -> Result<bool, AllocError> {
     match text.strip_prefix(traced.product) {
         Some(lines) if read_alike(alloc, text, traced.product) => {
@@ -189,7 +188,7 @@ fn follow_the_product(rt: HostRuntime) -> Result<(), Fail> {
     Ok(())
 }
 
-/// It passes whichever single allocation is refused: nothing has gone out, or the product and its whole trace.
+/// It passes whichever single allocation is refused: nothing has been written, or the product and its whole trace.
 #[test]
 fn are_whole_or_want_of_memory(rt: HostRuntime) {
     let writer = Short::new(rt.alloc(), usize::MAX, usize::MAX);

@@ -1,4 +1,4 @@
--- Where the entries of each column start among all, where these ascend.
+-- Where the entries of each column start, in a list of entries by column and then by row.
 use Rattle.std.proofs.Common.{◌≡◌, ◌≢◌, ℕ, ◌+◌, ◌-◌, ◌<◌, ◌≤◌, true, false, cond, List, [], ◌∷◌, ◌++◌, length, take, drop, get_or, replicate, sym, refl, ap, ◌∙◌, ⊎_elim, arith, subst, length-take, length-drop, length-append, inl, inr, ◌⊎◌}
 use Rattle.std.specs.Prelude.{All, AllPairs, Contains, slice_range, ◌==◌}
 use Rattle.std.proofs.lemmas.Bool.{cases_lt, eqb-true, eqb-false}
@@ -10,7 +10,7 @@ use Rattle.cb_dcsc.specs.Columns.{in_column}
 use Rattle.cb_dcsc.proofs.Pieces.{in_column-all, in_column-none}
 use Rattle.cb_product.specs.ColumnStarts.{AreColumnStarts}
 
--- the entries before a place stand in columns before j, and the others don't
+-- the entries before a place are those in columns before j
 pub record IsStart (es : List Entry) (j place : ℕ) : Type 0 where
   pub within : place ≤ length es
   pub before : (k : ℕ) (d : Entry) → k < place → (get_or es k d).column < j
@@ -46,7 +46,7 @@ starts_rise es j a b p q =
     (λ (l : a ≤ b). l)
     (cases_lt b a)
 
--- the entries from a column's start up to the next are those in it
+-- the entries from a column's start up to the next start are the column's entries
 pub column_from_starts : (es : List Entry) (j a b : ℕ) → IsStart es j a → IsStart es (j + 1) b → slice_range es a b ≡ in_column j es
 column_from_starts es j a b p q =
     let order = starts_rise es j a b p q in
@@ -77,7 +77,7 @@ column_from_starts es j a b p q =
     ∙ here)
 
 -- ---- where a column that has entries starts
--- an entry in a column is one of that column's
+-- an entry in column j is among the entries of column j
 among : (j : ℕ) (es : List Entry) → All (λ x. x.column ≡ j → Contains (in_column j es) x) es
 among j [] = All-nil (λ x. x.column ≡ j → Contains (in_column j []) x)
 among j (e ∷ es) =
@@ -110,7 +110,7 @@ module _ (es : List Entry) (up : AllPairs IsBefore es) (j a b : ℕ) (some : a <
       let later : IsBefore (get_or es k x) (get_or es (a + held.0) x) = up k (a + held.0) x (omega arith) (omega arith) in
       not_before_itself x (subst (λ y. IsBefore x y) there (subst (λ y. IsBefore y (get_or es (a + held.0) x)) here later))
 
-  -- its first entry is where it starts
+  -- a nonempty column starts at its first entry
   pub column_start : IsStart es j a
   column_start = record {
     within = omega arith;
@@ -132,14 +132,14 @@ module _ (es : List Entry) (up : AllPairs IsBefore es) (j a b : ℕ) (some : a <
   }
 
 -- ---- the list of starts
--- The starts of all columns up to the n-th that has entries.
+-- The list has the starts of all columns before the n-th with entries.
 pub record AreStartsSoFar (m : Sparse) (columns : List ℕ) (n : ℕ) (starts : List ℕ) : Type 0 where
   pub inside : length starts ≤ m.shape.cols
   pub passed : (k : ℕ) → k < n → get_or columns k 0 < length starts
   pub ahead : (k : ℕ) → n ≤ k → k < length columns → length starts ≤ get_or columns k 0
   pub told : (j : ℕ) → j < length starts → IsStart m.entries j (get_or starts j 0)
 
--- before the first there are none
+-- before the first column with entries the list is empty
 pub starts_none : (m : Sparse) (columns starts : List ℕ) → starts ≡ [] → AreStartsSoFar m columns 0 starts
 starts_none m columns starts e =
     let none = ap length e in
@@ -150,7 +150,7 @@ starts_none m columns starts e =
       told = λ j l. absurd (omega arith);
     }
 
--- a list that is made longer
+-- a list that is extended to n elements
 module _ (old new : List ℕ) (n count value : ℕ) (old_long : count ≡ length old) (longer : length old ≤ n) (is : new ≡ take n old ++ replicate (n - count) value) where
   is_front : new ≡ old ++ replicate (n - count) value
   is_front = is ∙ ap (λ xs. xs ++ replicate (n - count) value) (take_all n old longer)
@@ -172,7 +172,7 @@ module _ (old new : List ℕ) (n count value : ℕ) (old_long : count ≡ length
       ∙ get_or-replicate (n - count) (j - length old) value 0 (omega arith)
 
 module _ (m : Sparse) (up : AllPairs IsBefore m.entries) (columns : List ℕ) (rise : AllPairs (λ c d. c < d) columns) (low : All (λ c. c < m.shape.cols) columns) (all : All (λ e. Contains columns e.column) m.entries) where
-  -- an entry stands in one of the first n columns, before the end of the list, or in a later one
+  -- an entry is in a column before the end of the list, or in the n-th column with entries or a later one
   column_of : (n : ℕ) (starts : List ℕ) → AreStartsSoFar m columns n starts → (k : ℕ) (d : Entry) → k < length m.entries
       → ((get_or m.entries k d).column < length starts) ⊎ ((i : ℕ) × (n ≤ i) × (i < length columns) × ((get_or m.entries k d).column ≡ get_or columns i 0))
   column_of n starts are k d l =
@@ -184,7 +184,7 @@ module _ (m : Sparse) (up : AllPairs IsBefore m.entries) (columns : List ℕ) (r
       (λ (p : n ≤ i). inr (i, p, held.1, e))
       (cases_lt i n)
 
-  -- with the start of the n-th column for all up to it, there are those up to that one
+  -- extended by the n-th column's start, up to that column, the list has one more column with entries
   pub starts_more : (n place end count : ℕ) (old new : List ℕ) → AreStartsSoFar m columns n old → n < length columns
       → place < end → end ≤ length m.entries → slice_range m.entries place end ≡ in_column (get_or columns n 0) m.entries
       → count ≡ length old → new ≡ take (get_or columns n 0 + 1) old ++ replicate (get_or columns n 0 + 1 - count) place → AreStartsSoFar m columns (n + 1) new
@@ -223,7 +223,7 @@ module _ (m : Sparse) (up : AllPairs IsBefore m.entries) (columns : List ℕ) (r
             (cases_lt i (length old));
       }
 
-  -- with the number of all entries for the columns after the last one, there are those of all columns
+  -- extended by the number of entries, past the last column, the list has the starts of all columns
   pub starts_all : (n count : ℕ) (old new : List ℕ) → AreStartsSoFar m columns n old → length columns ≤ n
       → count ≡ length old → new ≡ take (m.shape.cols + 1) old ++ replicate (m.shape.cols + 1 - count) (length m.entries) → AreColumnStarts m new
   starts_all n count old new are l old_long is =

@@ -1,4 +1,4 @@
--- The product of two matrices of which one has no entries.
+-- The product of two matrices, one of which has no entries.
 use Rattle.std.proofs.Common.{◌≡◌, ◌⊎◌, ⊎_elim, ℕ, ◌<◌, List, [], sym, refl, ap, subst, ◌∙◌}
 use Rattle.std.specs.Prelude.{map}
 use Rattle.std.specs.List.{range_with_len}
@@ -33,7 +33,7 @@ module _ (s : Arithmetic) (laws : IsSemiring s) (a b : Sparse) (is_a : IsMatrix 
       matrix_is s laws m (product_shape a b) (λ i j. total s (map (λ k. s.mul (at s a i k) (at s b k j)) (range_with_len 0 a.shape.cols))) is (ap (λ x. x.shape) e)
       (λ i j _ _. value_at-nil s.zero m.entries i j (ap (λ x. x.entries) e) ∙ sym (inner_zero i j))
 
-  -- so nothing is added to another matrix
+  -- adding the product changes no matrix
   pub nothing_added : (m : Sparse) → IsMatrix s m → m.shape ≡ product_shape a b → m ≡ sum_of s m (product s a b)
   nothing_added m is e =
       matrix_is s laws m m.shape (λ i j. s.add (at s m i j) (at s (product s a b) i j)) is refl

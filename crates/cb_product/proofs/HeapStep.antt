@@ -1,4 +1,4 @@
--- The merge of terms by a heap: a head for each term, and the least row leaves its head.
+-- A step of the merge by a heap: an entry with the least row is taken from its head.
 use Rattle.std.proofs.Common.{◌≡◌, ℕ, suc, ◌+◌, ◌-◌, ◌<◌, ◌≤◌, true, false, cond, List, [], ◌∷◌, length, take, drop, get_or, sym, ap, ◌∙◌, ⊎_elim, arith, subst}
 use Rattle.std.specs.Prelude.{All, AllPairs, IsPermutation, ◌==◌, slice_range}
 use Rattle.std.proofs.lemmas.List.Sums.{sum_by-cons}
@@ -12,7 +12,7 @@ use Rattle.std.proofs.lemmas.List.Sorted.{All-permutation, sum_by-IsPermutation}
 use Rattle.cb_semirings.specs.Arithmetic.{Arithmetic, IsValue, IsSemiring}
 use Rattle.cb_matrix.specs.Values.{total}
 use Rattle.cb_matrix.proofs.Totals.{add_zero}
-use Rattle.cb_matrix.proofs.Places.{AllPairs-head, AllPairs-tail}
+use Rattle.cb_matrix.proofs.Pairs.{AllPairs-head, AllPairs-tail}
 use Rattle.cb_product.specs.declared.heads.Head.{Head}
 use Rattle.cb_product.specs.declared.terms.Term.{Term}
 use Rattle.cb_dcsc.specs.Columns.{row_value}
@@ -45,7 +45,7 @@ module _ (s : Arithmetic) (laws : IsSemiring s) (rows values : List ℕ) (same_l
   pub all_scaled : (i : ℕ) (hs : List Head) → All (IsHead s rows) hs → All (λ h. IsValue s (head_value s rows values i h)) hs
   all_scaled i hs k = All-weaker (IsHead s rows) (λ h. IsValue s (head_value s rows values i h)) (λ h is. value_of i h is.scale) hs k
 
-  -- what heads have left at a row is a value
+  -- the sum of the entries left in heads is a value
   pub heads_value-value : (i : ℕ) (hs : List Head) → All (IsHead s rows) hs → IsValue s (heads_value s rows values i hs)
   heads_value-value i hs is = sum_value s laws (head_value s rows values i) hs (all_scaled i hs is)
 
@@ -53,19 +53,19 @@ module _ (s : Arithmetic) (laws : IsSemiring s) (rows values : List ℕ) (same_l
   unfolding total
   no_heads i hs e = ap (heads_value s rows values i) e
 
-  -- without heads nothing is left
+  -- without heads it is zero
   pub nothing_left : (hs : List Head) → hs ≡ [] → (i : ℕ) → heads_value s rows values i hs ≡ s.zero
   nothing_left hs e i = no_heads i hs e
 
-  -- the next product is of the same row
+  -- two entries at the same row add up to one
   pub same_row : (row sum v i : ℕ) (new : List Head) → IsValue s sum → IsValue s v → All (IsHead s rows) new → s.add (one_value s.zero (row, sum) i) (s.add (one_value s.zero (row, v) i) (heads_value s rows values i new)) ≡ s.add (one_value s.zero (row, s.add sum v) i) (heads_value s rows values i new)
   same_row row sum v i new is_sum is_v heads = sym (laws.add_assoc _ _ _ (one_value-value s laws (row, sum) i is_sum) (one_value-value s laws (row, v) i is_v) (heads_value-value i new heads)) ∙ ap (λ x. s.add x (heads_value s rows values i new)) (one_value-add s laws row sum v i)
 
-  -- before the first term
+  -- without terms there are no heads
   pub heads_start : (hs : List Head) (ts : List Term) → All (IsTerm s rows) ts → hs ≡ [] → (i : ℕ) → s.add (heads_value s rows values i hs) (terms_value s rows values i ts) ≡ terms_value s rows values i ts
   heads_start hs ts is e i = ap (λ x. s.add x (terms_value s rows values i ts)) (no_heads i hs e) ∙ laws.zero_add _ (terms_value-value s laws rows values all_values i ts is)
 
-  -- one head more
+  -- one more head
   pub heads_more : (hs new : List Head) (ts : List Term) (n : ℕ) (d : Term) (h : Head) → n < length ts → All (IsTerm s rows) ts → All (IsHead s rows) hs → IsHead s rows h → IsPermutation (h ∷ hs) new → ((i : ℕ) → head_value s rows values i h ≡ term_value s rows values i (get_or ts n d))
       → (T : ℕ → ℕ) → ((i : ℕ) → s.add (heads_value s rows values i hs) (terms_value s rows values i (drop n ts)) ≡ T i) → (i : ℕ) → s.add (heads_value s rows values i new) (terms_value s rows values i (drop (n + 1) ts)) ≡ T i
   unfolding total
@@ -79,11 +79,11 @@ module _ (s : Arithmetic) (laws : IsSemiring s) (rows values : List ℕ) (same_l
       ∙ swap_two s laws (head_value s rows values i h) (heads_value s rows values i hs) rest hv ov rv
       ∙ ap (s.add (heads_value s rows values i hs)) (ap (λ x. s.add x rest) (same i) ∙ sym (terms_value-rest s laws rows values all_values i n ts d l)) ∙ so_far i
 
-  -- past the last term
+  -- with a head for each term
   pub heads_all : (hs : List Head) (ts : List Term) (n : ℕ) → length ts ≤ n → All (IsHead s rows) hs → (T : ℕ → ℕ) → ((i : ℕ) → s.add (heads_value s rows values i hs) (terms_value s rows values i (drop n ts)) ≡ T i) → (i : ℕ) → heads_value s rows values i hs ≡ T i
   heads_all hs ts n l heads T so_far i = sym (add_zero s laws _ (heads_value-value i hs heads)) ∙ ap (s.add (heads_value s rows values i hs)) (sym (terms_value-end s laws rows values all_values i n ts l)) ∙ so_far i
 
-  -- what is left of a head once its entry is taken
+  -- a head without its entry
   module _ (h : Head) (is : IsHead s rows h) (v : ℕ) (read : v ≡ get_or values h.at 0) where
     abbrev product : ℕ
     product = s.mul v h.scale
@@ -134,7 +134,7 @@ module _ (s : Arithmetic) (laws : IsSemiring s) (rows values : List ℕ) (same_l
     unfolding row_value
     left_none l i = ap (λ rs. s.mul (row_value s.zero rs (slice_range values (h.at + 1) h.end) i) h.scale) (range_none rows (h.at + 1) h.end l) ∙ laws.zero_mul h.scale is.scale
 
-  -- the least head gives its row; what is left of the heads is `new`
+  -- the least head's entry is taken; the heads that are left are `new`
   module _ (old rest new : List Head) (h : Head) (v : ℕ) (read : v ≡ get_or values h.at 0) (heads : All (IsHead s rows) old) (taken : IsPermutation old (h ∷ rest)) where
     all_taken : All (IsHead s rows) (h ∷ rest)
     all_taken = All-permutation (IsHead s rows) old (h ∷ rest) taken heads
@@ -161,7 +161,7 @@ module _ (s : Arithmetic) (laws : IsSemiring s) (rows values : List ℕ) (same_l
     counted : entries_left old ≡ (h.end - h.at) + entries_left rest
     counted = left_same old (h ∷ rest) taken ∙ sum_by-cons (λ (h : Head). h.end - h.at) h rest
 
-    -- ---- the head goes on
+    -- ---- the head has another entry
     module _ (more : h.at + 1 < h.end) (row : ℕ) (next_row : row ≡ get_or rows (h.at + 1) 0) where
       abbrev on : Head
       on = record { row = row; at = h.at + 1; end = h.end; scale = h.scale }
@@ -203,7 +203,7 @@ module _ (s : Arithmetic) (laws : IsSemiring s) (rows values : List ℕ) (same_l
             let first : h.row < row = subst (λ x. h.row < x) (sym next_row) (All-head (λ r. h.row < r) (get_or rows (h.at + 1) 0) (slice_range rows (h.at + 1 + 1) h.end) (subst (All (λ r. h.row < r)) l a)) in
             All-permutation (λ k. h.row ≤ k.row) (on ∷ rest) new put (All-cons (λ k. h.row ≤ k.row) on rest (omega arith) (All-tail (λ k. h.row ≤ k.row) h rest t))
 
-    -- ---- the head is at its end
+    -- ---- the head has no other entry
     module _ (done : h.end ≤ h.at + 1) (put : IsPermutation rest new) where
       -- where the head is at its end, its product came out of the heads, and the others are left
       pub gives_last : Gives s rows values old (h.row, s.mul v h.scale) new
@@ -223,7 +223,7 @@ module _ (s : Arithmetic) (laws : IsSemiring s) (rows values : List ℕ) (same_l
       pub least_last : All (λ k. h.row ≤ k.row) old → All (λ k. h.row ≤ k.row) new
       least_last least = All-permutation (λ k. h.row ≤ k.row) rest new put (All-tail (λ k. h.row ≤ k.row) h rest (All-permutation (λ k. h.row ≤ k.row) old (h ∷ rest) taken least))
 
--- the head that is taken out of the heads stands at an entry too
+-- the head that is taken is at an entry too
 pub head_taken : (s : Arithmetic) (rows : List ℕ) (old rest : List Head) (h : Head) → All (IsHead s rows) old → IsPermutation old (h ∷ rest) → IsHead s rows h
 head_taken s rows old rest h heads taken = All-head (IsHead s rows) h rest (All-permutation (IsHead s rows) old (h ∷ rest) taken heads)
 
@@ -231,6 +231,6 @@ head_taken s rows old rest h heads taken = All-head (IsHead s rows) h rest (All-
 not_later : (a b : ℕ) → is_lt (nat_cmp b a) ≡ false → a ≤ b
 not_later a b h = grind (arith, nat_tests)
 
--- no head has a lesser row than the greatest head
+-- no head has a row below that of the greatest head
 pub least_row : (h : Head) (hs : List Head) → IsUpperBound by_row h hs → All (λ k. h.row ≤ k.row) hs
 least_row h hs b = All-weaker (λ k. is_lt (by_row h k) ≡ false) (λ k. h.row ≤ k.row) (λ k t. not_later h.row k.row t) hs (All-from_recursion (λ k. is_lt (by_row h k) ≡ false) hs b)

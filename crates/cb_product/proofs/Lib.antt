@@ -1,22 +1,44 @@
+-- The toolbox of lemmas on columns and their sums, by topic. Crates above cite what is named here; each lemma's own sentence
+-- stands over it.
+--
+-- RowValues: the value of a column at a row: `absent_above` past all rows, `row_value-none` without rows, `row_value-push`
+--   with one more entry; it is a value of the semiring (`row_value-value`, `one_value-value`); and the entries from the
+--   n-th on, times a factor: `nth_product`, `scaled_value`, `scaled_split`, `scaled_end`.
+-- ColumnSoFar: a column that is built entry by entry, `IsColumnSoFar`: `so_far_start`, `so_far_more`, `so_far_all`; and an
+--   appended entry: `kept_none`, `kept_column`, `kept_sum`, `kept_rows`.
+-- RowSums: a column added to dense sums entry by entry: `entry_added`, `all_added`.
+-- StoredColumn: a column stored after all others, `AddsColumn`: `column_adds`, `column_inside`, `none_of_column`.
+-- ColumnsMade: a matrix that is built column by column, `IsMadeTo`: `made_none`, `made_past`, `made_more`, `made_all`; by
+--   an ascending list of columns: `walk_none`, `walk_more`, `walk_all`, `before_column`; and which numbers such a list
+--   leaves out: `before_first`, `between`, `below_next`, `absent_value`.
+-- ProductColumns: a column of a product is a sum over the right column's entries: `column_total`; and a column of a
+--   matrix by its rows and values: `own_column`.
+-- OwnColumn: a column of a matrix is a sparse column, `own_sparse`.
+-- AbsentColumns: columns without entries: `all_columns`, `nothing_there`.
+-- OnlyColumns: a matrix without its entries outside given columns: `only_in`, `only_matrix`, `only_column`, `only_value`,
+--   `only_all`.
+-- Panels: products with some columns, one after another: `panels_matrix`, `panels_joined`, `both_matrix`, `both_joined`;
+--   `front_factors`, `back_factors`; with all columns they are the product, `whole_panel`.
+-- EmptyFactors: a product with a matrix without entries has none: `product_vanishes`.
 pub mod RowValues
 pub mod ColumnSoFar
+pub mod RowSums
+pub mod StoredColumn
+pub mod ColumnsMade
+pub mod ProductColumns
+pub mod OwnColumn
+pub mod AbsentColumns
+pub mod OnlyColumns
+pub mod Panels
+pub mod EmptyFactors
+-- For this crate alone, beside the rest of those above. ScaledSum: two columns joined. TermSums: sums of terms. HeapStep: a
+-- step of the merge by a heap. MarkBits, WordStep: marks, and the rows of a word of them. Union: two ascending lists
+-- merged. ColumnStarts: where each column starts. Written: a vector that was lent as a slice and written to.
 pub mod ScaledSum
 pub mod TermSums
 pub mod MarkBits
-pub mod RowSums
 pub mod WordStep
 pub mod HeapStep
-pub mod StoredColumn
-pub mod ProductColumns
 pub mod Union
--- AbsentColumns: a column whose number isn't among those that entries stand in has none of them.
-pub mod AbsentColumns
--- EmptyFactors: a product with a matrix that has no entries has none, and adds nothing.
-pub mod EmptyFactors
--- OwnColumn: a column of the accumulator to which no term is added.
-pub mod OwnColumn
--- ColumnStarts: where the entries of each column start among all: `column_from_starts`, `starts_none`, `starts_more`,
---   `starts_all`.
 pub mod ColumnStarts
--- Written: a vector that was lent as a slice and written to: `written`.
 mod Written

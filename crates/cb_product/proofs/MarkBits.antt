@@ -1,4 +1,4 @@
--- Marks of rows, a bit for each, and of the words of marks.
+-- Marks of rows, a bit for each row, and marks of the words of marks.
 use Rattle.std.proofs.Common.{◌≡◌, ◌≢◌, ℕ, ◌+◌, ◌-◌, ◌*◌, ◌/◌, ◌%◌, ◌^◌, ◌<◌, ◌≤◌, min, bit_and, bit_or, List, length, get_or, set, sym, refl, ap, ◌∙◌, ⊎_elim, arith}
 use Rattle.std.specs.Prelude.{All}
 use Rattle.std.specs.Int.{bit_at, bit_not, trailing_zeros, w64}
@@ -9,7 +9,7 @@ use Rattle.std.proofs.lemmas.Nat.{and_le_l}
 use Rattle.std.proofs.lemmas.Nat.Bits.{bit_at-lt, bit_at-zero, bit_at_and, bit_at_mask_inside, bit_at_mask_below, ones_shl, bit_at_set_same, bit_at_set_other, bit_at_clear_same, bit_at_clear_other, bit_at_above, bit_at-trailing_zeros}
 use Rattle.cb_product.specs.Marks.{mark_of, AreMarked}
 
--- a row is marked in its word, and nothing else changes
+-- a row's bit is set in its word
 module _ (words : List ℕ) (row : ℕ) (l : row / 64 < length words) where
   abbrev marked : List ℕ
   marked = set words (row / 64) (bit_or (get_or words (row / 64) 0) (1 * 2 ^ (row % 64) % 18446744073709551616))
@@ -18,7 +18,7 @@ module _ (words : List ℕ) (row : ℕ) (l : row / 64 < length words) where
   pub mark_here : mark_of marked row ≡ 1
   mark_here = ap (λ w. bit_at w (row % 64)) (get_or-set_same words (row / 64) _ 0 l) ∙ bit_at_set_same w64 (get_or words (row / 64) 0) (row % 64) (omega arith)
 
-  -- the marks of other rows stay
+  -- the marks of other rows stay the same
   pub mark_others : (i : ℕ) → i ≢ row → mark_of marked i ≡ mark_of words i
   mark_others i n = ⊎_elim
       (λ (e : i / 64 ≡ row / 64).
@@ -27,7 +27,7 @@ module _ (words : List ℕ) (row : ℕ) (l : row / 64 < length words) where
       (λ (e : i / 64 ≡ row / 64 → ⊥). let ne : i / 64 ≢ row / 64 = e in ap (λ w. bit_at w (i % 64)) (get_or-set_other words (row / 64) (i / 64) _ 0 ne))
       (cases_eq (i / 64) (row / 64))
 
-  -- other words stay
+  -- other words stay the same
   pub words_stay : (k : ℕ) → k ≢ row / 64 → get_or marked k 0 ≡ get_or words k 0
   words_stay k ne = get_or-set_other words (row / 64) k _ 0 ne
 
@@ -70,7 +70,7 @@ module _ (words : List ℕ) (from : ℕ) (fits : get_or words (from / 64) 0 < 18
         (λ (l : from % 64 ≤ t). l)
         (cases_lt t (from % 64))
 
-    -- the lowest of them is of this row or a later one
+    -- the lowest of them marks this row or a later one
     pub found_from : from ≤ at
     found_from = let b = not_below in omega arith
 
@@ -82,7 +82,7 @@ module _ (words : List ℕ) (from : ℕ) (fits : get_or words (from / 64) 0 < 18
         let r : at % 64 ≡ t = omega arith in
         (λ z. bit_at (get_or words (q z) 0) (r z)) ∙ sym (rest_from (get_or words (from / 64) 0) (from % 64) (omega arith) t not_below l) ∙ found.1
 
-    -- no row from this one up to that one has a mark
+    -- no row between the two is marked
     pub found_first : (i : ℕ) → from ≤ i → i < at → mark_of words i ≡ 0
     found_first i a b =
         let l = found.0 in
@@ -91,13 +91,13 @@ module _ (words : List ℕ) (from : ℕ) (fits : get_or words (from / 64) 0 < 18
         let m : i % 64 < t = omega arith in
         ap (λ n. bit_at (get_or words n 0) (i % 64)) q ∙ sym (rest_from (get_or words (from / 64) 0) (from % 64) (omega arith) (i % 64) k (omega arith)) ∙ found.2 (i % 64) m
 
--- without a mark in its first word, the next word may have one
+-- if the first word has no mark from the row on, later words may have one
 pub none_in_first : (words : List ℕ) (from : ℕ) → rest (get_or words (from / 64) 0) (from % 64) (omega arith) ≡ 0 → (i : ℕ) → from ≤ i → i < (from / 64 + 1) * 64 → mark_of words i ≡ 0
 none_in_first words from none i a b =
     let q : i / 64 ≡ from / 64 = omega arith in
     ap (λ n. bit_at (get_or words n 0) (i % 64)) q ∙ sym (rest_from (get_or words (from / 64) 0) (from % 64) (omega arith) (i % 64) (omega arith) (omega arith)) ∙ ap (λ w. bit_at w (i % 64)) none ∙ bit_at-zero (i % 64)
 
--- a word that is zero marks none of its rows
+-- a word of zero marks no row
 pub none_in_word : (words : List ℕ) (n : ℕ) → get_or words n 0 ≡ 0 → (i : ℕ) → i / 64 ≡ n → mark_of words i ≡ 0
 none_in_word words n none i q = ap (λ k. bit_at (get_or words k 0) (i % 64)) q ∙ ap (λ w. bit_at w (i % 64)) none ∙ bit_at-zero (i % 64)
 
@@ -121,7 +121,7 @@ module _ (words : List ℕ) (from n : ℕ) (fits : get_or words n 0 < 1844674407
       let r : (n * 64 + u) % 64 ≡ u = omega arith in
       (λ z. bit_at (get_or words (q z) 0) (r z)) ∙ later.1
 
-  -- no row from the first one up to that one has a mark
+  -- no row before it is marked
   pub later_first : (i : ℕ) → from ≤ i → i < n * 64 + u → mark_of words i ≡ 0
   later_first i a b =
       let l = later.0 in
@@ -134,21 +134,21 @@ module _ (words : List ℕ) (from n : ℕ) (fits : get_or words n 0 < 1844674407
       (cases_lt i (n * 64))
 
 -- ---- sums and their marks
--- no word has a mark
+-- if all words are zero, no row is marked
 pub none_at_all : (words : List ℕ) → All (λ word. word ≡ 0) words → (i : ℕ) → mark_of words i ≡ 0
 none_at_all words none i = ⊎_elim
     (λ (l : i / 64 < length words). none_in_word words (i / 64) (All-get_or (λ word. word ≡ 0) words (i / 64) 0 l none) i refl)
     (λ (l : length words ≤ i / 64). none_past words i l)
     (cases_lt (i / 64) (length words))
 
--- a list of one element alone has it at each place, and past its end too
+-- a list of copies of one element has it at each place, and past its end as the default
 pub all_same : (z : ℕ) (xs : List ℕ) → All (λ x. x ≡ z) xs → (i : ℕ) → get_or xs i z ≡ z
 all_same z xs h i = ⊎_elim
     (λ (l : i < length xs). All-get_or (λ x. x ≡ z) xs i z l h)
     (λ (l : length xs ≤ i). get_or_past xs i z l)
     (cases_lt i (length xs))
 
--- sums that are all zero need no mark
+-- sums of zero need no marks
 pub marked_none : (z : ℕ) (sums marks groups : List ℕ) → All (λ x. x ≡ z) sums → All (λ word. word ≡ 0) marks → All (λ word. word ≡ 0) groups → length sums < 2 ^ 32 → length marks ≡ length sums / 64 + 1 → length groups ≡ length sums / 4096 + 1 → AreMarked z sums marks groups
 marked_none z sums marks groups zeros none none_too limit long groups_long = record {
   room = omega arith;
@@ -161,11 +161,11 @@ marked_none z sums marks groups zeros none none_too limit long groups_long = rec
   no_group = λ n e. all_same 0 marks none n;
 }
 
--- a row is marked, and the word of its mark
+-- a row is marked, and so is the word with its mark
 module _ (z : ℕ) (sums marks groups marks' groups' : List ℕ) (row x : ℕ) (m : AreMarked z sums marks groups) (l : row < length sums)
     (long : length marks' ≡ length marks) (here : mark_of marks' row ≡ 1) (others : (i : ℕ) → i ≢ row → mark_of marks' i ≡ mark_of marks i) (words : (k : ℕ) → k ≢ row / 64 → get_or marks' k 0 ≡ get_or marks k 0)
     (groups_long : length groups' ≡ length groups) (groups_here : mark_of groups' (row / 64) ≡ 1) (groups_others : (i : ℕ) → i ≢ row / 64 → mark_of groups' i ≡ mark_of groups i) where
-  -- with a row's sum set, and the row and its word marked, the sums are marked still
+  -- after a row's sum is set and the row is marked, all sums other than zero are marked
   pub marked_more : AreMarked z (set sums row x) marks' groups'
   marked_more =
       let room = m.room in
@@ -190,15 +190,15 @@ module _ (z : ℕ) (sums marks groups marks' groups' : List ℕ) (row x : ℕ) (
             (cases_eq n (row / 64));
       }
 
--- a marked row has a sum
+-- a marked row is one of the rows
 pub marked_inside : (z : ℕ) (sums marks groups : List ℕ) (row : ℕ) → AreMarked z sums marks groups → mark_of marks row ≡ 1 → row < length sums
 marked_inside z sums marks groups row m one = ⊎_elim (λ (l : row < length sums). l) (λ (l : length sums ≤ row). let none = m.inside row l in absurd (omega arith)) (cases_lt row (length sums))
 
--- a marked word is one
+-- a marked word is one of the words
 pub group_inside : (z : ℕ) (sums marks groups : List ℕ) (n : ℕ) → AreMarked z sums marks groups → mark_of groups n ≡ 1 → n < length marks
 group_inside z sums marks groups n m one = ⊎_elim (λ (l : n < length marks). l) (λ (l : length marks ≤ n). let none = m.groups_inside n l in absurd (omega arith)) (cases_lt n (length marks))
 
--- the rows that a bit of the n-th word marks
+-- the row that a bit of the n-th word marks is one of the rows
 pub bit_inside : (z : ℕ) (sums marks groups : List ℕ) (n k : ℕ) → AreMarked z sums marks groups → get_or marks n 0 < 18446744073709551616 → bit_at (get_or marks n 0) k ≡ 1 → n * 64 + k < length sums
 bit_inside z sums marks groups n k m fits one =
     let small : k < 64 = ⊎_elim (λ (l : k < 64). l) (λ (l : 64 ≤ k). let none = bit_at_above (get_or marks n 0) 64 k fits l in absurd (omega arith)) (cases_lt k 64) in
@@ -206,9 +206,9 @@ bit_inside z sums marks groups n k m fits one =
     let r : (n * 64 + k) % 64 ≡ k = omega arith in
     marked_inside z sums marks groups (n * 64 + k) m ((λ t. bit_at (get_or marks (q t) 0) (r t)) ∙ one)
 
--- ---- words looked at, whose sums are taken
+-- ---- words whose sums are moved
 module _ (z : ℕ) (sums new marks groups : List ℕ) (n : ℕ) (m : AreMarked z sums marks groups) (long : length new ≡ length sums) (stay : (i : ℕ) → get_or sums i z ≡ z → get_or new i z ≡ z) where
-  -- some sums are made zero
+  -- some sums become zero
   pub marked_fewer : AreMarked z new marks groups
   marked_fewer =
       let room = m.room in
@@ -224,7 +224,7 @@ module _ (z : ℕ) (sums new marks groups : List ℕ) (n : ℕ) (m : AreMarked z
         no_group = m.no_group;
       }
 
-  -- all that the n-th word marks are
+  -- all sums that the n-th word marks become zero
   pub marked_without : ((k : ℕ) → bit_at (get_or marks n 0) k ≡ 1 → get_or new (n * 64 + k) z ≡ z) → n < length marks → AreMarked z new (set marks n 0) groups
   marked_without taken l =
       let room = m.room in
@@ -256,13 +256,13 @@ module _ (z : ℕ) (sums new marks groups : List ℕ) (n : ℕ) (m : AreMarked z
             (cases_eq k n);
       }
 
--- without marks of words there is no mark and no sum
+-- if no word is marked, no row is, and all sums are zero
 module _ (z : ℕ) (sums marks groups : List ℕ) (m : AreMarked z sums marks groups) (none : (k : ℕ) → get_or marks k 0 ≡ 0) where
-  -- where each word of marks is zero, so is each sum
+  -- if each word of marks is zero, so is each sum
   pub all_taken : (i : ℕ) → get_or sums i z ≡ z
   all_taken i = m.unmarked i (none_in_word marks (i / 64) (none (i / 64)) i refl)
 
-  -- and marks of words may go
+  -- and the marks of words can be removed
   pub marked_cleared : (groups' : List ℕ) → length groups' ≡ length groups → All (λ word. word ≡ 0) groups' → AreMarked z sums marks groups'
   marked_cleared groups' long cleared =
       let groups_room = m.groups_room in
@@ -278,7 +278,7 @@ module _ (z : ℕ) (sums marks groups : List ℕ) (m : AreMarked z sums marks gr
         no_group = λ k e. none k;
       }
 
--- ---- the lowest bit of a word goes
+-- ---- the lowest bit of a word is removed
 module _ (w : ℕ) (fits : w < 18446744073709551616) (some : 0 < w) where
   abbrev low : ℕ
   low = trailing_zeros w64 w
@@ -294,14 +294,14 @@ module _ (w : ℕ) (fits : w < 18446744073709551616) (some : 0 < w) where
   pub low_within : low < 64
   low_within = found_low.0
 
-  -- the word has it
+  -- the word has this bit
   pub low_set : bit_at w low ≡ 1
   low_set = found_low.1
 
   cleared : bit_at without_low low ≡ 0
   cleared = bit_at_clear_same w64 w low low_within
 
-  -- the word is less then
+  -- without it the word is smaller
   pub without_low-less : without_low < w
   without_low-less =
       let le = and_le_l w (bit_not w64 (1 * 2 ^ low % 18446744073709551616)) in
@@ -313,7 +313,7 @@ module _ (w : ℕ) (fits : w < 18446744073709551616) (some : 0 < w) where
   above : (k : ℕ) → 64 ≤ k → bit_at w k ≡ 0
   above k l = bit_at_above w 64 k fits l
 
-  -- a bit that is left was there, and comes later
+  -- a bit that is left was in the word, and is higher
   pub left_bit : (k : ℕ) → bit_at without_low k ≡ 1 → (k < 64) × (bit_at w k ≡ 1) × (low < k)
   left_bit k one =
       let le = and_le_l w (bit_not w64 (1 * 2 ^ low % 18446744073709551616)) in
@@ -322,7 +322,7 @@ module _ (w : ℕ) (fits : w < 18446744073709551616) (some : 0 < w) where
       let there : bit_at w k ≡ 1 = sym (bit_at_clear_other w64 w low low_within k small ne) ∙ one in
       (small, there, ⊎_elim (λ (l : k < low). let z = found_low.2 k l in absurd (omega arith)) (λ (l : low ≤ k). let d : low < k = omega arith in d) (cases_lt k low))
 
-  -- a bit that isn't left was not there, or is the lowest
+  -- a bit that isn't left wasn't in the word, or was the lowest
   pub gone_bit : (k : ℕ) → bit_at without_low k ≡ 0 → bit_at w k ≡ 1 → k ≡ low
   gone_bit k none one =
       let small : k < 64 = ⊎_elim (λ (l : k < 64). l) (λ (l : 64 ≤ k). let z = above k l in absurd (omega arith)) (cases_lt k 64) in

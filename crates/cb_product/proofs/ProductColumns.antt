@@ -1,39 +1,37 @@
 -- The product, column by column.
-use Rattle.std.proofs.Common.{◌≡◌, ◌≢◌, ℕ, ◌+◌, ◌<◌, ◌≤◌, true, false, cond, inl, inr, Result, Ok, Err, List, [], ◌∷◌, length, map, get_or, sym, refl, ap, ◌∙◌, ◌⊎◌, ⊎_elim, arith, subst}
+use Rattle.std.proofs.Common.{◌≡◌, ◌≢◌, ℕ, ◌+◌, ◌<◌, ◌≤◌, true, false, cond, inl, inr, Result, Ok, Err, List, [], ◌∷◌, length, map, get_or, sym, refl, ap, ◌∙◌, ◌⊎◌, ⊎_elim, arith}
 use Rattle.std.specs.Prelude.{IfOk, All, AllPairs, ◌==◌}
 use Rattle.std.specs.List.{range_with_len}
-use Rattle.std.proofs.lemmas.Bool.{cases_Bool, cases_eq, cases_lt, eqb-true, eqb-false, cond-false}
-use Rattle.std.proofs.lemmas.List.{get_or_default, get_or_past}
-use Rattle.std.proofs.lemmas.List.Elements.{All-head, All-tail, All-nil, All-weaker, All-get_or}
+use Rattle.std.proofs.lemmas.Bool.{cases_Bool, eqb-true, eqb-false, cond-false}
+use Rattle.std.proofs.lemmas.List.Elements.{All-head, All-tail, All-nil, All-weaker}
 use Rattle.cb_semirings.specs.Arithmetic.{Arithmetic, IsValue, IsSemiring}
 use Rattle.cb_matrix.specs.declared.Entry.{Entry}
-use Rattle.cb_matrix.specs.Sparse.{Sparse, Extent, IsMatrix, is_at, at, value_at, IsBefore, IsInside}
-use Rattle.cb_matrix.specs.Values.{total, product, product_shape, empty_matrix}
-use Rattle.cb_matrix.proofs.Places.{AllPairs-head, AllPairs-tail, is_at-parts, is_at-own, value_at-before, IsPlaceBefore}
-use Rattle.cb_matrix.proofs.Made.{NoneAt, value_at-none, at-matrix_of, same_matrix_of}
-use Rattle.cb_matrix.proofs.Equal.{matrix_is}
+use Rattle.cb_matrix.specs.Sparse.{Sparse, IsMatrix, is_at, at, value_at, IsBefore, IsInside}
+use Rattle.cb_matrix.specs.Values.{total, product, product_shape, empty_matrix, matrix_of}
+use Rattle.cb_matrix.proofs.Pairs.{AllPairs-head, AllPairs-tail}
+use Rattle.cb_matrix.proofs.Places.{NoneAt, is_at-parts, is_at-own, value_at-before, value_at-none, IsPlaceBefore}
+use Rattle.cb_matrix.proofs.Made.{at-matrix_of, same_matrix_of}
 use Rattle.cb_matrix.proofs.Totals.{add_zero, mul_add-zero, total_value, total-add, total-single, total-zero, total-same, each_value, value_at-value}
 use Rattle.cb_dcsc.specs.Columns.{in_column, rows_of, values_of}
 use Rattle.cb_dcsc.specs.Columns.{row_value}
 use Rattle.cb_dcsc.proofs.Lookup.{column_value}
-use Rattle.cb_product.specs.InColumns.{AreInColumns}
+use Rattle.cb_product.specs.InColumns.{AreInColumns, is_among, only_columns}
 use Rattle.cb_product.specs.Terms.{column_sum}
 use Rattle.cb_product.proofs.AbsentColumns.{all_columns, nothing_there}
-use Rattle.cb_product.proofs.StoredColumn.{AddsColumn, none_of_column}
+use Rattle.cb_product.proofs.OnlyColumns.{among_at, only_in, only_matrix, only_column, only_all}
+use Rattle.cb_product.proofs.StoredColumn.{AddsColumn}
+use Rattle.cb_product.proofs.ColumnsMade.{IsMadeTo, walk_none, walk_more, walk_all}
 use Rattle.cb_matrix.specs.Operations.{sum_of}
 
--- at the place (i, j), the sum of what `acc` has there and of the products of a(i,k) and b(k,j)
-abbrev accumulated : Arithmetic → Sparse → Sparse → Sparse → ℕ → ℕ → ℕ
+-- the value of `acc` at (i, j), plus the sum of the products of a(i, k) and b(k, j)
+abbrev pub accumulated : Arithmetic → Sparse → Sparse → Sparse → ℕ → ℕ → ℕ
 accumulated s acc a b i j = s.add (at s acc i j) (total s (map (λ k. s.mul (at s a i k) (at s b k j)) (range_with_len 0 a.shape.cols)))
 
--- `out` has the accumulated columns before the n-th of these
-pub record IsSumSoFar (s : Arithmetic) (acc a b : Sparse) (columns : List ℕ) (n : ℕ) (out : Sparse) : Type 0 where
-  pub shape : out.shape ≡ acc.shape
-  pub matrix : IsMatrix s out
-  pub before : All (λ e. e.column < get_or columns n b.shape.cols) out.entries
-  pub done : (i j : ℕ) → j < get_or columns n b.shape.cols → at s out i j ≡ accumulated s acc a b i j
+-- `out` has the columns before the n-th of these, accumulated
+abbrev pub IsSumSoFar : Arithmetic → Sparse → Sparse → Sparse → List ℕ → ℕ → Sparse → Type 0
+IsSumSoFar s acc a b columns n out = IsMadeTo s (product_shape a b) (accumulated s acc a (only_columns columns b)) (get_or columns n b.shape.cols) out
 
--- ---- the sum over all inner places is that over the entries of the column
+-- ---- the sum over the inner dimension is the sum over the entries of the column
 module _ (s : Arithmetic) (laws : IsSemiring s) (a : Sparse) (is : IsMatrix s a) (i j n : ℕ) where
   abbrev Val : Entry → Type 0
   Val e = IsValue s e.value
@@ -58,7 +56,7 @@ module _ (s : Arithmetic) (laws : IsSemiring s) (a : Sparse) (is : IsMatrix s a)
         | false ↦ λ _. sym (laws.zero_add _ (value_at-value s laws es k j vs))
       ] refl
 
-  -- of an entry and later ones at most one has a value at a place
+  -- at each place, an entry or the later ones have zero
   one_there : (e : Entry) (es : List Entry) (k : ℕ) → All (IsBefore e) es → (one e k ≡ s.zero) ⊎ (value_at s.zero es k j ≡ s.zero)
   one_there e es k after =
       ⊎_elim
@@ -105,18 +103,18 @@ module _ (s : Arithmetic) (laws : IsSemiring s) (a : Sparse) (is : IsMatrix s a)
         | false ↦ laws.zero_add rest_sum rest_value ∙ sym rest
       ])
 
-abbrev inner : Arithmetic → Sparse → Sparse → ℕ → ℕ → ℕ
+abbrev pub inner : Arithmetic → Sparse → Sparse → ℕ → ℕ → ℕ
 inner s a b i j = total s (map (λ k. s.mul (at s a i k) (at s b k j)) (range_with_len 0 a.shape.cols))
 
-inner_value : (s : Arithmetic) → IsSemiring s → (a b : Sparse) → IsMatrix s a → IsMatrix s b → (i j : ℕ) → IsValue s (inner s a b i j)
+pub inner_value : (s : Arithmetic) → IsSemiring s → (a b : Sparse) → IsMatrix s a → IsMatrix s b → (i j : ℕ) → IsValue s (inner s a b i j)
 inner_value s laws a b p q i j = total_value s laws _ (each_value s laws (λ k. s.mul (at s a i k) (at s b k j)) (λ k. laws.mul_value _ _ (value_at-value s laws a.entries i k p.values) (value_at-value s laws b.entries k j q.values)) (range_with_len 0 a.shape.cols))
 
 no_entry_at : (es : List Entry) (i j : ℕ) → All (λ e. e.column ≢ j) es → NoneAt i j es
 no_entry_at es i j h = All-weaker (λ e. e.column ≢ j) (λ e. is_at i j e ≡ false) (λ e n. ⊎_elim (λ (t : is_at i j e ≡ true). absurd (n (sym (is_at-parts e i j t).1))) (λ (f : is_at i j e ≡ false). f) (cases_Bool (is_at i j e))) es h
 
 module _ (s : Arithmetic) (laws : IsSemiring s) (acc a b : Sparse) (r : IsMatrix s acc) (p : IsMatrix s a) (q : IsMatrix s b) (agree : a.shape.cols ≡ b.shape.rows) where
-  -- the sum at a place of one of the columns, and of another
-  stored_sum : (i j : ℕ) → column_sum s a i (rows_of (in_column j b.entries)) (values_of (in_column j b.entries)) ≡ inner s a b i j
+  -- the value of a product is the sum over the right column's entries
+  pub stored_sum : (i j : ℕ) → column_sum s a i (rows_of (in_column j b.entries)) (values_of (in_column j b.entries)) ≡ inner s a b i j
   stored_sum i j =
       column_total s laws a p i j a.shape.cols b.entries q.values q.ascending (All-weaker (IsInside b.shape) (λ e. e.row < a.shape.cols) (λ e k. let l = k.0 in rw agree l) b.entries q.inside)
 
@@ -128,83 +126,59 @@ module _ (s : Arithmetic) (laws : IsSemiring s) (acc a b : Sparse) (r : IsMatrix
       let right : inner s a b i j ≡ s.zero = sym (stored_sum i j) ∙ ap (λ es. column_sum s a i (rows_of es) (values_of es)) none in
       (λ t. s.add (left t) (right t)) ∙ laws.zero_add s.zero laws.zero_value
 
-  module _ (cs : List ℕ) (up : AllPairs (λ c d. c < d) cs) (within : All (λ c. c < b.shape.cols) cs) (acc_in : AreInColumns cs acc.entries) (b_in : AreInColumns cs b.entries) where
+module _ (s : Arithmetic) (laws : IsSemiring s) (acc a b : Sparse) (r : IsMatrix s acc) (p : IsMatrix s a) (q : IsMatrix s b) (agree : a.shape.cols ≡ b.shape.rows) where
+  module _ (cs : List ℕ) (up : AllPairs (λ c d. c < d) cs) (within : All (λ c. c < b.shape.cols) cs) (acc_in : AreInColumns cs acc.entries) where
+    abbrev part : Sparse
+    part = only_columns cs b
+
+    part_matrix : IsMatrix s part
+    part_matrix = only_matrix s cs b q
+
+    -- in a listed column, it is that of the product with the listed columns
+    here_sum : (i j : ℕ) → is_among cs j ≡ true → column_sum s a i (rows_of (in_column j b.entries)) (values_of (in_column j b.entries)) ≡ inner s a part i j
+    here_sum i j h = ap (λ es. column_sum s a i (rows_of es) (values_of es)) (sym (only_column cs b j h)) ∙ stored_sum s laws acc a part r p part_matrix agree i j
+
+    no_sum : (i j : ℕ) → All (λ c. c ≢ j) cs → accumulated s acc a part i j ≡ s.zero
+    no_sum i j h = absent_sum s laws acc a part r p part_matrix agree cs i j acc_in (only_in cs b) h
+
     -- a matrix without entries has the sums of the columns before the first
-    pub sum_start : (out : Sparse) → IsMatrix s out → out ≡ record { shape = acc.shape; entries = [] } → IsSumSoFar s acc a b cs 0 out
-    sum_start out is e =
-        let none : out.entries ≡ [] = ap (λ (m : Sparse). m.entries) e in
-        record {
-          shape = ap (λ (m : Sparse). m.shape) e;
-          matrix = is;
-          before = subst (λ es. All (λ e. e.column < get_or cs 0 b.shape.cols) es) (sym none) (All-nil (λ e. e.column < get_or cs 0 b.shape.cols));
-          done = λ i j l. ap (λ es. value_at s.zero es i j) none ∙ value_at-none s.zero [] i j (All-nil (λ e. is_at i j e ≡ false)) ∙ sym (absent_sum cs i j acc_in b_in (λ k d lk same.
-              let first : get_or cs 0 b.shape.cols ≡ get_or cs 0 d = get_or_default cs 0 b.shape.cols d (omega arith) in
-              ⊎_elim (λ (z : k ≡ 0). let w = ap (λ x. get_or cs x d) z in absurd (omega arith)) (λ (z : k ≡ 0 → ⊥). let nz : k ≢ 0 = z in let w : get_or cs 0 d < get_or cs k d = up 0 k d (omega arith) lk in absurd (omega arith)) (cases_eq k 0)));
-        }
+    pub sum_start : acc.shape ≡ product_shape a b → (out : Sparse) → IsMatrix s out → out ≡ empty_matrix acc.shape → IsSumSoFar s acc a b cs 0 out
+    sum_start shape out is e = walk_none s (product_shape a b) (accumulated s acc a part) cs up within no_sum out is (e ∙ ap empty_matrix shape)
 
     -- with the sum of the n-th column added, it has those of the columns up to that one
-    pub sum_more : (old new : Sparse) (n j : ℕ) (f : ℕ → ℕ) → n < length cs → j ≡ get_or cs n 0 → IsSumSoFar s acc a b cs n old → AddsColumn s j f old new
-        → ((i : ℕ) → f i ≡ s.add (at s acc i j) (column_sum s a i (rows_of (in_column j b.entries)) (values_of (in_column j b.entries))))
+    pub sum_more : (old new : Sparse) (n : ℕ) (f : ℕ → ℕ) → n < length cs → IsSumSoFar s acc a b cs n old → AddsColumn s (get_or cs n 0) f old new
+        → ((i : ℕ) → f i ≡ s.add (at s acc i (get_or cs n 0)) (column_sum s a i (rows_of (in_column (get_or cs n 0) b.entries)) (values_of (in_column (get_or cs n 0) b.entries))))
         → IsSumSoFar s acc a b cs (n + 1) new
-    sum_more old new n c f l e h adds sums =
-        let here : get_or cs n b.shape.cols ≡ c = get_or_default cs n b.shape.cols 0 l ∙ sym e in
-        let next : c < get_or cs (n + 1) b.shape.cols = ⊎_elim
-        (λ (m : n + 1 < length cs). let h : get_or cs n b.shape.cols < get_or cs (n + 1) b.shape.cols = up n (n + 1) b.shape.cols (omega arith) m in omega arith)
-        (λ (m : length cs ≤ n + 1). let e' = get_or_past cs (n + 1) b.shape.cols m in let w : get_or cs n 0 < b.shape.cols = All-get_or (λ c. c < b.shape.cols) cs n 0 l within in omega arith)
-        (cases_lt (n + 1) (length cs)) in
-        record {
-          shape = adds.shape ∙ h.shape;
-          matrix = adds.matrix;
-          before = All-weaker (λ e. e.column ≤ c) (λ e. e.column < get_or cs (n + 1) b.shape.cols) (λ e k. omega arith) new.entries adds.up_to;
-          done = λ i j lj. ⊎_elim
-              (λ (z : j < c). adds.elsewhere i j (omega arith) ∙ h.done i j (omega arith))
-              (λ (z : c ≤ j). ⊎_elim
-              (λ (same : j ≡ c). ap (at s new i) same ∙ adds.here i ∙ sums i ∙ ap (s.add (at s acc i c)) (stored_sum i c) ∙ ap (accumulated s acc a b i) (sym same))
-              (λ (other : j ≡ c → ⊥).
-              let ne : j ≢ c = other in
-              adds.elsewhere i j ne
-              ∙ value_at-none s.zero old.entries i j (none_of_column j i old.entries (All-weaker (λ e. e.column < get_or cs n b.shape.cols) (λ e. e.column < j) (λ e k. omega arith) old.entries h.before))
-              ∙ sym (absent_sum cs i j acc_in b_in (λ k d lk is.
-              let at_n : get_or cs n d ≡ get_or cs n 0 = get_or_default cs n d 0 l in
-              ⊎_elim
-              (λ (b1 : k < n). let w : get_or cs k d < get_or cs n d = up k n d b1 l in absurd (omega arith))
-              (λ (b1 : n ≤ k). ⊎_elim
-              (λ (e1 : k ≡ n). let w = ap (λ x. get_or cs x d) e1 in absurd (omega arith))
-              (λ (e1 : k ≡ n → ⊥).
-              let ek : k ≢ n = e1 in
-              let nn : get_or cs (n + 1) b.shape.cols ≡ get_or cs (n + 1) d = get_or_default cs (n + 1) b.shape.cols d (omega arith) in
-              ⊎_elim
-              (λ (e2 : k ≡ n + 1). let w = ap (λ x. get_or cs x d) e2 in absurd (omega arith))
-              (λ (e2 : k ≡ n + 1 → ⊥). let ek1 : k ≢ n + 1 = e2 in let w : get_or cs (n + 1) d < get_or cs k d = up (n + 1) k d (omega arith) lk in absurd (omega arith))
-              (cases_eq k (n + 1)))
-              (cases_eq k n))
-              (cases_lt k n))))
-              (cases_eq j c))
-              (cases_lt j c);
-        }
+    sum_more old new n f l h adds sums =
+        walk_more s (product_shape a b) (accumulated s acc a part) cs up within no_sum old new n f l adds
+        (λ i. sums i ∙ ap (s.add (at s acc i (get_or cs n 0))) (here_sum i (get_or cs n 0) (among_at cs n 0 l))) h
 
     -- past the last column it is the sum of the accumulator and the product
-    pub sum_all : (out : Sparse) (n : ℕ) → acc.shape ≡ product_shape a b → length cs ≤ n → IsSumSoFar s acc a b cs n out → out ≡ sum_of s acc (product s a b)
+    pub sum_all : (out : Sparse) (n : ℕ) → acc.shape ≡ product_shape a b → length cs ≤ n → IsSumSoFar s acc a b cs n out → out ≡ sum_of s acc (product s a (only_columns cs b))
     sum_all out n shape l h =
-        let all : get_or cs n b.shape.cols ≡ b.shape.cols = get_or_past cs n b.shape.cols l in
-        matrix_is s laws out acc.shape (λ i j. s.add (at s acc i j) (at s (product s a b) i j)) h.matrix h.shape
-        (λ i j li lj.
-        let ri : i < a.shape.rows = subst (λ (e : Extent). i < e.rows) shape li in
-        let rj : j < b.shape.cols = subst (λ (e : Extent). j < e.cols) shape lj in
-        h.done i j (rw all rj) ∙ ap (s.add (at s acc i j)) (sym (at-matrix_of s (product_shape a b) (inner s a b) i j ri rj)))
+        let f : ℕ → ℕ → ℕ = λ i j. s.add (at s acc i j) (at s (product s a part) i j) in
+        walk_all s (product_shape a b) (accumulated s acc a part) cs up within no_sum laws out n l h
+        ∙ same_matrix_of s (product_shape a b) (accumulated s acc a part) f
+        (λ i j li lj. ap (s.add (at s acc i j)) (sym (at-matrix_of s (product_shape a b) (inner s a part) i j li lj)))
+        ∙ ap (λ e. matrix_of s e f) (sym shape)
 
 -- the accumulator's own column
 pub own_column : (s : Arithmetic) (acc : Sparse) (j : ℕ) (rs vs : List ℕ) → rs ≡ rows_of (in_column j acc.entries) → vs ≡ values_of (in_column j acc.entries) → (i : ℕ) → row_value s.zero rs vs i ≡ at s acc i j
 own_column s acc j rs vs p q i = (λ t. row_value s.zero (p t) (q t) i) ∙ column_value s.zero acc.entries i j
 
--- with nothing to add to, the sum is the product
+-- a sum with the empty matrix is the other summand
 pub sum_from_nothing : (s : Arithmetic) → IsSemiring s → (a b : Sparse) → IsMatrix s a → IsMatrix s b → sum_of s (empty_matrix (product_shape a b)) (product s a b) ≡ product s a b
 unfolding value_at
 sum_from_nothing s laws a b p q =
     same_matrix_of s (product_shape a b) (λ i j. s.add s.zero (at s (product s a b) i j)) (inner s a b)
     (λ i j li lj. ap (s.add s.zero) (at-matrix_of s (product_shape a b) (inner s a b) i j li lj) ∙ laws.zero_add (inner s a b i j) (inner_value s laws a b p q i j))
 
--- where an answer is the sum of an accumulator without entries and the product, it is the product
+-- a result that is the sum of an empty accumulator and the product is the product
 pub multiplied : {E : Type 0} (s : Arithmetic) → IsSemiring s → (acc a b : Sparse) (result : Result Sparse E) → IsMatrix s a → IsMatrix s b → acc ≡ empty_matrix (product_shape a b) → IfOk result (λ m. m ≡ sum_of s acc (product s a b)) → IfOk result (λ m. m ≡ product s a b)
 multiplied s laws acc a b (Ok m) p q e h = h ∙ ap (λ x. sum_of s x (product s a b)) e ∙ sum_from_nothing s laws a b p q
 multiplied s laws acc a b (Err x) p q e h = tt
+
+-- if all entries of the second matrix are in the listed columns, the product with these is the whole product
+pub of_all : {E : Type 0} (s : Arithmetic) (acc a b : Sparse) (cs : List ℕ) (result : Result Sparse E) → AreInColumns cs b.entries → IfOk result (λ m. m ≡ sum_of s acc (product s a (only_columns cs b))) → IfOk result (λ m. m ≡ sum_of s acc (product s a b))
+of_all s acc a b cs (Ok m) all h = h ∙ ap (λ x. sum_of s acc (product s a x)) (only_all cs b all)
+of_all s acc a b cs (Err x) all h = tt

@@ -1,4 +1,4 @@
--- Sums of rows: a column added entry by entry, and taken row by row.
+-- Dense sums of rows: a column is added entry by entry, and sums are taken row by row.
 use Rattle.std.proofs.Common.{◌≡◌, ◌≢◌, ℕ, ◌+◌, ◌-◌, ◌<◌, ◌≤◌, Option, List, [], ◌++◌, length, take, get_or, set, replicate, sym, refl, ap, ◌∙◌, ⊎_elim, arith, length-append}
 use Rattle.std.specs.Prelude.{All, AllPairs, IfSome}
 use Rattle.std.proofs.lemmas.Bool.{cases_eq, cases_lt, eq-eqb, ne_eqb, cond-true, cond-false}
@@ -16,14 +16,14 @@ use Rattle.cb_product.proofs.RowValues.{nth_product, scaled_value, scaled_split,
 use Rattle.cb_product.proofs.TermSums.{terms_past}
 
 module _ (s : Arithmetic) (laws : IsSemiring s) where
-  -- sums are values, also past all rows
+  -- a sum is a value, also past all rows
   pub values_or_zero : (sums : List ℕ) → All (IsValue s) sums → (i : ℕ) → IsValue s (get_or sums i s.zero)
   values_or_zero sums h i = ⊎_elim
       (λ (l : i < length sums). All-get_or (IsValue s) sums i s.zero l h)
       (λ (l : length sums ≤ i). rw (get_or_past sums i s.zero l) laws.zero_value)
       (cases_lt i (length sums))
 
-  -- a row's sum goes from the sums to a column
+  -- a row's sum moves to a column
   pub moved : (sums : List ℕ) (row i m : ℕ) → All (IsValue s) sums → row < length sums → IsValue s m → s.add (s.add m (one_value s.zero (row, get_or sums row 0) i)) (get_or (set sums row s.zero) i s.zero) ≡ s.add m (get_or sums i s.zero)
   moved sums row i m values l is_m =
       let v = get_or sums row 0 in
@@ -40,12 +40,12 @@ module _ (s : Arithmetic) (laws : IsSemiring s) where
       (λ t. s.add (s.add m (one t)) (stays t)) ∙ ap (λ x. s.add x (get_or sums i s.zero)) (add_zero s laws m is_m))
       (cases_eq row i)
 
-  -- ---- a column, scaled, is added
+  -- ---- a column, times a factor, is added
   module _ (rows values : List ℕ) (scale : Option ℕ) (same : length values ≡ length rows) (all : All (IsValue s) values) (is_scale : IfSome scale (IsValue s)) (up : AllPairs (λ i j. i < j) rows) where
     abbrev left : ℕ → ℕ → ℕ
     left n i = scaled s (rest_value s.zero rows values n i) scale
 
-    -- one entry more
+    -- with one more entry
     pub entry_added : (n : ℕ) (sums : List ℕ) (T : ℕ → ℕ) → n < length rows → All (IsValue s) sums → get_or rows n 0 < length sums
         → ((i : ℕ) → i < length sums → s.add (get_or sums i s.zero) (left n i) ≡ T i)
         → (i : ℕ) → i < length sums → s.add (get_or (set sums (get_or rows n 0) (s.add (get_or sums (get_or rows n 0) 0) (scaled s (get_or values n 0) scale))) i s.zero) (left (n + 1) i) ≡ T i
@@ -70,23 +70,23 @@ module _ (s : Arithmetic) (laws : IsSemiring s) where
         ap (λ y. s.add y (left (n + 1) i)) (get_or-set_other sums r i x s.zero (λ e. ne (sym e))) ∙ ap (s.add (get_or sums i s.zero)) (sym whole) ∙ so_far i li)
         (cases_eq r i)
 
-    -- all are added
+    -- with all entries, the column is added
     pub all_added : (n : ℕ) (sums : List ℕ) (T : ℕ → ℕ) → length rows ≤ n → All (IsValue s) sums → ((i : ℕ) → i < length sums → s.add (get_or sums i s.zero) (left n i) ≡ T i) → (i : ℕ) → i < length sums → get_or sums i s.zero ≡ T i
     all_added n sums T l vs so_far i li =
         sym (add_zero s laws (get_or sums i s.zero) (All-get_or (IsValue s) sums i s.zero li vs)) ∙ ap (s.add (get_or sums i s.zero)) (sym (scaled_end s laws rows values scale same all is_scale n i l)) ∙ so_far i li
 
--- a sum that is zero stays so
+-- a sum of zero stays zero
 pub zero_stays : (z : ℕ) (sums : List ℕ) (row i : ℕ) → row < length sums → get_or sums i z ≡ z → get_or (set sums row z) i z ≡ z
 zero_stays z sums row i l h = ⊎_elim
     (λ (e : i ≡ row). ap (λ k. get_or (set sums row z) k z) e ∙ get_or-set_same sums row z z l)
     (λ (e : i ≡ row → ⊥). let ne : i ≢ row = e in get_or-set_other sums row i z z ne ∙ h)
     (cases_eq i row)
 
--- a list filled up with one element
+-- a list extended by copies of one element
 pub filled : (z n m : ℕ) (old xs : List ℕ) → old ≡ [] → xs ≡ take n old ++ replicate (n - m) z → All (λ x. x ≡ z) xs
 filled z n m old xs none e = rw e (All-append (λ x. x ≡ z) (take n old) (replicate (n - m) z) (All-take (λ x. x ≡ z) n old (rw none (All-nil (λ x. x ≡ z)))) (All-replicate (λ x. x ≡ z) (n - m) z refl))
 
--- a list that is filled up to n elements has n
+-- a list that is extended to n elements has n
 pub filled_length : (z n m : ℕ) (old xs : List ℕ) → old ≡ [] → m ≡ 0 → xs ≡ take n old ++ replicate (n - m) z → length xs ≡ n
 filled_length z n m old xs none e f =
     let empty : length old ≡ 0 = ap length none in
@@ -96,15 +96,15 @@ filled_length z n m old xs none e f =
     let d = ap length f in
     omega arith
 
--- ---- what the sums are once a column of the accumulator and all terms are added
+-- ---- the sums after a column of the accumulator and all terms are added
 module _ (s : Arithmetic) (laws : IsSemiring s) (a : Sparse) (is : IsMatrix s a) (own_rows own_values : List ℕ) (own : AreEntries s a.shape.rows own_rows own_values) (ts : List Term) (terms : All (IsTerm s (rows_of a.entries)) ts) where
-  -- past all rows there is nothing
+  -- the sum is zero past all rows
   pub sum_past : (i : ℕ) → a.shape.rows ≤ i → sum_with s a own_rows own_values ts i ≡ s.zero
   sum_past i l =
       (λ t. s.add (absent_above s.zero a.shape.rows own_rows own_values i own.inside l t) (terms_past s laws (rows_of a.entries) (values_of a.entries) a.shape.rows i (all_rows_inside s a (rows_of a.entries) is refl) l ts terms t))
       ∙ laws.zero_add s.zero laws.zero_value
 
-  -- sums to which the accumulator's column is added, and then the terms, are what both have together at each row
+  -- zeros, plus the accumulator's column, plus the terms, are the sums of both at each row
   pub dense_sums : (zeros one two : List ℕ) → All (λ x. x ≡ s.zero) zeros → length zeros ≡ a.shape.rows → length one ≡ length zeros → length two ≡ length one
       → ((i : ℕ) → i < length zeros → get_or one i s.zero ≡ s.add (get_or zeros i s.zero) (row_value s.zero own_rows own_values i))
       → ((i : ℕ) → i < length one → get_or two i s.zero ≡ s.add (get_or one i s.zero) (terms_value s (rows_of a.entries) (values_of a.entries) i ts))

@@ -1,4 +1,4 @@
--- The sum of a column and of another one, scaled, as both are gone through.
+-- The sum of two columns, the second times a factor, entry by entry.
 use Rattle.std.proofs.Common.{◌≡◌, ℕ, ◌+◌, ◌<◌, Option, None, List, [], length, get_or, ap, ◌∙◌}
 use Rattle.std.specs.Prelude.{All, AllPairs, IfSome}
 use Rattle.cb_semirings.specs.Arithmetic.{Arithmetic, IsValue, IsSemiring}
@@ -23,15 +23,15 @@ module _ (s : Arithmetic) (laws : IsSemiring s) (own_rows own_values : List ℕ)
   other_value : (y i : ℕ) → IsValue s (other y i)
   other_value y i = scaled_value s laws rows values scale same all is_scale y i
 
-  -- what both have left
+  -- the entries left in both add up to a value
   pub left_value : (x y i : ℕ) → IsValue s (s.add (own x i) (other y i))
   left_value x y i = laws.add_value _ _ (own_value x i) (other_value y i)
 
-  -- each entry of the column has a value
+  -- each entry of the first column has a value
   pub own_is : (x : ℕ) → x < length own_rows → IsValue s (get_or own_values x 0)
   own_is x l = nth_value s laws own_rows own_values None own_same own_all tt x l
 
-  -- each entry of the other one has one when it is scaled
+  -- and so has each entry of the second, times the factor
   pub other_is : (y : ℕ) → y < length rows → IsValue s (scaled s (get_or values y 0) scale)
   other_is y l = nth_product s laws rows values scale same all is_scale y l
 
@@ -41,26 +41,26 @@ module _ (s : Arithmetic) (laws : IsSemiring s) (own_rows own_values : List ℕ)
   other_split : (y i : ℕ) → y < length rows → other y i ≡ s.add (one_value s.zero (get_or rows y 0, scaled s (get_or values y 0) scale) i) (other (y + 1) i)
   other_split y i l = scaled_split s laws rows values scale same all is_scale y i up l
 
-  -- the first one's next entry
+  -- the next entry is the first column's
   pub first_next : (x y i : ℕ) → x < length own_rows → s.add (own x i) (other y i) ≡ s.add (one_value s.zero (get_or own_rows x 0, get_or own_values x 0) i) (s.add (own (x + 1) i) (other y i))
   first_next x y i l = ap (λ t. s.add t (other y i)) (own_split x i l) ∙ laws.add_assoc _ _ _ (one_value-value s laws (get_or own_rows x 0, get_or own_values x 0) i (own_is x l)) (own_value (x + 1) i) (other_value y i)
 
-  -- the other one's
+  -- the next entry is the second column's
   pub other_next : (x y i : ℕ) → y < length rows → s.add (own x i) (other y i) ≡ s.add (one_value s.zero (get_or rows y 0, scaled s (get_or values y 0) scale) i) (s.add (own x i) (other (y + 1) i))
   other_next x y i l = ap (s.add (own x i)) (other_split y i l) ∙ swap_two s laws (own x i) (one_value s.zero (get_or rows y 0, scaled s (get_or values y 0) scale) i) (other (y + 1) i) (own_value x i) (one_value-value s laws (get_or rows y 0, scaled s (get_or values y 0) scale) i (other_is y l)) (other_value (y + 1) i)
 
-  -- both, in one row
+  -- both next entries are at the same row
   pub both_next : (x y i : ℕ) → x < length own_rows → y < length rows → get_or own_rows x 0 ≡ get_or rows y 0 → s.add (own x i) (other y i) ≡ s.add (one_value s.zero (get_or rows y 0, s.add (get_or own_values x 0) (scaled s (get_or values y 0) scale)) i) (s.add (own (x + 1) i) (other (y + 1) i))
   both_next x y i lx ly e =
       (λ t. s.add (own_split x i lx t) (other_split y i ly t))
       ∙ swap_middle s laws _ _ _ _ (one_value-value s laws (get_or own_rows x 0, get_or own_values x 0) i (own_is x lx)) (own_value (x + 1) i) (one_value-value s laws (get_or rows y 0, scaled s (get_or values y 0) scale) i (other_is y ly)) (other_value (y + 1) i)
       ∙ ap (λ t. s.add t (s.add (own (x + 1) i) (other (y + 1) i))) (ap (λ r. s.add (one_value s.zero (r, get_or own_values x 0) i) (one_value s.zero (get_or rows y 0, scaled s (get_or values y 0) scale) i)) e ∙ one_value-add s laws (get_or rows y 0) (get_or own_values x 0) (scaled s (get_or values y 0) scale) i)
 
-  -- what is left of both is appended
+  -- the entries left in both are appended
   pub joined_all : (f : ℕ → ℕ) (c first last : SparseColumn) (x y : ℕ) → IsColumnSoFar s f c (λ i. s.add (own x i) (other y i)) → ((i : ℕ) → value_in s.zero first i ≡ s.add (value_in s.zero c i) (own x i)) → ((i : ℕ) → value_in s.zero last i ≡ s.add (value_in s.zero first i) (other y i)) → (i : ℕ) → value_in s.zero last i ≡ f i
   joined_all f c first last x y h p q i = q i ∙ ap (λ t. s.add t (other y i)) (p i) ∙ laws.add_assoc _ _ _ (h.values i) (own_value x i) (other_value y i) ∙ h.sums i
 
--- the column that all is added to
+-- the first column, to which terms are added
 pub joined_start : (s : Arithmetic) → IsSemiring s → (rows values : List ℕ) → All (IsValue s) values → (cleared made : SparseColumn) (rest : ℕ → ℕ) → cleared.rows ≡ [] → ((i : ℕ) → value_in s.zero made i ≡ s.add (value_in s.zero cleared i) (rest_value s.zero rows values 0 i)) → IsColumnSoFar s (λ i. s.add (row_value s.zero rows values i) (rest i)) made rest
 joined_start s laws rows values all cleared made rest none step =
     let is = λ (i : ℕ). row_value-value s laws rows values i all in

@@ -20,18 +20,18 @@ range-map f a b xs = ap (take (b - a)) (drop-map f a xs) ∙ take-map f (b - a) 
 
 -- ---- terms over any rows and values
 module _ (s : Arithmetic) (laws : IsSemiring s) (rows values : List ℕ) (all_values : All (IsValue s) values) where
-  -- a term has values
+  -- a term's value at a row is a value of the semiring
   pub term_value-value : (i : ℕ) (t : Term) → IsValue s t.scale → IsValue s (term_value s rows values i t)
   term_value-value i t v = laws.mul_value _ _ (row_value-value s laws (slice_range rows t.at t.end) (slice_range values t.at t.end) i (All-take (IsValue s) (t.end - t.at) (drop t.at values) (All-drop (IsValue s) t.at values all_values))) v
 
   all_terms : (i : ℕ) (ts : List Term) → All (IsTerm s rows) ts → All (λ t. IsValue s (term_value s rows values i t)) ts
   all_terms i ts k = All-weaker (IsTerm s rows) (λ t. IsValue s (term_value s rows values i t)) (λ t is. term_value-value i t is.scale) ts k
 
-  -- and so has a sum of terms
+  -- and so is the sum of terms
   pub terms_value-value : (i : ℕ) (ts : List Term) → All (IsTerm s rows) ts → IsValue s (terms_value s rows values i ts)
   terms_value-value i ts is = sum_value s laws (term_value s rows values i) ts (all_terms i ts is)
 
-  -- one term more
+  -- with one more term
   pub terms_value-push : (i : ℕ) (ts : List Term) (t : Term) → All (IsTerm s rows) ts → IsValue s t.scale → terms_value s rows values i (ts ++ t ∷ []) ≡ s.add (terms_value s rows values i ts) (term_value s rows values i t)
   terms_value-push i ts t is v =
       let here = term_value-value i t v in
@@ -44,7 +44,7 @@ module _ (s : Arithmetic) (laws : IsSemiring s) (rows values : List ℕ) (all_va
   unfolding total
   terms_value-rest i n ts d l = ap (terms_value s rows values i) (drop_more ts n d l)
 
-  -- past all terms nothing is left
+  -- past the last term the sum is zero
   pub terms_value-end : (i n : ℕ) (ts : List Term) → length ts ≤ n → terms_value s rows values i (drop n ts) ≡ s.zero
   unfolding total
   terms_value-end i n ts l = ap (terms_value s rows values i) (drop_all n ts l)
@@ -56,8 +56,8 @@ module _ (s : Arithmetic) (laws : IsSemiring s) (rows values : List ℕ) (all_va
       ∙ ap (s.add (term_value s rows values i (get_or ts 0 d))) (terms_value-end i 1 ts (omega (arith, e)))
       ∙ add_zero s laws (term_value s rows values i (get_or ts 0 d)) (term_value-value i (get_or ts 0 d) v)
 
-  -- ---- terms added to sums of rows
-  -- one term more
+  -- ---- terms added to dense sums
+  -- with one more term
   pub term_added : (ts : List Term) (n : ℕ) (d : Term) (old new : List ℕ) (T : ℕ → ℕ) → n < length ts → All (IsTerm s rows) ts → All (IsValue s) old → length new ≡ length old
       → ((i : ℕ) → i < length old → get_or new i s.zero ≡ s.add (get_or old i s.zero) (term_value s rows values i (get_or ts n d)))
       → ((i : ℕ) → i < length old → s.add (get_or old i s.zero) (terms_value s rows values i (drop n ts)) ≡ T i)
@@ -70,14 +70,14 @@ module _ (s : Arithmetic) (laws : IsSemiring s) (rows values : List ℕ) (all_va
       ∙ laws.add_assoc (get_or old i s.zero) (term_value s rows values i t) rest (All-get_or (IsValue s) old i s.zero li vs) (term_value-value i t term.scale) (terms_value-value i (drop (n + 1) ts) (All-drop (IsTerm s rows) (n + 1) ts is))
       ∙ ap (s.add (get_or old i s.zero)) (sym (terms_value-rest i n ts d l)) ∙ so_far i li
 
-  -- all are added
+  -- with all terms
   pub terms_added : (ts : List Term) (n : ℕ) (sums : List ℕ) (T : ℕ → ℕ) → length ts ≤ n → All (IsValue s) sums → ((i : ℕ) → i < length sums → s.add (get_or sums i s.zero) (terms_value s rows values i (drop n ts)) ≡ T i) → (i : ℕ) → i < length sums → get_or sums i s.zero ≡ T i
   terms_added ts n sums T l vs so_far i li =
       sym (add_zero s laws (get_or sums i s.zero) (All-get_or (IsValue s) sums i s.zero li vs)) ∙ ap (s.add (get_or sums i s.zero)) (sym (terms_value-end i n ts l)) ∙ so_far i li
 
--- ---- at a row past all rows terms have nothing
+-- ---- rows past all rows
 module _ (s : Arithmetic) (laws : IsSemiring s) (rows values : List ℕ) (bound i : ℕ) (inside : All (λ r. r < bound) rows) (past : bound ≤ i) where
-  -- terms have nothing at a row past all rows of the left block
+  -- terms have zero at a row past all rows of the left block
   pub terms_past : (ts : List Term) → All (IsTerm s rows) ts → terms_value s rows values i ts ≡ s.zero
   unfolding total
   terms_past [] is = refl
@@ -94,11 +94,11 @@ module _ (s : Arithmetic) (laws : IsSemiring s) (a : Sparse) (is : IsMatrix s a)
   abbrev vs : List ℕ
   vs = values_of a.entries
 
-  -- as many values as rows
+  -- it has as many values as rows
   pub lengths : length vs ≡ length ks
   lengths = length-map a.entries (λ (e : Entry). e.value) ∙ sym (length-map a.entries (λ (e : Entry). e.row))
 
-  -- all of them values
+  -- all of its values are values of the semiring
   pub matrix_values : All (IsValue s) vs
   matrix_values = All-map (IsValue s) (λ (e : Entry). e.value) a.entries is.values
 
@@ -135,7 +135,7 @@ module _ (s : Arithmetic) (laws : IsSemiring s) (a : Sparse) (is : IsMatrix s a)
         let none : [] ≡ in_column k a.entries = ap (λ m. take m (drop from a.entries)) (sym n) ∙ there in
         ap (λ x. s.mul x scale) (sym (column_value s.zero a.entries i k) ∙ ap (λ es. row_value s.zero (rows_of es) (values_of es) i) (sym none)) ∙ laws.zero_mul scale v
 
-  -- one entry of the right column more
+  -- with one more entry of the right column
   module _ (rows values : List ℕ) (same : length values ≡ length rows) (values_are : All (IsValue s) values) (n : ℕ) (l : n < length rows) (old : List Term) (terms : All (IsTerm s ks) old) (from to : ℕ) (there : slice_range a.entries from to ≡ in_column (get_or rows n 0) a.entries) where
     abbrev k : ℕ
     k = get_or rows n 0
@@ -143,7 +143,7 @@ module _ (s : Arithmetic) (laws : IsSemiring s) (a : Sparse) (is : IsMatrix s a)
     abbrev v : ℕ
     v = get_or values n 0
 
-    -- its value is one
+    -- its value is a value of the semiring
     pub v_value : IsValue s v
     v_value = All-get_or (IsValue s) values n 0 (omega arith) values_are
 
@@ -157,7 +157,7 @@ module _ (s : Arithmetic) (laws : IsSemiring s) (a : Sparse) (is : IsMatrix s a)
     unfolding column_sum
     sum_split i = ap (λ rs. column_sum s a i rs (drop n values)) (drop_more rows n 0 l) ∙ ap (column_sum s a i (k ∷ drop (n + 1) rows)) (drop_more values n 0 (omega arith))
 
-    -- its column has entries
+    -- if its column has entries
     pub gathered_more : (row ends : ℕ) (T : ℕ → ℕ) → ((i : ℕ) → s.add (terms_value s ks vs i old) (column_sum s a i (drop n rows) (drop n values)) ≡ T i)
         → (i : ℕ) → s.add (terms_value s ks vs i (old ++ record { row = row; at = from; end = to; scale = v; ends = ends } ∷ [])) (column_sum s a i (drop (n + 1) rows) (drop (n + 1) values)) ≡ T i
     gathered_more row ends T so_far i =
@@ -168,7 +168,7 @@ module _ (s : Arithmetic) (laws : IsSemiring s) (a : Sparse) (is : IsMatrix s a)
         ∙ laws.add_assoc (terms_value s ks vs i old) (s.mul (at s a i k) v) rest (terms_value-value s laws ks vs matrix_values i old terms) (here_value i) (rest_value i)
         ∙ ap (s.add (terms_value s ks vs i old)) (sym (sum_split i)) ∙ so_far i
 
-    -- it has none
+    -- if its column has none
     pub gathered_none : to ≤ from → (T : ℕ → ℕ) → ((i : ℕ) → s.add (terms_value s ks vs i old) (column_sum s a i (drop n rows) (drop n values)) ≡ T i)
         → (i : ℕ) → s.add (terms_value s ks vs i old) (column_sum s a i (drop (n + 1) rows) (drop (n + 1) values)) ≡ T i
     gathered_none m T so_far i =
@@ -179,7 +179,7 @@ module _ (s : Arithmetic) (laws : IsSemiring s) (a : Sparse) (is : IsMatrix s a)
   unfolding total
   gathered_start ts rows values h e i = ap (λ x. s.add (terms_value s ks vs i x) (column_sum s a i rows values)) e ∙ laws.zero_add _ (column_sum-value i rows values h)
 
-  -- past the last one
+  -- past the last entry
   pub gathered_all : (ts : List Term) (rows values : List ℕ) (n : ℕ) → All (IsTerm s ks) ts → length rows ≤ n → (T : ℕ → ℕ) → ((i : ℕ) → s.add (terms_value s ks vs i ts) (column_sum s a i (drop n rows) (drop n values)) ≡ T i) → (i : ℕ) → terms_value s ks vs i ts ≡ T i
   unfolding column_sum
   gathered_all ts rows values n terms l T so_far i =

@@ -1,14 +1,13 @@
--- The columns of two ascending lists, each once, as both are gone through.
+-- The union of two ascending lists of columns, built step by step.
 use Rattle.std.proofs.Common.{◌≡◌, ℕ, ◌+◌, ◌-◌, ◌<◌, ◌≤◌, List, [], ◌∷◌, ◌++◌, length, drop, get_or, append-nil, sym, refl, ap, ◌∙◌, ⊎_elim, arith, subst}
 use Rattle.std.specs.Prelude.{All, AllPairs, Contains}
 use Rattle.std.proofs.lemmas.Bool.{cases_eq, cases_lt}
 use Rattle.std.proofs.lemmas.List.{get_or-drop, get_or_default, length-drop, drop_all}
 use Rattle.std.proofs.lemmas.List.Elements.{All-nil, All-push, All-weaker, All-get_or, All-append, All-drop, Contains-push, Contains-append_left, Contains-append_right, Contains-get_or}
 use Rattle.std.proofs.lemmas.List.Quantifiers.{all_pairs_push}
-use Rattle.cb_matrix.proofs.Made.{AllPairs-nil, AllPairs-append}
-use Rattle.cb_matrix.proofs.Pairs.{AllPairs-drop}
+use Rattle.cb_matrix.proofs.Pairs.{AllPairs-nil, AllPairs-append, AllPairs-drop}
 
--- `items` has the first x of `left` and the first y of `right`, and nothing past what comes next
+-- `items` is the union of the first x columns of `left` and the first y of `right`, before the next ones
 pub record IsUnionSoFar (left right items : List ℕ) (x y : ℕ) : Type 0 where
   pub left_within : x ≤ length left
   pub right_within : y ≤ length right
@@ -45,21 +44,21 @@ turned left right items x y h = record {
   within = λ bound p q. h.within bound q p;
 }
 
--- one more than were there
+-- one more column at the end
 had_more : (xs items : List ℕ) (x c : ℕ) → c ≡ get_or xs x 0 → ((k : ℕ) → k < x → k < length xs → Contains items (get_or xs k 0)) → (k : ℕ) → k < x + 1 → k < length xs → Contains (items ++ c ∷ []) (get_or xs k 0)
 had_more xs items x c is had k l m = ⊎_elim
     (λ (b : k < x). Contains-append_left items (c ∷ []) (get_or xs k 0) (had k b m))
     (λ (b : x ≤ k). let same : k ≡ x = omega arith in subst (Contains (items ++ c ∷ [])) (is ∙ ap (λ j. get_or xs j 0) (sym same)) (Contains-push items c))
     (cases_lt k x)
 
--- what comes next stays past all
+-- the next columns stay past all
 next_past : (xs items : List ℕ) (x c : ℕ) → AllPairs (λ a b. a < b) xs → c ≡ get_or xs x 0 → All (λ a. a < c) items → x + 1 < length xs → All (λ a. a < get_or xs (x + 1) 0) (items ++ c ∷ [])
 next_past xs items x c up is before l =
     let step : get_or xs x 0 < get_or xs (x + 1) 0 = up x (x + 1) 0 (omega arith) l in
     All-push (λ a. a < get_or xs (x + 1) 0) items c (All-weaker (λ a. a < c) (λ a. a < get_or xs (x + 1) 0) (λ a m. omega arith) items before) (omega arith)
 
 module _ (left right : List ℕ) (up : AllPairs (λ a b. a < b) left) (other_up : AllPairs (λ a b. a < b) right) where
-  -- the next of the first list alone
+  -- the next column is the first list's
   pub union_left : (items : List ℕ) (x y : ℕ) → IsUnionSoFar left right items x y → x < length left → (y < length right → get_or left x 0 < get_or right y 0) → IsUnionSoFar left right (items ++ get_or left x 0 ∷ []) (x + 1) y
   union_left items x y h l less =
       let c = get_or left x 0 in
@@ -74,7 +73,7 @@ module _ (left right : List ℕ) (up : AllPairs (λ a b. a < b) left) (other_up 
         within = λ bound p q. All-push (λ a. a < bound) items c (h.within bound p q) (All-get_or (λ a. a < bound) left x 0 l p);
       }
 
-  -- the next of both
+  -- the next column is in both
   pub union_both : (items : List ℕ) (x y : ℕ) → IsUnionSoFar left right items x y → x < length left → y < length right → get_or left x 0 ≡ get_or right y 0 → IsUnionSoFar left right (items ++ get_or left x 0 ∷ []) (x + 1) (y + 1)
   union_both items x y h l m same =
       let c = get_or left x 0 in
@@ -89,7 +88,7 @@ module _ (left right : List ℕ) (up : AllPairs (λ a b. a < b) left) (other_up 
         within = λ bound p q. All-push (λ a. a < bound) items c (h.within bound p q) (All-get_or (λ a. a < bound) left x 0 l p);
       }
 
-  -- all that is left of the first list, where nothing is left of the other
+  -- the rest of the first list, if nothing is left of the second
   pub union_rest : (items : List ℕ) (x y : ℕ) → IsUnionSoFar left right items x y → (x < length left → length right ≤ y) → IsUnionSoFar left right (items ++ drop x left) (length left) y
   union_rest items x y h alone = ⊎_elim
       (λ (l : x < length left).
@@ -129,11 +128,11 @@ module _ (left right : List ℕ) (up : AllPairs (λ a b. a < b) left) (other_up 
       }))
       (cases_lt x (length left))
 
--- the next of the second list alone
+-- the next column is the second list's
 pub union_right : (left right : List ℕ) → AllPairs (λ a b. a < b) left → AllPairs (λ a b. a < b) right → (items : List ℕ) (x y : ℕ) → IsUnionSoFar left right items x y → y < length right → (x < length left → get_or right y 0 < get_or left x 0) → IsUnionSoFar left right (items ++ get_or right y 0 ∷ []) x (y + 1)
 union_right left right up other_up items x y h l less = turned right left _ (y + 1) x (union_left right left other_up up items y x (turned left right items x y h) l less)
 
--- all that is left of the second list
+-- the rest of the second list
 pub union_last : (left right : List ℕ) → AllPairs (λ a b. a < b) left → AllPairs (λ a b. a < b) right → (items : List ℕ) (x y : ℕ) → IsUnionSoFar left right items x y → length left ≤ x → IsUnionSoFar left right (items ++ drop y right) x (length right)
 union_last left right up other_up items x y h none = turned right left _ (length right) x (union_rest right left other_up up items y x (turned left right items x y h) (λ l. none))
 

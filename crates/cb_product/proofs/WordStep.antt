@@ -1,4 +1,4 @@
--- One row of a word of marks: its sum goes to the column.
+-- One row of a word of marks, whose sum moves to the column.
 use Rattle.std.proofs.Common.{◌≡◌, ◌≢◌, ℕ, ◌+◌, ◌*◌, ◌<◌, List, length, get_or, set, ap, ◌∙◌, ⊎_elim, arith}
 use Rattle.std.specs.Prelude.{All}
 use Rattle.std.specs.Int.{bit_at, trailing_zeros, w64}
@@ -12,7 +12,7 @@ use Rattle.cb_product.proofs.RowValues.{one_value-value}
 use Rattle.cb_product.proofs.RowSums.{moved, zero_stays}
 use Rattle.cb_product.proofs.MarkBits.{low_within, without_low, left_bit, gone_bit}
 
--- while the rows of the n-th word are taken: `rest` marks those that are left
+-- while the sums of the n-th word's rows are moved: `rest` marks the rows that are left
 pub record IsWordSoFar (s : Arithmetic) (first : List ℕ) (start : SparseColumn) (n word : ℕ) (sums : List ℕ) (made : SparseColumn) (rest : ℕ) : Type 0 where
   pub long : length sums ≡ length first
   pub values : All (IsValue s) sums
@@ -29,11 +29,11 @@ module _ (s : Arithmetic) (laws : IsSemiring s) (first : List ℕ) (start : Spar
   abbrev row : ℕ
   row = n * 64 + trailing_zeros w64 w
 
-  -- the value that the row has is one
+  -- the row's value is a value of the semiring
   pub word_value : IsValue s (get_or sums row 0)
   word_value = All-get_or (IsValue s) sums row 0 inside h.values
 
-  -- the lowest row is taken
+  -- the lowest row's sum is moved
   pub word_step : (new : SparseColumn) (z : ℕ) → z ≡ s.zero → ((i : ℕ) → value_in s.zero new i ≡ s.add (value_in s.zero made i) (one_value s.zero (row, get_or sums row 0) i)) → ((bound : ℕ) → row < bound → All (λ i. i < bound) new.rows)
       → IsWordSoFar s first start n word (set sums row z) new (without_low w fits some)
   word_step new z is_zero sum rows = rw is_zero (record {

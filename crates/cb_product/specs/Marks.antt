@@ -1,4 +1,4 @@
--- Marks of rows, a bit for each in words of 64, and marks of the words that have some.
+-- Marks of rows, a bit for each row in words of 64, and a second level: marks of the words that aren't zero.
 use Rattle.std.specs.Prelude.{◌≡◌, ℕ, ◌*◌, ◌/◌, ◌%◌, ◌≤◌, ◌<◌, ◌^◌, List, length, slice_index, slice_index_or, All}
 use Rattle.std.specs.Int.{bit_at}
 use Rattle.cb_semirings.specs.Arithmetic.{Arithmetic, IsValue}
@@ -7,7 +7,7 @@ use Rattle.cb_semirings.specs.Arithmetic.{Arithmetic, IsValue}
 abbrev pub mark_of : List ℕ → ℕ → ℕ
 mark_of words i = bit_at (slice_index words (i / 64)) (i % 64)
 
--- each sum other than zero has a mark, and each word of marks that has some has one in turn
+-- Each sum other than zero is marked, and so is each word of marks other than zero.
 pub record AreMarked (zero : ℕ) (sums marks groups : List ℕ) : Type 0 where
   pub room : length sums ≤ 64 * length marks
   pub groups_room : length marks ≤ 64 * length groups
@@ -18,7 +18,7 @@ pub record AreMarked (zero : ℕ) (sums marks groups : List ℕ) : Type 0 where
   pub unmarked : (i : ℕ) → mark_of marks i ≡ 0 → slice_index_or sums i zero ≡ zero
   pub no_group : (n : ℕ) → mark_of groups n ≡ 0 → slice_index marks n ≡ 0
 
--- sums that are values, with their marks
+-- dense sums of a semiring, with their marks
 pub record IsAccumulator (s : Arithmetic) (sums marks groups : List ℕ) : Type 0 where
   pub values : All (IsValue s) sums
   pub marked : AreMarked s.zero sums marks groups

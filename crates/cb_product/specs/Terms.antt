@@ -6,21 +6,21 @@ use Rattle.cb_matrix.specs.Values.{total}
 use Rattle.cb_dcsc.specs.Columns.{row_value, rows_of, values_of}
 use Rattle.cb_product.specs.declared.terms.Term.{Term}
 
--- what a term has at row i, as a part of these rows and values
+-- the value of a term at row i, given the rows and values of all entries
 abbrev pub term_value : Arithmetic → List ℕ → List ℕ → ℕ → Term → ℕ
 term_value s rows values i t = s.mul (row_value s.zero (slice_range rows t.at t.end) (slice_range values t.at t.end) i) t.scale
 
--- what all of them have there
+-- the sum of the values of all terms at row i
 abbrev pub terms_value : Arithmetic → List ℕ → List ℕ → ℕ → List Term → ℕ
 terms_value s rows values i ts = total s (map (term_value s rows values i) ts)
 
--- the sum of what the columns k of `a` have at row i, each times its v
+-- the sum over pairs k, v of the value of `a` at row i of column k, times v
 unfoldable pub column_sum : Arithmetic → Sparse → ℕ → List ℕ → List ℕ → ℕ
 column_sum s a i [] vs = s.zero
 column_sum s a i (k ∷ ks) [] = s.zero
 column_sum s a i (k ∷ ks) (v ∷ vs) = s.add (s.mul (at s a i k) v) (column_sum s a i ks vs)
 
--- a term has entries, its row is that of the first, and their rows ascend
+-- a term has entries, its row is that of the first of them, and their rows ascend
 pub record IsTerm (s : Arithmetic) (rows : List ℕ) (t : Term) : Type 0 where
   pub some : t.at < t.end
   pub within : t.end ≤ length rows
@@ -28,6 +28,10 @@ pub record IsTerm (s : Arithmetic) (rows : List ℕ) (t : Term) : Type 0 where
   pub ascending : AllPairs (λ i j. i < j) (slice_range rows t.at t.end)
   pub scale : IsValue s t.scale
 
--- what a column of the accumulator and terms of the left block have together at row i
+-- the sum at row i of terms of a matrix
+abbrev pub terms_at : Arithmetic → Sparse → ℕ → List Term → ℕ
+terms_at s a i ts = terms_value s (rows_of a.entries) (values_of a.entries) i ts
+
+-- the sum at row i of a column of the accumulator and of terms of the left block
 abbrev pub sum_with : Arithmetic → Sparse → List ℕ → List ℕ → List Term → ℕ → ℕ
-sum_with s a own_rows own_values ts i = s.add (row_value s.zero own_rows own_values i) (terms_value s (rows_of a.entries) (values_of a.entries) i ts)
+sum_with s a own_rows own_values ts i = s.add (row_value s.zero own_rows own_values i) (terms_at s a i ts)

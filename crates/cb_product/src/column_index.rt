@@ -1,9 +1,9 @@
-//! Where the columns of the left block stand: an index that is made for one product.
+//! An index of the left block's columns, built for one product.
 //!
-//! Where the shape has few columns for the entries it is the column pointers of compressed sparse columns (CSC), so that
-//! two numbers side by side tell all of a column. Else it is the AUX index of doubly compressed columns. Buluç and
-//! Gilbert, On the Representation and Multiplication of Hypersparse Matrices (IPDPS 2008, section 4.1), index chunks of
-//! columns there. Here a column is hashed instead, so that columns which stand close together are no worse.
+//! If the shape has few columns for the entries, the index is the column pointers of compressed sparse columns (CSC): two
+//! adjacent numbers tell where a column starts and ends. Otherwise it is an AUX index, as doubly compressed columns have.
+//! That of Buluç and Gilbert, On the Representation and Multiplication of Hypersparse Matrices (IPDPS 2008, section 4.1),
+//! has a slot for each chunk of columns. Here columns are hashed instead, so clustered columns cost no more than others.
 ghost use Rattle.std.specs.Prelude.{◌≡◌, ◌<◌, ◌≤◌, ◌^◌, All, IfOk, length, slice_range};
 ghost use Rattle.cb_dcsc.specs.Columns.{in_column};
 ghost use Rattle.cb_product.specs.ColumnStarts.{AreColumnStarts, IsNoted, Tells, slot_of};
@@ -12,28 +12,28 @@ use cb_dcsc::Block;
 use cb_semirings::Semiring;
 use std::alloc::{AllocError, Global};
 
-/// Stands in each slot at whose hash no column has entries.
+/// The content of a slot for whose hash no column has entries.
 const NONE: u32 = u32::MAX;
 
-/// Tells where the entries of a block's columns stand.
+/// An index that tells where the entries of a block's columns are. It is built once, and threads may share it.
 #[derive(Drop)]
-pub(crate) enum ColumnIndex {
-    /// Where the entries of each column of the shape start among all, and where the last one's end. A column without
+pub enum ColumnIndex {
+    /// Where the entries of each column of the shape start among all, and where the last column ends. A column without
     /// entries starts where it ends.
     Starts(Vec<u32>),
-    /// At which place among the columns that have entries a column of this hash may stand, or `NONE` where none of them
-    /// has this hash, and by how many bits a hash is shifted. A place is looked at: where another column stands there,
-    /// the column is searched for. A column at whose hash stands `NONE` has no entries, and costs one look.
+    /// A slot for each hash, and by how many bits a hash is shifted. A slot holds the place of a column with this hash among
+    /// the columns that have entries, or `NONE` if there is no such column: then a lookup is done after one look. If another
+    /// column is at the place, the column is found by a binary search.
     Hashed { places: Vec<u32>, shift: u32 },
-    /// Nothing: columns are searched for.
+    /// No index: each column is found by a binary search.
     Searched,
 }
 
 impl ColumnIndex {
-    /// The index of a block that will be asked for so many columns: a start for each column of the shape, where at most
-    /// four of them come to each column that has entries and to each that will be asked for; else four to eight places
-    /// for each column that has entries, where at most four of these come to each that will be asked for; else none.
-    /// Starts have 32 bits, so a block of 2^32 entries or more has none.
+    /// Returns the index of a block for this many lookups. It has a start for each column of the shape if these are at most
+    /// four for each column with entries and for each lookup. Otherwise, if the columns with entries are at most four for
+    /// each lookup, it has four to eight slots for each of them. Otherwise there is no index. Starts have 32 bits, so a
+    /// block of 2^32 entries or more has no starts.
     pub fn new<S: Semiring>(
         alloc: Global,
         block: &Block<S>,
@@ -56,9 +56,9 @@ impl ColumnIndex {
         Ok(ColumnIndex::Searched)
     }
 
-    /// Where the entries of a column of this block stand among all.
+    /// Returns where the entries of a column of this block start and end among all.
     #[inline(always)]
-    pub fn range<S: Semiring>(&self, block: &Block<S>, column: u32) -> (usize, usize)
+    pub(crate) fn range<S: Semiring>(&self, block: &Block<S>, column: u32) -> (usize, usize)
         requires told { Tells self.now block.now }
         requires inside { column < block.now.shape.cols }
         ensures order { result.0 ≤ result.1 }
@@ -75,8 +75,8 @@ impl ColumnIndex {
         }
     }
 
-    /// How many products there are of this block's entries and of entries of a right block in these rows: as many as
-    /// the columns have on average where they are hashed, else counted.
+    /// Returns how many products this block's entries have with a right block's entries in these rows. If columns are
+    /// hashed, it is estimated from the average column.
     pub fn products<S: Semiring>(&self, block: &Block<S>, rows: &[u32]) -> usize
         requires told { Tells self.now block.now }
         requires inside { All (λ i. i < block.now.shape.cols) rows.now }
@@ -94,7 +94,7 @@ impl ColumnIndex {
     }
 }
 
-/// Where the entries of each column of the shape start among all, and where the last one's end.
+/// Returns where the entries of each column of the shape start among all, and where the last column ends.
 fn column_starts<S: Semiring>(alloc: Global, block: &Block<S>) -> Result<Vec<u32>, AllocError>
     requires { length block.now.entries < 2 ^ 32 }
     ensures { IfOk result (λ starts. AreColumnStarts block.now starts.items) }
@@ -111,7 +111,7 @@ fn column_starts<S: Semiring>(alloc: Global, block: &Block<S>) -> Result<Vec<u32
     Ok(starts)
 }
 
-/// The place of each of these columns, noted at its hash.
+/// Returns slots that hold the place of each of these columns at its hash.
 fn hashed(alloc: Global, columns: &[u32], shift: u32) -> Result<Vec<u32>, AllocError>
     requires { shift < 32 }
     ensures { IfOk result (λ places. All (IsNoted places.items shift) columns.now) }
@@ -128,14 +128,14 @@ fn hashed(alloc: Global, columns: &[u32], shift: u32) -> Result<Vec<u32>, AllocE
     Ok(places)
 }
 
-/// Where the place of a column is noted: at its hash, which is shifted by so many bits.
+/// Returns the slot of a column: its hash, shifted by this many bits.
 fn slot(column: u32, shift: u32) -> usize
     ensures { result ≡ slot_of column shift }
 {
     (column.wrapping_mul(2_654_435_769) >> (shift % 32)) as usize
 }
 
-/// Where the entries of a column stand among all, by what is noted at its hash, or else by a search.
+/// Returns where the entries of a column start and end among all: by the place in its slot, or else by a binary search.
 fn range_at<S: Semiring>(
     block: &Block<S>,
     column: u32,

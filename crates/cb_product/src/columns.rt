@@ -1,15 +1,15 @@
-//! Columns of a product as they are made, and the sum of two.
+//! A column of a product while it is built, and the sum of two columns.
 ghost use Rattle.std.specs.Prelude.{◌≡◌, ◌≢◌, ◌↔◌, IsTrue, ℕ, ◌<◌, ◌≤◌, List, [], length, drop, All, AllPairs, Contains, IfOk, IfSome, OnOk, slice_index};
 ghost use Rattle.cb_semirings.specs.Arithmetic.{IsValue};
-ghost use Rattle.cb_dcsc.specs.Columns.{in_column, rows_of, values_of, row_value};
-ghost use Rattle.cb_product.specs.SparseColumn.{IsSparseColumn, value_in, rest_value, one_value, scaled};
+ghost use Rattle.cb_dcsc.specs.Columns.{in_column, rows_of, values_of};
+ghost use Rattle.cb_product.specs.SparseColumn.{IsSparseColumn, IsColumnOf, AddsToColumn, one_value, scaled, scaled_rest, joined_value};
 
 use cb_dcsc::Block;
 use cb_semirings::Semiring;
 use std::alloc::{AllocError, Global};
 use std::marker::{Model, PhantomData};
 
-/// A sparse column: the rows of its entries, ascending, and their values, none of them zero.
+/// A sparse column: the rows of its entries, ascending, and their values, none of which is zero.
 #[derive(Drop)]
 pub(crate) struct Column<S: Semiring> {
     rows: Vec<u32>,
@@ -28,7 +28,7 @@ impl<S: Semiring> Model for Column<S> {
 }
 
 impl<S: Semiring> Column<S> {
-    /// The column without entries.
+    /// Returns a column without entries.
     pub fn new(alloc: Global) -> Self
         ensures { result.rows ≡ [] }
     {
@@ -39,7 +39,7 @@ impl<S: Semiring> Column<S> {
         }
     }
 
-    /// Forgets all entries. The room stays.
+    /// Removes all entries, and keeps the memory.
     pub fn clear(&mut self)
         ensures { self.new.rows ≡ [] }
     {
@@ -47,7 +47,7 @@ impl<S: Semiring> Column<S> {
         self.values.clear();
     }
 
-    /// The rows and the values.
+    /// Returns the rows and the values of the entries.
     pub fn entries(&self) -> (&[u32], &[u64])
         ensures rows { result.0.now ≡ self.now.rows }
         ensures values { result.1.now ≡ self.now.values }
@@ -56,16 +56,15 @@ impl<S: Semiring> Column<S> {
         (&self.rows, &self.values)
     }
 
-    /// Stores an entry after all the others, unless its value is zero.
+    /// Appends an entry, unless its value is zero. Its row comes after all others.
     #[inline(always)]
     pub fn keep(&mut self, row: u32, value: u64) -> Result<(), AllocError>
         requires after { All (λ i. i < row) self.old.rows }
         requires value { IsValue S.arithmetic value }
-        ensures sum { OnOk result ((i : ℕ) → value_in S.arithmetic.zero self.new i ≡ S.arithmetic.add (value_in S.arithmetic.zero self.old i) (one_value S.arithmetic.zero (row, value) i)) }
+        ensures sum { OnOk result (AddsToColumn S.arithmetic (one_value S.arithmetic.zero (row, value)) self.old self.new) }
         ensures rows { OnOk result ((bound : ℕ) → row < bound → All (λ i. i < bound) self.new.rows) }
     {
-        // For the proof alone: what an entry that isn't stored would add to are values.
-        let _entries = self.entries();
+        prove_eq!(self.entries().0.len(), self.entries().1.len());
         if is_zero::<S>(value) {
             return Ok(());
         }
@@ -76,7 +75,8 @@ impl<S: Semiring> Column<S> {
         Ok(())
     }
 
-    /// Stores the entries of another column from the nth on, scaled if there is a factor, after all the others.
+    /// Appends the entries of another column from the nth on, times a factor if there is one. Their rows come after all
+    /// others.
     #[inline(always)]
     pub fn append(
         &mut self,
@@ -90,17 +90,17 @@ impl<S: Semiring> Column<S> {
         requires order { AllPairs (λ i j. i < j) rows.now }
         requires scale { IfSome scale (IsValue S.arithmetic) }
         requires after { from < length rows.now → All (λ i. i < slice_index rows.now from) self.old.rows }
-        ensures sum { OnOk result ((i : ℕ) → value_in S.arithmetic.zero self.new i ≡ S.arithmetic.add (value_in S.arithmetic.zero self.old i) (scaled S.arithmetic (rest_value S.arithmetic.zero rows.now values.now from i) scale)) }
+        ensures sum { OnOk result (AddsToColumn S.arithmetic (scaled_rest S.arithmetic rows.now values.now scale from) self.old self.new) }
         ensures none { OnOk result (length rows.now ≤ from → self.new ≡ self.old) }
     {
-        let _entries = self.entries();
+        prove_eq!(self.entries().0.len(), self.entries().1.len());
         for n in from..rows.len() {
             self.keep(rows[n], scaled::<S>(values[n], scale))?;
         }
         Ok(())
     }
 
-    /// Makes this the sum of a column and of another one, scaled if there is a factor: both are gone through once.
+    /// Replaces this column by the sum of two others, the second times a factor if there is one. Costs O(entries of both).
     #[inline(always)]
     pub fn join(
         &mut self,
@@ -117,7 +117,7 @@ impl<S: Semiring> Column<S> {
         requires values { All (IsValue S.arithmetic) values.now }
         requires order { AllPairs (λ i j. i < j) rows.now }
         requires scale { IfSome scale (IsValue S.arithmetic) }
-        ensures { OnOk result ((i : ℕ) → value_in S.arithmetic.zero self.new i ≡ S.arithmetic.add (row_value S.arithmetic.zero own_rows.now own_values.now i) (scaled S.arithmetic (row_value S.arithmetic.zero rows.now values.now i) scale)) }
+        ensures { OnOk result (IsColumnOf S.arithmetic (joined_value S.arithmetic own_rows.now own_values.now rows.now values.now scale) self.new) }
     {
         self.clear();
         let mut x = 0;
@@ -142,7 +142,7 @@ impl<S: Semiring> Column<S> {
     }
 }
 
-/// A value times a factor, or, without one, as it is: a semiring need not have a one.
+/// Returns a value times a factor if there is one. No factor stands for one, which a semiring need not have.
 #[inline(always)]
 pub(crate) fn scaled<S: Semiring>(value: u64, scale: Option<u64>) -> u64
     requires value { IsValue S.arithmetic value }
@@ -155,7 +155,7 @@ pub(crate) fn scaled<S: Semiring>(value: u64, scale: Option<u64>) -> u64
     }
 }
 
-/// Whether a value is the zero, which is not stored.
+/// Whether a value is the semiring's zero, which isn't stored.
 #[inline(always)]
 fn is_zero<S: Semiring>(value: u64) -> bool
     ensures { IsTrue result ↔ (value ≡ S.arithmetic.zero) }
@@ -163,8 +163,8 @@ fn is_zero<S: Semiring>(value: u64) -> bool
     value == S::zero()
 }
 
-/// The rows and values of a column, which is the next of those that have entries, or stands before it, or is looked
-/// for: who goes through all columns of a block in order searches for none.
+/// Returns the rows and the values of a column. A caller that asks for columns in ascending order, and keeps `next` from
+/// call to call, gets each in constant time. A column that is out of order is found by a binary search.
 #[inline(always)]
 pub(crate) fn of_next<'a, S: Semiring>(
     block: &'a Block<S>,
@@ -188,7 +188,7 @@ pub(crate) fn of_next<'a, S: Semiring>(
     block.column(column)
 }
 
-/// Whether the nth of these columns, which ascend, and the one before it tell that a column isn't among them.
+/// Whether a column lies between the nth of these columns, which ascend, and the one before it, and so isn't one of them.
 #[inline(always)]
 fn is_missing(columns: &[u32], n: usize, column: u32) -> bool
     requires { AllPairs (λ c d. c < d) columns.now }
@@ -199,14 +199,14 @@ fn is_missing(columns: &[u32], n: usize, column: u32) -> bool
         && (n == columns.len() || column < columns[n])
 }
 
-/// The columns of either list, ascending, each once: both are gone through once.
+/// Returns the columns in at least one of two lists, ascending, each once. Costs O(columns of both).
 pub(crate) fn union(alloc: Global, left: &[u32], right: &[u32]) -> Result<Vec<u32>, AllocError>
     requires left { AllPairs (λ c d. c < d) left.now }
     requires right { AllPairs (λ c d. c < d) right.now }
     ensures ascending { IfOk result (λ v. AllPairs (λ c d. c < d) v.items) }
     ensures left { IfOk result (λ v. (c : ℕ) → Contains left.now c → Contains v.items c) }
     ensures right { IfOk result (λ v. (c : ℕ) → Contains right.now c → Contains v.items c) }
-    ensures within { IfOk result (λ v. (bound : ℕ) → All (λ c. c < bound) left.now → All (λ c. c < bound) right.now → All (λ c. c < bound) v.items) }
+    ensures within { IfOk result (λ v. (n : ℕ) → All (λ c. c < n) left.now → All (λ c. c < n) right.now → All (λ c. c < n) v.items) }
 {
     let mut columns = Vec::new(alloc);
     columns.reserve(left.len().max(right.len()))?;

@@ -1,4 +1,4 @@
-//! Terms merged by a heap over their heads.
+//! The merge of terms by a heap, which holds each term at its next entry.
 ghost use Rattle.std.specs.Prelude.{◌≡◌, ◌≢◌, ◌↔◌, ◌==◌, ℕ, ◌<◌, ◌≤◌, ◌+◌, List, [], ◌∷◌, length, All, IfSome, IfNone, IfOk, OnOk};
 ghost use Rattle.std.proofs.Common.{rules};
 ghost use Rattle.std.specs.Cmp.{partial_order_from_own_ties};
@@ -14,7 +14,8 @@ use std::cmp::Ordering;
 use std::collections::BinaryHeap;
 use std::collections::binary_heap::PeekMut;
 
-/// A term at its next entry: what is left of it, and the row of that entry. The least row is the greatest head.
+/// A term at its next entry: that entry's row, where the entries that are left start and end among all, and the factor.
+/// The head with the least row is the greatest.
 #[derive(Clone, Copy)]
 struct Head {
     row: u32,
@@ -61,12 +62,12 @@ impl Ord for Head {
     }
 }
 
-ghost use Rattle.cb_product.specs.Heads.{IsHead, Gives, by_row, heads_value};
-ghost use Rattle.cb_product.specs.SparseColumn.{value_in};
+ghost use Rattle.cb_product.specs.Heads.{IsHead, AreHeadsOf, Gives, by_row};
+ghost use Rattle.cb_product.specs.SparseColumn.{IsColumnOf};
 ghost use Rattle.cb_product.specs.Terms.{IsTerm, terms_value};
 ghost use Rattle.cb_semirings.specs.Arithmetic.{IsValue};
 
-/// The next row that has an entry, and its scaled value.
+/// Takes the entry with the least row from the heads, and returns its row and its value times the factor.
 fn next<S: Semiring>(
     heads: &mut BinaryHeap<Head>,
     rows: &[u32],
@@ -101,7 +102,7 @@ fn next<S: Semiring>(
     Some((head.row, value))
 }
 
-/// A head for each term, at its first entry.
+/// Returns a heap with a head for each term, at its first entry.
 fn heads_of<S: Semiring>(
     alloc: Global,
     rows: &[u32],
@@ -110,7 +111,7 @@ fn heads_of<S: Semiring>(
     requires { All (IsTerm S.arithmetic rows.now) terms.now }
     ensures heads { IfOk result (λ h. All (IsHead S.arithmetic rows.now) (heap_items h)) }
     ensures order { IfOk result (λ h. IsHeap by_row (heap_items h)) }
-    ensures sums { IfOk result (λ h. (values : List ℕ) → length values ≡ length rows.now → All (IsValue S.arithmetic) values → (i : ℕ) → heads_value S.arithmetic rows.now values i (heap_items h) ≡ terms_value S.arithmetic rows.now values i terms.now) }
+    ensures sums { IfOk result (λ h. AreHeadsOf S.arithmetic rows.now terms.now (heap_items h)) }
 {
     let mut heads = BinaryHeap::new(alloc);
     for term in terms {
@@ -124,7 +125,7 @@ fn heads_of<S: Semiring>(
     Ok(heads)
 }
 
-/// Makes a column the sum of terms, merged by a heap over their heads.
+/// Replaces a column by the sum of terms, which are merged by a heap. Costs O(products * log terms).
 pub(crate) fn merge<S: Semiring>(
     alloc: Global,
     made: &mut Column<S>,
@@ -135,7 +136,7 @@ pub(crate) fn merge<S: Semiring>(
     requires lengths { length values.now ≡ length rows.now }
     requires values { All (IsValue S.arithmetic) values.now }
     requires terms { All (IsTerm S.arithmetic rows.now) terms.now }
-    ensures { OnOk result ((i : ℕ) → value_in S.arithmetic.zero made.new i ≡ terms_value S.arithmetic rows.now values.now i terms.now) }
+    ensures { OnOk result (IsColumnOf S.arithmetic (λ i. terms_value S.arithmetic rows.now values.now i terms.now) made.new) }
 {
     made.clear();
     let mut heads = heads_of::<S>(alloc, rows, terms)?;

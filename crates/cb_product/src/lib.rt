@@ -1,21 +1,21 @@
 //! Products of blocks, column by column.
 //!
-//! Column j of a product is a sum of terms: columns k of the left block, each scaled by an entry (k, j) of the right.
-//! With an accumulator, its own column is added. Where there are no terms, that column is copied as it is. Any other is
-//! made in one of four ways, all under one contract:
+//! Column j of a product is a sum of terms: for each entry (k, j) of the right block, column k of the left block times
+//! that entry. The accumulator's column j, if there is an accumulator, is added. Without terms that column is copied.
+//! Otherwise the sum is computed in one of four ways, all with the same contract:
 //!
-//! - by joining the one term that there is with it: time for the entries of both;
-//! - by the sparse accumulator, an array with a place for each row, where its entries are many for the rows: time
-//!   (products), plus the words of marks that are looked at;
-//! - by joining a few terms one after another: time (products) times (terms);
-//! - by a heap over the heads of many terms, whose rows ascend: time (products) times log (terms).
+//! - a single term is joined with the accumulator's column: O(entries of both);
+//! - if the column has many entries for the number of rows, terms are added up in a sparse accumulator, an array with a
+//!   place for each row: O(products), plus a scan of the words that mark its rows;
+//! - a few terms are joined one after another: O(products * terms);
+//! - many terms are merged by a heap: O(products * log terms).
 //!
-//! A sum that is zero isn't stored. An index tells where the left block's columns stand.
+//! Sums of zero aren't stored. An index finds the left block's columns.
 //!
-//! Nothing is longer than a few times the products or the entries that it serves, so blocks of 2,147,483,647 rows
-//! and columns cost what their entries cost, and of the left block only the named columns cost anything.
+//! No list is longer than a few times the products or entries that it serves, so a block of side 2,147,483,647 costs what
+//! its entries cost. Of the left block, only the columns that the right block's entries name are read.
 //!
-//! The heap's way is that of Buluç and Gilbert, Parallel Sparse Matrix-Matrix Multiplication and Indexing (SIAM J.
+//! The merge by a heap is that of Buluç and Gilbert, Parallel Sparse Matrix-Matrix Multiplication and Indexing (SIAM J.
 //! Sci. Comput. 2012, section 4.2).
 #![tactic(auto)]
 
@@ -24,9 +24,10 @@ ghost use Rattle.cb_matrix.specs.Sparse.{IsMatrix};
 ghost use Rattle.cb_matrix.specs.Values.{product, product_shape, empty_matrix};
 ghost use Rattle.cb_matrix.specs.Operations.{sum_of};
 ghost use Rattle.cb_product.specs.ColumnStarts.{Tells};
-ghost use Rattle.cb_product.specs.InColumns.{AreInColumns};
+ghost use Rattle.cb_product.specs.Factors.{AreFactors};
+ghost use Rattle.cb_product.specs.InColumns.{AreInColumns, only_columns};
 
-use crate::column_index::ColumnIndex;
+pub use crate::column_index::ColumnIndex;
 use crate::terms::{Term, gather};
 use crate::workspace::Workspace;
 use cb_dcsc::Block;
@@ -41,11 +42,11 @@ mod sparse_accumulator;
 mod terms;
 mod workspace;
 
-/// The product of two blocks. A block of one column is a sparse vector: its entries name the columns that are merged, and
-/// a vector with one entry costs one column of the matrix. A search in a graph lives on that call: a frontier times the
-/// matrix of edges is the next frontier, as in Buluç and Gilbert, The Combinatorial BLAS (IJHPCA 2011, section 3.2).
+/// Returns the product of two blocks. The left block has as many columns as the right block has rows.
 ///
-/// The columns of the left block are as many as the rows of the right.
+/// A block of one column is a sparse vector: the product reads the columns that the vector's entries name, so a vector
+/// with one entry costs one column of the matrix. A search in a graph consists of such products: the edges times the
+/// frontier are the next frontier, as in Buluç and Gilbert, The Combinatorial BLAS (IJHPCA 2011, section 3.2).
 pub fn multiply<S: Semiring>(
     alloc: Global,
     left: &Block<S>,
@@ -58,11 +59,30 @@ pub fn multiply<S: Semiring>(
     accumulate(alloc, left, right, &nothing, right.column_numbers())
 }
 
-/// An accumulator plus the product of two blocks. On refusal the accumulator comes back as it was. Its entries are
-/// copied, so it takes time for these too, unless one of the two blocks has no entries.
+/// Returns the product of a block and the given columns of another, in a block with the shape of the whole product. Such
+/// panels of a product can be computed by several threads, and appended to one another.
 ///
-/// The columns of the left block are as many as the rows of the right, and the accumulator has the product's
-/// shape.
+/// The index is that of the left block; several calls may share it. The columns ascend. Memory for `room` entries is
+/// reserved at the start, unless it is refused. Costs the products of these columns.
+pub fn multiply_columns<S: Semiring>(
+    alloc: Global,
+    left: &Block<S>,
+    index: &ColumnIndex,
+    right: &Block<S>,
+    columns: &[u32],
+    room: usize,
+) -> Result<Block<S>, AllocError>
+    requires { AreFactors index.now left.now right.now columns.now }
+    ensures { IfOk result (λ m. m ≡ product S.arithmetic left.now (only_columns columns.now right.now)) }
+{
+    let nothing = Block::empty(alloc, left.shape().with_columns_of(right.shape()));
+    accumulate_columns(alloc, left, index, right, &nothing, columns, room)
+}
+
+/// Returns an accumulator plus the product of two blocks. The left block has as many columns as the right block has rows,
+/// and the accumulator has the product's shape. If memory is refused, the accumulator comes back as it was.
+///
+/// The accumulator's entries are copied, at their cost, unless one of the two blocks has no entries.
 pub fn multiply_into<S: Semiring>(
     alloc: Global,
     left: &Block<S>,
@@ -75,7 +95,8 @@ pub fn multiply_into<S: Semiring>(
     ensures err { IfErr result (λ e. e.0 ≡ accumulator) }
 {
     if left.len() == 0 || right.len() == 0 {
-        let _shapes = (left.shape(), right.shape(), accumulator.shape());
+        prove_eq!(left.shape().cols(), right.shape().rows());
+        prove_eq!(accumulator.shape().rows(), left.shape().rows());
         return Ok(accumulator);
     }
     match added(alloc, left, right, &accumulator) {
@@ -84,7 +105,7 @@ pub fn multiply_into<S: Semiring>(
     }
 }
 
-/// An accumulator plus the product of two blocks, in a block of its own.
+/// Returns an accumulator plus the product of two blocks, as a new block.
 fn added<S: Semiring>(
     alloc: Global,
     left: &Block<S>,
@@ -99,7 +120,8 @@ fn added<S: Semiring>(
     accumulate(alloc, left, right, accumulator, &columns)
 }
 
-/// An accumulator plus the product of two blocks, both of whose entries stand in these columns.
+/// Returns an accumulator plus the product of two blocks. All entries of the accumulator and of the right block are in the
+/// given columns, which ascend.
 fn accumulate<S: Semiring>(
     alloc: Global,
     left: &Block<S>,
@@ -116,15 +138,35 @@ fn accumulate<S: Semiring>(
     ensures { IfOk result (λ m. m ≡ sum_of S.arithmetic accumulator.now (product S.arithmetic left.now right.now)) }
 {
     let index = ColumnIndex::new(alloc, left, right.len())?;
+    let room = most_entries(left, &index, right, columns.len());
+    accumulate_columns(alloc, left, &index, right, accumulator, columns, room)
+}
+
+/// Returns an accumulator plus the product of a block and the given columns of another. All entries of the accumulator are
+/// in these columns.
+fn accumulate_columns<S: Semiring>(
+    alloc: Global,
+    left: &Block<S>,
+    index: &ColumnIndex,
+    right: &Block<S>,
+    accumulator: &Block<S>,
+    columns: &[u32],
+    room: usize,
+) -> Result<Block<S>, AllocError>
+    requires factors { AreFactors index.now left.now right.now columns.now }
+    requires shape { accumulator.now.shape ≡ product_shape left.now right.now }
+    requires accumulator_columns { AreInColumns columns.now accumulator.now.entries }
+    ensures { IfOk result (λ m. m ≡ sum_of S.arithmetic accumulator.now (product S.arithmetic left.now (only_columns columns.now right.now))) }
+{
     let mut work = Workspace::new(alloc)?;
     let mut terms = Vec::new(alloc);
-    let mut out = with_room(alloc, left, right, accumulator, columns.len(), &index);
+    let mut out = with_room(alloc, left, right, accumulator, room);
     make_columns(
         left,
         right,
         accumulator,
         columns,
-        &index,
+        index,
         &mut work,
         &mut terms,
         &mut out,
@@ -132,7 +174,8 @@ fn accumulate<S: Semiring>(
     Ok(out)
 }
 
-/// Makes the columns of the sum one after another, and stores them in a block without entries.
+/// Computes the given columns of the sum one after another, and stores them in `out`, a block without entries. `terms` and
+/// `work` are reused from column to column.
 fn make_columns<S: Semiring>(
     left: &Block<S>,
     right: &Block<S>,
@@ -143,22 +186,18 @@ fn make_columns<S: Semiring>(
     terms: &mut Vec<Term>,
     out: &mut Block<S>,
 ) -> Result<(), AllocError>
-    requires agree { left.now.shape.cols ≡ right.now.shape.rows }
+    requires factors { AreFactors index.now left.now right.now columns.now }
     requires shape { accumulator.now.shape ≡ product_shape left.now right.now }
-    requires ascending { AllPairs (λ c d. c < d) columns.now }
-    requires within { All (λ c. c < right.now.shape.cols) columns.now }
     requires accumulator_columns { AreInColumns columns.now accumulator.now.entries }
-    requires right_columns { AreInColumns columns.now right.now.entries }
-    requires told { Tells index.now left.now }
     requires zeros { All (λ x. x ≡ S.arithmetic.zero) work.old.sums }
     requires empty { out.old ≡ empty_matrix accumulator.now.shape }
     requires matrix { IsMatrix S.arithmetic out.old }
-    ensures { OnOk result (out.new ≡ sum_of S.arithmetic accumulator.now (product S.arithmetic left.now right.now)) }
+    ensures { OnOk result (out.new ≡ sum_of S.arithmetic accumulator.now (product S.arithmetic left.now (only_columns columns.now right.now))) }
 {
     let left_shape = left.shape();
-    let right_shape = right.shape();
-    let own_shape = accumulator.shape();
-    let mut next = 0;
+    prove_eq!(right.shape().rows(), left_shape.cols());
+    prove_eq!(accumulator.shape().rows(), left_shape.rows());
+    let mut next = first_place(right.column_numbers(), columns);
     let mut own_next = 0;
     let mut seen = 0usize;
     for column in columns {
@@ -179,32 +218,51 @@ fn make_columns<S: Semiring>(
     Ok(())
 }
 
-/// A block without entries, of the accumulator's shape, with room for what may come to stand in so many columns.
+/// Returns the place among all columns at which the first of the given columns is, or would be.
+fn first_place(all: &[u32], columns: &[u32]) -> usize {
+    let Some(first) = columns.first() else {
+        return 0;
+    };
+    match all.binary_search(first) {
+        Ok(n) => n,
+        Err(n) => n,
+    }
+}
+
+/// Returns how many entries this many columns of the product can have: at most one for each product, and one for each place.
+fn most_entries<S: Semiring>(
+    left: &Block<S>,
+    index: &ColumnIndex,
+    right: &Block<S>,
+    columns: usize,
+) -> usize
+    requires agree { left.now.shape.cols ≡ right.now.shape.rows }
+    requires told { Tells index.now left.now }
+{
+    prove_eq!(right.shape().rows(), left.shape().cols());
+    let products = index.products(left, right.row_numbers());
+    products.min(columns.saturating_mul(left.shape().rows() as usize))
+}
+
+/// Returns a block without entries, of the accumulator's shape, with room for this many entries and those of the accumulator.
 fn with_room<S: Semiring>(
     alloc: Global,
     left: &Block<S>,
     right: &Block<S>,
     accumulator: &Block<S>,
-    columns: usize,
-    index: &ColumnIndex,
+    most: usize,
 ) -> Block<S>
-    requires agree { left.now.shape.cols ≡ right.now.shape.rows }
-    requires told { Tells index.now left.now }
     ensures value { result ≡ empty_matrix accumulator.now.shape }
     ensures matrix { IsMatrix S.arithmetic result }
 {
-    let right_shape = right.shape();
     let mut out = Block::empty(alloc, accumulator.shape());
-    let products = index.products(left, right.row_numbers());
-    let places = columns.saturating_mul(left.shape().rows() as usize);
-    let most = products.min(places);
-    // Where memory is refused for what may come, there can still be enough for what comes.
+    // A refusal isn't an error here: there can still be enough memory for the entries that are stored.
     let _ = out.reserve(room(left.len(), right.len(), accumulator.len(), most));
     out
 }
 
-/// For how many entries room is taken at once: for all that may come, but no more than for a fixed multiple of what
-/// there is, since many products may come to few entries.
+/// Returns for how many entries room is taken at once: for the accumulator's entries and for all products, but for at most
+/// 32 times the entries of the two blocks, since many products may add up to few entries.
 fn room(left: usize, right: usize, accumulator: usize, products: usize) -> usize {
     let given = left.saturating_add(right);
     products
@@ -212,9 +270,9 @@ fn room(left: usize, right: usize, accumulator: usize, products: usize) -> usize
         .saturating_add(accumulator)
 }
 
-/// Whether a column of so many entries is better made by the sparse accumulator: where it has an entry for every
-/// 16,384 rows, which is four words to look at, and so many have come by, its own with them, that there is one for
-/// every four rows. So the accumulator is never more than a few times the entries that it could have served.
+/// Whether the sparse accumulator pays for a column with this many entries. It does if the column has an entry for every
+/// 16,384 rows, for which four words are scanned, and the columns so far, with this one, have an entry for every four rows.
+/// So the accumulator is never longer than a few times the entries that it can serve.
 fn is_dense(rows: u32, entries: usize, seen: usize) -> bool {
     let rows = rows as usize;
     rows / 16384 <= entries && rows / 4 <= seen

@@ -1,4 +1,4 @@
-//! Marks of rows, a bit for each, in words of 64: what is marked is found again in order, 64 rows at a look.
+//! Marks of rows: a bit for each row, in words of 64. Marked rows are found in order, 64 rows with one look.
 ghost use Rattle.std.specs.Prelude.{◌≡◌, ◌≢◌, ◌↔◌, IsTrue, ℕ, ◌<◌, ◌≤◌, ◌/◌, ◌^◌, length, All, IfSome, IfNone, slice_index};
 ghost use Rattle.cb_product.specs.Marks.{mark_of};
 
@@ -21,7 +21,8 @@ fn is_marked(words: &[u64], row: usize) -> bool
     (words[row / 64] >> (row % 64)) % 2 == 1
 }
 
-/// Marks a row, and the word of its mark. A row that is marked is only looked at: many products come to one row.
+/// Marks a row, and the word with its mark. A row that is marked already costs one look, since many products have the same
+/// row.
 #[inline(always)]
 pub(crate) fn mark_row(marks: &mut [u64], groups: &mut [u64], row: usize)
     requires room { row / 64 < length marks.old }
@@ -42,7 +43,7 @@ pub(crate) fn mark_row(marks: &mut [u64], groups: &mut [u64], row: usize)
     mark(groups, row / 64);
 }
 
-/// The first marked row from a row on.
+/// Returns the first marked row from a row on.
 pub(crate) fn next_marked(words: &[u64], from: usize) -> Option<usize>
     requires { length words.now < 2 ^ 32 }
     ensures from { IfSome result (λ row. from ≤ row) }
@@ -66,7 +67,7 @@ pub(crate) fn next_marked(words: &[u64], from: usize) -> Option<usize>
     None
 }
 
-/// Takes all marks away.
+/// Removes all marks.
 pub(crate) fn unmark_all(words: &mut [u64])
     ensures length { length words.new ≡ length words.old }
     ensures none { All (λ word. word ≡ 0) words.new }

@@ -1,14 +1,14 @@
-//! The sparse accumulator: a sum for each row, marks of the rows that have one, and marks of those marks.
+//! The sparse accumulator: a sum for each row, and two levels of marks.
 //!
-//! Products are added where they belong, and each row that has one is marked by a bit, and each word of 64 such bits by
-//! another. The marks give the rows in order, so that no order has to be kept, and tell which words to look at: a word
-//! stands for 4,096 rows. It is the accumulator of Gilbert, Moler and Schreiber, Sparse Matrices in MATLAB (SIAM J.
+//! A product is added to the sum of its row. A bit marks each row that got one, and a second level of bits marks each word
+//! of 64 such bits. The marks are read in order, so the rows need no sorting, and one word of the second level tells which
+//! of 4,096 rows to look at. It is the accumulator of Gilbert, Moler and Schreiber, Sparse Matrices in MATLAB (SIAM J.
 //! Matrix Anal. Appl. 1992, section 3.1), with bits in place of a list of rows.
 ghost use Rattle.std.specs.Prelude.{◌≡◌, ℕ, ◌<◌, ◌+◌, ◌*◌, ◌^◌, List, [], length, All, AllPairs, IfOk, IfSome, OnOk, slice_index_or};
 ghost use Rattle.std.specs.Int.{bit_at};
 ghost use Rattle.cb_semirings.specs.Arithmetic.{IsValue};
-ghost use Rattle.cb_dcsc.specs.Columns.{row_value};
-ghost use Rattle.cb_product.specs.SparseColumn.{value_in, scaled};
+ghost use Rattle.cb_product.specs.SparseColumn.{IsColumnOf, scaled_at};
+ghost use Rattle.cb_product.specs.DenseSums.{AddsToSums, ZerosStay, column_and_sum};
 ghost use Rattle.cb_product.specs.Terms.{IsTerm, terms_value};
 ghost use Rattle.cb_product.specs.Marks.{IsAccumulator};
 
@@ -19,13 +19,13 @@ use cb_semirings::Semiring;
 use std::alloc::{AllocError, Global};
 use std::marker::{Model, PhantomData};
 
-/// A sum for each row, which contracts see as a list. Only marked rows have one other than zero.
+/// A sum for each row; in contracts, the list of sums. The sums of rows without a mark are zero.
 #[derive(Drop)]
 pub(crate) struct SparseAccumulator<S: Semiring> {
     sums: Vec<u64>,
     /// A bit for each row.
     marks: Vec<u64>,
-    /// A bit for each word of marks.
+    /// A bit for each word of `marks`.
     groups: Vec<u64>,
     semiring: PhantomData<S>,
 }
@@ -42,7 +42,7 @@ impl<S: Semiring> Model for SparseAccumulator<S> {
 }
 
 impl<S: Semiring> SparseAccumulator<S> {
-    /// Sums of so many rows, all of them zero.
+    /// Returns an accumulator for this many rows. All sums are zero.
     pub fn new(alloc: Global, rows: u32) -> Result<Self, AllocError>
         ensures length { IfOk result (λ a. length a ≡ rows) }
         ensures zeros { IfOk result (λ a. All (λ x. x ≡ S.arithmetic.zero) a) }
@@ -59,14 +59,14 @@ impl<S: Semiring> SparseAccumulator<S> {
         })
     }
 
-    /// How many rows it has sums for.
+    /// How many rows it has.
     fn rows(&self) -> usize
         ensures { result ≡ length self.now }
     {
         self.sums.len()
     }
 
-    /// Takes memory for the sums of so many rows, unless it has it.
+    /// Makes it an accumulator for this many rows. All sums are zero before and after.
     pub fn make_room(&mut self, alloc: Global, rows: u32) -> Result<(), AllocError>
         requires { All (λ x. x ≡ S.arithmetic.zero) self.old }
         ensures length { OnOk result (length self.new ≡ rows) }
@@ -78,7 +78,7 @@ impl<S: Semiring> SparseAccumulator<S> {
         Ok(())
     }
 
-    /// Adds a column, scaled if there is a factor.
+    /// Adds a column, times a factor if there is one, to the sums of its rows.
     #[inline(always)]
     pub fn add(&mut self, rows: &[u32], values: &[u64], scale: Option<u64>)
         requires lengths { length values.now ≡ length rows.now }
@@ -88,7 +88,7 @@ impl<S: Semiring> SparseAccumulator<S> {
         requires inside { All (λ i. i < length self.old) rows.now }
         ensures length { length self.new ≡ length self.old }
         ensures values { All (IsValue S.arithmetic) self.new }
-        ensures sums { (i : ℕ) → i < length self.old → slice_index_or self.new i S.arithmetic.zero ≡ S.arithmetic.add (slice_index_or self.old i S.arithmetic.zero) (scaled S.arithmetic (row_value S.arithmetic.zero rows.now values.now i) scale) }
+        ensures sums { AddsToSums S.arithmetic (length self.old) (scaled_at S.arithmetic rows.now values.now scale) self.old self.new }
     {
         let SparseAccumulator {
             sums,
@@ -99,7 +99,7 @@ impl<S: Semiring> SparseAccumulator<S> {
         add_entries::<S>(sums, marks, groups, rows, values, scale);
     }
 
-    /// Adds all terms.
+    /// Adds terms to the sums of their rows.
     pub fn add_terms(&mut self, rows: &[u32], values: &[u64], terms: &[Term])
         requires lengths { length values.now ≡ length rows.now }
         requires values { All (IsValue S.arithmetic) values.now }
@@ -107,7 +107,7 @@ impl<S: Semiring> SparseAccumulator<S> {
         requires inside { All (λ i. i < length self.old) rows.now }
         requires sums { All (IsValue S.arithmetic) self.old }
         ensures length { length self.new ≡ length self.old }
-        ensures sums { (i : ℕ) → i < length self.old → slice_index_or self.new i S.arithmetic.zero ≡ S.arithmetic.add (slice_index_or self.old i S.arithmetic.zero) (terms_value S.arithmetic rows.now values.now i terms.now) }
+        ensures sums { AddsToSums S.arithmetic (length self.old) (λ i. terms_value S.arithmetic rows.now values.now i terms.now) self.old self.new }
     {
         for term in terms {
             self.add(
@@ -118,12 +118,12 @@ impl<S: Semiring> SparseAccumulator<S> {
         }
     }
 
-    /// Makes a column of the sums that are not zero, and makes all of them zero: time for the rows that were added to,
-    /// and for every 4,096 rows.
+    /// Moves all sums into a column, which replaces the one in `made`, and leaves zeros. Costs O(a + n / 4096) for n rows of
+    /// which a were added to.
     pub fn take(&mut self, made: &mut Column<S>) -> Result<(), AllocError>
         ensures length { length self.new ≡ length self.old }
         ensures zeros { OnOk result (All (λ x. x ≡ S.arithmetic.zero) self.new) }
-        ensures column { OnOk result ((i : ℕ) → value_in S.arithmetic.zero made.new i ≡ slice_index_or self.old i S.arithmetic.zero) }
+        ensures column { OnOk result (IsColumnOf S.arithmetic (λ i. slice_index_or self.old i S.arithmetic.zero) made.new) }
     {
         let SparseAccumulator {
             sums,
@@ -135,7 +135,7 @@ impl<S: Semiring> SparseAccumulator<S> {
     }
 }
 
-/// Adds a column, scaled if there is a factor, to the sums of its rows, and marks these.
+/// Adds a column, times a factor if there is one, to the sums of its rows, and marks the rows.
 #[inline(always)]
 fn add_entries<S: Semiring>(
     sums: &mut [u64],
@@ -153,7 +153,7 @@ fn add_entries<S: Semiring>(
     requires accumulator { IsAccumulator S.arithmetic sums.old marks.old groups.old }
     ensures accumulator { IsAccumulator S.arithmetic sums.new marks.new groups.new }
     ensures length { length sums.new ≡ length sums.old }
-    ensures sums { (i : ℕ) → i < length sums.old → slice_index_or sums.new i S.arithmetic.zero ≡ S.arithmetic.add (slice_index_or sums.old i S.arithmetic.zero) (scaled S.arithmetic (row_value S.arithmetic.zero rows.now values.now i) scale) }
+    ensures sums { AddsToSums S.arithmetic (length sums.old) (scaled_at S.arithmetic rows.now values.now scale) sums.old sums.new }
 {
     for n in 0..rows.len() {
         let row = rows[n] as usize;
@@ -162,7 +162,8 @@ fn add_entries<S: Semiring>(
     }
 }
 
-/// Stores the sums of the rows that a word marks, and makes them zero. What the column and the sums have together stays.
+/// Moves the sums of the rows that the nth word marks into a column, and leaves zeros. A row's value in the column plus its
+/// sum stays the same.
 fn take_word<S: Semiring>(
     made: &mut Column<S>,
     sums: &mut [u64],
@@ -175,12 +176,12 @@ fn take_word<S: Semiring>(
     requires before { All (λ i. i < n * 64) made.old.rows }
     ensures length { length sums.new ≡ length sums.old }
     ensures values { All (IsValue S.arithmetic) sums.new }
-    ensures zeros_stay { (i : ℕ) → slice_index_or sums.old i S.arithmetic.zero ≡ S.arithmetic.zero → slice_index_or sums.new i S.arithmetic.zero ≡ S.arithmetic.zero }
+    ensures zeros_stay { ZerosStay S.arithmetic.zero sums.old sums.new }
     ensures zeros { OnOk result ((k : ℕ) → bit_at word k ≡ 1 → slice_index_or sums.new (n * 64 + k) S.arithmetic.zero ≡ S.arithmetic.zero) }
     ensures rows { OnOk result (All (λ i. i < n * 64 + 64) made.new.rows) }
-    ensures together { OnOk result ((i : ℕ) → S.arithmetic.add (value_in S.arithmetic.zero made.new i) (slice_index_or sums.new i S.arithmetic.zero) ≡ S.arithmetic.add (value_in S.arithmetic.zero made.old i) (slice_index_or sums.old i S.arithmetic.zero)) }
+    ensures together { OnOk result ((i : ℕ) → column_and_sum S.arithmetic made.new sums.new i ≡ column_and_sum S.arithmetic made.old sums.old i) }
 {
-    let _entries = made.entries();
+    prove_eq!(made.entries().0.len(), made.entries().1.len());
     let mut rest = word;
     while rest != 0 {
         let bit = rest.trailing_zeros();
@@ -192,7 +193,7 @@ fn take_word<S: Semiring>(
     Ok(())
 }
 
-/// Makes a column of the sums that are not zero, and makes all of them zero. Only marked words are looked at.
+/// Moves all sums into a column, which replaces the one in `made`, and leaves zeros. Only marked words are read.
 fn take_rows<S: Semiring>(
     made: &mut Column<S>,
     sums: &mut [u64],
@@ -203,7 +204,7 @@ fn take_rows<S: Semiring>(
     ensures accumulator { IsAccumulator S.arithmetic sums.new marks.new groups.new }
     ensures length { length sums.new ≡ length sums.old }
     ensures zeros { OnOk result (All (λ x. x ≡ S.arithmetic.zero) sums.new) }
-    ensures column { OnOk result ((i : ℕ) → value_in S.arithmetic.zero made.new i ≡ slice_index_or sums.old i S.arithmetic.zero) }
+    ensures column { OnOk result (IsColumnOf S.arithmetic (λ i. slice_index_or sums.old i S.arithmetic.zero) made.new) }
 {
     made.clear();
     let mut from = 0;
@@ -212,7 +213,7 @@ fn take_rows<S: Semiring>(
         marks[n] = 0;
         from = n + 1;
     }
-    let _entries = made.entries();
+    prove_eq!(made.entries().0.len(), made.entries().1.len());
     unmark_all(groups);
     Ok(())
 }

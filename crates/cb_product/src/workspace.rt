@@ -1,8 +1,8 @@
-//! One column of a product, made in the way that costs least.
-ghost use Rattle.std.specs.Prelude.{◌≡◌, ℕ, length, All, IfOk, OnOk};
+//! One column of a product, computed in the cheapest of four ways.
+ghost use Rattle.std.specs.Prelude.{◌≡◌, length, All, IfOk, OnOk};
 ghost use Rattle.cb_matrix.specs.Sparse.{IsMatrix};
 ghost use Rattle.cb_dcsc.specs.Columns.{rows_of};
-ghost use Rattle.cb_product.specs.SparseColumn.{AreEntries, value_in};
+ghost use Rattle.cb_product.specs.SparseColumn.{AreEntries, IsColumnOf};
 ghost use Rattle.cb_product.specs.Terms.{IsTerm, sum_with};
 
 use crate::columns::Column;
@@ -14,10 +14,10 @@ use cb_semirings::Semiring;
 use std::alloc::{AllocError, Global};
 use std::mem::swap;
 
-/// Up to so many terms are joined one after another, more are merged by a heap.
+/// Up to this many terms are joined one after another; more are merged by a heap.
 const FEW: usize = 24;
 
-/// What one column after another is made in: the column made, another one, and the sparse accumulator.
+/// The memory in which columns are computed, one after another: the result, a spare column and the sparse accumulator.
 #[derive(Drop)]
 pub(crate) struct Workspace<S: Semiring> {
     alloc: Global,
@@ -27,7 +27,7 @@ pub(crate) struct Workspace<S: Semiring> {
 }
 
 impl<S: Semiring> Workspace<S> {
-    /// Columns without entries, and sums of no rows.
+    /// Returns a workspace of columns without entries and an accumulator without rows.
     pub fn new(alloc: Global) -> Result<Self, AllocError>
         ensures { IfOk result (λ w. All (λ x. x ≡ S.arithmetic.zero) w.sums) }
     {
@@ -39,8 +39,9 @@ impl<S: Semiring> Workspace<S> {
         })
     }
 
-    /// Makes the sum of a column of the accumulator and of terms: one term is joined with it. More are added by the
-    /// sparse accumulator where that is said to pay, else a few are joined one after another, or many merged by a heap.
+    /// Computes the sum of terms and a column of the accumulator. A single term is joined with that column. Several terms
+    /// are added up in the sparse accumulator if `dense`; otherwise a few are joined one after another, and many are merged
+    /// by a heap.
     pub fn make(
         &mut self,
         left: &Block<S>,
@@ -54,7 +55,7 @@ impl<S: Semiring> Workspace<S> {
         requires own { AreEntries S.arithmetic left.now.shape.rows own_rows.now own_values.now }
         requires zeros { All (λ x. x ≡ S.arithmetic.zero) self.old.sums }
         ensures zeros { OnOk result (All (λ x. x ≡ S.arithmetic.zero) self.new.sums) }
-        ensures column { OnOk result ((i : ℕ) → value_in S.arithmetic.zero self.new.made i ≡ sum_with S.arithmetic left.now own_rows.now own_values.now terms.now i) }
+        ensures column { OnOk result (IsColumnOf S.arithmetic (sum_with S.arithmetic left.now own_rows.now own_values.now terms.now) self.new.made) }
     {
         if terms.len() == 1 {
             return self.make_of_one(left, terms, own_rows, own_values);
@@ -72,7 +73,7 @@ impl<S: Semiring> Workspace<S> {
             .join(own_rows, own_values, merged_rows, merged_values, None)
     }
 
-    /// Makes it by joining the only term.
+    /// Computes it by joining the only term with the accumulator's column.
     fn make_of_one(
         &mut self,
         left: &Block<S>,
@@ -85,7 +86,7 @@ impl<S: Semiring> Workspace<S> {
         requires terms { All (IsTerm S.arithmetic (rows_of left.now.entries)) terms.now }
         requires own { AreEntries S.arithmetic left.now.shape.rows own_rows.now own_values.now }
         ensures sums { self.new.sums ≡ self.old.sums }
-        ensures column { OnOk result ((i : ℕ) → value_in S.arithmetic.zero self.new.made i ≡ sum_with S.arithmetic left.now own_rows.now own_values.now terms.now i) }
+        ensures column { OnOk result (IsColumnOf S.arithmetic (sum_with S.arithmetic left.now own_rows.now own_values.now terms.now) self.new.made) }
     {
         let term = terms[0];
         let (rows, values) = (left.row_numbers(), left.values());
@@ -98,7 +99,7 @@ impl<S: Semiring> Workspace<S> {
         )
     }
 
-    /// Makes it by the sparse accumulator.
+    /// Computes it in the sparse accumulator.
     fn make_dense(
         &mut self,
         left: &Block<S>,
@@ -111,7 +112,7 @@ impl<S: Semiring> Workspace<S> {
         requires own { AreEntries S.arithmetic left.now.shape.rows own_rows.now own_values.now }
         requires zeros { All (λ x. x ≡ S.arithmetic.zero) self.old.sums }
         ensures zeros { OnOk result (All (λ x. x ≡ S.arithmetic.zero) self.new.sums) }
-        ensures column { OnOk result ((i : ℕ) → value_in S.arithmetic.zero self.new.made i ≡ sum_with S.arithmetic left.now own_rows.now own_values.now terms.now i) }
+        ensures column { OnOk result (IsColumnOf S.arithmetic (sum_with S.arithmetic left.now own_rows.now own_values.now terms.now) self.new.made) }
     {
         let rows = left.shape().rows();
         self.sums.make_room(self.alloc, rows)?;
@@ -121,7 +122,7 @@ impl<S: Semiring> Workspace<S> {
         self.sums.take(&mut self.made)
     }
 
-    /// Makes it by joining one term after another.
+    /// Computes it by joining one term after another with the accumulator's column.
     fn make_joined(
         &mut self,
         left: &Block<S>,
@@ -133,7 +134,7 @@ impl<S: Semiring> Workspace<S> {
         requires terms { All (IsTerm S.arithmetic (rows_of left.now.entries)) terms.now }
         requires own { AreEntries S.arithmetic left.now.shape.rows own_rows.now own_values.now }
         ensures sums { self.new.sums ≡ self.old.sums }
-        ensures column { OnOk result ((i : ℕ) → value_in S.arithmetic.zero self.new.made i ≡ sum_with S.arithmetic left.now own_rows.now own_values.now terms.now i) }
+        ensures column { OnOk result (IsColumnOf S.arithmetic (sum_with S.arithmetic left.now own_rows.now own_values.now terms.now) self.new.made) }
     {
         let (rows, values) = (left.row_numbers(), left.values());
         self.made.clear();

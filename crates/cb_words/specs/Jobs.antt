@@ -18,6 +18,6 @@ file_count_of TriangleCounts = 1
 file_count_of (Selected selection semiring) = 1
 file_count_of (Kronecker semiring) = 2
 
--- the words ask for a text: for help, or for the version
+-- the command line asks for help, or for the version
 abbrev pub AsksForText : ErrorKind → Type 0
 AsksForText kind = (kind ≡ DisplayHelp) ⊎ (kind ≡ DisplayVersion)

@@ -21,8 +21,8 @@ static COUNTS: [&str; 2] = ["graph", "vertex"];
 /// The version of the program, and of the libraries for C and Python, which take it from here.
 const VERSION: &str = "0.1.0";
 
-/// What stands at the end of a help text: an example, and the statuses. Where the matrices of files are refused for other
-/// reasons than those of products and of graphs, these follow the example.
+/// The end of a help text: an example, and the exit statuses. The second argument says when status 5 is returned; by
+/// default these are the reasons of products and graphs.
 macro_rules! after_help {
     ($example:literal) => {
         after_help!(
@@ -71,14 +71,14 @@ enum Choice {
     Help,
 }
 
-/// The options that a command takes after those of its own, where ranks can do it.
+/// The shared options of the commands that ranks can compute.
 const BY_RANKS: [Choice; 4] = [Choice::Grid, Choice::Engine, Choice::Lane, Choice::Help];
 
-/// Those where one thread does it.
+/// The shared options of the commands that one thread computes.
 const ALONE: [Choice; 1] = [Choice::Help];
 
-/// A command: its word, what help says of it, the names of its files, the options of its own, and those that it has in
-/// common with others.
+/// A command: its name, its help texts, the names of its file arguments, its own options, and the options that it shares
+/// with other commands.
 struct Outline {
     name: &'static str,
     about: &'static str,
@@ -261,7 +261,7 @@ const OUTLINES: [&Outline; 16] = [
     &TRIANGLES,
 ];
 
-/// An option that takes a value. Its word is its name.
+/// An option `--NAME` that takes a value.
 fn with_value<'a>(alloc: Global, name: &'a str, value: &'a str, help: &'a str) -> Arg<'a> {
     Arg::new(alloc, name)
         .long(name)
@@ -269,7 +269,7 @@ fn with_value<'a>(alloc: Global, name: &'a str, value: &'a str, help: &'a str) -
         .help(help)
 }
 
-/// An option of this action, without a value. Its word is its name.
+/// An option `--NAME` with this action, which takes no value.
 fn flag<'a>(alloc: Global, name: &'a str, action: ArgAction, help: &'a str) -> Arg<'a> {
     Arg::new(alloc, name).long(name).action(action).help(help)
 }
@@ -375,7 +375,7 @@ fn grid<'a>(alloc: Global) -> Arg<'a> {
 
 fn engine<'a>(alloc: Global) -> Arg<'a> {
     let help =
-        "What computes: plain one thread, ranks a thread for each of the grid's ranks [default: by the command and its files]";
+        "What computes: plain is one thread, ranks a thread for each rank of the grid [default: threads that share the matrices]";
     with_value(alloc, "engine", "ENGINE", help).value_parser(ENGINES.as_slice())
 }
 
@@ -421,7 +421,7 @@ fn file<'a>(alloc: Global, name: &'a str) -> Arg<'a> {
         .help("A Matrix Market file")
 }
 
-/// A command with these files more.
+/// Adds file arguments to a command.
 fn with_files<'a>(
     alloc: Global,
     command: Command<'a>,
@@ -434,7 +434,7 @@ fn with_files<'a>(
     Ok(command)
 }
 
-/// A command with these options more.
+/// Adds options to a command.
 fn with_options<'a>(
     alloc: Global,
     command: Command<'a>,
@@ -447,7 +447,7 @@ fn with_options<'a>(
     Ok(command)
 }
 
-/// A command over its files.
+/// Builds a command from its outline.
 fn command<'a>(alloc: Global, outline: &Outline) -> Result<Command<'a>, AllocError> {
     let command = Command::new(alloc, outline.name)
         .about(outline.about)
@@ -458,18 +458,18 @@ fn command<'a>(alloc: Global, outline: &Outline) -> Result<Command<'a>, AllocErr
     with_options(alloc, command, outline.common)
 }
 
-/// The command of products, outside of the program.
+/// Builds `multiply` on its own, for the usage error of a conflict between its options.
 pub fn multiply_alone<'a>(alloc: Global) -> Result<Command<'a>, AllocError> {
     command(alloc, &MULTIPLY)?.bin_name("cbgrid multiply")
 }
 
-/// The command of functions, outside of the program.
+/// Builds `apply` on its own, for the same purpose.
 pub fn apply_alone<'a>(alloc: Global) -> Result<Command<'a>, AllocError> {
     command(alloc, &APPLY)?.bin_name("cbgrid apply")
 }
 
-/// The program, without its commands.
-fn bare_program<'a>(alloc: Global) -> Result<Command<'a>, AllocError> {
+/// The program, without its options and commands.
+fn bare_program<'a>(alloc: Global) -> Command<'a> {
     Command::new(alloc, "cbgrid")
         .about("Sparse matrices over semirings, read and written as Matrix Market files")
         .after_help(after_help!("multiply a.mtx b.mtx > product.mtx"))
@@ -478,12 +478,19 @@ fn bare_program<'a>(alloc: Global) -> Result<Command<'a>, AllocError> {
         .disable_help_flag(true)
         .disable_version_flag(true)
         .disable_help_subcommand(true)
-        .arg(help(alloc))?
-        .arg(version(alloc))
 }
 
-/// The program with one command more. It takes the command as it was made, so that where none was made nothing else
-/// is held.
+/// Adds the options of the program, which stand before its command.
+fn with_program_options<'a>(
+    alloc: Global,
+    program: Command<'a>,
+) -> Result<Command<'a>, AllocError> {
+    let program = program.arg(help(alloc))?;
+    program.arg(version(alloc))
+}
+
+/// Adds a command to the program. The command is passed as the result of building it, so that an exit of the caller
+/// drops no program.
 fn with_command<'a>(
     program: Command<'a>,
     made: Result<Command<'a>, AllocError>,
@@ -491,9 +498,9 @@ fn with_command<'a>(
     program.subcommand(made?)
 }
 
-/// The program, with its commands.
+/// Builds the program with all its commands.
 pub fn program<'a>(alloc: Global) -> Result<Command<'a>, AllocError> {
-    let mut program = bare_program(alloc)?;
+    let mut program = with_program_options(alloc, bare_program(alloc))?;
     for outline in OUTLINES {
         program = with_command(program, command(alloc, outline))?;
     }

@@ -1,22 +1,22 @@
-//! Words that don't go together, though `clap` takes each.
+//! Conflicts between options that `clap` accepts one by one.
 use crate::commands::{apply_alone, multiply_alone};
 use crate::selection_words::takes_number;
-use clap::ArgMatches;
 use clap::error::ErrorKind;
+use clap::{ArgMatches, Command};
 use std::alloc::{AllocError, Global};
 
-/// Which words don't go together.
+/// Options that can't be combined.
 #[derive(Clone, Copy)]
 pub enum Conflict {
-    /// A trace of ranks is asked for that are to run on one thread.
+    /// `--trace` with `--engine plain`, which runs no ranks.
     TraceOfOneThread,
-    /// A function lacks the number that it takes.
+    /// No `--value` for a function that takes a number.
     NoNumber,
-    /// A number is given to a function that takes none.
+    /// A `--value` for a function that takes no number.
     NumberTooMany,
 }
 
-/// Which words of a command line don't go together, if any.
+/// The conflict between the options of a command line, if there is one.
 pub fn conflict_in(matches: &ArgMatches<'_>) -> Option<Conflict> {
     match matches.subcommand()? {
         ("multiply", found) => {
@@ -32,22 +32,29 @@ pub fn conflict_in(matches: &ArgMatches<'_>) -> Option<Conflict> {
     }
 }
 
-/// What is wrong with such words.
+/// The command whose options conflict.
+fn command_of<'a>(alloc: Global, conflict: Conflict) -> Result<Command<'a>, AllocError> {
+    match conflict {
+        Conflict::TraceOfOneThread => multiply_alone(alloc),
+        Conflict::NoNumber | Conflict::NumberTooMany => apply_alone(alloc),
+    }
+}
+
+/// The message of a conflict.
+fn message_of(conflict: Conflict) -> &'static str {
+    match conflict {
+        Conflict::TraceOfOneThread => "the argument '--trace' cannot be used with '--engine plain'",
+        Conflict::NoNumber => {
+            "the argument '--value <N>' is required unless '--function' is row or column"
+        }
+        Conflict::NumberTooMany => {
+            "the argument '--value <N>' cannot be used if '--function' is row or column"
+        }
+    }
+}
+
+/// The usage error of a conflict.
 pub fn conflict_error(alloc: Global, conflict: Conflict) -> Result<clap::Error, AllocError> {
-    let (command, text) = match conflict {
-        Conflict::TraceOfOneThread => (
-            multiply_alone(alloc),
-            "the argument '--trace' cannot be used with '--engine plain'",
-        ),
-        Conflict::NoNumber => (
-            apply_alone(alloc),
-            "the argument '--value <N>' is required unless '--function' is row or column",
-        ),
-        Conflict::NumberTooMany => (
-            apply_alone(alloc),
-            "the argument '--value <N>' cannot be used if '--function' is row or column",
-        ),
-    };
-    let mut command = command?;
-    command.error(ErrorKind::ArgumentConflict, text)
+    let mut command = command_of(alloc, conflict)?;
+    command.error(ErrorKind::ArgumentConflict, message_of(conflict))
 }

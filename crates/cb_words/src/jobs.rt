@@ -9,10 +9,10 @@ use cb_semirings::SemiringName;
 use std::alloc::{AllocError, AllocFailed};
 use thiserror::Error;
 
-/// What is computed of the files. A source is a vertex of the graph of the file's matrix, counted from 0.
+/// What is computed from the files. A source is a vertex of the graph of the file's matrix, counted from 0.
 #[derive(Clone, Copy, Debug, PartialEq, Eq)]
 pub enum Task {
-    /// What an operation makes of the files' matrices over a semiring.
+    /// An operation on the files' matrices, over a semiring.
     Matrix {
         operation: Operation,
         semiring: SemiringName,
@@ -29,31 +29,31 @@ pub enum Task {
     Parents {
         source: u32,
     },
-    /// The least vertex that is joined to each vertex. The file is read in or-and.
+    /// The least vertex of the connected component of each vertex. The file is read in or-and.
     Components,
-    /// How many triangles there are. The file is read in or-and.
+    /// The number of triangles of the graph. The file is read in or-and.
     Triangles,
-    /// How many triangles each vertex is part of. The file is read in or-and.
+    /// The number of triangles that each vertex is part of. The file is read in or-and.
     TriangleCounts,
-    /// What is selected of the file's matrix, over a semiring.
+    /// A selection from the file's matrix, over a semiring.
     Selected {
         selection: Selection,
         semiring: SemiringName,
     },
-    /// The Kronecker product of the files' matrices over a semiring.
+    /// The Kronecker product of the files' matrices, over a semiring.
     Kronecker {
         semiring: SemiringName,
     },
 }
 
-/// What runs the ranks.
+/// What computes a job.
 #[derive(Clone, Copy, Debug, PartialEq, Eq)]
 pub enum EngineName {
-    /// One thread, all of them.
+    /// The caller's thread, without ranks.
     Plain,
-    /// For each a thread of its own, over lanes for so many letters.
+    /// Ranks, each in a thread of its own, over lanes with room for so many letters.
     Ranks(usize),
-    /// The same, and a trace is kept of what the ranks post and take.
+    /// The same, with a trace of what the ranks post and take.
     Traced(usize),
 }
 
@@ -61,12 +61,10 @@ pub enum EngineName {
 #[derive(Drop)]
 pub struct Job {
     pub task: Task,
-    /// The ranks that compute it.
+    /// The grid of the ranks that compute it.
     pub grid: Grid,
     pub engine: EngineName,
-    /// Whether small files may be computed by one thread instead, since neither ranks nor what runs them were asked for.
-    pub may_be_alone: bool,
-    /// How many threads may read the files and write the answer, each a part of a text.
+    /// How many threads may read the files, compute a product without ranks, and write the answer.
     pub threads: u32,
     /// The names of the files, in the order in which they are read.
     pub files: Vec<String>,
@@ -82,8 +80,8 @@ impl Job {
     }
 }
 
-/// Why there is no job: help or the version was asked for, the words are none that the program takes, or memory
-/// was refused while they were read.
+/// Why a command line isn't a job: it asks for help or for the version, the program doesn't accept it, or memory was
+/// refused while it was read.
 #[derive(Debug, Drop, Error)]
 pub enum UsageFault {
     /// The text to print on standard output; the program then ends with status 0.

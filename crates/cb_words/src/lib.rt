@@ -1,10 +1,10 @@
 //! The command line of `cbgrid`: from words to a job.
 //!
-//! `asked` takes the words from the system, and `read_job` reads them: it answers a [`Job`], which says what is
-//! computed, of which files and by what ranks, or a [`UsageFault`] with the text to print. Nothing is read, computed or
-//! written here.
+//! [`asked`] takes the words from the system, and [`read_job`] reads them. The result is a [`Job`], which says what is
+//! computed, from which files and by which ranks, or a [`UsageFault`] with the text to print. No file is read, and
+//! nothing is computed or written here.
 //!
-//! Semirings and engines are told by their names. `cb_semirings` has the table of the names of semirings.
+//! A job names its semiring and its engine. `cb_semirings` has the table of the names of semirings.
 #![tactic(auto)]
 
 mod commands;

@@ -1,23 +1,23 @@
-//! What a command line selects of a matrix, by names.
+//! Selections from a matrix, as a command line names them.
 
-/// What is made of one matrix, by the places of its entries or by their values.
+/// A matrix made from another one, by the places of its entries or by their values.
 #[derive(Clone, Copy, Debug, PartialEq, Eq)]
 pub enum Selection {
-    /// The entries in a region of a diagonal, which has so many columns right of the main one, or rows below it.
+    /// The entries in a region of the diagonal that is `right` columns right of the main one, or `down` rows below it.
     Select {
         region: RegionName,
         right: u32,
         down: u32,
     },
-    /// What a function makes of the value of each entry.
+    /// The entries with a function applied to their values.
     Apply(FunctionName),
     /// The diagonal, as a column.
     Diagonal,
-    /// The square matrix that has a column on its diagonal.
+    /// The square matrix whose diagonal is a column.
     DiagonalMatrix,
 }
 
-/// Places by a diagonal: those on it and below it, on it and above it, on it, and all others.
+/// The places of a region: on a diagonal or below it, on it or above it, on it, or off it.
 #[derive(Clone, Copy, Debug, PartialEq, Eq)]
 pub enum RegionName {
     Lower,
@@ -26,7 +26,8 @@ pub enum RegionName {
     Off,
 }
 
-/// What becomes of a value: a number, its sum or its product with one, or the number of its row or column, counted from 0.
+/// The new value of an entry: a number, the sum or the product of its value and a number, or the number of its row or
+/// column, counted from 0.
 #[derive(Clone, Copy, Debug, PartialEq, Eq)]
 pub enum FunctionName {
     Constant(u64),

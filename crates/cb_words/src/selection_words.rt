@@ -1,8 +1,8 @@
-//! Reads what a command line selects.
+//! Reads the selection of a command line.
 use crate::selection_names::{FunctionName, RegionName, Selection};
 use clap::ArgMatches;
 
-/// How many columns right of the main diagonal that of `--diagonal` is, and how many rows below it: one of them is 0.
+/// How many columns the diagonal of `--diagonal` is right of the main one, and how many rows below it. One of them is 0.
 fn diagonal_of(found: &ArgMatches<'_>) -> Option<(u32, u32)> {
     let number = found.get_one::<i64>("diagonal")?;
     let distance = u32::try_from(number.unsigned_abs()).ok()?;
@@ -23,7 +23,7 @@ fn region_of(found: &ArgMatches<'_>) -> Option<RegionName> {
     }
 }
 
-/// The entries that `select` keeps.
+/// The selection of `select`.
 fn kept_of(found: &ArgMatches<'_>) -> Option<Selection> {
     let (right, down) = diagonal_of(found)?;
     let region = region_of(found)?;
@@ -51,7 +51,7 @@ pub fn takes_number(found: &ArgMatches<'_>) -> bool {
     !matches!(found.get_str("function"), Some("row" | "column"))
 }
 
-/// What a command makes of one matrix.
+/// The selection of a command.
 pub fn selection_of(command: &str, found: &ArgMatches<'_>) -> Option<Selection> {
     match command {
         "select" => kept_of(found),

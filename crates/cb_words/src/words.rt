@@ -1,5 +1,5 @@
-//! Reads a command line. Words are `clap`'s to judge: an unknown command or option, a missing file,
-//! one too many, an option given twice, a value that isn't offered are each a usage text.
+//! Reads a command line. `clap` checks its words: an unknown command or option, a missing file, a surplus one, a repeated
+//! option and an unknown value are usage errors.
 ghost use Rattle.std.specs.Prelude.{◌≢◌, String, ◌≡◌, IfOk, IfSome, length, vec_len};
 ghost use Rattle.std.specs.declared.io.ErrorKind.TheVariants as io_is;
 ghost use Rattle.clap.specs.Words.{kind_of};
@@ -30,7 +30,7 @@ fn usage(alloc: Global, text: &str) -> UsageFault
     }
 }
 
-/// The text of an error: on standard output where help or the version was asked for, and else on standard error.
+/// The fault of an error of `clap`. Help and the version go to standard output, any other text to standard error.
 fn fault_of(alloc: Global, error: &clap::Error) -> UsageFault
     ensures memory { kind_of error.now ≡ ErrorKind.OutOfMemory → result ≡ UsageFault.Memory }
     ensures help { ¬ AsksForText (kind_of error.now) → (text : String Global) → result ≢ UsageFault.Help text }
@@ -77,7 +77,7 @@ fn arguments(task: Task) -> &'static [&'static str]
     }
 }
 
-/// The files that these arguments name, or None where one of them names none.
+/// The files that these arguments name, or None if one of the arguments is missing.
 fn files_of(
     alloc: Global,
     found: &ArgMatches<'_>,
@@ -95,42 +95,26 @@ fn files_of(
     Ok(Some(files))
 }
 
-/// More threads neither read nor write where the words leave open how many: the largest grid has as many ranks.
+/// The most threads by default: the number of ranks of the largest grid.
 const MOST_THREADS: usize = 36;
 
-/// How many letters a lane is for.
+/// How many letters a lane has room for.
 fn lane_of(found: &ArgMatches<'_>) -> usize {
     found.get_one::<u32>("lane").unwrap_or(2) as usize
 }
 
-/// Whether a trace is asked for.
+/// Whether the command line asks for a trace.
 fn asks_for_trace(command: &str, found: &ArgMatches<'_>) -> bool {
     command == "multiply" && found.get_flag("trace")
 }
 
-/// Whether a command is about a graph.
-fn is_about_graph(command: &str) -> bool {
-    matches!(
-        command,
-        "bfs" | "relax" | "parents" | "components" | "triangles"
-    )
+/// Whether a command line without `--engine` asks for ranks, by an option that only ranks need.
+fn asks_for_ranks(command: &str, found: &ArgMatches<'_>) -> bool {
+    found.contains_id("grid") || found.contains_id("lane") || asks_for_trace(command, found)
 }
 
-/// Whether a command has no plan for ranks, besides those about graphs.
-fn is_of_blocks(command: &str) -> bool {
-    matches!(command, "select" | "apply" | "diagonal" | "kron")
-}
-
-/// Whether one thread computes a command of which no engine is named, and no trace: all where there is one processor,
-/// those about graphs, and those without a plan. The rounds of a search are too short for ranks in threads; a grid that is
-/// asked for is for ranks.
-fn is_for_one(command: &str, found: &ArgMatches<'_>, processors: usize) -> bool {
-    let is_one = processors < 2 || is_about_graph(command) || is_of_blocks(command);
-    !found.contains_id("grid") && is_one
-}
-
-/// What computes a command: where the words don't say, ranks in threads, unless it is for one.
-fn engine_of(command: &str, found: &ArgMatches<'_>, processors: usize) -> Option<EngineName> {
+/// What computes a command. By default no ranks do.
+fn engine_of(command: &str, found: &ArgMatches<'_>) -> Option<EngineName> {
     let letters = lane_of(found);
     match found.get_str("engine") {
         Some("plain") => Some(EngineName::Plain),
@@ -138,13 +122,12 @@ fn engine_of(command: &str, found: &ArgMatches<'_>, processors: usize) -> Option
         Some("ranks") => Some(EngineName::Ranks(letters)),
         Some(_) => None,
         None if asks_for_trace(command, found) => Some(EngineName::Traced(letters)),
-        None if is_for_one(command, found, processors) => Some(EngineName::Plain),
-        None => Some(EngineName::Ranks(letters)),
+        None if asks_for_ranks(command, found) => Some(EngineName::Ranks(letters)),
+        None => Some(EngineName::Plain),
     }
 }
 
-/// The side of a grid for so many processors: the largest whose ranks they are enough for, and for two or three of them
-/// the grid of four ranks.
+/// The default side of the grid: the largest with no more ranks than processors, and 2 for two or three processors.
 fn side_for(processors: usize) -> u32 {
     match processors {
         0..=1 => 1,
@@ -156,7 +139,7 @@ fn side_for(processors: usize) -> u32 {
     }
 }
 
-/// The grid of a command. Where the words don't say, it follows the processors; of a trace, it has four ranks.
+/// The grid of a command. By default its side follows the number of processors; with `--trace` it is 2.
 fn grid_of(command: &str, found: &ArgMatches<'_>, processors: usize) -> Option<Grid> {
     let side = match found.get_one::<u32>("grid") {
         Some(side) => side,
@@ -166,22 +149,14 @@ fn grid_of(command: &str, found: &ArgMatches<'_>, processors: usize) -> Option<G
     Grid::new(side).ok()
 }
 
-/// How many threads may read and write a command's texts: one for the plain engine where it is named, as many as ranks
-/// where those or their grid are, and else as many as there are processors.
-fn threads_of(found: &ArgMatches<'_>, grid: &Grid, processors: usize) -> u32 {
+/// How many threads may work on a command: one with `--engine plain`, as many as ranks if ranks compute it, and otherwise
+/// as many as processors, up to `MOST_THREADS`.
+fn threads_of(command: &str, found: &ArgMatches<'_>, grid: &Grid, processors: usize) -> u32 {
     match found.get_str("engine") {
         Some("plain") => 1,
-        None if !found.contains_id("grid") => processors.clamp(1, MOST_THREADS) as u32,
+        None if !asks_for_ranks(command, found) => processors.clamp(1, MOST_THREADS) as u32,
         _ => u32::from(grid.ranks()),
     }
-}
-
-/// Whether the words leave open what computes a command.
-fn is_left_open(command: &str, found: &ArgMatches<'_>) -> bool {
-    let is_said = found.contains_id("grid")
-        || found.contains_id("engine")
-        || found.contains_id("lane");
-    !is_said && !asks_for_trace(command, found)
 }
 
 fn semiring_of(found: &ArgMatches<'_>) -> Option<SemiringName> {
@@ -203,7 +178,7 @@ fn source_of(found: &ArgMatches<'_>) -> Option<u32> {
     found.get_one::<u32>("source")?.checked_sub(1)
 }
 
-/// The operation of a command over matrices.
+/// The operation of a command on matrices.
 fn operation_of(command: &str, found: &ArgMatches<'_>) -> Option<Operation> {
     match command {
         "multiply" if found.contains_id("mask") => Some(Operation::MultiplyMasked),
@@ -240,13 +215,13 @@ fn selected_of(command: &str, found: &ArgMatches<'_>) -> Option<Task> {
     })
 }
 
-/// The task of Kronecker products.
+/// The task of `kron`.
 fn kronecker_of(found: &ArgMatches<'_>) -> Option<Task> {
     let semiring = semiring_of(found)?;
     Some(Task::Kronecker { semiring })
 }
 
-/// The task of a command over matrices.
+/// The task of a command that is an operation on matrices.
 fn matrix_of(command: &str, found: &ArgMatches<'_>) -> Option<Task> {
     let operation = operation_of(command, found)?;
     let semiring = semiring_of(found)?;
@@ -280,7 +255,7 @@ fn job_of(
     let (Some(task), Some(grid), Some(engine)) = (
         task_of(command, found),
         grid_of(command, found, processors),
-        engine_of(command, found, processors),
+        engine_of(command, found),
     ) else {
         return Ok(None);
     };
@@ -291,19 +266,18 @@ fn job_of(
         task,
         grid,
         engine,
-        may_be_alone: is_left_open(command, found),
-        threads: threads_of(found, &grid, processors),
+        threads: threads_of(command, found, &grid, processors),
         files,
     }))
 }
 
-/// Why words that don't go together are no job.
+/// The fault of options that can't be combined.
 fn conflict_fault(alloc: Global, conflict: Conflict) -> Result<UsageFault, AllocError> {
     let error = conflict_error(alloc, conflict)?;
     Ok(fault_of(alloc, &error))
 }
 
-/// Why words that can't be had are no job: memory was refused to them, or one of them is no text.
+/// The fault of words that can't be taken from the system: memory was refused, or a word isn't valid UTF-8.
 fn unread_words(alloc: Global, kind: io::ErrorKind) -> UsageFault
     ensures memory { kind ≡ io_is.OutOfMemory → result ≡ UsageFault.Memory }
     ensures help { (told : String Global) → result ≢ UsageFault.Help told }
@@ -317,7 +291,7 @@ fn unread_words(alloc: Global, kind: io::ErrorKind) -> UsageFault
     )
 }
 
-/// How many threads run at once here; as many as four ranks, where that can't be told.
+/// The number of available processors, or 4 if the system doesn't report it.
 fn processors<R: Threads>(rt: &R) -> usize {
     match thread::available_parallelism(rt) {
         Ok(processors) => processors.get(),
@@ -325,7 +299,7 @@ fn processors<R: Threads>(rt: &R) -> usize {
     }
 }
 
-/// What the words of the command line ask for, the program's name first.
+/// Reads the program's own command line, as [`read_job`] does.
 pub fn asked<R: Env + AllocGlobal + Threads>(rt: &R) -> Result<Job, UsageFault> {
     let alloc = rt.alloc();
     let processors = processors(rt);
@@ -338,10 +312,11 @@ pub fn asked<R: Env + AllocGlobal + Threads>(rt: &R) -> Result<Job, UsageFault> 
     }
 }
 
-/// Reads the words of a command line, of which the first is the program's name. A job names as many files as its task
-/// reads. What the words leave open is chosen by the command and by how many processors there are. Words that are no job
-/// are a `UsageFault`, which holds the text to print. Costs what `clap` takes to build and to match the command line,
-/// under a millisecond.
+/// Reads the words of a command line. The first word is the program's name.
+///
+/// The job names as many files as its task reads. What no option chooses depends on the command and on the number of
+/// processors. If the words aren't a job, the `UsageFault` holds the text to print. Building and matching the command
+/// line by `clap` takes less than a millisecond.
 pub fn read_job(alloc: Global, words: &[String], processors: usize) -> Result<Job, UsageFault>
     ensures { IfOk result (λ job. vec_len job.files ≡ file_count_of job.task) }
 {

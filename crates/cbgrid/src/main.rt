@@ -1,5 +1,5 @@
-//! The program `cbgrid`: it reads its words, runs what they ask for over the files of the system, and
-//! ends with the status of that run. All else is said by `cb_cli`.
+//! The program `cbgrid`. It reads its command line, runs it on the files of the system, and exits with the status of that
+//! run. `cb_cli` does the rest.
 #![tactic(auto)]
 
 use cb_cli::endings::{Status, run};

@@ -1,11 +1,11 @@
 use Rattle.std.proofs.Common.{ℕ, ◌<◌, ap, arith, get_or, refl, subst, sym, ◌∙◌}
 use Rattle.std.specs.Prelude.{All}
 use Rattle.std.proofs.lemmas.Bool.{eqb-true}
-use Rattle.std.proofs.lemmas.List.{get_or_default}
 use Rattle.cb_matrix.specs.Sparse.{Extent}
 use Rattle.cb_dcsc.specs.Columns.{rows_of, values_of}
 use Rattle.cb_dcsc.proofs.Lookup.{rows_inside, as_long}
 use Rattle.cb_product.specs.SparseColumn.{AreEntries}
+use Rattle.cb_product.proofs.ColumnsMade.{before_column}
 use Rattle.cb_product.proofs.ProductColumns.{sum_start, sum_more, sum_all, own_column}
 use Rattle.cb_product.proofs.TermSums.{matrix_values, terms_value-end}
 use Rattle.cb_product.proofs.OwnColumn.{own_sparse, own_alone}
@@ -18,9 +18,9 @@ loop-column-init g c =
     let s = g.S.Semiring.arithmetic in
     let r = c.requires in
     record {
-      so_far = sum_start s g.met.S.Semiring.is_semiring c.args.accumulator.now c.args.left.now c.args.right.now c.shape-own_shape.ensures.matrix c.shape-left_shape.ensures.matrix c.shape-right_shape.ensures.matrix r.agree c.args.columns.now r.ascending r.within r.accumulator_columns r.right_columns _ c.requires.matrix c.requires.empty;
+      so_far = sum_start s g.met.S.Semiring.is_semiring c.args.accumulator.now c.args.left.now c.args.right.now c.shape-2.ensures.matrix c.shape-left_shape.ensures.matrix c.shape.ensures.matrix r.factors.agree c.args.columns.now r.factors.ascending r.factors.within r.accumulator_columns r.shape _ c.requires.matrix c.requires.empty;
       zeros = c.requires.zeros;
-      told = c.requires.told;
+      told = c.requires.factors.told;
     }
 
 pub gather-requires-clause-told : goal.gather-requires-clause-told
@@ -28,8 +28,8 @@ gather-requires-clause-told g c = c.loop-column.invariant.told
 
 pub gather-requires-clause-inside : goal.gather-requires-clause-inside
 gather-requires-clause-inside g c =
-    let rows = rows_inside g.S.Semiring.arithmetic c.args.right.now _ _ c.shape-right_shape.ensures.matrix c.of_next.ensures.rows in
-    subst (λ n. All (λ i. i < n) c.of_next.result.0.now) (sym c.requires.agree) rows
+    let rows = rows_inside g.S.Semiring.arithmetic c.args.right.now _ _ c.shape.ensures.matrix c.of_next.ensures.rows in
+    subst (λ n. All (λ i. i < n) c.of_next.result.0.now) (sym c.requires.factors.agree) rows
 
 pub make-requires-clause-own : goal.make-requires-clause-own
 make-requires-clause-own g c =
@@ -39,7 +39,7 @@ make-requires-clause-own g c =
     record {
       same_length = as_long c.args.accumulator.now.entries _ _ _ own.ensures.rows own.ensures.values;
       ascending = own.ensures.ascending;
-      inside = subst (λ n. All (λ i. i < n) own.result.0.now) shape (rows_inside s c.args.accumulator.now _ _ c.shape-own_shape.ensures.matrix own.ensures.rows);
+      inside = subst (λ n. All (λ i. i < n) own.result.0.now) shape (rows_inside s c.args.accumulator.now _ _ c.shape-2.ensures.matrix own.ensures.rows);
       are_values = own.ensures.are_values;
     }
 
@@ -51,18 +51,17 @@ push_column-requires-clause-lengths g c =
 pub push_column-requires-clause-rows : goal.push_column-requires-clause-rows
 push_column-requires-clause-rows g c =
     let own = c.of_next-in-loop-column in
-    let rows = ap (λ (e : Extent). e.rows) c.loop-column.invariant.so_far.shape in
-    subst (λ n. All (λ i. i < n) own.result.0.now) (sym rows) (rows_inside g.S.Semiring.arithmetic c.args.accumulator.now _ _ c.shape-own_shape.ensures.matrix own.ensures.rows)
+    let rows = ap (λ (e : Extent). e.rows) (c.loop-column.invariant.so_far.shape ∙ sym c.requires.shape) in
+    subst (λ n. All (λ i. i < n) own.result.0.now) (sym rows) (rows_inside g.S.Semiring.arithmetic c.args.accumulator.now _ _ c.shape-2.ensures.matrix own.ensures.rows)
 
 pub push_column-requires-clause-before : goal.push_column-requires-clause-before
 push_column-requires-clause-before g c =
-    let here = get_or_default c.args.columns.now c.loop-column.column-index c.args.right.now.shape.cols 0 c.loop-column-test.true in
-    subst (λ n. All (λ e. e.column < n) c.loop-column.out.entries) here c.loop-column.invariant.so_far.before
+    before_column g.S.Semiring.arithmetic _ _ c.args.columns.now c.loop-column.column-index c.loop-column.out c.loop-column-test.true c.loop-column.invariant.so_far
 
 pub push_column-requires-clause-not_zero : goal.push_column-requires-clause-not_zero
 push_column-requires-clause-not_zero g c =
     let own = c.of_next-in-loop-column in
-    let column = own_sparse g.S.Semiring.arithmetic c.args.accumulator.now c.shape-own_shape.ensures.matrix _ _ _ own.ensures.rows own.ensures.values in
+    let column = own_sparse g.S.Semiring.arithmetic c.args.accumulator.now c.shape-2.ensures.matrix _ _ _ own.ensures.rows own.ensures.values in
     column.not_zero
 
 pub loop-column-preserved-then-is_empty : goal.loop-column-preserved-then-is_empty
@@ -73,15 +72,14 @@ loop-column-preserved-then-is_empty g c =
     let left = c.args.left.now in
     let own = c.of_next-in-loop-column in
     let sums = rw (c.of_next.ensures.rows, c.of_next.ensures.values) at c.in_ok-products.ensures.sums in
-    let here = get_or_default c.args.columns.now c.loop-column.column-index c.args.right.now.shape.cols 0 c.loop-column-test.true in
-    let before = subst (λ n. All (λ e. e.column < n) c.loop-column.out.entries) here c.loop-column.invariant.so_far.before in
-    let column = own_sparse s c.args.accumulator.now c.shape-own_shape.ensures.matrix _ _ _ own.ensures.rows own.ensures.values in
+    let before = before_column s _ _ c.args.columns.now c.loop-column.column-index c.loop-column.out c.loop-column-test.true c.loop-column.invariant.so_far in
+    let column = own_sparse s c.args.accumulator.now c.shape-2.ensures.matrix _ _ _ own.ensures.rows own.ensures.values in
     let length_is = eqb-true _ 0 (sym c.is_empty.ensures ∙ c.if-is_empty.true) in
     let none = λ (i : ℕ). sym (sums i) ∙ terms_value-end s laws (rows_of left.entries) (values_of left.entries) (matrix_values s laws left c.shape-left_shape.ensures.matrix) i 0 _ (omega (arith, length_is)) in
-    let alone = own_alone s c.args.accumulator.now c.shape-own_shape.ensures.matrix _ _ _ own.ensures.rows own.ensures.values laws _ none in
+    let alone = own_alone s c.args.accumulator.now c.shape-2.ensures.matrix _ _ _ own.ensures.rows own.ensures.values laws _ none in
     let adds = column_adds s _ _ _ _ column alone c.loop-column.out _ before c.in_ok-push_column.ensures.ok c.in_ok-push_column.ensures.matrix in
     record {
-      so_far = sum_more s laws c.args.accumulator.now left c.args.right.now c.shape-own_shape.ensures.matrix c.shape-left_shape.ensures.matrix c.shape-right_shape.ensures.matrix r.agree c.args.columns.now r.ascending r.within r.accumulator_columns r.right_columns _ _ c.loop-column.column-index _ _ c.loop-column-test.true refl c.loop-column.invariant.so_far adds (λ i. refl);
+      so_far = sum_more s laws c.args.accumulator.now left c.args.right.now c.shape-2.ensures.matrix c.shape-left_shape.ensures.matrix c.shape.ensures.matrix r.factors.agree c.args.columns.now r.factors.ascending r.factors.within r.accumulator_columns _ _ c.loop-column.column-index _ c.loop-column-test.true c.loop-column.invariant.so_far adds (λ i. refl);
       zeros = c.loop-column.invariant.zeros;
       told = c.loop-column.invariant.told;
     }
@@ -93,11 +91,11 @@ push_column-requires-in-loop-column-clause-rows g c =
     let left = c.args.left.now in
     let own = c.of_next-in-loop-column in
     let rows = ap (λ (e : Extent). e.rows) c.requires.shape in
-    let shape = ap (λ (e : Extent). e.rows) (c.loop-column.invariant.so_far.shape ∙ c.requires.shape) in
+    let shape = ap (λ (e : Extent). e.rows) c.loop-column.invariant.so_far.shape in
     let own_entries : AreEntries s left.shape.rows own.result.0.now own.result.1.now = record {
       same_length = as_long c.args.accumulator.now.entries _ _ _ own.ensures.rows own.ensures.values;
       ascending = own.ensures.ascending;
-      inside = subst (λ n. All (λ i. i < n) own.result.0.now) rows (rows_inside s c.args.accumulator.now _ _ c.shape-own_shape.ensures.matrix own.ensures.rows);
+      inside = subst (λ n. All (λ i. i < n) own.result.0.now) rows (rows_inside s c.args.accumulator.now _ _ c.shape-2.ensures.matrix own.ensures.rows);
       are_values = own.ensures.are_values;
     } in
     let column = rw c.deref.ensures.value at c.in_ok-make.ensures.column in
@@ -105,8 +103,7 @@ push_column-requires-in-loop-column-clause-rows g c =
 
 pub push_column-requires-in-loop-column-clause-before : goal.push_column-requires-in-loop-column-clause-before
 push_column-requires-in-loop-column-clause-before g c =
-    let here = get_or_default c.args.columns.now c.loop-column.column-index c.args.right.now.shape.cols 0 c.loop-column-test.true in
-    subst (λ n. All (λ e. e.column < n) c.loop-column.out.entries) here c.loop-column.invariant.so_far.before
+    before_column g.S.Semiring.arithmetic _ _ c.args.columns.now c.loop-column.column-index c.loop-column.out c.loop-column-test.true c.loop-column.invariant.so_far
 
 pub loop-column-preserved : goal.loop-column-preserved
 loop-column-preserved g c =
@@ -115,13 +112,12 @@ loop-column-preserved g c =
     let r = c.requires in
     let sums = rw (c.of_next.ensures.rows, c.of_next.ensures.values) at c.in_ok-products.ensures.sums in
     let own = own_column s c.args.accumulator.now _ _ _ c.of_next-in-loop-column.ensures.rows c.of_next-in-loop-column.ensures.values in
-    let here = get_or_default c.args.columns.now c.loop-column.column-index c.args.right.now.shape.cols 0 c.loop-column-test.true in
-    let before = subst (λ n. All (λ e. e.column < n) c.loop-column.out.entries) here c.loop-column.invariant.so_far.before in
+    let before = before_column s _ _ c.args.columns.now c.loop-column.column-index c.loop-column.out c.loop-column-test.true c.loop-column.invariant.so_far in
     let stored = rw (c.entries.ensures.rows, c.entries.ensures.values) at c.in_ok-push_column-2.ensures.ok in
     let column = rw c.deref.ensures.value at c.in_ok-make.ensures.column in
     let adds = column_adds s _ _ _ _ c.entries.ensures.column column c.loop-column.out _ before stored c.in_ok-push_column-2.ensures.matrix in
     record {
-      so_far = sum_more s laws c.args.accumulator.now c.args.left.now c.args.right.now c.shape-own_shape.ensures.matrix c.shape-left_shape.ensures.matrix c.shape-right_shape.ensures.matrix r.agree c.args.columns.now r.ascending r.within r.accumulator_columns r.right_columns _ _ c.loop-column.column-index _ _ c.loop-column-test.true refl c.loop-column.invariant.so_far adds (λ i. λ t. s.add (own i t) (sums i t));
+      so_far = sum_more s laws c.args.accumulator.now c.args.left.now c.args.right.now c.shape-2.ensures.matrix c.shape-left_shape.ensures.matrix c.shape.ensures.matrix r.factors.agree c.args.columns.now r.factors.ascending r.factors.within r.accumulator_columns _ _ c.loop-column.column-index _ c.loop-column-test.true c.loop-column.invariant.so_far adds (λ i. λ t. s.add (own i t) (sums i t));
       zeros = c.in_ok-make.ensures.zeros;
       told = c.loop-column.invariant.told;
     }
@@ -130,7 +126,7 @@ pub returns : goal.returns
 returns g c =
     let s = g.S.Semiring.arithmetic in
     let r = c.requires in
-    sum_all s g.met.S.Semiring.is_semiring c.args.accumulator.now c.args.left.now c.args.right.now c.shape-own_shape.ensures.matrix c.shape-left_shape.ensures.matrix c.shape-right_shape.ensures.matrix r.agree c.args.columns.now r.ascending r.within r.accumulator_columns r.right_columns c.loop-column.out c.loop-column.column-index r.shape c.loop-column-test.false c.loop-column.invariant.so_far
+    sum_all s g.met.S.Semiring.is_semiring c.args.accumulator.now c.args.left.now c.args.right.now c.shape-2.ensures.matrix c.shape-left_shape.ensures.matrix c.shape.ensures.matrix r.factors.agree c.args.columns.now r.factors.ascending r.factors.within r.accumulator_columns c.loop-column.out c.loop-column.column-index r.shape c.loop-column-test.false c.loop-column.invariant.so_far
 
 pub gather-requires-clause-lengths : goal.gather-requires-clause-lengths
 gather-requires-clause-lengths g c = as_long c.args.right.now.entries _ _ _ c.of_next.ensures.rows c.of_next.ensures.values
@@ -146,8 +142,8 @@ push_column-requires-clause-ascending g c = c.of_next-in-loop-column.ensures.asc
 
 pub push_column-requires-clause-column : goal.push_column-requires-clause-column
 push_column-requires-clause-column g c =
-    let cols = ap (λ (e : Extent). e.cols) (c.loop-column.invariant.so_far.shape ∙ c.requires.shape) in
-    subst (λ n. get_or c.args.columns.now c.loop-column.column-index 0 < n) (sym cols) (c.requires.within c.loop-column.column-index 0 c.loop-column-test.true)
+    let cols = ap (λ (e : Extent). e.cols) c.loop-column.invariant.so_far.shape in
+    subst (λ n. get_or c.args.columns.now c.loop-column.column-index 0 < n) (sym cols) (c.requires.factors.within c.loop-column.column-index 0 c.loop-column-test.true)
 
 pub push_column-requires-clause-values : goal.push_column-requires-clause-values
 push_column-requires-clause-values g c = c.of_next-in-loop-column.ensures.are_values
@@ -169,8 +165,8 @@ push_column-requires-in-loop-column-clause-ascending g c = rw c.entries.ensures.
 
 pub push_column-requires-in-loop-column-clause-column : goal.push_column-requires-in-loop-column-clause-column
 push_column-requires-in-loop-column-clause-column g c =
-    let cols = ap (λ (e : Extent). e.cols) (c.loop-column.invariant.so_far.shape ∙ c.requires.shape) in
-    subst (λ n. get_or c.args.columns.now c.loop-column.column-index 0 < n) (sym cols) (c.requires.within c.loop-column.column-index 0 c.loop-column-test.true)
+    let cols = ap (λ (e : Extent). e.cols) c.loop-column.invariant.so_far.shape in
+    subst (λ n. get_or c.args.columns.now c.loop-column.column-index 0 < n) (sym cols) (c.requires.factors.within c.loop-column.column-index 0 c.loop-column-test.true)
 
 pub push_column-requires-in-loop-column-clause-values : goal.push_column-requires-in-loop-column-clause-values
 push_column-requires-in-loop-column-clause-values g c = rw c.entries.ensures.values c.entries.ensures.column.are_values

@@ -1,19 +1,19 @@
 use Rattle.std.proofs.Common.{sym, subst}
 use Rattle.cb_cli.specs.Sinks.{AppendsPrefix}
-use Rattle.cb_cli.specs.Endings.{IsRun, told_of}
+use Rattle.cb_cli.specs.Endings.{IsRun, message_of}
 use Rattle.cb_cli.proofs.endings.run.Goals as goal
 
 pub returns-in-Ok : goal.returns-in-Ok
 returns-in-Ok g c =
     let ending = c.job_ending-ending.result in
     let old = g.E.Sink.written c.args.err.now in
-    let new = g.E.Sink.written c.tell.new.err in
+    let new = g.E.Sink.written c.print_message.new.err in
     subst
     (λ asked. IsRun (g.F.FileSource.holds c.args.files.now) (g.F.FileSource.refuses c.args.files.now) asked (g.K.Sink.written c.args.out.now) (g.K.Sink.written c.job_ending-ending.new.out) old new (record { code = c.status.result }))
     (sym c.in-Ok.is) (record {
       ending = ending;
       ends = c.job_ending-ending.ensures;
-      told = subst (λ names. AppendsPrefix old new (told_of names ending)) c.files.ensures c.tell.ensures;
+      message = subst (λ names. AppendsPrefix old new (message_of names ending)) c.files.ensures c.print_message.ensures;
       status_is = c.status.ensures;
     })
 
@@ -21,12 +21,12 @@ pub returns-in-Err : goal.returns-in-Err
 returns-in-Err g c =
     let ending = c.usage_ending-ending.result in
     let old = g.E.Sink.written c.args.err.now in
-    let new = g.E.Sink.written c.tell-in-Err.new.err in
+    let new = g.E.Sink.written c.print_message-in-Err.new.err in
     subst
     (λ asked. IsRun (g.F.FileSource.holds c.args.files.now) (g.F.FileSource.refuses c.args.files.now) asked (g.K.Sink.written c.args.out.now) (g.K.Sink.written c.usage_ending-ending.new.out) old new (record { code = c.status-in-Err.result }))
     (sym c.in-Err.is) (record {
       ending = ending;
       ends = c.usage_ending-ending.ensures;
-      told = c.tell-in-Err.ensures;
+      message = c.print_message-in-Err.ensures;
       status_is = c.status-in-Err.ensures;
     })

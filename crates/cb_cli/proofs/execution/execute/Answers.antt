@@ -1,11 +1,34 @@
-use Rattle.std.proofs.Common.{◌≡◌, rules}
-use Rattle.cb_cli.specs.Engines.{engine_for}
-use Rattle.cb_cli.specs.Files.{bytes_of}
-use Rattle.cb_cli.proofs.EndLemmas.{of_matrix}
+use Rattle.cb_cli.proofs.EndLemmas.{of_alone, of_task}
 use Rattle.cb_cli.proofs.execution.execute.Goals as goal
 
 pub returns-in-Matrix : goal.returns-in-Matrix
 returns-in-Matrix g c =
-    let texts = bytes_of c.args.texts.items in
-    let chosen : c.backend_for-backend.result.engine ≡ engine_for c.args.job.now texts = search rules in
-    of_matrix _ c.backend_for-backend.result c.args.texts.items _ _ _ _ c.args.job.now _ c.in-Matrix.is chosen c.backend_for-backend.ensures.side c.execute_named.ensures
+    of_task c.args.job.now c.args.texts.items _ _ _ _ c.backend_for-backend.result _ c.backend_for-backend.ensures.engine c.backend_for-backend.ensures.side c.in-Matrix.is c.execute_named.ensures
+
+pub returns-in-Selected : goal.returns-in-Selected
+returns-in-Selected g c =
+    of_task c.args.job.now c.args.texts.items _ _ _ _ c.backend_for-backend.result _ c.backend_for-backend.ensures.engine c.backend_for-backend.ensures.side c.in-Selected.is c.execute_named-in-Selected.ensures
+
+pub returns-in-Kronecker : goal.returns-in-Kronecker
+returns-in-Kronecker g c =
+    of_task c.args.job.now c.args.texts.items _ _ _ _ c.backend_for-backend.result _ c.backend_for-backend.ensures.engine c.backend_for-backend.ensures.side c.in-Kronecker.is c.execute_named-in-Kronecker.ensures
+
+pub returns-in-Levels : goal.returns-in-Levels
+returns-in-Levels g c =
+    of_task c.args.job.now c.args.texts.items _ _ _ _ c.backend_for-backend.result _ c.backend_for-backend.ensures.engine c.backend_for-backend.ensures.side c.in-Levels.is c.put_levels.ensures
+
+pub returns-in-Distances : goal.returns-in-Distances
+returns-in-Distances g c =
+    of_task c.args.job.now c.args.texts.items _ _ _ _ c.backend_for-backend.result _ c.backend_for-backend.ensures.engine c.backend_for-backend.ensures.side c.in-Distances.is c.put_distances.ensures
+
+pub returns-in-Parents : goal.returns-in-Parents
+returns-in-Parents g c = of_alone c.args.job.now c.args.texts.items _ _ _ _ _ c.in-Parents.is c.put_parents.ensures
+
+pub returns-in-Components : goal.returns-in-Components
+returns-in-Components g c = of_alone c.args.job.now c.args.texts.items _ _ _ _ _ c.in-Components.is c.put_components.ensures
+
+pub returns-in-Triangles : goal.returns-in-Triangles
+returns-in-Triangles g c = of_alone c.args.job.now c.args.texts.items _ _ _ _ _ c.in-Triangles.is c.put_triangles.ensures
+
+pub returns-in-TriangleCounts : goal.returns-in-TriangleCounts
+returns-in-TriangleCounts g c = of_alone c.args.job.now c.args.texts.items _ _ _ _ _ c.in-TriangleCounts.is c.put_triangle_counts.ensures

@@ -80,7 +80,7 @@ returns-clause-column g c =
     let laws = g.met.S.Semiring.is_semiring in
     let inv = c.loop-n.invariant in
     let m = inv.accumulator.marked in
-    λ i. sym (add_zero s laws _ (column_value s laws _ c.entries-entries.ensures.column i))
+    λ i. sym (add_zero s laws _ (column_value s laws _ c.entries.ensures.column i))
     ∙ ap (s.add _) (sym (all_taken s.zero c.loop-n.sums c.loop-n.marks c.args.groups.now m (λ j. ⊎_elim (λ (f : j < c.loop-n.from). inv.done j f) (λ (f : c.loop-n.from ≤ j). m.no_group j (c.in_default.ensures.none j f)) (cases_lt j c.loop-n.from)) i))
     ∙ inv.together i
 

@@ -11,7 +11,7 @@ loop-rest-init g c =
     record {
       long = refl;
       values = c.requires.values;
-      column = column_value g.S.Semiring.arithmetic g.met.S.Semiring.is_semiring _ c.entries-entries.ensures.column;
+      column = column_value g.S.Semiring.arithmetic g.met.S.Semiring.is_semiring _ c.entries.ensures.column;
       subset = λ k b. b;
       before = λ k b. All-weaker (λ i. i < c.args.n * 64) (λ i. i < c.args.n * 64 + k) (λ i m. omega arith) _ c.requires.before;
       upper = All-weaker (λ i. i < c.args.n * 64) (λ i. i < c.args.n * 64 + 64) (λ i m. omega arith) _ c.requires.before;

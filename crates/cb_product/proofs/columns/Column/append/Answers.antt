@@ -5,7 +5,7 @@ use Rattle.cb_product.proofs.columns.Column.append.Goals as goal
 
 pub loop-n-init : goal.loop-n-init
 loop-n-init g c = record {
-  so_far = record { values = column_value g.S.Semiring.arithmetic g.met.S.Semiring.is_semiring _ c.entries-entries.ensures.column; sums = λ i. refl };
+  so_far = record { values = column_value g.S.Semiring.arithmetic g.met.S.Semiring.is_semiring _ c.entries.ensures.column; sums = λ i. refl };
   before = c.requires.after;
   none = λ e. refl;
 }

@@ -1,0 +1,199 @@
+//! Products of blocks by several threads, which share the operands.
+//!
+//! Each thread makes a panel of the product: the product of the left block and some columns of the right. The columns
+//! are parted so that each panel takes about as many products of two values, as by Nagasaka, Matsuoka, Azad and Buluç,
+//! High-performance Sparse Matrix-Matrix Products on Intel KNL and Multicore Architectures (ICPP Workshops 2018). No
+//! operand is copied, and one index of the left block's columns serves all threads.
+//!
+//! Panels are made by halves and joined by halves: a thread makes the first half, another one the second, which is
+//! appended to the first. The first panel takes room for the whole product, so only the entries of the others are
+//! copied. If no thread is available, the caller's thread makes the panel.
+#![tactic(auto)]
+
+ghost use Rattle.std.specs.Prelude.{◌≡◌, ◌<◌, ◌≤◌, IfOk, length};
+ghost use Rattle.std.specs.Thread.{IsSync};
+ghost use Rattle.cb_matrix.specs.Sparse.{IsMatrix};
+ghost use Rattle.cb_matrix.specs.Values.{product};
+ghost use Rattle.cb_dcsc.specs.Columns.{with_entries};
+ghost use Rattle.cb_product.specs.ColumnStarts.{Tells};
+ghost use Rattle.cb_product.specs.Factors.{AreFactors};
+ghost use Rattle.cb_product.specs.InColumns.{only_columns};
+
+use cb_dcsc::Block;
+use cb_product::{ColumnIndex, multiply_columns};
+use cb_semirings::Semiring;
+use std::alloc::{AllocError, Global};
+use std::thread::{Threads, join};
+
+/// How many panels a product is made in.
+#[derive(Clone, Copy)]
+pub struct Panels {
+    /// At most this many.
+    pub most: u32,
+    /// As few as take this many products each. Columns stay whole, so one panel may take fewer.
+    pub least_products: usize,
+}
+
+impl Panels {
+    /// How many panels so many products are made in.
+    fn of(&self, products: usize) -> u32 {
+        let fitting = products / self.least_products.max(1);
+        fitting.min(self.most as usize) as u32
+    }
+}
+
+/// The product of two blocks, as [`cb_product::multiply`] returns it, in panels, each by a thread.
+///
+/// The columns of the left block are as many as the rows of the right. Costs the time of the products, divided among the
+/// threads, and a pass over the entries of the right block; all panels but the first are copied once. Besides the
+/// product, memory is that of these panels while they are joined, and an accumulator for each thread.
+pub fn multiply<S: Semiring + Send + Sync, R: Threads + Sync>(
+    rt: &R,
+    alloc: Global,
+    panels: Panels,
+    left: &Block<S>,
+    right: &Block<S>,
+) -> Result<Block<S>, AllocError>
+    requires { left.now.shape.cols ≡ right.now.shape.rows }
+    ensures { IfOk result (λ m. m ≡ product S.arithmetic left.now right.now) }
+{
+    if panels.most < 2 || right.columns() < 2 {
+        return cb_product::multiply(alloc, left, right);
+    }
+    let index = ColumnIndex::new(alloc, left, right.len())?;
+    let counts = products_of_columns(alloc, left, &index, right)?;
+    let count = panels.of(total(&counts));
+    let columns = right.column_numbers();
+    make_panels::<S, R>(
+        rt, alloc, left, &index, right, columns, &counts, &counts, count,
+    )
+}
+
+/// How many products each column of the right block that has entries takes.
+fn products_of_columns<S: Semiring>(
+    alloc: Global,
+    left: &Block<S>,
+    index: &ColumnIndex,
+    right: &Block<S>,
+) -> Result<Vec<usize>, AllocError>
+    requires agree { left.now.shape.cols ≡ right.now.shape.rows }
+    requires told { Tells index.now left.now }
+{
+    let right_shape = right.shape();
+    let mut counts = Vec::new(alloc);
+    counts.reserve(right.columns())?;
+    for n in 0..right.columns() {
+        let (rows, _) = right.nth_column(n);
+        counts.push(index.products(left, rows))?;
+    }
+    Ok(counts)
+}
+
+/// All of these counts together.
+fn total(counts: &[usize]) -> usize {
+    let mut sum = 0usize;
+    for count in counts {
+        sum = sum.saturating_add(*count);
+    }
+    sum
+}
+
+/// How many of these columns make up the first `low` of `count` panels: those with that share of the products.
+fn place_of(counts: &[usize], low: u32, count: u32) -> usize
+    requires { 0 < count }
+    ensures { result ≤ length counts.now }
+{
+    let share = (total(counts) / count as usize).saturating_mul(low as usize);
+    let mut sum = 0usize;
+    for n in 0..counts.len() {
+        if sum >= share {
+            return n;
+        }
+        sum = sum.saturating_add(counts[n]);
+    }
+    counts.len()
+}
+
+/// How many entries can come to stand in columns that take so many products: in each no more than there are rows.
+fn most_entries(counts: &[usize], rows: u32) -> usize {
+    let mut sum = 0usize;
+    for count in counts {
+        sum = sum.saturating_add((*count).min(rows as usize));
+    }
+    sum
+}
+
+/// Makes these columns of the product in so many panels. It takes room for the entries of the columns that take `room`
+/// products: these columns, and those that are to be appended to them.
+fn make_panels<S: Semiring + Send + Sync, R: Threads + Sync>(
+    rt: &R,
+    alloc: Global,
+    left: &Block<S>,
+    index: &ColumnIndex,
+    right: &Block<S>,
+    columns: &[u32],
+    counts: &[usize],
+    room: &[usize],
+    count: u32,
+) -> Result<Block<S>, AllocError>
+    requires { AreFactors index.now left.now right.now columns.now }
+    ensures { IfOk result (λ m. m ≡ product S.arithmetic left.now (only_columns columns.now right.now)) }
+{
+    if count < 2 {
+        let most = most_entries(room, left.shape().rows());
+        return multiply_columns(alloc, left, index, right, columns, most);
+    }
+    prove_eq!(left.shape().cols(), right.shape().rows());
+    let (low, high) = (count / 2, count - count / 2);
+    let place = place_of(counts, low, count);
+    let (first, last) = columns.split_at(place.min(columns.len()));
+    let (first_counts, last_counts) = counts.split_at(place);
+    let (front, back) = join(
+        rt,
+        || -> Result<Block<S>, AllocError>
+            requires { IsSync R.row × AreFactors index.now left.now right.now first.now }
+            ensures { IfOk result (λ m. m ≡ product S.arithmetic left.entry.now (only_columns first.entry.now right.entry.now)) }
+        {
+            make_panels::<S, R>(
+                rt,
+                alloc,
+                left,
+                index,
+                right,
+                first,
+                first_counts,
+                room,
+                low,
+            )
+        },
+        || -> Result<Block<S>, AllocError>
+            requires { IsSync R.row × AreFactors index.now left.now right.now last.now }
+            ensures { IfOk result (λ m. m ≡ product S.arithmetic left.entry.now (only_columns last.entry.now right.entry.now)) }
+        {
+            make_panels::<S, R>(
+                rt,
+                alloc,
+                left,
+                index,
+                right,
+                last,
+                last_counts,
+                last_counts,
+                high,
+            )
+        },
+    );
+    let front = front?;
+    let back = back?;
+    appended(front, back)
+}
+
+/// A block with the entries of another after all its own.
+fn appended<S: Semiring>(mut front: Block<S>, mut back: Block<S>) -> Result<Block<S>, AllocError>
+    requires shape { back.shape ≡ front.shape }
+    requires matrix { IsMatrix S.arithmetic (with_entries front back.entries) }
+    ensures { IfOk result (λ m. m ≡ with_entries front back.entries) }
+{
+    front.append(&mut back)?;
+    Ok(front)
+}
