@@ -1,4 +1,4 @@
--- One lane of a world, beside what its two ranks posted and took there by themselves.
+-- A lane of a world, compared with what its two ranks posted and took when each ran by itself.
 use Rattle.std.proofs.Common.{◌≡◌, ℕ, ◌+◌, ◌<◌, List, [], ◌∷◌, ◌++◌, length, refl, sym, ◌∙◌, ap, arith, append_assoc, length-append}
 use Rattle.std.specs.Prelude.{min}
 use Rattle.std.proofs.lemmas.List.{append_cancel_left}
@@ -7,7 +7,8 @@ use Rattle.cb_letters.specs.declared.Letter.{Letter}
 use Rattle.cb_letters.specs.Lane.{Lane, posted, append, after_take}
 use Rattle.cb_ranks.proofs.Courses.{Extends}
 
--- as many letters were taken as the addressee took by itself, and these, with those that are queued, are those that the sender posted
+-- As many letters were taken as the addressee took by itself. These, followed by those that are queued, are those that the
+-- sender posted.
 pub record LaneStandsAt (sent received : List (Letter Sparse)) (l : Lane Sparse) : Type 0 where
   pub counted : l.taken ≡ length received
   pub queued : received ++ l.queue ≡ sent
@@ -16,7 +17,7 @@ pub record LaneStandsAt (sent received : List (Letter Sparse)) (l : Lane Sparse)
 pub lane_stays : {sent sent' received received' : List (Letter Sparse)} {l l' : Lane Sparse} → sent' ≡ sent → received' ≡ received → l' ≡ l → LaneStandsAt sent received l → LaneStandsAt sent' received' l'
 lane_stays p t e h = rw (p, t, e) h
 
--- one letter more is posted
+-- one more letter is posted
 pub lane_posts : {sent sent' received received' : List (Letter Sparse)} {l l' : Lane Sparse} (x : Letter Sparse) → sent' ≡ sent ++ x ∷ [] → received' ≡ received → l' ≡ append l x → LaneStandsAt sent received l → LaneStandsAt sent' received' l'
 lane_posts {received = received} {l = l} x p t e h =
     rw (p, t, e) (record {
@@ -27,7 +28,7 @@ lane_posts {received = received} {l = l} x p t e h =
 one_taken : (n : ℕ) → 0 < n → min 1 n ≡ 1
 one_taken n h = omega arith
 
--- the letter that has waited longest is taken
+-- the oldest letter is taken
 pub lane_takes : {sent sent' received received' : List (Letter Sparse)} {l l' : Lane Sparse} (x : Letter Sparse) (rest : List (Letter Sparse)) → l.queue ≡ x ∷ rest → sent' ≡ sent → received' ≡ received ++ x ∷ [] → l' ≡ after_take l → LaneStandsAt sent received l → LaneStandsAt sent' received' l'
 lane_takes {received = received} {l = l} x rest q p t e h =
     let some : 0 < length l.queue = rw q (omega arith) in
@@ -37,7 +38,7 @@ lane_takes {received = received} {l = l} x rest q p t e h =
       queued = append_assoc received (x ∷ []) (after_take l).queue ∙ ap (λ xs. received ++ xs) (sym gone) ∙ h.queued;
     })
 
--- as many letters were posted on it as the sender posted
+-- on the lane as many letters were posted as the sender posted
 pub lane_counts : (sent received : List (Letter Sparse)) (l : Lane Sparse) → LaneStandsAt sent received l → posted l ≡ length sent
 lane_counts sent received l h =
     let a = h.counted in
@@ -45,7 +46,7 @@ lane_counts sent received l h =
     let c = ap length h.queued in
     omega arith
 
--- the letter that has waited longest is the one that the addressee took next, where all that it took was posted
+-- the oldest letter is the one that the addressee took next, if all that it took was posted
 pub same_letter : (sent received last : List (Letter Sparse)) (l : Lane Sparse) (x y : Letter Sparse) (rest : List (Letter Sparse)) → l.queue ≡ y ∷ rest → LaneStandsAt sent received l → Extends sent last → Extends (received ++ x ∷ []) last → y ≡ x
 same_letter sent received last l x y rest q h more next =
     let so_far : sent ≡ received ++ (y ∷ rest) = sym h.queued ∙ ap (λ xs. received ++ xs) q in

@@ -1,4 +1,4 @@
--- Blocks that are lost, as faults of a run.
+-- Lost blocks, as faults of a run.
 use Rattle.std.proofs.Common.{◌≡◌, ℕ, List, subst}
 use Rattle.cb_semirings.specs.Arithmetic.{Arithmetic}
 use Rattle.cb_matrix.specs.Sparse.{Sparse}
@@ -15,7 +15,7 @@ use Rattle.cb_engines.specs.Orders.{IsLeftInOrder, IsOrdered, IsOrderedLoss, IsS
 use Rattle.cb_engines.proofs.SteppedRuns.{of_its_order}
 
 module _ (s : Arithmetic) (q : ℕ) (planned : Planned) (operands : List (ℕ × Sparse)) (first : List (List (Slot Sparse))) (has : HasOperands s q operands first) (p : CheckedView) (n : ℕ) (of_planned : p ≡ checked_of planned) (slot : n ≡ planned.result) (stores : List (List (Slot Sparse))) (refusals : List ℕ) where
-  -- ranks of a plan that was checked lose, stepped in an order, what those of the plan lose
+  -- a loss of stepped ranks of the checked plan is one of ranks of the plan
   stepped_loss : (letters : ℕ) (order : List Event) → IsLeftInOrder s p first stores refusals letters order → (r count : ℕ) → IsLostBlock n stores refusals r count → IsSteppedLoss s q planned operands letters order r count
   stepped_loss letters order left r count lost = record {
     first = first;
@@ -26,7 +26,7 @@ module _ (s : Arithmetic) (q : ℕ) (planned : Planned) (operands : List (ℕ ×
     lost = subst (λ k. IsLostBlock k stores refusals r count) slot lost;
   }
 
-  -- a loss is one of a run of the plan
+  -- a loss in a run of the checked plan is one in a run of the plan
   pub ordered_loss : (engine : Engine) → IsOrdered s engine p first stores refusals → (e : EngineFault) → IsLossFault n stores refusals e → IsOrderedLoss s engine q planned operands e
   ordered_loss engine left Memory h = tt
   ordered_loss engine left (NotStarted r) h = absurd h

@@ -1,4 +1,4 @@
--- The ranks of a world, in step with ranks that each ran its program by itself.
+-- The ranks of a world, in step with ranks that each ran by itself.
 use Rattle.std.proofs.Common.{◌≡◌, ◌≢◌, ℕ, ◌+◌, ◌<◌, true, false, List, [], ◌∷◌, ◌++◌, length, refl, sym, ◌∙◌, ap, subst, arith}
 use Rattle.std.specs.Prelude.{Some, ◌==◌, if◌then◌else◌, slice_get, slice_set, drop}
 use Rattle.std.proofs.lemmas.Bool.Decides.{nat_tests}
@@ -18,7 +18,7 @@ use Rattle.cb_plan.specs.declared.stores.Slot.{Slot}
 use Rattle.cb_plan.specs.Meaning.{target_of}
 use Rattle.cb_rank.specs.Halves.{Course, DoesHalf, RunsTo, IsCopy, IsWork, slot_at, slot_of_body, with_letter}
 use Rattle.cb_rank.specs.Ranks.{RankView, onward}
-use Rattle.cb_rank.proofs.OwnActs.{split}
+use Rattle.cb_plan.proofs.Effects.{split}
 use Rattle.cb_world.specs.Ends.{with_lane_in, boxes_with, boxes_after}
 use Rattle.cb_world.specs.EndLaws.{lane_here, lane_by_addressee, lane_by_sender}
 use Rattle.cb_world.specs.Worlds.{WorldView, IsWorld, rank_of, next_of, lane_between, CanDo}
@@ -28,13 +28,13 @@ use Rattle.cb_world.proofs.WorldAfterHalf.{rank_same, rank_other}
 use Rattle.cb_ranks.proofs.Courses.{Extends, grows}
 use Rattle.cb_engines.proofs.LanesInStep.{LaneStandsAt, lane_stays, lane_posts, lane_takes, lane_counts, same_letter}
 
--- a rank of a world has come as far as this course, from which it goes on by itself to its last
+-- a rank of a world is where this course ends, and by itself goes on from there to its last
 pub record RankStandsAt (s : Arithmetic) (r : ℕ) (x : RankView) (c last : Course) : Type 0 where
   pub slots : x.slots ≡ c.slots
   pub refusals : x.refusals ≡ c.refusals
   pub goes_on : RunsTo s r (drop x.done x.program) c last
 
--- so has each rank of a world, and each lane
+-- so is each rank of a world, and each lane agrees with its two courses
 pub record StandsAt (s : Arithmetic) (ranks : ℕ) (w : WorldView) (c last : ℕ → Course) : Type 0 where
   pub count : w.plan.ranks ≡ ranks
   pub each : (r : ℕ) → r < ranks → RankStandsAt s r (rank_of w r) (c r) (last r)
@@ -99,7 +99,7 @@ module _ (s : Arithmetic) (ranks : ℕ) (w : WorldView) (r : ℕ) (h : Half) (c 
   abbrev then_courses : ℕ → Course
   then_courses = with_course c r mid
 
-  -- the rank has done one half more, and no other any
+  -- the rank has done one more half, and no other rank has done any
   stand_on : (boxes : _) → ((f t : ℕ) → f < ranks → t < ranks → f ≢ t → LaneStandsAt ((then_courses f).posted t) ((then_courses t).taken f) (lane_between (with_rank w r (onward (rank_of w r) mid.slots mid.refusals) boxes) f t)) → StandsAt s ranks (with_rank w r (onward (rank_of w r) mid.slots mid.refusals) boxes) then_courses last
   stand_on boxes lanes =
       let mine : RankStandsAt s r (onward (rank_of w r) mid.slots mid.refusals) mid (last r) = record { slots = refl; refusals = refl; goes_on = goes } in
@@ -117,7 +117,7 @@ module _ (s : Arithmetic) (ranks : ℕ) (w : WorldView) (r : ℕ) (h : Half) (c 
         lanes = lanes;
       }
 
-  -- where the rank posted nothing, or took nothing, neither did any
+  -- if the rank posted nothing, or took nothing, nothing was posted, or taken
   posted_now : ((k : ℕ) → mid.posted k ≡ (c r).posted k) → (q k : ℕ) → (then_courses q).posted k ≡ (c q).posted k
   posted_now e q k = split (q == r) (λ u. let same : q ≡ r = grind (arith, nat_tests) in rw u (e k ∙ ap (λ z. (c z).posted k) (sym same))) (λ u. rw u refl)
 
@@ -149,7 +149,7 @@ module _ (s : Arithmetic) (ranks : ℕ) (w : WorldView) (r : ℕ) (h : Half) (c 
         let other : t ≢ to = grind (arith, nat_tests) in
         lane_stays (posts_own t ∙ with_letter_other (c r).posted to x t other) (taken_now takes t r) (lane_by_addressee w.boxes r to r t (append (lane_between w r to) x) other) (stands.lanes r t l i ne))
 
-    -- one letter more on the lane to a rank
+    -- one more letter is on the lane to a rank
     lanes_posted : (f t : ℕ) → f < ranks → t < ranks → f ≢ t → LaneStandsAt ((then_courses f).posted t) ((then_courses t).taken f) (lane_between posted_world f t)
     lanes_posted f t i j ne =
         split (f == r)
@@ -187,7 +187,7 @@ module _ (s : Arithmetic) (ranks : ℕ) (w : WorldView) (r : ℕ) (h : Half) (c 
         let n = sound.sizes.1 in
         lane_stays (posted_now posts f r) (takes_own f ∙ with_letter_other (c r).taken from x f other) (lane_by_sender w.boxes from r f r (after_take (lane_between w from r)) (let z = inside in omega arith) other) (stands.lanes f r i l ne))
 
-    -- one letter less on the lane from a rank
+    -- one letter fewer is on the lane from a rank
     lanes_taken : (f t : ℕ) → f < ranks → t < ranks → f ≢ t → LaneStandsAt ((then_courses f).posted t) ((then_courses t).taken f) (lane_between taken_world f t)
     lanes_taken f t i j ne =
         split (t == r)
@@ -208,7 +208,7 @@ module _ (s : Arithmetic) (ranks : ℕ) (w : WorldView) (r : ℕ) (h : Half) (c 
       let ahead : Extends ((c r).taken from ++ x ∷ []) ((last from).posted r) = (more.0, sym (taken from r i l apart) ∙ more.1 ∙ ap (λ xs. xs ++ more.0) took) in
       same_letter ((c from).posted r) ((c r).taken from) ((last from).posted r) (lane_between w from r) x y rest queue (stands.lanes from r i l apart) (sender.posted r) ahead
 
--- where a rank of a world can do its next half, it can do it as it did by itself
+-- if a rank of a world can do its next half, it can do it as it did by itself
 pub next_stands : (s : Arithmetic) (ranks : ℕ) (w : WorldView) (r : ℕ) (h : Half) (c last : ℕ → Course) (mid : Course) (sound : IsWorld s w) (taken : AllTaken ranks last) (stands : StandsAt s ranks w c last) (l : r < ranks) (next : next_of w r ≡ Some h) (goes : RunsTo s r (drop ((rank_of w r).done + 1) (rank_of w r).program) mid (last r)) → CanDo w r (Some h) → DoesHalf s r h (c r) mid → Next s ranks w r h last
 next_stands s ranks w r (half_is.Post to tag slot) c last mid sound taken stands l next goes can d =
     let h : Half = half_is.Post to tag slot in

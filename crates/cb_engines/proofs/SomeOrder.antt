@@ -1,4 +1,4 @@
--- What ranks did each by itself, some order of steps does: steps of the least rank that can act, over lanes of any capacity.
+-- Some order of steps does what ranks did each by itself: steps of the least rank that can act, over lanes of any capacity.
 use Rattle.std.proofs.Common.{◌≡◌, ◌⊎◌, ℕ, zero, suc, ◌+◌, ◌<◌, ◌≤◌, List, [], ◌∷◌, length, map, get_or, refl, sym, ◌∙◌, ap, subst, arith, inl, inr, ⊎_elim}
 use Rattle.std.specs.Prelude.{Option, Some, None, drop}
 use Rattle.std.proofs.lemmas.Bool.{cases_lt}
@@ -53,7 +53,7 @@ can_or_not w r (Some (half_is.Shut to)) = below_or_not (length (lane_between w r
 can_or_not w r (Some (half_is.End from)) = below_or_not 0 (length (lane_between w from r).queue)
 can_or_not w r None = inr (λ e. e)
 
--- where something remains, there is a least rank that can act
+-- if anything remains to be done, there is a least rank that can act
 least_ready : (s : Arithmetic) (w : WorldView) → IsWorld s w → 0 < remaining w → (r : ℕ) × (r < w.plan.ranks) × IsReady w (Some r)
 least_ready s w sound more =
     elim (least (CanAct w) (λ r. can_or_not w r (next_of w r)) w.plan.ranks) [
@@ -66,7 +66,7 @@ next_is : (w : WorldView) (r : ℕ) (h : Option Half) → CanDo w r h → (k : H
 next_is w r (Some k) can = (k, refl)
 next_is w r None can = absurd can
 
--- a world whose ranks come to these courses, by steps of the least that can act
+-- by steps of the least rank that can act, the ranks of a world come to these courses
 record ComesTo (s : Arithmetic) (ranks : ℕ) (w : WorldView) (last : ℕ → Course) : Type 0 where
   events : List Event
   after : WorldView
@@ -76,7 +76,7 @@ record ComesTo (s : Arithmetic) (ranks : ℕ) (w : WorldView) (last : ℕ → Co
   slots : (r : ℕ) → r < ranks → (rank_of after r).slots ≡ (last r).slots
   refusals : (r : ℕ) → r < ranks → (rank_of after r).refusals ≡ (last r).refusals
 
--- where all is done, it is there
+-- if all are done, the world is there
 all_there : (s : Arithmetic) (ranks : ℕ) (w : WorldView) (c last : ℕ → Course) → AllDone w → IsWorld s w → StandsAt s ranks w c last → ComesTo s ranks w last
 all_there s ranks w c last done sound stands =
     let there : (r : ℕ) → r < ranks → last r ≡ c r = λ r l.
@@ -91,7 +91,7 @@ all_there s ranks w c last done sound stands =
       refusals = λ r l. (stands.each r l).refusals ∙ ap (λ (z : Course). z.refusals) (sym (there r l));
     }
 
--- a rank that is the least that can act did so, and the world after it comes to an end
+-- the least rank that can act did its next half, and the world after it comes to these courses
 one_more : (s : Arithmetic) (ranks : ℕ) (w mid : WorldView) (r : ℕ) (h : Half) (last : ℕ → Course) → IsReady w (Some r) → StepsBy s r (next_of w r) (moved_by h) w mid → ComesTo s ranks mid last → ComesTo s ranks w last
 one_more s ranks w mid r h last ready steps end =
     let step : Steps s (event_is.Step r) (moved_by h) w mid = record { half = steps; starved = tt } in
@@ -105,7 +105,7 @@ one_more s ranks w mid r h last ready steps end =
       refusals = end.refusals;
     }
 
--- from wherever they stand, the ranks of a world come to where they came by themselves
+-- from wherever they are, the ranks of a world come to where they came by themselves
 comes_to : (s : Arithmetic) (ranks n : ℕ) (w : WorldView) (c last : ℕ → Course) → remaining w ≡ n → IsWorld s w → AllTaken ranks last → StandsAt s ranks w c last → ComesTo s ranks w last
 comes_to s ranks zero w c last e sound taken stands = all_there s ranks w c last (all_done_by w e) sound stands
 comes_to s ranks (suc n) w c last e sound taken stands =
@@ -143,7 +143,7 @@ nearest_is_some letters capacity near =
     (cases_lt letters 65))
     (cases_lt letters 1)
 
--- what ranks left that each did its program by itself is what some order of their steps leaves
+-- some order of steps leaves what ranks left that each did its program by itself
 pub left_in_some_order : (s : Arithmetic) (p : CheckedView) (first : List (List (Slot Sparse))) (f : FinishedView) (letters capacity : ℕ) → IsNearest letters capacity → Fits p.ranks p.starts first → FinishesPlan s p first f →
     (stores : List (List (Slot Sparse))) (refusals : List ℕ) → stores ≡ f.stores → refusals ≡ f.refusals → (order : List Event) × IsLeftInOrder s p first stores refusals letters order
 left_in_some_order s p first f letters capacity near fits done stores refusals stores_are refusals_are =

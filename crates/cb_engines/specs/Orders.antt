@@ -1,4 +1,4 @@
--- What ranks leave that were stepped in an order, and that what ranks in threads leave is such.
+-- What ranks leave that are stepped in an order. Ranks in threads leave what ranks leave that are stepped in some order.
 use Rattle.std.specs.Prelude.{◌≡◌, ℕ, ◌≤◌, ◌<◌, List, map}
 use Rattle.cb_semirings.specs.Arithmetic.{Arithmetic}
 use Rattle.cb_matrix.specs.Sparse.{Sparse, Extent}
@@ -8,7 +8,7 @@ use Rattle.cb_plan.specs.declared.plans.Planned.{Planned}
 use Rattle.cb_plan.specs.Plans.{CheckedView}
 use Rattle.cb_plan.specs.Stores.{state_of}
 use Rattle.cb_placement.specs.Slots.{HasOperands}
-use Rattle.cb_placement.specs.Answers.{gathered}
+use Rattle.cb_placement.specs.Answers.{IsGathered}
 use Rattle.cb_world.specs.declared.events.Event.{Event}
 use Rattle.cb_world.specs.Worlds.{WorldView, IsNewWorld, AllDone}
 use Rattle.cb_world.specs.WorldSteps.{RunsBy, FinishesBy}
@@ -17,16 +17,19 @@ use Rattle.cb_engines.specs.declared.engine_faults.EngineFault.{EngineFault}
 use Rattle.cb_engines.specs.declared.engine_faults.EngineFault.TheVariants.{Lost}
 use Rattle.cb_engines.specs.declared.engines.Engine.{Engine}
 use Rattle.cb_engines.specs.declared.engines.Engine.TheVariants.{Threads, Traced, InOrder}
+use Rattle.cb_engines.specs.declared.engines.Outcome.{Outcome}
 
--- the number from 1 to 64 that is nearest to another
+-- the number from 1 to 64 that is nearest to this one
 pub record IsNearest (letters capacity : ℕ) : Type 0 where
   pub none : letters ≡ 0 → capacity ≡ 1
   pub within : 1 ≤ letters → letters ≤ 64 → capacity ≡ letters
   pub many : 64 < letters → capacity ≡ 64
 
--- A new world of this plan and these first stores, in which nothing is done, is stepped by exactly these events, and then
--- by its least ready rank until all is done. What is left are the slots of its ranks, and their counts of refusals.
-pub record IsLeftInOrder (s : Arithmetic) (p : CheckedView) (first stores : List (List (Slot Sparse))) (refusals : List ℕ) (letters : ℕ) (order : List Event) : Type 0 where
+-- A new world of this plan and these first stores, in which nothing is done, is stepped by exactly these events. Then its
+-- least ready rank is stepped, again and again, until all are done. The stores and the counts of refusals are those of its
+-- ranks at the end.
+pub record IsLeftInOrder (s : Arithmetic) (p : CheckedView) (first stores : List (List (Slot Sparse)))
+    (refusals : List ℕ) (letters : ℕ) (order : List Event) : Type 0 where
   pub capacity : ℕ
   pub nearest : IsNearest letters capacity
   pub begun : WorldView
@@ -40,32 +43,39 @@ pub record IsLeftInOrder (s : Arithmetic) (p : CheckedView) (first stores : List
   pub slots : stores ≡ map (λ x. x.slots) last.ranks
   pub counts : refusals ≡ map (λ x. x.refusals) last.ranks
 
--- this holds of the engine's order, or, where its ranks run in threads, of some order, over lanes for the engine's letters
+-- this holds of the engine's capacity and its order, or, if its ranks run in threads, of its capacity and some order
 abbrev pub OfItsOrder : Engine → (ℕ → List Event → Type 0) → Type 0
 OfItsOrder (InOrder letters order) holds = holds letters order.now
 OfItsOrder (Threads letters) holds = (order : List Event) × holds letters order
 OfItsOrder (Traced letters) holds = (order : List Event) × holds letters order
 
--- an engine leaves what ranks leave that are stepped: in its order, or, where its ranks run in threads, in some order
+-- an engine leaves what ranks leave that are stepped in its order, or, if its ranks run in threads, in some order
 abbrev pub IsOrdered : Arithmetic → Engine → CheckedView → List (List (Slot Sparse)) → List (List (Slot Sparse)) → List ℕ → Type 0
 IsOrdered s engine p first stores refusals = OfItsOrder engine (λ letters order. IsLeftInOrder s p first stores refusals letters order)
 
--- Ranks of a plan began with the blocks of these matrices in these slots, were stepped in an order, and the answer is the
--- matrix of this shape that their slots for it hold at the end.
-pub record IsSteppedRun (s : Arithmetic) (q : ℕ) (planned : Planned) (operands : List (ℕ × Sparse)) (shape : Extent) (letters : ℕ) (order : List Event) (answer : Distributed) (refusals : List ℕ) : Type 0 where
+-- The ranks of a plan begin with the blocks of these matrices in these slots, and are stepped in an order. The answer is the
+-- matrix of this shape whose blocks their result slots hold at the end.
+pub record IsSteppedRun (s : Arithmetic) (q : ℕ) (planned : Planned) (operands : List (ℕ × Sparse)) (shape : Extent)
+    (letters : ℕ) (order : List Event) (answer : Distributed) (refusals : List ℕ) : Type 0 where
   pub first : List (List (Slot Sparse))
   pub has : HasOperands s q operands first
   pub stores : List (List (Slot Sparse))
   pub left : IsLeftInOrder s (checked_of planned) first stores refusals letters order
-  pub held : answer ≡ record { side = q; matrix = gathered s q shape planned.result (state_of stores) }
+  pub held : IsGathered s q shape planned.result (state_of stores) answer
 
--- an engine answers what ranks make that are stepped: in its order, or, where its ranks run in threads, in some order
+-- an engine returns what ranks make that are stepped in its order, or, if its ranks run in threads, in some order
 abbrev pub IsOrderedRun : Arithmetic → Engine → ℕ → Planned → List (ℕ × Sparse) → Extent → Distributed → List ℕ → Type 0
-IsOrderedRun s engine q planned operands shape answer refusals = OfItsOrder engine (λ letters order. IsSteppedRun s q planned operands shape letters order answer refusals)
+IsOrderedRun s engine q planned operands shape answer refusals =
+    OfItsOrder engine (λ letters order. IsSteppedRun s q planned operands shape letters order answer refusals)
 
--- Ranks of a plan began with the blocks of these matrices in these slots, were stepped in an order, and lost a block of the
--- answer, at rank r, which was refused memory so often.
-pub record IsSteppedLoss (s : Arithmetic) (q : ℕ) (planned : Planned) (operands : List (ℕ × Sparse)) (letters : ℕ) (order : List Event) (r count : ℕ) : Type 0 where
+-- this outcome has such an answer, and such counts of refusals
+abbrev pub IsOrderedOutcome : {S : Type 0} → Arithmetic → Engine → ℕ → Planned → List (ℕ × Sparse) → Extent → Outcome S → Type 0
+IsOrderedOutcome s engine q planned operands shape done = IsOrderedRun s engine q planned operands shape done.answer done.refusals.items
+
+-- The ranks of a plan begin with the blocks of these matrices in these slots, and are stepped in an order. Then a block of
+-- the answer is lost, at rank r, which was refused memory `count` times.
+pub record IsSteppedLoss (s : Arithmetic) (q : ℕ) (planned : Planned) (operands : List (ℕ × Sparse))
+    (letters : ℕ) (order : List Event) (r count : ℕ) : Type 0 where
   pub first : List (List (Slot Sparse))
   pub has : HasOperands s q operands first
   pub stores : List (List (Slot Sparse))
@@ -73,7 +83,7 @@ pub record IsSteppedLoss (s : Arithmetic) (q : ℕ) (planned : Planned) (operand
   pub left : IsLeftInOrder s (checked_of planned) first stores refusals letters order
   pub lost : IsLostBlock planned.result stores refusals r count
 
--- where a block is lost, ranks lose it that are stepped in the engine's order, or, where they run in threads, in some order
+-- if a block is lost, ranks lose it that are stepped in the engine's order, or, if its ranks run in threads, in some order
 abbrev pub IsOrderedLoss : Arithmetic → Engine → ℕ → Planned → List (ℕ × Sparse) → EngineFault → Type 0
 IsOrderedLoss s engine q planned operands (Lost r count) = OfItsOrder engine (λ letters order. IsSteppedLoss s q planned operands letters order r count)
 IsOrderedLoss s engine q planned operands _ = Unit {0}

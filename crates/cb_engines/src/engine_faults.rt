@@ -1,4 +1,4 @@
-//! Why a run has no answer.
+//! Why a run fails.
 ghost use Rattle.std.specs.Prelude.{◌≡◌, ◌<◌, length, get_or};
 ghost use Rattle.cb_engines.specs.declared.engine_faults.EngineFault.TheVariants.{Memory, Lost};
 ghost use Rattle.cb_engines.specs.EngineFaults.{fault_of_ranks};
@@ -7,28 +7,28 @@ use cb_ranks::RunFault;
 use std::alloc::AllocError;
 use thiserror::Error;
 
-/// Why a run has no answer, in the order in which the reasons are looked for.
+/// Why a run fails. The reasons are checked in this order.
 #[derive(Clone, Copy, Debug, PartialEq, Eq, Error)]
 pub enum EngineFault {
     /// Memory was refused.
     #[error("out of memory")]
     Memory,
-    /// No thread could be started for this rank.
+    /// The thread of this rank couldn't be started. It is the first such rank.
     #[error("rank {0} not started")]
     NotStarted(u16),
-    /// This rank came to a lane whose other rank was gone.
+    /// This rank used a lane whose other rank was gone. It is the least such rank.
     #[error("rank {0} gone")]
     Gone(u16),
-    /// The trace isn't what the ranks did.
+    /// The trace doesn't match what the ranks recorded.
     #[error("trace torn")]
     TraceTorn,
-    /// A block that the answer needs is lost, since memory was refused to this rank, so often in all.
+    /// A block of the answer is lost because this rank was refused memory, `refusals` times in all.
     #[error("lost at rank {rank}")]
     Lost { rank: u16, refusals: u64 },
 }
 
 impl EngineFault {
-    /// The fault of a block that is lost at a rank, where memory was refused to each rank so often.
+    /// Returns the fault of a block that is lost at a rank. `refusals` says how often memory was refused to each rank.
     pub fn lost(rank: u16, refusals: &[u64]) -> EngineFault
         requires { rank < length refusals.now }
         ensures { result ≡ Lost rank (get_or refusals.now rank 0) }

@@ -1,8 +1,9 @@
 //! Matrices in the slots of ranks: laid out before a plan, and read out after it.
 //!
-//! [`laid_out`] moves the blocks of matrices over a grid into the slots of its ranks, and [`drain`] moves the blocks of
-//! one slot out again. `specs/Answers` defines by `Makes` when a plan makes a matrix from others that are laid out so:
-//! each kernel has a lemma that proves it, and whoever runs the plan requires it. Nothing here runs a plan.
+//! [`laid_out`] moves the blocks of matrices over a grid into the slots of its ranks. [`drain`] moves the blocks of one
+//! slot out again, and [`gather_slot`] makes a matrix of them. `Makes` of `specs/Answers` says when a plan makes a matrix
+//! from others that are laid out so: `cb_planner` proves it of each plan, and `cb_engines` requires it of the plan that it
+//! runs. Nothing here runs a plan.
 #![tactic(auto)]
 
 ghost use Rattle.std.specs.Prelude.{◌≡◌};
@@ -10,17 +11,17 @@ ghost use Rattle.cb_placement.specs.declared.DrainFault.TheVariants.{Memory};
 
 mod placed_stores;
 
-pub use placed_stores::{blank, drain, fill, laid_out};
+pub use placed_stores::{blank, drain, fill, gather_slot, laid_out};
 use std::alloc::AllocError;
 use thiserror::Error;
 
-/// Why the blocks in a slot can't be handed out.
+/// Why the blocks in a slot can't be taken out.
 #[derive(Clone, Copy, Debug, PartialEq, Eq, Error)]
 pub enum DrainFault {
     /// Memory was refused.
     #[error("out of memory")]
     Memory,
-    /// A block is lost because this rank was refused memory. If several are lost, this is about that of the least rank.
+    /// A block is lost because this rank was refused memory. If several are lost, that of the least rank is reported.
     #[error("lost at rank {0}")]
     Lost(u16),
 }

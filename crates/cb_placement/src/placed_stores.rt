@@ -1,15 +1,19 @@
 //! The slots of the ranks: filled with blocks before a plan, and drained after it.
-ghost use Rattle.std.specs.Prelude.{◌≡◌, ◌≢◌, ◌<◌, ◌*◌, ℕ, map, length, replicate, Some, All, IfOk, IfErr, OnOk};
+ghost use Rattle.std.specs.Prelude.{◌≡◌, ◌≢◌, ◌<◌, ◌*◌, ℕ, length, replicate, Some, All, IfOk, IfErr, OnOk};
 ghost use Rattle.cb_layout.specs.Blocks.{block_at};
 ghost use Rattle.cb_plan.specs.declared.stores.Slot.TheVariants.{Empty};
+ghost use Rattle.cb_matrix.specs.Sparse.{Sparse};
+ghost use Rattle.cb_plan.specs.Meaning.{State};
 ghost use Rattle.cb_plan.specs.Stores.{state_of};
 ghost use Rattle.cb_plan.specs.PlanTables.{IsTable, cell};
-ghost use Rattle.cb_placement.specs.Losses.{AreFilled, IsDrainRefusal};
-ghost use Rattle.cb_placement.specs.Slots.{Filled, HasOperands, HaveSlots, block_of_rank};
+ghost use Rattle.cb_placement.specs.Answers.{HasShapes, IsGathered, IsGatheredOf};
+ghost use Rattle.cb_placement.specs.Losses.{AreFilled, IsDrainRefusal, LostOrMeans};
+ghost use Rattle.cb_placement.specs.Slots.{Filled, HasOperands, HaveSlots, block_of_rank, whole_operands};
 
 use crate::DrainFault;
 use cb_dcsc::Block;
 use cb_layout::{DistributedMatrix, Grid};
+use cb_matrix::Shape;
 use cb_plan::{RankStore, SLOTS, Slot};
 use cb_semirings::Semiring;
 use std::alloc::{AllocError, Global};
@@ -32,9 +36,9 @@ pub fn laid_out<S: Semiring>(
     grid: &Grid,
     operands: Vec<(u16, DistributedMatrix<S>)>,
 ) -> Result<Vec<RankStore<S>>, AllocError>
-    requires slots { HaveSlots (map (λ o. (o.0, o.1.matrix)) operands.items) }
+    requires slots { HaveSlots (whole_operands operands.items) }
     requires sides { All (λ o. o.1.side ≡ grid.now.side) operands.items }
-    ensures { IfOk result (λ v. HasOperands S.arithmetic grid.now.side (map (λ o. (o.0, o.1.matrix)) operands.items) v.items) }
+    ensures { IfOk result (λ v. HasOperands S.arithmetic grid.now.side (whole_operands operands.items) v.items) }
 {
     let mut stores = blank(alloc, grid.ranks())?;
     for (slot, matrix) in operands {
@@ -68,8 +72,8 @@ pub fn fill<S: Semiring>(stores: &mut Vec<RankStore<S>>, slot: u16, blocks: Vec<
 
 /// Moves the blocks out of a slot of the ranks. Other slots don't change.
 ///
-/// `Memory` is reported before any block is moved. `Lost` names the origin of the loss at the least rank whose slot is lost;
-/// the blocks of the ranks before it are dropped.
+/// `Memory` is reported before any block is moved. `Lost` names the origin of the loss at the least rank whose slot is
+/// lost; the blocks of the ranks before it are dropped.
 #[tactic(auto, using(crate::proofs::DrainedSlots::taken, crate::proofs::DrainedSlots::never_empty, crate::proofs::DrainedSlots::first_loss))]
 pub fn drain<S: Semiring>(
     alloc: Global,
@@ -94,4 +98,25 @@ pub fn drain<S: Semiring>(
         }
     }
     Ok(blocks)
+}
+
+/// Takes the blocks out of a slot of the ranks, and returns the matrix of this shape that has these blocks. The faults are
+/// those of [`drain`].
+pub fn gather_slot<S: Semiring>(
+    alloc: Global,
+    grid: &Grid,
+    stores: Vec<RankStore<S>>,
+    slot: u16,
+    shape: Shape,
+) -> Result<DistributedMatrix<S>, DrainFault>
+    requires slot { slot < SLOTS }
+    requires table { IsTable (grid.now.side * grid.now.side) SLOTS stores.items }
+    requires meant { (meant : State Sparse) × LostOrMeans meant stores.items × HasShapes grid.now.side shape slot meant }
+    ensures ok { IfOk result (IsGatheredOf S.arithmetic grid.now.side shape slot stores.items) }
+    ensures held { IfOk result (IsGathered S.arithmetic grid.now.side shape slot (state_of stores.items)) }
+    ensures fault { IfErr result (IsDrainRefusal slot stores.items) }
+{
+    let mut stores = stores;
+    let blocks = drain(alloc, &mut stores, slot)?;
+    Ok(DistributedMatrix::from_blocks(*grid, shape, blocks))
 }

@@ -1,6 +1,6 @@
--- Operations: what an operation's plan makes of operands over a grid, and the trace that an engine keeps of it. Empties:
--- products of which a factor has no entries.
+-- Operations: what an operation's plan makes of operands over a grid, and the trace that an engine keeps of it.
 pub mod Operations
-pub mod Empties
--- Orders: what ranks make that are stepped in an order.
+-- Orders: what ranks make that are stepped in an order, as an operation's.
 pub mod Orders
+-- SteppedProducts: products by vectors of ranks that were stepped in an order.
+mod SteppedProducts

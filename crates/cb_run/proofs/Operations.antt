@@ -16,14 +16,14 @@ use Rattle.cb_engines.specs.EngineRuns.{IsTraceOf, checked_of}
 use Rattle.cb_run.specs.Outcomes.{IsPlanFor, IsTraceFor}
 
 module _ (operation : Operation) (q : ℕ) where
-  -- a plan that computes an operation makes what the operation does of these matrices, where they lie in its slots
+  -- a plan that computes an operation makes its result from these matrices in its slots
   module _ (s : Arithmetic) (laws : IsSemiring s) (ms : List Sparse) (are : All (IsMatrix s) ms) (planned : Planned) (computes : Computes operation q (shapes_in ms) planned) where
     pub made_there : (shape : Extent) → shape ≡ shape_of operation (shapes_in ms) → (there : List (ℕ × Sparse)) → there ≡ placed_operands ms → Makes s q there planned shape (answer_of operation s ms)
     made_there shape shaped there placed =
         subst (λ (ps : List (ℕ × Sparse)). Makes s q ps planned shape (answer_of operation s ms)) (sym placed)
         (subst (λ (d : Extent). Makes s q (placed_operands ms) planned d (answer_of operation s ms)) (sym shaped) (computes s laws ms are refl))
 
--- a plan that computes an operation is one for it
+-- a plan that computes an operation is a plan for it
 plan_for : (operation : Operation) → operation ≢ MultiplyVector → (q : ℕ) (shapes : List Extent) (planned : Planned) → Computes operation q shapes planned → IsPlanFor operation q shapes (checked_of planned)
 plan_for Multiply other q shapes planned computes = (planned, refl, computes)
 plan_for MultiplyMasked other q shapes planned computes = (planned, refl, computes)
@@ -35,7 +35,7 @@ plan_for Add other q shapes planned computes = (planned, refl, computes)
 plan_for Times other q shapes planned computes = (planned, refl, computes)
 plan_for (Prune test) other q shapes planned computes = (planned, refl, computes)
 
--- the trace that an engine keeps of such a plan is the operation's
+-- the trace that an engine keeps of such a plan is one of the operation
 pub trace_for : (operation : Operation) → operation ≢ MultiplyVector → (q : ℕ) (engine : Engine) (shapes : List Extent) (planned : Planned) → Computes operation q shapes planned → (t : Option TraceView) → IsTraceOf engine (checked_of planned) t → IsTraceFor engine operation q shapes t
 trace_for operation other q (Threads letters) shapes planned computes t is = is
 trace_for operation other q (Traced letters) shapes planned computes t is = (checked_of planned, plan_for operation other q shapes planned computes, is)

@@ -17,11 +17,11 @@ use Rattle.cb_engines.specs.declared.engine_faults.EngineFault.TheVariants.{Memo
 use Rattle.cb_engines.specs.Orders.{IsSteppedLoss, IsSteppedRun, IsOrderedLoss, IsOrderedRun}
 use Rattle.cb_engines.proofs.SteppedRuns.{of_its_order}
 use Rattle.cb_vectors.specs.SpreadVectors.{MultipliesVectors}
-use Rattle.cb_vectors.specs.VectorOrders.{IsSteppedProduct, IsSteppedProductLoss, IsOrderedProduct}
+use Rattle.cb_run.specs.VectorOrders.{IsSteppedProduct, IsSteppedProductLoss, IsOrderedProduct}
 use Rattle.cb_run.specs.declared.operation_faults.OperationFault.TheVariants.{Failed}
 use Rattle.cb_run.specs.Outcomes.{ByPlan, IsSteppedFor, IsOrderedFor, IsSteppedLossFor, IsLossFor}
 
--- what holds of a plan that computes another operation than a product by a vector
+-- what holds of a plan that computes any operation but a product by a vector
 by_plan : (operation : Operation) → operation ≢ MultiplyVector → (q : ℕ) (shapes : List Extent) (of_vectors : CheckedView → Type 0) (of_others : Planned → Type 0) (planned : Planned) → Computes operation q shapes planned → of_others planned → ByPlan operation q shapes of_vectors of_others
 by_plan Multiply other q shapes of_vectors of_others planned computes holds = (planned, computes, holds)
 by_plan MultiplyMasked other q shapes of_vectors of_others planned computes holds = (planned, computes, holds)
@@ -34,7 +34,7 @@ by_plan Times other q shapes of_vectors of_others planned computes holds = (plan
 by_plan (Prune test) other q shapes of_vectors of_others planned computes holds = (planned, computes, holds)
 
 module _ (s : Arithmetic) (q : ℕ) (ms : List Sparse) where
-  -- of these operands in these slots, and with this shape
+  -- a run on these operands in these slots, with an answer of this shape, is one of the operation
   stepped_there : (operation : Operation) → operation ≢ MultiplyVector → (planned : Planned) → Computes operation q (shapes_in ms) planned →
       (shape : Extent) → shape ≡ shape_of operation (shapes_in ms) → (there : List (ℕ × Sparse)) → there ≡ placed_operands ms → (letters : ℕ) (order : List Event) (answer : Distributed) (refusals : List ℕ) →
       IsSteppedRun s q planned there shape letters order answer refusals → IsSteppedFor s operation q ms letters order answer refusals
@@ -44,7 +44,7 @@ module _ (s : Arithmetic) (q : ℕ) (ms : List Sparse) where
       (subst (λ (d : Extent). IsSteppedRun s q planned (placed_operands ms) d letters order answer refusals) shaped
       (subst (λ (ps : List (ℕ × Sparse)). IsSteppedRun s q planned ps shape letters order answer refusals) placed run))
 
-  -- a run of an operation's plan is one of the operation
+  -- an engine's run of an operation's plan is one of the operation
   pub ordered_for : (operation : Operation) → operation ≢ MultiplyVector → (engine : Engine) (planned : Planned) → Computes operation q (shapes_in ms) planned →
       (shape : Extent) → shape ≡ shape_of operation (shapes_in ms) → (there : List (ℕ × Sparse)) → there ≡ placed_operands ms → (answer : Distributed) (refusals : List ℕ) →
       IsOrderedRun s engine q planned there shape answer refusals → IsOrderedFor s engine operation q ms answer refusals
@@ -74,7 +74,7 @@ module _ (s : Arithmetic) (q : ℕ) (ms : List Sparse) where
       of_its_order engine (λ letters order. IsSteppedLoss s q planned there letters order r count) (λ letters order. IsSteppedLossFor s operation q ms letters order r count)
       (λ letters order is. lost_there operation other planned computes there placed letters order r count is) loss
 
--- so is one of a plan of products by vectors
+-- a run of a plan for products by vectors is one of a product by a vector
 pub ordered_vector : (s : Arithmetic) (engine : Engine) (q : ℕ) (a x : Sparse) (plan : CheckedView) → MultipliesVectors q a.shape plan → (answer : Distributed) (y : Sparse) → answer.matrix ≡ y → (refusals : List ℕ) →
     IsOrderedProduct s engine q plan a x y refusals → IsOrderedFor s engine MultiplyVector q (a ∷ x ∷ []) answer refusals
 ordered_vector s (Threads letters) q a x plan multiplies answer y is refusals run =

@@ -1,4 +1,4 @@
-//! Why an operation has no answer.
+//! Why an operation fails.
 ghost use Rattle.std.specs.Prelude.{◌≡◌};
 ghost use Rattle.cb_engines.specs.declared.engine_faults.EngineFault.TheVariants.{Memory};
 ghost use Rattle.cb_run.specs.declared.operation_faults.OperationFault.TheVariants.{Failed};
@@ -8,13 +8,13 @@ use cb_operations::Refusal;
 use std::alloc::AllocError;
 use thiserror::Error;
 
-/// Why an operation has no answer, in the order in which the reasons are checked.
+/// Why an operation fails. The reasons are checked in this order.
 #[derive(Clone, Copy, Debug, PartialEq, Eq, Error)]
 pub enum OperationFault {
-    /// It can't be computed, by whatever engine.
+    /// The operation is refused, whatever the engine.
     #[error("{0}")]
     Refused(Refusal),
-    /// The engine has no answer.
+    /// The engine fails.
     #[error("{0}")]
     Failed(EngineFault),
 }

@@ -1,27 +1,28 @@
-//! An operation run by an engine.
-ghost use Rattle.std.specs.Prelude.{◌≡◌, ◌≢◌, length, map, All, IfOk, IfErr};
+//! Operations run by an engine.
+ghost use Rattle.std.specs.Prelude.{◌≡◌, ◌≢◌, length, All, IfOk, IfErr};
 ghost use Rattle.cb_matrix.specs.Sparse.{IsMatrix};
-ghost use Rattle.cb_operations.specs.Operands.{list_of};
+ghost use Rattle.cb_operations.specs.Operands.{lent_in, list_of};
 ghost use Rattle.cb_operations.specs.OperationAnswers.{operand_count_of, Agree, answer_of, shape_of, shapes_in};
-ghost use Rattle.cb_run.specs.Outcomes.{IsLossFor, IsMadeInOrder, IsOutcome, IsRefusal, LieOver, wholes};
+ghost use Rattle.cb_planner.specs.ScatteredOperands.{LieOver, wholes};
+ghost use Rattle.cb_run.specs.Outcomes.{IsLossFor, IsMadeInOrder, IsOutcome, IsRefusal};
 
 use crate::OperationFault;
-use crate::scattered_operands::{empty_product, placed, plan_in, scattered, shape_in};
 use crate::spread_vectors::run_vector;
 use cb_engines::{Engine, Outcome, compute};
 use cb_layout::{DistributedMatrix, Grid};
 use cb_matrix::{Matrix, Shape};
 use cb_operations::{Operands, Operation, Refusal};
+use cb_planner::{empty_product, ready, scattered, shape_in, whole_shape_in};
 use cb_semirings::Semiring;
 use std::alloc::Global;
 use std::sync::Wait;
 use std::thread::Threads;
 
-/// Does an operation on matrices that lie over one grid, by an engine. The answer is left in the blocks of the grid.
+/// Does an operation on matrices over a grid, by an engine. The answer lies over the same grid.
 ///
-/// Shapes that don't agree are refused before memory is asked for. The blocks of the operands are moved to the ranks,
-/// and none is copied before it is sent. For a product with a factor without entries, which ranks in threads would run
-/// without a trace, no plan is made: it costs a block for each rank.
+/// Shapes that don't agree are refused before memory is requested. The blocks of the operands are moved to the ranks; only
+/// blocks that are sent are copied. `Engine::Threads` makes no plan for a product with a factor without entries: this
+/// costs an empty block for each rank.
 pub fn run<S: Semiring + Send + Sync, R: Threads + Wait + Sync>(
     rt: &R,
     alloc: Global,
@@ -54,7 +55,7 @@ pub fn run<S: Semiring + Send + Sync, R: Threads + Wait + Sync>(
     }
 }
 
-/// Does an operation other than a product by a vector on matrices whose shapes agree.
+/// Does any operation but a product by a vector, on matrices whose shapes agree.
 fn run_plan<S: Semiring + Send + Sync, R: Threads + Wait + Sync>(
     rt: &R,
     alloc: Global,
@@ -74,15 +75,14 @@ fn run_plan<S: Semiring + Send + Sync, R: Threads + Wait + Sync>(
     ensures fault { IfErr result (IsRefusal engine.entry operation grid.now.side (wholes (list_of operands))) }
     ensures lost { IfErr result (IsLossFor S.arithmetic engine.entry operation grid.now.side (wholes (list_of operands))) }
 {
-    let planned = plan_in(alloc, grid, operation, &operands)?;
-    let operands = placed(alloc, operands)?;
+    let (planned, operands) = ready(alloc, grid, operation, operands)?;
     Ok(compute(rt, alloc, engine, grid, planned, operands, shape)?)
 }
 
 /// Does an operation on whole matrices, by an engine over a grid.
 ///
-/// Shapes that don't agree are refused before memory is asked for. Besides what [`run`] costs, each entry of the
-/// operands is cut into its block, and each entry of the answer is put in its place.
+/// Shapes that don't agree are refused before memory is requested. Besides what [`run`] costs, each entry of the operands
+/// is copied to its block, and each entry of the answer to the whole matrix.
 pub fn run_matrices<S: Semiring + Send + Sync, R: Threads + Wait + Sync>(
     rt: &R,
     alloc: Global,
@@ -92,13 +92,16 @@ pub fn run_matrices<S: Semiring + Send + Sync, R: Threads + Wait + Sync>(
     operands: Operands<&Matrix<S>>,
 ) -> Result<Matrix<S>, OperationFault>
     requires { operand_count_of operation ≡ length (list_of operands) }
-    ensures ok { IfOk result (λ m. m ≡ answer_of operation S.arithmetic (map (λ m. m.now) (list_of operands.entry))) }
-    ensures agree { IfOk result (λ m. Agree operation (shapes_in (map (λ m. m.now) (list_of operands.entry)))) }
-    ensures order { IfOk result (IsMadeInOrder S.arithmetic engine.entry operation grid.now.side (map (λ m. m.now) (list_of operands.entry))) }
-    ensures fault { IfErr result (IsRefusal engine.entry operation grid.now.side (map (λ m. m.now) (list_of operands.entry))) }
-    ensures lost { IfErr result (IsLossFor S.arithmetic engine.entry operation grid.now.side (map (λ m. m.now) (list_of operands.entry))) }
+    ensures ok { IfOk result (λ m. m ≡ answer_of operation S.arithmetic (lent_in (list_of operands.entry))) }
+    ensures agree { IfOk result (λ m. Agree operation (shapes_in (lent_in (list_of operands.entry)))) }
+    ensures order { IfOk result (IsMadeInOrder S.arithmetic engine.entry operation grid.now.side (lent_in (list_of operands.entry))) }
+    ensures fault { IfErr result (IsRefusal engine.entry operation grid.now.side (lent_in (list_of operands.entry))) }
+    ensures lost { IfErr result (IsLossFor S.arithmetic engine.entry operation grid.now.side (lent_in (list_of operands.entry))) }
 {
-    let operands = scattered(alloc, grid, operation, operands)?;
+    let Some(_shape) = whole_shape_in(operation, &operands) else {
+        return Err(OperationFault::Refused(Refusal::Shapes));
+    };
+    let operands = scattered(alloc, grid, operands)?;
     let outcome = run(rt, alloc, engine, grid, operation, operands)?;
     Ok(outcome.answer.gather(alloc)?)
 }

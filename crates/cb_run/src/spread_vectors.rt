@@ -1,22 +1,24 @@
-//! The product of a matrix by a vector that lies over the same grid.
+//! The product of a matrix by a vector over the same grid.
 ghost use Rattle.std.specs.Prelude.{◌≡◌, ◌*◌, length, IfOk, IfErr};
 ghost use Rattle.cb_operations.specs.Operands.{list_of};
 ghost use Rattle.cb_operations.specs.OperationAnswers.{Agree, shapes_in};
 ghost use Rattle.cb_engines.specs.EngineRuns.{IsEngineFault};
-ghost use Rattle.cb_run.specs.Outcomes.{IsLossFor, IsOutcome, LieOver, wholes};
+ghost use Rattle.cb_planner.specs.ScatteredOperands.{LieOver, wholes};
+ghost use Rattle.cb_run.specs.Outcomes.{IsLossFor, IsOutcome};
 ghost use Rattle.cb_run.specs.declared.operation_faults.OperationFault.TheVariants.{Failed};
 
+use crate::multiply_vector;
 use cb_engines::{Engine, EngineFault, Outcome};
 use cb_layout::{DistributedMatrix, Grid};
 use cb_operations::{Operands, Operation};
 use cb_semirings::Semiring;
-use cb_vectors::{multiply_vector, vector_plan};
+use cb_vectors::vector_plan;
 use std::alloc::Global;
 use std::sync::Wait;
 use std::thread::Threads;
 
-/// The product of a matrix by a vector. The vector's entries are spread over all ranks, and those of the product come
-/// from all of them: besides the run it costs a copy of these.
+/// Multiplies a matrix by a vector. The vector and the product are spread over all ranks: besides the run, their entries
+/// are copied.
 pub fn run_vector<S: Semiring + Send + Sync, R: Threads + Wait + Sync>(
     rt: &R,
     alloc: Global,

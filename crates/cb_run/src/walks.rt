@@ -1,26 +1,28 @@
-//! How far the vertices of a graph are from one of them: the graph of a square matrix, in which a stored entry (i, j)
-//! is an edge from i to j. Levels and distances are one [search](cb_searches::Search); for levels each edge weighs 1.
-ghost use Rattle.std.specs.Prelude.{◌≡◌, ◌<◌, ◌*◌, ℕ, IfOk, IfErr, OnOk};
+//! Levels and distances of the vertices of a graph from a source, by ranks.
+//!
+//! A square matrix is a graph: a stored entry (i, j) is an edge from i to j. Both are one [search](cb_searches::Search);
+//! for levels each edge weighs 1.
+ghost use Rattle.std.specs.Prelude.{◌≡◌, ◌<◌, ◌*◌, IfOk, IfErr, OnOk};
 ghost use Rattle.cb_semirings.specs.Tables.{min_plus};
-ghost use Rattle.cb_matrix.specs.Sparse.{Sparse};
 ghost use Rattle.cb_matrix.specs.Operations.{transposed};
 ghost use Rattle.cb_searches.specs.Walks.{AreLevels, AreDistances};
+ghost use Rattle.cb_placement.specs.Answers.{over_grid};
 ghost use Rattle.cb_engines.specs.EngineRuns.{IsEngineFault};
-ghost use Rattle.cb_run.specs.Searched.{HasSource, IsGraphRefusal, IsWalkRefusal};
+ghost use Rattle.cb_run.specs.Searched.{DistancesAreLevels, HasSource, IsGraphRefusal, IsWalkRefusal};
 
-use crate::{OperationFault, run};
+use crate::{OperationFault, multiply_vector, run};
 use cb_engines::{Engine, EngineFault};
 use cb_layout::{DistributedMatrix, Grid};
-use cb_matrix::{Matrix, Shape};
+use cb_matrix::{LIMIT, Matrix, Shape};
 use cb_operations::{Operands, Operation, Refusal};
 use cb_searches::Search;
 use cb_semirings::{MinPlus, OrAnd, Semiring};
-use cb_vectors::{multiply_vector, vector_plan};
+use cb_vectors::vector_plan;
 use std::alloc::{AllocError, Global};
 use std::sync::Wait;
 use std::thread::Threads;
 
-/// Refuses the shape of a matrix that isn't square, then a source that isn't one of its vertices.
+/// Refuses a shape that isn't square, then a source that isn't one of its vertices.
 pub fn check_graph(shape: Shape, source: u32) -> Result<(), Refusal>
     ensures ok { OnOk result (HasSource shape source) }
     ensures refused { IfErr result (IsGraphRefusal shape source) }
@@ -34,7 +36,7 @@ pub fn check_graph(shape: Shape, source: u32) -> Result<(), Refusal>
     Ok(())
 }
 
-/// The transpose of a matrix that lies over a grid.
+/// Returns the transpose of a matrix over a grid.
 fn transposed<S: Semiring + Send + Sync, R: Threads + Wait + Sync>(
     rt: &R,
     alloc: Global,
@@ -43,7 +45,7 @@ fn transposed<S: Semiring + Send + Sync, R: Threads + Wait + Sync>(
     matrix: DistributedMatrix<S>,
 ) -> Result<DistributedMatrix<S>, EngineFault>
     requires { matrix.side ≡ grid.now.side }
-    ensures ok { IfOk result (λ m. m ≡ record { side = grid.now.side; matrix = transposed S.arithmetic matrix.matrix }) }
+    ensures ok { IfOk result (λ m. m ≡ over_grid grid.now.side (transposed S.arithmetic matrix.matrix)) }
     ensures fault { IfErr result (IsEngineFault engine.entry (grid.now.side * grid.now.side)) }
 {
     match run(
@@ -60,7 +62,7 @@ fn transposed<S: Semiring + Send + Sync, R: Threads + Wait + Sync>(
     }
 }
 
-/// The least weight of a walk from the source to each vertex.
+/// Returns the least weight of a walk from the source to each vertex.
 fn nearest<R: Threads + Wait + Sync>(
     rt: &R,
     alloc: Global,
@@ -90,26 +92,25 @@ fn nearest<R: Threads + Wait + Sync>(
     Ok(column)
 }
 
-/// The matrix over the same grid as one of weights, in which distances are levels: each stored value is 1 already. No
-/// entry is copied.
+/// Returns the matrix as one of weights, in which distances are levels: each stored value is 1 already. No entry is
+/// copied.
 pub fn weighted(
     alloc: Global,
     graph: DistributedMatrix<OrAnd>,
 ) -> Result<DistributedMatrix<MinPlus>, AllocError>
     ensures same { IfOk result (λ m. m ≡ graph) }
-    ensures levels { IfOk result (λ m. (source : ℕ) (column : Sparse) → HasSource graph.matrix.shape source → AreDistances m.matrix source column → AreLevels graph.matrix source column) }
+    ensures levels { IfOk result (λ m. DistancesAreLevels m.matrix graph.matrix) }
 {
-    let _rows = graph.shape().rows();
+    prove!(graph.shape().rows() <= LIMIT);
     graph.recast(alloc)
 }
 
-/// The distance of each vertex from a source: the least weight of a walk, where a walk's weight is the sum of its
-/// entries' values, which stops at 2^64-1. Vertices without a walk, or with an infinite distance, are not stored. The
-/// blocks of the matrix are moved to the ranks.
+/// Returns the distance of each vertex from a source: the least weight of a walk. The weight of a walk is the sum of its
+/// entries' values, saturated at 2^64-1. Vertices without a walk, or at an infinite distance, are not stored.
 ///
-/// `NotSquare`, then `Source` for a source that is no vertex, are refused before memory is asked for. The matrix is
-/// transposed once. Each round is one run of the ranks over the entries of the vertices that fell in the round before;
-/// there are at most as many rounds as vertices.
+/// A shape that isn't square, then a source that isn't a vertex, are refused before memory is requested. The blocks of the
+/// matrix are moved to the ranks, and the matrix is transposed once. Each round is one run of the ranks, over the entries
+/// of the vertices whose distance fell in the round before. There are at most as many rounds as vertices.
 pub fn distances<R: Threads + Wait + Sync>(
     rt: &R,
     alloc: Global,
@@ -125,9 +126,11 @@ pub fn distances<R: Threads + Wait + Sync>(
     Ok(nearest(rt, alloc, engine, graph, source)?)
 }
 
-/// The level of each vertex from a source: the least number of entries of a walk. Vertices without a walk are not
-/// stored. Refusals and cost are those of [`distances`]; the level of a vertex is its distance if each entry weighs 1.
-/// This is the breadth-first search of Buluç and Gilbert, The Combinatorial BLAS (IJHPCA 2011), section 5.
+/// Returns the level of each vertex from a source: the least number of entries of a walk. Vertices without a walk are not
+/// stored.
+///
+/// Refusals and cost are those of [`distances`]; the level of a vertex is its distance if each entry weighs 1. This is the
+/// breadth-first search of Buluç and Gilbert, The Combinatorial BLAS (IJHPCA 2011), section 5.
 pub fn levels<R: Threads + Wait + Sync>(
     rt: &R,
     alloc: Global,

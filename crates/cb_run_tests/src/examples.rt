@@ -1,4 +1,4 @@
-//! What the tests work on: matrices, grids, and the runs in which each answer is the same.
+//! What the tests work on: matrices, grids, and the runs, all of which give the same results.
 use cb_engines::{Engine, EngineFault};
 use cb_layout::Grid;
 use cb_matrix::{Entry, Matrix};
@@ -8,7 +8,7 @@ use cb_semirings::{PlusTimes, Semiring};
 use std::alloc::Global;
 use std::test::Fail;
 
-/// Each engine, with the sides of its grids: a run of ranks in threads starts as many as the side squared.
+/// Every engine, with the sides of its grids. A run of ranks on threads starts one thread per rank.
 pub const RUNS: [(Engine, u32); 16] = [
     (Engine::InOrder(2, &[]), 1),
     (Engine::InOrder(2, &[]), 2),
@@ -28,7 +28,7 @@ pub const RUNS: [(Engine, u32); 16] = [
     (Engine::Threads(64), 3),
 ];
 
-/// The engines that differ in what they do where memory is refused.
+/// One engine for each way of handling refused memory.
 pub const ENGINES: [Engine; 3] = [
     Engine::InOrder(1, &[]),
     Engine::Threads(1),
@@ -41,15 +41,15 @@ pub type Place = (u32, u32, u64);
 /// The product of the two matrices of [`operands`].
 pub const PRODUCT: [Place; 3] = [(0, 0, 8), (1, 0, 12), (0, 1, 1)];
 
-/// The same, kept where the first of the two has entries.
+/// The same, masked by the first of the two.
 pub const MASKED: [Place; 2] = [(0, 0, 8), (0, 1, 1)];
 
-/// The grid of a side.
+/// The grid of this side.
 pub fn grid(side: u32) -> Result<Grid, Fail> {
     Ok(Grid::new(side).map_err(|_| "a side")?)
 }
 
-/// The matrix of so many rows and columns with these entries, where they make one and there is memory.
+/// The matrix of this many rows and columns with these entries, if they make one and there is memory.
 pub fn matrix<S: Semiring>(
     alloc: Global,
     rows: u32,
@@ -63,7 +63,7 @@ pub fn matrix<S: Semiring>(
     of_entries(alloc, rows, cols, &entries)
 }
 
-/// The same of entries.
+/// The same, from a list of entries.
 pub fn of_entries<S: Semiring>(
     alloc: Global,
     rows: u32,
@@ -76,14 +76,14 @@ pub fn of_entries<S: Semiring>(
     Matrix::from_entries(alloc, shape(rows, cols).ok()?, entries).ok()
 }
 
-/// Two matrices of two by two.
+/// Two 2 by 2 matrices.
 pub fn operands<S: Semiring>(alloc: Global) -> Option<(Matrix<S>, Matrix<S>)> {
     let left = matrix(alloc, 2, 2, &[(0, 0, 1), (0, 1, 2), (1, 1, 3)])?;
     let right = matrix(alloc, 2, 2, &[(1, 0, 4), (0, 1, 1)])?;
     Some((left, right))
 }
 
-/// Whether a matrix has just these entries.
+/// Whether a matrix has exactly these entries.
 pub fn has<S: Semiring>(matrix: &Matrix<S>, wanted: &[Place]) -> bool {
     let entries = matrix.entries();
     entries.len() == wanted.len()
@@ -91,7 +91,7 @@ pub fn has<S: Semiring>(matrix: &Matrix<S>, wanted: &[Place]) -> bool {
             == *place)
 }
 
-/// Whether want of memory has this fault with this engine.
+/// Whether this engine can return this fault for want of memory.
 pub fn is_refusal(engine: Engine, fault: OperationFault) -> bool {
     match fault {
         OperationFault::Failed(EngineFault::Memory | EngineFault::Lost { .. }) => true,
@@ -102,7 +102,7 @@ pub fn is_refusal(engine: Engine, fault: OperationFault) -> bool {
     }
 }
 
-/// Whether an answer has just these entries, or is a fault that want of memory has with this engine.
+/// Whether a result has exactly these entries, or is a fault that this engine can return for want of memory.
 pub fn is_right_or_refused<S: Semiring>(
     engine: Engine,
     answer: Result<Matrix<S>, OperationFault>,

@@ -1,4 +1,4 @@
-//! Products of wide and of the largest matrices in each run.
+//! Products of matrices of different sides and of the largest sides, in every run.
 use crate::examples::{Place, RUNS, grid, has, matrix};
 use cb_matrix::{LIMIT, Matrix};
 use cb_operations::{Operands, Operation};
@@ -9,8 +9,8 @@ use std::sync::Wait;
 use std::test::Fail;
 use std::thread::Threads;
 
-/// Two factors and the entries of their product: the first has so many rows and columns, and the second as many rows as the
-/// first has columns, and so many columns.
+/// Two factors and the entries of their product. The sides are the rows of the first, the columns of the first, which are
+/// the rows of the second, and the columns of the second.
 struct Factors {
     sides: [u32; 3],
     left: &'static [Place],
@@ -18,7 +18,7 @@ struct Factors {
     product: &'static [Place],
 }
 
-/// Three sides that differ, and the largest sides, which cost what their entries cost.
+/// Three different sides, and the largest sides, which cost no more than the entries.
 const FACTORS: [Factors; 2] = [
     Factors {
         sides: [2, 3, 7],
@@ -34,7 +34,7 @@ const FACTORS: [Factors; 2] = [
     },
 ];
 
-/// Whether two matrices have just this product in each run.
+/// Whether the product of two matrices is exactly this one in every run.
 fn make<R: Threads + Wait + Sync>(
     rt: &R,
     alloc: Global,
@@ -53,7 +53,7 @@ fn make<R: Threads + Wait + Sync>(
     Ok(true)
 }
 
-/// Whether some factors have their product in each run.
+/// Whether the product of these factors is right in every run.
 fn have_product<R: Threads + Wait + Sync>(
     rt: &R,
     alloc: Global,

@@ -1,5 +1,5 @@
-//! Four ranks on threads of the test, of which one is never run: each that waits for it, or for one that was given up, is
-//! given up too, and names it.
+//! Four ranks on threads of the test, one of which is never run. Each that waits for it, or for a rank that has given up,
+//! gives up too and names it.
 ghost use Rattle.std.specs.Prelude.{IfSome};
 ghost use Rattle.cb_plan.specs.Stores.{Fits};
 ghost use Rattle.cb_ranks.specs.Crews.{AreNew};
@@ -18,14 +18,14 @@ use std::thread::Threads;
 /// A rank with its desk.
 type Member = cb_ranks::Member<PlusTimes>;
 
-/// Which rank each of three finds gone, if it is given up.
+/// The rank that each of three ranks finds gone, if it gives up.
 type Gone = [Option<u16>; 3];
 
 /// The letters between four ranks, each from one to another.
 type Letters = [(u16, u16); 3];
 
-/// Rank 0 sends its block to each other, or each rank sends it on to the next; and whom ranks 1, 2 and 3 find gone, where
-/// rank 0 isn't run.
+/// Rank 0 sends its block to each other rank, or each rank sends it on to the next; and the ranks that ranks 1, 2 and 3
+/// find gone if rank 0 isn't run.
 const ROWS: [(Letters, Gone); 2] = [
     ([(0, 1), (0, 2), (0, 3)], [Some(0), Some(0), Some(0)]),
     ([(0, 1), (1, 2), (2, 3)], [Some(0), Some(1), Some(2)]),
@@ -58,7 +58,7 @@ fn close(plan: &mut Plan) -> Result<(), PlanFault> {
     Ok(())
 }
 
-/// The plan of these letters, of which rank 0 makes the block.
+/// The plan of these letters, for which rank 0 makes the block.
 fn plan_of(alloc: Global, letters: &Letters) -> Option<CheckedPlan> {
     let zero = Op::Zero {
         into: 0,
@@ -80,7 +80,7 @@ fn stores(alloc: Global) -> Option<Vec<RankStore<PlusTimes>>> {
     vec![in alloc; first, second, third, fourth].ok()
 }
 
-/// The ranks of this plan, new, with new desks for one letter a lane.
+/// New ranks for this plan, with new desks whose lanes hold one letter.
 fn crew(alloc: Global, letters: &Letters) -> Option<Vec<Member>>
     ensures { IfSome result (λ c. AreNew c.items) }
 {
@@ -92,7 +92,7 @@ fn crew(alloc: Global, letters: &Letters) -> Option<Vec<Member>>
     assemble(alloc, &plan, stores, Capacity::nearest(1)).ok()
 }
 
-/// Whom a rank finds gone, if it is given up.
+/// The rank that a rank finds gone, if it gives up.
 fn left_alone<R: Wait>(rt: &R, member: Member) -> Option<u16>
     requires { IsNewRun member.0 member.1 }
 {
@@ -103,7 +103,7 @@ fn left_alone<R: Wait>(rt: &R, member: Member) -> Option<u16>
     }
 }
 
-/// The same of two ranks, each on a thread.
+/// The same for two ranks, each on a thread.
 fn two_left_alone<R: Threads + Wait + Sync>(
     rt: &R,
     first: Member,
@@ -123,7 +123,7 @@ fn two_left_alone<R: Threads + Wait + Sync>(
     )
 }
 
-/// The same of three ranks, of which the last is started first.
+/// The same for three ranks, the last of which is started first.
 fn three_left_alone<R: Threads + Wait + Sync>(
     rt: &R,
     first: Member,
@@ -147,7 +147,7 @@ fn three_left_alone<R: Threads + Wait + Sync>(
     [first, second, third]
 }
 
-/// The four of a crew.
+/// The four members of a crew.
 fn four_of(crew: Vec<Member>) -> Option<(Member, Member, Member, Member)>
     requires { AreNew crew.items }
     ensures second { IfSome result (λ p. IsNewRun p.1.0 p.1.1) }
@@ -160,7 +160,7 @@ fn four_of(crew: Vec<Member>) -> Option<(Member, Member, Member, Member)>
     Some((first, second, third, fourth))
 }
 
-/// Whom ranks 1, 2 and 3 find gone, where rank 0 isn't run.
+/// The ranks that ranks 1, 2 and 3 find gone if rank 0 isn't run.
 fn without_0<R: Threads + Wait + Sync>(rt: &R, alloc: Global, letters: &Letters) -> Option<Gone> {
     let crew = crew(alloc, letters)?;
     let (first, second, third, fourth) = four_of(crew)?;

@@ -1,5 +1,5 @@
-//! Tests of `cb_run` and `cb_serial`, through their public calls: worked examples by each engine on grids of several
-//! sides, and by one thread, with ample memory and with each allocation refused in turn.
+//! Tests of `cb_run` and `cb_serial` through their public calls: worked examples with every engine on grids of several
+//! sides, and on one thread, with ample memory and with each allocation refused in turn.
 #![tactic(auto)]
 
 #[cfg(test)]

@@ -1,4 +1,4 @@
-//! Least walks of more edges than a search makes rounds, in graphs whose numbers are kept in a list and in a tree.
+//! Shortest walks with more edges than the search has rounds, in graphs whose distances are kept in a list and in a tree.
 use crate::examples::of_entries;
 use crate::walks::distances_alone;
 use cb_engines::EngineFault;
@@ -12,12 +12,12 @@ use std::test::Fail;
 /// The greatest number below infinity.
 const GREATEST: u64 = u64::MAX - 1;
 
-/// How many vertices the graph of the chain has, in a list and in a tree.
+/// How many vertices the graph of the chain has, so that distances are kept in a list or in a tree.
 const VERTICES: [u32; 3] = [50, 160, 2_147_483_647];
 
-/// A path from vertex 0 to 30 whose edges weigh 2, and an edge from 0 to 25, whose number falls from 90 to 50 long after
-/// it was reached; a cycle of no weight between 30 and 31; an edge to 32 that makes the greatest number, one to 33 that
-/// makes it infinite, and one of no weight to 34; and an edge between vertices that no walk reaches.
+/// A path from vertex 0 to 30 with edges of weight 2, and an edge from 0 to 25, whose distance falls from 90 to 50 long
+/// after it was reached; a cycle of weight 0 between 30 and 31; an edge to 32 that gives the greatest distance, one to 33
+/// that makes it infinite, and one of weight 0 to 34; and an edge between vertices that no walk reaches.
 fn chain(alloc: Global) -> Result<Vec<Entry>, AllocError> {
     let mut edges = Vec::new(alloc);
     for vertex in 0..30 {
@@ -50,7 +50,7 @@ fn are_of_chain(found: &Matrix<MinPlus>) -> bool {
             && number(entry.row) == Some(entry.value))
 }
 
-/// The distances from vertex 0 in a graph of these edges, by one thread, or None where there is no memory for the graph.
+/// The distances from vertex 0 in a graph of these edges, on one thread. None if there is no memory for the graph.
 fn found(
     alloc: Global,
     vertices: u32,
@@ -60,7 +60,7 @@ fn found(
     Some(distances_alone(alloc, &graph, 0))
 }
 
-/// Whether the distances in the graph of the chain are right; or, where memory may be refused, whether that is said.
+/// Whether the distances in the graph of the chain are right; or, if memory may be refused, whether that is reported.
 fn is_chain(alloc: Global, vertices: u32, edges: &[Entry], may_be_refused: bool) -> bool {
     match found(alloc, vertices, edges) {
         Some(Ok(numbers)) => are_of_chain(&numbers),
@@ -83,12 +83,12 @@ fn a_chain_is_followed_to_its_end(rt: HostRuntime) -> Result<(), Fail> {
 /// The side of the grid.
 const SIDE: u32 = 12;
 
-/// A weight from 0 to 99 for the edge of this number, in no order.
+/// A pseudo-random weight from 0 to 99 for the edge of this number.
 fn weight(number: u32) -> u64 {
     u64::from(number.wrapping_mul(2_654_435_769) >> 8) % 100
 }
 
-/// The graph of a grid of 12 by 12: each vertex has edges to the ones beside, above and below it, of weights in no order.
+/// A 12 by 12 lattice: each vertex has edges to its neighbours, with pseudo-random weights.
 fn lattice(alloc: Global) -> Result<Vec<Entry>, AllocError> {
     let mut edges = Vec::new(alloc);
     for vertex in 0..SIDE * SIDE {
@@ -104,7 +104,7 @@ fn lattice(alloc: Global) -> Result<Vec<Entry>, AllocError> {
     Ok(edges)
 }
 
-/// One look at each edge: where it lowers the number of the vertex that it leads to, that is taken over.
+/// Relaxes each edge once.
 fn look(numbers: &mut [u64], edges: &[Entry]) {
     for edge in edges {
         let from = numbers.get(edge.row as usize).copied().unwrap_or(u64::MAX);
@@ -114,7 +114,7 @@ fn look(numbers: &mut [u64], edges: &[Entry]) {
     }
 }
 
-/// The distances from vertex 0 in a graph of so many vertices, by as many looks at each edge.
+/// The distances from vertex 0 in a graph of this many vertices, by relaxing each edge as many times (Bellman and Ford).
 fn by_looks(alloc: Global, vertices: u32, edges: &[Entry]) -> Result<Vec<u64>, AllocError> {
     let mut numbers = vec![in alloc; u64::MAX; vertices as usize]?;
     if let Some(source) = numbers.get_mut(0) {
@@ -126,13 +126,13 @@ fn by_looks(alloc: Global, vertices: u32, edges: &[Entry]) -> Result<Vec<u64>, A
     Ok(numbers)
 }
 
-/// Whether a column has these numbers, and no others.
+/// Whether a column has exactly these numbers.
 fn are_listed(found: &Matrix<MinPlus>, numbers: &[u64]) -> bool {
     found.len() == numbers.len()
         && found.entries().iter().all(|entry| numbers.get(entry.row as usize) == Some(&entry.value))
 }
 
-/// Whether the lattice in a graph of so many vertices has the numbers of many looks.
+/// Whether the distances in the lattice, in a graph of this many vertices, agree with those by relaxing.
 fn has_lattice(alloc: Global, vertices: u32) -> Option<bool> {
     let edges = lattice(alloc).ok()?;
     let wanted = by_looks(alloc, SIDE * SIDE, &edges).ok()?;
@@ -140,7 +140,7 @@ fn has_lattice(alloc: Global, vertices: u32) -> Option<bool> {
     Some(are_listed(&numbers, &wanted))
 }
 
-/// As many vertices as the grid has, whose numbers are in a list; and many more, in a tree.
+/// As many vertices as the lattice has, with distances in a list; and many more, with distances in a tree.
 #[test]
 fn a_lattice_has_the_numbers_of_many_looks(rt: HostRuntime) {
     for vertices in [SIDE * SIDE, 2_147_483_647] {
@@ -151,9 +151,9 @@ fn a_lattice_has_the_numbers_of_many_looks(rt: HostRuntime) {
     }
 }
 
-/// It passes whichever single allocation is refused (`rt try --test --fail-alloc N`, for each N in turn).
+/// Passes whichever single allocation is refused (`rt try --test --fail-alloc N`, for each N in turn).
 #[test]
-fn refused_memory_is_said_by_long_walks(rt: HostRuntime) {
+fn refused_memory_is_reported_by_long_walks(rt: HostRuntime) {
     let Ok(edges) = chain(rt.alloc()) else {
         return;
     };

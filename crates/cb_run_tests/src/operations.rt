@@ -1,4 +1,4 @@
-//! Each operation of two small matrices and a column, by each engine and by one thread.
+//! Every operation on two small matrices and a column, with every engine and on one thread.
 use crate::examples::{ENGINES, MASKED, PRODUCT, Place, RUNS, grid, has, is_refusal, matrix};
 use cb_dcsc::Block;
 use cb_engines::Engine;
@@ -13,7 +13,7 @@ use std::sync::Wait;
 use std::test::Fail;
 use std::thread::Threads;
 
-/// Each operation, and what it makes of the operands that [`agreeing`] makes.
+/// Every operation, and its result for the operands of [`AGREEING`].
 const ANSWERS: [(Operation, &'static [Place]); 9] = [
     (Operation::Multiply, &PRODUCT),
     (Operation::MultiplyMasked, &MASKED),
@@ -29,7 +29,7 @@ const ANSWERS: [(Operation, &'static [Place]); 9] = [
     (Operation::ColumnSums, &[(0, 0, 1), (0, 1, 5)]),
 ];
 
-/// Those of several operands, whose shapes have to agree.
+/// The operations with several operands, whose shapes have to agree.
 const OF_SEVERAL: [Operation; 5] = [
     Operation::Multiply,
     Operation::MultiplyMasked,
@@ -58,16 +58,17 @@ const COLUMN: Sample = (2, 1, &[(0, 0, 5), (1, 0, 7)]);
 
 const SMALL: Sample = (1, 1, &[]);
 
-/// Those of which each operation has an answer. The mask is the first matrix.
+/// Operands for which every operation has a result. The mask is the first matrix.
 const AGREEING: [Sample; 4] = [FIRST, SECOND, FIRST, COLUMN];
 
-/// Those of which no operation of several operands has an answer: the second matrix is too small, and the column has two.
+/// Operands for which no operation with several operands has a result: the second matrix is too small, and the column has
+/// two columns.
 const DISAGREEING: [Sample; 4] = [FIRST, SMALL, FIRST, SECOND];
 
-/// Those whose mask alone is too small.
+/// Operands of which only the mask is too small.
 const MASKED_TOO_SMALL: [Sample; 4] = [FIRST, SECOND, SMALL, COLUMN];
 
-/// A matrix.
+/// The matrix of a sample.
 fn sample(alloc: Global, sample: Sample) -> Option<Matrix<PlusTimes>> {
     matrix(alloc, sample.0, sample.1, sample.2)
 }
@@ -93,7 +94,7 @@ impl Given {
     }
 }
 
-/// What an operation makes by an engine.
+/// The result of an operation with an engine.
 fn made<R: Threads + Wait + Sync>(
     rt: &R,
     alloc: Global,
@@ -118,7 +119,7 @@ fn block(alloc: Global, matrix: &Matrix<PlusTimes>) -> Result<Block<PlusTimes>, 
     Block::from_ordered(alloc, matrix.shape(), matrix.entries())
 }
 
-/// What an operation makes by one thread.
+/// The result of an operation on one thread.
 fn made_alone(
     alloc: Global,
     given: &Given,
@@ -139,13 +140,13 @@ fn made_alone(
     }
 }
 
-/// Whether a block has just these entries.
+/// Whether a block has exactly these entries.
 fn block_has(block: &Block<PlusTimes>, wanted: &[Place]) -> Result<bool, AllocError> {
     let matrix = Matrix::<PlusTimes>::from_ordered(block.shape(), block.entries()?);
     Ok(has(&matrix, wanted))
 }
 
-/// Whether each operation makes by an engine what it should; or, where memory may be refused, says so.
+/// Whether every operation gives the right result with an engine; or, if memory may be refused, reports that.
 fn makes_all<R: Threads + Wait + Sync>(
     rt: &R,
     alloc: Global,
@@ -166,7 +167,7 @@ fn makes_all<R: Threads + Wait + Sync>(
     true
 }
 
-/// Whether each operation makes in each run what it should.
+/// Whether every operation gives the right result in every run.
 fn makes_all_in_each_run<R: Threads + Wait + Sync>(rt: &R, alloc: Global, given: &Given) -> bool {
     for (engine, side) in RUNS {
         let Ok(grid) = Grid::new(side) else {
@@ -186,7 +187,7 @@ fn each_operation_in_each_run(rt: HostRuntime) -> Result<(), Fail> {
     Ok(())
 }
 
-/// Whether each operation makes by one thread what it should; or, where memory may be refused, says so.
+/// Whether every operation gives the right result on one thread; or, if memory may be refused, reports that.
 fn makes_all_alone(alloc: Global, given: &Given, may_be_refused: bool) -> bool {
     for (operation, wanted) in ANSWERS {
         let is_right = match made_alone(alloc, given, operation) {
@@ -207,7 +208,7 @@ fn each_operation_by_one_thread(rt: HostRuntime) -> Result<(), Fail> {
     Ok(())
 }
 
-/// Whether each of some operations is refused for its shapes, by an engine and by one thread.
+/// Whether each of these operations is refused for its shapes, with an engine and on one thread.
 fn refused<R: Threads + Wait + Sync>(
     rt: &R,
     alloc: Global,
@@ -228,7 +229,7 @@ fn refused<R: Threads + Wait + Sync>(
     true
 }
 
-/// Whether each of some operations is refused of these matrices over four ranks, and by one thread.
+/// Whether each of these operations is refused for these matrices, over four ranks and on one thread.
 fn refuse<R: Threads + Wait + Sync>(
     rt: &R,
     alloc: Global,
@@ -247,10 +248,10 @@ fn shapes_are_refused(rt: HostRuntime) {
     assert!(rt; refuse(&rt, rt.alloc(), MASKED_TOO_SMALL, &masked) == Some(true));
 }
 
-/// It passes whichever single allocation is refused (`rt try --test --fail-alloc N`, for each N in turn): the call
-/// says so, or its answer is the right one.
+/// Passes whichever single allocation is refused (`rt try --test --fail-alloc N`, for each N in turn): the call reports
+/// it, or its result is right.
 #[test]
-fn refused_memory_is_said(rt: HostRuntime) -> Result<(), Fail> {
+fn refused_memory_is_reported(rt: HostRuntime) -> Result<(), Fail> {
     let Some(given) = matrices(rt.alloc(), AGREEING) else {
         return Ok(());
     };

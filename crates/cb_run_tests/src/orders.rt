@@ -1,4 +1,4 @@
-//! A worked product in orders of many kinds, on grids of several sides.
+//! A worked product in several orders of events, on grids of several sides.
 use crate::examples::{PRODUCT, grid, has, is_right_or_refused, operands};
 use cb_engines::{Engine, EngineFault};
 use cb_layout::Grid;
@@ -17,7 +17,7 @@ const SIDES: [u32; 3] = [1, 2, 3];
 /// Two factors.
 type Factors = (Matrix<PlusTimes>, Matrix<PlusTimes>);
 
-/// A hundred rounds, in each of which every rank has an event, from the last to the first. One may be starved.
+/// A hundred rounds, each with an event of every rank, from the last rank to the first. One rank may be starved.
 fn backwards(alloc: Global, ranks: u16, starved: Option<u16>) -> Result<Vec<Event>, AllocError> {
     let mut order = Vec::new(alloc);
     for _ in 0..100 {
@@ -46,7 +46,7 @@ fn product<R: Threads + Wait + Sync>(
     run_matrices(rt, alloc, engine, grid, Operation::Multiply, operands)
 }
 
-/// Whether the product has the entries that it should.
+/// Whether the product has the right entries.
 fn makes<R: Threads + Wait + Sync>(
     rt: &R,
     alloc: Global,
@@ -58,7 +58,7 @@ fn makes<R: Threads + Wait + Sync>(
     product(rt, alloc, grid, factors, letters, order).is_ok_and(|made| has(&made, &PRODUCT))
 }
 
-/// Whether a product is made where each rank in turn has all events.
+/// Whether the product is right if each rank in turn has all events.
 fn makes_alone<R: Threads + Wait + Sync>(
     rt: &R,
     alloc: Global,
@@ -73,7 +73,7 @@ fn makes_alone<R: Threads + Wait + Sync>(
     true
 }
 
-/// Whether it is made in rounds from the last rank to the first, over lanes for one letter.
+/// Whether it is right in rounds from the last rank to the first, with lanes for one letter.
 fn makes_backwards<R: Threads + Wait + Sync>(
     rt: &R,
     alloc: Global,
@@ -98,7 +98,7 @@ fn any_order_makes_the_product(rt: HostRuntime) -> Result<(), Fail> {
     Ok(())
 }
 
-/// Whether each rank is named where it is starved.
+/// Whether each rank is named if it is starved.
 fn are_named<R: Threads + Wait + Sync>(
     rt: &R,
     alloc: Global,
@@ -127,10 +127,10 @@ fn a_starved_rank_is_named(rt: HostRuntime) -> Result<(), Fail> {
     Ok(())
 }
 
-/// It passes whichever single allocation is refused (`rt try --test --fail-alloc N`, for each N in turn): the call
-/// says so, or its answer is the right one.
+/// Passes whichever single allocation is refused (`rt try --test --fail-alloc N`, for each N in turn): the call reports
+/// it, or its result is right.
 #[test]
-fn refused_memory_is_said_in_each_order(rt: HostRuntime) -> Result<(), Fail> {
+fn refused_memory_is_reported_in_each_order(rt: HostRuntime) -> Result<(), Fail> {
     let Some(factors) = operands(rt.alloc()) else {
         return Ok(());
     };

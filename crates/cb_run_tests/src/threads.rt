@@ -1,4 +1,4 @@
-//! That ranks run in threads of their own, as the process sees it from outside.
+//! Ranks run on their own threads, as seen from outside the process.
 use crate::examples::{PRODUCT, has, matrix, operands};
 use crate::walks::{By, PATH, Search, finds};
 use cb_engines::Engine;
@@ -14,14 +14,14 @@ use std::test::Fail;
 use std::thread::Threads;
 use std::{fs, thread};
 
-/// How many threads this process has, as Linux tells it.
+/// How many threads this process has, as Linux reports it.
 fn threads_now<R: Files + Alloc>(rt: &R) -> Option<u32> {
     let status = fs::read_to_string(rt, "/proc/self/status").ok()?;
     let line = status.lines().find(|line| line.starts_with("Threads:"))?;
     line.trim_start_matches("Threads:").trim().parse().ok()
 }
 
-/// What four ranks do, again and again.
+/// What four ranks do repeatedly.
 #[derive(Clone, Copy)]
 enum Job {
     Product,
@@ -29,7 +29,7 @@ enum Job {
     Walk,
 }
 
-/// Does the job by an engine, where there is memory.
+/// Does the job with an engine, if there is memory.
 fn does<R: Threads + Wait + Sync>(
     rt: &R,
     alloc: Global,
@@ -63,7 +63,7 @@ fn does<R: Threads + Wait + Sync>(
     }
 }
 
-/// Does a job until it is seen, or so often that it would have been.
+/// Repeats a job until its threads are seen, or so often that they would have been.
 fn do_until_seen<R: Threads + Wait + Sync>(
     rt: &R,
     alloc: Global,
@@ -83,7 +83,7 @@ fn do_until_seen<R: Threads + Wait + Sync>(
     done
 }
 
-/// Looks whether the process has so many threads, until it has or the job ended.
+/// Checks whether the process has this many threads, until it has or the job ends.
 fn look_for<R: Files + Alloc>(rt: &R, wanted: u32, seen: &AtomicBool, ended: &AtomicBool) {
     for _ in 0..u64::MAX {
         if ended.load(Ordering::SeqCst) {
@@ -95,7 +95,7 @@ fn look_for<R: Files + Alloc>(rt: &R, wanted: u32, seen: &AtomicBool, ended: &At
     }
 }
 
-/// Whether the process had a thread for each of four ranks, beside its own and the one that looks, while an engine did a
+/// Whether the process had a thread for each of four ranks, besides its own and the one that checks, while an engine did a
 /// job.
 fn has_a_thread_for_each<R: Threads + Wait + Files + Alloc + Sync>(
     rt: &R,

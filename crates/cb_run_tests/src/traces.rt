@@ -14,8 +14,8 @@ use std::thread::Threads;
 /// Two factors, and a mask.
 type Given = (Matrix<PlusTimes>, Matrix<PlusTimes>);
 
-/// The product of two matrices, kept where the first has entries or not, by ranks whose lanes hold so many letters, with how
-/// many ranks and events its trace has.
+/// The product of two matrices, masked by the first or not, by ranks whose lanes hold this many letters; and the numbers of
+/// ranks and events of its trace.
 fn traced<R: Threads + Wait + Sync>(
     rt: &R,
     alloc: Global,
@@ -43,10 +43,10 @@ fn traced<R: Threads + Wait + Sync>(
     }
 }
 
-/// Sides of grids, and how many events of a product there are on them: of rank 0 alone, none.
+/// Sides of grids, and how many events a product on them has: with one rank, none.
 const EVENTS: [(u32, usize); 3] = [(1, 0), (2, 40), (3, 216)];
 
-/// Whether a product has just these entries, and its trace is of the grid's ranks and has so many events.
+/// Whether a product has exactly these entries, and a trace with the grid's ranks and this many events.
 fn traces<R: Threads + Wait + Sync>(
     rt: &R,
     alloc: Global,
@@ -75,9 +75,9 @@ fn traces_over_each_grid(rt: HostRuntime) -> Result<(), Fail> {
     Ok(())
 }
 
-/// It passes whichever single allocation is refused: the call says so, or its answer is the right one, with a trace.
+/// Passes whichever single allocation is refused: the call reports it, or its result is right and has a trace.
 #[test]
-fn refused_memory_is_said_by_traced_products(rt: HostRuntime) -> Result<(), Fail> {
+fn refused_memory_is_reported_by_traced_products(rt: HostRuntime) -> Result<(), Fail> {
     let Some(given) = operands(rt.alloc()) else {
         return Ok(());
     };

@@ -1,4 +1,4 @@
-//! Worked graphs by each engine on grids of several sides, and by one thread.
+//! Worked graphs with every engine on grids of several sides, and on one thread.
 use crate::examples::{Place, RUNS, has, is_refusal, matrix, of_entries};
 use cb_dcsc::Block;
 use cb_engines::{Engine, EngineFault};
@@ -13,7 +13,7 @@ use std::sync::Wait;
 use std::test::Fail;
 use std::thread::Threads;
 
-/// A graph of so many vertices, a source, and the numbers that are found from there.
+/// A graph of this many vertices, a source, and the expected numbers.
 #[derive(Clone, Copy)]
 pub struct Graph {
     pub vertices: u32,
@@ -22,7 +22,7 @@ pub struct Graph {
     pub found: &'static [Place],
 }
 
-/// A path from vertex 0 to 2, and an edge from 3 to itself.
+/// A path from vertex 0 to 2, and a loop at 3.
 pub const PATH: Graph = Graph {
     vertices: 4,
     edges: &[(0, 1, 1), (1, 2, 1), (2, 0, 1), (3, 3, 1)],
@@ -30,7 +30,7 @@ pub const PATH: Graph = Graph {
     found: &[(0, 0, 0), (1, 0, 1), (2, 0, 2)],
 };
 
-/// A path 0, 63, 1 in a graph of many vertices for its entries.
+/// A path 0, 63, 1 in a graph with many more vertices than entries.
 const SPARSE_PATH: Graph = Graph {
     vertices: 64,
     edges: &[(63, 1, 1), (0, 63, 1)],
@@ -38,7 +38,7 @@ const SPARSE_PATH: Graph = Graph {
     found: &[(0, 0, 0), (1, 0, 2), (63, 0, 1)],
 };
 
-/// A cycle of no weight between vertices 0 and 1, and edges to 2.
+/// A cycle of weight 0 between vertices 0 and 1, and edges to 2.
 const CYCLE: Graph = Graph {
     vertices: 3,
     edges: &[(0, 1, 0), (1, 0, 0), (0, 2, 5), (1, 2, 2)],
@@ -46,8 +46,8 @@ const CYCLE: Graph = Graph {
     found: &[(0, 0, 0), (1, 0, 0), (2, 0, 2)],
 };
 
-/// A path 3, 0, 5, 1, 4 whose edges weigh 1, and an edge from its first vertex to its last that weighs 9: a long walk weighs
-/// less than an edge.
+/// A path 3, 0, 5, 1, 4 with edges of weight 1, and an edge of weight 9 from its first vertex to its last: a long walk is
+/// shorter than one edge.
 const WINDING_PATH: Graph = Graph {
     vertices: 6,
     edges: &[(3, 0, 1), (0, 5, 1), (5, 1, 1), (1, 4, 1), (3, 4, 9)],
@@ -55,7 +55,7 @@ const WINDING_PATH: Graph = Graph {
     found: &[(0, 0, 1), (1, 0, 3), (3, 0, 0), (4, 0, 4), (5, 0, 2)],
 };
 
-/// Who searches: ranks by an engine, on a grid of a side, or one thread in one block.
+/// Who searches: ranks with an engine on the grid of a side, or one thread in one block.
 #[derive(Clone, Copy)]
 pub enum By {
     Ranks(Engine<'static>, u32),
@@ -147,14 +147,14 @@ fn distances_by<R: Threads + Wait + Sync>(
     }
 }
 
-/// What is looked for in a graph.
+/// What to search for in a graph.
 #[derive(Clone, Copy)]
 pub enum Search {
     Levels,
     Distances,
 }
 
-/// What a search finds in a graph; None where there is no memory for the graph.
+/// What a search finds in a graph. None if there is no memory for the graph.
 fn found<R: Threads + Wait + Sync>(
     rt: &R,
     alloc: Global,
@@ -175,7 +175,7 @@ fn found<R: Threads + Wait + Sync>(
     }
 }
 
-/// Whether a search finds just the numbers that it should.
+/// Whether a search finds exactly the expected numbers.
 pub fn finds<R: Threads + Wait + Sync>(
     rt: &R,
     alloc: Global,
@@ -189,8 +189,8 @@ pub fn finds<R: Threads + Wait + Sync>(
     }
 }
 
-/// Whether it finds them, or says that there was no memory.
-pub fn finds_or_says<R: Threads + Wait + Sync>(
+/// Whether it finds them, or reports that memory was refused.
+pub fn finds_or_reports<R: Threads + Wait + Sync>(
     rt: &R,
     alloc: Global,
     by: By,
@@ -205,7 +205,7 @@ pub fn finds_or_says<R: Threads + Wait + Sync>(
     }
 }
 
-/// Whether one thread and each run finds them.
+/// Whether one thread and every run find them.
 fn all_find<R: Threads + Wait + Sync>(
     rt: &R,
     alloc: Global,
@@ -220,7 +220,7 @@ fn all_find<R: Threads + Wait + Sync>(
     finds(rt, alloc, By::One, search, wanted)
 }
 
-/// Levels of paths; distances with a cycle of no weight, and with a long walk that weighs less than an edge.
+/// Levels of paths; distances with a cycle of weight 0, and with a long walk that is shorter than one edge.
 const SEARCHED: [(Search, Graph); 4] = [
     (Search::Levels, PATH),
     (Search::Levels, SPARSE_PATH),
@@ -235,9 +235,9 @@ fn levels_and_distances_of_worked_graphs(rt: HostRuntime) {
     }
 }
 
-/// A path from vertex 0 to 20, an edge of this weight from there to each vertex from 21 to 59, one from each of these to
-/// the vertex 40 further, and one from the last back to 60. Along the path one number falls in a round, and then 39 do,
-/// of 100 vertices.
+/// A fan of 100 vertices: a path from vertex 0 to 20, an edge of this weight from there to each vertex from 21 to 59, one
+/// from each of these to the vertex 40 further, and one from the last back to 60. Along the path one number falls in a
+/// round, and then 39 do.
 fn fan(alloc: Global, weight: u64) -> Result<Vec<Entry>, AllocError> {
     let mut edges = Vec::new(alloc);
     for vertex in 0..20 {
@@ -251,13 +251,13 @@ fn fan(alloc: Global, weight: u64) -> Result<Vec<Entry>, AllocError> {
     Ok(edges)
 }
 
-/// The graph of the fan whose edges weigh 1.
+/// The fan with edges of weight 1.
 fn even_fan(alloc: Global) -> Option<Matrix<OrAnd>> {
     let edges = fan(alloc, 1).ok()?;
     of_entries(alloc, 100, 100, &edges)
 }
 
-/// The graph of the fan with edges that weigh 5. Vertices 59 and 99 fall twice: a heavier walk of fewer edges reaches them
+/// The fan with edges of weight 5. The numbers of vertices 59 and 99 fall twice: a longer walk of fewer edges reaches them
 /// first.
 fn heavy_fan(alloc: Global) -> Option<Matrix<MinPlus>> {
     let mut edges = fan(alloc, 5).ok()?;
@@ -265,7 +265,7 @@ fn heavy_fan(alloc: Global) -> Option<Matrix<MinPlus>> {
     of_entries(alloc, 100, 100, &edges)
 }
 
-/// Whether these are the numbers of the vertices of that graph.
+/// Whether these are the numbers of the fan.
 fn are_of_fan(weight: u64, found: &Matrix<MinPlus>) -> bool {
     let number = |vertex: u32| match vertex {
         0..=20 => u64::from(vertex),
@@ -277,7 +277,7 @@ fn are_of_fan(weight: u64, found: &Matrix<MinPlus>) -> bool {
         && found.entries().iter().all(|entry| entry.column == 0 && entry.value == number(entry.row))
 }
 
-/// Whether the numbers of both graphs are found.
+/// Whether the numbers of both fans are found.
 fn finds_fans<R: Threads + Wait + Sync>(
     rt: &R,
     alloc: Global,
@@ -299,7 +299,7 @@ fn many_numbers_fall_in_a_round(rt: HostRuntime) -> Result<(), Fail> {
     Ok(())
 }
 
-/// Whether a graph and a source are refused so, by ranks and by one thread.
+/// Whether a graph and a source are refused with this fault, by ranks and by one thread.
 fn are_refused<R: Threads + Wait + Sync>(
     rt: &R,
     alloc: Global,
@@ -325,13 +325,13 @@ fn graphs_and_sources_are_refused(rt: HostRuntime) -> Result<(), Fail> {
     Ok(())
 }
 
-/// It passes whichever single allocation is refused (`rt try --test --fail-alloc N`, for each N in turn): the
-/// call says so, or its answer is the right one.
+/// Passes whichever single allocation is refused (`rt try --test --fail-alloc N`, for each N in turn): the call reports
+/// it, or its result is right.
 #[test]
-fn refused_memory_is_said_by_walks(rt: HostRuntime) {
+fn refused_memory_is_reported_by_walks(rt: HostRuntime) {
     for by in SEARCHES {
         for (search, graph) in &SEARCHED {
-            assert!(rt; finds_or_says(&rt, rt.alloc(), by, *search, graph));
+            assert!(rt; finds_or_reports(&rt, rt.alloc(), by, *search, graph));
         }
     }
 }

@@ -1,4 +1,4 @@
--- A matrix over a grid times a vector that is spread over its ranks: the slots before the plan, and after it.
+-- A matrix over a grid times a vector that is spread over its ranks: the slots before the plan and after it.
 use Rattle.std.proofs.Common.{◌≡◌, ◌≢◌, ℕ, ◌+◌, ◌-◌, ◌*◌, ◌/◌, ◌%◌, ◌<◌, ◌≤◌, true, false, List, [], length, replicate, get_or, refl, sym, ap, subst, ⊎_elim, ◌∙◌, arith}
 use Rattle.std.specs.Prelude.{Option, Some, None, ◌==◌, if◌then◌else◌}
 use Rattle.std.proofs.lemmas.Bool.{cases_lt}
@@ -33,7 +33,7 @@ use Rattle.cb_vectors.specs.SpreadVectors.{HasSpread, HasProduct}
 use Rattle.cb_placement.proofs.GatheredParts.{lost_or_filled, block_meant}
 use Rattle.cb_planner.proofs.ProductPlans.{product_is_matrix}
 
--- a slot of each rank is filled twice
+-- two slots of each rank are filled: with a block, and with a piece
 pub spread_filled : (s : Arithmetic) (q : ℕ) (a x : Sparse) (first second third : List (List (Slot Sparse))) (blocks pieces : List Sparse) → 0 < q → first ≡ replicate (q * q) (replicate 256 slot_is.Empty) →
     Filled (q * q) 0 (block_at blocks) first second → Filled (q * q) 1 (block_at pieces) second third →
     ((i j : ℕ) → i < q → j < q → block_at blocks (i * q + j) ≡ block_of s q a i j) → ((t j : ℕ) → t < q → j < q → block_at pieces (t * q + j) ≡ piece_of s q x j t) → HasSpread s q a x third
@@ -51,7 +51,7 @@ spread_filled s q a x first second third blocks pieces pos e one two left right 
       ∙ ap (λ y. if 1 == k then slot_is.Sheet (piece_of s q x j i) else (if 0 == k then slot_is.Sheet (block_of s q a i j) else y)) nothing;
 }
 
--- a piece has the shape of its piece
+-- piece t of part j of a vector has the shape of that piece
 pub piece_has_shape : (s : Arithmetic) (q : ℕ) (x : Sparse) (j t : ℕ) → (piece_of s q x j t).shape ≡ piece_shape q x.shape j t
 piece_has_shape s q x j t =
     let d = x.shape.rows in
@@ -90,7 +90,7 @@ module _ (s : Arithmetic) (q : ℕ) (a x : Sparse) (stores : List (List (Slot Sp
         (cases_lt r (q * q));
   }
 
-  -- a run of the plan leaves the matrix and its product
+  -- a run of the plan leaves the matrix and the product
   pub has_product : IsSemiring s → IsMatrix s a → IsMatrix s x → x.shape ≡ column a.shape.cols → (acts : List Act) → IsVectorPlan acts q a.shape →
       (after : List (List (Slot Sparse))) → IsTable (q * q) 256 after → LostOrMeans (meaning (matrices s) acts (state_of stores)) after → HasProduct s q a (product s a x) after
   has_product laws is_a is_x vector acts plan after table ran =
@@ -115,7 +115,7 @@ module _ (s : Arithmetic) (q : ℕ) (a y : Sparse) (stores : List (List (Slot Sp
   pub parts_filled : AreFilled 0 stores
   parts_filled = of_ranks (λ r. is_filled (cell slot_is.Empty stores r 0) ≡ true) (λ i j l m. lost_or_filled (Some (block_of s q a i j)) (cell slot_is.Empty stores (i * q + j) 0) (has.parts i j l m) refl)
 
-  -- the parts of the matrix come out again
+  -- the blocks of the matrix come out again
   module _ (blocks : List Sparse) (out : (r : ℕ) → r < length stores → state_of stores r 0 ≡ Some (block_at blocks r)) where
     same_blocks : (i j : ℕ) → i < q → j < q → block_at blocks (i * q + j) ≡ block_of s q a i j
     same_blocks i j l m =
@@ -123,7 +123,7 @@ module _ (s : Arithmetic) (q : ℕ) (a y : Sparse) (stores : List (List (Slot Sp
         let inside = rank_below q i j l m in
         same_Some _ _ (sym (block_meant (Some (block_of s q a i j)) (cell slot_is.Empty stores r 0) (block_at blocks r) (has.parts i j l m) (out r (omega (arith, has.table.rows)))))
 
-    -- the blocks taken out of slot 0 have the shapes of the matrix's parts
+    -- the blocks taken out of slot 0 have the shapes of the matrix's blocks
     pub blocks_shaped : (i j : ℕ) → i < q → j < q → (block_at blocks (i * q + j)).shape ≡ part_shape q a.shape i j
     blocks_shaped i j l m = ap (λ b. b.shape) (same_blocks i j l m)
 

@@ -1,4 +1,2 @@
--- SpreadVectors: a matrix over a grid and a vector that is spread over its ranks. VectorOrders: their product by ranks that
--- are stepped in an order.
+-- SpreadVectors: a matrix over a grid and a vector that is spread over its ranks.
 pub mod SpreadVectors
-pub mod VectorOrders

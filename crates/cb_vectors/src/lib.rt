@@ -1,30 +1,25 @@
-//! A matrix that lies over a grid times a vector, again and again, by a plan that is made once.
+//! A matrix over a grid and a vector that is spread over its ranks: the plan of their product, the slots of the ranks
+//! before it, and what is taken out of the slots after it.
 //!
-//! The vector is spread over all ranks: each has a piece of it, and ends with a piece of the product. The matrix stays
-//! in the blocks of the grid, is moved to the ranks for a product, and comes back as it was.
+//! Each rank starts with its block of the matrix and a piece of the vector, and ends with the block and a piece of the
+//! product ([`vector_plan`]). [`spread`] fills the slots; after the run [`collect`] takes the matrix, unchanged, and the
+//! product out of them. Nothing here runs a plan.
 #![tactic(auto)]
 
-ghost use Rattle.std.specs.Prelude.{◌≡◌, ◌*◌, IfOk, IfErr};
+ghost use Rattle.std.specs.Prelude.{◌≡◌, IfOk, IfErr};
 ghost use Rattle.cb_matrix.specs.Sparse.{Sparse};
-ghost use Rattle.cb_matrix.specs.Values.{product};
-ghost use Rattle.cb_grid_plans.specs.VectorPlans.{column};
-ghost use Rattle.cb_engines.specs.EngineRuns.{IsEngineFault, IsTraceOf, LostWhereRefused};
-ghost use Rattle.cb_vectors.specs.SpreadVectors.{HasProduct, HasSpread, MultipliesVectors};
-ghost use Rattle.cb_vectors.specs.VectorOrders.{IsOrderedProduct, IsOrderedProductLoss, IsProductLoss};
+ghost use Rattle.cb_placement.specs.Answers.{over_grid};
+ghost use Rattle.cb_vectors.specs.SpreadVectors.{HasBoth, HasSpread, IsSpreadLoss, MultipliesVectors};
 
-use cb_engines::{Engine, EngineFault, Left};
 use cb_grid_plans::{LEFT, RESULT, RIGHT, grid_vector};
 use cb_layout::{DistributedMatrix, Grid};
 use cb_matrix::{Matrix, Shape};
 use cb_placement::{DrainFault, blank, drain, fill};
 use cb_plan::{CheckedPlan, RankStore};
 use cb_semirings::Semiring;
-use cb_trace::Trace;
 use std::alloc::{AllocError, Global};
-use std::sync::Wait;
-use std::thread::Threads;
 
-/// The plan by which matrices of a shape are multiplied by vectors.
+/// Returns a plan by which matrices of this shape are multiplied by vectors.
 pub fn vector_plan(alloc: Global, grid: &Grid, shape: Shape) -> Result<CheckedPlan, AllocError>
     ensures { IfOk result (MultipliesVectors grid.now.side shape) }
 {
@@ -35,93 +30,9 @@ pub fn vector_plan(alloc: Global, grid: &Grid, shape: Shape) -> Result<CheckedPl
     Ok(plan)
 }
 
-/// A product of a matrix and a vector.
-#[derive(Drop)]
-pub struct Multiplied<S: Semiring> {
-    /// The matrix, as it was given.
-    pub matrix: DistributedMatrix<S>,
-    /// The product, which has one column.
-    pub product: Matrix<S>,
-    /// How often memory was refused to each rank.
-    pub refusals: Vec<u64>,
-    /// The trace of the run, if the engine keeps one.
-    pub trace: Option<Trace>,
-}
-
-/// The product of a matrix and a vector, by a plan for matrices of its shape, run by an engine. Each rank is given its
-/// block and its piece of the vector; the entries of the vector and of the product are copied twice.
-pub fn multiply_vector<S: Semiring + Send + Sync, R: Threads + Wait + Sync>(
-    rt: &R,
-    alloc: Global,
-    engine: Engine,
-    grid: &Grid,
-    plan: &CheckedPlan,
-    matrix: DistributedMatrix<S>,
-    vector: &Matrix<S>,
-) -> Result<Multiplied<S>, EngineFault>
-    requires side { matrix.side ≡ grid.now.side }
-    requires plan { MultipliesVectors grid.now.side matrix.matrix.shape plan.now }
-    requires vector { vector.now.shape ≡ column matrix.matrix.shape.cols }
-    ensures product { IfOk result (λ m. m.product ≡ product S.arithmetic matrix.matrix vector.now) }
-    ensures same { IfOk result (λ m. m.matrix ≡ matrix) }
-    ensures order { IfOk result (λ m. IsOrderedProduct S.arithmetic engine.entry grid.now.side plan.now matrix.matrix vector.now m.product m.refusals.items) }
-    ensures trace { IfOk result (λ m. IsTraceOf engine.entry plan.now m.trace) }
-    ensures fault { IfErr result (IsEngineFault engine.entry (grid.now.side * grid.now.side)) }
-    ensures lost { IfErr result (IsOrderedProductLoss S.arithmetic engine.entry grid.now.side plan.now matrix.matrix vector.now) }
-{
-    let (a, x) = (matrix.shape(), vector.shape());
-    let stores = spread(alloc, grid, matrix, vector)?;
-    let Left {
-        stores,
-        refusals,
-        trace,
-    } = engine.run(rt, alloc, plan, stores)?;
-    let (matrix, product) = collect(alloc, grid, stores, &refusals, a, a.with_columns_of(x))?;
-    Ok(Multiplied {
-        matrix,
-        product,
-        refusals,
-        trace,
-    })
-}
-
-/// The matrix of the one shape and the column of the other, whose parts and pieces the ranks have left, when each was
-/// refused memory this often.
-fn collect<S: Semiring>(
-    alloc: Global,
-    grid: &Grid,
-    stores: Vec<RankStore<S>>,
-    refusals: &[u64],
-    shape: Shape,
-    made: Shape,
-) -> Result<(DistributedMatrix<S>, Matrix<S>), EngineFault>
-    requires column { made.cols ≡ 1 }
-    requires lost { LostWhereRefused stores.items refusals.now }
-    requires left { (a : Sparse) × (y : Sparse) × (a.shape ≡ shape) × (y.shape ≡ made) × HasProduct S.arithmetic grid.now.side a y stores.items }
-    ensures product { IfOk result (λ p. (a y : Sparse) → a.shape ≡ shape → y.shape ≡ made → HasProduct S.arithmetic grid.now.side a y stores.items → p.1 ≡ y) }
-    ensures same { IfOk result (λ p. (a y : Sparse) → a.shape ≡ shape → y.shape ≡ made → HasProduct S.arithmetic grid.now.side a y stores.items → p.0 ≡ record { side = grid.now.side; matrix = a }) }
-    ensures fault { IfErr result (IsProductLoss stores.items refusals.now) }
-{
-    let mut stores = stores;
-    let blocks = match drain(alloc, &mut stores, LEFT) {
-        Ok(blocks) => blocks,
-        Err(DrainFault::Memory) => return Err(EngineFault::Memory),
-        Err(DrainFault::Lost(rank)) => return Err(EngineFault::lost(rank, refusals)),
-    };
-    let pieces = match drain(alloc, &mut stores, RESULT) {
-        Ok(pieces) => pieces,
-        Err(DrainFault::Memory) => return Err(EngineFault::Memory),
-        Err(DrainFault::Lost(rank)) => return Err(EngineFault::lost(rank, refusals)),
-    };
-    let product = grid.gather_result(alloc, &pieces, made)?;
-    Ok((
-        DistributedMatrix::from_blocks(*grid, shape, blocks),
-        product,
-    ))
-}
-
-/// The stores of the ranks, with the parts of a matrix in slot 0 and the pieces of a vector in slot 1.
-fn spread<S: Semiring>(
+/// Lays out a matrix and a vector in the stores of the ranks: the blocks of the matrix in slot 0, and the pieces of the
+/// vector in slot 1.
+pub fn spread<S: Semiring>(
     alloc: Global,
     grid: &Grid,
     matrix: DistributedMatrix<S>,
@@ -136,4 +47,31 @@ fn spread<S: Semiring>(
     fill(&mut stores, LEFT, matrix.into_blocks());
     fill(&mut stores, RIGHT, pieces);
     Ok(stores)
+}
+
+/// Takes the blocks of the matrix and the pieces of the product out of the slots of the ranks. Returns the matrix, of
+/// shape `shape`, and the product, of shape `made`.
+///
+/// If a block is lost, `Lost` names the origin of the loss at the least rank; if none is, the same of the pieces.
+pub fn collect<S: Semiring>(
+    alloc: Global,
+    grid: &Grid,
+    stores: Vec<RankStore<S>>,
+    shape: Shape,
+    made: Shape,
+) -> Result<(DistributedMatrix<S>, Matrix<S>), DrainFault>
+    requires column { made.cols ≡ 1 }
+    requires left { (a : Sparse) × (y : Sparse) × HasBoth S.arithmetic grid.now.side shape made a y stores.items }
+    ensures product { IfOk result (λ p. (a y : Sparse) → HasBoth S.arithmetic grid.now.side shape made a y stores.items → p.1 ≡ y) }
+    ensures same { IfOk result (λ p. (a y : Sparse) → HasBoth S.arithmetic grid.now.side shape made a y stores.items → p.0 ≡ over_grid grid.now.side a) }
+    ensures fault { IfErr result (IsSpreadLoss stores.items) }
+{
+    let mut stores = stores;
+    let blocks = drain(alloc, &mut stores, LEFT)?;
+    let pieces = drain(alloc, &mut stores, RESULT)?;
+    let product = grid.gather_result(alloc, &pieces, made)?;
+    Ok((
+        DistributedMatrix::from_blocks(*grid, shape, blocks),
+        product,
+    ))
 }

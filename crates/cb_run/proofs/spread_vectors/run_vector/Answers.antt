@@ -5,8 +5,9 @@ use Rattle.cb_operations.specs.declared.operations.Operands.{Operands}
 use Rattle.cb_operations.specs.declared.operations.Operation.TheVariants.{MultiplyVector}
 use Rattle.cb_operations.specs.Operands.{list_of}
 use Rattle.cb_vectors.specs.SpreadVectors.{MultipliesVectors}
-use Rattle.cb_vectors.specs.VectorOrders.{IsOrderedProduct}
-use Rattle.cb_run.specs.Outcomes.{IsOrderedFor, wholes}
+use Rattle.cb_run.specs.VectorOrders.{IsOrderedProduct}
+use Rattle.cb_planner.specs.ScatteredOperands.{wholes}
+use Rattle.cb_run.specs.Outcomes.{IsOrderedFor}
 use Rattle.cb_run.proofs.Orders.{ordered_vector}
 use Rattle.cb_run.proofs.spread_vectors.run_vector.Goals as goal
 

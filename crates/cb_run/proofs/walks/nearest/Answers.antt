@@ -7,16 +7,16 @@ use Rattle.cb_layout.specs.Parts.{Square}
 use Rattle.cb_layout.specs.Distributed.{Distributed}
 use Rattle.cb_grid_plans.specs.VectorPlans.{column}
 use Rattle.cb_vectors.specs.SpreadVectors.{MultipliesVectors}
-use Rattle.cb_placement.proofs.GatheredParts.{over_grid}
+use Rattle.cb_placement.specs.Answers.{over_grid}
 use Rattle.cb_searches.specs.Searches.{HasEnded}
 use Rattle.cb_run.proofs.walks.nearest.Goals as goal
 use Rattle.cb_run.proofs.walks.nearest.Goals.{else-loop-round-test, then-loop-round-test+then-is_empty}
 
--- a matrix over one grid and over another of the same side
+-- a matrix over a grid, whose side has two names
 over_same : (a b : ℕ) (m : Sparse) (d : Distributed) → a ≡ b → d ≡ over_grid a m → d ≡ over_grid b m
 over_same a b m d e is = is ∙ ap (λ n. over_grid n m) e
 
--- what a round reaches from the numbers that fell, by the turned matrix over a grid
+-- what a round reaches from the distances that fell, by the transposed matrix over a grid
 reached_by : (a : Sparse) (side : ℕ) (turned : Distributed) (x fell reached : Sparse) → turned ≡ over_grid side (transposed min_plus a) → x ≡ fell → reached ≡ product min_plus turned.matrix x → reached ≡ product min_plus (transposed min_plus a) fell
 reached_by a side turned x fell reached t e r = r ∙ (λ k. product min_plus (t k).matrix (e k))
 

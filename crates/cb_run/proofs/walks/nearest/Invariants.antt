@@ -4,7 +4,7 @@ use Rattle.cb_matrix.specs.Operations.{transposed}
 use Rattle.cb_searches.specs.Searches.{IsSearch}
 use Rattle.cb_run.proofs.walks.nearest.Given as goal
 
--- each round is one of a search, and the matrix is the transposed graph
+-- the rounds are those of a search, and the matrix is the transposed graph
 abbrev pub invariant-loop-round : goal.invariant-loop-round
 invariant-loop-round g l = record {
   search : IsSearch l.fn.graph.matrix l.fn.source l._round l.search;
