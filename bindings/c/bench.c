@@ -2,7 +2,7 @@
  * Times the product of a matrix by itself over the semiring plus-times, on lists and kept: bench FILE [RUNS]
  *
  * FILE is a Matrix Market text. Prints the entries of the matrix and of the product, and the medians of RUNS
- * products (10 by default) and of freeing their answers, in microseconds of the clock.
+ * products (10 by default) and of freeing their results, in microseconds of the clock.
  */
 #include <stdio.h>
 #include <stdlib.h>
@@ -40,7 +40,7 @@ static char *contents(const char *name, size_t *len) {
     return bytes;
 }
 
-/* The same of a kept matrix. Answers the code. */
+/* The same of a kept matrix. Returns the code. */
 static int time_kept(const struct cbgrid_columns *lists, size_t runs, double *products, double *frees) {
     struct cbgrid_matrix *matrix, *product;
     int code = cbgrid_matrix_of_columns(CBGRID_PLUS_TIMES, lists, &matrix);

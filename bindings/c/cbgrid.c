@@ -1,13 +1,13 @@
 /*
- * The C side of cbgrid: it looks for null pointers, replaces the null pointer of an empty list by a valid one, gives a
- * place on a diagonal for its number, calls, and frees. Compressed rows are the compressed columns of the transpose,
- * which two proved calls turn. The proved library, crates/cb_ffi, does everything else.
+ * The C side of cbgrid. It looks for null pointers, replaces the null pointer of an empty list by a valid one, turns
+ * the number of a diagonal into a place on it, calls the proved library crates/cb_ffi, and frees. Compressed rows are
+ * the compressed columns of the transpose: calls on them make two proved calls. The library does everything else.
  */
 #include "cbgrid.h"
 
 #include <stdlib.h>
 
-/* The layouts of crates/cb_ffi: there a slice is a pointer and then a length. */
+/* The layouts of crates/cb_ffi, where a slice is a pointer and a length. */
 struct slice32 {
     const uint32_t *at;
     size_t len;
@@ -72,7 +72,7 @@ _Static_assert(sizeof(struct cbgrid_text) == 16 && sizeof(struct kernel_text) ==
 _Static_assert(offsetof(struct cbgrid_text, bytes) == offsetof(struct kernel_text, bytes.at), "bytes");
 _Static_assert(offsetof(struct cbgrid_text, len) == offsetof(struct kernel_text, bytes.len), "len");
 
-/* The exports of crates/cb_ffi. A reference there is a pointer here that is never null. */
+/* The exports of crates/cb_ffi. Its references are pointers that are never null. */
 typedef const struct cbgrid_columns *lent;
 uint32_t cbgrid_kernel_multiply(uint32_t semiring, uint32_t grid, lent a, lent b, struct cbgrid_columns *out);
 uint32_t cbgrid_kernel_multiply_masked(uint32_t semiring, uint32_t grid, lent a, lent b, lent mask,
@@ -91,7 +91,7 @@ uint32_t cbgrid_kernel_read(uint32_t semiring, const unsigned char *text, size_t
                             struct cbgrid_columns *out);
 uint32_t cbgrid_kernel_text(uint32_t semiring, lent a, struct cbgrid_text *out);
 
-/* A kept matrix is lent and owned by its address alone. */
+/* A kept matrix is passed by its address, whether the call borrows it or owns it. */
 struct owned {
     struct cbgrid_matrix *at;
 };
@@ -157,8 +157,8 @@ static struct cbgrid_columns no_columns(void) {
     return none;
 }
 
-/* Puts the lists of `from` that its `kind` and `wide` say to read into `to`, and empty ones for the others.
- * Answers 0 where a list that is not empty is a null pointer. */
+/* Fills `to` with the lists of `from` that its `kind` and `wide` use, and empty lists for the others. Returns 0 if a
+ * list that isn't empty is a null pointer. */
 static int lend(struct cbgrid_columns *to, lent from) {
     if (!from) return 0;
     *to = no_columns();
@@ -178,7 +178,7 @@ static int lend(struct cbgrid_columns *to, lent from) {
     return to->columns && to->starts32 && to->starts64 && to->rows && to->values;
 }
 
-/* Puts an answer where the caller wants it, which may be where an operand stands. */
+/* Writes a result to `out`, which may be one of the operands, and returns the code. */
 static int give(uint32_t code, struct cbgrid_columns made, struct cbgrid_columns *out) {
     if (code == CBGRID_OK) *out = made;
     return (int)code;
@@ -269,7 +269,7 @@ int cbgrid_text(uint32_t semiring, lent a, struct cbgrid_text *out) {
     return (int)code;
 }
 
-/* The lists of an answer are malloc's. One of length 0 points to nothing that was allocated. */
+/* The lists of a result are malloc'ed, except for empty ones. */
 static void give_back(const void *list, size_t len) {
     if (len) free((void *)list);
 }
@@ -327,7 +327,7 @@ struct cbgrid_columns cbgrid_csc64(uint32_t nrows, uint32_t ncols, const uint64_
     return made;
 }
 
-/* Puts a kept matrix where the caller wants it. */
+/* Writes a kept matrix to `out`, and returns the code. */
 static int hand(uint32_t code, struct owned made, struct cbgrid_matrix **out) {
     if (code == CBGRID_OK) *out = made.at;
     return (int)code;
@@ -477,7 +477,7 @@ int cbgrid_matrix_prune(const struct cbgrid_matrix *a, uint32_t test, uint64_t b
 int cbgrid_matrix_select(const struct cbgrid_matrix *a, uint32_t region, int64_t diagonal, struct cbgrid_matrix **out) {
     struct owned made = {NULL};
     if (!a || !out) return CBGRID_NULL_POINTER;
-    /* Diagonal k goes through (0, k), or (-k, 0). No matrix reaches one whose number is the limit or beyond it. */
+    /* Diagonal k goes through (0, k) or (-k, 0). No matrix has a place on diagonal CBGRID_LIMIT or beyond. */
     int64_t limit = CBGRID_LIMIT, k = diagonal > limit ? limit : diagonal < -limit ? -limit : diagonal;
     uint32_t row = k < 0 ? (uint32_t)-k : 0, column = k > 0 ? (uint32_t)k : 0;
     return hand(cbgrid_kernel_kept_select((kept){a}, region, row, column, &made), made, out);
@@ -605,7 +605,7 @@ int cbgrid_matrix_text(const struct cbgrid_matrix *a, struct cbgrid_text *out) {
     return (int)code;
 }
 
-/* The library gives the lists back, and leaves what the pointer points to, which is malloc's. */
+/* The library frees the lists; the block at the pointer, which is malloc'ed too, is freed here. */
 void cbgrid_matrix_free(struct cbgrid_matrix *a) {
     if (!a) return;
     cbgrid_kernel_release((struct owned){a});

@@ -22,21 +22,21 @@
  * prints, exits, aborts or keeps state between calls. You need not start the library or shut it down.
  *
  * Memory. Results are malloc'ed; release them with cbgrid_free_columns and cbgrid_free_text. A call only writes to
- * `out`, so free a result that it still holds before you reuse it. `out` may be one of the operands if that
- * operand's lists are your own. An operand may be the result of an earlier call, and one matrix may stand for
- * several operands.
+ * `out`: if `out` still holds a result, free that result first. `out` may be one of the operands if that operand's
+ * lists are your own. An operand may be the result of an earlier call, and the same matrix may be passed for several
+ * operands.
  *
  * Threads. Any number of threads may call any function at once, also on the same operands, as long as no thread
  * writes to lists or structs that a running call reads. A call runs on the caller's thread alone. Don't call a
  * function from a signal handler.
  *
- * What is proved. It is proved that each call, for every input, stays inside the lists that it is lent, returns,
- * and gives the result that its sentence here describes, exact to the last value. The proofs run whenever
- * libcb_ffi.a is built (docs/PROMISES.md). Not proved are this header and cbgrid.c (null pointers, messages,
- * freeing; that compressed rows are the compressed columns of the transpose; the triples of a kept matrix; which
- * place stands for a diagonal), the C compiler and malloc. The library trusts you to lend what a struct says:
- * pointers that are aligned for their type, to as many elements as the length says, which nobody changes while a
- * call runs; and kept matrices that nobody has freed.
+ * What is proved. For every input, each call is proved to stay within the lists that you pass, to terminate, and to
+ * give the result that its comment describes, exact to the last value. The proofs run whenever libcb_ffi.a is built
+ * (docs/PROMISES.md). Not proved are this header and cbgrid.c (null pointers, messages, freeing; that compressed rows
+ * are the compressed columns of the transpose; the triples of a kept matrix; which place stands for a diagonal), the C
+ * compiler and malloc. The library trusts you to pass what a struct describes: pointers that are aligned for their
+ * type, to as many elements as the length says, which nobody changes while a call runs; and kept matrices that nobody
+ * has freed.
  *
  * The code needs x86-64-v2 (any x86-64 processor since about 2009), and doesn't check for it.
  */
@@ -123,7 +123,7 @@ enum cbgrid_function {
     CBGRID_COLUMN = 5          /* j; it ignores n */
 };
 
-/* What a call returns. */
+/* What a call returns: CBGRID_OK, or the first fault. cbgrid_message has each in words. */
 enum cbgrid_code {
     CBGRID_OK = 0,
     CBGRID_SEMIRING = 1,     /* no such semiring */
@@ -131,7 +131,7 @@ enum cbgrid_code {
     CBGRID_TEST = 3,         /* no such test, region or function */
     CBGRID_FORM = 4,         /* `kind` or `wide` is above 1 */
     CBGRID_TOO_LARGE = 5,    /* more rows or columns than CBGRID_LIMIT */
-    CBGRID_LENGTHS = 6,      /* the lists' lengths don't agree, or the starts don't go from 0 to that of rows */
+    CBGRID_LENGTHS = 6,      /* the lists' lengths don't agree, or the starts don't go from 0 to rows_len */
     CBGRID_ORDER = 7,        /* starts descend, or columns, or rows in a column, don't ascend strictly */
     CBGRID_PLACE = 8,        /* an entry, row or column is outside the shape */
     CBGRID_VALUE = 9,        /* not a value of the semiring */
@@ -139,9 +139,9 @@ enum cbgrid_code {
     CBGRID_NOT_SQUARE = 11,  /* the matrix of a graph isn't square */
     CBGRID_SOURCE = 12,      /* the graph has no such vertex */
     CBGRID_FORMAT = 13,      /* not a Matrix Market text of the profile (docs/FORMAT.md) */
-    CBGRID_MEMORY = 14,      /* malloc refused memory */
+    CBGRID_MEMORY = 14,      /* out of memory */
     CBGRID_NULL_POINTER = 15, /* an argument, or a list that isn't empty, is a null pointer */
-    CBGRID_MIXED = 16         /* the semirings of kept matrices differ, or the call is over another one */
+    CBGRID_MIXED = 16         /* the semirings of kept matrices differ, or a graph isn't over that of the call */
 };
 
 /* What `kind` and `wide` of struct cbgrid_columns may be. */
@@ -195,10 +195,10 @@ struct cbgrid_text {
 };
 
 /*
- * Makes a matrix over lists of your own, which must last as long as you use the matrix. These functions copy and
- * check nothing; the call that gets the matrix checks its lists. `len` is the length of rows and of values. starts
- * has ncols + 1 elements in CSC and stored + 1 in DCSC, where `stored` is the number of stored columns (none if
- * stored is 0 and starts is a null pointer).
+ * Return a matrix over lists of your own, which must outlive it. These functions allocate, copy and check nothing;
+ * the call that gets the matrix checks its lists. `len` is the length of rows and of values. starts has ncols + 1
+ * elements in CSC and stored + 1 in DCSC, where `stored` is the number of stored columns (none if stored is 0 and
+ * starts is a null pointer).
  */
 struct cbgrid_columns cbgrid_csc32(uint32_t nrows, uint32_t ncols, const uint32_t *starts, const uint32_t *rows,
                                    const uint64_t *values, size_t len);
@@ -210,86 +210,92 @@ struct cbgrid_columns cbgrid_dcsc64(uint32_t nrows, uint32_t ncols, const uint32
                                     const uint64_t *starts, const uint32_t *rows, const uint64_t *values, size_t len);
 
 /*
- * In the calls below `semiring` is one of enum cbgrid_semiring, and `grid` is the side of a grid, 1 to 6, or else
- * CBGRID_GRID. The side is checked and has no other effect: each call works on whole matrices, on the caller's
- * thread.
+ * The calls below check their lists and write a new result to `out`, which you free with cbgrid_free_columns (or
+ * cbgrid_free_text). `semiring` is one of enum cbgrid_semiring. `grid` is the side of a grid, 1 to 6. It is checked and
+ * has no other effect: each call works on whole matrices, on the caller's thread.
  *
- * Each of them may return CBGRID_SEMIRING (if it takes a semiring), CBGRID_GRID, CBGRID_FORM to CBGRID_VALUE,
- * CBGRID_MEMORY and CBGRID_NULL_POINTER. Each comment names any other codes of its call.
+ * Each call may return CBGRID_SEMIRING (if it takes a semiring), CBGRID_GRID (if it takes a grid), CBGRID_FORM to
+ * CBGRID_VALUE, CBGRID_MEMORY and CBGRID_NULL_POINTER. The comments name the other codes.
+ *
+ * Besides what its comment says, a call costs a walk over the entries and the stored columns of its operands (in CSC
+ * all columns).
  */
 
-/* The product of a and b: at row i and column j the sum over k of a(i, k) times b(k, j). CBGRID_SHAPES if a hasn't
- * as many columns as b has rows. Costs the products of entries that meet. */
+/* Multiplies a and b: the entry at row i and column j is the sum over k of a(i, k) times b(k, j). CBGRID_SHAPES if a
+ * doesn't have as many columns as b has rows. Costs the products of entries that meet. */
 int cbgrid_multiply(uint32_t semiring, uint32_t grid, const struct cbgrid_columns *a, const struct cbgrid_columns *b,
                     struct cbgrid_columns *out);
 
-/* The product of a and b at the places where mask has an entry, whatever its value. CBGRID_SHAPES if a and b don't
- * fit, or the mask hasn't the product's shape. The call computes only the entries that the mask allows: it costs
- * the mask's entries and the products of entries in the mask's columns. */
+/* Multiplies a and b at the places where mask has an entry, whatever its value. CBGRID_SHAPES if a doesn't have as many
+ * columns as b has rows, or the mask doesn't have the product's shape. Computes only the entries that the mask allows:
+ * it costs the mask's entries and the products of entries in the mask's columns. */
 int cbgrid_multiply_masked(uint32_t semiring, uint32_t grid, const struct cbgrid_columns *a,
                            const struct cbgrid_columns *b, const struct cbgrid_columns *mask,
                            struct cbgrid_columns *out);
 
-/* The product of a and the vector x. Both x and the result are matrices of one column. CBGRID_SHAPES if x hasn't
- * one column, or hasn't as many rows as a has columns. */
+/* Multiplies a and the vector x. Both x and the result are matrices of one column. CBGRID_SHAPES if x doesn't have one
+ * column, or doesn't have as many rows as a has columns. Costs the entries of the columns of a that x names. */
 int cbgrid_vector(uint32_t semiring, uint32_t grid, const struct cbgrid_columns *a, const struct cbgrid_columns *x,
                   struct cbgrid_columns *out);
 
-/* The transpose of a. */
+/* Transposes a. Costs a few walks over the entries, or a sort of them if a has more than four rows for each entry. */
 int cbgrid_transpose(uint32_t semiring, uint32_t grid, const struct cbgrid_columns *a, struct cbgrid_columns *out);
 
-/* The sum of each row of a, in one column with as many rows. A sum that is zero isn't stored. Costs a transpose
- * of a. */
+/* Adds up each row of a. The result is one column with as many rows as a. A sum that is zero isn't stored. Costs a
+ * transpose of a. */
 int cbgrid_row_sums(uint32_t semiring, uint32_t grid, const struct cbgrid_columns *a, struct cbgrid_columns *out);
 
-/* The sum of each column of a, in one row with as many columns. A sum that is zero isn't stored. */
+/* Adds up each column of a. The result is one row with as many columns as a. A sum that is zero isn't stored. */
 int cbgrid_column_sums(uint32_t semiring, uint32_t grid, const struct cbgrid_columns *a, struct cbgrid_columns *out);
 
-/* The element-wise sum of two matrices of one shape, or else CBGRID_SHAPES. */
+/* Adds two matrices element-wise: a place that only one of them stores keeps its value. CBGRID_SHAPES if their shapes
+ * differ. */
 int cbgrid_add(uint32_t semiring, uint32_t grid, const struct cbgrid_columns *a, const struct cbgrid_columns *b,
                struct cbgrid_columns *out);
 
-/* The element-wise product of two matrices of one shape, or else CBGRID_SHAPES. */
+/* Multiplies two matrices element-wise: only places that both store can have an entry. CBGRID_SHAPES if their shapes
+ * differ. */
 int cbgrid_times(uint32_t semiring, uint32_t grid, const struct cbgrid_columns *a, const struct cbgrid_columns *b,
                  struct cbgrid_columns *out);
 
-/* a without the entries whose value passes the test (enum cbgrid_test, or else CBGRID_TEST) against the bound.
- * Values are compared as whole numbers from 0 to 2^64 - 1. */
+/* Drops the entries of a whose value passes the test (enum cbgrid_test) against the bound. CBGRID_TEST if there is no
+ * such test. Values are compared as whole numbers from 0 to 2^64 - 1. */
 int cbgrid_prune(uint32_t semiring, uint32_t grid, const struct cbgrid_columns *a, uint32_t test, uint64_t bound,
                  struct cbgrid_columns *out);
 
-/* Breadth-first search: the least number of edges from the source to each vertex of a graph. a is over OR_AND and
- * square, or else CBGRID_NOT_SQUARE; an entry at row i and column j is an edge from i to j. CBGRID_SOURCE if the
- * source isn't below a's rows. The result is one column over MIN_PLUS with an entry for each vertex that the
- * source reaches. The source has level 0, which is stored: the zero of MIN_PLUS is 2^64 - 1. Costs a transpose of
- * a, and in each round the entries of the vertices whose number fell in the round before. */
+/* Breadth-first search: finds the least number of edges from the source to each vertex of a graph. a is over OR_AND; an
+ * entry at row i and column j is an edge from i to j. CBGRID_NOT_SQUARE if a isn't square, CBGRID_SOURCE if the source
+ * isn't below nrows. The result is one column over MIN_PLUS with an entry for each vertex that the source reaches. The
+ * source has level 0, which is stored: the zero of MIN_PLUS is 2^64 - 1. Costs a transpose of a, then at most 16 rounds
+ * over the edges of the vertices whose number fell, and for the rest the algorithm of Dijkstra with a heap. */
 int cbgrid_levels(uint32_t grid, const struct cbgrid_columns *a, uint32_t source, struct cbgrid_columns *out);
 
-/* Shortest paths: the least sum of edge lengths from the source to each vertex of a graph. Like cbgrid_levels, but a
- * is over MIN_PLUS, and the value of an entry is the length of its edge. A vertex at a distance of 2^64 - 1 or more
- * has no entry. */
+/* Shortest paths: finds the least sum of edge lengths from the source to each vertex of a graph. Like cbgrid_levels,
+ * but a is over MIN_PLUS, and the value of an entry is the length of its edge. A vertex at a distance of 2^64 - 1 or
+ * more has no entry. */
 int cbgrid_distances(uint32_t grid, const struct cbgrid_columns *a, uint32_t source, struct cbgrid_columns *out);
 
-/* Reads the matrix of a Matrix Market text of `len` bytes, in the profile of docs/FORMAT.md, or else
- * CBGRID_FORMAT. With CBGRID_FORMAT, and only then, it writes the line of the first fault, counted from 1, to
- * `line`, unless that is a null pointer. */
+/* Reads the matrix of a Matrix Market text of `len` bytes, in the profile of docs/FORMAT.md. CBGRID_FORMAT if the text
+ * has a fault: then, and only then, the call writes the line of the first fault, counted from 1, to `line`, unless
+ * `line` is a null pointer. Costs one walk over the text, and a sort of entries that don't ascend by column and then
+ * by row. */
 int cbgrid_read(uint32_t semiring, const void *text, size_t len, uint64_t *line, struct cbgrid_columns *out);
 
-/* The Matrix Market text of a, by column and then by row: `pattern` in OR_AND, `integer` in the others.
- * cbgrid_read gives the same matrix back if it has at most 2147483647 entries. */
+/* Writes the Matrix Market text of a, by column and then by row: `pattern` in OR_AND, `integer` in the others.
+ * cbgrid_read reads the same matrix back if it has at most 2147483647 entries. */
 int cbgrid_text(uint32_t semiring, const struct cbgrid_columns *a, struct cbgrid_text *out);
 
-/* Free the result of a call above and leave it empty, so that a second call does nothing. Never pass a matrix over
- * lists of your own. A null pointer is fine. */
+/* Free the lists of a result, or its bytes, and leave it empty: a second call does nothing. Never pass a matrix over
+ * lists of your own. A null pointer is allowed. */
 void cbgrid_free_columns(struct cbgrid_columns *matrix);
 void cbgrid_free_text(struct cbgrid_text *text);
 
 /*
  * ---- Kept matrices
  *
- * A call above checks the lists that it is lent, copies them into a block of its own, and returns lists. A kept
- * matrix is such a block, over one semiring. You make it once, and free it once; it never changes. A call on kept
- * matrices copies no operand, and its result is a new kept matrix.
+ * A call above checks its lists, copies them into a block of its own, and returns lists. A kept matrix is such a block,
+ * over one semiring. You make it once and free it once; it never changes. Unless its comment says otherwise, a call on
+ * kept matrices copies no operand.
  *
  *     struct cbgrid_matrix *graph, *walks;
  *     int code = cbgrid_matrix_of_columns(CBGRID_PLUS_TIMES, &lists, &graph);
@@ -301,7 +307,10 @@ void cbgrid_free_text(struct cbgrid_text *text);
  * Errors. As above: a call returns the code of the first fault and leaves `out` as it was. It looks for
  * CBGRID_NULL_POINTER first. Unless the comment of a call gives another order, it then looks for CBGRID_TEST,
  * CBGRID_MIXED, CBGRID_SHAPES, CBGRID_NOT_SQUARE and CBGRID_SOURCE, all before it takes memory. CBGRID_MEMORY
- * comes last, and loses nothing.
+ * comes last. The operands stay as they are.
+ *
+ * Memory. A matrix that a call writes to `out` is new and yours; free it with cbgrid_matrix_free. A call doesn't free
+ * the matrix that `out` pointed to before.
  *
  * Threads. Any number of threads may use one matrix at once. Free a matrix only when no running call uses it.
  */
@@ -314,41 +323,45 @@ struct cbgrid_triple {
     uint64_t value;
 };
 
-/* Keeps the matrix of lists, over a semiring. CBGRID_SEMIRING, and CBGRID_FORM to CBGRID_VALUE. It copies the lists
- * once; they stay yours. */
+/* Keeps the matrix of lists over a semiring. Copies the lists once; they stay yours. CBGRID_SEMIRING, and CBGRID_FORM
+ * to CBGRID_VALUE. */
 int cbgrid_matrix_of_columns(uint32_t semiring, const struct cbgrid_columns *lists, struct cbgrid_matrix **out);
 
 /* The same from compressed rows (CSR, or doubly compressed). `rows` has the lists of the transpose: its nrows is the
  * number of columns of the matrix, its columns are the stored rows, and its rows are the columns of the entries.
- * Costs a transpose more. */
+ * Also costs a transpose. */
 int cbgrid_matrix_of_rows(uint32_t semiring, const struct cbgrid_columns *rows, struct cbgrid_matrix **out);
 
-/* Keeps the matrix of triples, in any order. Values at one place are added up in the semiring, and a sum that is
- * zero isn't stored. CBGRID_SEMIRING, CBGRID_TOO_LARGE, CBGRID_PLACE, CBGRID_VALUE, in this order. Costs a sort of
- * the triples, or one walk if they ascend by column and then by row. */
+/* Keeps the matrix of `len` triples, in any order. Values at one place are added up in the semiring, and a sum that
+ * is zero isn't stored. CBGRID_SEMIRING, CBGRID_TOO_LARGE, CBGRID_PLACE, CBGRID_VALUE, in this order. With a length
+ * of 0, `triples` may be a null pointer. Costs a sort of the triples, or one walk if they ascend by column and then
+ * by row. */
 int cbgrid_matrix_of_triples(uint32_t semiring, uint32_t nrows, uint32_t ncols, const struct cbgrid_triple *triples,
                              size_t len, struct cbgrid_matrix **out);
 
-/* Copies the lists of a matrix, or of its transpose, which are those of its rows, in the form of a result above.
- * Free them with cbgrid_free_columns. */
+/* Copy the lists of a matrix: its compressed columns, or its compressed rows, which are the compressed columns of the
+ * transpose. The form is that of the results above; free them with cbgrid_free_columns. cbgrid_matrix_rows also costs
+ * a transpose. */
 int cbgrid_matrix_columns(const struct cbgrid_matrix *a, struct cbgrid_columns *out);
 int cbgrid_matrix_rows(const struct cbgrid_matrix *a, struct cbgrid_columns *out);
 
-/* Writes the entries of a matrix, by column and then by row, to `out`, which has room for cbgrid_matrix_entries. */
+/* Writes the entries of a matrix, by column and then by row, to `out`, which has room for cbgrid_matrix_entries
+ * triples. Copies the lists meanwhile, so CBGRID_MEMORY may come. */
 int cbgrid_matrix_triples(const struct cbgrid_matrix *a, struct cbgrid_triple *out);
 
-/* The shape, the semiring (enum cbgrid_semiring) and the number of stored entries; 0 for a null pointer. */
+/* Return the shape, the semiring (enum cbgrid_semiring) and the number of stored entries of a matrix, or 0 for a null
+ * pointer. */
 uint32_t cbgrid_matrix_nrows(const struct cbgrid_matrix *a);
 uint32_t cbgrid_matrix_ncols(const struct cbgrid_matrix *a);
 uint32_t cbgrid_matrix_semiring(const struct cbgrid_matrix *a);
 uint64_t cbgrid_matrix_entries(const struct cbgrid_matrix *a);
 
-/* The value at a place: the semiring's zero if it has no entry. CBGRID_PLACE outside the shape. Costs two binary
- * searches. */
+/* Writes the value at a place to `out`: the semiring's zero if the place has no entry. CBGRID_PLACE if the place is
+ * outside the shape. Costs two binary searches, and takes no memory. */
 int cbgrid_matrix_value(const struct cbgrid_matrix *a, uint32_t row, uint32_t column, uint64_t *out);
 
-/* These do what the calls of the same names above do. All operands are over one semiring, or else CBGRID_MIXED; so
- * is the result. */
+/* Do what the calls of the same names above do, with the same codes. CBGRID_MIXED if the operands are over different
+ * semirings; the result is over theirs. */
 int cbgrid_matrix_multiply(const struct cbgrid_matrix *a, const struct cbgrid_matrix *b, struct cbgrid_matrix **out);
 int cbgrid_matrix_multiply_masked(const struct cbgrid_matrix *a, const struct cbgrid_matrix *b,
                                   const struct cbgrid_matrix *mask, struct cbgrid_matrix **out);
@@ -361,97 +374,104 @@ int cbgrid_matrix_times(const struct cbgrid_matrix *a, const struct cbgrid_matri
 int cbgrid_matrix_prune(const struct cbgrid_matrix *a, uint32_t test, uint64_t bound, struct cbgrid_matrix **out);
 
 /*
- * Select the entries of a that are in a region (enum cbgrid_region, or else CBGRID_TEST), of diagonal k = `diagonal`.
- * A diagonal that a doesn't reach is allowed, and none of its places has an entry. Costs a walk over the entries.
+ * Selects the entries of a in a region (enum cbgrid_region) of diagonal k = `diagonal`. CBGRID_TEST if there is no such
+ * region. A diagonal outside a is allowed, and has no entries. Costs a walk over the entries.
  */
 int cbgrid_matrix_select(const struct cbgrid_matrix *a, uint32_t region, int64_t diagonal, struct cbgrid_matrix **out);
 
 /*
- * Replace the value of each entry by that of a function (enum cbgrid_function, or else CBGRID_TEST), which takes
- * `number`. CBGRID_VALUE if what it takes isn't a value of the semiring: the number, or for CBGRID_ROW and
- * CBGRID_COLUMN the number of the last row or column of a. (If a has no rows or no columns, any number will do.) A
+ * Replaces the value of each entry by a function (enum cbgrid_function), which takes `number`. CBGRID_TEST if there is
+ * no such function. CBGRID_VALUE if what it takes isn't a value of the semiring: the number, or for CBGRID_ROW and
+ * CBGRID_COLUMN the number of the last row or column of a. (If a has no rows or no columns, any number is accepted.) A
  * value that becomes zero isn't stored. Costs a walk over the entries.
  */
 int cbgrid_matrix_apply(const struct cbgrid_matrix *a, uint32_t function, uint64_t number, struct cbgrid_matrix **out);
 
-/* The main diagonal of a, in one column with as many rows as a has rows or columns, whichever are fewer. Costs a
+/* Takes the main diagonal of a, as one column with as many rows as a has rows or columns, whichever are fewer. Costs a
  * binary search for each column that has entries. */
 int cbgrid_matrix_diagonal(const struct cbgrid_matrix *a, struct cbgrid_matrix **out);
 
-/* The square matrix with the column a on its main diagonal. CBGRID_SHAPES if a hasn't one column. */
+/* Makes the square matrix with the column a on its main diagonal. CBGRID_SHAPES if a doesn't have one column. Costs a
+ * walk over the entries. */
 int cbgrid_matrix_diagonal_matrix(const struct cbgrid_matrix *a, struct cbgrid_matrix **out);
 
-/* The rows of a from `row` up to, but not including, `row_end`, and its columns from `column` up to `column_end`; they
- * become row 0 and column 0 and so on. CBGRID_PLACE if a range descends or ends beyond a. Costs the entries of the
- * part and two binary searches for each of its columns. */
+/* Cuts out the rows of a from `row` up to, but not including, `row_end`, and the columns from `column` up to
+ * `column_end`. Row `row` and column `column` become row 0 and column 0. CBGRID_PLACE if a range descends or ends
+ * beyond a. Costs the entries of the part, and two binary searches for each of its columns that has entries in a. */
 int cbgrid_matrix_part(const struct cbgrid_matrix *a, uint32_t row, uint32_t row_end, uint32_t column,
                        uint32_t column_end, struct cbgrid_matrix **out);
 
-/* The matrix whose row i and column j are row rows[i] and column columns[j] of a, in any order, with repetitions.
- * CBGRID_TOO_LARGE if a list has more than CBGRID_LIMIT elements, then CBGRID_PLACE if a has no such row or column. A
- * list of length 0 may be a null pointer. Costs a binary search for each element, and two transposes of the result. */
+/* Makes the matrix whose row i and column j are row rows[i] and column columns[j] of a, in any order, with repetitions.
+ * CBGRID_TOO_LARGE if a list has more than CBGRID_LIMIT elements, then CBGRID_PLACE if a doesn't have such a row or
+ * column. A list of length 0 may be a null pointer. Costs a binary search for each element, the entries of the columns
+ * and of the result, and two transposes. */
 int cbgrid_matrix_extract(const struct cbgrid_matrix *a, const uint32_t *rows, size_t row_count,
                           const uint32_t *columns, size_t column_count, struct cbgrid_matrix **out);
 
-/* The Kronecker product: in place of each value of a stand its products with all of b. CBGRID_MIXED if their semirings
- * differ, then CBGRID_TOO_LARGE if the result has more than CBGRID_LIMIT rows or columns. Costs the entries of a times
- * those of b. */
+/* Makes the Kronecker product: each value of a is replaced by its products with all of b. CBGRID_MIXED if their
+ * semirings differ, then CBGRID_TOO_LARGE if the result has more than CBGRID_LIMIT rows or columns. Costs the entries
+ * of a times those of b. */
 int cbgrid_matrix_kron(const struct cbgrid_matrix *a, const struct cbgrid_matrix *b, struct cbgrid_matrix **out);
 
-/* a with `part` in place of the part of its shape that begins at (row, column): the entries of a in there are dropped,
- * also where `part` has none. CBGRID_MIXED if their semirings differ, then CBGRID_PLACE if the part ends beyond a.
- * Costs a walk over the entries of both. */
+/* Copies a with `part` in place of the part of its shape that begins at (row, column). The entries of a in that part
+ * are dropped, also where `part` has none. CBGRID_MIXED if their semirings differ, then CBGRID_PLACE if the part ends
+ * beyond a. Costs a walk over the entries of both. */
 int cbgrid_matrix_assign(const struct cbgrid_matrix *a, uint32_t row, uint32_t column,
                          const struct cbgrid_matrix *part, struct cbgrid_matrix **out);
 
-/* The entries of a at the places where the mask has none, whatever its values: what the complement of the mask allows.
- * CBGRID_MIXED if their semirings differ, then CBGRID_SHAPES if their shapes do. Costs a walk over the entries of
- * both. */
+/* Selects the entries of a at the places where the mask has none: a complemented mask. The values of the mask don't
+ * matter. CBGRID_MIXED if their semirings differ, then CBGRID_SHAPES if their shapes do. Costs a walk over the entries
+ * of both. */
 int cbgrid_matrix_exclude(const struct cbgrid_matrix *a, const struct cbgrid_matrix *mask, struct cbgrid_matrix **out);
 
-/* The semiring's sum of all values of a: its zero if a has no entries. Costs a walk over the values and takes no
- * memory. */
+/* Writes the semiring's sum of all values of a to `out`: its zero if a has no entries. Costs a walk over the values,
+ * and takes no memory. */
 int cbgrid_matrix_reduce_all(const struct cbgrid_matrix *a, uint64_t *out);
 
-/* Levels in a graph over OR_AND and distances in one over MIN_PLUS, or else CBGRID_MIXED. The result is over
- * MIN_PLUS. Each copies the graph once, beside its transpose. */
+/* Do what cbgrid_levels does in a graph over OR_AND, and cbgrid_distances in a graph over MIN_PLUS; CBGRID_MIXED if the
+ * graph is over another semiring. The result is over MIN_PLUS. Each call copies and transposes the graph. */
 int cbgrid_matrix_levels(const struct cbgrid_matrix *a, uint32_t source, struct cbgrid_matrix **out);
 int cbgrid_matrix_distances(const struct cbgrid_matrix *a, uint32_t source, struct cbgrid_matrix **out);
 
 /* The same from each of `count` sources, in any order, with repetitions: column j of the result is that of sources[j].
  * CBGRID_MIXED, then CBGRID_NOT_SQUARE, then CBGRID_TOO_LARGE if there are more than CBGRID_LIMIT sources, then
- * CBGRID_SOURCE if one isn't a vertex. With a count of 0, `sources` may be a null pointer. The graph is copied and
- * transposed once for all of them; then each source costs what its search costs. */
+ * CBGRID_SOURCE if one of them isn't a vertex. With a count of 0, `sources` may be a null pointer. Copies and
+ * transposes the graph once for all sources, and then searches from each. */
 int cbgrid_matrix_levels_from(const struct cbgrid_matrix *a, const uint32_t *sources, size_t count,
                               struct cbgrid_matrix **out);
 int cbgrid_matrix_distances_from(const struct cbgrid_matrix *a, const uint32_t *sources, size_t count,
                                  struct cbgrid_matrix **out);
 
 /*
- * For a graph over OR_AND, or else CBGRID_MIXED. They don't copy the graph.
+ * Calls on a graph over OR_AND. CBGRID_MIXED if it is over another semiring, then CBGRID_NOT_SQUARE, then
+ * CBGRID_SOURCE.
  *
  *   parents     for each vertex that the source reaches, other than the source: the least vertex one level nearer
- *               that has an edge to it. One column over MIN_PLUS; its values are vertices.
+ *               that has an edge to it. One column over MIN_PLUS; its values are vertices. Costs a search, and a
+ *               look-up for some entries of each column.
  *   components  for each vertex that has an entry in its row or its column: the least vertex of its component, where
  *               an entry joins two vertices in both directions. One column over MIN_PLUS; its values are vertices.
- *   triangles   the number of sets of three vertices that are joined to one another, by entries in either direction;
- *               at most 2^64 - 1.
+ *               Costs a walk over the entries, and a transpose and a sum unless each entry is there in both directions.
+ *   triangles   writes the number of sets of three vertices that are joined to one another, by entries in either
+ *               direction, to `out`; at most 2^64 - 1. Costs in the order of m^1.5 steps for m entries.
  */
 int cbgrid_matrix_parents(const struct cbgrid_matrix *a, uint32_t source, struct cbgrid_matrix **out);
 int cbgrid_matrix_components(const struct cbgrid_matrix *a, struct cbgrid_matrix **out);
 int cbgrid_matrix_triangles(const struct cbgrid_matrix *a, uint64_t *out);
 
-/* Reads a text into a kept matrix, and writes one, as cbgrid_read and cbgrid_text do. */
+/* Read a text into a kept matrix, and write the text of one, as cbgrid_read and cbgrid_text do. Free the text with
+ * cbgrid_free_text. */
 int cbgrid_matrix_read(uint32_t semiring, const void *text, size_t len, uint64_t *line, struct cbgrid_matrix **out);
 int cbgrid_matrix_text(const struct cbgrid_matrix *a, struct cbgrid_text *out);
 
-/* Frees a matrix. A null pointer is fine. */
+/* Frees a kept matrix. Call it once for each. A null pointer is allowed. */
 void cbgrid_matrix_free(struct cbgrid_matrix *a);
 
-/* The version of the library, as "0.1.0": a static string. */
+/* Returns the version of the library, such as "0.1.0": a static string, which you don't free. */
 const char *cbgrid_version(void);
 
-/* A code in a few words of English, "no such code" for any other number: a static string. */
+/* Returns a code in a few words of English, or "no such code" for any other number: a static string, which you don't
+ * free. */
 const char *cbgrid_message(int code);
 
 #ifdef __cplusplus

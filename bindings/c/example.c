@@ -18,7 +18,7 @@ static const char roads[] =
     "2 4\n"
     "3 4\n";
 
-/* An answer names its stored columns, and for each where its entries start. */
+/* A result lists its stored columns, and where the entries of each start. */
 static void print_entries(const struct cbgrid_columns *matrix) {
     for (size_t k = 0; k < matrix->columns_len; k++) {
         for (uint64_t n = matrix->starts64[k]; n < matrix->starts64[k + 1]; n++) {

@@ -2,7 +2,7 @@
 use Rattle.std.proofs.Common.{◌≡◌, ◌≢◌, ℕ, sym, subst, ⊎_elim, arith}
 use Rattle.std.specs.Prelude.{Option, Result, Ok, Err, IfOk, IfErr}
 use Rattle.cb_interop.specs.declared.faults.Fault.{Fault}
-use Rattle.cb_interop.specs.declared.faults.Fault.TheVariants.{Semiring, Grid, Test, Form, TooLarge, Lengths, Order, Place, Value, Shapes, NotSquare, Source, Text, Memory, Mixed}
+use Rattle.cb_interop.specs.declared.faults.Fault.TheVariants.{Memory}
 use Rattle.cb_interop.specs.declared.kept.Kept.{Kept}
 use Rattle.cb_ffi.specs.declared.handles.Owned.{Owned}
 use Rattle.cb_interop.specs.Refusals.{code_of}
@@ -10,8 +10,9 @@ use Rattle.cb_interop.specs.Answers.{IsAnswer, IsFaultLine}
 use Rattle.cb_ffi.specs.Calls.{IsLine}
 use Rattle.cb_ffi.specs.KeptCalls.{HasHandedOut, IsKeptCall}
 use Rattle.cb_market.specs.declared.ReadFault.{ReadFault}
+use Rattle.cb_ffi.proofs.Calls.{line_at}
 
--- the answer as C gets it: memory may be refused for the matrix itself
+-- the result as C gets it: memory may be refused for the handle
 pub kept_call_of : (faults : Fault → Type 0) (is : Kept → Type 0) (r : Result Kept Fault) (code : ℕ) (old new : Owned) → IsAnswer faults is r
     → IfOk r (HasHandedOut code old new) → IfErr r (λ f. (code ≡ code_of f) × (code ≢ 0) × (new ≡ old)) → IsKeptCall faults is code old new
 kept_call_of faults is (Ok x) code old new a h k =
@@ -25,7 +26,7 @@ kept_call_of faults is (Err f) code old new a h k = record {
   unchanged = λ _. k.2;
 }
 
--- the line of a fault in a text
+-- the line of a text that is read
 pub kept_line_of : (first : Option ReadFault) (r : Result Kept Fault) (code old new : ℕ) (was now : Owned) → IsFaultLine first r old new
     → IfOk r (HasHandedOut code was now) → IfErr r (λ f. (code ≡ code_of f) × (code ≢ 0) × (now ≡ was)) → IsLine first code old new
 kept_line_of first (Ok x) code old new was now a h k =
@@ -33,18 +34,4 @@ kept_line_of first (Ok x) code old new was now a h k =
     (λ g. let e = g.0 in record { text = λ z. absurd (omega arith); other = λ _. a })
     (λ g. let e : code ≡ 14 = g.0 in record { text = λ z. absurd (omega arith); other = λ _. a })
     h
-kept_line_of first (Err Text) code old new was now a h k = record { text = λ _. a; other = λ n. absurd (n k.0) }
-kept_line_of first (Err Semiring) code old new was now a h k = let e : code ≡ 1 = k.0 in record { text = λ z. absurd (omega arith); other = λ _. a }
-kept_line_of first (Err Grid) code old new was now a h k = let e : code ≡ 2 = k.0 in record { text = λ z. absurd (omega arith); other = λ _. a }
-kept_line_of first (Err Test) code old new was now a h k = let e : code ≡ 3 = k.0 in record { text = λ z. absurd (omega arith); other = λ _. a }
-kept_line_of first (Err Form) code old new was now a h k = let e : code ≡ 4 = k.0 in record { text = λ z. absurd (omega arith); other = λ _. a }
-kept_line_of first (Err TooLarge) code old new was now a h k = let e : code ≡ 5 = k.0 in record { text = λ z. absurd (omega arith); other = λ _. a }
-kept_line_of first (Err Lengths) code old new was now a h k = let e : code ≡ 6 = k.0 in record { text = λ z. absurd (omega arith); other = λ _. a }
-kept_line_of first (Err Order) code old new was now a h k = let e : code ≡ 7 = k.0 in record { text = λ z. absurd (omega arith); other = λ _. a }
-kept_line_of first (Err Place) code old new was now a h k = let e : code ≡ 8 = k.0 in record { text = λ z. absurd (omega arith); other = λ _. a }
-kept_line_of first (Err Value) code old new was now a h k = let e : code ≡ 9 = k.0 in record { text = λ z. absurd (omega arith); other = λ _. a }
-kept_line_of first (Err Shapes) code old new was now a h k = let e : code ≡ 10 = k.0 in record { text = λ z. absurd (omega arith); other = λ _. a }
-kept_line_of first (Err NotSquare) code old new was now a h k = let e : code ≡ 11 = k.0 in record { text = λ z. absurd (omega arith); other = λ _. a }
-kept_line_of first (Err Source) code old new was now a h k = let e : code ≡ 12 = k.0 in record { text = λ z. absurd (omega arith); other = λ _. a }
-kept_line_of first (Err Memory) code old new was now a h k = let e : code ≡ 14 = k.0 in record { text = λ z. absurd (omega arith); other = λ _. a }
-kept_line_of first (Err Mixed) code old new was now a h k = let e : code ≡ 16 = k.0 in record { text = λ z. absurd (omega arith); other = λ _. a }
+kept_line_of first (Err f) code old new was now a h k = line_at first f code old new a k.0

@@ -1,5 +1,5 @@
--- Calls: what C gets of a call. KeptCalls: what it gets of one that keeps a matrix.
--- Steps: the steps of a walk, a proof by hand of a function that makes or reads a raw pointer.
+-- Calls: what C gets of a call. KeptCalls: what C gets of a call that keeps a matrix.
+-- Steps: the imports of a walk, a proof by hand of a function that makes or reads a raw pointer.
 pub mod Calls
 pub mod KeptCalls
 pub mod Steps

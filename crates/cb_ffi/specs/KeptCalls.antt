@@ -2,6 +2,8 @@
 use Rattle.std.specs.Prelude.{◌≡◌, ℕ, ◌⊎◌, List, Option, Some}
 use Rattle.std.specs.Borrow.{MutBor}
 use Rattle.cb_semirings.specs.Names.{arithmetic_of, numbered}
+use Rattle.cb_semirings.specs.Arithmetic.{Arithmetic}
+use Rattle.cb_semirings.specs.declared.names.SemiringName.{SemiringName}
 use Rattle.cb_semirings.specs.declared.names.SemiringName.TheVariants as name_is
 use Rattle.cb_operations.specs.declared.operations.Operation.{Operation}
 use Rattle.cb_interop.specs.declared.lists.Columns.{Columns}
@@ -16,26 +18,30 @@ use Rattle.cb_interop.specs.Kept.{matrix_in}
 use Rattle.cb_interop.specs.KeptSelections.{kept_selection_faults, HasSelected, number_faults, IsKeptExtract}
 use Rattle.cb_interop.specs.declared.pairings.Pairing.{Pairing}
 use Rattle.cb_interop.specs.KeptPairings.{pair_faults, IsKeptPair}
-use Rattle.cb_interop.specs.KeptSources.{searches_faults, IsKeptLevelsFrom, IsKeptDistancesFrom}
+use Rattle.cb_interop.specs.KeptGraphs.{searches_faults, IsKeptLevelsFrom, IsKeptDistancesFrom}
 use Rattle.cb_interop.specs.Triples.{triple_faults, IsKeptTriples}
 use Rattle.cb_interop.specs.KeptTexts.{IsKeptRead}
 use Rattle.cb_ffi.specs.declared.handles.Owned.{Owned}
 use Rattle.cb_ffi.specs.Calls.{IsCall}
 
--- C has got a matrix, and it is one of these
+-- C owns a kept matrix, for which a property holds
 abbrev pub Has : (Kept → Type 0) → Owned → Type 0
 Has is owned = (k : MutBor Kept) × (owned.kept ≡ Some k) × is k.now
 
--- what C gets of a call that keeps a matrix: it owns one that is right, or has the number of the first fault and what it had
+-- what C gets of a call that keeps a matrix: it owns the result, or has the number of the first fault and what it had
 abbrev pub IsKeptCall : (Fault → Type 0) → (Kept → Type 0) → ℕ → Owned → Owned → Type 0
 IsKeptCall faults is code old new = IsCall faults (Has is) code old new
 
--- the same of an operation on matrices that are kept
+-- the same of a call over the semiring of a number
+abbrev pub IsKeptCallOver : ℕ → (Arithmetic → Fault → Type 0) → (Arithmetic → SemiringName → Kept → Type 0) → ℕ → Owned → Owned → Type 0
+IsKeptCallOver semiring faults is =
+    IsKeptCall (over (numbered semiring) faults) (λ k. OverName (numbered semiring) (λ name. is (arithmetic_of name) name k))
+
+-- the same of an operation on kept matrices
 unfoldable pub IsKeptOperation : Option Operation → List Kept → ℕ → Owned → Owned → Type 0
 IsKeptOperation operation ks code old new = IsKeptCall (kept_faults operation ks) (HasMadeKept operation ks) code old new
 
--- the same of what is made of one kept matrix place by place, of its rows and columns by their numbers, and of what is made
--- of two kept matrices
+-- the same of a selection from one kept matrix, of its rows and columns by their numbers, and of a pairing of two
 unfoldable pub IsSelectionCall : Option Selection → Kept → ℕ → Owned → Owned → Type 0
 IsSelectionCall selection k code old new = IsKeptCall (kept_selection_faults selection k) (HasSelected selection k) code old new
 
@@ -45,28 +51,28 @@ IsExtractCall rows cols k code old new = IsKeptCall (number_faults rows cols (ma
 unfoldable pub IsPairCall : Pairing → Kept → Kept → ℕ → Owned → Owned → Type 0
 IsPairCall p a b code old new = IsKeptCall (pair_faults p a b) (IsKeptPair p a b) code old new
 
--- the same of searches from several sources in the graph of a kept matrix
+-- the same of searches from several sources in a kept graph
 unfoldable pub IsLevelsCall : List ℕ → Kept → ℕ → Owned → Owned → Type 0
 IsLevelsCall sources k code old new = IsKeptCall (searches_faults name_is.OrAnd k sources) (IsKeptLevelsFrom (matrix_in k) sources) code old new
 
 unfoldable pub IsDistancesCall : List ℕ → Kept → ℕ → Owned → Owned → Type 0
 IsDistancesCall sources k code old new = IsKeptCall (searches_faults name_is.MinPlus k sources) (IsKeptDistancesFrom (matrix_in k) sources) code old new
 
--- C has got this matrix; or memory for it was refused, and C has what it had
+-- C owns this kept matrix; or memory for it was refused, and C has what it had
 abbrev pub HasHandedOut : ℕ → Owned → Owned → Kept → Type 0
 HasHandedOut code old new k = ((code ≡ 0) × Has (λ x. x ≡ k) new) ⊎ ((code ≡ code_of Memory) × (new ≡ old))
 
--- what C gets of the call that keeps the matrix of lists, over the semiring of a number
+-- what C gets of the call that keeps the matrix of lists
 abbrev pub IsKeepCall : ℕ → Columns → ℕ → Owned → Owned → Type 0
 IsKeepCall semiring a code old new =
-    IsKeptCall (over (numbered semiring) (λ s. text_faults s a)) (λ k. OverName (numbered semiring) (λ n. IsKeptOf (arithmetic_of n) n a k)) code old new
+    IsKeptCallOver semiring (λ s. text_faults s a) (λ s name. IsKeptOf s name a) code old new
 
 -- the same of triples
 abbrev pub IsTriplesCall : ℕ → ℕ → ℕ → List Triple → ℕ → Owned → Owned → Type 0
 IsTriplesCall semiring nrows ncols ts code old new =
-    IsKeptCall (over (numbered semiring) (λ s. triple_faults s nrows ncols ts)) (λ k. OverName (numbered semiring) (λ n. IsKeptTriples (arithmetic_of n) n nrows ncols ts k)) code old new
+    IsKeptCallOver semiring (λ s. triple_faults s nrows ncols ts) (λ s name. IsKeptTriples s name nrows ncols ts) code old new
 
 -- the same of a text
 abbrev pub IsReadCall : ℕ → List ℕ → ℕ → Owned → Owned → Type 0
 IsReadCall semiring text code old new =
-    IsKeptCall (over (numbered semiring) (λ s. read_faults s text)) (λ k. OverName (numbered semiring) (λ n. IsKeptRead (arithmetic_of n) n text k)) code old new
+    IsKeptCallOver semiring (λ s. read_faults s text) (λ s name. IsKeptRead s name text) code old new

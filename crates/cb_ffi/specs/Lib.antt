@@ -1,4 +1,4 @@
--- Calls: what C gets of a call. Handles: how C holds a matrix that is kept. KeptCalls: what C gets of a call that keeps one.
+-- Calls: what C gets of a call. Handles: how C holds a kept matrix. KeptCalls: what C gets of a call that keeps one.
 pub mod Calls
 pub mod Handles
 pub mod KeptCalls

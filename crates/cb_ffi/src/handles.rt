@@ -1,7 +1,7 @@
-//! A matrix that is kept, as C holds it: by one pointer, of which C knows nothing.
+//! A kept matrix as C holds it: one opaque pointer.
 //!
-//! The pointer is that of a [`Kept`] on the heap. C may lend it to any number of calls at once, and gives it back once,
-//! when no call uses it any more. That it does so is the one thing that no proof can see.
+//! The pointer is that of a [`Kept`] on the heap. C may pass it to any number of calls at once, and frees it once, when no
+//! call uses it any more. No proof can check that C does so.
 ghost use Rattle.std.specs.Prelude.{◌≡◌, Option, Some, IsSome};
 ghost use Rattle.std.specs.Borrow.{Bor, MutBor};
 ghost use Rattle.cb_interop.specs.declared.kept.Kept.{Kept as KeptValue};
@@ -9,7 +9,7 @@ ghost use Rattle.cb_interop.specs.declared.kept.Kept.{Kept as KeptValue};
 use cb_interop::Kept;
 use std::marker::Model;
 
-/// A matrix that is C's own, or a place for one.
+/// A kept matrix that C owns, or a place for one.
 #[repr(C)]
 #[derive(Drop)]
 pub struct Owned {
@@ -23,7 +23,7 @@ impl Model for Owned {
     ghost also_owns = { λ h. owned_at h.at h.kept };
 }
 
-/// A matrix that is lent: as long as the call runs nobody changes it or gives it back.
+/// A kept matrix that C passes to a call: nobody changes or frees it while the call runs.
 #[repr(C)]
 #[derive(Drop)]
 pub struct Lent {
@@ -37,7 +37,7 @@ impl Model for Lent {
     ghost also_owns = { λ h. lent_at h.at h.kept };
 }
 
-/// A matrix, handed to C.
+/// Hands a kept matrix to C.
 pub(crate) fn hand_out(kept: &'static mut Kept) -> Owned
     ensures { result.kept ≡ Some kept.entry }
 {
@@ -46,7 +46,7 @@ pub(crate) fn hand_out(kept: &'static mut Kept) -> Owned
     }
 }
 
-/// The matrix that C gives back.
+/// Takes a kept matrix back from C.
 pub(crate) fn take_back(owned: Owned) -> &'static mut Kept
     requires { IsSome owned.kept }
     ensures { owned.kept ≡ Some result }
@@ -54,7 +54,7 @@ pub(crate) fn take_back(owned: Owned) -> &'static mut Kept
     unsafe { &mut *(owned.at as *mut Kept) }
 }
 
-/// The matrix that C lends.
+/// The kept matrix that C passes.
 pub(crate) fn borrowed(lent: Lent) -> &'static Kept
     ensures { result ≡ lent.kept }
 {

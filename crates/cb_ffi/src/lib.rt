@@ -1,19 +1,19 @@
-//! The kernel for programs in C: matrices in compressed columns, lent as lists and answered as lists.
+//! The kernel for programs in C: operations on sparse matrices in compressed columns.
 //!
-//! Each call takes matrices as [`Columns`], which it reads and neither changes nor keeps, and answers a code: 0 where
-//! `out` has the answer, and else the number of the first fault ([`Fault::code`]), and `out` is as it was. All faults
-//! are looked for before memory is asked for, but for those of a text, which are found as it is read.
+//! A call takes matrices as [`Columns`], whose lists it reads and neither changes nor keeps. It returns 0 if it has written
+//! its result to `out`. Otherwise it returns the number of the first fault ([`Fault::code`]) and leaves `out` as it was. It
+//! looks for all faults before it takes memory, except for those of a text, which it finds while it reads.
 //!
-//! The lists of an answer are given away: each list that isn't empty is memory of the program's `malloc`, which the
-//! caller gives back by `free`.
+//! The lists of a result belong to the caller. Each list that isn't empty is memory of the program's `malloc`; release it
+//! with `free`.
 //!
-//! A matrix that is kept ([`Owned`], [`Lent`]) is a block over one semiring, behind a pointer of which C knows nothing. The
-//! calls whose names have `kept` take such matrices, use their blocks where they lie, and hand a new matrix out.
+//! A kept matrix ([`Owned`], [`Lent`]) is a block over one semiring, behind an opaque pointer. The calls with `kept` in their
+//! names take kept matrices, read their blocks where they are, and write a new kept matrix to `out`.
 //!
-//! The semirings have the numbers of `cb_semirings::SemiringName`: 0 (plus-times), 1 (min-plus), 2 (or-and), 3
-//! (max-min), and so on.
+//! `semiring` is a number of `cb_semirings::SemiringName`: 0 (plus-times), 1 (min-plus), 2 (or-and), 3 (max-min), and so
+//! on.
 //!
-//! `grid` is the side of a grid, 1 to 6. It is checked, and changes nothing else: each call works on whole blocks, on the
+//! `grid` is the side of a grid, 1 to 6. It is checked and has no other effect: each call works on whole blocks, on the
 //! caller's thread.
 #![tactic(auto)]
 
@@ -27,17 +27,17 @@ ghost use Rattle.cb_operations.specs.OperationAnswers.{operand_count_of};
 ghost use Rattle.cb_serial.specs.Lent.{lent_in};
 ghost use Rattle.cb_graphs.specs.Triangles.{triangle_count, stopped};
 ghost use Rattle.cb_interop.specs.Lists.{HasLists};
-ghost use Rattle.cb_interop.specs.Refusals.{code_of, IsMemory, over, Over, first_over, graph_faults, read_faults, text_faults};
+ghost use Rattle.cb_interop.specs.Refusals.{code_of, IsMemory, first_over, graph_faults, read_faults, text_faults};
 ghost use Rattle.cb_interop.specs.Answers.{prune_of, HasDistances, HasLevels, IsRead, IsTextOf};
 ghost use Rattle.cb_interop.specs.Kept.{matrix_in, semiring_of};
 ghost use Rattle.cb_interop.specs.KeptAnswers.{IsSummary};
-ghost use Rattle.cb_interop.specs.KeptGraphs.{square_faults, IsKeptComponents, IsKeptParents};
+ghost use Rattle.cb_interop.specs.KeptGraphs.{search_faults, square_faults, IsKeptComponents, IsKeptDistances, IsKeptLevels, IsKeptParents};
 ghost use Rattle.cb_reductions.specs.Sums.{matrix_total};
 ghost use Rattle.cb_interop.specs.declared.pairings.Pairing.TheVariants as pairing_is;
 ghost use Rattle.cb_interop.specs.declared.selections.Selection.TheVariants as selection_is;
 ghost use Rattle.cb_interop.specs.KeptSelections.{function_of, region_of};
-ghost use Rattle.cb_interop.specs.KeptTexts.{search_faults, IsKeptDistances, IsKeptLevels, IsKeptText};
-ghost use Rattle.cb_ffi.specs.Calls.{IsCall, IsLine, IsOperationCall};
+ghost use Rattle.cb_interop.specs.KeptTexts.{IsKeptText};
+ghost use Rattle.cb_ffi.specs.Calls.{IsCall, IsCallOver, IsLine, IsOperationCall};
 ghost use Rattle.cb_ffi.specs.KeptCalls.{HasHandedOut, IsDistancesCall, IsExtractCall, IsKeepCall, IsKeptCall, IsKeptOperation, IsLevelsCall, IsPairCall, IsReadCall, IsSelectionCall, IsTriplesCall};
 
 mod handles;
@@ -54,7 +54,7 @@ pub use handles::{Lent, Owned};
 use handles::{borrowed, hand_out, take_back};
 use std::alloc::Global;
 
-/// Puts an answer, or answers the number of the fault.
+/// Writes a result to `out`, or returns the number of the fault.
 fn put<T: Copy>(out: &mut T, answer: Result<T, Fault>) -> u32
     ensures ok { IfOk answer (λ x. (result ≡ 0) × (out.new ≡ x)) }
     ensures refused { IfErr answer (λ f. (result ≡ code_of f) × (result ≢ 0) × (out.new ≡ out.old)) }
@@ -68,7 +68,7 @@ fn put<T: Copy>(out: &mut T, answer: Result<T, Fault>) -> u32
     }
 }
 
-/// Puts what an operation makes of matrices, or answers the number of the fault.
+/// Writes the result of an operation on lists, or returns the number of the fault.
 fn call(
     alloc: Global,
     semiring: u32,
@@ -83,7 +83,7 @@ fn call(
     put(out, answer(alloc, semiring, grid, operation, operands))
 }
 
-/// Hands a matrix to C, or answers the number of the fault. It takes one allocation.
+/// Hands a kept matrix to C, or returns the number of the fault. Takes one allocation.
 fn put_kept(alloc: Global, out: &mut Owned, answer: Result<Kept, Fault>) -> u32
     ensures ok { IfOk answer (HasHandedOut result out.old out.new) }
     ensures refused { IfErr answer (λ f. (result ≡ code_of f) × (result ≢ 0) × (out.new ≡ out.old)) }
@@ -101,7 +101,7 @@ fn put_kept(alloc: Global, out: &mut Owned, answer: Result<Kept, Fault>) -> u32
     }
 }
 
-/// Keeps what an operation makes of matrices that are kept, or answers the number of the fault.
+/// Keeps the result of an operation on kept matrices, or returns the number of the fault.
 fn call_kept(
     alloc: Global,
     operation: Option<Operation>,
@@ -114,42 +114,42 @@ fn call_kept(
     put_kept(alloc, out, operate(alloc, operation, operands))
 }
 
-/// Keeps what a selection makes of a matrix that is kept, or answers the number of the fault.
+/// Keeps the result of a selection from a kept matrix, or returns the number of the fault.
 fn select_kept(alloc: Global, selection: Option<Selection>, kept: &Kept, out: &mut Owned) -> u32
     ensures { IsSelectionCall selection kept.now result out.old out.new }
 {
     put_kept(alloc, out, kept_selection(alloc, selection, kept))
 }
 
-/// Keeps the rows and the columns of a matrix that is kept with some numbers, or answers the number of the fault.
+/// Keeps rows and columns of a kept matrix by their numbers, or returns the number of the fault.
 fn extract_kept(alloc: Global, kept: &Kept, rows: &[u32], columns: &[u32], out: &mut Owned) -> u32
     ensures { IsExtractCall rows.now columns.now kept.now result out.old out.new }
 {
     put_kept(alloc, out, kept_extract(alloc, kept, rows, columns))
 }
 
-/// Keeps what a pairing makes of two matrices that are kept, or answers the number of the fault.
+/// Keeps the result of an operation on two kept matrices, or returns the number of the fault.
 fn pair_kept(alloc: Global, pairing: Pairing, left: &Kept, right: &Kept, out: &mut Owned) -> u32
     ensures { IsPairCall pairing left.now right.now result out.old out.new }
 {
     put_kept(alloc, out, kept_pair(alloc, pairing, left, right))
 }
 
-/// Keeps the levels from several sources in a graph that is kept, or answers the number of the fault.
+/// Keeps the levels from several sources in a kept graph, or returns the number of the fault.
 fn levels_kept(alloc: Global, graph: &Kept, sources: &[u32], out: &mut Owned) -> u32
     ensures { IsLevelsCall sources.now graph.now result out.old out.new }
 {
     put_kept(alloc, out, kept_levels_from(alloc, graph, sources))
 }
 
-/// Keeps the distances from several sources in a graph that is kept, or answers the number of the fault.
+/// Keeps the distances from several sources in a kept graph, or returns the number of the fault.
 fn distances_kept(alloc: Global, graph: &Kept, sources: &[u32], out: &mut Owned) -> u32
     ensures { IsDistancesCall sources.now graph.now result out.old out.new }
 {
     put_kept(alloc, out, kept_distances_from(alloc, graph, sources))
 }
 
-/// The product of two matrices, over the semiring of a number.
+/// Multiplies two matrices.
 #[unsafe(no_mangle)]
 pub extern "C" fn cbgrid_kernel_multiply(
     alloc: Global,
@@ -165,7 +165,7 @@ pub extern "C" fn cbgrid_kernel_multiply(
     call(alloc, semiring, grid, operation, &[*a, *b], out)
 }
 
-/// The product of two matrices, kept where a mask has entries, over the semiring of a number.
+/// Multiplies two matrices at the places where a mask has entries.
 #[unsafe(no_mangle)]
 pub extern "C" fn cbgrid_kernel_multiply_masked(
     alloc: Global,
@@ -182,7 +182,7 @@ pub extern "C" fn cbgrid_kernel_multiply_masked(
     call(alloc, semiring, grid, operation, &[*a, *b, *mask], out)
 }
 
-/// The product of a matrix by a vector, which has one column, over the semiring of a number.
+/// Multiplies a matrix and a vector, which is a matrix of one column.
 #[unsafe(no_mangle)]
 pub extern "C" fn cbgrid_kernel_vector(
     alloc: Global,
@@ -198,7 +198,7 @@ pub extern "C" fn cbgrid_kernel_vector(
     call(alloc, semiring, grid, operation, &[*a, *x], out)
 }
 
-/// The transpose of a matrix, over the semiring of a number.
+/// Transposes a matrix.
 #[unsafe(no_mangle)]
 pub extern "C" fn cbgrid_kernel_transpose(
     alloc: Global,
@@ -213,7 +213,7 @@ pub extern "C" fn cbgrid_kernel_transpose(
     call(alloc, semiring, grid, operation, &[*a], out)
 }
 
-/// The sum of each row of a matrix, in one column, over the semiring of a number.
+/// Adds up each row of a matrix, into one column.
 #[unsafe(no_mangle)]
 pub extern "C" fn cbgrid_kernel_row_sums(
     alloc: Global,
@@ -228,7 +228,7 @@ pub extern "C" fn cbgrid_kernel_row_sums(
     call(alloc, semiring, grid, operation, &[*a], out)
 }
 
-/// The sum of each column of a matrix, in one row, over the semiring of a number.
+/// Adds up each column of a matrix, into one row.
 #[unsafe(no_mangle)]
 pub extern "C" fn cbgrid_kernel_column_sums(
     alloc: Global,
@@ -243,7 +243,7 @@ pub extern "C" fn cbgrid_kernel_column_sums(
     call(alloc, semiring, grid, operation, &[*a], out)
 }
 
-/// The sum at each place of two matrices of one shape, over the semiring of a number.
+/// Adds two matrices of one shape, place by place.
 #[unsafe(no_mangle)]
 pub extern "C" fn cbgrid_kernel_add(
     alloc: Global,
@@ -258,7 +258,7 @@ pub extern "C" fn cbgrid_kernel_add(
     call(alloc, semiring, grid, Some(Operation::Add), &[*a, *b], out)
 }
 
-/// The product at each place of two matrices of one shape, over the semiring of a number.
+/// Multiplies two matrices of one shape, place by place.
 #[unsafe(no_mangle)]
 pub extern "C" fn cbgrid_kernel_times(
     alloc: Global,
@@ -274,7 +274,8 @@ pub extern "C" fn cbgrid_kernel_times(
     call(alloc, semiring, grid, operation, &[*a, *b], out)
 }
 
-/// A matrix without the entries whose value passes a test, over the semiring of a number.
+/// Drops the entries of a matrix whose value passes a test: 0 for values below the bound, 1 for those above it, 2 for those
+/// equal to it.
 #[unsafe(no_mangle)]
 pub extern "C" fn cbgrid_kernel_prune(
     alloc: Global,
@@ -290,9 +291,9 @@ pub extern "C" fn cbgrid_kernel_prune(
     call(alloc, semiring, grid, prune_of(test, bound), &[*a], out)
 }
 
-/// The level of each vertex of a graph from a source: how many entries a walk has at least, where an entry (i, j) of the
-/// square matrix, over or-and, is an edge from i to j. The answer is one column over min-plus, with an entry for each
-/// vertex that has a walk; the source has level 0.
+/// Breadth-first search: the least number of edges from a source to each vertex of a graph. The graph is a square matrix over
+/// or-and; an entry at row i and column j is an edge from i to j. The result is one column over min-plus, with an entry for
+/// each vertex that the source reaches. The source has level 0.
 #[unsafe(no_mangle)]
 pub extern "C" fn cbgrid_kernel_levels(
     alloc: Global,
@@ -306,9 +307,9 @@ pub extern "C" fn cbgrid_kernel_levels(
     put(out, levels(alloc, grid, graph, source))
 }
 
-/// The distance of each vertex of a graph from a source: the least sum of the values of a walk's entries, of a square
-/// matrix over min-plus. All else is as in [`cbgrid_kernel_levels`], but that a vertex at a distance of 2^64-1 or more
-/// has no entry.
+/// Shortest paths: the least sum of edge lengths from a source to each vertex of a graph. Like [`cbgrid_kernel_levels`], but
+/// the graph is a matrix over min-plus, and the value of an entry is the length of its edge. A vertex at a distance of
+/// 2^64 - 1 or more has no entry.
 #[unsafe(no_mangle)]
 pub extern "C" fn cbgrid_kernel_distances(
     alloc: Global,
@@ -322,8 +323,8 @@ pub extern "C" fn cbgrid_kernel_distances(
     put(out, distances(alloc, grid, graph, source))
 }
 
-/// The matrix that a Matrix Market text reads as, over the semiring of a number. Where the text has a fault (code 13)
-/// `line` is its line, counted from 1, and else as it was.
+/// Reads the matrix of a Matrix Market text. If the text has a fault (code 13), `line` gets its line, counted from 1;
+/// otherwise `line` is left as it was.
 #[unsafe(no_mangle)]
 pub extern "C" fn cbgrid_kernel_read(
     alloc: Global,
@@ -332,13 +333,13 @@ pub extern "C" fn cbgrid_kernel_read(
     line: &mut u64,
     out: &mut Columns,
 ) -> u32
-    ensures call { IsCall (over (numbered semiring) (λ s. read_faults s text.now)) (λ c. Over (numbered semiring) (λ s. IsRead s text.now c)) result out.old out.new }
+    ensures call { IsCallOver semiring (λ s. read_faults s text.now) (λ s. IsRead s text.now) result out.old out.new }
     ensures line { IsLine (first_over (numbered semiring) text.now) result line.old line.new }
 {
     put(out, read_lists(alloc, semiring, text, line))
 }
 
-/// The Matrix Market text of a matrix, over the semiring of a number.
+/// Writes the Matrix Market text of a matrix.
 #[unsafe(no_mangle)]
 pub extern "C" fn cbgrid_kernel_text(
     alloc: Global,
@@ -346,12 +347,12 @@ pub extern "C" fn cbgrid_kernel_text(
     a: &Columns,
     out: &mut Text,
 ) -> u32
-    ensures { IsCall (over (numbered semiring) (λ s. text_faults s a.now)) (λ t. Over (numbered semiring) (λ s. IsTextOf s a.now t)) result out.old out.new }
+    ensures { IsCallOver semiring (λ s. text_faults s a.now) (λ s. IsTextOf s a.now) result out.old out.new }
 {
     put(out, text_of_lists(alloc, semiring, a))
 }
 
-/// Keeps the matrix of lists, over the semiring of a number. Its entries are copied once.
+/// Keeps the matrix of lists. The entries are copied once.
 #[unsafe(no_mangle)]
 pub extern "C" fn cbgrid_kernel_keep(
     alloc: Global,
@@ -364,7 +365,7 @@ pub extern "C" fn cbgrid_kernel_keep(
     put_kept(alloc, out, keep_lists(alloc, semiring, a))
 }
 
-/// Keeps the product of two matrices that are kept.
+/// Multiplies two kept matrices.
 #[unsafe(no_mangle)]
 pub extern "C" fn cbgrid_kernel_kept_multiply(
     alloc: Global,
@@ -378,7 +379,7 @@ pub extern "C" fn cbgrid_kernel_kept_multiply(
     call_kept(alloc, Some(Operation::Multiply), &operands, out)
 }
 
-/// Keeps the product of two matrices that are kept, where a mask has entries.
+/// Multiplies two kept matrices at the places where a mask has entries.
 #[unsafe(no_mangle)]
 pub extern "C" fn cbgrid_kernel_kept_multiply_masked(
     alloc: Global,
@@ -393,7 +394,7 @@ pub extern "C" fn cbgrid_kernel_kept_multiply_masked(
     call_kept(alloc, Some(Operation::MultiplyMasked), &operands, out)
 }
 
-/// Keeps the product of a matrix by a vector, which has one column.
+/// Multiplies a kept matrix and a kept vector, which is a matrix of one column.
 #[unsafe(no_mangle)]
 pub extern "C" fn cbgrid_kernel_kept_vector(alloc: Global, a: Lent, x: Lent, out: &mut Owned) -> u32
     ensures { IsKeptOperation (Some operation_is.MultiplyVector) (a.kept.now ∷ x.kept.now ∷ []) result out.old out.new }
@@ -402,7 +403,7 @@ pub extern "C" fn cbgrid_kernel_kept_vector(alloc: Global, a: Lent, x: Lent, out
     call_kept(alloc, Some(Operation::MultiplyVector), &operands, out)
 }
 
-/// Keeps the transpose of a matrix that is kept.
+/// Transposes a kept matrix.
 #[unsafe(no_mangle)]
 pub extern "C" fn cbgrid_kernel_kept_transpose(alloc: Global, a: Lent, out: &mut Owned) -> u32
     ensures { IsKeptOperation (Some operation_is.Transpose) (a.kept.now ∷ []) result out.old out.new }
@@ -410,7 +411,7 @@ pub extern "C" fn cbgrid_kernel_kept_transpose(alloc: Global, a: Lent, out: &mut
     call_kept(alloc, Some(Operation::Transpose), &[borrowed(a)], out)
 }
 
-/// Keeps the sum of each row of a matrix that is kept, in one column.
+/// Adds up each row of a kept matrix, into one column.
 #[unsafe(no_mangle)]
 pub extern "C" fn cbgrid_kernel_kept_row_sums(alloc: Global, a: Lent, out: &mut Owned) -> u32
     ensures { IsKeptOperation (Some operation_is.RowSums) (a.kept.now ∷ []) result out.old out.new }
@@ -418,7 +419,7 @@ pub extern "C" fn cbgrid_kernel_kept_row_sums(alloc: Global, a: Lent, out: &mut 
     call_kept(alloc, Some(Operation::RowSums), &[borrowed(a)], out)
 }
 
-/// Keeps the sum of each column of a matrix that is kept, in one row.
+/// Adds up each column of a kept matrix, into one row.
 #[unsafe(no_mangle)]
 pub extern "C" fn cbgrid_kernel_kept_column_sums(alloc: Global, a: Lent, out: &mut Owned) -> u32
     ensures { IsKeptOperation (Some operation_is.ColumnSums) (a.kept.now ∷ []) result out.old out.new }
@@ -426,7 +427,7 @@ pub extern "C" fn cbgrid_kernel_kept_column_sums(alloc: Global, a: Lent, out: &m
     call_kept(alloc, Some(Operation::ColumnSums), &[borrowed(a)], out)
 }
 
-/// Keeps the sum at each place of two matrices that are kept.
+/// Adds two kept matrices, place by place.
 #[unsafe(no_mangle)]
 pub extern "C" fn cbgrid_kernel_kept_add(alloc: Global, a: Lent, b: Lent, out: &mut Owned) -> u32
     ensures { IsKeptOperation (Some operation_is.Add) (a.kept.now ∷ b.kept.now ∷ []) result out.old out.new }
@@ -435,7 +436,7 @@ pub extern "C" fn cbgrid_kernel_kept_add(alloc: Global, a: Lent, b: Lent, out: &
     call_kept(alloc, Some(Operation::Add), &operands, out)
 }
 
-/// Keeps the product at each place of two matrices that are kept.
+/// Multiplies two kept matrices, place by place.
 #[unsafe(no_mangle)]
 pub extern "C" fn cbgrid_kernel_kept_times(alloc: Global, a: Lent, b: Lent, out: &mut Owned) -> u32
     ensures { IsKeptOperation (Some operation_is.Times) (a.kept.now ∷ b.kept.now ∷ []) result out.old out.new }
@@ -444,7 +445,7 @@ pub extern "C" fn cbgrid_kernel_kept_times(alloc: Global, a: Lent, b: Lent, out:
     call_kept(alloc, Some(Operation::Times), &operands, out)
 }
 
-/// Keeps a matrix that is kept without the entries whose value passes a test.
+/// Drops the entries of a kept matrix whose value passes a test. The tests are those of [`cbgrid_kernel_prune`].
 #[unsafe(no_mangle)]
 pub extern "C" fn cbgrid_kernel_kept_prune(
     alloc: Global,
@@ -458,7 +459,7 @@ pub extern "C" fn cbgrid_kernel_kept_prune(
     call_kept(alloc, prune_of(test, bound), &[borrowed(a)], out)
 }
 
-/// Keeps the entries of a matrix that is kept which are in the region of a number, by a place on its diagonal.
+/// Selects the entries of a kept matrix in the region of a number ([`region_of`]), by a place on its diagonal.
 #[unsafe(no_mangle)]
 pub extern "C" fn cbgrid_kernel_kept_select(
     alloc: Global,
@@ -473,7 +474,7 @@ pub extern "C" fn cbgrid_kernel_kept_select(
     select_kept(alloc, region_of(region, row, column), borrowed(a), out)
 }
 
-/// Keeps what the function of a number, with the number that it takes, makes of each value of a matrix that is kept.
+/// Replaces each value of a kept matrix by the function of a number ([`function_of`]), which takes `number`.
 #[unsafe(no_mangle)]
 pub extern "C" fn cbgrid_kernel_kept_apply(
     alloc: Global,
@@ -487,7 +488,7 @@ pub extern "C" fn cbgrid_kernel_kept_apply(
     select_kept(alloc, function_of(function, number), borrowed(a), out)
 }
 
-/// Keeps the diagonal of a matrix that is kept, in one column.
+/// The diagonal of a kept matrix, in one column.
 #[unsafe(no_mangle)]
 pub extern "C" fn cbgrid_kernel_kept_diagonal(alloc: Global, a: Lent, out: &mut Owned) -> u32
     ensures { IsSelectionCall (Some selection_is.Diagonal) a.kept.now result out.old out.new }
@@ -495,7 +496,7 @@ pub extern "C" fn cbgrid_kernel_kept_diagonal(alloc: Global, a: Lent, out: &mut 
     select_kept(alloc, Some(Selection::Diagonal), borrowed(a), out)
 }
 
-/// Keeps the square matrix that has a column, which is kept, on its diagonal.
+/// The square matrix with a kept column on its diagonal.
 #[unsafe(no_mangle)]
 pub extern "C" fn cbgrid_kernel_kept_diagonal_matrix(alloc: Global, a: Lent, out: &mut Owned) -> u32
     ensures { IsSelectionCall (Some selection_is.DiagonalMatrix) a.kept.now result out.old out.new }
@@ -503,7 +504,7 @@ pub extern "C" fn cbgrid_kernel_kept_diagonal_matrix(alloc: Global, a: Lent, out
     select_kept(alloc, Some(Selection::DiagonalMatrix), borrowed(a), out)
 }
 
-/// Keeps the part of a matrix that is kept in some rows and columns, each from a number up to another, which is not in it.
+/// The part of a kept matrix from `row` up to, but not including, `row_end`, and from `column` up to `column_end`.
 #[unsafe(no_mangle)]
 pub extern "C" fn cbgrid_kernel_kept_part(
     alloc: Global,
@@ -520,7 +521,7 @@ pub extern "C" fn cbgrid_kernel_kept_part(
     select_kept(alloc, Some(part), borrowed(a), out)
 }
 
-/// Keeps the rows and the columns of a matrix that is kept with some numbers, in the order of these.
+/// The rows and columns of a kept matrix by their numbers, in any order, with repetitions.
 #[unsafe(no_mangle)]
 pub extern "C" fn cbgrid_kernel_kept_extract(
     alloc: Global,
@@ -534,7 +535,7 @@ pub extern "C" fn cbgrid_kernel_kept_extract(
     extract_kept(alloc, borrowed(a), rows, columns, out)
 }
 
-/// Keeps the Kronecker product of two matrices that are kept.
+/// The Kronecker product of two kept matrices.
 #[unsafe(no_mangle)]
 pub extern "C" fn cbgrid_kernel_kept_kronecker(
     alloc: Global,
@@ -547,7 +548,7 @@ pub extern "C" fn cbgrid_kernel_kept_kronecker(
     pair_kept(alloc, Pairing::Kronecker, borrowed(a), borrowed(b), out)
 }
 
-/// Keeps a matrix that is kept with another in place of the part that begins at a row and a column.
+/// A kept matrix with another in place of the part of its shape that begins at `row` and `column`.
 #[unsafe(no_mangle)]
 pub extern "C" fn cbgrid_kernel_kept_assign(
     alloc: Global,
@@ -563,7 +564,7 @@ pub extern "C" fn cbgrid_kernel_kept_assign(
     pair_kept(alloc, pairing, borrowed(a), borrowed(part), out)
 }
 
-/// Keeps the entries of a matrix that is kept at the places where a mask, which is kept, has none.
+/// The entries of a kept matrix at the places where a kept mask has none.
 #[unsafe(no_mangle)]
 pub extern "C" fn cbgrid_kernel_kept_exclude(
     alloc: Global,
@@ -576,7 +577,7 @@ pub extern "C" fn cbgrid_kernel_kept_exclude(
     pair_kept(alloc, Pairing::Exclude, borrowed(a), borrowed(mask), out)
 }
 
-/// The sum of all values of a matrix that is kept, in its semiring.
+/// The semiring's sum of all values of a kept matrix.
 #[unsafe(no_mangle)]
 pub extern "C" fn cbgrid_kernel_kept_total(a: Lent) -> u64
     ensures { result ≡ matrix_total (arithmetic_of (semiring_of a.kept.now)) (matrix_in a.kept.now) }
@@ -584,7 +585,7 @@ pub extern "C" fn cbgrid_kernel_kept_total(a: Lent) -> u64
     kept_total(borrowed(a))
 }
 
-/// Keeps the level of each vertex of a graph that is kept over or-and, from a source: a column over min-plus.
+/// The column of levels from a source, over min-plus, in a graph that is kept over or-and. Copies the graph once.
 #[unsafe(no_mangle)]
 pub extern "C" fn cbgrid_kernel_kept_levels(
     alloc: Global,
@@ -598,7 +599,7 @@ pub extern "C" fn cbgrid_kernel_kept_levels(
     put_kept(alloc, out, answer)
 }
 
-/// Keeps the distance of each vertex of a graph that is kept over min-plus, from a source.
+/// The column of distances from a source, in a graph that is kept over min-plus. Copies the graph once.
 #[unsafe(no_mangle)]
 pub extern "C" fn cbgrid_kernel_kept_distances(
     alloc: Global,
@@ -612,8 +613,8 @@ pub extern "C" fn cbgrid_kernel_kept_distances(
     put_kept(alloc, out, answer)
 }
 
-/// Keeps the level of each vertex of a graph that is kept over or-and, from each of some sources: a column over min-plus for
-/// each source.
+/// The levels from several sources, a column over min-plus for each, in a graph that is kept over or-and. Copies and
+/// transposes the graph once for all sources.
 #[unsafe(no_mangle)]
 pub extern "C" fn cbgrid_kernel_kept_levels_from(
     alloc: Global,
@@ -626,7 +627,8 @@ pub extern "C" fn cbgrid_kernel_kept_levels_from(
     levels_kept(alloc, borrowed(a), sources, out)
 }
 
-/// Keeps the distance of each vertex of a graph that is kept over min-plus, from each of some sources.
+/// The distances from several sources, a column for each, in a graph that is kept over min-plus. Copies and transposes the
+/// graph once for all sources.
 #[unsafe(no_mangle)]
 pub extern "C" fn cbgrid_kernel_kept_distances_from(
     alloc: Global,
@@ -639,7 +641,7 @@ pub extern "C" fn cbgrid_kernel_kept_distances_from(
     distances_kept(alloc, borrowed(a), sources, out)
 }
 
-/// Keeps the matrix of triples in any order, whose repetitions are added up, over the semiring of a number.
+/// Keeps the matrix of triples in any order. Values at one place are added up.
 #[unsafe(no_mangle)]
 pub extern "C" fn cbgrid_kernel_keep_triples(
     alloc: Global,
@@ -655,8 +657,7 @@ pub extern "C" fn cbgrid_kernel_keep_triples(
     put_kept(alloc, out, answer)
 }
 
-/// Keeps the matrix that a Matrix Market text reads as, over the semiring of a number. `line` is as in
-/// [`cbgrid_kernel_read`].
+/// Reads the matrix of a Matrix Market text, and keeps it. `line` is that of [`cbgrid_kernel_read`].
 #[unsafe(no_mangle)]
 pub extern "C" fn cbgrid_kernel_kept_read(
     alloc: Global,
@@ -672,7 +673,7 @@ pub extern "C" fn cbgrid_kernel_kept_read(
     put_kept(alloc, out, answer)
 }
 
-/// The Matrix Market text of a matrix that is kept.
+/// Writes the Matrix Market text of a kept matrix.
 #[unsafe(no_mangle)]
 pub extern "C" fn cbgrid_kernel_kept_text(alloc: Global, a: Lent, out: &mut Text) -> u32
     ensures { IsCall IsMemory (IsKeptText (arithmetic_of (semiring_of a.kept.now)) a.kept.now) result out.old out.new }
@@ -680,7 +681,7 @@ pub extern "C" fn cbgrid_kernel_kept_text(alloc: Global, a: Lent, out: &mut Text
     put(out, text_of(alloc, borrowed(a)))
 }
 
-/// The lists of a matrix that is kept: a copy, which is given away.
+/// Copies the lists of a kept matrix. The copy belongs to the caller.
 #[unsafe(no_mangle)]
 pub extern "C" fn cbgrid_kernel_kept_lists(alloc: Global, a: Lent, out: &mut Columns) -> u32
     ensures { IsCall IsMemory (HasLists (matrix_in a.kept.now)) result out.old out.new }
@@ -688,8 +689,8 @@ pub extern "C" fn cbgrid_kernel_kept_lists(alloc: Global, a: Lent, out: &mut Col
     put(out, lists_of(alloc, borrowed(a)))
 }
 
-/// Keeps the least parent of each vertex in a search from a source, of a graph that is kept over or-and: a column over
-/// min-plus, whose values are vertices.
+/// The parents in a breadth-first search from a source, in a graph that is kept over or-and: for each vertex that the source
+/// reaches, other than the source, the least vertex one level nearer that has an edge to it. One column over min-plus.
 #[unsafe(no_mangle)]
 pub extern "C" fn cbgrid_kernel_kept_parents(
     alloc: Global,
@@ -703,8 +704,8 @@ pub extern "C" fn cbgrid_kernel_kept_parents(
     put_kept(alloc, out, answer)
 }
 
-/// Keeps the least vertex that is joined to each vertex, of a graph that is kept over or-and: a column over min-plus, whose
-/// values are vertices.
+/// The components of a graph that is kept over or-and: for each vertex that has an entry in its row or its column, the least
+/// vertex of its component, where an entry joins two vertices in both directions. One column over min-plus.
 #[unsafe(no_mangle)]
 pub extern "C" fn cbgrid_kernel_kept_components(alloc: Global, a: Lent, out: &mut Owned) -> u32
     ensures { IsKeptCall (square_faults a.kept.now) (IsKeptComponents (matrix_in a.kept.now)) result out.old out.new }
@@ -713,7 +714,7 @@ pub extern "C" fn cbgrid_kernel_kept_components(alloc: Global, a: Lent, out: &mu
     put_kept(alloc, out, answer)
 }
 
-/// How many triangles a graph has that is kept over or-and.
+/// The number of triangles of a graph that is kept over or-and, at most 2^64 - 1.
 #[unsafe(no_mangle)]
 pub extern "C" fn cbgrid_kernel_kept_triangles(alloc: Global, a: Lent, out: &mut u64) -> u32
     ensures { IsCall (square_faults a.kept.now) (λ n. n ≡ stopped (triangle_count (matrix_in a.kept.now))) result out.old out.new }
@@ -721,7 +722,7 @@ pub extern "C" fn cbgrid_kernel_kept_triangles(alloc: Global, a: Lent, out: &mut
     put(out, kept_triangles(alloc, borrowed(a)))
 }
 
-/// The shape of a matrix that is kept, its semiring, and how many entries it has.
+/// The shape of a kept matrix, its semiring and its number of entries.
 #[unsafe(no_mangle)]
 pub extern "C" fn cbgrid_kernel_kept_summary(a: Lent, out: &mut Summary)
     ensures { IsSummary a.kept.now out.new }
@@ -729,7 +730,7 @@ pub extern "C" fn cbgrid_kernel_kept_summary(a: Lent, out: &mut Summary)
     *out = summary_of(borrowed(a));
 }
 
-/// The value of a matrix that is kept at a place: the semiring's zero where there is no entry, and outside its shape.
+/// The value of a kept matrix at a place: the semiring's zero if the place has no entry or is outside the shape.
 #[unsafe(no_mangle)]
 pub extern "C" fn cbgrid_kernel_kept_value(a: Lent, row: u32, column: u32) -> u64
     ensures { result ≡ at (arithmetic_of (semiring_of a.kept.now)) (matrix_in a.kept.now) row column }
@@ -737,8 +738,7 @@ pub extern "C" fn cbgrid_kernel_kept_value(a: Lent, row: u32, column: u32) -> u6
     value_at(borrowed(a), row, column)
 }
 
-/// Gives the lists of a matrix that was kept back to the heap. What is left is the block at the pointer, which is the caller's
-/// to free.
+/// Frees the lists of a kept matrix. The caller then frees the memory at the pointer.
 #[unsafe(no_mangle)]
 pub extern "C" fn cbgrid_kernel_release(alloc: Global, kept: Owned)
     requires { IsSome kept.kept }

@@ -1,4 +1,4 @@
--- The first fault of a call: how it comes from that of its parts.
+-- The first fault of a call, from the faults of its parts.
 use Rattle.std.proofs.Common.{◌≡◌, ℕ, ◌+◌, ◌<◌, List, [], ◌∷◌, ◌++◌, length, take, drop, get_or, refl, sym, subst, inl, inr, ⊎_elim}
 use Rattle.std.specs.Prelude.{All, map, Option, Some, None, Result, Ok, Err, IfErr}
 use Rattle.std.proofs.lemmas.List.{take-append-drop, drop_more}
@@ -14,35 +14,35 @@ use Rattle.cb_interop.specs.Lists.{shape_of, AreLists, HasForm, Fits, HaveLength
 use Rattle.cb_interop.specs.Refusals.{Unless, IsMemory, IsSide, matrix_faults, each_faults, operand_faults, faults_of, graph_faults, text_faults}
 use Rattle.cb_interop.specs.Answers.{NoFault, IsAnswer}
 
--- what is looked for next, where P holds
+-- if P holds, the fault is one of those that come next
 pub only : (P : Type 0) (g : Fault) (next : Fault → Type 0) (f : Fault) → P → Unless P g next f → next f
 only P g next f p h = ⊎_elim (λ k. absurd (k.1 p)) (λ k. k.1) h
 
-wider : (P : Type 0) (g : Fault) (first next : Fault → Type 0) → ((f : Fault) → first f → next f) → (f : Fault) → Unless P g first f → Unless P g next f
+pub wider : (P : Type 0) (g : Fault) (first next : Fault → Type 0) → ((f : Fault) → first f → next f) → (f : Fault) → Unless P g first f → Unless P g next f
 wider P g first next k f h = ⊎_elim (λ a. inl a) (λ a. inr (a.0, k f a.1)) h
 
--- there is no fault where P holds and none is found next
+-- there is no fault if P holds and none comes next
 pub passed : (P : Type 0) (g : Fault) (next : Fault → Type 0) → P → NoFault next → NoFault (Unless P g next)
 passed P g next p none = record { memory = inr (p, none.memory); only = λ f h. none.only f (only P g next f p h) }
 
 pub no_more : NoFault IsMemory
 no_more = record { memory = refl; only = λ f h. h }
 
--- where there is none, want of memory is the fault
+-- without another fault, refused memory is the fault
 pub memory_is : {X : Type 0} (r : Result X Fault) (faults : Fault → Type 0) → NoFault faults → IfErr r IsMemory → IfErr r faults
 memory_is r faults none h = IfErr-weaker r IsMemory faults (λ f e. subst faults (sym e) none.memory) h
 
--- where there is none, what may want memory alone answers what is asked for
+-- without a fault, a call whose only fault is refused memory returns the result
 pub answer_after : {X : Type 0} (faults : Fault → Type 0) (is asked : X → Type 0) (r : Result X Fault) → NoFault faults → ((x : X) → is x → asked x) → IsAnswer IsMemory is r → IsAnswer faults asked r
 answer_after faults is asked (Ok x) none k h = (none, k x h.1)
 answer_after faults is asked (Err f) none k h = subst faults (sym h) none.memory
 
--- where a matrix is well formed, what is looked for next
+-- if a matrix is well formed, the faults that come next
 pub matrix_after : (s : Arithmetic) (c : Columns) (next : Fault → Type 0) (f : Fault) → AreLists s c → next f → matrix_faults s c next f
 unfolding matrix_faults
 matrix_after s c next f are h = inr (are.form, inr (are.fits, inr (are.lengths, inr (are.ordered, inr (are.inside, inr (are.values, h))))))
 
--- a fault of a matrix comes before what is looked for next
+-- a fault of a matrix comes before those that come next
 matrix_rest : (s : Arithmetic) (c : Columns) (first next : Fault → Type 0) → ((f : Fault) → first f → next f) → (f : Fault) → matrix_faults s c first f → matrix_faults s c next f
 unfolding matrix_faults
 matrix_rest s c first next k =
@@ -53,7 +53,7 @@ matrix_rest s c first next k =
     (wider (AreInside c) Place _ _
     (wider (AreValues s c) Value first next k)))))
 
--- also where nothing is
+-- the same, from the faults of the matrix alone
 pub matrix_wider : (s : Arithmetic) (c : Columns) (next : Fault → Type 0) (f : Fault) → matrix_faults s c (λ _. ⊥) f → matrix_faults s c next f
 matrix_wider s c next = matrix_rest s c (λ _. ⊥) next (λ f k. absurd k)
 
@@ -74,7 +74,7 @@ front_after s [] rest next f are h = h
 front_after s (c ∷ front) rest next f are h =
     matrix_after s c (each_faults s (front ++ rest) next) f (All-head (AreLists s) c front are) (front_after s front rest next f (All-tail (AreLists s) c front are) h)
 
--- what stands for an element past the end of a list
+-- the element past the end of a list
 abbrev pub blank : Columns
 blank = record {
   nrows = 0;
@@ -88,7 +88,7 @@ blank = record {
   values = record { ref_ptr = (0, 0); now = [] };
 }
 
--- the fault of the nth matrix, where those before it are well formed
+-- the fault of the nth matrix, if those before it are well formed
 pub fault_at : (s : Arithmetic) (cs : List Columns) (n : ℕ) (d : Columns) (f : Fault) → n < length cs → All (AreLists s) (take n cs) → matrix_faults s (get_or cs n d) (λ _. ⊥) f
     → each_faults s cs (λ _. ⊥) f
 unfolding each_faults

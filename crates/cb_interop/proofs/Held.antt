@@ -1,4 +1,4 @@
--- Each matrix has lists in doubly compressed columns, and no others.
+-- Each matrix has exactly one form in doubly compressed columns.
 use Rattle.std.proofs.Common.{◌≡◌, ◌≢◌, ℕ, zero, suc, ◌+◌, ◌-◌, ◌<◌, ◌≤◌, List, [], ◌∷◌, ◌++◌, length, take, get_or, set, refl, sym, ap, subst, ◌∙◌, ⊎_elim, inl, inr, arith}
 use Rattle.std.specs.Prelude.{All, ◌⊎◌}
 use Rattle.std.proofs.lemmas.Bool.{cases_lt, cases_eq}
@@ -9,11 +9,12 @@ use Rattle.cb_matrix.specs.declared.Entry.{Entry}
 use Rattle.cb_matrix.specs.Sparse.{Sparse, Extent, IsMatrix, IsInside, IsBefore}
 use Rattle.cb_dcsc.specs.Compressed.{opened, block_of, all_entries, AreColumns, IsBlock}
 use Rattle.cb_dcsc.specs.Columns.{with_entry, columns_with_entries, in_column, rows_of, values_of}
+use Rattle.cb_interop.specs.Lists.{AreStarts}
 use Rattle.cb_dcsc.proofs.Held.{no_lists, no_block, columns_are, rows_are, values_are, count_is, start_within, length-part, is_nth, nth_column_rows}
 use Rattle.cb_dcsc.proofs.Faultless.{next_after}
 use Rattle.cb_dcsc.proofs.Pushed.{pushed_same, pushed_new}
 
--- Lists of some entries.
+-- The lists of entries.
 pub record HasColumns (s : Arithmetic) (shape : Extent) (es : List Entry) : Type 0 where
   pub columns : List ℕ
   pub starts : List ℕ
@@ -64,9 +65,9 @@ module _ (s : Arithmetic) (m : Sparse) (is : IsMatrix s m) where
   pub held : HasColumns s m.shape m.entries
   held = subst (HasColumns s m.shape) (take_all (length m.entries) m.entries (omega arith)) (first (length m.entries) (omega arith))
 
-  -- the lists of columns, rows and values of a matrix, and the starts that all such lists have, are its lists
+  -- the columns, rows and values of a matrix, and the starts of any lists of it, are its lists
   pub lists_are : (columns starts rows values : List ℕ) → columns ≡ columns_with_entries m.entries → rows ≡ rows_of m.entries → values ≡ values_of m.entries
-      → ((cs ss rs vs : List ℕ) → AreColumns cs ss rs vs → all_entries cs ss rs vs ≡ m.entries → starts ≡ ss)
+      → AreStarts m.entries starts
       → AreColumns columns starts rows values × (all_entries columns starts rows values ≡ m.entries)
   lists_are columns starts rows values p q r t =
       let h = held in
@@ -78,7 +79,7 @@ module _ (s : Arithmetic) (m : Sparse) (is : IsMatrix s m) where
       let t' : starts ≡ h.starts = t _ _ _ _ are view in
       rw (p', q', r', t') (are, view)
 
--- the column after the nth starts as many rows later
+-- the next column starts after the rows of the nth
 pub next_start : (columns starts rows values : List ℕ) (es : List Entry) → AreColumns columns starts rows values → all_entries columns starts rows values ≡ es → (n : ℕ) → n < length (columns_with_entries es)
     → (is : List ℕ) → is ≡ rows_of (in_column (get_or (columns_with_entries es) n 0) es) → (get_or starts n 0 + length is ≡ get_or starts (n + 1) 0) × (get_or starts (n + 1) 0 ≤ length es) × (n + 1 < length starts)
 next_start columns starts rows values es are view n l is e =

@@ -1,4 +1,4 @@
--- The first fault of a call on matrices that are kept, and what is known of each of them.
+-- The first fault of an operation on kept matrices, and what is known of each of them.
 use Rattle.std.proofs.Common.{◌≡◌, ℕ, ◌<◌, ◌≤◌, List, [], ◌∷◌, length, get_or, refl, sym, subst, inl, inr, arith}
 use Rattle.std.specs.Prelude.{All, map, Option, Some, None}
 use Rattle.std.specs.Borrow.{Bor}
@@ -16,7 +16,7 @@ use Rattle.cb_interop.specs.KeptAnswers.{kept_faults, HasMadeKept}
 use Rattle.cb_interop.specs.Answers.{NoFault}
 use Rattle.cb_interop.proofs.Firsts.{passed, no_more}
 
--- each operation takes a matrix
+-- each operation takes at least one matrix
 pub some_operand : (o : Operation) → 1 ≤ operand_count_of o
 some_operand Multiply = omega arith
 some_operand MultiplyMasked = omega arith
@@ -32,7 +32,7 @@ module _ (name : SemiringName) where
   abbrev IsOver : Bor Kept → Type 0
   IsOver k = semiring_of k.now ≡ name
 
-  -- that all are over it, of those that are lent
+  -- borrowed matrices are over a semiring if the matrices are
   pub over_in : (ks : List (Bor Kept)) → All IsOver ks → AreOver name (lent_in ks)
   over_in ks h = All-map (λ (k : Kept). semiring_of k ≡ name) (λ (k : Bor Kept). k.now) ks h
 
@@ -65,11 +65,11 @@ module _ (o : Operation) (ks : List Kept) where
   unfolding kept_faults
   none_of_kept over p = passed (AreOver (semiring_in ks) ks) Mixed _ over (passed agreeing Shapes _ p no_more)
 
-  -- what is made over the semiring of all
+  -- the result, over the semiring of all operands
   pub made_kept : (name : SemiringName) (k : Kept) → name ≡ semiring_in ks → Keeps name (answer_of o (arithmetic_of name) (map matrix_in ks)) k → HasMadeKept (Some o) ks k
   made_kept name k e h = subst (λ n. Keeps n (answer_of o (arithmetic_of n) (map matrix_in ks)) k) e h
 
--- where no test has the number of a prune
+-- no test has the number of a prune
 pub no_kept_operation : (o : Option Operation) (ks : List Kept) → o ≡ None → kept_faults o ks Test
 unfolding kept_faults
 no_kept_operation o ks e = subst (λ (p : Option Operation). kept_faults p ks Test) (sym e) refl

@@ -1,4 +1,4 @@
--- The faults of what is made of two kept matrices, and what each pairing is.
+-- The faults and results of pairings of two kept matrices.
 use Rattle.std.proofs.Common.{◌≡◌, ℕ, ◌*◌, refl, sym, subst, inl, inr}
 use Rattle.std.specs.Prelude.{◌↔◌, Bool, IsTrue, Result, IfOk}
 use Rattle.cb_semirings.specs.Arithmetic.{Arithmetic}
@@ -38,7 +38,7 @@ module _ (p : Pairing) (a b : Kept) where
   unfolding pair_faults
   none_of_pair e h = passed one_semiring Mixed _ e (passed suited (misfit_of p) _ h no_more)
 
--- what each variant of a pairing makes
+-- the result of each variant
 module _ (s : Arithmetic) (a b : Sparse) (p : Pairing) (E : Type 0) (r : Result Sparse E) where
   abbrev Makes : Pairing → Type 0
   Makes q = IfOk r (λ m. m ≡ paired_by q s a b)
@@ -55,7 +55,7 @@ module _ (s : Arithmetic) (a b : Sparse) (p : Pairing) (E : Type 0) (r : Result 
   unfolding paired_by
   makes_excluded e h = subst Makes (sym e) h
 
--- what shapes suit each variant
+-- the shapes that suit each variant
 module _ (p : Pairing) (a b : Extent) where
   pub suits_kronecker : p ≡ Kronecker → Suits p a b → FitsLimit (a.rows * b.rows) (a.cols * b.cols)
   unfolding Suits

@@ -1,4 +1,4 @@
--- The text of the matrix of lists is that of the matrix, kept.
+-- The text of lists is that of the kept matrix.
 use Rattle.std.proofs.Common.{◌∙◌}
 use Rattle.std.specs.Prelude.{Option, Some, None}
 use Rattle.cb_semirings.specs.declared.names.SemiringName.{SemiringName}

@@ -1,5 +1,5 @@
--- What well-formed lists have in each stored column, and their matrix, column by column.
-use Rattle.std.proofs.Common.{◌≡◌, ◌≢◌, ℕ, suc, ◌+◌, ◌-◌, ◌<◌, List, ◌++◌, length, get_or, refl, sym, ap, ◌∙◌, ⊎_elim, inl, inr, arith, length-take, length-drop}
+-- Well-formed lists: each stored column, and their matrix, column by column.
+use Rattle.std.proofs.Common.{◌≡◌, ◌≢◌, ℕ, suc, ◌+◌, ◌-◌, ◌<◌, List, ◌++◌, get_or, refl, sym, ap, ◌∙◌, ⊎_elim, inl, inr, arith}
 use Rattle.std.specs.Prelude.{All, ◌⊎◌, ◌==◌, not, map}
 use Rattle.std.proofs.lemmas.Bool.{cases_eq}
 use Rattle.std.proofs.lemmas.Simd.{map-map}
@@ -12,39 +12,25 @@ use Rattle.cb_dcsc.specs.Compressed.{entries_in, pieces}
 use Rattle.cb_dcsc.proofs.Pieces.{entries_in-columns, pieces-all}
 use Rattle.cb_interop.specs.declared.lists.Columns.{Columns}
 use Rattle.cb_operations.specs.OperationAnswers.{shapes_in}
-use Rattle.cb_interop.specs.Lists.{count, column, starts, rows_in, values_in, listed_in, nonzero, shape_of, matrix_of, matrices, AreLists}
+use Rattle.cb_interop.specs.Lists.{count, column, starts, rows_in, values_in, listed_in, nonzero, with_nonzero, shape_of, matrix_of, matrices, AreLists}
 
 module _ (s : Arithmetic) (c : Columns) (are : AreLists s c) where
   kind_is : (c.kind ≡ 0) ⊎ (c.kind ≡ 1)
   kind_is = ⊎_elim (λ (z : c.kind ≡ 0). inl z) (λ (z : c.kind ≡ 0 → ⊥). let n : c.kind ≢ 0 = z in let l = are.form.0 in inr (omega arith)) (cases_eq c.kind 0)
 
-  -- its rows are inside the shape
+  -- the rows of a stored column are inside the shape
   pub rows_below : (n rows : ℕ) → rows ≡ c.nrows → All (λ i. i < rows) (rows_in c n)
   rows_below n rows e =
       let a = get_or (starts c) n 0 in
       let b = get_or (starts c) (n + 1) 0 in
       rw e (All-take (λ i. i < c.nrows) (b - a) _ (All-drop (λ i. i < c.nrows) a c.rows.now are.inside.rows))
 
-  -- its values are those of the semiring
+  -- its values are values of the semiring
   pub values_are : (n : ℕ) → All (IsValue s) (values_in c n)
   values_are n =
       let a = get_or (starts c) n 0 in
       let b = get_or (starts c) (n + 1) 0 in
       All-take (IsValue s) (b - a) _ (All-drop (IsValue s) a c.values.now are.values)
-
-  -- there are as many as rows
-  pub as_many : (n : ℕ) → length (values_in c n) ≡ length (rows_in c n)
-  as_many n =
-      let e = are.lengths.same_length in
-      simp (length-take, length-drop) (rw e refl)
-
-  -- its number is inside the shape
-  pub column_there : (n cols : ℕ) → n < count c → cols ≡ c.ncols → column c n < cols
-  column_there n cols l e =
-      ⊎_elim
-      (λ (z : c.kind ≡ 0). let k = rw z at l in let h : get_or c.columns.now n 0 < c.ncols = are.inside.columns z n 0 k in rw (z, e) h)
-      (λ (z : c.kind ≡ 1). let k = rw z at l in rw (z, e) k)
-      kind_is
 
   columns_up : (k n : ℕ) → k < n → n < count c → column c k < column c n
   columns_up k n b l =
@@ -53,7 +39,7 @@ module _ (s : Arithmetic) (c : Columns) (are : AreLists s c) where
       (λ (z : c.kind ≡ 1). rw z b)
       kind_is
 
-  -- the entries of the columns before it are in lower columns
+  -- the entries of the stored columns before it are in lower columns
   pub columns_before : (n : ℕ) → n < count c → All (λ e. e.column < column c n) (nonzero s (pieces (listed_in c) n))
   columns_before n l =
       All-filter (λ e. not (e.value == s.zero)) (λ e. e.column < column c n) (pieces (listed_in c) n)
@@ -61,14 +47,14 @@ module _ (s : Arithmetic) (c : Columns) (are : AreLists s c) where
       let up = columns_up k n b l in
       All-weaker (λ e. e.column ≡ column c k) (λ e. e.column < column c n) (λ e p. omega arith) (listed_in c k) (entries_in-columns (column c k) (rows_in c k) (values_in c k))))
 
--- the first none of the columns have no entries
+-- no columns have no entries
 pub none_listed : (s : Arithmetic) (c : Columns) (shape : Extent) → empty_matrix shape ≡ record { shape = shape; entries = nonzero s (pieces (listed_in c) 0) }
 unfolding pieces
 none_listed s c shape = refl
 
--- one column more
+-- one more column
 pub more_listed : (s : Arithmetic) (c : Columns) (shape : Extent) (n : ℕ) (old new : Sparse) (j : ℕ) (is vs : List ℕ) → old ≡ record { shape = shape; entries = nonzero s (pieces (listed_in c) n) }
-    → j ≡ column c n → is ≡ rows_in c n → vs ≡ values_in c n → new ≡ record { shape = old.shape; entries = old.entries ++ nonzero s (entries_in j is vs) } → new ≡ record { shape = shape; entries = nonzero s (pieces (listed_in c) (n + 1)) }
+    → j ≡ column c n → is ≡ rows_in c n → vs ≡ values_in c n → new ≡ with_nonzero s old j is vs → new ≡ record { shape = shape; entries = nonzero s (pieces (listed_in c) (n + 1)) }
 unfolding pieces
 more_listed s c shape n old new j is vs was p q r e =
     let next : n + 1 ≡ suc n = omega arith in
@@ -76,6 +62,6 @@ more_listed s c shape n old new j is vs was p q r e =
     ∙ (λ t. record { shape = shape; entries = nonzero s (pieces (listed_in c) n) ++ nonzero s (entries_in (p t) (q t) (r t)) })
     ∙ ap (λ (es : List Entry). record { shape = shape; entries = es }) (sym (ap (λ k. nonzero s (pieces (listed_in c) k)) next ∙ filter-append (λ d. not (d.value == s.zero)) (pieces (listed_in c) n) (listed_in c n)))
 
--- the matrices of lists have their shapes
+-- the matrices of lists have the shapes of the lists
 pub shapes_are : (s : Arithmetic) (cs : List Columns) → shapes_in (matrices s cs) ≡ map shape_of cs
 shapes_are s cs = map-map (λ (m : Sparse). m.shape) (matrix_of s) cs

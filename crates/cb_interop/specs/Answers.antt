@@ -1,7 +1,8 @@
--- What a call answers.
+-- What a call returns.
 use Rattle.std.specs.Prelude.{◌≡◌, ℕ, ◌==◌, cond, List, Option, Some, None, Result, Ok, Err}
 use Rattle.cb_matrix.specs.declared.passing.Test.TheVariants.{Below, Above, Equal}
 use Rattle.cb_semirings.specs.Arithmetic.{Arithmetic}
+use Rattle.cb_semirings.specs.Names.{numbered}
 use Rattle.cb_semirings.specs.Tables.{min_plus, or_and}
 use Rattle.cb_matrix.specs.Sparse.{Sparse, IsMatrix}
 use Rattle.cb_operations.specs.declared.operations.Operation.{Operation}
@@ -14,50 +15,55 @@ use Rattle.cb_searches.specs.Walks.{AreLevels, AreDistances}
 use Rattle.cb_interop.specs.declared.lists.Columns.{Columns}
 use Rattle.cb_interop.specs.declared.texts.Text.{Text as Bytes}
 use Rattle.cb_interop.specs.Lists.{matrix_of, matrices, HasLists}
+use Rattle.cb_interop.specs.Refusals.{over, Over}
 use Rattle.cb_interop.specs.declared.faults.Fault.{Fault}
 use Rattle.cb_interop.specs.declared.faults.Fault.TheVariants.{Text, Memory}
 
--- no fault is there but want of memory, which may come at any time
+-- no fault but refused memory, which may come at any time
 pub record NoFault (faults : Fault → Type 0) : Type 0 where
   pub memory : faults Memory
   pub only : (f : Fault) → faults f → f ≡ Memory
 
--- what is asked for, where there is no fault, or else the first fault
+-- the result, if there is no fault, or else the first fault
 abbrev pub IsAnswer : {X : Type 0} → (Fault → Type 0) → (X → Type 0) → Result X Fault → Type 0
 IsAnswer faults is (Ok x) = NoFault faults × is x
 IsAnswer faults is (Err f) = faults f
 
--- to prune by the test of a number, 0 to 2, with its bound
+-- the same of a call over the semiring of a number
+abbrev pub IsAnswerOver : {X : Type 0} → ℕ → (Arithmetic → Fault → Type 0) → (Arithmetic → X → Type 0) → Result X Fault → Type 0
+IsAnswerOver semiring faults is = IsAnswer (over (numbered semiring) faults) (λ x. Over (numbered semiring) (λ s. is s x))
+
+-- the prune by the test of a number, 0 to 2, with its bound
 abbrev pub prune_of : ℕ → ℕ → Option Operation
 prune_of n bound = cond (n == 0) (Some (Prune (Below bound))) (cond (n == 1) (Some (Prune (Above bound))) (cond (n == 2) (Some (Prune (Equal bound))) None))
 
--- the lists of what an operation makes of the matrices of these
+-- the lists of an operation's result on the matrices of lists
 abbrev pub HasMade : Arithmetic → Option Operation → List Columns → Columns → Type 0
 HasMade s None cs c = ⊥
 HasMade s (Some operation) cs c = HasLists (answer_of operation s (matrices s cs)) c
 
--- the text of the matrix of a
+-- the text of the matrix of lists
 abbrev pub IsTextOf : Arithmetic → Columns → Bytes → Type 0
 IsTextOf s a t = t.bytes.now ≡ text_of s (matrix_of s a)
 
--- the lists of the matrix that a text reads as
+-- the lists of the matrix of a text
 abbrev pub IsRead : Arithmetic → List ℕ → Columns → Type 0
 IsRead s text c = (m : Sparse) × Reads s text m × HasLists m c
 
--- The lists of the column of levels from a source in the graph of a, and those of the column of distances. Which column
--- that is the number of each vertex determines, since it is a matrix of min-plus: nothing infinite is stored.
+-- The lists of the column of levels from a source in the graph of lists, and of the column of distances. The number of each
+-- vertex determines the column, because it is a matrix over min-plus: no infinite number is stored.
 abbrev pub HasLevels : Columns → ℕ → Columns → Type 0
 HasLevels a source c = (column : Sparse) × IsMatrix min_plus column × AreLevels (matrix_of or_and a) source column × HasLists column c
 
 abbrev pub HasDistances : Columns → ℕ → Columns → Type 0
 HasDistances a source c = (column : Sparse) × IsMatrix min_plus column × AreDistances (matrix_of min_plus a) source column × HasLists column c
 
--- the line of the first fault of a text, where the fault is that it doesn't read, and else the number as it was
+-- the line of the first fault of a text, if the fault is one of the text; any other fault leaves the number as it was
 abbrev pub IsLineOf : Option ReadFault → Fault → ℕ → ℕ → Type 0
 IsLineOf first Text old new = (g : ReadFault) × (first ≡ Some g) × (new ≡ g.line)
 IsLineOf first f old new = new ≡ old
 
--- the same, where there may be no fault
+-- the same, also without a fault
 abbrev pub IsFaultLine : {X : Type 0} → Option ReadFault → Result X Fault → ℕ → ℕ → Type 0
 IsFaultLine first (Ok x) old new = new ≡ old
 IsFaultLine first (Err f) old new = IsLineOf first f old new

@@ -1,4 +1,4 @@
--- A matrix that is kept: the entries of a block, over the semiring of a name.
+-- A kept matrix: the entries of a block, over the semiring of a name.
 use Rattle.std.specs.Prelude.{◌≡◌, List, [], ◌∷◌, All}
 use Rattle.cb_semirings.specs.declared.names.SemiringName.{SemiringName}
 use Rattle.cb_semirings.specs.declared.names.SemiringName.TheVariants as name_is
@@ -6,7 +6,7 @@ use Rattle.cb_matrix.specs.Sparse.{Sparse}
 use Rattle.cb_interop.specs.declared.kept.Kept.{Kept}
 use Rattle.cb_interop.specs.declared.kept.Kept.TheVariants.{PlusTimes, MinPlus, OrAnd, MaxMin, PlusPair, PlusMin, PlusFirst, PlusSecond, MinFirst, MinSecond, MaxFirst, MaxSecond, MaxPlus, MinMax}
 
--- the semiring that it is over
+-- the semiring of a kept matrix
 unfoldable pub semiring_of : Kept → SemiringName
 semiring_of (PlusTimes m) = name_is.PlusTimes
 semiring_of (MinPlus m) = name_is.MinPlus
@@ -45,11 +45,11 @@ pub record Keeps (name : SemiringName) (m : Sparse) (kept : Kept) : Type 0 where
   pub semiring : semiring_of kept ≡ name
   pub matrix : matrix_in kept ≡ m
 
--- that of the first of these
+-- the semiring of the first of several
 abbrev pub semiring_in : List Kept → SemiringName
 semiring_in [] = name_is.PlusTimes
 semiring_in (k ∷ ks) = semiring_of k
 
--- all of them are over it
+-- all of them are over one semiring
 abbrev pub AreOver : SemiringName → List Kept → Type 0
 AreOver name ks = All (λ k. semiring_of k ≡ name) ks

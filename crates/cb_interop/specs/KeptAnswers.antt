@@ -1,5 +1,5 @@
--- What a call on matrices that are kept answers.
-use Rattle.std.specs.Prelude.{◌≡◌, List, length, map, Option, Some, None}
+-- What a call on kept matrices returns.
+use Rattle.std.specs.Prelude.{◌≡◌, ℕ, List, length, map, Option, Some, None, Result}
 use Rattle.cb_semirings.specs.Arithmetic.{Arithmetic}
 use Rattle.cb_semirings.specs.declared.names.SemiringName.{SemiringName}
 use Rattle.cb_semirings.specs.Names.{arithmetic_of, numbered}
@@ -12,30 +12,36 @@ use Rattle.cb_interop.specs.declared.kept_values.Summary.{Summary}
 use Rattle.cb_interop.specs.declared.lists.Columns.{Columns}
 use Rattle.cb_interop.specs.Lists.{matrix_of}
 use Rattle.cb_interop.specs.Kept.{Keeps, semiring_of, semiring_in, matrix_in, AreOver}
-use Rattle.cb_interop.specs.Refusals.{Unless, IsMemory}
+use Rattle.cb_interop.specs.Refusals.{Unless, IsMemory, over}
+use Rattle.cb_interop.specs.Answers.{IsAnswer}
 
--- the faults of an operation on matrices that are kept: no test has the number of a prune, they are over other semirings
--- than one another, or their shapes don't agree
+-- the faults of an operation on kept matrices: no test has the number of a prune, their semirings differ, or their shapes
+-- don't agree
 unfoldable pub kept_faults : Option Operation → List Kept → Fault → Type 0
 kept_faults None ks = λ f. f ≡ Test
 kept_faults (Some operation) ks =
     Unless (AreOver (semiring_in ks) ks) Mixed (Unless (Agree operation (shapes_in (map matrix_in ks))) Shapes IsMemory)
 
--- what an operation makes of matrices that are kept, over their semiring
+-- the kept result of an operation on kept matrices, over their semiring
 abbrev pub HasMadeKept : Option Operation → List Kept → Kept → Type 0
 HasMadeKept None ks k = ⊥
 HasMadeKept (Some operation) ks k = Keeps (semiring_in ks) (answer_of operation (arithmetic_of (semiring_in ks)) (map matrix_in ks)) k
 
--- what holds over the semiring of a number, by its name, and over none
+-- what holds over the semiring of a number, by its name; nothing does over none
 abbrev pub OverName : Option SemiringName → (SemiringName → Type 0) → Type 0
 OverName None P = ⊥
 OverName (Some name) P = P name
+
+-- what a call returns that keeps a matrix over the semiring of a number
+abbrev pub IsKeptAnswerOver : ℕ → (Arithmetic → Fault → Type 0) → (Arithmetic → SemiringName → Kept → Type 0) → Result Kept Fault → Type 0
+IsKeptAnswerOver semiring faults is =
+    IsAnswer (over (numbered semiring) faults) (λ k. OverName (numbered semiring) (λ name. is (arithmetic_of name) name k))
 
 -- the matrix of lists, kept over a semiring and its name
 abbrev pub IsKeptOf : Arithmetic → SemiringName → Columns → Kept → Type 0
 IsKeptOf s name a k = Keeps name (matrix_of s a) k
 
--- the shape, the semiring's number and how many entries
+-- the shape, the semiring's number and the number of entries
 pub record IsSummary (k : Kept) (summary : Summary) : Type 0 where
   pub rows : summary.nrows ≡ (matrix_in k).shape.rows
   pub cols : summary.ncols ≡ (matrix_in k).shape.cols

@@ -1,25 +1,62 @@
--- What a call on a graph that is kept over or-and answers: parents, components, triangles.
-use Rattle.std.specs.Prelude.{◌≡◌, ℕ}
+-- What a call on a kept graph returns: levels, distances, parents and components, as columns over min-plus; triangles.
+use Rattle.std.specs.Prelude.{◌≡◌, ℕ, ◌<◌, ◌≤◌, List, length, All}
+use Rattle.cb_semirings.specs.declared.names.SemiringName.{SemiringName}
 use Rattle.cb_semirings.specs.declared.names.SemiringName.TheVariants as name_is
 use Rattle.cb_semirings.specs.Tables.{min_plus}
+use Rattle.cb_matrix.specs.declared.TheConstants.{LIMIT}
 use Rattle.cb_matrix.specs.Sparse.{Sparse, IsMatrix}
+use Rattle.cb_searches.specs.Walks.{AreLevels, AreDistances}
+use Rattle.cb_searches.specs.SeveralSources.{AreLevelsFrom, AreDistancesFrom}
 use Rattle.cb_searches.specs.Parents.{AreParents}
 use Rattle.cb_graphs.specs.Components.{AreComponents}
 use Rattle.cb_interop.specs.declared.faults.Fault.{Fault}
-use Rattle.cb_interop.specs.declared.faults.Fault.TheVariants.{Mixed, NotSquare}
+use Rattle.cb_interop.specs.declared.faults.Fault.TheVariants.{Mixed, NotSquare, TooLarge, Source}
 use Rattle.cb_interop.specs.declared.kept.Kept.{Kept}
 use Rattle.cb_interop.specs.Kept.{Keeps, semiring_of, matrix_in}
 use Rattle.cb_interop.specs.Refusals.{Unless, IsMemory}
 
--- the faults of a graph without a source: it is over another semiring than or-and, or it isn't square
-unfoldable pub square_faults : Kept → Fault → Type 0
-square_faults k = Unless (semiring_of k ≡ name_is.OrAnd) Mixed (Unless ((matrix_in k).shape.rows ≡ (matrix_in k).shape.cols) NotSquare IsMemory)
+-- the faults of a kept graph: it is over another semiring, or it isn't square; then those that come next
+unfoldable pub kept_graph_faults : SemiringName → Kept → (Sparse → Fault → Type 0) → Fault → Type 0
+kept_graph_faults name k next =
+    Unless (semiring_of k ≡ name) Mixed (Unless ((matrix_in k).shape.rows ≡ (matrix_in k).shape.cols) NotSquare (next (matrix_in k)))
 
--- a column that is right, kept over min-plus
+-- the fault of a source: it isn't a vertex
+abbrev pub source_faults : ℕ → Sparse → Fault → Type 0
+source_faults source m = Unless (source < m.shape.rows) Source IsMemory
+
+-- the faults of several sources: they are more than a matrix can have columns, or one of them isn't a vertex
+abbrev pub sources_faults : List ℕ → Sparse → Fault → Type 0
+sources_faults sources m = Unless (length sources ≤ LIMIT) TooLarge (Unless (All (λ v. v < m.shape.rows) sources) Source IsMemory)
+
+-- the faults of a call on a graph without a source, over or-and; from a source; from several sources
+abbrev pub square_faults : Kept → Fault → Type 0
+square_faults k = kept_graph_faults name_is.OrAnd k (λ _. IsMemory)
+
+abbrev pub search_faults : SemiringName → Kept → ℕ → Fault → Type 0
+search_faults name k source = kept_graph_faults name k (source_faults source)
+
+abbrev pub searches_faults : SemiringName → Kept → List ℕ → Fault → Type 0
+searches_faults name k sources = kept_graph_faults name k (sources_faults sources)
+
+-- the matrix that is right, kept over min-plus
 abbrev pub IsKeptColumn : (Sparse → Type 0) → Kept → Type 0
 IsKeptColumn is_right made = (column : Sparse) × IsMatrix min_plus column × is_right column × Keeps name_is.MinPlus column made
 
--- the least parents from a source in the graph of a matrix, and the least vertex of each component
+-- the column of levels from a source in the graph of a matrix, and of distances
+abbrev pub IsKeptLevels : Sparse → ℕ → Kept → Type 0
+IsKeptLevels m source = IsKeptColumn (AreLevels m source)
+
+abbrev pub IsKeptDistances : Sparse → ℕ → Kept → Type 0
+IsKeptDistances m source = IsKeptColumn (AreDistances m source)
+
+-- the columns of levels from several sources, side by side, and of distances
+abbrev pub IsKeptLevelsFrom : Sparse → List ℕ → Kept → Type 0
+IsKeptLevelsFrom m sources = IsKeptColumn (AreLevelsFrom m sources)
+
+abbrev pub IsKeptDistancesFrom : Sparse → List ℕ → Kept → Type 0
+IsKeptDistancesFrom m sources = IsKeptColumn (AreDistancesFrom m sources)
+
+-- the column of the least parents from a source, and of the least vertex of each component
 abbrev pub IsKeptParents : Sparse → ℕ → Kept → Type 0
 IsKeptParents m source = IsKeptColumn (AreParents m source)
 

@@ -1,5 +1,5 @@
--- What a call makes of two kept matrices over one semiring: their Kronecker product, the first with the second in place of a
--- part, and the entries of the first where the second has none.
+-- Operations on two kept matrices over one semiring: their Kronecker product, the first with the second in place of a part,
+-- and the entries of the first at the places where the second has none.
 use Rattle.std.specs.Prelude.{◌≡◌, ℕ, ◌≤◌, ◌+◌, ◌*◌}
 use Rattle.cb_semirings.specs.Arithmetic.{Arithmetic}
 use Rattle.cb_matrix.specs.declared.TheConstants.{LIMIT}
@@ -15,38 +15,38 @@ use Rattle.cb_interop.specs.Kept.{semiring_of, matrix_in}
 use Rattle.cb_interop.specs.KeptSelections.{IsKeptMade}
 use Rattle.cb_interop.specs.Refusals.{Unless, IsMemory}
 
--- what a pairing makes of two matrices
+-- the result of a pairing of two matrices
 unfoldable pub paired_by : Pairing → Arithmetic → Sparse → Sparse → Sparse
 paired_by Kronecker s a b = kronecker s a b
 paired_by (Assign corner) s a b = assigned s corner b a
 paired_by Exclude s a b = excluded s a b
 
--- a matrix can have so many rows and columns
+-- numbers of rows and columns that a matrix can have
 abbrev pub FitsLimit : ℕ → ℕ → Type 0
 FitsLimit rows cols = (rows ≤ LIMIT) × (cols ≤ LIMIT)
 
--- a shape has the part of another shape that begins at a corner
+-- a part of one shape fits into a whole at a corner
 abbrev pub HasPart : Extent → ℕ × ℕ → Extent → Type 0
 HasPart whole corner part = (corner.0 + part.rows ≤ whole.rows) × (corner.1 + part.cols ≤ whole.cols)
 
--- The shapes of two matrices suit a pairing: a Kronecker product is within the limit; a part fits in; a mask has the same
--- shape.
+-- The shapes of two matrices suit a pairing: the Kronecker product is within the limit, the part fits in, the mask has the
+-- same shape.
 unfoldable pub Suits : Pairing → Extent → Extent → Type 0
 Suits Kronecker a b = FitsLimit (a.rows * b.rows) (a.cols * b.cols)
 Suits (Assign corner) a b = HasPart a corner b
 Suits Exclude a b = b ≡ a
 
--- the fault where they don't
+-- the fault of shapes that don't suit
 abbrev pub misfit_of : Pairing → Fault
 misfit_of Kronecker = TooLarge
 misfit_of (Assign corner) = Place
 misfit_of Exclude = Shapes
 
--- the faults of two kept matrices: they are over two semirings, or their shapes don't suit
+-- the faults of two kept matrices: their semirings differ, or their shapes don't suit
 unfoldable pub pair_faults : Pairing → Kept → Kept → Fault → Type 0
 pair_faults p a b =
     Unless (semiring_of b ≡ semiring_of a) Mixed (Unless (Suits p (matrix_in a).shape (matrix_in b).shape) (misfit_of p) IsMemory)
 
--- what a pairing makes of two kept matrices, over the semiring of the first
+-- the result of a pairing of two kept matrices, over the semiring of the first
 abbrev pub IsKeptPair : Pairing → Kept → Kept → Kept → Type 0
 IsKeptPair p a b made = IsKeptMade (λ s m. paired_by p s m (matrix_in b)) a made

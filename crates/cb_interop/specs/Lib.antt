@@ -1,9 +1,8 @@
--- Lists: a matrix in compressed columns, which lists are well formed and what matrix they are.
--- Refusals: why a call has no answer. Answers: what a call answers.
--- Kept: matrices that are kept. KeptAnswers: what a call on them answers.
--- Triples: matrices of triples. KeptTexts: texts and searches of matrices that are kept. KeptGraphs: parents, components
--- and triangles of graphs that are. KeptSelections: what is made of one kept matrix, place by place. KeptPairings:
--- what is made of two. KeptSources: searches from several sources in graphs that are kept.
+-- Lists: matrices in compressed columns, when their lists are well formed, and what matrix they are.
+-- Refusals: the faults of calls. Answers: what a call returns.
+-- Kept: kept matrices. KeptAnswers: what an operation on them returns.
+-- Triples: matrices of triples. KeptTexts: texts of kept matrices. KeptGraphs: searches, parents, components and triangles
+-- of kept graphs. KeptSelections: operations on one kept matrix, place by place. KeptPairings: operations on two.
 pub mod Lists
 pub mod Refusals
 pub mod Answers
@@ -14,4 +13,3 @@ pub mod KeptTexts
 pub mod KeptGraphs
 pub mod KeptSelections
 pub mod KeptPairings
-pub mod KeptSources

@@ -1,4 +1,4 @@
--- Why a call has no answer. Faults are looked for in an order; the first is answered.
+-- The faults of calls. A call looks for them in an order, and returns the first.
 use Rattle.std.specs.Prelude.{◌≡◌, ◌≢◌, ℕ, ◌<◌, ◌≤◌, ◌⊎◌, List, [], ◌∷◌, map, Option, Some, None}
 use Rattle.cb_semirings.specs.Arithmetic.{Arithmetic}
 use Rattle.cb_semirings.specs.declared.names.SemiringName.{SemiringName}
@@ -30,20 +30,25 @@ code_of Text = 13
 code_of Memory = 14
 code_of Mixed = 16
 
--- the fault g where P doesn't hold, and else one of the faults that are looked for next
+-- the fault g if P doesn't hold, or else one of the faults that come next
 abbrev pub Unless : Type 0 → Fault → (Fault → Type 0) → Fault → Type 0
 Unless P g next f = ((f ≡ g) × (P → ⊥)) ⊎ (P × next f)
 
--- want of memory, where there is no other fault
+-- refused memory, if there is no other fault
 abbrev pub IsMemory : Fault → Type 0
 IsMemory f = f ≡ Memory
 
--- the faults of a matrix, and of what comes after it
+-- the faults of a matrix, and then those that come next
 unfoldable pub matrix_faults : Arithmetic → Columns → (Fault → Type 0) → Fault → Type 0
 matrix_faults s c next =
-    Unless (HasForm c) Form (Unless (Fits c) TooLarge (Unless (HaveLengths c) Lengths (Unless (AreOrdered c) Order (Unless (AreInside c) Place (Unless (AreValues s c) Value next)))))
+    Unless (HasForm c) Form
+    (Unless (Fits c) TooLarge
+    (Unless (HaveLengths c) Lengths
+    (Unless (AreOrdered c) Order
+    (Unless (AreInside c) Place
+    (Unless (AreValues s c) Value next)))))
 
--- those of matrices, one after another
+-- the faults of matrices, one after another
 unfoldable pub each_faults : Arithmetic → List Columns → (Fault → Type 0) → Fault → Type 0
 each_faults s [] next = next
 each_faults s (c ∷ cs) next = matrix_faults s c (each_faults s cs next)
@@ -53,8 +58,8 @@ abbrev pub IsSide : ℕ → Type 0
 IsSide side = (1 ≤ side) × (side ≤ 6)
 
 -- ---- the faults of each call, over one semiring
--- Those of an operation and its operands: there is no operation, where no test has the number of a prune; then those of
--- each matrix in turn; then the shapes don't agree.
+-- The faults of an operation: no test has the number of a prune; then those of each matrix in turn; then shapes that don't
+-- agree.
 unfoldable pub operand_faults : Arithmetic → Option Operation → List Columns → Fault → Type 0
 operand_faults s None cs = λ f. f ≡ Test
 operand_faults s (Some operation) cs = each_faults s cs (Unless (Agree operation (map shape_of cs)) Shapes IsMemory)
@@ -69,12 +74,12 @@ graph_faults s side a source =
 unfoldable pub text_faults : Arithmetic → Columns → Fault → Type 0
 text_faults s a = matrix_faults s a IsMemory
 
--- a text with a fault; memory may be refused before that fault is found
+-- a text with a fault; memory may be refused before the fault is found
 abbrev pub read_faults : Arithmetic → List ℕ → Fault → Type 0
 read_faults s text f = ((f ≡ Text) × (first_fault s text ≢ None)) ⊎ (f ≡ Memory)
 
--- ---- over the semiring of a number, where there is one
--- those of a call over that semiring
+-- ---- over the semiring of a number, if there is one
+-- the faults of a call over that semiring
 abbrev pub over : Option SemiringName → (Arithmetic → Fault → Type 0) → Fault → Type 0
 over None faults = λ f. f ≡ Semiring
 over (Some name) faults = faults (arithmetic_of name)

@@ -1,5 +1,5 @@
--- Triples: entries that are given in any order, more than once at a place if need be.
-use Rattle.std.specs.Prelude.{ℕ, ◌<◌, ◌≤◌, List, map, All}
+-- Triples: entries in any order, perhaps several at a place.
+use Rattle.std.specs.Prelude.{ℕ, ◌<◌, ◌≤◌, List, map, All, Result}
 use Rattle.cb_semirings.specs.Arithmetic.{Arithmetic, IsValue}
 use Rattle.cb_semirings.specs.declared.names.SemiringName.{SemiringName}
 use Rattle.cb_matrix.specs.declared.Entry.{Entry}
@@ -12,6 +12,7 @@ use Rattle.cb_interop.specs.declared.faults.Fault.TheVariants.{TooLarge, Place, 
 use Rattle.cb_interop.specs.declared.kept.Kept.{Kept}
 use Rattle.cb_interop.specs.Kept.{Keeps}
 use Rattle.cb_interop.specs.Refusals.{Unless, IsMemory}
+use Rattle.cb_interop.specs.Answers.{IsAnswer}
 
 abbrev pub entry_of : Triple → Entry
 entry_of t = record { row = t.row; column = t.column; value = t.value }
@@ -22,11 +23,17 @@ AreWithin shape ts = All (λ (t : Triple). (t.row < shape.rows) × (t.column < s
 abbrev pub AreTripleValues : Arithmetic → List Triple → Type 0
 AreTripleValues s ts = All (λ (t : Triple). IsValue s t.value) ts
 
--- more rows or columns than a matrix can have, a place outside, a number that is no value
+-- the faults of triples: more rows or columns than a matrix can have, a place outside the shape, a number that isn't a value
 unfoldable pub triple_faults : Arithmetic → ℕ → ℕ → List Triple → Fault → Type 0
 triple_faults s nrows ncols ts =
-    Unless ((nrows ≤ LIMIT) × (ncols ≤ LIMIT)) TooLarge (Unless (AreWithin (record { rows = nrows; cols = ncols }) ts) Place (Unless (AreTripleValues s ts) Value IsMemory))
+    Unless ((nrows ≤ LIMIT) × (ncols ≤ LIMIT)) TooLarge
+    (Unless (AreWithin (record { rows = nrows; cols = ncols }) ts) Place
+    (Unless (AreTripleValues s ts) Value IsMemory))
 
--- at each place the sum of the values that are given there, kept over a semiring and its name
+-- the sum of the values at each place, kept over a semiring and its name
 abbrev pub IsKeptTriples : Arithmetic → SemiringName → ℕ → ℕ → List Triple → Kept → Type 0
 IsKeptTriples s name nrows ncols ts k = Keeps name (collected s (record { rows = nrows; cols = ncols }) (map entry_of ts)) k
+
+-- what a call returns that keeps it
+abbrev pub IsTriplesAnswer : Arithmetic → SemiringName → ℕ → ℕ → List Triple → Result Kept Fault → Type 0
+IsTriplesAnswer s name nrows ncols ts = IsAnswer (triple_faults s nrows ncols ts) (IsKeptTriples s name nrows ncols ts)

@@ -1,4 +1,4 @@
-//! The faults of a call, looked for in their order before memory is asked for.
+//! The checks of a call on lists, in the order of their faults. They take no memory.
 ghost use Rattle.std.specs.Prelude.{◌≡◌, ◌≤◌, ◌<◌, length, map, All, Some, IfSome, IfNone, IfOk, IfErr};
 ghost use Rattle.cb_operations.specs.OperationAnswers.{operand_count_of, Agree};
 ghost use Rattle.cb_interop.specs.declared.faults.Fault.TheVariants as fault_is;
@@ -11,7 +11,7 @@ use cb_matrix::Shape;
 use cb_operations::Operation;
 use cb_semirings::Semiring;
 
-/// Refuses what is no side of a grid.
+/// Refuses a side of a grid that isn't 1 to 6.
 fn check_side(side: u32) -> Result<(), Fault>
     ensures ok { IfOk result (λ _. IsSide side) }
     ensures fault { IfErr result (λ f. (f ≡ fault_is.Grid) × (IsSide side → ⊥)) }
@@ -33,7 +33,7 @@ fn check_each<S: Semiring>(operands: &[Columns]) -> Result<(), Fault>
     Ok(())
 }
 
-/// The shape of what an operation makes of matrices, or none where their shapes don't agree.
+/// The shape of an operation's result, or none if the operands' shapes don't agree.
 fn made_shape(operation: Operation, operands: &[Columns]) -> Option<Shape>
     requires count { length operands.now ≡ operand_count_of operation }
     requires fit { All Fits operands.now }
@@ -62,7 +62,7 @@ fn check_operands<S: Semiring>(operation: Operation, operands: &[Columns]) -> Re
     Ok(())
 }
 
-/// The operation of a call, where there is one, all that is lent is well formed, and the shapes agree.
+/// The operation of a call, if it exists, its operands are well formed, and their shapes agree; or else the first fault.
 pub(crate) fn check<S: Semiring>(
     side: u32,
     operation: Option<Operation>,
@@ -83,7 +83,7 @@ pub(crate) fn check<S: Semiring>(
     Ok(known)
 }
 
-/// Refuses a graph that isn't well formed or square, and a source that is none of its vertices.
+/// Refuses a graph that isn't well formed or isn't square, and a source that isn't one of its vertices.
 pub(crate) fn check_graph<S: Semiring>(side: u32, graph: &Columns, source: u32) -> Result<(), Fault>
     ensures side { IfOk result (λ _. IsSide side) }
     ensures lists { IfOk result (λ _. AreLists S.arithmetic graph.now) }

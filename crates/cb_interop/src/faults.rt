@@ -1,43 +1,43 @@
-//! Why a call has no answer.
+//! Why a call fails.
 ghost use Rattle.std.specs.Prelude.{◌≡◌, ◌≢◌, ◌<◌};
 ghost use Rattle.cb_interop.specs.Refusals.{code_of};
 
 use std::alloc::AllocError;
 
-/// Why a call has no answer, in the order in which the faults are looked for. Those of a matrix, from `Form` to
-/// `Value`, are looked for in each operand in turn. `Mixed` is looked for before `Shapes`, and `Memory` comes after all
-/// others.
+/// Why a call fails. A call on lists looks for faults in the order of these variants, and for those of a matrix, `Form` to
+/// `Value`, in each operand in turn. A call on kept matrices looks for `Mixed` before all others but `Test`. `Memory` comes
+/// last.
 #[derive(Clone, Copy)]
 pub enum Fault {
     /// No semiring has the number.
     Semiring,
     /// The side of the grid is not 1 to 6.
     Grid,
-    /// No test has the number.
+    /// No test, region or function has the number.
     Test,
     /// The kind of a matrix, or the width of its starts, is above 1.
     Form,
-    /// A matrix has more than 2,147,483,647 rows or columns.
+    /// There are more than 2,147,483,647 rows, columns or sources.
     TooLarge,
-    /// The lists of a matrix have lengths that don't agree with one another or with its starts.
+    /// The lengths of a matrix's lists don't agree with one another or with its starts.
     Lengths,
-    /// Starts descend, or columns or the rows of a column don't ascend.
+    /// Starts descend, or columns, or the rows of a column, don't ascend strictly.
     Order,
     /// A column or a row is outside the shape.
     Place,
-    /// A value is not one of the semiring.
+    /// A number isn't a value of the semiring.
     Value,
     /// The shapes of the operands don't agree.
     Shapes,
-    /// A graph has not as many rows as columns.
+    /// The matrix of a graph isn't square.
     NotSquare,
-    /// The source is not a vertex.
+    /// The graph has no such vertex.
     Source,
-    /// A text does not read as a matrix.
+    /// A text isn't a Matrix Market text of the profile.
     Text,
     /// Memory was refused.
     Memory,
-    /// Matrices that are kept are over other semirings than one another.
+    /// Kept matrices are over different semirings, or a graph isn't over the semiring of the call.
     Mixed,
 }
 
@@ -52,7 +52,7 @@ impl From<AllocError> for Fault {
 }
 
 impl Fault {
-    /// The number of a fault, which is never 0.
+    /// Returns the number of the fault in C, which is never 0.
     pub fn code(self) -> u32
         ensures code { result ≡ code_of self }
         ensures fault { result ≢ 0 }

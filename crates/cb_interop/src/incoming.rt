@@ -1,8 +1,7 @@
-//! A matrix as a block: of lists that are lent, or of its entries.
-ghost use Rattle.std.specs.Prelude.{◌≡◌, ◌≢◌, ◌↔◌, IsTrue, ℕ, ◌<◌, ◌++◌, length, All, AllPairs, IfOk, OnOk};
+//! Blocks of what a call is given: of lists, and of matrices by their entries.
+ghost use Rattle.std.specs.Prelude.{◌≡◌, ◌≢◌, ◌↔◌, IsTrue, ◌<◌, length, All, AllPairs, IfOk, OnOk};
 ghost use Rattle.cb_semirings.specs.Arithmetic.{IsValue};
-ghost use Rattle.cb_dcsc.specs.Compressed.{entries_in, pieces};
-ghost use Rattle.cb_interop.specs.Lists.{matrix_of, matrices, listed_in, nonzero, AreLists};
+ghost use Rattle.cb_interop.specs.Lists.{matrix_of, matrices, with_nonzero, AreLists};
 
 use crate::lists::Columns;
 use cb_dcsc::Block;
@@ -10,7 +9,7 @@ use cb_matrix::{Entry, Matrix};
 use cb_semirings::Semiring;
 use std::alloc::{AllocError, Global};
 
-/// The matrices of well-formed lists, a block each.
+/// The blocks of well-formed lists.
 pub(crate) fn blocks_of<S: Semiring>(
     alloc: Global,
     operands: &[Columns],
@@ -25,7 +24,7 @@ pub(crate) fn blocks_of<S: Semiring>(
     Ok(blocks)
 }
 
-/// The matrix of well-formed lists as a block. Its entries are copied once.
+/// The block of well-formed lists. The entries are copied once.
 pub(crate) fn block_of<S: Semiring>(alloc: Global, lists: &Columns) -> Result<Block<S>, AllocError>
     requires { AreLists S.arithmetic lists.now }
     ensures { IfOk result (λ block. block ≡ matrix_of S.arithmetic lists.now) }
@@ -40,7 +39,7 @@ pub(crate) fn block_of<S: Semiring>(alloc: Global, lists: &Columns) -> Result<Bl
     Ok(block)
 }
 
-/// A matrix by its entries as a block.
+/// The block of a matrix.
 pub(crate) fn matrix_block<S: Semiring>(
     alloc: Global,
     matrix: &Matrix<S>,
@@ -50,7 +49,7 @@ pub(crate) fn matrix_block<S: Semiring>(
     Block::from_ordered(alloc, matrix.shape(), matrix.entries())
 }
 
-/// Stores the entries of a column that aren't zero after all others.
+/// Appends the entries of a column that aren't zero.
 fn push_nonzero<S: Semiring>(
     block: &mut Block<S>,
     column: u32,
@@ -63,7 +62,7 @@ fn push_nonzero<S: Semiring>(
     requires column { column < block.old.shape.cols }
     requires before { All (λ e. e.column < column) block.old.entries }
     requires values { All (IsValue S.arithmetic) values.now }
-    ensures { OnOk result (block.new ≡ record { shape = block.old.shape; entries = block.old.entries ++ nonzero S.arithmetic (entries_in column rows.now values.now) }) }
+    ensures { OnOk result (block.new ≡ with_nonzero S.arithmetic block.old column rows.now values.now) }
 {
     if has_no_zero::<S>(values) {
         return block.push_column(column, rows, values);

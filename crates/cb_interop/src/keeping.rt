@@ -1,4 +1,4 @@
-//! How a block of each semiring is kept, and found again.
+//! How a block becomes a kept matrix, and how a kept matrix gives its block.
 #![tactic(auto, unfolding(crate::specs::Kept::semiring_of, crate::specs::Kept::matrix_in))]
 
 ghost use Rattle.std.specs.Prelude.{◌≡◌, ◌≢◌, IfSome, IfNone};
@@ -20,17 +20,17 @@ pub trait Keep: Semiring {
     /// The name of the semiring.
     ghost name: { SemiringName };
 
-    /// A block of the semiring, kept. What stands in its place is without entries.
+    /// Makes a block a kept matrix, and leaves an empty block in its place.
     fn keep(alloc: Global, block: &mut Block<Self>) -> Kept
         ensures { Keeps name block.old result };
 
-    /// The block that is kept, where it is one of the semiring.
+    /// The block of a kept matrix, or none if it is over another semiring.
     fn block_of(kept: &Kept) -> Option<&Block<Self>>
         ensures some { IfSome result (λ b. Keeps name b.now kept.now) }
         ensures none { IfNone result (semiring_of kept.now ≢ name) };
 }
 
-/// The block, for which one without entries stands in.
+/// Takes a block, and leaves an empty one of its shape in its place.
 fn taken<S: Semiring>(alloc: Global, block: &mut Block<S>) -> Block<S>
     ensures { result ≡ block.old }
 {

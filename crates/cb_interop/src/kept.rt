@@ -1,4 +1,4 @@
-//! A matrix that is kept, over any of the semirings, as one type.
+//! A kept matrix: a block over any of the semirings, as one type.
 #![tactic(auto, unfolding(crate::specs::Kept::semiring_of, crate::specs::Kept::matrix_in))]
 
 ghost use Rattle.std.specs.Prelude.{◌≡◌, length, Some};
@@ -33,7 +33,7 @@ pub enum Kept {
 }
 
 impl Kept {
-    /// The semiring that the matrix is over.
+    /// The semiring of the matrix.
     pub(crate) fn semiring(&self) -> SemiringName
         ensures { result ≡ semiring_of self.now }
     {
@@ -77,7 +77,7 @@ impl Kept {
         }
     }
 
-    /// How many rows and columns it has.
+    /// The shape of the matrix.
     pub(crate) fn shape(&self) -> Shape
         ensures { result ≡ (matrix_in self.now).shape }
     {
@@ -99,7 +99,7 @@ impl Kept {
         }
     }
 
-    /// How many entries it has.
+    /// How many entries the matrix has.
     pub(crate) fn len(&self) -> usize
         ensures { result ≡ length (matrix_in self.now).entries }
     {
@@ -121,7 +121,7 @@ impl Kept {
         }
     }
 
-    /// Gives its lists back: what is left has no rows, no columns and no entries.
+    /// Frees the lists of the matrix, and leaves one without rows, columns and entries.
     pub fn clear(&mut self, alloc: Global) {
         let nothing = Block::<PlusTimes>::empty(alloc, Shape::new(0, 0).unwrap());
         *self = Kept::PlusTimes(nothing);

@@ -1,14 +1,18 @@
-//! The faults of a call on matrices that are kept: each is well formed, so that they have to agree with one another alone.
+//! The checks of calls on kept matrices. Each matrix is well formed: operands only have to agree with one another, and a graph
+//! has to be square and over the semiring of the call.
 ghost use Rattle.std.specs.Prelude.{◌≡◌, ◌↔◌, IsTrue, length, map, All, Some, IfSome, IfNone, IfOk, IfErr};
 ghost use Rattle.cb_operations.specs.OperationAnswers.{operand_count_of, Agree, shapes_in};
 ghost use Rattle.std.specs.Borrow.{Bor};
 ghost use Rattle.cb_interop.specs.declared.kept.Kept.{Kept as KeptValue};
 ghost use Rattle.cb_serial.specs.Lent.{lent_in};
-ghost use Rattle.cb_interop.specs.Kept.{AreOver, semiring_of, semiring_in, matrix_in};
+ghost use Rattle.cb_interop.specs.Kept.{AreOver, Keeps, semiring_of, semiring_in, matrix_in};
 ghost use Rattle.cb_interop.specs.KeptAnswers.{kept_faults};
+ghost use Rattle.cb_interop.specs.KeptGraphs.{kept_graph_faults};
 
 use crate::faults::Fault;
+use crate::keeping::Keep;
 use crate::kept::Kept;
+use cb_dcsc::Block;
 use cb_matrix::Shape;
 use cb_operations::Operation;
 use cb_semirings::SemiringName;
@@ -20,14 +24,14 @@ fn is_over(kept: &Kept, semiring: SemiringName) -> bool
     kept.semiring() == semiring
 }
 
-/// Whether all matrices are over a semiring.
+/// Whether all operands are over a semiring.
 fn are_over(semiring: SemiringName, operands: &[&Kept]) -> bool
     ensures { IsTrue result ↔ All (λ (k : Bor KeptValue). semiring_of k.now ≡ semiring) operands.now }
 {
     operands.iter().all(|kept| is_over(kept, semiring))
 }
 
-/// The shape of what an operation makes of matrices, or none where their shapes don't agree.
+/// The shape of an operation's result, or none if the operands' shapes don't agree.
 fn made_shape(operation: Operation, operands: &[&Kept]) -> Option<Shape>
     requires { length operands.now ≡ operand_count_of operation }
     ensures agree { IfSome result (λ _. Agree operation (shapes_in (map matrix_in (lent_in operands.now)))) }
@@ -41,8 +45,8 @@ fn made_shape(operation: Operation, operands: &[&Kept]) -> Option<Shape>
     }
 }
 
-/// The semiring of the operands of an operation, where all are over one and their shapes agree.
-#[tactic(auto, using(crate::proofs::KeptFirsts::some_operand, crate::proofs::KeptFirsts::over_in, crate::proofs::KeptFirsts::over_out, crate::proofs::KeptFirsts::first_semiring, crate::proofs::KeptFirsts::mixed_first, crate::proofs::KeptFirsts::shapes_first))]
+/// The semiring of an operation's operands, if all are over one and their shapes agree; or else the first fault.
+#[tactic(auto, using(crate::proofs::KeptFirsts::some_operand, crate::proofs::KeptFirsts::first_semiring))]
 pub(crate) fn common_semiring(
     operation: Operation,
     operands: &[&Kept],
@@ -64,4 +68,21 @@ pub(crate) fn common_semiring(
         return Err(Fault::Shapes);
     };
     Ok(semiring)
+}
+
+/// The block of a square graph over a semiring, or else the first fault.
+#[tactic(auto, using(crate::proofs::KeptGraphFaults::other_semiring, crate::proofs::KeptGraphFaults::other_sides))]
+pub(crate) fn square_in<S: Keep>(kept: &Kept) -> Result<&Block<S>, Fault>
+    ensures graph { IfOk result (λ graph. Keeps S.name graph.now kept.now) }
+    ensures square { IfOk result (λ graph. graph.now.shape.rows ≡ graph.now.shape.cols) }
+    ensures fault { IfErr result (kept_graph_faults S.name kept.now (λ _ _. ⊥)) }
+{
+    let Some(graph) = S::block_of(kept) else {
+        return Err(Fault::Mixed);
+    };
+    let shape = graph.shape();
+    if shape.rows() != shape.cols() {
+        return Err(Fault::NotSquare);
+    }
+    Ok(graph)
 }

@@ -1,11 +1,11 @@
-//! Matrices that are kept, made of lists that are lent, and the lists of one.
+//! Kept matrices from lists, and lists of a kept matrix.
 ghost use Rattle.std.specs.Prelude.{◌≡◌, IfOk};
-ghost use Rattle.cb_semirings.specs.Names.{arithmetic_of, numbered};
+ghost use Rattle.cb_semirings.specs.Names.{arithmetic_of};
 ghost use Rattle.cb_interop.specs.Lists.{HasLists};
-ghost use Rattle.cb_interop.specs.Refusals.{IsMemory, over, text_faults};
+ghost use Rattle.cb_interop.specs.Refusals.{IsMemory, text_faults};
 ghost use Rattle.cb_interop.specs.Answers.{IsAnswer};
 ghost use Rattle.cb_interop.specs.Kept.{semiring_of, matrix_in};
-ghost use Rattle.cb_interop.specs.KeptAnswers.{OverName, IsKeptOf};
+ghost use Rattle.cb_interop.specs.KeptAnswers.{IsKeptAnswerOver, IsKeptOf};
 
 use crate::faults::Fault;
 use crate::incoming::block_of;
@@ -17,7 +17,7 @@ use crate::outgoing::block_lists;
 use cb_semirings::{SemiringName, over_semiring};
 use std::alloc::{AllocError, Global};
 
-/// The matrix of lists, kept. Their entries are copied once.
+/// The matrix of lists, kept over a semiring.
 fn keep_over<S: Keep>(alloc: Global, a: &Columns) -> Result<Kept, Fault>
     ensures { IsAnswer (text_faults S.arithmetic a.now) (IsKeptOf S.arithmetic S.name a.now) result }
 {
@@ -33,9 +33,9 @@ fn keep_named(alloc: Global, semiring: SemiringName, a: &Columns) -> Result<Kept
     over_semiring!(semiring, keep_over::<_>(alloc, a))
 }
 
-/// The same, over the semiring of a number.
+/// Keeps the matrix of lists, over the semiring of a number. The entries are copied once.
 pub fn keep_lists(alloc: Global, semiring: u32, a: &Columns) -> Result<Kept, Fault>
-    ensures { IsAnswer (over (numbered semiring) (λ s. text_faults s a.now)) (λ k. OverName (numbered semiring) (λ n. IsKeptOf (arithmetic_of n) n a.now k)) result }
+    ensures { IsKeptAnswerOver semiring (λ s. text_faults s a.now) (λ s name. IsKeptOf s name a.now) result }
 {
     match SemiringName::numbered(semiring) {
         Some(name) => keep_named(alloc, name, a),
@@ -43,7 +43,7 @@ pub fn keep_lists(alloc: Global, semiring: u32, a: &Columns) -> Result<Kept, Fau
     }
 }
 
-/// The lists of a matrix that is kept, which are a copy.
+/// The lists of a kept matrix over a semiring.
 fn lists_over<S: Keep>(alloc: Global, kept: &Kept) -> Result<Columns, AllocError>
     requires { semiring_of kept.now ≡ S.name }
     ensures { IfOk result (HasLists (matrix_in kept.now)) }
@@ -60,7 +60,7 @@ fn lists_named(alloc: Global, semiring: SemiringName, kept: &Kept) -> Result<Col
     over_semiring!(semiring, lists_over::<_>(alloc, kept))
 }
 
-/// The same, as a call answers it.
+/// Returns a copy of the lists of a kept matrix, which belongs to the caller.
 pub fn lists_of(alloc: Global, kept: &Kept) -> Result<Columns, Fault>
     ensures { IsAnswer IsMemory (HasLists (matrix_in kept.now)) result }
 {

@@ -1,4 +1,4 @@
-//! Operations on matrices that are kept, whose answer is kept: no operand is copied.
+//! Operations on kept matrices, whose result is kept. They copy no operand.
 ghost use Rattle.std.specs.Prelude.{◌≡◌, length, map, Some, IfSome, IfOk};
 ghost use Rattle.cb_operations.specs.OperationAnswers.{operand_count_of, Agree, answer_of, shapes_in};
 ghost use Rattle.cb_semirings.specs.Names.{arithmetic_of};
@@ -17,7 +17,7 @@ use cb_semirings::{SemiringName, over_semiring};
 use cb_serial::{binary, ternary, unary};
 use std::alloc::{AllocError, Global};
 
-/// The block of a matrix that is kept, over its semiring.
+/// The block of a kept matrix, over its semiring.
 pub(crate) fn block_in<S: Keep>(kept: &Kept) -> &Block<S>
     requires { semiring_of kept.now ≡ S.name }
     ensures { result.now ≡ matrix_in kept.now }
@@ -28,7 +28,7 @@ pub(crate) fn block_in<S: Keep>(kept: &Kept) -> &Block<S>
     }
 }
 
-/// What an operation makes of matrices that are kept over one semiring, and whose shapes agree.
+/// The result of an operation on kept matrices over one semiring, whose shapes agree.
 fn made<S: Keep>(
     alloc: Global,
     operation: Operation,
@@ -80,7 +80,7 @@ fn made_named(
     over_semiring!(semiring, made_over::<_>(alloc, operation, operands))
 }
 
-/// What an operation makes of matrices that are kept, where they are over one semiring and their shapes agree.
+/// The kept result of an operation on kept matrices, if they are over one semiring and their shapes agree.
 fn operate_known(alloc: Global, operation: Operation, operands: &[&Kept]) -> Result<Kept, Fault>
     requires { length operands.now ≡ operand_count_of operation }
     ensures { IsAnswer (kept_faults (Some operation) (lent_in operands.now)) (HasMadeKept (Some operation) (lent_in operands.now)) result }
@@ -89,7 +89,7 @@ fn operate_known(alloc: Global, operation: Operation, operands: &[&Kept]) -> Res
     Ok(made_named(alloc, semiring, operation, operands)?)
 }
 
-/// The same, where there is an operation: there is none where no test has the number of a prune.
+/// Computes an operation on kept matrices, and keeps the result. `None` stands for a prune by an unknown test.
 pub fn operate(
     alloc: Global,
     operation: Option<Operation>,

@@ -1,5 +1,5 @@
-//! What is made of two kept matrices over one semiring, kept: the Kronecker product, one matrix in place of a part of the
-//! other, and the entries of one where the other has none.
+//! Operations on two kept matrices over one semiring, whose result is kept: the Kronecker product, one matrix in place of a
+//! part of the other, and the entries of one at the places where the other has none.
 ghost use Rattle.std.specs.Prelude.{◌≡◌, IfOk, IfErr};
 ghost use Rattle.cb_semirings.specs.Names.{arithmetic_of};
 ghost use Rattle.cb_interop.specs.Answers.{IsAnswer, NoFault};
@@ -17,7 +17,7 @@ use cb_selections::{assign, kronecker};
 use cb_semirings::{Semiring, SemiringName, over_semiring};
 use std::alloc::{AllocError, Global};
 
-/// That two matrices are over one semiring, and their shapes suit a pairing; or else the first fault.
+/// Refuses two matrices over different semirings, and shapes that don't suit the pairing.
 fn check_pair(pairing: Pairing, left: &Kept, right: &Kept) -> Result<(), Fault>
     ensures same { IfOk result (λ _. semiring_of right.now ≡ semiring_of left.now) }
     ensures suits { IfOk result (λ _. Suits pairing (matrix_in left.now).shape (matrix_in right.now).shape) }
@@ -33,7 +33,7 @@ fn check_pair(pairing: Pairing, left: &Kept, right: &Kept) -> Result<(), Fault>
     Ok(())
 }
 
-/// What a pairing makes of two blocks.
+/// The result of a pairing of two blocks.
 fn paired<S: Semiring>(
     alloc: Global,
     pairing: Pairing,
@@ -50,7 +50,7 @@ fn paired<S: Semiring>(
     }
 }
 
-/// What a pairing makes of two kept matrices over a semiring, kept.
+/// The kept result of a pairing over a semiring.
 fn pair_over<S: Keep>(
     alloc: Global,
     pairing: Pairing,
@@ -82,7 +82,7 @@ fn pair_named(
     over_semiring!(semiring, pair_over::<_>(alloc, pairing, left, right))
 }
 
-/// What a pairing makes of two kept matrices, kept.
+/// Computes an operation on two kept matrices over one semiring, and keeps the result.
 pub fn kept_pair(alloc: Global, pairing: Pairing, left: &Kept, right: &Kept) -> Result<Kept, Fault>
     ensures { IsAnswer (pair_faults pairing left.now right.now) (IsKeptPair pairing left.now right.now) result }
 {

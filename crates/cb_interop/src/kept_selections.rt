@@ -1,14 +1,12 @@
-//! What is made of one kept matrix, place by place, kept; rows and columns by their numbers; and the sum of all values.
-ghost use Rattle.std.specs.Prelude.{◌≡◌, ◌↔◌, ◌<◌, ◌≤◌, length, All, IsTrue, Some, IfOk, IfErr};
+//! Operations on one kept matrix, place by place; rows and columns by their numbers; and the sum of all values.
+ghost use Rattle.std.specs.Prelude.{◌≡◌, ◌↔◌, ◌<◌, ◌≤◌, length, All, IsTrue, IfOk, IfErr};
 ghost use Rattle.cb_semirings.specs.Names.{arithmetic_of};
-ghost use Rattle.cb_matrix.specs.Operations.{cut};
 ghost use Rattle.cb_reductions.specs.Sums.{matrix_total};
-ghost use Rattle.cb_selections.specs.Selections.{selected, applied, diagonal_of, diagonal_matrix, extracted};
-ghost use Rattle.cb_interop.specs.Refusals.{Unless, IsMemory};
-ghost use Rattle.cb_interop.specs.declared.faults.Fault.TheVariants.{Place, Shapes, Value};
+ghost use Rattle.cb_selections.specs.Selections.{extracted};
+ghost use Rattle.cb_interop.specs.declared.selections.Selection.TheVariants as selection_is;
 ghost use Rattle.cb_interop.specs.Answers.{IsAnswer, NoFault};
 ghost use Rattle.cb_interop.specs.Kept.{Keeps, semiring_of, matrix_in};
-ghost use Rattle.cb_interop.specs.KeptSelections.{made_by, selection_faults, kept_selection_faults, HasSelected, TakesValues, IsRange, number_faults, IsKeptExtract};
+ghost use Rattle.cb_interop.specs.KeptSelections.{kept_selection_faults, HasSelected, IsMade, IsMadeOver, IsRange, number_faults, IsKeptExtract};
 
 use crate::faults::Fault;
 use crate::keeping::Keep;
@@ -23,31 +21,35 @@ use cb_selections::{Function, Region, apply, diagonal, diagonal_matrix, extract,
 use cb_semirings::{Semiring, SemiringName, over_semiring};
 use std::alloc::{AllocError, Global};
 
-/// The entries in a region.
+/// The entries of a block in a region.
+#[tactic(auto, unfolding(crate::specs::KeptSelections::made_by, crate::specs::KeptSelections::selection_faults))]
 fn in_region<S: Semiring>(
     alloc: Global,
     block: &Block<S>,
     region: Region,
 ) -> Result<Block<S>, Fault>
-    ensures { IsAnswer IsMemory (λ m. m ≡ selected S.arithmetic region block.now) result }
+    ensures { IsMade (selection_is.Select region) S.arithmetic block.now result }
 {
     Ok(select(alloc, block, region)?)
 }
 
-/// The diagonal, in one column.
+/// The diagonal of a block, in one column.
+#[tactic(auto, unfolding(crate::specs::KeptSelections::made_by, crate::specs::KeptSelections::selection_faults))]
 fn diagonal_column<S: Semiring>(alloc: Global, block: &Block<S>) -> Result<Block<S>, Fault>
-    ensures { IsAnswer IsMemory (λ m. m ≡ diagonal_of S.arithmetic block.now) result }
+    ensures { IsMade selection_is.Diagonal S.arithmetic block.now result }
 {
     Ok(diagonal(alloc, block)?)
 }
 
-/// What a function makes of each value, where the number that it takes is one of the semiring.
+/// A block with a function of each entry in place of its value, if the number that the function takes is a value of the
+/// semiring.
+#[tactic(auto, unfolding(crate::specs::KeptSelections::made_by, crate::specs::KeptSelections::selection_faults))]
 fn replaced<S: Semiring>(
     alloc: Global,
     block: &Block<S>,
     function: Function,
 ) -> Result<Block<S>, Fault>
-    ensures { IsAnswer (Unless (TakesValues S.arithmetic function block.now.shape) Value IsMemory) (λ m. m ≡ applied S.arithmetic function block.now) result }
+    ensures { IsMade (selection_is.Apply function) S.arithmetic block.now result }
 {
     if !function.fits::<S>(block.shape()) {
         return Err(Fault::Value);
@@ -55,9 +57,10 @@ fn replaced<S: Semiring>(
     Ok(apply(alloc, block, function)?)
 }
 
-/// The square block that has a column on its diagonal, where a block is one column.
+/// The square block with a block on its diagonal, if that block is one column.
+#[tactic(auto, unfolding(crate::specs::KeptSelections::made_by, crate::specs::KeptSelections::selection_faults))]
 fn on_diagonal<S: Semiring>(alloc: Global, block: &Block<S>) -> Result<Block<S>, Fault>
-    ensures { IsAnswer (Unless (block.now.shape.cols ≡ 1) Shapes IsMemory) (λ m. m ≡ diagonal_matrix S.arithmetic block.now) result }
+    ensures { IsMade selection_is.DiagonalMatrix S.arithmetic block.now result }
 {
     if block.shape().cols() != 1 {
         return Err(Fault::Shapes);
@@ -65,21 +68,22 @@ fn on_diagonal<S: Semiring>(alloc: Global, block: &Block<S>) -> Result<Block<S>,
     Ok(diagonal_matrix(alloc, block)?)
 }
 
-/// Whether the first number of a pair is at most the second, and that at most a bound.
+/// Whether a range doesn't descend and ends at or before a bound.
 fn is_range(bound: u32, range: (u32, u32)) -> bool
     ensures { IsTrue result ↔ IsRange bound range }
 {
     range.0 <= range.1 && range.1 <= bound
 }
 
-/// The part of a block in some rows and columns, where it has them.
+/// The part of a block in a range of rows and a range of columns, if it has them.
+#[tactic(auto, unfolding(crate::specs::KeptSelections::made_by, crate::specs::KeptSelections::selection_faults))]
 fn part<S: Semiring>(
     alloc: Global,
     block: &Block<S>,
     rows: (u32, u32),
     cols: (u32, u32),
 ) -> Result<Block<S>, Fault>
-    ensures { IsAnswer (Unless (IsRange block.now.shape.rows rows × IsRange block.now.shape.cols cols) Place IsMemory) (λ m. m ≡ cut S.arithmetic rows cols block.now) result }
+    ensures { IsMade (selection_is.Part rows cols) S.arithmetic block.now result }
 {
     let shape = block.shape();
     if !is_range(shape.rows(), rows) {
@@ -91,13 +95,13 @@ fn part<S: Semiring>(
     Ok(cut(alloc, block, rows, cols)?)
 }
 
-/// What a selection makes of a block.
+/// The result of a selection from a block.
 fn made<S: Semiring>(
     alloc: Global,
     selection: Selection,
     block: &Block<S>,
 ) -> Result<Block<S>, Fault>
-    ensures { IsAnswer (selection_faults (Some selection) S.arithmetic block.now) (λ m. m ≡ made_by selection S.arithmetic block.now) result }
+    ensures { IsMade selection S.arithmetic block.now result }
 {
     match selection {
         Selection::Select(region) => in_region(alloc, block, region),
@@ -108,10 +112,10 @@ fn made<S: Semiring>(
     }
 }
 
-/// What a selection makes of a kept matrix over a semiring, kept.
+/// The kept result of a selection from a kept matrix over a semiring.
 fn made_over<S: Keep>(alloc: Global, selection: Selection, kept: &Kept) -> Result<Kept, Fault>
     requires { semiring_of kept.now ≡ S.name }
-    ensures { IsAnswer (selection_faults (Some selection) S.arithmetic (matrix_in kept.now)) (Keeps S.name (made_by selection S.arithmetic (matrix_in kept.now))) result }
+    ensures { IsMadeOver S.name selection S.arithmetic (matrix_in kept.now) result }
 {
     let mut block = made(alloc, selection, block_in::<S>(kept))?;
     Ok(S::keep(alloc, &mut block))
@@ -125,13 +129,13 @@ fn made_named(
     kept: &Kept,
 ) -> Result<Kept, Fault>
     requires { semiring_of kept.now ≡ semiring }
-    ensures { IsAnswer (selection_faults (Some selection) (arithmetic_of semiring) (matrix_in kept.now)) (Keeps semiring (made_by selection (arithmetic_of semiring) (matrix_in kept.now))) result }
+    ensures { IsMadeOver semiring selection (arithmetic_of semiring) (matrix_in kept.now) result }
 {
     over_semiring!(semiring, made_over::<_>(alloc, selection, kept))
 }
 
-/// What a selection makes of a kept matrix, kept, where there is one: there is none where no region or function has the
-/// number.
+/// Computes an operation on one kept matrix, place by place, and keeps the result. `None` stands for an unknown region or
+/// function.
 pub fn kept_selection(
     alloc: Global,
     selection: Option<Selection>,
@@ -145,14 +149,14 @@ pub fn kept_selection(
     }
 }
 
-/// Whether there are no more numbers of rows, and of columns, than a matrix can have rows or columns.
+/// Whether two lists have no more numbers than a matrix can have rows and columns.
 fn are_few(rows: &[u32], cols: &[u32]) -> bool
     ensures { IsTrue result ↔ (length rows.now ≤ LIMIT) × (length cols.now ≤ LIMIT) }
 {
     rows.len() <= LIMIT as usize && cols.len() <= LIMIT as usize
 }
 
-/// Whether a shape has each of some rows and each of some columns.
+/// Whether a shape has each row and each column of two lists.
 fn has_numbers(shape: Shape, rows: &[u32], cols: &[u32]) -> bool
     ensures { IsTrue result ↔ (All (λ i. i < shape.rows) rows.now × All (λ j. j < shape.cols) cols.now) }
 {
@@ -160,8 +164,7 @@ fn has_numbers(shape: Shape, rows: &[u32], cols: &[u32]) -> bool
     rows.iter().all(|row| *row < height) && cols.iter().all(|column| *column < width)
 }
 
-/// That a shape has the rows and the columns, and no more of them are asked for than a matrix can have; or else the first
-/// fault.
+/// Refuses more rows or columns than a matrix can have, and a row or column that the shape doesn't have.
 fn check_numbers(shape: Shape, rows: &[u32], cols: &[u32]) -> Result<(), Fault>
     ensures row_limit { IfOk result (λ _. length rows.now ≤ LIMIT) }
     ensures column_limit { IfOk result (λ _. length cols.now ≤ LIMIT) }
@@ -179,7 +182,7 @@ fn check_numbers(shape: Shape, rows: &[u32], cols: &[u32]) -> Result<(), Fault>
     Ok(())
 }
 
-/// The rows and the columns of a kept matrix over a semiring with some numbers, kept.
+/// The rows and columns of a kept matrix over a semiring by their numbers, kept.
 fn extract_over<S: Keep>(
     alloc: Global,
     kept: &Kept,
@@ -215,7 +218,8 @@ fn extract_named(
     over_semiring!(semiring, extract_over::<_>(alloc, kept, rows, cols))
 }
 
-/// The rows and the columns of a kept matrix with some numbers, in the order of these, kept.
+/// Keeps the matrix of the rows and columns of a kept matrix by their numbers, in any order, with repetitions. Costs a
+/// binary search for each number, and two transposes of the result.
 pub fn kept_extract(alloc: Global, kept: &Kept, rows: &[u32], cols: &[u32]) -> Result<Kept, Fault>
     ensures { IsAnswer (number_faults rows.now cols.now (matrix_in kept.now).shape) (IsKeptExtract rows.now cols.now kept.now) result }
 {
@@ -239,7 +243,7 @@ fn total_named(semiring: SemiringName, kept: &Kept) -> u64
     over_semiring!(semiring, total_over::<_>(kept))
 }
 
-/// The sum of all values of a kept matrix, in its semiring: its zero, where no entry is.
+/// Returns the semiring's sum of all values of a kept matrix: its zero if there are no entries.
 pub fn kept_total(kept: &Kept) -> u64
     ensures { result ≡ matrix_total (arithmetic_of (semiring_of kept.now)) (matrix_in kept.now) }
 {

@@ -1,50 +1,28 @@
-//! How far the vertices of a graph that is kept are from each of several of them.
+//! Levels and distances from several sources in a kept graph.
 ghost use Rattle.std.specs.Prelude.{◌≡◌, ◌<◌, ◌≤◌, ◌↔◌, IsTrue, length, All, IfOk, IfErr};
 ghost use Rattle.cb_semirings.specs.declared.names.SemiringName.TheVariants as name_is;
 ghost use Rattle.cb_interop.specs.Answers.{IsAnswer, NoFault};
 ghost use Rattle.cb_interop.specs.Kept.{matrix_in};
-ghost use Rattle.cb_interop.specs.KeptSources.{IsKeptLevelsFrom, IsKeptDistancesFrom, searches_faults, sources_faults};
+ghost use Rattle.cb_interop.specs.KeptGraphs.{IsKeptLevelsFrom, IsKeptDistancesFrom, searches_faults};
 
 use crate::faults::Fault;
 use crate::keeping::Keep;
 use crate::kept::Kept;
+use crate::kept_checks::square_in;
 use crate::kept_walks::keep_column;
 use cb_dcsc::Block;
 use cb_matrix::LIMIT;
-use cb_semirings::{MinPlus, OrAnd, Semiring};
+use cb_semirings::{MinPlus, OrAnd};
 use std::alloc::{AllocError, Global};
 
-/// Whether all numbers are below another.
+/// Whether all numbers are below a bound.
 fn are_below(bound: u32, numbers: &[u32]) -> bool
     ensures { IsTrue result ↔ All (λ v. v < bound) numbers.now }
 {
     numbers.iter().all(|number| *number < bound)
 }
 
-/// Refuses a graph that is not square, more sources than a matrix can have columns, and a source that is none of its
-/// vertices.
-#[tactic(auto, using(crate::proofs::KeptSourceFaults::square_first, crate::proofs::KeptSourceFaults::many_next, crate::proofs::KeptSourceFaults::source_last))]
-fn check_sources<S: Semiring>(graph: &Block<S>, sources: &[u32]) -> Result<(), Fault>
-    ensures square { IfOk result (λ _. graph.now.shape.rows ≡ graph.now.shape.cols) }
-    ensures limit { IfOk result (λ _. length sources.now ≤ LIMIT) }
-    ensures sources { IfOk result (λ _. All (λ v. v < graph.now.shape.rows) sources.now) }
-    ensures fault { IfErr result (sources_faults graph.now sources.now) }
-{
-    let shape = graph.shape();
-    if shape.rows() != shape.cols() {
-        return Err(Fault::NotSquare);
-    }
-    if sources.len() > LIMIT as usize {
-        return Err(Fault::TooLarge);
-    }
-    if !are_below(shape.rows(), sources) {
-        return Err(Fault::Source);
-    }
-    Ok(())
-}
-
-/// The graph that is kept over a semiring and is square, with sources that are vertices.
-#[tactic(auto, using(crate::proofs::KeptSourceFaults::other_first))]
+/// The block of a square graph over a semiring, whose vertices include the sources; or else the first fault.
 fn graph_in<'a, S: Keep>(kept: &'a Kept, sources: &[u32]) -> Result<&'a Block<S>, Fault>
     ensures graph { IfOk result (λ graph. graph.now ≡ matrix_in kept.now) }
     ensures square { IfOk result (λ graph. graph.now.shape.rows ≡ graph.now.shape.cols) }
@@ -53,14 +31,17 @@ fn graph_in<'a, S: Keep>(kept: &'a Kept, sources: &[u32]) -> Result<&'a Block<S>
     ensures none { IfOk result (λ _. NoFault (searches_faults S.name kept.now sources.now)) }
     ensures fault { IfErr result (searches_faults S.name kept.now sources.now) }
 {
-    let Some(graph) = S::block_of(kept) else {
-        return Err(Fault::Mixed);
-    };
-    check_sources(graph, sources)?;
+    let graph = square_in::<S>(kept)?;
+    if sources.len() > LIMIT as usize {
+        return Err(Fault::TooLarge);
+    }
+    if !are_below(graph.shape().rows(), sources) {
+        return Err(Fault::Source);
+    }
     Ok(graph)
 }
 
-/// The level of each vertex from each source, kept.
+/// The columns of levels from each source, kept.
 fn level_columns(alloc: Global, graph: &Block<OrAnd>, sources: &[u32]) -> Result<Kept, AllocError>
     requires square { graph.now.shape.rows ≡ graph.now.shape.cols }
     requires limit { length sources.now ≤ LIMIT }
@@ -71,7 +52,7 @@ fn level_columns(alloc: Global, graph: &Block<OrAnd>, sources: &[u32]) -> Result
     keep_column(alloc, &columns)
 }
 
-/// The distance of each vertex from each source, kept.
+/// The columns of distances from each source, kept.
 fn distance_columns(
     alloc: Global,
     graph: &Block<MinPlus>,
@@ -86,8 +67,8 @@ fn distance_columns(
     keep_column(alloc, &columns)
 }
 
-/// The level of each vertex from each of some sources, a column for each, of a graph over or-and. The graph is copied once,
-/// and transposed once for all of them.
+/// Returns the levels from several sources in a graph over or-and, a column for each source. The graph is copied and
+/// transposed once for all of them.
 pub fn kept_levels_from(alloc: Global, graph: &Kept, sources: &[u32]) -> Result<Kept, Fault>
     ensures { IsAnswer (searches_faults name_is.OrAnd graph.now sources.now) (IsKeptLevelsFrom (matrix_in graph.now) sources.now) result }
 {
@@ -95,7 +76,8 @@ pub fn kept_levels_from(alloc: Global, graph: &Kept, sources: &[u32]) -> Result<
     Ok(level_columns(alloc, block, sources)?)
 }
 
-/// The distance of each vertex from each of some sources, a column for each, of a graph over min-plus.
+/// Returns the distances from several sources in a graph over min-plus, a column for each source. The graph is copied and
+/// transposed once for all of them.
 pub fn kept_distances_from(alloc: Global, graph: &Kept, sources: &[u32]) -> Result<Kept, Fault>
     ensures { IsAnswer (searches_faults name_is.MinPlus graph.now sources.now) (IsKeptDistancesFrom (matrix_in graph.now) sources.now) result }
 {

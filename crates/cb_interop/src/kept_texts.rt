@@ -1,11 +1,11 @@
-//! Matrix Market texts of matrices that are kept.
+//! Matrix Market texts, to and from kept matrices.
 ghost use Rattle.std.specs.Prelude.{◌≡◌, IfOk};
 ghost use Rattle.cb_semirings.specs.Names.{arithmetic_of, numbered};
 ghost use Rattle.cb_market.specs.Faults.{first_fault};
-ghost use Rattle.cb_interop.specs.Refusals.{IsMemory, over, Over, first_over, read_faults, text_faults};
-ghost use Rattle.cb_interop.specs.Answers.{IsAnswer, IsFaultLine, IsTextOf};
+ghost use Rattle.cb_interop.specs.Refusals.{IsMemory, first_over, read_faults, text_faults};
+ghost use Rattle.cb_interop.specs.Answers.{IsAnswer, IsAnswerOver, IsFaultLine, IsTextOf};
 ghost use Rattle.cb_interop.specs.Kept.{semiring_of};
-ghost use Rattle.cb_interop.specs.KeptAnswers.{OverName};
+ghost use Rattle.cb_interop.specs.KeptAnswers.{IsKeptAnswerOver};
 ghost use Rattle.cb_interop.specs.KeptTexts.{IsKeptText, IsKeptRead};
 
 use crate::faults::Fault;
@@ -18,7 +18,7 @@ use crate::texts::{Text, block_text, read_block};
 use cb_semirings::{SemiringName, over_semiring};
 use std::alloc::{AllocError, Global};
 
-/// The text of a matrix that is kept, given away.
+/// The text of a kept matrix over a semiring.
 fn text_over<S: Keep>(alloc: Global, kept: &Kept) -> Result<Text, AllocError>
     requires { semiring_of kept.now ≡ S.name }
     ensures { IfOk result (IsKeptText S.arithmetic kept.now) }
@@ -34,22 +34,22 @@ fn text_named(alloc: Global, semiring: SemiringName, kept: &Kept) -> Result<Text
     over_semiring!(semiring, text_over::<_>(alloc, kept))
 }
 
-/// The same, as a call answers it.
+/// Returns the Matrix Market text of a kept matrix. Its bytes belong to the caller.
 pub fn text_of(alloc: Global, kept: &Kept) -> Result<Text, Fault>
     ensures { IsAnswer IsMemory (IsKeptText (arithmetic_of (semiring_of kept.now)) kept.now) result }
 {
     Ok(text_named(alloc, kept.semiring(), kept)?)
 }
 
-/// The text of the matrix of lists, over the semiring of a number. Their entries are copied once.
+/// Returns the Matrix Market text of lists, over the semiring of a number. The entries are copied once.
 pub fn text_of_lists(alloc: Global, semiring: u32, a: &Columns) -> Result<Text, Fault>
-    ensures { IsAnswer (over (numbered semiring) (λ s. text_faults s a.now)) (λ t. Over (numbered semiring) (λ s. IsTextOf s a.now t)) result }
+    ensures { IsAnswerOver semiring (λ s. text_faults s a.now) (λ s. IsTextOf s a.now) result }
 {
     let kept = keep_lists(alloc, semiring, a)?;
     text_of(alloc, &kept)
 }
 
-/// The matrix that a text reads as, kept. Where the text has a fault its line is put into `line`.
+/// The matrix of a text, kept over a semiring.
 fn read_over<S: Keep>(alloc: Global, text: &[u8], line: &mut u64) -> Result<Kept, Fault>
     ensures answer { IsAnswer (read_faults S.arithmetic text.now) (IsKeptRead S.arithmetic S.name text.now) result }
     ensures line { IsFaultLine (first_fault S.arithmetic text.now) result line.old line.new }
@@ -73,9 +73,10 @@ fn read_named(
     over_semiring!(semiring, read_over::<_>(alloc, text, line))
 }
 
-/// The same, over the semiring of a number.
+/// Reads a Matrix Market text over the semiring of a number, and keeps its matrix. If the text has a fault, `line` gets its
+/// line, counted from 1.
 pub fn read_kept(alloc: Global, semiring: u32, text: &[u8], line: &mut u64) -> Result<Kept, Fault>
-    ensures answer { IsAnswer (over (numbered semiring) (λ s. read_faults s text.now)) (λ k. OverName (numbered semiring) (λ n. IsKeptRead (arithmetic_of n) n text.now k)) result }
+    ensures answer { IsKeptAnswerOver semiring (λ s. read_faults s text.now) (λ s name. IsKeptRead s name text.now) result }
     ensures line { IsFaultLine (first_over (numbered semiring) text.now) result line.old line.new }
 {
     match SemiringName::numbered(semiring) {

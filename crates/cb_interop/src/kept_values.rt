@@ -1,4 +1,4 @@
-//! What a matrix that is kept has: its shape, how many entries, and the value at each place.
+//! What a kept matrix has: its shape, its number of entries, and the value at a place.
 ghost use Rattle.std.specs.Prelude.{◌≡◌};
 ghost use Rattle.cb_semirings.specs.Names.{arithmetic_of};
 ghost use Rattle.cb_matrix.specs.Sparse.{at};
@@ -10,7 +10,7 @@ use crate::kept::Kept;
 use crate::kept_operations::block_in;
 use cb_semirings::{SemiringName, over_semiring};
 
-/// What is known of a matrix at once.
+/// What a kept matrix is, without its entries.
 #[repr(C)]
 #[derive(Clone, Copy)]
 pub struct Summary {
@@ -24,7 +24,7 @@ pub struct Summary {
     pub entries: u64,
 }
 
-/// What is known of a matrix that is kept.
+/// Returns the shape of a kept matrix, its semiring and its number of entries.
 pub fn summary_of(kept: &Kept) -> Summary
     ensures { IsSummary kept.now result }
 {
@@ -37,7 +37,7 @@ pub fn summary_of(kept: &Kept) -> Summary
     }
 }
 
-/// The value at a place, by two binary searches.
+/// The value at a place of a kept matrix over a semiring, by two binary searches.
 fn value_over<S: Keep>(kept: &Kept, row: u32, column: u32) -> u64
     requires { semiring_of kept.now ≡ S.name }
     ensures { result ≡ at S.arithmetic (matrix_in kept.now) row column }
@@ -53,7 +53,8 @@ fn value_named(semiring: SemiringName, kept: &Kept, row: u32, column: u32) -> u6
     over_semiring!(semiring, value_over::<_>(kept, row, column))
 }
 
-/// The same, over whatever semiring.
+/// Returns the value of a kept matrix at a place: the semiring's zero if the place has no entry or is outside the shape.
+/// Costs two binary searches.
 pub fn value_at(kept: &Kept, row: u32, column: u32) -> u64
     ensures { result ≡ at (arithmetic_of (semiring_of kept.now)) (matrix_in kept.now) row column }
 {

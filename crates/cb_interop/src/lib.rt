@@ -1,15 +1,15 @@
-//! Matrices as programs in other languages have them: in compressed columns, lent as lists and answered as lists, or kept
-//! by a value that is over whatever semiring.
+//! Sparse matrices for programs in other languages: as lists in compressed columns, or as kept matrices, each over one of
+//! the semirings.
 //!
-//! Each call takes matrices as [`Columns`], which it reads and neither changes nor keeps, or as [`Kept`] ones, whose
-//! blocks it uses where they lie. It answers what is asked for, or the first [`Fault`]. All faults are looked for before
-//! memory is asked for, but for those of a text, which are found as it is read.
+//! A call takes matrices as [`Columns`], whose lists it reads and neither changes nor keeps, or as [`Kept`] matrices, whose
+//! blocks it reads where they are. It returns its result or the first [`Fault`]. It looks for all faults before it takes
+//! memory, except for those of a text, which it finds while it reads.
 //!
-//! The lists of an answer are given away: they are never freed here.
+//! The lists of a result belong to the caller. This crate never frees them.
 //!
-//! A semiring is told by its number, that of `cb_semirings::SemiringName`: 0 (plus-times), 1 (min-plus), 2 (or-and), 3
-//! (max-min), and so on. The side of a grid, 1 to 6, is checked, and changes nothing else: each call works on whole
-//! blocks, on the caller's thread.
+//! A semiring is given by its number in `cb_semirings::SemiringName`: 0 (plus-times), 1 (min-plus), 2 (or-and), 3
+//! (max-min), and so on. The side of a grid, 1 to 6, is checked and has no other effect: each call works on whole blocks,
+//! on the caller's thread.
 #![tactic(auto)]
 
 mod checks;

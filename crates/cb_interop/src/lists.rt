@@ -1,19 +1,19 @@
-//! A matrix in compressed columns as C lends it, and whether its lists are well formed.
-ghost use Rattle.std.specs.Prelude.{◌≡◌, ◌↔◌, ◌≤◌, ◌<◌, ◌+◌, ℕ, ◌⊎◌, IsTrue, length, slice_index, slice_range, All, AllPairs, IfOk, IfErr, IfSome};
+//! A matrix in compressed columns, as C passes it, and whether its lists are well formed.
+ghost use Rattle.std.specs.Prelude.{◌≡◌, ◌↔◌, ◌≤◌, ◌<◌, ◌+◌, IsTrue, length, slice_index, All, AllPairs, IfOk, IfErr};
 ghost use Rattle.cb_semirings.specs.Arithmetic.{IsValue};
-ghost use Rattle.cb_interop.specs.Lists.{count, column, starts, rows_in, values_in, shape_of, HasForm, Fits, HaveLengths, AreOrdered, AreInside, AreValues, AreLists};
+ghost use Rattle.cb_interop.specs.Lists.{count, column, starts, rows_in, values_in, shape_of, HasForm, Fits, HasStarts, HaveLengths, StartsRise, RowsAscend, AreOrdered, AreInside, AreLists};
 ghost use Rattle.cb_interop.specs.Refusals.{matrix_faults};
 
 use crate::faults::Fault;
 use cb_matrix::{LIMIT, Shape};
 use cb_semirings::Semiring;
 
-/// A matrix in compressed columns. Only the columns that `columns` names are stored (DCSC, `kind` 0), or all of them
-/// (CSC, `kind` 1, where `columns` isn't read). The entries of the nth stored column stand in `rows` and `values` from
-/// the nth start to the next one.
+/// A matrix in compressed columns. The stored columns are those in `columns` (DCSC, `kind` 0), or all columns (CSC, `kind`
+/// 1, which ignores `columns`). The entries of the nth stored column are those of `rows` and `values` from the nth start
+/// up to the next.
 ///
-/// The columns that are named ascend, and so do the rows of a column. A listed entry whose value is the semiring's zero
-/// is as if it weren't listed. A matrix in which no column is named may have no starts.
+/// `columns` ascend strictly, and so do the rows of each stored column. An entry whose value is the semiring's zero is
+/// ignored. A matrix without stored columns may have no starts.
 #[repr(C)]
 #[derive(Clone, Copy)]
 pub struct Columns {
@@ -21,13 +21,13 @@ pub struct Columns {
     pub nrows: u32,
     /// How many columns the matrix has.
     pub ncols: u32,
-    /// 0 where the stored columns are named, 1 where all are stored.
+    /// 0 (DCSC) if `columns` has the stored columns, 1 (CSC) if all columns are stored.
     pub kind: u32,
-    /// 0 where the starts have 32 bits, 1 where they have 64.
+    /// 0 if the starts have 32 bits, 1 if they have 64.
     pub wide: u32,
-    /// JC: the columns that are stored.
+    /// JC: the stored columns.
     pub columns: &'static [u32],
-    /// CP: where each stored column starts and the last one ends, in 32 bits.
+    /// CP: where each stored column starts, and where the last ends, in 32 bits.
     pub starts32: &'static [u32],
     /// The same in 64 bits.
     pub starts64: &'static [u64],
@@ -60,7 +60,7 @@ impl Columns {
         }
     }
 
-    /// Where the nth stored column starts, or 0 past all starts.
+    /// Where the nth stored column starts, or 0 past the last start.
     fn start(&self, n: usize) -> u64
         ensures { result ≡ slice_index (starts self.now) n }
     {
@@ -87,7 +87,7 @@ impl Columns {
     fn bounds(&self, n: usize) -> (usize, usize)
         requires n { n < count self.now }
         requires lengths { HaveLengths self.now }
-        requires rising { (k : ℕ) → k < count self.now → slice_index (starts self.now) k ≤ slice_index (starts self.now) (k + 1) }
+        requires rising { StartsRise self.now }
         ensures start { result.0 ≡ slice_index (starts self.now) n }
         ensures end { result.1 ≡ slice_index (starts self.now) (n + 1) }
         ensures order { result.0 ≤ result.1 }
@@ -101,7 +101,7 @@ impl Columns {
     pub(crate) fn nth_column(&self, n: usize) -> (&'static [u32], &'static [u64])
         requires n { n < count self.now }
         requires lengths { HaveLengths self.now }
-        requires rising { (k : ℕ) → k < count self.now → slice_index (starts self.now) k ≤ slice_index (starts self.now) (k + 1) }
+        requires rising { StartsRise self.now }
         ensures rows { result.0.now ≡ rows_in self.now n }
         ensures values { result.1.now ≡ values_in self.now n }
     {
@@ -116,9 +116,9 @@ impl Columns {
         self.kind <= 1 && self.wide <= 1
     }
 
-    /// Whether there are as many starts as there have to be.
+    /// Whether there is one more start than stored columns, or none of either.
     fn has_starts(&self) -> bool
-        ensures { IsTrue result ↔ ((length (starts self.now) ≡ count self.now + 1) ⊎ ((self.now.kind ≡ 0) × (length self.now.columns.now ≡ 0) × (length (starts self.now) ≡ 0))) }
+        ensures { IsTrue result ↔ HasStarts self.now }
     {
         let none = self.kind == 0 && self.columns.is_empty() && self.starts_len() == 0;
         self.starts_len().checked_sub(1) == Some(self.count()) || none
@@ -134,10 +134,10 @@ impl Columns {
             && self.values.len() == self.rows.len()
     }
 
-    /// Whether no start is below the one before it.
+    /// Whether the starts never descend.
     fn starts_rise(&self) -> bool
         requires { count self.now < usize.MAX }
-        ensures { IsTrue result ↔ ((n : ℕ) → n < count self.now → slice_index (starts self.now) n ≤ slice_index (starts self.now) (n + 1)) }
+        ensures { IsTrue result ↔ StartsRise self.now }
     {
         for n in 0..self.count() {
             if self.start(n + 1) < self.start(n) {
@@ -147,11 +147,11 @@ impl Columns {
         true
     }
 
-    /// Whether the rows of each stored column ascend.
+    /// Whether the rows of each stored column ascend strictly.
     fn rows_ascend(&self) -> bool
         requires lengths { HaveLengths self.now }
-        requires rising { (k : ℕ) → k < count self.now → slice_index (starts self.now) k ≤ slice_index (starts self.now) (k + 1) }
-        ensures { IsTrue result ↔ ((n : ℕ) → n < count self.now → AllPairs (λ i j. i < j) (rows_in self.now n)) }
+        requires rising { StartsRise self.now }
+        ensures { IsTrue result ↔ RowsAscend self.now }
     {
         for n in 0..self.count() {
             let (rows, _values) = self.nth_column(n);
@@ -162,7 +162,7 @@ impl Columns {
         true
     }
 
-    /// Whether what has to ascend does.
+    /// Whether the starts never descend, and the columns, and the rows of each column, ascend strictly.
     fn are_ordered(&self) -> bool
         requires { HaveLengths self.now }
         ensures { IsTrue result ↔ AreOrdered self.now }
@@ -185,8 +185,8 @@ impl Columns {
         Shape::new(self.nrows, self.ncols).unwrap()
     }
 
-    /// Whether the lists are those of a matrix over the semiring, or else the first fault. It costs a few instructions
-    /// for each stored column and for each entry, and no memory.
+    /// Checks that the lists are those of a matrix over the semiring, or returns the first fault. Costs a walk over the
+    /// stored columns and the entries, and no memory.
     #[tactic(auto, unfolding(crate::specs::Refusals::matrix_faults))]
     pub(crate) fn check<S: Semiring>(&self) -> Result<(), Fault>
         ensures ok { IfOk result (λ _. AreLists S.arithmetic self.now) }
@@ -214,7 +214,7 @@ impl Columns {
     }
 }
 
-/// Whether each number is below the next.
+/// Whether numbers ascend strictly.
 fn ascends(numbers: &[u32]) -> bool
     ensures { IsTrue result ↔ AllPairs (λ i j. i < j) numbers.now }
 {

@@ -1,8 +1,7 @@
-//! The lists of a matrix, given away.
-ghost use Rattle.std.specs.Prelude.{◌≡◌, ℕ, List, IfOk};
+//! The lists of a result, which belong to the caller.
+ghost use Rattle.std.specs.Prelude.{◌≡◌, IfOk};
 ghost use Rattle.cb_dcsc.specs.Columns.{columns_with_entries, rows_of, values_of};
-ghost use Rattle.cb_dcsc.specs.Compressed.{all_entries, AreColumns};
-ghost use Rattle.cb_interop.specs.Lists.{HasLists};
+ghost use Rattle.cb_interop.specs.Lists.{AreStarts, HasLists};
 
 use crate::incoming::matrix_block;
 use crate::lists::Columns;
@@ -11,7 +10,7 @@ use cb_matrix::Matrix;
 use cb_semirings::Semiring;
 use std::alloc::{AllocError, Global};
 
-/// The lists of a matrix by its entries.
+/// The lists of a matrix.
 pub(crate) fn matrix_lists<S: Semiring>(
     alloc: Global,
     matrix: &Matrix<S>,
@@ -22,7 +21,7 @@ pub(crate) fn matrix_lists<S: Semiring>(
     block_lists(alloc, block)
 }
 
-/// The lists of a block, given away without a copy: they are never freed here. They may have room for more.
+/// The lists of a block, without a copy of its entries. They belong to the caller, and may have spare capacity.
 pub(crate) fn block_lists<S: Semiring>(
     alloc: Global,
     block: Block<S>,
@@ -45,8 +44,8 @@ pub(crate) fn block_lists<S: Semiring>(
     })
 }
 
-/// The columns, rows and values of a block. Those of one without entries are new lists without any room, since who
-/// gets an empty list has nothing to free.
+/// The columns, rows and values of a block. Those of an empty block are new lists without capacity: the caller has nothing
+/// to free for an empty list.
 fn lists_in<S: Semiring>(alloc: Global, block: Block<S>) -> (Vec<u32>, Vec<u32>, Vec<u64>)
     ensures columns { result.0.items ≡ columns_with_entries block.entries }
     ensures rows { result.1.items ≡ rows_of block.entries }
@@ -58,9 +57,9 @@ fn lists_in<S: Semiring>(alloc: Global, block: Block<S>) -> (Vec<u32>, Vec<u32>,
     block.into_lists()
 }
 
-/// Where each column that has entries starts, and where the last one ends; nothing of a block without entries.
+/// Where each column that has entries starts, and where the last ends; empty for an empty block.
 fn starts_of<S: Semiring>(alloc: Global, block: &Block<S>) -> Result<Vec<u64>, AllocError>
-    ensures { IfOk result (λ v. (columns starts rows values : List ℕ) → AreColumns columns starts rows values → all_entries columns starts rows values ≡ block.now.entries → v.items ≡ starts) }
+    ensures { IfOk result (λ v. AreStarts block.now.entries v.items) }
 {
     let _matrix = block.shape();
     let _entries = block.len();

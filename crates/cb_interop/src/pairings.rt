@@ -1,22 +1,22 @@
-//! What is made of two matrices over one semiring, as a value.
+//! Operations on two kept matrices over one semiring, as values.
 ghost use Rattle.std.specs.Prelude.{◌≡◌, ◌↔◌, ◌*◌, IsTrue};
 ghost use Rattle.cb_interop.specs.KeptPairings.{FitsLimit, HasPart, Suits, misfit_of};
 
 use crate::faults::Fault;
 use cb_matrix::{LIMIT, Shape};
 
-/// What is made of two matrices over one semiring.
+/// An operation on two kept matrices over one semiring.
 #[derive(Clone, Copy)]
 pub enum Pairing {
     /// The Kronecker product.
     Kronecker,
-    /// The first with the second in place of the part that begins at a corner, a row and a column.
+    /// The first matrix with the second in place of the part that begins at a corner, a row and a column.
     Assign((u32, u32)),
-    /// The entries of the first where the second has none: what the complement of a mask allows.
+    /// The entries of the first matrix at the places where the second has none: a complemented mask.
     Exclude,
 }
 
-/// Whether the products of the sides of two shapes are within the limit.
+/// Whether the Kronecker product of two shapes is within the limit.
 fn fit_limit(outer: Shape, inner: Shape) -> bool
     ensures { IsTrue result ↔ FitsLimit (outer.rows * inner.rows) (outer.cols * inner.cols) }
 {
@@ -25,7 +25,7 @@ fn fit_limit(outer: Shape, inner: Shape) -> bool
     rows <= u64::from(LIMIT) && cols <= u64::from(LIMIT)
 }
 
-/// Whether a shape has the part of another shape that begins at a corner.
+/// Whether a part of one shape fits into a whole at a corner.
 fn has_part(whole: Shape, corner: (u32, u32), part: Shape) -> bool
     ensures { IsTrue result ↔ HasPart whole corner part }
 {
@@ -35,7 +35,7 @@ fn has_part(whole: Shape, corner: (u32, u32), part: Shape) -> bool
 }
 
 impl Pairing {
-    /// Whether matrices of two shapes can be paired so.
+    /// Whether the shapes of two matrices suit the operation.
     pub(crate) fn suits(self, left: Shape, right: Shape) -> bool
         ensures { IsTrue result ↔ Suits self left right }
     {
@@ -46,7 +46,7 @@ impl Pairing {
         }
     }
 
-    /// The fault where they can't.
+    /// The fault of shapes that don't suit it.
     pub(crate) fn misfit(self) -> Fault
         ensures { result ≡ misfit_of self }
     {

@@ -1,12 +1,11 @@
-//! Operations on matrices that are lent, whose answer is a matrix.
-//!
-//! A list of columns becomes a block, the kernel makes a block of such blocks, and its lists are given away.
+//! Operations on lists, whose result is lists: the operands become blocks, the kernel makes a block of them, and the lists
+//! of that block are the result.
 ghost use Rattle.std.specs.Prelude.{◌≡◌, length, map, All, IfSome, IfOk};
 ghost use Rattle.cb_operations.specs.OperationAnswers.{operand_count_of, Agree, answer_of, shapes_in};
 ghost use Rattle.cb_interop.specs.Lists.{shape_of, matrices, AreLists};
-ghost use Rattle.cb_semirings.specs.Names.{arithmetic_of, numbered};
-ghost use Rattle.cb_interop.specs.Refusals.{over, Over, faults_of};
-ghost use Rattle.cb_interop.specs.Answers.{prune_of, HasMade, IsAnswer};
+ghost use Rattle.cb_semirings.specs.Names.{arithmetic_of};
+ghost use Rattle.cb_interop.specs.Refusals.{faults_of};
+ghost use Rattle.cb_interop.specs.Answers.{prune_of, HasMade, IsAnswer, IsAnswerOver};
 
 use crate::checks::check;
 use crate::faults::Fault;
@@ -20,7 +19,8 @@ use cb_semirings::{Semiring, SemiringName, over_semiring};
 use cb_serial::{binary, ternary, unary};
 use std::alloc::{AllocError, Global};
 
-/// To prune by the test of a number, 0 to 2, with its bound. No other number has a test.
+/// Returns the operation that prunes by the test of a number with a bound: 0 drops values below it, 1 those above it, 2
+/// those equal to it. No other number has a test.
 pub fn prune_of(test: u32, bound: u64) -> Option<Operation>
     ensures operation { result ≡ prune_of test bound }
     ensures count { IfSome result (λ o. 1 ≡ operand_count_of o) }
@@ -33,7 +33,7 @@ pub fn prune_of(test: u32, bound: u64) -> Option<Operation>
     }
 }
 
-/// What an operation makes of blocks whose shapes agree.
+/// The result of an operation on blocks whose shapes agree.
 fn of_blocks<S: Semiring>(
     alloc: Global,
     operation: Operation,
@@ -51,7 +51,7 @@ fn of_blocks<S: Semiring>(
     }
 }
 
-/// What an operation makes of matrices that are lent, which are well formed and whose shapes agree.
+/// The result of an operation on well-formed lists whose shapes agree.
 fn of_lists<S: Semiring>(
     alloc: Global,
     operation: Operation,
@@ -66,7 +66,7 @@ fn of_lists<S: Semiring>(
     of_blocks(alloc, operation, &blocks)
 }
 
-/// The lists of what an operation makes of matrices, over a semiring.
+/// The lists of an operation's result, over a semiring.
 fn answer_over<S: Semiring>(
     alloc: Global,
     side: u32,
@@ -81,7 +81,7 @@ fn answer_over<S: Semiring>(
     Ok(block_lists(alloc, block)?)
 }
 
-/// The lists of what an operation makes of matrices, over the semiring of a name.
+/// The same, over the semiring of a name.
 fn answer_named(
     alloc: Global,
     semiring: SemiringName,
@@ -95,8 +95,8 @@ fn answer_named(
     over_semiring!(semiring, answer_over::<_>(alloc, side, operation, operands))
 }
 
-/// The lists of what an operation makes of matrices, over the semiring of a number. There is no operation where no test has
-/// the number of a prune. The side of a grid is checked, and changes no answer.
+/// Computes an operation on lists over the semiring of a number, and returns the lists of the result. `None` stands for a
+/// prune by an unknown test. The side of the grid is checked and has no other effect.
 pub fn answer(
     alloc: Global,
     semiring: u32,
@@ -105,7 +105,7 @@ pub fn answer(
     operands: &[Columns],
 ) -> Result<Columns, Fault>
     requires count { IfSome operation (λ o. length operands.now ≡ operand_count_of o) }
-    ensures { IsAnswer (over (numbered semiring) (λ s. faults_of s side operation operands.now)) (λ c. Over (numbered semiring) (λ s. HasMade s operation operands.now c)) result }
+    ensures { IsAnswerOver semiring (λ s. faults_of s side operation operands.now) (λ s. HasMade s operation operands.now) result }
 {
     match SemiringName::numbered(semiring) {
         Some(name) => answer_named(alloc, name, side, operation, operands),

@@ -1,26 +1,26 @@
-//! What is made of one matrix, place by place, as a value.
+//! Operations on one kept matrix, place by place, as values.
 ghost use Rattle.std.specs.Prelude.{◌≡◌};
 ghost use Rattle.cb_interop.specs.KeptSelections.{region_of, function_of};
 
 use cb_selections::{Diagonal, Function, Region};
 
-/// What is made of one matrix, place by place.
+/// An operation on one kept matrix, place by place.
 #[derive(Clone, Copy)]
 pub enum Selection {
     /// The entries in a region.
     Select(Region),
-    /// What a function makes of the value of each entry.
+    /// A function of each entry in place of its value.
     Apply(Function),
     /// The diagonal, in one column.
     Diagonal,
-    /// The square matrix that has a column on its diagonal.
+    /// The square matrix with a column on its diagonal.
     DiagonalMatrix,
-    /// The part in some rows and columns, each from the first number of a pair up to the second, which is not in it.
+    /// The part in a range of rows and a range of columns, each from the first number up to, but not including, the second.
     Part((u32, u32), (u32, u32)),
 }
 
-/// The entries in the region of a number, by a place on its diagonal: 0 and 1 for the lower and the upper triangle, 2 and 3
-/// for the diagonal and all that is off it. No other number has a region.
+/// Returns the selection of the region of a number, by a place on its diagonal: 0 for the lower and 1 for the upper triangle,
+/// 2 for the diagonal, 3 for all places off it. No other number has a region.
 pub fn region_of(region: u32, row: u32, column: u32) -> Option<Selection>
     ensures { result ≡ region_of region row column }
 {
@@ -34,9 +34,9 @@ pub fn region_of(region: u32, row: u32, column: u32) -> Option<Selection>
     }
 }
 
-/// What the function of a number makes of each value: 0 for a constant, 1 for the sum with the number, 2 and 3 for the
-/// product of the number and the value and the other way round, 4 and 5 for the number of the row and of the column. No
-/// other number has a function.
+/// Returns the application of the function with the number `function`, which takes `number`: 0 for the constant, 1 for the
+/// sum with each value, 2 and 3 for the product from the left and from the right, 4 and 5 for the row and the column of the
+/// entry. No other number has a function.
 pub fn function_of(function: u32, number: u64) -> Option<Selection>
     ensures { result ≡ function_of function number }
 {

@@ -1,11 +1,11 @@
-//! Matrix Market texts.
+//! Reads and writes Matrix Market texts.
 ghost use Rattle.std.specs.Prelude.{◌≡◌, IfOk};
 ghost use Rattle.cb_market.specs.Faults.{first_fault};
 ghost use Rattle.cb_market.specs.Reads.{Reads};
 ghost use Rattle.cb_market.specs.Text.{text_of};
 ghost use Rattle.cb_semirings.specs.Names.{arithmetic_of, numbered};
-ghost use Rattle.cb_interop.specs.Refusals.{over, Over, first_over, read_faults};
-ghost use Rattle.cb_interop.specs.Answers.{IsAnswer, IsRead, IsFaultLine};
+ghost use Rattle.cb_interop.specs.Refusals.{first_over, read_faults};
+ghost use Rattle.cb_interop.specs.Answers.{IsAnswer, IsAnswerOver, IsRead, IsFaultLine};
 
 use crate::faults::Fault;
 use crate::incoming::matrix_block;
@@ -24,7 +24,7 @@ pub struct Text {
     pub bytes: &'static [u8],
 }
 
-/// The text of a block, given away.
+/// The text of a block. Its bytes belong to the caller.
 pub(crate) fn block_text<S: Semiring>(alloc: Global, block: &Block<S>) -> Result<Text, AllocError>
     ensures { IfOk result (λ t. t.bytes.now ≡ text_of S.arithmetic block.now) }
 {
@@ -35,7 +35,7 @@ pub(crate) fn block_text<S: Semiring>(alloc: Global, block: &Block<S>) -> Result
     })
 }
 
-/// The matrix that a text reads as. Where the text has a fault its line is put into `line`.
+/// The block of a text. If the text has a fault, `line` gets its line.
 pub(crate) fn read_block<S: Semiring>(
     alloc: Global,
     text: &[u8],
@@ -56,7 +56,7 @@ pub(crate) fn read_block<S: Semiring>(
     }
 }
 
-/// The lists of the matrix that a text reads as, over a semiring. Where the text has a fault its line is put into `line`.
+/// The lists of the matrix of a text, over a semiring.
 fn read_over<S: Semiring>(alloc: Global, text: &[u8], line: &mut u64) -> Result<Columns, Fault>
     ensures answer { IsAnswer (read_faults S.arithmetic text.now) (IsRead S.arithmetic text.now) result }
     ensures line { IsFaultLine (first_fault S.arithmetic text.now) result line.old line.new }
@@ -67,7 +67,7 @@ fn read_over<S: Semiring>(alloc: Global, text: &[u8], line: &mut u64) -> Result<
     }
 }
 
-/// The lists of the matrix that a text reads as, over the semiring of a name.
+/// The same, over the semiring of a name.
 fn read_named(
     alloc: Global,
     semiring: SemiringName,
@@ -80,15 +80,15 @@ fn read_named(
     over_semiring!(semiring, read_over::<_>(alloc, text, line))
 }
 
-/// The lists of the matrix that a text reads as, over the semiring of a number. Where the text has a fault its line is put
-/// into `line`.
+/// Reads a Matrix Market text over the semiring of a number, and returns the lists of its matrix. If the text has a fault,
+/// `line` gets its line, counted from 1.
 pub fn read_lists(
     alloc: Global,
     semiring: u32,
     text: &[u8],
     line: &mut u64,
 ) -> Result<Columns, Fault>
-    ensures answer { IsAnswer (over (numbered semiring) (λ s. read_faults s text.now)) (λ c. Over (numbered semiring) (λ s. IsRead s text.now c)) result }
+    ensures answer { IsAnswerOver semiring (λ s. read_faults s text.now) (λ s. IsRead s text.now) result }
     ensures line { IsFaultLine (first_over (numbered semiring) text.now) result line.old line.new }
 {
     match SemiringName::numbered(semiring) {

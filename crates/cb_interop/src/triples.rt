@@ -1,11 +1,10 @@
-//! The matrix of triples in any order, kept: those of one place are added up.
+//! Kept matrices from triples in any order. Values at one place are added up.
 ghost use Rattle.std.specs.Prelude.{◌≡◌, ◌↔◌, IsTrue, map, IfOk, IfErr};
-ghost use Rattle.cb_semirings.specs.Names.{arithmetic_of, numbered};
+ghost use Rattle.cb_semirings.specs.Names.{arithmetic_of};
 ghost use Rattle.cb_matrix.specs.Values.{collected};
-ghost use Rattle.cb_interop.specs.Refusals.{over};
-ghost use Rattle.cb_interop.specs.Answers.{IsAnswer, NoFault};
-ghost use Rattle.cb_interop.specs.KeptAnswers.{OverName};
-ghost use Rattle.cb_interop.specs.Triples.{entry_of, AreWithin, AreTripleValues, triple_faults, IsKeptTriples};
+ghost use Rattle.cb_interop.specs.Answers.{NoFault};
+ghost use Rattle.cb_interop.specs.KeptAnswers.{IsKeptAnswerOver};
+ghost use Rattle.cb_interop.specs.Triples.{entry_of, AreWithin, AreTripleValues, triple_faults, IsKeptTriples, IsTriplesAnswer};
 
 use crate::faults::Fault;
 use crate::incoming::matrix_block;
@@ -16,7 +15,7 @@ use cb_matrix::{Entry, Matrix, Shape};
 use cb_semirings::{Semiring, SemiringName, over_semiring};
 use std::alloc::{AllocError, Global};
 
-/// A row, a column, and a value that is given there.
+/// An entry: its row, its column and its value.
 #[repr(C)]
 #[derive(Clone, Copy)]
 pub struct Triple {
@@ -25,7 +24,7 @@ pub struct Triple {
     pub value: u64,
 }
 
-/// The entries of triples, in a list of their own.
+/// The entries of triples, as a new list.
 fn entries_of(alloc: Global, triples: &[Triple]) -> Result<Vec<Entry>, AllocError>
     ensures { IfOk result (λ v. v.items ≡ map entry_of triples.now) }
 {
@@ -50,15 +49,15 @@ fn are_within(shape: Shape, triples: &[Triple]) -> bool
         .all(|triple| triple.row < rows && triple.column < cols)
 }
 
-/// Whether all values are values of the semiring.
+/// Whether the values are values of the semiring.
 fn are_values<S: Semiring>(triples: &[Triple]) -> bool
     ensures { IsTrue result ↔ AreTripleValues S.arithmetic triples.now }
 {
     triples.iter().all(|triple| S::is_value(triple.value))
 }
 
-/// The shape of triples that are well formed, or else the first fault.
-#[tactic(auto, using(crate::proofs::KeptSearches::too_large_first, crate::proofs::KeptSearches::place_next, crate::proofs::KeptSearches::value_next, crate::proofs::KeptSearches::none_of_triples))]
+/// The shape of well-formed triples, or else the first fault.
+#[tactic(auto, using(crate::proofs::TripleFaults::too_large_first, crate::proofs::TripleFaults::place_next, crate::proofs::TripleFaults::value_next))]
 fn check<S: Semiring>(nrows: u32, ncols: u32, triples: &[Triple]) -> Result<Shape, Fault>
     ensures shape { IfOk result (λ d. d ≡ record { rows = nrows; cols = ncols }) }
     ensures within { IfOk result (λ d. AreWithin d triples.now) }
@@ -78,7 +77,7 @@ fn check<S: Semiring>(nrows: u32, ncols: u32, triples: &[Triple]) -> Result<Shap
     Ok(shape)
 }
 
-/// The block of triples that are well formed.
+/// The block of well-formed triples.
 fn block_of<S: Semiring>(
     alloc: Global,
     shape: Shape,
@@ -93,14 +92,14 @@ fn block_of<S: Semiring>(
     matrix_block(alloc, &matrix)
 }
 
-/// The matrix of triples, kept.
+/// The matrix of triples, kept over a semiring.
 fn triples_over<S: Keep>(
     alloc: Global,
     nrows: u32,
     ncols: u32,
     triples: &[Triple],
 ) -> Result<Kept, Fault>
-    ensures { IsAnswer (triple_faults S.arithmetic nrows ncols triples.now) (IsKeptTriples S.arithmetic S.name nrows ncols triples.now) result }
+    ensures { IsTriplesAnswer S.arithmetic S.name nrows ncols triples.now result }
 {
     let shape = check::<S>(nrows, ncols, triples)?;
     let mut block = block_of::<S>(alloc, shape, triples)?;
@@ -115,12 +114,13 @@ fn triples_named(
     ncols: u32,
     triples: &[Triple],
 ) -> Result<Kept, Fault>
-    ensures { IsAnswer (triple_faults (arithmetic_of semiring) nrows ncols triples.now) (IsKeptTriples (arithmetic_of semiring) semiring nrows ncols triples.now) result }
+    ensures { IsTriplesAnswer (arithmetic_of semiring) semiring nrows ncols triples.now result }
 {
     over_semiring!(semiring, triples_over::<_>(alloc, nrows, ncols, triples))
 }
 
-/// The same, over the semiring of a number.
+/// Keeps the matrix of triples in any order, over the semiring of a number. Values at one place are added up. Costs a sort
+/// of the triples, or one walk if they ascend by column and then by row.
 pub fn keep_triples(
     alloc: Global,
     semiring: u32,
@@ -128,7 +128,7 @@ pub fn keep_triples(
     ncols: u32,
     triples: &[Triple],
 ) -> Result<Kept, Fault>
-    ensures { IsAnswer (over (numbered semiring) (λ s. triple_faults s nrows ncols triples.now)) (λ k. OverName (numbered semiring) (λ n. IsKeptTriples (arithmetic_of n) n nrows ncols triples.now k)) result }
+    ensures { IsKeptAnswerOver semiring (λ s. triple_faults s nrows ncols triples.now) (λ s name. IsKeptTriples s name nrows ncols triples.now) result }
 {
     match SemiringName::numbered(semiring) {
         Some(name) => triples_named(alloc, name, nrows, ncols, triples),

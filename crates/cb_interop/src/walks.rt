@@ -1,4 +1,4 @@
-//! How far the vertices of a graph are from one of them.
+//! Levels and distances in a graph that is passed as lists.
 ghost use Rattle.std.specs.Prelude.{◌≡◌, ◌<◌, IfOk};
 ghost use Rattle.cb_semirings.specs.Tables.{min_plus, or_and};
 ghost use Rattle.cb_interop.specs.Lists.{AreLists};
@@ -13,7 +13,7 @@ use crate::outgoing::matrix_lists;
 use cb_semirings::{MinPlus, OrAnd};
 use std::alloc::{AllocError, Global};
 
-/// The lists of the level of each vertex from a source, of well-formed lists.
+/// The lists of the column of levels in a graph of well-formed lists.
 fn level_lists(alloc: Global, graph: &Columns, source: u32) -> Result<Columns, AllocError>
     requires lists { AreLists or_and graph.now }
     requires square { graph.now.nrows ≡ graph.now.ncols }
@@ -25,7 +25,7 @@ fn level_lists(alloc: Global, graph: &Columns, source: u32) -> Result<Columns, A
     matrix_lists(alloc, &column)
 }
 
-/// The lists of the level of each vertex from a source.
+/// Returns the lists of the column of levels from a source: breadth-first search in a graph over or-and.
 pub fn levels(alloc: Global, side: u32, graph: &Columns, source: u32) -> Result<Columns, Fault>
     ensures { IsAnswer (graph_faults or_and side graph.now source) (HasLevels graph.now source) result }
 {
@@ -33,7 +33,7 @@ pub fn levels(alloc: Global, side: u32, graph: &Columns, source: u32) -> Result<
     Ok(level_lists(alloc, graph, source)?)
 }
 
-/// The lists of the distance of each vertex from a source, of well-formed lists.
+/// The lists of the column of distances in a graph of well-formed lists.
 fn distance_lists(alloc: Global, graph: &Columns, source: u32) -> Result<Columns, AllocError>
     requires lists { AreLists min_plus graph.now }
     requires square { graph.now.nrows ≡ graph.now.ncols }
@@ -45,7 +45,7 @@ fn distance_lists(alloc: Global, graph: &Columns, source: u32) -> Result<Columns
     matrix_lists(alloc, &column)
 }
 
-/// The lists of the distance of each vertex from a source.
+/// Returns the lists of the column of distances from a source: shortest paths in a graph over min-plus.
 pub fn distances(alloc: Global, side: u32, graph: &Columns, source: u32) -> Result<Columns, Fault>
     ensures { IsAnswer (graph_faults min_plus side graph.now source) (HasDistances graph.now source) result }
 {

@@ -1,4 +1,4 @@
-//! Matrices as lists, and what is asked of all lists.
+//! Matrices as lists, and helpers for all tests.
 use cb_interop::{Columns, Fault, Kept, lists_of};
 use std::alloc::Global;
 
@@ -15,7 +15,7 @@ pub const NONE: Columns = Columns {
     values: &[],
 };
 
-/// A matrix of three columns of which the first and the last have entries: (0, 0, 1), (1, 0, 2), (1, 2, 3).
+/// A matrix of three columns, in doubly compressed columns: its entries are (0, 0, 1), (1, 0, 2), (1, 2, 3).
 pub const NAMED: Columns = Columns {
     nrows: 2,
     ncols: 3,
@@ -26,7 +26,7 @@ pub const NAMED: Columns = Columns {
     ..NONE
 };
 
-/// The same by all its columns, with starts of 32 bits, and a zero that is listed.
+/// The same in compressed columns, with starts of 32 bits, and with a zero that is listed.
 pub const ALL: Columns = Columns {
     nrows: 2,
     ncols: 3,
@@ -49,7 +49,7 @@ pub const TURNED: Columns = Columns {
     ..NAMED
 };
 
-/// Edges from 0 to 1 of length 7, from 0 to 2 of length 2, and from 2 to 1 of length 4. None leads to 3 or from there.
+/// A graph with edges from 0 to 1 of length 7, from 0 to 2 of length 2, and from 2 to 1 of length 4. Vertex 3 has no edges.
 pub const GRAPH: Columns = Columns {
     nrows: 4,
     ncols: 4,
@@ -59,13 +59,13 @@ pub const GRAPH: Columns = Columns {
     ..NAMED
 };
 
-/// The same with edges that are only there.
+/// The same graph over or-and.
 pub const ROADS: Columns = Columns {
     values: &[1, 1, 1],
     ..GRAPH
 };
 
-/// A matrix of sides of 2,147,483,647 with an entry in its last place.
+/// A matrix with sides of 2,147,483,647 and an entry in the last place.
 pub const FAR: Columns = Columns {
     nrows: 2_147_483_647,
     ncols: 2_147_483_647,
@@ -87,7 +87,7 @@ pub const VECTOR: Columns = Columns {
     ..NONE
 };
 
-/// Whether lists are the same, one by one.
+/// Whether two matrices have the same lists.
 pub fn are_same(lists: &Columns, wanted: &Columns) -> bool {
     (lists.nrows, lists.ncols) == (wanted.nrows, wanted.ncols)
         && (lists.kind, lists.wide) == (wanted.kind, wanted.wide)
@@ -98,7 +98,7 @@ pub fn are_same(lists: &Columns, wanted: &Columns) -> bool {
         && lists.values == wanted.values
 }
 
-/// Whether a call answers these lists.
+/// Whether a call returns these lists.
 pub fn is(answer: &Result<Columns, Fault>, wanted: &Columns) -> bool {
     match answer {
         Ok(lists) => are_same(lists, wanted),
@@ -114,7 +114,7 @@ pub fn keeps(alloc: Global, answer: &Result<Kept, Fault>, wanted: &Columns) -> b
     }
 }
 
-/// The code of an answer, 0 where there is no fault.
+/// The code of a call's result: 0 if there is no fault.
 pub fn code<T>(answer: &Result<T, Fault>) -> u32 {
     match answer {
         Ok(_made) => 0,

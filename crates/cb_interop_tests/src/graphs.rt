@@ -6,7 +6,7 @@ use cb_interop::{
 };
 use std::alloc::Global;
 
-/// The distances from the first vertex: a column over four vertices, of the first three.
+/// The distances from vertex 0: a column of four vertices, of which the first three have entries.
 const FAR: Columns = Columns {
     nrows: 4,
     ncols: 1,
@@ -17,13 +17,13 @@ const FAR: Columns = Columns {
     ..NONE
 };
 
-/// The levels from there.
+/// The levels from vertex 0.
 const NEAR: Columns = Columns {
     values: &[0, 1, 1],
     ..FAR
 };
 
-/// The levels from the last vertex.
+/// The levels from vertex 3.
 const ALONE: Columns = Columns {
     starts64: &[0, 1],
     rows: &[3],
@@ -31,7 +31,7 @@ const ALONE: Columns = Columns {
     ..FAR
 };
 
-/// The least parents from the first vertex.
+/// The least parents from vertex 0.
 const PARENTS: Columns = Columns {
     starts64: &[0, 2],
     rows: &[1, 2],
@@ -63,17 +63,17 @@ fn has_levels(alloc: Global, graph: &Kept) -> bool {
     keeps(alloc, &kept_levels(alloc, graph, 0), &NEAR)
 }
 
-/// Whether its parents are.
+/// Whether the parents of a kept graph over or-and are right.
 fn has_parents(alloc: Global, graph: &Kept) -> bool {
     keeps(alloc, &kept_parents(alloc, graph, 0), &PARENTS)
 }
 
-/// Whether its components are.
+/// Whether its components are right.
 fn has_components(alloc: Global, graph: &Kept) -> bool {
     keeps(alloc, &kept_components(alloc, graph), &LEAST)
 }
 
-/// Whether all that is asked of it is.
+/// Whether its levels, parents and components are right, and its number of triangles.
 fn are_kept_searches(alloc: Global, graph: &Kept) -> bool {
     has_levels(alloc, graph)
         && has_parents(alloc, graph)
@@ -81,7 +81,7 @@ fn are_kept_searches(alloc: Global, graph: &Kept) -> bool {
         && matches!(kept_triangles(alloc, graph), Ok(1))
 }
 
-/// The same of what a call keeps.
+/// The same of a graph that a call keeps.
 fn are_searches_of(alloc: Global, roads: &Result<Kept, Fault>) -> bool {
     match roads {
         Ok(graph) => are_kept_searches(alloc, graph),
@@ -89,7 +89,7 @@ fn are_searches_of(alloc: Global, roads: &Result<Kept, Fault>) -> bool {
     }
 }
 
-/// Whether the distances in what a call keeps are right.
+/// Whether the distances in a graph that a call keeps are right.
 fn are_distances_of(alloc: Global, lengths: &Result<Kept, Fault>) -> bool {
     match lengths {
         Ok(graph) => keeps(alloc, &kept_distances(alloc, graph, 0), &FAR),
@@ -109,7 +109,7 @@ fn distances_in_a_kept_matrix(rt: HostRuntime) {
     assert!(rt; are_distances_of(rt.alloc(), &lengths));
 }
 
-/// The distances from the third vertex, from the first one and from the third one again.
+/// The distances from the vertices 2, 0 and 2 again.
 const SEVERAL: Columns = Columns {
     nrows: 4,
     ncols: 3,
@@ -120,13 +120,13 @@ const SEVERAL: Columns = Columns {
     ..NONE
 };
 
-/// The levels from there.
+/// The levels from the same vertices.
 const STEPS: Columns = Columns {
     values: &[1, 0, 0, 1, 1, 1, 0],
     ..SEVERAL
 };
 
-/// The levels from several sources, or else the distances.
+/// The levels from several sources, or the distances.
 fn search(alloc: Global, is_levels: bool, graph: &Kept, sources: &[u32]) -> Result<Kept, Fault> {
     if is_levels {
         kept_levels_from(alloc, graph, sources)
@@ -135,7 +135,7 @@ fn search(alloc: Global, is_levels: bool, graph: &Kept, sources: &[u32]) -> Resu
     }
 }
 
-/// The same in lists that are kept over the semiring of a number.
+/// The same in a graph of lists that are kept over the semiring of a number.
 fn from(
     alloc: Global,
     is_levels: bool,
@@ -179,8 +179,8 @@ fn searches_from_several_sources(rt: HostRuntime) {
     assert!(rt; are_none(rt.alloc(), false, 1));
 }
 
-/// Whether levels or distances are asked for, the number of a semiring, a graph, sources, and the code that they are
-/// refused by: another semiring, a matrix that isn't square, and a source that is no vertex.
+/// Whether the call is for levels or distances, the number of a semiring, a graph, sources, and the expected code: another
+/// semiring, a matrix that isn't square, a source that isn't a vertex.
 static REFUSED: [(bool, u32, Columns, &'static [u32], u32); 6] = [
     (true, 1, ROADS, &[4], 16),
     (false, 2, ROADS, &[4], 16),
@@ -190,7 +190,7 @@ static REFUSED: [(bool, u32, Columns, &'static [u32], u32); 6] = [
     (false, 1, GRAPH, &[4, 0], 12),
 ];
 
-/// Whether a row's search is refused by the row's code.
+/// Whether a row's search returns the row's code.
 fn is_refused(alloc: Global, row: &(bool, u32, Columns, &'static [u32], u32)) -> bool {
     let (is_levels, semiring, lists, sources, wanted) = row;
     code(&from(alloc, *is_levels, *semiring, lists, sources)) == *wanted

@@ -1,5 +1,5 @@
-//! Tests of `cb_interop`, through its public calls: worked examples over lists that are lent and over matrices that are
-//! kept, each fault by its code, and texts.
+//! Tests of `cb_interop`, through its public calls: worked examples over lists and over kept matrices, each fault by its code,
+//! and texts.
 #![tactic(auto)]
 
 #[cfg(test)]

@@ -1,14 +1,14 @@
-//! Each operation, of lists and of the same matrices kept.
+//! Each operation, on lists and on the same matrices kept.
 use crate::examples::{ALL, FAR, GRAPH, NAMED, NONE, TURNED, VECTOR, are_same, keeps};
 use cb_interop::{Columns, Fault, Kept, answer, keep_lists, operate, summary_of, value_at};
 use cb_matrix::Test;
 use cb_operations::Operation;
 use std::alloc::Global;
 
-/// The number of a semiring, an operation, its operands, and what it makes of them.
+/// The number of a semiring, an operation, its operands, and the expected result.
 type Row = (u32, Operation, &'static [Columns], Columns);
 
-/// The matrices of both kinds of lists, over plus-times; and infinity, which min-plus doesn't store.
+/// Matrices in both kinds of lists, over plus-times; and infinity, which min-plus doesn't store.
 static ROWS: [Row; 15] = [
     (0, Operation::Transpose, &[NAMED], TURNED),
     (0, Operation::Transpose, &[ALL], TURNED),
@@ -159,7 +159,7 @@ static ROWS: [Row; 15] = [
     ),
 ];
 
-/// Whether a row's operation makes what it should of lists, with a side of a grid.
+/// Whether a row's operation on lists has the expected result, with a side of a grid.
 fn is_made(alloc: Global, side: u32, row: &Row) -> bool {
     let (semiring, operation, operands, wanted) = row;
     if operands.len() != operation.operand_count() {
@@ -171,7 +171,7 @@ fn is_made(alloc: Global, side: u32, row: &Row) -> bool {
     }
 }
 
-/// Whether each row's does.
+/// Whether each row's operation has.
 fn are_made_of_lists(alloc: Global, side: u32) -> bool {
     ROWS.iter().all(|row| is_made(alloc, side, row))
 }
@@ -182,7 +182,7 @@ fn operations_on_lists(rt: HostRuntime) {
     assert!(rt; are_made_of_lists(rt.alloc(), 6));
 }
 
-/// An operation, and what it makes of one matrix, kept over plus-times, that stands for each of its operands.
+/// An operation, and its expected result on one matrix, kept over plus-times, as each of its operands.
 static KEPT_ROWS: [(Operation, Columns); 8] = [
     (
         Operation::Transpose,
@@ -260,7 +260,7 @@ static KEPT_ROWS: [(Operation, Columns); 8] = [
     ),
 ];
 
-/// What an operation makes of a kept matrix, which is each of its operands.
+/// The result of an operation on a kept matrix as each of its operands.
 fn made(alloc: Global, operation: Operation, kept: &Kept) -> Result<Kept, Fault> {
     match operation.operand_count() {
         1 => operate(alloc, Some(operation), &[kept]),
@@ -270,20 +270,20 @@ fn made(alloc: Global, operation: Operation, kept: &Kept) -> Result<Kept, Fault>
     }
 }
 
-/// Whether a row's operation makes what it should of a kept matrix.
+/// Whether a row's operation on a kept matrix has the expected result.
 fn is_made_of_kept(alloc: Global, kept: &Kept, row: &(Operation, Columns)) -> bool {
     let (operation, wanted) = row;
     keeps(alloc, &made(alloc, *operation, kept), wanted)
 }
 
-/// Whether each row's does, of the graph.
+/// Whether each row's operation has, on the graph.
 fn are_made_of_kept(alloc: Global, graph: &Kept) -> bool {
     KEPT_ROWS
         .iter()
         .all(|row| is_made_of_kept(alloc, graph, row))
 }
 
-/// The same of what a call keeps.
+/// The same of a matrix that a call keeps.
 fn are_made(alloc: Global, graph: &Result<Kept, Fault>) -> bool {
     match graph {
         Ok(kept) => are_made_of_kept(alloc, kept),
@@ -297,7 +297,7 @@ fn operations_on_kept_matrices(rt: HostRuntime) {
     assert!(rt; are_made(rt.alloc(), &graph));
 }
 
-/// Whether a kept matrix is the first one over min-plus, by what is known of it at once and by two of its places.
+/// Whether a kept matrix is the first one over min-plus, by its summary and by the values at two places.
 fn is_named(kept: &Kept) -> bool {
     let summary = summary_of(kept);
     (summary.nrows, summary.ncols) == (2, 3)
@@ -306,7 +306,7 @@ fn is_named(kept: &Kept) -> bool {
         && value_at(kept, 0, 2) == u64::MAX
 }
 
-/// The same of what a call keeps.
+/// The same of a matrix that a call keeps.
 fn is_kept_named(answer: &Result<Kept, Fault>) -> bool {
     match answer {
         Ok(kept) => is_named(kept),

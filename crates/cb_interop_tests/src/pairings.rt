@@ -1,5 +1,5 @@
-//! What is made of two kept matrices: Kronecker products, a matrix in place of a part of another, and the entries where a mask
-//! has none; and what of it is refused.
+//! Operations on two kept matrices: Kronecker products, a matrix in place of a part of another, and the entries where a mask
+//! has none; and their faults.
 use crate::examples::{FAR, GRAPH, NAMED, NONE, TURNED, code, keeps};
 use cb_interop::{Columns, Fault, Kept, Pairing, keep_lists, kept_pair};
 use std::alloc::Global;
@@ -22,7 +22,7 @@ const BLANK: Columns = Columns {
     ..NONE
 };
 
-/// Two matrices over plus-times, what is made of them, and the matrix that is made.
+/// Two matrices over plus-times, an operation, and the expected result.
 static PAIRINGS: [(Columns, Pairing, Columns, Columns); 9] = [
     (
         NAMED,
@@ -101,7 +101,7 @@ static PAIRINGS: [(Columns, Pairing, Columns, Columns); 9] = [
     ),
 ];
 
-/// What a pairing makes of what two calls keep.
+/// The result of an operation on two matrices that calls keep.
 fn paired(
     alloc: Global,
     left: &Result<Kept, Fault>,
@@ -117,7 +117,7 @@ fn paired(
     kept_pair(alloc, pairing, a, b)
 }
 
-/// What a pairing makes of lists over plus-times, and of others over the semiring of a number.
+/// The result of an operation on lists kept over plus-times, and others kept over the semiring of a number.
 fn made(
     alloc: Global,
     left: &Columns,
@@ -130,7 +130,7 @@ fn made(
     paired(alloc, &a, pairing, &b)
 }
 
-/// Whether a row's pairing makes what the row says.
+/// Whether a row's operation has the expected result.
 fn is_pairing(alloc: Global, row: &(Columns, Pairing, Columns, Columns)) -> bool {
     let (left, pairing, right, wanted) = row;
     keeps(alloc, &made(alloc, left, *pairing, 0, right), wanted)
@@ -143,8 +143,8 @@ fn each_pairing_of_two_matrices(rt: HostRuntime) {
     }
 }
 
-/// A matrix over plus-times, what is asked of it and of another over the semiring of a number, and the code that it is
-/// refused by: other semirings come first, and then shapes that don't suit.
+/// A matrix over plus-times, an operation, another matrix over the semiring of a number, and the expected code: different
+/// semirings come first, and then shapes that don't suit.
 static REFUSED: [(Columns, Pairing, u32, Columns, u32); 8] = [
     (FAR, Pairing::Kronecker, 1, FAR, 16),
     (FAR, Pairing::Kronecker, 0, PAIR, 5),
@@ -156,7 +156,7 @@ static REFUSED: [(Columns, Pairing, u32, Columns, u32); 8] = [
     (NAMED, Pairing::Exclude, 0, TURNED, 10),
 ];
 
-/// Whether a row's pairing is refused by the row's code.
+/// Whether a row's operation returns the row's code.
 fn is_refused(alloc: Global, row: &(Columns, Pairing, u32, Columns, u32)) -> bool {
     let (left, pairing, semiring, right, wanted) = row;
     code(&made(alloc, left, *pairing, *semiring, right)) == *wanted

@@ -1,11 +1,11 @@
-//! Each fault by its code, and which of two is the first.
+//! Each fault by its code, and the order of the faults.
 use crate::examples::{ALL, GRAPH, NAMED, NONE, ROADS, TURNED, code};
 use cb_interop::{Columns, Triple, answer, distances, keep_lists, keep_triples, levels, prune_of};
 use cb_operations::Operation;
 use std::alloc::Global;
 
-/// Lists that are no matrix of 2 by 3, or over none of the semiring of a number, and the code that they are refused by: of
-/// no known form, too large, of lengths that disagree, out of order, outside the shape, and of a value that is none.
+/// Lists that aren't a matrix of 2 by 3 over the semiring of a number, and the expected code: an unknown form, too large,
+/// lengths that don't agree, out of order, outside the shape, a number that isn't a value.
 static REFUSED_LISTS: [(u32, Columns, u32); 14] = [
     (0, Columns { kind: 2, ..NAMED }, 4),
     (0, Columns { wide: 2, ..NAMED }, 4),
@@ -100,7 +100,7 @@ static REFUSED_LISTS: [(u32, Columns, u32); 14] = [
     (2, NAMED, 9),
 ];
 
-/// Whether lists are refused by a code, lent and to be kept.
+/// Whether calls on lists, and calls that keep them, return a code.
 fn are_refused(alloc: Global, row: &(u32, Columns, u32)) -> bool {
     let (semiring, lists, wanted) = row;
     let kept = code(&keep_lists(alloc, *semiring, lists));
@@ -115,8 +115,8 @@ fn each_fault_of_lists_has_its_code(rt: HostRuntime) {
     }
 }
 
-/// The numbers of a semiring, a side and a test, and the code by which a prune of lists of no form is refused: the first
-/// fault is answered.
+/// The numbers of a semiring, a side and a test, and the expected code of a prune of lists of an unknown form: that of the
+/// first fault.
 static REFUSED_NUMBERS: [(u32, u32, u32, u32); 5] = [
     (14, 0, 3, 1),
     (0, 0, 3, 2),
@@ -125,7 +125,7 @@ static REFUSED_NUMBERS: [(u32, u32, u32, u32); 5] = [
     (0, 1, 2, 4),
 ];
 
-/// Whether a prune is.
+/// Whether a prune returns the row's code.
 fn is_refused_prune(alloc: Global, row: &(u32, u32, u32, u32)) -> bool {
     let (semiring, side, test, wanted) = *row;
     let lists = Columns { kind: 2, ..NAMED };
@@ -147,7 +147,7 @@ fn code_of_two(alloc: Global, operation: Operation, a: &Columns, b: &Columns) ->
     code(&answer(alloc, 0, 1, Some(operation), &[*a, *b]))
 }
 
-/// Two matrices whose shapes don't agree for an operation, and the code: that of the second one's form comes first.
+/// An operation on two matrices whose shapes don't agree, and the expected code: a fault of the second one's form comes first.
 static REFUSED_SHAPES: [(Operation, Columns, Columns, u32); 4] = [
     (Operation::Multiply, NAMED, NAMED, 10),
     (Operation::MultiplyVector, NAMED, TURNED, 10),
@@ -162,8 +162,8 @@ fn shapes_come_after_lists(rt: HostRuntime) {
     }
 }
 
-/// The side of a grid, the kind and the rows of a graph, and a source, and the code that they are refused by: no side, a
-/// matrix of no form, one that isn't square, and a source that is no vertex.
+/// The side of a grid, the kind and the rows of a graph, a source, and the expected code: a wrong side, a matrix of an
+/// unknown form, one that isn't square, a source that isn't a vertex.
 static REFUSED_GRAPHS: [(u32, u32, u32, u32, u32); 5] = [
     (0, 2, 4, 0, 2),
     (7, 2, 4, 0, 2),
@@ -172,7 +172,7 @@ static REFUSED_GRAPHS: [(u32, u32, u32, u32, u32); 5] = [
     (3, 0, 4, 4, 12),
 ];
 
-/// Whether a graph is, for its levels and for its distances.
+/// Whether levels and distances return the row's code.
 fn is_refused_graph(alloc: Global, row: &(u32, u32, u32, u32, u32)) -> bool {
     let (side, kind, nrows, source, wanted) = *row;
     let graph = Columns {
@@ -192,7 +192,7 @@ fn each_fault_of_a_graph_has_its_code(rt: HostRuntime) {
     assert!(rt; code(&levels(rt.alloc(), 1, &GRAPH, 0)) == 9);
 }
 
-/// The code of triples of one entry of value 5, at a row and a column, of a matrix of so many rows.
+/// The code of one triple of value 5, at a row and a column of a matrix with some number of rows.
 fn triples_code(alloc: Global, semiring: u32, nrows: u32, row: u32) -> u32 {
     let triples = [Triple {
         row,

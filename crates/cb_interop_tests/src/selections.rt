@@ -1,5 +1,5 @@
-//! What is made of kept matrices place by place: entries in a region, values replaced, diagonals, parts, rows and columns by
-//! their numbers, and the sum of all values; and what of it is refused.
+//! Operations on one kept matrix: entries in a region, values replaced, diagonals, parts, rows and columns by their numbers,
+//! and the sum of all values; and their faults.
 use crate::examples::{FAR, GRAPH, NAMED, NONE, VECTOR, code, keeps};
 use cb_interop::{
     Columns, Fault, Kept, Selection, function_of, keep_lists, kept_extract, kept_selection,
@@ -7,11 +7,11 @@ use cb_interop::{
 };
 use std::alloc::Global;
 
-/// The greatest number of a row or column, which no matrix has.
+/// The number of a row or column that no matrix has.
 const LIMIT: u32 = 2_147_483_647;
 
-/// The number of a region, a place on its diagonal, and the entries of the graph that are in it: those from 0 to 1, from 2 to
-/// 1 and from 0 to 2.
+/// The number of a region, a place on its diagonal, and which entries of the graph are in it: those from 0 to 1, from 2 to 1
+/// and from 0 to 2.
 static REGIONS: [(u32, u32, u32, Columns); 7] = [
     (
         0,
@@ -74,8 +74,8 @@ static REGIONS: [(u32, u32, u32, Columns); 7] = [
     ),
 ];
 
-/// The number of a semiring, that of a function, the number that it takes, and what it makes of the graph. Entries that
-/// become zero are not stored, in plus-times those whose sum is 2^64.
+/// The number of a semiring, that of a function, the number that it takes, and the expected result on the graph. Entries that
+/// become zero aren't stored: in plus-times those whose sum is 2^64.
 static FUNCTIONS: [(u32, u32, u64, Columns); 9] = [
     (
         0,
@@ -157,7 +157,7 @@ static FUNCTIONS: [(u32, u32, u64, Columns); 9] = [
     ),
 ];
 
-/// A matrix, what is made of it over plus-times, and the matrix that is made.
+/// A matrix over plus-times, a selection, and the expected result.
 static SELECTIONS: [(Columns, Selection, Columns); 6] = [
     (
         NAMED,
@@ -218,7 +218,7 @@ static SELECTIONS: [(Columns, Selection, Columns); 6] = [
     (NONE, Selection::Part((0, 0), (0, 0)), NONE),
 ];
 
-/// What a selection makes of lists that are kept over the semiring of a number.
+/// The result of a selection from lists that are kept over the semiring of a number.
 fn made(
     alloc: Global,
     semiring: u32,
@@ -231,7 +231,7 @@ fn made(
     }
 }
 
-/// Whether the entries of the graph that are in a row's region are those of the row.
+/// Whether the entries of the graph in a row's region are those of the row.
 fn is_region(alloc: Global, row: &(u32, u32, u32, Columns)) -> bool {
     let (region, i, j, wanted) = row;
     let answer = made(alloc, 0, &GRAPH, region_of(*region, *i, *j));
@@ -245,7 +245,7 @@ fn entries_in_a_region(rt: HostRuntime) {
     }
 }
 
-/// Whether a row's function makes of the graph what the row says.
+/// Whether a row's function has the expected result.
 fn is_function(alloc: Global, row: &(u32, u32, u64, Columns)) -> bool {
     let (semiring, function, number, wanted) = row;
     let answer = made(alloc, *semiring, &GRAPH, function_of(*function, *number));
@@ -259,7 +259,7 @@ fn values_replaced(rt: HostRuntime) {
     }
 }
 
-/// Whether a row's selection makes what the row says.
+/// Whether a row's selection has the expected result.
 fn is_selection(alloc: Global, row: &(Columns, Selection, Columns)) -> bool {
     let (lists, selection, wanted) = row;
     let answer = made(alloc, 0, lists, Some(*selection));
@@ -273,8 +273,8 @@ fn diagonals_and_parts(rt: HostRuntime) {
     }
 }
 
-/// The number of a semiring, a matrix, what is asked of it, and the code that it is refused by: a diagonal of more than one
-/// column, parts of rows or columns that are not there, and nothing that is asked.
+/// The number of a semiring, a matrix, a selection, and the expected code: a diagonal of more than one column, parts outside
+/// the rows or columns, an unknown selection.
 static REFUSED: [(u32, Columns, Option<Selection>, u32); 4] = [
     (0, NAMED, Some(Selection::DiagonalMatrix), 10),
     (0, NAMED, Some(Selection::Part((0, 3), (0, 3))), 8),
@@ -282,7 +282,7 @@ static REFUSED: [(u32, Columns, Option<Selection>, u32); 4] = [
     (0, NAMED, None, 3),
 ];
 
-/// Whether a row's selection is refused by the row's code.
+/// Whether a row's selection returns the row's code.
 fn is_refused(alloc: Global, row: &(u32, Columns, Option<Selection>, u32)) -> bool {
     let (semiring, lists, selection, wanted) = row;
     code(&made(alloc, *semiring, lists, *selection)) == *wanted
@@ -309,7 +309,7 @@ fn each_fault_of_a_selection_has_its_code(rt: HostRuntime) {
     assert!(rt; function_code(rt.alloc(), 3, 1) == 0);
 }
 
-/// The rows and columns of a matrix, over plus-times, with some numbers.
+/// The rows and columns of a matrix over plus-times, by their numbers.
 fn extracted(alloc: Global, lists: &Columns, rows: &[u32], cols: &[u32]) -> Result<Kept, Fault> {
     match keep_lists(alloc, 0, lists) {
         Ok(kept) => kept_extract(alloc, &kept, rows, cols),
@@ -317,7 +317,7 @@ fn extracted(alloc: Global, lists: &Columns, rows: &[u32], cols: &[u32]) -> Resu
     }
 }
 
-/// A matrix, the numbers of rows and of columns, and the matrix of these.
+/// A matrix, the numbers of rows and of columns, and the expected result.
 static EXTRACTS: [(Columns, &'static [u32], &'static [u32], Columns); 3] = [
     (
         GRAPH,
@@ -357,7 +357,7 @@ static EXTRACTS: [(Columns, &'static [u32], &'static [u32], Columns); 3] = [
     ),
 ];
 
-/// Whether a row's numbers make what the row says.
+/// Whether a row's numbers give the expected result.
 fn is_extract(alloc: Global, row: &(Columns, &'static [u32], &'static [u32], Columns)) -> bool {
     let (lists, rows, cols, wanted) = row;
     let answer = extracted(alloc, lists, rows, cols);
@@ -373,7 +373,7 @@ fn rows_and_columns_by_their_numbers(rt: HostRuntime) {
     assert!(rt; code(&extracted(rt.alloc(), &NAMED, &[1], &[3])) == 8);
 }
 
-/// The sum of all values of lists that are kept over the semiring of a number, or 1 where they can't be.
+/// The sum of all values of lists that are kept over the semiring of a number, or 1 if they can't be kept.
 fn total(alloc: Global, semiring: u32, lists: &Columns) -> u64 {
     match keep_lists(alloc, semiring, lists) {
         Ok(kept) => kept_total(&kept),

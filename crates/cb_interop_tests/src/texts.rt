@@ -27,7 +27,7 @@ fn is_text(written: &Result<Text, Fault>) -> bool {
     }
 }
 
-/// Whether the text reads as the lists, leaves the number of a line as it was, and is their text.
+/// Whether the text is read as the lists, leaves the number of a line as it was, and is the text of the lists.
 fn is_read(alloc: Global) -> bool {
     let mut line = 9;
     let lists = read_lists(alloc, 0, TEXT, &mut line);
@@ -54,7 +54,7 @@ fn a_text_is_kept_and_written(rt: HostRuntime) {
     assert!(rt; line == 9 && is_kept(rt.alloc(), &kept));
 }
 
-/// The code of a text with a column too many, over the semiring of a number, and the line that is named.
+/// The code of a text with a column too many, over the semiring of a number, and the line of its fault.
 fn refused(alloc: Global, semiring: u32) -> (u32, u64) {
     let text = b"%%MatrixMarket matrix coordinate integer general\n2 3 1\n1 4 5\n";
     let mut line = 0;

@@ -26,37 +26,36 @@ semiring         values            sum             product                zero
 In each of them a product with zero is zero. For the last ten the table gives the product of two values other
 than zero.
 
-A place that a matrix doesn't store has the semiring's zero, in every semiring. An entry that is stored with
-another value is an entry, for example 0 in ``min-plus``. Duplicate entries are added up as integers, as
-everywhere in scipy, whatever the semiring.
+A place that a matrix doesn't store has the semiring's zero. A stored value other than that zero is an entry,
+for example 0 in ``min-plus``. Duplicate entries are added up as integers, as everywhere in scipy, whatever the
+semiring.
 
-**int64.** Arithmetic of ``plus-times``, ``plus-pair``, ``plus-first`` and ``plus-second`` is modulo 2**64. So
-results of int64 are right modulo 2**64, including their signs: they wrap as numpy's do. The other semirings
-compare values as whole numbers from 0 on and refuse negative ones. If a result of ``min-plus`` or ``max-plus``
-is above 2**63 - 1, they raise OverflowError.
+**int64.** Arithmetic in ``plus-times``, ``plus-pair``, ``plus-first`` and ``plus-second`` is modulo 2**64, so
+int64 results wrap as numpy's do, and their signs are right. The other semirings compare values as unsigned
+numbers and refuse negative ones. ``min-plus`` and ``max-plus`` raise OverflowError if an int64 result is above
+2**63 - 1.
 
 **Formats.** The arrays of a csc matrix are passed as they are. The kernel reads and checks them in place,
 copies their entries once into a block of its own, and writes nothing to them. Two things are converted first:
 row numbers of 64 bits are copied to 32 bits, and unsorted entries are sorted in a copy. A csr matrix is passed
 as the csc of its transpose: the product of two is the transpose of the product of their transposes. The kernel
-itself transposes a csc matrix that meets a csr one, a csr graph, and a csr matrix whose text is wanted. A coo
-matrix is sorted in a copy, and costs what its entries cost, whatever its shape; csc and csr need an array as
-long as one of their sides.
+itself transposes a csc matrix that meets a csr one, a csr graph, and a csr matrix that is written as a text. A
+coo matrix is sorted in a copy, and costs what its entries cost, whatever its shape; csc and csr need an array
+as long as one of their sides.
 
-**Matrix.** A `Matrix` is a matrix of the library's own, over one semiring. It is built once from a matrix of
-scipy or numpy, never changes, and is used without a copy. All functions accept a `Matrix` as their first
-matrix, too. They then work over its semiring and return a `Matrix`; the other operands may be matrices of
-scipy.
+**Matrix.** A `Matrix` is kept by the library, over one semiring. It is built once from a matrix of scipy or
+numpy, never changes, and is used without a copy. All functions also accept a `Matrix` as their first matrix.
+They then work over its semiring and return a `Matrix`; the other operands may be matrices of scipy.
 
 **grid.** The side of a grid, 1 to 6. It is checked and has no other effect: each call works on whole matrices,
 on the caller's thread.
 
-**Errors.** A refused argument raises a `CbgridValueError` (a ValueError), and want of memory a
+**Errors.** An invalid argument raises a `CbgridValueError` (a ValueError), and failure to allocate memory a
 `CbgridMemoryError` (a MemoryError). Both are `CbgridError` and have a code. A wrong type or dtype raises
 TypeError.
 
 **Threads.** Calls release the interpreter's lock. Any number of them may run at once, also on the same
-matrices, as long as nobody writes to these meanwhile.
+matrices, as long as no thread writes to those matrices.
 """
 
 from __future__ import annotations
@@ -117,18 +116,18 @@ Vector = TypeVar("Vector")
 _TESTS = {"below": 0, "above": 1, "equal": 2}
 _SIDES = ("rows", "columns")
 _MIN_PLUS, _OR_AND = 1, 2
-# Where negative values are right, modulo 2**64.
+# Semirings that allow negative values, modulo 2**64.
 _SIGNED = frozenset(SEMIRINGS[name] for name in ("plus-times", "plus-pair", "plus-first", "plus-second"))
-# Where they are refused here: in or-and the kernel refuses them itself.
+# Semirings in which they are refused here: in or-and the kernel refuses them itself.
 _UNSIGNED = tuple(number not in _SIGNED and number != _OR_AND for number in range(len(SEMIRINGS)))
-# Whose products are sums that stop: answers may be above what int64 has.
+# Semirings whose products are saturating sums: a result may not fit int64.
 _SUMS = (_MIN_PLUS, SEMIRINGS["max-plus"])
-# Whose zero is 2**64 - 1.
+# Semirings whose zero is 2**64 - 1.
 _INFINITE = frozenset(number for name, number in SEMIRINGS.items() if name.startswith("min-"))
 
 
 def _turned_name(name: str) -> str:
-    """The semiring in which the product of the transposes, the other way round, is the transpose of the product."""
+    """The semiring in which the product of the transposes, in reverse order, is the transpose of the product."""
     half = {"first": "second", "second": "first"}
     head, _, tail = name.partition("-")
     return f"{head}-{half.get(tail, tail)}"
@@ -142,7 +141,7 @@ def _semiring(name: str | None) -> int:
 
 
 def _of_kept(matrix: Matrix, semiring: str | None, grid: int = 1) -> Sparse:
-    """A matrix that is kept, where the semiring of a call, if it is given, is its own."""
+    """A kept matrix, unless a call names another semiring than its own."""
     _grid(grid)
     if semiring is not None and number_of(semiring) != number_of(matrix.semiring):
         raise error(MIXED)
@@ -173,13 +172,13 @@ def _sources(vertices: Any) -> np.ndarray:
 
 
 def _lent(operands: tuple, **how: int) -> list:
-    """Lends operands, the first one once where it stands for others too."""
+    """Passes operands as lists. An operand that is also the first one is converted only once."""
     first = _lists.lend(operands[0], **how)
     return [first, *[first if it is operands[0] else _lists.lend(it, **how) for it in operands[1:]]]
 
 
 def _call(call: Any, before: tuple, operands: tuple, after: tuple, out: Any, **how: int) -> None:
-    """Does a call. Operands are put in order in a copy only where the kernel finds that one of them isn't."""
+    """Makes a call. Only if the kernel finds that an operand isn't sorted, sorts copies and calls again."""
     code = call(*before, *_lent(operands, **how), *after, out)
     if code == ORDER:
         code = call(*before, *_lent(operands, in_order=True, **how), *after, out)
@@ -188,14 +187,14 @@ def _call(call: Any, before: tuple, operands: tuple, after: tuple, out: Any, **h
 
 
 def _run(call: Any, before: tuple, operands: tuple, after: tuple = (), **how: int) -> _lists.Answer:
-    """Does a call that answers a matrix."""
+    """Makes a call whose result is a matrix."""
     answer = _lists.Answer()
     _call(call, before, operands, after, answer.columns, **how)
     return answer
 
 
 def _placed(call: Any, semiring: int, grid: int, operands: tuple, after: tuple = (), unsigned: bool = False) -> Any:
-    """An operation that is done on transposes where its first operand is a csr matrix."""
+    """Computes an operation, on the transposes if the first operand is a csr matrix."""
     like = operands[0]
     turned = like.format == "csr"
     unsigned = unsigned or _UNSIGNED[semiring]
@@ -230,8 +229,8 @@ def multiply(
     grid : int
         The side of a grid, 1 to 6. It is checked and has no other effect.
     complement : bool
-        Whether the mask keeps only the entries at places where it has none. Only if `a` is a `Matrix`. The whole
-        product is made first.
+        Whether to keep only the entries at places where the mask has none. Only if `a` is a `Matrix`. The whole
+        product is computed first.
 
     Returns
     -------
@@ -243,9 +242,9 @@ def multiply(
     CbgridValueError
         The shapes don't agree, a value isn't one of the semiring, or another argument isn't as described above.
     CbgridMemoryError
-        Memory was refused.
+        Out of memory.
     OverflowError
-        An int64 answer of ``min-plus`` or ``max-plus`` is above 2**63 - 1.
+        An int64 result of ``min-plus`` or ``max-plus`` is above 2**63 - 1.
 
     Examples
     --------
@@ -283,15 +282,16 @@ def spmv(a: Any, x: Vector, semiring: str | None = None, grid: int = 1) -> Vecto
     ----------
     a : csc, csr or coo matrix or array of scipy.sparse, of int64 or uint64
     x : numpy array of one dimension, or sparse matrix of one column, of the dtype of `a`
-        With as many elements as `a` has columns. A sparse `x` costs the entries that its own ones meet. In the
-        semirings whose zero is 2**64 - 1, an array has this value where it has no entry, so it must be of uint64.
+        With as many elements as `a` has columns. A sparse `x` costs the entries of `a` that its own entries meet. In
+        the semirings whose zero is 2**64 - 1, an array has this value at each place without an entry, so its dtype
+        must be uint64.
     semiring, grid
         As in `multiply`.
 
     Returns
     -------
     numpy array or sparse matrix of one column
-        The same as `x`.
+        Of the kind of `x`.
 
     Raises
     ------
@@ -377,7 +377,7 @@ def reduce(a: Sparse, by: str = "rows", semiring: str | None = None, grid: int =
     calls = library.cbgrid_row_sums, library.cbgrid_column_sums
     if by not in _SIDES:
         raise ValueError(f"by: one of {_SIDES} is wanted, not {by!r}")
-    # of a csr matrix the transpose is lent, whose columns are its rows
+    # a csr matrix is passed as its transpose, whose columns are its rows
     side = _SIDES.index(by) ^ (a.format == "csr")
     return _placed(calls[side], _semiring(semiring), grid, (a,))
 
@@ -385,7 +385,7 @@ def reduce(a: Sparse, by: str = "rows", semiring: str | None = None, grid: int =
 def add(a: Sparse, b: Any, semiring: str | None = None, grid: int = 1) -> Sparse:
     """Element-wise sum of two matrices of one shape.
 
-    It is the semiring's sum: the lesser of two values in ``min-plus``, the greater in ``max-min``, and the union in
+    The sum is the semiring's: the lesser of two values in ``min-plus``, the greater in ``max-min``, and the union in
     ``or-and``. A place that only one of the two stores keeps its value.
 
     Parameters
@@ -431,7 +431,7 @@ def prune(a: Sparse, test: str, value: int, semiring: str | None = None, grid: i
     Parameters
     ----------
     a : csc, csr or coo matrix or array of scipy.sparse, of int64 or uint64
-        Without negative values for "below" and "above".
+        For "below" and "above" without negative values.
     test : {"below", "above", "equal"}
         Drops values that are strictly below `value`, strictly above it, or equal to it.
     value : int
@@ -479,15 +479,15 @@ def bfs(graph: Any, source: Any, grid: int = 1) -> Any:
     levels : numpy array of int64
         The least number of edges from the source to each of them.
     csr_array of int64, or a `Matrix` over min-plus if `graph` is a `Matrix`
-        Instead, for several sources: a row for each, as `scipy.sparse.csgraph.dijkstra` gives one for each of its
-        `indices`, but only of the vertices that are reached. The 0 of the source itself is stored.
+        Returned instead for several sources: a row for each, as from `scipy.sparse.csgraph.dijkstra` with `indices`,
+        but with entries only for the vertices that are reached. The 0 of the source itself is stored.
 
     Raises
     ------
     CbgridValueError
         The graph isn't square, `source` isn't one of its vertices, or `grid` isn't 1 to 6.
     CbgridMemoryError
-        Memory was refused.
+        Out of memory.
 
     Examples
     --------
@@ -529,14 +529,14 @@ def relax(graph: Any, source: Any, grid: int = 1) -> Any:
         The length of a shortest path from the source to each of them. A vertex at a distance of 2**64 - 1 or more
         counts as not reached.
     csr_array of the graph's dtype, or a `Matrix` over min-plus
-        Instead, for several sources, as in `bfs`.
+        Returned instead for several sources, as in `bfs`.
 
     Raises
     ------
     CbgridValueError
         The graph isn't square, a length is negative, `source` isn't one of its vertices, or `grid` isn't 1 to 6.
     CbgridMemoryError
-        Memory was refused.
+        Out of memory.
     OverflowError
         A distance in a graph of int64 is above 2**63 - 1.
 
@@ -560,14 +560,14 @@ def relax(graph: Any, source: Any, grid: int = 1) -> Any:
 
 
 def _walk(call: Any, graph: Any, source: int, grid: int, nonzero: bool) -> _lists.Answer:
-    """Does a call that walks a graph, over or-and where `nonzero`, which lends each value that isn't 0 as 1."""
+    """Makes a call that searches a graph: over or-and if `nonzero`, which passes 1 for each value that isn't 0."""
     before, after, semiring = (_grid(grid),), (_source(source),), _OR_AND if nonzero else _MIN_PLUS
     how = {"semiring": semiring, "turned": False, "unsigned": not nonzero, "nonzero": nonzero}
     return _run(call, before, (graph,), after, **how)
 
 
 def _walks(graph: Any, sources: Any, grid: int, is_levels: bool) -> Any:
-    """The levels or distances from each of some sources, a row for each, in the form that the graph asks for."""
+    """The levels or distances from several sources, a row for each: of the kind of the graph."""
     _grid(grid)
     vertices = _sources(sources)
     if isinstance(graph, Matrix):
@@ -578,7 +578,7 @@ def _walks(graph: Any, sources: Any, grid: int, is_levels: bool) -> Any:
 
 
 def _graph(graph: Any) -> Matrix:
-    """A graph as a matrix that is kept over or-and."""
+    """A graph, kept over or-and."""
     if isinstance(graph, Matrix):
         return graph
     _lists.check_matrix(graph, "graph")
@@ -718,7 +718,7 @@ def text(matrix: Any, semiring: str | None = None) -> bytes:
     Parameters
     ----------
     matrix : csc, csr or coo matrix or array of scipy.sparse, of int64 or uint64
-        In ``plus-times`` negative values are written modulo 2**64, and `read` gives them back.
+        In ``plus-times`` negative values are written modulo 2**64, and `read` with dtype int64 reads them back.
     semiring
         As in `read`. In ``or-and`` the text is a ``pattern`` file.
 

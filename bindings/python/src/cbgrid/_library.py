@@ -11,7 +11,7 @@ LIMIT = 2147483647
 
 
 class Columns(ctypes.Structure):
-    """`struct cbgrid_columns`. Keeps the arrays that it points into, where it is lent."""
+    """`struct cbgrid_columns`. As an operand, it holds references to the arrays that it points to."""
 
     _fields_ = [
         ("nrows", ctypes.c_uint32),
@@ -143,14 +143,14 @@ class CbgridError(Exception):
 
 
 class CbgridValueError(CbgridError, ValueError):
-    """An argument was refused."""
+    """An argument is invalid."""
 
 
 class CbgridMemoryError(CbgridError, MemoryError):
-    """Memory was refused."""
+    """Memory could not be allocated."""
 
 
 def error(code: int, message: str | None = None, line: int | None = None) -> CbgridError:
-    """The exception of a code, with the library's message or a closer one."""
+    """The exception of a code, with the library's message or a more specific one."""
     kind = CbgridMemoryError if code == MEMORY else CbgridValueError
     return kind(code, message or library.cbgrid_message(code).decode("ascii"), line)

@@ -1,8 +1,8 @@
-"""Matrices of scipy as lists of compressed columns, and answers as matrices of scipy.
+"""Matrices of scipy as lists of compressed columns, and results as matrices of scipy.
 
-A matrix of kind csr is lent as the csc of its transpose, which has the same three lists. So an operation on
-csr matrices is done on their transposes, and its answer is the transpose of what is wanted: again the lists
-of a csr matrix. `turned` says that this is so.
+A csr matrix is passed as the csc of its transpose, which has the same three lists. So an operation on csr
+matrices is computed on their transposes, and its result is the transpose of the wanted one: again the lists of
+a csr matrix. `turned` says that this is so.
 """
 
 from __future__ import annotations
@@ -15,7 +15,7 @@ import numpy as np
 from ._library import LENGTHS, LIMIT, ORDER, PLACE, TOO_LARGE, VALUE, Columns, error, library
 
 _DCSC, _CSC = 0, 1
-_SHORT = 1000  # elements: a list that has no more is copied or sorted quicker than it is shown or looked at
+_SHORT = 1000  # elements: a shorter list is quicker to copy or sort than to share or check
 _NUMBERS = np.arange(_SHORT + 1, dtype=np.uint32)
 _from_buffer = c_char.from_buffer
 _INT32, _INT64 = np.dtype(np.int32), np.dtype(np.int64)
@@ -24,7 +24,7 @@ _DTYPES = frozenset((_INT64, np.dtype(np.uint64)))
 
 
 def check_matrix(matrix: Any, name: str) -> None:
-    """Raises an error unless an argument is a matrix that is accepted here."""
+    """Raises an error unless an argument is a matrix of an accepted format and dtype."""
     form = getattr(matrix, "format", None)
     if form not in ("csc", "csr", "coo") or len(matrix.shape) != 2:
         what = f"format {form}" if isinstance(form, str) else type(matrix).__name__
@@ -37,7 +37,7 @@ def check_matrix(matrix: Any, name: str) -> None:
 
 
 def check_dtype(dtype: np.dtype, name: str) -> None:
-    """Raises an error unless values are whole numbers of 64 bits."""
+    """Raises an error unless values are integers of 64 bits."""
     if dtype not in _DTYPES:
         raise TypeError(f"{name}: values of dtype int64 or uint64 are wanted, not {dtype} ({dtype.str})")
 
@@ -70,12 +70,12 @@ def _address(array: np.ndarray) -> int | None:
         return None
     try:
         return addressof(_from_buffer(array))
-    except TypeError:  # the array may not be written to
+    except TypeError:  # the array is read-only
         return array.ctypes.data
 
 
 def _index32(array: np.ndarray, limit: int) -> np.ndarray:
-    """Row numbers of 32 bits: those of scipy if they have 32."""
+    """Row numbers of 32 bits: a copy, unless scipy's have 32 bits."""
     if array.dtype == _INT32:
         return array
     if not _are_below(array, limit):
@@ -93,7 +93,7 @@ def _are_below(numbers: np.ndarray, limit: int) -> bool:
 def _lend_lists(
     nrows: int, ncols: int, columns: np.ndarray | None, starts: np.ndarray, rows: np.ndarray, values: np.ndarray
 ) -> Columns:
-    """Lends lists: `columns` None for csc, `starts` of 32 or of 64 bits."""
+    """Passes lists: `columns` is None for csc, and `starts` has 32 or 64 bits."""
     lent = Columns(nrows, ncols, _CSC if columns is None else _DCSC, starts.itemsize == 8)
     if lent.wide:
         lent.starts64, lent.starts64_len = _address(starts), len(starts)
@@ -110,10 +110,10 @@ def _lend_lists(
 def lend(
     matrix: Any, semiring: int, turned: bool, unsigned: bool, nonzero: bool = False, in_order: bool = False
 ) -> Columns:
-    """Lends a matrix, or its transpose if `turned`.
+    """Passes a matrix, or its transpose if `turned`, as lists.
 
-    `unsigned` refuses negative values. `nonzero` lends 1 for each value that isn't 0. With `in_order` rows ascend in
-    each column, and none is doubled; without it the kernel may find that this isn't so.
+    `unsigned` refuses negative values. `nonzero` passes 1 for each value that isn't 0. `in_order` sorts the entries and
+    adds up duplicates; without it the kernel may find that they aren't sorted.
     """
     if isinstance(matrix, Columns):
         return matrix
@@ -128,7 +128,7 @@ def lend(
     nrows, ncols = reversed(matrix.shape) if turned else matrix.shape
     starts, rows, values = matrix.indptr, matrix.indices, matrix.data
     length = int(starts[-1]) if len(starts) else 0
-    if length != len(rows) or length != len(values):  # scipy lets lists be longer than their last start
+    if length != len(rows) or length != len(values):  # scipy allows lists that are longer than the last start says
         rows, values = rows[:length], values[:length]
     if starts.dtype not in _SIGNED:
         starts = starts.astype(np.int64)
@@ -141,7 +141,7 @@ def lend(
 def _lend_transposed(
     matrix: Any, semiring: int, turned: bool, unsigned: bool, nonzero: bool, in_order: bool
 ) -> Columns:
-    """Lends a csr matrix by columns, or a csc one by rows if `turned`: the kernel's own transpose of it."""
+    """Passes a csr matrix by columns, or a csc matrix by rows if `turned`: the kernel transposes it."""
     answer = Answer()
     lent = lend(matrix, semiring, not turned, unsigned, nonzero, in_order)
     code = library.cbgrid_transpose(semiring, 1, lent, answer.columns)
@@ -160,12 +160,12 @@ def _ones(values: np.ndarray) -> np.ndarray:
 
 
 def _lend_coordinates(matrix: Any, turned: bool, unsigned: bool, nonzero: bool, summed: bool) -> Columns:
-    """Lends a coo matrix in doubly compressed columns, unless it has few columns, so that its shape costs nothing."""
+    """Passes a coo matrix. With many columns, they are doubly compressed, so that the shape costs nothing."""
     nrows, ncols = reversed(matrix.shape) if turned else matrix.shape
     rows, columns = (matrix.col, matrix.row) if turned else (matrix.row, matrix.col)
     if not len(rows) == len(columns) == len(matrix.data):
         raise error(LENGTHS)
-    # As numbers without a sign negative ones are outside of every shape, and the kernel tells of all that are.
+    # As unsigned numbers, negative ones are outside every shape, and the kernel refuses them.
     rows, columns = _index32(rows, nrows).view(np.uint32), _index32(columns, ncols).view(np.uint32)
     rows, columns, values = _in_order(rows, columns, matrix.data, summed)
     if unsigned and _has_negative(values):
@@ -186,10 +186,9 @@ def _lend_coordinates(matrix: Any, turned: bool, unsigned: bool, nonzero: bool, 
 
 
 def _in_order(rows: np.ndarray, columns: np.ndarray, values: np.ndarray, summed: bool) -> tuple[np.ndarray, ...]:
-    """Coordinates and values column by column, and in each by row.
+    """Coordinates and values, sorted by column and then by row.
 
-    Where `summed`, and in long lists, each place stands once, with the sum of the values given there: what doubled
-    places mean in scipy.
+    If `summed`, and in long lists, duplicates are added up, as scipy does.
     """
     if len(values) <= _SHORT:
         order = np.lexsort((rows, columns))
@@ -198,7 +197,7 @@ def _in_order(rows: np.ndarray, columns: np.ndarray, values: np.ndarray, summed:
         if (places[1:] > places[:-1]).all():
             return _placed(rows), _placed(columns), _placed(values)
         order = places.argsort()
-        summed = True  # to look is quick beside the sort, which isn't to be done again
+        summed = True  # quick beside the sort, which is then not repeated
     rows, columns, values = rows[order], columns[order], values[order]
     if not summed:
         return rows, columns, values
@@ -207,7 +206,7 @@ def _in_order(rows: np.ndarray, columns: np.ndarray, values: np.ndarray, summed:
 
 
 def _places(rows: np.ndarray, columns: np.ndarray) -> np.ndarray:
-    """Numbers of 64 bits that are in order where entries are: of column and row."""
+    """Numbers of 64 bits, made of column and row, which sort as the entries do."""
     places = np.empty(len(rows), np.uint64)
     halves = places.view(np.uint32)
     halves[::2] = rows
@@ -216,7 +215,7 @@ def _places(rows: np.ndarray, columns: np.ndarray) -> np.ndarray:
 
 
 def _starts(numbers: np.ndarray) -> np.ndarray:
-    """Where each of the numbers, which are in order, stands first, and then how many they are."""
+    """The first index of each distinct number of a sorted list, and then the length of the list."""
     is_start = np.empty(len(numbers) + 1, bool)
     is_start[0] = is_start[-1] = True
     np.not_equal(numbers[1:], numbers[:-1], out=is_start[1:-1])
@@ -224,7 +223,7 @@ def _starts(numbers: np.ndarray) -> np.ndarray:
 
 
 def _checked(matrix: Any) -> Any:
-    """The matrix, once scipy may read its lists: its own calls would follow wrong starts and rows anywhere."""
+    """The matrix, if its lists are safe for scipy: scipy's calls follow wrong starts and rows anywhere."""
     sides = matrix.shape if matrix.format == "csr" else matrix.shape[::-1]
     starts, rows = matrix.indptr, matrix.indices
     if len(starts) != sides[0] + 1 or starts[0] != 0 or not 0 <= starts[-1] <= min(len(rows), len(matrix.data)):
@@ -237,7 +236,7 @@ def _checked(matrix: Any) -> Any:
 
 
 class _List:
-    """A list of an answer, as numpy asks for it. The array keeps it, and it keeps the answer."""
+    """A list of a result, by numpy's array interface. The array keeps this object alive, and this object the result."""
 
     __slots__ = ("answer", "__array_interface__")
 
@@ -248,7 +247,7 @@ class _List:
 
 
 class Answer:
-    """The lists of an answer: given back once no array shows them any more."""
+    """The lists of a result. They are freed once no array refers to them."""
 
     __slots__ = ("columns",)
 
@@ -263,7 +262,7 @@ class Answer:
             return np.asarray(_List(self, address, length, dtype))
         if not length:
             return np.empty(0, dtype)
-        return np.frombuffer(bytearray(string_at(address, length * dtype.itemsize)), dtype)  # a bytearray may be written to
+        return np.frombuffer(bytearray(string_at(address, length * dtype.itemsize)), dtype)  # a bytearray is writable
 
     def stored(self) -> np.ndarray:
         return self._array(self.columns.columns, self.columns.columns_len, _INT32)
@@ -293,7 +292,7 @@ def _compressed_starts(answer: Answer) -> np.ndarray:
 
 
 def matrix_of(answer: Answer, like: Any, turned: bool) -> Any:
-    """The matrix of an answer: of the class and dtype of a matrix."""
+    """The matrix of a result, of the class and dtype of `like`."""
     nrows, ncols = answer.columns.nrows, answer.columns.ncols
     made = _bare(like, (ncols, nrows) if turned else (nrows, ncols))
     rows, made.data = answer.rows(), answer.values(like.dtype)
@@ -308,9 +307,9 @@ def matrix_of(answer: Answer, like: Any, turned: bool) -> Any:
 
 
 def _bare(like: Any, shape: tuple[int, int]) -> Any:
-    """A matrix of the class of another, whose lists are still to be set.
+    """A matrix of the class of `like`, whose lists the caller then sets.
 
-    It is a copy of the object: scipy's constructor looks at all lists, which takes longer than a small call.
+    It is a copy of the object: scipy's constructor checks all lists, which takes longer than a small call.
     """
     kind = type(like)
     made = kind.__new__(kind)
@@ -321,7 +320,7 @@ def _bare(like: Any, shape: tuple[int, int]) -> Any:
 
 
 def lend_array(x: np.ndarray, turned: bool, unsigned: bool) -> Columns:
-    """Lends an array as a column, or as a row if `turned`."""
+    """Passes an array as a column, or as a row if `turned`."""
     length = len(x)
     if unsigned:
         check_unsigned(x)
@@ -333,7 +332,7 @@ def lend_array(x: np.ndarray, turned: bool, unsigned: bool) -> Columns:
 
 
 def column_of(answer: Answer, turned: bool, dtype: np.dtype) -> tuple[np.ndarray, np.ndarray]:
-    """The places of a column (of a row if `turned`) that have entries, and the values there."""
+    """The places of the entries of a column (of a row if `turned`), and their values."""
     return answer.stored() if turned else answer.rows(), answer.values(dtype)
 
 

@@ -1,4 +1,4 @@
-"""Kept matrices: matrices of the library's own, each over one semiring, which never change."""
+"""Kept matrices: matrices in the library's memory, each over one semiring, which never change."""
 
 from __future__ import annotations
 
@@ -12,7 +12,7 @@ import scipy.sparse
 from . import _lists
 from ._library import LENGTHS, LIMIT, ORDER, PLACE, SEMIRING, SHAPES, TEST, TOO_LARGE, VALUE, Text, error, library
 
-# In the order of their numbers.
+# The semirings in the order of their numbers.
 _NAMES = (
     "plus-times min-plus or-and max-min plus-pair plus-min plus-first plus-second "
     "min-first min-second max-first max-second max-plus min-max"
@@ -36,9 +36,9 @@ def number_of(name: str) -> int:
 
 
 def whole_numbers(values: Any, name: str) -> np.ndarray:
-    """Values of any integer type or bool as numbers from 0 to 2**64 - 1, without a copy if their type allows.
+    """Values of bool or any integer type as uint64, without a copy if possible.
 
-    A value that isn't one of these raises an error that names it.
+    A value that isn't 0 to 2**64 - 1 raises an error that names it.
     """
     given, values = values, np.asarray(values)
     if values.dtype.kind == "f" and all(type(it) is int for it in given):
@@ -80,14 +80,14 @@ def _numbers32(numbers: Any, limit: int, name: str) -> np.ndarray:
 
 
 class Matrix:
-    """A matrix over a semiring, kept by the library: built once, never changed, freed when it is dropped.
+    """A matrix over a semiring, kept by the library. It is built once, never changes, and is freed with the object.
 
     Calls on it copy and convert nothing, and their result is another Matrix.
 
     Parameters
     ----------
     source : csc, csr or coo matrix or array of scipy.sparse, numpy array of two dimensions, or Matrix
-        Of bool or any integer type. Each value is taken exactly; if one is negative or above 2**64 - 1, an error says
+        Of bool or any integer type. Values are converted exactly; if one is negative or above 2**64 - 1, an error says
         which. Duplicate entries are added up as integers, as everywhere in scipy. Each element of a numpy array that
         isn't the semiring's zero becomes an entry.
     semiring : str, optional
@@ -187,10 +187,10 @@ class Matrix:
     def __getitem__(self, place: Any) -> Any:
         """The value at a place, or the Matrix of some rows and columns.
 
-        Two integers give a value, as an int. A slice or a list of integers in the place of one of them gives a Matrix
-        of those rows and columns, in their order; an integer beside it gives one row or one column. Two lists give each
-        of the rows in each of the columns, as in GraphBLAS and as `a[numpy.ix_(rows, columns)]` does; numpy would take
-        pairs. Negative integers count from the end.
+        Two integers give a value, as an int. A slice or a list of integers gives a Matrix of those rows or columns, in
+        their order; an integer beside it gives one row or one column. Two lists give each of the rows in each of the
+        columns, as in GraphBLAS and as `a[numpy.ix_(rows, columns)]`; numpy would take pairs. Negative integers count
+        from the end.
 
         Raises
         ------
@@ -230,7 +230,8 @@ class Matrix:
     def _listed(self, numbers: Any, axis: int) -> tuple[np.ndarray, np.ndarray | None]:
         """The numbers of a list or a range, and None.
 
-        For a range much longer than there are entries: its rows or columns that have entries, and their places in it.
+        For a range that is much longer than the number of entries: its rows or columns that have entries, and their
+        places in the range.
         """
         if not isinstance(numbers, range):
             return numbers, None
@@ -325,8 +326,8 @@ class Matrix:
             The lower triangle (diagonal k and everything below it), the upper triangle (diagonal k and everything above
             it), diagonal k, or everything but diagonal k. Any other name raises a CbgridValueError with code 3.
         k : int
-            The number of a diagonal: 0 is the main diagonal, 1 the one above it, -1 the one below it. Any integer will
-            do; a diagonal outside the matrix has no entries.
+            The number of a diagonal: 0 is the main diagonal, 1 the one above it, -1 the one below it. Any integer is
+            allowed; a diagonal outside the matrix has no entries.
         """
         if region not in _REGIONS:
             raise error(TEST, f"region: one of {tuple(_REGIONS)} is wanted, not {region!r}")
@@ -342,7 +343,7 @@ class Matrix:
         return self.select("upper", k)
 
     def apply(self, function: str, number: int = 0) -> Matrix:
-        """The matrix with a function of each entry in place of its value. What becomes zero isn't stored.
+        """The matrix with a function of each entry in place of its value. A value that becomes zero isn't stored.
 
         Parameters
         ----------
@@ -409,8 +410,8 @@ class Matrix:
         return self._made(library.cbgrid_matrix_kron, operand._at)
 
     def assign(self, row: int, column: int, part: Any) -> Matrix:
-        """The matrix with another in place of a part of it. What the part had is dropped, also where the other has
-        nothing.
+        """The matrix with another in place of a part of it. The entries in that part are dropped, also where the other
+        matrix has none.
 
         Parameters
         ----------
@@ -427,13 +428,13 @@ class Matrix:
         return self._made(library.cbgrid_matrix_assign, *corner, operand._at)
 
     def exclude(self, mask: Any) -> Matrix:
-        """The entries at the places where a mask has none: what the complement of the mask allows.
+        """The entries at the places where a mask has none: a complemented mask.
 
         Parameters
         ----------
         mask : Matrix or scipy.sparse matrix, or numpy array of two dimensions
-            Of the same shape, or else a CbgridValueError with code 10 is raised. What values it has doesn't matter. A
-            Matrix over another semiring raises a CbgridValueError with code 16.
+            Its values don't matter. A mask of another shape raises a CbgridValueError with code 10, and a Matrix over
+            another semiring one with code 16.
         """
         operand = self._wanted(mask, "mask")
         return self._made(library.cbgrid_matrix_exclude, operand._at)
@@ -446,7 +447,7 @@ class Matrix:
         return Matrix._of(out.value, self._number if number is None else number)
 
     def _operand(self, other: Any) -> Matrix | None:
-        """Another operand. If it isn't kept yet, it is kept over the same semiring."""
+        """An operand as a Matrix: other matrices are kept over the semiring of this one. None for anything else."""
         if isinstance(other, Matrix):
             return other
         if scipy.sparse.issparse(other) or isinstance(other, np.ndarray) and other.ndim == 2:
@@ -482,13 +483,13 @@ class Matrix:
         return self._pair(library.cbgrid_matrix_times, other)
 
     __rmul__ = __mul__
-    __array_ufunc__ = None  # numpy's operators leave a Matrix to those above
+    __array_ufunc__ = None  # so that numpy leaves operators to the methods above
 
     def multiply(self, other: Any, mask: Any = None, complement: bool = False) -> Matrix:
         """The product, at the places where the mask has an entry if there is one.
 
-        With `complement`, it is the product at the places where the mask has no entry: the whole product, of which the
-        others are then dropped.
+        With `complement`, the product at the places where the mask has no entry: the whole product is computed, and the
+        other entries are then dropped.
         """
         operand = self._wanted(other, "b")
         if mask is None:
@@ -514,7 +515,7 @@ class Matrix:
         return rows, values
 
     def walks(self, is_levels: bool, sources: np.ndarray) -> Matrix:
-        """The levels or distances from each of some sources, over min-plus: a row for each source."""
+        """The levels or distances from several sources, over min-plus: a row for each source."""
         call = library.cbgrid_matrix_levels_from if is_levels else library.cbgrid_matrix_distances_from
         return self._made(call, sources.ctypes.data, len(sources), number=1).T
 
@@ -565,7 +566,7 @@ class Matrix:
 
 
 def _is_grid(rows: Any, columns: Any) -> bool:
-    """Whether a pair is one of `numpy.ix_`."""
+    """Whether a pair of indices is a grid of `numpy.ix_`."""
     pair = (rows, columns)
     return all(isinstance(it, np.ndarray) and it.ndim == 2 for it in pair) and rows.shape[1] == columns.shape[0] == 1
 
@@ -594,19 +595,19 @@ def _indices(index: Any, length: int, name: str) -> Any:
 
 
 def _from_triples(rows: Any, columns: Any, values: Any, shape: Any, semiring: str) -> Matrix:
-    """What a pickle calls."""
+    """Rebuilds a Matrix from a pickle."""
     return Matrix.from_triples(rows, columns, values, shape, semiring)
 
 
 def _kept_again(matrix: Matrix) -> int:
-    """The address of a copy, by the transpose of the transpose."""
+    """The address of a copy, which is the transpose of the transpose."""
     turned = matrix.T.T
     at, turned._at = turned._at, None
     return at
 
 
 def _kept(source: Any, number: int) -> int:
-    """The address of a matrix of scipy or numpy that is now kept."""
+    """Keeps a matrix of scipy or numpy, and returns its address."""
     if isinstance(source, np.ndarray):
         source = _coordinates(source, number)
     form = getattr(source, "format", None)

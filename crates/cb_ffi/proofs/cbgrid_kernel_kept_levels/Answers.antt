@@ -3,7 +3,7 @@ use Rattle.std.specs.Borrow.{Bor}
 use Rattle.cb_semirings.specs.declared.names.SemiringName.TheVariants as name_is
 use Rattle.cb_interop.specs.declared.kept.Kept.{Kept}
 use Rattle.cb_interop.specs.Kept.{matrix_in}
-use Rattle.cb_interop.specs.KeptTexts.{search_faults, IsKeptLevels}
+use Rattle.cb_interop.specs.KeptGraphs.{search_faults, IsKeptLevels}
 use Rattle.cb_ffi.specs.KeptCalls.{IsKeptCall}
 use Rattle.cb_ffi.proofs.KeptCalls.{kept_call_of}
 use Rattle.cb_ffi.proofs.cbgrid_kernel_kept_levels.Goals as goal

@@ -3,8 +3,7 @@ use Rattle.std.specs.Borrow.{Bor}
 use Rattle.cb_semirings.specs.declared.names.SemiringName.TheVariants as name_is
 use Rattle.cb_interop.specs.declared.kept.Kept.{Kept}
 use Rattle.cb_interop.specs.Kept.{matrix_in}
-use Rattle.cb_interop.specs.KeptTexts.{search_faults}
-use Rattle.cb_interop.specs.KeptGraphs.{IsKeptParents}
+use Rattle.cb_interop.specs.KeptGraphs.{search_faults, IsKeptParents}
 use Rattle.cb_ffi.specs.KeptCalls.{IsKeptCall}
 use Rattle.cb_ffi.proofs.KeptCalls.{kept_call_of}
 use Rattle.cb_ffi.proofs.cbgrid_kernel_kept_parents.Goals as goal

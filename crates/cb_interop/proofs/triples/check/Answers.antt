@@ -1,7 +1,7 @@
 use Rattle.std.proofs.Common.{rules, ◌≤◌}
 use Rattle.cb_matrix.specs.declared.TheConstants.{LIMIT}
 use Rattle.cb_interop.specs.Triples.{AreWithin, AreTripleValues}
-use Rattle.cb_interop.proofs.KeptSearches.{none_of_triples}
+use Rattle.cb_interop.proofs.TripleFaults.{none_of_triples}
 use Rattle.cb_interop.proofs.triples.check.Goals as goal
 
 pub returns-clause-none : goal.returns-clause-none
