@@ -1,4 +1,4 @@
-//! The kernels, each run once between two looks at the clock.
+//! The kernels. Each is run once and timed.
 ghost use Rattle.std.specs.Prelude.{◌≡◌, IfOk};
 ghost use Rattle.cb_matrix.specs.Values.{product_shape};
 
@@ -17,18 +17,18 @@ use cb_semirings::PlusTimes;
 use std::alloc::AllocError;
 use std::time::{CpuClock, Duration};
 
-/// What was counted: the entries of the operands, the steps, and the entries of the result; and how long it took.
+/// The entries of the operands, the steps, the entries of the result, and the time.
 #[derive(Clone, Copy, Debug)]
 pub(crate) struct Counts {
     pub given: u64,
     pub steps: u64,
     pub made: u64,
     pub took: Duration,
-    /// What the same work took act by act, where that was measured too.
+    /// The time of the same work act by act, if that was measured too.
     pub plain: Option<Duration>,
 }
 
-/// The processor time so far, or none where it can't be had.
+/// Returns the processor time so far, or zero if it isn't available.
 pub(crate) fn now<R: CpuClock>(rt: &R) -> Duration {
     match rt.process_cpu_time() {
         Ok(time) => time,
@@ -36,7 +36,7 @@ pub(crate) fn now<R: CpuClock>(rt: &R) -> Duration {
     }
 }
 
-/// How many products of two entries the product of two blocks has.
+/// Counts the products of two entries in the product of two blocks.
 fn products(left: &Block<PlusTimes>, right: &Block<PlusTimes>) -> u64 {
     let mut count = 0u64;
     for row in right.row_numbers() {
@@ -46,7 +46,7 @@ fn products(left: &Block<PlusTimes>, right: &Block<PlusTimes>) -> u64 {
     count
 }
 
-/// What was counted between a look at the clock and now.
+/// Makes the counts, with the time since `start`.
 fn counted<R: CpuClock>(rt: &R, start: Duration, given: usize, steps: u64, made: usize) -> Counts {
     Counts {
         given: given as u64,
@@ -124,7 +124,7 @@ fn measure_multiply_into<R: CpuClock + AllocGlobal>(
     }
 }
 
-/// The product under the left block as a mask.
+/// Measures the product under the left block as a mask.
 fn measure_masked<R: CpuClock + AllocGlobal>(
     rt: &R,
     left: &Block<PlusTimes>,
@@ -170,7 +170,7 @@ fn measure_add<R: CpuClock + AllocGlobal>(
     Ok(counted(rt, start, given, given as u64, sum.len()))
 }
 
-/// Makes the matrices, runs the kernel on them, and counts.
+/// Makes the matrices and measures the kernel on them.
 pub(crate) fn measure<R: CpuClock + AllocGlobal>(
     rt: &R,
     bench: &Bench,

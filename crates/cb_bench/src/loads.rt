@@ -11,7 +11,7 @@ use rand_core::SeedableRng;
 use rand_xoshiro::Xoshiro256PlusPlus;
 use std::alloc::{AllocError, Global};
 
-/// A matrix of this shape with a value from 1 to 9 at so many random places. Of one seed it is always the same.
+/// Makes a matrix of this shape with values from 1 to 9 at `count` random places. The same seed gives the same matrix.
 pub(crate) fn random_matrix(
     alloc: Global,
     shape: Shape,
@@ -37,7 +37,7 @@ pub(crate) fn random_matrix(
     }
 }
 
-/// The block of a matrix.
+/// Makes the block of a matrix.
 pub(crate) fn block_of(
     alloc: Global,
     matrix: &Matrix<PlusTimes>,

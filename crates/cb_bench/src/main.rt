@@ -1,15 +1,22 @@
 //! Measures a kernel on random matrices over plus-times.
 //!
-//! `cb_bench KERNEL SIDE ENTRIES` makes two square matrices of this side with this many random places each (a
-//! place that comes twice is one entry), and runs the kernel on them: `multiply`, `multiply-into` (the product,
-//! added to the first matrix), `masked` (the product under the first matrix as a mask), `multiply-then-mask` (the
-//! same, by making the whole product first), `add`, `transpose`, `scatter` (the first matrix over the grid of side
-//! `--grid`, and gathered again), `read` (the text of the first matrix), or `world` (their product by Sparse SUMMA over
-//! the grid, in a world of ranks, beside the same plan act by act). What was counted stands on standard output, and is
-//! the same in every run. The processor time, and the steps a second, stand on standard error: a step of a product
-//! is one product of two entries, whether it is made or not, a step of a world is one half of a rank, and a step of the
-//! others is one entry that is read. Of a world the time of the plan act by act stands there too, and the ratio of the
-//! two.
+//! `cb_bench KERNEL SIDE ENTRIES` makes two square matrices of this side with entries at this many random places (a
+//! place that is drawn twice is one entry), and runs a kernel on them:
+//!
+//! - `multiply`: their product;
+//! - `multiply-into`: the product, added to the first matrix;
+//! - `masked`: the product under the first matrix as a mask;
+//! - `multiply-then-mask`: the same, by making the whole product first;
+//! - `add`: their sum;
+//! - `transpose`: the transpose of the first matrix;
+//! - `scatter`: the first matrix, scattered over the grid of side `--grid` and gathered again;
+//! - `read`: the text of the first matrix;
+//! - `world`: the product by Sparse SUMMA over the grid, in a world of ranks, compared with the same plan run act by act.
+//!
+//! Counts are written to standard output and are the same in every run. Times are written to standard error: the
+//! processor time, and the steps per second. A step of a product is one product of two entries, whether it is computed
+//! or not; a step of a world is one half of a rank; any other step is one entry that is read. For `world` the time act
+//! by act and the ratio of the two follow.
 #![tactic(auto)]
 
 ghost use Rattle.std.specs.Prelude.{◌≡◌, ◌<◌, ◌≤◌, All, IfOk, IfSome};
@@ -27,18 +34,18 @@ use std::rt::Env;
 use std::time::{CpuClock, Duration};
 use std::{env, io};
 
-/// The words of the command line, the program's name first.
+/// Returns the words of the command line, the program's name first.
 fn words_of(rt: &(impl Env + AllocGlobal)) -> io::Result<Vec<String>> {
     let alloc = rt.alloc();
     Ok(env::args(rt)?.collect(alloc)?)
 }
 
-/// How many were done in a second.
+/// Returns the rate per second.
 fn rate(count: u64, took: Duration) -> u128 {
     u128::from(count) * 1_000_000 / took.as_micros().max(1)
 }
 
-/// Prints what was counted, and how long it took.
+/// Prints the counts and the time.
 fn tell<R: Print + Eprint>(rt: &R, bench: &Bench, counts: &Counts) -> io::Result<()> {
     let name = bench.kernel.name();
     let (given, steps, made) = (counts.given, counts.steps, counts.made);
@@ -51,7 +58,7 @@ fn tell<R: Print + Eprint>(rt: &R, bench: &Bench, counts: &Counts) -> io::Result
     }
 }
 
-/// Prints how long the same took act by act, and how many times as long it took in a world.
+/// Prints the time act by act, and the ratio of the time in a world to it.
 fn tell_ratio<R: Eprint>(rt: &R, took: Duration, plain: Duration) -> io::Result<()> {
     let micros = plain.as_micros();
     let hundredths = took.as_micros().saturating_mul(100) / micros.max(1);
@@ -59,7 +66,7 @@ fn tell_ratio<R: Eprint>(rt: &R, took: Duration, plain: Duration) -> io::Result<
     eprintln!(rt; "{micros} us act by act, ratio {ones}.{rest:02}")
 }
 
-/// Measures, and answers the status that the program ends with.
+/// Runs the measurement and returns the exit status.
 fn run<R: Print + Eprint + CpuClock + AllocGlobal>(rt: &R, bench: &Bench) -> u8 {
     match measure(rt, bench) {
         Ok(counts) => match tell(rt, bench, &counts) {

@@ -1,10 +1,10 @@
-//! What is to be measured, from the words of the command line.
+//! The command line.
 use cb_layout::Grid;
 use clap::error::ErrorKind;
 use clap::{Arg, ArgAction, ArgMatches, Command, value_parser};
 use std::alloc::{AllocError, Global};
 
-/// What is measured.
+/// The kernel to measure.
 #[derive(Clone, Copy, Debug, PartialEq, Eq)]
 pub(crate) enum Kernel {
     Multiply,
@@ -31,7 +31,7 @@ static KERNELS: [&str; 9] = [
 ];
 
 impl Kernel {
-    /// The kernel's word.
+    /// Returns the kernel's name.
     pub(crate) fn name(self) -> &'static str {
         match self {
             Kernel::Multiply => "multiply",
@@ -46,7 +46,7 @@ impl Kernel {
         }
     }
 
-    /// The kernel of a word.
+    /// Returns the kernel with a name.
     fn named(name: &str) -> Option<Kernel> {
         match name {
             "multiply" => Some(Kernel::Multiply),
@@ -63,7 +63,7 @@ impl Kernel {
     }
 }
 
-/// A kernel, and the matrices that it is to be run on.
+/// A kernel, and the sizes of the matrices to run it on.
 #[derive(Clone, Copy, Debug)]
 pub(crate) struct Bench {
     pub kernel: Kernel,
@@ -72,7 +72,7 @@ pub(crate) struct Bench {
     pub grid: Grid,
 }
 
-/// Words that are no bench, with the text to print.
+/// A request for help or a usage error, with the text to print; or want of memory.
 #[derive(Debug, Drop)]
 pub(crate) enum BenchFault {
     Help(String),
@@ -136,7 +136,7 @@ fn bench_of(found: &ArgMatches<'_>) -> Option<Bench> {
     })
 }
 
-/// Reads the words of a command line, of which the first is the program's name.
+/// Parses the words of a command line, the first of which is the program's name.
 pub(crate) fn read_words(alloc: Global, words: &[String]) -> Result<Bench, BenchFault> {
     let matches = match command(alloc)?.try_get_matches_from(words) {
         Ok(matches) => matches,

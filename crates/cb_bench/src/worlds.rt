@@ -1,4 +1,4 @@
-//! A world of ranks beside the same plan done act by act.
+//! A world of ranks, compared with the same plan run act by act.
 ghost use Rattle.std.specs.Prelude.{◌≡◌};
 
 use crate::kernels::{Counts, now};
@@ -16,7 +16,7 @@ use std::time::{CpuClock, Duration};
 /// How many letters a lane holds.
 const LETTERS: usize = 4;
 
-/// A store for each rank, with its blocks of both factors.
+/// Makes a store for each rank, with its blocks of both factors.
 fn stores_of(
     alloc: Global,
     grid: Grid,
@@ -35,7 +35,7 @@ fn stores_of(
     Ok(stores)
 }
 
-/// How many entries the blocks of the product have.
+/// Counts the entries of the blocks of the product.
 fn entries_in(stores: &[RankStore<PlusTimes>]) -> usize {
     let mut count = 0usize;
     for store in stores {
@@ -46,7 +46,7 @@ fn entries_in(stores: &[RankStore<PlusTimes>]) -> usize {
     count
 }
 
-/// How long the plan takes act by act.
+/// Measures the time of the plan act by act.
 fn time_plain<R: CpuClock + AllocGlobal>(
     rt: &R,
     plan: &CheckedPlan,
@@ -60,7 +60,7 @@ fn time_plain<R: CpuClock + AllocGlobal>(
     Ok(now(rt).saturating_sub(start))
 }
 
-/// What a world of the plan does, and how long it takes, beside the plan act by act: a step is one half of a rank.
+/// Measures a world of the plan. A step is one half of a rank.
 fn time_world<R: CpuClock + AllocGlobal>(
     rt: &R,
     plan: &CheckedPlan,
@@ -90,7 +90,7 @@ fn time_world<R: CpuClock + AllocGlobal>(
     })
 }
 
-/// The product of two matrices by Sparse SUMMA over a grid, in a world and act by act.
+/// Measures the product of two matrices by Sparse SUMMA over a grid, in a world and act by act.
 pub(crate) fn measure_world<R: CpuClock + AllocGlobal>(
     rt: &R,
     grid: Grid,
@@ -105,7 +105,7 @@ pub(crate) fn measure_world<R: CpuClock + AllocGlobal>(
     };
     let (plan, _slot) = planned.into_checked();
     let given = left.len().saturating_add(right.len());
-    // Once before, so that neither of the two pays for memory that was never touched.
+    // A first run that isn't counted, so that neither of the others pays for memory that was never touched.
     let _first = time_plain(rt, &plan, stores_of(alloc, grid, left, right)?)?;
     let plain = time_plain(rt, &plan, stores_of(alloc, grid, left, right)?)?;
     time_world(

@@ -35,7 +35,7 @@ sent_is_sound ranks state shut from to tag slot into a b c d e f =
     rw t (record { ranks_exist = rw q refl; apart = refl; slots_exist = rw (y, x) refl; filled = rw h refl; agree = refl; open_lane = refl }))
     (λ t. rw t (record { ranks_exist = rw (p, q) refl; apart = rw t refl; slots_exist = rw (x, y) refl; filled = e; agree = refl; open_lane = rw f refl }))
 
--- slots sent one after the other, each of them filled before the first
+-- slots sent one after another, each of them filled before the first
 module _ (ranks : ℕ) (tag : Tag) (shut : Lanes) (open_lanes : (s t : ℕ) → shut s t ≡ false) (from to slot into : ℕ → ℕ) (limit : ℕ)
     (exist : (k : ℕ) → k < limit → (from k < ranks) × (to k < ranks) × (slot k < 256) × (into k < 256)) where
   abbrev pub sends : ℕ → ℕ → List Act

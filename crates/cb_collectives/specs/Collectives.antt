@@ -27,7 +27,7 @@ AreDistinct members = are_distinct members ≡ true
 abbrev pub member : List ℕ → ℕ → ℕ
 member members p = get_or members p 0
 
--- the place of a rank in the list: where it first stands
+-- the place of a rank in the list: the first one that it has
 abbrev pub place_of : List ℕ → ℕ → ℕ
 place_of members r = position_or_len (λ m. m == r) members
 

@@ -25,7 +25,7 @@ pub fn work(plan: &mut Plan, rank: u16, op: Op) -> Result<(), PlanFault>
     append(plan, Act::Work { rank, op })
 }
 
-/// Copies a slot of a rank to another slot of the same rank. If they are the same slot, nothing is done.
+/// Copies a slot of a rank to another slot of the same rank. Does nothing if they are the same slot.
 pub fn copy_at(plan: &mut Plan, rank: u16, slot: u16, into: u16) -> Result<(), PlanFault>
     requires { HasRoom plan.now (copied_at rank slot into) }
     ensures granted { IsOk result }
@@ -63,7 +63,7 @@ pub fn send(
     append(plan, act)
 }
 
-/// The place of a member in the list: where it first stands.
+/// The place of a member in the list: the first one that it has.
 pub fn place_in(members: &[u16], rank: u16) -> usize
     requires { is_member members.now rank ≡ true }
     ensures { result ≡ place_of members.now rank }

@@ -3,12 +3,12 @@ use Rattle.std.proofs.Common.{◌≡◌, List, [], ◌∷◌, ◌++◌, Some, re
 use Rattle.std.proofs.lemmas.Option.{same_Some}
 use Rattle.cb_crew.specs.Rings.{last_item}
 
--- what was put at the end is the last
+-- an item that was appended is the last
 pub last_item-push : {X : Type 0} (xs : List X) (x : X) → last_item (xs ++ x ∷ []) ≡ Some x
 last_item-push [] x = refl
 last_item-push (y ∷ []) x = refl
 last_item-push (y ∷ z ∷ xs) x = last_item-push (z ∷ xs) x
 
--- so the last is what was put there
+-- the last item is the one that was appended
 pub last_is : {X : Type 0} (new old : List X) (x y : X) → new ≡ old ++ x ∷ [] → last_item new ≡ Some y → x ≡ y
 last_is new old x y e last = same_Some x y (sym (ap last_item e ∙ last_item-push old x) ∙ last)

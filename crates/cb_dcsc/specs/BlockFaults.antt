@@ -1,4 +1,4 @@
--- Faults of entries that make no block.
+-- Faults of entries that don't form a block.
 use Rattle.std.specs.Prelude.{ℕ, ◌+◌, ◌==◌, ◌&&◌, ◌||◌, nat_lt, not, Bool, false, cond, Option, Some, None, List, [], ◌∷◌}
 use Rattle.cb_semirings.specs.Arithmetic.{Arithmetic}
 use Rattle.cb_matrix.specs.declared.Entry.{Entry}

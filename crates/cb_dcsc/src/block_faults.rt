@@ -1,4 +1,4 @@
-//! Faults of entries that make no block.
+//! Faults of entries that don't form a block.
 ghost use Rattle.std.specs.Prelude.{◌≡◌, ◌==◌, ℕ, ◌<◌, Option, Some, None, Bool, not};
 ghost use Rattle.cb_dcsc.specs.BlockFaults.{fault_of, first_fault, is_late};
 
@@ -7,7 +7,7 @@ use cb_semirings::Semiring;
 use std::alloc::AllocError;
 use thiserror::Error;
 
-/// Why some entries make no block. Each fault except `Memory` has the index of the first faulty entry.
+/// Why entries don't form a block. Each fault except `Memory` has the index of the first faulty entry.
 #[derive(Clone, Copy, Debug, PartialEq, Eq, Error)]
 pub enum BlockFault {
     /// The entry is outside the shape.

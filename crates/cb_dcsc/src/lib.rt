@@ -335,8 +335,8 @@ impl<S: Semiring> Block<S> {
         (columns, rows, values)
     }
 
-    /// Takes room for this many more entries, and for as many columns as they can have, so that storing them moves no
-    /// list.
+    /// Reserves memory for this many more entries, and for as many columns as they can have, so that storing them
+    /// reallocates no list.
     pub fn reserve(&mut self, entries: usize) -> Result<(), AllocError>
         ensures same { self.new ≡ self.old }
     {
@@ -351,7 +351,7 @@ impl<S: Semiring> Block<S> {
         Ok(())
     }
 
-    /// Stores one more entry, after all the others. A refusal of memory leaves the block as it was.
+    /// Stores one more entry, after all the others. If memory is refused, the block stays as it was.
     pub fn push(&mut self, entry: Entry) -> Result<(), AllocError>
         requires inside { IsInside self.old.shape entry }
         requires order { All (λ e. IsBefore e entry) self.old.entries }
@@ -377,8 +377,8 @@ impl<S: Semiring> Block<S> {
         Ok(())
     }
 
-    /// Stores a whole column after all the others, by its rows, which ascend, and the value at each. A column without
-    /// rows is not stored. A refusal of memory leaves the block as it was.
+    /// Stores a whole column after all the others, given by its rows, which ascend, and the value at each. A column without
+    /// rows isn't stored. If memory is refused, the block stays as it was.
     #[inline(always)]
     pub fn push_column(
         &mut self,
@@ -411,8 +411,8 @@ impl<S: Semiring> Block<S> {
     }
 
     /// Stores all entries of another block of the same shape after all the others. The last column of this block may
-    /// continue in the other. If memory is refused, some of the entries are stored. The cost is that of the other's
-    /// entries, or none if this block has no entries: then it takes over the other's lists.
+    /// continue in the other. If memory is refused, some of the entries are stored. Costs O(entries of the other), or
+    /// nothing if this block has no entries: then it takes over the other's lists.
     pub fn append(&mut self, other: &mut Block<S>) -> Result<(), AllocError>
         requires shape { other.old.shape ≡ self.old.shape }
         requires matrix { IsMatrix S.arithmetic (with_entries self.old other.old.entries) }
@@ -425,7 +425,7 @@ impl<S: Semiring> Block<S> {
         self.append_columns(other)
     }
 
-    /// The same, column by column.
+    /// Stores all entries of another block after all the others, column by column.
     fn append_columns(&mut self, other: &Block<S>) -> Result<(), AllocError>
         requires { IsMatrix S.arithmetic (with_entries self.old other.now.entries) }
         ensures { OnOk result (self.new ≡ with_entries self.old other.now.entries) }
@@ -481,7 +481,7 @@ fn bounds(starts: &[usize], n: usize) -> (usize, usize)
     (starts[n], starts[n + 1])
 }
 
-/// The part that has an index: that of the last start that isn't above it.
+/// The part with this index: that of the last start that isn't above it.
 fn part_of(starts: &[usize], index: usize) -> usize
     requires some { 0 < length starts.now }
     requires first { slice_index starts.now 0 ≤ index }
@@ -529,7 +529,7 @@ fn append_column(
     Ok(())
 }
 
-/// Whether this number is the last of some.
+/// Whether a list ends with this number.
 fn ends_with(numbers: &[u32], number: u32) -> bool
     ensures { IsTrue result ↔ ((0 < length numbers.now) × (slice_index numbers.now (length numbers.now - 1) ≡ number)) }
 {
@@ -539,7 +539,7 @@ fn ends_with(numbers: &[u32], number: u32) -> bool
     }
 }
 
-/// Appends the number of one more column, and where its part ends. A refusal leaves the lists as they were.
+/// Appends the number of one more column, and where its part ends. If memory is refused, the lists stay as they were.
 #[inline(always)]
 fn start_column(
     columns: &mut Vec<u32>,
@@ -574,8 +574,8 @@ fn extend_reserved<T: Copy>(list: &mut Vec<T>, items: &[T])
     }
 }
 
-/// The columns that have entries, and where each starts and the last one ends, given where each column of the shape
-/// does. There are this many entries.
+/// The columns that have entries, and where each starts and the last one ends, given the same for all columns of the
+/// shape. `entries` is the number of entries.
 fn nonempty_columns(
     alloc: Global,
     count: u32,

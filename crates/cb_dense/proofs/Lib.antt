@@ -1,2 +1,2 @@
--- For this crate alone. NamedColumns: the columns that a vector names, added to sums one after another, are the product.
+-- For this crate alone. NamedColumns: the columns that a vector's entries name, added up one after another, are the product.
 mod NamedColumns

@@ -1,4 +1,4 @@
--- The columns that a vector names by its rows, added to sums one after another.
+-- The columns that a vector's entries name by their rows, added to dense sums one after another.
 use Rattle.std.proofs.Common.{◌≡◌, ◌≢◌, ℕ, ◌+◌, ◌<◌, ◌≤◌, List, [], ◌∷◌, length, map, drop, get_or, sym, ap, subst, ◌∙◌, ⊎_elim, arith}
 use Rattle.std.specs.Prelude.{All, AllPairs}
 use Rattle.std.specs.List.{range_with_len}
@@ -17,12 +17,12 @@ use Rattle.cb_dcsc.proofs.Pieces.{in_column-all}
 use Rattle.cb_product.specs.Terms.{column_sum}
 use Rattle.cb_product.proofs.ProductColumns.{column_total}
 
--- what the columns that entries name by their rows have at row i, each times its entry's value, in sum
+-- the sum at row i of the columns that entries name by their rows, each times the entry's value
 abbrev pub named_sum : Arithmetic → Sparse → ℕ → List Entry → ℕ
 named_sum s a i es = column_sum s a i (rows_of es) (values_of es)
 
 -- ---- the column of an entry
--- where columns ascend, one that is past those before a place, and before the one there, isn't among them
+-- a number above all ascending columns before the n-th, and below the n-th, isn't one of them
 pub not_among : (columns : List ℕ) (n j : ℕ) → AllPairs (λ c d. c < d) columns → ((k : ℕ) → k < n → get_or columns k 0 < j) → (n < length columns → j < get_or columns n 0) → All (λ c. c ≢ j) columns
 not_among columns n j up before after = λ k d l same.
     let here : get_or columns k d ≡ get_or columns k 0 = get_or_default columns k d 0 l in
@@ -49,17 +49,17 @@ rows_ascend s x is one es are n m c d l k =
 
 -- ---- the sum of the columns that are left
 module _ (s : Arithmetic) (laws : IsSemiring s) (a : Sparse) (is : IsMatrix s a) (es : List Entry) (values_are : All (λ e. IsValue s e.value) es) where
-  -- what entries name is a value
+  -- this sum is a value of the semiring
   named_value : (i : ℕ) (xs : List Entry) → All (λ e. IsValue s e.value) xs → IsValue s (named_sum s a i xs)
   unfolding column_sum
   named_value i [] h = laws.zero_value
   named_value i (x ∷ xs) h = laws.add_value _ _ (laws.mul_value _ x.value (value_at-value s laws a.entries i x.row is.values) (All-head (λ (e : Entry). IsValue s e.value) x xs h)) (named_value i xs (All-tail (λ (e : Entry). IsValue s e.value) x xs h))
 
-  -- so it is for those from the n-th on
+  -- and so is that of the entries from the n-th on
   left_value : (n i : ℕ) → IsValue s (named_sum s a i (drop n es))
   left_value n i = named_value i (drop n es) (All-drop (λ (e : Entry). IsValue s e.value) n es values_are)
 
-  -- these name the column of the n-th, and what those after it name
+  -- it is the n-th entry's column, times its value, plus the sum of the entries after it
   left_split : (n i : ℕ) (d : Entry) → n < length es → named_sum s a i (drop n es) ≡ s.add (s.mul (at s a i (get_or es n d).row) (get_or es n d).value) (named_sum s a i (drop (n + 1) es))
   unfolding column_sum
   left_split n i d l = ap (named_sum s a i) (drop_more es n d l)
@@ -68,7 +68,7 @@ module _ (s : Arithmetic) (laws : IsSemiring s) (a : Sparse) (is : IsMatrix s a)
     abbrev e : Entry
     e = get_or es n d
 
-    -- an entry's value is one
+    -- an entry's value is a value of the semiring
     scale_value : IsValue s e.value
     scale_value = All-get_or (λ (x : Entry). IsValue s x.value) es n d l values_are
 
@@ -95,7 +95,7 @@ module _ (s : Arithmetic) (laws : IsSemiring s) (a : Sparse) (is : IsMatrix s a)
         ∙ ap (λ y. s.add y (named_sum s a i (drop (n + 1) es))) (laws.zero_mul e.value scale_value) ∙ laws.zero_add _ (left_value (n + 1) i) in
         ap (s.add (get_or sums i s.zero)) (sym whole) ∙ so_far i li
 
-  -- past the last entry nothing is left
+  -- past the last entry, the sums are complete
   pub all_columns_added : (n : ℕ) (sums : List ℕ) (T : ℕ → ℕ) → length es ≤ n → All (IsValue s) sums
       → ((i : ℕ) → i < length sums → s.add (get_or sums i s.zero) (named_sum s a i (drop n es)) ≡ T i)
       → (i : ℕ) → i < length sums → get_or sums i s.zero ≡ T i
@@ -104,7 +104,7 @@ module _ (s : Arithmetic) (laws : IsSemiring s) (a : Sparse) (is : IsMatrix s a)
       sym (add_zero s laws (get_or sums i s.zero) (All-get_or (IsValue s) sums i s.zero li sums_are))
       ∙ ap (λ xs. s.add (get_or sums i s.zero) (named_sum s a i xs)) (sym (drop_all n es l)) ∙ so_far i li
 
--- the columns that a vector names are the product with it
+-- the sum over a vector's entries is the product with the vector
 pub named_product : (s : Arithmetic) → IsSemiring s → (a x : Sparse) → IsMatrix s a → IsMatrix s x → a.shape.cols ≡ x.shape.rows → x.shape.cols ≡ 1 → (i : ℕ) → i < a.shape.rows → named_sum s a i x.entries ≡ at s (product s a x) i 0
 named_product s laws a x p q agree one i l =
     let all : in_column 0 x.entries ≡ x.entries = in_column-all 0 x.entries (All-weaker (IsInside x.shape) (λ e. e.column ≡ 0) (λ e k. let c = k.1 in omega (arith, one)) x.entries q.inside) in

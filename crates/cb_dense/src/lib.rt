@@ -1,20 +1,21 @@
-//! Products of a sparse block and a sparse vector, added to a dense vector.
+//! The product of a sparse block and a sparse vector, added to a dense vector.
 //!
-//! The sums have a place for each row of the block, whether anything is added there or not: so they serve where most
-//! rows have a sum, and where many products go to the same sums. A product of `cb_product` by a block of one column makes a sparse vector of
-//! its own instead, and never spends anything on a row.
+//! The dense vector has a sum for each row of the block. That pays if most rows have a sum, or if several products are added
+//! to the same sums. Otherwise use `cb_product` with a block of one column: its result is a sparse vector, and its cost
+//! doesn't depend on the number of rows.
 //!
-//! A product of a block and a vector is a sum of columns: column k of the block, scaled by the vector's entry of row k,
-//! for each entry. Both the entries and the block's columns ascend, so they are walked side by side, and no column is
-//! searched for. It is the sum by columns of Gilbert, Moler and Schreiber, Sparse Matrices in MATLAB (SIAM J. Matrix
-//! Anal. Appl. 1992, section 3.1), without marks of the rows that have a sum.
+//! The product is a sum of columns of the block: for each entry of the vector, at row k, column k times that entry. The
+//! vector's entries and the block's columns both ascend, so one pass over both finds all columns. This is the sum by columns
+//! of Gilbert, Moler and Schreiber, Sparse Matrices in MATLAB (SIAM J. Matrix Anal. Appl. 1992, section 3.1), without
+//! marks of the rows that have a sum.
 #![tactic(auto)]
 
-ghost use Rattle.std.specs.Prelude.{◌≡◌, ℕ, ◌<◌, ◌≤◌, length, All, AllPairs, slice_index, slice_index_or};
+ghost use Rattle.std.specs.Prelude.{◌≡◌, ℕ, ◌<◌, ◌≤◌, Some, length, All, AllPairs, slice_index};
 ghost use Rattle.cb_semirings.specs.Arithmetic.{IsValue};
 ghost use Rattle.cb_matrix.specs.Sparse.{at};
 ghost use Rattle.cb_matrix.specs.Values.{product};
-ghost use Rattle.cb_dcsc.specs.Columns.{row_value};
+ghost use Rattle.cb_product.specs.SparseColumn.{scaled_at};
+ghost use Rattle.cb_product.specs.DenseSums.{AddsToSums};
 
 use cb_dcsc::Block;
 use cb_matrix::Matrix;
@@ -22,9 +23,10 @@ use cb_semirings::Semiring;
 
 /// Adds the product of a block and a vector to dense sums, one for each row of the block.
 ///
-/// The vector is a matrix of one column, with as many rows as the block has columns. It takes no memory. It takes time
-/// for the vector's entries, for the columns of the block that have entries, up to the last one that the vector names,
-/// and for the products; none for a row.
+/// The vector is a matrix of one column, with as many rows as the block has columns.
+///
+/// Costs O(entries of the vector + nonempty columns of the block + products), and no memory. Columns after the one that the
+/// vector's last entry names aren't visited.
 pub fn add_product<S: Semiring>(sums: &mut [u64], matrix: &Block<S>, vector: &Matrix<S>)
     requires length { length sums.old ≡ matrix.now.shape.rows }
     requires values { All (IsValue S.arithmetic) sums.old }
@@ -32,10 +34,9 @@ pub fn add_product<S: Semiring>(sums: &mut [u64], matrix: &Block<S>, vector: &Ma
     requires column { vector.now.shape.cols ≡ 1 }
     ensures length { length sums.new ≡ length sums.old }
     ensures values { All (IsValue S.arithmetic) sums.new }
-    ensures sums { (i : ℕ) → i < matrix.now.shape.rows → slice_index_or sums.new i S.arithmetic.zero ≡ S.arithmetic.add (slice_index_or sums.old i S.arithmetic.zero) (at S.arithmetic (product S.arithmetic matrix.now vector.now) i 0) }
+    ensures sums { AddsToSums S.arithmetic matrix.now.shape.rows (λ i. at S.arithmetic (product S.arithmetic matrix.now vector.now) i 0) sums.old sums.new }
 {
-    // For the proof alone: both keep their entries in order, inside their shapes.
-    let _shapes = (matrix.shape(), vector.shape());
+    prove_eq!(matrix.shape().cols(), vector.shape().rows());
     let columns = matrix.column_numbers();
     let entries = vector.entries();
     let mut next = 0;
@@ -48,7 +49,7 @@ pub fn add_product<S: Semiring>(sums: &mut [u64], matrix: &Block<S>, vector: &Ma
     }
 }
 
-/// The place of the first of these columns that isn't before a column. All of them before the place `from` are.
+/// Returns the place of the first of these columns that isn't before `column`. Those at places below `from` are before it.
 #[inline(always)]
 fn advance(columns: &[u32], from: usize, column: u32) -> usize
     requires { (k : ℕ) → k < from → slice_index columns.now k < column }
@@ -62,7 +63,7 @@ fn advance(columns: &[u32], from: usize, column: u32) -> usize
     n
 }
 
-/// Adds a column, scaled, to the sums of its rows.
+/// Adds a column, times a factor, to the sums of its rows.
 #[inline(always)]
 fn add_column<S: Semiring>(sums: &mut [u64], rows: &[u32], values: &[u64], scale: u64)
     requires sums { All (IsValue S.arithmetic) sums.old }
@@ -73,7 +74,7 @@ fn add_column<S: Semiring>(sums: &mut [u64], rows: &[u32], values: &[u64], scale
     requires scale { IsValue S.arithmetic scale }
     ensures length { length sums.new ≡ length sums.old }
     ensures values { All (IsValue S.arithmetic) sums.new }
-    ensures sums { (i : ℕ) → i < length sums.old → slice_index_or sums.new i S.arithmetic.zero ≡ S.arithmetic.add (slice_index_or sums.old i S.arithmetic.zero) (S.arithmetic.mul (row_value S.arithmetic.zero rows.now values.now i) scale) }
+    ensures sums { AddsToSums S.arithmetic (length sums.old) (scaled_at S.arithmetic rows.now values.now (Some scale)) sums.old sums.new }
 {
     for n in 0..rows.len() {
         let row = rows[n] as usize;

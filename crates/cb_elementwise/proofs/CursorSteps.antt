@@ -66,7 +66,7 @@ module _ (es : List Entry) (c a b : ℕ) (some : a < b) (within : b ≤ length e
         (cases_lt j a);
   }
 
--- ---- the columns of entries, with one entry more in front
+-- ---- the columns of entries, with one more entry in front
 with_front_begins : (c : ℕ) (ds : List ℕ) → (r : List ℕ) × (with_front c ds ≡ c ∷ r)
 with_front_begins c [] = ([], refl)
 with_front_begins c (d ∷ ds) =

@@ -67,7 +67,7 @@ is_next p (x ∷ xs) (y ∷ ys) ux uy h =
           }
     ] refl h
 
--- where there is none, both lists have ended
+-- if there is none, both lists have ended
 pub none_next : (xs ys : List Entry) → None ≡ earlier (first_of xs) (first_of ys) → (xs ≡ []) × (ys ≡ [])
 none_next [] [] h = (refl, refl)
 none_next [] (y ∷ ys) h = cc
@@ -141,7 +141,7 @@ fewer p xs ys is =
     let b = past_shorter p ys in
     ⊎_elim (λ h. let l = past_first_shorter p xs h in omega arith) (λ h. let l = past_first_shorter p ys h in omega arith) is.one
 
--- ---- one entry more
+-- ---- one more entry
 module _ (z : ℕ) (made : List Entry) (d : Entry) (before : All (λ e. IsBefore e d) made) where
   kept_here : (i j : ℕ) → i ≡ d.row → j ≡ d.column → value_at z (made ++ stored z d) i j ≡ d.value
   unfolding value_at

@@ -72,8 +72,8 @@ pub fn mask<S: Semiring>(
     joined(alloc, &Restriction, block, mask, room)
 }
 
-/// The entries of a block at the places where a mask of its shape has none: what the complement of the mask allows.
-/// What values the mask has doesn't matter.
+/// The entries of a block at the places where a mask of the same shape has none: those that the complement of the mask
+/// allows. The values of the mask don't matter.
 ///
 /// Costs a few instructions for each entry of the two.
 pub fn exclude<S: Semiring>(

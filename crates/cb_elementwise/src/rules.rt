@@ -69,7 +69,7 @@ impl<S: Semiring> Rule<S> for Restriction {
     }
 }
 
-/// The first value, where the second is zero.
+/// The first value if the second is zero.
 #[derive(Drop)]
 pub(crate) struct Exclusion;
 

@@ -8,10 +8,10 @@ use std::test::Fail;
 
 const LAST: u32 = LIMIT - 1;
 
-/// How many vertices a graph has, its edges, and the least vertex of the component of each vertex that has an edge: no
-/// vertex; no edges; a loop alone; one edge, in either direction and in both; two components that lie between each
-/// other; a chain whose least vertex is in its middle; a chain of which all entries but one have one in the other
-/// direction; two stars that an edge between their ends joins; and of 2,147,483,647 vertices three that have edges.
+/// The number of vertices of a graph, its edges, and the least vertex of the component of each vertex that has an edge: no
+/// vertices; no edges; only a loop; one edge, in either direction and in both; two interleaved components; a chain whose
+/// least vertex is in the middle; a chain with all edges but one in both directions; two stars that are joined by an edge
+/// between their ends; and 2,147,483,647 vertices, three of them with edges.
 const COMPONENTS: [(u32, &[(u32, u32)], &[(u32, u64)]); 11] = [
     (0, &[], &[]),
     (3, &[], &[]),

@@ -1,4 +1,4 @@
-//! Graphs and columns, written out as short lists, so that a table of a test can hold them.
+//! Graphs and columns as short lists, which fit into the tables of tests.
 ghost use Rattle.std.specs.Prelude.{◌≡◌, IfOk};
 
 use cb_dcsc::Block;
@@ -7,7 +7,8 @@ use cb_samples::{SampleFault, block, entry};
 use cb_semirings::{OrAnd, Semiring};
 use std::alloc::{AllocError, Global};
 
-/// The block of a graph with so many vertices and these edges, each its row and its column, by column and then by row.
+/// The block of a graph with this many vertices and these edges, each given as its row and column, by column and then by
+/// row.
 pub fn graph(alloc: Global, side: u32, edges: &[(u32, u32)]) -> Result<Block<OrAnd>, SampleFault>
     ensures { IfOk result (λ b. b.shape ≡ record { rows = side; cols = side }) }
 {
@@ -24,7 +25,7 @@ fn entries_of(alloc: Global, edges: &[(u32, u32)]) -> Result<Vec<Entry>, AllocEr
     Ok(entries)
 }
 
-/// Whether a column has these values, each with its row, in order, and no others.
+/// Whether a column has exactly these values, each given with its row, in order.
 pub fn has<S: Semiring>(column: &Matrix<S>, wanted: &[(u32, u64)]) -> bool {
     let entries = column.entries();
     if entries.len() != wanted.len() {

@@ -1,8 +1,7 @@
-//! What the calls on graphs answer, at graphs small enough to follow by eye: parents in a breadth-first search,
-//! levels and distances from several sources, connected components, and triangles.
+//! Tests of the calls on graphs, on graphs small enough to check by hand: parents in a breadth-first search, levels and
+//! distances from several sources, connected components, and triangles.
 //!
-//! The tests named for refused memory accept the right answer or the error for want of memory; the others need ample
-//! memory.
+//! Tests named for refused memory accept the right result or the error for want of memory; the others need ample memory.
 #![tactic(auto)]
 
 #[cfg(test)]

@@ -8,9 +8,9 @@ use std::test::Fail;
 
 const LAST: u32 = LIMIT - 1;
 
-/// How many vertices a graph has, its edges, a source, and the least parent of each vertex that is reached: one vertex; no
-/// edges; loops alone; a chain, from either end; a cycle; the least of two; the least vertex of the level before, and none of
-/// a level farther or as far; a walk that is shorter; and of 2,147,483,647 vertices three that have edges.
+/// The number of vertices of a graph, its edges, a source, and the least parent of each vertex that is reached: one vertex;
+/// no edges; only loops; a chain, from either end; a cycle; the lesser of two parents; the least parent of the level
+/// before, with edges from the same and the next level; a shorter walk; and 2,147,483,647 vertices, three of them with edges.
 const PARENTS: [(u32, &[(u32, u32)], u32, &[(u32, u64)]); 10] = [
     (1, &[(0, 0)], 0, &[]),
     (3, &[], 1, &[]),
@@ -50,7 +50,7 @@ const LEVELS: &[(u32, u32)] = &[
     (2, 3),
 ];
 
-/// Whether these are the least parents in a graph, seen from a source, which is one of its vertices.
+/// Whether these are the least parents in a graph, from a source that is one of its vertices.
 fn are_parents(
     alloc: Global,
     side: u32,

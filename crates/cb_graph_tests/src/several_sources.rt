@@ -1,4 +1,4 @@
-//! Levels and distances from several sources, side by side.
+//! Levels and distances from several sources, a column for each.
 ghost use Rattle.std.specs.Prelude.{◌↔◌, ◌<◌, All, IsTrue};
 
 use crate::graphs::graph;
@@ -12,11 +12,11 @@ use std::test::Fail;
 
 const LAST: u32 = LIMIT - 1;
 
-/// Places of an answer, and their values.
+/// Places of a result, and their values.
 type Answer = &'static [(u32, u32, u64)];
 
-/// How many vertices a graph has, its edges, the sources, and the levels from each: none; one; each vertex, and one of them
-/// twice; and of 2,147,483,647 vertices three that have edges.
+/// The number of vertices of a graph, its edges, the sources, and the levels from each: no source; one; every vertex, one
+/// of them twice; and 2,147,483,647 vertices, three of them with edges.
 const LEVELS: [(u32, &[(u32, u32)], &[u32], Answer); 4] = [
     (3, &[(0, 1)], &[], &[]),
     (3, &[(0, 1), (1, 2)], &[1], &[(1, 0, 0), (2, 0, 1)]),
@@ -51,7 +51,7 @@ fn are_below(vertices: &[u32], bound: u32) -> bool
     vertices.iter().all(|vertex| *vertex < bound)
 }
 
-/// Whether a matrix has these entries, and a column for each source.
+/// Whether a matrix has exactly these entries, and a column for each source.
 fn has(made: &Matrix<MinPlus>, sources: &[u32], wanted: Answer) -> bool {
     let entries = made.entries();
     if entries.len() != wanted.len() || made.cols() as usize != sources.len() {
@@ -65,7 +65,7 @@ fn has(made: &Matrix<MinPlus>, sources: &[u32], wanted: Answer) -> bool {
     true
 }
 
-/// Whether these are the levels from each source, which are vertices.
+/// Whether these are the levels from each source, all of them vertices.
 fn are_levels(
     alloc: Global,
     side: u32,
@@ -81,7 +81,7 @@ fn are_levels(
     Ok(has(&made, sources, wanted))
 }
 
-/// Whether these are the distances from each source, which are vertices.
+/// Whether these are the distances from each source, all of them vertices.
 fn are_distances(
     alloc: Global,
     side: u32,

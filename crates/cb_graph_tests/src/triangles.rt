@@ -6,10 +6,10 @@ use cb_samples::SampleFault;
 use std::alloc::Global;
 use std::test::Fail;
 
-/// How many vertices a graph has, its edges, and how many triangles: no vertex; no edges; loops alone; two edges; a cycle of
-/// three in one direction, and with all entries in both and loops; a square, and a square with one diagonal; all six edges of
-/// four vertices; two triangles at one vertex; a star; a triangle of which all entries but one have one in the other
-/// direction; and of 2,147,483,647 vertices three that have edges.
+/// The number of vertices of a graph, its edges, and how many triangles it has: no vertices; no edges; only loops; two
+/// edges; a cycle of three in one direction, and in both directions with loops; a square, and a square with one diagonal;
+/// four vertices with all six edges; two triangles at one vertex; a star; a triangle with all edges but one in both
+/// directions; and 2,147,483,647 vertices, three of them with edges.
 const COUNTS: [(u32, &[(u32, u32)], u64); 13] = [
     (0, &[], 0),
     (3, &[], 0),
@@ -26,9 +26,9 @@ const COUNTS: [(u32, &[(u32, u32)], u64); 13] = [
     (LIMIT, &[(LAST, 5), (5, 9), (9, LAST)], 1),
 ];
 
-/// How many vertices a graph has, its edges, and of how many triangles each vertex is part, where it is of any: no vertex;
-/// loops alone; a triangle with all entries in both directions and loops; a square with one diagonal; two triangles at one
-/// vertex, of which each has a loop.
+/// The number of vertices of a graph, its edges, and the number of triangles at each vertex that is in one: no vertices;
+/// only loops; a triangle with edges in both directions and loops; a square with one diagonal; two triangles at one vertex,
+/// each with a loop.
 const COUNTS_OF: [(u32, &[(u32, u32)], &[(u32, u64)]); 5] = [
     (0, &[], &[]),
     (3, &[(0, 0), (1, 1), (2, 2)], &[]),
@@ -65,7 +65,7 @@ const TWO_AT_ONE: &[(u32, u32)] = &[
     (4, 4),
 ];
 
-/// Whether a graph has so many triangles.
+/// Whether a graph has this many triangles.
 fn counts(
     alloc: Global,
     side: u32,
@@ -77,7 +77,7 @@ fn counts(
     Ok(found == wanted)
 }
 
-/// Whether each vertex of a graph is part of so many.
+/// Whether each vertex of a graph is in this many triangles.
 fn counts_of(
     alloc: Global,
     side: u32,

@@ -1,4 +1,4 @@
--- A label that spreads: what it reaches has it, and in the end nothing waits.
+-- A label that spreads: every vertex that it reaches gets it, and in the end none is waiting.
 use Rattle.std.proofs.Common.{◌≡◌, ◌≢◌, ℕ, ◌+◌, ◌<◌, ◌≤◌, Bool, true, false, cond, ◌⊎◌, inl, inr, ⊎_elim, List, [], ◌∷◌, ◌++◌, length, get_or, subst, sym, refl, ap, ◌∙◌, arith}
 use Rattle.std.specs.Prelude.{All, Contains, ◌==◌, ◌&&◌}
 use Rattle.std.proofs.lemmas.Bool.{cases_eq, cases_lt, cond-true, cond-false, eq-eqb, ne_eqb}
@@ -22,18 +22,18 @@ and_false : (b : Bool) → (b && false) ≡ false
 and_false true = refl
 and_false false = refl
 
--- ---- one vertex more that has a label
+-- ---- one more vertex gets a label
 module _ (d : ℕ → ℕ) (w c v : ℕ) where
-  -- where it had none
+  -- if it had none
   pub with_new : d w ≡ infinite → with_label d w c v ≡ cond (v == w) c (d v)
   with_new none = ap (λ (b : Bool). cond b c (d v)) (ap (λ (b : Bool). (v == w) && b) (eq-eqb (d w) infinite none) ∙ and_true (v == w))
 
-  -- where it had one
+  -- if it had one
   pub with_old : d w ≢ infinite → with_label d w c v ≡ d v
   with_old some = cond-false _ _ _ (ap (λ (b : Bool). (v == w) && b) (ne_eqb (d w) infinite some) ∙ and_false (v == w))
 
 module _ (d e : ℕ → ℕ) (w c : ℕ) (finite : c < infinite) (set : (v : ℕ) → e v ≡ with_label d w c v) where
-  -- it has the label
+  -- it has the label now
   pub set_here : d w ≡ infinite → e w ≡ c
   set_here none = set w ∙ with_new d w c w none ∙ cond-true _ _ _ (eq-eqb w w refl)
 
@@ -41,28 +41,28 @@ module _ (d e : ℕ → ℕ) (w c : ℕ) (finite : c < infinite) (set : (v : ℕ
   pub set_there : (v : ℕ) → v ≢ w → e v ≡ d v
   set_there v other = set v ∙ cond-false _ _ _ (ap (λ (b : Bool). b && (d w == infinite)) (ne_eqb v w other))
 
-  -- where it had one, nothing changes
+  -- if it had a label, nothing changes
   pub set_not : d w ≢ infinite → (v : ℕ) → e v ≡ d v
   set_not some v = set v ∙ with_old d w c v some
 
-  -- each label stays
+  -- no label is lost
   pub set_keeps : KeepLabels d e
   set_keeps v some = ⊎_elim (λ (same : v ≡ w). set_not (λ none. some (ap d same ∙ none)) v) (λ (other : v ≡ w → ⊥). set_there v other) (cases_eq v w)
 
-  -- what has no label had none
+  -- a vertex without a label had none before
   pub set_fewer : (v : ℕ) → e v ≡ infinite → d v ≡ infinite
   set_fewer v none = ⊎_elim (λ (was : d v ≡ infinite). was) (λ (some : d v ≡ infinite → ⊥). absurd (some (sym (set_keeps v some) ∙ none))) (cases_eq (d v) infinite)
 
--- ---- the vertices that wait
--- what is spread stays so while labels stay
+-- ---- the waiting vertices
+-- a vertex whose label has spread keeps that state while labels stay
 pub spread_kept : (s : Sparse) (d e : ℕ → ℕ) → KeepLabels d e → (v : ℕ) → d v ≢ infinite → IsSpread s d v → IsSpread s e v
 spread_kept s d e keeps v some h x q = keeps x (λ z. some (sym (h x q) ∙ z)) ∙ h x q ∙ sym (keeps v some)
 
--- labels that stay twice stay
+-- labels that stay in each of two steps stay in both
 pub kept_twice : (d e f : ℕ → ℕ) → KeepLabels d e → KeepLabels e f → KeepLabels d f
 kept_twice d e f p q v some = q v (λ z. some (sym (p v some) ∙ z)) ∙ p v some
 
--- none waits where no vertex has a label
+-- if no vertex has a label, none needs to wait
 pub none_labelled : (s : Sparse) (d : ℕ → ℕ) → ((v : ℕ) → d v ≡ infinite) → IsLabelling s d []
 none_labelled s d none = record {
   joined = λ v some. absurd (some (none v));
@@ -71,7 +71,7 @@ none_labelled s d none = record {
   spread = λ v some. absurd (some (none v));
 }
 
--- a flood begins at a vertex that has entries: where it has no label, it is its own
+-- a flood begins at a vertex that has entries: if it has no label, it becomes its own
 module _ (s : Sparse) (d e : ℕ → ℕ) (w u : ℕ) (finite : w < infinite) (edge : at or_and s u w ≢ 0) (next : IsNext s d w) (is : IsLabelling s d []) (ys : List ℕ) (set : (v : ℕ) → e v ≡ with_label d w w v) (waits : ys ≡ with_waiting d w []) where
   begun_old : d w ≢ infinite → IsFlooding s w e ys
   begun_old some =
@@ -125,7 +125,7 @@ module _ (s : Sparse) (d e : ℕ → ℕ) (w u : ℕ) (finite : w < infinite) (e
       (cases_eq (d w) infinite)
 
 module _ (s : Sparse) (c : ℕ) (d : ℕ → ℕ) where
-  -- they may wait in another order
+  -- the order of the waiting vertices doesn't matter
   pub flooding_moved : (xs : List ℕ) (x : ℕ) → IsFlooding s c d (xs ++ x ∷ []) → IsFlooding s c d (x ∷ xs)
   flooding_moved xs x is = record {
     finite = is.finite;
@@ -145,7 +145,7 @@ module _ (s : Sparse) (c : ℕ) (d : ℕ → ℕ) where
     };
   }
 
--- While the neighbours of u get the label, the first n of them have it, and every other vertex waits or has spread its own.
+-- The neighbours of u are getting the label: the first n have it, and every other vertex waits or has spread its own.
 pub record IsReaching (s : Sparse) (c : ℕ) (d : ℕ → ℕ) (waiting : List ℕ) (u : ℕ) (rows : List ℕ) (n : ℕ) : Type 0 where
   pub finite : c < infinite
   pub next : IsNext s d c
@@ -158,7 +158,7 @@ pub record IsReaching (s : Sparse) (c : ℕ) (d : ℕ → ℕ) (waiting : List �
   pub passed : (k : ℕ) → k < n → d (get_or rows k 0) ≡ c
 
 module _ (s : Sparse) (is_s : IsMatrix or_and s) (both : IsUndirected s) (c u : ℕ) (rows : List ℕ) (rows_are : rows ≡ rows_of (in_column u s.entries)) where
-  -- at first only u itself is taken out
+  -- at first, u alone has been taken from the waiting vertices
   pub reaching_begun : (d : ℕ → ℕ) (waiting : List ℕ) → IsFlooding s c d (u ∷ waiting) → IsReaching s c d waiting u rows 0
   reaching_begun d waiting is = record {
     finite = is.finite;
@@ -293,6 +293,6 @@ module _ (s : Sparse) (is_s : IsMatrix or_and s) (both : IsUndirected s) (c u : 
         passed = passed_next e (λ k l. kept (get_or rows k 0) (is.passed k l)) here;
       }
 
-    -- one neighbour more has the label
+    -- one more neighbour has the label
     pub reached_next : IsReaching s c e ys u rows (n + 1)
     reached_next = ⊎_elim reached_new reached_old (cases_eq (d w) infinite)

@@ -1,4 +1,4 @@
--- Labels that have spread name the least vertex that is joined to each.
+-- Labels that have spread are the least vertices of the components.
 use Rattle.std.proofs.Common.{◌≡◌, ◌≢◌, ℕ, ◌<◌, ◌≤◌, true, false, cond, ⊎_elim, List, [], ◌∷◌, length, get_or, subst, sym, refl, ap, ◌∙◌, arith}
 use Rattle.std.specs.Prelude.{All, AllPairs, Contains, ◌==◌}
 use Rattle.std.proofs.lemmas.Bool.{cases_eq, cases_lt, eq-eqb, eqb-true}
@@ -43,7 +43,7 @@ module _ (s : Sparse) (is_s : IsMatrix or_and s) (cs : List ℕ) (held : All (λ
       listed_first cs v (in_column v s.entries) (All-filter (λ e. e.column == v) (λ e. Contains cs e.column) s.entries held) (filter_passes (λ e. e.column == v) s.entries)
       (omega (arith, l, length-map (in_column v s.entries) (λ (e : Entry). e.row)))
 
-  -- where all columns before the nth have a label, none that has no label is below it
+  -- if all columns before the nth have a label, every column without one is at least the nth
   pub next_listed : (d : ℕ → ℕ) (n : ℕ) → n < length cs → AllPairs (λ c d. c < d) cs → ((k : ℕ) → k < n → d (get_or cs k 0) ≢ infinite) → IsNext s d (get_or cs n 0)
   next_listed d n inside up before v u free edge =
       let there : Contains cs v = edge_listed u v edge in
@@ -84,7 +84,7 @@ module _ (s : Sparse) (both : IsUndirected s) (d : ℕ → ℕ) (is : AreSpread 
       (λ (h : IsSpread s d y). h x edge)
       (is.labels.spread y some)
 
-  -- a walk begins at a vertex of the same label as that where it ends
+  -- both ends of a walk have the same label
   same_along : (u v : ℕ) (walk : List ℕ) → IsWalk or_and s u v walk → d v ≢ infinite → d u ≡ d v
   same_along u v [] w some = absurd (none-some u w.begins)
   same_along u v (x ∷ []) w some = ap d (sym (same_Some x u w.begins) ∙ same_Some x v w.ends)
@@ -93,7 +93,7 @@ module _ (s : Sparse) (both : IsUndirected s) (d : ℕ → ℕ) (is : AreSpread 
       let step : d x ≡ d y = neighbour_same y x (λ q. some (sym later ∙ q)) (both x y (walk_edge or_and s u v x y ys w)) in
       ap d (sym (walk_first or_and s u v x (y ∷ ys) w)) ∙ step ∙ later
 
--- a column that has the labels has the components
+-- a column of the labels is a column of the components
 pub components_are : (a : Sparse) → IsUndirected (undirected a) → (d : ℕ → ℕ) → AreSpread (undirected a) d → (column : Sparse) → column.shape ≡ column_shape a → ((v : ℕ) → at min_plus column v 0 ≡ d v) → AreComponents a column
 components_are a both d is column shape values = record {
   shape = shape;
@@ -109,7 +109,7 @@ components_are a both d is column shape values = record {
   none = λ v bare. values v ∙ ⊎_elim (λ (q : d v ≡ infinite). q) (λ (some : d v ≡ infinite → ⊥). absurd (bare (is.labels.entered v some))) (cases_eq (d v) infinite);
 }
 
--- where each column that has entries has them in the other direction too, so have all
+-- if the entries of each listed column have one in the other direction, all entries do
 pub meet_all : (s : Sparse) (is : IsMatrix or_and s) (vs : List ℕ) → All (λ e. Contains vs e.column) s.entries → ((k : ℕ) → k < length vs → All (λ u. at or_and s (get_or vs k 0) u ≢ 0) (rows_of (in_column (get_or vs k 0) s.entries))) → IsUndirected s
 meet_all s is vs held met u v edge =
     let there : Contains vs v = edge_listed s is vs held u v edge in

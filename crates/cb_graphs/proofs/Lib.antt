@@ -1,7 +1,8 @@
--- For this crate alone. Undirected: a matrix and its transposed one, added. Flooded: a label that spreads. Joined: what
--- labels that have spread are. Counting: sums over a range and over lists. AnyOrder: three that are joined, counted by
--- whatever order. Listed: what lists of joined numbers have in common. Later: which place comes later. Marked: marks, and
--- lists one after the other. Beside: lists of the places of neighbours. Apexes: triangles by the places of their vertices, and those of one vertex.
+-- For this crate alone. Undirected: the sum of a matrix and its transpose. Flooded: a label that spreads. Joined: labels
+-- that have spread are the least vertices of components. Counting: sums over ranges and over lists. AnyOrder: joined
+-- triples are counted alike in every order. Listed: numbers that lists have in common. Later: orders of places. Marked:
+-- marks, and lists one after another. Beside: lists of the places of neighbours. Apexes: all triangles, and those of one
+-- vertex, by the places of their vertices.
 pub mod Undirected
 pub mod Flooded
 pub mod Joined

@@ -1,4 +1,4 @@
--- A square matrix and its transposed one, added: it has each entry in both directions.
+-- The sum of a square matrix and its transpose has each entry in both directions.
 use Rattle.std.proofs.Common.{◌≡◌, ℕ, ◌<◌, ◌≤◌, ⊎_elim, ap, ◌∙◌, arith}
 use Rattle.std.specs.Prelude.{max}
 use Rattle.std.proofs.lemmas.Bool.{cases_eq, cases_lt}
@@ -18,7 +18,7 @@ module _ (a : Sparse) (is : IsMatrix or_and a) (square : a.shape.rows ≡ a.shap
   turned_at : (i j : ℕ) → i < a.shape.rows → j < a.shape.rows → at or_and (transposed or_and a) i j ≡ at or_and a j i
   turned_at i j l k = at-matrix_of or_and (record { rows = a.shape.cols; cols = a.shape.rows }) (λ i j. at or_and a j i) i j (omega (arith, square)) k
 
-  -- where it has a value
+  -- its values
   undirected_at : (i j : ℕ) → i < a.shape.rows → j < a.shape.rows → at or_and (undirected a) i j ≡ max (at or_and a i j) (at or_and a j i)
   undirected_at i j l k =
       at-matrix_of or_and a.shape (λ i j. max (at or_and a i j) (at or_and (transposed or_and a) i j)) i j l (omega (arith, square))
@@ -44,7 +44,7 @@ module _ (a : Sparse) (is : IsMatrix or_and a) (square : a.shape.rows ≡ a.shap
       (λ (l : a.shape.rows ≤ u). absurd (some (outside u v (λ m _. omega arith))))
       (cases_lt u a.shape.rows)
 
-  -- where each entry has one in the other direction already, it is the matrix
+  -- if each entry has one in the other direction already, the sum is the matrix
   pub undirected_same : IsUndirected a → undirected a ≡ a
   undirected_same both =
       same_matrix or_and (undirected a) a undirected_matrix is (shape-matrix_of or_and a.shape (λ i j. max (at or_and a i j) (at or_and (transposed or_and a) i j)))

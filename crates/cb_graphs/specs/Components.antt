@@ -5,7 +5,7 @@ use Rattle.cb_matrix.specs.Sparse.{Sparse, at}
 use Rattle.cb_matrix.specs.Operations.{sum_of, transposed}
 use Rattle.cb_searches.specs.Walks.{IsWalk, infinite, column_shape}
 
--- the graph without directions: each entry stands in both
+-- the undirected graph: each entry is there in both directions
 abbrev pub undirected : Sparse → Sparse
 undirected a = sum_of or_and a (transposed or_and a)
 
@@ -13,7 +13,7 @@ undirected a = sum_of or_and a (transposed or_and a)
 abbrev pub HasEntry : Sparse → ℕ → Type 0
 HasEntry a v = (u : ℕ) × (at or_and (undirected a) u v ≢ or_and.zero)
 
--- a walk joins two vertices, each step of it an entry in either direction
+-- two vertices are joined by a walk whose steps are entries in either direction
 abbrev pub AreJoined : Sparse → ℕ → ℕ → Type 0
 AreJoined a u v = (walk : List ℕ) × IsWalk or_and (undirected a) u v walk
 
@@ -22,7 +22,7 @@ pub record IsLeastJoined (a : Sparse) (u v : ℕ) : Type 0 where
   pub joined : AreJoined a u v
   pub least : (w : ℕ) → AreJoined a w v → u ≤ w
 
--- A column has for each vertex that has an entry the least vertex that is joined to it, and nothing for the others.
+-- A column has the least vertex of its component for each vertex that has an entry, and nothing for the others.
 pub record AreComponents (a column : Sparse) : Type 0 where
   pub shape : column.shape ≡ column_shape a
   pub least : (v : ℕ) → HasEntry a v → IsLeastJoined a (at min_plus column v 0) v

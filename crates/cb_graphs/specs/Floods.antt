@@ -12,31 +12,31 @@ IsUndirected s = (u v : ℕ) → at or_and s u v ≢ 0 → at or_and s v u ≢ 0
 abbrev pub IsSpread : Sparse → (ℕ → ℕ) → ℕ → Type 0
 IsSpread s d u = (v : ℕ) → at or_and s u v ≢ 0 → d v ≡ d u
 
--- Each label is that of a vertex that has entries, and names a vertex that is joined to it and not above it; where a
--- vertex that has one doesn't wait, its neighbours have the same.
+-- A vertex with a label has entries, and the label is a vertex that is joined to it and not above it. If the vertex
+-- isn't waiting, its neighbours have the same label.
 pub record IsLabelling (s : Sparse) (d : ℕ → ℕ) (waiting : List ℕ) : Type 0 where
   pub joined : (v : ℕ) → d v ≢ infinite → (walk : List ℕ) × IsWalk or_and s (d v) v walk
   pub low : (v : ℕ) → d v ≢ infinite → d v ≤ v
   pub entered : (v : ℕ) → d v ≢ infinite → (u : ℕ) × (at or_and s u v ≢ 0)
   pub spread : (v : ℕ) → d v ≢ infinite → Contains waiting v ⊎ IsSpread s d v
 
--- no vertex that has entries and no label is below c
+-- each vertex that has entries but no label is at least c
 abbrev pub IsNext : Sparse → (ℕ → ℕ) → ℕ → Type 0
 IsNext s d c = (v u : ℕ) → d v ≡ infinite → at or_and s u v ≢ 0 → c ≤ v
 
--- The label c spreads: all that wait have it.
+-- The label c is spreading: all waiting vertices have it.
 pub record IsFlooding (s : Sparse) (c : ℕ) (d : ℕ → ℕ) (waiting : List ℕ) : Type 0 where
   pub finite : c < infinite
   pub next : IsNext s d c
   pub same : All (λ v. d v ≡ c) waiting
   pub labels : IsLabelling s d waiting
 
--- the labels in the end: each vertex that has entries has one, and its neighbours have the same
+-- the labels in the end: each vertex that has entries has one, and its neighbours have the same one
 pub record AreSpread (s : Sparse) (d : ℕ → ℕ) : Type 0 where
   pub all : (v u : ℕ) → at or_and s u v ≢ 0 → d v ≢ infinite
   pub labels : IsLabelling s d []
 
--- a label that is there stays
+-- a vertex that has a label keeps it
 abbrev pub KeepLabels : (ℕ → ℕ) → (ℕ → ℕ) → Type 0
 KeepLabels d e = (v : ℕ) → d v ≢ infinite → e v ≡ d v
 
@@ -44,6 +44,6 @@ KeepLabels d e = (v : ℕ) → d v ≢ infinite → e v ≡ d v
 abbrev pub with_label : (ℕ → ℕ) → ℕ → ℕ → ℕ → ℕ
 with_label d u label v = cond ((v == u) && (d u == infinite)) label (d v)
 
--- and waits
+-- the waiting vertices: a vertex that had no label is added
 abbrev pub with_waiting : (ℕ → ℕ) → ℕ → List ℕ → List ℕ
 with_waiting d u waiting = cond (d u == infinite) (waiting ++ u ∷ []) waiting

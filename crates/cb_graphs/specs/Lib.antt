@@ -1,5 +1,5 @@
--- Components: which vertices are joined, and the columns that tell. Floods: labels that spread from vertex to vertex.
--- Triangles: how many there are. Neighbours: lists of the neighbours of each vertex.
+-- Components: connected components. Floods: labels that spread from vertex to vertex. Triangles: numbers of triangles.
+-- Neighbours: lists of the neighbours of each vertex.
 pub mod Components
 pub mod Floods
 pub mod Triangles

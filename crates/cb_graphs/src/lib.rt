@@ -1,7 +1,7 @@
-//! What the graph of a square matrix is like, in which a stored entry (i, j) is an edge from i to j.
+//! Connected components and triangles of the graph of a square matrix, in which a stored entry (i, j) is an edge from i
+//! to j.
 //!
-//! Each call takes one block and makes no plan. Work and memory go with the entries: a vertex without entries costs
-//! nothing.
+//! Each call takes one block and makes no plan. Time and memory grow with the entries, however many vertices have none.
 #![tactic(auto)]
 
 mod connected;

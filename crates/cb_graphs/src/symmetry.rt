@@ -1,7 +1,8 @@
 //! Whether a block has each entry in both directions already.
 //!
-//! Columns are gone through, ascending, and each keeps how many of its entries were met from the other side. An entry that
-//! has one in the other direction meets the next of its row's column, so no entry is looked for.
+//! The columns are visited in ascending order. The counterpart of entry (i, j) is entry (j, i), in column i. As j ascends,
+//! the counterparts in column i come in the order of its entries. So each has to be the first entry of its column that
+//! hasn't been met, and a count of met entries for each column replaces a search.
 ghost use Rattle.std.specs.Prelude.{◌≡◌, ◌≢◌, true, length, All, IfOk};
 ghost use Rattle.cb_semirings.specs.Tables.{or_and};
 ghost use Rattle.cb_matrix.specs.Sparse.{at};
@@ -16,7 +17,8 @@ use std::alloc::{AllocError, Global};
 
 /// Whether each entry of a square block has one in the other direction.
 ///
-/// Costs a few instructions for each entry, up to the first that has none.
+/// The contract only says what `true` means. After `false`, callers add the transpose, which is right for any block. Costs
+/// a few instructions for each entry, up to the first without one.
 pub(crate) fn is_undirected(alloc: Global, graph: &Block<OrAnd>) -> Result<bool, AllocError>
     requires { graph.now.shape.rows ≡ graph.now.shape.cols }
     ensures { IfOk result (λ b. b ≡ true → IsUndirected graph.now) }
@@ -26,11 +28,12 @@ pub(crate) fn is_undirected(alloc: Global, graph: &Block<OrAnd>) -> Result<bool,
     Ok(all_meet(graph, &places, &mut met))
 }
 
-/// Whether the entries of all columns have one in the other direction.
+/// Whether each entry has one in the other direction.
 fn all_meet(graph: &Block<OrAnd>, places: &Numbers, met: &mut [usize]) -> bool
     requires { length met.old ≡ vertex_count graph.now }
     ensures { result ≡ true → IsUndirected graph.now }
 {
+    // For the proof alone: the contract of this call says that the block is a matrix.
     let _shape = graph.shape();
     let columns = graph.column_numbers();
     for n in 0..columns.len() {
@@ -42,7 +45,7 @@ fn all_meet(graph: &Block<OrAnd>, places: &Numbers, met: &mut [usize]) -> bool
     true
 }
 
-/// Whether there are entries in a row, in all of these columns.
+/// Whether a row has entries in all of these columns, each the first of its column that hasn't been met.
 fn meets_all(
     graph: &Block<OrAnd>,
     places: &Numbers,
@@ -62,13 +65,14 @@ fn meets_all(
     true
 }
 
-/// Whether there is an entry in a row and a column, the next of that column that wasn't met.
+/// Whether the first entry of a column that hasn't been met is in this row. Then it is met.
 #[inline(always)]
 fn meets(graph: &Block<OrAnd>, places: &Numbers, met: &mut [usize], row: u32, column: u32) -> bool
     requires { length met.old ≡ vertex_count graph.now }
     ensures entry { result ≡ true → at or_and graph.now row column ≢ 0 }
     ensures as_many { length met.new ≡ length met.old }
 {
+    // For the proof alone: the contract of this call says that the block is a matrix.
     let _shape = graph.shape();
     let place = places.number_of(column);
     if place >= graph.columns() as u64 {

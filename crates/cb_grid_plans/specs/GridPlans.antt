@@ -47,12 +47,14 @@ pub record Leaves (s : Arithmetic) (q : ℕ) (acts : List Act) (state : State Sp
 -- over any semiring, the acts leave the transpose of any matrix of this shape whose parts are in slot 0
 abbrev pub IsTransposePlan : List Act → ℕ → Extent → Type 0
 IsTransposePlan acts q shape =
-    (s : Arithmetic) (a : Sparse) → a.shape ≡ shape → (state : State Sparse) → HasParts s q a 0 state → Leaves s q acts state (transposed s a)
+    (s : Arithmetic) (a : Sparse) → a.shape ≡ shape → (state : State Sparse)
+    → HasParts s q a 0 state → Leaves s q acts state (transposed s a)
 
--- over any semiring, the acts leave the same matrix without the entries that pass the test
+-- over any semiring, the acts leave any such matrix without the entries that pass the test
 abbrev pub IsPrunePlan : List Act → ℕ → Extent → Test → Type 0
 IsPrunePlan acts q shape test =
-    (s : Arithmetic) (a : Sparse) → a.shape ≡ shape → (state : State Sparse) → HasParts s q a 0 state → Leaves s q acts state (pruned s (passes test) a)
+    (s : Arithmetic) (a : Sparse) → a.shape ≡ shape → (state : State Sparse)
+    → HasParts s q a 0 state → Leaves s q acts state (pruned s (passes test) a)
 
 -- over any semiring, the acts leave the sum of any two matrices of this shape whose parts are in slots 0 and 1
 abbrev pub IsSumPlan : List Act → ℕ → Extent → Type 0

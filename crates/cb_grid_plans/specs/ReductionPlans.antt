@@ -45,7 +45,11 @@ turned shape = record { rows = shape.cols; cols = shape.rows }
 
 -- each rank sums the columns of its transposed block and sends the sums across the diagonal
 abbrev pub turned_sums_acts : ℕ → List Act
-turned_sums_acts q = each_rank q (λ _. op_is.Transpose 0 1) ++ (each_rank q (λ _. op_is.ColumnSums 1 1) ++ (mirror_acts q ++ each_rank q (λ _. op_is.Copy 2 1)))
+turned_sums_acts q =
+    each_rank q (λ _. op_is.Transpose 0 1)
+    ++ (each_rank q (λ _. op_is.ColumnSums 1 1)
+    ++ (mirror_acts q
+    ++ each_rank q (λ _. op_is.Copy 2 1)))
 
 -- the result there goes back, transposed
 abbrev pub turn_back_acts : ℕ → List Act

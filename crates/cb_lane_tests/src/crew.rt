@@ -1,4 +1,4 @@
-//! Crews whose workers count, by many rounds.
+//! Crews whose workers count, over many rounds.
 use cb_crew::{Crew, CrewFault, Naming, Rounds, Task, start};
 use std::alloc::{AllocError, Global};
 use std::sync::Wait;
@@ -31,7 +31,7 @@ fn tasks_of(alloc: Global, numbers: &[u64]) -> Result<Vec<Count>, AllocError> {
     Ok(tasks)
 }
 
-/// Each worker counts so many rounds from its own number on.
+/// Each worker counts this many rounds, starting from its own number.
 #[derive(Drop)]
 struct Counting {
     numbers: Vec<u64>,
@@ -71,7 +71,7 @@ impl Rounds for Counting {
     }
 }
 
-/// What these numbers are after so many rounds of a crew with a worker for each.
+/// These numbers after this many rounds of a crew with one worker for each.
 fn counted<R: Threads + Wait + Sync>(
     rt: &R,
     alloc: Global,
@@ -101,7 +101,7 @@ fn crews_count_by_rounds(rt: HostRuntime) -> Result<(), Fail> {
 
 /// Passes whichever single growth is refused (`rt try --test --fail-alloc N`, for each N in turn).
 #[test]
-fn a_refused_crew_answers_so(rt: HostRuntime) -> Result<(), Fail> {
+fn a_refused_crew_is_reported(rt: HostRuntime) -> Result<(), Fail> {
     match counted(&rt, rt.alloc(), &[5, 6], 3) {
         Ok(numbers) => assert_eq!(rt; numbers.as_slice(), [8, 9].as_slice()),
         Err(fault) => assert_eq!(rt; fault, CrewFault::Memory),

@@ -1,4 +1,4 @@
-//! The worked examples of desks, by their answers, and desks on threads of their own.
+//! Worked examples of desks, and desks on their own threads.
 ghost use Rattle.std.specs.Prelude.{◌≡◌, [], ◌∷◌, IfOk};
 ghost use Rattle.cb_lanes.specs.Desks.{identity, AreOfOneOpening};
 
@@ -9,7 +9,7 @@ use std::sync::Wait;
 use std::test::Fail;
 use std::thread::{Threads, join};
 
-/// The letter without a sheet, with tag 4, that the lane from 0 to 1 gives out.
+/// The letter with this number on the lane from 0 to 1, without a sheet and with tag 4.
 fn lost_letter(number: u64) -> Taken<u64> {
     Taken::Letter(Letter {
         from: 0,
@@ -20,7 +20,7 @@ fn lost_letter(number: u64) -> Taken<u64> {
     })
 }
 
-/// The desks of two ranks, with lanes for so many letters.
+/// The desks of two ranks, with lanes for this many letters.
 pub(crate) fn two_desks(alloc: Global, letters: usize) -> Result<(Desk<u64>, Desk<u64>), Fail>
     ensures { IfOk result (λ desks. AreOfOneOpening (identity desks.0 ∷ identity desks.1 ∷ [])) }
 {
@@ -30,7 +30,7 @@ pub(crate) fn two_desks(alloc: Global, letters: usize) -> Result<(Desk<u64>, Des
     Ok((first, second))
 }
 
-/// How many letters were posted and taken from the first of two desks to the second, and how many the other way.
+/// How many letters were posted and taken from the first of two desks to the second, and in the other direction.
 fn settled(
     alloc: Global,
     first: Desk<u64>,
@@ -53,49 +53,49 @@ fn counts(desk: &Desk<u64>, rank: u16) -> Option<(u64, u64)> {
     Some((desk.posted(rank), desk.taken(rank)))
 }
 
-/// Whether letters without a sheet, posted to these ranks, are answered so. Each that is refused comes back.
+/// Whether letters without a sheet, posted to these ranks, are answered as expected. Each that is refused comes back.
 fn posts(desk: &mut Desk<u64>, rows: &[(u16, Result<u64, PostRefusal>)]) -> bool
     ensures { identity desk.new ≡ identity desk.old }
 {
-    let mut as_said = true;
+    let mut as_expected = true;
     for (to, answer) in rows {
-        as_said &= match desk.try_post(*to, Tag(4), Body::Lost(0)) {
+        as_expected &= match desk.try_post(*to, Tag(4), Body::Lost(0)) {
             Ok(number) => *answer == Ok(number),
             Err((refusal, body)) => *answer == Err(refusal) && body == Body::Lost(0),
         };
     }
-    as_said
+    as_expected
 }
 
-/// Whether takes from rank 0 are answered so.
+/// Whether takes from rank 0 are answered as expected.
 fn takes(desk: &mut Desk<u64>, rows: &[Taken<u64>]) -> bool
     ensures { identity desk.new ≡ identity desk.old }
 {
-    let mut as_said = true;
+    let mut as_expected = true;
     for answer in rows {
-        as_said &= desk.try_take(0) == *answer;
+        as_expected &= desk.try_take(0) == *answer;
     }
-    as_said
+    as_expected
 }
 
-/// Whether the one place of the lane from the first desk to the second is filled, emptied, seen to be free again, and
-/// filled by the mark.
+/// Whether the only place of the lane from the first desk to the second is filled, emptied, free again, and filled by the
+/// close mark.
 fn is_filled_and_closed(first: &mut Desk<u64>, second: &mut Desk<u64>) -> bool
     ensures first { identity first.new ≡ identity first.old }
     ensures second { identity second.new ≡ identity second.old }
 {
-    let mut as_said = first.room(1);
-    as_said &= posts(first, &[(1, Ok(0)), (1, Err(PostRefusal::Full))]);
-    as_said &= !first.room(1);
-    as_said &= takes(second, &[lost_letter(0), Taken::Empty]);
-    as_said &= first.room(1);
-    as_said &= first.try_close(1) == Ok(1);
+    let mut as_expected = first.room(1);
+    as_expected &= posts(first, &[(1, Ok(0)), (1, Err(PostRefusal::Full))]);
+    as_expected &= !first.room(1);
+    as_expected &= takes(second, &[lost_letter(0), Taken::Empty]);
+    as_expected &= first.room(1);
+    as_expected &= first.try_close(1) == Ok(1);
     let refusals = [
         (1, Err(PostRefusal::Closed)),
         (0, Err(PostRefusal::Stranger)),
     ];
-    as_said &= posts(first, &refusals);
-    as_said & takes(second, &[Taken::End, Taken::End])
+    as_expected &= posts(first, &refusals);
+    as_expected & takes(second, &[Taken::End, Taken::End])
 }
 
 #[test]
@@ -116,48 +116,48 @@ fn a_pair_of_desks_on_one_thread(rt: HostRuntime) -> Result<(), Fail> {
     Ok(())
 }
 
-/// Whether waiting posts of a sheet to these ranks are answered so. Each sheet that is refused comes back.
+/// Whether waiting posts of a sheet to these ranks are answered as expected. Each sheet that is refused comes back.
 pub(crate) fn waits_to_post<R: Wait>(
     rt: &R,
     desk: &mut Desk<u64>,
     sheet: u64,
     rows: &[(u16, Result<u64, WaitRefusal>)],
 ) -> bool {
-    let mut as_said = true;
+    let mut as_expected = true;
     for (to, answer) in rows {
-        as_said &= match desk.post(rt, *to, Tag(4), Body::Sheet(sheet)) {
+        as_expected &= match desk.post(rt, *to, Tag(4), Body::Sheet(sheet)) {
             Ok(number) => *answer == Ok(number),
             Err((refusal, body)) => *answer == Err(refusal) && body == Body::Sheet(sheet),
         };
     }
-    as_said
+    as_expected
 }
 
-/// Whether waiting closes of the lanes to these ranks are answered so.
+/// Whether waiting closes of the lanes to these ranks are answered as expected.
 fn waits_to_close<R: Wait>(
     rt: &R,
     desk: &mut Desk<u64>,
     rows: &[(u16, Result<u64, WaitRefusal>)],
 ) -> bool {
-    let mut as_said = true;
+    let mut as_expected = true;
     for (to, answer) in rows {
-        as_said &= desk.close(rt, *to) == *answer;
+        as_expected &= desk.close(rt, *to) == *answer;
     }
-    as_said
+    as_expected
 }
 
-/// Whether waiting takes from a rank are answered so.
+/// Whether waiting takes from a rank are answered as expected.
 pub(crate) fn waits_to_take<R: Wait>(
     rt: &R,
     desk: &mut Desk<u64>,
     from: u16,
     rows: &[Result<Taken<u64>, Gone>],
 ) -> bool {
-    let mut as_said = true;
+    let mut as_expected = true;
     for answer in rows {
-        as_said &= desk.take(rt, from) == *answer;
+        as_expected &= desk.take(rt, from) == *answer;
     }
-    as_said
+    as_expected
 }
 
 #[test]
@@ -181,7 +181,7 @@ fn waiting_calls_refuse_as_the_others(rt: HostRuntime) -> Result<(), Fail> {
     Ok(())
 }
 
-/// Whether the calls about rank 1, of which a letter is still there, don't wait for it once its desk is gone.
+/// Whether calls that name rank 1, which left a letter, don't wait for it once its desk is gone.
 fn gives_up_rank_1<R: Wait>(rt: &R, first: &mut Desk<u64>, third: &mut Desk<u64>) -> bool {
     let none = waits_to_take(rt, third, 1, &[Err(Gone(1))]);
     let letter = matches!(first.take(rt, 1), Ok(Taken::Letter(_)));
@@ -205,7 +205,7 @@ fn a_desk_that_is_gone_is_not_waited_for(rt: HostRuntime) -> Result<(), Fail> {
     Ok(())
 }
 
-/// How many sheets go through the lane on two threads.
+/// How many sheets are sent from thread to thread.
 const SHEETS: u64 = 1000;
 
 /// Posts the sheets 0, 1, 2 and so on, and closes.
@@ -220,7 +220,7 @@ fn send<R: Wait>(rt: &R, desk: Desk<u64>) -> Desk<u64>
     desk
 }
 
-/// Takes until the lane ends, and counts the sheets that come with their own number.
+/// Takes until the lane ends, and counts the sheets that arrive in order.
 fn receive<R: Wait>(rt: &R, desk: Desk<u64>) -> (Desk<u64>, u64)
     ensures { identity result.0 ≡ identity desk }
 {
@@ -272,9 +272,9 @@ fn two_desks_on_two_threads(rt: HostRuntime) -> Result<(), Fail> {
 }
 
 /// Passes whichever single growth is refused (`rt try --test --fail-alloc N`, for each N in turn): either
-/// all desks are there, with every lane, or none is.
+/// all desks are made, with every lane, or none is.
 #[test]
-fn a_refused_opening_answers_so(rt: HostRuntime) -> Result<(), Fail> {
+fn a_refused_opening_is_reported(rt: HostRuntime) -> Result<(), Fail> {
     let Ok(desks) = open::<u64>(rt.alloc(), 3, Capacity::nearest(2)) else {
         return Ok(());
     };

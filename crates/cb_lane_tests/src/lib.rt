@@ -1,4 +1,4 @@
-//! Worked examples of mailboxes, of lanes between threads, of traces and of crews, run through their public calls alone.
+//! Tests of mailboxes, lanes between threads, traces and crews, through their public calls alone.
 #![tactic(auto)]
 
 #[cfg(test)]

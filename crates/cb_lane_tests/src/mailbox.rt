@@ -1,4 +1,4 @@
-//! The worked examples of a mailbox, by their answers.
+//! Worked examples of a mailbox.
 ghost use Rattle.std.specs.Prelude.{◌≡◌, ◌<◌, All, IfOk, IfSome, false};
 ghost use Rattle.cb_mailbox.specs.Inbox.{is_stranger};
 ghost use Rattle.cb_mailbox.specs.Run.{IsPostable};
@@ -32,7 +32,7 @@ fn refused(refusal: PostRefusal, sheet: u64) -> Answer<u64> {
     Answer::Refused(refusal, Some(Body::Sheet(sheet)))
 }
 
-/// Whether a mailbox answers so to these calls.
+/// Whether a mailbox gives these answers to these calls.
 fn is_answered(
     alloc: Global,
     mailbox: &mut Mailbox<u64>,
@@ -47,8 +47,8 @@ fn is_answered(
     }
 }
 
-/// Whether rank `me` of `ranks`, with queues of two places, answers so to these calls.
-fn answers_so(
+/// Whether the mailbox of rank `me` of `ranks`, with queues of two places, gives these answers to these calls.
+fn gives_answers(
     alloc: Global,
     me: u16,
     ranks: u16,
@@ -62,7 +62,7 @@ fn answers_so(
     Ok(is_answered(alloc, &mut mailbox, calls, expected))
 }
 
-/// Calls of one sender, that fill its queue and close it.
+/// Calls for one sender, which fill its queue and close it.
 fn calls_of_one(alloc: Global) -> Result<Vec<Call<u64>>, AllocError>
     ensures { IfOk result (λ calls. All IsPostable calls.items) }
 {
@@ -82,7 +82,7 @@ fn calls_of_one(alloc: Global) -> Result<Vec<Call<u64>>, AllocError>
     ]?)
 }
 
-/// The answers to them.
+/// The expected answers.
 fn answers_to_one(alloc: Global) -> Result<Vec<Answer<u64>>, AllocError> {
     Ok(vec![in alloc;
         Answer::Posted(0),
@@ -104,11 +104,11 @@ fn answers_to_one(alloc: Global) -> Result<Vec<Answer<u64>>, AllocError> {
 fn one_sender_fills_its_queue_and_closes(rt: HostRuntime) -> Result<(), Fail> {
     let expected = answers_to_one(rt.alloc())?;
     let calls = calls_of_one(rt.alloc())?;
-    assert!(rt; answers_so(rt.alloc(), 0, 2, calls, &expected)?);
+    assert!(rt; gives_answers(rt.alloc(), 0, 2, calls, &expected)?);
     Ok(())
 }
 
-/// Calls of two senders, and about senders that are none.
+/// Calls for two senders, and for ranks that aren't senders.
 fn calls_of_two(alloc: Global) -> Result<Vec<Call<u64>>, AllocError>
     ensures { IfOk result (λ calls. All IsPostable calls.items) }
 {
@@ -125,7 +125,7 @@ fn calls_of_two(alloc: Global) -> Result<Vec<Call<u64>>, AllocError>
     ]?)
 }
 
-/// The answers of rank 2 to them.
+/// The expected answers of rank 2.
 fn answers_to_two(alloc: Global) -> Result<Vec<Answer<u64>>, AllocError> {
     Ok(vec![in alloc;
         Answer::Posted(0),
@@ -144,12 +144,12 @@ fn answers_to_two(alloc: Global) -> Result<Vec<Answer<u64>>, AllocError> {
 fn two_senders_have_a_queue_each(rt: HostRuntime) -> Result<(), Fail> {
     let expected = answers_to_two(rt.alloc())?;
     let calls = calls_of_two(rt.alloc())?;
-    assert!(rt; answers_so(rt.alloc(), 2, 3, calls, &expected)?);
+    assert!(rt; gives_answers(rt.alloc(), 2, 3, calls, &expected)?);
     Ok(())
 }
 
-/// How the lane of a sender stands: whether its queue has room, how many letters were posted and taken, and whether
-/// it is drained.
+/// The state of a sender's lane: whether its queue has room, how many letters were posted and taken, and whether it is
+/// drained.
 fn standing(mailbox: &Mailbox<u64>, from: u16) -> (bool, u64, u64, bool)
     requires { is_stranger mailbox.now from ≡ false }
 {
@@ -161,26 +161,26 @@ fn standing(mailbox: &Mailbox<u64>, from: u16) -> (bool, u64, u64, bool)
     )
 }
 
-/// Whether the one place of the lane from rank 1 is filled by a letter, and then has no room for the mark.
+/// Whether a letter fills the only place of the lane from rank 1, so that there is no room for the close mark.
 fn fills(mailbox: &mut Mailbox<u64>) -> bool
     requires { is_stranger mailbox.old 1 ≡ false }
     ensures { is_stranger mailbox.new 1 ≡ false }
 {
-    let mut as_said = standing(mailbox, 1) == (true, 0, 0, false);
-    as_said &= matches!(mailbox.post(1, Tag(7), Body::Lost(1)), Ok(0));
-    as_said &= standing(mailbox, 1) == (false, 1, 0, false);
-    as_said & (mailbox.close(1) == Err(PostRefusal::Full))
+    let mut as_expected = standing(mailbox, 1) == (true, 0, 0, false);
+    as_expected &= matches!(mailbox.post(1, Tag(7), Body::Lost(1)), Ok(0));
+    as_expected &= standing(mailbox, 1) == (false, 1, 0, false);
+    as_expected & (mailbox.close(1) == Err(PostRefusal::Full))
 }
 
-/// Whether the lane is emptied of its letter, takes the mark, and is drained once that is taken too.
+/// Whether the letter is taken, the close mark posted, and the lane drained once the mark is taken too.
 fn drains(mailbox: &mut Mailbox<u64>) -> bool
     requires { is_stranger mailbox.old 1 ≡ false }
 {
-    let mut as_said = matches!(mailbox.take(1), Taken::Letter(_));
-    as_said &= mailbox.close(1) == Ok(1);
-    as_said &= standing(mailbox, 1) == (false, 2, 1, false);
-    as_said &= matches!(mailbox.take(1), Taken::End);
-    as_said & (standing(mailbox, 1) == (true, 2, 2, true))
+    let mut as_expected = matches!(mailbox.take(1), Taken::Letter(_));
+    as_expected &= mailbox.close(1) == Ok(1);
+    as_expected &= standing(mailbox, 1) == (false, 2, 1, false);
+    as_expected &= matches!(mailbox.take(1), Taken::End);
+    as_expected & (standing(mailbox, 1) == (true, 2, 2, true))
 }
 
 /// Whether a letter that rank 0 posts to itself comes back.
@@ -206,7 +206,7 @@ fn three_calls(alloc: Global) -> Option<Vec<Call<u64>>>
     vec![in alloc; post(1, 10), post(2, 20), Call::Take { from: 2 }].ok()
 }
 
-/// Whether they are answered as they should be.
+/// Whether these are the expected answers.
 fn are_three(answers: &[Answer<u64>]) -> bool {
     matches!(
         answers,
@@ -224,7 +224,7 @@ fn are_three(answers: &[Answer<u64>]) -> bool {
     )
 }
 
-/// Whether a mailbox in which nothing was posted answers them so.
+/// Whether an empty mailbox gives them.
 fn answers_three(alloc: Global, mailbox: &mut Mailbox<u64>, calls: Vec<Call<u64>>) -> bool
     requires first { is_stranger mailbox.old 1 ≡ false }
     requires second { is_stranger mailbox.old 2 ≡ false }
@@ -237,7 +237,7 @@ fn answers_three(alloc: Global, mailbox: &mut Mailbox<u64>, calls: Vec<Call<u64>
     }
 }
 
-/// Whether a mailbox answers them so, at once or, if their run is refused, when it is made again.
+/// Whether a mailbox gives them, at once or, if the run is refused for want of memory, when it is repeated.
 fn answers_three_in_the_end(
     alloc: Global,
     mailbox: &mut Mailbox<u64>,
@@ -254,7 +254,7 @@ fn answers_three_in_the_end(
 }
 
 /// Passes whichever single growth is refused (`rt try --test --fail-alloc N`, for each N in turn): a
-/// refused `open` answers so, and a refused `run` hands back calls that can be run again.
+/// refused `open` reports it, and a refused `run` hands back calls that can be run again.
 #[test]
 fn a_refused_run_can_be_made_again(rt: HostRuntime) {
     let Ok(mut mailbox) = Mailbox::open(rt.alloc(), 0, 3, Capacity::nearest(2)) else {

@@ -1,5 +1,5 @@
-//! Desks on threads of their own that wait long enough to sleep. No contract says that a sleeper wakes: one that isn't
-//! woken hangs its test.
+//! Desks on their own threads that wait long enough to sleep. No contract says that a sleeper wakes up. If one doesn't,
+//! its test hangs.
 use crate::lanes::{two_desks, waits_to_post, waits_to_take};
 use cb_lanes::{Desk, Gone, WaitRefusal, open};
 use cb_letters::{Body, Capacity, Tag, Taken};
@@ -10,10 +10,10 @@ use std::thread;
 use std::thread::{Threads, join};
 use std::time::{Clock, Duration};
 
-/// How long a desk makes the other wait: by then it sleeps.
+/// How long a desk makes the other wait: long enough for it to sleep.
 const PAUSE: u64 = 20;
 
-/// Posts a letter late, takes two later still, the second of which is posted once there is room again, and goes last.
+/// Posts a letter late, and later takes two, of which the second can only be posted once the first is taken; then goes.
 fn dawdle<R: Wait + Clock>(rt: &R, desk: Desk<u64>) -> bool {
     let mut desk = desk;
     thread::sleep(rt, Duration::from_millis(PAUSE));
@@ -25,14 +25,14 @@ fn dawdle<R: Wait + Clock>(rt: &R, desk: Desk<u64>) -> bool {
     posted && first && second
 }
 
-/// What a desk waits for until the other is gone.
+/// What a desk waits for when the other goes.
 #[derive(Clone, Copy, Drop)]
 enum Last {
     Letter,
     Room,
 }
 
-/// Waits for a letter, for room on a lane of one place, and then in vain.
+/// Waits for a letter, for room on a lane of one place, and then for a desk that goes.
 fn sleep_three_times<R: Wait>(rt: &R, desk: Desk<u64>, last: Last) -> bool {
     let mut desk = desk;
     let letter = matches!(desk.take(rt, 1), Ok(Taken::Letter(_)));
@@ -72,7 +72,7 @@ fn a_sleeper_is_woken_by_a_letter_by_room_and_as_the_other_goes(
     Ok(())
 }
 
-/// How many ranks stand in a ring.
+/// How many ranks form the ring.
 const RANKS: u16 = 36;
 
 /// Which ranks of the ring post before they take.
@@ -82,13 +82,13 @@ enum First {
     Each,
 }
 
-/// Whether the sheet of this lap can be posted to the next rank of the ring.
+/// Whether the sheet of this lap is posted to the next rank of the ring.
 fn passes_on<R: Wait>(rt: &R, desk: &mut Desk<u64>, lap: u64) -> bool {
     let after = (desk.rank() % RANKS + 1) % RANKS;
     waits_to_post(rt, desk, lap, &[(after, Ok(lap))])
 }
 
-/// Whether the sheet of this lap comes from the rank before.
+/// Whether the sheet of this lap is taken from the rank before.
 fn gets<R: Wait>(rt: &R, desk: &mut Desk<u64>, lap: u64) -> bool {
     let before = (desk.rank() % RANKS + RANKS - 1) % RANKS;
     match desk.take(rt, before) {
@@ -101,20 +101,20 @@ fn gets<R: Wait>(rt: &R, desk: &mut Desk<u64>, lap: u64) -> bool {
 fn goes_round<R: Wait>(rt: &R, desk: Desk<u64>, laps: u64, first: First) -> bool {
     let mut desk = desk;
     let is_first = first == First::Each || desk.rank() == 0;
-    let mut as_said = true;
+    let mut as_expected = true;
     for lap in 0..laps {
         if is_first {
-            as_said &= passes_on(rt, &mut desk, lap);
+            as_expected &= passes_on(rt, &mut desk, lap);
         }
-        as_said &= gets(rt, &mut desk, lap);
+        as_expected &= gets(rt, &mut desk, lap);
         if !is_first {
-            as_said &= passes_on(rt, &mut desk, lap);
+            as_expected &= passes_on(rt, &mut desk, lap);
         }
     }
-    as_said
+    as_expected
 }
 
-/// How many ranks of the ring did so, each in a thread of its own.
+/// How many ranks of the ring did, each on its own thread.
 fn go_round<R: Threads + Wait + Sync>(
     rt: &R,
     desks: Vec<Desk<u64>>,

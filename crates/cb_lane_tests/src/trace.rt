@@ -1,4 +1,4 @@
-//! The worked examples of traces, by the events that they take and refuse, and a trace that threads write to.
+//! Worked examples of traces, with the events that they accept and refuse, and a trace that threads write to.
 use cb_letters::Tag;
 use cb_trace::{Envelope, SharedTrace, Trace, TraceEvent, TraceRefusal};
 use std::alloc::{AllocError, Global};
@@ -38,7 +38,7 @@ fn ended(from: u16, to: u16, number: u64) -> TraceEvent {
     TraceEvent::Ended(envelope(from, to, number, 0))
 }
 
-/// Records each event, and stops where the answer isn't the one beside it.
+/// Records each event, and aborts if the answer isn't the one beside it.
 fn record_all<R: Abort>(
     rt: &R,
     trace: &mut Trace,
@@ -49,19 +49,18 @@ fn record_all<R: Abort>(
     }
 }
 
-/// Whether the last three of four events between two ranks read back: a letter was taken, and the lane was closed and
-/// came to its end.
+/// Whether the last three of four events between two ranks read back: a letter taken, and the lane closed and ended.
 fn reads_back(trace: &Trace) -> bool {
     if trace.len() != 4 {
         return false;
     }
     let (letter, mark, end) = (trace.event_at(1), trace.event_at(2), trace.event_at(3));
-    let mut as_said = letter.envelope() == envelope(0, 1, 0, 7);
-    as_said &= mark == closed(0, 1, 1);
-    as_said &= mark.rank() == 0;
-    as_said &= end.rank() == 1;
-    as_said &= trace.ranks() == 2;
-    as_said & !trace.is_empty()
+    let mut as_expected = letter.envelope() == envelope(0, 1, 0, 7);
+    as_expected &= mark == closed(0, 1, 1);
+    as_expected &= mark.rank() == 0;
+    as_expected &= end.rank() == 1;
+    as_expected &= trace.ranks() == 2;
+    as_expected & !trace.is_empty()
 }
 
 #[test]
@@ -200,7 +199,7 @@ fn is_matched(
     Ok(trace.matches(&logs))
 }
 
-/// A letter is posted and taken, and its lane closed.
+/// A letter that is posted and taken on a lane that is then closed.
 const SENT: TraceEvent = TraceEvent::Posted(Envelope {
     from: 0,
     to: 1,
@@ -239,7 +238,7 @@ fn small_trace(alloc: Global) -> Option<Trace> {
     Some(trace)
 }
 
-/// What is wrong with the logs of two ranks, the logs, and whether the trace matches them.
+/// A name for what is wrong with the logs of two ranks, the logs, and whether the trace matches them.
 type Logs = (
     &'static str,
     &'static [TraceEvent],
@@ -257,7 +256,7 @@ const LOGS: [Logs; 7] = [
     ("another tag", &[OTHER, SHUT], &[GOT], false),
 ];
 
-/// The first row in which the trace doesn't match as it should.
+/// The name of the first row with an unexpected answer.
 fn wrong_logs(alloc: Global, trace: &Trace) -> Option<&'static str> {
     for (name, first, second, answer) in &LOGS {
         if is_matched(alloc, trace, first, second) != Ok(*answer) {
@@ -267,7 +266,7 @@ fn wrong_logs(alloc: Global, trace: &Trace) -> Option<&'static str> {
     None
 }
 
-/// Whether the trace matches where the second log is missing.
+/// Whether the trace matches if the second log is missing.
 fn matches_one_log(alloc: Global, trace: &Trace) -> Result<bool, AllocError> {
     let one = vec![in alloc; Vec::from_slice(alloc, &[SENT, SHUT])?]?;
     Ok(trace.matches(&one))
@@ -281,7 +280,7 @@ fn logs_match_as_a_whole(rt: HostRuntime) -> Result<(), Fail> {
     Ok(())
 }
 
-/// One rank's letters to the other, each posted and taken.
+/// Records letters from one rank to the other, each posted and taken.
 fn post_some<R: Wait>(rt: &R, shared: &SharedTrace, from: u16, to: u16) -> bool {
     let mut all = true;
     for number in 0..50 {

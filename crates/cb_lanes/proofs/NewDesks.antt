@@ -1,4 +1,4 @@
--- The desks that are made of the rows and columns of new lanes.
+-- The desks that are made from the rows and columns of new lanes.
 use Rattle.std.proofs.Common.{◌≡◌, ◌≢◌, ℕ, ◌+◌, ◌<◌, ◌≤◌, List, [], ◌∷◌, ◌++◌, length, map, subst, length-append, ⊎_elim, Option, None, slice_index_or, sym, ◌∙◌, ap, arith}
 use Rattle.std.proofs.lemmas.List.{get_or-map as get_or-map_within, length-map, get_or_append_left}
 use Rattle.std.proofs.Math.ListN.{get_or-map}
@@ -16,15 +16,15 @@ module _ {P : Type 0} (c : ℕ) (rows : List (Vec (Option (Poster P)) Global)) (
     (row_count : length rows ≡ length desks) (column_count : length columns ≡ length desks)
     (wide : AreRows rows (length desks)) (high : AreColumns columns (length desks))
     (lanes : AreNewLanes c rows columns) (have : HaveLanes desks rows columns) where
-  -- the identity at one place is that of the desk there
+  -- the identity at a place is that of the desk there
   identity_of : (a : Desk P) (k : ℕ) → k < length desks → identity_at (map identity desks) k ≡ identity (slice_index_or desks k a)
   identity_of a k below = get_or-map_within identity desks k a (record { me = 0; outgoing = []; incoming = [] }) below
 
-  -- a desk posts by the ring of the lane in its row
+  -- a desk posts on the ring of the lane in its row
   ring_out : (a : Desk P) (i j : ℕ) → i < length desks → slice_index_or (identity_at (map identity desks) i).outgoing j None ≡ outgoing_ring (out_at (slice_index_or desks i a).outgoing.items j)
   ring_out a i j below = ap (λ (x : Identity). slice_index_or x.outgoing j None) (identity_of a i below) ∙ get_or-map outgoing_ring (slice_index_or desks i a).outgoing.items j None
 
-  -- and takes by the ring of the lane in its column
+  -- a desk takes from the ring of the lane in its column
   ring_in : (a : Desk P) (i j : ℕ) → j < length desks → slice_index_or (identity_at (map identity desks) j).incoming i None ≡ incoming_ring (in_at (slice_index_or desks j a).incoming.items i)
   ring_in a i j below = ap (λ (x : Identity). slice_index_or x.incoming i None) (identity_of a j below) ∙ get_or-map incoming_ring (slice_index_or desks j a).incoming.items i None
 
@@ -65,7 +65,7 @@ module _ {P : Type 0} (c : ℕ) (rows : List (Vec (Option (Poster P)) Global)) (
         ring_out a i j inside_i ∙ (lane_of a i j inside_i inside_j).0 ∙ sym (ring_in a i j inside_j));
   }
 
-  -- each of them is new
+  -- each of the desks is new
   pub new_desk : (a : Desk P) (k : ℕ) → k < length desks → IsNewDesk c (length desks) k (slice_index_or desks k a)
   new_desk a k below =
       let r = (slice_index_or desks k a).outgoing in

@@ -1,4 +1,4 @@
--- The numbers of the letters that were taken, one letter more.
+-- The numbers of the letters that were taken, with one more letter.
 use Rattle.std.proofs.Common.{ℕ, ◌≡◌, ◌+◌, ◌<◌, ◌≤◌, true, List, [], ◌∷◌, ◌++◌, length, slice_index_or, subst, arith, length-append, ⊎_elim}
 use Rattle.std.proofs.lemmas.Bool.{cases_lt}
 use Rattle.std.proofs.lemmas.List.{get_or_append_left}
@@ -8,7 +8,7 @@ use Rattle.cb_letters.specs.Letters.{is_close}
 use Rattle.cb_lanes.specs.Numbers.{IsNext, AreNumbered}
 
 module _ {P : Type 0} where
-  -- the letter that may come next keeps the numbers
+  -- numbered letters, followed by one that may follow them, are numbered
   pub AreNumbered-append : (xs : List (Letter P)) (x : Letter P) → AreNumbered xs → IsNext xs x → AreNumbered (xs ++ x ∷ [])
   AreNumbered-append xs x h next k d below =
       let Q : ℕ → Type 0 = λ (m : ℕ). ((slice_index_or (xs ++ x ∷ []) m d).number ≡ m) × (is_close (slice_index_or (xs ++ x ∷ []) m d).body ≡ true → (slice_index_or (xs ++ x ∷ []) m d).tag.0 ≡ 0) in

@@ -1,4 +1,4 @@
--- Looking at both ends of each lane, pair by pair.
+-- Comparing both ends of each lane, pair by pair.
 use Rattle.std.proofs.Common.{◌≡◌, ◌≢◌, ℕ, ◌+◌, ◌-◌, ◌<◌, ◌≤◌, List, [], ◌∷◌, ◌++◌, length, map, Option, Some, None, true, false, take, drop, slice_index_or, slice_set, slice_get, refl, sym, ◌∙◌, ap, subst, arith, length-append, ⊎_elim}
 use Rattle.std.proofs.lemmas.List.{get_or-map, get_or_append_left, get_or-append-add, get_or-set_other, get_or_default, length-set, length-map}
 use Rattle.std.proofs.lemmas.Grind.{get_or-set_at}
@@ -15,7 +15,7 @@ use Rattle.cb_letters.specs.declared.Letter.{Letter}
 use Rattle.cb_letters.specs.Posted.{ends_closed, NothingAfterClose}
 use mathlib.Core.List.{IsPrefix}
 
--- two desks of one opening have the ends of the lanes between them
+-- two desks of one opening hold the ends of the lanes between them
 linked : (ids : List Identity) (low high : ℕ) (A B : Identity) → identity_at ids low ≡ A → identity_at ids high ≡ B → AreOfOneOpening ids → low < high → high < length ids → AreLinked A B
 linked ids low high A B eA eB one order inside =
     let low_inside : low < length ids = omega arith in
@@ -31,12 +31,12 @@ linked ids low high A B eA eB one order inside =
       inside_b = (omega arith, omega arith);
     }
 
--- a test has one answer
+-- no test is both false and true
 false_not_true : false ≡ true → ⊥
 false_not_true e = cc
 
 module _ {P : Type 0} where
-  -- so have two desks where their list is cut between them
+  -- the same if the list of desks is cut between the two
   pub pair_linked : (front back : List (Desk P)) (low : ℕ) (a b : Desk P) → AreOfOneOpening (map identity (front ++ back)) → low < length front → 0 < length back
       → AreLinked (identity (slice_index_or front low a)) (identity (slice_index_or back 0 b))
   pair_linked front back low a b one order some =
@@ -50,11 +50,11 @@ module _ {P : Type 0} where
       get_or-map identity (front ++ back) (length front + 0) b none (omega arith) ∙ ap identity (get_or-append-add front back 0 b) in
       linked ids low (length front + 0) (identity (slice_index_or front low a)) (identity (slice_index_or back 0 b)) first second one (omega arith) (omega arith)
 
-  -- a desk keeps what it has
+  -- a desk on which nothing happens keeps its letters
   pub Keeps-refl : (d : Desk P) → Keeps d d
   Keeps-refl d = (refl, (λ j. (refl, (omega arith), refl)), λ j. refl)
 
-  -- and what it keeps twice it keeps
+  -- and so does one on which twice nothing happens
   pub Keeps-trans : (a b c : Desk P) → Keeps a b → Keeps b c → Keeps a c
   Keeps-trans a b c p q = (q.0 ∙ p.0, (λ j. let first = p.1 j in let then = q.1 j in (then.0 ∙ first.0, (let l = first.1 in let m = then.1 in omega arith), then.2 ∙ first.2)), λ j. q.2 j ∙ p.2 j)
 
@@ -62,11 +62,11 @@ module _ {P : Type 0} where
   pub SameDesks-refl : (xs : List (Desk P)) → SameDesks xs xs
   SameDesks-refl xs = record { count = refl; identities = refl; each = (λ k a below. Keeps-refl (slice_index_or xs k a)) }
 
-  -- and the same as those that are the same
+  -- and the same as desks that are the same as those
   pub SameDesks-trans : (xs ys zs : List (Desk P)) → SameDesks xs ys → SameDesks ys zs → SameDesks xs zs
   SameDesks-trans xs ys zs p q = record { count = q.count ∙ p.count; identities = q.identities ∙ p.identities; each = (λ k a below. Keeps-trans (slice_index_or xs k a) (slice_index_or ys k a) (slice_index_or zs k a) (p.each k a below) (q.each k a (rw p.count below))) }
 
-  -- desks stay the same where one of them keeps what it has
+  -- desks stay the same if one of them keeps its letters
   SameDesks-set : (xs : List (Desk P)) (i : ℕ) (x : Desk P) → i < length xs → ((a : Desk P) → Keeps (slice_index_or xs i a) x) → SameDesks xs (slice_set xs i x)
   SameDesks-set xs i x inside same =
       record {
@@ -81,7 +81,7 @@ module _ {P : Type 0} where
             (cases_order k i));
       }
 
-  -- and where both parts of their list do
+  -- desks stay the same if both parts of their list do
   SameDesks-append : (xs ys xs' ys' : List (Desk P)) → SameDesks xs xs' → SameDesks ys ys' → SameDesks (xs ++ ys) (xs' ++ ys')
   SameDesks-append xs ys xs' ys' p q =
       record {
@@ -99,14 +99,14 @@ module _ {P : Type 0} where
             (cases_lt k (length xs)));
       }
 
-  -- so they stay the same where one of each part does
+  -- desks stay the same if one desk of each part keeps its letters
   pub pair_same : (front back : List (Desk P)) (low : ℕ) (x y : Desk P) → low < length front → 0 < length back
       → ((a : Desk P) → Keeps (slice_index_or front low a) x) → ((b : Desk P) → Keeps (slice_index_or back 0 b) y)
       → SameDesks (front ++ back) (slice_set front low x ++ slice_set back 0 y)
   pair_same front back low x y order some first second =
       SameDesks-append front back (slice_set front low x) (slice_set back 0 y) (SameDesks-set front low x order first) (SameDesks-set back 0 y some second)
 
-  -- where two desks are settled, so is their pair in the whole list
+  -- if two desks are settled, so is their pair in the whole list
   pub pair_settled : (front back : List (Desk P)) (low : ℕ) (X Y : Desk P) → AreOfOneOpening (map identity (front ++ back)) → low < length front → 0 < length back
       → X ≡ slice_index_or front low X → Y ≡ slice_index_or back 0 Y
       → IsSettled X Y X.me Y.me → IsSettled Y X Y.me X.me
@@ -125,7 +125,7 @@ module _ {P : Type 0} where
       sym (ap (λ (x : Identity). x.me) (get_or-map identity (front ++ back) (length front) b none (omega arith) ∙ ap identity eY)) ∙ one.places (length front) (omega arith) in
       rw (eX, eY) (rw (mX, mY) at there, rw (mX, mY) at back_again)
 
-  -- what is settled now was settled by what the desks had kept before
+  -- what is settled for desks is settled for the same desks
   pub settled_before : (xs ys : List (Desk P)) (low high : ℕ) → SameDesks xs ys → low < length xs → high < length xs → IsPairSettled ys low high → IsPairSettled xs low high
   settled_before xs ys low high same below_low below_high h a b =
       let first = same.each low a below_low in
@@ -141,12 +141,12 @@ module _ {P : Type 0} where
       (λ w. ⊎_elim (λ (o : from < to). (h from to o below_to a b).0) (λ (o : to < from). (h to from o below_from b a).1) w)
       (cases_order from to)
 
-  -- nothing stands after a close mark that was posted
+  -- nothing follows a close mark that was posted
   nothing_after : (lane : Option (Poster P)) → NothingAfterClose (sent_by lane)
   nothing_after None = λ k below. absurd (omega arith)
   nothing_after (Some lane) = lane.ended
 
-  -- where the close mark was taken, and nothing was posted after it, everything was taken
+  -- if the close mark was taken, and nothing was posted after it, everything was taken
   whole_at_close : (xs ys : List (Letter P)) → IsPrefix xs ys → ends_closed xs ≡ true → NothingAfterClose ys → xs ≡ ys
   whole_at_close xs ys (rest, joined) closed nothing =
       let size = simp length-append at (ap length joined) in
@@ -158,7 +158,7 @@ module _ {P : Type 0} where
       sym front ∙ rw all (take-length ys))
       (cases_lt (length xs) (length ys))
 
-  -- the lane between two desks of a list, where they stand
+  -- the lane between two desks of a list, by their places
   settled_lane_of : (xs : List (Desk P)) (from to : ℕ) (p q : Desk P) → slice_get xs from ≡ Some p → slice_get xs to ≡ Some q → IsSettled p q from to → IsSettledLane (posted_in xs from to) (taken_in xs from to)
   settled_lane_of xs from to p q sender receiver h =
       rw (sender, receiver) (record { prefix = h; whole = (λ closed. whole_at_close (taken_from q from) (posted_to p to) h closed (nothing_after (slice_index_or p.outgoing.items to None))) })
@@ -199,7 +199,7 @@ module _ {P : Type 0} where
   same_lists [] (b ∷ ys) same from to = absurd (let size = same.count in omega arith)
   same_lists (a ∷ xs) ys same from to = ((same_at (a ∷ xs) ys a same from to).0, (same_at (a ∷ xs) ys a same to from).1)
 
-  -- each desk stands at its place, with a lane for each
+  -- each desk is at the place of its number, with a lane for each rank
   at_place : (xs : List (Desk P)) → AreOfOneOpening (map identity xs) → (k : ℕ) (a : Desk P) → k < length xs
       → ((slice_index_or xs k a).me ≡ k) × (length (slice_index_or xs k a).outgoing.items ≡ length xs)
   at_place xs one k a below =
@@ -211,11 +211,11 @@ module _ {P : Type 0} where
         sym (ap (λ (x : Identity). length x.outgoing) here ∙ length-map (slice_index_or xs k a).outgoing.items outgoing_ring) ∙ (one.ranks k inside).0 ∙ count,
       )
 
-  -- so does each of the desks that they were before
+  -- the same for desks that are the same as those
   pub at_places : (xs ys : List (Desk P)) → AreOfOneOpening (map identity xs) → SameDesks xs ys → (k : ℕ) (a : Desk P) → k < length ys
       → ((slice_index_or ys k a).me ≡ k) × (length (slice_index_or ys k a).outgoing.items ≡ length ys)
   at_places xs ys one same = at_place ys (rw same.identities one)
 
-  -- a slice that was lent whole is what it was left as
+  -- a slice that was borrowed whole is what the borrower left
   pub lent_whole : (xs ys : List (Desk P)) (n : ℕ) → n ≡ length xs → length ys ≡ length xs → take n (ys ++ drop (length ys) xs) ≡ ys
   lent_whole xs ys n size same = rw (size, ← same) (take-append_seam ys (drop (length ys) xs))

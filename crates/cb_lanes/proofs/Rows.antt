@@ -11,7 +11,7 @@ use Rattle.cb_lanes.specs.declared.ring_ends.Taker.{Taker}
 use Rattle.cb_lanes.specs.Ends.{IsNewLane, AreRows, AreNewLanes, IsRow, out_at, in_at, row_at, column_at}
 
 module _ {P : Type 0} where
-  -- the lanes that were opened before stay
+  -- the lanes that were opened before are kept
   IsRow-early : (from c : ℕ) (row : List (Option (Poster P))) (old new : List (Vec (Option (Taker P)) Global)) (o : Option (Poster P)) (column : Vec (Option (Taker P)) Global)
       → IsRow from c row old new
       → (j : ℕ) (d : Vec (Option (Taker P)) Global) → j < length row
@@ -22,7 +22,7 @@ module _ {P : Type 0} where
       let apart : j ≢ length row = omega arith in
       rw (get_or-set_other new (length row) j column d apart, get_or_append_left row (o ∷ []) None j below) (h j d below)
 
-  -- and one more is the last of its column
+  -- one more lane is the last of its column
   IsRow-last : (from c : ℕ) (row : List (Option (Poster P))) (old new : List (Vec (Option (Taker P)) Global)) (o : Option (Poster P)) (e : Option (Taker P)) (before column : Vec (Option (Taker P)) Global)
       → length row < length new
       → before ≡ slice_index_or new (length row) before
@@ -70,7 +70,7 @@ module _ {P : Type 0} where
       subst P at_end (rw (← size) (IsRow-last from c row old new o e before column (omega arith) (rw size read) grown (rw size same) (rw size full) (rw size lane) d)))
       (cases_lt j n)
 
-  -- an earlier row stays
+  -- the earlier rows are kept
   before_items : (rows : List (Vec (Option (Poster P)) Global)) (row : Vec (Option (Poster P)) Global) (i : ℕ) (r : Vec (Option (Poster P)) Global)
       → i < length rows → row_at (rows ++ row ∷ []) i r ≡ row_at rows i r
   before_items rows row i r k = ap (λ (v : Vec (Option (Poster P)) Global). v.items) (get_or_append_left rows (row ∷ []) r i k)
@@ -79,7 +79,7 @@ module _ {P : Type 0} where
   last_items : (rows : List (Vec (Option (Poster P)) Global)) (row r : Vec (Option (Poster P)) Global) → row_at (rows ++ row ∷ []) (length rows) r ≡ row.items
   last_items rows row r = ap (λ (v : Vec (Option (Poster P)) Global). v.items) (get_or-append_seam rows row [] r)
 
-  -- one more rank's lanes
+  -- the lanes of one more rank
   pub AreNewLanes-step : (c : ℕ) (rows : List (Vec (Option (Poster P)) Global)) (row : Vec (Option (Poster P)) Global) (old new : List (Vec (Option (Taker P)) Global))
       → length new ≡ length old
       → length row.items ≡ length old

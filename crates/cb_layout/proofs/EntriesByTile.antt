@@ -31,7 +31,7 @@ scattered_none t blocks h = record {
       ∙ ap (λ es. record { shape = t.size r; entries = es }) (sym (entries_of-none t r));
 }
 
--- one entry more, after all the others
+-- one more entry, after all the others
 module _ (shape : Extent) (t : Tiles) (is : IsTiling shape t) (es : List Entry) (inside : All (IsInside shape) es) (e : Entry) (here : IsInside shape e) (before : All (λ d. IsBefore d e) es) (blocks : List Sparse) (so_far : IsScattered t es blocks) where
   -- there is a block for the tile of the entry
   pub rank_of_one : owner_of t e < length blocks
@@ -105,12 +105,12 @@ module _ (shape : Extent) (t : Tiles) (is : IsTiling shape t) (all : List Entry)
   pub order_there : All (λ d. IsBefore d (moved t e)) there.entries
   order_there = order_of_one shape t is (take k all) some_inside e here before blocks so_far
 
-  -- with the next entry added to its block, the blocks have the entries of their tiles among one entry more
+  -- with the next entry added to its block, the blocks have the entries of their tiles among one more entry
   pub scattered_more : (new : List Sparse) → new ≡ set blocks (owner_of t e) (with_entry there (moved t e)) → IsScattered t (take (k + 1) all) new
   scattered_more new h =
       subst (λ es. IsScattered t es new) (sym (take_more all k x l)) (scattered_one shape t is (take k all) some_inside e here before blocks so_far new h)
 
--- what is owed where an entry is delivered to its block
+-- what is owed when an entry is delivered to its block
 pub record IsOwed (s : Arithmetic) (blocks : List Sparse) (n : ℕ) (e : Entry) : Type 0 where
   pub rank : n < length blocks
   pub inside : IsInside (block_at blocks n).shape e
@@ -141,7 +141,7 @@ module _ (s : Arithmetic) (m : Sparse) (is : IsMatrix s m) (t : Tiles) (tiling :
         not_zero = is.not_zero k x within;
       }))
 
-  -- with it the blocks have the entries of their tiles among one entry more
+  -- with it the blocks have the entries of their tiles among one more entry
   pub next_is_scattered : (new : List Sparse) → new ≡ set blocks rank (with_entry (block_at blocks rank) local) → IsScattered t (take (k + 1) m.entries) new
   next_is_scattered new h =
       scattered_more m.shape t tiling m.entries is.inside is.ascending k x within blocks so_far new

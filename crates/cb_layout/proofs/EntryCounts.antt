@@ -20,7 +20,7 @@ pub before_none : (t : Tiles) (es : List Entry) → length (before t 0 es) ≡ 0
 before_none t [] = refl
 before_none t (e ∷ es) = let f : nat_lt (owner_of t e) 0 ≡ false = grind (arith, nat_tests) in rw f (before_none t es)
 
--- one tile more
+-- one more tile
 pub before_more : (t : Tiles) (n : ℕ) (es : List Entry) → length (before t (n + 1) es) ≡ length (before t n es) + length (entries_of t n es)
 unfolding entries_of
 before_more t n [] = refl

@@ -36,7 +36,7 @@ none_between cs n d l up k e m =
     (cases_lt (n + 1) k)))
     (cases_order k n)
 
--- the one after the nth, or a greater number where there is none, is above it
+-- the one after the nth, or a greater number if there is none, is above it
 pub next_above : (cs : List ℕ) (n d : ℕ) → n < length cs → AllPairs (λ c d. c < d) cs → get_or cs n 0 < d → get_or cs n 0 < get_or cs (n + 1) d
 next_above cs n d l up below =
     ⊎_elim
@@ -79,7 +79,7 @@ module _ (q : ℕ) (shape : Extent) (blocks : List Sparse) (f : Front) (front : 
 
   -- the front after it
   module _ (g : Front) (column : g.column ≡ f.column) (left : g.left ≡ f.left) (done : g.done ≡ set f.done i (n + 1)) (columns : g.columns ≡ set f.columns i (get_or cs (n + 1) 4294967295)) where
-    -- in that row the front after it has the block's next column, or 2^32 - 1 where no column is left
+    -- in that row the front after it has the block's next column, or 2^32 - 1 if no column is left
     pub next_own : get_or g.columns i 0 ≡ get_or cs (n + 1) 4294967295
     next_own = ap (λ xs. get_or xs i 0) columns ∙ get_or-set_same f.columns i (get_or cs (n + 1) 4294967295) 0 (let r = least.row in let s = front.six_columns in omega arith)
 

@@ -49,7 +49,7 @@ pub empty_blocks_of : (s : Arithmetic) → IsSemiring s → (q : ℕ) → 0 < q 
     → AreBlocks s q shape blocks × (glued_blocks s q shape blocks ≡ empty_matrix shape)
 empty_blocks_of s laws q pos few shape blocks h = blocks_of s laws q pos few (empty_matrix shape) (empty_is_matrix s shape) blocks (scattered_none (block_tiles q shape) blocks h)
 
--- one entry more, after all the others
+-- one more entry, after all the others
 module _ (s : Arithmetic) (laws : IsSemiring s) (q : ℕ) (shape : Extent) (blocks : List Sparse) (are : AreBlocks s q shape blocks) (m : Sparse) (whole : glued_blocks s q shape blocks ≡ m)
     (e : Entry) (inside : IsInside m.shape e) (order : All (λ d. IsBefore d e) m.entries) where
   abbrev t : Tiles

@@ -59,7 +59,7 @@ module _ (shape : Extent) (t : Tiles) (is : IsTiling shape t) (r : ℕ) (known :
       ne (sym (is.own n x y l a b) ∙ (λ i. t.owner (p.0 i) (p.1 i)) ∙ is.own r e.row e.column known inside.0 inside.1)) in
       rw missed (placed_elsewhere n x y es l ne a b (All-tail (IsInside (t.size r)) e es k))
 
--- where no tile has given an entry, none are gathered
+-- if no tile has given an entry, none are gathered
 pub gathered_none : (s : Arithmetic) (shape : Extent) (t : Tiles) (some : ℕ → List Entry) → ((r : ℕ) → some r ≡ []) → IsGathered s shape t some []
 gathered_none s shape t some h = record {
   values = λ r x y _ _ _. sym (ap (λ es. values_at es x y) (h r));
@@ -159,7 +159,7 @@ shifted_push top column [] (w ∷ values) i v e = absurd (omega arith)
 shifted_push top column (k ∷ rows) [] i v e = absurd (omega arith)
 shifted_push top column (k ∷ rows) (w ∷ values) i v e = ap (λ es. record { row = top + k; column = column; value = w } ∷ es) (shifted_push top column rows values i v (omega arith))
 
--- one row and value more of a column make one entry more, with its place in the whole
+-- one row and value more of a column make one more entry, with its place in the whole
 pub shifted_more : (top column : ℕ) (rows values : List ℕ) (n : ℕ) → length values ≡ length rows → n < length rows
     → shifted top column (take (n + 1) rows) (take (n + 1) values) ≡ shifted top column (take n rows) (take n values) ++ record { row = top + get_or rows n 0; column = column; value = get_or values n 0 } ∷ []
 shifted_more top column rows values n e l =

@@ -1,4 +1,4 @@
--- The entries that are left while the matrix that blocks glue to is walked.
+-- The entries that are left during a walk over the matrix that blocks glue to.
 use Rattle.std.proofs.Common.{◌≡◌, ◌≢◌, ℕ, ◌+◌, ◌*◌, ◌/◌, ◌%◌, ◌<◌, ◌≤◌, ◌⊎◌, inl, inr, true, false, Bool, List, [], ◌++◌, length, get_or, set, filter, sym, ap, ⊎_elim, ◌∙◌, arith}
 use Rattle.std.specs.Prelude.{All, AllPairs, ◌==◌, ◌&&◌, ◌||◌, nat_lt, nat_le}
 use Rattle.std.proofs.lemmas.Bool.{cases_lt, cases_eq, cases_order, cases_Bool, eqb-true, and_parts}
@@ -68,7 +68,7 @@ test_true c j a x t =
     (λ (l : c < j). inl l))
     (cases_order j c)
 
--- one column more
+-- one more column
 step_test : (c n x : ℕ) → c < n → (x < c) ⊎ ((x ≡ c) ⊎ (n ≤ x)) → nat_le c x ≡ ((x == c) || nat_le n x)
 step_test c n x l h =
     ⊎_elim
@@ -144,7 +144,7 @@ module _ (s : Arithmetic) (laws : IsSemiring s) (q : ℕ) (shape : Extent) (bloc
       (cases_lt f.column j))
       (cases_eq j f.column)
 
-  -- where no block has a next column, only entries after that column of the grid are left
+  -- if no block has a next column, only entries after that column of the grid are left
   pub finished : (f : Front) → IsFront q shape blocks f → ((k : ℕ) → k < 6 → get_or f.columns k 0 ≡ 4294967295) → q ≤ 6 → All (λ e. is_left q shape f e ≡ nat_lt f.column (part_with q shape.cols e.column)) es
   finished f front none six k d l =
       let i = row_part k d l in
@@ -218,7 +218,7 @@ module _ (s : Arithmetic) (laws : IsSemiring s) (q : ℕ) (shape : Extent) (bloc
     other_column : (k : ℕ) → k ≢ i → get_or g.columns k 0 ≡ get_or f.columns k 0
     other_column k ne = next_other q shape blocks f front i c least g column left done columns k ne
 
-    -- an entry is left where it stands in the next column, or is left after it
+    -- an entry is left if it is in the next column, or is left after it
     each : All (λ e. is_left q shape f e ≡ (is_next e || is_left q shape g e)) es
     each k d l =
         let u = row_part k d l in

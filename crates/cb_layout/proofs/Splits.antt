@@ -21,7 +21,7 @@ pub filter_same : (p q : Entry → Bool) (es : List Entry) → All (λ e. p e �
 filter_same p q [] h = refl
 filter_same p q (e ∷ es) h = λ i. cond (All-head (λ e. p e ≡ q e) e es h i) (e ∷ filter_same p q es (All-tail (λ e. p e ≡ q e) e es h) i) (filter_same p q es (All-tail (λ e. p e ≡ q e) e es h) i)
 
--- what one test takes, and after it what another takes, where nothing that the second takes stands before what the first does
+-- what one test takes, and after it what another takes, if nothing that the second takes is before what the first does
 pub filter_split : (p d q : Entry → Bool) (es : List Entry) → All (λ e. p e ≡ (d e || q e)) es → All (λ e. q e ≡ true → d e ≡ false) es → AllPairs (λ e f. q e ≡ true → d f ≡ false) es → filter p es ≡ filter d es ++ filter q es
 filter_split p d q [] h k m = refl
 filter_split p d q (e ∷ es) h k m =

@@ -38,12 +38,12 @@ entries_of t r (e ∷ es) = cond (owner_of t e == r) (moved t e ∷ entries_of t
 abbrev pub tile_of : Tiles → List Entry → ℕ → Sparse
 tile_of t es r = record { shape = t.size r; entries = entries_of t r es }
 
--- where there are no entries, a tile has none
+-- if there are no entries, a tile has none
 pub entries_of-none : (t : Tiles) (r : ℕ) → entries_of t r [] ≡ []
 unfolding entries_of
 entries_of-none t r = refl
 
--- one entry more, in this tile or in another
+-- one more entry, in this tile or in another
 pub entries_of-own : (t : Tiles) (r : ℕ) (es : List Entry) (e : Entry) → owner_of t e ≡ r → entries_of t r (es ++ e ∷ []) ≡ entries_of t r es ++ moved t e ∷ []
 unfolding entries_of
 entries_of-own t r [] e h = let k : (owner_of t e == r) ≡ true = grind (arith, nat_tests) in rw k refl

@@ -147,7 +147,7 @@ module _ (s : Arithmetic) (q : ℕ) (pos : 0 < q) (shape : Extent) (one : shape.
         All-map (λ x. piece_start q shape.rows (r / q) (r % q) + x < shape.rows) (λ (e : Entry). e.row) es
         (All-weaker (IsInside (piece_shape q shape (r / q) (r % q))) (λ e. piece_start q shape.rows (r / q) (r % q) + e.row < shape.rows) (λ e k. own_row q shape.rows pos (r / q) (r % q) e.row k.0) es es_inside)
 
-    -- with the entries of one piece more, those of all ranks up to its own are gathered
+    -- with the entries of one more piece, those of all ranks up to its own are gathered
     pub piece_more : (out new : List Entry) (start : ℕ) → start ≡ piece_start q shape.rows (r / q) (r % q)
         → new ≡ out ++ shifted start 0 (rows_of es) (values_of es)
         → IsGathered s shape (result_tiles q shape) (before_rank blocks r) out → IsGathered s shape (result_tiles q shape) (before_rank blocks (r + 1)) new

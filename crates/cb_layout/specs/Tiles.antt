@@ -30,7 +30,7 @@ block_tiles q shape = record {
   column = λ i j. place_in_part q shape.cols j;
 }
 
--- `out` has, with its place in the shape, each entry of `some r` for each tile r, and no others
+-- `out` has exactly the entries of `some r` of each tile r, with their places in the whole shape
 pub record IsGathered (s : Arithmetic) (shape : Extent) (t : Tiles) (some : ℕ → List Entry) (out : List Entry) : Type 0 where
   pub values : (r x y : ℕ) → r < t.count → x < (t.size r).rows → y < (t.size r).cols → values_at out (t.top r + x) (t.left r + y) ≡ values_at (some r) x y
   pub inside : All (IsInside shape) out

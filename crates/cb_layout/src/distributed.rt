@@ -9,9 +9,9 @@ ghost use Rattle.cb_layout.specs.Distributed.{glued_blocks};
 
 use crate::gather::stored;
 use crate::scatter::deliver;
-use crate::{Grid, Segments};
+use crate::{Grid, LARGEST_SIDE, Segments};
 use cb_dcsc::Block;
-use cb_matrix::{Entry, Matrix, Shape};
+use cb_matrix::{Entry, LIMIT, Matrix, Shape};
 use cb_semirings::Semiring;
 use std::alloc::{AllocError, Global};
 use std::marker::Model;
@@ -46,8 +46,9 @@ impl<S: Semiring> DistributedMatrix<S> {
         requires shapes { HavePartShapes grid.side shape blocks.items }
         ensures { result ≡ record { side = grid.side; matrix = glued_blocks S.arithmetic grid.side shape blocks.items } }
     {
-        let _side = grid.side();
-        let _limits = (shape.rows(), shape.cols());
+        prove!(grid.side() <= LARGEST_SIDE);
+        prove!(shape.rows() <= LIMIT);
+        prove!(shape.cols() <= LIMIT);
         let len = stored(&blocks);
         DistributedMatrix {
             grid,
@@ -65,8 +66,8 @@ impl<S: Semiring> DistributedMatrix<S> {
         Ok(Self::from_blocks(grid, matrix.shape(), blocks))
     }
 
-    /// The matrix of a shape without entries, over a grid, with room for this many entries, spread evenly. The cost is
-    /// that of one block for each rank.
+    /// An empty matrix of this shape over a grid, with room for this many entries, spread evenly. The cost is that of one
+    /// block for each rank.
     pub fn with_room(
         alloc: Global,
         grid: Grid,
@@ -75,7 +76,7 @@ impl<S: Semiring> DistributedMatrix<S> {
     ) -> Result<Self, AllocError>
         ensures { IfOk result (λ m. m ≡ record { side = grid.side; matrix = empty_matrix shape }) }
     {
-        let _side = grid.side();
+        prove!(grid.side() <= LARGEST_SIDE);
         let blocks = grid.empty_blocks(alloc, shape, grid.room(entries))?;
         Ok(Self::from_blocks(grid, shape, blocks))
     }
@@ -90,7 +91,8 @@ impl<S: Semiring> DistributedMatrix<S> {
         ensures ok { OnOk result (self.new ≡ record { side = self.old.side; matrix = with_entry self.old.matrix entry }) }
         ensures err { OnErr result (self.new ≡ self.old) }
     {
-        let _limits = (self.shape.rows(), self.shape.cols());
+        prove!(self.shape.rows() <= LIMIT);
+        prove!(self.shape.cols() <= LIMIT);
         let (rank, local) = self.grid.in_block(self.shape, entry);
         deliver(&mut self.blocks, rank, local)?;
         self.len += 1;
@@ -106,7 +108,8 @@ impl<S: Semiring> DistributedMatrix<S> {
         requires order { All (λ d. All (IsBefore d) other.matrix.entries) self.matrix.entries }
         ensures { IfOk result (λ m. m ≡ record { side = self.side; matrix = with_entries self.matrix other.matrix.entries }) }
     {
-        let _limits = (self.shape.rows(), self.shape.cols());
+        prove!(self.shape.rows() <= LIMIT);
+        prove!(self.shape.cols() <= LIMIT);
         let (mut blocks, mut others) = (self.blocks, other.blocks);
         append_blocks(&mut blocks, &mut others)?;
         Ok(DistributedMatrix {
@@ -170,8 +173,8 @@ impl<S: Semiring> DistributedMatrix<S> {
         self.blocks
     }
 
-    /// The same matrix over another semiring, of which its values must also be values. No entry is copied: it takes memory
-    /// for one block header per rank. If that is refused, the matrix is dropped.
+    /// The same matrix over another semiring. Its stored values must be nonzero values of that semiring too. No entry is
+    /// copied: it takes memory for one block header per rank. If that is refused, the matrix is dropped.
     pub fn recast<T: Semiring>(self, alloc: Global) -> Result<DistributedMatrix<T>, AllocError>
         requires values { All (λ e. IsValue T.arithmetic e.value × (e.value ≢ T.arithmetic.zero)) self.matrix.entries }
         ensures { IfOk result (λ m. m ≡ self) }
@@ -209,7 +212,7 @@ fn append_blocks<S: Semiring>(
     Ok(())
 }
 
-/// The same blocks over another semiring, of which their values must also be values.
+/// The same blocks over another semiring. Their stored values must be nonzero values of that semiring too.
 fn recast_blocks<S: Semiring, T: Semiring>(
     alloc: Global,
     blocks: Vec<Block<S>>,
@@ -219,7 +222,7 @@ fn recast_blocks<S: Semiring, T: Semiring>(
 {
     let mut recast = Vec::with_capacity(alloc, blocks.len())?;
     for block in blocks {
-        recast.push(block.recast())?;
+        recast.push_reserved(block.recast());
     }
     Ok(recast)
 }

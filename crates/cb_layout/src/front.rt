@@ -8,7 +8,7 @@ use cb_dcsc::Block;
 use cb_matrix::Shape;
 use cb_semirings::Semiring;
 
-/// The next column of a block that has none: a shape's columns end before it.
+/// Stands for the next column of a block that has no more. Every column number is less.
 pub(crate) const NO_COLUMN: u32 = u32::MAX;
 
 /// A column of the grid, and how far the walk over each of its blocks has come.

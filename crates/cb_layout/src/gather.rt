@@ -6,7 +6,7 @@ ghost use Rattle.cb_layout.specs.Blocks.{AreBlocksOf, HavePartShapes, block_at};
 ghost use Rattle.cb_layout.specs.Distributed.{glued_blocks};
 ghost use Rattle.cb_layout.specs.Segments.{shifted, entries_of};
 
-use crate::{Grid, Segment, Segments};
+use crate::{Grid, LARGEST_SIDE, Segment, Segments};
 use cb_dcsc::Block;
 use cb_matrix::{Entry, Matrix, Shape};
 use cb_semirings::Semiring;
@@ -28,7 +28,7 @@ impl Grid {
         ensures glued { IfOk result (λ m. m ≡ glued_blocks S.arithmetic self.now.side shape blocks.now) }
         ensures cuts { IfOk result (λ m. AreBlocksOf S.arithmetic self.now.side m blocks.now) }
     {
-        let _side = self.side();
+        prove!(self.side() <= LARGEST_SIDE);
         let mut entries = Vec::new(alloc);
         entries.reserve(stored(blocks))?;
         let mut segments = Segments::new(*self, shape, blocks);
@@ -62,6 +62,7 @@ pub(crate) fn stored<S: Semiring>(blocks: &[Block<S>]) -> usize
 {
     let mut count = 0usize;
     for block in blocks {
+        // For the proof alone: the contract of this call says that the block is a matrix.
         let _shape = block.shape();
         count = count.saturating_add(block.len());
     }

@@ -28,7 +28,7 @@ impl Grid {
         ensures matrices { IfOk result (λ v. AreRankMatrices S.arithmetic self.now.side v.items) }
         ensures law { IfOk result (λ v. glued_blocks S.arithmetic self.now.side matrix.now.shape v.items ≡ matrix.now) }
     {
-        let _side = self.side();
+        prove!(self.side() > 0);
         let shape = matrix.shape();
         let mut blocks = self.empty_blocks(alloc, shape, self.room(matrix.len()))?;
         for entry in matrix.entries() {
@@ -54,10 +54,10 @@ impl Grid {
     ) -> Result<Vec<Block<S>>, AllocError>
         ensures { IfOk result (λ v. v.items ≡ blank_blocks self.now.side shape) }
     {
-        let mut blocks = Vec::new(alloc);
+        let mut blocks = Vec::with_capacity(alloc, usize::from(self.ranks()))?;
         for rank in 0..self.ranks() {
             let part = self.block_shape(shape, rank);
-            blocks.push(roomy(alloc, part, each)?)?;
+            blocks.push_reserved(roomy(alloc, part, each)?);
         }
         Ok(blocks)
     }

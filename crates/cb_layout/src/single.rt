@@ -30,8 +30,10 @@ impl<S: Semiring> DistributedMatrix<S> {
         requires { self.side ≡ 1 }
         ensures { result ≡ self.matrix }
     {
-        let _shape = self.shape();
+        let shape = self.shape();
         let mut blocks = self.into_blocks();
-        blocks.remove(0)
+        let block = blocks.remove(0);
+        prove_eq!(block.shape(), shape);
+        block
     }
 }

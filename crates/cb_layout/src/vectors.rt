@@ -29,7 +29,7 @@ impl Grid {
         ensures matrices { IfOk result (λ v. AreRankMatrices S.arithmetic self.now.side v.items) }
         ensures law { IfOk result (λ v. glued_input S.arithmetic self.now.side vector.now.shape v.items ≡ vector.now) }
     {
-        let _side = self.side();
+        prove!(self.side() > 0);
         let shape = vector.shape();
         let mut blocks = self.empty_pieces(alloc, shape)?;
         for entry in vector.entries() {
@@ -47,10 +47,10 @@ impl Grid {
     ) -> Result<Vec<Block<S>>, AllocError>
         ensures { IfOk result (λ v. v.items ≡ blank_pieces self.now.side shape) }
     {
-        let mut blocks = Vec::new(alloc);
+        let mut blocks = Vec::with_capacity(alloc, usize::from(self.ranks()))?;
         for rank in 0..self.ranks() {
             let piece = self.input_shape(shape, rank);
-            blocks.push(Block::empty(alloc, piece))?;
+            blocks.push_reserved(Block::empty(alloc, piece));
         }
         Ok(blocks)
     }

@@ -31,7 +31,7 @@ module _ {P : Type 0} where
       by_cases [] f = ap ends_closed f
       by_cases (x ∷ xs) f = let some : 0 < length l.queue = rw f (omega arith) in sym (h.closed some) ∙ e
 
-  -- a lane that is not closed stays one as the letter of its next number is posted
+  -- an open lane stays one as a letter with its next number is posted
   pub IsLane-append : (from to : ℕ) (l : Lane P) (x : Letter P) → IsLane from to l → l.closed ≡ false → IsAddressed from to (posted l) x → IsLane from to (append l x)
   IsLane-append from to l x h e new = record {
     letters = (λ k d below. at_place k d below);
@@ -75,7 +75,7 @@ module _ {P : Type 0} where
           let place : l.taken + (1 + k) ≡ l.taken + min 1 (length l.queue) + k = omega arith in
           rw get_or_after_one (subst (λ n. IsAddressed from to n (slice_index_or l.queue (1 + k) d)) place (h.letters (1 + k) d some))
 
-  -- a letter that a take answers is the one of its number
+  -- a take returns the letter with the next number to be taken
   pub IsAddressed-take : (from to : ℕ) (l : Lane P) (x : Letter P) → IsLane from to l → take_answer l ≡ Answers.Letter x → IsAddressed from to l.taken x
   IsAddressed-take from to l x h e = by_cases l.closed l.queue (λ k d below. h.letters k d below) e
     where

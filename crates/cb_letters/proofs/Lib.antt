@@ -1,11 +1,11 @@
--- Lemmas on lanes, by topic. Crates above cite those that are `pub`.
+-- The toolbox of lemmas on lanes, by topic. Crates above cite those that are `pub`.
 --
 -- Marks: close marks among the letters posted: `ends_closed-append`, the letter posted last tells whether
---   the lane is closed; `NothingAfterClose-append`, a lane that is not closed takes one more letter.
--- Standings: `same_standing`, lanes that agree in every point stand the same; `not_stranger` and
---   `not_closed`, where nothing stands against a post there is such a lane, and it is open.
+--   the lane is closed; `NothingAfterClose-append`, an open lane accepts one more letter.
+-- Standings: `same_standing`, lanes that agree in every field stand the same; `not_stranger` and
+--   `not_closed`, if nothing refuses a post, there is such a lane, and it is open.
 -- Lanes: a lane stays one: `IsLane-new` when it is new, `IsLane-append` as a letter is posted,
---   `IsLane-take` as one is taken; `IsAddressed-take`, a letter that a take answers has the lane's two
+--   `IsLane-take` as one is taken; `IsAddressed-take`, a letter that a take returns has the lane's two
 --   ends, and the number of those taken before it.
 pub mod Marks
 pub mod Standings

@@ -14,9 +14,9 @@ module _ {P : Type 0} where
   ends_closed-append (y ∷ []) x = refl
   ends_closed-append (y ∷ (z ∷ zs)) x = ends_closed-append (z ∷ zs) x
 
-  -- a lane that is not closed takes one more letter
+  -- an open lane accepts one more letter
   pub NothingAfterClose-append : (xs : List (Letter P)) (x : Letter P) → NothingAfterClose xs → ends_closed xs ≡ false → NothingAfterClose (xs ++ x ∷ [])
   NothingAfterClose-append xs x h unclosed k below = grind (arith, common_steps, take-append-le, take-append_seam, h k, unclosed)
 
--- how a lane's close mark fares as letters are posted
+-- close marks as letters are posted
 pub ruleset marks = (ends_closed-append, NothingAfterClose-append)

@@ -1,4 +1,4 @@
--- How lanes stand: what kinds of ports owe, and what those who use them may conclude.
+-- How lanes stand: what implementations of ports have to show, and what their users may conclude.
 use Rattle.std.proofs.Common.{ℕ, ◌≡◌, Bool, true, false, None, refl, arith}
 use Rattle.std.proofs.lemmas.Grind.{common_steps}
 use Rattle.cb_letters.specs.Standing.{Standing, standing_refusal}
@@ -6,7 +6,7 @@ use Rattle.cb_letters.specs.Standing.{Standing, standing_refusal}
 standing_of : ℕ → Bool → Bool → ℕ → Standing
 standing_of sender is_stranger is_closed posted = record { sender = sender; is_stranger = is_stranger; is_closed = is_closed; posted = posted }
 
--- lanes that agree in every point stand the same
+-- lanes that agree in every field stand the same
 pub same_standing : (s t : Standing) → s.sender ≡ t.sender → s.is_stranger ≡ t.is_stranger → s.is_closed ≡ t.is_closed → s.posted ≡ t.posted → s ≡ t
 unfolding standing_of
 same_standing s t e f g h = same s.sender t.sender s.is_stranger t.is_stranger s.is_closed t.is_closed s.posted t.posted e f g h
@@ -14,7 +14,7 @@ same_standing s t e f g h = same s.sender t.sender s.is_stranger t.is_stranger s
     same : (a a' : ℕ) (b b' c c' : Bool) (d d' : ℕ) → a ≡ a' → b ≡ b' → c ≡ c' → d ≡ d' → standing_of a b c d ≡ standing_of a' b' c' d'
     same a a' b b' c c' d d' e f g h = cc
 
--- where nothing stands against a post, there is such a lane
+-- if nothing refuses a post, there is such a lane
 pub not_stranger : (s : Standing) → standing_refusal s ≡ None → s.is_stranger ≡ false
 not_stranger s e = by_cases s.is_stranger refl
   where
@@ -22,7 +22,7 @@ not_stranger s e = by_cases s.is_stranger refl
     by_cases true f = absurd (grind (arith, common_steps, e, f))
     by_cases false f = f
 
--- and it isn't closed
+-- if nothing refuses a post, the lane is open
 pub not_closed : (s : Standing) → standing_refusal s ≡ None → s.is_closed ≡ false
 not_closed s e = by_cases s.is_closed refl
   where

@@ -1,4 +1,4 @@
--- What lies in the lanes after a list of calls.
+-- What is queued on the lanes after a list of calls.
 use Rattle.std.proofs.Common.{◌≡◌, ◌≢◌, ℕ, Bool, true, false, if◌then◌else◌, List, [], ◌∷◌, ◌++◌, length, Option, Some, None, drop, refl, sym, ◌∙◌, ap, subst, arith, append_assoc, append-nil}
 use Rattle.std.proofs.lemmas.Grind.{common_steps}
 use Rattle.std.proofs.lemmas.List.{get_or-set_other, length-set}
@@ -15,13 +15,13 @@ use Rattle.cb_mailbox.proofs.Inboxes.{lane_at, lane_other, same_or_other}
 use Rattle.cb_mailbox.specs.Run.{after, after_post, after_all, post_events, take_events, events_of, events, IsBalanced}
 
 module _ {P : Type 0} where
-  -- the letters posted in two lists of events
+  -- the letters posted by two lists of events
   pub posts_on-append : (from to : ℕ) (xs ys : List (Event P)) → posts_on from to (xs ++ ys) ≡ posts_on from to xs ++ posts_on from to ys
   posts_on-append from to [] ys = refl
   posts_on-append from to (Sent f t x ∷ xs) ys = grind (arith, common_steps, posts_on-append from to xs ys)
   posts_on-append from to (Got f t x ∷ xs) ys = posts_on-append from to xs ys
 
-  -- and those taken
+  -- the letters taken by two lists of events
   pub takes_on-append : (from to : ℕ) (xs ys : List (Event P)) → takes_on from to (xs ++ ys) ≡ takes_on from to xs ++ takes_on from to ys
   takes_on-append from to [] ys = refl
   takes_on-append from to (Got f t x ∷ xs) ys = grind (arith, common_steps, takes_on-append from to xs ys)
@@ -45,7 +45,7 @@ module _ {P : Type 0} where
   take_same from me [] = refl
   take_same from me (x ∷ xs) = grind (arith, common_steps)
 
-  -- and takes nothing from another sender
+  -- a take takes nothing from another sender
   pub take_other : (from sender me : ℕ) (queue : List (Letter P)) → from ≢ sender → takes_on from me (take_events sender me queue) ≡ []
   take_other from sender me [] apart = refl
   take_other from sender me (x ∷ xs) apart = grind (arith, common_steps)

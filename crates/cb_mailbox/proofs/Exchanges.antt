@@ -53,7 +53,7 @@ module _ {P : Type 0} where
       by_cases true f = absurd (grind (arith, common_steps, e, f))
       by_cases false f = f
 
-  -- the letters that were taken of a lane, by number and address
+  -- the letters that were taken from a lane, by number and address
   abbrev Fits : ℕ → ℕ → ℕ → ℕ → List (Letter P) → Type 0
   Fits from to low high xs = AllPairs Earlier xs × All (Between low high) xs × All (For from to) xs
 
@@ -67,7 +67,7 @@ module _ {P : Type 0} where
       let between : Between low (low + 1) x = (omega arith, omega arith) in
       ((λ i j d before below. absurd (omega arith)), All-cons (Between low (low + 1)) x [] between none.1, All-cons (For from to) x [] (h.sender, h.addressee) none.2)
 
-  -- the oldest letter of a lane, but for a mark
+  -- the oldest letter of a lane, unless it is a close mark
   oldest_fits : (from to taken : ℕ) (q : List (Letter P)) → ((k : ℕ) (d : Letter P) → k < length q → IsAddressed from to (taken + k) (slice_index_or q k d))
       → Fits from to taken (taken + min 1 (length q)) (without_marks (take 1 q))
   oldest_fits from to taken [] h = none_fit from to taken _
@@ -157,7 +157,7 @@ module _ {P : Type 0} where
   cons_ends x [] e f = e
   cons_ends x (y ∷ ys) e f = f
 
-  -- letters that end with no mark, and more of them
+  -- letters that don't end with a close mark, followed by others
   mark_both : (xs ys : List (Letter P)) → ends_closed xs ≡ false → NothingAfterClose xs → NothingAfterClose ys → (k : ℕ) → k < length (xs ++ ys) → ends_closed (take k (xs ++ ys)) ≡ false
   mark_both [] ys e f h k below = h k below
   mark_both (x ∷ []) ys e f h zero below = refl
@@ -170,7 +170,7 @@ module _ {P : Type 0} where
       inner zero less = refl
       inner (suc j) less = f (suc (suc j)) (omega arith)
 
-  -- letters that end with no mark end as those that follow do
+  -- letters that don't end with a close mark, followed by others, end as these do
   ends_both : (xs ys : List (Letter P)) → ends_closed xs ≡ false → ends_closed (xs ++ ys) ≡ ends_closed ys
   ends_both [] ys e = refl
   ends_both (x ∷ []) [] e = e

@@ -24,7 +24,7 @@ module _ {P : Type 0} where
   pub lane_at : (box : Inbox P) (from : ℕ) (l : Lane P) → is_stranger box from ≡ false → lane_from (with_lane box from l) from ≡ l
   lane_at box from l inside = grind (arith, common_steps)
 
-  -- and every other lane is as it was
+  -- every other lane is unchanged
   pub lane_other : (box : Inbox P) (from other : ℕ) (l : Lane P) → other ≢ from → lane_from (with_lane box from l) other ≡ lane_from box other
   lane_other box from other l apart = get_or-set_other box.lanes from other l (new_lane 0) apart
 

@@ -1,4 +1,4 @@
--- What one call does on one lane: nothing, one letter more, or one less.
+-- What one call does on one lane: it adds a letter, removes one, or does nothing.
 use Rattle.std.proofs.Common.{◌≡◌, ◌≢◌, ℕ, Bool, true, false, if◌then◌else◌, List, [], ◌∷◌, ◌==◌, Option, Some, None, take, ◌⊎◌, inl, inr, refl, sym, subst, arith}
 use Rattle.std.proofs.lemmas.Grind.{common_steps}
 use Rattle.cb_letters.specs.declared.Letter.{Letter}
@@ -42,7 +42,7 @@ module _ {P : Type 0} where
   abbrev pub LaneStep : ℕ → ℕ → Lane P → Lane P → List (Letter P) → List (Letter P) → Type 0
   LaneStep from to l m posts takes = Stays l m posts takes ⊎ (Accepts from to l m posts takes ⊎ HandsOut l m posts takes)
 
-  -- the letter, where the post is accepted
+  -- the letter, if the post is accepted
   abbrev posts_of : Option PostRefusal → List (Letter P) → List (Letter P)
   posts_of None xs = xs
   posts_of (Some why) xs = []
@@ -53,7 +53,7 @@ module _ {P : Type 0} where
   when_same : (f : ℕ) (x : Letter P) → when (f == f) x ≡ x ∷ []
   when_same f x = grind (arith, common_steps)
 
-  -- a letter that is accepted of one sender, on each lane
+  -- a letter that is accepted from one sender, on each lane
   accepted_step : (box : Inbox P) (from : ℕ) (x : Letter P) → is_stranger box from ≡ false → None ≡ post_refusal box x.from → x.to ≡ box.me → x.number ≡ posted (lane_from box x.from)
       → LaneStep from box.me (lane_from box from) (lane_from (with_lane box x.from (append (lane_from box x.from) x)) from) (when (x.from == from) x) []
   accepted_step box from x inside granted to number =
@@ -97,7 +97,7 @@ module _ {P : Type 0} where
   no_take_close from f n (Some why) = refl
   no_take_close from f n None = refl
 
-  -- what a take hands out of a lane is the oldest letter that is queued, but for a mark
+  -- a take hands out the oldest queued letter of a lane, unless it is a close mark
   oldest_of : (from : ℕ) (closed : Bool) (q : List (Letter P)) → taken_by from (Take from) (Took (answer_at closed q)) ≡ without_marks (take 1 q)
   oldest_of from true [] = refl
   oldest_of from false [] = refl
@@ -109,7 +109,7 @@ module _ {P : Type 0} where
       by_mark false true e = grind (arith, common_steps, e)
       by_mark false false e = grind (arith, common_steps, e, when_same from x)
 
-  -- and nothing of another sender's
+  -- it hands out nothing of another sender
   nothing_of : (from f : ℕ) (a : Taken P) → from ≢ f → taken_by from (Take f) (Took a) ≡ []
   nothing_of from f (Answers.Letter x) apart = when_other f from x apart
   nothing_of from f Answers.End apart = refl

@@ -25,13 +25,13 @@ or_false true b e = absurd (false_true (sym e))
 or_false false b e = refl
 
 module _ {P : Type 0} where
-  -- the lanes are what these events left of new ones
+  -- the lanes are what these events make of new lanes
   pub record Agrees (past : List (Event P)) (box : Inbox P) : Type 0 where
     pub balance : (from : ℕ) → is_stranger box from ≡ false → posts_on from box.me past ≡ takes_on from box.me past ++ (lane_from box from).queue
     pub count : (from : ℕ) → is_stranger box from ≡ false → (lane_from box from).taken ≡ length (takes_on from box.me past)
     pub closed : (from : ℕ) → is_stranger box from ≡ false → (lane_from box from).closed ≡ ends_closed (posts_on from box.me past)
 
-  -- there is no refusal only for a sender whose lane is not closed
+  -- if no post is refused, the sender's lane is open
   accepted : (box : Inbox P) (from : ℕ) → None ≡ post_refusal box from → (is_stranger box from ≡ false) × ((lane_from box from).closed ≡ false)
   accepted box from e = accepted_by (is_stranger box from) (lane_from box from).closed refl refl
     where
@@ -40,7 +40,7 @@ module _ {P : Type 0} where
       accepted_by false true f h = absurd (grind (arith, common_steps, e, f, h))
       accepted_by false false f h = (f, h)
 
-  -- a letter of its lane, with its next number, may follow where the lane is open
+  -- a letter with the next number of an open lane may follow
   pub post_may_follow : (past : List (Event P)) (box : Inbox P) (x : Letter P) → Agrees past box → None ≡ post_refusal box x.from → x.to ≡ box.me → x.number ≡ posted (lane_from box x.from)
       → (is_close x.body ≡ true → x.tag.0 ≡ 0) → MayFollow past (Sent x.from x.to x)
   post_may_follow past box x h e m n tag =
@@ -49,7 +49,7 @@ module _ {P : Type 0} where
       let counted = h.count x.from ok.0 in
       (refl, refl, rw m (omega arith), rw m (sym (h.closed x.from ok.0) ∙ ok.1), tag)
 
-  -- the oldest letter that is queued may follow as the next taken
+  -- the oldest queued letter may follow as the next one taken
   pub take_may_follow : (past : List (Event P)) (box : Inbox P) (from : ℕ) (x : Letter P) (xs : List (Letter P)) → Agrees past box → is_stranger box from ≡ false → (lane_from box from).queue ≡ x ∷ xs
       → MayFollow past (Got from box.me x)
   take_may_follow past box from x xs h inside q =
@@ -110,7 +110,7 @@ module _ {P : Type 0} where
             ∙ rw (posts_on-append, sent_elsewhere from box.me x apart) (ap ends_closed (sym (append-nil (posts_on from box.me past))))));
       }
 
-  -- a post, accepted or refused, is legal, and the lanes are what it leaves
+  -- a post, accepted or refused, is legal, and the lanes are what the events leave
   pub post_legal : (past : List (Event P)) (box : Inbox P) (r : Option PostRefusal) (x : Letter P) → Agrees past box → r ≡ post_refusal box x.from → x.to ≡ box.me → x.number ≡ posted (lane_from box x.from)
       → (is_close x.body ≡ true → x.tag.0 ≡ 0) → AreLegalAfter past (post_events r x) × Agrees (past ++ post_events r x) (after_post r box x)
   post_legal past box (Some why) x h e m n tag = (tt, rw append-nil h)

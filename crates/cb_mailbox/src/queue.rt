@@ -8,6 +8,7 @@ use circular_buffer::HeapCircularBuffer;
 use std::alloc::{AllocError, Global};
 use std::marker::Model;
 
+/// The letters that wait on a lane, the number of those taken, and whether a close mark was posted.
 #[derive(Drop)]
 pub struct Queue<P> {
     ring: HeapCircularBuffer<Letter<P>>,
@@ -27,6 +28,7 @@ impl<P> Model for Queue<P> {
 }
 
 impl<P: Drop> Queue<P> {
+    /// A new lane with this many places.
     pub(crate) fn new(alloc: Global, capacity: usize) -> Result<Queue<P>, AllocError>
         ensures { IfOk result (λ q. q ≡ new_lane capacity) }
     {
@@ -97,18 +99,21 @@ impl<P: Drop> Queue<P> {
         }
     }
 
+    /// Whether the lane is closed and all its letters are taken.
     pub(crate) fn is_drained(&self) -> bool
         ensures { IsTrue result ↔ IsDrained self.now }
     {
         self.closed && self.ring.is_empty()
     }
 
+    /// Whether there is a free place.
     pub(crate) fn has_room(&self) -> bool
         ensures { IsTrue result ↔ HasRoom self.now }
     {
         self.ring.len() < self.ring.capacity()
     }
 
+    /// The number of letters taken.
     pub(crate) fn taken(&self) -> u64
         ensures { result ≡ self.now.taken }
     {

@@ -27,12 +27,12 @@ abbrev pub AllPass : List (Bool × Kind) → Type 0
 AllPass [] = Unit {0}
 AllPass (check ∷ checks) = (check.0 ≡ true) × AllPass checks
 
--- where no check fails first, all pass
+-- if no check fails first, all pass
 pub all_pass : (checks : List (Bool × Kind)) → first_failed checks ≡ None → AllPass checks
 all_pass [] e = tt
 all_pass (check ∷ checks) e = let p = passes check.0 check.1 (first_failed checks) e in (p.0, all_pass checks p.1)
 
--- where neither a line nor what comes after it has a first fault, both have none
+-- if neither a line nor the text after it has a first fault, both have none
 pub at_line_none : (n : ℕ) (fault : Option Kind) (rest : Option ReadFault) → at_line n fault rest ≡ None → (fault ≡ None) × (rest ≡ None)
 at_line_none n None rest e = (refl, e)
 at_line_none n (Some kind) rest e = cc
@@ -71,7 +71,7 @@ entry_inside s header shape ws e =
 pub header_ok : (s : Arithmetic) (line b o f w y : List ℕ) (h : Header) → begins_blank line ≡ false → words line ≡ b ∷ o ∷ f ∷ w ∷ y ∷ [] → bytes_eq b (codes "%%MatrixMarket") ≡ true → is_read s ([] ∷ o ∷ f ∷ w ∷ y ∷ []) ≡ true → h ≡ header_of ([] ∷ o ∷ f ∷ w ∷ y ∷ []) → (header_fault s (begins_blank line) (words line) ≡ None) × (h ≡ header_of (words line))
 header_ok s line b o f w y h starts e banner known is = (rw (starts, e) (rw banner (rw known refl)), rw e is)
 
--- behind a size line without a fault, the first fault of the body is that of its entries
+-- after a size line without a fault, the first fault of the body is that of its entries
 pub body_is : (s : Arithmetic) (header : Header) (n : ℕ) (ls : List (ℕ × List (List ℕ))) (l : ℕ × List (List ℕ)) (more : List (ℕ × List (List ℕ))) → ls ≡ l ∷ more → size_fault header l.1 ≡ None → body_fault s header n ls ≡ entries_fault s header (size_of l.1).shape n (size_of l.1).count more
 body_is s header n ls l more e h = ap (body_fault s header n) e ∙ ap (λ b. at_line l.0 b (entries_fault s header (size_of l.1).shape n (size_of l.1).count more)) h
 
@@ -93,7 +93,7 @@ pub no_text : (s : Arithmetic) → first_fault s [] ≡ Some (record { line = 1;
 unfolding first_fault lines cut_lines
 no_text s = refl
 
--- what `read` answers
+-- what `read` returns
 pub read_empty : (s : Arithmetic) (text : List ℕ) → length text ≡ 0 → IsAnswer (first_fault s text) (record { line = 1; kind = BadHeader })
 read_empty s [] e = inl (no_text s)
 read_empty s (c ∷ text) e = absurd (omega arith)
@@ -106,7 +106,7 @@ read_header s text start k h e f = inl (rw (first_step s text h) (rw (rw e at f)
 pub body_first : (s : Arithmetic) (text start rest : List ℕ) (header : Header) (n : ℕ) → 0 < length text → start ≡ text → n ≡ 2 → rest ≡ after_line start → header_fault s (begins_blank (line_at start)) (words (line_at start)) ≡ None → header ≡ header_of (words (line_at start)) → first_fault s text ≡ body_fault s header (n + length (lines rest)) (kept_from n rest)
 body_first s text start rest header n h e f g k l = rw (first_step s text h) (rw (rw e at k) (rw (f, g, l, e) refl))
 
--- where the first line has none, an answer for the body is one for the text
+-- if the first line has none, an answer for the body is one for the text
 pub read_fault : (s : Arithmetic) (text start rest : List ℕ) (header : Header) (n : ℕ) (fault : ReadFault) → 0 < length text → start ≡ text → n ≡ 2 → rest ≡ after_line start → header_fault s (begins_blank (line_at start)) (words (line_at start)) ≡ None → header ≡ header_of (words (line_at start)) → IsAnswer (body_fault s header (n + length (lines rest)) (kept_from n rest)) fault → IsAnswer (first_fault s text) fault
 read_fault s text start rest header n fault h e f g k l a = subst (λ (o : Option ReadFault). IsAnswer o fault) (sym (body_first s text start rest header n h e f g k l)) a
 
@@ -119,7 +119,7 @@ pub record IsText (s : Arithmetic) (text : List ℕ) (m : Sparse) : Type 0 where
 pub matrix_first : (s : Arithmetic) (text start rest : List ℕ) (header : Header) (n : ℕ) → 0 < length text → start ≡ text → n ≡ 2 → rest ≡ after_line start → header ≡ header_of (words (line_at start)) → matrix_in s text ≡ body_matrix s header (kept_from n rest)
 matrix_first s text start rest header n h e f g l = rw (matrix_step s text h) (rw (f, g, l, e) refl)
 
--- where neither the first line nor the body has a fault, the text has the matrix of its body
+-- if neither the first line nor the body has a fault, the text has the matrix of its body
 pub read_ok : (s : Arithmetic) (text start rest : List ℕ) (header : Header) (n : ℕ) (m : Sparse) → 0 < length text → start ≡ text → n ≡ 2 → rest ≡ after_line start → header_fault s (begins_blank (line_at start)) (words (line_at start)) ≡ None → header ≡ header_of (words (line_at start)) → body_fault s header (n + length (lines rest)) (kept_from n rest) ≡ None → m ≡ body_matrix s header (kept_from n rest) → IsText s text m
 read_ok s text start rest header n m h e f g k l a b = record {
   no_fault = body_first s text start rest header n h e f g k l ∙ a;

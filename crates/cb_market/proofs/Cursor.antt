@@ -70,7 +70,7 @@ pub lines_step : (c : ℕ) (rest : List ℕ) → lines (c ∷ rest) ≡ line_at 
 unfolding lines
 lines_step c rest = rw (cut_step c rest, line_is (c ∷ rest)) refl
 
--- a byte before a line takes none away
+-- a byte in front of some lines leaves no fewer
 onto_first-le : (c : ℕ) (ls : List (List ℕ)) → length ls ≤ length (onto_first c ls)
 onto_first-le c [] = omega arith
 onto_first-le c (l ∷ ls) = omega arith
@@ -130,12 +130,12 @@ pub line_end_here : (rest : List ℕ) → is_line_end rest ≡ true → line_at 
 line_end_here [] e = refl
 line_end_here (c ∷ rest) e = rw e refl
 
--- where a line ends, no word of it is left
+-- at the end of a line no word of it is left
 pub no_word : (rest : List ℕ) → is_line_end rest ≡ true → words (line_at rest) ≡ []
 unfolding words
 no_word rest e = rw (line_end_here rest e) refl
 
--- a line begins by a blank, or not at all, where a word ends
+-- where a word ends, the rest of the line is empty or begins with a blank
 pub begins_line : (rest : List ℕ) → begins_blank (line_at rest) ≡ is_word_end rest
 begins_line [] = refl
 begins_line (c ∷ rest) = elim (is_line_end (c ∷ rest)) as (λ b. begins_blank (cond b [] (c ∷ line_at rest)) ≡ is_blank c || b) [ true ↦ or_true (is_blank c) | false ↦ or_false (is_blank c) ]
@@ -200,7 +200,7 @@ end_after_blanks : (rest : List ℕ) → is_line_end (after_blanks rest) ≡ fal
 end_after_blanks [] h = h
 end_after_blanks (c ∷ rest) h = ⊎_elim (λ e. rw e (end_after_blanks rest (rw e at h))) (λ e. rw e (rw e (rw e at h))) (cases_Bool (is_blank c))
 
--- where no word ends, the first word of the line is the one at the front, and the others come after it
+-- where no word ends, the first word of the line is the one at the front, followed by the others
 pub words_first : (rest : List ℕ) → is_word_end rest ≡ false → words (line_at rest) ≡ front_word rest ∷ words (line_at (after_word rest))
 words_first [] h = cc
 words_first (c ∷ rest) h = words_front c rest h
@@ -213,7 +213,7 @@ word_none old start e h = sym (words_after_blanks old) ∙ ap (λ l. words (line
 pub word_none_after : (old start : List ℕ) → start ≡ after_blanks old → after_line start ≡ after_line old
 word_none_after old start e = ap after_line e ∙ line_after_blanks old
 
--- where the line goes on past the blanks, its first word is the bytes from there to where the word ends
+-- if the line continues after the blanks, its first word is the bytes from there to the end of the word
 pub word_found : (old start new : List ℕ) → start ≡ after_blanks old → is_line_end start ≡ false → new ≡ after_word start → words (line_at old) ≡ take (length start - length new) start ∷ words (line_at new)
 word_found old start new e h f =
     let k : is_word_end start ≡ false = rw e (end_after_blanks old (rw e at h)) in
@@ -223,11 +223,11 @@ word_found old start new e h f =
 pub word_after : (old start new : List ℕ) → start ≡ after_blanks old → new ≡ after_word start → after_line new ≡ after_line old
 word_after old start new e f = ap after_line f ∙ line_after_word start ∙ word_none_after old start e
 
--- no more text is left after a word than before it
+-- the text after a word is no longer than the text before it
 pub word_fits : (start new : List ℕ) → new ≡ after_word start → length new ≤ length start
 word_fits start new f = rw f (after_word-le start)
 
--- the number of the word at the front is that of the bytes that were passed
+-- the number of the word at the front is that of the bytes that were skipped
 pub word_number : (start new : List ℕ) (m : Number) → new ≡ after_word start → m ≡ number_of (front_word start) → m ≡ number_of (take (length start - length new) start)
 word_number start new m f h = h ∙ ap number_of (sym (word_taken start)) ∙ ap (λ l. number_of (take (length start - length l) start)) (sym f)
 
@@ -241,7 +241,7 @@ pub kept_skipped : (n : ℕ) (rest : List ℕ) → 0 < length rest → is_skippe
 kept_skipped n [] h e = absurd (omega arith)
 kept_skipped n (c ∷ rest) h e = kept_more n c rest true e
 
--- a line that isn't skipped is kept, with its number, before those that come after it
+-- a line that isn't skipped is kept, with its number, before those after it
 pub kept_here : (n : ℕ) (rest : List ℕ) → 0 < length rest → is_skipped (words (line_at rest)) ≡ false → kept_from n rest ≡ (n, words (line_at rest)) ∷ kept_from (n + 1) (after_line rest)
 kept_here n [] h e = absurd (omega arith)
 kept_here n (c ∷ rest) h e = kept_more n c rest false e
@@ -256,7 +256,7 @@ pub no_lines : length (lines []) ≡ 0
 unfolding lines cut_lines
 no_lines = refl
 
--- any other text has one line more than what comes after its first line
+-- any other text has one line more than the text after its first line
 pub lines_more : (rest : List ℕ) → 0 < length rest → length (lines rest) ≡ 1 + length (lines (after_line rest))
 lines_more [] h = absurd (omega arith)
 lines_more (c ∷ rest) h = rw (lines_step c rest) (omega arith)
@@ -265,7 +265,7 @@ after_line-le : (rest : List ℕ) → length (after_line rest) ≤ length rest
 after_line-le [] = omega arith
 after_line-le (c ∷ rest) = ⊎_elim (λ e. rw e (omega arith)) (λ e. rw e (omega (arith, after_line-le rest))) (cases_Bool (c == 10))
 
--- what comes after a line of a text that isn't empty is shorter than the text
+-- the text after a line is shorter than the text, unless that is empty
 pub after_line-lt : (rest : List ℕ) → 0 < length rest → length (after_line rest) < length rest
 after_line-lt [] h = absurd (omega arith)
 after_line-lt (c ∷ rest) h = ⊎_elim (λ e. rw e (omega arith)) (λ e. rw e (omega (arith, after_line-le rest))) (cases_Bool (c == 10))
@@ -282,11 +282,11 @@ lines-le_by (suc n) (c ∷ rest) h =
 pub lines-le : (rest : List ℕ) → length (lines rest) ≤ length rest
 lines-le rest = lines-le_by (length rest) rest (omega arith)
 
--- a line whose first word is no comment is kept, with its number and words
+-- a line whose first word isn't a comment is kept, with its number and words
 pub kept_word : (n m : ℕ) (old new w : List ℕ) → 0 < length old → m ≡ n → words (line_at old) ≡ w ∷ words (line_at new) → is_comment w ≡ false → after_line new ≡ after_line old → kept_from n old ≡ (m, w ∷ words (line_at new)) ∷ kept_from (m + 1) (after_line new)
 kept_word n m old new w h e f g k =
     rw (e, k, ← f) (kept_here n old h (rw f g))
 
--- where a line is skipped, the lines that are kept are those of what comes after it
+-- if a line is skipped, the kept lines are those of the text after it
 pub kept_passed : (n m : ℕ) (old mid new : List ℕ) → 0 < length old → m ≡ n + 1 → after_line mid ≡ after_line old → new ≡ after_line mid → is_skipped (words (line_at old)) ≡ true → kept_from m new ≡ kept_from n old
 kept_passed n m old mid new h e f g k = rw (e, g, f) (sym (kept_skipped n old h k))

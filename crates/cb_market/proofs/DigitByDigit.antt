@@ -23,12 +23,12 @@ too_many n ds all c e h = if_small_over (n * 10 + (c - 48)) (number all) e (omeg
 pub small_here : (n all : ℕ) → n < 2 ^ 64 → n ≡ all → Some n ≡ if_small all
 small_here n all h k = subst (λ (m : ℕ). Some n ≡ if_small m) k (sym (if_small_fits n h))
 
--- where the text has ended, the number so far is the whole number, and fits
+-- at the end of the text, the number so far is the whole number, and fits
 pub small_at_end : (rest : List ℕ) (n all : ℕ) → length rest < 1 → n < 2 ^ 64 → number_from n (front_digits rest) ≡ all → Some n ≡ if_small all
 small_at_end [] n all e h k = small_here n all h k
 small_at_end (c ∷ rest) n all e h k = absurd (omega arith)
 
--- where a byte comes that is no digit, the number so far is the whole number, and fits
+-- at a byte that isn't a digit, the number so far is the whole number, and fits
 pub small_at_other : (rest : List ℕ) (n all : ℕ) → is_digit (get_or rest 0 0) ≡ false → n < 2 ^ 64 → number_from n (front_digits rest) ≡ all → Some n ≡ if_small all
 small_at_other [] n all e h k = small_here n all h k
 small_at_other (c ∷ rest) n all e h k = small_here n all h (rw e at k)

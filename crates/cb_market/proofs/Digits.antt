@@ -4,8 +4,8 @@ use Rattle.std.specs.Prelude.{decimal}
 use Rattle.std.proofs.lemmas.Fmt.{decimal_digit, decimal_step}
 
 -- a number below ten has one
-pub one_digit : (n : ℕ) → n < 10 → length (decimal n) ≡ 1
-one_digit n h = ap length (decimal_digit n h)
+pub has_one : (n : ℕ) → n < 10 → length (decimal n) ≡ 1
+has_one n h = ap length (decimal_digit n h)
 
 -- a longer one has one more than its tenth
 pub digit_more : (n : ℕ) → 10 ≤ n → n < 2 ^ 64 → length (decimal n) ≡ length (decimal (n / 10)) + 1
@@ -26,23 +26,23 @@ four_more n h k =
     let ee = ap (λ m. length (decimal m)) e in
     omega (arith, ea, eb, ec, ed, ee)
 
--- one to four
-pub two_digits : (n : ℕ) → 10 ≤ n → n < 100 → length (decimal n) ≡ 2
-two_digits n h k =
+-- a number from 10 to 99 has two
+pub has_two : (n : ℕ) → 10 ≤ n → n < 100 → length (decimal n) ≡ 2
+has_two n h k =
     let e = digit_more n h (omega arith) in
-    let f = one_digit (n / 10) (omega arith) in
+    let f = has_one (n / 10) (omega arith) in
     omega (arith, e, f)
 
 -- a number from 100 to 999 has three
-pub three_digits : (n : ℕ) → 100 ≤ n → n < 1000 → length (decimal n) ≡ 3
-three_digits n h k =
+pub has_three : (n : ℕ) → 100 ≤ n → n < 1000 → length (decimal n) ≡ 3
+has_three n h k =
     let e = digit_more n (omega arith) (omega arith) in
-    let f = two_digits (n / 10) (omega arith) (omega arith) in
+    let f = has_two (n / 10) (omega arith) (omega arith) in
     omega (arith, e, f)
 
 -- a number from 1,000 to 9,999 has four
-pub four_digits : (n : ℕ) → 1000 ≤ n → n < 10000 → length (decimal n) ≡ 4
-four_digits n h k =
+pub has_four : (n : ℕ) → 1000 ≤ n → n < 10000 → length (decimal n) ≡ 4
+has_four n h k =
     let e = digit_more n (omega arith) (omega arith) in
-    let f = three_digits (n / 10) (omega arith) (omega arith) in
+    let f = has_three (n / 10) (omega arith) (omega arith) in
     omega (arith, e, f)

@@ -61,7 +61,7 @@ abbrev pub plain_header : Bool → Header
 plain_header true = record { field = Pattern; symmetry = General }
 plain_header false = record { field = Integer; symmetry = General }
 
--- the words of an entry's line: the number of its row, of its column, and its value where values are written
+-- the words of an entry's line: the number of its row, of its column, and its value if values are written
 abbrev pub entry_words : Bool → Entry → List (List ℕ)
 entry_words true e = decimal (e.row + 1) ∷ decimal (e.column + 1) ∷ []
 entry_words false e = decimal (e.row + 1) ∷ decimal (e.column + 1) ∷ decimal e.value ∷ []

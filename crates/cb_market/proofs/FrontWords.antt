@@ -25,7 +25,7 @@ pub after_digits-le : (rest : List ℕ) → length (after_digits rest) ≤ lengt
 after_digits-le [] = omega arith
 after_digits-le (c ∷ rest) = ⊎_elim (λ e. rw e (omega (arith, after_digits-le rest))) (λ e. rw e (omega arith)) (cases_Bool (is_digit c))
 
--- digits alone, where a word ends after them
+-- digits alone, if a word ends after them
 pub front_digits_word : (rest : List ℕ) → is_word_end (after_digits rest) ≡ true → front_word rest ≡ front_digits rest
 front_digits_word [] h = refl
 front_digits_word (c ∷ rest) h = ⊎_elim
@@ -41,7 +41,7 @@ pub number_front : (rest : List ℕ) → length (after_digits rest) < length res
 number_front [] h = absurd (omega arith)
 number_front (c ∷ rest) h = ⊎_elim (λ e. rw e (rw e (front_digits_all rest))) (λ e. absurd (omega (arith, rw e at h))) (cases_Bool (is_digit c))
 
--- a byte that is no digit, after some digits or none
+-- a byte that isn't a digit, after any digits
 front_not_digits : (rest : List ℕ) → is_word_end (after_digits rest) ≡ false → all_digits (front_word rest) ≡ false
 front_not_digits [] h = h
 front_not_digits (c ∷ rest) h = ⊎_elim
@@ -75,7 +75,7 @@ pub after_sign_word : (rest : List ℕ) → after_word (after_sign rest) ≡ aft
 after_sign_word [] = refl
 after_sign_word (c ∷ rest) = ⊎_elim (λ e. rw e (rw (sign_no_end c rest e) refl)) (λ e. rw e refl) (cases_Bool ((c == 43) || (c == 45)))
 
--- what the word at the front writes
+-- the number of the word at the front
 pub whole_is : (rest digits : List ℕ) → digits ≡ after_digits (after_sign rest) → length digits < length (after_sign rest) → is_word_end digits ≡ true → number_of (front_word rest) ≡ whole_number (if_small (number (front_digits (after_sign rest))))
 whole_is rest digits e h k =
     let s = signed rest in
@@ -107,11 +107,11 @@ number_whole old sign digits n e f h k g =
 pub number_rest : (old sign digits : List ℕ) → sign ≡ after_sign old → digits ≡ after_digits sign → after_word digits ≡ after_word old
 number_rest old sign digits e f = ap after_word (f ∙ ap after_digits e) ∙ after_digits_word (after_sign old) ∙ after_sign_word old
 
--- where the word ends behind its digits, what is left is the text after the word
+-- if the word ends after its digits, the rest is the text after the word
 pub number_ended : (old sign digits : List ℕ) → sign ≡ after_sign old → digits ≡ after_digits sign → is_word_end digits ≡ true → digits ≡ after_word old
 number_ended old sign digits e f k = sym (ended digits k) ∙ number_rest old sign digits e f
 
--- a word that has no digits, or goes on behind them, writes no whole number
+-- a word without digits, or with more after them, isn't a whole number
 pub number_none : (old sign digits : List ℕ) → sign ≡ after_sign old → digits ≡ after_digits sign → (length sign ≤ length digits) ⊎ (is_word_end digits ≡ false) → NotWhole ≡ number_of (front_word old)
 number_none old sign digits e f h =
     let g = f ∙ ap after_digits e in

@@ -1,4 +1,4 @@
--- Entries that are gathered, after others.
+-- Gathered entries, appended to others.
 use Rattle.std.proofs.Common.{◌≡◌, ℕ, Bool, true, subst, ◌^◌, ◌<◌, ◌≤◌, min, max, List, [], ◌++◌, get_or, inl, inr, ⊎_elim, sym, arith, refl}
 use Rattle.std.specs.Prelude.{All}
 use Rattle.std.proofs.lemmas.Bool.{cases_lt, false≢true}
@@ -23,7 +23,7 @@ all_before shape es fs bound first low below above inside order =
     let small : (get_or fs k x).row < 2 ^ 32 = omega (arith, here.0, low) in
     before_by_number d (get_or fs k x) small (omega (arith, less, order, there))) es below
 
--- all are from the lesser first number on
+-- all have at least the lesser first number
 pub above_both : (es fs : List Entry) (f g : ℕ) → All (λ e. f ≤ place_number e) es → All (λ e. g ≤ place_number e) fs → All (λ e. min f g ≤ place_number e) (es ++ fs)
 above_both es fs f g a b =
     All-append (λ e. min f g ≤ place_number e) es fs
@@ -37,11 +37,11 @@ below_both es fs f g a b =
     (All-weaker (λ e. place_number e < f) (λ e. place_number e < max f g) (λ e h. omega (arith, h)) es a)
     (All-weaker (λ e. place_number e < g) (λ e. place_number e < max f g) (λ e h. omega (arith, h)) fs b)
 
--- where both lists are empty, the entries of both blocks are all
+-- if both lists are empty, all entries are in the two blocks
 pub blocks_of_both : (es fs vs ws : List Entry) → vs ≡ [] → ws ≡ [] → (es ++ fs) ++ vs ≡ (es ++ vs) ++ (fs ++ ws)
 blocks_of_both es fs vs ws v w = rw (v, w) (rw (append-nil es, append-nil fs, append-nil (es ++ fs)) refl)
 
--- blocks with the entries of others after their own, from the lesser first number on and below the greater bound
+-- blocks with the entries of others appended, from the lesser first number up to below the greater bound
 pub gathered_both : (s : Arithmetic) (m n both : Sparse) (list others : List Entry) (ascends more : Bool) (f g first b d bound : ℕ) → IsGathered s m list ascends f b → IsGathered s n others more g d → ascends ≡ true
     → both ≡ with_entries m n.entries → first ≡ min f g → bound ≡ max b d → IsGathered s both list true first bound
 gathered_both s m n both list others ascends more f g first b d bound x y up is least greatest =

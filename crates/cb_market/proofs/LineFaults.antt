@@ -33,7 +33,7 @@ from_filter k n (w ∷ ws) h =
     let rest = from_filter k (n + 1) ws (omega (arith, h)) in
     ⊎_elim (λ (e : is_skipped w ≡ true). rw e rest) (λ (e : is_skipped w ≡ false). rw e (h, rest)) (cases_Bool (is_skipped w))
 
--- the lines of a text that are kept have the number of its first line or a later one
+-- the kept lines of a text have the number of its first line or a later one
 pub kept_numbers : (n : ℕ) (text : List ℕ) → From n (kept_from n text)
 unfolding kept_from
 kept_numbers n text = from_filter n n (map words (lines text)) (omega arith)
@@ -60,25 +60,25 @@ pub extra : (s : Arithmetic) (header : Header) (shape : Extent) (n left : ℕ) (
 unfolding entries_fault
 extra s header shape n left ls l more all f e z h k = inl (sym e ∙ ap (λ i. entries_fault s header shape n i ls) z ∙ ap (entries_fault s header shape n zero) h ∙ ap Some (sym k))
 
--- no entry more
+-- no more entries
 pub missing : (s : Arithmetic) (header : Header) (shape : Extent) (n left : ℕ) (ls : List (ℕ × List (List ℕ))) (all : Option ReadFault) (f : ReadFault) → entries_fault s header shape n left ls ≡ all → left ≢ 0 → ls ≡ [] → f ≡ record { line = n; kind = MissingEntries } → IsAnswer all f
 unfolding entries_fault
 missing s header shape n zero ls all f e z h k = absurd (z refl)
 missing s header shape n (suc left) ls all f e z h k = inl (sym e ∙ ap (entries_fault s header shape n (suc left)) h ∙ ap Some (sym k))
 
--- where no line is left and no entry is wanted, there is no fault
+-- if no line is left and no entry is missing, there is no fault
 pub complete : (s : Arithmetic) (header : Header) (shape : Extent) (n left : ℕ) (ls : List (ℕ × List (List ℕ))) (all : Option ReadFault) → entries_fault s header shape n left ls ≡ all → left ≡ 0 → ls ≡ [] → all ≡ None
 unfolding entries_fault
 complete s header shape n left ls all e z h = sym e ∙ ap (λ i. entries_fault s header shape n i ls) z ∙ ap (entries_fault s header shape n zero) h
 
--- an entry that is as it should be
+-- an entry without a fault
 pub passed : (s : Arithmetic) (header : Header) (shape : Extent) (n left : ℕ) (ls : List (ℕ × List (List ℕ))) (l : ℕ × List (List ℕ)) (more : List (ℕ × List (List ℕ))) (all : Option ReadFault) → entries_fault s header shape n left ls ≡ all → left ≢ 0 → ls ≡ l ∷ more → entry_fault s header shape l.1 ≡ None → entries_fault s header shape n (left - 1) more ≡ all
 unfolding entries_fault
 passed s header shape n zero ls l more all e z h k = absurd (z refl)
 passed s header shape n (suc left) ls l more all e z h k =
     ap (λ i. entries_fault s header shape n i more) (left_one left) ∙ sym (ap (λ b. at_line l.0 b (entries_fault s header shape n left more)) k) ∙ sym (ap (entries_fault s header shape n (suc left)) h) ∙ e
 
--- an entry that isn't, or for which memory is refused
+-- an entry with a fault, or for which memory is refused
 refused_fault : (s : Arithmetic) (header : Header) (shape : Extent) (n left : ℕ) (l : ℕ × List (List ℕ)) (more : List (ℕ × List (List ℕ))) (f : ReadFault) → f.line ≡ l.0 → entry_fault s header shape l.1 ≡ Some f.kind → entries_fault s header shape n (suc left) (l ∷ more) ≡ Some f
 unfolding entries_fault
 refused_fault s header shape n left l more f e h = ap (λ b. at_line l.0 b (entries_fault s header shape n left more)) h ∙ ap (λ m. Some (record { line = m; kind = f.kind })) (sym e)

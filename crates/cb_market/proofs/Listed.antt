@@ -8,7 +8,7 @@ use Rattle.cb_matrix.specs.Values.{collected}
 use Rattle.cb_market.specs.Gathered.{Listed}
 use Rattle.cb_market.proofs.EntryRoundTrip.{own_entries}
 
--- where the list is empty, the blocks have the matrix of the entries
+-- if the list is empty, the blocks have the matrix of the entries
 pub all_in_blocks : (s : Arithmetic) (laws : IsSemiring s) (side room : ℕ) (m : Sparse) (list : List Entry) (g : Listed) → IsMatrix s m → record { side = side; shape = m.shape; room = room; entries = m.entries ++ list } ≡ g → list ≡ [] → (side ≡ g.side) × (m ≡ collected s g.shape g.entries)
 all_in_blocks s laws side room m list g h v e =
     subst (λ (k : Listed). (side ≡ k.side) × (m ≡ collected s k.shape k.entries)) v

@@ -1,4 +1,4 @@
--- Lines of numbers with a blank between each two and a line feed at the end.
+-- Lines of numbers with single blanks between them and a line feed at the end.
 use Rattle.std.proofs.Common.{◌≡◌, ℕ, ◌+◌, ◌-◌, ◌<◌, ◌≤◌, ◌^◌, List, [], ◌∷◌, ◌++◌, arith, true, false, length, take, drop, get_or, sym, ap, ◌∙◌, refl, length-append, ⊎_elim, subst}
 use Rattle.std.specs.Prelude.{◌==◌}
 use Rattle.std.proofs.lemmas.Bool.Decides.{nat_tests}
@@ -67,7 +67,7 @@ short_is text rest n some d h less small k =
     let is : n ≡ number w = sym (ap (number_from n) (no_digits_front rest some d)) ∙ k ∙ ap number s.front in
     rw (m.1, m.0, ← is, if_small_fits n small) refl
 
--- digits at the front are no end of a word
+-- no word ends at a digit
 digits_begin : (text : List ℕ) → is_number (front_digits text) ≡ true → (is_word_end text ≡ false) × (0 < length text)
 digits_begin [] e = cc
 digits_begin (c ∷ text) e = ⊎_elim (λ d. (digit_no_end c text d, omega arith)) (λ d. cc (rw d at e)) (cases_Bool (is_digit c))
@@ -92,7 +92,7 @@ number_feed text word rest h =
     let p = number_word text word rest 10 (feed_ends rest) h in
     (p.0 ∙ ap (λ l. word ∷ l) (no_word (10 ∷ rest) (line_end_feed 10 rest refl)), p.1)
 
--- three numbers one after the other
+-- three consecutive numbers
 pub plain_is : (text second third row column value rest : List ℕ) → IsNumberBefore text 32 row second → IsNumberBefore second 32 column third → IsNumberBefore third 10 value rest → IsPlainLine text row column value rest
 plain_is text second third row column value rest a b c =
     let p = number_blank text row second a in
@@ -132,7 +132,7 @@ found_value s numbers header shape ws e h = subst (λ (d : Entry). IsValue s d.v
 pub integer_header : (header : Header) → header.field ≡ Integer → record { field = Integer; symmetry = header.symmetry } ≡ header
 integer_header header e = ap (λ (f : Field). let h : Header = record { field = f; symmetry = header.symmetry } in h) (sym e)
 
--- the next entry, where its line is three numbers
+-- the next entry, if its line is plain
 pub plain_next : (s : Arithmetic) (header : Header) (shape : Extent) (n : ℕ) (text row column value rest : List ℕ) (found : Result Entry Kind) → IsPlainLine text row column value rest → IsEntryOf s header shape (row ∷ column ∷ value ∷ []) found → IsNextEntry s header shape n text n found rest
 plain_next s header shape n text row column value rest found h k = record {
   line_words = row ∷ column ∷ value ∷ [];
@@ -143,7 +143,7 @@ plain_next s header shape n text row column value rest found h k = record {
   shorter = omega (arith, ap length h.after, after_line-lt text h.some);
 }
 
--- the next entry, where its line is found word by word
+-- the next entry, if its line is read word by word
 pub next_by_words : (s : Arithmetic) (header : Header) (shape : Extent) (n k m : ℕ) (text start mid rest w : List ℕ) (found : Result Entry Kind) → k ≡ n → start ≡ text → kept_from k start ≡ (m, w ∷ words (line_at mid)) ∷ kept_from (m + 1) (after_line mid) → m + 1 + length (lines (after_line mid)) ≡ k + length (lines start) → k ≤ m → length (after_line mid) < length start → IsEntryOf s header shape (w ∷ words (line_at mid)) found → rest ≡ after_line mid → IsNextEntry s header shape n text m found rest
 next_by_words s header shape n k m text start mid rest w found e f kept count later shorter is r = record {
   line_words = w ∷ words (line_at mid);

@@ -1,4 +1,4 @@
--- A text in parts: what its lines give is what those of its parts give, one after the other.
+-- A text in parts: its lines give what the lines of its parts give, in order.
 use Rattle.std.proofs.Common.{◌≡◌, ℕ, ◌+◌, ◌-◌, ◌<◌, ◌≤◌, true, false, not, List, [], ◌∷◌, ◌++◌, arith, length, map, filter, sym, ap, ◌∙◌, refl, append_assoc, subst, None, Some, Option, ⊎_elim, zero, suc, take, get_or, length-append}
 use Rattle.std.proofs.lemmas.List.Concat.{flat_map-append}
 use Rattle.std.specs.Prelude.{◌==◌, IfSome, Ok}
@@ -31,7 +31,7 @@ cut_some : (c : ℕ) (text : List ℕ) → 0 < length (cut_lines (c ∷ text))
 unfolding cut_lines
 cut_some c text = ⊎_elim (λ e. rw e (omega arith)) (λ e. rw e (onto_some c (cut_lines text))) (cases_Bool (c == 10))
 
--- a byte goes before the first of some lines and no other
+-- a byte in front of some lines is in front of the first
 onto_append : (c : ℕ) (ls more : List (List ℕ)) → 0 < length ls → onto_first c (ls ++ more) ≡ onto_first c ls ++ more
 onto_append c [] more h = absurd (omega arith)
 onto_append c (l ∷ ls) more h = refl
@@ -51,13 +51,13 @@ cut_nothing : (b : List ℕ) → cut_lines b ≡ cut_lines [] ++ cut_lines b
 unfolding cut_lines
 cut_nothing b = refl
 
--- behind a line feed the lines begin anew
+-- after a line feed a new line begins
 cut_parted : (a b : List ℕ) → is_whole a ≡ true → cut_lines (a ++ b) ≡ cut_lines a ++ cut_lines b
 cut_parted [] b e = cut_nothing b
 cut_parted (c ∷ []) b e = cut_one c b e
 cut_parted (c ∷ d ∷ a) b e = cut_next c d a b (cut_parted (d ∷ a) b e)
 
--- the lines of a text parted at a line feed are those of its first part and those of its second
+-- the lines of a text that is parted after a line feed are those of its two parts
 pub lines_parted : (a b : List ℕ) → is_whole a ≡ true → lines (a ++ b) ≡ lines a ++ lines b
 unfolding lines
 lines_parted a b e = ap (map without_return) (cut_parted a b e) ∙ map-append without_return (cut_lines a) (cut_lines b)
@@ -75,7 +75,7 @@ faultless_both : (s : Arithmetic) (header : Header) (shape : Extent) (vs ws : Li
 faultless_both s header shape [] ws a b = b
 faultless_both s header shape (v ∷ vs) ws a b = (a.0, faultless_both s header shape vs ws a.1 b)
 
--- two parts are one, which has the entries of the first and then those of the second
+-- two parts together are one, with the entries of the first and then those of the second
 pub parts_joined : (s : Arithmetic) (header : Header) (shape : Extent) (side : ℕ) (a b text : List ℕ) (p q r : Part) → is_whole a ≡ true → a ++ b ≡ text → IsPart s header shape side a p → IsPart s header shape side b q
     → r ≡ record { side = p.side; shape = p.shape; lines = p.lines + q.lines; entries = p.entries ++ q.entries } → IsPart s header shape side text r
 parts_joined s header shape side a b text p q r whole both x y is =
@@ -94,7 +94,7 @@ parts_joined s header shape side a b text p q r whole both x y is =
     } in
     subst (λ (t : List ℕ). IsPart s header shape side t r) both (subst (λ (o : Part). IsPart s header shape side (a ++ b) o) (sym is) joined)
 
--- the same where there may be none
+-- the same if there may be none
 pub some_joined : (s : Arithmetic) (header : Header) (shape : Extent) (side : ℕ) (a b text : List ℕ) (p q : Part) (o : Option Part) → is_whole a ≡ true → a ++ b ≡ text → IsPart s header shape side a p → IsPart s header shape side b q
     → IfSome o (λ r. r ≡ record { side = p.side; shape = p.shape; lines = p.lines + q.lines; entries = p.entries ++ q.entries }) → IfSome o (λ r. IsPart s header shape side text r)
 some_joined s header shape side a b text p q None whole both x y is = tt
@@ -107,7 +107,7 @@ pub record Reading (s : Arithmetic) (header : Header) (shape : Extent) (all left
   pub counted : count + length left ≡ length all
   pub gives : items ++ given_in s header left ≡ given_in s header all
 
--- nothing is read of a text
+-- nothing of a text has been read
 pub reading_none : (s : Arithmetic) (header : Header) (shape : Extent) (all : List (List (List ℕ))) (items : List Entry) → items ≡ [] → Reading s header shape all all 0 items
 reading_none s header shape all items e = record {
   faultless = λ h. h;
@@ -115,7 +115,7 @@ reading_none s header shape all items e = record {
   gives = ap (λ es. es ++ given_in s header all) e;
 }
 
--- an entry more is read
+-- one more entry is read
 pub reading_more : (s : Arithmetic) (header : Header) (shape : Extent) (all : List (List (List ℕ))) (k j m : ℕ) (rest after : List ℕ) (count : ℕ) (items new : List Entry) (e : Entry) → j ≡ m + 1
     → Reading s header shape all (words_of (kept_from k rest)) count items → IsNextEntry s header shape k rest m (Ok e) after → new ≡ items ++ given_by s header.symmetry e
     → Reading s header shape all (words_of (kept_from j after)) (count + 1) new
@@ -151,7 +151,7 @@ reading_all s header shape text n k rest p r e z =
       given = λ i j. ap (filter (is_at i j)) (sym (append-nil p.entries) ∙ ap (λ l. p.entries ++ given_in s header l) (sym none) ∙ r.gives ∙ ap (given_in s header) all);
     }
 
--- a part whose entries are sorted is one
+-- a part with its entries sorted is a part
 pub part_sorted : (s : Arithmetic) (header : Header) (shape : Extent) (side : ℕ) (text : List ℕ) (p : Part) (o : Option Part) → IsPart s header shape side text p → IfSome o (λ q. AreSamePlaces q.entries p.entries)
     → IfSome o (λ q. (q.side ≡ p.side) × (q.shape ≡ p.shape) × (q.lines ≡ p.lines)) → IfSome o (λ q. IsPart s header shape side text q)
 part_sorted s header shape side text p None h places rest = tt
@@ -174,7 +174,7 @@ given_words : (s : Arithmetic) (header : Header) (ls : List (ℕ × List (List �
 given_words s header [] = refl
 given_words s header (l ∷ ls) = ap (λ es. given_by s header.symmetry (entry_of s header l.1) ++ es) (given_words s header ls)
 
--- entries that are the same at each place make the same matrix
+-- entries that are the same place by place make the same matrix
 same_collected : (s : Arithmetic) (shape : Extent) (es fs : List Entry) → AreSamePlaces es fs → collected s shape es ≡ collected s shape fs
 same_collected s shape es fs h = λ t. matrix_of s shape (λ i j. total s (map (λ (e : Entry). e.value) (h i j t)))
 
@@ -209,7 +209,7 @@ opens s text start rest header n size line entries h e f g k l shape a b = recor
 }
 
 -- ---- where a text is parted
--- a place behind a line feed, or at the start
+-- a place after a line feed, or at the start
 whole_at : (text : List ℕ) (n : ℕ) → n < length text → get_or text n 0 ≡ 10 → is_whole (take (suc n) text) ≡ true
 whole_at [] n l e = absurd (omega arith)
 whole_at (c ∷ text) zero l e = ap (λ x. x == 10) e

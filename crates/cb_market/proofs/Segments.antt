@@ -5,7 +5,7 @@ use Rattle.cb_matrix.specs.declared.Entry.{Entry}
 use Rattle.cb_dcsc.specs.Compressed.{entries_in}
 use Rattle.cb_layout.specs.Segments.{shifted}
 
--- none, where no row is left
+-- none, if no row is left
 pub shifted_done : (top column : ℕ) (rows values : List ℕ) → length rows ≡ 0 → shifted top column rows values ≡ []
 unfolding entries_in
 shifted_done top column [] values e = refl
@@ -49,12 +49,12 @@ pub shorter_at : (top column : ℕ) (rows values : List ℕ) (top' column' : ℕ
 shorter_at top column rows values top' column' rows' values' n more all e t c r v l some a =
     rw (t, c, a) (shorter top column rows values rows' values' n more e r v l some)
 
--- where no segment follows, nothing is left
+-- if no segment follows, nothing is left
 pub nothing_left : {X : Type 0} (o : Option X) (own old new : List Entry) → own ≡ [] → IfNone o ((old ≡ []) × (new ≡ [])) → IfNone o (own ++ new ≡ [])
 nothing_left None own old new e h = rw (e, h.1) refl
 nothing_left (Some x) own old new e h = h
 
--- where one follows, it has the first of what is left
+-- if one follows, it has the first of what is left
 pub next_first : {X : Type 0} (o : Option X) (entries : X → List Entry) (own old new : List Entry) → own ≡ [] → IfSome o (λ x. old ≡ entries x ++ new) → IfSome o (λ x. own ++ old ≡ entries x ++ new)
 next_first None entries own old new e h = h
 next_first (Some x) entries own old new e h = rw e h

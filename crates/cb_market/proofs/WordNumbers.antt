@@ -1,4 +1,4 @@
--- What a word's number says of its bytes.
+-- A word's number and its bytes.
 use Rattle.std.proofs.Common.{◌≡◌, ℕ, ◌<◌, ◌^◌, None, List, [], ◌∷◌, arith, true, false, Bool, sym, ap, ◌∙◌, refl, ⊎_elim, nat_lt}
 use Rattle.std.specs.Prelude.{◌==◌, ◌||◌}
 use Rattle.std.proofs.lemmas.Bool.Decides.{nat_tests}
@@ -52,7 +52,7 @@ too_far limit n h e = grind (arith, nat_tests)
 pub place_whole : (w : List ℕ) (n : Number) (x limit : ℕ) → n ≡ number_of w → n ≡ Whole x → is_number w ≡ true → place_in limit x ≡ place_in limit (number w)
 place_whole w n x limit e f g = ap (place_in limit) ((whole w n x e f).2 ∙ (number_magnitude w g).0)
 
--- a number that doesn't fit 64 bits names no place within a limit
+-- a number of more than 64 bits names no place within a limit
 pub place_none : (w : List ℕ) (n : Number) (limit : ℕ) → limit < 2 ^ 64 → n ≡ number_of w → ((x : ℕ) → n ≡ Whole x → ⊥) → is_number w ≡ true → None ≡ place_in limit (number w)
 place_none w n limit l e f g =
     let m = number_magnitude w g in
@@ -62,7 +62,7 @@ place_none w n limit l e f g =
 pub value_whole : (s : Arithmetic) (w : List ℕ) (n : Number) (x : ℕ) → n ≡ number_of w → n ≡ Whole x → s.accept (is_negative w) x ≡ value_in s w
 value_whole s w n x e f = let h = whole w n x e f in rw (h.1, ← h.2) refl
 
--- a word of a value whose number doesn't fit 64 bits has no value in the semiring
+-- a word whose number has more than 64 bits has no value in the semiring
 pub value_none : (s : Arithmetic) (w : List ℕ) (n : Number) → n ≡ number_of w → ((x : ℕ) → n ≡ Whole x → ⊥) → is_value_word w ≡ true → None ≡ value_in s w
 value_none s w n e f g = rw (not_small w n e f g) refl
 

@@ -45,7 +45,7 @@ pub same_line : (b : Bool) (row top i column value : ℕ) (digits : List ℕ) �
 same_line true row top i column value digits r d = rw (r, d) refl
 same_line false row top i column value digits r d = rw (r, d) refl
 
--- a page whose buffer is written over keeps it whole
+-- a page keeps its whole buffer when it is written to
 pub page_with : {Z : Type 0} (v : Vec ℕ Z) (buffer : List ℕ) (end : ℕ) (some : List ℕ) → length buffer ≡ v.len → take end buffer ≡ some → take end (with_items v buffer).items ≡ some
 page_with v buffer end some l e = ap (take end) (with_items_is v buffer l) ∙ e
 

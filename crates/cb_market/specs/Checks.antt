@@ -28,7 +28,7 @@ word i [] = []
 word zero (w ∷ ws) = w
 word (suc i) (w ∷ ws) = word i ws
 
--- the word is a name, in any case
+-- a word is a name, in any case
 abbrev pub is_name : List ℕ → List ℕ → Bool
 is_name word name = bytes_eq (map to_ascii_lowercase word) (map to_ascii_lowercase name)
 
@@ -144,7 +144,7 @@ abbrev pub value_of : Arithmetic → Field → List ℕ → Option ℕ
 value_of s Integer word = value_in s word
 value_of s Pattern word = Some s.pattern
 
--- whether the third word is as the field has it
+-- whether the third word is what the field requires
 abbrev pub has_value : Field → List ℕ → Bool
 has_value Integer word = is_value_word word
 has_value Pattern word = true
@@ -153,13 +153,13 @@ abbrev pub words_wanted : Field → ℕ
 words_wanted Integer = 3
 words_wanted Pattern = 2
 
--- above the diagonal, in a matrix whose entries stand for those above it
+-- above the diagonal, in a matrix whose entries are mirrored
 abbrev pub is_above : Symmetry → ℕ → ℕ → Bool
 is_above General row column = false
 is_above Symmetric row column = nat_lt row column
 is_above SkewSymmetric row column = nat_lt row column
 
--- on the diagonal, in a matrix whose diagonal is zero
+-- on the diagonal of a skew-symmetric matrix
 abbrev pub is_on_diagonal : Symmetry → ℕ → ℕ → Bool
 is_on_diagonal General row column = false
 is_on_diagonal Symmetric row column = false
@@ -208,6 +208,22 @@ WritesEntry s header shape ws e = (entry_fault s header shape ws ≡ None) × (e
 -- the words of a line have this fault
 abbrev pub HasEntryFault : Arithmetic → Header → Extent → List (List ℕ) → Kind → Type 0
 HasEntryFault s header shape ws kind = entry_fault s header shape ws ≡ Some kind
+
+-- these words, a row, a column and a value, write this entry
+abbrev pub WriteInteger : Arithmetic → Symmetry → Extent → List ℕ → List ℕ → List ℕ → Entry → Type 0
+WriteInteger s symmetry shape row column value = WritesEntry s (integers symmetry) shape (row ∷ column ∷ value ∷ [])
+
+-- or have this fault
+abbrev pub HaveIntegerFault : Arithmetic → Symmetry → Extent → List ℕ → List ℕ → List ℕ → Kind → Type 0
+HaveIntegerFault s symmetry shape row column value = HasEntryFault s (integers symmetry) shape (row ∷ column ∷ value ∷ [])
+
+-- these words, a row and a column, write this entry
+abbrev pub WritePattern : Arithmetic → Symmetry → Extent → List ℕ → List ℕ → Entry → Type 0
+WritePattern s symmetry shape row column = WritesEntry s (patterns symmetry) shape (row ∷ column ∷ [])
+
+-- or have this fault
+abbrev pub HavePatternFault : Arithmetic → Symmetry → Extent → List ℕ → List ℕ → Kind → Type 0
+HavePatternFault s symmetry shape row column = HasEntryFault s (patterns symmetry) shape (row ∷ column ∷ [])
 
 -- the entry at the mirrored place
 abbrev pub mirrored : ℕ → Entry → Entry

@@ -29,6 +29,10 @@ after_line (c ∷ rest) = cond (c == 10) rest (after_line rest)
 abbrev pub IsKeptWord : ℕ → List ℕ → ℕ → List ℕ → List ℕ → Type 0
 IsKeptWord n text m word rest = kept_from n text ≡ (m, word ∷ words_at rest) ∷ kept_from (m + 1) (after_line rest)
 
+-- the next word of the line that a text begins in, and the text after it
+abbrev pub IsNextWord : List ℕ → List ℕ → List ℕ → Type 0
+IsNextWord text word rest = words_at text ≡ word ∷ words_at rest
+
 -- whether a word ends here
 abbrev pub is_word_end : List ℕ → Bool
 is_word_end [] = true

@@ -18,7 +18,7 @@ abbrev pub at_line : ℕ → Option Kind → Option ReadFault → Option ReadFau
 at_line n (Some kind) later = Some (record { line = n; kind = kind })
 at_line n None later = later
 
--- the first fault of the entries: some are still missing, and the text has n - 1 lines
+-- the first fault of the entries, of which some are still missing, in a text of n - 1 lines
 unfoldable pub entries_fault : Arithmetic → Header → Extent → ℕ → ℕ → List (ℕ × List (List ℕ)) → Option ReadFault
 entries_fault s header shape n zero [] = None
 entries_fault s header shape n (suc left) [] = Some (record { line = n; kind = MissingEntries })
@@ -26,11 +26,11 @@ entries_fault s header shape n zero (line ∷ lines) = Some (record { line = lin
 entries_fault s header shape n (suc left) (line ∷ lines) =
     at_line line.0 (entry_fault s header shape line.1) (entries_fault s header shape n left lines)
 
--- the same for entries that are announced by this size, in a text whose first line has the number n
+-- the same where this size announces the entries, in a text whose first line has the number n
 abbrev pub entries_fault_from : Arithmetic → Header → Size → ℕ → List ℕ → Option ReadFault
 entries_fault_from s header size n text = entries_fault s header size.shape (past_last n text) size.count (kept_from n text)
 
--- the first fault of the size line and the entries: the lines that aren't skipped, of a text of n - 1 lines
+-- the first fault of the size line and the entries, which are these lines of a text of n - 1 lines
 abbrev pub body_fault : Arithmetic → Header → ℕ → List (ℕ × List (List ℕ)) → Option ReadFault
 body_fault s header n [] = Some (record { line = n; kind = BadSize })
 body_fault s header n (line ∷ lines) =
@@ -73,7 +73,7 @@ lines_matrix s (line ∷ lines) = body_matrix s (header_of (words line)) (kept_l
 unfoldable pub matrix_in : Arithmetic → List ℕ → Sparse
 matrix_in s text = lines_matrix s (lines text)
 
--- a fault that is the first one, or refused memory at a line with no fault before it or at it
+-- the first fault, or refused memory at a line with no fault at it or before it
 abbrev pub IsAnswer : Option ReadFault → ReadFault → Type 0
 IsAnswer first f = (first ≡ Some f) ⊎ ((f.kind ≡ Memory) × IfSome first (λ g. f.line < g.line))
 

@@ -4,7 +4,7 @@ use Rattle.cb_semirings.specs.Arithmetic.{Arithmetic, IsValue}
 use Rattle.cb_matrix.specs.declared.Entry.{Entry}
 use Rattle.cb_matrix.specs.Sparse.{Extent, Sparse, IsInside, is_at}
 
--- The side of a grid, a shape, how many entries room is taken for, and those read so far, in order.
+-- The side of a grid, a shape, the number of entries to take room for, and those read so far, in order.
 pub record Listed : Type 0 where
   pub side : ℕ
   pub shape : Extent
@@ -15,7 +15,7 @@ pub record Listed : Type 0 where
 abbrev pub place_number : Entry → ℕ
 place_number e = e.column * 2 ^ 32 + e.row
 
--- The blocks have all entries, whose numbers are at least the first and below the bound; or the list has all.
+-- The blocks have all entries, whose numbers are from the first up to below the bound; or the list has all.
 pub record IsGathered (s : Arithmetic) (blocks : Sparse) (list : List Entry) (ascends : Bool) (first bound : ℕ) : Type 0 where
   pub in_blocks : ascends ≡ true → list ≡ []
   pub in_list : ascends ≡ false → blocks.entries ≡ []

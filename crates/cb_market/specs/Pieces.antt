@@ -1,4 +1,4 @@
--- What the lines of a piece of a text give, wherever in the text the piece stands.
+-- What the lines of a piece of a text give, wherever the piece is in the text.
 use Rattle.std.specs.Prelude.{◌≡◌, ℕ, ◌+◌, Bool, true, ◌==◌, List, [], ◌∷◌, ◌++◌, length, flat_map, None}
 use Rattle.cb_semirings.specs.Arithmetic.{Arithmetic}
 use Rattle.cb_matrix.specs.declared.Entry.{Entry}
@@ -17,7 +17,7 @@ is_whole [] = true
 is_whole (c ∷ []) = c == 10
 is_whole (c ∷ d ∷ text) = is_whole (d ∷ text)
 
--- each of these lines is that of an entry
+-- each of these lines is an entry without a fault
 abbrev pub AreFaultless : Arithmetic → Header → Extent → List (List (List ℕ)) → Type 0
 AreFaultless s header shape [] = Unit {0}
 AreFaultless s header shape (ws ∷ lines) = (entry_fault s header shape ws ≡ None) × AreFaultless s header shape lines
@@ -38,7 +38,8 @@ pub record Part : Type 0 where
 abbrev pub joined : Part → Part → Part
 joined p q = record { side = p.side; shape = p.shape; lines = p.lines + q.lines; entries = p.entries ++ q.entries }
 
--- Each line of a text that isn't skipped is that of an entry, and this is what they give at each place.
+-- Each line of a text that isn't skipped is an entry without a fault, and these are the entries that they give, up to
+-- the order of different places.
 pub record IsPart (s : Arithmetic) (header : Header) (shape : Extent) (side : ℕ) (text : List ℕ) (p : Part) : Type 0 where
   pub on_grid : p.side ≡ side
   pub in_shape : p.shape ≡ shape

@@ -17,7 +17,7 @@ use Rattle.cb_market.specs.Lines.{lines, words, kept, begins_blank, is_number, n
 use Rattle.cb_market.specs.Checks.{word, words_wanted, has_value, value_of, is_supported, given_by}
 use Rattle.cb_market.specs.Faults.{first_fault}
 
--- a word that is a name of lowercase letters, in any case
+-- a word is this lowercase name, in any case
 abbrev pub IsName : List ℕ → List ℕ → Type 0
 IsName word name = map to_ascii_lowercase word ≡ name
 
@@ -42,7 +42,7 @@ pub record IsHeader (s : Arithmetic) (line : List ℕ) (header : Header) : Type 
   pub symmetry : IsName (word 4 (words line)) (symmetry_name header.symmetry)
   pub supported : is_supported s header.field header.symmetry ≡ true
 
--- a square, except for a matrix whose entries stand for themselves alone
+-- any shape, or a square if entries are mirrored
 abbrev pub IsShape : Symmetry → Extent → Type 0
 IsShape General shape = Unit {0}
 IsShape Symmetric shape = shape.rows ≡ shape.cols

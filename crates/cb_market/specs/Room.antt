@@ -17,6 +17,6 @@ most_given General = 1
 most_given Symmetric = 2
 most_given SkewSymmetric = 2
 
--- the most entries that this many bytes give, of which the last may lack a line feed; and no more than are announced
+-- the most entries that this many bytes give, whose last line may lack a line feed; but no more than are announced
 abbrev pub room_of : Header → ℕ → ℕ → ℕ
 room_of header count bytes = most_given header.symmetry * min ((bytes + 1) / shortest_line header.field) count

@@ -1,8 +1,10 @@
 -- The text of a matrix.
-use Rattle.std.specs.Prelude.{ℕ, ◌+◌, Bool, true, false, List, [], ◌∷◌, ◌++◌, if◌then◌else◌, flat_map, map, length, codes, decimal}
+use Rattle.std.specs.Prelude.{ℕ, ◌+◌, Bool, true, false, List, [], ◌∷◌, ◌++◌, if◌then◌else◌, flat_map, map, take, length, codes, decimal}
 use Rattle.cb_semirings.specs.Arithmetic.{Arithmetic}
 use Rattle.cb_matrix.specs.declared.Entry.{Entry}
 use Rattle.cb_matrix.specs.Sparse.{Extent, Sparse}
+use Rattle.cb_layout.specs.Segments.{shifted, entries_of}
+use Rattle.cb_layout.specs.declared.traversal.Segment.{Segment}
 use Rattle.cb_market.specs.declared.writing.Line.{Line}
 use Rattle.cb_market.specs.declared.writing.Line.TheVariants.{Place, PlaceAndValue, RowAndValue}
 
@@ -16,6 +18,18 @@ number_line (n ∷ m ∷ numbers) = decimal n ++ 32 ∷ number_line (m ∷ numbe
 abbrev pub entry_line : Bool → Entry → List ℕ
 entry_line true e = number_line ((e.row + 1) ∷ (e.column + 1) ∷ [])
 entry_line false e = number_line ((e.row + 1) ∷ (e.column + 1) ∷ e.value ∷ [])
+
+-- the lines of the entries of a column, whose rows count from `top`
+abbrev pub column_lines : Bool → ℕ → ℕ → List ℕ → List ℕ → List ℕ
+column_lines is_pattern top column rows values = flat_map (entry_line is_pattern) (shifted top column rows values)
+
+-- the lines of the entries of a segment
+abbrev pub segment_lines : Bool → Segment → List ℕ
+segment_lines is_pattern g = flat_map (entry_line is_pattern) (entries_of g)
+
+-- the lines of the first n of them
+abbrev pub first_lines : Bool → ℕ → Segment → List ℕ
+first_lines is_pattern n g = column_lines is_pattern g.top g.column (take n g.rows.now) (take n g.values.now)
 
 -- the header of a text without values, or with them
 abbrev pub header_line : Bool → List ℕ
@@ -33,7 +47,7 @@ head_of is_pattern shape count = header_line is_pattern ++ number_line (shape.ro
 unfoldable pub text_of : Arithmetic → Sparse → List ℕ
 text_of s m = header_line s.writes_pattern ++ size_line m ++ flat_map (entry_line s.writes_pattern) m.entries
 
--- what is left of a text: the header and the size line, or not; and the lines of some entries
+-- the rest of a text: the header and the size line, if they are left, and the lines of some entries
 abbrev pub text_left : Arithmetic → Bool → Extent → ℕ → List Entry → List ℕ
 text_left s has_head shape count entries =
     (if has_head then head_of s.writes_pattern shape count else []) ++ flat_map (entry_line s.writes_pattern) entries

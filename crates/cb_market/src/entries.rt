@@ -5,7 +5,8 @@ ghost use Rattle.cb_matrix.specs.Sparse.{IsInside};
 ghost use Rattle.cb_market.specs.Lines.{is_number, number, past_last, kept_from};
 ghost use Rattle.cb_market.specs.Cursor.{words_at, after_line};
 ghost use Rattle.cb_market.specs.Checks.{is_shape, is_above, is_on_diagonal, place_fault, mirrored, negative_of, given_by};
-ghost use Rattle.cb_market.specs.Checks.{integers, patterns, NamesPlace, WritesEntry, HasEntryFault};
+ghost use Rattle.cb_market.specs.Checks.{NamesPlace, WritesEntry, HasEntryFault};
+ghost use Rattle.cb_market.specs.Checks.{WriteInteger, HaveIntegerFault, WritePattern, HavePatternFault};
 ghost use Rattle.cb_market.specs.Room.{shortest_line, most_given, room_of};
 ghost use Rattle.cb_market.specs.Faults.{entries_fault_from, given, IsAnswer, IsLineOf, IsNextEntry};
 
@@ -20,7 +21,7 @@ use cb_matrix::{Entry, Shape};
 use cb_semirings::Semiring;
 use std::alloc::{AllocError, Global};
 
-/// Whether a place is above the diagonal, in a matrix whose entries stand for those above it.
+/// Returns whether a place is above the diagonal of a matrix whose entries are mirrored.
 fn is_above(symmetry: Symmetry, row: u32, column: u32) -> bool
     ensures { result ≡ is_above symmetry row column }
 {
@@ -31,7 +32,7 @@ fn is_above(symmetry: Symmetry, row: u32, column: u32) -> bool
     }
 }
 
-/// Whether a place is on the diagonal, in a matrix whose diagonal is zero.
+/// Returns whether a place is on the diagonal of a skew-symmetric matrix.
 fn is_on_diagonal(symmetry: Symmetry, row: u32, column: u32) -> bool
     ensures { result ≡ is_on_diagonal symmetry row column }
 {
@@ -42,7 +43,7 @@ fn is_on_diagonal(symmetry: Symmetry, row: u32, column: u32) -> bool
     }
 }
 
-/// The place of an entry, from words that are numbers.
+/// Reads the place of an entry from words that are numbers.
 #[inline(always)]
 fn place_of(
     symmetry: Symmetry,
@@ -70,7 +71,7 @@ fn place_of(
     Ok((row, column))
 }
 
-/// The entry that three words write.
+/// Reads the entry that three words write.
 #[inline(always)]
 fn integer_entry<S: Semiring>(
     symmetry: Symmetry,
@@ -79,8 +80,8 @@ fn integer_entry<S: Semiring>(
     column: &Word<'_>,
     value: &Word<'_>,
 ) -> Result<Entry, Kind>
-    ensures ok { IfOk result (WritesEntry S.arithmetic (integers symmetry) shape (row.now.bytes.now ∷ column.now.bytes.now ∷ value.now.bytes.now ∷ [])) }
-    ensures fault { IfErr result (HasEntryFault S.arithmetic (integers symmetry) shape (row.now.bytes.now ∷ column.now.bytes.now ∷ value.now.bytes.now ∷ [])) }
+    ensures ok { IfOk result (WriteInteger S.arithmetic symmetry shape row.now.bytes.now column.now.bytes.now value.now.bytes.now) }
+    ensures fault { IfErr result (HaveIntegerFault S.arithmetic symmetry shape row.now.bytes.now column.now.bytes.now value.now.bytes.now) }
 {
     if !(row.is_number() && column.is_number() && value.is_value()) {
         return Err(Kind::BadNumber);
@@ -92,15 +93,15 @@ fn integer_entry<S: Semiring>(
     Ok(Entry { row, column, value })
 }
 
-/// The entry that two words write.
+/// Reads the entry that two words write.
 fn pattern_entry<S: Semiring>(
     symmetry: Symmetry,
     shape: Shape,
     row: &Word<'_>,
     column: &Word<'_>,
 ) -> Result<Entry, Kind>
-    ensures ok { IfOk result (WritesEntry S.arithmetic (patterns symmetry) shape (row.now.bytes.now ∷ column.now.bytes.now ∷ [])) }
-    ensures fault { IfErr result (HasEntryFault S.arithmetic (patterns symmetry) shape (row.now.bytes.now ∷ column.now.bytes.now ∷ [])) }
+    ensures ok { IfOk result (WritePattern S.arithmetic symmetry shape row.now.bytes.now column.now.bytes.now) }
+    ensures fault { IfErr result (HavePatternFault S.arithmetic symmetry shape row.now.bytes.now column.now.bytes.now) }
 {
     if !(row.is_number() && column.is_number()) {
         return Err(Kind::BadNumber);
@@ -113,7 +114,7 @@ fn pattern_entry<S: Semiring>(
     })
 }
 
-/// The entry at the mirrored place.
+/// Returns an entry with this value at the mirrored place.
 fn mirrored(value: u64, entry: Entry) -> Entry
     ensures { result ≡ mirrored value entry }
 {
@@ -124,7 +125,7 @@ fn mirrored(value: u64, entry: Entry) -> Entry
     }
 }
 
-/// The value that added to this one gives zero.
+/// Returns the negative of a value, or zero if it has none.
 fn negative_of<S: Semiring>(value: u64) -> u64
     requires { IsValue S.arithmetic value }
     ensures { result ≡ negative_of S.arithmetic value }
@@ -132,7 +133,7 @@ fn negative_of<S: Semiring>(value: u64) -> u64
     S::negative(value).unwrap_or(S::zero())
 }
 
-/// Adds what an entry gives.
+/// Adds an entry, and the mirrored one if the symmetry has it.
 #[inline(always)]
 pub fn give<S: Semiring>(
     alloc: Global,
@@ -162,7 +163,7 @@ pub fn give<S: Semiring>(
     Ok(())
 }
 
-/// The bytes of the shortest line of an entry, with its end.
+/// Returns the length of the shortest line of an entry, with its line feed.
 fn shortest_line(field: Field) -> usize
     ensures { result ≡ shortest_line field }
 {
@@ -172,7 +173,7 @@ fn shortest_line(field: Field) -> usize
     }
 }
 
-/// The most entries that a line gives.
+/// Returns the most entries that a line gives.
 fn most_given(symmetry: Symmetry) -> usize
     ensures { result ≡ most_given symmetry }
 {
@@ -183,8 +184,8 @@ fn most_given(symmetry: Symmetry) -> usize
     }
 }
 
-/// The number of entries to take room for: as many as are announced, but no more than the rest of the text can give. So
-/// a short text that announces many entries takes little room.
+/// Returns the number of entries to take room for: as many as are announced, but no more than the rest of the text can
+/// hold. So a short text that announces many entries takes little memory.
 pub fn room_for_entries(header: Header, count: u32, text: &[u8]) -> usize
     ensures { result ≡ room_of header count (length text.now) }
 {
@@ -193,7 +194,7 @@ pub fn room_for_entries(header: Header, count: u32, text: &[u8]) -> usize
 }
 
 impl<'a> Scanner<'a> {
-    /// The entry of a line with this first word.
+    /// Reads the entry of the line with this first word.
     fn entry<S: Semiring>(
         &mut self,
         header: Header,
@@ -227,8 +228,8 @@ impl<'a> Scanner<'a> {
         }
     }
 
-    /// If a line of three short numbers is at the front, reads its entry or its fault, and goes to the next line.
-    /// Otherwise returns None and stays.
+    /// Reads the entry of the current line or its fault, if the line is plain, and moves to the next line. Otherwise
+    /// returns None and doesn't move.
     #[inline(always)]
     fn plain_entry<S: Semiring>(
         &mut self,
@@ -260,8 +261,8 @@ impl<'a> Scanner<'a> {
         }
     }
 
-    /// Reads the entry of the next line that isn't skipped, or its fault, with the line's number, and goes to the line
-    /// after it. None if there is no such line.
+    /// Reads the entry of the next line that isn't skipped, or its fault, and moves to the line after it. Returns it with
+    /// the number of its line. None if there is no such line.
     #[inline(always)]
     pub fn next_entry<S: Semiring>(
         &mut self,
@@ -287,7 +288,7 @@ impl<'a> Scanner<'a> {
         Some((line, found))
     }
 
-    /// Reads the entries of a text, from the line after its size line on, and adds them to the gathered ones.
+    /// Reads the entries of a text, from the line after its size line on, and adds them to `entries`.
     pub fn entries<S: Semiring>(
         &mut self,
         alloc: Global,

@@ -1,5 +1,5 @@
 //! The entries of a text, as they are read.
-ghost use Rattle.std.specs.Prelude.{◌≡◌, ◌+◌, ◌*◌, ◌^◌, ◌++◌, [], ◌∷◌, All, IfOk, OnOk};
+ghost use Rattle.std.specs.Prelude.{◌≡◌, ◌+◌, ◌*◌, ◌^◌, ◌++◌, [], ◌∷◌, All, IfOk, OnOk, OnErr};
 ghost use Rattle.cb_semirings.specs.Arithmetic.{IsValue};
 ghost use Rattle.cb_matrix.specs.Sparse.{IsInside};
 ghost use Rattle.cb_matrix.specs.Values.{collected};
@@ -11,19 +11,19 @@ use cb_semirings::Semiring;
 use std::alloc::{AllocError, Global};
 use std::marker::Model;
 
-/// The entries of a text: in the blocks of a grid as long as they ascend by column and then row and none is zero, and
-/// otherwise in a list.
+/// The entries of a text. They are in the blocks of a grid as long as they ascend by column and then row and none is
+/// zero, and otherwise in a list.
 #[derive(Drop)]
 pub struct Gathered<S: Semiring> {
     blocks: DistributedMatrix<S>,
     list: Vec<Entry>,
-    /// Whether the blocks have all entries, and not the list.
+    /// Whether all entries are in the blocks; otherwise all are in the list.
     ascends: bool,
-    /// No more than the number of any place in the blocks.
+    /// At most the number of each place in the blocks.
     first: u64,
     /// Above the number of each place in the blocks.
     bound: u64,
-    /// How many entries room is taken for.
+    /// The number of entries to take room for.
     room: usize,
 }
 
@@ -38,43 +38,72 @@ impl<S: Semiring> Model for Gathered<S> {
     ghost invariant = { λ a. IsGathered S.arithmetic a.blocks.matrix a.list.items a.ascends a.first a.bound };
 }
 
-/// The number of a place, by column and then by row.
+/// Returns the number of a place: places are ordered by column and then by row.
 fn place_number(entry: Entry) -> u64
     ensures { result ≡ place_number entry }
 {
     u64::from(entry.column) * (1 << 32) + u64::from(entry.row)
 }
 
-/// The entries of a matrix over a grid in a list, with room for this many.
+/// Copies the entries of a matrix over a grid to a list with room for this many.
 fn in_list<S: Semiring>(
     alloc: Global,
     blocks: &DistributedMatrix<S>,
     room: usize,
 ) -> Result<Vec<Entry>, AllocError>
-    ensures { IfOk result (λ v. v.items ≡ blocks.now.matrix.entries) }
+    ensures entries { IfOk result (λ v. v.items ≡ blocks.now.matrix.entries) }
+    ensures inside { IfOk result (λ v. All (IsInside blocks.now.matrix.shape) v.items) }
+    ensures values { IfOk result (λ v. All (λ e. IsValue S.arithmetic e.value) v.items) }
 {
     let matrix = blocks.gather(alloc)?;
+    prove_eq!(matrix.shape(), blocks.shape());
     let mut list = Vec::with_capacity(alloc, room)?;
     list.extend_from_slice(matrix.entries())?;
     Ok(list)
 }
 
-/// The same, and one entry after them.
+/// The same, with one more entry at the end.
 fn listed<S: Semiring>(
     alloc: Global,
     blocks: &DistributedMatrix<S>,
     room: usize,
     last: Entry,
 ) -> Result<Vec<Entry>, AllocError>
-    ensures { IfOk result (λ v. v.items ≡ blocks.now.matrix.entries ++ last ∷ []) }
+    requires inside { IsInside blocks.now.matrix.shape last }
+    requires value { IsValue S.arithmetic last.value }
+    ensures entries { IfOk result (λ v. v.items ≡ blocks.now.matrix.entries ++ last ∷ []) }
+    ensures inside { IfOk result (λ v. All (IsInside blocks.now.matrix.shape) v.items) }
+    ensures values { IfOk result (λ v. All (λ e. IsValue S.arithmetic e.value) v.items) }
 {
     let mut list = in_list(alloc, blocks, room)?;
     list.push(last)?;
     Ok(list)
 }
 
+/// Moves the entries of a matrix over a grid to a list, with one more entry at the end.
+fn move_to_list<S: Semiring>(
+    alloc: Global,
+    blocks: &mut DistributedMatrix<S>,
+    room: usize,
+    last: Entry,
+) -> Result<Vec<Entry>, AllocError>
+    requires inside { IsInside blocks.old.matrix.shape last }
+    requires value { IsValue S.arithmetic last.value }
+    ensures entries { IfOk result (λ v. v.items ≡ blocks.old.matrix.entries ++ last ∷ []) }
+    ensures inside { IfOk result (λ v. All (IsInside blocks.old.matrix.shape) v.items) }
+    ensures values { IfOk result (λ v. All (λ e. IsValue S.arithmetic e.value) v.items) }
+    ensures side { blocks.new.side ≡ blocks.old.side }
+    ensures shape { blocks.new.matrix.shape ≡ blocks.old.matrix.shape }
+    ensures moved { OnOk result (blocks.new.matrix.entries ≡ []) }
+    ensures kept { OnErr result (blocks.new ≡ blocks.old) }
+{
+    let list = listed(alloc, blocks, room, last)?;
+    *blocks = DistributedMatrix::with_room(alloc, blocks.grid(), blocks.shape(), 0)?;
+    Ok(list)
+}
+
 impl<S: Semiring> Gathered<S> {
-    /// No entries, and room for this many: in the blocks of a grid, or in a list.
+    /// Starts without entries and takes room for this many, in the blocks of a grid or in a list.
     pub fn start(
         alloc: Global,
         grid: Grid,
@@ -97,8 +126,8 @@ impl<S: Semiring> Gathered<S> {
         })
     }
 
-    /// Adds an entry after all the others. In constant time, except when lists grow, and except for the one entry that
-    /// ends an ascent: it moves all the others into the list.
+    /// Appends an entry. It takes constant time, except when lists grow, and except for the entry that ends the ascent,
+    /// which moves all others to the list.
     pub fn push(&mut self, alloc: Global, entry: Entry) -> Result<(), AllocError>
         requires inside { IsInside self.old.shape entry }
         requires value { IsValue S.arithmetic entry.value }
@@ -111,24 +140,22 @@ impl<S: Semiring> Gathered<S> {
             self.list.push(entry)?;
             return Ok(());
         }
-        let shape = self.blocks.shape();
         let place = place_number(entry);
         if self.bound <= place && entry.value != S::zero() {
+            prove!(entry.column < self.blocks.shape().cols());
             self.blocks.push(entry)?;
             self.first = self.first.min(place);
             self.bound = place + 1;
             return Ok(());
         }
-        let list = listed(alloc, &self.blocks, self.room, entry)?;
-        self.blocks = DistributedMatrix::with_room(alloc, self.blocks.grid(), shape, 0)?;
-        self.list = list;
+        self.list = move_to_list(alloc, &mut self.blocks, self.room, entry)?;
         self.ascends = false;
         Ok(())
     }
 
-    /// Adds all entries of another after all the others. They stay in blocks if both are in blocks and the other's come
-    /// after these. If memory is refused, both are dropped. The cost is that of the other's entries, and, if an ascent
-    /// ends, of these too.
+    /// Appends all entries of another. They stay in blocks if both are in blocks and the other's come after these. If
+    /// memory is refused, both are dropped. The cost is proportional to the other's entries, or to all entries if they
+    /// don't ascend.
     pub fn append(self, alloc: Global, other: Self) -> Result<Self, AllocError>
         requires side { other.side ≡ self.side }
         requires shape { other.shape ≡ self.shape }
@@ -154,7 +181,7 @@ impl<S: Semiring> Gathered<S> {
         })
     }
 
-    /// The same, in a list.
+    /// The same, to a list.
     fn append_list(self, alloc: Global, other: Self) -> Result<Self, AllocError>
         requires shape { other.shape ≡ self.shape }
         ensures entries { IfOk result (λ g. g.entries ≡ self.entries ++ other.entries) }
@@ -177,7 +204,7 @@ impl<S: Semiring> Gathered<S> {
         })
     }
 
-    /// The same entries, by column and then by row even if they are in a list. Those of one place keep their order.
+    /// Sorts the entries by column and then by row if they are in a list. Entries of one place keep their order.
     pub fn sorted(self) -> Result<Self, AllocError>
         ensures places { IfOk result (λ g. AreSamePlaces g.entries self.entries) }
         ensures side { IfOk result (λ g. g.side ≡ self.side) }
@@ -197,13 +224,12 @@ impl<S: Semiring> Gathered<S> {
         })
     }
 
-    /// All entries in a list. If they are in blocks, it gets room for this many.
+    /// Returns all entries in a list. If they are in blocks, the list is made with room for this many.
     fn into_list(self, alloc: Global, room: usize) -> Result<Vec<Entry>, AllocError>
         ensures entries { IfOk result (λ v. v.items ≡ self.entries) }
         ensures inside { IfOk result (λ v. All (IsInside self.shape) v.items) }
         ensures values { IfOk result (λ v. All (λ e. IsValue S.arithmetic e.value) v.items) }
     {
-        let _shape = self.blocks.shape();
         if self.ascends {
             in_list(alloc, &self.blocks, room)
         } else {
@@ -211,7 +237,7 @@ impl<S: Semiring> Gathered<S> {
         }
     }
 
-    /// The matrix that has at each place the sum of the values given there.
+    /// Adds up the entries of each place, and returns the matrix.
     pub fn into_matrix(self, alloc: Global) -> Result<Matrix<S>, AllocError>
         ensures { IfOk result (λ m. m ≡ collected S.arithmetic self.shape self.entries) }
     {

@@ -17,23 +17,23 @@ pub enum Field {
     Pattern,
 }
 
-/// Whether an entry stands for the mirrored place too.
+/// Whether each entry also gives the mirrored one.
 #[derive(Clone, Copy)]
 pub enum Symmetry {
     General,
     Symmetric,
-    /// With the negative of its value.
+    /// The mirrored entry has the negated value.
     SkewSymmetric,
 }
 
-/// What the first line says.
+/// The content of the first line.
 #[derive(Clone, Copy)]
 pub struct Header {
     pub field: Field,
     pub symmetry: Symmetry,
 }
 
-/// The field that a word names.
+/// Returns the field that a word names.
 fn field_of(word: &Word<'_>) -> Option<Field>
     ensures { result ≡ field_in word.now.bytes.now }
 {
@@ -46,7 +46,7 @@ fn field_of(word: &Word<'_>) -> Option<Field>
     }
 }
 
-/// The symmetry that a word names.
+/// Returns the symmetry that a word names.
 fn symmetry_of(word: &Word<'_>) -> Option<Symmetry>
     ensures { result ≡ symmetry_in word.now.bytes.now }
 {
@@ -61,14 +61,14 @@ fn symmetry_of(word: &Word<'_>) -> Option<Symmetry>
     }
 }
 
-/// Whether values have negatives.
+/// Returns whether the semiring has negatives.
 fn has_negatives<S: Semiring>() -> bool
     ensures { result ≡ has_negatives S.arithmetic }
 {
     S::negative(S::zero()).is_some()
 }
 
-/// Whether the semiring can have such a matrix.
+/// Returns whether matrices with this field and symmetry are supported over the semiring.
 fn is_supported<S: Semiring>(field: Field, symmetry: Symmetry) -> bool
     ensures { result ≡ is_supported S.arithmetic field symmetry }
 {
@@ -82,7 +82,7 @@ fn is_supported<S: Semiring>(field: Field, symmetry: Symmetry) -> bool
     }
 }
 
-/// The header that the four words after the first make, if it is supported.
+/// Returns the header that the four words after the banner make, if it is supported.
 fn header_of<S: Semiring>(
     object: &Word<'_>,
     format: &Word<'_>,
@@ -108,7 +108,7 @@ fn header_of<S: Semiring>(
 }
 
 impl<'a> Scanner<'a> {
-    /// The header of a text that begins with this line.
+    /// Reads the header from the current line.
     pub fn header<S: Semiring>(&mut self) -> Result<Header, Kind>
         ensures ok { IfOk result (MakesHeader S.arithmetic (line_at self.old.rest.now)) }
         ensures fault { IfErr result (λ k. header_fault S.arithmetic (begins_blank (line_at self.old.rest.now)) (words_at self.old.rest.now) ≡ Some k) }

@@ -1,17 +1,17 @@
 //! Sparse matrices as Matrix Market texts, read and written.
 //!
-//! A text is lines of words. The first line is the header. It says that this is a coordinate matrix, whether its
-//! entries have values (`integer`) or not (`pattern`), and whether an entry stands for the mirrored place too
-//! (`symmetric`, `skew-symmetric`) or for its own alone (`general`). The size line has the rows, the columns and the
-//! number of entries, and each further line is an entry. Empty lines and comments are skipped. The format is that of
-//! Boisvert, Pozo and Remington, The Matrix Market Exchange Formats (NISTIR 5935).
+//! A text consists of lines of words. The first line, the header, names a coordinate matrix. It states whether entries
+//! have values (`integer`) or not (`pattern`), and whether each entry also gives the mirrored one (`symmetric`,
+//! `skew-symmetric`) or not (`general`). The size line has the numbers of rows, columns and entries. Each further line is
+//! an entry. Empty lines and comments are skipped. The format is defined in Boisvert, Pozo and Remington, The Matrix
+//! Market Exchange Formats (NISTIR 5935).
 //!
-//! `specs/Reads.antt` says line by line when a text reads as a matrix, and `specs/Faults.antt` which fault of a text is
-//! its first. Every text has a first fault or reads as exactly one matrix, never both; `read` returns the one or the
-//! other. `text` writes the one text of a matrix, which reads as it.
+//! `specs/Reads.antt` defines line by line when a text reads as a matrix, and `specs/Faults.antt` which fault of a text
+//! is the first. Every text either has a first fault or reads as exactly one matrix; `read` returns the fault or the
+//! matrix. `text` writes a matrix as a text that reads back as the same matrix.
 //!
-//! The reader is one cursor that goes over each byte at most twice. It keeps only the entries of the text, and takes
-//! room for them by what the text can hold, not by what it announces.
+//! The reader is a cursor that visits each byte at most twice. It keeps only the entries. A size line that announces more
+//! entries than the text can hold doesn't make it allocate more.
 #![tactic(auto)]
 
 ghost use Rattle.std.specs.Prelude.{◌≡◌};
@@ -19,19 +19,19 @@ ghost use Rattle.cb_market.specs.Kinds.{kind_text};
 
 use thiserror::Error;
 
-/// What a check of a text finds.
+/// The kinds of faults that a text can have.
 #[derive(Clone, Copy, Debug, PartialEq, Eq, Error)]
 #[error("{}", self.text())]
 pub enum Kind {
     /// The first line is not five words that begin with `%%MatrixMarket`.
     BadHeader,
-    /// An object, format, field or symmetry that is not supported, or not in this semiring.
+    /// An object, format, field or symmetry that is not supported, or not by this semiring.
     Unsupported,
-    /// The size line is not three numbers, or there is none.
+    /// The size line is missing, or is not three numbers.
     BadSize,
     /// More than 2,147,483,647 rows, columns or entries are announced.
     TooLarge,
-    /// A symmetric or skew-symmetric matrix doesn't have as many columns as rows.
+    /// A symmetric or skew-symmetric matrix that isn't square.
     NotSquare,
     /// The line of an entry has too few or too many words.
     BadLine,
@@ -39,9 +39,9 @@ pub enum Kind {
     BadNumber,
     /// A row or a column is 0, or more than the size line announces.
     IndexRange,
-    /// In a symmetric or skew-symmetric matrix entries stand on the diagonal or below it.
+    /// An entry of a symmetric or skew-symmetric matrix above the diagonal.
     AboveDiagonal,
-    /// The value is 2^64 or more, or the semiring doesn't have it.
+    /// The value is 2^64 or more, or isn't a value of the semiring.
     ValueRange,
     /// More entries follow than the size line announces.
     ExtraEntry,
@@ -49,12 +49,12 @@ pub enum Kind {
     MissingEntries,
     /// Memory was refused.
     Memory,
-    /// In a skew-symmetric matrix no entry stands on the diagonal.
+    /// An entry of a skew-symmetric matrix on the diagonal.
     OnDiagonal,
 }
 
 impl Kind {
-    /// The kind in words.
+    /// Returns the kind in words.
     pub fn text(&self) -> &'static str
         ensures { result.now ≡ kind_text self.now }
     {
@@ -77,11 +77,11 @@ impl Kind {
     }
 }
 
-/// The first fault of a text, or memory that was refused before one was found.
+/// The first fault of a text, or that memory was refused before one was found.
 #[derive(Clone, Copy, Debug, PartialEq, Eq, Error)]
 #[error("line {line}: {kind}")]
 pub struct ReadFault {
-    /// The line, counted from 1; past the last line for what is missing at the end.
+    /// The line, counted from 1. If something is missing at the end, it is the line past the last.
     pub line: u64,
     pub kind: Kind,
 }

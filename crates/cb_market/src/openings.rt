@@ -9,7 +9,7 @@ use crate::scanner::Scanner;
 use crate::size::Size;
 use cb_semirings::Semiring;
 
-/// The header and the size of a text, the number of the line after its size line, and the bytes from there on.
+/// The header and the size of a text, the number of the line after the size line, and the bytes from that line on.
 #[derive(Clone, Copy)]
 pub struct Opening<'a> {
     pub header: Header,
@@ -19,7 +19,7 @@ pub struct Opening<'a> {
 }
 
 impl<'a> Opening<'a> {
-    /// The opening of a text. None if the header or the size line has a fault.
+    /// Reads the opening of a text. None if the header or the size line has a fault.
     pub fn of<S: Semiring>(text: &'a [u8]) -> Option<Opening<'a>>
         ensures { IfSome result (λ o. IsOpening S.arithmetic text.now o.header o.size o.line o.entries.now) }
     {
@@ -44,8 +44,8 @@ impl<'a> Opening<'a> {
 }
 
 impl<'a> Scanner<'a> {
-    /// Reads the size from the next line that isn't skipped, and goes to the line after it. None if that line has a
-    /// fault, or there is none.
+    /// Reads the size from the next line that isn't skipped, and moves to the line after it. None if there is no such
+    /// line or it has a fault.
     fn size_of_entries<S: Semiring>(&mut self, header: Header) -> Option<Size>
         requires { past_last self.old.line self.old.rest.now < 2 ^ 64 }
         ensures shape { IfSome result (λ z. IsTrue (is_shape header.symmetry z.shape)) }

@@ -1,4 +1,4 @@
-//! Pages: bytes of a text, written one after the other until there is no room for another line.
+//! Pages: buffers for the bytes of a text, filled until there is no room for another line.
 ghost use Rattle.std.specs.Prelude.{◌≡◌, ◌↔◌, ◌+◌, ◌<◌, ◌≤◌, [], ◌∷◌, ◌++◌, length, take, decimal, IfOk, IsTrue};
 
 use itoa::write_digits;
@@ -8,13 +8,13 @@ use std::marker::Model;
 /// How many bytes a page holds.
 pub(crate) const SIZE: usize = 65_536;
 
-/// How many bytes a line of three numbers may have: at most 20 digits for each, and a byte after each.
+/// The most bytes that a line of three numbers can have: 20 digits for each, and a byte after each.
 pub(crate) const LINE: usize = 63;
 
-/// Bytes of a text, at most 65,536. In contracts it is these bytes.
+/// At most 65,536 bytes of a text. In contracts a page is these bytes.
 #[derive(Drop)]
 pub struct Page {
-    /// As many as a page holds, of which the first `end` are written.
+    /// The whole buffer, of which the first `end` bytes are written.
     bytes: Vec<u8>,
     end: usize,
 }
@@ -31,7 +31,7 @@ impl Model for Page {
 }
 
 impl Page {
-    /// A page without bytes. Nothing that is written on it later takes memory.
+    /// Makes an empty page. Writing to it takes no memory.
     pub fn new(alloc: Global) -> Result<Page, AllocError>
         ensures { IfOk result (λ page. page ≡ []) }
     {
@@ -46,21 +46,21 @@ impl Page {
         self.end = 0;
     }
 
-    /// What was written.
+    /// Returns what was written.
     pub fn written(&self) -> &[u8]
         ensures { result.now ≡ self.now }
     {
         &self.bytes[..self.end]
     }
 
-    /// Whether there is room for a line of numbers.
+    /// Returns whether there is room for a line of three numbers.
     pub(crate) fn has_room(&self) -> bool
         ensures { IsTrue result ↔ (length self.now + LINE ≤ SIZE) }
     {
         self.end + LINE <= SIZE
     }
 
-    /// Writes a number and a byte after it. They have at most 21 bytes.
+    /// Writes a number and a byte after it, at most 21 bytes together.
     pub(crate) fn put(&mut self, number: u64, after: u8)
         requires room { length self.old + 21 ≤ SIZE }
         ensures written { self.new ≡ self.old ++ decimal number ++ after ∷ [] }
@@ -78,7 +78,7 @@ impl Page {
     }
 }
 
-/// Writes a number and a byte after it from a place on, and returns the place after them.
+/// Writes a number and a byte after it at an offset, and returns the offset after them.
 pub(crate) fn put_number(buffer: &mut [u8], at: usize, number: u64, after: u8) -> usize
     requires { at + 21 ≤ length buffer.old }
     ensures end { result ≡ at + length (decimal number) + 1 }
@@ -91,7 +91,7 @@ pub(crate) fn put_number(buffer: &mut [u8], at: usize, number: u64, after: u8) -
     end + 1
 }
 
-/// Writes some bytes and a byte after them from a place on, and returns the place after them.
+/// Writes some bytes and a byte after them at an offset, and returns the offset after them.
 pub(crate) fn put_bytes(buffer: &mut [u8], at: usize, bytes: &[u8], after: u8) -> usize
     requires { at + length bytes.now < length buffer.old }
     ensures end { result ≡ at + length bytes.now + 1 }
@@ -103,7 +103,7 @@ pub(crate) fn put_bytes(buffer: &mut [u8], at: usize, bytes: &[u8], after: u8) -
     end + 1
 }
 
-/// How many digits a number has. Most have few, so they are counted by fours.
+/// Returns how many digits a number has. It counts them by fours, since most numbers are short.
 pub(crate) fn digits(number: u64) -> usize
     ensures value { result ≡ length (decimal number) }
     ensures limit { result ≤ 20 }
@@ -117,8 +117,8 @@ pub(crate) fn digits(number: u64) -> usize
     count + short_digits(left)
 }
 
-/// How many digits a number of at most four digits has.
-#[tactic(auto, using(crate::proofs::Digits::one_digit, crate::proofs::Digits::two_digits, crate::proofs::Digits::three_digits, crate::proofs::Digits::four_digits))]
+/// Returns how many digits a number below 10,000 has.
+#[tactic(auto, using(crate::proofs::Digits::has_one, crate::proofs::Digits::has_two, crate::proofs::Digits::has_three, crate::proofs::Digits::has_four))]
 fn short_digits(number: u64) -> usize
     requires { number < 10000 }
     ensures { result ≡ length (decimal number) }

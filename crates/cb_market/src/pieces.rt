@@ -1,8 +1,8 @@
-//! A piece of the entries of a text, read alone.
+//! Pieces of the entries of a text, read independently.
 //!
-//! A text is cut where lines end. Its entries give what those of its pieces give, one after the other. If no piece has
-//! a fault and together they have as many entries as are announced, the text has no fault. Faults are not reported
-//! here: that is for a reader that goes over the whole text.
+//! A text is cut where lines end. Its entries are those of its pieces, in order. If no piece has a fault and together they
+//! have as many entries as are announced, the text has no fault. Faults aren't reported here: the whole text has to be
+//! read to find the first.
 ghost use Rattle.std.specs.Prelude.{◌≡◌, ◌++◌, ◌+◌, ◌^◌, ◌<◌, ◌≤◌, [], true, length, IsTrue, IfOk, IfSome};
 ghost use Rattle.cb_matrix.specs.Values.{collected};
 ghost use Rattle.cb_market.specs.Lines.{lines, kept};
@@ -21,7 +21,7 @@ use cb_semirings::Semiring;
 use std::alloc::{AllocError, Global};
 use std::marker::Model;
 
-/// What a piece of a text gives: its entries, in blocks as long as they ascend, and how many lines had one.
+/// The entries of a piece of a text, in blocks as long as they ascend, and the number of lines that had one.
 #[derive(Drop)]
 pub struct Piece<S: Semiring> {
     entries: Gathered<S>,
@@ -36,7 +36,7 @@ impl<S: Semiring> Model for Piece<S> {
     ghost view = { λ a. record { side = a.entries.side; shape = a.entries.shape; lines = a.lines; entries = a.entries.entries } };
 }
 
-/// Cuts a text behind the last line feed before a place, or at its start if there is none.
+/// Cuts a text after the last line feed before an offset, or at its start if there is none.
 pub fn parted<'a>(text: &'a [u8], place: usize) -> (&'a [u8], &'a [u8])
     requires { place ≤ length text.now }
     ensures whole { is_whole result.0.now ≡ true }
@@ -52,10 +52,10 @@ pub fn parted<'a>(text: &'a [u8], place: usize) -> (&'a [u8], &'a [u8])
     (&text[..end], &text[end..])
 }
 
-/// The entries of a piece of a text. It takes room for as many as this many bytes can give: those of the piece, or more
-/// if other pieces are to be appended. None if a line has a fault, if there are more entries than are announced, or if
-/// memory is refused. One pass over the bytes; entries that don't ascend are sorted, so that the final sort finds
-/// sorted runs.
+/// Reads the entries of a piece of a text. It takes room for as many entries as `text` can have: the piece, or a longer
+/// text if other pieces are to be appended. None if a line has a fault, if there are more entries than are announced, or
+/// if memory is refused. The piece is read in one pass. Entries that don't ascend are then sorted, so that the final sort
+/// finds sorted runs.
 pub fn read_piece<S: Semiring>(
     alloc: Global,
     grid: Grid,
@@ -79,7 +79,7 @@ pub fn read_piece<S: Semiring>(
 }
 
 impl<'a> Scanner<'a> {
-    /// The entries of all lines, added to none.
+    /// Reads the entries of all lines into `start`, which is empty.
     fn piece<S: Semiring>(
         &mut self,
         alloc: Global,
@@ -116,7 +116,7 @@ impl<'a> Scanner<'a> {
 }
 
 impl<S: Semiring> Piece<S> {
-    /// The same entries, by column and then by row. None if memory is refused.
+    /// Sorts the entries by column and then by row. None if memory is refused.
     fn sorted(self) -> Option<Self>
         ensures places { IfSome result (λ p. AreSamePlaces p.entries self.entries) }
         ensures rest { IfSome result (λ p. (p.side ≡ self.side) × (p.shape ≡ self.shape) × (p.lines ≡ self.lines)) }
@@ -128,15 +128,15 @@ impl<S: Semiring> Piece<S> {
         }
     }
 
-    /// How many lines had an entry.
+    /// Returns how many lines had an entry.
     pub fn lines(&self) -> u32
         ensures { result ≡ self.now.lines }
     {
         self.lines
     }
 
-    /// This piece and the one after it. If memory is refused, or there are 2^32 lines or more, both are dropped. The
-    /// cost is that of the entries of the second, and, if an ascent ends, of both.
+    /// Appends the next piece. If memory is refused, or if there are 2^32 lines or more, both are dropped. The cost is
+    /// proportional to the entries of the second piece, or to those of both if they don't ascend.
     pub fn append(self, alloc: Global, next: Self) -> Option<Self>
         requires side { next.side ≡ self.side }
         requires shape { next.shape ≡ self.shape }
@@ -151,7 +151,7 @@ impl<S: Semiring> Piece<S> {
         }
     }
 
-    /// The matrix that has at each place the sum of the values given there, in the blocks of the grid.
+    /// Adds up the entries of each place, and returns the matrix in the blocks of the grid.
     pub fn into_blocks(self, alloc: Global) -> Result<DistributedMatrix<S>, AllocError>
         ensures { IfOk result (λ m. m ≡ record { side = self.side; matrix = collected S.arithmetic self.shape self.entries }) }
     {

@@ -1,14 +1,14 @@
-//! A fast path for lines of three short numbers with one space between each two. Most lines of most
-//! texts are such.
+//! A fast path for plain lines: three short numbers with single spaces between them. Most lines of most texts are
+//! plain.
 ghost use Rattle.std.specs.Prelude.{◌≡◌, ◌+◌, ◌^◌, ◌<◌, ◌≤◌, IfSome};
 ghost use Rattle.cb_market.specs.Cursor.{IsNumberBefore, IsPlainLine};
 
 use crate::words::{Number, Word};
 
-/// A number below this one can take another digit and stay below 2^64.
+/// A number below this one stays below 2^64 with another digit.
 const SMALL: u64 = 1_000_000_000_000_000_000;
 
-/// The words of such a line, and the text after it.
+/// The words of a plain line, and the text after it.
 #[derive(Clone, Copy)]
 pub struct PlainLine<'a> {
     pub row: Word<'a>,
@@ -17,8 +17,8 @@ pub struct PlainLine<'a> {
     pub rest: &'a [u8],
 }
 
-/// The number of the digits at the front, if this byte follows them, and what comes after it. None if
-/// there is no digit, another byte follows, or there are more than 19 digits that count.
+/// Returns the number at the front of a text and the text after it, if the number is followed by this byte. None if
+/// there is no digit, if another byte follows, or if the number has more than 19 digits after its leading zeros.
 #[inline(always)]
 fn number_before<'a>(text: &'a [u8], end: u8) -> Option<(Word<'a>, &'a [u8])>
     ensures { IfSome result (λ p. IsNumberBefore text.now end p.0.bytes.now p.1.now) }
@@ -45,7 +45,7 @@ fn number_before<'a>(text: &'a [u8], end: u8) -> Option<(Word<'a>, &'a [u8])>
     None
 }
 
-/// The line at the front, if it is such a line.
+/// Returns the first line of a text, if it is plain.
 #[inline(always)]
 pub fn plain_line<'a>(text: &'a [u8]) -> Option<PlainLine<'a>>
     ensures { IfSome result (λ p. IsPlainLine text.now p.row.bytes.now p.column.bytes.now p.value.bytes.now p.rest.now) }

@@ -19,7 +19,7 @@ use cb_semirings::Semiring;
 use std::alloc::Global;
 
 impl<'a> Scanner<'a> {
-    /// The size and the entries of a text, from its second line on.
+    /// Reads the size and the entries of a text, from its second line on.
     fn body<S: Semiring>(
         &mut self,
         alloc: Global,
@@ -42,7 +42,7 @@ impl<'a> Scanner<'a> {
         self.gathered(alloc, grid, in_blocks, header, size)
     }
 
-    /// The entries, from the end of the size line on.
+    /// Reads the entries, from the end of the size line on.
     fn gathered<S: Semiring>(
         &mut self,
         alloc: Global,
@@ -72,8 +72,8 @@ impl<'a> Scanner<'a> {
     }
 }
 
-/// The entries of a text, over a grid or in a list, and the number of the line past its last; or its
-/// first fault.
+/// Reads the entries of a text into the blocks of a grid or into a list. Returns them and the number of the line past the
+/// last, or the first fault.
 fn gathered<S: Semiring>(
     alloc: Global,
     grid: Grid,
@@ -102,12 +102,12 @@ fn gathered<S: Semiring>(
     Ok((entries, scanner.line))
 }
 
-/// The matrix that a text reads as, or its first fault. A place's value is the sum of what the
-/// entries give there; a sum of zero is not stored.
+/// Reads a text as a matrix, or returns its first fault. Entries of the same place are added up; sums that are zero
+/// aren't stored.
 ///
-/// Memory is reported with the line at which it was refused, and only if there is no fault at that line or before it;
-/// the line past the last is that of what is looked for at the end. One pass over the bytes; then the entries are
-/// sorted and added in place.
+/// If memory is refused, the fault names the line that was being read, or the line past the last if all were read. It is
+/// returned only if no line up to that one has a fault. The text is read in one pass; then the entries are sorted and
+/// added up in place.
 pub fn read<S: Semiring>(alloc: Global, text: &[u8]) -> Result<Matrix<S>, ReadFault>
     ensures ok { IfOk result (λ m. Reads S.arithmetic text.now m) }
     ensures fault { IfErr result (IsAnswer (first_fault S.arithmetic text.now)) }
@@ -127,10 +127,10 @@ pub fn read<S: Semiring>(alloc: Global, text: &[u8]) -> Result<Matrix<S>, ReadFa
     }
 }
 
-/// The matrix that a text reads as, in the blocks of a grid, or its first fault. All else is as in [`read`].
+/// Reads a text as a matrix in the blocks of a grid, or returns its first fault. In all else it is as [`read`].
 ///
-/// Entries that ascend by column and then row, none of them zero, go straight into the blocks. Any others are listed,
-/// sorted and added as in [`read`], and the list is dropped once the blocks have them.
+/// If the entries ascend by column and then row and none is zero, they go straight into the blocks. Otherwise they are
+/// collected in a list, sorted and added up as in [`read`], and then moved to the blocks.
 pub fn read_distributed<S: Semiring>(
     alloc: Global,
     grid: &Grid,

@@ -1,8 +1,8 @@
 //! Runs of entries of one column, and their lines in a buffer.
-ghost use Rattle.std.specs.Prelude.{◌≡◌, ◌+◌, ◌*◌, ◌^◌, ◌≤◌, ◌<◌, [], ◌++◌, length, take, drop, min, flat_map, IfSome, IfNone};
-ghost use Rattle.cb_layout.specs.Segments.{shifted};
+ghost use Rattle.std.specs.Prelude.{◌≡◌, ◌+◌, ◌*◌, ◌^◌, ◌≤◌, ◌<◌, [], ◌++◌, length, take, drop, min, IfSome, IfNone};
+ghost use Rattle.cb_layout.specs.Segments.{entries_of};
 ghost use Rattle.cb_market.specs.Sheets.{lines_of};
-ghost use Rattle.cb_market.specs.Text.{entry_line, line_with};
+ghost use Rattle.cb_market.specs.Text.{column_lines, segment_lines, line_with};
 
 use crate::pages::{put_bytes, put_number};
 use crate::text_pages::{EntriesLeft, begun, rest_of};
@@ -10,12 +10,12 @@ use cb_layout::Segment;
 use cb_semirings::Semiring;
 use itoa::Buffer;
 
-/// How many bytes the line of an entry may have: a row and a column of at most 10 digits each, a value of at most
-/// 20, and a byte after each.
+/// The most bytes that the line of an entry can have: a row and a column of 10 digits each, a value of 20, and a byte
+/// after each.
 pub(crate) const LONGEST_LINE: usize = 43;
 
 impl<'a, S: Semiring> EntriesLeft<'a, S> {
-    /// A copy of the entries that are left.
+    /// Copies the iterator.
     pub(crate) fn fork(&self) -> EntriesLeft<'a, S>
         ensures { result ≡ self.now }
     {
@@ -25,10 +25,10 @@ impl<'a, S: Semiring> EntriesLeft<'a, S> {
         }
     }
 
-    /// Takes off the next run: at most this many entries of one column in one block. None if no entry is left.
+    /// Removes and returns the next run: at most this many entries of one column in one block. None if no entry is left.
     fn next_run(&mut self, most: usize) -> Option<Segment<'a>>
         requires { 0 < most }
-        ensures some { IfSome result (λ g. self.old ≡ shifted g.top g.column g.rows.now g.values.now ++ self.new) }
+        ensures some { IfSome result (λ g. self.old ≡ entries_of g ++ self.new) }
         ensures none { IfNone result ((self.old ≡ []) × (self.new ≡ [])) }
         ensures lengths { IfSome result (λ g. length g.values.now ≡ length g.rows.now) }
         ensures limits { IfSome result (λ g. (0 < length g.rows.now) × (length g.rows.now ≤ most)) }
@@ -41,7 +41,7 @@ impl<'a, S: Semiring> EntriesLeft<'a, S> {
         Some(first_of(segment, count))
     }
 
-    /// Skips at most this many of the next entries, and returns how many. It costs a step for each segment.
+    /// Skips the next entries, at most this many, and returns how many. The cost is one step per segment.
     pub(crate) fn skip(&mut self, most: usize) -> usize
         ensures rest { self.new ≡ drop most self.old }
         ensures count { result ≡ min most (length self.old) }
@@ -56,8 +56,8 @@ impl<'a, S: Semiring> EntriesLeft<'a, S> {
         most - left
     }
 
-    /// Writes the lines of at most this many of the next entries from a place of the buffer on, and returns the place
-    /// after them.
+    /// Writes the lines of the next entries, at most this many, at an offset of the buffer, and returns the offset after
+    /// them.
     pub(crate) fn put_first(&mut self, buffer: &mut [u8], start: usize, most: usize) -> usize
         requires { start + most * LONGEST_LINE ≤ length buffer.old }
         ensures lines { take result buffer.new ≡ take start buffer.old ++ lines_of S.arithmetic (take most self.old) }
@@ -76,7 +76,7 @@ impl<'a, S: Semiring> EntriesLeft<'a, S> {
     }
 }
 
-/// The first entries of a segment.
+/// Returns the first entries of a segment.
 fn first_of(segment: Segment<'_>, count: usize) -> Segment<'_>
     requires rows { count ≤ length segment.rows.now }
     requires values { count ≤ length segment.values.now }
@@ -92,18 +92,18 @@ fn first_of(segment: Segment<'_>, count: usize) -> Segment<'_>
     }
 }
 
-/// Writes the lines of a run from a place of the buffer on, and returns the place after them.
+/// Writes the lines of a run at an offset of the buffer, and returns the offset after them.
 fn put_run(buffer: &mut [u8], start: usize, is_pattern: bool, run: Segment<'_>) -> usize
     requires lengths { length run.values.now ≡ length run.rows.now }
     requires room { start + length run.rows.now * LONGEST_LINE ≤ length buffer.old }
-    ensures lines { take result buffer.new ≡ take start buffer.old ++ flat_map (entry_line is_pattern) (shifted run.entry.top run.entry.column run.entry.rows.now run.entry.values.now) }
+    ensures lines { take result buffer.new ≡ take start buffer.old ++ segment_lines is_pattern run.entry }
     ensures limit { result ≤ start + length run.entry.rows.now * LONGEST_LINE }
 {
     let (top, column) = (run.top, run.column);
     put_rows(buffer, start, is_pattern, top, column, run.rows, run.values)
 }
 
-/// The same for the entries of a column, whose rows count from `top`. The digits of the column are made once.
+/// The same for the entries of a column, whose rows count from `top`. The digits of the column are computed once.
 fn put_rows(
     buffer: &mut [u8],
     start: usize,
@@ -115,7 +115,7 @@ fn put_rows(
 ) -> usize
     requires lengths { length values.now ≡ length rows.now }
     requires room { start + length rows.now * LONGEST_LINE ≤ length buffer.old }
-    ensures lines { take result buffer.new ≡ take start buffer.old ++ flat_map (entry_line is_pattern) (shifted top column rows.now values.now) }
+    ensures lines { take result buffer.new ≡ take start buffer.old ++ column_lines is_pattern top column rows.now values.now }
     ensures limit { result ≤ start + length rows.now * LONGEST_LINE }
 {
     let mut digits = Buffer::new();
@@ -128,8 +128,8 @@ fn put_rows(
     end
 }
 
-/// Writes the line of an entry from a place of the buffer on, with the digits of its column, and returns the place
-/// after it.
+/// Writes the line of an entry at an offset of the buffer, with the digits of its column, and returns the offset after
+/// it.
 fn put_one(
     buffer: &mut [u8],
     start: usize,

@@ -1,16 +1,16 @@
-//! A cursor over the bytes of a text, which goes over each byte once, or twice in a line that isn't plain.
+//! A cursor over the bytes of a text. It visits each byte once, or twice in a line that isn't plain.
 //!
-//! The cursor is the bytes that are left. What each step promises is stated in the lines and words of these
+//! The cursor is the rest of the text. The contract of each step is stated over the lines and words of the rest
 //! (`specs/Cursor.antt`).
-ghost use Rattle.std.specs.Prelude.{◌≡◌, ◌+◌, ◌^◌, ◌<◌, ◌≤◌, MatchOption, IfSome, IfNone, [], ◌∷◌, length};
+ghost use Rattle.std.specs.Prelude.{◌≡◌, ◌+◌, ◌^◌, ◌<◌, ◌≤◌, MatchOption, IfSome, IfNone, [], length};
 ghost use Rattle.cb_market.specs.Lines.{is_blank, number, past_last, kept_from};
-ghost use Rattle.cb_market.specs.Cursor.{is_line_end, words_at, after_line, IsKeptWord, is_word_end, front_digits, after_digits};
+ghost use Rattle.cb_market.specs.Cursor.{is_line_end, words_at, after_line, IsNextWord, IsKeptWord, is_word_end, front_digits, after_digits};
 ghost use Rattle.cb_market.specs.Cursor.{front_word, after_word, after_blanks, after_sign, if_small, number_of};
 
 use crate::words::{Number, Word, whole_number, with_digit};
 use crate::{Kind, ReadFault};
 
-/// The bytes of a text that are left, and the number of the line in which they begin.
+/// The rest of a text, and the number of the line in which it begins.
 #[derive(Drop)]
 pub struct Scanner<'a> {
     pub rest: &'a [u8],
@@ -23,7 +23,7 @@ fn is_blank(byte: u8) -> bool
     byte == b' ' || byte == b'\t'
 }
 
-/// Whether a line ends before these bytes.
+/// Returns whether a line ends before these bytes.
 fn is_line_end(rest: &[u8]) -> bool
     ensures { result ≡ is_line_end rest.now }
 {
@@ -34,7 +34,7 @@ fn is_line_end(rest: &[u8]) -> bool
     }
 }
 
-/// Whether a word ends before these bytes.
+/// Returns whether a word ends before these bytes.
 pub fn is_word_end(rest: &[u8]) -> bool
     ensures { result ≡ is_word_end rest.now }
 {
@@ -79,7 +79,7 @@ impl<'a> Scanner<'a> {
         }
     }
 
-    /// Takes the digits at the front, and returns their number if it is below 2^64.
+    /// Skips the digits at the front, and returns their number if it is below 2^64.
     fn digits(&mut self) -> Option<u64>
         ensures number { result ≡ if_small (number (front_digits self.old.rest.now)) }
         ensures rest { self.new.rest.now ≡ after_digits self.old.rest.now }
@@ -100,7 +100,7 @@ impl<'a> Scanner<'a> {
         Some(number)
     }
 
-    /// Skips what is left of a word.
+    /// Skips the rest of a word.
     fn skip_word(&mut self)
         ensures rest { self.new.rest.now ≡ after_word self.old.rest.now }
         ensures line { self.new.line ≡ self.old.line }
@@ -113,7 +113,7 @@ impl<'a> Scanner<'a> {
         }
     }
 
-    /// Takes a sign.
+    /// Skips a sign, if there is one.
     fn skip_sign(&mut self)
         ensures rest { self.new.rest.now ≡ after_sign self.old.rest.now }
         ensures line { self.new.line ≡ self.old.line }
@@ -125,7 +125,7 @@ impl<'a> Scanner<'a> {
         }
     }
 
-    /// Takes the word at the front, and returns the number that it writes.
+    /// Skips the word at the front, and returns its number.
     #[inline(always)]
     fn number(&mut self) -> Number
         ensures number { result ≡ number_of (front_word self.old.rest.now) }
@@ -142,10 +142,10 @@ impl<'a> Scanner<'a> {
         Number::NotWhole
     }
 
-    /// The next word of the line.
+    /// Returns the next word of the line, if there is one.
     #[inline(always)]
     pub fn word(&mut self) -> Option<Word<'a>>
-        ensures word { MatchOption result (words_at self.old.rest.now ≡ []) (λ w. words_at self.old.rest.now ≡ w.bytes.now ∷ words_at self.new.rest.now) }
+        ensures word { MatchOption result (words_at self.old.rest.now ≡ []) (λ w. IsNextWord self.old.rest.now w.bytes.now self.new.rest.now) }
         ensures after { after_line self.new.rest.now ≡ after_line self.old.rest.now }
         ensures line { self.new.line ≡ self.old.line }
     {
@@ -161,7 +161,7 @@ impl<'a> Scanner<'a> {
         })
     }
 
-    /// Skips what is left of a line, and its end.
+    /// Skips the rest of a line and its line feed.
     fn skip_line(&mut self)
         ensures rest { self.new.rest.now ≡ after_line self.old.rest.now }
         ensures line { self.new.line ≡ self.old.line }
@@ -174,7 +174,7 @@ impl<'a> Scanner<'a> {
         }
     }
 
-    /// Goes to the next line.
+    /// Moves to the next line.
     pub fn next_line(&mut self)
         requires { self.old.line + 1 < 2 ^ 64 }
         ensures rest { self.new.rest.now ≡ after_line self.old.rest.now }
@@ -184,7 +184,7 @@ impl<'a> Scanner<'a> {
         self.line += 1;
     }
 
-    /// Goes on to a line that isn't skipped, and returns its first word.
+    /// Moves to the next line that isn't skipped, this one included, and returns its first word.
     pub fn kept_line(&mut self) -> Option<Word<'a>>
         requires { past_last self.old.line self.old.rest.now < 2 ^ 64 }
         ensures none { IfNone result (kept_from self.old.line self.old.rest.now ≡ []) }
@@ -205,7 +205,7 @@ impl<'a> Scanner<'a> {
         None
     }
 
-    /// A fault at this line.
+    /// Makes a fault of this line.
     pub fn fault(&self, kind: Kind) -> ReadFault
         ensures { result ≡ record { line = self.now.line; kind = kind } }
     {

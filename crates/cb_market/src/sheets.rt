@@ -1,8 +1,8 @@
-//! Sheets: parts of a text, which are dealt out in order and can then be written side by side.
+//! Sheets: parts of a text, which are dealt out in order and can then be written in parallel.
 //!
-//! A text is a head and a line for each entry, so any run of entries has a run of lines. A sheet is given the next
-//! entries of a text, as many as would fit with the longest lines. That fixes its part of the text, and writing it
-//! needs nothing from any other sheet.
+//! A text has a head and one line per entry, so consecutive entries have consecutive lines. A sheet is given the next
+//! entries of a text, as many as fit even if all lines are of the greatest length. That fixes its part of the text, and
+//! it can be written independently of every other sheet.
 ghost use Rattle.std.specs.Prelude.{◌≡◌, ◌+◌, ◌*◌, ◌≤◌, ◌<◌, [], ◌∷◌, ◌++◌, length, take, if◌then◌else◌, true, false, IfOk};
 ghost use Rattle.cb_market.specs.Sheets.{lines_of, share_of};
 ghost use Rattle.cb_market.specs.Text.{head_of, header_line};
@@ -16,40 +16,38 @@ use cb_semirings::Semiring;
 use std::alloc::{AllocError, Global};
 use std::marker::Model;
 
-/// The most lines that a sheet can have room for.
+/// The most lines that a sheet can be made for.
 pub const MOST_LINES: usize = 1_048_576;
 
-/// How many bytes the header and the size line may have: 49, and three numbers of 20 digits with a byte after each.
+/// The most bytes that the header and the size line can have: 49, and three numbers of 20 digits with a byte after each.
 const LONGEST_HEAD: usize = 112;
 
-/// A part of the text of a matrix over a grid. In contracts it is what is written, and what is left to write.
+/// A part of the text of a matrix over a grid. In contracts a sheet is what is written on it and what is left to write.
 #[derive(Drop)]
 pub struct Sheet<'a, S: Semiring> {
-    /// Of these the first `end` are written.
+    /// The buffer, of which the first `end` bytes are written.
     bytes: Vec<u8>,
     end: usize,
     /// How many lines there is room for, besides the head.
     lines: usize,
-    /// The entries whose lines are left to write are the first `count` of these.
+    /// The first `count` of these entries are those whose lines are left to write.
     entries: EntriesLeft<'a, S>,
     count: usize,
 }
 
 impl<'a, S: Semiring> Model for Sheet<'a, S> {
-    ghost use Rattle.std.specs.Prelude.{◌+◌, ◌*◌, ◌≤◌, ◌<◌, take, length};
-    ghost use Rattle.cb_market.specs.declared.runs.TheConstants.{LONGEST_LINE};
-    ghost use Rattle.cb_market.specs.declared.sheets.TheConstants.{LONGEST_HEAD};
-    ghost use Rattle.cb_market.specs.Sheets.{SheetText, lines_of};
+    ghost use Rattle.std.specs.Prelude.{take, length};
+    ghost use Rattle.cb_market.specs.Sheets.{SheetText, HasRoom, lines_of};
 
     ghost Value = { SheetText };
 
     ghost view = { λ t. record { written = take t.end t.bytes.items; left = lines_of S.arithmetic (take t.count t.entries) } };
 
-    ghost invariant = { λ t. (0 < t.lines) × (LONGEST_HEAD + t.lines * LONGEST_LINE ≤ length t.bytes.items) × (t.end + t.count * LONGEST_LINE ≤ length t.bytes.items) };
+    ghost invariant = { λ t. HasRoom (length t.bytes.items) t.lines t.end t.count };
 }
 
 impl<'a, S: Semiring> Sheet<'a, S> {
-    /// A sheet without bytes, with room for this many lines of a text. Nothing later takes memory.
+    /// Makes an empty sheet with room for this many lines of a text. No later call takes memory.
     pub fn new(
         alloc: Global,
         lines: usize,
@@ -69,9 +67,9 @@ impl<'a, S: Semiring> Sheet<'a, S> {
         })
     }
 
-    /// Takes the next part of a text in place of what the sheet had: as many lines as it has room for. If the head is
-    /// left, it is written at once; the lines are left to [`write`](Sheet::write). Returns whether there was a next
-    /// part. It costs a step for each segment.
+    /// Replaces the sheet's part by the next part of a text, as many lines as there is room for, and returns whether
+    /// there was one. If the head is left, it is written at once; the lines are left to [`write`](Sheet::write). The cost
+    /// is one step per segment.
     pub fn take_from(&mut self, text: &mut TextPages<'a, S>) -> bool
         ensures text { text.old ≡ share_of self.new ++ text.new }
         ensures some { result ≡ true → 0 < length (share_of self.new) }
@@ -84,8 +82,8 @@ impl<'a, S: Semiring> Sheet<'a, S> {
         end + count > 0
     }
 
-    /// Writes what is left to write. The thread walks a copy of its own: if it stepped the walk in the sheet, which has
-    /// neighbours in memory, each step would take a cache line from another thread.
+    /// Writes what is left to write. It advances a copy of the iterator: sheets are neighbours in memory, and advancing
+    /// the one in the sheet would make threads contend for cache lines (false sharing).
     pub fn write(&mut self)
         ensures { self.new ≡ record { written = share_of self.old; left = [] } }
     {
@@ -94,7 +92,7 @@ impl<'a, S: Semiring> Sheet<'a, S> {
         self.count = 0;
     }
 
-    /// What is written.
+    /// Returns what is written.
     pub fn written(&self) -> &[u8]
         ensures { result.now ≡ self.now.written }
     {
@@ -103,9 +101,9 @@ impl<'a, S: Semiring> Sheet<'a, S> {
 }
 
 impl<'a, S: Semiring> TextPages<'a, S> {
-    /// Takes off the head, if it is left, and writes it at the start of the buffer; then takes off the lines of at most
-    /// this many of the next entries. Returns how many bytes the head has, entries of which the first are these, and
-    /// how many these are.
+    /// Removes the head from the text, if it is left, and writes it at the start of the buffer; then removes the lines of
+    /// the next entries, at most this many. Returns the length of the head, an iterator that starts with these entries,
+    /// and their number.
     fn next_part(&mut self, buffer: &mut [u8], most: usize) -> (usize, EntriesLeft<'a, S>, usize)
         requires { LONGEST_HEAD ≤ length buffer.old }
         ensures text { self.old ≡ (take result.0 buffer.new ++ lines_of S.arithmetic (take result.2 result.1)) ++ self.new }
@@ -123,8 +121,7 @@ impl<'a, S: Semiring> TextPages<'a, S> {
     }
 }
 
-/// Writes the header and the size line at the start of a buffer, if they are left, and returns how many bytes they
-/// have.
+/// Writes the header and the size line at the start of a buffer, if they are left, and returns their length.
 fn put_head_if(
     is_left: bool,
     buffer: &mut [u8],
@@ -143,7 +140,7 @@ fn put_head_if(
     }
 }
 
-/// Writes the header and the size line at the start of a buffer, and returns how many bytes they have.
+/// Writes the header and the size line at the start of a buffer, and returns their length.
 fn put_head(buffer: &mut [u8], is_pattern: bool, shape: Shape, entries: usize) -> usize
     requires { LONGEST_HEAD ≤ length buffer.old }
     ensures head { take result buffer.new ≡ head_of is_pattern shape entries }
@@ -155,7 +152,7 @@ fn put_head(buffer: &mut [u8], is_pattern: bool, shape: Shape, entries: usize) -
     put_number(buffer, end, entries as u64, b'\n')
 }
 
-/// The header, without its end of line.
+/// Returns the header without its line feed.
 fn header(is_pattern: bool) -> &'static [u8]
     ensures line { result.now ++ 10 ∷ [] ≡ header_line is_pattern }
     ensures length { length result.now ≡ 48 }

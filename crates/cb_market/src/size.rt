@@ -9,15 +9,15 @@ use crate::words::Word;
 use crate::{Kind, ReadFault};
 use cb_matrix::Shape;
 
-/// What the size line says.
+/// The content of the size line.
 #[derive(Clone, Copy)]
 pub struct Size {
     pub shape: Shape,
-    /// How many entries follow.
+    /// The number of entries that follow.
     pub count: u32,
 }
 
-/// Whether a matrix with a symmetry may have a shape.
+/// Returns whether a matrix with this symmetry can have this shape.
 fn is_shape(symmetry: Symmetry, shape: Shape) -> bool
     ensures { result ≡ is_shape symmetry shape }
 {
@@ -28,7 +28,7 @@ fn is_shape(symmetry: Symmetry, shape: Shape) -> bool
     }
 }
 
-/// The size that three words announce.
+/// Reads the size that three words announce.
 fn size_of(header: Header, rows: &Word<'_>, cols: &Word<'_>, count: &Word<'_>) -> Result<Size, Kind>
     ensures ok { IfOk result (AnnouncesSize header (rows.now.bytes.now ∷ cols.now.bytes.now ∷ count.now.bytes.now ∷ [])) }
     ensures fault { IfErr result (λ k. size_fault header (rows.now.bytes.now ∷ cols.now.bytes.now ∷ count.now.bytes.now ∷ []) ≡ Some k) }
@@ -55,7 +55,7 @@ fn size_of(header: Header, rows: &Word<'_>, cols: &Word<'_>, count: &Word<'_>) -
 }
 
 impl<'a> Scanner<'a> {
-    /// The size that a line with this first word announces.
+    /// Reads the size that the line with this first word announces.
     fn size(&mut self, header: Header, first: &Word<'_>) -> Result<Size, Kind>
         ensures ok { IfOk result (AnnouncesSize header (first.now.bytes.now ∷ words_at self.old.rest.now)) }
         ensures fault { IfErr result (λ k. size_fault header (first.now.bytes.now ∷ words_at self.old.rest.now) ≡ Some k) }
@@ -74,11 +74,12 @@ impl<'a> Scanner<'a> {
         size_of(header, first, &second, &third)
     }
 
-    /// The size that a line announces, or its fault there.
+    /// The same, with the number of the line if it has a fault.
     pub fn size_line(&mut self, header: Header, first: &Word<'_>) -> Result<Size, ReadFault>
         ensures none { IfOk result (λ z. size_fault header (first.now.bytes.now ∷ words_at self.old.rest.now) ≡ None) }
         ensures size { IfOk result (λ z. z ≡ size_of (first.now.bytes.now ∷ words_at self.old.rest.now)) }
-        ensures fault { IfErr result (λ f. (size_fault header (first.now.bytes.now ∷ words_at self.old.rest.now) ≡ Some f.kind) × (f.line ≡ self.old.line)) }
+        ensures fault { IfErr result (λ f. size_fault header (first.now.bytes.now ∷ words_at self.old.rest.now) ≡ Some f.kind) }
+        ensures place { IfErr result (λ f. f.line ≡ self.old.line) }
         ensures after { after_line self.new.rest.now ≡ after_line self.old.rest.now }
         ensures line { self.new.line ≡ self.old.line }
     {

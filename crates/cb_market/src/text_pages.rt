@@ -1,7 +1,8 @@
-//! The text of a matrix that lies over a grid of ranks, page by page, without gathering it.
-ghost use Rattle.std.specs.Prelude.{◌≡◌, ◌+◌, ◌≤◌, ◌<◌, [], ◌++◌, length, drop, flat_map, true, false, IfSome, IfNone};
-ghost use Rattle.cb_layout.specs.Segments.{shifted};
-ghost use Rattle.cb_market.specs.Text.{text_of, entry_line, line_with};
+//! The text of a matrix over a grid, page by page, without gathering the matrix.
+ghost use Rattle.std.specs.Prelude.{◌≡◌, ◌+◌, ◌≤◌, ◌<◌, [], ◌++◌, length, take, drop, true, false, IfSome, IfNone};
+ghost use Rattle.cb_layout.specs.Segments.{entries_of};
+ghost use Rattle.cb_market.specs.Sheets.{lines_of};
+ghost use Rattle.cb_market.specs.Text.{text_of, column_lines, first_lines, line_with};
 
 use crate::pages::{LINE, Page, SIZE};
 use crate::writing::put_head;
@@ -11,14 +12,14 @@ use cb_semirings::Semiring;
 use itoa::Buffer;
 use std::marker::Model;
 
-/// What is left to write of the text of a matrix over a grid. In contracts it is these bytes.
+/// The rest of the text of a matrix over a grid, still to be written. In contracts it is these bytes.
 ///
-/// The entries are taken from the blocks in place, column by column, and the digits of a column are made once for its
-/// entries in one block. The cost is that of the stored entries, and no call takes memory.
+/// The entries are read from the blocks in place, column by column. The digits of a column are computed once per block.
+/// The cost is proportional to the stored entries, and no call takes memory.
 #[derive(Drop)]
 pub struct TextPages<'a, S: Semiring> {
     pub(crate) shape: Shape,
-    /// How many entries the matrix has.
+    /// The number of entries of the matrix.
     pub(crate) len: usize,
     /// Whether the header and the size line are left.
     pub(crate) has_head: bool,
@@ -35,7 +36,7 @@ impl<'a, S: Semiring> Model for TextPages<'a, S> {
 }
 
 impl<'a, S: Semiring> TextPages<'a, S> {
-    /// The whole text of a matrix, which is the one that [`text`](crate::text) makes of it gathered.
+    /// Starts the text of a matrix, the same that [`text`](crate::text) makes of the gathered matrix.
     pub fn new(matrix: &'a DistributedMatrix<S>) -> TextPages<'a, S>
         ensures { result ≡ text_of S.arithmetic matrix.now.matrix }
     {
@@ -47,8 +48,8 @@ impl<'a, S: Semiring> TextPages<'a, S> {
         }
     }
 
-    /// Empties a page and writes the next lines on it, as many as there is room for. Returns whether there were any; if
-    /// not, the whole text is written.
+    /// Clears a page, writes as many of the next lines on it as there is room for, and returns whether there were any. If
+    /// there were none, the whole text has been written.
     pub fn next_page(&mut self, page: &mut Page) -> bool
         ensures page { self.old ≡ page.new ++ self.new }
         ensures some { result ≡ true → 0 < length page.new }
@@ -64,7 +65,8 @@ impl<'a, S: Semiring> TextPages<'a, S> {
     }
 }
 
-/// The entries of a matrix over a grid that are left; one segment may be partly done. In contracts it is these entries.
+/// An iterator over the entries of a matrix over a grid, of which one segment may be partly done. In contracts it is the
+/// remaining entries.
 #[derive(Drop)]
 pub(crate) struct EntriesLeft<'a, S: Semiring> {
     pub(crate) segment: Segment<'a>,
@@ -74,17 +76,17 @@ pub(crate) struct EntriesLeft<'a, S: Semiring> {
 impl<'a, S: Semiring> Model for EntriesLeft<'a, S> {
     ghost use Rattle.std.specs.Prelude.{◌≡◌, ◌++◌, List, length};
     ghost use Rattle.cb_matrix.specs.declared.Entry.{Entry};
-    ghost use Rattle.cb_layout.specs.Segments.{shifted};
+    ghost use Rattle.cb_layout.specs.Segments.{entries_of};
 
     ghost Value = { List Entry };
 
-    ghost view = { λ a. shifted a.segment.top a.segment.column a.segment.rows.now a.segment.values.now ++ a.segments };
+    ghost view = { λ a. entries_of a.segment ++ a.segments };
 
     ghost invariant = { λ a. length a.segment.values.now ≡ length a.segment.rows.now };
 }
 
 impl<'a, S: Semiring> EntriesLeft<'a, S> {
-    /// All entries of a matrix.
+    /// Starts with all entries of a matrix.
     fn new(matrix: &'a DistributedMatrix<S>) -> EntriesLeft<'a, S>
         ensures { result ≡ matrix.now.matrix.entries }
     {
@@ -99,9 +101,9 @@ impl<'a, S: Semiring> EntriesLeft<'a, S> {
         }
     }
 
-    /// Writes the lines of the next entries, until there is no room or no entry.
+    /// Writes the lines of the next entries, until the page has no room or no entry is left.
     fn put_lines(&mut self, page: &mut Page)
-        ensures lines { page.new ++ flat_map (entry_line S.arithmetic.writes_pattern) self.new ≡ page.old ++ flat_map (entry_line S.arithmetic.writes_pattern) self.old }
+        ensures lines { page.new ++ lines_of S.arithmetic self.new ≡ page.old ++ lines_of S.arithmetic self.old }
         ensures all { length page.new + LINE ≤ SIZE → self.new ≡ [] }
     {
         while page.has_room() {
@@ -111,11 +113,11 @@ impl<'a, S: Semiring> EntriesLeft<'a, S> {
         }
     }
 
-    /// Writes lines of the segment that is begun, or, if it is done, of the next one: at least one line, and as many as
-    /// there is room for. Returns false if there is none.
+    /// Writes lines of the current segment, or of the next one if the current one is done: at least one line, and as many
+    /// as there is room for. Returns false if no entry is left.
     fn put_some(&mut self, page: &mut Page) -> bool
         requires { length page.old + LINE ≤ SIZE }
-        ensures lines { page.new ++ flat_map (entry_line S.arithmetic.writes_pattern) self.new ≡ page.old ++ flat_map (entry_line S.arithmetic.writes_pattern) self.old }
+        ensures lines { page.new ++ lines_of S.arithmetic self.new ≡ page.old ++ lines_of S.arithmetic self.old }
         ensures some { result ≡ true → length self.new < length self.old }
         ensures none { result ≡ false → self.new ≡ [] }
     {
@@ -128,14 +130,14 @@ impl<'a, S: Semiring> EntriesLeft<'a, S> {
     }
 }
 
-/// The segment, or, if it has no entry, the next one. None if there is none either.
+/// Returns the segment, or the next one if it is empty. None if no entry is left.
 pub(crate) fn begun<'a, S: Semiring>(
     segment: Segment<'a>,
     segments: &mut Segments<'a, S>,
 ) -> Option<Segment<'a>>
     requires { length segment.values.now ≡ length segment.rows.now }
-    ensures some { IfSome result (λ g. shifted segment.entry.top segment.entry.column segment.entry.rows.now segment.entry.values.now ++ segments.old ≡ shifted g.top g.column g.rows.now g.values.now ++ segments.new) }
-    ensures none { IfNone result (shifted segment.entry.top segment.entry.column segment.entry.rows.now segment.entry.values.now ++ segments.new ≡ []) }
+    ensures some { IfSome result (λ g. entries_of segment.entry ++ segments.old ≡ entries_of g ++ segments.new) }
+    ensures none { IfNone result (entries_of segment.entry ++ segments.new ≡ []) }
     ensures kept { IfNone result (segments.old ≡ segments.new) }
     ensures lengths { IfSome result (λ g. length g.values.now ≡ length g.rows.now) }
     ensures entries { IfSome result (λ g. 0 < length g.rows.now) }
@@ -147,7 +149,7 @@ pub(crate) fn begun<'a, S: Semiring>(
     }
 }
 
-/// A segment without its first entries.
+/// Returns a segment without its first entries.
 pub(crate) fn rest_of(segment: Segment<'_>, done: usize) -> Segment<'_>
     requires rows { done ≤ length segment.rows.now }
     requires values { done ≤ length segment.values.now }
@@ -163,11 +165,11 @@ pub(crate) fn rest_of(segment: Segment<'_>, done: usize) -> Segment<'_>
     }
 }
 
-/// Writes the lines of the entries of a segment, as many as there is room for, and returns how many.
+/// Writes the lines of the first entries of a segment, as many as there is room for, and returns how many.
 fn put_segment(page: &mut Page, is_pattern: bool, segment: Segment<'_>) -> usize
     requires lengths { length segment.values.now ≡ length segment.rows.now }
     requires room { length page.old + LINE ≤ SIZE }
-    ensures lines { page.new ++ flat_map (entry_line is_pattern) (shifted segment.entry.top segment.entry.column (drop result segment.entry.rows.now) (drop result segment.entry.values.now)) ≡ page.old ++ flat_map (entry_line is_pattern) (shifted segment.entry.top segment.entry.column segment.entry.rows.now segment.entry.values.now) }
+    ensures lines { page.new ≡ page.old ++ first_lines is_pattern result segment.entry }
     ensures limit { result ≤ length segment.entry.rows.now }
     ensures some { 0 < length segment.entry.rows.now → 0 < result }
 {
@@ -175,8 +177,7 @@ fn put_segment(page: &mut Page, is_pattern: bool, segment: Segment<'_>) -> usize
     put_column(page, is_pattern, top, column, segment.rows, segment.values)
 }
 
-/// Writes the lines of the entries of a column, whose rows count from `top`, as many as there is room for, and returns
-/// how many.
+/// The same for the entries of a column, whose rows count from `top`. The digits of the column are computed once.
 fn put_column(
     page: &mut Page,
     is_pattern: bool,
@@ -187,7 +188,7 @@ fn put_column(
 ) -> usize
     requires lengths { length values.now ≡ length rows.now }
     requires room { length page.old + LINE ≤ SIZE }
-    ensures lines { page.new ++ flat_map (entry_line is_pattern) (shifted top column (drop result rows.now) (drop result values.now)) ≡ page.old ++ flat_map (entry_line is_pattern) (shifted top column rows.now values.now) }
+    ensures lines { page.new ≡ page.old ++ column_lines is_pattern top column (take result rows.now) (take result values.now) }
     ensures limit { result ≤ length rows.now }
     ensures some { 0 < length rows.now → 0 < result }
 {

@@ -1,4 +1,4 @@
-//! Words of a line, and the numbers that they write.
+//! Words of a line, and their numbers.
 ghost use Rattle.std.specs.Prelude.{◌≡◌, ◌+◌, ◌-◌, ◌*◌, IsTrue, bytes_eq};
 ghost use Rattle.cb_market.specs.Lines.{is_digit, is_number, is_value_word, is_negative, is_comment, number};
 ghost use Rattle.cb_market.specs.Cursor.{if_small, whole_number, number_of};
@@ -7,7 +7,7 @@ ghost use Rattle.cb_market.specs.Checks.{is_name, place_in, small_in, value_in};
 use cb_matrix::LIMIT;
 use cb_semirings::Semiring;
 
-/// The number that a word of digits, after an optional sign, writes.
+/// The number of a word: digits after an optional sign. The sign isn't part of it.
 #[derive(Clone, Copy)]
 pub enum Number {
     NotWhole,
@@ -16,7 +16,7 @@ pub enum Number {
     Whole(u64),
 }
 
-/// A word of a line. Its number was read in the same pass as its bytes.
+/// A word of a line. Its number is parsed in the same pass that finds its end.
 #[derive(Clone, Copy)]
 pub struct Word<'a> {
     pub bytes: &'a [u8],
@@ -25,7 +25,7 @@ pub struct Word<'a> {
 }
 
 impl<'a> Word<'a> {
-    /// Whether a line that begins with it is a comment.
+    /// Returns whether a line that begins with this word is a comment.
     pub fn is_comment(&self) -> bool
         ensures { result ≡ is_comment self.now.bytes.now }
     {
@@ -35,21 +35,21 @@ impl<'a> Word<'a> {
         }
     }
 
-    /// Whether it is these bytes.
+    /// Returns whether the word is these bytes.
     pub fn is_exactly(&self, bytes: &[u8]) -> bool
         ensures { result ≡ bytes_eq self.now.bytes.now bytes.now }
     {
         self.bytes == bytes
     }
 
-    /// Whether it is a name, in any case.
+    /// Returns whether the word is a name, ignoring ASCII case.
     pub fn is_name(&self, name: &[u8]) -> bool
         ensures { result ≡ is_name self.now.bytes.now name.now }
     {
         self.bytes.eq_ignore_ascii_case(name)
     }
 
-    /// Whether it is digits alone, after an optional sign.
+    /// Returns whether the word is digits after an optional sign.
     pub fn is_value(&self) -> bool
         ensures { result ≡ is_value_word self.now.bytes.now }
     {
@@ -60,7 +60,7 @@ impl<'a> Word<'a> {
         }
     }
 
-    /// Whether it is digits alone.
+    /// Returns whether the word is digits alone.
     pub fn is_number(&self) -> bool
         ensures { result ≡ is_number self.now.bytes.now }
     {
@@ -79,7 +79,7 @@ impl<'a> Word<'a> {
         }
     }
 
-    /// The place that it names, counted from 0, if that is within a limit.
+    /// Returns the index that the word names, counted from 0, if it is below the limit.
     pub fn place(&self, limit: u32) -> Option<u32>
         requires { IsTrue (is_number self.now.bytes.now) }
         ensures { result ≡ place_in limit (number self.now.bytes.now) }
@@ -90,7 +90,7 @@ impl<'a> Word<'a> {
         }
     }
 
-    /// The value that it writes, if the semiring has it.
+    /// Returns the word's value, if the semiring has it.
     pub fn value<S: Semiring>(&self) -> Option<u64>
         requires { IsTrue (is_value_word self.now.bytes.now) }
         ensures { result ≡ value_in S.arithmetic self.now.bytes.now }
@@ -101,7 +101,7 @@ impl<'a> Word<'a> {
         }
     }
 
-    /// The number that it writes, if a matrix may have as many rows, columns or entries.
+    /// Returns the word's number, if a matrix can have as many rows, columns or entries.
     pub fn limited(&self) -> Option<u32>
         requires { IsTrue (is_number self.now.bytes.now) }
         ensures { result ≡ small_in LIMIT (number self.now.bytes.now) }
@@ -133,7 +133,7 @@ fn small_in(limit: u32, number: u64) -> Option<u32>
     }
 }
 
-/// A number with one more digit, if it is below 2^64.
+/// Appends a digit to a number, if the result is below 2^64.
 pub fn with_digit(number: u64, digit: u8) -> Option<u64>
     requires { IsTrue (is_digit digit) }
     ensures { result ≡ if_small (number * 10 + (digit - 48)) }
@@ -141,7 +141,7 @@ pub fn with_digit(number: u64, digit: u8) -> Option<u64>
     number.checked_mul(10)?.checked_add((digit - b'0') as u64)
 }
 
-/// The number of digits alone, if it is below 2^64.
+/// The number of a word of digits: too large if it isn't below 2^64.
 pub fn whole_number(digits: Option<u64>) -> Number
     ensures { result ≡ whole_number digits }
 {

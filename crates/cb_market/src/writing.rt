@@ -1,5 +1,7 @@
-//! Writing a text. The lines of some entries are written on a page, which is then appended.
+//! Writing a text. Lines are written on a page, which is then appended to the text.
 ghost use Rattle.std.specs.Prelude.{◌≡◌, ◌+◌, ◌≤◌, ◌++◌, IfOk, OnOk, [], ◌∷◌, length, map, decimal, flat_map};
+ghost use Rattle.cb_semirings.specs.Tables.{min_plus};
+ghost use Rattle.cb_matrix.specs.Sparse.{IsMatrix};
 ghost use Rattle.cb_market.specs.Reads.{Reads};
 ghost use Rattle.cb_market.specs.Text.{text_of, entry_line, head_of, vertex_text_of, vertex_pairs_text_of, with_value_from_one, line_of};
 
@@ -8,10 +10,10 @@ use cb_matrix::{Entry, LIMIT, Matrix, Shape};
 use cb_semirings::{MinPlus, Semiring};
 use std::alloc::{AllocError, Global};
 
-/// How many lines go to a text at once. A page has room for as many.
+/// The number of lines that are appended at a time. A page has room for them.
 const LINES: usize = 1_024;
 
-/// Which numbers of an entry are on its line. Rows and columns count from 1.
+/// Which numbers of an entry are written on its line. Rows and columns count from 1.
 #[derive(Clone, Copy)]
 enum Line {
     /// The row and the column.
@@ -23,7 +25,7 @@ enum Line {
 }
 
 impl Line {
-    /// The line of a matrix's entry; a pattern has no values.
+    /// The line of an entry of a matrix. A pattern has no values.
     fn of_entry(is_pattern: bool) -> Line
         ensures { line_of result ≡ entry_line is_pattern }
     {
@@ -35,8 +37,8 @@ impl Line {
     }
 }
 
-/// An empty text, with room for a header, and for as many entries of two-digit values in the last row
-/// and column.
+/// Makes an empty text with room for a header and this many lines. A line is taken to have the last row, the last column
+/// and a value of two digits.
 fn text_of_lines(alloc: Global, shape: Shape, lines: usize) -> Result<Vec<u8>, AllocError>
     ensures { IfOk result (λ text. text.items ≡ []) }
 {
@@ -61,7 +63,7 @@ fn put_line(page: &mut Page, line: Line, entry: Entry)
     }
 }
 
-/// Writes the lines of at most 1,024 entries on the page, and appends them.
+/// Writes the lines of at most 1,024 entries on the page, and appends the page to the text.
 fn put_page(
     text: &mut Vec<u8>,
     page: &mut Page,
@@ -93,7 +95,7 @@ fn put_lines(
     Ok(())
 }
 
-/// Writes the header, and the size line: how many rows, columns and entries there are.
+/// Writes the header and the size line.
 pub(crate) fn put_head(page: &mut Page, is_pattern: bool, shape: Shape, entries: usize)
     requires { page.old ≡ [] }
     ensures { page.new ≡ head_of is_pattern shape entries }
@@ -108,8 +110,8 @@ pub(crate) fn put_head(page: &mut Page, is_pattern: bool, shape: Shape, entries:
     page.put(entries as u64, b'\n');
 }
 
-/// The text of a matrix: a header, a size line, and a line for each entry by column and then by row. It reads back as
-/// the same matrix, if there are at most 2,147,483,647 entries.
+/// Writes the text of a matrix: the header, the size line, and a line for each entry, by column and then by row. It reads
+/// back as the same matrix if there are at most 2,147,483,647 entries.
 pub fn text<S: Semiring>(alloc: Global, matrix: &Matrix<S>) -> Result<Vec<u8>, AllocError>
     ensures text { IfOk result (λ bytes. bytes.items ≡ text_of S.arithmetic matrix.now) }
     ensures law { IfOk result (λ bytes. length matrix.now.entries ≤ LIMIT → Reads S.arithmetic bytes.items matrix.now) }
@@ -125,7 +127,8 @@ pub fn text<S: Semiring>(alloc: Global, matrix: &Matrix<S>) -> Result<Vec<u8>, A
     Ok(text)
 }
 
-/// The stored entries of a vector, one line each: the number of the vertex, counted from 1, and its value. No header.
+/// Writes the stored entries of a vector, one line each: the number of the vertex, counted from 1, and its value. There
+/// is no header.
 pub fn vertex_text(alloc: Global, vector: &Matrix<MinPlus>) -> Result<Vec<u8>, AllocError>
     requires { vector.now.shape.cols ≡ 1 }
     ensures { IfOk result (λ bytes. bytes.items ≡ vertex_text_of vector.now) }
@@ -136,11 +139,11 @@ pub fn vertex_text(alloc: Global, vector: &Matrix<MinPlus>) -> Result<Vec<u8>, A
     Ok(text)
 }
 
-/// The entries of a vector whose values are vertices, with these counted from 1.
+/// Copies the entries of a vector whose values are vertices, with the values counted from 1.
 fn counted_from_one(alloc: Global, vector: &Matrix<MinPlus>) -> Result<Vec<Entry>, AllocError>
+    requires { IsMatrix min_plus vector.now }
     ensures { IfOk result (λ entries. entries.items ≡ map with_value_from_one vector.now.entries) }
 {
-    let _values = vector.shape();
     let mut counted = Vec::with_capacity(alloc, vector.len())?;
     for entry in vector.entries() {
         counted.push(Entry {
@@ -152,13 +155,13 @@ fn counted_from_one(alloc: Global, vector: &Matrix<MinPlus>) -> Result<Vec<Entry
     Ok(counted)
 }
 
-/// The stored entries of a vector whose values are vertices, one line each: the number of the vertex and that of its
-/// value, both counted from 1. No header. Besides the text it takes room for a copy of the entries.
+/// Writes the stored entries of a vector whose values are vertices, one line each: the number of the vertex and that of
+/// its value, both counted from 1. There is no header. Besides the text it takes memory for a copy of the entries.
 pub fn vertex_pairs_text(alloc: Global, vector: &Matrix<MinPlus>) -> Result<Vec<u8>, AllocError>
     ensures { IfOk result (λ bytes. bytes.items ≡ vertex_pairs_text_of vector.now) }
 {
+    let mut text = text_of_lines(alloc, vector.shape(), vector.len())?;
     let counted = counted_from_one(alloc, vector)?;
-    let mut text = text_of_lines(alloc, vector.shape(), counted.len())?;
     let mut page = Page::new(alloc)?;
     put_lines(&mut text, &mut page, Line::RowAndValue, &counted)?;
     Ok(text)

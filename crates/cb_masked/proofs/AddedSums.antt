@@ -1,4 +1,4 @@
--- Sums of rows, to which columns are added.
+-- Sums of the mask's rows, to which columns are added.
 use Rattle.std.proofs.Common.{◌≡◌, ◌≢◌, ℕ, ◌+◌, ◌<◌, ◌≤◌, false, Some, List, [], ◌∷◌, length, take, drop, get_or, set, sym, ap, ◌∙◌, ⊎_elim, arith}
 use Rattle.std.specs.Prelude.{All, AllPairs, ◌==◌}
 use Rattle.std.proofs.lemmas.Bool.{cases_eq, cases_lt, eq-eqb, ne_eqb, cond-true, cond-false}
@@ -15,7 +15,7 @@ use Rattle.cb_product.proofs.RowValues.{one_value-value, nth_product, scaled_val
 use Rattle.cb_masked.specs.RowSums.{AreSums, AddsEach, HaveEach}
 use Rattle.cb_masked.proofs.AscendingPlaces.{same_place}
 
--- to the sums of the rows before the n-th f is added, and the others are as they were
+-- f is added to the sums of the rows before the n-th, and the others are unchanged
 pub record AreAddedSoFar (s : Arithmetic) (rows : List ℕ) (f : ℕ → ℕ) (n : ℕ) (old new : List ℕ) : Type 0 where
   pub added : (k : ℕ) → k < n → k < length rows → get_or new k s.zero ≡ s.add (get_or old k s.zero) (f (get_or rows k 0))
   pub others : (k : ℕ) → n ≤ k → get_or new k s.zero ≡ get_or old k s.zero
@@ -25,7 +25,7 @@ module _ (s : Arithmetic) (laws : IsSemiring s) (rows : List ℕ) where
   pub nth_sum : (sums : List ℕ) (n d : ℕ) → AreSums s rows sums → n < length rows → IsValue s (get_or sums n d)
   nth_sum sums n d are l = let long = are.one_more in All-get_or (IsValue s) sums n d (omega arith) are.are_values
 
-  -- with another value in the place of the n-th they are sums
+  -- with another value in place of the n-th, they are still sums
   pub sums_with : (sums : List ℕ) (n x : ℕ) → AreSums s rows sums → IsValue s x → AreSums s rows (set sums n x)
   sums_with sums n x are is = record {
     one_more = length-set sums n x ∙ are.one_more;
@@ -39,11 +39,11 @@ module _ (s : Arithmetic) (laws : IsSemiring s) (rows : List ℕ) where
     are_values = All-weaker (λ x. x ≡ s.zero) (IsValue s) (λ x e. rw e laws.zero_value) sums none;
   }
 
-  -- where zeros are added, nothing changes
+  -- adding zeros changes nothing
   pub adds_nothing : (f : ℕ → ℕ) (sums : List ℕ) → ((n : ℕ) → n < length rows → f (get_or rows n 0) ≡ s.zero) → AreSums s rows sums → AddsEach s rows f sums sums
   adds_nothing f sums none are n l = sym (ap (s.add (get_or sums n s.zero)) (none n l) ∙ add_zero s laws _ (nth_sum sums n s.zero are l))
 
-  -- what is added, said in another way
+  -- the same, with equal summands
   pub adds_as : (f g : ℕ → ℕ) (old new : List ℕ) → ((i : ℕ) → f i ≡ g i) → AddsEach s rows f old new → AddsEach s rows g old new
   adds_as f g old new same adds n l = adds n l ∙ ap (s.add (get_or old n s.zero)) (same (get_or rows n 0))
 
@@ -54,7 +54,7 @@ module _ (s : Arithmetic) (laws : IsSemiring s) (rows : List ℕ) where
         let away : (row == get_or rows n 0) ≡ false = ne_eqb row (get_or rows n 0) (λ e. other (sym e)) in
         sym (ap (s.add (get_or sums n s.zero)) (cond-false _ value s.zero away) ∙ add_zero s laws _ (nth_sum sums n s.zero are l))
 
-    -- it is added to the sum of the n-th row, which it has, or to the sum that is past all rows, where none has it
+    -- it is added to the sum of the n-th row, if that is its row, or to the sum past all rows, if none is
     pub one_added : (n : ℕ) → AllPairs (λ i j. i < j) rows → n ≤ length rows → (n < length rows → get_or rows n 0 ≡ row) → (n ≡ length rows → (k : ℕ) → k < length rows → get_or rows k 0 ≢ row) → AddsEach s rows (one_value s.zero (row, value)) sums (set sums n (s.add (get_or sums n 0) value))
     one_added n up within here none k l =
         let x = s.add (get_or sums n 0) value in
@@ -79,7 +79,7 @@ module _ (s : Arithmetic) (laws : IsSemiring s) (rows : List ℕ) where
     abbrev rest : ℕ → ℕ → ℕ
     rest n i = s.mul (rest_value s.zero column_rows values n i) factor
 
-    -- one entry more
+    -- with one more entry
     pub entry_more : AllPairs (λ i j. i < j) column_rows → (n : ℕ) (old new : List ℕ) (T : ℕ → ℕ) → n < length column_rows → AreSums s rows old
         → AddsEach s rows (one_value s.zero (get_or column_rows n 0, s.mul (get_or values n 0) factor)) old new
         → ((k : ℕ) → k < length rows → s.add (get_or old k s.zero) (rest n (get_or rows k 0)) ≡ T k)
@@ -93,7 +93,7 @@ module _ (s : Arithmetic) (laws : IsSemiring s) (rows : List ℕ) where
         ∙ ap (s.add (get_or old k s.zero)) (sym (scaled_split s laws column_rows values (Some factor) same values_are is_factor n i up l))
         ∙ so_far k lk
 
-    -- all are added
+    -- with all of them, the sums are complete
     pub entries_end : (n : ℕ) (sums : List ℕ) (T : ℕ → ℕ) → length column_rows ≤ n → AreSums s rows sums
         → ((k : ℕ) → k < length rows → s.add (get_or sums k s.zero) (rest n (get_or rows k 0)) ≡ T k)
         → (k : ℕ) → k < length rows → get_or sums k s.zero ≡ T k
@@ -103,7 +103,7 @@ module _ (s : Arithmetic) (laws : IsSemiring s) (rows : List ℕ) where
         ∙ so_far k lk
 
   -- ---- f is added row by row
-  -- one row more
+  -- with one more row
   pub row_more : (f : ℕ → ℕ) (n v : ℕ) (old sums : List ℕ) → n < length rows → AreSums s rows sums → v ≡ f (get_or rows n 0) → AreAddedSoFar s rows f n old sums → AreAddedSoFar s rows f (n + 1) old (set sums n (s.add (get_or sums n 0) v))
   row_more f n v old sums l are is so_far =
       let x = s.add (get_or sums n 0) v in
@@ -122,11 +122,11 @@ module _ (s : Arithmetic) (laws : IsSemiring s) (rows : List ℕ) where
 
 -- ---- columns of a matrix, each times a factor, are added one after another
 module _ (s : Arithmetic) (laws : IsSemiring s) (a : Sparse) where
-  -- the term of a column that a list of rows and values has
+  -- the value of a term, given the column's rows and values
   pub term_is : (column_rows values : List ℕ) (j k factor i : ℕ) → column_rows ≡ rows_of (in_column k a.entries) → values ≡ values_of (in_column k a.entries) → k ≡ j → s.mul (row_value s.zero column_rows values i) factor ≡ s.mul (at s a i j) factor
   term_is column_rows values j k factor i p q e = ap (λ x. s.mul x factor) ((λ t. row_value s.zero (p t) (q t) i) ∙ column_value s.zero a.entries i k ∙ ap (at s a i) e)
 
-  -- a column without entries has zeros
+  -- a column without entries has zeros only
   pub term_absent : (j factor i : ℕ) → IsValue s factor → [] ≡ in_column j a.entries → s.mul (at s a i j) factor ≡ s.zero
   unfolding row_value
   term_absent j factor i v none = ap (λ x. s.mul x factor) (sym (column_value s.zero a.entries i j) ∙ ap (λ es. row_value s.zero (rows_of es) (values_of es) i) (sym none)) ∙ laws.zero_mul factor v
@@ -146,13 +146,13 @@ module _ (s : Arithmetic) (laws : IsSemiring s) (a : Sparse) (is : IsMatrix s a)
     unfolding column_sum
     left_split n i l = ap (λ ks. column_sum s a i ks (drop n factors)) (drop_more inner n 0 l) ∙ ap (column_sum s a i (get_or inner n 0 ∷ drop (n + 1) inner)) (drop_more factors n 0 (omega arith))
 
-    -- before the first
+    -- before the first column
     pub terms_start : (sums : List ℕ) → length sums ≡ length rows + 1 → All (λ x. x ≡ s.zero) sums → (k : ℕ) → k < length rows → s.add (get_or sums k s.zero) (left 0 (get_or rows k 0)) ≡ column_sum s a (get_or rows k 0) inner factors
     terms_start sums long none k lk =
         let zero : get_or sums k s.zero ≡ s.zero = All-get_or (λ x. x ≡ s.zero) sums k s.zero (omega arith) none in
         ap (λ x. s.add x (column_sum s a (get_or rows k 0) inner factors)) zero ∙ laws.zero_add _ (column_sum-value (get_or rows k 0) inner factors factors_are)
 
-    -- one more
+    -- with one more column
     pub terms_more : (n : ℕ) (old new : List ℕ) (T : ℕ → ℕ) → n < length inner → AreSums s rows old
         → AddsEach s rows (λ i. s.mul (at s a i (get_or inner n 0)) (get_or factors n 0)) old new
         → ((k : ℕ) → k < length rows → s.add (get_or old k s.zero) (left n (get_or rows k 0)) ≡ T k)
@@ -165,7 +165,7 @@ module _ (s : Arithmetic) (laws : IsSemiring s) (a : Sparse) (is : IsMatrix s a)
         ∙ ap (s.add (get_or old k s.zero)) (sym (left_split n i l))
         ∙ so_far k lk
 
-    -- all are added
+    -- with all of them, the sums are complete
     pub terms_end : (n : ℕ) (sums : List ℕ) (T : ℕ → ℕ) → length inner ≤ n → AreSums s rows sums
         → ((k : ℕ) → k < length rows → s.add (get_or sums k s.zero) (left n (get_or rows k 0)) ≡ T k)
         → (k : ℕ) → k < length rows → get_or sums k s.zero ≡ T k

@@ -1,4 +1,4 @@
--- Where numbers stand in an ascending list.
+-- The places of numbers in an ascending list, and a table of them.
 use Rattle.std.proofs.Common.{◌≡◌, ◌≢◌, ℕ, ◌+◌, ◌^◌, ◌<◌, ◌≤◌, zero, suc, inl, inr, ◌⊎◌, List, [], ◌∷◌, length, get_or, set, sym, ap, ◌∙◌, ⊎_elim, arith, min}
 use Rattle.std.specs.Prelude.{All, AllPairs}
 use Rattle.std.proofs.lemmas.Bool.{cases_eq, cases_lt}
@@ -7,7 +7,7 @@ use Rattle.std.proofs.lemmas.List.Elements.{All-get_or, All-from_get_or}
 use Rattle.cb_masked.specs.declared.places.TheConstants.{NONE}
 use Rattle.cb_masked.specs.Places.{AreNoted}
 
--- places are told apart by the numbers there
+-- each number has one place
 pub same_place : (xs : List ℕ) (n m : ℕ) → AllPairs (λ a b. a < b) xs → n < length xs → m < length xs → get_or xs n 0 ≡ get_or xs m 0 → n ≡ m
 same_place xs n m up ln lm e =
     ⊎_elim
@@ -19,7 +19,7 @@ same_place xs n m up ln lm e =
     (cases_eq n m))
     (cases_lt n m)
 
--- no number is less than its place
+-- a number is at least its place
 pub place_below : (xs : List ℕ) (n : ℕ) → AllPairs (λ a b. a < b) xs → n < length xs → n ≤ get_or xs n 0
 place_below xs zero up l = omega arith
 place_below xs (suc n) up l =
@@ -27,7 +27,7 @@ place_below xs (suc n) up l =
     let less : get_or xs n 0 < get_or xs (suc n) 0 = up n (suc n) 0 (omega arith) l in
     omega arith
 
--- so there are no more of them than there are numbers below their bound
+-- so a list of numbers below a bound is at most as long as the bound
 pub few_below : (xs : List ℕ) (bound : ℕ) → AllPairs (λ a b. a < b) xs → All (λ a. a < bound) xs → length xs ≤ bound
 few_below xs bound up below =
     ⊎_elim
@@ -42,7 +42,7 @@ not_first : (y : ℕ) (ys : List ℕ) (x : ℕ) → (y ≡ x → ⊥) → ((n : 
 not_first y ys x e h zero l = e
 not_first y ys x e h (suc n) l = h n (omega arith)
 
--- a number stands in a list, or it doesn't
+-- a number is in a list, or it isn't
 pub among : (xs : List ℕ) (x : ℕ) → ((n : ℕ) × (n < length xs) × (get_or xs n 0 ≡ x)) ⊎ ((n : ℕ) → n < length xs → get_or xs n 0 ≢ x)
 among [] x = inr (λ n l. absurd (omega arith))
 among (y ∷ ys) x =
@@ -54,12 +54,12 @@ among (y ∷ ys) x =
     (among ys x))
     (cases_eq y x)
 
--- the slots hold the places of the numbers before the n-th, and no others
+-- the table holds the places of the numbers before the n-th, and no others
 pub record AreNotedSoFar (slots xs : List ℕ) (n : ℕ) : Type 0 where
   pub listed : (m : ℕ) → m < n → m < length xs → get_or xs m 0 < length slots → get_or slots (get_or xs m 0) 0 ≡ m
   pub others : (k : ℕ) → k < length slots → ((m : ℕ) → m < n → m < length xs → get_or xs m 0 ≢ k) → get_or slots k 0 ≡ NONE
 
--- slots that hold no place
+-- a cleared table holds no place
 pub none_noted : (slots xs : List ℕ) → All (λ x. x ≡ NONE) slots → AreNotedSoFar slots xs 0
 none_noted slots xs none = record {
   listed = λ m b l fits. absurd (omega arith);
@@ -70,7 +70,7 @@ module _ (slots xs : List ℕ) (n : ℕ) (up : AllPairs (λ a b. a < b) xs) (l :
   abbrev here : ℕ
   here = get_or xs n 0
 
-  -- the place of one number more
+  -- with one more number, which has a slot
   pub noted_more : here < length slots → AreNotedSoFar (set slots here n) xs (n + 1)
   noted_more inside =
       let long : length (set slots here n) ≡ length slots = length-set slots here n in
@@ -84,7 +84,7 @@ module _ (slots xs : List ℕ) (n : ℕ) (up : AllPairs (λ a b. a < b) xs) (l :
         others = λ k lk h. get_or-set_other slots here k n 0 (λ same. h n (omega arith) l (sym same)) ∙ so_far.others k (omega arith) (λ m b lm. h m (omega arith) lm);
       }
 
-  -- that needs no slot where it has none
+  -- with one more number, which has no slot
   pub noted_past : length slots ≤ here → AreNotedSoFar slots xs (n + 1)
   noted_past past =
       record {
@@ -95,7 +95,7 @@ module _ (slots xs : List ℕ) (n : ℕ) (up : AllPairs (λ a b. a < b) xs) (l :
         others = λ k lk h. so_far.others k lk (λ m b lm. h m (omega arith) lm);
       }
 
--- past the last number all are noted
+-- past the last number, the table holds all places
 pub noted_all : (slots xs : List ℕ) (n : ℕ) → length xs < 2 ^ 32 → length xs ≤ n → AreNotedSoFar slots xs n → AreNoted slots xs
 noted_all slots xs n few l h = record {
   few = few;
@@ -103,7 +103,7 @@ noted_all slots xs n few l h = record {
   others = λ k lk none. h.others k lk (λ m b lm. none m lm);
 }
 
--- what a slot holds is the place of its number, and without one no less than how many there are
+-- a slot holds the place of its number, or, if the number isn't in the list, at least the list's length
 module _ (slots xs : List ℕ) (x : ℕ) (noted : AreNoted slots xs) (inside : x < length slots) where
   abbrev place : ℕ
   place = min (get_or slots x 0) (length xs)
@@ -126,8 +126,8 @@ module _ (slots xs : List ℕ) (x : ℕ) (noted : AreNoted slots xs) (inside : x
   pub place_none : place ≡ length xs → (n : ℕ) → n < length xs → get_or xs n 0 ≢ x
   place_none past n l e = let found = place_found n l e in omega arith
 
--- ---- slots that are cleared
--- the slots of the numbers before the n-th are, and those of no number
+-- ---- a table that is cleared
+-- each slot is cleared, except those of the n-th number and of later ones
 abbrev pub AreClearedSoFar : List ℕ → List ℕ → ℕ → Type 0
 AreClearedSoFar slots xs n = (k : ℕ) → k < length slots → ((m : ℕ) → n ≤ m → m < length xs → get_or xs m 0 ≢ k) → get_or slots k 0 ≡ NONE
 
@@ -137,7 +137,7 @@ not_later xs n m k none b lm same e = ⊎_elim
     (λ (q : m ≡ n → ⊥). let ne : m ≢ n = q in none m (omega arith) lm same)
     (cases_eq m n)
 
--- one more
+-- with one more number, which has a slot
 pub cleared_more : (slots xs : List ℕ) (n : ℕ) → n < length xs → get_or xs n 0 < length slots → AreClearedSoFar slots xs n → AreClearedSoFar (set slots (get_or xs n 0) NONE) xs (n + 1)
 cleared_more slots xs n l inside h k lk none =
     let here = get_or xs n 0 in
@@ -147,7 +147,7 @@ cleared_more slots xs n l inside h k lk none =
     (λ (e : k ≡ here → ⊥). get_or-set_other slots here k NONE 0 e ∙ h k (omega arith) (λ m b lm same. not_later xs n m k none b lm same e))
     (cases_eq k here)
 
--- that has no slot
+-- with one more number, which has no slot
 pub cleared_past : (slots xs : List ℕ) (n : ℕ) → length slots ≤ get_or xs n 0 → AreClearedSoFar slots xs n → AreClearedSoFar slots xs (n + 1)
 cleared_past slots xs n past h k lk none =
     h k lk (λ m b lm same. ⊎_elim
@@ -155,6 +155,6 @@ cleared_past slots xs n past h k lk none =
     (λ (q : m ≡ n → ⊥). let ne : m ≢ n = q in none m (omega arith) lm same)
     (cases_eq m n))
 
--- all are
+-- past the last number, all slots are cleared
 pub cleared_all : (slots xs : List ℕ) (n : ℕ) → length xs ≤ n → AreClearedSoFar slots xs n → All (λ x. x ≡ NONE) slots
 cleared_all slots xs n l h = All-from_get_or (λ x. x ≡ NONE) slots 0 (λ k lk. h k lk (λ m b lm. absurd (omega arith)))

@@ -1,4 +1,4 @@
--- Sums that are kept, row by row, unless they are zero.
+-- The sums other than zero, which are copied row by row.
 use Rattle.std.proofs.Common.{◌≡◌, ◌≢◌, ℕ, ◌+◌, ◌<◌, ◌≤◌, None, List, [], ◌∷◌, ◌++◌, length, get_or, sym, ap, ◌∙◌, arith}
 use Rattle.std.specs.Prelude.{All, AllPairs}
 use Rattle.std.proofs.lemmas.List.Elements.{All-nil, All-weaker, All-get_or}
@@ -12,7 +12,7 @@ use Rattle.cb_product.proofs.ColumnSoFar.{IsColumnSoFar, so_far_start, so_far_mo
 abbrev column : List ℕ → List ℕ → SparseColumn
 column rows values = record { rows = rows; values = values }
 
--- a sparse column has what the sums of the rows before the n-th have, and its rows are before the n-th
+-- a sparse column with the sums of the rows before the n-th
 pub record AreKeptSoFar (s : Arithmetic) (rows sums : List ℕ) (n : ℕ) (kept values : List ℕ) : Type 0 where
   pub sparse : IsSparseColumn s kept values
   pub so_far : IsColumnSoFar s (row_value s.zero rows sums) (column kept values) (rest_value s.zero rows sums n)
@@ -23,7 +23,7 @@ module _ (s : Arithmetic) (laws : IsSemiring s) (rows sums : List ℕ) (same : l
   pub sum_value : (n : ℕ) → n < length rows → IsValue s (get_or sums n 0)
   sum_value n l = All-get_or (IsValue s) sums n 0 (omega arith) values_are
 
-  -- without entries
+  -- without entries, before the first row
   pub kept_start : (kept values : List ℕ) → kept ≡ [] → values ≡ [] → AreKeptSoFar s rows sums 0 kept values
   kept_start kept values p q = record {
     sparse = record {
@@ -48,7 +48,7 @@ module _ (s : Arithmetic) (laws : IsSemiring s) (rows sums : List ℕ) (same : l
         so_far_more s laws (row_value s.zero rows sums) (column kept values) (column kept' values') (rest_value s.zero rows sums n) (one_value s.zero (get_or rows n 0, v)) (rest_value s.zero rows sums (n + 1)) h.so_far split
         (λ i. one_value-value s laws (get_or rows n 0, v) i is_v) (λ i. scaled_value s laws rows sums None same values_are tt (n + 1) i) step
 
-    -- a zero isn't kept
+    -- a sum of zero isn't copied
     pub kept_zero : v ≡ s.zero → AreKeptSoFar s rows sums (n + 1) kept values
     kept_zero zero = record {
       sparse = h.sparse;
@@ -56,7 +56,7 @@ module _ (s : Arithmetic) (laws : IsSemiring s) (rows sums : List ℕ) (same : l
       before = λ m. let less = next m in All-weaker (λ i. i < get_or rows n 0) (λ i. i < get_or rows (n + 1) 0) (λ i k. omega arith) kept (h.before l);
     }
 
-    -- another value is
+    -- any other sum is
     pub kept_more : v ≢ s.zero → AreKeptSoFar s rows sums (n + 1) (kept ++ get_or rows n 0 ∷ []) (values ++ v ∷ [])
     kept_more some = record {
       sparse = kept_column s laws kept values h.sparse (get_or rows n 0) v is_v (h.before l) some;

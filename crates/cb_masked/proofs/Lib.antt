@@ -1,6 +1,6 @@
--- For this crate alone. AscendingPlaces: where numbers stand in an ascending list, and slots that hold it. AddedSums: sums
--- of rows, to which columns are added. KeptSums: those that are stored. MaskedColumns: columns of a matrix made one after
--- another, and what a mask leaves of a product.
+-- For this crate alone. AscendingPlaces: the places of numbers in an ascending list, and a table of them. AddedSums: sums of
+-- rows, to which columns are added. KeptSums: the sums that are stored. MaskedColumns: what a mask leaves of a product,
+-- column by column.
 mod AscendingPlaces
 mod AddedSums
 mod KeptSums

@@ -1,3 +1,3 @@
--- Places: where the numbers of a list stand in it. RowSums: sums, one for each of some rows.
+-- Places: a table of the places of numbers in a list. RowSums: sums, one for each row of a list.
 pub mod Places
 pub mod RowSums

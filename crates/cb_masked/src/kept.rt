@@ -1,13 +1,13 @@
-//! The sums that are stored.
-ghost use Rattle.std.specs.Prelude.{◌≡◌, ℕ, ◌<◌, length, All, AllPairs, OnOk};
+//! The sums that are stored: those other than zero.
+ghost use Rattle.std.specs.Prelude.{◌≡◌, ◌<◌, length, All, AllPairs, OnOk};
 ghost use Rattle.cb_semirings.specs.Arithmetic.{IsValue};
-ghost use Rattle.cb_dcsc.specs.Columns.{row_value};
 ghost use Rattle.cb_product.specs.SparseColumn.{IsSparseColumn};
+ghost use Rattle.cb_masked.specs.RowSums.{HaveSameValues};
 
 use cb_semirings::Semiring;
 use std::alloc::AllocError;
 
-/// Keeps the rows whose sum is not zero, and these sums: a sparse column that has the same value at each row.
+/// Copies the sums other than zero, and their rows, into two lists: a sparse column with the same value at each row.
 pub(crate) fn keep_nonzero<S: Semiring>(
     rows: &[u32],
     sums: &[u64],
@@ -18,7 +18,7 @@ pub(crate) fn keep_nonzero<S: Semiring>(
     requires order { AllPairs (λ i j. i < j) rows.now }
     requires values { All (IsValue S.arithmetic) sums.now }
     ensures column { OnOk result (IsSparseColumn S.arithmetic kept_rows.new.items values.new.items) }
-    ensures values { OnOk result ((i : ℕ) → row_value S.arithmetic.zero kept_rows.new.items values.new.items i ≡ row_value S.arithmetic.zero rows.now sums.now i) }
+    ensures values { OnOk result (HaveSameValues S.arithmetic.zero kept_rows.new.items values.new.items rows.now sums.now) }
 {
     kept_rows.clear();
     values.clear();

@@ -1,22 +1,21 @@
-//! Products of blocks under a mask: of a product, the entries at the places where a mask has one, and no others are made.
+//! Masked products of blocks: the product's entries at the places where a mask has an entry. No others are computed.
 //!
-//! Column j of a product is a sum of terms: columns k of the left block, each scaled by an entry (k, j) of the right. The
-//! mask's entries of column j have a sum each, in the order of their rows, and a term is added to these alone. So only
-//! columns that the mask has are made, what is made needs no sorting, and there is no sum for a row that the mask leaves
-//! out. A sum that is zero isn't stored.
+//! Column j of a product is a sum of terms: for each entry (k, j) of the right block, column k of the left block times
+//! that entry. Each entry of the mask's column j has a sum, in the order of rows, and terms are added to these sums only. So
+//! only the mask's columns are computed, no sorting is needed, and rows outside the mask have no sum. Sums of zero aren't
+//! stored.
 //!
-//! A term is added in one of two ways, whichever has less to look at:
+//! A term is added in the cheaper of two ways:
 //!
-//! - its entries are gone through, and each row is looked up among the mask's;
-//! - where it is long for the mask's column, each of the mask's rows is searched for in it.
+//! - for each of its entries, the row is looked up among the mask's rows;
+//! - if it is long for the mask's column, each of the mask's rows is searched for in the term.
 //!
-//! A row is looked up in a list with a slot for each row, and a column of the left block in one with a slot for each
-//! column. There are no slots for rows where these are more than four for each entry of the mask, nor for columns where
-//! these are more than four for each time that one is looked up; then a binary search finds them. So nothing costs what a
-//! dimension costs.
+//! Rows and columns are looked up in a table with a slot for each row, or for each column of the left block. There is no
+//! table of rows if it would have more than four slots for each entry of the mask, and none of columns if it would have
+//! more than four for each lookup. Then lookups are binary searches. So no cost depends on a dimension.
 //!
-//! It is the masked product by columns of Milaković, Selvitopi, Nisa, Budimlić and Buluç, Parallel Algorithms for Masked
-//! Sparse Matrix-Matrix Products (ICPP 2022), with its accumulator over the mask's entries alone.
+//! This is the masked product by columns of Milaković, Selvitopi, Nisa, Budimlić and Buluç, Parallel Algorithms for Masked
+//! Sparse Matrix-Matrix Products (ICPP 2022), with its accumulator over the mask's entries.
 #![tactic(auto)]
 
 ghost use Rattle.std.specs.Prelude.{◌≡◌, ◌<◌, ℕ, All, AllPairs, IfOk, OnOk, length};
@@ -39,15 +38,14 @@ use cb_dcsc::Block;
 use cb_semirings::Semiring;
 use std::alloc::{AllocError, Global};
 
-/// The entries of a product of two blocks at the places where a mask has an entry. What value the mask has there doesn't
-/// matter.
+/// Returns the entries of a product of two blocks at the places where a mask has an entry. The mask's values are ignored.
 ///
-/// The columns of the left block are as many as the rows of the right, and the mask has the product's shape.
+/// The left block has as many columns as the right block has rows, and the mask has the product's shape.
 ///
-/// Takes time for the mask's entries, and for each entry of the right block in a column that the mask has: for the entries
-/// of the left block's column that it names, or, where these are more than 16 times as many as the mask's entries in its
-/// column, for a search among them for each of the mask's. Takes memory for the longest column of the mask, and for slots,
-/// of which there are at most four for each entry of the mask and four for each entry of the right block.
+/// Costs time for the mask's entries and, for each entry of the right block in one of the mask's columns, for the entries
+/// of a column of the left block. If that column has more than 16 times the entries of the mask's column, the cost is one
+/// binary search for each entry of the mask's column instead. Memory is that of the mask's longest column, and of at most
+/// four slots for each entry of the mask and of the right block.
 pub fn multiply_masked<S: Semiring>(
     alloc: Global,
     left: &Block<S>,
@@ -70,8 +68,8 @@ pub fn multiply_masked<S: Semiring>(
     Ok(out)
 }
 
-/// How often a column of the left block will be looked up: for each entry of the right block in a column that the mask
-/// has. It isn't counted where even all entries of the right block would be too few for a slot for each column.
+/// Returns how many lookups of a column of the left block there will be: one for each entry of the right block in one of
+/// the mask's columns. Returns 0, without counting, if the right block has too few entries for a table of columns to pay.
 fn asked<S: Semiring>(left: &Block<S>, right: &Block<S>, mask: &Block<S>) -> usize {
     if left.shape().cols() as usize / 4 >= right.len() {
         return 0;
@@ -84,7 +82,7 @@ fn asked<S: Semiring>(left: &Block<S>, right: &Block<S>, mask: &Block<S>) -> usi
     count
 }
 
-/// Makes the columns that the mask has one after another, and stores them in a block without entries.
+/// Computes the mask's columns one after another, and stores them in `out`, a block without entries.
 fn make_columns<S: Semiring>(
     alloc: Global,
     left: &Block<S>,
@@ -102,7 +100,8 @@ fn make_columns<S: Semiring>(
     requires matrix { IsMatrix S.arithmetic out.old }
     ensures { OnOk result (out.new ≡ masked S.arithmetic (product S.arithmetic left.now right.now) mask.now) }
 {
-    let _shapes = (left.shape(), right.shape(), mask.shape());
+    prove_eq!(left.shape().cols(), right.shape().rows());
+    prove_eq!(mask.shape().rows(), left.shape().rows());
     let columns = mask.column_numbers();
     let mut sums = Vec::new(alloc);
     let mut rows = Vec::new(alloc);

@@ -1,17 +1,17 @@
-//! Where the numbers of an ascending list stand in it.
+//! A table of the places of numbers in an ascending list.
 //!
-//! There is a slot for each number up to a bound. That of a number of the list holds where it stands, and any other slot
-//! holds [`NONE`]. Slots that serve another list are cleared of this one's numbers alone.
+//! The table has a slot for each number below a bound. The slot of a number in the list holds the number's place there,
+//! and all others hold [`NONE`]. Before the table serves another list, only the slots of this list's numbers are cleared.
 ghost use Rattle.std.specs.Prelude.{◌≡◌, ◌≢◌, ℕ, ◌<◌, ◌≤◌, ◌^◌, length, All, AllPairs, IfOk, slice_index};
 ghost use Rattle.cb_masked.specs.Places.{AreNoted};
 
 use std::alloc::{AllocError, Global};
 
-/// Stands in the slot of a number that isn't in the list.
+/// The content of the slot of a number that isn't in the list.
 pub(crate) const NONE: u32 = u32::MAX;
 
-/// A cleared slot for each number below a bound, where that is at most four times as often as one will be asked for; else
-/// none.
+/// Returns a cleared table with a slot for each number below a bound, if these are at most four for each lookup, and
+/// otherwise a table without slots.
 pub(crate) fn cleared(alloc: Global, bound: u32, asked: usize) -> Result<Vec<u32>, AllocError>
     ensures { IfOk result (λ slots. All (λ x. x ≡ NONE) slots.items) }
 {
@@ -21,7 +21,7 @@ pub(crate) fn cleared(alloc: Global, bound: u32, asked: usize) -> Result<Vec<u32
     Ok(slots)
 }
 
-/// Slots that hold where the numbers of a list stand.
+/// Returns a table of the places of the numbers in a list.
 pub(crate) fn noted(
     alloc: Global,
     bound: u32,
@@ -37,7 +37,7 @@ pub(crate) fn noted(
     Ok(slots)
 }
 
-/// Has cleared slots hold where the numbers of a list stand, as far as there are slots for them.
+/// Writes the places of the numbers in a list to a cleared table. Numbers without a slot are left out.
 pub(crate) fn note(slots: &mut [u32], numbers: &[u32])
     requires ascending { AllPairs (λ a b. a < b) numbers.now }
     requires few { length numbers.now < 2 ^ 32 }
@@ -56,7 +56,7 @@ pub(crate) fn note(slots: &mut [u32], numbers: &[u32])
     }
 }
 
-/// Clears the slots of the numbers of a list.
+/// Clears the slots of the numbers in a list.
 pub(crate) fn clear(slots: &mut [u32], numbers: &[u32])
     requires { AreNoted slots.old numbers.now }
     ensures cleared { All (λ x. x ≡ NONE) slots.new }
@@ -70,8 +70,8 @@ pub(crate) fn clear(slots: &mut [u32], numbers: &[u32])
     }
 }
 
-/// Where a number stands in a list, or past all where it isn't there: by its slot, or, where it has none, by a binary
-/// search.
+/// Returns the place of a number in a list, or the list's length if it isn't there. It is read from the number's slot, or
+/// found by a binary search if the number has no slot.
 #[inline(always)]
 pub(crate) fn place_of(slots: &[u32], numbers: &[u32], number: u32) -> usize
     requires ascending { AllPairs (λ a b. a < b) numbers.now }
@@ -88,7 +88,7 @@ pub(crate) fn place_of(slots: &[u32], numbers: &[u32], number: u32) -> usize
     }
 }
 
-/// The same, by a binary search.
+/// Returns the place of a number in a list, or the list's length if it isn't there, by a binary search.
 fn search(numbers: &[u32], number: u32) -> usize
     requires { AllPairs (λ a b. a < b) numbers.now }
     ensures within { result ≤ length numbers.now }

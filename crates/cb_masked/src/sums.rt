@@ -1,8 +1,8 @@
-//! The sums of a column, one for each row that the mask has there, and one more: what is added at any other row goes
-//! there, so that no addition waits for a test.
+//! The sums of a column: one for each of the mask's rows, and one more that is dropped. Values at other rows are added to
+//! that one, so that additions need no branch.
 ghost use Rattle.std.specs.Prelude.{◌≡◌, ℕ, ◌+◌, ◌<◌, ◌^◌, length, All, AllPairs, OnOk};
 ghost use Rattle.cb_semirings.specs.Arithmetic.{IsValue};
-ghost use Rattle.cb_matrix.specs.Sparse.{at};
+ghost use Rattle.cb_matrix.specs.Sparse.{IsMatrix, at};
 ghost use Rattle.cb_dcsc.specs.Columns.{row_value, columns_with_entries};
 ghost use Rattle.cb_product.specs.SparseColumn.{one_value};
 ghost use Rattle.cb_product.specs.Terms.{column_sum};
@@ -15,10 +15,12 @@ use cb_dcsc::Block;
 use cb_semirings::Semiring;
 use std::alloc::AllocError;
 
-/// How many times as many entries a column may have as the mask's column, before the mask's rows are searched for in it.
+/// The mask's rows are searched for in a column with more than this many times the entries of the mask's column.
 const LONG: usize = 16;
 
-/// The sum for each row of columns of the left block, which are named by their numbers, each times a factor.
+/// Computes for each of the given rows the sum of columns of the left block, each times a factor. `inner` has the numbers of
+/// the columns; `places` is the table of the left block's columns. `slots`, a table for the rows, is cleared before and
+/// after.
 pub(crate) fn sum_column<S: Semiring>(
     sums: &mut Vec<u64>,
     rows: &[u32],
@@ -28,6 +30,7 @@ pub(crate) fn sum_column<S: Semiring>(
     inner: &[u32],
     factors: &[u64],
 ) -> Result<(), AllocError>
+    requires left { IsMatrix S.arithmetic left.now }
     requires rows { AllPairs (λ i j. i < j) rows.now }
     requires few { length rows.now < 2 ^ 32 }
     requires cleared { All (λ x. x ≡ NONE) slots.old }
@@ -48,7 +51,7 @@ pub(crate) fn sum_column<S: Semiring>(
     Ok(())
 }
 
-/// Adds columns of the left block, which are named by their numbers, each times a factor, to sums that are zero.
+/// Adds columns of the left block, given by their numbers, each times a factor, to sums that are zero.
 fn add_terms<S: Semiring>(
     sums: &mut [u64],
     rows: &[u32],
@@ -58,6 +61,7 @@ fn add_terms<S: Semiring>(
     inner: &[u32],
     factors: &[u64],
 )
+    requires left { IsMatrix S.arithmetic left.now }
     requires rows { AllPairs (λ i j. i < j) rows.now }
     requires slots { AreNoted slots.now rows.now }
     requires places { AreNoted places.now (columns_with_entries left.now.entries) }
@@ -68,13 +72,12 @@ fn add_terms<S: Semiring>(
     ensures are { AreSums S.arithmetic rows.now sums.new }
     ensures sums { HaveEach S.arithmetic rows.now (λ i. column_sum S.arithmetic left.now i inner.now factors.now) sums.new }
 {
-    let _shape = left.shape();
     for n in 0..inner.len() {
         add_term(sums, rows, slots, left, places, inner[n], factors[n]);
     }
 }
 
-/// Adds a column of the left block, times a factor.
+/// Adds a column of the left block, times a factor, in the cheaper of two ways.
 #[inline(always)]
 fn add_term<S: Semiring>(
     sums: &mut [u64],
@@ -104,7 +107,7 @@ fn add_term<S: Semiring>(
     }
 }
 
-/// Adds a column, times a factor: its entries are gone through, and their rows are looked up.
+/// Adds a column, times a factor: the row of each of its entries is looked up. Costs O(entries of the column).
 #[inline(always)]
 fn add_listed<S: Semiring>(
     sums: &mut [u64],
@@ -129,7 +132,7 @@ fn add_listed<S: Semiring>(
     }
 }
 
-/// Adds a value to the sum of a row.
+/// Adds a value to the sum of a row, or to the one that is dropped.
 #[inline(always)]
 fn add_at<S: Semiring>(sums: &mut [u64], rows: &[u32], slots: &[u32], row: u32, value: u64)
     requires rows { AllPairs (λ i j. i < j) rows.now }
@@ -143,7 +146,7 @@ fn add_at<S: Semiring>(sums: &mut [u64], rows: &[u32], slots: &[u32], row: u32, 
     sums[n] = S::add(sums[n], value);
 }
 
-/// Adds a column, times a factor: each row is searched for in it.
+/// Adds a column, times a factor: each of the mask's rows is searched for in it.
 fn add_found<S: Semiring>(
     sums: &mut [u64],
     rows: &[u32],
@@ -165,7 +168,7 @@ fn add_found<S: Semiring>(
     }
 }
 
-/// The value of a column at a row, by a binary search.
+/// Returns the value of a column at a row, by a binary search.
 fn value_at<S: Semiring>(rows: &[u32], values: &[u64], row: u32) -> u64
     requires order { AllPairs (λ i j. i < j) rows.now }
     requires lengths { length values.now ≡ length rows.now }

@@ -25,7 +25,7 @@ pub fn in_order(entries: Vec<Entry>) -> Result<Vec<Entry>, AllocError>
     Ok(sorted)
 }
 
-/// Stores an entry after the first `kept`, unless its value is zero. Returns how many are kept then.
+/// Stores an entry after the first `kept` ones, unless its value is zero. Returns how many are kept now.
 fn keep<S: Semiring>(entries: &mut [Entry], kept: usize, entry: Entry) -> usize
     requires { kept < length entries.old }
     ensures count { result ≤ kept + 1 }
@@ -39,7 +39,7 @@ fn keep<S: Semiring>(entries: &mut [Entry], kept: usize, entry: Entry) -> usize
     kept + 1
 }
 
-/// Replaces the entries by the sum at each place, unless that is zero, from the front on. Returns how many sums there
+/// Replaces the entries by the sums at each place that aren't zero, at the front of the list. Returns how many sums there
 /// are.
 fn combine<S: Semiring>(entries: &mut [Entry]) -> usize
     requires order { AllPairs IsNotAfter entries.old }
@@ -118,7 +118,7 @@ impl<S: Semiring> Matrix<S> {
         Ok(Self::collect(shape, entries)?)
     }
 
-    /// The same from a list, which is consumed as in [`collect`](Self::collect).
+    /// The same as [`from_entries`](Self::from_entries), from a list, which is consumed as in [`collect`](Self::collect).
     pub fn from_vec(shape: Shape, entries: Vec<Entry>) -> Result<Self, EntryFault>
         requires { All (λ e. IsValue S.arithmetic e.value) entries.items }
         ensures ok { IfOk result (λ m. m ≡ collected S.arithmetic shape entries.items) }

@@ -215,7 +215,7 @@ impl<S: Semiring> Matrix<S> {
     }
 }
 
-/// Why some entries make no matrix. Places are checked before memory is requested.
+/// Why entries don't form a matrix. Places are checked before memory is requested.
 #[derive(Clone, Copy, Debug, PartialEq, Eq, Error)]
 pub enum EntryFault {
     /// The entry with this index is the first outside the shape.

@@ -8,21 +8,21 @@ use Rattle.cb_plan.specs.declared.acts.Act.{Act}
 use Rattle.cb_plan.specs.declared.acts.Act.TheVariants as act_is
 use Rattle.cb_plan.specs.Meaning.{Algebra, State, act, meaning, target_of, result_of}
 
--- a statement that holds where a test does, and where it does not, holds
+-- a statement that holds whether or not a test does holds
 pub split : {P : Type 0} (b : Bool) → (b ≡ true → P) → (b ≡ false → P) → P
 split true t f = t refl
 split false t f = f refl
 
--- states are equal where their slots are
+-- states are equal if their slots are
 pub same_state : {M : Type 0} (x y : State M) → ((r n : ℕ) → x r n ≡ y r n) → x ≡ y
 same_state x y h = λ i r n. h r n i
 
--- what two lists of acts mean, one after the other
+-- what two lists of acts mean, one after another
 pub meaning-append : {M : Type 0} (ops : Algebra M) (xs ys : List Act) (state : State M) → meaning ops (xs ++ ys) state ≡ meaning ops ys (meaning ops xs state)
 meaning-append ops [] ys state = refl
 meaning-append ops (x ∷ xs) ys state = meaning-append ops xs ys (act ops x state)
 
--- acts that do nothing, one after the other
+-- acts that do nothing, one after another
 pub nothing_each : {M X : Type 0} (ops : Algebra M) (f : X → List Act) (state : State M) → ((x : X) → meaning ops (f x) state ≡ state) → (xs : List X) → meaning ops (flat_map f xs) state ≡ state
 nothing_each ops f state h [] = refl
 nothing_each ops f state h (x ∷ xs) = meaning-append ops (f x) (flat_map f xs) state ∙ ap (meaning ops (flat_map f xs)) (h x) ∙ nothing_each ops f state h xs

@@ -42,7 +42,7 @@ fault_found acts i a o kind x l e f h =
     ∙ ap (λ k. fault_or i k (fault_from o.ranks (i + 1) (act shapes a (slots_in o.slots)) (shut_after a (lanes_in o.shut)) (drop (i + 1) acts))) f)
     ∙ h
 
--- where the act at hand has none, the first fault is that of the acts after it
+-- if the act at hand has none, the first fault is that of the acts after it
 pub fault_next : (acts : List Act) (i : ℕ) (a : Act) (old new : CheckState) (x : Option PlanFault) → i < length acts → a ≡ get_or acts i a → fault_in old a ≡ None → DidAct a old new →
     fault_from old.ranks i (slots_in old.slots) (lanes_in old.shut) (drop i acts) ≡ x → fault_from old.ranks (i + 1) (slots_in new.slots) (lanes_in new.shut) (drop (i + 1) acts) ≡ x
 fault_next acts i a old new x l e f is h =
@@ -59,7 +59,7 @@ pub fault_at_end : (acts : List Act) (i : ℕ) (o : CheckState) (x : Option Plan
 fault_at_end acts i o x l h =
     sym (ap (fault_from o.ranks i (slots_in o.slots) (lanes_in o.shut)) (drop_all i acts l) ∙ fault_end o.ranks i (slots_in o.slots) (lanes_in o.shut)) ∙ h
 
--- the same where the number of ranks is known by another name
+-- the same if the number of ranks is known by another name
 pub found : (acts : List Act) (i n ranks : ℕ) (a : Act) (o : CheckState) (kind : PlanFaultKind) (x : Option PlanFault) → o.ranks ≡ ranks → n ≡ i → i < length acts → a ≡ get_or acts i a → fault_in o a ≡ Some kind →
     fault_from ranks i (slots_in o.slots) (lanes_in o.shut) (drop i acts) ≡ x → Some (record { act = n; kind = kind }) ≡ x
 found acts i n ranks a o kind x r m l e f h = ap (λ n. Some (record { act = n; kind = kind })) m ∙ fault_found acts i a o kind x l e f (ap (λ ranks. fault_from ranks i (slots_in o.slots) (lanes_in o.shut) (drop i acts)) r ∙ h)

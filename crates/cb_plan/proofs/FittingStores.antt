@@ -95,7 +95,7 @@ module _ (ranks : ℕ) where
         ap (λ y. is_shape x.shape (one (λ (m : Sparse). m.shape) (sheet_of y)) && all_stand rest ss) e
         ∙ ap (λ b. stands t x && b) (same_stands ss (All-tail (IsElsewhere s) x ss h))
 
-  -- where each start finds its block and nothing else is filled, the shapes are those at the start
+  -- if each start finds its block and nothing else is filled, the shapes are those at the start
   pub fits_by_count : (starts : List Start) (t : List (List (Slot Sparse))) → IsTable ranks 256 t → All Exists starts → AllPairs IsElsewhere starts → all_stand t starts ≡ true → count_filled t ≡ length starts →
       (shapes_of t ≡ started starts) × NoneLost t
   fits_by_count [] t table exist once stand count = (
@@ -150,7 +150,7 @@ module _ (ranks : ℕ) where
 to_table : (ranks : ℕ) (t : List (List (Slot Sparse))) → length t ≡ ranks → All (λ (slots : List (Slot Sparse)). length slots ≡ 256) t → IsTable ranks 256 t
 to_table ranks t e h = record { rows = e; cols = λ r l. h r [] (omega arith) }
 
--- the answer where each start finds its block: whether the count is right
+-- if each start finds its block, the result is whether the count is right
 pub fits_then : (p : CheckedView) (t : List (List (Slot Sparse))) (starts : List Start) (count : ℕ) → IsChecked p → length t ≡ p.ranks → All (λ (slots : List (Slot Sparse)). length slots ≡ 256) t →
     starts ≡ p.starts → all_stand t starts ≡ true → count ≡ count_filled t → IsTrue (count == length starts) ↔ Fits p.ranks p.starts t
 fits_then p t starts count checked rows sizes same stand is =
@@ -166,7 +166,7 @@ fits_then p t starts count checked rows sizes same stand is =
           grind (arith, nat_tests),
     )
 
--- and where one doesn't
+-- if one doesn't, the result is false
 pub fits_else : (p : CheckedView) (t : List (List (Slot Sparse))) (starts : List Start) → IsChecked p → starts ≡ p.starts → all_stand t starts ≡ false → ¬ Fits p.ranks p.starts t
 fits_else p t starts checked same stand fits =
     let yes = (count_by_fits p.ranks p.starts t fits.table checked.exist checked.once fits.shapes fits.none_lost).0 in

@@ -28,7 +28,7 @@ no_fault_next ranks i state shut acts a l e h =
     (sym (ap (fault_from ranks i state shut) (next_element acts i a l e) ∙ fault_here ranks i state shut a (drop (i + 1) acts)) ∙ h) in
     (no_fault ranks state shut a parts.0, parts.1)
 
--- two lists of acts of which each passes where it stands
+-- two lists of acts that pass one after another
 pub passes-append : (ranks : ℕ) (state : State Extent) (shut : Lanes) (xs ys : List Act) → Passes ranks state shut xs → Passes ranks (meaning shapes xs state) (lanes_after xs shut) ys → Passes ranks state shut (xs ++ ys)
 passes-append ranks state shut [] ys h k = k
 passes-append ranks state shut (x ∷ xs) ys h k = (h.0, passes-append ranks (act shapes x state) (shut_after x shut) xs ys h.1 k)
@@ -61,7 +61,7 @@ shut_at_end : (b : Bool) (n : ℕ) → (if b then no_fault_at else Some (record 
 shut_at_end true n h = refl
 shut_at_end false n h = absurd (grind arith)
 
--- where there is no fault, each lane is shut in the end
+-- if there is no fault, each lane is shut in the end
 pub checked_shuts : (ranks n : ℕ) (state : State Extent) (shut : Lanes) (acts : List Act) → fault_from ranks n state shut acts ≡ None → are_all_shut ranks (lanes_after acts shut) ≡ true
 unfolding fault_from
 checked_shuts ranks n state shut [] h = shut_at_end (are_all_shut ranks shut) n h

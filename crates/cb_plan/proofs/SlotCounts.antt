@@ -1,4 +1,4 @@
--- How many slots aren't empty, where one is emptied.
+-- How many slots aren't empty once one is emptied.
 use Rattle.std.proofs.Common.{◌≡◌, ℕ, ◌+◌, ◌<◌, ◌≤◌, true, false, cond, List, [], length, get_or, set, refl, ap, ◌∙◌, arith}
 use Rattle.std.specs.Prelude.{sum_by, count_by, All}
 use Rattle.std.proofs.lemmas.Bool.Decides.{nat_tests}
@@ -25,7 +25,7 @@ count_emptied height t r n is l m filled =
     let inner' = rw filled at inner in
     omega (arith, outer, inner')
 
--- where there is none, each is empty
+-- if there is none, each is empty
 not_filled : (x : Slot Sparse) → is_filled x ≡ false → x ≡ slot_is.Empty
 not_filled slot_is.Empty h = refl
 not_filled (slot_is.Sheet m) h = absurd (grind (arith, nat_tests))
@@ -39,7 +39,7 @@ none_in_row row n h = split (Rattle.std.specs.Prelude.nat_lt n (length row))
     not_filled (get_or row n slot_is.Empty) (grind (arith, nat_tests)))
     (λ f. get_or_past row n slot_is.Empty (grind (arith, nat_tests)))
 
--- where the count is 0, each slot is empty
+-- if the count is 0, each slot is empty
 pub none_filled : (t : List (List (Slot Sparse))) (r n : ℕ) → count_filled t ≡ 0 → cell slot_is.Empty t r n ≡ slot_is.Empty
 none_filled t r n h = split (Rattle.std.specs.Prelude.nat_lt r (length t))
     (λ u.
@@ -48,7 +48,7 @@ none_filled t r n h = split (Rattle.std.specs.Prelude.nat_lt r (length t))
     none_in_row (get_or t r []) n (omega (arith, e, h)))
     (λ f. ap (λ row. get_or row n slot_is.Empty) (get_or_past t r [] (grind (arith, nat_tests))))
 
--- where each is empty, there is none
+-- if each is empty, there is none
 pub all_empty : (t : List (List (Slot Sparse))) → ((r n : ℕ) → cell slot_is.Empty t r n ≡ slot_is.Empty) → count_filled t ≡ 0
 all_empty t h =
     let rows : (r : ℕ) (d : List (Slot Sparse)) → r < length t → count_by is_filled (get_or t r d) ≤ 0 = λ r d l.

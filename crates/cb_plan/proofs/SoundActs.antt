@@ -49,7 +49,7 @@ work_is_done rank op old new h =
 one_answer : (r : Result (Option Extent) PlanFaultKind) (x y : Option Extent) → r ≡ Ok x → r ≡ Ok y → y ≡ x
 one_answer r x y e f = cc
 
--- where the shapes agree, the rule for shapes gives the one that is made
+-- if the shapes agree, the rule for shapes gives the one that is made
 pub shape_is_made : (agree : Bool) (kind : PlanFaultKind) (r : Result (Option Extent) PlanFaultKind) (x y : Option Extent) → r ≡ (if agree then Ok x else Err kind) → agree ≡ true → r ≡ Ok y → y ≡ x
 shape_is_made true kind r x y e t f = one_answer r x y e f
 shape_is_made false kind r x y e t f = absurd (let wrong : false ≡ true = t in cc)

@@ -23,7 +23,7 @@ matrices s = record {
   mask = masked s;
 }
 
--- the shapes of what they make, from the shapes of what they are given
+-- the shapes of their results, from the shapes of their operands
 abbrev pub shapes : Algebra Extent
 shapes = record {
   empty = λ shape. shape;

@@ -118,7 +118,7 @@ is_open shut (act_is.Move from to tag slot into) = not (shut from to)
 is_open shut (act_is.Work rank op) = true
 is_open shut (act_is.Shut from to) = not (shut from to)
 
--- the first thing that doesn't hold
+-- the first requirement that isn't met
 abbrev pub first_failed : List (Bool × PlanFaultKind) → Option PlanFaultKind
 first_failed [] = None
 first_failed (c ∷ cs) = if c.0 then first_failed cs else Some c.1
@@ -200,7 +200,7 @@ pub record IsBlank (ranks : ℕ) (o : CheckState) : Type 0 where
   pub slots : slots_in o.slots ≡ (λ _ _. None)
   pub shut : lanes_in o.shut ≡ none_shut
 
--- the slots have what the starts say, and no lane is shut
+-- the slots of the starts have their shapes, all others are empty, and no lane is shut
 pub record IsStarted (ranks : ℕ) (starts : List Start) (o : CheckState) : Type 0 where
   pub ranks_are : o.ranks ≡ ranks
   pub slots : slots_in o.slots ≡ started starts
@@ -230,7 +230,7 @@ pub record IsSound (ranks : ℕ) (state : State Extent) (shut : Lanes) (a : Act)
   pub agree : act_agrees state a ≡ true
   pub open_lane : is_open shut a ≡ true
 
--- each act has no fault where it stands
+-- no act has a fault in the state before it
 abbrev pub Passes : ℕ → State Extent → Lanes → List Act → Type 0
 Passes ranks state shut [] = Unit {0}
 Passes ranks state shut (a ∷ acts) = IsSound ranks state shut a × Passes ranks (act shapes a state) (shut_after a shut) acts

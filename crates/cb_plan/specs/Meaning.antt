@@ -87,7 +87,7 @@ act ops (act_is.Move from to tag slot into) state r n = if to == r && into == n 
 act ops (act_is.Work rank op) state r n = if rank == r && target_of op == n then result_of ops op (state rank) else state r n
 act ops (act_is.Shut from to) state r n = state r n
 
--- the acts one after the other
+-- the acts one after another
 abbrev pub meaning : {M : Type 0} → Algebra M → List Act → State M → State M
 meaning ops [] state = state
 meaning ops (a ∷ acts) state = meaning ops acts (act ops a state)

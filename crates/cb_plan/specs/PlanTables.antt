@@ -1,7 +1,7 @@
 -- Tables: rows of equal length.
 use Rattle.std.specs.Prelude.{◌≡◌, ℕ, ◌<◌, List, [], get_or, length, slice_set}
 
--- what stands in a row at a place
+-- the value at a place of a row
 abbrev pub cell : {X : Type 0} → X → List (List X) → ℕ → ℕ → X
 cell blank table r n = get_or (get_or table r []) n blank
 

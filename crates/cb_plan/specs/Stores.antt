@@ -50,12 +50,12 @@ shapes_in slots n = one (λ (m : Sparse). m.shape) (sheets_in slots n)
 abbrev pub shapes_of : List (List (Slot Sparse)) → State Extent
 shapes_of stores = images (λ (m : Sparse). m.shape) (state_of stores)
 
--- whether the shape is there
+-- whether this shape is found
 abbrev pub is_shape : Extent → Option Extent → Bool
 is_shape shape None = false
 is_shape shape (Some found) = same_shape found shape
 
--- whether a block of the start's shape stands where it says
+-- whether the start's slot holds a block of its shape
 abbrev pub stands : List (List (Slot Sparse)) → Start → Bool
 stands stores s = is_shape s.shape (shapes_of stores s.rank s.slot)
 
@@ -67,7 +67,8 @@ all_stand stores (s ∷ ss) = stands stores s && all_stand stores ss
 abbrev pub count_filled : List (List (Slot Sparse)) → ℕ
 count_filled stores = sum_by (count_by is_filled) stores
 
--- a store of 256 slots for each rank; sheets stand exactly where the starts say, with their shapes; nothing is lost
+-- a store of 256 slots for each rank: the slots of the starts hold sheets of their shapes, every other slot is empty, and
+-- nothing is lost
 pub record Fits (ranks : ℕ) (starts : List Start) (stores : List (List (Slot Sparse))) : Type 0 where
   pub table : IsTable ranks SLOTS stores
   pub shapes : shapes_of stores ≡ started starts

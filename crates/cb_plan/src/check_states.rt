@@ -42,7 +42,7 @@ impl CheckState {
         })
     }
 
-    /// The state before the first act: the slots have what the starts say, and all lanes are open.
+    /// The state before the first act: the slots of the starts have their shapes, and all lanes are open.
     pub(crate) fn started(alloc: Global, ranks: u16, starts: &[Start]) -> Result<Self, AllocError>
         requires { All (λ s. (s.rank < ranks) × (s.slot < SLOTS)) starts.now }
         ensures { IfOk result (λ o. IsStarted ranks starts.now o) }

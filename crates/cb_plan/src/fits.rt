@@ -1,4 +1,4 @@
-//! Whether stores hold what the starts of a plan say.
+//! Whether stores hold the blocks with which a plan starts.
 ghost use Rattle.std.specs.Prelude.{◌≡◌, ◌<◌, ◌≤◌, ◌↔◌, length, All, IsTrue, sum_by, count_by, get_or};
 ghost use Rattle.cb_plan.specs.Stores.{Fits, all_stand, count_filled, is_filled, stands};
 
@@ -8,11 +8,11 @@ use crate::stores::{RankStore, SLOTS, Slot};
 use cb_semirings::Semiring;
 
 impl CheckedPlan {
-    /// Whether there is one store for each rank, with blocks exactly where the starts say, of their shapes, and nothing
-    /// lost.
+    /// Whether there is one store for each rank, the slots of the starts hold blocks of their shapes, every other slot
+    /// is empty, and nothing is lost.
     ///
-    /// The starts name each slot once. So if each of them finds its block, and no more slots are filled than there are
-    /// starts, nothing else is there. Costs a step for each slot and one for each start.
+    /// The starts name each slot once. So if each start finds its block, and as many slots are filled as there are
+    /// starts, all others are empty. Costs a step for each slot and one for each start.
     pub fn fits<S: Semiring>(&self, stores: &[RankStore<S>]) -> bool
         ensures { IsTrue result ↔ Fits self.now.ranks self.now.starts stores.now }
     {

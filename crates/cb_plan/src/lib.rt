@@ -2,7 +2,7 @@
 //!
 //! Each rank has 256 slots, and a slot is empty or holds a block. An act sends a copy of a slot from one rank to another,
 //! does one operation on the slots of one rank, or shuts the lane from one rank to another for good. A plan means what
-//! its acts do one after the other, as in a single thread: `specs/Meaning` defines this over blocks of any kind.
+//! its acts do one after another, as on a single thread: `specs/Meaning` defines this over blocks of any kind.
 //!
 //! A [`Plan`] grows act by act. [`CheckedPlan::check`] finds its first fault by doing the plan on the shapes of the
 //! blocks alone. In a plan that passes, no operation meets an empty slot or a wrong shape, and each lane is shut once,

@@ -18,7 +18,7 @@ pub const SLOTS: u16 = 256;
 /// A slot of a rank, for blocks of any kind.
 #[derive(Drop)]
 pub enum Slot<B> {
-    /// Nothing is there.
+    /// The slot is empty.
     Empty,
     /// A block.
     Sheet(B),
@@ -27,7 +27,7 @@ pub enum Slot<B> {
 }
 
 impl<B> Slot<B> {
-    /// Whether nothing is there.
+    /// Whether the slot is empty.
     pub fn is_empty(&self) -> bool
         ensures { result ≡ not (is_filled self.now) }
     {

@@ -31,7 +31,7 @@ impl<T: Copy> Row<T> {
         Ok(Row { cells })
     }
 
-    /// What stands in a column.
+    /// The value in a column.
     fn get(&self, col: usize) -> T
         requires { col < length self.now }
         ensures { result ≡ get_or self.now col result }
@@ -74,7 +74,7 @@ impl<T: Copy> Table<T> {
         Ok(Table { rows: table })
     }
 
-    /// What stands in a row and a column.
+    /// The value in a row and a column.
     pub(crate) fn get(&self, row: usize, col: usize) -> T
         requires row { row < length self.now }
         requires col { col < length (get_or self.now row []) }

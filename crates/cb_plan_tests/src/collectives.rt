@@ -1,4 +1,4 @@
-//! The acts that collectives append. What they do to the slots is in the contracts.
+//! The acts that collectives append. Their effect on the slots is stated in the contracts.
 ghost use Rattle.std.specs.Prelude.{◌≡◌};
 
 use cb_collectives::{all_to_all, broadcast, gather, reduce, shut_all};
@@ -52,12 +52,12 @@ fn closed(alloc: Global, plan: &Plan) -> Result<Vec<[u16; 2]>, AllocError> {
     Ok(found)
 }
 
-/// Whether a plan shuts just these lanes, in this order.
+/// Whether a plan shuts exactly these lanes, in this order.
 fn has_closed(alloc: Global, plan: &Plan, wanted: &[[u16; 2]]) -> Result<bool, AllocError> {
     Ok(closed(alloc, plan)?.as_slice() == wanted)
 }
 
-/// Whether these are the Copies and the Moves of a plan.
+/// Whether a plan has exactly these Copies and Moves.
 fn has(
     alloc: Global,
     plan: &Plan,

@@ -1,4 +1,4 @@
-//! What plans over a grid are made of: acts, starts, and that calls with ample memory succeed.
+//! The acts and starts that plans over a grid are made of. With ample memory the calls succeed.
 ghost use Rattle.std.specs.Prelude.{◌≡◌, IfOk};
 
 use cb_layout::Grid;
@@ -15,7 +15,7 @@ fn grid() -> Result<Grid, Fail>
     Ok(Grid::new(2).map_err(|_| "a side")?)
 }
 
-/// The starts on the grid of side 2 of a matrix of 3 by 5 in slot 0 and of one of 1 by 2 in slot 7.
+/// The starts of a 3 by 5 matrix in slot 0 and a 1 by 2 matrix in slot 7 on the grid of side 2.
 fn starts(alloc: Global) -> Result<Vec<Start>, Fail> {
     let operands = [
         Operand {
@@ -30,7 +30,7 @@ fn starts(alloc: Global) -> Result<Vec<Start>, Fail> {
     Ok(operand_starts(alloc, &grid()?, &operands)?)
 }
 
-/// Whether a start is of this rank and slot, and of so many rows and columns.
+/// Whether a start has this rank and slot, and this many rows and columns.
 fn is_start(start: &Start, (rank, slot, rows, cols): (u16, u16, u32, u32)) -> bool {
     let is_there = start.rank == rank && start.slot == slot;
     is_there && start.shape.rows() == rows && start.shape.cols() == cols
@@ -63,7 +63,7 @@ fn starts_by_ranks(rt: HostRuntime) -> Result<(), Fail> {
     Ok(())
 }
 
-/// Rank by rank, a copy of slot 0 in slot 1, and then a block of 3 by 3 without entries in slot 2.
+/// A plan in which each rank in turn copies slot 0 to slot 1 and then puts an empty 3 by 3 block into slot 2.
 fn works(alloc: Global) -> Result<Plan, Fail> {
     let grid = grid()?;
     let mut plan = Plan::new(alloc, grid.ranks());
@@ -72,7 +72,7 @@ fn works(alloc: Global) -> Result<Plan, Fail> {
     Ok(plan)
 }
 
-/// Whether each of four ranks copies, and then has its block without entries, and that is all.
+/// Whether each of four ranks copies and then makes its empty block, and there are no other acts.
 fn each_copies_and_clears(acts: &[Act]) -> bool {
     let mut copies = 0u16;
     let mut zeros = 0u16;
@@ -99,8 +99,8 @@ fn each_rank_works(rt: HostRuntime) -> Result<(), Fail> {
     Ok(())
 }
 
-/// How many acts and starts a plan has that begins with a matrix of 3 by 3 on each of four ranks and does nothing, and its
-/// result.
+/// The numbers of acts and starts of a plan that starts with a 3 by 3 matrix on four ranks and does nothing, and the slot
+/// of its result.
 fn starts_alone(alloc: Global) -> Result<(usize, usize, u16), Fail> {
     let grid = grid()?;
     let operands = [Operand {

@@ -1,4 +1,4 @@
-//! The plans over grids of every side, run act by act.
+//! The plans of operations over grids of every side, run act by act.
 ghost use Rattle.std.specs.Prelude.{◌<◌, IfOk};
 ghost use Rattle.cb_plan.specs.Runnable.{IsRunnable};
 
@@ -19,7 +19,7 @@ use std::test::Fail;
 
 const SIDES: [u32; 6] = [1, 2, 3, 4, 5, 6];
 
-/// What is done over a grid.
+/// An operation over a grid.
 #[derive(Clone, Copy)]
 enum Kernel {
     Transpose,
@@ -31,7 +31,7 @@ enum Kernel {
     Vector,
 }
 
-/// Its plan, where the first operand has this shape.
+/// The plan of an operation whose first operand has this shape.
 fn plan_of(kernel: Kernel, alloc: Global, grid: &Grid, shape: Shape) -> Result<Planned, PlanFault>
     ensures { IfOk result (λ p. IsRunnable p) }
 {
@@ -49,7 +49,7 @@ fn plan_of(kernel: Kernel, alloc: Global, grid: &Grid, shape: Shape) -> Result<P
 /// Rows and columns.
 type Sides = (u32, u32);
 
-/// The matrix of so many rows and columns with these entries.
+/// The matrix of this many rows and columns with these entries.
 fn matrix(
     alloc: Global,
     (rows, cols): Sides,
@@ -62,7 +62,7 @@ fn matrix(
     Ok(Matrix::from_entries(alloc, shape, entries).map_err(|_| "a matrix")?)
 }
 
-/// A store for each rank, with nothing in it.
+/// An empty store for each rank.
 fn no_blocks(alloc: Global, grid: &Grid) -> Result<Vec<RankStore<PlusTimes>>, Fail> {
     let mut stores = Vec::new(alloc);
     for _ in 0..grid.ranks() {
@@ -71,7 +71,7 @@ fn no_blocks(alloc: Global, grid: &Grid) -> Result<Vec<RankStore<PlusTimes>>, Fa
     Ok(stores)
 }
 
-/// Puts one block into a slot of each rank.
+/// Puts a block into a slot of each rank.
 fn fill(stores: &mut [RankStore<PlusTimes>], slot: u16, blocks: Vec<Block<PlusTimes>>)
     requires { slot < SLOTS }
 {
@@ -80,12 +80,12 @@ fn fill(stores: &mut [RankStore<PlusTimes>], slot: u16, blocks: Vec<Block<PlusTi
     }
 }
 
-/// What a kernel makes of operands: their sides and entries, and those of the result.
+/// An operation with its operands and its result: their sides and entries.
 struct Example {
     kernel: Kernel,
     sides: Sides,
     left: &'static [Entry],
-    /// Of the second operand, where it takes one.
+    /// The entries of the second operand, if there is one.
     right: Option<&'static [Entry]>,
     result: Sides,
     wanted: &'static [Entry],
@@ -154,7 +154,7 @@ fn have(stores: &[RankStore<PlusTimes>], blocks: &[Block<PlusTimes>]) -> Result<
     Ok(stores.len() == blocks.len())
 }
 
-/// Whether the ranks of a grid have the blocks of what an example makes as their results.
+/// Whether the ranks of a grid have the blocks of an example's result as their results.
 fn leave(
     alloc: Global,
     grid: &Grid,
@@ -180,14 +180,14 @@ fn worked(
     }
 }
 
-/// Whether a kernel makes what is said on the grid of a side.
+/// Whether an example is right on the grid of this side.
 fn makes(alloc: Global, side: u32, example: &Example) -> Result<bool, Fail> {
     let grid = Grid::new(side).map_err(|_| "a side")?;
     let stores = worked(alloc, &grid, example)?;
     leave(alloc, &grid, &stores, example)
 }
 
-/// Whether it does so on the grid of each side.
+/// Whether it is right on the grid of every side.
 fn makes_on_each(alloc: Global, example: &Example) -> Result<bool, Fail> {
     for side in SIDES {
         if !makes(alloc, side, example)? {
@@ -199,7 +199,7 @@ fn makes_on_each(alloc: Global, example: &Example) -> Result<bool, Fail> {
 
 const MANY: &[Entry] = entries![(2, 0, 6), (1, 1, 5), (0, 4, 7), (2, 4, 3)];
 
-/// The transpose, sums of rows and of columns, the sum and the product place by place, and entries dropped.
+/// The transpose, the sums of rows and of columns, the element-wise sum and product, and pruned entries.
 const EXAMPLES: [Example; 6] = [
     Example {
         kernel: Kernel::Transpose,
@@ -289,7 +289,7 @@ fn values_of(alloc: Global, stores: &[RankStore<PlusTimes>]) -> Result<Vec<[u64;
     Ok(found)
 }
 
-/// The ranks and values of the entries of a matrix times a vector, on the grid of a side.
+/// The ranks and values of the entries of a matrix times a vector, on the grid of this side.
 fn spread_product(
     alloc: Global,
     side: u32,
@@ -326,7 +326,7 @@ fn multiplies_a_vector(rt: HostRuntime) -> Result<(), Fail> {
     Ok(())
 }
 
-/// Whether a matrix of two by two times a vector on the grid of side 2 has these values, at their ranks.
+/// Whether a 2 by 2 matrix times a vector on the grid of side 2 has these values at these ranks.
 fn two_by_two_has(alloc: Global, wanted: &[[u64; 2]]) -> Result<bool, Fail> {
     let a = matrix(alloc, (2, 2), entries![(0, 0, 1), (0, 1, 2), (1, 1, 3)])?;
     let x = matrix(alloc, (2, 1), entries![(0, 0, 5), (1, 0, 7)])?;
@@ -334,14 +334,14 @@ fn two_by_two_has(alloc: Global, wanted: &[[u64; 2]]) -> Result<bool, Fail> {
     Ok(found.as_slice() == wanted)
 }
 
-/// Each of the two parts of the result has one row, which is in the first of its pieces.
+/// Each of the two parts of the result has one row, in its first piece.
 #[test]
 fn multiplies_by_pieces(rt: HostRuntime) -> Result<(), Fail> {
     assert!(rt; two_by_two_has(rt.alloc(), &[[0, 19], [2, 21]])?);
     Ok(())
 }
 
-/// Whether a plan has so many acts, or was refused for want of memory.
+/// Whether a plan has this many acts, or memory was refused.
 fn has_acts_or_no_memory(planned: Result<Planned, PlanFault>, acts: usize) -> bool {
     match planned {
         Ok(planned) => planned.plan.len() == acts,
@@ -349,7 +349,7 @@ fn has_acts_or_no_memory(planned: Result<Planned, PlanFault>, acts: usize) -> bo
     }
 }
 
-/// Kernels, and how many acts the plan of each has on the grid of side 2.
+/// Operations, and how many acts their plans have on the grid of side 2.
 const ACTS: [(Kernel, usize); 7] = [
     (Kernel::Transpose, 20),
     (Kernel::RowSums, 60),
@@ -360,10 +360,10 @@ const ACTS: [(Kernel, usize); 7] = [
     (Kernel::Vector, 68),
 ];
 
-/// It passes whichever single allocation is refused (`rt try --test --fail-alloc N`, for each N in turn): the
-/// call says so, or its plan is the right one.
+/// Passes whichever single allocation is refused (`rt try --test --fail-alloc N`, for each N in turn): the call reports it,
+/// or its plan is right.
 #[test]
-fn refused_memory_is_said(rt: HostRuntime) -> Result<(), Fail> {
+fn refused_memory_is_reported(rt: HostRuntime) -> Result<(), Fail> {
     let grid = Grid::new(2).map_err(|_| "a side")?;
     let shape = shape(3, 5)?;
     for (kernel, acts) in &ACTS {

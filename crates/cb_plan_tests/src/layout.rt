@@ -9,7 +9,7 @@ use cb_semirings::{MinPlus, OrAnd, PlusTimes, Semiring};
 use std::alloc::{AllocError, Global};
 use std::test::Fail;
 
-/// The grid of a side. Its refusal is that of a shape.
+/// The grid of this side, or the fault of a shape if there is none.
 fn grid_of(side: u32) -> Result<Grid, SampleFault>
     ensures { IfOk result (λ g. g.side ≡ side) }
 {
@@ -30,7 +30,7 @@ fn matrix<S: Semiring>(
     Ok(Matrix::from_ordered(shape, block.entries()?))
 }
 
-/// What a block has: its rows and columns, and the rows and values of its entries.
+/// The contents of a block: its rows and columns, and the rows and values of its entries.
 type Contents<'a> = (u32, u32, &'a [u32], &'a [u64]);
 
 /// Whether a block has these contents.
@@ -66,7 +66,7 @@ fn are_same(blocks: &[Block<PlusTimes>], others: &[Block<PlusTimes>]) -> bool {
     blocks.len() == others.len()
 }
 
-/// Whether a matrix over a grid says that it is this one, and gathers to it.
+/// Whether a matrix over a grid has this grid, shape and number of entries, and is gathered as these entries.
 fn holds<S: Semiring>(
     alloc: Global,
     spread: &DistributedMatrix<S>,
@@ -83,7 +83,7 @@ fn holds<S: Semiring>(
     Ok(says && again.entries() == given)
 }
 
-/// A matrix cut over a grid and glued together again.
+/// A matrix scattered over a grid and gathered again.
 fn cut_and_glued(
     alloc: Global,
     grid: &Grid,
@@ -93,7 +93,7 @@ fn cut_and_glued(
     grid.gather(alloc, &blocks, whole.shape())
 }
 
-/// A matrix made anew over a grid, entry by entry, with room for so many.
+/// A matrix built over a grid entry by entry, with room for this many.
 fn pushed(
     alloc: Global,
     grid: Grid,
@@ -110,7 +110,7 @@ fn pushed(
     Ok(spread)
 }
 
-/// An input vector with a row for each rank, spread over them, and its pieces read as those of a result.
+/// An input vector with a row for each rank, spread over the ranks, with its pieces taken as those of a result.
 fn turned(
     alloc: Global,
     grid: &Grid,
@@ -123,7 +123,7 @@ fn turned(
     grid.gather_result(alloc, &pieces, vector.shape())
 }
 
-/// A matrix of or-and is one of min-plus.
+/// A matrix over or-and is taken as one over min-plus.
 fn taken_over(
     alloc: Global,
     spread: DistributedMatrix<OrAnd>,
@@ -137,7 +137,7 @@ fn taken_over(
 /// The rows, columns and entries of a matrix.
 type Given<'a> = (u32, u32, &'a [Entry]);
 
-/// Whether a matrix that is cut over a grid of a side has these blocks.
+/// Whether a matrix scattered over the grid of this side has these blocks.
 fn is_cut_into(
     alloc: Global,
     side: u32,
@@ -150,7 +150,7 @@ fn is_cut_into(
     Ok(are(&blocks, wanted))
 }
 
-/// Whether a matrix that is cut over a grid of a side glues together again.
+/// Whether a matrix scattered over the grid of this side is gathered unchanged.
 fn is_glued_again(
     alloc: Global,
     side: u32,
@@ -162,7 +162,7 @@ fn is_glued_again(
     Ok(again.entries() == given)
 }
 
-/// Whether a matrix lies over a grid of a side, with a block for each rank.
+/// Whether a matrix is distributed over the grid of this side, with a block for each rank.
 fn is_spread(
     alloc: Global,
     side: u32,
@@ -175,7 +175,7 @@ fn is_spread(
     Ok(is_whole && spread.into_blocks().len() == usize::from(grid.ranks()))
 }
 
-/// Whether a matrix grows over a grid of a side, entry by entry, to what it is where it is cut.
+/// Whether a matrix built entry by entry over the grid of this side equals the scattered one.
 fn is_grown(
     alloc: Global,
     side: u32,
@@ -190,7 +190,7 @@ fn is_grown(
     Ok(is_whole && are_same(spread.blocks(), &blocks))
 }
 
-/// Whether a matrix of or-and over a grid of a side is the same one of min-plus.
+/// Whether a matrix over or-and on the grid of this side is unchanged as one over min-plus.
 fn is_taken_over(
     alloc: Global,
     side: u32,
@@ -203,7 +203,7 @@ fn is_taken_over(
     Ok(holds(alloc, &spread, grid, &wanted, given)?)
 }
 
-/// Whether an input vector that is cut over a grid of a side has these pieces.
+/// Whether an input vector scattered over the grid of this side has these pieces.
 fn has_pieces(
     alloc: Global,
     side: u32,
@@ -216,8 +216,8 @@ fn has_pieces(
     Ok(are(&pieces, wanted))
 }
 
-/// Whether an input vector that is cut over a grid of a side has pieces of so many rows, and after them of none, and
-/// no entry is left behind.
+/// Whether an input vector scattered over the grid of this side has pieces with these numbers of rows, then pieces without
+/// rows, and all entries.
 fn has_rows(
     alloc: Global,
     side: u32,
@@ -230,7 +230,7 @@ fn has_rows(
     Ok(are_of_rows(&pieces, wanted) && stored(&pieces) == given.len())
 }
 
-/// Whether pieces have so many rows, and after them none.
+/// Whether pieces have these numbers of rows, and the others none.
 fn are_of_rows(pieces: &[Block<PlusTimes>], wanted: &[u32]) -> bool {
     for (rank, piece) in pieces.iter().enumerate() {
         if piece.shape().rows() != wanted.get(rank).copied().unwrap_or(0) {
@@ -249,7 +249,8 @@ fn stored(blocks: &[Block<PlusTimes>]) -> usize {
     count
 }
 
-/// Whether an input vector with a row for each rank of a grid of a side is this one where it is read as a result.
+/// Whether an input vector with a row for each rank of the grid of this side becomes this one if its pieces are taken as
+/// those of a result.
 fn is_turned(
     alloc: Global,
     side: u32,
@@ -262,7 +263,7 @@ fn is_turned(
     Ok(result.entries() == wanted)
 }
 
-/// A vector with a row for each rank, and the same as a square that is turned.
+/// A vector with a row for each rank, and the same, transposed as a square.
 fn square(alloc: Global, side: u32) -> Result<(Vec<Entry>, Vec<Entry>), AllocError> {
     let mut given = Vec::new(alloc);
     let mut turned = Vec::new(alloc);
@@ -277,10 +278,10 @@ fn square(alloc: Global, side: u32) -> Result<(Vec<Entry>, Vec<Entry>), AllocErr
     Ok((given, turned))
 }
 
-/// What a segment has: its column, the row from which its rows count, these rows, and the value at each.
+/// The parts of a segment: its column, the row from which its rows count, its rows, and their values.
 type Parts<'a> = (u32, u32, &'a [u32], &'a [u64]);
 
-/// Whether these segments come next, and then no other, however often it is asked for.
+/// Whether these segments come next, and then no other, however often one is asked for.
 fn come(segments: &mut Segments<'_, PlusTimes>, wanted: &[Parts<'_>]) -> bool {
     for (column, top, rows, values) in wanted {
         let Some(segment) = segments.next_segment() else {
@@ -294,7 +295,7 @@ fn come(segments: &mut Segments<'_, PlusTimes>, wanted: &[Parts<'_>]) -> bool {
     segments.next_segment().is_none() && segments.next_segment().is_none()
 }
 
-/// Whether a matrix over a grid of a side has these segments.
+/// Whether a matrix over the grid of this side has these segments.
 fn has_segments(
     alloc: Global,
     side: u32,
@@ -307,7 +308,7 @@ fn has_segments(
     Ok(come(&mut spread.segments(), wanted))
 }
 
-/// Whether there is a grid of a side.
+/// Whether there is a grid of this side.
 fn has_side(side: u32) -> bool {
     match Grid::new(side) {
         Ok(grid) => grid.side() == side,
@@ -364,7 +365,7 @@ fn ranges_of_dimensions(rt: HostRuntime) {
     }
 }
 
-/// Whether an answer is that all is right.
+/// Whether a result is right.
 fn is_right(answer: Result<bool, SampleFault>) -> bool {
     matches!(answer, Ok(true))
 }
@@ -399,7 +400,7 @@ fn a_matrix_on_nine_ranks(rt: HostRuntime) {
     assert!(rt; is_right(is_cut_into(rt.alloc(), 3, (5, 4, &given), &wanted)));
 }
 
-/// Whether a matrix lies over the grid of each side, and glues together again.
+/// Whether a matrix is distributed over the grid of every side and gathered unchanged.
 fn lies_over_each(alloc: Global, given: Given<'_>) -> Result<bool, SampleFault> {
     for side in 1..=6 {
         if !is_glued_again(alloc, side, given)? || !is_spread(alloc, side, given)? {
@@ -409,7 +410,7 @@ fn lies_over_each(alloc: Global, given: Given<'_>) -> Result<bool, SampleFault> 
     Ok(true)
 }
 
-/// The largest sides, where one entry costs one entry; dimensions below the side of the grid; and no rows.
+/// The largest sides, which cost no more than the entries; dimensions below the side of the grid; and no rows.
 #[test]
 fn a_matrix_lies_over_each_grid(rt: HostRuntime) {
     let last = LIMIT - 1;
@@ -448,14 +449,14 @@ fn a_vector_on_four_ranks(rt: HostRuntime) {
     assert!(rt; is_right(has_pieces(rt.alloc(), 2, (4, &given), &wanted)));
 }
 
-/// Whether a vector with a row for each rank is, read as a result, the same as a square that is turned.
+/// Whether a vector with a row for each rank, taken as a result, is the same as the transposed square.
 fn is_a_turned_square(alloc: Global, side: u32) -> Result<bool, SampleFault> {
     let (given, wanted) = square(alloc, side)?;
     is_turned(alloc, side, &given, &wanted)
 }
 
-/// With a row for each rank, piece t of part i of an input stands where piece i of part t of a result does: read
-/// so, the vector is a square that is turned.
+/// Piece t of part i of an input is where piece i of part t of a result is. So a vector with a row for each rank, taken as
+/// a result, is transposed as a square.
 #[test]
 fn vectors_on_every_side(rt: HostRuntime) {
     for side in 1..=6 {
@@ -466,7 +467,7 @@ fn vectors_on_every_side(rt: HostRuntime) {
     }
 }
 
-/// The side of a grid, and how many of seven rows the piece of each of its first ranks has; those of others have none.
+/// The side of a grid, and how many of seven rows the pieces of its first ranks have; those of the others have none.
 const PIECES: [(u32, &[u32]); 6] = [
     (1, &[7]),
     (2, &[2, 2, 2, 1]),
@@ -476,7 +477,7 @@ const PIECES: [(u32, &[u32]); 6] = [
     (6, &[1, 1, 1, 1, 0, 0, 1, 1, 1]),
 ];
 
-/// Seven rows on each side: how many rows the piece of each rank has, and that no entry is left behind.
+/// Seven rows on the grid of every side: the rows of each piece, and that no entry is lost.
 #[test]
 fn pieces_of_seven_rows(rt: HostRuntime) {
     let given = [entry(0, 0, 1), entry(3, 0, 2), entry(6, 0, 3)];
@@ -488,8 +489,7 @@ fn pieces_of_seven_rows(rt: HostRuntime) {
     }
 }
 
-/// Entries pushed one by one make the matrix that they are, cut over the grid; where none is, it has none, whatever
-/// the room.
+/// Entries pushed one by one make the same matrix as scattering them. Without entries it is empty, whatever the room.
 #[test]
 fn a_matrix_grows_entry_by_entry(rt: HostRuntime) {
     for side in 1..=3 {
@@ -539,7 +539,7 @@ fn segments_of_a_matrix_on_four_ranks(rt: HostRuntime) {
     assert!(rt; is_right(has_segments(rt.alloc(), 2, (4, 4, &given), &wanted)));
 }
 
-/// Whether an answer is that all is right, or that memory was wanting.
+/// Whether a result is right, or its error is want of memory.
 fn is_right_or_memory(answer: Result<bool, SampleFault>) -> bool {
     match answer {
         Ok(is_right) => is_right,
@@ -547,10 +547,10 @@ fn is_right_or_memory(answer: Result<bool, SampleFault>) -> bool {
     }
 }
 
-/// Each call that takes memory. It passes whichever single allocation is refused (`rt try --test --fail-alloc N`,
-/// for each N in turn): a call says so, or its answer is the right one.
+/// Every call that takes memory. Passes whichever single allocation is refused (`rt try --test --fail-alloc N`, for each N
+/// in turn): the call reports it, or its result is right.
 #[test]
-fn refused_memory_is_said(rt: HostRuntime) {
+fn refused_memory_is_reported(rt: HostRuntime) {
     let alloc = rt.alloc();
     let three = [entry(0, 0, 1), entry(3, 0, 2), entry(0, 2, 3)];
     let given = (4, 4, three.as_slice());

@@ -1,5 +1,5 @@
-//! Worked examples of grids and of plans: how a matrix lies over a grid; how plans grow, are checked and run; the acts that
-//! the collectives append; and what the plans over a grid leave.
+//! Tests of grids and plans: how a matrix is distributed over a grid; how plans are built, checked and run; the acts that
+//! collectives append; and what plans over a grid leave.
 #![tactic(auto)]
 
 #[cfg(test)]

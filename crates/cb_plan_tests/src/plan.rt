@@ -17,7 +17,7 @@ mod stores;
 /// The tag of each letter.
 const TAG: Tag = Tag(0);
 
-/// A move between two ranks.
+/// A Move between two ranks.
 const fn send(from: u16, to: u16, slot: u16, into: u16) -> Act {
     Act::Move {
         from,
@@ -28,17 +28,17 @@ const fn send(from: u16, to: u16, slot: u16, into: u16) -> Act {
     }
 }
 
-/// The lane from one rank to another is closed.
+/// A Shut of the lane from one rank to another.
 const fn shut(from: u16, to: u16) -> Act {
     Act::Shut { from, to }
 }
 
-/// The answer of the check that names this fault.
+/// The check's answer for this fault.
 const fn fault(act: u32, kind: PlanFaultKind) -> Option<PlanFault> {
     Some(PlanFault { act, kind })
 }
 
-/// A block of 1 by 2 stands in slot 0 of rank 0.
+/// A start: a 1 by 2 block in slot 0 of rank 0.
 fn row_at_0() -> Result<Start, SampleFault>
     ensures { IfOk result (λ s. s ≡ record { rank = 0; slot = 0; shape = record { rows = 1; cols = 2 } }) }
 {
@@ -49,7 +49,7 @@ fn row_at_0() -> Result<Start, SampleFault>
     })
 }
 
-/// The plan of these acts for two ranks, or the fault of one that can't be appended.
+/// The plan of these acts for two ranks, or the fault of the first that can't be appended.
 fn plan_of(alloc: Global, acts: &[Act]) -> Result<Plan, PlanFault>
     ensures { IfOk result (λ p. p.ranks ≡ 2) }
 {
@@ -60,7 +60,7 @@ fn plan_of(alloc: Global, acts: &[Act]) -> Result<Plan, PlanFault>
     Ok(plan)
 }
 
-/// The plan of these acts for two ranks, each of which can be appended.
+/// The plan of these acts for two ranks, all of which can be appended.
 fn grown(alloc: Global, acts: &[Act]) -> Result<Plan, Fail>
     ensures { IfOk result (λ p. p.ranks ≡ 2) }
 {
@@ -70,12 +70,12 @@ fn grown(alloc: Global, acts: &[Act]) -> Result<Plan, Fail>
     }
 }
 
-/// A block goes from rank 0 to rank 1, and both lanes are shut.
+/// The small plan: a block goes from rank 0 to rank 1, and both lanes are shut.
 fn small() -> [Act; 3] {
     [send(0, 1, 0, 3), shut(0, 1), shut(1, 0)]
 }
 
-/// That plan, checked, where a block of 1 by 2 stands in slot 0 of rank 0, or None where memory was wanting.
+/// The small plan, checked with a 1 by 2 block in slot 0 of rank 0. None if memory is refused.
 fn checked(alloc: Global) -> Option<CheckedPlan>
     ensures { IfSome result (λ p. p.ranks ≡ 2) }
 {
@@ -83,7 +83,7 @@ fn checked(alloc: Global) -> Option<CheckedPlan>
     CheckedPlan::check(alloc, plan, &[row_at_0().ok()?]).ok()
 }
 
-/// Two stores, and in slot 0 of rank 0 a block of 1 by 2, or None where memory was wanting.
+/// Two stores with a 1 by 2 block in slot 0 of rank 0. None if memory is refused.
 fn two_stores(alloc: Global) -> Option<Vec<RankStore<PlusTimes>>>
     ensures { IfSome result (λ v. length v.items ≡ 2) }
 {

@@ -1,6 +1,6 @@
-//! What the tests write out.
+//! How the tests write entries.
 
-/// Entries, each by its row, its column and its value.
+/// Entries, each written as its row, column and value.
 macro_rules! entries {
     ($(($row:expr, $column:expr, $value:expr)),* $(,)?) => {
         &[$(cb_matrix::Entry { row: $row, column: $column, value: $value }),*]

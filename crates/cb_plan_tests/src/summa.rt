@@ -6,14 +6,14 @@ use cb_summa::{summa, summa_masked};
 use std::alloc::Global;
 use std::test::Fail;
 
-/// The plan of the product of two matrices of 2 by 2 on a grid of a side.
+/// The plan of the product of two 2 by 2 matrices on the grid of this side.
 fn two_by_two(alloc: Global, side: u32) -> Result<Planned, Fail> {
     let grid = Grid::new(side).map_err(|_| "a side")?;
     let shape = shape(2, 2)?;
     Ok(summa(alloc, &grid, shape, shape).map_err(|_| "a plan")?)
 }
 
-/// How many moves a plan has, and how many lanes it shuts: each is a letter.
+/// How many letters a plan has: its Moves and its Shuts.
 fn letters(planned: &Planned) -> usize {
     planned
         .plan
@@ -23,7 +23,7 @@ fn letters(planned: &Planned) -> usize {
         .count()
 }
 
-/// Whether the plan on a grid of a side has so many acts, so many of them letters, and its result in slot 2.
+/// Whether the plan on the grid of this side has this many acts, this many of them letters, and its result in slot 2.
 fn has_counts(alloc: Global, side: u32, acts: usize, posted: usize) -> Result<bool, Fail> {
     let planned = two_by_two(alloc, side)?;
     let has_acts = planned.plan.len() == acts && planned.result == 2;
@@ -46,7 +46,7 @@ fn acts_and_letters_on_grids(rt: HostRuntime) -> Result<(), Fail> {
     Ok(())
 }
 
-/// The moves of the plan of a product on a grid of side 2: from, to, tag, slot and into.
+/// The Moves of the plan of a product on the grid of side 2: from, to, tag, slot and into.
 const MOVES: [(u16, u16, u32, u16, u16); 8] = [
     (0, 1, 0, 0, 3),
     (2, 3, 0, 0, 3),
@@ -58,7 +58,7 @@ const MOVES: [(u16, u16, u32, u16, u16); 8] = [
     (3, 1, 3, 1, 6),
 ];
 
-/// Whether the Moves among some acts are those.
+/// Whether these acts have exactly those Moves.
 fn has_moves(acts: &[Act]) -> bool {
     let mut count = 0usize;
     for act in acts {
@@ -87,7 +87,7 @@ fn moves_on_a_grid_of_side_2(rt: HostRuntime) -> Result<(), Fail> {
     Ok(())
 }
 
-/// How many of some acts leave the product where the mask has entries.
+/// How many of these acts are masks.
 fn masks(acts: &[Act]) -> usize {
     let mut masks = 0usize;
     for act in acts {
@@ -124,7 +124,7 @@ fn acts_under_a_mask(rt: HostRuntime) -> Result<(), Fail> {
     Ok(())
 }
 
-/// Whether a plan has so many acts, or was refused for want of memory.
+/// Whether a plan has this many acts, or memory was refused.
 fn has_acts_or_no_memory(planned: Result<Planned, PlanFault>, acts: usize) -> bool {
     match planned {
         Ok(planned) => planned.plan.len() == acts,
@@ -132,10 +132,10 @@ fn has_acts_or_no_memory(planned: Result<Planned, PlanFault>, acts: usize) -> bo
     }
 }
 
-/// It passes whichever single allocation is refused (`rt try --test --fail-alloc N`, for each N in turn): the
-/// call says so, or its plan is the right one.
+/// Passes whichever single allocation is refused (`rt try --test --fail-alloc N`, for each N in turn): the call reports it,
+/// or its plan is right.
 #[test]
-fn refused_memory_is_said(rt: HostRuntime) -> Result<(), Fail> {
+fn refused_memory_is_reported(rt: HostRuntime) -> Result<(), Fail> {
     let grid = Grid::new(2).map_err(|_| "a side")?;
     let shape = shape(2, 2)?;
     let plain = summa(rt.alloc(), &grid, shape, shape);

@@ -1,4 +1,4 @@
--- What is shown operation by operation.
+-- What is proved operation by operation.
 use Rattle.std.proofs.Common.{◌≡◌, ℕ, Bool, true, false, List, [], ◌∷◌, refl}
 use Rattle.std.specs.Prelude.{Option, Some, None, IsSome, is_some, ◌&&◌}
 use Rattle.cb_matrix.specs.Sparse.{Sparse, Extent}
@@ -27,12 +27,12 @@ pub filled_slots : (v : ℕ → Option Extent) (ns : List ℕ) → all_filled v 
 filled_slots v [] h = tt
 filled_slots v (n ∷ ns) h = let p = both _ _ h in (some_test (v n) p.0, filled_slots v ns p.1)
 
--- two states of a rank's slots are one at some slots
+-- two states of a rank's slots agree at these slots
 abbrev pub AreSame : {M : Type 0} → (ℕ → Option M) → (ℕ → Option M) → List ℕ → Type 0
 AreSame f g [] = Unit {0}
 AreSame f g (n ∷ ns) = (f n ≡ g n) × AreSame f g ns
 
--- what an operation makes depends on the slots that it reads alone
+-- the result of an operation depends only on the slots that it reads
 pub same_result : {M : Type 0} (ops : Algebra M) (op : Op) (f g : ℕ → Option M) → AreSame f g (reads_of op) → result_of ops op f ≡ result_of ops op g
 same_result ops (op_is.Zero into shape) f g h = refl
 same_result ops (op_is.MulAdd a b acc) f g h = rw (h.0, h.1.0, h.1.1.0) refl
@@ -60,7 +60,7 @@ some_three : {M : Type 0} (f : M → M → M → M) (x y z : Option M) → IsSom
 some_three f (Some m) y z h k l = some_two (f m) y z k l
 some_three f None y z h k l = cc
 
--- an operation that needs memory makes a block of blocks
+-- an operation that needs memory makes a block from blocks
 pub some_result : {M : Type 0} (ops : Algebra M) (op : Op) (f : ℕ → Option M) → needs_memory op ≡ true → AllSome f (operands_of op) → IsSome (result_of ops op f)
 some_result ops (op_is.Zero into shape) f n h = refl
 some_result ops (op_is.MulAdd a b acc) f n h = some_three ops.mul_add (f a) (f b) (f acc) h.0 h.1.0 h.1.1.0
@@ -92,7 +92,7 @@ lost_needs (op_is.Copy a into) slots o e = refl
 lost_needs (op_is.Clear slot) slots o e = cc
 lost_needs (op_is.Mask a m into) slots o e = refl
 
--- if shapes are one at its operands, an operation may be done on these if it may on those
+-- if two states have the same shapes at the operands, an operation may be done on both or on neither
 pub may_work : (op : Op) (f g : ℕ → Option Extent) → AreSame f g (operands_of op) → (all_filled g (operands_of op) ≡ true) × (shapes_agree g op ≡ true) → (all_filled f (operands_of op) ≡ true) × (shapes_agree f op ≡ true)
 may_work (op_is.Zero into shape) f g h k = k
 may_work (op_is.MulAdd a b acc) f g h k = rw (h.0, h.1.0, h.1.1.0) k

@@ -22,7 +22,7 @@ use Rattle.cb_plan.specs.Programs.{take_of, halves_of}
 use Rattle.cb_plan.specs.Stores.{sheet_of, slot_of, sheets_in}
 use Rattle.cb_rank.specs.Agreement.{IsSlotOf, IsBodyOf}
 use Rattle.cb_rank.specs.Halves.{slot_at, origin_of, first_lost, reads_of, loss_or_result, IsCopy, IsWork, slot_of_body}
-use Rattle.cb_rank.proofs.OwnActs.{split}
+use Rattle.cb_plan.proofs.Effects.{split}
 use Rattle.cb_rank.proofs.ByOperation.{AllSome, AreSame, same_result, some_result, lost_needs}
 
 take_is : (from : ℕ) (tag : Tag) (into : ℕ) (x : Option Extent) (h : Half) → take_of from tag into x ≡ h ∷ [] → (v : Extent) × (x ≡ Some v) × (h ≡ half_is.Take from tag into v)
@@ -39,7 +39,7 @@ is_post state (act_is.Work rank op) r to tag slot h = split (rank == r) (λ t. l
 is_post state (act_is.Shut from to') r to tag slot h =
     split (from == r) (λ t. let e = rw t at h in cc) (λ f. let e = rw f at h in split (to' == r) (λ t. let e2 = rw t at e in cc) (λ g. let e2 = rw g at e in cc))
 
--- one whose half is a Take is a Move to there, of a slot that has the half's shape
+-- an act whose half at a rank is a Take is a Move to there, of a slot that has the half's shape
 pub is_take : (state : State Extent) (a : Act) (r from : ℕ) (tag : Tag) (into : ℕ) (shape : Extent) → halves_of state a r ≡ half_is.Take from tag into shape ∷ [] → (slot : ℕ) × (a ≡ act_is.Move from r tag slot into) × (state from slot ≡ Some shape)
 is_take state (act_is.Move from' to' tag' slot' into') r from tag into shape h =
     split (from' == r)
@@ -58,7 +58,7 @@ is_take state (act_is.Work rank op) r from tag into shape h = split (rank == r) 
 is_take state (act_is.Shut from' to') r from tag into shape h =
     split (from' == r) (λ t. let e = rw t at h in cc) (λ f. let e = rw f at h in split (to' == r) (λ t. let e2 = rw t at e in cc) (λ g. let e2 = rw g at e in cc))
 
--- one whose half is a Work is that operation at the rank
+-- an act whose half at a rank is a Work is that operation at the rank
 pub is_work : (state : State Extent) (a : Act) (r : ℕ) (op : Op) → halves_of state a r ≡ half_is.Work op ∷ [] → a ≡ act_is.Work r op
 is_work state (act_is.Move from' to' tag' slot' into') r op h =
     split (from' == r) (λ t. let e = rw t at h in cc) (λ f. let e = rw f at h in split (to' == r) (λ t. let e2 = rw t at e in let k = (take_is from' tag' into' (state from' slot') (half_is.Work op) e2).2 in cc) (λ g. let e2 = rw g at e in cc))
@@ -66,7 +66,7 @@ is_work state (act_is.Work rank op') r op h = split (rank == r) (λ t. let e = r
 is_work state (act_is.Shut from' to') r op h =
     split (from' == r) (λ t. let e = rw t at h in cc) (λ f. let e = rw f at h in split (to' == r) (λ t. let e2 = rw t at e in cc) (λ g. let e2 = rw g at e in cc))
 
--- one whose half is a Shut shuts the lane from there
+-- an act whose half at a rank is a Shut shuts the lane from there
 pub is_shut : (state : State Extent) (a : Act) (r to : ℕ) → halves_of state a r ≡ half_is.Shut to ∷ [] → a ≡ act_is.Shut r to
 is_shut state (act_is.Move from' to' tag' slot' into') r to h =
     split (from' == r) (λ t. let e = rw t at h in cc) (λ f. let e = rw f at h in split (to' == r) (λ t. let e2 = rw t at e in let k = (take_is from' tag' into' (state from' slot') (half_is.Shut to) e2).2 in cc) (λ g. let e2 = rw g at e in cc))
@@ -74,7 +74,7 @@ is_shut state (act_is.Work rank op') r to h = split (rank == r) (λ t. let e = r
 is_shut state (act_is.Shut from' to') r to h =
     split (from' == r) (λ t. let e = rw t at h in let same : from' ≡ r = grind (arith, nat_tests) in cc) (λ f. let e = rw f at h in split (to' == r) (λ t. let e2 = rw t at e in cc) (λ g. let e2 = rw g at e in cc))
 
--- one whose half is an End shuts the lane to there
+-- an act whose half at a rank is an End shuts the lane to there
 pub is_end : (state : State Extent) (a : Act) (r from : ℕ) → halves_of state a r ≡ half_is.End from ∷ [] → a ≡ act_is.Shut from r
 is_end state (act_is.Move from' to' tag' slot' into') r from h =
     split (from' == r) (λ t. let e = rw t at h in cc) (λ f. let e = rw f at h in split (to' == r) (λ t. let e2 = rw t at e in let k = (take_is from' tag' into' (state from' slot') (half_is.End from) e2).2 in cc) (λ g. let e2 = rw g at e in cc))
@@ -82,7 +82,7 @@ is_end state (act_is.Work rank op') r from h = split (rank == r) (λ t. let e = 
 is_end state (act_is.Shut from' to') r from h =
     split (from' == r) (λ t. let e = rw t at h in cc) (λ f. let e = rw f at h in split (to' == r) (λ t. let e2 = rw t at e in let same : to' ≡ r = grind (arith, nat_tests) in cc) (λ g. let e2 = rw g at e in cc))
 
--- what there is has a name
+-- an optional value that is there
 pub some_of : {M : Type 0} (w : Option M) → IsSome w → (m : M) × (w ≡ Some m)
 some_of (Some m) h = (m, refl)
 some_of None h = cc
@@ -100,7 +100,7 @@ copied refs refs' r w (slot_is.Lost o) (body_is.Sheet n) g some h c = absurd c
 copied refs refs' r w (slot_is.Lost o) body_is.Close g some h c = absurd c
 copied refs refs' r w slot_is.Empty b g some h c = absurd c
 
--- and what a letter leaves agrees with the block that the letter agrees with
+-- what a letter leaves in a slot agrees with the block that the letter agrees with
 pub arrived_slot : (refs : ℕ → ℕ) (w : Option Sparse) (b : Body Sparse) → IsBodyOf refs (Sheet w) b → IsSlotOf refs w (slot_of_body b)
 arrived_slot refs w (body_is.Sheet m) h = cc
 arrived_slot refs w (body_is.Lost o) h = let e = h.0.1 in let m = h.0.0 in let is : w ≡ Some m = cc in (rw is refl, h.1)

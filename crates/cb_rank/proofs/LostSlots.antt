@@ -31,7 +31,7 @@ holds refusals wanted slot_is.Empty none h = (sym h, refl)
 holds refusals wanted (slot_is.Sheet m) none h = (sym h, refl)
 holds refusals wanted (slot_is.Lost origin) none h = let zero_at = none origin in let some = h.1 in absurd (omega arith)
 
--- and so do all slots
+-- if no rank was refused memory, all slots do
 pub whole_by : (refusals : List ℕ) (wanted : State Sparse) (stores : List (List (Slot Sparse))) → ((r n : ℕ) → IsSlotOf (λ k. get_or refusals k 0) (wanted r n) (cell slot_is.Empty stores r n)) → sum refusals ≡ 0 → (state_of stores ≡ wanted) × NoneLost stores
 whole_by refusals wanted stores slots none =
     let zeros = none_refused refusals none in

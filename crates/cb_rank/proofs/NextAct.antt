@@ -17,10 +17,11 @@ use Rattle.cb_plan.specs.Programs.{halves_of, project_from}
 use Rattle.cb_plan.proofs.PassingActs.{checked_passes}
 use Rattle.cb_plan.proofs.ActOnStores.{first_below}
 use Rattle.cb_rank.specs.Ranks.{RankView, IsRank, next_half, shapes_at}
-use Rattle.cb_rank.proofs.OwnActs.{split, counted, one_half, meaning-next}
+use Rattle.cb_plan.proofs.Effects.{split}
+use Rattle.cb_rank.proofs.OwnActs.{counted, one_half, meaning-next}
 use Rattle.cb_rank.proofs.Halves.{is_post, is_take, is_work, is_shut, is_end}
 
--- an element past the first of two lists is one of the second
+-- an element of two lists that is past the first is one of the second
 pub slice_get_right : {A : Type 0} (xs ys : List A) (k : ℕ) → length xs ≤ k → slice_get (xs ++ ys) k ≡ slice_get ys (k - length xs)
 slice_get_right [] ys k h = let e : k - 0 ≡ k = omega arith in rw e refl
 slice_get_right (x ∷ xs) ys zero h = absurd (omega arith)
@@ -59,7 +60,7 @@ next_sound ranks shut (b ∷ acts) state r k a p is =
 pub apart_of : (ranks : ℕ) (state : State Extent) (shut : Lanes) (from to : ℕ) (tag : Tag) (slot into : ℕ) → IsSound ranks state shut (act_is.Move from to tag slot into) → from ≢ to
 apart_of ranks state shut from to tag slot into h = let e = h.apart in grind (arith, nat_tests)
 
--- and so is a sound Shut
+-- a sound Shut is between two ranks
 pub apart_of_shut : (ranks : ℕ) (state : State Extent) (shut : Lanes) (from to : ℕ) → IsSound ranks state shut (act_is.Shut from to) → from ≢ to
 apart_of_shut ranks state shut from to h = let e = h.apart in grind (arith, nat_tests)
 
@@ -97,7 +98,7 @@ module _ (x : RankView) (h : Half) (is : IsRank x) (next : next_half x ≡ Some 
   pub next_one : (a : Act) × (next_act x.plan.acts x.me x.done ≡ Some a) × (halves_of outline a x.me ≡ h ∷ [])
   next_one = act_of_half x.plan.ranks none_shut x.plan.acts (started x.plan.starts) x.me x.done h passes (rw is.program at next)
 
-  -- that act is sound after those before it
+  -- that act is sound after the acts before it
   pub next_passes : IsSound x.plan.ranks outline lanes next_one.0
   next_passes = next_sound x.plan.ranks none_shut x.plan.acts (started x.plan.starts) x.me x.done next_one.0 passes next_one.1
 

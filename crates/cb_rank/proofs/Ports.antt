@@ -13,7 +13,7 @@ use Rattle.cb_plan.specs.declared.stores.Slot.{Slot}
 use Rattle.cb_plan.specs.Checks.{none_shut, started}
 use Rattle.cb_rank.specs.declared.wants.Want.TheVariants as want_is
 use Rattle.cb_rank.specs.Ranks.{RankView, IsRank, ArePortsOf, want_of, next_half, onward, standing_by, posted_to, is_shut_to}
-use Rattle.cb_rank.proofs.OwnActs.{split}
+use Rattle.cb_plan.proofs.Effects.{split}
 use Rattle.cb_rank.proofs.NextAct.{finds, lanes, passes}
 use Rattle.cb_rank.proofs.RankAfterHalf.{few_halves}
 use Rattle.cb_rank.proofs.WantedHalf.{wants_take, wants_end}
@@ -29,7 +29,7 @@ open_by x h is next k e =
     let same : is_shut_to k (done_halves x) ≡ is_shut_to k (take x.done _) = ap (λ hs. is_shut_to k (take x.done hs)) is.program in
     same ∙ sym halves ∙ e
 
--- what its ports say of that lane: it is one, and nothing but room can refuse a post
+-- what its ports say of that lane: it exists, and only want of room can refuse a post
 pub record IsOpenTo (x : RankView) (k : ℕ) (s : Standing) : Type 0 where
   pub lane : s.is_stranger ≡ false
   pub none : standing_refusal s ≡ None
@@ -54,7 +54,7 @@ opens_post x to tag slot standing is next ports =
     let f = finds x h is next in
     may_post x h is next standing to ports f.0 f.1 f.4
 
--- those of a rank whose next half is a Shut are open to the rank at the other end of the lane
+-- the ports of a rank whose next half is a Shut are open to the rank at the other end of the lane
 pub opens_shut : (x : RankView) (to : ℕ) (standing : ℕ → Standing) → IsRank x → next_half x ≡ Some (half_is.Shut to) → ArePortsOf x standing → IsOpenTo x to (standing to)
 opens_shut x to standing is next ports =
     let h : Half = half_is.Shut to in
@@ -84,7 +84,7 @@ quiet_posts (half_is.Work op) k q = (refl, refl)
 quiet_posts (half_is.Shut to) k q = absurd q
 quiet_posts (half_is.End from) k q = (refl, refl)
 
--- how a lane stands after one half more
+-- how a lane stands after one more half
 one_more : (x : RankView) (h : Half) (k : ℕ) → next_half x ≡ Some h →
     standing_by x.me (take (x.done + 1) x.program) k ≡ record { sender = x.me; is_stranger = false; is_closed = is_shut_to k (done_halves x) || is_shut_to k (h ∷ []); posted = posted_to k (done_halves x) + posted_to k (h ∷ []) }
 one_more x h k next = rw (take-next x.program x.done h next, posted_to-append k (done_halves x) (h ∷ []), is_shut_to-append k (done_halves x) (h ∷ [])) refl
@@ -114,14 +114,14 @@ module _ (x : RankView) (h : Half) (slots : List (Slot Sparse)) (refusals : ℕ)
       let shut : (is_shut_to k (done_halves x) || is_shut_to k (h ∷ [])) ≡ is_shut_to k (done_halves x) = rw none.1 (or_nothing (is_shut_to k (done_halves x))) in
       same k other ∙ ports k low ne ∙ sym (one_more x h k next ∙ rw (count, shut) refl))
 
--- after a Post, ports of which one stands as the letter left it, and the others as before, are those of the rank
+-- after a Post, ports are those of the rank if one lane stands as the letter left it, and the others as before
 pub ports_post : (x : RankView) (to : ℕ) (tag : _) (slot : ℕ) (slots : List (Slot Sparse)) (refusals : ℕ) (y : Letter Sparse) (standing after : ℕ → Standing) → next_half x ≡ Some (half_is.Post to tag slot) → is_close y.body ≡ false → is_shut_to to (done_halves x) ≡ false
     → after to ≡ stands_after y (standing to) → ((k : ℕ) → k ≢ to → after k ≡ standing k) → ArePortsOf x standing → ArePortsOf (onward x slots refusals) after
 ports_post x to tag slot slots refusals y standing after next kind unshut grown same ports =
     let own : (to == to) ≡ true = grind (arith, nat_tests) in
     ports_grow x (half_is.Post to tag slot) slots refusals to y standing after next (rw own refl) (sym kind) (λ k ne. let f : (to == k) ≡ false = grind (arith, nat_tests) in (rw f refl, refl)) unshut grown same ports
 
--- after a Shut, ports of which one stands as the close mark left it, and the others as before, are those of the rank
+-- after a Shut, ports are those of the rank if one lane stands as the close mark left it, and the others as before
 pub ports_shut : (x : RankView) (to : ℕ) (slots : List (Slot Sparse)) (refusals : ℕ) (y : Letter Sparse) (standing after : ℕ → Standing) → next_half x ≡ Some (half_is.Shut to) → is_close y.body ≡ true → is_shut_to to (done_halves x) ≡ false
     → after to ≡ stands_after y (standing to) → ((k : ℕ) → k ≢ to → after k ≡ standing k) → ArePortsOf x standing → ArePortsOf (onward x slots refusals) after
 ports_shut x to slots refusals y standing after next kind unshut grown same ports =

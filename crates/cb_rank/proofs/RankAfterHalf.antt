@@ -34,7 +34,8 @@ use Rattle.cb_rank.specs.declared.wants.Arrival.{Arrival}
 use Rattle.cb_rank.specs.declared.wants.Arrival.TheVariants as arrival_is
 use Rattle.cb_rank.specs.Ranks.{RankView, IsRank, HasShape, FitsAt, HasSlot, IsAwaited, next_half, new_rank, onward, shapes_at, slots_with}
 use Rattle.cb_rank.specs.Steps.{HandsOut, Works}
-use Rattle.cb_rank.proofs.OwnActs.{split, counted, one_half, meaning-before_next}
+use Rattle.cb_plan.proofs.Effects.{split}
+use Rattle.cb_rank.proofs.OwnActs.{counted, one_half, meaning-before_next}
 use Rattle.cb_rank.proofs.ByOperation.{AreSame, same_result, some_result, lost_needs, filled_slots}
 use Rattle.cb_rank.proofs.Halves.{is_post, is_take, is_work, is_shut, is_end}
 use Rattle.cb_rank.proofs.NextAct.{next_one, outline, shapes_next, finds}
@@ -43,7 +44,7 @@ use Rattle.cb_rank.proofs.NextAct.{next_one, outline, shapes_next, finds}
 abbrev pub HaveShapes : RankView → State Extent → Act → List (Slot Sparse) → Type 0
 HaveShapes x outline a slots = (n : ℕ) → HasShape (act shapes a outline x.me n) (slot_at slots n)
 
--- one half more
+-- one more half
 pub goes_on : (x : RankView) (h : Half) (slots : List (Slot Sparse)) (refusals : ℕ) (is : IsRank x) (next : next_half x ≡ Some h) → refusals ≤ x.refusals + 1 → length slots ≡ 256 →
     HaveShapes x (outline x h is next) (next_one x h is next).0 slots → IsRank (onward x slots refusals)
 goes_on x h slots refusals is next few size have = record {
@@ -72,7 +73,7 @@ module _ (x : RankView) (h : Half) (is : IsRank x) (next : next_half x ≡ Some 
   shut_here : (from to : ℕ) → a ≡ act_is.Shut from to → HaveShapes x o a x.slots
   shut_here from to e n = subst (λ v. HasShape v (slot_at x.slots n)) (let same : act shapes a o x.me n ≡ o x.me n = rw e refl in sym same) (is.shapes n)
 
-  -- a half that sets one
+  -- a half that sets a slot
   set_slot : (t : ℕ) (y : Slot Sparse) → t < 256 → HasShape (act shapes a o x.me t) y → ((n : ℕ) → n ≢ t → act shapes a o x.me n ≡ o x.me n) → HaveShapes x o a (slice_set x.slots t y)
   set_slot t y l has other n =
       split (n == t)
@@ -84,20 +85,20 @@ module _ (x : RankView) (h : Half) (is : IsRank x) (next : next_half x ≡ Some 
       let at : slot_at (slice_set x.slots t y) n ≡ slot_at x.slots n = get_or-set_other x.slots t n y slot_is.Empty ne in
       rw (at, other n ne) (is.shapes n))
 
--- a rank is one after a Post, with at most one refusal more
+-- after a Post a rank is still one, with at most one more refusal
 pub posts_on : (x : RankView) (to : ℕ) (tag : Tag) (slot refusals : ℕ) → IsRank x → next_half x ≡ Some (half_is.Post to tag slot) → refusals ≤ x.refusals + 1 → IsRank (onward x x.slots refusals)
 posts_on x to tag slot refusals is next few =
     let h : Half = half_is.Post to tag slot in
     let k = is_post (outline x h is next) (next_one x h is next).0 x.me to tag slot (next_one x h is next).2 in
     goes_on x h x.slots refusals is next few is.size (moved_away x h is next to tag slot k.0 k.1 (finds x h is next).1)
 
--- and after a Shut
+-- after a Shut a rank is still one
 pub shuts_on : (x : RankView) (to : ℕ) → IsRank x → next_half x ≡ Some (half_is.Shut to) → IsRank (onward x x.slots x.refusals)
 shuts_on x to is next =
     let h : Half = half_is.Shut to in
     goes_on x h x.slots x.refusals is next (omega arith) is.size (shut_here x h is next x.me to (is_shut (outline x h is next) (next_one x h is next).0 x.me to (next_one x h is next).2))
 
--- and after an End
+-- after an End a rank is still one
 pub ends_on : (x : RankView) (from : ℕ) → IsRank x → next_half x ≡ Some (half_is.End from) → IsRank (onward x x.slots x.refusals)
 ends_on x from is next =
     let h : Half = half_is.End from in
@@ -109,7 +110,7 @@ kind_shape shape (body_is.Sheet m) h = ap Some (sym h)
 kind_shape shape (body_is.Lost o) h = refl
 kind_shape shape body_is.Close h = absurd h
 
--- and after a Take, whose slot has the half's shape or is lost
+-- after a Take a rank is still one, as its slot has the half's shape or is lost
 pub takes_on : (x : RankView) (from : ℕ) (tag : Tag) (into : ℕ) (shape : Extent) (b : Body Sparse) → IsRank x → next_half x ≡ Some (half_is.Take from tag into shape) → HasKind shape b → IsRank (onward x (slice_set x.slots into (slot_of_body b)) x.refusals)
 takes_on x from tag into shape b is next kind =
     let h : Half = half_is.Take from tag into shape in
@@ -162,7 +163,7 @@ work_few : (s : Arithmetic) (me : ℕ) (op : Op) (slots : List (Slot Sparse)) (y
 work_few s me op slots y old new (inl e) = let k = e.1 in omega arith
 work_few s me op slots y old new (inr e) = let k = e.1 in omega arith
 
--- and after a Work, whose slot has what the operation leaves or is lost
+-- after a Work a rank is still one, as its slot has what the operation leaves or is lost
 pub works_on : (s : Arithmetic) (x : RankView) (op : Op) (y : Slot Sparse) (refusals : ℕ) → IsRank x → next_half x ≡ Some (half_is.Work op) → IsWork s x.me op x.slots y x.refusals refusals → IsRank (onward x (slice_set x.slots (target_of op) y) refusals)
 works_on s x op y refusals is next work =
     let h : Half = half_is.Work op in
@@ -178,7 +179,7 @@ works_on s x op y refusals is next work =
     (set_slot x h is next (target_of op) y low (subst (λ v. HasShape v y) (sym at) (work_has s x.me op (o x.me) x.slots y x.refusals refusals f.1 is.shapes work))
     (λ n ne. let g : (target_of op == n) ≡ false = grind (arith, nat_tests) in rw (e, own, g) refl))
 
--- a rank at its beginning
+-- a rank that has done nothing is one
 pub starts_as : (plan : CheckedView) (me : ℕ) (slots : List (Slot Sparse)) → IsChecked plan → me < plan.ranks → FitsAt plan.starts me slots → IsRank (new_rank plan me slots)
 starts_as plan me slots checked inside fits = record {
   checked = checked;
@@ -239,7 +240,7 @@ few_halves x is =
     let same = ap length is.program in
     omega arith
 
--- what a rank counts: its refusals so far, and one more if it was refused
+-- a rank's count: its refusals so far, and one more if it was refused
 pub copy_counts : (me : ℕ) (y : Slot Sparse) (b : Body Sparse) (n k : ℕ) → IsCopy me y b 0 k → IsCopy me y b n (n + k)
 copy_counts me (slot_is.Sheet m) (body_is.Sheet p) n k c = let e = c.1 in (c.0, omega arith)
 copy_counts me (slot_is.Sheet m) (body_is.Lost o) n k c = let e = c.1 in (c.0, omega arith)
@@ -257,7 +258,7 @@ copy_is_open me slot_is.Empty body_is.Close old new c = absurd c
 copy_is_open me (slot_is.Sheet m) body_is.Close old new c = absurd c
 copy_is_open me (slot_is.Lost o) body_is.Close old new c = absurd c
 
--- a truth value is, as a number, at most one
+-- a truth value as a number is at most one
 pub bool_few : (b : Bool) → from_bool b ≤ 1
 bool_few true = omega arith
 bool_few false = omega arith

@@ -26,7 +26,7 @@ wants_post_to (Some (half_is.Shut to)) k w = cc
 wants_post_to (Some (half_is.End from)) k w = cc
 wants_post_to None k w = cc
 
--- one that wants to shut a lane has a Shut next
+-- a rank that wants to shut a lane has a Shut next
 pub wants_shut : (h : Option Half) → IsShut (want_of h) → (to : ℕ) × (h ≡ Some (half_is.Shut to))
 wants_shut (Some (half_is.Shut to)) w = (to, refl)
 wants_shut (Some (half_is.Post to tag slot)) w = absurd w
@@ -35,7 +35,7 @@ wants_shut (Some (half_is.Work op)) w = absurd w
 wants_shut (Some (half_is.End from)) w = absurd w
 wants_shut None w = absurd w
 
--- and that of k if it wants to shut the lane to k
+-- a rank that wants to shut the lane to k has that Shut next
 pub wants_shut_to : (h : Option Half) (k : ℕ) → want_of h ≡ want_is.Shut k → h ≡ Some (half_is.Shut k)
 wants_shut_to (Some (half_is.Shut to)) k w = let same : to ≡ k = cc in ap (λ n. Some (half_is.Shut n)) same
 wants_shut_to (Some (half_is.Post to tag slot)) k w = cc
@@ -44,7 +44,7 @@ wants_shut_to (Some (half_is.Work op)) k w = cc
 wants_shut_to (Some (half_is.End from)) k w = cc
 wants_shut_to None k w = cc
 
--- one that wants to work has a Work next
+-- a rank that wants to work has a Work next
 pub wants_work : (h : Option Half) → want_of h ≡ want_is.Work → (op : Op) × (h ≡ Some (half_is.Work op))
 wants_work (Some (half_is.Work op)) w = (op, refl)
 wants_work (Some (half_is.Post to tag slot)) w = cc
@@ -53,7 +53,7 @@ wants_work (Some (half_is.Shut to)) w = cc
 wants_work (Some (half_is.End from)) w = cc
 wants_work None w = cc
 
--- one that wants a letter from k has a Take from k next
+-- a rank that wants a letter from k has a Take from k next
 pub wants_take : (h : Option Half) (k : ℕ) → want_of h ≡ want_is.Take k → (tag : Tag) × (into : ℕ) × (shape : Extent) × (h ≡ Some (half_is.Take k tag into shape))
 wants_take (Some (half_is.Take from tag into shape)) k w = let same : from ≡ k = cc in (tag, into, shape, ap (λ n. Some (half_is.Take n tag into shape)) same)
 wants_take (Some (half_is.Post to tag slot)) k w = cc
@@ -62,7 +62,7 @@ wants_take (Some (half_is.Shut to)) k w = cc
 wants_take (Some (half_is.End from)) k w = cc
 wants_take None k w = cc
 
--- one that wants the end of the lane from k has that End next
+-- a rank that wants the end of the lane from k has that End next
 pub wants_end : (h : Option Half) (k : ℕ) → want_of h ≡ want_is.End k → h ≡ Some (half_is.End k)
 wants_end (Some (half_is.End from)) k w = let same : from ≡ k = cc in ap (λ n. Some (half_is.End n)) same
 wants_end (Some (half_is.Take from tag into shape)) k w = cc
@@ -71,7 +71,7 @@ wants_end (Some (half_is.Work op)) k w = cc
 wants_end (Some (half_is.Shut to)) k w = cc
 wants_end None k w = cc
 
--- one that wants nothing has no half left
+-- a rank that wants nothing has no half left
 pub wants_nothing : (h : Option Half) → want_of h ≡ want_is.Done → h ≡ None
 wants_nothing None w = refl
 wants_nothing (Some (half_is.End from)) w = cc

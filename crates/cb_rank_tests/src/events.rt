@@ -1,4 +1,4 @@
-//! Worlds of a product over four ranks, whose ranks step in some order.
+//! Worlds of a product over four ranks, which step in several orders.
 ghost use Rattle.std.specs.Prelude.{◌≡◌, ◌≤◌, IfSome};
 ghost use Rattle.cb_plan.specs.Stores.{Fits};
 
@@ -30,7 +30,7 @@ pub(crate) fn product_world(alloc: Global) -> Option<World<PlusTimes>>
     world(alloc, &plan, stores)
 }
 
-/// The stores that the ranks leave, once all are done.
+/// The stores that the ranks leave, if all are done.
 pub(crate) fn stores_of(world: World<PlusTimes>) -> Option<Vec<RankStore<PlusTimes>>> {
     if !world.all_done() {
         return None;
@@ -39,18 +39,18 @@ pub(crate) fn stores_of(world: World<PlusTimes>) -> Option<Vec<RankStore<PlusTim
     Some(stores)
 }
 
-/// Whether each of these events is answered so.
+/// Whether each of these events is answered as expected.
 pub(crate) fn answers(world: &mut World<PlusTimes>, events: &[(Event, Moved)]) -> bool
     ensures { world.new.plan ≡ world.old.plan }
 {
-    let mut as_said = true;
+    let mut as_expected = true;
     for (event, moved) in events {
-        as_said &= world.step(*event) == *moved;
+        as_expected &= world.step(*event) == *moved;
     }
-    as_said
+    as_expected
 }
 
-/// How many letters were posted and taken on all lanes of so many ranks, close marks among them.
+/// How many letters, close marks included, were posted and taken on all lanes of this many ranks.
 pub(crate) fn letters(world: &World<PlusTimes>, ranks: u16) -> (u64, u64)
     requires { ranks ≤ world.now.plan.ranks }
 {
@@ -67,13 +67,13 @@ pub(crate) fn letters(world: &World<PlusTimes>, ranks: u16) -> (u64, u64)
     (posted, taken)
 }
 
-/// Whether so many halves are to be done. Then all are.
+/// Whether this many halves are left, and are done when the world is run to its end.
 pub(crate) fn ends(world: &mut World<PlusTimes>, halves: u64) -> bool
     ensures { world.new.plan ≡ world.old.plan }
 {
-    let as_said = world.remaining() == halves;
+    let as_expected = world.remaining() == halves;
     world.finish();
-    as_said
+    as_expected
 }
 
 /// Whether the ranks of a world leave the product.
@@ -84,24 +84,24 @@ fn leaves_product(world: World<PlusTimes>) -> bool {
     }
 }
 
-/// Whether rank 3 works and then waits, however often it is asked, and all is done in the end.
+/// Whether rank 3 works and then waits, however often it is stepped, and all ranks are done in the end.
 fn waits_and_ends(world: &mut World<PlusTimes>) -> bool
     requires { world.old.plan.ranks ≡ 4 }
 {
-    let mut as_said = world.remaining() == 60;
-    as_said &= answers(world, &[(Event::Step(3), Moved::Worked)]);
-    as_said &= answers(world, &[(Event::Step(3), Moved::Waiting); 99]);
+    let mut as_expected = world.remaining() == 60;
+    as_expected &= answers(world, &[(Event::Step(3), Moved::Worked)]);
+    as_expected &= answers(world, &[(Event::Step(3), Moved::Waiting); 99]);
     world.finish();
     let posted = (world.posted(1, 3), world.posted(0, 3));
-    as_said &= (world.remaining(), world.refusals()) == (0, 0) && posted == (2, 1);
-    as_said & (letters(world, 4) == (20, 20))
+    as_expected &= (world.remaining(), world.refusals()) == (0, 0) && posted == (2, 1);
+    as_expected & (letters(world, 4) == (20, 20))
 }
 
-/// The same of the world of the product, and whether its ranks leave the product.
+/// The same for the world of the product, and whether its ranks leave the product.
 fn waits_and_leaves_product(alloc: Global) -> Option<bool> {
     let mut world = product_world(alloc)?;
-    let as_said = waits_and_ends(&mut world);
-    Some(as_said & leaves_product(world))
+    let as_expected = waits_and_ends(&mut world);
+    Some(as_expected & leaves_product(world))
 }
 
 #[test]

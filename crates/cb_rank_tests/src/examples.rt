@@ -12,14 +12,14 @@ use cb_semirings::PlusTimes;
 use cb_summa::{LEFT, RESULT, RIGHT, summa};
 use std::alloc::Global;
 
-/// The grid of a side.
+/// The grid of this side, if there is one.
 pub(crate) fn grid(side: u32) -> Option<Grid>
     ensures { IfSome result (λ grid. grid.side ≡ side) }
 {
     Grid::new(side).ok()
 }
 
-/// The matrix of so many rows and columns with these entries.
+/// The matrix of this many rows and columns with these entries.
 pub(crate) fn matrix(
     alloc: Global,
     rows: u32,
@@ -32,7 +32,7 @@ pub(crate) fn matrix(
     Matrix::from_entries(alloc, shape(rows, cols).ok()?, entries).ok()
 }
 
-/// The first of two matrices of 2 by 2.
+/// The first of two 2 by 2 matrices.
 pub(crate) fn left(alloc: Global) -> Option<Matrix<PlusTimes>> {
     matrix(
         alloc,
@@ -57,7 +57,7 @@ fn product(alloc: Global) -> Option<Matrix<PlusTimes>> {
     )
 }
 
-/// Puts one block into a slot of each rank.
+/// Puts a block into a slot of each rank.
 pub(crate) fn fill(stores: &mut [RankStore<PlusTimes>], slot: u16, blocks: Vec<Block<PlusTimes>>)
     requires { slot < SLOTS }
 {
@@ -66,7 +66,7 @@ pub(crate) fn fill(stores: &mut [RankStore<PlusTimes>], slot: u16, blocks: Vec<B
     }
 }
 
-/// Empty stores for so many ranks.
+/// Empty stores for this many ranks.
 fn empty_stores(alloc: Global, ranks: u16) -> Option<Vec<RankStore<PlusTimes>>> {
     let mut stores = Vec::new(alloc);
     for _ in 0..ranks {
@@ -106,7 +106,7 @@ pub(crate) fn laid_out(
 /// A plan, and the store that each of its ranks begins with.
 pub(crate) type Example = (CheckedPlan, Vec<RankStore<PlusTimes>>);
 
-/// A plan that runs, with stores, where they fit it.
+/// A runnable plan with stores, if they fit it.
 pub(crate) fn fitted(planned: Planned, stores: Vec<RankStore<PlusTimes>>) -> Option<Example>
     requires { IsRunnable planned }
     ensures fits { IfSome result (λ p. Fits p.0.ranks p.0.starts p.1.items) }
@@ -139,7 +139,7 @@ pub(crate) fn product_of(
     )
 }
 
-/// The plan of the product of two matrices of 2 by 2 over the grid of a side.
+/// The plan of the product of the two 2 by 2 matrices over the grid of this side.
 pub(crate) fn two_by_two(alloc: Global, side: u32) -> Option<Example>
     ensures fits { IfSome result (λ p. Fits p.0.ranks p.0.starts p.1.items) }
     ensures ranks { IfSome result (λ p. p.0.ranks ≡ side * side) }
@@ -156,11 +156,11 @@ pub(crate) enum Held {
     NoEntry,
     /// A block with one entry.
     One(Entry),
-    /// It is lost, at this rank.
+    /// Lost, at this rank.
     LostAt(u16),
 }
 
-/// A block that has this value in its first place, and no other entry.
+/// A block with this value at its first place, and no other entry.
 pub(crate) const fn one(value: u64) -> Held {
     Held::One(Entry {
         row: 0,
@@ -169,7 +169,7 @@ pub(crate) const fn one(value: u64) -> Held {
     })
 }
 
-/// The blocks of the product of the two matrices of 2 by 2, over the grid of side 2.
+/// The blocks of the product of the two 2 by 2 matrices over the grid of side 2.
 pub(crate) const fn product_blocks() -> [Held; 4] {
     [one(8), one(1), one(12), Held::NoEntry]
 }
@@ -213,7 +213,7 @@ fn are_same(found: &Block<PlusTimes>, wanted: &Block<PlusTimes>) -> bool {
     true
 }
 
-/// Whether two slots hold the same, and neither is lost.
+/// Whether two slots hold the same and neither is lost.
 fn hold_same(found: &Slot<Block<PlusTimes>>, wanted: &Slot<Block<PlusTimes>>) -> bool {
     match (found, wanted) {
         (Slot::Empty, Slot::Empty) => true,
@@ -222,7 +222,7 @@ fn hold_same(found: &Slot<Block<PlusTimes>>, wanted: &Slot<Block<PlusTimes>>) ->
     }
 }
 
-/// Whether each slot of some stores that isn't lost holds what the other stores hold there, and how many are lost.
+/// Whether each slot that isn't lost holds the same as in the other stores, and how many slots are lost.
 pub(crate) fn kept(found: &[RankStore<PlusTimes>], wanted: &[RankStore<PlusTimes>]) -> (bool, u32) {
     let mut lost = 0u32;
     for (found, wanted) in found.iter().zip(wanted.iter()) {
@@ -237,7 +237,7 @@ pub(crate) fn kept(found: &[RankStore<PlusTimes>], wanted: &[RankStore<PlusTimes
     (found.len() == wanted.len(), lost)
 }
 
-/// Whether the ranks of a grid leave the blocks of a matrix.
+/// Whether the ranks of a grid leave the blocks of a matrix as their results.
 fn leave(
     alloc: Global,
     grid: &Grid,
@@ -259,7 +259,7 @@ fn leave(
     Some(true)
 }
 
-/// Whether the ranks of the grid of a side leave the blocks of the product of the two matrices of 2 by 2.
+/// Whether the ranks of the grid of this side leave the blocks of the product of the two 2 by 2 matrices.
 pub(crate) fn leave_product(
     alloc: Global,
     side: u32,

@@ -1,4 +1,4 @@
-//! Worlds over grids of every side, and of other plans.
+//! Worlds of products over grids of every side, and of other plans.
 ghost use Rattle.std.specs.Prelude.{◌≡◌, IfSome};
 ghost use Rattle.cb_plan.specs.Stores.{Fits};
 
@@ -26,7 +26,7 @@ const SIDES: [(u32, u64, u64); 6] = [
     (6, 3564, 1620),
 ];
 
-/// What the ranks leave of the product of two matrices on the grid of a side, if it takes so many halves and letters.
+/// What the ranks leave of the product on the grid of this side, if it takes this many halves and letters.
 fn finished(
     alloc: Global,
     side: u32,
@@ -42,7 +42,7 @@ fn finished(
     stores_of(world)
 }
 
-/// Whether it takes so many, and they leave the product.
+/// Whether it takes this many and leaves the product.
 fn finishes(alloc: Global, side: u32, halves: u64, posted: u64) -> Option<bool> {
     let stores = finished(alloc, side, halves, posted)?;
     leave_product(alloc, side, &stores)
@@ -58,8 +58,7 @@ fn worlds_finish_on_grids_of_every_side(rt: HostRuntime) {
     }
 }
 
-/// The plan of the product over sixteen ranks of two matrices with as many rows and columns as a matrix may have, and one
-/// entry each.
+/// The plan of the product of two matrices of the largest sides, with one entry each, over sixteen ranks.
 fn far_entries(alloc: Global) -> Option<Example>
     ensures fits { IfSome result (λ p. Fits p.0.ranks p.0.starts p.1.items) }
     ensures ranks { IfSome result (λ p. p.0.ranks ≡ 16) }
@@ -69,13 +68,13 @@ fn far_entries(alloc: Global) -> Option<Example>
     product_of(alloc, &grid(4)?, &left, &right)
 }
 
-/// Whether blocks go to sixteen ranks down trees, to the end.
+/// Whether blocks are broadcast to sixteen ranks along trees.
 fn go_down_trees(world: &mut World<PlusTimes>) -> bool
     requires { world.old.plan.ranks ≡ 16 }
 {
-    let as_said = ends(world, 784);
+    let as_expected = ends(world, 784);
     let posted = (world.posted(0, 3), world.posted(0, 2), world.posted(1, 3));
-    as_said && posted == (1, 3, 3) && letters(world, 16) == (336, 336)
+    as_expected && posted == (1, 3, 3) && letters(world, 16) == (336, 336)
 }
 
 /// What the first two of the sixteen ranks leave.
@@ -96,7 +95,7 @@ fn blocks_go_to_sixteen_ranks_down_trees(rt: HostRuntime) {
     assert!(rt; left_by_first(rt.alloc()) == Some(wanted));
 }
 
-/// What the ranks leave of a plan of so many acts, which are so many halves.
+/// What the ranks leave of a plan, if it has this many acts and halves.
 fn left_by(
     alloc: Global,
     example: Example,
@@ -114,7 +113,7 @@ fn left_by(
     stores_of(world)
 }
 
-/// The plan of the product under a mask over four ranks. The mask has the two places of the diagonal.
+/// The plan of the product over four ranks, under a mask with the two places of the diagonal.
 fn masked(alloc: Global) -> Option<Example>
     ensures { IfSome result (λ p. Fits p.0.ranks p.0.starts p.1.items) }
 {
@@ -135,7 +134,7 @@ fn masked(alloc: Global) -> Option<Example>
     )
 }
 
-/// What the ranks leave of it.
+/// What the ranks leave of the product under the mask.
 fn left_under_mask(alloc: Global) -> Option<[Held; 4]> {
     let example = masked(alloc)?;
     let stores = left_by(alloc, example, 44, 64)?;
@@ -171,7 +170,7 @@ fn rows_of(stores: &[RankStore<PlusTimes>], rank: usize) -> Option<u32> {
     }
 }
 
-/// What the ranks leave of it, and how many rows the block of each has.
+/// What the ranks leave of the product, and how many rows each rank's block has.
 fn left_of_vector(alloc: Global) -> Option<([Held; 4], [u32; 4])> {
     let example = times_vector(alloc)?;
     let stores = left_by(alloc, example, 68, 88)?;

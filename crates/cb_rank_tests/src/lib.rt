@@ -1,9 +1,9 @@
-//! Worked examples of ranks, run through their public calls alone: one rank by itself, two of them in a world and in
-//! threads of their own, and those of plans over grids.
+//! Tests of ranks, through their public calls alone: one rank by itself, two ranks in a world and on their own threads, and
+//! the ranks of plans over grids.
 //!
-//! In the latter the plan of a product is laid over a grid of ranks, its factors are cut into their slots, and the ranks
-//! then do their programs: in a world, one event at a time and in any order, or in threads, all at once. Whatever the
-//! order, they leave the blocks of the product.
+//! For a grid, the factors of a product are scattered to the slots of the ranks, which then run their programs: in a
+//! world, one event at a time and in any order, or on threads, in parallel. In every order they leave the blocks of the
+//! product.
 #![tactic(auto)]
 
 #[cfg(test)]

@@ -1,4 +1,4 @@
-//! A world of a product over four ranks, to one of whose halves memory is refused.
+//! Worlds of a product over four ranks, where one half is refused memory.
 ghost use Rattle.cb_plan.specs.Stores.{Fits};
 
 use crate::events::{answers, product_world, stores_of};
@@ -19,13 +19,13 @@ const FIRST_LETTER: [(Event, Moved); 5] = [
     (Event::Step(1), Moved::Took),
 ];
 
-/// What the ranks leave of the product where these events follow the first letter, each answered so, memory is refused
-/// once, and the world then comes to its end.
+/// What the ranks leave of the product if these events, with these answers, follow the first letter, memory is refused
+/// once, and the world then runs to its end.
 fn results_after(alloc: Global, events: &[(Event, Moved)]) -> Option<[Held; 4]> {
     let mut world = product_world(alloc)?;
-    let as_said = answers(&mut world, &FIRST_LETTER) && answers(&mut world, events);
+    let as_expected = answers(&mut world, &FIRST_LETTER) && answers(&mut world, events);
     world.finish();
-    if !as_said || world.refusals() != 1 {
+    if !as_expected || world.refusals() != 1 {
         return None;
     }
     Some(results(&stores_of(world)?))
@@ -50,7 +50,7 @@ fn a_post_without_memory_loses_the_product_of_its_addressee(rt: HostRuntime) {
     assert!(rt; results_after(rt.alloc(), &events) == Some(wanted));
 }
 
-/// Steps the least rank that can act so many times, refuses memory to the next half, and finishes.
+/// Steps the least rank that can act, this many times; then refuses memory to the next half, and finishes.
 fn starve_after(world: &mut World<PlusTimes>, halves: u32) {
     for _ in 0..halves {
         if let Some(rank) = world.ready() {
@@ -63,15 +63,15 @@ fn starve_after(world: &mut World<PlusTimes>, halves: u32) {
     world.finish();
 }
 
-/// What the ranks leave where memory is ample.
+/// The stores that the ranks leave with ample memory.
 fn whole(alloc: Global) -> Option<Vec<RankStore<PlusTimes>>> {
     let mut world = product_world(alloc)?;
     world.finish();
     stores_of(world)
 }
 
-/// How often memory is refused where the half after so many others lacks it: at most once, and then something is lost.
-/// All else is kept.
+/// How often memory is refused if the half after this many others is refused it: at most once, and then something is lost.
+/// Everything else is as with ample memory.
 fn refusals_after(alloc: Global, halves: u32, wanted: &[RankStore<PlusTimes>]) -> Option<u64> {
     let mut world = product_world(alloc)?;
     starve_after(&mut world, halves);
@@ -85,7 +85,7 @@ fn refusals_after(alloc: Global, halves: u32, wanted: &[RankStore<PlusTimes>]) -
     }
 }
 
-/// To how many of sixty halves memory can be refused.
+/// How many of sixty halves can be refused memory.
 fn starved_halves(alloc: Global, wanted: &[RankStore<PlusTimes>]) -> Option<u64> {
     let mut starved = 0u64;
     for halves in 0..60 {
@@ -94,7 +94,7 @@ fn starved_halves(alloc: Global, wanted: &[RankStore<PlusTimes>]) -> Option<u64>
     Some(starved)
 }
 
-/// The same of the halves of the product, whose stores are those of the product where memory is ample.
+/// The same, compared with the stores that the product leaves with ample memory.
 fn starved_halves_of_product(alloc: Global) -> Option<u64> {
     let wanted = whole(alloc)?;
     if results(&wanted) == product_blocks() {
@@ -109,7 +109,7 @@ fn whichever_half_lacks_memory_all_else_is_kept(rt: HostRuntime) {
     assert!(rt; starved_halves_of_product(rt.alloc()) == Some(24));
 }
 
-/// Whether what four ranks leave is the product, or a part of it is lost by one refusal.
+/// Whether four ranks leave the product, or parts of it are lost because of one refusal.
 fn is_product_or_lost(found: [Held; 4], refusals: u64) -> bool {
     for (found, wanted) in found.iter().zip(product_blocks()) {
         let is_lost = refusals == 1 && matches!(found, Held::LostAt(_));
@@ -120,8 +120,8 @@ fn is_product_or_lost(found: [Held; 4], refusals: u64) -> bool {
     true
 }
 
-/// Whether a world of the product comes to its end, with nothing lost that it doesn't count, or its start is refused and
-/// hands back the stores, which are these.
+/// Whether a world of the product runs to its end and counts each refusal that loses something; or, if its start is
+/// refused, whether it hands back the stores unchanged.
 fn ends_or_is_refused(
     alloc: Global,
     plan: &CheckedPlan,
@@ -143,16 +143,16 @@ fn ends_or_is_refused(
     }
 }
 
-/// The same of the product, where there is memory for its plan and stores.
+/// The same, if there is memory for the plan and the stores.
 fn product_ends_or_is_refused(alloc: Global) -> Option<bool> {
     let (_, given) = two_by_two(alloc, 2)?;
     let (plan, stores) = two_by_two(alloc, 2)?;
     Some(ends_or_is_refused(alloc, &plan, stores, &given))
 }
 
-/// Passes whichever single growth is refused (`rt try --test --fail-alloc N`, for each N in turn): a refused start
-/// hands back the stores that it was given, and a world that has started comes to its end, with nothing lost that
-/// it doesn't count.
+/// Passes whichever single growth is refused (`rt try --test --fail-alloc N`, for each N in turn): a refused start hands
+/// back the stores that it was given, and a world that has started runs to its end and counts each refusal that loses
+/// something.
 #[test]
 fn a_world_needs_memory_to_start_and_none_to_end(rt: HostRuntime) {
     assert!(rt; product_ends_or_is_refused(rt.alloc()) != Some(false));

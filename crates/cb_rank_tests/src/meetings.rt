@@ -1,4 +1,4 @@
-//! The ranks of a product in threads of their own, some of which wait for each other.
+//! The ranks of a product on their own threads, which really run in parallel: some wait for each other.
 ghost use Rattle.std.specs.Prelude.{◌≡◌, ◌<◌, length};
 ghost use Rattle.cb_ranks.specs.Views.{finished_view};
 
@@ -14,10 +14,10 @@ use std::sync::{Mutex, Wait};
 use std::thread;
 use std::thread::Threads;
 
-/// For how many turns a rank looks for the other one.
+/// How often a rank checks for the other one.
 const TURNS: u32 = 10_000_000;
 
-/// Two ranks that wait for each other.
+/// A meeting of two ranks, which wait for each other.
 #[derive(Drop)]
 struct Pair {
     came: [AtomicU64; 2],
@@ -32,7 +32,7 @@ impl Pair {
         }
     }
 
-    /// One of them comes, and looks for the other.
+    /// Announces one of them, and waits a while for the other.
     fn meet(&self, me: usize)
         requires { me < 2 }
     {
@@ -46,13 +46,13 @@ impl Pair {
         }
     }
 
-    /// How many of them found the other.
+    /// How many of the two found the other.
     fn met(&self) -> u64 {
         self.met.load(Ordering::SeqCst)
     }
 }
 
-/// How far a rank is at one of its passes.
+/// How far a rank has come when it passes the gate.
 #[derive(Clone, Copy, PartialEq, Drop)]
 enum Moment {
     /// It has done nothing.
@@ -63,7 +63,7 @@ enum Moment {
     Other,
 }
 
-/// How far a rank is that has wanted this so far.
+/// How far a rank has come that wanted these so far.
 fn moment_of(wants: &[Want]) -> Moment {
     let Some(last) = wants.last() else {
         return Moment::Start;
@@ -79,8 +79,8 @@ fn moment_of(wants: &[Want]) -> Moment {
     }
 }
 
-/// What each of four ranks wanted at each of its passes, and two pairs that wait for each other: ranks 0 and 1 in
-/// their first pass, ranks 1 and 2 in the pass after their first Take.
+/// What each of four ranks wanted whenever it passed the gate, and two meetings: ranks 0 and 1 meet in their first pass,
+/// ranks 1 and 2 in the pass after their first Take.
 #[derive(Drop)]
 struct Passes {
     wants: [Mutex<Vec<Want>>; 4],
@@ -103,7 +103,7 @@ impl Passes {
         }
     }
 
-    /// Keeps what a rank wants, and says how far it is.
+    /// Records what a rank wants, and returns how far it has come.
     fn keep<R: Wait>(&self, rt: &R, rank: usize, want: Want) -> Moment
         requires { rank < 4 }
     {
@@ -113,7 +113,7 @@ impl Passes {
         moment
     }
 
-    /// Where this rank waits for another at this moment, it does so.
+    /// Waits for another rank, if this one has a meeting at this moment.
     fn meet(&self, rank: u16, moment: Moment) {
         match (moment, rank) {
             (Moment::Start, 0) => self.starts.meet(0),
@@ -124,7 +124,7 @@ impl Passes {
         }
     }
 
-    /// How many there were, if each rank wanted the halves of its program, in order.
+    /// How many passes there were, if each rank wanted the halves of its program in order.
     fn count<R: Wait>(&self, rt: &R, alloc: Global, plan: &CheckedPlan) -> Option<usize>
         requires { plan.now.ranks ≡ 4 }
     {
@@ -141,7 +141,7 @@ impl Passes {
     }
 }
 
-/// The gate that keeps the passes.
+/// The gate that records the passes.
 #[derive(Drop)]
 struct Keeper<'a, R: Wait> {
     rt: &'a R,
@@ -178,7 +178,7 @@ fn are_of(wants: &[Want], program: &[Half]) -> bool {
             .all(|(want, half)| *want == want_of(half))
 }
 
-/// How many letters went from rank to rank, close marks among them, if all that were posted were taken.
+/// How many letters, close marks included, were sent, if all that were posted were taken.
 fn letters(finished: &Finished<PlusTimes>) -> Option<u64>
     requires { length (finished_view finished.now).stores ≡ 4 }
 {
@@ -196,7 +196,7 @@ fn letters(finished: &Finished<PlusTimes>) -> Option<u64>
     Some(letters)
 }
 
-/// Whether the ranks that were to wait for each other met, and each of four wanted the halves of its program.
+/// Whether both meetings took place, and each of four ranks wanted the halves of its program.
 fn are_met<R: Wait>(rt: &R, alloc: Global, plan: &CheckedPlan, passes: &Passes) -> bool
     requires { plan.now.ranks ≡ 4 }
 {
@@ -213,7 +213,7 @@ fn is_product(finished: Finished<PlusTimes>) -> bool
     are_sent && refusals.as_slice() == [0; 4].as_slice() && results(&stores) == product_blocks()
 }
 
-/// Whether the ranks of the product meet so, and leave the product.
+/// Whether the ranks of the product meet and leave the product.
 fn meet_and_leave_product<R: Threads + Wait + Sync>(rt: &R, alloc: Global) -> Option<bool> {
     let (plan, stores) = two_by_two(alloc, 2)?;
     let passes = Passes::new(alloc);

@@ -1,4 +1,4 @@
-//! The ranks of a product with desks of the test's own, each on a thread of the test.
+//! The ranks of a product with desks and threads that the test makes itself.
 ghost use Rattle.std.specs.Prelude.{◌≡◌, ◌∷◌, [], length, map, IfSome};
 ghost use Rattle.cb_lanes.specs.Desks.{identity};
 ghost use Rattle.cb_lanes.specs.Lanes.{rank_count};
@@ -23,7 +23,7 @@ type Member = cb_ranks::Member<PlusTimes>;
 /// Two ranks with their desks.
 type Pair = (Member, Member);
 
-/// Runs two ranks, each on a thread, where both come to their end.
+/// Runs two ranks, each on a thread. None if one doesn't come to its end.
 fn run_two<R: Threads + Wait + Sync>(rt: &R, first: Member, second: Member) -> Option<Pair>
     requires first { IsNewRun first.0 first.1 }
     requires second { IsNewRun second.0 second.1 }
@@ -76,7 +76,7 @@ fn run_pairs<R: Threads + Wait + Sync>(
     )
 }
 
-/// A crew of four, two by two.
+/// A crew of four as two pairs.
 fn pairs_of(crew: Vec<Member>) -> Option<(Pair, Pair)>
     requires four { length crew.items ≡ 4 }
     requires new { AreNew crew.items }
@@ -92,7 +92,7 @@ fn pairs_of(crew: Vec<Member>) -> Option<(Pair, Pair)>
     Some(((first, second), (third, fourth)))
 }
 
-/// What ranks leave: stores and desks.
+/// The stores and desks that ranks leave.
 type Left = (Vec<RankStore<PlusTimes>>, Vec<Desk<Block<PlusTimes>>>);
 
 /// What two pairs of ranks leave.
@@ -105,7 +105,7 @@ fn left_by(alloc: Global, first: Pair, second: Pair) -> Option<Left>
     Some((Vec::from_array(alloc, stores).ok()?, desks))
 }
 
-/// Runs four ranks, each on a thread: what they leave.
+/// Runs four ranks, each on a thread, and returns what they leave.
 fn run_four<R: Threads + Wait + Sync>(rt: &R, alloc: Global, crew: Vec<Member>) -> Option<Left>
     requires four { length crew.items ≡ 4 }
     requires new { AreNew crew.items }
@@ -116,7 +116,7 @@ fn run_four<R: Threads + Wait + Sync>(rt: &R, alloc: Global, crew: Vec<Member>) 
     left_by(alloc, first?, second?)
 }
 
-/// How many letters went from rank to rank, close marks among them, if all that were posted were taken.
+/// How many letters, close marks included, were sent, if all that were posted were taken.
 fn letters(lanes: &Settled<Block<PlusTimes>>) -> Option<u64>
     requires { rank_count lanes.now ≡ 4 }
 {
@@ -134,7 +134,7 @@ fn letters(lanes: &Settled<Block<PlusTimes>>) -> Option<u64>
     Some(letters)
 }
 
-/// How many letters four ranks sent one another, each on a thread, and what they leave.
+/// How many letters four ranks send each other, each on a thread, and what they leave.
 fn run_product<R: Threads + Wait + Sync>(rt: &R, alloc: Global) -> Option<(u64, [Held; 4])> {
     let (plan, stores) = two_by_two(alloc, 2)?;
     let crew = assemble(alloc, &plan, stores, Capacity::nearest(1)).ok()?;

@@ -1,4 +1,4 @@
-//! Plans of two ranks, their stores, and what these hold in the end.
+//! Plans of two ranks, their stores, and what the stores hold in the end.
 ghost use Rattle.std.specs.Prelude.{◌≡◌, ◌<◌, All, AllPairs, IfSome};
 ghost use Rattle.cb_plan.specs.Plans.{IsElsewhere};
 ghost use Rattle.cb_plan.specs.Stores.{Fits};
@@ -20,7 +20,7 @@ pub(crate) const fn send(from: u16, to: u16, tag: u32, slot: u16, into: u16) -> 
     }
 }
 
-/// The plan of some acts of two ranks, where memory for it is to be had.
+/// The plan of these acts of two ranks, if there is memory for it.
 pub(crate) fn plan_of(alloc: Global, starts: &[Start], acts: &[Act]) -> Option<CheckedPlan>
     requires exist { All (λ s. (s.rank < 2) × (s.slot < SLOTS)) starts.now }
     requires once { AllPairs IsElsewhere starts.now }
@@ -32,7 +32,7 @@ pub(crate) fn plan_of(alloc: Global, starts: &[Start], acts: &[Act]) -> Option<C
     CheckedPlan::check(alloc, plan, starts).ok()
 }
 
-/// The plan of some acts of two ranks, of which the first has a block of 1 by 1 in slot 0.
+/// The plan of these acts of two ranks, the first of which has a 1 by 1 block in slot 0.
 pub(crate) fn plan_from_0(alloc: Global, acts: &[Act]) -> Option<CheckedPlan> {
     let single = Start {
         rank: 0,
@@ -42,7 +42,7 @@ pub(crate) fn plan_from_0(alloc: Global, acts: &[Act]) -> Option<CheckedPlan> {
     plan_of(alloc, &[single], acts)
 }
 
-/// Stores for such a plan: the number stands in slot 0 of rank 0.
+/// Stores for such a plan, with this number in slot 0 of rank 0.
 pub(crate) fn stores_from_0(alloc: Global, number: u64) -> Option<Vec<RankStore<PlusTimes>>> {
     let mut first = RankStore::new(alloc).ok()?;
     first.put(0, block(alloc, 1, 1, &[entry(0, 0, number)]).ok()?);
@@ -50,7 +50,7 @@ pub(crate) fn stores_from_0(alloc: Global, number: u64) -> Option<Vec<RankStore<
     vec![in alloc; first, second].ok()
 }
 
-/// A plan whose first rank begins with a number, with stores that fit it.
+/// A plan whose first rank starts with a number, and stores that fit it.
 fn fitted(
     alloc: Global,
     plan: CheckedPlan,
@@ -66,8 +66,8 @@ fn fitted(
     }
 }
 
-/// A plan with stores that fit it: rank 0 sends its number to rank 1, which doubles it in slot 1, and sends that back
-/// to slot 2. These are nine halves.
+/// A plan and stores that fit it: rank 0 sends its number to rank 1, which doubles it in slot 1 and sends the result back
+/// to slot 2. It has nine halves.
 pub(crate) fn doubling(
     alloc: Global,
     number: u64,
@@ -90,7 +90,7 @@ pub(crate) fn doubling(
     fitted(alloc, plan, number)
 }
 
-/// A plan with stores that fit it: rank 0 sends its number to rank 1, which sends it back, so often.
+/// A plan and stores that fit it: rank 0 sends its number to rank 1, which sends it back, this many times.
 pub(crate) fn rally(alloc: Global, rounds: u32) -> Option<(CheckedPlan, Vec<RankStore<PlusTimes>>)>
     ensures { IfSome result (λ p. Fits p.0.ranks p.0.starts p.1.items) }
 {
@@ -109,7 +109,7 @@ pub(crate) fn rally(alloc: Global, rounds: u32) -> Option<(CheckedPlan, Vec<Rank
 #[derive(Clone, Copy, PartialEq, Drop)]
 pub(crate) enum Held {
     Nothing,
-    /// A block, with this number in row 0 of column 0.
+    /// A block with this number in row 0 of column 0.
     Number(u64),
     LostAt(u16),
 }

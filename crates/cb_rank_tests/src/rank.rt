@@ -24,7 +24,7 @@ fn letter(number: u64, tag: u32, body: Body<Block<PlusTimes>>) -> Arrival<Block<
     })
 }
 
-/// A block goes from rank 1 to slots 0, 1 and 2 of rank 0, which does an operation, and posts a slot back.
+/// A plan: rank 1 sends its block to slots 0, 1 and 2 of rank 0, which does an operation and posts a slot back.
 fn plan(alloc: Global, op: Op, slot: u16) -> Option<CheckedPlan> {
     let zero = Op::Zero {
         into: 0,
@@ -50,7 +50,7 @@ fn empty_stores(alloc: Global) -> Option<Vec<RankStore<PlusTimes>>> {
     vec![in alloc; first, second].ok()
 }
 
-/// Rank 0 of that plan, whose slots are empty.
+/// Rank 0 of that plan, with empty slots.
 fn rank_0(alloc: Global, op: Op, slot: u16) -> Option<Rank<PlusTimes>> {
     let plan = plan(alloc, op, slot)?;
     let mut stores = empty_stores(alloc)?;
@@ -70,7 +70,7 @@ fn accepts(rank: &mut Rank<PlusTimes>, arrival: Arrival<Block<PlusTimes>>) -> bo
     }
 }
 
-/// The letter that fills one of slots 0, 1 and 2: the number 2, 3 or 5, or that it was lost at rank 10, 11 or 12.
+/// The letter for slot 0, 1 or 2: the number 2, 3 or 5, or the mark that it was lost at rank 10, 11 or 12.
 fn operand(alloc: Global, slot: u16, lost: bool) -> Option<Body<Block<PlusTimes>>>
     requires { slot < 3 }
 {
@@ -81,7 +81,7 @@ fn operand(alloc: Global, slot: u16, lost: bool) -> Option<Body<Block<PlusTimes>
     Some(Body::Sheet(block(alloc, 1, 1, &[entry(0, 0, number)]).ok()?))
 }
 
-/// Whether a rank takes its operands, some of which are lost.
+/// Whether a rank takes its operands, some of them lost.
 fn takes_operands(alloc: Global, rank: &mut Rank<PlusTimes>, lost: [bool; 3]) -> bool {
     for slot in 0..3u16 {
         let Some(body) = operand(alloc, slot, lost[slot as usize]) else {
@@ -105,7 +105,7 @@ fn works(rank: &mut Rank<PlusTimes>, supply: Supply) -> bool {
     }
 }
 
-/// Rank 0 after its operation on 2, 3 and 5, some of which are lost.
+/// Rank 0 after its operation on 2, 3 and 5, some of them lost.
 fn worked(
     alloc: Global,
     op: Op,
@@ -125,12 +125,12 @@ fn worked(
 #[derive(Clone, Copy, PartialEq, Drop)]
 enum Held {
     Nothing,
-    /// How many entries a block has, and the sum of their values.
+    /// A block: the number of its entries, and the sum of their values.
     Entries(usize, u64),
     LostAt(u16),
 }
 
-/// How many entries a block has, and the sum of their values.
+/// The number of entries of a block, and the sum of their values.
 fn sum_of(block: &Block<PlusTimes>) -> (usize, u64) {
     let mut sum = 0u64;
     for value in block.values() {

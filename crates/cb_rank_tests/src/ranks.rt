@@ -1,5 +1,5 @@
-//! Two ranks, over their desks in turns and on threads of their own: what they leave, what their trace tells, and what is
-//! answered where one of them is gone or memory is refused.
+//! Two ranks, stepped in turns and on their own threads: what they leave, what their trace records, and what is returned if
+//! one of them is gone or memory is refused.
 ghost use Rattle.std.specs.Prelude.{IfSome};
 ghost use Rattle.cb_lanes.specs.Desks.{standing};
 ghost use Rattle.cb_rank.specs.Ranks.{ArePortsOf};
@@ -21,7 +21,7 @@ use std::sync::Wait;
 use std::sync::atomic::{AtomicU64, Ordering};
 use std::thread::Threads;
 
-/// The ranks of the doubling of 3, new, with new desks for one letter a lane.
+/// New ranks for the doubling of 3, with new desks whose lanes hold one letter.
 fn crew(alloc: Global) -> Option<Vec<Member<PlusTimes>>>
     ensures { IfSome result (λ c. AreNew c.items) }
 {
@@ -29,7 +29,7 @@ fn crew(alloc: Global) -> Option<Vec<Member<PlusTimes>>>
     assemble(alloc, &plan, stores, Capacity::nearest(1)).ok()
 }
 
-/// The two of them.
+/// The two ranks.
 fn pair(alloc: Global) -> Option<(Member<PlusTimes>, Member<PlusTimes>)>
     ensures first { IfSome result (λ p. IsNewRun p.0.0 p.0.1) }
     ensures second { IfSome result (λ p. IsNewRun p.1.0 p.1.1) }
@@ -40,8 +40,8 @@ fn pair(alloc: Global) -> Option<(Member<PlusTimes>, Member<PlusTimes>)>
     Some((first, second))
 }
 
-/// Whether a rank's step over its desk is answered so.
-fn steps_as_said(
+/// Whether a rank's step over its desk is answered as expected.
+fn steps_as_expected(
     rank: &mut Rank<PlusTimes>,
     desk: &mut Desk<Block<PlusTimes>>,
     wanted: Moved,
@@ -55,8 +55,7 @@ fn steps_as_said(
     }
 }
 
-/// Whether the steps of two ranks over their desks, in turns, are answered so; and what each holds in the end, in this
-/// slot.
+/// Whether the steps of two ranks, in turns, are answered as expected; and what each holds in this slot in the end.
 fn take_turns(
     first: Member<PlusTimes>,
     second: Member<PlusTimes>,
@@ -67,19 +66,19 @@ fn take_turns(
 {
     let (mut first, mut desk_of_first) = first;
     let (mut second, mut desk_of_second) = second;
-    let mut as_said = true;
+    let mut as_expected = true;
     for (one, other) in rows {
-        as_said &= steps_as_said(&mut first, &mut desk_of_first, *one);
-        as_said &= steps_as_said(&mut second, &mut desk_of_second, *other);
+        as_expected &= steps_as_expected(&mut first, &mut desk_of_first, *one);
+        as_expected &= steps_as_expected(&mut second, &mut desk_of_second, *other);
     }
     (
-        as_said,
+        as_expected,
         contents_of(&first.into_store(), 2),
         contents_of(&second.into_store(), 1),
     )
 }
 
-/// The same of two new ranks.
+/// The same for two new ranks.
 fn turns(alloc: Global, rows: &[(Moved, Moved)]) -> Option<(bool, Held, Held)> {
     let (first, second) = pair(alloc)?;
     Some(take_turns(first, second, rows))
@@ -101,7 +100,7 @@ fn two_ranks_step_over_their_desks_in_turns(rt: HostRuntime) {
     assert!(rt; turns(rt.alloc(), &rows) == Some(wanted));
 }
 
-/// Whom a rank finds gone, if it is given up.
+/// The rank that a rank finds gone, if it gives up.
 fn given_up_by<R: Wait>(rt: &R, member: Member<PlusTimes>) -> Option<Gone>
     requires { IsNewRun member.0 member.1 }
 {
@@ -109,14 +108,14 @@ fn given_up_by<R: Wait>(rt: &R, member: Member<PlusTimes>) -> Option<Gone>
     run_rank(rt, rank, desk, &OpenGate).err()
 }
 
-/// Whom the first of two ranks finds gone, where the second is.
+/// The rank that the first of two finds gone if the second is.
 fn given_up_by_first<R: Wait>(rt: &R, alloc: Global) -> Option<Gone> {
     let (first, second) = pair(alloc)?;
     drop(second);
     given_up_by(rt, first)
 }
 
-/// Whom the second finds gone, where the first is.
+/// The rank that the second finds gone if the first is.
 fn given_up_by_second<R: Wait>(rt: &R, alloc: Global) -> Option<Gone> {
     let (first, second) = pair(alloc)?;
     drop(first);
@@ -129,7 +128,7 @@ fn a_rank_whose_peer_is_gone_is_given_up(rt: HostRuntime) {
     assert!(rt; given_up_by_second(&rt, rt.alloc()) == Some(Gone(0)));
 }
 
-/// What rank 0 holds as the double in the end, and how often each of the two was refused memory.
+/// The double that rank 0 holds in the end, and how often each of the two was refused memory.
 fn left_at_0(finished: Finished<PlusTimes>) -> Option<(Held, (u64, u64))> {
     let (stores, refusals) = finished.into_parts();
     let [first, second] = refusals.as_slice() else {
@@ -138,7 +137,7 @@ fn left_at_0(finished: Finished<PlusTimes>) -> Option<(Held, (u64, u64))> {
     Some((contents_at(&stores, 0, 2)?, (*first, *second)))
 }
 
-/// Whether the double is there, and no memory was refused, or it is lost by one refusal, at the rank that it names.
+/// Whether the double is there and no memory was refused, or it is lost because of one refusal, at the rank that it names.
 fn is_whole_or_lost(finished: Finished<PlusTimes>) -> bool {
     match left_at_0(finished) {
         Some((Held::Number(6), refusals)) => refusals == (0, 0),
@@ -173,7 +172,7 @@ impl<S: Semiring> Gate<S> for Counter {
     }
 }
 
-/// What is left of two ranks in threads, over lanes for so many letters, where there is memory for their plan.
+/// What two ranks on threads leave, with lanes for this many letters, if there is memory for their plan.
 fn ran<R: Threads + Wait + Sync>(
     rt: &R,
     alloc: Global,
@@ -196,7 +195,7 @@ fn ranks_in_threads_leave_the_double(rt: HostRuntime) {
 }
 
 /// Passes whichever single growth is refused (`rt try --test --fail-alloc N`, for each N in turn): either memory is refused
-/// before any rank runs, or every rank does its whole program, and what is lost is counted.
+/// before any rank runs, or every rank runs its whole program, and what is lost is counted.
 #[test]
 fn refused_memory_is_answered_or_counted(rt: HostRuntime) {
     let counter = Counter::new();
@@ -208,7 +207,7 @@ fn refused_memory_is_answered_or_counted(rt: HostRuntime) {
     assert!(rt; is_right);
 }
 
-/// Whether an event isn't a take or an end, or stands behind the post or the close of the same letter.
+/// Whether an event is neither a take nor an end, or comes after the post or the close of the same letter.
 fn follows_its_post(event: &TraceEvent, past: &[TraceEvent]) -> bool {
     match event {
         TraceEvent::Took(envelope) => past.contains(&TraceEvent::Posted(*envelope)),
@@ -217,7 +216,7 @@ fn follows_its_post(event: &TraceEvent, past: &[TraceEvent]) -> bool {
     }
 }
 
-/// Whether no letter stands taken in a trace before it is posted.
+/// Whether a trace has each letter posted before it is taken.
 fn takes_follow_posts(trace: &Trace) -> bool {
     let events = trace.events();
     events.iter().enumerate().all(|(place, event)| {
@@ -225,7 +224,7 @@ fn takes_follow_posts(trace: &Trace) -> bool {
     })
 }
 
-/// The trace of a run in which a number goes to and fro so often.
+/// The trace of a run in which a number goes back and forth this many times.
 fn rally_trace<R: Threads + Wait + Sync>(rt: &R, alloc: Global, rounds: u32) -> Option<Trace> {
     let (plan, stores) = rally(alloc, rounds)?;
     let capacity = Capacity::nearest(1);
@@ -233,8 +232,8 @@ fn rally_trace<R: Threads + Wait + Sync>(rt: &R, alloc: Global, rounds: u32) -> 
     Some(trace)
 }
 
-/// Ten thousand letters, each awaited by a rank in a thread of its own: were a post recorded after it, or a take before
-/// it, a take would come first of some.
+/// Ten thousand letters, each awaited by a rank on its own thread. If posts were recorded too late, or takes too early,
+/// some take would come before its post.
 #[test]
 fn takes_follow_posts_in_every_trace(rt: HostRuntime) {
     for run in 0..100 {
@@ -246,7 +245,7 @@ fn takes_follow_posts_in_every_trace(rt: HostRuntime) {
     }
 }
 
-/// The same of a traced run, and its trace.
+/// The same for a traced run, with its trace.
 fn ran_traced<R: Threads + Wait + Sync>(
     rt: &R,
     alloc: Global,
@@ -257,7 +256,7 @@ fn ran_traced<R: Threads + Wait + Sync>(
     Some(run_traced(rt, alloc, &plan, stores, capacity, &OpenGate))
 }
 
-/// Passes whichever single growth is refused, as the test of a run without a trace.
+/// Passes whichever single growth is refused, like the test of a run without a trace.
 #[test]
 fn refused_memory_is_answered_or_counted_with_a_trace(rt: HostRuntime) {
     let is_right = match ran_traced(&rt, rt.alloc(), 2) {

@@ -1,4 +1,4 @@
-//! The traces of a product's ranks in threads.
+//! Traces of the ranks of a product on threads.
 ghost use Rattle.std.specs.Prelude.{◌<◌};
 
 use crate::examples::{grid, leave_product, two_by_two};
@@ -12,14 +12,14 @@ use std::alloc::{AllocError, Global};
 use std::sync::{Mutex, Wait};
 use std::thread::Threads;
 
-/// The side of a grid, and how many events of each kind there are of a product on it: posted, taken, closed and ended.
+/// The side of a grid, and how many events of each kind a product on it has: posted, taken, closed and ended.
 const KINDS: [(u32, [usize; 4]); 3] = [
     (1, [0, 0, 0, 0]),
     (2, [8, 8, 12, 12]),
     (3, [36, 36, 72, 72]),
 ];
 
-/// The place of an event's kind among the four.
+/// The index of an event's kind among the four.
 fn kind_of(event: &TraceEvent) -> usize
     ensures { result < 4 }
 {
@@ -41,7 +41,7 @@ fn kinds_of(trace: &Trace) -> [usize; 4] {
     counts
 }
 
-/// Whether a new trace takes the same events, one after the other.
+/// Whether a new trace accepts the same events in the same order.
 fn is_taken_again(alloc: Global, trace: &Trace) -> Option<bool> {
     let mut again = Trace::with_room(alloc, trace.ranks(), trace.len()).ok()?;
     for event in trace.events() {
@@ -52,7 +52,7 @@ fn is_taken_again(alloc: Global, trace: &Trace) -> Option<bool> {
     Some(again.events() == trace.events())
 }
 
-/// What the ranks of a traced run of the product on the grid of a side leave, and its trace.
+/// A traced run of the product on the grid of this side: what its ranks leave, and the trace.
 fn traced<R: Threads + Wait + Sync>(
     rt: &R,
     alloc: Global,
@@ -66,7 +66,7 @@ fn traced<R: Threads + Wait + Sync>(
     Some((stores, trace))
 }
 
-/// Whether it leaves the product, and a legal trace with so many events of each kind.
+/// Whether it leaves the product and a legal trace with this many events of each kind.
 fn is_traced<R: Threads + Wait + Sync>(
     rt: &R,
     alloc: Global,
@@ -92,11 +92,11 @@ fn traced_ranks_leave_the_product_and_a_legal_trace(rt: HostRuntime) {
 /// What one rank wanted and recorded in a traced run.
 #[derive(Drop)]
 struct Story {
-    /// The places at which it has recorded its events.
+    /// The places in the trace at which it recorded its events.
     places: Vec<usize>,
-    /// How many halves other than Work it has wanted.
+    /// How many halves other than Work it wanted.
     halves: usize,
-    /// At each of its passes it had recorded as many events as that.
+    /// Whether it had recorded as many events at each of its passes.
     agrees: bool,
 }
 
@@ -120,7 +120,7 @@ impl Story {
         self.agrees &= self.places.push(place).is_ok();
     }
 
-    /// Whether it agrees to the end, and the trace has an event of this rank at each of its places.
+    /// Whether it agrees to the end and the trace has an event of this rank at each of the places.
     fn is_of(&self, rank: usize, trace: &Trace) -> bool {
         self.agrees
             && self.places.len() == self.halves
@@ -129,7 +129,7 @@ impl Story {
     }
 }
 
-/// Keeps the story of each rank.
+/// A gate that records the story of each rank.
 #[derive(Drop)]
 struct Scribe<'a, R: Wait> {
     rt: &'a R,
@@ -150,7 +150,7 @@ impl<'a, S: Semiring, R: Wait + Sync> Gate<S> for Scribe<'a, R> {
     }
 }
 
-/// The story of each of so many ranks, before they run.
+/// Empty stories for this many ranks.
 fn stories(alloc: Global, ranks: u16) -> Result<Vec<Mutex<Story>>, AllocError> {
     let mut stories = Vec::new(alloc);
     for _ in 0..ranks {
@@ -159,7 +159,7 @@ fn stories(alloc: Global, ranks: u16) -> Result<Vec<Mutex<Story>>, AllocError> {
     Ok(stories)
 }
 
-/// The places of all stories, if each is that of its rank.
+/// The places of all stories, if each agrees with its rank's events.
 fn places_of(
     alloc: Global,
     stories: Vec<Mutex<Story>>,
@@ -176,7 +176,7 @@ fn places_of(
     Ok(Some(places))
 }
 
-/// The places that four ranks record in a traced run, where each tells its own story, of forty events.
+/// The places that the stories of four ranks have in a traced run of forty events.
 fn recorded<R: Threads + Wait + Sync>(rt: &R, alloc: Global, letters: usize) -> Option<Vec<usize>> {
     let (plan, stores) = two_by_two(alloc, 2)?;
     let stories = stories(alloc, 4).ok()?;
@@ -190,7 +190,7 @@ fn recorded<R: Threads + Wait + Sync>(rt: &R, alloc: Global, letters: usize) -> 
     places_of(alloc, stories, &trace).ok()?
 }
 
-/// Whether four ranks record each of forty events once.
+/// Whether four ranks record each of the forty events once.
 fn records_all<R: Threads + Wait + Sync>(rt: &R, alloc: Global, letters: usize) -> bool {
     match recorded(rt, alloc, letters) {
         Some(places) => places.len() == 40 && (0..40).all(|place| places.contains(&place)),

@@ -1,5 +1,4 @@
-//! Worlds of two ranks, whose events come in any order: with ample memory, and with memory refused to a post and to an
-//! operation.
+//! Worlds of two ranks with events in several orders, with ample memory, and with a post and an operation refused memory.
 use crate::plans::{Held, contents_at, doubling, plan_from_0, send, stores_from_0};
 use cb_letters::Capacity;
 use cb_plan::{Act, CheckedPlan, RankStore};
@@ -8,7 +7,7 @@ use cb_semirings::PlusTimes;
 use cb_world::{Event, World};
 use std::alloc::Global;
 
-/// The world in which 6 is doubled, whose lanes hold one letter.
+/// The world that doubles 6, with lanes for one letter.
 fn world(alloc: Global) -> Option<World<PlusTimes>> {
     let (plan, stores) = doubling(alloc, 6)?;
     World::start(alloc, &plan, stores, Capacity::nearest(1)).ok()
@@ -23,7 +22,7 @@ fn world_of(alloc: Global, plan: &CheckedPlan) -> Option<World<PlusTimes>> {
     World::start(alloc, plan, stores, Capacity::nearest(1)).ok()
 }
 
-/// What ranks 0 and 1 hold as the double once all is done, and how often each was refused memory.
+/// The doubles that ranks 0 and 1 hold once all is done, and how often each was refused memory.
 fn doubles(world: World<PlusTimes>) -> Option<[(Held, u64); 2]> {
     if !world.all_done() {
         return None;
@@ -38,16 +37,16 @@ fn doubles(world: World<PlusTimes>) -> Option<[(Held, u64); 2]> {
     ])
 }
 
-/// What they hold where memory is ample.
+/// What they hold with ample memory.
 const WHOLE: [(Held, u64); 2] = [(Held::Number(12), 0), (Held::Number(12), 0)];
 
-/// Whether these events are answered so, in order.
+/// Whether these events are answered as expected, in order.
 fn answers(world: &mut World<PlusTimes>, rows: &[(Event, Moved)]) -> bool {
-    let mut as_said = true;
+    let mut as_expected = true;
     for (event, moved) in rows {
-        as_said &= world.step(*event) == *moved;
+        as_expected &= world.step(*event) == *moved;
     }
-    as_said
+    as_expected
 }
 
 /// Whether rank 1 of a new world waits, there is no rank 2, and all nine halves are done in the end.
@@ -58,18 +57,18 @@ fn waits_and_finishes(world: &mut World<PlusTimes>) -> bool {
         (Event::Step(1), Moved::Waiting),
         (Event::Step(2), Moved::Idle),
     ];
-    let mut as_said = world.remaining() == 9 && world.ready() == Some(0);
-    as_said &= answers(world, &rows);
+    let mut as_expected = world.remaining() == 9 && world.ready() == Some(0);
+    as_expected &= answers(world, &rows);
     world.finish();
-    as_said & (world.remaining() == 0 && world.ready().is_none() && world.refusals() == 0)
+    as_expected & (world.remaining() == 0 && world.ready().is_none() && world.refusals() == 0)
 }
 
-/// What the ranks then hold.
+/// What the ranks hold then.
 fn doubles_after_waiting(alloc: Global) -> Option<[(Held, u64); 2]> {
     let mut world = world(alloc)?;
-    let as_said = waits_and_finishes(&mut world);
+    let as_expected = waits_and_finishes(&mut world);
     let doubles = doubles(world)?;
-    if as_said { Some(doubles) } else { None }
+    if as_expected { Some(doubles) } else { None }
 }
 
 #[test]
@@ -77,7 +76,7 @@ fn a_rank_waits_for_its_letter(rt: HostRuntime) {
     assert!(rt; doubles_after_waiting(rt.alloc()) == Some(WHOLE));
 }
 
-/// Whether rank 0 waits to post its second letter until the first is taken, and then is refused memory for it.
+/// Whether rank 0 waits to post its second letter until the first is taken, and is then refused memory for it.
 fn waits_for_room(world: &mut World<PlusTimes>) -> bool {
     let full = [
         (Event::Step(0), Moved::Posted),
@@ -88,10 +87,10 @@ fn waits_for_room(world: &mut World<PlusTimes>) -> bool {
         (Event::Step(1), Moved::Took),
         (Event::Starve(0), Moved::Posted),
     ];
-    let mut as_said = answers(world, &full);
-    as_said &= world.remaining() == 7 && world.refusals() == 0;
-    as_said &= answers(world, &free);
-    as_said & (world.remaining() == 5 && world.refusals() == 1)
+    let mut as_expected = answers(world, &full);
+    as_expected &= world.remaining() == 7 && world.refusals() == 0;
+    as_expected &= answers(world, &free);
+    as_expected & (world.remaining() == 5 && world.refusals() == 1)
 }
 
 /// The world in which rank 0 sends its block twice.
@@ -106,19 +105,19 @@ fn sending_twice(alloc: Global) -> Option<World<PlusTimes>> {
     world_of(alloc, &plan)
 }
 
-/// Whether it waits so.
+/// Whether rank 0 waits in that world.
 fn sends_when_there_is_room(alloc: Global) -> Option<bool> {
     let mut world = sending_twice(alloc)?;
     Some(waits_for_room(&mut world))
 }
 
-/// Its lanes hold one letter. Where a rank has to wait it asks for no memory.
+/// Lanes hold one letter. A rank that has to wait asks for no memory.
 #[test]
 fn a_full_lane_holds_up_its_sender(rt: HostRuntime) {
     assert!(rt; sends_when_there_is_room(rt.alloc()) == Some(true));
 }
 
-/// What the ranks hold where one of them is starved after these steps, if it moves so and memory is refused once.
+/// What the ranks hold if one of them is starved after these steps, moves as expected and is refused memory once.
 fn starved_after(
     alloc: Global,
     steps: &[Event],
@@ -127,15 +126,15 @@ fn starved_after(
 ) -> Option<[(Held, u64); 2]> {
     let mut world = world(alloc)?;
     world.run(steps);
-    let as_said = world.step(Event::Starve(rank)) == moved;
+    let as_expected = world.step(Event::Starve(rank)) == moved;
     world.finish();
-    if !as_said || world.refusals() != 1 {
+    if !as_expected || world.refusals() != 1 {
         return None;
     }
     doubles(world)
 }
 
-/// Memory is refused to an operation of rank 1, and to a post of rank 0.
+/// An operation of rank 1 is refused memory, and a post of rank 0.
 #[test]
 fn what_is_starved_is_lost_at_its_rank(rt: HostRuntime) {
     let steps = [Event::Step(0), Event::Step(1)];

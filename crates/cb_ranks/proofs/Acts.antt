@@ -1,4 +1,4 @@
--- One act of the whole plan, on ranks that each did their halves of it by themselves.
+-- One act of the whole plan, if each rank did its halves of it by itself.
 use Rattle.std.proofs.Common.{◌≡◌, ◌≢◌, ℕ, ◌+◌, ◌<◌, ◌≤◌, Bool, true, false, List, [], ◌∷◌, ◌++◌, length, refl, sym, ap, ◌∙◌, subst, arith, append_assoc, append-nil}
 use Rattle.std.specs.Prelude.{Option, IsSome, ◌==◌, ◌&&◌, if◌then◌else◌, slice_set}
 use Rattle.std.proofs.lemmas.Bool.Decides.{nat_tests}
@@ -25,22 +25,23 @@ use Rattle.cb_plan.specs.Programs.{halves_of, take_of}
 use Rattle.cb_plan.proofs.ActOnStores.{first_below}
 use Rattle.cb_rank.specs.Agreement.{IsSlotOf, IsBodyOf, AreLettersOf}
 use Rattle.cb_rank.specs.Halves.{Course, DoesHalf, RunsTo, slot_at, with_letter, slot_of_body}
-use Rattle.cb_rank.proofs.OwnActs.{split, some_shape}
+use Rattle.cb_plan.proofs.Effects.{split}
+use Rattle.cb_rank.proofs.OwnActs.{some_shape}
 use Rattle.cb_rank.proofs.Halves.{all_some, some_by_shape, arrived_slot}
 use Rattle.cb_ranks.proofs.Results.{worked_by_end, copied_by_end}
 
--- on a lane these letters were posted, and all were taken
+-- these letters were posted on a lane, and all were taken
 pub record IsWholeLane (refs : ℕ → ℕ) (f t : ℕ) (sent : List (Tag × Cargo Sparse)) (posted taken : List (Letter Sparse)) : Type 0 where
   pub letters : AreLettersOf refs f t 0 sent posted
   pub all_taken : taken ≡ posted
 
--- how courses stand to a state of the whole plan and the letters so far, with the counts of refusals at the end
+-- courses agree with a state of the whole plan and the letters so far. The counts of refusals are those at the end
 pub record CoursesStand (refs : ℕ → ℕ) (ranks : ℕ) (state : State Sparse) (sent : ℕ → ℕ → List (Tag × Cargo Sparse)) (c : ℕ → Course) : Type 0 where
   pub slots : (r n : ℕ) → r < ranks → IsSlotOf refs (state r n) (slot_at (c r).slots n)
   pub sizes : (r : ℕ) → r < ranks → length (c r).slots ≡ 256
   pub lanes : (f t : ℕ) → f < ranks → t < ranks → f ≢ t → IsWholeLane refs f t (sent f t) ((c f).posted t) ((c t).taken f)
 
--- two lists that go on to one list
+-- two prefixes of one list
 abbrev pub GoToOne : List (Letter Sparse) → List (Letter Sparse) → Type 0
 GoToOne xs ys = (u : List (Letter Sparse)) × (v : List (Letter Sparse)) × (xs ++ u ≡ ys ++ v)
 
@@ -125,7 +126,7 @@ module _ (refs : ℕ → ℕ) (ranks : ℕ) (state : State Sparse) (sent : ℕ �
       let k : t ≡ to = grind (arith, nat_tests) in
       (same, rw (e, k) right))
 
--- a slot is set
+-- an act that sets a slot
 set_stands : (refs : ℕ → ℕ) (old new : List (Slot Sparse)) (f g : ℕ → Option Sparse) (k : ℕ) (w : Option Sparse) (x : Slot Sparse) → length old ≡ 256 → k < 256 → new ≡ slice_set old k x → ((n : ℕ) → IsSlotOf refs (f n) (slot_at old n)) → ((n : ℕ) → g n ≡ (if k == n then w else f n)) → IsSlotOf refs w x → (n : ℕ) → IsSlotOf refs (g n) (slot_at new n)
 set_stands refs old new f g k w x size l e h is stands n =
     let inside : k < length old = omega arith in
@@ -259,7 +260,7 @@ module _ (s : Arithmetic) (refs : ℕ → ℕ) (ranks : ℕ) (state : State Spar
   apart_of : (from to : ℕ) → (from == to) ≡ false → from ≢ to
   apart_of from to e = grind (arith, nat_tests)
 
-  -- whichever act it is
+  -- the same for each kind of act
   pub acts_stand : (a : Act) → IsSound ranks outline shut a → DoTheirHalves a → ((f t : ℕ) → f < ranks → t < ranks → f ≢ t → GoToOne ((c1 t).taken f) ((c1 f).posted t)) → StandAfter a
   acts_stand (act_is.Move from to tag slot into) sound does meet =
       let one = first_below ranks from (to ∷ []) sound.ranks_exist in

@@ -1,4 +1,4 @@
--- What each rank did by itself, and what the lanes keep, is what the whole plan means.
+-- What each rank did by itself, over lanes, is what the whole plan means.
 use Rattle.std.proofs.Common.{◌≡◌, ◌≢◌, ℕ, ◌<◌, ◌≤◌, List, [], ◌∷◌, ◌++◌, length, get_or, refl, sym, ap, ◌∙◌, subst, arith, append_assoc, append-nil}
 use Rattle.cb_semirings.specs.Arithmetic.{Arithmetic}
 use Rattle.cb_matrix.specs.Sparse.{Sparse, Extent}
@@ -27,7 +27,7 @@ use Rattle.cb_ranks.proofs.Acts.{CoursesStand, IsWholeLane, GoToOne, acts_stand}
 use Rattle.cb_ranks.proofs.Results.{sheet_stands}
 use mathlib.Core.List.{IsPrefix}
 
--- where two lists go on to one list, so do their beginnings
+-- prefixes of prefixes of one list
 meet_before : (xs ys xs' ys' : List (Letter Sparse)) → Extends xs xs' → Extends ys ys' → GoToOne xs' ys' → GoToOne xs ys
 meet_before xs ys xs' ys' h k m = (
   h.0 ++ m.0,
@@ -40,7 +40,7 @@ measured_next s a state outline h r n =
     ap (λ (z : State Extent). act shapes a z r n) (same_state outline (images (λ (m : Sparse). m.shape) state) h)
     ∙ sym (act_turns (λ (m : Sparse). m.shape) (matrices s) shapes (shape_turns s) a state r n)
 
--- the acts one after the other
+-- all acts, one after the other
 pub walk : (s : Arithmetic) (refs : ℕ → ℕ) (ranks : ℕ) (acts : List Act) (state : State Sparse) (outline : State Extent) (shut : Lanes) (sent : ℕ → ℕ → List (Tag × Cargo Sparse)) (c last : ℕ → Course) →
     ((r n : ℕ) → outline r n ≡ one (λ (m : Sparse). m.shape) (state r n)) → Passes ranks outline shut acts →
     ((r : ℕ) → r < ranks → RunsTo s r (project_from outline acts r) (c r) (last r)) → ((r : ℕ) → r < ranks → (last r).refusals ≤ refs r) →
@@ -66,7 +66,7 @@ walk s refs ranks (a ∷ acts) state outline shut sent c last measured passes ru
       lanes = λ f t g h ne. subst (λ z. IsWholeLane refs f t z ((last f).posted t) ((last t).taken f)) (append_assoc (sent f t) (letter_of a state f t) (letters (matrices s) acts (act (matrices s) a state) f t)) (end.lanes f t g h ne);
     }
 
--- every slot and every lane is that of the whole plan
+-- every slot and every lane is what the whole plan means
 pub record AreFinished (s : Arithmetic) (p : CheckedView) (first : List (List (Slot Sparse))) (courses : ℕ → Course) : Type 0 where
   pub slots : (r n : ℕ) → r < p.ranks → IsSlotOf (λ q. (courses q).refusals) (meaning (matrices s) p.acts (state_of first) r n) (slot_at (courses r).slots n)
   pub sizes : (r : ℕ) → r < p.ranks → length (courses r).slots ≡ 256
@@ -74,7 +74,8 @@ pub record AreFinished (s : Arithmetic) (p : CheckedView) (first : List (List (S
       AreLettersOf (λ q. (courses q).refusals) f t 0 (letters (matrices s) p.acts (state_of first) f t) ((courses f).posted t)
       × ((courses t).taken f ≡ (courses f).posted t)
 
--- the closing law: each rank by itself ran its program, and what was taken on each lane is a beginning of what was posted there
+-- the closing law, for ranks that each ran their program by themselves, if what was taken on each lane is a prefix of what was
+-- posted there
 pub closes : (s : Arithmetic) (p : CheckedView) (first : List (List (Slot Sparse))) (courses : ℕ → Course) → IsChecked p → Fits p.ranks p.starts first
     → ((r : ℕ) → r < p.ranks → RunsTo s r (project p.starts p.acts r) (fresh (get_or first r [])) (courses r))
     → ((f t : ℕ) → f < p.ranks → t < p.ranks → f ≢ t → IsPrefix ((courses t).taken f) ((courses f).posted t))

@@ -1,4 +1,4 @@
--- What a rank does of its program only adds to what it posted and took, and a program is done piece by piece.
+-- A rank's program only adds to what it posted and took, and can be done in parts.
 use Rattle.std.proofs.Common.{◌≡◌, ℕ, ◌<◌, ◌≤◌, Bool, true, false, List, [], ◌∷◌, ◌++◌, length, refl, sym, ap, ◌∙◌, arith, append_assoc, append-nil, inl, inr}
 use Rattle.std.specs.Prelude.{◌==◌, nat_lt}
 use Rattle.std.proofs.lemmas.Bool.Decides.{nat_tests}
@@ -13,17 +13,17 @@ use Rattle.cb_plan.specs.declared.acts.Half.TheVariants as half_is
 use Rattle.cb_plan.specs.declared.stores.Slot.{Slot}
 use Rattle.cb_plan.specs.declared.stores.Slot.TheVariants as slot_is
 use Rattle.cb_rank.specs.Halves.{Course, DoesHalf, RunsTo, with_letter, IsCopy, IsWork}
-use Rattle.cb_rank.proofs.OwnActs.{split}
+use Rattle.cb_plan.proofs.Effects.{split}
 
--- courses that agree in every point are one
+-- courses that agree in every field are the same
 pub same_course : (a b : Course) → a.slots ≡ b.slots → a.refusals ≡ b.refusals → ((k : ℕ) → a.posted k ≡ b.posted k) → ((k : ℕ) → a.taken k ≡ b.taken k) → a ≡ b
 same_course a b e f g h = λ i. record { slots = e i; refusals = f i; posted = λ k. g k i; taken = λ k. h k i }
 
--- a list goes on to another
+-- a list is a prefix of another
 abbrev pub Extends : List (Letter Sparse) → List (Letter Sparse) → Type 0
 Extends xs ys = (rest : List (Letter Sparse)) × (ys ≡ xs ++ rest)
 
--- what a rank has posted and taken goes on, and its count of refusals doesn't fall
+-- what a rank posted and took is a prefix of what it posts and takes later, and its count of refusals doesn't fall
 pub record Grows (old new : Course) : Type 0 where
   pub refusals : old.refusals ≤ new.refusals
   pub posted : (k : ℕ) → Extends (old.posted k) (new.posted k)
@@ -88,12 +88,12 @@ half_grows s me (half_is.End from) old new d = record {
   taken = λ k. rw (ap (λ (c : Course). c.taken k) d.3) (with_letter_extends old.taken from d.0 k);
 }
 
--- a program only adds to them
+-- a program extends a course
 pub grows : (s : Arithmetic) (me : ℕ) (hs : List Half) (old new : Course) → RunsTo s me hs old new → Grows old new
 grows s me [] old new h = grows_refl old new h
 grows s me (x ∷ hs) old new h = grows_trans old h.0 new (half_grows s me x old h.0 h.1) (grows s me hs h.0 new h.2)
 
--- a program of two parts is one part done, and then the other
+-- a program of two parts is done by doing the first and then the second
 pub parts : (s : Arithmetic) (me : ℕ) (hs ks : List Half) (old new : Course) → RunsTo s me (hs ++ ks) old new → (mid : Course) × (RunsTo s me hs old mid × RunsTo s me ks mid new)
 parts s me [] ks old new h = (old, (refl, h))
 parts s me (x ∷ hs) ks old new h =
@@ -111,7 +111,7 @@ picked_is P d false f e = absurd (grind (arith, nat_tests))
 below : (r n : ℕ) → nat_lt r n ≡ true → r < n
 below r n e = grind (arith, nat_tests)
 
--- what there is for each number below a limit, as one function
+-- a function from what exists for each number below a limit
 pub choose : {X : Type 0} (n : ℕ) (P : ℕ → X → Type 0) (d : X) → ((r : ℕ) → r < n → (x : X) × P r x) → (f : ℕ → X) × ((r : ℕ) → r < n → P r (f r))
 choose n P d h = (
   λ r. picked (P r) d (nat_lt r n) (λ e. h r (below r n e)),

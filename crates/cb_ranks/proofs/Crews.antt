@@ -1,4 +1,4 @@
--- All ranks of a plan with their desks, each of which ran its program: together they hold what the plan means.
+-- If each rank of a crew ran its program over its desk, together they hold what the plan means.
 use Rattle.std.proofs.Common.{◌≡◌, ◌≢◌, ℕ, zero, suc, ◌+◌, ◌<◌, ◌≤◌, ◌^◌, false, List, [], ◌∷◌, length, map, get_or, refl, sym, ap, ◌∙◌, subst, arith, ⊎_elim}
 use Rattle.std.specs.Prelude.{All, Some, None, slice_get, ◌==◌}
 use Rattle.std.specs.List.{AllZip}
@@ -45,7 +45,7 @@ use Rattle.cb_ranks.specs.Finished.{FinishedView, IsFinished, AllRun, FinishesPl
 use Rattle.cb_ranks.proofs.Courses.{same_course}
 use Rattle.cb_ranks.proofs.ClosingLaw.{AreFinished, closes}
 
--- on a new desk nothing was posted to any number, nor taken
+-- nothing was posted on a new desk, whatever the other number
 pub none_posted : (c n k : ℕ) (d : Desk Sparse) → IsNewDesk c n k d → (j : ℕ) → posted_to d j ≡ []
 none_posted c n k d new j =
     ⊎_elim
@@ -53,7 +53,7 @@ none_posted c n k d new j =
     (λ (l : n ≤ j). let size = new.ranks in rw (get_or-eq_default d.outgoing.items None {n = j} (omega arith)) refl)
     (cases_lt j n)
 
--- on a new desk nothing was taken from any number
+-- nothing was taken on a new desk, whatever the other number
 pub none_taken : (c n k : ℕ) (d : Desk Sparse) → IsNewDesk c n k d → (j : ℕ) → taken_from d j ≡ []
 none_taken c n k d new j =
     ⊎_elim
@@ -61,22 +61,22 @@ none_taken c n k d new j =
     (λ (l : n ≤ j). let size = new.ranks in let same = d.ranks.0 in rw (get_or-eq_default d.incoming.items None {n = j} (omega arith)) refl)
     (cases_lt j n)
 
--- a new rank over its new desk is at its beginning
+-- a new rank over a new desk has done nothing
 pub new_course : (p : CheckedView) (me : ℕ) (slots : List (Slot Sparse)) (d : Desk Sparse) → IsNewRun (new_rank p me slots) d → course_of (new_rank p me slots) d ≡ fresh slots
 new_course p me slots d new = same_course (course_of (new_rank p me slots) d) (fresh slots) refl refl (none_posted new.capacity p.ranks me d new.desk) (none_taken new.capacity p.ranks me d new.desk)
 
--- desks keep their ranks and rings
+-- a run keeps the desks' ranks and rings
 pub same_rings : (s : Arithmetic) (crew done : List Member) → AllZip (Ran s) crew done → map identity (desks_of done) ≡ map identity (desks_of crew)
 same_rings s [] [] h = refl
 same_rings s [] (y ∷ ys) h = absurd h
 same_rings s (x ∷ xs) [] h = absurd h
 same_rings s (x ∷ xs) (y ∷ ys) h = let here = h.0.rings in let rest = same_rings s xs ys h.1 in λ i. here i ∷ rest i
 
--- and so they are of one opening still
+-- so the desks are still of one opening
 pub still_opening : (s : Arithmetic) (p : CheckedView) (first : List (List (Slot Sparse))) (crew done : List Member) → IsCrew p first crew → AllZip (Ran s) crew done → AreOfOneOpening (map identity (desks_of done))
 still_opening s p first crew done is ran = subst AreOfOneOpening (sym (same_rings s crew done ran)) is.opening
 
--- the n-th of them, before and after
+-- the k-th member, before and after its run
 pub record Place (s : Arithmetic) (crew done : List Member) (k : ℕ) : Type 0 where
   pub old : Member
   pub new : Member
@@ -96,11 +96,11 @@ place s (x ∷ xs) (y ∷ ys) (suc k) h l =
 slice_get_of : {X Y : Type 0} (f : X → Y) (xs : List X) (k : ℕ) (x : X) → slice_get xs k ≡ Some x → slice_get (map f xs) k ≡ Some (f x)
 slice_get_of f xs k x e = slice_get-map f xs k ∙ ap (option_map f) e
 
--- where a list has an element at a place, the list of images has its image there
+-- the element of a list of images
 pub get_or_of : {X Y : Type 0} (f : X → Y) (xs : List X) (k : ℕ) (x : X) (d : Y) → slice_get xs k ≡ Some x → get_or (map f xs) k d ≡ f x
 get_or_of f xs k x d e = get_or_from_slice_get (map f xs) k (f x) d (slice_get_of f xs k x e)
 
--- how far the ranks of a crew came
+-- how far the ranks of a crew have come
 abbrev pub courses_in : List Member → ℕ → Course
 courses_in done r = record {
   slots = get_or (stores_of done) r [];
@@ -115,7 +115,7 @@ course_at done k m e =
     same_course (courses_in done k) (course_of m.0 m.1) (get_or_of (λ (x : Member). x.0.slots) done k m [] e) (get_or_of (λ (x : Member). x.0.refusals) done k m 0 e)
     (λ j. rw desk refl) (λ j. rw desk refl)
 
--- an act is of ranks of its plan alone, so it leaves the others' slots
+-- a sound act has halves only at ranks of its plan, so it keeps the slots of other numbers
 elsewhere : (ranks : ℕ) (outline : State Extent) (shut : Lanes) (a : Act) (r : ℕ) → IsSound ranks outline shut a → ranks ≤ r → count_of a r ≡ 0
 elsewhere ranks outline shut (act_is.Move from to tag slot into) r sound l =
     let one = first_below ranks from (to ∷ []) sound.ranks_exist in
@@ -140,14 +140,14 @@ outside ops ranks (a ∷ acts) state outline shut r n passes l =
     outside ops ranks acts (act ops a state) (act shapes a outline) (shut_after a shut) r n passes.1 l
     ∙ quiet_act ops a r state n (elsewhere ranks outline shut a r passes.0 l)
 
--- as many letters as the plan has
+-- the number of letters is the plan's
 same_letters : (refs : ℕ → ℕ) (f t n : ℕ) (ws : List (Tag × Cargo Sparse)) (xs : List (Letter Sparse)) → AreLettersOf refs f t n ws xs → length xs ≡ length ws
 same_letters refs f t n [] [] h = refl
 same_letters refs f t n [] (x ∷ xs) h = absurd h
 same_letters refs f t n (w ∷ ws) [] h = absurd h
 same_letters refs f t n (w ∷ ws) (x ∷ xs) h = ap suc (same_letters refs f t (n + 1) ws xs h.3)
 
--- what a crew's rank did by itself
+-- what each rank of a crew did by itself
 run_of : (s : Arithmetic) (p : CheckedView) (first : List (List (Slot Sparse))) (crew done : List Member) (r : ℕ) → IsCrew p first crew → AllZip (Ran s) crew done → r < length crew → RunsTo s r (project p.starts p.acts r) (fresh (get_or first r [])) (courses_in done r)
 run_of s p first crew done r is ran l =
     let it = place s crew done r ran l in
@@ -158,7 +158,7 @@ run_of s p first crew done r is ran l =
     subst (λ z. RunsTo s r (project p.starts p.acts r) (fresh (get_or first r [])) z) (sym (course_at done r it.new it.new_is))
     (subst (λ z. RunsTo s r (project p.starts p.acts r) z (course_of it.new.0 it.new.1)) (new_course p r (get_or first r []) it.old.1 new) did)
 
--- each left a store of 256 slots
+-- each rank left a store of 256 slots
 tables_of : (s : Arithmetic) (p : CheckedView) (first : List (List (Slot Sparse))) (crew done : List Member) → IsCrew p first crew → AllZip (Ran s) crew done → IsTable p.ranks SLOTS (stores_of done)
 tables_of s p first crew done is ran = record {
   rows = length-map done (λ (m : Member). m.0.slots) ∙ sym (length_all_zip (Ran s) crew done ran) ∙ is.count;
@@ -170,7 +170,8 @@ tables_of s p first crew done is ran = record {
 abbrev pub finished_by : List Member → FinishedView
 finished_by done = record { stores = stores_of done; refusals = counts_of done; posted = posted_in (desks_of done); taken = taken_in (desks_of done) }
 
--- the closing law of crews: each rank ran its program over its desk, and what was taken on each lane is a beginning of what was posted there
+-- the closing law of crews, if each rank ran its program over its desk, and what was taken on each lane is a prefix of what was
+-- posted there
 pub finishes_all : (s : Arithmetic) (p : CheckedView) (first : List (List (Slot Sparse))) (crew done : List Member) → IsChecked p → p.ranks < 2 ^ 16 → Fits p.ranks p.starts first → IsCrew p first crew → AllZip (Ran s) crew done
     → ((from to : ℕ) → from < length done → to < length done → from ≢ to → IsSettledLane (posted_in (desks_of done) from to) (taken_in (desks_of done) from to))
     → FinishesPlan s p first (finished_by done)
@@ -221,7 +222,7 @@ few_refusals s p first crew done is ran =
     let refused = rank.refusals in
     omega arith)
 
--- what such a run keeps
+-- the counts of refusals are one for each rank, and their sum fits in 64 bits
 pub is_finished : (s : Arithmetic) (p : CheckedView) (first : List (List (Slot Sparse))) (crew done : List Member) → p.ranks < 2 ^ 16 → IsCrew p first crew → AllZip (Ran s) crew done → IsFinished (finished_by done)
 is_finished s p first crew done few is ran =
     let size : length done ≡ p.ranks = sym (length_all_zip (Ran s) crew done ran) ∙ is.count in
@@ -229,7 +230,7 @@ is_finished s p first crew done few is ran =
     let bound = sum_by-le (λ (x : ℕ). x) 4294967295 (counts_of done) (few_refusals s p first crew done is ran) in
     record { ranks = counts ∙ sym (length-map done (λ (m : Member). m.0.slots)); fits = omega arith }
 
--- ranks that start with their parts of the stores, each with its desk of one opening, are a crew
+-- new ranks with their stores, and with the desks of one opening, are a crew
 pub is_crew : (c : ℕ) (p : CheckedView) (first : List (List (Slot Sparse))) (crew : List Member) (desks : List (Desk Sparse)) → length desks ≡ p.ranks → desks_of crew ≡ desks → AreOfOneOpening (map identity desks)
     → ((k : ℕ) (a : Desk Sparse) → k < p.ranks → IsNewDesk c p.ranks k (get_or desks k a))
     → ((k : ℕ) (d : Member) → k < length crew → (get_or crew k d).0 ≡ new_rank p k (get_or first k []))
@@ -250,7 +251,7 @@ is_crew c p first crew desks count same opening new ranks =
       opening = subst (λ ds. AreOfOneOpening (map identity ds)) (sym same) opening;
     }
 
--- each member of it is a new rank with its new desk
+-- each member of a crew is a new rank with a new desk
 pub are_new : (crew : List Member) → ((k : ℕ) (d : Member) → k < length crew → IsNewRun (get_or crew k d).0 (get_or crew k d).1) → AreNew crew
 are_new [] new = tt
 are_new (m ∷ ms) new = (new 0 m (omega arith), are_new ms (λ k d l. new (suc k) d (omega arith)))
@@ -259,7 +260,7 @@ are_new (m ∷ ms) new = (new 0 m (omega arith), are_new ms (λ k d l. new (suc 
 settled_by : (done : List Member) (w : Settled Sparse) → ((from to : ℕ) → posted_on w from to ≡ posted_in (desks_of done) from to) → ((from to : ℕ) → taken_on w from to ≡ taken_in (desks_of done) from to) → finished_by done ≡ record { stores = stores_of done; refusals = counts_of done; posted = posted_on w; taken = taken_on w }
 settled_by done w posted taken = λ i. record { stores = stores_of done; refusals = counts_of done; posted = λ f t. sym (posted f t) i; taken = λ f t. sym (taken f t) i }
 
--- so what the plan means is held by the stores, the counts and these lanes
+-- so the stores, the counts and these lanes hold what the plan means
 pub finishes_with : (s : Arithmetic) (p : CheckedView) (first : List (List (Slot Sparse))) (done : List Member) (w : Settled Sparse) → ((from to : ℕ) → posted_on w from to ≡ posted_in (desks_of done) from to) → ((from to : ℕ) → taken_on w from to ≡ taken_in (desks_of done) from to)
     → FinishesPlan s p first (finished_by done) → FinishesPlan s p first (record { stores = stores_of done; refusals = counts_of done; posted = posted_on w; taken = taken_on w })
 finishes_with s p first done w posted taken h = subst (λ f. FinishesPlan s p first f) (settled_by done w posted taken) h

@@ -1,4 +1,5 @@
--- The closing law asks for nothing that can't be: a plan of two ranks that ran by themselves, where the copy that rank 0 posts was refused memory.
+-- An example shows that the closing law isn't vacuous: two ranks that ran by themselves. Rank 0 was refused memory for the copy that
+-- it posts.
 use Rattle.std.proofs.Common.{◌≡◌, ◌≢◌, ℕ, zero, suc, ◌<◌, List, [], ◌∷◌, get_or, replicate, refl, ap, arith, inl}
 use Rattle.std.specs.Prelude.{slice_set}
 use Rattle.cb_semirings.specs.Arithmetic.{Arithmetic}

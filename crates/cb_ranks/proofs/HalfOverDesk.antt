@@ -1,4 +1,4 @@
--- A rank that goes on over its desk, half by half.
+-- A rank and its desk after each half of the rank's program.
 use Rattle.std.proofs.Common.{◌≡◌, ◌≢◌, ℕ, ◌<◌, true, false, List, [], ◌∷◌, ◌++◌, length, refl, sym, ◌∙◌, ap, subst, arith, length-append, inl, inr}
 use Rattle.std.specs.Prelude.{Some, ◌==◌, ◌⊎◌, nat_le, slice_set, slice_index_or}
 use Rattle.std.proofs.lemmas.Bool.Decides.{nat_tests}
@@ -25,24 +25,24 @@ use Rattle.cb_plan.specs.Meaning.{target_of}
 use Rattle.cb_rank.specs.declared.wants.Arrival.TheVariants as arrival_is
 use Rattle.cb_rank.specs.Halves.{with_letter, slot_of_body}
 use Rattle.cb_rank.specs.declared.wants.Want.TheVariants as want_is
-use Rattle.cb_rank.specs.Ranks.{RankView, IsRank, next_half, want_of, onward, IsAwaited, slots_with}
+use Rattle.cb_rank.specs.Ranks.{RankView, IsRank, next_half, want_of, onward, IsTakeOrEnd, IsAwaited, slots_with}
 use Rattle.cb_rank.specs.Steps.{HandsOut, Works}
-use Rattle.cb_rank.proofs.OwnActs.{split}
+use Rattle.cb_plan.proofs.Effects.{split}
 use Rattle.cb_rank.proofs.WantedHalf.{wants_take, wants_end}
 use Rattle.cb_ranks.specs.Runs.{course_of}
 use Rattle.cb_ranks.specs.UnderWay.{IsUnderWay, DoesNext}
 use Rattle.cb_ranks.proofs.Courses.{same_course}
 use Rattle.cb_ranks.proofs.Lanes.{lanes_to, lanes_then, lanes_post, lanes_work, lanes_shut, lanes_take, lanes_end}
 
--- one desk, whatever happened to it, has one rank
+-- a desk keeps its rank
 pub same_me : (d e : Desk Sparse) → identity e ≡ identity d → e.me ≡ d.me
 same_me d e same = ap (λ i. i.me) same
 
--- and as many ranks
+-- a desk keeps its number of ranks
 pub same_ranks : (d e : Desk Sparse) → identity e ≡ identity d → length e.outgoing.items ≡ length d.outgoing.items
 same_ranks d e same = sym (length-map e.outgoing.items outgoing_ring) ∙ ap (λ i. length i.outgoing) same ∙ length-map d.outgoing.items outgoing_ring
 
--- a list of letters that grew at one place alone
+-- lists of letters of which one grew
 pub with_one : (old new : ℕ → List (Letter Sparse)) (to : ℕ) (x : Letter Sparse) → new to ≡ old to ++ x ∷ [] → ((k : ℕ) → k ≢ to → new k ≡ old k) → (k : ℕ) → new k ≡ with_letter old to x k
 with_one old new to x grown same k =
     split (to == k)
@@ -61,7 +61,7 @@ still_under_way x y d e slots refusals was onto same kept lanes = rw onto (recor
 onward_of : (x y : RankView) (slots : List (Slot Sparse)) (refusals : ℕ) → y ≡ onward x slots refusals → y ≡ onward x y.slots y.refusals
 onward_of x y slots refusals e = e ∙ sym (rw e refl)
 
--- a Post
+-- a rank after a Post
 pub does_post : (s : Arithmetic) (x y : RankView) (d e : Desk Sparse) (to : ℕ) (tag : Tag) (slot : ℕ) (t : Tag) (body : Body Sparse) → IsRank x → IsUnderWay x d → next_half x ≡ Some (half_is.Post to tag slot)
     → HandsOut x (next_half x) t body y → Posts d to (next_letter (standing d to) to t body) e → DoesNext s x d y e
 does_post s x y d e to tag slot t body is was next hands posts =
@@ -83,7 +83,7 @@ does_post s x y d e to tag slot t body is was next hands posts =
       under_way = still_under_way x y d e x.slots y.refusals was h.2 posts.0 posts.2 (lanes_post x to tag slot is next);
     }
 
--- a Shut
+-- a rank after a Shut
 pub does_shut : (s : Arithmetic) (x y : RankView) (d e : Desk Sparse) (to : ℕ) → IsRank x → IsUnderWay x d → next_half x ≡ Some (half_is.Shut to)
     → y ≡ onward x x.slots x.refusals → Posts d to (next_letter (standing d to) to mark_tag body_is.Close) e → DoesNext s x d y e
 does_shut s x y d e to is was next onto posts =
@@ -99,7 +99,7 @@ does_shut s x y d e to is was next onto posts =
       under_way = still_under_way x y d e x.slots x.refusals was onto posts.0 posts.2 (lanes_shut x to is next);
     }
 
--- a Work
+-- a rank after a Work
 pub does_work : (s : Arithmetic) (x y : RankView) (d : Desk Sparse) (op : _) → IsRank x → IsUnderWay x d → next_half x ≡ Some (half_is.Work op) → Works s x (next_half x) y → DoesNext s x d y d
 does_work s x y d op is was next works =
     let w = rw next at works in
@@ -113,14 +113,14 @@ does_work s x y d op is was next works =
       under_way = still_under_way x y d d set y.refusals was w.2 refl (λ k. refl) (lanes_work x op is next);
     }
 
--- what was taken is numbered on every lane, where it is on the one that grew
+-- what was taken on each lane is numbered, if it is on the one that grew
 numbered_then : (d e : Desk Sparse) (from : ℕ) → ((k : ℕ) → AreNumbered (taken_from d k)) → AreNumbered (taken_from e from) → ((k : ℕ) → k ≢ from → taken_from e k ≡ taken_from d k) → (k : ℕ) → AreNumbered (taken_from e k)
 numbered_then d e from was now same k =
     split (from == k)
     (λ t. let at : from ≡ k = grind (arith, nat_tests) in subst (λ n. AreNumbered (taken_from e n)) at now)
     (λ f. let ne : k ≢ from = grind (arith, nat_tests) in rw (same k ne) (was k))
 
--- a Take: no lane that it takes from has ended
+-- a rank after a Take, whose lane hasn't ended
 pub does_take : (s : Arithmetic) (x y : RankView) (d e : Desk Sparse) (from : ℕ) (tag : Tag) (into : ℕ) (shape : _) (letter : Letter Sparse) → IsRank x → IsUnderWay x d → next_half x ≡ Some (half_is.Take from tag into shape)
     → IsAwaited (next_half x) x.me (arrival_is.Letter letter) → y ≡ onward x (slots_with (next_half x) (arrival_is.Letter letter) x.slots) x.refusals → Takes d from (taken_is.Letter letter) e → DoesNext s x d y e
 does_take s x y d e from tag into shape letter is was next waits onto takes =
@@ -156,7 +156,7 @@ is_mark (body_is.Sheet m) e = cc
 is_mark (body_is.Lost o) e = cc
 is_mark body_is.Close e = refl
 
--- the tag of a mark that was taken
+-- a close mark that was taken has tag 0
 mark_tagged : (xs : List (Letter Sparse)) (x : Letter Sparse) → AreNumbered (xs ++ x ∷ []) → is_close x.body ≡ true → x.tag ≡ mark_tag
 mark_tagged xs x h e =
     let size = length-append xs (x ∷ []) in
@@ -165,7 +165,7 @@ mark_tagged xs x h e =
     let at : x.tag.0 ≡ 0 = subst (λ z. is_close z.body ≡ true → z.tag.0 ≡ 0) own it e in
     ap (λ n. record { 0 = n }) at
 
--- an End that the lane answers, which hadn't ended before, took its close mark
+-- a take that returns `End` from a lane that hadn't ended took its close mark
 took_mark : (old new : List (Letter Sparse)) → (new ≡ old) ⊎ ((x : Letter Sparse) × (new ≡ old ++ x ∷ [])) → ends_closed old ≡ false → ends_closed new ≡ true → AreNumbered new
     → (x : Letter Sparse) × (new ≡ old ++ x ∷ []) × (x.body ≡ body_is.Close) × (x.tag ≡ mark_tag)
 took_mark old new (inl same) was now numbered = let both : ends_closed new ≡ ends_closed old = ap ends_closed same in cc
@@ -173,7 +173,7 @@ took_mark old new (inr grown) was now numbered =
     let closes : is_close grown.0.body ≡ true = sym (ends_closed-append old grown.0) ∙ sym (ap ends_closed grown.1) ∙ now in
     (grown.0, grown.1, is_mark grown.0.body closes, mark_tagged old grown.0 (subst AreNumbered grown.1 numbered) closes)
 
--- an End
+-- a rank after an End
 pub does_end : (s : Arithmetic) (x y : RankView) (d e : Desk Sparse) (from : ℕ) → IsRank x → IsUnderWay x d → next_half x ≡ Some (half_is.End from)
     → y ≡ onward x (slots_with (next_half x) (arrival_is.End from) x.slots) x.refusals → Takes d from taken_is.End e → DoesNext s x d y e
 does_end s x y d e from is was next onto takes =
@@ -207,7 +207,12 @@ does_end s x y d e from is was next onto takes =
 abbrev pub WaitsOn : RankView → ℕ → Type 0
 WaitsOn x from = (want_of (next_half x) ≡ want_is.Take from) ⊎ (want_of (next_half x) ≡ want_is.End from)
 
--- a letter that the next half waits for
+-- so it wants a letter or the end of a lane
+pub is_waiting : (x : RankView) (from : ℕ) → WaitsOn x from → IsTakeOrEnd (want_of (next_half x))
+is_waiting x from (inl w) = rw w tt
+is_waiting x from (inr w) = rw w tt
+
+-- a rank that has accepted a letter
 pub does_letter : (s : Arithmetic) (x y : RankView) (d e : Desk Sparse) (from : ℕ) (letter : Letter Sparse) → IsRank x → IsUnderWay x d → WaitsOn x from → IsAwaited (next_half x) x.me (arrival_is.Letter letter)
     → y ≡ onward x (slots_with (next_half x) (arrival_is.Letter letter) x.slots) x.refusals → Takes d from (taken_is.Letter letter) e → DoesNext s x d y e
 does_letter s x y d e from letter is was (inl w) waits onto takes =
@@ -215,7 +220,7 @@ does_letter s x y d e from letter is was (inl w) waits onto takes =
     does_take s x y d e from it.0 it.1 it.2 letter is was it.3 waits onto takes
 does_letter s x y d e from letter is was (inr w) waits onto takes = absurd (rw (wants_end (next_half x) from w) at waits)
 
--- the end of a lane that it waits for
+-- a rank that has accepted the end of a lane
 pub does_mark : (s : Arithmetic) (x y : RankView) (d e : Desk Sparse) (from : ℕ) → IsRank x → IsUnderWay x d → WaitsOn x from → IsAwaited (next_half x) x.me (arrival_is.End from)
     → y ≡ onward x (slots_with (next_half x) (arrival_is.End from) x.slots) x.refusals → Takes d from taken_is.End e → DoesNext s x d y e
 does_mark s x y d e from is was (inl w) waits onto takes = absurd (rw (wants_take (next_half x) from w).3 at waits)

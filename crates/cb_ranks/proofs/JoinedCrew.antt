@@ -18,7 +18,7 @@ use Rattle.cb_ranks.proofs.Crews.{finishes_all, finishes_with, is_finished}
 
 module _ (s : Arithmetic) (p : CheckedView) (first : List (List (Slot Sparse))) (crew done : List Member) (stores : List (List (Slot Sparse))) (refusals : List ℕ) (desks : List (Desk Sparse)) (w : Settled Sparse)
     (is : IsCrew p first crew) (ran : AllZip (Ran s) crew done) (stores_are : stores ≡ stores_of done) (refusals_are : refusals ≡ counts_of done) (desks_are : desks ≡ desks_of done) where
-  -- what they hold is what the plan means
+  -- they hold what the plan means
   pub ends_all : IsChecked p → p.ranks < 2 ^ 16 → Fits p.ranks p.starts first → ((from to : ℕ) → posted_on w from to ≡ posted_in desks from to) → ((from to : ℕ) → taken_on w from to ≡ taken_in desks from to)
       → ((from to : ℕ) → from < length desks → to < length desks → from ≢ to → IsSettledLane (posted_in desks from to) (taken_in desks from to))
       → FinishesPlan s p first (record { stores = stores; refusals = refusals; posted = posted_on w; taken = taken_on w })
@@ -30,7 +30,7 @@ module _ (s : Arithmetic) (p : CheckedView) (first : List (List (Slot Sparse))) 
       λ f t l m ne. subst (λ (ds : List (Desk Sparse)). IsSettledLane (posted_in ds f t) (taken_in ds f t)) desks_are (settled f t (omega arith) (omega arith) ne) in
       rw (stores_are, refusals_are) (finishes_with s p first done w posted_then taken_then (finishes_all s p first crew done checked few fits is ran settled_then))
 
-  -- there is a count of refusals for each rank, whose sum is a number of 64 bits, and so many ranks have lanes
+  -- there is a count of refusals for each rank, there are lanes between all ranks, and the sum of the counts fits in 64 bits
   pub ends_counted : p.ranks < 2 ^ 16 → rank_count w ≡ length desks → (length refusals ≡ length stores) × (rank_count w ≡ length stores) × (sum refusals < 2 ^ 64)
   ends_counted few ranks =
       let fin = is_finished s p first crew done few is ran in

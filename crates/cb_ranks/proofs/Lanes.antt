@@ -10,7 +10,8 @@ use Rattle.cb_plan.specs.declared.acts.Half.TheVariants as half_is
 use Rattle.cb_plan.specs.Checks.{IsSound, Lanes, shut_after, lanes_after, none_shut}
 use Rattle.cb_plan.specs.PlanLetters.{count_of, before, next_act}
 use Rattle.cb_rank.specs.Ranks.{RankView, IsRank, next_half}
-use Rattle.cb_rank.proofs.OwnActs.{split, one_half}
+use Rattle.cb_plan.proofs.Effects.{split}
+use Rattle.cb_rank.proofs.OwnActs.{one_half}
 use Rattle.cb_rank.proofs.Halves.{is_post, is_take, is_work, is_shut, is_end}
 use Rattle.cb_rank.proofs.NextAct.{finds, lanes, outline, next_one, next_passes, not_true}
 
@@ -33,7 +34,7 @@ shut_same (act_is.Move from to tag slot into) shut other s r h = h
 shut_same (act_is.Work rank op) shut other s r h = h
 shut_same (act_is.Shut from to) shut other s r h = ap (λ b. if from == s && to == r then true else b) h
 
--- after one half more its act counts too
+-- the act of one more half counts too
 lanes-next : (acts : List Act) (shut : Lanes) (s r k : ℕ) (a : Act) → next_act acts r k ≡ Some a → lanes_after (before acts r (k + 1)) shut s r ≡ shut_after a (lanes_after (before acts r k) shut) s r
 lanes-next [] shut s r k a is = grind arith
 lanes-next (b ∷ acts) shut s r k a is =
@@ -56,7 +57,7 @@ lanes-next (b ∷ acts) shut s r k a is =
 abbrev pub lanes_to : RankView → ℕ → Bool
 lanes_to x k = lanes_after (before x.plan.acts x.me x.done) none_shut k x.me
 
--- and after it
+-- the lanes to a rank that are shut after its next half
 abbrev pub lanes_then : RankView → ℕ → Bool
 lanes_then x k = lanes_after (before x.plan.acts x.me (x.done + 1)) none_shut k x.me
 
@@ -71,13 +72,13 @@ lanes_post x to tag slot is next k =
     let it = is_post (outline x h is next) (next_one x h is next).0 x.me to tag slot (next_one x h is next).2 in
     then_by x h is next (act_is.Move x.me to tag slot it.0) k it.1
 
--- a Work shuts none
+-- a Work shuts no lane to its rank
 pub lanes_work : (x : RankView) (op : _) → IsRank x → next_half x ≡ Some (half_is.Work op) → (k : ℕ) → lanes_then x k ≡ lanes_to x k
 lanes_work x op is next k =
     let h : Half = half_is.Work op in
     then_by x h is next (act_is.Work x.me op) k (is_work (outline x h is next) (next_one x h is next).0 x.me op (next_one x h is next).2)
 
--- a Shut shuts none to its own rank, as the lane that it shuts leads away from it
+-- a Shut shuts no lane to its own rank: its lane leads to another
 pub lanes_shut : (x : RankView) (to : ℕ) → IsRank x → next_half x ≡ Some (half_is.Shut to) → (k : ℕ) → lanes_then x k ≡ lanes_to x k
 lanes_shut x to is next k =
     let h : Half = half_is.Shut to in
@@ -85,7 +86,7 @@ lanes_shut x to is next k =
     let f : (x.me == k && to == x.me) ≡ false = grind (arith, nat_tests) in
     then_by x h is next (act_is.Shut x.me to) k (is_shut (outline x h is next) (next_one x h is next).0 x.me to (next_one x h is next).2) ∙ rw f refl
 
--- at a Take the lane is open, and stays so
+-- at a Take the lane is open, and stays open
 pub lanes_take : (x : RankView) (from : ℕ) (tag : _) (into : ℕ) (shape : _) → IsRank x → next_half x ≡ Some (half_is.Take from tag into shape) → ((k : ℕ) → lanes_then x k ≡ lanes_to x k) × (lanes_to x from ≡ false)
 lanes_take x from tag into shape is next =
     let h : Half = half_is.Take from tag into shape in
@@ -93,7 +94,7 @@ lanes_take x from tag into shape is next =
     let s = subst (λ b. IsSound x.plan.ranks (outline x h is next) (lanes x h is next) b) it.1 (next_passes x h is next) in
     (λ k. then_by x h is next (act_is.Move from x.me tag it.0 into) k it.1, not_true (lanes_to x from) s.open_lane)
 
--- at an End the lane is open, and it alone is shut by it
+-- at an End the lane is open, and it is the only one that the End shuts
 pub lanes_end : (x : RankView) (from : ℕ) → IsRank x → next_half x ≡ Some (half_is.End from) → ((k : ℕ) → lanes_then x k ≡ (if from == k then true else lanes_to x k)) × (lanes_to x from ≡ false)
 lanes_end x from is next =
     let h : Half = half_is.End from in

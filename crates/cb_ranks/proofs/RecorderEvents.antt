@@ -1,4 +1,4 @@
--- Recorders that are told of a rank's events, half by half, and those of a crew.
+-- What recorders are told of: a rank's events, half by half, and those of a crew.
 use Rattle.std.proofs.Common.{◌≡◌, ℕ, zero, suc, ◌+◌, ◌<◌, ◌≤◌, List, [], ◌∷◌, ◌++◌, length, map, refl, sym, ◌∙◌, ap, subst, arith, length-append, append_assoc, append-nil, Option, Some, None, IfNone, inl, inr}
 use Rattle.std.specs.Prelude.{drop, get_or, slice_get, ◌==◌}
 use Rattle.std.specs.List.{FoldsTo}
@@ -22,7 +22,7 @@ use Rattle.cb_rank.specs.declared.wants.Arrival.TheVariants as arrival_is
 use Rattle.cb_rank.specs.Ranks.{RankView, next_half, IsAwaited}
 use Rattle.cb_rank.specs.Steps.{HandsOut}
 use Rattle.cb_rank.proofs.WantedHalf.{wants_take, wants_end}
-use Rattle.cb_rank.proofs.OwnActs.{split}
+use Rattle.cb_plan.proofs.Effects.{split}
 use Rattle.cb_trace.specs.declared.events.Envelope.{Envelope}
 use Rattle.cb_trace.specs.declared.events.TraceEvent.{TraceEvent}
 use Rattle.cb_trace.specs.declared.events.TraceEvent.TheVariants.{Posted, Took, Closed, Ended}
@@ -35,7 +35,7 @@ use Rattle.cb_ranks.proofs.Crews.{none_posted, none_taken}
 use Rattle.cb_ranks.proofs.HalfOverDesk.{WaitsOn}
 use Rattle.cb_ranks.proofs.RunSoFar.{HasRun, none_past}
 
--- what is left of a list where this is its next element
+-- the rest of a list from its next element on
 pub drop-next : {X : Type 0} (xs : List X) (k : ℕ) (x : X) → slice_get xs k ≡ Some x → drop k xs ≡ x ∷ drop (k + 1) xs
 drop-next [] k x e = cc
 drop-next (y ∷ ys) zero x e = cc
@@ -54,7 +54,7 @@ drop-none (x ∷ xs) = refl
 abbrev with_tag : Envelope → Tag → Envelope
 with_tag e tag = record e { tag = tag }
 
--- one letter more with one rank
+-- one more letter in the list for one rank
 lengths_at : (lists : ℕ → List (Letter Sparse)) (k : ℕ) (x : Letter Sparse) (j : ℕ) → lengths (with_letter lists k x) j ≡ one_more (lengths lists) k j
 lengths_at lists k x j = split (k == j) (λ t. rw t (length-append (lists j) (x ∷ []))) (λ f. rw f refl)
 
@@ -65,7 +65,7 @@ module _ {T : Type 0} (tells : T → TraceEvent → T → Type 0) where
   one_event : (e : TraceEvent) (es : List TraceEvent) (t u last : T) → FoldsTo tells t (e ∷ []) u → FoldsTo tells u es last → FoldsTo tells t (e ∷ es) last
   one_event e es t u last told rest = (told.0, told.1, subst (λ z. FoldsTo tells z es last) (sym told.2) rest)
 
-  -- a half, and then whatever the rest gives
+  -- the events of a half, and then those of the rest
   half_told : (s : Arithmetic) (me : ℕ) (half : Half) (rest : List Half) (old new : Course) (t u last : T) → DoesHalf s me half old new
       → FoldsTo tells t (events_after me (lengths old.posted) (lengths old.taken) (half ∷ [])) u
       → FoldsTo tells u (events_after me (lengths new.posted) (lengths new.taken) rest) last
@@ -96,7 +96,7 @@ module _ {T : Type 0} (tells : T → TraceEvent → T → Type 0) where
       one_event _ (events_after me (lengths old.posted) (one_more (lengths old.taken) from) rest) t u last told
       (subst (λ f. FoldsTo tells u (events_after me (lengths old.posted) f rest) last) p (subst (λ z. FoldsTo tells u (events_after me (lengths z) (lengths new.taken) rest) last) q after))
 
-  -- a Post is told of
+  -- the event of a Post
   pub tells_post : (x y : RankView) (d : Desk Sparse) (to : ℕ) (tag : Tag) (slot : ℕ) (t : Tag) (body : Body Sparse) (e : Envelope) (old new : T) → IsUnderWay x d → next_half x ≡ Some (half_is.Post to tag slot)
       → HandsOut x (next_half x) t body y → e ≡ record { from = d.me; to = to; number = length (posted_to d to); tag = t } → tells old (Posted e) new → TellsNext tells x d old new
   tells_post x y d to tag slot t body e old new was next hands is told =
@@ -104,14 +104,14 @@ module _ {T : Type 0} (tells : T → TraceEvent → T → Type 0) where
       let same : e ≡ record { from = x.me; to = to; number = length (posted_to d to); tag = tag } = is ∙ rw (was.me, h.0) refl in
       rw next (new, subst (λ z. tells old (Posted z) new) same told, refl)
 
-  -- a Shut is
+  -- the event of a Shut
   pub tells_shut : (x : RankView) (d : Desk Sparse) (to : ℕ) (e : Envelope) (old new : T) → IsUnderWay x d → next_half x ≡ Some (half_is.Shut to)
       → e ≡ record { from = d.me; to = to; number = length (posted_to d to); tag = mark_tag } → tells old (Closed e) new → TellsNext tells x d old new
   tells_shut x d to e old new was next is told =
       let same : e ≡ record { from = x.me; to = to; number = length (posted_to d to); tag = mark_tag } = is ∙ rw was.me refl in
       rw next (new, subst (λ z. tells old (Closed z) new) same told, refl)
 
-  -- and so is what a Take or an End waits for
+  -- the event of a Take or an End
   pub tells_arrival : (x : RankView) (d : Desk Sparse) (from : ℕ) (arrival : Arrival Sparse) (e : Envelope) (old new : T) → IsUnderWay x d → WaitsOn x from → IsAwaited (next_half x) x.me arrival
       → e ≡ record { from = from; to = d.me; number = length (taken_from d from); tag = mark_tag } → tells old (arrival_event e arrival) new → TellsNext tells x d old new
   tells_arrival x d from (arrival_is.Letter letter) e old new was (inl w) waits is told =
@@ -128,19 +128,19 @@ module _ {T : Type 0} (tells : T → TraceEvent → T → Type 0) where
       let same : e ≡ record { from = from; to = x.me; number = length (taken_from d from); tag = mark_tag } = is ∙ rw was.me refl in
       rw (wants_end (next_half x) from w) (new, subst (λ z. tells old (Ended z) new) same told, refl)
 
-  -- work isn't
+  -- a Work has no event
   pub tells_work : (x : RankView) (d : Desk Sparse) (op : Op) (old : T) → next_half x ≡ Some (half_is.Work op) → TellsNext tells x d old old
   tells_work x d op old next = rw next refl
 
-  -- the events of the halves that a rank has still to do
+  -- the events of the halves that a rank hasn't done
   abbrev pub left : RankView → Desk Sparse → List TraceEvent
   left x d = events_after x.me (lengths (posted_to d)) (lengths (taken_from d)) (drop x.done x.program)
 
-  -- a recorder that a rank began with was told of all that the rank has done: whatever the rest gives, it has from all
+  -- a recorder was told of what a rank has done: with the events of the rest it is told of the whole program
   abbrev pub HasTold : T → RankView → T → RankView → Desk Sparse → Type 0
   HasTold first x now y e = (last : T) → FoldsTo tells now (left y e) last → FoldsTo tells first (program_events x.me x.program) last
 
-  -- a rank that begins
+  -- a rank that has done nothing
   pub begins_told : (t : T) (x : RankView) (d : Desk Sparse) → IsNewRun x d → HasTold t x t x d
   begins_told t x d new last h =
       let p : lengths (posted_to d) ≡ (λ _. 0) = λ i k. (ap length (none_posted new.capacity x.plan.ranks x.me d new.desk k)) i in
@@ -150,7 +150,7 @@ module _ {T : Type 0} (tells : T → TraceEvent → T → Type 0) where
       (subst (λ f. FoldsTo tells t (events_after x.me f (λ _. 0) (drop x.done x.program)) last) p
       (subst (λ f. FoldsTo tells t (events_after x.me (lengths (posted_to d)) f (drop x.done x.program)) last) q h))
 
-  -- and goes on
+  -- one more half
   pub goes_on_told : (s : Arithmetic) (t : T) (x : RankView) (d : Desk Sparse) (u : T) (y : RankView) (e : Desk Sparse) (v : T) (z : RankView) (f : Desk Sparse) → HasRun s x d y e → HasTold t x u y e → DoesNext s y e z f → TellsNext tells y e u v → HasTold t x v z f
   goes_on_told s t x d u y e v z f run told next tell last h =
       let done : z.done ≡ y.done + 1 = ap (λ (w : RankView). w.done) next.one_more in
@@ -165,24 +165,24 @@ module _ {T : Type 0} (tells : T → TraceEvent → T → Type 0) where
       told last (subst (λ hs. FoldsTo tells u (events_after y.me (lengths (posted_to e)) (lengths (taken_from e)) hs) last) (sym more)
       (half_told s y.me next.half (drop (y.done + 1) y.program) _ _ u v last next.does one after))
 
-  -- until it has done its program
+  -- a rank that has done its program
   pub ends_told : (t : T) (x : RankView) (u : T) (y : RankView) (e : Desk Sparse) → HasTold t x u y e → next_half y ≡ None → FoldsTo tells t (program_events x.me x.program) u
   ends_told t x u y e told none =
       told u (subst (λ hs. FoldsTo tells u (events_after y.me (lengths (posted_to e)) (lengths (taken_from e)) hs) u) (sym (drop-past y.program y.done (none_past y.program y.done none))) refl)
 
   module _ {H : Type 0} (f : H → Member) (g : H → T) where
-    -- what came back so far, followed by whatever the rest gives, was told of all
+    -- the loop over threads: recorders that were returned, followed by those of the rest, were told of all programs
     abbrev pub Tell : List H → List H → List T → Type 0
     Tell all rest done = (ys : List T) → HaveTold tells (map f rest) (map g rest) ys → HaveTold tells (map f all) (map g all) (done ++ ys)
 
-    -- where no rank was lost, one recorder more came back
+    -- one more recorder was returned, if no rank was lost
     pub told_more : (lost : Option ℕ) (all : List H) (done done' : List T) (rest rest' : List H) (x : H) (y : T)
         → rest ≡ x ∷ rest' → done' ≡ done ++ y ∷ [] → FoldsTo tells (g x) (program_events (f x).0.me (f x).0.program) y
         → IfNone lost (Tell all rest done) → IfNone lost (Tell all rest' done')
     told_more (Some n) all done done' rest rest' x y e d r h = tt
     told_more None all done done' rest rest' x y e d r h = λ ys z. rw (d, append_assoc) (h (y ∷ ys) (rw e (r, z)))
 
-    -- until all did
+    -- all recorders were returned
     pub told_all : (lost : Option ℕ) (all : List H) (done : List T) (rest : List H)
         → lost ≡ None → length rest ≡ 0 → IfNone lost (Tell all rest done) → HaveTold tells (map f all) (map g all) done
     told_all (Some n) all done rest is none h = cc
@@ -197,7 +197,7 @@ module _ {T : Type 0} (tells : T → TraceEvent → T → Type 0) where
   told_count (m ∷ ms) (o ∷ olds) [] h = absurd h
   told_count (m ∷ ms) (o ∷ olds) (n ∷ news) h = ap suc (told_count ms olds news h.1)
 
-  -- the k-th of them
+  -- the k-th recorder, before and after
   record ToldAt (ms : List Member) (olds news : List T) (k : ℕ) : Type 0 where
     member : Member
     old : T

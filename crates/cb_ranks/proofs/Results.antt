@@ -1,4 +1,4 @@
--- What a rank leaves in a slot, or posts, stands for what the plan means, with the counts of refusals at the end of all runs.
+-- What a rank leaves in a slot, or posts, agrees with what the plan means. The counts of refusals are those at the end of all runs.
 use Rattle.std.proofs.Common.{◌≡◌, ℕ, ◌-◌, ◌≤◌, false, List, refl, ap, arith, inl, inr}
 use Rattle.std.specs.Prelude.{Option, IsSome}
 use Rattle.std.proofs.lemmas.Bool.Decides.{nat_tests}
@@ -19,7 +19,7 @@ use Rattle.cb_rank.specs.Halves.{slot_at, IsCopy, IsWork}
 use Rattle.cb_rank.proofs.ByOperation.{AllSome}
 use Rattle.cb_rank.proofs.Halves.{some_of, worked}
 
--- a slot that isn't lost stands for its own sheet
+-- a slot that isn't lost agrees with its own sheet
 pub sheet_stands : {M : Type 0} (refs : ℕ → ℕ) (x : Slot M) → is_lost x ≡ false → IsSlotOf refs (sheet_of x) x
 sheet_stands refs slot_is.Empty h = refl
 sheet_stands refs (slot_is.Sheet m) h = refl

@@ -19,19 +19,19 @@ use Rattle.cb_ranks.specs.UnderWay.{IsUnderWay, DoesNext}
 use Rattle.cb_ranks.proofs.Crews.{none_taken}
 use Rattle.cb_ranks.proofs.Lanes.{lanes-before_next}
 
--- from x and d a rank came to y and e, by the halves that it has done
+-- a rank has done a part of its program over its desk, from x and d to y and e
 pub record HasRun (s : Arithmetic) (x : RankView) (d : Desk Sparse) (y : RankView) (e : Desk Sparse) : Type 0 where
   pub same : y ≡ record x { done = y.done; slots = y.slots; refusals = y.refusals }
   pub halves : RunsTo s x.me (take y.done x.program) (course_of x d) (course_of y e)
   pub rings : identity e ≡ identity d
   pub under_way : IsUnderWay y e
 
--- one half more
+-- one more half
 pub runs_to-append : (s : Arithmetic) (me : ℕ) (hs : List Half) (h : Half) (a b c : Course) → RunsTo s me hs a b → DoesHalf s me h b c → RunsTo s me (hs ++ h ∷ []) a c
 runs_to-append s me [] h a b c runs does = (c, subst (λ z. DoesHalf s me h z c) runs does, refl)
 runs_to-append s me (g ∷ hs) h a b c runs does = (runs.0, runs.1, runs_to-append s me hs h runs.0 b c runs.2 does)
 
--- a rank that begins
+-- a rank that has done nothing
 pub begins : (s : Arithmetic) (x : RankView) (d : Desk Sparse) → IsNewRun x d → HasRun s x d x d
 begins s x d new = record {
   same = refl;
@@ -45,7 +45,7 @@ begins s x d new = record {
   };
 }
 
--- and goes on
+-- a rank that does one more half
 pub goes_on : (s : Arithmetic) (x : RankView) (d : Desk Sparse) (y : RankView) (e : Desk Sparse) (z : RankView) (f : Desk Sparse) → HasRun s x d y e → DoesNext s y e z f → HasRun s x d z f
 goes_on s x d y e z f run next =
     let done : z.done ≡ y.done + 1 = ap (λ (v : RankView). v.done) next.one_more in
@@ -61,13 +61,13 @@ goes_on s x d y e z f run next =
       under_way = next.under_way;
     }
 
--- a list that has no element at a place ends before it
+-- a list without an element at a place ends before it
 pub none_past : {A : Type 0} (xs : List A) (k : ℕ) → slice_get xs k ≡ None → length xs ≤ k
 none_past [] k e = omega arith
 none_past (x ∷ xs) zero e = cc
 none_past (x ∷ xs) (suc k) e = let h = none_past xs k e in omega arith
 
--- until it has done its program
+-- a rank that has done its program
 pub ends : (s : Arithmetic) (x : RankView) (d : Desk Sparse) (y : RankView) (e : Desk Sparse) → HasRun s x d y e → IsRank y → next_half y ≡ None → Runs s x d y e
 ends s x d y e run is none =
     let program : y.program ≡ x.program = ap (λ (v : RankView). v.program) run.same in

@@ -15,7 +15,7 @@ use Rattle.cb_ranks.specs.Traced.{program_events, AreOfProgram, HasProgram}
 use Rattle.cb_ranks.proofs.Crews.{get_or_of}
 
 module _ {S G : Type 0} where
-  -- one new log more
+  -- one more new log
   pub new_more : (logs : List (Log S G)) (log : Log S G) → AreNewLogs logs → log.is_torn ≡ false → log.events.items ≡ [] → AreNewLogs (logs ++ log ∷ [])
   new_more [] log h e f = ((e, f), tt)
   new_more (x ∷ xs) log h e f = (h.0, new_more xs log h.1 e f)
@@ -30,7 +30,7 @@ module _ {S G : Type 0} where
   whole_at (x ∷ xs) zero log h e = subst (λ (l : Log S G). l.is_torn ≡ false) (same_Some _ _ e) h.0
   whole_at (x ∷ xs) (suc k) log h e = whole_at xs k log h.1 e
 
-  -- a log that isn't torn has all that it was told
+  -- a log that isn't torn has all events that it was told of
   pub log_after : (es : List TraceEvent) (s t : Log S G) → FoldsTo Keeps s es t → t.is_torn ≡ false → (s.is_torn ≡ false) × (t.events.items ≡ s.events.items ++ es)
   log_after [] s t h whole = (ap (λ (l : Log S G). l.is_torn) h ∙ whole, rw append-nil (ap (λ (l : Log S G). l.events.items) (sym h)))
   log_after (e ∷ es) s t h whole =
@@ -38,7 +38,7 @@ module _ {S G : Type 0} where
       let here = h.1 rest.0 in
       (here.0, rw (rest.1, here.1, append_assoc) refl)
 
-  -- logs that are whole have the program of the plan that they were told of
+  -- whole logs that were told of the programs of a plan have their events
   pub of_program : (p : CheckedView) (olds news : List (Log S G)) (lists : List (List TraceEvent)) → AreNewLogs olds → HaveToldPlan Keeps p olds news
       → AreWhole news → lists ≡ map (λ (l : Log S G). l.events.items) news → AreOfProgram p lists
   of_program p olds news lists begun told whole same = record {
@@ -50,7 +50,7 @@ module _ {S G : Type 0} where
         ap (λ ls. get_or ls r []) same ∙ get_or_of (λ (l : Log S G). l.events.items) news r it.new [] it.new_is ∙ kept.1 ∙ ap (λ es. es ++ program_events r (project p.starts p.acts r)) none;
   }
 
--- and so has a trace that they match
+-- a trace that matches them has the events too
 pub has_program : (p : CheckedView) (lists : List (List TraceEvent)) (t : TraceView) → AreOfProgram p lists → AreLogsOf t lists → HasProgram p t
 has_program p lists t own logs =
     let size : t.ranks ≡ p.ranks = sym logs.count ∙ own.count in

@@ -1,4 +1,4 @@
--- All ranks of a plan, each with its desk, before they run and after.
+-- A crew: all ranks of a plan, each with its desk, before they run and after.
 use Rattle.std.specs.Prelude.{◌≡◌, ℕ, ◌<◌, ◌⊎◌, List, [], ◌∷◌, length, map, get_or}
 use Rattle.cb_semirings.specs.Arithmetic.{Arithmetic}
 use Rattle.cb_matrix.specs.Sparse.{Sparse}
@@ -23,27 +23,31 @@ stores_of crew = map (λ m. m.0.slots) crew
 abbrev pub counts_of : List Member → List ℕ
 counts_of crew = map (λ m. m.0.refusals) crew
 
--- each is a new rank with its new desk
+-- each is a new rank with a new desk
 abbrev pub AreNew : List Member → Type 0
 AreNew [] = Unit {0}
 AreNew (m ∷ ms) = IsNewRun m.0 m.1 × AreNew ms
 
--- the desk of one of them is this rank's
+-- one of them has the desk of this rank
 abbrev pub IsOneOf : List Member → ℕ → Type 0
 IsOneOf [] r = ⊥
 IsOneOf (m ∷ ms) r = (m.1.me ≡ r) ⊎ IsOneOf ms r
 
--- after the first so many of them comes this rank
+-- this rank comes after the first n of them
 abbrev pub ComesAfter : List Member → ℕ → ℕ → Type 0
 ComesAfter crew n r = (d : Member) → (get_or crew n d).1.me ≡ r
 
--- the second is what the run of the first left
+-- the second member is what a run of the first leaves
 abbrev pub Ran : Arithmetic → Member → Member → Type 0
 Ran s old new = Runs s old.0 old.1 new.0 new.1
 
--- every rank of a plan in order, new, each with its part of the store and its desk, and the desks of one opening
+-- the k-th rank is the plan's new rank k, with the k-th of these stores
+abbrev pub AreNewRanks : CheckedView → List (List (Slot Sparse)) → List Member → Type 0
+AreNewRanks p first crew = (k : ℕ) (d : Member) → k < length crew → (get_or crew k d).0 ≡ new_rank p k (get_or first k [])
+
+-- the ranks of a plan in order, each new, with its store and its desk; and the desks are of one opening
 pub record IsCrew (p : CheckedView) (first : List (List (Slot Sparse))) (crew : List Member) : Type 0 where
   pub count : length crew ≡ p.ranks
-  pub ranks : (k : ℕ) (d : Member) → k < length crew → (get_or crew k d).0 ≡ new_rank p k (get_or first k [])
+  pub ranks : AreNewRanks p first crew
   pub new : (k : ℕ) (d : Member) → k < length crew → IsNewRun (get_or crew k d).0 (get_or crew k d).1
   pub opening : AreOfOneOpening (map identity (desks_of crew))

@@ -4,19 +4,20 @@ use Rattle.cb_ranks.specs.Crews.{Member, IsOneOf}
 use Rattle.cb_ranks.specs.declared.faults.RunFault.{RunFault}
 use Rattle.cb_ranks.specs.declared.faults.RunFault.TheVariants as fault_is
 
--- a fault of a plan of so many ranks: the rank that it names, if it names one, is one of them. No trace is kept, so none is torn
+-- a fault of a run of this many ranks: the rank that it names, if it names one, is one of them. No trace is kept, so none is
+-- torn
 abbrev pub IsFaultOf : ℕ → RunFault → Type 0
 IsFaultOf ranks fault_is.Memory = Unit {0}
 IsFaultOf ranks (fault_is.NotStarted r) = r < ranks
 IsFaultOf ranks (fault_is.Gone r) = r < ranks
 IsFaultOf ranks fault_is.TraceTorn = ⊥
 
--- a fault of a traced run of it
+-- a fault of a traced run of this many ranks
 abbrev pub IsTracedFaultOf : ℕ → RunFault → Type 0
 IsTracedFaultOf ranks fault_is.TraceTorn = Unit {0}
 IsTracedFaultOf ranks fault = IsFaultOf ranks fault
 
--- a fault of a crew's threads: it names one of the crew
+-- a fault of a crew's threads: it names a rank of the crew
 abbrev pub IsFaultIn : List Member → RunFault → Type 0
 IsFaultIn crew fault_is.Memory = ⊥
 IsFaultIn crew (fault_is.NotStarted r) = IsOneOf crew r

@@ -1,4 +1,4 @@
--- What all ranks of a plan leave once each has run its program in its thread.
+-- What all ranks of a plan leave once each has run its program in a thread of its own.
 use Rattle.std.specs.Prelude.{◌≡◌, ◌≢◌, ℕ, ◌<◌, ◌^◌, List, [], length, get_or, sum}
 use Rattle.cb_semirings.specs.Arithmetic.{Arithmetic}
 use Rattle.cb_matrix.specs.Sparse.{Sparse}
@@ -14,7 +14,8 @@ use Rattle.cb_rank.specs.Halves.{Course, RunsTo}
 use Rattle.cb_rank.specs.Leavings.{HoldsMeaning}
 use Rattle.cb_ranks.specs.Runs.{fresh}
 
--- the store of each rank, how often each was refused memory, and the letters that were posted on the lane from each rank to each, and taken
+-- the store of each rank, how often each was refused memory, and the letters that were posted and taken on the lane from each
+-- rank to each
 pub record FinishedView : Type 0 where
   pub stores : List (List (Slot Sparse))
   pub refusals : List ℕ
@@ -38,28 +39,28 @@ pub record IsFinished (f : FinishedView) : Type 0 where
 abbrev pub IsLaneOf : FinishedView → ℕ → ℕ → Type 0
 IsLaneOf f from to = (from < length f.stores) × (to < length f.stores) × (from ≢ to)
 
--- on the lane between two ranks all letters of the plan were posted, the close mark among them, and all were taken
+-- on the lane from one rank to another all letters of the plan were posted, the close mark included, and all were taken
 pub record HasLetters (s : Arithmetic) (p : CheckedView) (first : List (List (Slot Sparse))) (f : FinishedView) (from to : ℕ) : Type 0 where
   pub posted : AreLettersOf (refused_at f) from to 0 (letters (matrices s) p.acts (state_of first) from to) (f.posted from to)
   pub taken : f.taken from to ≡ f.posted from to
   pub count : length (f.posted from to) ≡ length (letters (matrices s) p.acts (state_of first) from to)
 
--- how far a rank came: what it left, and the letters that it posted and took
+-- how far a rank has come: what it left, and the letters that it posted and took
 abbrev pub course_in : FinishedView → ℕ → Course
 course_in f r = record { slots = get_or f.stores r []; refusals = get_or f.refusals r 0; posted = f.posted r; taken = λ k. f.taken k r }
 
--- each rank of a plan did its program by itself, half by half, from its part of the first stores on
+-- each rank of a plan did its own program, half by half, from its part of the first stores
 abbrev pub AllRun : Arithmetic → CheckedView → List (List (Slot Sparse)) → FinishedView → Type 0
 AllRun s p first f = (r : ℕ) → r < p.ranks → RunsTo s r (project p.starts p.acts r) (fresh (get_or first r [])) (course_in f r)
 
--- the ranks of a checked plan have done what it means for these first stores
+-- the ranks of a checked plan have done what the plan means for these first stores
 pub record FinishesPlan (s : Arithmetic) (p : CheckedView) (first : List (List (Slot Sparse))) (f : FinishedView) : Type 0 where
   pub checked : IsChecked p
-  -- the number of a rank has 16 bits
+  -- rank numbers have 16 bits
   pub few : p.ranks < 2 ^ 16
   -- what they leave holds what the plan means
   pub left : HoldsMeaning s p first f.stores f.refusals
   -- on each lane its letters were posted and taken
   pub lanes : (from to : ℕ) → from < p.ranks → to < p.ranks → from ≢ to → HasLetters s p first f from to
-  -- and each rank did its own program
+  -- each rank did its own program
   pub halves : AllRun s p first f

@@ -4,11 +4,11 @@ use Rattle.cb_trace.specs.declared.events.TraceEvent.{TraceEvent}
 use Rattle.cb_ranks.specs.declared.logs.Log.{Log}
 
 module _ {S G : Type 0} where
-  -- a log that isn't torn once it was told of an event wasn't torn before, and has the event as its last
+  -- a log was told of an event: if it isn't torn now, it wasn't torn before, and the event was appended to its list
   abbrev pub Keeps : Log S G → TraceEvent → Log S G → Type 0
   Keeps old event new = new.is_torn ≡ false → (old.is_torn ≡ false) × (new.events.items ≡ old.events.items ++ event ∷ [])
 
-  -- nothing was told to any of them
+  -- none of them was told of an event
   abbrev pub AreNewLogs : List (Log S G) → Type 0
   AreNewLogs [] = Unit {0}
   AreNewLogs (log ∷ logs) = ((log.is_torn ≡ false) × (log.events.items ≡ [])) × AreNewLogs logs

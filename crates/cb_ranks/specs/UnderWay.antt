@@ -1,4 +1,4 @@
--- A rank in the midst of its program, over its desk.
+-- A rank that has done a part of its program, and its desk.
 use Rattle.std.specs.Prelude.{◌≡◌, ℕ, [], ◌∷◌, length, Some, IfSome}
 use Rattle.std.specs.List.{FoldsTo}
 use Rattle.cb_semirings.specs.Arithmetic.{Arithmetic}
@@ -20,14 +20,15 @@ use Rattle.cb_rank.specs.Ranks.{RankView, next_half, onward}
 use Rattle.cb_ranks.specs.Runs.{course_of}
 use Rattle.cb_ranks.specs.Traced.{events_after, lengths}
 
--- the desk is the rank's own among the ranks of its plan, and has taken the close marks of just those lanes that the acts before the rank's next half shut
+-- the desk is the rank's own among the ranks of its plan. The lanes to the rank whose close marks were taken are exactly those
+-- that the acts before the rank's next half shut
 pub record IsUnderWay (x : RankView) (d : Desk Sparse) : Type 0 where
   pub me : d.me ≡ x.me
   pub ranks : length d.outgoing.items ≡ x.plan.ranks
   pub numbered : (k : ℕ) → AreNumbered (taken_from d k)
   pub ends : (k : ℕ) → ends_closed (taken_from d k) ≡ lanes_after (before x.plan.acts x.me x.done) none_shut k x.me
 
--- the rank has done its next half over its desk, and nothing else: from x and d it came to y and e
+-- the rank has done its next half over its desk, and nothing else, from x and d to y and e
 pub record DoesNext (s : Arithmetic) (x : RankView) (d : Desk Sparse) (y : RankView) (e : Desk Sparse) : Type 0 where
   pub half : Half
   pub next : next_half x ≡ Some half
@@ -36,11 +37,12 @@ pub record DoesNext (s : Arithmetic) (x : RankView) (d : Desk Sparse) (y : RankV
   pub rings : identity e ≡ identity d
   pub under_way : IsUnderWay y e
 
--- a recorder was told of the rank's next half over its desk, and of nothing else
+-- a recorder was told of the event of the rank's next half, if it has one, and of nothing else
 abbrev pub TellsNext : {T : Type 0} → (T → TraceEvent → T → Type 0) → RankView → Desk Sparse → T → T → Type 0
-TellsNext tells x d old new = IfSome (next_half x) (λ half. FoldsTo tells old (events_after x.me (lengths (posted_to d)) (lengths (taken_from d)) (half ∷ [])) new)
+TellsNext tells x d old new =
+    IfSome (next_half x) (λ half. FoldsTo tells old (events_after x.me (lengths (posted_to d)) (lengths (taken_from d)) (half ∷ [])) new)
 
--- the event of what was taken, by the envelope that a close mark would have there: a letter's has the letter's tag
+-- the event of what was taken. `mark` is the envelope that it has if it is a close mark; a letter has its own tag
 abbrev pub arrival_event : {P : Type 0} → Envelope → Arrival P → TraceEvent
 arrival_event mark (arrival_is.Letter letter) = Took (record mark { tag = letter.tag })
 arrival_event mark (arrival_is.End from) = Ended mark

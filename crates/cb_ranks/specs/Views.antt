@@ -1,4 +1,4 @@
--- What contracts see of what ranks left.
+-- What ranks left, as contracts see it.
 use Rattle.cb_lanes.specs.Lanes.{posted_on, taken_on}
 use Rattle.cb_semirings.specs.declared.Semiring.{Ghosts}
 use Rattle.cb_ranks.specs.declared.finished.Finished.{Finished}

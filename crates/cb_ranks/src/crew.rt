@@ -1,8 +1,7 @@
-//! All ranks of a plan, each with its desk.
-ghost use Rattle.std.specs.Prelude.{◌≡◌, ◌≤◌, ◌<◌, ℕ, [], length, get_or, IfOk, vec_len, vec_capacity};
+//! A crew: all ranks of a plan, each with its desk.
+ghost use Rattle.std.specs.Prelude.{◌≡◌, ◌≤◌, length, IfOk, vec_len, vec_capacity};
 ghost use Rattle.cb_plan.specs.Stores.{Fits};
-ghost use Rattle.cb_rank.specs.Ranks.{new_rank};
-ghost use Rattle.cb_ranks.specs.Crews.{Member as MemberView, AreNew, IsCrew, desks_of, stores_of, counts_of};
+ghost use Rattle.cb_ranks.specs.Crews.{AreNew, AreNewRanks, IsCrew, desks_of, stores_of, counts_of};
 
 use cb_dcsc::Block;
 use cb_lanes::{Desk, open};
@@ -15,10 +14,10 @@ use std::alloc::{AllocError, Global};
 /// A rank with its desk.
 pub type Member<S> = (Rank<S>, Desk<Block<S>>);
 
-/// The ranks of a plan in order, each new, with its store and a new desk, over lanes for `capacity` letters
-/// from each to each other: for who runs each by [`run_rank`](crate::run_rank) on a thread of its own.
+/// Makes the ranks of a plan in order, each new, with its store and a new desk, over lanes of `capacity` letters. For
+/// callers that run each rank by [`run_rank`](crate::run_rank) on a thread of their own.
 ///
-/// It costs the projection of the plan for each rank, and room for the letters of each lane.
+/// The cost is that of projecting the plan to each rank, and room for `capacity` letters on each lane.
 pub fn assemble<S: Semiring>(
     alloc: Global,
     plan: &CheckedPlan,
@@ -33,7 +32,7 @@ pub fn assemble<S: Semiring>(
     pair_up(alloc, plan, stores, desks)
 }
 
-/// Each rank of a plan, new, with its store and its desk.
+/// Makes each rank of a plan, with its store and its desk.
 fn pair_up<S: Semiring>(
     alloc: Global,
     plan: &CheckedPlan,
@@ -43,7 +42,7 @@ fn pair_up<S: Semiring>(
     requires fits { Fits plan.now.ranks plan.now.starts stores.items }
     requires desks { (length desks.items ≡ plan.now.ranks) × (length desks.items ≤ 65535) }
     ensures desks { IfOk result (λ crew. desks_of crew.items ≡ desks.items) }
-    ensures ranks { IfOk result (λ crew. (k : ℕ) (d : MemberView) → k < length crew.items → (get_or crew.items k d).0 ≡ new_rank plan.now k (get_or stores.items k [])) }
+    ensures ranks { IfOk result (λ crew. AreNewRanks plan.now stores.items crew.items) }
 {
     let mut crew = Vec::with_capacity(alloc, desks.len())?;
     for (store, desk) in stores.into_iter().zip(desks) {
@@ -56,7 +55,7 @@ fn pair_up<S: Semiring>(
     Ok(crew)
 }
 
-/// What ranks leave at their ends, in order: their stores, how often each was refused memory, and their desks.
+/// What ranks leave, in order: their stores, their counts of refusals, and their desks.
 #[derive(Drop)]
 pub(crate) struct Remains<S: Semiring> {
     pub(crate) stores: Vec<RankStore<S>>,
@@ -67,7 +66,7 @@ pub(crate) struct Remains<S: Semiring> {
 impl<S: Semiring> Remains<S> {
     ghost use Rattle.cb_ranks.specs.Remains.{AreNone, HaveRoom};
 
-    /// Nothing yet, with room for so many ranks.
+    /// Empty lists, with room for this many ranks.
     pub(crate) fn with_room(alloc: Global, ranks: usize) -> Result<Remains<S>, AllocError>
         ensures none { IfOk result (λ remains. AreNone remains) }
         ensures room { IfOk result (λ remains. HaveRoom remains ranks) }
@@ -79,7 +78,7 @@ impl<S: Semiring> Remains<S> {
         })
     }
 
-    /// What these ranks leave, in the room for them.
+    /// Takes what these ranks leave. There must be room for it.
     pub(crate) fn take_from(self, crew: Vec<Member<S>>) -> Remains<S>
         requires none { AreNone self }
         requires room { HaveRoom self (vec_len crew) }

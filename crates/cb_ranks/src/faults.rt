@@ -1,24 +1,24 @@
-//! Why ranks in threads have no answer.
+//! Why a run in threads fails.
 ghost use Rattle.std.specs.Prelude.{◌≡◌};
 ghost use Rattle.cb_ranks.specs.declared.faults.RunFault.TheVariants.{Memory};
 
 use std::alloc::AllocError;
 use thiserror::Error;
 
-/// Why a run in threads has no answer, in the order in which the reasons are looked for.
+/// Why a run in threads failed, in the order in which the reasons are checked.
 #[derive(Clone, Copy, Debug, PartialEq, Eq, Error)]
 pub enum RunFault {
     /// Memory was refused. No thread was started.
     #[error("out of memory")]
     Memory,
-    /// No thread could be started for this rank. It is the first such: the ranks before it were started, those after
-    /// it weren't tried.
+    /// No thread could be started for this rank, the first such. The ranks before it were started, and those after it
+    /// weren't tried.
     #[error("no thread for rank {0}")]
     NotStarted(u16),
-    /// This rank's program came to a lane whose other rank was gone. It is the least rank that ended so.
+    /// This rank found the rank at the other end of a lane gone. It is the least rank that did.
     #[error("rank {0} was left alone")]
     Gone(u16),
-    /// The trace isn't what the ranks recorded: it refused an event, or doesn't match their own lists.
+    /// The trace isn't what the ranks recorded: an event was refused, or the trace doesn't match the ranks' own lists.
     #[error("trace torn")]
     TraceTorn,
 }

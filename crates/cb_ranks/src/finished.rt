@@ -7,7 +7,7 @@ use cb_lanes::Settled;
 use cb_plan::RankStore;
 use cb_semirings::Semiring;
 
-/// The store that each rank of a plan left, how often memory was refused to it, and the lanes between the ranks.
+/// The store that each rank of a plan left, how often each was refused memory, and the lanes between the ranks.
 #[derive(Drop)]
 pub struct Finished<S: Semiring> {
     pub(crate) stores: Vec<RankStore<S>>,
@@ -21,7 +21,7 @@ impl<S: Semiring> Finished<S> {
     ghost use Rattle.cb_ranks.specs.Finished.{all_refusals, IsLaneOf};
     ghost use Rattle.cb_ranks.specs.Views.{finished_view};
 
-    /// The store of each rank, and how often each was refused memory, in order of the ranks.
+    /// The store of each rank, and how often each was refused memory, in the order of the ranks.
     pub fn into_parts(self) -> (Vec<RankStore<S>>, Vec<u64>)
         ensures stores { result.0.items ≡ (finished_view self).stores }
         ensures refusals { result.1.items ≡ (finished_view self).refusals }
@@ -29,14 +29,14 @@ impl<S: Semiring> Finished<S> {
         (self.stores, self.refusals)
     }
 
-    /// How often memory was refused, to all ranks: where it is 0, no slot is lost.
+    /// The number of times that memory was refused, over all ranks. If it is 0, no slot is lost.
     pub fn refusals(&self) -> u64
         ensures { result ≡ all_refusals (finished_view self.now) }
     {
         self.refusals.iter().sum()
     }
 
-    /// How many letters were posted on the lane from one rank to another, its close mark among them.
+    /// The number of letters posted on the lane from one rank to another, the close mark included.
     pub fn posted(&self, from: u16, to: u16) -> u64
         requires { IsLaneOf (finished_view self.now) from to }
         ensures { result ≡ length ((finished_view self.now).posted from to) }
@@ -44,7 +44,7 @@ impl<S: Semiring> Finished<S> {
         self.lanes.posted(from, to)
     }
 
-    /// How many of them were taken.
+    /// The number of letters taken on the lane from one rank to another, the close mark included.
     pub fn taken(&self, from: u16, to: u16) -> u64
         requires { IsLaneOf (finished_view self.now) from to }
         ensures { result ≡ length ((finished_view self.now).taken from to) }

@@ -1,17 +1,15 @@
-//! Where a rank passes before each half of its program, and after each event that it records.
+//! What is called before each half of a rank's program, and after each event that it records.
 use cb_rank::Rank;
 use cb_semirings::Semiring;
 
-/// Called by each rank's thread. It may look, count and wait; it changes nothing of the rank.
+/// Called by each rank's thread. It may look, count and wait, but can't change the rank.
 pub trait Gate<S: Semiring>: Sync {
-    /// Called before each half, with the rank as it stands.
+    /// Called before each half, with the rank as it is then.
     fn pass(&self, rank: u16, state: &Rank<S>);
 
-    /// Called in a traced run once the rank has recorded an event, with the event's place in the trace, from 0.
-    fn recorded(&self, rank: u16, place: usize) {
-        let _ = rank;
-        let _ = place;
-    }
+    /// Called in a traced run once the rank has recorded an event, with the event's place in the trace, from 0. It does
+    /// nothing by default.
+    fn recorded(&self, _rank: u16, _place: usize) {}
 }
 
 /// A gate that does nothing.
@@ -19,8 +17,5 @@ pub trait Gate<S: Semiring>: Sync {
 pub struct OpenGate;
 
 impl<S: Semiring> Gate<S> for OpenGate {
-    fn pass(&self, rank: u16, state: &Rank<S>) {
-        let _ = rank;
-        let _ = state;
-    }
+    fn pass(&self, _rank: u16, _state: &Rank<S>) {}
 }

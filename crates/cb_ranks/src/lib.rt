@@ -3,21 +3,20 @@
 //!
 //! A rank's thread owns the rank, with its slots, and the rank's desk, with its ends of the lanes. No block is shared:
 //! what goes from one rank to another is copied into a letter. [`run_rank`] does one rank's halves in order on its
-//! caller's thread. Before each half it passes the [`Gate`]; then it does the half, and waits where there is no room
-//! for its letter yet or none has come. A rank that finds another one gone gives itself up.
+//! caller's thread. Before each half it calls the [`Gate`]. A half waits while its lane has no room for its letter, or
+//! no letter for it. A rank that finds another one gone gives up, and is dropped.
 //!
 //! [`run_threads`] does this for all ranks of a plan, in one scope:
 //!
-//! - first it takes all memory for the ranks, the lanes and what comes back, so that want of it is answered before any
-//!   thread is started;
-//! - it moves each rank with its desk into a thread, in order. Where a thread can't be had, the ranks that are left are
-//!   dropped, and whoever waits for one of them finds it gone;
-//! - it joins every thread, and looks at both ends of each lane.
+//! - It takes all memory for the ranks, the lanes and the results first. If memory is refused, no thread is started.
+//! - It moves each rank with its desk into a thread, in order. If a thread can't be started, the remaining ranks are
+//!   dropped, and a rank that waits for one of them finds it gone.
+//! - It joins every thread, and compares both ends of each lane.
 //!
 //! [`run_traced`] does the same, and keeps a trace of what the ranks posted and took.
 //!
-//! What the threads leave follows from what each did by itself and from what the lanes keep: what was taken is a
-//! beginning of what was posted. How the threads were interleaved doesn't matter. That a run ends is not claimed.
+//! What the threads leave follows from what each did by itself and from what lanes guarantee: what was taken is a prefix
+//! of what was posted. The interleaving of the threads doesn't matter. No contract claims that a run terminates.
 #![tactic(auto)]
 
 mod crew;

@@ -1,6 +1,7 @@
-//! The list that each rank of a traced run keeps of its own events, beside the trace that all share.
-ghost use Rattle.std.specs.Prelude.{◌≡◌, ◌≤◌, [], ◌∷◌, ◌++◌, length, map, false, IfOk, IfSome, vec_len, vec_capacity};
-ghost use Rattle.cb_ranks.specs.Logs.{AreNewLogs, AreWhole};
+//! The list that each rank of a traced run keeps of its own events, beside the shared trace.
+ghost use Rattle.std.specs.Prelude.{◌≡◌, length, map, IfOk, IfSome, vec_len};
+ghost use Rattle.cb_ranks.specs.Logs.{Keeps, AreNewLogs, AreWhole};
+ghost use Rattle.cb_ranks.specs.Rooms.{HasRoomFor};
 
 use crate::gates::Gate;
 use crate::recorders::Recorder;
@@ -11,7 +12,8 @@ use std::alloc::{AllocError, Global};
 use std::marker::PhantomData;
 use std::sync::Wait;
 
-/// One rank's own list of its events, each of which is also recorded in the trace, or else the log is torn.
+/// One rank's own list of its events. Each is also recorded in the shared trace. If an event isn't recorded in both, the
+/// log is torn.
 #[derive(Drop)]
 pub(crate) struct Log<'a, S: Semiring, G: Gate<S>> {
     rank: u16,
@@ -23,7 +25,7 @@ pub(crate) struct Log<'a, S: Semiring, G: Gate<S>> {
 }
 
 impl<'a, S: Semiring + Send, G: Gate<S>> Recorder for Log<'a, S, G> {
-    ghost tells = { λ old event new. new.is_torn ≡ false → (old.is_torn ≡ false) × (new.events.items ≡ old.events.items ++ event ∷ []) };
+    ghost tells = { Keeps };
 
     fn tell<R: Wait>(&mut self, rt: &R, event: TraceEvent) {
         let Ok(place) = self.trace.record(rt, event) else {
@@ -38,7 +40,7 @@ impl<'a, S: Semiring + Send, G: Gate<S>> Recorder for Log<'a, S, G> {
 }
 
 impl<'a, S: Semiring, G: Gate<S>> Log<'a, S, G> {
-    /// A log for each rank of a plan, with just the room that its program needs.
+    /// A new log for each rank of a plan, with exactly the room that its program needs.
     pub(crate) fn open(
         alloc: Global,
         plan: &CheckedPlan,
@@ -63,7 +65,7 @@ impl<'a, S: Semiring, G: Gate<S>> Log<'a, S, G> {
     }
 }
 
-/// How many events a plan's ranks have: each of its acts has two, but for the work, which has none.
+/// The number of events of a plan's ranks: two for each act, except for work, which has none.
 pub(crate) fn events_of(plan: &CheckedPlan) -> usize {
     let halves = plan
         .acts()
@@ -73,7 +75,7 @@ pub(crate) fn events_of(plan: &CheckedPlan) -> usize {
     2 * halves
 }
 
-/// Whether a rank has an event of this act: it is at an end of the lane that the act is on.
+/// Whether this act gives the rank an event: the rank is at an end of the act's lane.
 fn is_told(act: &Act, rank: u16) -> bool {
     match *act {
         Act::Move { from, to, .. } => from == rank || to == rank,
@@ -82,12 +84,12 @@ fn is_told(act: &Act, rank: u16) -> bool {
     }
 }
 
-/// The lists of logs in the room for so many, if none is torn.
+/// The lists of these logs, in the room for them. None if a log is torn.
 pub(crate) fn lists_of<S: Semiring, G: Gate<S>>(
     logs: Vec<Log<'_, S, G>>,
     room: Vec<Vec<TraceEvent>>,
 ) -> Option<Vec<Vec<TraceEvent>>>
-    requires room { (room.items ≡ []) × (vec_len logs ≤ vec_capacity room) }
+    requires room { HasRoomFor (vec_len logs) room }
     ensures lists { IfSome result (λ lists. map (λ list. list.items) lists.items ≡ map (λ log. log.events.items) logs.entry.items) }
     ensures whole { IfSome result (λ _. AreWhole logs.entry.items) }
 {

@@ -1,8 +1,7 @@
 //! What a rank's thread promises to leave.
 ghost use Rattle.std.specs.Prelude.{◌≡◌, IfOk};
-ghost use Rattle.std.specs.List.{FoldsTo};
 ghost use Rattle.cb_ranks.specs.Runs.{Runs};
-ghost use Rattle.cb_ranks.specs.Traced.{program_events};
+ghost use Rattle.cb_ranks.specs.Told.{TellsProgram};
 
 use crate::recorders::Recorder;
 use cb_dcsc::Block;
@@ -12,8 +11,8 @@ use cb_semirings::Semiring;
 use std::snapshot::Snapshot;
 use std::thread::{Promise, PromisedHandle};
 
-/// What the thread of this rank, this desk and this recorder promises: at its end the rank has run its program, and
-/// the recorder was told of it.
+/// What the thread with this rank, desk and recorder promises: once it returns, the rank has run its program over the desk,
+/// and the recorder was told of each event.
 #[derive(Drop)]
 pub(crate) struct RunOf<S: Semiring, T: Recorder> {
     pub(crate) rank: Snapshot<Rank<S>>,
@@ -22,10 +21,11 @@ pub(crate) struct RunOf<S: Semiring, T: Recorder> {
 }
 
 impl<S: Semiring, T: Recorder> Promise<Result<(Rank<S>, Desk<Block<S>>, T), Gone>> for RunOf<S, T> {
-    ghost kept_by = { λ p r. IfOk r (λ done. Runs S.arithmetic p.rank.value p.desk.value done.0 done.1 × FoldsTo T.tells p.recorder.value (program_events p.rank.value.me p.rank.value.program) done.2) };
+    ghost kept_by = { λ p r. IfOk r (λ done. Runs S.arithmetic p.rank.value p.desk.value done.0 done.1
+        × TellsProgram T.tells p.rank.value p.recorder.value done.2) };
 }
 
-/// The thread of a rank, which is still to be joined.
+/// The thread of a rank, not joined yet.
 #[derive(Drop)]
 pub(crate) struct Running<S: Semiring, T: Recorder> {
     pub(crate) rank: u16,

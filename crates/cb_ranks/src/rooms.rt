@@ -1,4 +1,4 @@
-//! The room for a crew's threads, and for what comes back from them.
+//! Room for a crew's threads, and for what they return.
 ghost use Rattle.std.specs.Prelude.{IfOk};
 ghost use Rattle.cb_ranks.specs.Rooms.{IsRoomFor};
 
@@ -8,7 +8,7 @@ use crate::recorders::Recorder;
 use cb_semirings::Semiring;
 use std::alloc::{AllocError, Global};
 
-/// Room for the threads of so many ranks, for the ranks and desks that they hand back, and for the recorders.
+/// Lists with room for the threads of a number of ranks, and for the ranks, desks and recorders that these return.
 #[derive(Drop)]
 pub(crate) struct Room<S: Semiring, T: Recorder> {
     pub(crate) threads: Vec<Running<S, T>>,
@@ -17,6 +17,7 @@ pub(crate) struct Room<S: Semiring, T: Recorder> {
 }
 
 impl<S: Semiring, T: Recorder> Room<S, T> {
+    /// Empty lists, with room for this many ranks.
     pub(crate) fn with_room(alloc: Global, ranks: usize) -> Result<Room<S, T>, AllocError>
         ensures { IfOk result (IsRoomFor ranks) }
     {

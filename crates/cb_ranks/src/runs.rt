@@ -1,10 +1,9 @@
 //! One rank on its caller's thread.
 ghost use Rattle.std.specs.Prelude.{◌≡◌, ◌≢◌, ◌⊎◌, None, false, length, IfOk, IfErr, OnOk};
-ghost use Rattle.std.specs.List.{FoldsTo};
 ghost use Rattle.cb_lanes.specs.Desks.{is_stranger, posted_to, taken_from};
 ghost use Rattle.cb_rank.specs.Ranks.{IsRank, next_half, want_of};
 ghost use Rattle.cb_ranks.specs.Runs.{IsNewRun, IsOther, Runs};
-ghost use Rattle.cb_ranks.specs.Traced.{program_events};
+ghost use Rattle.cb_ranks.specs.Told.{TellsProgram};
 ghost use Rattle.cb_ranks.specs.UnderWay.{IsUnderWay, DoesNext, TellsNext, arrival_event};
 
 use crate::gates::Gate;
@@ -17,11 +16,11 @@ use cb_semirings::Semiring;
 use cb_trace::{Envelope, TraceEvent};
 use std::sync::Wait;
 
-/// Does all halves of one rank, in order, on its caller's thread, and hands the rank and its desk back. It waits
-/// where a half can't be done yet, and passes the gate before each.
+/// Does all halves of one rank, in order, on its caller's thread, and returns the rank and its desk. It calls the gate
+/// before each half, and waits until the half can be done.
 ///
-/// `Gone` has the other rank of a lane whose desk there is gone, or from which something came that the half doesn't
-/// wait for. The rank and its desk are then given up, so that whoever waits for this rank finds it gone too.
+/// `Gone` names the rank at the other end of a lane, if its desk is gone, or if something arrived from it that the half
+/// doesn't wait for. The rank and its desk are dropped then, so that a rank that waits for this one finds it gone too.
 pub fn run_rank<S: Semiring, R: Wait, G: Gate<S>>(
     rt: &R,
     rank: Rank<S>,
@@ -36,7 +35,7 @@ pub fn run_rank<S: Semiring, R: Wait, G: Gate<S>>(
     Ok((rank, desk))
 }
 
-/// The same, with a recorder that is told of each event, and comes back.
+/// The same, with a recorder that is told of each event. It is returned too.
 pub(crate) fn run<S: Semiring, R: Wait, G: Gate<S>, T: Recorder>(
     rt: &R,
     rank: Rank<S>,
@@ -46,7 +45,7 @@ pub(crate) fn run<S: Semiring, R: Wait, G: Gate<S>, T: Recorder>(
 ) -> Result<(Rank<S>, Desk<Block<S>>, T), Gone>
     requires { IsNewRun rank desk }
     ensures runs { IfOk result (λ r. Runs S.arithmetic rank desk r.0 r.1) }
-    ensures told { IfOk result (λ r. FoldsTo T.tells recorder (program_events rank.me rank.program) r.2) }
+    ensures told { IfOk result (λ r. TellsProgram T.tells rank recorder r.2) }
     ensures gone { IfErr result (λ e. IsOther rank e.0) }
 {
     let mut rank = rank;
@@ -85,7 +84,7 @@ fn do_half<S: Semiring, R: Wait, T: Recorder>(
     }
 }
 
-/// A Post. The lane is there and open, so the post is refused only where the other desk is gone.
+/// Does a Post. The lane exists and is open, so the post is refused only if the other desk is gone.
 fn post<S: Semiring, R: Wait, T: Recorder>(
     rt: &R,
     rank: &mut Rank<S>,
@@ -108,7 +107,7 @@ fn post<S: Semiring, R: Wait, T: Recorder>(
     Ok(())
 }
 
-/// A Shut. It is refused as a Post is.
+/// Does a Shut. It is refused as a Post is.
 fn close<S: Semiring, R: Wait, T: Recorder>(
     rt: &R,
     rank: &mut Rank<S>,
@@ -131,7 +130,7 @@ fn close<S: Semiring, R: Wait, T: Recorder>(
     Ok(())
 }
 
-/// The envelope of what a desk posts next to another rank.
+/// The envelope of what the desk posts to another rank next.
 fn next_post<P: Drop>(desk: &Desk<P>, to: u16, tag: Tag) -> Envelope
     requires { is_stranger desk.now to ≡ false }
     ensures { result ≡ record { from = desk.now.me; to = to; number = length (posted_to desk.now to); tag = tag } }
@@ -144,7 +143,7 @@ fn next_post<P: Drop>(desk: &Desk<P>, to: u16, tag: Tag) -> Envelope
     }
 }
 
-/// The envelope of what a desk takes next from another rank.
+/// The envelope of what the desk takes from another rank next.
 fn next_take<P: Drop>(desk: &Desk<P>, from: u16, tag: Tag) -> Envelope
     requires { is_stranger desk.now from ≡ false }
     ensures { result ≡ record { from = from; to = desk.now.me; number = length (taken_from desk.now from); tag = tag } }
@@ -157,7 +156,7 @@ fn next_take<P: Drop>(desk: &Desk<P>, from: u16, tag: Tag) -> Envelope
     }
 }
 
-/// What is told of a take that brought this, by the envelope that a close mark would have there.
+/// The event of what was taken. `mark` is the envelope that it has if it is a close mark.
 fn event_of<P: Drop>(mark: Envelope, arrival: &Arrival<P>) -> TraceEvent
     ensures { result ≡ arrival_event mark arrival.now }
 {
@@ -170,7 +169,7 @@ fn event_of<P: Drop>(mark: Envelope, arrival: &Arrival<P>) -> TraceEvent
     }
 }
 
-/// A Take or an End.
+/// Does a Take or an End.
 fn take<S: Semiring, R: Wait, T: Recorder>(
     rt: &R,
     rank: &mut Rank<S>,

@@ -1,11 +1,11 @@
-//! A thread for each rank, in one scope: started in order, and all joined before the scope ends.
-ghost use Rattle.std.specs.Prelude.{◌≡◌, ◌≤◌, [], length, map, IfOk, IfErr, IfSome, IfNone, vec_len, vec_capacity};
+//! A thread for each rank, in one scope. The threads are started in order, and all are joined before the scope ends.
+ghost use Rattle.std.specs.Prelude.{◌≡◌, ◌≤◌, length, map, IfOk, IfErr, IfSome, IfNone, vec_len};
 ghost use Rattle.std.specs.List.{AllZip};
 ghost use Rattle.cb_plan.specs.Stores.{Fits};
 ghost use Rattle.cb_ranks.specs.Crews.{AreNew, ComesAfter, IsOneOf, Ran};
 ghost use Rattle.cb_ranks.specs.Faults.{IsFaultIn, IsFaultOf};
 ghost use Rattle.cb_ranks.specs.Finished.{FinishesPlan};
-ghost use Rattle.cb_ranks.specs.Rooms.{IsRoomFor};
+ghost use Rattle.cb_ranks.specs.Rooms.{IsRoomFor, HasRoomFor, HaveRoomFor};
 ghost use Rattle.cb_ranks.specs.Runs.{IsNewRun};
 ghost use Rattle.cb_ranks.specs.Started.{started, started_recorder};
 ghost use Rattle.cb_ranks.specs.Told.{HaveTold, HaveToldPlan};
@@ -32,12 +32,12 @@ use std::sync::Wait;
 use std::thread;
 use std::thread::{Scope, Threads};
 
-/// Runs each rank of a plan in a thread of its own, over lanes for `capacity` letters from each rank to each
-/// other. At `Ok` every rank has done its whole program, and what is left is what the plan means: if a rank was
-/// refused memory for a block, the block is lost, and the count of refusals says so.
+/// Runs each rank of a plan in a thread of its own, over lanes of `capacity` letters. If the result is `Ok`, every rank has
+/// done its whole program, and the stores hold what the plan means. If a rank was refused memory for a block, the block
+/// is lost, and counted as a refusal.
 ///
-/// All memory but that of the ranks' own work and of the threads is taken before the first thread is started. On a
-/// fault the stores are given up, once every thread has ended.
+/// All memory is taken before the first thread is started, except for the ranks' own work and the threads. On a fault
+/// the stores are dropped, once every thread has ended.
 pub fn run_threads<S: Semiring + Send + Sync, R: Threads + Wait + Sync, G: Gate<S>>(
     rt: &R,
     alloc: Global,
@@ -55,7 +55,7 @@ pub fn run_threads<S: Semiring + Send + Sync, R: Threads + Wait + Sync, G: Gate<
     Ok(finished)
 }
 
-/// The same, with a recorder for each rank, which is told of its events.
+/// The same, with a recorder for each rank, which is told of the rank's events.
 pub(crate) fn run_told<
     S: Semiring + Send + Sync,
     R: Threads + Wait + Sync,
@@ -95,7 +95,7 @@ pub(crate) fn run_told<
     Ok((finished, recorders))
 }
 
-/// Starts a thread for one rank. Where there is none to be had, the rank and its desk are dropped here.
+/// Starts a thread for one rank. If no thread can be started, the rank and its desk are dropped.
 fn start_one<'s, E, S: Semiring + Send + Sync + 's, R: Wait + Sync, G: Gate<S>, T: Recorder + 's>(
     scope: &Scope<'s, E>,
     rt: &'s R,
@@ -128,8 +128,8 @@ fn start_one<'s, E, S: Semiring + Send + Sync + 's, R: Wait + Sync, G: Gate<S>, 
     })
 }
 
-/// Starts a thread for each rank, in order, into the room for so many. Where there is none to be had, that rank is
-/// answered too, and it and the later ones are dropped: then whoever waits for one of them finds it gone.
+/// Starts a thread for each rank, in order. `room` has a place for each. If no thread can be started for a rank, that rank
+/// is returned too. It and the later ones are dropped, so that a rank that waits for one of them finds it gone.
 fn start_all<'s, E, S: Semiring + Send + Sync + 's, R: Wait + Sync, G: Gate<S>, T: Recorder + 's>(
     scope: &Scope<'s, E>,
     rt: &'s R,
@@ -140,7 +140,7 @@ fn start_all<'s, E, S: Semiring + Send + Sync + 's, R: Wait + Sync, G: Gate<S>, 
 ) -> (Vec<Running<S, T>>, Option<u16>)
     requires new { AreNew crew.items }
     requires recorders { length recorders.items ≡ length crew.items }
-    requires room { (room.items ≡ []) × (vec_len crew ≤ vec_capacity room) }
+    requires room { HasRoomFor (vec_len crew) room }
     ensures all { IfNone result.1 (map started result.0.items ≡ crew.items) }
     ensures recorders { IfNone result.1 (map started_recorder result.0.items ≡ recorders.items) }
     ensures first { IsPrefix (map started result.0.items) crew.items }
@@ -159,15 +159,16 @@ fn start_all<'s, E, S: Semiring + Send + Sync + 's, R: Wait + Sync, G: Gate<S>, 
     (threads, None)
 }
 
-/// Joins all threads, into the room for so many. The error is the first rank that answered `Gone`.
+/// Joins all threads. `members` and `recorders` have a place for each. The error is the first rank whose run returned
+/// `Gone`.
 fn join_all<S: Semiring, R: Threads, T: Recorder>(
     rt: &R,
     threads: Vec<Running<S, T>>,
     members: Vec<Member<S>>,
     recorders: Vec<T>,
 ) -> Result<(Vec<Member<S>>, Vec<T>), u16>
-    requires members { (members.items ≡ []) × (vec_len threads ≤ vec_capacity members) }
-    requires recorders { (recorders.items ≡ []) × (vec_len threads ≤ vec_capacity recorders) }
+    requires members { HasRoomFor (vec_len threads) members }
+    requires recorders { HasRoomFor (vec_len threads) recorders }
     ensures ran { IfOk result (λ done. AllZip (Ran S.arithmetic) (map started threads.items) done.0.items) }
     ensures told { IfOk result (λ done. HaveTold T.tells (map started threads.items) (map started_recorder threads.items) done.1.items) }
     ensures gone { IfErr result (IsOneOf (map started threads.items)) }
@@ -190,8 +191,8 @@ fn join_all<S: Semiring, R: Threads, T: Recorder>(
     }
 }
 
-/// Runs each rank over its desk in a thread of its own, and takes them back, each with its recorder. No memory is
-/// taken but for the threads.
+/// Runs each rank over its desk in a thread of its own, and returns them with their recorders. It takes no memory, except
+/// for the threads.
 fn run_crew<S: Semiring + Send + Sync, R: Threads + Wait + Sync, G: Gate<S>, T: Recorder>(
     rt: &R,
     crew: Vec<Member<S>>,
@@ -215,13 +216,13 @@ fn run_crew<S: Semiring + Send + Sync, R: Threads + Wait + Sync, G: Gate<S>, T: 
         thread::scope_env(),
         rt,
         move |scope| -> Result<(Vec<Member<S>>, Vec<T>), RunFault>
-            requires { AreNew crew.items × (length recorders.items ≡ length crew.items) × (threads.items ≡ []) × (vec_len crew ≤ vec_capacity threads) × (members.items ≡ []) × (vec_len crew ≤ vec_capacity members) × (told.items ≡ []) × (vec_len crew ≤ vec_capacity told) }
+            requires { AreNew crew.items × (length recorders.items ≡ length crew.items) × HaveRoomFor (vec_len crew) threads members told }
             ensures ran { IfOk result (λ done. AllZip (Ran S.arithmetic) crew.items done.0.items) }
             ensures told { IfOk result (λ done. HaveTold T.tells crew.items recorders.items done.1.items) }
             ensures fault { IfErr result (IsFaultIn crew.items) }
         {
             let (threads, missing) = start_all(scope, rt, crew, recorders, threads, gate);
-            // Also where one is missing, so that no thread outlives the call.
+            // Even if one is missing, so that no thread outlives the call.
             let joined = join_all(rt, threads, members, told);
             match (missing, joined) {
                 (Some(rank), _) => Err(RunFault::NotStarted(rank)),

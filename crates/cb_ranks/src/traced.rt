@@ -19,14 +19,14 @@ use std::alloc::Global;
 use std::sync::Wait;
 use std::thread::Threads;
 
-/// Runs each rank of a plan in a thread of its own, as [`run_threads`](crate::run_threads) does, and keeps a trace:
-/// each rank records its posts and closes just before it does them, and its takes and ends just after, each under
-/// the lock of the trace, and beside it in a list of its own. The trace is answered only if each rank's events in it
-/// are that list, which is what the rank's program does at its lanes.
+/// Runs each rank of a plan in a thread of its own, as [`run_threads`](crate::run_threads) does, and keeps a trace. Each
+/// rank records its posts and closes just before it does them, and its takes and ends just after, each under the lock of
+/// the trace, and also in a list of its own. The trace is returned only if each rank's events in it are that list, which
+/// is what the rank's program does at its lanes.
 ///
-/// Beside what `run_threads` takes there is room for two events of each act but the work, once in the trace and once
-/// in the ranks' lists. It is taken before the first thread is started. At the end each rank's list is looked for in
-/// the trace, at the cost of a look at each event for each rank.
+/// Besides the memory that `run_threads` takes, the trace and the ranks' lists each have room for two events of each act,
+/// except for work. It is taken before the first thread is started. At the end each rank's list is compared with the
+/// trace, which looks at each event once for each rank.
 pub fn run_traced<S: Semiring + Send + Sync, R: Threads + Wait + Sync, G: Gate<S>>(
     rt: &R,
     alloc: Global,
@@ -49,8 +49,7 @@ pub fn run_traced<S: Semiring + Send + Sync, R: Threads + Wait + Sync, G: Gate<S
     Ok((finished, trace))
 }
 
-/// The same over a trace that is there, with room for all events: the ranks' own lists of what they recorded come with
-/// what they leave.
+/// The same with a given trace, which has room for all events. It returns the ranks' own lists of what they recorded.
 fn run_logged<S: Semiring + Send + Sync, R: Threads + Wait + Sync, G: Gate<S>>(
     rt: &R,
     alloc: Global,

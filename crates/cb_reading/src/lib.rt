@@ -1,13 +1,13 @@
-//! Matrix Market texts, read by several threads at once.
+//! Matrix Market texts, read by several threads.
 //!
-//! A text is cut where lines end, and each part again, until there are as many pieces as are wanted; each is read by a
-//! thread of its own, straight into blocks of a grid as long as its entries ascend. Neighbouring pieces are joined,
-//! block by block, until there is one. If that is the whole text, without a fault and with as many entries as are
-//! announced, its matrix is done. Anything else, a fault or refused memory, is left to [`cb_market::read_distributed`],
-//! which reads the text again on one thread and reports the first fault.
+//! A text is cut in two where a line ends, and each part again, until there are as many pieces as wanted. Each piece is read
+//! by its own thread, straight into the blocks of a grid as long as its entries ascend. Neighbouring pieces are then
+//! joined, block by block, until one is left. If no piece has a fault and all announced entries are there, it has the
+//! matrix. Otherwise, and if memory is refused, [`cb_market::read_distributed`] reads the text again on one thread and
+//! reports the first fault.
 //!
-//! If no thread is available, the caller's thread reads the piece. Besides the text, memory is that of the blocks, and,
-//! while two pieces are joined, that of the second again.
+//! If a thread isn't available, the caller's thread reads its piece. Besides the text, the memory is that of the blocks
+//! and, while two pieces are joined, a second copy of the later one.
 #![tactic(auto)]
 
 ghost use Rattle.std.specs.Prelude.{◌≡◌, ◌<◌, ◌≤◌, IsTrue, IfOk, IfErr, IfSome, length};
@@ -24,28 +24,28 @@ use cb_semirings::Semiring;
 use std::alloc::Global;
 use std::thread::{Threads, join};
 
-/// How many pieces a text is cut into.
+/// Into how many pieces a text is cut.
 #[derive(Clone, Copy)]
 pub struct Pieces {
-    /// At most this many.
+    /// The most pieces.
     pub most: u32,
-    /// As few as have this many bytes each. Lines stay whole, so one of two neighbours may have fewer.
+    /// The least bytes of a piece. Lines stay whole, so a piece can have fewer.
     pub least_bytes: usize,
 }
 
 impl Pieces {
-    /// How many pieces this many bytes are cut into.
+    /// Returns into how many pieces this many bytes are cut.
     fn of(&self, bytes: usize) -> u32 {
         let fitting = bytes / self.least_bytes.max(1);
         fitting.min(self.most as usize) as u32
     }
 }
 
-/// The matrix that a text reads as, in the blocks of a grid, or its first fault, as [`cb_market::read_distributed`]
-/// reports it. Each piece of the text is read by a thread.
+/// Reads a text as a matrix in the blocks of a grid, or returns its first fault, as [`cb_market::read_distributed`] does.
+/// Each piece of the text is read by its own thread.
 ///
-/// Each thread goes over its piece once; then entries are copied once, to join those before them. A text with a fault
-/// is read twice.
+/// Each thread reads its piece once. Then entries are copied to join those before them, at most once per level of
+/// the halving. A text with a fault is read twice.
 pub fn read_side_by_side<S: Semiring + Send + Sync, R: Threads + Sync>(
     rt: &R,
     alloc: Global,
@@ -65,8 +65,8 @@ pub fn read_side_by_side<S: Semiring + Send + Sync, R: Threads + Sync>(
     read_distributed::<S>(alloc, grid, text)
 }
 
-/// The matrix that a text reads as, in the blocks of a grid, by two threads or more. None if there would be one piece,
-/// if the text has a fault, or if memory is refused.
+/// Reads a text as a matrix in the blocks of a grid, in two pieces or more. None if there would be fewer pieces, if the
+/// text has a fault, or if memory is refused.
 pub fn read_in_pieces<S: Semiring + Send + Sync, R: Threads + Sync>(
     rt: &R,
     alloc: Global,
@@ -97,7 +97,7 @@ pub fn read_in_pieces<S: Semiring + Send + Sync, R: Threads + Sync>(
     complete(&plan, whole)
 }
 
-/// The matrix of all entries of a text, if they are as many as are announced.
+/// Returns the matrix of all entries of a text, if there are as many as announced.
 fn complete<S: Semiring>(plan: &Plan, whole: Piece<S>) -> Option<DistributedMatrix<S>>
     ensures count { IfSome result (λ _. whole.lines ≡ plan.now.size.count) }
     ensures matrix { IfSome result (λ m. m ≡ record { side = whole.side; matrix = collected S.arithmetic whole.shape whole.entries }) }
@@ -112,7 +112,7 @@ fn complete<S: Semiring>(plan: &Plan, whole: Piece<S>) -> Option<DistributedMatr
     }
 }
 
-/// What reading each piece of a text needs.
+/// What all pieces of a text have in common.
 #[derive(Drop)]
 struct Plan {
     alloc: Global,
@@ -121,7 +121,7 @@ struct Plan {
     size: Size,
 }
 
-/// Of this many bytes, those of the first `low` of `count` pieces.
+/// Returns how many of this many bytes the first `low` of `count` pieces have.
 fn share(bytes: usize, low: u32, count: u32) -> usize
     requires some { 0 < count }
     requires few { low ≤ count }
@@ -130,8 +130,8 @@ fn share(bytes: usize, low: u32, count: u32) -> usize
     bytes / count as usize * low as usize
 }
 
-/// Reads a part of the entries of a text in this many pieces. It takes room for the entries of `room` bytes: those of
-/// this part, and of the parts that are to join it.
+/// Reads a part of the entries of a text in this many pieces. It takes room for the entries of the bytes of `room`: this
+/// part and those that will be appended to it.
 fn read_part<S: Semiring + Send + Sync, R: Threads + Sync>(
     rt: &R,
     plan: &Plan,

@@ -1,4 +1,4 @@
--- The sum of all values of a matrix is that of the values of its entries.
+-- The sum of all values of a matrix is the sum of its entries' values.
 use Rattle.std.proofs.Common.{◌≡◌, ℕ, ◌<◌, true, false, cond, List, [], ◌∷◌, map, sym, refl, ap, ◌∙◌, arith}
 use Rattle.std.specs.Prelude.{All, ◌==◌}
 use Rattle.std.specs.List.{range_with_len}
@@ -18,7 +18,7 @@ module _ (s : Arithmetic) (laws : IsSemiring s) where
   abbrev AreValues : List Entry → Type 0
   AreValues es = All (λ (e : Entry). IsValue s e.value) es
 
-  -- the values stored in a column add up to a value
+  -- the sum of a column's stored values is a value of the semiring
   stored_value : (es : List Entry) (j : ℕ) → AreValues es → IsValue s (stored_total s es j)
   unfolding total
   stored_value [] j h = laws.zero_value
@@ -30,7 +30,7 @@ module _ (s : Arithmetic) (laws : IsSemiring s) where
         | false ↦ rest
       ]
 
-  -- an entry, and what its column has beside it
+  -- the first entry, and the others
   entry_and_rest : (e : Entry) (es : List Entry) (j : ℕ) → AreValues (e ∷ es) → stored_total s (e ∷ es) j ≡ s.add (cond (e.column == j) e.value s.zero) (stored_total s es j)
   unfolding total
   entry_and_rest e es j h =
@@ -40,7 +40,7 @@ module _ (s : Arithmetic) (laws : IsSemiring s) where
         | false ↦ sym (laws.zero_add (stored_total s es j) rest)
       ]
 
-  -- the sums of the columns below n add up to the sum of all that is stored there
+  -- the sums of the columns below n add up to the sum of all values stored there
   columns_total : (es : List Entry) (n : ℕ) → All (λ (e : Entry). e.column < n) es → AreValues es → total s (map (stored_total s es) (range_with_len 0 n)) ≡ total s (values_of es)
   unfolding total
   columns_total [] n below h = total-zero s laws (stored_total s []) 0 n (λ k l. total-nil s laws)

@@ -1,4 +1,4 @@
--- The sum of a column over all rows is that of the values that are stored in it.
+-- The sum of a column over all rows is the sum of its stored values.
 use Rattle.std.proofs.Common.{◌≡◌, ℕ, ◌<◌, true, false, cond, List, [], ◌∷◌, length, map, sym, refl, ap, ◌∙◌, arith}
 use Rattle.std.specs.Prelude.{All, AllPairs, ◌==◌}
 use Rattle.std.specs.List.{range_with_len}
@@ -13,7 +13,7 @@ use Rattle.cb_dcsc.specs.Columns.{in_column, rows_of, values_of, row_value}
 use Rattle.cb_dcsc.proofs.Lookup.{column_value, row_value-absent, column_ascends, as_long, rows_inside, column_values}
 
 module _ (s : Arithmetic) (laws : IsSemiring s) where
-  -- what a column has at a row is a value
+  -- the value of a column at a row is a value of the semiring
   row_is_value : (rs vs : List ℕ) (i : ℕ) → All (IsValue s) vs → IsValue s (row_value s.zero rs vs i)
   unfolding row_value
   row_is_value [] vs i h = laws.zero_value
@@ -37,7 +37,7 @@ module _ (s : Arithmetic) (laws : IsSemiring s) where
         | false ↦ λ _. sym (laws.zero_add (row_value s.zero rs vs i) (row_is_value rs vs i (All-tail (IsValue s) v vs h)))
       ] refl
 
-  -- the sum over all rows of what a column has
+  -- the sum of a column over all rows
   pub stored_sum : (rs vs : List ℕ) (m : ℕ) → length vs ≡ length rs → AllPairs (λ i j. i < j) rs → All (λ i. i < m) rs → All (IsValue s) vs →
       total s (map (row_value s.zero rs vs) (range_with_len 0 m)) ≡ total s vs
   unfolding total row_value

@@ -23,14 +23,14 @@ use Rattle.cb_reductions.specs.Sums.{sum_at, with_sum}
 use Rattle.cb_reductions.proofs.StoredSums.{column_total}
 
 module _ (s : Arithmetic) (t : ℕ → ℕ) where
-  -- a number for each of some columns, where it isn't zero
+  -- an entry for each listed column, with the value of t unless it is zero
   abbrev pub sums_at : List ℕ → List Entry
   sums_at cs = flat_map (λ c. sum_at s c (t c)) cs
 
   abbrev entry : ℕ → Entry
   entry c = record { row = 0; column = c; value = t c }
 
-  -- what holds of the columns holds of the entries
+  -- what holds of each listed column's entry holds of all entries
   all_sums : (P : Entry → Type 0) (cs : List ℕ) → All (λ c. P (entry c)) cs → All P (sums_at cs)
   all_sums P [] h = All-nil P
   all_sums P (c ∷ cs) h =
@@ -39,7 +39,7 @@ module _ (s : Arithmetic) (t : ℕ → ℕ) where
   not_there : (c j : ℕ) → c ≢ j → is_at 0 j (entry c) ≡ false
   not_there c j ne = ne_eqb c j ne
 
-  -- each column has its number, where those that aren't among them have zero
+  -- the value in each column is that of t, if t is zero in columns that aren't listed
   pub sums_value : (cs : List ℕ) (j : ℕ) → AllPairs (λ c d. c < d) cs → (All (λ c. c ≢ j) cs → t j ≡ s.zero) → value_at s.zero (sums_at cs) 0 j ≡ t j
   unfolding value_at
   sums_value [] j up none = sym (none (All-nil (λ c. c ≢ j)))
@@ -58,13 +58,13 @@ module _ (s : Arithmetic) (t : ℕ → ℕ) where
             ∙ sums_value cs j (AllPairs-tail (λ c d. c < d) c cs up) (λ k. none (All-cons (λ c. c ≢ j) c cs ne k))
       ] refl
 
-  -- one column more
+  -- one more column
   pub sums_more : (cs : List ℕ) (n : ℕ) → n < length cs → sums_at (take (n + 1) cs) ≡ sums_at (take n cs) ++ sum_at s (get_or cs n 0) (t (get_or cs n 0))
   sums_more cs n l =
       ap sums_at (take_more cs n 0 l) ∙ flat_map-append (λ c. sum_at s c (t c)) (take n cs) (get_or cs n 0 ∷ [])
       ∙ ap (λ xs. sums_at (take n cs) ++ xs) (append-nil (sum_at s (get_or cs n 0) (t (get_or cs n 0))))
 
-  -- what is there comes before the next column
+  -- the entries so far are before the next column
   pub sums_before : (cs : List ℕ) (n : ℕ) → AllPairs (λ c d. c < d) cs → n < length cs → All (λ e. e.column < get_or cs n 0) (sums_at (take n cs))
   sums_before cs n up l =
       all_sums (λ e. e.column < get_or cs n 0) (take n cs)
@@ -77,7 +77,7 @@ module _ (s : Arithmetic) (t : ℕ → ℕ) where
 abbrev pub stored_total : Arithmetic → List Entry → ℕ → ℕ
 stored_total s es c = total s (values_of (in_column c es))
 
--- the sum of one column more is stored
+-- the sum of one more column is stored
 pub sum_stored : (s : Arithmetic) (a sums new : Sparse) (shape : Extent) (cs values : List ℕ) (n : ℕ) → cs ≡ columns_with_entries a.entries → n < length cs → values ≡ values_of (in_column (get_or (columns_with_entries a.entries) n 0) a.entries) →
     sums ≡ record { shape = shape; entries = sums_at s (stored_total s a.entries) (take n (columns_with_entries a.entries)) } → new ≡ with_sum s sums (get_or cs n 0) (total s values) →
     new ≡ record { shape = shape; entries = sums_at s (stored_total s a.entries) (take (n + 1) (columns_with_entries a.entries)) }
@@ -89,7 +89,7 @@ sum_stored s a sums new shape cs values n are l values_are so_far more =
     ∙ (λ z. with_sum s (so_far z) (get_or (are z) n 0) (total s (values_are z)))
     ∙ ap (λ (es : List Entry). let m : Sparse = record { shape = shape; entries = es } in m) (sym (sums_more s t all n below))
 
--- the sums of all columns that have entries are those of the matrix
+-- the sums of all columns with entries are the column sums of the matrix
 pub all_sums_are : (s : Arithmetic) → IsSemiring s → (a sums : Sparse) (cs : List ℕ) (n : ℕ) → IsMatrix s a → IsMatrix s sums → cs ≡ columns_with_entries a.entries → AllPairs (λ c d. c < d) cs → length cs ≤ n →
     sums ≡ record { shape = record { rows = 1; cols = a.shape.cols }; entries = sums_at s (stored_total s a.entries) (take n cs) } → sums ≡ column_sums s a
 all_sums_are s laws a sums cs n is_a is_sums are up l so_far =

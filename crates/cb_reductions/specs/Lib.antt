@@ -1,2 +1,2 @@
--- Sums: a sum in a block of one row, and the sum of all values.
+-- Sums: sums of columns in a matrix of one row, and the sum of all values.
 pub mod Sums

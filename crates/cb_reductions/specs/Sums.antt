@@ -1,4 +1,4 @@
--- Sums of columns, in a matrix of one row; and the sum of all values.
+-- Sums of columns, in a matrix of one row, and the sum of all values.
 use Rattle.std.specs.Prelude.{ℕ, List, ◌++◌, map}
 use Rattle.std.specs.List.{range_with_len}
 use Rattle.cb_semirings.specs.Arithmetic.{Arithmetic}
@@ -11,7 +11,7 @@ use Rattle.cb_matrix.specs.Combined.{stored}
 abbrev pub sum_at : Arithmetic → ℕ → ℕ → List Entry
 sum_at s column value = stored s.zero (record { row = 0; column = column; value = value })
 
--- a sum more, after all the others
+-- a matrix of one row with one more sum, after all the others
 abbrev pub with_sum : Arithmetic → Sparse → ℕ → ℕ → Sparse
 with_sum s m column value = record { shape = m.shape; entries = m.entries ++ sum_at s column value }
 

@@ -1,7 +1,7 @@
 //! The sums of the rows and of the columns of a block, and of all its entries.
 //!
-//! A sum is over the sum of the semiring, and where it is zero no entry is stored. The entries of a column stand side by
-//! side, so columns are added up in one walk; rows are the columns of the transpose.
+//! Values are added by the semiring's sum, and sums of zero aren't stored. A column's entries are adjacent, so one pass adds
+//! up all columns. Rows are added up as the columns of the transpose.
 //!
 //! This is the reduction of Buluç and Gilbert, The Combinatorial BLAS (Int. J. High Perform. Comput. Appl. 2011,
 //! section 3.1).
@@ -20,9 +20,7 @@ use cb_reshape::transpose;
 use cb_semirings::Semiring;
 use std::alloc::{AllocError, Global};
 
-/// The sum of each column of a block, in a block of one row.
-///
-/// It takes one walk over the values, whatever the shape is.
+/// Returns the sum of each column of a block, in a block of one row. Costs one pass over the values, whatever the shape is.
 pub fn column_sums<S: Semiring>(alloc: Global, block: &Block<S>) -> Result<Block<S>, AllocError>
     ensures { IfOk result (λ sums. sums ≡ column_sums S.arithmetic block.now) }
 {
@@ -35,9 +33,7 @@ pub fn column_sums<S: Semiring>(alloc: Global, block: &Block<S>) -> Result<Block
     Ok(sums)
 }
 
-/// The sum of each row of a block, in a block of one column.
-///
-/// It costs a transpose of the block, and one of a block that has an entry for each row that has some.
+/// Returns the sum of each row of a block, in a block of one column. Costs a transpose of the block, and one of the result.
 pub fn row_sums<S: Semiring>(alloc: Global, block: &Block<S>) -> Result<Block<S>, AllocError>
     ensures { IfOk result (λ sums. sums ≡ row_sums S.arithmetic block.now) }
 {
@@ -46,9 +42,8 @@ pub fn row_sums<S: Semiring>(alloc: Global, block: &Block<S>) -> Result<Block<S>
     transpose(alloc, &sums)
 }
 
-/// The sum of all values of a block, which is zero where no entry is.
-///
-/// It takes one walk over the values, and no memory.
+/// Returns the sum of all values of a block, which is zero if it has no entries. Costs one pass over the values, and no
+/// memory.
 pub fn total<S: Semiring>(block: &Block<S>) -> u64
     ensures { result ≡ matrix_total S.arithmetic block.now }
 {
@@ -56,14 +51,14 @@ pub fn total<S: Semiring>(block: &Block<S>) -> u64
     sum_of_values::<S>(block.values())
 }
 
-/// One row, with as many columns as a shape has.
+/// Returns the shape of one row with the columns of another shape.
 fn one_row(shape: Shape) -> Shape
     ensures { result ≡ record { rows = 1; cols = shape.cols } }
 {
     Shape::new(1, shape.cols()).unwrap()
 }
 
-/// Stores the sum of a column after those of the columns before it, unless it is zero.
+/// Appends the sum of a column to those of the columns before it, unless it is zero.
 fn push_sum<S: Semiring>(sums: &mut Block<S>, column: u32, values: &[u64]) -> Result<(), AllocError>
     requires row { 0 < sums.old.shape.rows }
     requires column { column < sums.old.shape.cols }
@@ -84,7 +79,7 @@ fn push_sum<S: Semiring>(sums: &mut Block<S>, column: u32, values: &[u64]) -> Re
     Ok(())
 }
 
-/// The sum of some values.
+/// Returns the sum of a list of values.
 fn sum_of_values<S: Semiring>(values: &[u64]) -> u64
     requires { All (IsValue S.arithmetic) values.now }
     ensures sum { result ≡ total S.arithmetic values.now }

@@ -110,7 +110,7 @@ module _ (part : Part) (es : List Entry) (up : AllPairs IsBefore es) where
   pub none_first : (n : ℕ) → n ≤ length columns → ((k : ℕ) → k < n → get_or columns k 0 < part.cols.0) → moved_entries part (first_columns n) ≡ []
   none_first n l below = moved_none part (first_columns n) (of_columns (λ e. is_in part e ≡ false) (λ c. c < part.cols.0) (take n columns) (λ e q. column_below part e q) (first_all (λ c. c < part.cols.0) n l below))
 
-  -- one column more
+  -- one more column
   pub more_first : (n : ℕ) → n < length columns → moved_entries part (first_columns (n + 1)) ≡ moved_entries part (first_columns n) ++ moved_entries part (in_column (get_or columns n 0) es)
   more_first n l =
       ap (λ cs. moved_entries part (flat_map (λ c. in_column c es) cs)) (take_more columns n 0 l)
@@ -151,7 +151,7 @@ module _ (part : Part) (es : List Entry) (up : AllPairs IsBefore es) (shape : Ex
   columns_begin blank out numbers n are l below same is =
       same ∙ is ∙ ap (λ (xs : List Entry). record { shape = shape; entries = xs }) (sym (none_first part es up n (rw (← are) l) (λ k m. rw (← are) (below k m))))
 
-  -- one column more is stored
+  -- one more column is stored
   pub columns_more : (out new : Sparse) (numbers rows values : List ℕ) (n c : ℕ) → numbers ≡ columns_with_entries es → n < length numbers → c ≡ get_or numbers n 0
       → rows ≡ rows_of (in_column (get_or (columns_with_entries es) n 0) es) → values ≡ values_of (in_column (get_or (columns_with_entries es) n 0) es)
       → out ≡ record { shape = shape; entries = moved_entries part (first_columns part es up n) } → new ≡ with_entries out (moved_entries part (entries_in c rows values))

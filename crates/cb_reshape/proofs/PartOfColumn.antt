@@ -58,7 +58,7 @@ pub column_past : (part : Part) (e : Entry) → part.cols.1 ≤ e.column → is_
 column_past part e h = ⊎_elim (λ t. let k = is_in-end_column part e t in absurd (omega arith)) (λ f. f) (cases_Bool (is_in part e))
 
 -- ---- what is moved
--- where no entry is in the part nothing is moved
+-- if no entry is in the part, nothing is moved
 pub moved_none : (part : Part) (es : List Entry) → All (λ e. is_in part e ≡ false) es → moved_entries part es ≡ []
 moved_none part [] h = refl
 moved_none part (e ∷ es) h = let f = All-head (λ e. is_in part e ≡ false) e es h in rw f (moved_none part es (All-tail (λ e. is_in part e ≡ false) e es h))
@@ -141,7 +141,7 @@ pub old_before : (old out : Sparse) (es : List Entry) (e : Entry) → out ≡ wi
 old_before old out es e is h k =
     subst (λ (o : Sparse). All (λ x. IsBefore x e) o.entries) (sym is) (All-append (λ x. IsBefore x e) old.entries es (All-weaker (λ x. x.column < e.column) (λ x. IsBefore x e) (λ x l. inl l) old.entries h) k)
 
--- one entry more is stored
+-- one more entry is stored
 pub stored_more : (old out new : Sparse) (xs ys : List Entry) (e : Entry) → out ≡ with_entries old xs → new ≡ with_entry out e → ys ≡ xs ++ e ∷ [] → new ≡ with_entries old ys
 stored_more old out new xs ys e so_far more is =
     more ∙ ap (λ o. with_entry o e) so_far ∙ ap (λ (es : List Entry). record { shape = old.shape; entries = es }) (append_assoc old.entries xs (e ∷ []) ∙ ap (λ es. old.entries ++ es) (sym is))

@@ -1,7 +1,7 @@
-//! Small matrices and blocks, written out entry by entry, for the tests of the crates above.
+//! Small blocks for tests, written entry by entry.
 //!
-//! A test says what it is about, and no more than that: `block(alloc, 2, 2, &[entry(0, 1, 3)])?` is the block of two
-//! rows and two columns with a 3 in row 0 of column 1.
+//! For example, `block(alloc, 2, 2, &[entry(0, 1, 3)])?` is the block of two rows and two columns with a 3 in row 0 of
+//! column 1.
 #![tactic(auto)]
 
 ghost use Rattle.std.specs.Prelude.{◌≡◌, ◌↔◌, IsTrue, All, IfOk};
@@ -12,14 +12,14 @@ use cb_matrix::{Entry, Shape};
 use cb_semirings::Semiring;
 use std::alloc::{AllocError, Global};
 
-/// Why what a test writes out is no block.
+/// Why a test's sample is no block.
 #[derive(Clone, Copy, Debug, PartialEq, Eq)]
 pub enum SampleFault {
-    /// More rows or columns than a matrix may have.
+    /// More rows or columns than a matrix can have.
     Shape,
-    /// A number that is no value of the semiring.
+    /// A number that isn't a value of the semiring.
     Value,
-    /// Entries that make no block, or no memory.
+    /// Entries that make no block, or want of memory.
     Block(BlockFault),
 }
 
@@ -35,28 +35,28 @@ impl From<AllocError> for SampleFault {
     }
 }
 
-/// The value at a place.
+/// Makes an entry from its row, column and value.
 pub const fn entry(row: u32, column: u32, value: u64) -> Entry
     ensures { result ≡ record { row = row; column = column; value = value } }
 {
     Entry { row, column, value }
 }
 
-/// The shape of so many rows and columns.
+/// Makes the shape of this many rows and columns.
 pub fn shape(rows: u32, cols: u32) -> Result<Shape, SampleFault>
     ensures { IfOk result (λ s. s ≡ record { rows = rows; cols = cols }) }
 {
     Shape::new(rows, cols).ok_or(SampleFault::Shape)
 }
 
-/// Whether each entry's value is one of the semiring.
+/// Returns whether each entry's value is one of the semiring.
 pub fn are_values<S: Semiring>(entries: &[Entry]) -> bool
     ensures { IsTrue result ↔ All (λ e. IsValue S.arithmetic e.value) entries.now }
 {
     entries.iter().all(|entry| S::is_value(entry.value))
 }
 
-/// The block of these entries, by column and then by row, none of them zero.
+/// Makes the block of these entries, which have to be ordered by column and then by row, and not zero.
 pub fn block<S: Semiring>(
     alloc: Global,
     rows: u32,

@@ -1,20 +1,19 @@
--- Columns that stand side by side: the entries of a column more, after those of the columns before it.
-use Rattle.std.proofs.Common.{◌≡◌, ◌≢◌, ℕ, ◌+◌, ◌<◌, ◌≤◌, true, false, inl, inr, cond, List, [], ◌∷◌, ◌++◌, length, map, take, get_or, sym, refl, ap, ◌∙◌, ⊎_elim, arith, subst}
-use Rattle.std.specs.Prelude.{All, AllPairs, ◌==◌, ◌&&◌, slice_index}
-use Rattle.std.proofs.lemmas.Bool.{cases_Bool, cases_lt, eq-eqb, ne_eqb, and_from, cond-true, cond-false}
+-- Columns side by side: the entries of one more column, after those of the columns before it.
+use Rattle.std.proofs.Common.{◌≡◌, ◌≢◌, ℕ, ◌+◌, ◌<◌, ◌≤◌, true, false, inl, inr, cond, List, [], ◌∷◌, ◌++◌, map, sym, refl, ap, ◌∙◌, ⊎_elim, arith, subst}
+use Rattle.std.specs.Prelude.{All, AllPairs, ◌==◌, ◌&&◌}
+use Rattle.std.proofs.lemmas.Bool.{cases_Bool, cases_lt, eq-eqb}
 use Rattle.std.proofs.lemmas.List.Elements.{All-nil, All-cons, All-head, All-tail, All-append, All-map, All-weaker}
 use Rattle.cb_semirings.specs.Arithmetic.{IsValue}
 use Rattle.cb_semirings.specs.Laws.{min_plus_is_semiring}
 use Rattle.cb_semirings.specs.Tables.{min_plus}
 use Rattle.cb_matrix.specs.declared.Entry.{Entry}
 use Rattle.cb_matrix.specs.Sparse.{Sparse, Extent, IsMatrix, IsBefore, IsInside, is_at, at, value_at}
-use Rattle.cb_matrix.specs.Values.{matrix_of}
 use Rattle.cb_matrix.proofs.Pairs.{AllPairs-nil, AllPairs-cons, AllPairs-head, AllPairs-tail, AllPairs-append}
-use Rattle.cb_matrix.proofs.Places.{is_at-parts, value_at-none, value_at-append_left, value_at-append_right}
+use Rattle.cb_matrix.proofs.Places.{is_at-parts, value_at-append_left, value_at-append_right}
 use Rattle.cb_matrix.proofs.Made.{same_matrix_of}
 use Rattle.cb_matrix.proofs.Equal.{matrix_is}
-use Rattle.cb_searches.specs.Walks.{infinite, column_shape, AreDistances}
-use Rattle.cb_searches.specs.SeveralSources.{column_at, columns_shape, in_column_of, AreDistancesFrom}
+use Rattle.cb_searches.specs.Walks.{column_shape, AreDistances}
+use Rattle.cb_searches.specs.SeveralSources.{column_at, in_column_of}
 
 abbrev IsStored : Entry → Type 0
 IsStored e = e.value ≢ min_plus.zero
@@ -88,7 +87,7 @@ module _ (a : Sparse) (extent : Extent) (source : ℕ → ℕ) where
     done = λ j l. absurd (omega arith);
   }
 
-  -- one column more
+  -- one more column
   pub column_more : (c : ℕ) (old new : List Entry) (column : Sparse) → c < extent.cols → extent.rows ≡ a.shape.rows → new ≡ old ++ map (in_column_of c) column.entries → IsMatrix min_plus column
       → AreDistances a (source c) column → HasColumns a extent source c old → HasColumns a extent source (c + 1) new
   column_more c old new column l rows new_is is far h =

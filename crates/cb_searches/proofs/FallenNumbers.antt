@@ -1,4 +1,4 @@
--- Numbers of a list that fell, where edges were relaxed in it.
+-- Numbers of a list that fell when edges were relaxed in it.
 use Rattle.std.proofs.Common.{◌≡◌, ℕ, ◌+◌, ◌^◌, ◌<◌, ◌≤◌, ⊎_elim, List, length, sym, ◌∙◌, arith}
 use Rattle.std.specs.Prelude.{min, map, slice_index_or, Result, Ok, Err, OnOk}
 use Rattle.std.specs.List.{range_with_len}
@@ -13,7 +13,7 @@ use Rattle.cb_searches.specs.Numbers.{fallen}
 use Rattle.cb_searches.proofs.NumberColumns.{listed_fits, listed_past}
 use Rattle.cb_searches.proofs.TurnedProducts.{total_stops}
 
--- what holds whatever a call answers holds where it answers a value
+-- what holds of every result of a call holds of its values
 pub made : {X E P : Type 0} (r : Result X E) → P → OnOk r P
 made (Ok x) p = p
 made (Err e) p = tt
@@ -41,14 +41,14 @@ fallen_past before now n len same v l = fallen_not before now v (omega (arith, l
 
 -- a number that is read from the lists
 module _ (before now : List ℕ) (i : ℕ) (inside : i < length now) (also : i < length before) where
-  -- it fell where it is below the one that is read from before
+  -- it fell if it is below the number from before
   pub read_fallen : slice_index_or now i 0 < slice_index_or before i 0 → slice_index_or now i 0 ≡ fallen before now i
   read_fallen l =
       let x = get_or_default now i 0 infinite inside in
       let y = get_or_default before i 0 infinite also in
       x ∙ sym (fallen_here before now i (omega (arith, x, y)))
 
-  -- and else it didn't
+  -- otherwise it didn't
   pub read_not : slice_index_or before i 0 ≤ slice_index_or now i 0 → fallen before now i ≡ infinite
   read_not l =
       let x = get_or_default now i 0 infinite inside in

@@ -108,7 +108,7 @@ module _ (a : Sparse) (is : IsMatrix or_and a) (square : a.shape.rows ≡ a.shap
       let low : n ≤ d v = omega (arith, least.least own.reached.0 own.reached.1, own.reached.2) in
       omega (arith, low, above, unit_cost a is square fits source inside v w.0 w.1, w.2)
 
-  -- where an edge comes from a nearer vertex, that is a parent
+  -- a nearer vertex with an edge to a vertex is a parent
   pub nearer_is_parent : (u v : ℕ) → at or_and a u v ≢ 0 → d u < d v → IsParent a source u v
   nearer_is_parent u v edge nearer =
       let some : d u ≢ infinite = λ e. omega (arith, e, nearer, near.fits v) in
@@ -137,7 +137,7 @@ module _ (a : Sparse) (is : IsMatrix or_and a) (square : a.shape.rows ≡ a.shap
         least = λ w p. All-contains (λ u. d u < d v → first_nearer a d v ≤ u) (rows_of (in_column v a.entries)) w first.first (edge_row a is w v p.edge) (parent_is_nearer w v p);
       }
 
-  -- where none is nearer, there is no parent
+  -- if none is nearer, there is no parent
   no_parent : (v : ℕ) → first_nearer a d v ≡ infinite → (u : ℕ) → ¬ IsParent a source u v
   no_parent v none u p =
       let far = All-contains (λ u. d v ≤ d u) (rows_of (in_column v a.entries)) u (below_none d (d v) (rows_of (in_column v a.entries)) (rows_fit a is fits v) none) (edge_row a is u v p.edge) in

@@ -1,4 +1,4 @@
--- The toolbox. Searches: NearestRounds, a search, from its start to its end. UnitWeights: levels are distances where each
+-- The toolbox. Searches: NearestRounds, a search, from its start to its end. UnitWeights: levels are distances if each
 -- entry weighs 1. OneColumn: there is one column of distances. WalkCosts: how walks begin, grow and end, and what they
 -- cost. ColumnEdges: the rows of a column are where edges come from. SettledVertices: vertices that settle one after another,
 -- and a bound for the work that is left. VertexColumns: a column with an entry for each of some vertices.
@@ -13,7 +13,7 @@ pub mod VertexColumns
 -- round. TurnedProducts: a round is the product of the turned matrix. TakenNumbers, LowerEntries, NumberColumns,
 -- FallenNumbers: the numbers known so far, those that fall, and their column. RelaxedEdges: the edges from one vertex.
 -- TurnedUnits: levels on the transposed matrix. LeastNearer: parents are nearer vertices. ParentFacts: who has a parent.
--- ColumnsBesides: columns of distances that stand side by side.
+-- ColumnsBesides: columns of distances, side by side.
 pub mod ShortWalks
 pub mod NumbersByRound
 pub mod TurnedProducts

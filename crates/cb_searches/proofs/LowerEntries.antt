@@ -11,8 +11,7 @@ use Rattle.cb_semirings.specs.Arithmetic.{Arithmetic, IsValue}
 use Rattle.cb_semirings.specs.Tables.{min_plus}
 use Rattle.cb_matrix.specs.declared.Entry.{Entry}
 use Rattle.cb_matrix.specs.Sparse.{Sparse, IsMatrix, IsBefore, IsInside, value_at, at, is_at}
-use Rattle.cb_matrix.proofs.Made.{NoneAt, value_at-none}
-use Rattle.cb_matrix.proofs.Places.{is_at-own}
+use Rattle.cb_matrix.proofs.Places.{NoneAt, is_at-own, value_at-none}
 use Rattle.cb_matrix.proofs.Pairs.{AllPairs-head, AllPairs-tail}
 use Rattle.cb_searches.specs.declared.numbers.Numbers.{Numbers}
 use Rattle.cb_searches.specs.declared.numbers.Numbers.TheVariants.{Dense, Tree}
@@ -104,10 +103,10 @@ module _ (m : Sparse) (is : IsMatrix min_plus m) (one : m.shape.cols ≡ 1) (kno
     pub lower_least : (v : ℕ) → value_at (number_at known v) es v 0 ≡ min (number_at known v) (at min_plus m v 0)
     lower_least v = let h = values (number_at known v) v in ⊎_elim (λ l. omega (arith, h.0 l)) (λ l. omega (arith, h.1 l)) (cases_lt (at min_plus m v 0) (number_at known v))
 
-    -- where the column's value is below what is known, they have it
+    -- if the column's value is below what is known, they have it
     pub lower_new : (v : ℕ) → at min_plus m v 0 < number_at known v → value_at infinite es v 0 ≡ at min_plus m v 0
     lower_new v = (values infinite v).0
 
-    -- where it isn't, they have nothing
+    -- otherwise they have nothing
     pub lower_old : (v : ℕ) → number_at known v ≤ at min_plus m v 0 → value_at infinite es v 0 ≡ infinite
     lower_old v = (values infinite v).1

@@ -48,7 +48,7 @@ module _ (a : Sparse) (source k : ℕ) (search : Search) (is : IsSearch a source
         least new old;
   }
 
-  -- where it has come to its end, each number is the least cost of a walk
+  -- once it has ended, each number is the least cost of a walk
   pub search_nearest : HasEnded a k search → IsNearest a source (number_at search.known)
   unfolding value_at
   search_nearest ended = ⊎_elim

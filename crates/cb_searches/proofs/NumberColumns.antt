@@ -65,7 +65,7 @@ module _ (shape : Extent) (one : shape.cols ≡ 1) (known : BTreeMap ℕ ℕ) (o
   pub column_value : (v : ℕ) → value_at infinite es v 0 ≡ number_at (Tree known) v
   column_value v = ap (λ (xs : List Entry). value_at infinite xs v 0) same ∙ value_of known.entries v
 
--- when the map has been gone through
+-- when the whole map has been visited
 pub all_listed : (known : BTreeMap ℕ ℕ) (es : List Entry) (left : List (ℕ × ℕ)) → es ++ map number_entry left ≡ map number_entry known.entries → left ≡ [] → es ≡ map number_entry known.entries
 all_listed known es left h none = sym (append-nil es) ∙ ap (λ (ps : List (ℕ × ℕ)). es ++ map number_entry ps) (sym none) ∙ h
 
@@ -119,7 +119,7 @@ module _ (shape : Extent) (one : shape.cols ≡ 1) (f : ℕ → ℕ) (fits : (v 
       let h : i ≡ shape.rows = omega arith in
       same ∙ ap (first_numbers f) h ∙ ap (λ (n : ℕ). columns_of infinite (λ v _. f v) shape.rows n) (sym one)
 
-  -- when all places have been gone through, the entries are a matrix
+  -- when all places have been visited, the entries are a matrix
   pub numbers_matrix : IsMatrix min_plus (record { shape = shape; entries = es })
   numbers_matrix = subst (λ (xs : List Entry). IsMatrix min_plus (record { shape = shape; entries = xs })) (sym all_entries) numbers_are
 

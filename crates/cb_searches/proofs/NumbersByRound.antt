@@ -83,7 +83,7 @@ module _ (a : Sparse) (source : ℕ) where
           )
         ]
 
-    -- one round more
+    -- one more round
     pub neared : Nearing a source (k + 1) e z
     neared = record { fits = after_fits; reached = after_reached; within = after_within; fell = after_fell }
 
@@ -93,7 +93,7 @@ module _ (a : Sparse) (source : ℕ) where
     pub reached : (v : ℕ) → d v ≢ infinite → (walk : List ℕ) × IsWalk min_plus a source v walk × (cost a walk ≡ d v)
     pub least : (v : ℕ) (walk : List ℕ) → IsWalk min_plus a source v walk → d v ≤ cost a walk
 
-  -- where no number can lower another, none is above the cost of a walk
+  -- if no number can lower another, none is above the cost of a walk
   pub closed : (d : ℕ → ℕ) → ((u v : ℕ) → d v ≤ d u + at min_plus a u v) → (from to : ℕ) (w : List ℕ) → IsWalk min_plus a from to w → d to ≤ d from + cost a w
   closed d h from to [] w = absurd (none-some from w.begins)
   closed d h from to (x ∷ []) w = let e : d to ≡ d from = ap d (sym (same_Some x to w.ends) ∙ same_Some x from w.begins) in omega arith

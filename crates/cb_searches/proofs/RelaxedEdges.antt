@@ -152,7 +152,7 @@ module _ (a : Sparse) (source : ℕ) (waiting : List Tentative) (from : Tentativ
           subst (λ (m : ℕ). e (get_or rows m 0) ≤ from.number + get_or values m 0) (sym same) (subst (λ (m : ℕ). e m ≤ from.number + get_or values n 0) vertex low))
           (cases_lt k n)
 
-      -- one edge more
+      -- one more edge
       pub relaxing_step : IsRelaxing a source e next from rows values (n + 1)
       relaxing_step = record {
         fits = λ v. let f = falls v in let h = is.fits v in omega (arith, f, h);

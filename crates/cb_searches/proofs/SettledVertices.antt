@@ -1,4 +1,4 @@
--- Vertices that settle: how they begin, what waits, and what they are where nothing waits.
+-- Vertices that settle: how they begin, which ones wait, and what holds once none waits.
 use Rattle.std.proofs.Common.{◌≡◌, ◌≢◌, ℕ, zero, suc, ◌+◌, ◌<◌, ◌≤◌, Bool, true, false, cond, inl, inr, ⊎_elim, List, [], ◌∷◌, length, map, take, get_or, subst, sym, refl, ap, ◌∙◌, arith}
 use Rattle.std.specs.Prelude.{All, Contains, ◌==◌}
 use Rattle.std.specs.List.{sum_by, range_with_len}
@@ -75,11 +75,11 @@ module _ (a : Sparse) (source : ℕ) (d : ℕ → ℕ) where
             (is.settled u);
       }
 
--- where each of some entries is in a list, so is what they stand for
+-- if each of some entries is in a list, so is what they stand for
 pub all_wait : (es : List Entry) (ts : List Tentative) → All (λ e. Contains ts (tentative e)) es → (t : Tentative) → Contains (map tentative es) t → Contains ts t
 all_wait es ts all t h = All-contains (λ t. Contains ts t) (map tentative es) t (All-map (λ t. Contains ts t) tentative es all) h
 
--- one entry more waits
+-- one more entry waits
 pub one_more_waits : (es : List Entry) (i : ℕ) (d : Entry) (xs ys : List Tentative) → i < length es → IsPermutation (tentative (get_or es i d) ∷ xs) ys → All (λ e. Contains xs (tentative e)) (take i es) → All (λ e. Contains ys (tentative e)) (take (i + 1) es)
 one_more_waits es i d xs ys l moved all =
     let first = tentative (get_or es i d) in
@@ -118,7 +118,7 @@ module _ (a : Sparse) (source k : ℕ) (d : ℕ → ℕ) where
         (cases_eq (d u) infinite);
   }
 
-  -- where nothing waits, no walk costs less, whatever its steps
+  -- if nothing waits, no walk costs less, whatever its steps
   pub settling_done : (x : ℕ → ℕ) → ((u : ℕ) → x u ≡ infinite) → IsSettling a source d [] → Nearing a source k d x
   settling_done x none is =
       let relaxed : (u v : ℕ) → d v ≤ d u + at min_plus a u v = λ u v. ⊎_elim (λ (w : IsWaiting d [] u). absurd (omega (arith, w.1))) (λ (r : IsRelaxed a d u). r v) (is.settled u) in
@@ -152,7 +152,7 @@ sum_within : (f g : ℕ → ℕ) (a n : ℕ) → ((v : ℕ) → g v ≤ f v) →
 sum_within f g a zero h = omega arith
 sum_within f g a (suc n) h = omega (arith, sum_by-cons f a (range_with_len (a + 1) n), sum_by-cons g a (range_with_len (a + 1) n), h a, sum_within f g (a + 1) n h)
 
--- where one number falls and none rises, the sum falls
+-- if one number falls and none rises, the sum falls
 sum_falls : (f g : ℕ → ℕ) (v a n : ℕ) → a ≤ v → v < a + n → ((w : ℕ) → g w ≤ f w) → g v < f v → sum_by g (range_with_len a n) < sum_by f (range_with_len a n)
 sum_falls f g v a zero l m h s = absurd (omega arith)
 sum_falls f g v a (suc n) l m h s =
@@ -161,7 +161,7 @@ sum_falls f g v a (suc n) l m h s =
     (λ (ne : a ≡ v → ⊥). let p : a ≢ v = ne in let r = sum_falls f g v (a + 1) n (omega arith) (omega arith) h s in omega (arith, sum_by-cons f a (range_with_len (a + 1) n), sum_by-cons g a (range_with_len (a + 1) n), h a, r))
     (cases_eq a v)
 
--- where one number falls and waits, no more work is left than before
+-- if one number falls and waits, no more work is left than before
 pub work_lowered : {X : Type 0} (n : ℕ) (old new : Numbers) (xs ys : List X) (v x : ℕ) → v < n → x < number_at old v → ((w : ℕ) → number_at new w ≡ cond (w == v) x (number_at old w)) → length ys ≡ length xs + 1 → work_left n new ys ≤ work_left n old xs
 work_lowered n old new xs ys v x inside l h long =
     let here : number_at new v ≡ x = h v ∙ cond-true _ _ _ (eq-eqb v v refl) in

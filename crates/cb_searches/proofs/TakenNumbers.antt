@@ -1,4 +1,4 @@
--- Entries taken over into the known numbers, one after the other.
+-- Entries taken over into the known numbers, one after another.
 use Rattle.std.proofs.Common.{◌≡◌, ◌≢◌, ℕ, ◌+◌, ◌<◌, ◌≤◌, Bool, true, false, cond, ◌⊎◌, inl, inr, ⊎_elim, List, [], ◌∷◌, ◌++◌, length, take, get_or, subst, sym, refl, ap, ◌∙◌, arith}
 use Rattle.std.specs.Prelude.{filter, All, AllPairs, ◌==◌}
 use Rattle.std.specs.Ordering.{nat_cmp, is_eq}
@@ -9,9 +9,8 @@ use Rattle.std.proofs.lemmas.List.{append-nil, take_all, take_more, get_or_defau
 use Rattle.std.proofs.lemmas.List.Elements.{All-cons, All-nil, All-take, filter_more}
 use Rattle.cb_matrix.specs.declared.Entry.{Entry}
 use Rattle.cb_matrix.specs.Sparse.{value_at, is_at}
-use Rattle.cb_matrix.proofs.Made.{NoneAt, value_at-append_left, value_at-append_right}
 use Rattle.cb_matrix.proofs.Pairs.{All-front, All-last}
-use Rattle.cb_matrix.proofs.Places.{is_at-own, is_at-parts}
+use Rattle.cb_matrix.proofs.Places.{NoneAt, is_at-own, is_at-parts, value_at-append_left, value_at-append_right}
 use Rattle.std.proofs.lemmas.Bool.{false_from_ne_true}
 use Rattle.cb_searches.specs.declared.numbers.Numbers.{Numbers}
 use Rattle.cb_searches.specs.Walks.{infinite}
@@ -72,7 +71,7 @@ module _ (es : List Entry) (i : ℕ) (d : Entry) (l : i < length es) (rows : All
   pub next_inside : (n : ℕ) → AreNumbers n old → All (λ e. (e.row < n) × (e.value < infinite)) es → (m : ℕ) × AreNumbers m now × (e.row < m)
   next_inside n are all = (n, before.finite n are (All-take (λ e. (e.row < n) × (e.value < infinite)) i es all), (all i d l).0)
 
-  -- with the next entry's value put at its row, one entry more is taken
+  -- with the next entry's value put at its row, one more entry is taken
   pub taken_one : ((v : ℕ) → number_at next v ≡ cond (v == e.row) e.value (number_at now v)) → ((n : ℕ) → AreNumbers n now → e.row < n → e.value < infinite → AreNumbers n next) → HasTaken old next (take (i + 1) es)
   taken_one h finite = record {
     values = λ v. ⊎_elim
@@ -87,7 +86,7 @@ module _ (es : List Entry) (i : ℕ) (d : Entry) (l : i < length es) (rows : All
         finite n (before.finite n known (All-front (λ e. (e.row < n) × (e.value < infinite)) (take i es) (e ∷ []) parts)) last.0 last.1;
   }
 
--- one entry more has been looked at
+-- one more entry has been looked at
 module _ (known : Numbers) (es : List Entry) (i : ℕ) (d : Entry) (l : i < length es) (so_far now : List Entry) (before : so_far ≡ filter (is_lower known) (take i es)) where
   -- an entry that is below what is known is added
   pub lower_kept : is_lower known (get_or es i d) ≡ true → now ≡ so_far ++ get_or es i d ∷ [] → now ≡ filter (is_lower known) (take (i + 1) es)
@@ -101,6 +100,6 @@ module _ (known : Numbers) (es : List Entry) (i : ℕ) (d : Entry) (l : i < leng
       e ∙ before
       ∙ sym (filter_more (is_lower known) es i d l ∙ ap (λ (b : Bool). filter (is_lower known) (take i es) ++ cond b (get_or es i d ∷ []) []) h ∙ append-nil (filter (is_lower known) (take i es)))
 
--- where no entry is left, all are taken
+-- if no entry is left, all are taken
 pub all_taken : (old now : Numbers) (es : List Entry) (i : ℕ) → length es ≤ i → HasTaken old now (take i es) → HasTaken old now es
 all_taken old now es i l h = subst (λ (xs : List Entry). HasTaken old now xs) (take_all i es l) h

@@ -25,7 +25,7 @@ own_entry f v = number_entry (v, f v)
 abbrev pub vertex_entries : ℕ → (ℕ → ℕ) → List ℕ → List Entry
 vertex_entries z f vs = filter (is_stored z) (map (own_entry f) vs)
 
--- ---- one vertex more
+-- ---- one more vertex
 module _ (z : ℕ) (f : ℕ → ℕ) (vs : List ℕ) (n : ℕ) (inside : n < length vs) (es now : List Entry) (before : es ≡ vertex_entries z f (take n vs)) where
   next : vertex_entries z f (take (n + 1) vs) ≡ es ++ cond (is_stored z (own_entry f (get_or vs n 0))) (own_entry f (get_or vs n 0) ∷ []) []
   next =
@@ -69,7 +69,7 @@ head_kept z f v vs n = cond-true _ _ _ (ap not (ne-eqb (f v) z n))
 head_passed : (z : ℕ) (f : ℕ → ℕ) (v : ℕ) (vs : List ℕ) → f v ≡ z → vertex_entries z f (v ∷ vs) ≡ vertex_entries z f vs
 head_passed z f v vs e = cond-false _ _ _ (ap not (eq-eqb (f v) z e))
 
--- at each vertex it has the vertex's number, where all that have one are listed
+-- at each vertex it has the vertex's number, if all vertices that have one are listed
 pub vertex_value : (z : ℕ) (f : ℕ → ℕ) (vs : List ℕ) (v : ℕ) → (f v ≢ z → Contains vs v) → value_at z (vertex_entries z f vs) v 0 ≡ f v
 unfolding value_at
 vertex_value z f [] v listed = ⊎_elim (λ (e : f v ≡ z). sym e) (λ (n : f v ≡ z → ⊥). absurd (let h = listed n in omega (arith, h.1))) (cases_eq (f v) z)

@@ -17,7 +17,7 @@ pair_cost a p = at min_plus a p.0 p.1
 cost_by : (a : Sparse) (walk : List ℕ) → cost a walk ≡ sum_by (pair_cost a) (pairs walk)
 cost_by a walk = sum-map (pair_cost a) (pairs walk)
 
--- a vertex more at the end
+-- one more vertex at the end
 pub pairs_more : (us : List ℕ) (u v : ℕ) → last us ≡ Some u → pairs (us ++ v ∷ []) ≡ pairs us ++ (u, v) ∷ []
 pairs_more [] u v h = absurd (none-some u h)
 pairs_more (x ∷ []) u v h = ap (λ (y : ℕ). (y, v) ∷ []) (same_Some x u h)
@@ -32,7 +32,7 @@ last_more [] v = refl
 last_more (x ∷ []) v = refl
 last_more (x ∷ y ∷ ys) v = last_more (y ∷ ys) v
 
--- a vertex more at the front
+-- one more vertex at the front
 pub pairs_front : (us : List ℕ) (x y : ℕ) → first us ≡ Some y → pairs (x ∷ us) ≡ (x, y) ∷ pairs us
 pairs_front [] x y h = absurd (none-some y h)
 pairs_front (u ∷ us) x y h = ap (λ (z : ℕ). (x, z) ∷ pairs (u ∷ us)) (same_Some u y h)
@@ -78,7 +78,7 @@ module _ (s : Arithmetic) (a : Sparse) where
   pub walk_first : (from v x : ℕ) (us : List ℕ) → IsWalk s a from v (x ∷ us) → x ≡ from
   walk_first from v x us w = same_Some x from w.begins
 
-  -- a walk is its only vertex, or a walk and one vertex more
+  -- a walk is its only vertex, or a walk and one more vertex
   abbrev pub WalkCases : ℕ → ℕ → List ℕ → Type 0
   WalkCases from v w = ((from ≡ v) × (w ≡ v ∷ [])) ⊎ ((us : List ℕ) × (u : ℕ) × IsWalk s a from u us × (at s a u v ≢ s.zero) × (w ≡ us ++ v ∷ []))
 
@@ -94,15 +94,15 @@ module _ (s : Arithmetic) (a : Sparse) where
         | inr p ↦ inr (x ∷ p.0, p.1, subst (λ (z : ℕ). IsWalk s a z p.1 (x ∷ p.0)) is (walk_front x y p.1 p.0 e p.2), p.3, ap (λ (zs : List ℕ). x ∷ zs) p.4)
       ]
 
--- a vertex more at the end costs the edge to it more
+-- one more vertex at the end adds the cost of the edge to it
 pub cost_more : (a : Sparse) (us : List ℕ) (u v : ℕ) → last us ≡ Some u → cost a (us ++ v ∷ []) ≡ cost a us + at min_plus a u v
 cost_more a us u v h = cost_by a (us ++ v ∷ []) ∙ ap (sum_by (pair_cost a)) (pairs_more us u v h) ∙ sum_by_push (pair_cost a) (pairs us) (u, v) ∙ ap (λ (n : ℕ). n + at min_plus a u v) (sym (cost_by a us))
 
--- a vertex more at the front costs the edge from it more
+-- one more vertex at the front adds the cost of the edge from it
 pub cost_front : (a : Sparse) (us : List ℕ) (x y : ℕ) → first us ≡ Some y → cost a (x ∷ us) ≡ at min_plus a x y + cost a us
 cost_front a us x y h = cost_by a (x ∷ us) ∙ ap (sum_by (pair_cost a)) (pairs_front us x y h) ∙ sum_by-cons (pair_cost a) (x, y) (pairs us) ∙ ap (λ (n : ℕ). at min_plus a x y + n) (sym (cost_by a us))
 
--- a vertex more at the end is one step more
+-- one more vertex at the end is one more step
 pub steps_more : (us : List ℕ) (u v : ℕ) → last us ≡ Some u → steps (us ++ v ∷ []) ≡ steps us + 1
 steps_more us u v h = ap length (pairs_more us u v h) ∙ length-append (pairs us) ((u, v) ∷ [])
 

@@ -1,4 +1,4 @@
--- Searches from several sources, whose answers stand side by side.
+-- Searches from several sources, with their results side by side.
 use Rattle.std.specs.Prelude.{◌≡◌, ℕ, ◌<◌, List, length, slice_index}
 use Rattle.cb_semirings.specs.Tables.{min_plus}
 use Rattle.cb_matrix.specs.declared.Entry.{Entry}
@@ -24,6 +24,6 @@ pub record AreLevelsFrom (a : Sparse) (sources : List ℕ) (m : Sparse) : Type 0
   pub shape : m.shape ≡ columns_shape a sources
   pub columns : (j : ℕ) → j < length sources → AreLevels a (slice_index sources j) (column_at m j)
 
--- an entry in another column
+-- an entry moved to another column
 abbrev pub in_column_of : ℕ → Entry → Entry
 in_column_of j e = record { row = e.row; column = j; value = e.value }

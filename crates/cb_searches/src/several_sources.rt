@@ -1,4 +1,4 @@
-//! Searches from several sources of one graph, whose answers stand side by side.
+//! Searches from several sources of one graph, with their results side by side.
 //!
 //! The block is transposed once, for all of them.
 ghost use Rattle.std.specs.Prelude.{◌≡◌, ℕ, ◌<◌, ◌≤◌, ◌++◌, length, map, slice_index, All, IfOk, OnOk};
@@ -16,7 +16,7 @@ use std::alloc::{AllocError, Global};
 /// The distance of each vertex from each of some sources, in the graph of a square block: column j has the distances from
 /// the jth source. Sources may come in any order, and more than once.
 ///
-/// Costs a transpose, and a search for each source, each as [`distances`](crate::distances) has it.
+/// Costs one transpose, and for each source a search as in [`distances`](crate::distances).
 pub fn distances_from(
     alloc: Global,
     graph: Block<MinPlus>,
@@ -28,10 +28,11 @@ pub fn distances_from(
     ensures distances { IfOk result (AreDistancesFrom graph sources.now) }
     ensures matrix { IfOk result (IsMatrix min_plus) }
 {
-    let _shape = graph.shape();
+    let shape = graph.shape();
+    prove_eq!(shape.rows(), shape.cols());
     let edges = turned(alloc, graph)?;
     let columns = columns_from(alloc, &edges, sources)?;
-    let _shape = columns.shape();
+    prove_eq!(columns.shape().rows(), shape.rows());
     Ok(columns)
 }
 
@@ -48,11 +49,12 @@ pub fn levels_from(
     ensures levels { IfOk result (AreLevelsFrom graph sources.now) }
     ensures matrix { IfOk result (IsMatrix min_plus) }
 {
-    let _rows = graph.shape().rows();
+    let shape = graph.shape();
+    prove_eq!(shape.rows(), shape.cols());
     distances_from(alloc, graph.recast(), sources)
 }
 
-/// The distances from each source, side by side, in the graph of a square matrix of which this is the transposed one.
+/// The distances from each source, side by side, given the transposed matrix of the graph.
 fn columns_from(
     alloc: Global,
     edges: &Block<MinPlus>,
@@ -72,7 +74,7 @@ fn columns_from(
     Ok(Matrix::from_ordered(shape, entries))
 }
 
-/// Appends the entries of a column, as those of this column.
+/// Appends the entries of a column, with this column's number.
 fn append(entries: &mut Vec<Entry>, column: &[Entry], number: u32) -> Result<(), AllocError>
     ensures { OnOk result (entries.new.items ≡ entries.old.items ++ map (in_column_of number) column.now) }
 {
@@ -86,7 +88,7 @@ fn append(entries: &mut Vec<Entry>, column: &[Entry], number: u32) -> Result<(),
     Ok(())
 }
 
-/// The shape with so many rows and columns.
+/// The shape with this many rows and columns.
 fn shape_of(rows: u32, cols: u32) -> Shape
     requires rows { rows ≤ LIMIT }
     requires cols { cols ≤ LIMIT }

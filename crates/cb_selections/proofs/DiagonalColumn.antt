@@ -16,7 +16,7 @@ use Rattle.cb_matrix.proofs.Equal.{matrix_is}
 use Rattle.cb_dcsc.specs.Columns.{with_entries}
 use Rattle.cb_product.specs.InColumns.{AreInColumns}
 use Rattle.cb_selections.specs.Selections.{diagonal_of}
-use Rattle.cb_selections.proofs.ColumnsMade.{before_first, between, below_next, absent_value}
+use Rattle.cb_product.proofs.ColumnsMade.{before_first, between, below_next, absent_value}
 
 -- `out` has the values of f in the rows of its column below r, and no entry from there on
 pub record IsColumnTo (s : Arithmetic) (extent : Extent) (f : ℕ → ℕ) (r : ℕ) (out : Sparse) : Type 0 where
@@ -60,7 +60,7 @@ module _ (s : Arithmetic) (extent : Extent) (f : ℕ → ℕ) where
   entries_before : (out : Sparse) (c v : ℕ) → IsColumnTo s extent f c out → All (λ x. IsBefore x (column_entry c v)) out.entries
   entries_before out c v h = All-weaker (λ e. (e.column ≡ 0) × (e.row < c)) (λ x. IsBefore x (column_entry c v)) (λ e k. inr (k.0, k.1)) out.entries h.before
 
-  -- one row more
+  -- one more row
   column_more : (old new : Sparse) (c v : ℕ) → v ≡ f c → new ≡ with_entries old (stored s.zero (column_entry c v)) → IsMatrix s new → IsColumnTo s extent f c old → IsColumnTo s extent f (c + 1) new
   column_more old new c v v_is new_is new_matrix h =
       let e : Entry = column_entry c v in

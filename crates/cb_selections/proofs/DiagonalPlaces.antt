@@ -15,7 +15,7 @@ use Rattle.cb_product.proofs.ProductColumns.{own_column}
 use Rattle.cb_product.proofs.StoredColumn.{AddsColumn, column_adds}
 use Rattle.cb_selections.specs.Replaced.{where_true}
 
--- where no value is there is none in a region either
+-- a place without a value has none in a region either
 pub zero_where : (z : ℕ) (b : Bool) → where_true z b z ≡ z
 zero_where z true = refl
 zero_where z false = refl
@@ -37,7 +37,7 @@ one_place z r v w i e =
     (λ (n : r ≡ i → ⊥). cond-false _ _ _ (ne_eqb r i n) ∙ sym (cond-false _ _ _ (ne_eqb i r (λ h. n (sym h)))))
     (cases_eq r i)
 
--- one entry more is a column more
+-- one more entry is one more column
 entry_adds : (s : Arithmetic) (old new : Sparse) (c v : ℕ) (g : ℕ → ℕ) → IsValue s v → v ≢ s.zero → ((i : ℕ) → row_value s.zero (c ∷ []) (v ∷ []) i ≡ g i) → All (λ e. e.column < c) old.entries
     → new ≡ with_entry old (record { row = c; column = c; value = v }) → IsMatrix s new → AddsColumn s c g old new
 unfolding entries_in
@@ -48,7 +48,7 @@ module _ (s : Arithmetic) (a : Sparse) (is : IsMatrix s a) (rows values : List �
   abbrev pub on_diagonal : ℕ → ℕ → ℕ
   on_diagonal i j = where_true s.zero (i == j) (at s a j 0)
 
-  -- where the column has no row there is none
+  -- a row that the column doesn't have has none
   pub place_absent : (i j : ℕ) → All (λ c. c ≢ j) rows → on_diagonal i j ≡ s.zero
   place_absent i j others =
       let none : at s a j 0 ≡ s.zero = sym (own_column s a 0 rows values rows_are values_are j) ∙ row_value-absent s.zero rows values j (λ k l. others k 0 l) in

@@ -1,9 +1,8 @@
--- ColumnsMade: a matrix that is made column by column. ReplacedColumn: a column whose values are replaced, one by one.
+-- ReplacedColumn: a column whose values are replaced, one by one.
 -- ReplacedColumns: all columns. RegionValues: values in a region. DiagonalColumn: the diagonal as a column.
 -- DiagonalPlaces: a column as a diagonal. ExtractedColumns: rows and columns by their numbers. NumberPairs: a walk over pairs of
 -- numbers. ListMade: a column that is made row by row. PairedRows, PairedColumns: those of a Kronecker product.
 mod AssignedPart
-mod ColumnsMade
 mod ReplacedColumn
 mod ReplacedColumns
 mod RegionValues

@@ -37,7 +37,7 @@ module _ (s : Arithmetic) (f : ℕ → ℕ) where
     done = λ i m. ⊎_elim (λ (k : i < c). h.done i k) (λ (k : c ≤ i). absent_above s.zero c rs vs i h.before k ∙ sym (nothing i k m)) (cases_lt i c);
   }
 
-  -- one row more, with its value
+  -- one more row, with its value
   pub list_kept : IsSemiring s → (rs vs : List ℕ) (r v : ℕ) → IsValue s v → v ≡ f r → v ≢ s.zero → IsListTo s f r rs vs → IsListTo s f (r + 1) (rs ++ r ∷ []) (vs ++ v ∷ [])
   list_kept laws rs vs r v value v_is some h = record {
     column = kept_column s laws rs vs h.column r v value h.before some;

@@ -6,7 +6,7 @@ use Rattle.std.proofs.lemmas.Bool.{cases_lt}
 use Rattle.std.proofs.lemmas.Nat.{mod-mul-add, div_below, le-div}
 use Rattle.std.proofs.lemmas.List.{get_or_default, get_or_past}
 use Rattle.std.proofs.lemmas.List.Elements.{All-get_or}
-use Rattle.cb_selections.proofs.ColumnsMade.{before_first, between, below_next}
+use Rattle.cb_product.proofs.ColumnsMade.{before_first, between, below_next}
 
 -- what is below a multiple is below one of a number other than zero
 positive : (i m h : ℕ) → i < m * h → 0 < h

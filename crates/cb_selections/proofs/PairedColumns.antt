@@ -1,5 +1,5 @@
 -- The columns of a Kronecker product.
-use Rattle.std.proofs.Common.{◌≡◌, ◌≢◌, ℕ, ◌+◌, ◌*◌, ◌/◌, ◌%◌, ◌<◌, ◌≤◌, List, length, get_or, sym, ◌∙◌, ⊎_elim, arith, subst}
+use Rattle.std.proofs.Common.{◌≡◌, ◌≢◌, ℕ, ◌+◌, ◌*◌, ◌/◌, ◌%◌, ◌<◌, ◌≤◌, List, length, get_or, sym, ap, ◌∙◌, ⊎_elim, arith, subst}
 use Rattle.std.specs.Prelude.{All, AllPairs}
 use Rattle.std.proofs.Math.Nat.{mul-le-mul_right}
 use Rattle.std.proofs.lemmas.Bool.{cases_lt}
@@ -11,10 +11,12 @@ use Rattle.cb_matrix.specs.Sparse.{Sparse, IsMatrix, at}
 use Rattle.cb_matrix.specs.Values.{empty_matrix}
 use Rattle.cb_matrix.proofs.Made.{at-outside}
 use Rattle.cb_matrix.proofs.Totals.{value_at-value}
+use Rattle.cb_dcsc.specs.Columns.{in_column, rows_of, values_of, row_value}
 use Rattle.cb_product.specs.InColumns.{AreInColumns}
+use Rattle.cb_product.proofs.ProductColumns.{own_column}
 use Rattle.cb_product.proofs.StoredColumn.{AddsColumn}
-use Rattle.cb_selections.specs.Selections.{pair_shape, pair_value, kronecker}
-use Rattle.cb_selections.proofs.ColumnsMade.{IsMadeTo, made_none, made_past, made_more, made_all, absent_value}
+use Rattle.cb_selections.specs.Selections.{pair_shape, pair_value, kronecker, IsPaired}
+use Rattle.cb_product.proofs.ColumnsMade.{IsMadeTo, made_none, made_past, made_more, made_all, absent_value}
 use Rattle.cb_selections.proofs.NumberPairs.{pairs_none, pairs_next, pairs_all, pair_none, pair_next, pair_all}
 use Rattle.cb_selections.proofs.PairedRows.{pair_left, pair_right}
 
@@ -66,7 +68,7 @@ module _ (s : Arithmetic) (laws : IsSemiring s) (a b : Sparse) (is : IsMatrix s 
       let low : get_or ds m 0 < w = All-get_or (λ d. d < w) ds m 0 l ds_in in
       λ t. pair_value s b.shape.rows (λ k. at s a k (div-mul-add (get_or cs n 0) w (get_or ds m 0) low t)) (λ k. at s b k (mod-mul-add (get_or cs n 0) w (get_or ds m 0) low t)) i
 
-  -- one column more
+  -- one more column
   pub column_more : (old new : Sparse) (n m : ℕ) (g : ℕ → ℕ) → m < length ds → AddsColumn s (get_or cs n 0 * w + get_or ds m 0) g old new → ((i : ℕ) → g i ≡ pair_value s b.shape.rows (λ k. at s a k (get_or cs n 0)) (λ k. at s b k (get_or ds m 0)) i)
       → IsMadeTo s (pair_shape a b) product_at (get_or cs n 0 * w + get_or ds m w) old → IsMadeTo s (pair_shape a b) product_at (get_or cs n 0 * w + get_or ds (m + 1) w) new
   column_more old new n m g l adds same h =
@@ -97,3 +99,11 @@ module _ (s : Arithmetic) (laws : IsSemiring s) (a b : Sparse) (is : IsMatrix s 
       pair_left s laws h (λ k. at s a k c) (λ k. at s b k d) i (value_at-value s laws b.entries (i % h) d is'.values) (at-outside s.zero a.shape a.entries (i / h) c is.inside (λ x _. omega arith)))
       (λ (z : h ≤ 0). pair_right s laws h (λ k. at s a k c) (λ k. at s b k d) i (value_at-value s laws a.entries (i / h) c is.values) (at-outside s.zero b.shape b.entries (i % h) d is'.inside (λ x _. omega arith)))
       (cases_lt 0 h)
+
+-- a column that pairs column p of the first with column q of the second has the product's values
+pub paired_has : {h : ℕ} (s : Arithmetic) (a b : Sparse) (p q : ℕ) (left_rows left_values rows values ks ws : List ℕ)
+    → left_rows ≡ rows_of (in_column p a.entries) → left_values ≡ values_of (in_column p a.entries) → rows ≡ rows_of (in_column q b.entries) → values ≡ values_of (in_column q b.entries)
+    → h ≡ b.shape.rows → IsPaired s h left_rows left_values rows values ks ws → (i : ℕ) → row_value s.zero ks ws i ≡ pair_value s b.shape.rows (λ k. at s a k p) (λ k. at s b k q) i
+paired_has s a b p q left_rows left_values rows values ks ws left_rows_are left_values_are rows_are values_are height_is paired i =
+    paired i ∙ ap (λ h. pair_value s h (row_value s.zero left_rows left_values) (row_value s.zero rows values) i) height_is
+    ∙ (λ t. s.mul (own_column s a p left_rows left_values left_rows_are left_values_are (i / b.shape.rows) t) (own_column s b q rows values rows_are values_are (i % b.shape.rows) t))

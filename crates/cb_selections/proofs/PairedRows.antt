@@ -14,7 +14,7 @@ use Rattle.cb_selections.specs.Selections.{pair_value}
 use Rattle.cb_selections.proofs.ListMade.{IsListTo, list_none, list_past, list_kept, list_dropped}
 use Rattle.cb_selections.proofs.NumberPairs.{pairs_none, pairs_next, pairs_all, pair_none, pair_next, pair_all}
 
--- where one of the two is zero, so is the product
+-- if one of the two is zero, so is the product
 pub pair_left : (s : Arithmetic) → IsSemiring s → (h : ℕ) (f g : ℕ → ℕ) (i : ℕ) → IsValue s (g (i % h)) → f (i / h) ≡ s.zero → pair_value s h f g i ≡ s.zero
 pair_left s laws h f g i value e = ap (λ x. s.mul x (g (i % h))) e ∙ laws.zero_mul (g (i % h)) value
 

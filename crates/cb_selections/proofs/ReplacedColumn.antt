@@ -52,7 +52,7 @@ module _ (s : Arithmetic) (laws : IsSemiring s) (g : ℕ → ℕ → ℕ) (rows 
         let b : j < k = omega arith in
         subst (λ x. x < row) (sym (get_or-take k rows j 0 b)) (is.ascending j k 0 b l))
 
-    -- one entry more of the column
+    -- one more entry of the column
     front : (i : ℕ) → row_value s.zero (take (k + 1) rows) (take (k + 1) values) i ≡ cond (row == i) old (row_value s.zero (take k rows) (take k values) i)
     front i =
         let e = is.same_length in

@@ -11,7 +11,7 @@ use Rattle.cb_product.specs.SparseColumn.{IsSparseColumn}
 use Rattle.cb_product.proofs.ProductColumns.{own_column}
 use Rattle.cb_product.proofs.StoredColumn.{column_inside}
 use Rattle.cb_selections.specs.Replaced.{of_stored}
-use Rattle.cb_selections.proofs.ColumnsMade.{absent_value}
+use Rattle.cb_product.proofs.ColumnsMade.{absent_value}
 use Rattle.cb_selections.proofs.ReplacedColumn.{of_stored-none}
 
 -- the rows of the n-th column that has entries, by its number

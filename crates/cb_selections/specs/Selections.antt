@@ -37,7 +37,7 @@ abbrev pub columns_by : Arithmetic → List ℕ → Sparse → Sparse
 columns_by s cols a =
     matrix_of s (record { rows = a.shape.rows; cols = length cols }) (λ i j. at s a i (slice_index cols j))
 
--- a matrix with another, b, in place of the part that begins at a corner
+-- a matrix whose part that begins at a corner is replaced by another matrix, b
 abbrev pub assigned : Arithmetic → ℕ × ℕ → Sparse → Sparse → Sparse
 assigned s corner b a =
     matrix_of s a.shape (λ i j. cond (is_covered corner b.shape i j) (at s b (i - corner.0) (j - corner.1)) (at s a i j))

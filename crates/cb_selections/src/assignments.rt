@@ -1,4 +1,4 @@
-//! A block in place of a part of another.
+//! A part of a block replaced by another block.
 ghost use Rattle.std.specs.Prelude.{◌≡◌, ℕ, ◌≤◌, ◌+◌, not, IfOk};
 ghost use Rattle.cb_semirings.specs.Arithmetic.{IsValue};
 ghost use Rattle.cb_matrix.specs.Operations.{is_covered};
@@ -22,8 +22,8 @@ struct Outside {
     shape: Shape,
 }
 
-/// A block with another in place of the part that begins at the corner, a row and a column. The entries of the part go,
-/// also where the other has none.
+/// The block with its part that begins at the corner, a row and a column, replaced by another block. All old entries of
+/// the part are dropped, whether or not the other block has entries at their places.
 ///
 /// Costs a few instructions for each entry of both, and two binary searches for each column of the part that has
 /// entries.

@@ -21,6 +21,14 @@ pub record Arithmetic : Type 0 where
 abbrev pub IsValue : Arithmetic → ℕ → Type 0
 IsValue s x = x < s.bound
 
+-- a binary operator returns values for values
+abbrev pub IsClosed : Arithmetic → (ℕ → ℕ → ℕ) → Type 0
+IsClosed s operator = (x y : ℕ) → IsValue s x → IsValue s y → IsValue s (operator x y)
+
+-- the result of a binary operator is below 2^64 if both operands are
+abbrev pub IsWordOperator : (ℕ → ℕ → ℕ) → Type 0
+IsWordOperator operator = (x y : ℕ) → x < 2 ^ 64 → y < 2 ^ 64 → operator x y < 2 ^ 64
+
 -- The laws of a semiring in the sense of GraphBLAS: the sum is a commutative monoid on the values, and a product with its
 -- zero is zero. So a place without an entry can stand for zero, and products may be added in any order. The product need
 -- not be associative, distribute over the sum, or have a one.

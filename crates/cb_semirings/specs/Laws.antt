@@ -5,7 +5,7 @@ use Rattle.std.proofs.lemmas.Bool.{eq-eqb, cond-true}
 use Rattle.std.proofs.lemmas.Bool.Decides.{nat_tests}
 use Rattle.std.proofs.Math.Nat.{mod-lt, mod-eq_of_lt, add-mod-mod, mod-add-mod, add_comm, mul_assoc, mul-add, add-mul}
 use Rattle.std.proofs.lemmas.Nat.{mul-mod_first, mul-mod_second}
-use Rattle.cb_semirings.specs.Arithmetic.{Arithmetic, IsValue, IsSemiring, IsDistributive, ReadsNumbers, HasNegatives}
+use Rattle.cb_semirings.specs.Arithmetic.{Arithmetic, IsValue, IsClosed, IsWordOperator, IsSemiring, IsDistributive, ReadsNumbers, HasNegatives}
 use Rattle.cb_semirings.specs.Tables.{plus_times, min_plus, or_and, max_min, with_product, plus}
 
 wraps : (n : ℕ) → n % 2 ^ 64 < 2 ^ 64
@@ -190,7 +190,7 @@ zero_or_value s z false y k = k
 
 module _ (s : Arithmetic) (operator : ℕ → ℕ → ℕ) where
   -- the laws hold with another product, if its products of values are values
-  pub with_product_is_semiring : IsSemiring s → ((x y : ℕ) → IsValue s x → IsValue s y → IsValue s (operator x y)) → IsSemiring (with_product s operator)
+  pub with_product_is_semiring : IsSemiring s → IsClosed s operator → IsSemiring (with_product s operator)
   with_product_is_semiring laws values = record {
     value_fits = laws.value_fits;
     zero_value = laws.zero_value;
@@ -214,21 +214,20 @@ module _ (s : Arithmetic) (operator : ℕ → ℕ → ℕ) where
     only_pattern = reads.only_pattern;
   }
 
-  -- and has the same negatives
+  -- the negatives are the same
   pub with_product_has_negatives : HasNegatives s → HasNegatives (with_product s operator)
   with_product_has_negatives has = record { negative_adds = has.negative_adds; all_or_none = has.all_or_none }
 
--- the binary operators on numbers below 2^64 stay below it
-pub plus_fits : (x y : ℕ) → x < 2 ^ 64 → y < 2 ^ 64 → plus x y < 2 ^ 64
+-- the binary operators stay below 2^64
+pub plus_fits : IsWordOperator plus
 plus_fits x y h k = omega arith
 
-pub min_fits : (x y : ℕ) → x < 2 ^ 64 → y < 2 ^ 64 → min x y < 2 ^ 64
+pub min_fits : IsWordOperator min
 min_fits x y h k = omega arith
 
-pub max_fits : (x y : ℕ) → x < 2 ^ 64 → y < 2 ^ 64 → max x y < 2 ^ 64
+pub max_fits : IsWordOperator max
 max_fits x y h k = omega arith
 
--- so they return values for values, if all these numbers are values
-pub full_values : (s : Arithmetic) (operator : ℕ → ℕ → ℕ) → s.bound ≡ 2 ^ 64 → ((x y : ℕ) → x < 2 ^ 64 → y < 2 ^ 64 → operator x y < 2 ^ 64)
-    → (x y : ℕ) → IsValue s x → IsValue s y → IsValue s (operator x y)
+-- so they return values for values, if all numbers below 2^64 are values
+pub full_values : (s : Arithmetic) (operator : ℕ → ℕ → ℕ) → s.bound ≡ 2 ^ 64 → IsWordOperator operator → IsClosed s operator
 full_values s operator full fits x y h k = rw full (fits x y (rw full at h) (rw full at k))

@@ -3,7 +3,8 @@ ghost use Rattle.std.specs.Prelude.{◌≡◌};
 
 /// A binary operator on the numbers below 2^64, as in GraphBLAS. No call takes memory.
 pub trait Operator: Drop {
-    ghost use Rattle.std.specs.Prelude.{ℕ, ◌<◌, ◌^◌};
+    ghost use Rattle.std.specs.Prelude.{ℕ};
+    ghost use Rattle.cb_semirings.specs.Arithmetic.{IsWordOperator};
 
     /// Its result for two numbers.
     ghost operator: { ℕ → ℕ → ℕ };
@@ -13,7 +14,7 @@ pub trait Operator: Drop {
         ensures { result ≡ operator left right };
 
     /// Its result is below 2^64.
-    ghost fits: { (x y : ℕ) → x < 2 ^ 64 → y < 2 ^ 64 → operator x y < 2 ^ 64 };
+    ghost fits: { IsWordOperator operator };
 }
 
 /// Always 1.

@@ -1,8 +1,9 @@
 -- Worked plans, computed: the product of two matrices of 2 by 2.
-use Rattle.std.specs.Prelude.{◌≡◌, ℕ, ◌+◌, [], ◌∷◌, length, map, None, sum, refl}
+use Rattle.std.specs.Prelude.{◌≡◌, ℕ, ◌+◌, List, [], ◌∷◌, length, map, None, sum, refl}
 use Rattle.std.specs.List.{range_with_len}
 use Rattle.cb_matrix.specs.Sparse.{Extent}
 use Rattle.cb_plan.specs.declared.acts.Act.{Act}
+use Rattle.cb_plan.specs.declared.acts.Start.{Start}
 use Rattle.cb_plan.specs.declared.acts.Act.TheVariants as act_is
 use Rattle.cb_plan.specs.Checks.{plan_fault, fault_from}
 use Rattle.cb_plan.specs.Programs.{project}
@@ -58,17 +59,27 @@ halves_on_grid_6 = refl
 masked_acts_on_grid_2 : length (summa_masked_acts 2 two_by_two two_by_two) ≡ 44
 masked_acts_on_grid_2 = refl
 
--- how many halves each rank of a grid of side 2 has: 60 in all, and 64 with a mask
-halves_on_grid_2 : map (λ r. length (project (operand_starts 2 (factors two_by_two two_by_two)) (summa_acts 2 two_by_two two_by_two) r)) (range_with_len 0 4) ≡ 15 ∷ 15 ∷ 15 ∷ 15 ∷ []
+-- a grid of side 2: the blocks with which its ranks start, without and with a mask
+abbrev starts_on_grid_2 : List Start
+starts_on_grid_2 = operand_starts 2 (factors two_by_two two_by_two)
+
+abbrev masked_starts_on_grid_2 : List Start
+masked_starts_on_grid_2 = operand_starts 2 (masked_factors two_by_two two_by_two)
+
+-- how many halves each of its ranks has: 60 in all, and 64 with a mask
+abbrev halves_by_rank : List Start → List Act → List ℕ
+halves_by_rank starts acts = map (λ r. length (project starts acts r)) (range_with_len 0 4)
+
+halves_on_grid_2 : halves_by_rank starts_on_grid_2 (summa_acts 2 two_by_two two_by_two) ≡ 15 ∷ 15 ∷ 15 ∷ 15 ∷ []
 halves_on_grid_2 = refl
 
-masked_halves_on_grid_2 : map (λ r. length (project (operand_starts 2 (masked_factors two_by_two two_by_two)) (summa_masked_acts 2 two_by_two two_by_two) r)) (range_with_len 0 4) ≡ 16 ∷ 16 ∷ 16 ∷ 16 ∷ []
+masked_halves_on_grid_2 : halves_by_rank masked_starts_on_grid_2 (summa_masked_acts 2 two_by_two two_by_two) ≡ 16 ∷ 16 ∷ 16 ∷ 16 ∷ []
 masked_halves_on_grid_2 = refl
 
-passes_on_grid_2 : plan_fault 4 (operand_starts 2 (factors two_by_two two_by_two)) (summa_acts 2 two_by_two two_by_two) ≡ None
+passes_on_grid_2 : plan_fault 4 starts_on_grid_2 (summa_acts 2 two_by_two two_by_two) ≡ None
 unfolding fault_from
 passes_on_grid_2 = refl
 
-masked_passes_on_grid_2 : plan_fault 4 (operand_starts 2 (masked_factors two_by_two two_by_two)) (summa_masked_acts 2 two_by_two two_by_two) ≡ None
+masked_passes_on_grid_2 : plan_fault 4 masked_starts_on_grid_2 (summa_masked_acts 2 two_by_two two_by_two) ≡ None
 unfolding fault_from
 masked_passes_on_grid_2 = refl

@@ -26,7 +26,7 @@ right_slot k = 4 + 2 * (k % 2)
 abbrev pub row_broadcast : ℕ → ℕ → ℕ → List Act
 row_broadcast q k i = broadcast_acts (row_group q i) (i * q + k) (tagged (2 * k)) 0 (left_slot k)
 
--- and that of the second in row k and column j along its column
+-- in stage k, the block of the second matrix in row k and column j goes along its column
 abbrev pub column_broadcast : ℕ → ℕ → ℕ → List Act
 column_broadcast q k j = broadcast_acts (column_group q j) (k * q + j) (tagged (2 * k + 1)) 1 (right_slot k)
 
@@ -64,7 +64,7 @@ product_acts q a b =
 abbrev pub summa_acts : ℕ → Extent → Extent → List Act
 summa_acts q a b = product_acts q a b ++ shut_acts (q * q)
 
--- the same, and each rank keeps what the mask in its slot 7 covers
+-- the acts of the product, and then each rank keeps what the mask in its slot 7 covers
 abbrev pub summa_masked_acts : ℕ → Extent → Extent → List Act
 summa_masked_acts q a b = (product_acts q a b ++ each_rank q mask_op) ++ shut_acts (q * q)
 
@@ -72,7 +72,7 @@ summa_masked_acts q a b = (product_acts q a b ++ each_rank q mask_op) ++ shut_ac
 abbrev pub factors : Extent → Extent → List Operand
 factors a b = record { slot = 0; shape = a } ∷ record { slot = 1; shape = b } ∷ []
 
--- and a mask of their product in slot 7
+-- the operands with a mask of the product in slot 7
 abbrev pub masked_factors : Extent → Extent → List Operand
 masked_factors a b = record { slot = 0; shape = a } ∷ record { slot = 1; shape = b } ∷ record { slot = 7; shape = result_shape a b } ∷ []
 
@@ -86,18 +86,18 @@ abbrev pub MakesProduct : List Act → ℕ → Arithmetic → Sparse → Sparse 
 MakesProduct acts q s a b =
     (state : State Sparse) → HasParts s q a 0 state → HasParts s q b 1 state → HasParts s q (product s a b) 2 (meaning (matrices s) acts state)
 
--- if slot 7 has those of a mask too, slot 2 has in the end the parts of the masked product
+-- if slot 7 has the parts of a mask too, slot 2 has in the end the parts of the masked product
 abbrev pub MakesMaskedProduct : List Act → ℕ → Arithmetic → Sparse → Sparse → Sparse → Type 0
 MakesMaskedProduct acts q s a b m =
     (state : State Sparse) → HasParts s q a 0 state → HasParts s q b 1 state → HasParts s q m 7 state →
     HasParts s q (masked s (product s a b) m) 2 (meaning (matrices s) acts state)
 
--- in every semiring the acts make the product of any two matrices of these shapes
+-- over any semiring, the acts make the product of any two matrices of these shapes
 abbrev pub IsProductPlan : List Act → ℕ → Extent → Extent → Type 0
 IsProductPlan acts q left right =
     (s : Arithmetic) → IsSemiring s → (a b : Sparse) → IsMatrix s a → IsMatrix s b → a.shape ≡ left → b.shape ≡ right → MakesProduct acts q s a b
 
--- and the product under any mask of its shape
+-- over any semiring, the acts make the product of any two matrices of these shapes under any mask of its shape
 abbrev pub IsMaskedPlan : List Act → ℕ → Extent → Extent → Type 0
 IsMaskedPlan acts q left right =
     (s : Arithmetic) → IsSemiring s → (a b m : Sparse) → IsMatrix s a → IsMatrix s b → IsMatrix s m →

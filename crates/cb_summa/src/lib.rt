@@ -23,7 +23,7 @@ ghost use Rattle.cb_summa.specs.Summa.{summa_acts, factors, IsProductPlan};
 mod masked;
 mod products;
 
-use cb_layout::Grid;
+use cb_layout::{Grid, LARGEST_SIDE};
 use cb_matrix::Shape;
 use cb_plan::{Plan, PlanFault, Planned};
 use cb_plan_parts::{Operand, finish, operand_starts};
@@ -54,7 +54,7 @@ pub fn summa(alloc: Global, grid: &Grid, a: Shape, b: Shape) -> Result<Planned, 
     ensures product { IfOk result (λ p. IsProductPlan p.plan.acts grid.now.side a b) }
     ensures fault { IfErr result (λ e. e ≡ no_memory) }
 {
-    let _side = grid.side();
+    prove!(grid.side() <= LARGEST_SIDE);
     let mut plan = Plan::new(alloc, grid.ranks());
     multiply(&mut plan, alloc, grid, a, b)?;
     let operands = [

@@ -7,14 +7,14 @@ ghost use Rattle.cb_summa.specs.Summa.{summa_masked_acts, masked_factors, IsMask
 
 use crate::products::multiply;
 use crate::{LEFT, MASK, RESULT, RIGHT};
-use cb_layout::Grid;
+use cb_layout::{Grid, LARGEST_SIDE};
 use cb_matrix::Shape;
 use cb_plan::{Op, Plan, PlanFault, Planned};
 use cb_plan_parts::{Operand, finish, operand_starts, work_everywhere};
 use std::alloc::{AllocError, Global};
 
 /// The plan of the product of a matrix of shape `a` and one of shape `b`, under a mask of the product's shape whose
-/// blocks stand in slot 7. The product is kept only at the places of the mask's entries.
+/// blocks are in slot 7. The product is kept only at the places of the mask's entries.
 pub fn summa_masked(alloc: Global, grid: &Grid, a: Shape, b: Shape) -> Result<Planned, PlanFault>
     requires { a.cols ≡ b.rows }
     ensures ranks { IfOk result (λ p. p.plan.ranks ≡ grid.now.side * grid.now.side) }
@@ -25,7 +25,7 @@ pub fn summa_masked(alloc: Global, grid: &Grid, a: Shape, b: Shape) -> Result<Pl
     ensures product { IfOk result (λ p. IsMaskedPlan p.plan.acts grid.now.side a b) }
     ensures fault { IfErr result (λ e. e ≡ no_memory) }
 {
-    let _side = grid.side();
+    prove!(grid.side() <= LARGEST_SIDE);
     let mut plan = Plan::new(alloc, grid.ranks());
     multiply(&mut plan, alloc, grid, a, b)?;
     let mask = Op::Mask {

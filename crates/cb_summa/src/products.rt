@@ -26,13 +26,13 @@ pub fn multiply(
     ensures acts { OnOk result (Grew (product_acts grid.now.side a b) plan.old plan.new) }
     ensures fault { IfErr result (λ e. e ≡ no_memory) }
 {
-    let _side = grid.side();
+    prove!(grid.side() > 0);
     zero_everywhere(plan, grid, RESULT, a.with_columns_of(b))?;
     broadcast_blocks(plan, alloc, grid, 0)?;
     multiply_stages(plan, alloc, grid)
 }
 
-/// All stages, one after the other.
+/// All stages, one after another.
 fn multiply_stages(plan: &mut Plan, alloc: Global, grid: &Grid) -> Result<(), PlanFault>
     requires { IsWithinLimit plan.now (flat_map (stage grid.now.side) (range_with_len 0 grid.now.side)) }
     ensures acts { OnOk result (Grew (flat_map (stage grid.now.side) (range_with_len 0 grid.now.side)) plan.old plan.new) }

@@ -1,5 +1,5 @@
-//! Worked texts, through the public calls of `cb_market`, of `cb_reading`, which reads by several threads, and of
-//! `cb_writing`, which writes by several.
+//! Worked texts, through the public calls of `cb_market`, and of `cb_reading` and `cb_writing`, which read and write with
+//! several threads.
 #![tactic(auto)]
 
 #[cfg(test)]

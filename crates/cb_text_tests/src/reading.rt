@@ -1,4 +1,4 @@
-//! Texts in pieces, each of one line where the line is long enough, or of several.
+//! Texts read in pieces of one line or several.
 use cb_layout::{DistributedMatrix, Grid};
 use cb_market::{Kind, ReadFault, read, text};
 use cb_reading::{Pieces, read_in_pieces, read_side_by_side};
@@ -6,10 +6,10 @@ use cb_semirings::{OrAnd, PlusTimes, Semiring};
 use std::alloc::{AllocError, Global};
 use std::thread::Threads;
 
-/// How many pieces each text is read in.
+/// Into how many pieces each text is cut.
 const COUNTS: [u32; 4] = [2, 3, 7, 64];
 
-/// As many pieces as these, however short.
+/// At most this many pieces, however short.
 fn short(most: u32) -> Pieces {
     Pieces {
         most,
@@ -25,7 +25,7 @@ fn written<S: Semiring>(alloc: Global, matrix: &DistributedMatrix<S>) -> Option<
     text(alloc, &whole).ok()
 }
 
-/// The text of the matrix that a text reads as on one thread.
+/// Reads a text on one thread, and writes the matrix again.
 fn on_one_thread<S: Semiring>(alloc: Global, given: &[u8]) -> Option<Vec<u8>> {
     let Ok(matrix) = read::<S>(alloc, given) else {
         return None;
@@ -33,7 +33,7 @@ fn on_one_thread<S: Semiring>(alloc: Global, given: &[u8]) -> Option<Vec<u8>> {
     text(alloc, &matrix).ok()
 }
 
-/// The text of the matrix that a text reads as in so many pieces, over the grid of a side.
+/// Reads a text in this many pieces over a grid of this side, and writes the matrix again.
 fn in_pieces<S: Semiring + Send + Sync, R: Threads + Sync>(
     rt: &R,
     alloc: Global,
@@ -50,7 +50,7 @@ fn in_pieces<S: Semiring + Send + Sync, R: Threads + Sync>(
     written(alloc, &matrix)
 }
 
-/// Whether a text is read in pieces, on several grids, and as on one thread.
+/// Whether a text is read in pieces, on several grids, with the same result as on one thread.
 fn is_read_in_pieces<S: Semiring + Send + Sync, R: Threads + Sync>(
     rt: &R,
     alloc: Global,
@@ -70,7 +70,7 @@ fn is_read_in_pieces<S: Semiring + Send + Sync, R: Threads + Sync>(
     true
 }
 
-/// Texts of more than one line of entries, or of one.
+/// Texts with one entry or more.
 const NUMBERS: [&[u8]; 9] = [
     b"%%MatrixMarket matrix coordinate integer general\n5 4 6\n1 1 7\n5 1 10\n2 2 18446744073709551615\n4 2 3\n1 4 99999\n3 4 1\n",
     b"%%MatrixMarket matrix coordinate integer general\n3 3 3\n2 1 7\n3 3 1\n1 3 5\n",
@@ -104,7 +104,7 @@ fn are_read_in_pieces(rt: HostRuntime) {
     }
 }
 
-/// Two digits of a number below 100, and a byte after them.
+/// Appends the last two digits of a number and a byte.
 fn put(text: &mut Vec<u8>, number: u32, end: u8) -> Result<(), AllocError> {
     let below = number % 100;
     text.push(b'0' + (below / 10) as u8)?;
@@ -113,37 +113,33 @@ fn put(text: &mut Vec<u8>, number: u32, end: u8) -> Result<(), AllocError> {
     Ok(())
 }
 
-/// The text of 900 entries, of which each stands in a column of its own choice below 1 + `columns`.
-fn long_text(alloc: Global, columns: u32) -> Result<Vec<u8>, AllocError> {
+/// A text of 900 entries: ten times 90 of one column, where each column is `step` after the one before.
+fn long_text(alloc: Global, step: u32) -> Result<Vec<u8>, AllocError> {
     let mut text = Vec::from_slice(
         alloc,
         b"%%MatrixMarket matrix coordinate integer general\n99 99 900\n",
     )?;
     for number in 0u32..900 {
         put(&mut text, number % 90 + 1, b' ')?;
-        put(
-            &mut text,
-            (number / 90).wrapping_mul(columns) % 90 + 1,
-            b' ',
-        )?;
+        put(&mut text, (number / 90).wrapping_mul(step) % 90 + 1, b' ')?;
         put(&mut text, number, b'\n')?;
     }
     Ok(text)
 }
 
-/// Entries that ascend, and others that begin anew.
+/// Entries that ascend, and entries that start over in the same column.
 #[test]
 fn may_be_long(rt: HostRuntime) {
-    for columns in [1, 7, 0] {
-        let given = long_text(rt.alloc(), columns).expect(&rt, "text");
+    for step in [1, 7, 0] {
+        let given = long_text(rt.alloc(), step).expect(&rt, "text");
         assert!(&rt;
             is_read_in_pieces::<PlusTimes, _>(&rt, rt.alloc(), &given),
-            "{columns}"
+            "{step}"
         );
     }
 }
 
-/// The line and the kind of the first fault of a text that is read in so many pieces.
+/// The line and the kind of the first fault of a text that is read in this many pieces.
 fn fault<R: Threads + Sync>(rt: &R, alloc: Global, most: u32, given: &[u8]) -> Option<(u64, Kind)> {
     let Ok(grid) = Grid::new(2) else {
         return None;
@@ -154,7 +150,7 @@ fn fault<R: Threads + Sync>(rt: &R, alloc: Global, most: u32, given: &[u8]) -> O
     }
 }
 
-/// Texts with a fault in their header, their size, one of their pieces or their number of entries.
+/// Texts with a fault in the header, the size line, one of the pieces or the number of entries.
 const FAULTS: [(&[u8], u64, Kind); 7] = [
     (b"", 1, Kind::BadHeader),
     (
@@ -199,7 +195,7 @@ fn have_their_first_fault(rt: HostRuntime) {
     }
 }
 
-/// Whether a text is read as it should be in three pieces, or memory is refused.
+/// Whether a text is read correctly in three pieces, or memory is refused.
 fn right_or_memory<R: Threads + Sync>(rt: &R, alloc: Global, given: &[u8], wanted: &[u8]) -> bool {
     let Ok(grid) = Grid::new(2) else {
         return false;
@@ -213,7 +209,7 @@ fn right_or_memory<R: Threads + Sync>(rt: &R, alloc: Global, given: &[u8], wante
     }
 }
 
-/// Run with each of its allocations refused in turn.
+/// Also run with each allocation refused in turn.
 #[test]
 fn are_refused_or_read(rt: HostRuntime) {
     let alloc = rt.alloc();

@@ -1,3 +1,3 @@
-//! Texts of matrices over grids, written side by side.
+//! Texts of matrices over grids, written by several threads.
 mod rounds;
 mod threads;

@@ -1,4 +1,4 @@
--- What is kept of the lanes, as events are recorded.
+-- What a trace keeps of its lanes, as events are recorded.
 use Rattle.std.proofs.Common.{◌≡◌, ℕ, ◌+◌, ◌-◌, ◌*◌, ◌<◌, ◌≤◌, ◌==◌, ◌&&◌, Bool, false, if◌then◌else◌, List, [], ◌∷◌, ◌++◌, length, slice_get, slice_index, slice_set, Some, ◌⊎◌, inl, inr, refl, sym, ◌∙◌, ap, subst, arith, get_or-set_same, get_or-set_other}
 use Rattle.std.proofs.lemmas.Bool.{cases_eq, eq-eqb, ne_eqb, and_left, and_right}
 use Rattle.std.proofs.lemmas.List.{length_push, length-set}
@@ -14,13 +14,13 @@ use Rattle.cb_trace.specs.Ends.{IsPost, AreEnds, AreLanes, after_post, next_afte
 use Rattle.cb_trace.proofs.Appended.{slice_get-append, slice_get-last, slice_get-push, slice_get-set, slice_get-set_same, posts_on-here, posts_on-elsewhere, posts_on-take, takes_on-here, takes_on-elsewhere, takes_on-post}
 use Rattle.cb_trace.proofs.Posts.{IsPost-kept, IsPost-last, IsPost-push, IsPost-within, IsPost-unique}
 
--- where a chain leads once its newest letter is followed by a post at this place
+-- once a letter is posted at this place, the chain leads from the newest letter to it
 next_there : (l : LaneEnds) (place : ℕ) (next : List ℕ) → 0 < l.posted → l.newest < length next → slice_index (next_after_post l place next) l.newest ≡ place
 next_there l place next some within =
     let some_posted : (l.posted == 0) ≡ false = ne_eqb l.posted 0 (λ none. omega arith) in
     ap (λ (b : Bool). slice_index (if b then next else slice_set next l.newest place) l.newest) some_posted ∙ get_or-set_same next l.newest place 0 within
 
--- and where any other letter leads
+-- the chain leads from any other letter as before
 next_elsewhere : (l : LaneEnds) (place : ℕ) (next : List ℕ) (p : ℕ) → (0 < l.posted → p ≡ l.newest → ⊥) → slice_index (next_after_post l place next) p ≡ slice_index next p
 next_elsewhere l place next p other =
     elim (cases_eq l.posted 0) [
@@ -28,14 +28,14 @@ next_elsewhere l place next p other =
       | inr some ↦ ap (λ (b : Bool). slice_index (if b then next else slice_set next l.newest place) p) (ne_eqb l.posted 0 some) ∙ get_or-set_other next l.newest p place 0 (other (omega arith))
     ]
 
--- an event of one lane is of no other
+-- an event of one lane is of no other lane
 other_lane : (f t g u : ℕ) → ((f ≡ g) × (t ≡ u) → ⊥) → ((g == f) && (u == t)) ≡ false
 other_lane f t g u other =
     elim (cases_eq g f)
     [ inl same ↦ and_right (g == f) (u == t) (ne_eqb u t (λ to. other (sym same, sym to))) | inr apart ↦ and_left (g == f) (u == t) (ne_eqb g f apart) ]
 
 module _ {P : Type 0} where
-  -- a letter's number is below the number of those posted
+  -- a letter's number is below the number of letters posted
   pub number_below : (past : List (Event P)) (next : List ℕ) (f t : ℕ) (l : LaneEnds) (p n : ℕ) → AreEnds past next f t l → IsPost past f t p n → n < l.posted
   number_below past next f t l p n a h =
       let within = slice_get_within (posts_on f t past) h.letter.number h.letter (a.letters p h.letter h.found) in
@@ -43,7 +43,7 @@ module _ {P : Type 0} where
       let numbered = h.numbered in
       omega arith
 
-  -- a lane on which nothing happens is kept
+  -- the ends of a lane on which nothing happens stay right
   AreEnds-kept : (past : List (Event P)) (e : Event P) (next next' : List ℕ) (f t : ℕ) (l : LaneEnds) → AreEnds past next f t l
       → posts_on f t (past ++ e ∷ []) ≡ posts_on f t past → takes_on f t (past ++ e ∷ []) ≡ takes_on f t past → ((x : Letter P) → e ≡ Sent f t x → ⊥)
       → ((p n : ℕ) → IsPost past f t p n → slice_index next' p ≡ slice_index next p) → AreEnds (past ++ e ∷ []) next' f t l
@@ -62,7 +62,7 @@ module _ {P : Type 0} where
         [ inl k ↦ subst (λ (q : ℕ). IsPost (past ++ e ∷ []) f t q (n + 1)) (sym (same p n k)) (IsPost-kept past (e ∷ []) f t (slice_index next p) (n + 1) (a.links p n k below)) | inr k ↦ absurd (never k.1.0 k.1.1) ]);
   }
 
-  -- a lane stays kept as a letter is taken from it
+  -- the ends of a lane stay right as a letter is taken from it
   AreEnds-take : (past : List (Event P)) (next : List ℕ) (f t : ℕ) (l : LaneEnds) (x : Letter P) → AreEnds past next f t l → l.taken < l.posted
       → AreEnds (past ++ Got f t x ∷ []) next f t (after_take l next)
   AreEnds-take past next f t l x a some =
@@ -84,7 +84,7 @@ module _ {P : Type 0} where
             [ inl k ↦ IsPost-kept past (e ∷ []) f t (slice_index next p) (n + 1) (a.links p n k below) | inr k ↦ absurd (let wrong : e ≡ Sent f t k.1.0 = k.1.1 in cc) ]);
       }
 
-  -- a lane stays kept as a letter is posted on it
+  -- the ends of a lane stay right as a letter is posted on it
   AreEnds-post : (past : List (Event P)) (next : List ℕ) (f t : ℕ) (l : LaneEnds) (x : Letter P) (closes : Bool) → AreEnds past next f t l → length past ≤ length next
       → x.number ≡ l.posted → is_close x.body ≡ closes
       → AreEnds (past ++ Sent f t x ∷ []) (next_after_post l (length past) next) f t (after_post l (length past) closes)
@@ -159,7 +159,7 @@ module _ {P : Type 0} where
               omega arith) in
               subst (λ (q : ℕ). IsPost (past ++ e ∷ []) f t q (n + 1)) (sym leads) (IsPost-kept past (e ∷ []) f t (slice_index next p) (n + 1) (a.links p n k older))
 
-  -- the lanes stay kept where the lane of an event does, and no other lane has part in it
+  -- the ends of all lanes stay right if those of the event's lane do, and the event is of no other lane
   AreLanes-one : (ranks : ℕ) (past : List (Event P)) (e : Event P) (next next' : List ℕ) (lanes : List LaneEnds) (from to : ℕ) (l : LaneEnds) → AreLanes ranks past next lanes → to < ranks
       → AreEnds (past ++ e ∷ []) next' from to l → ((f t : ℕ) (m : LaneEnds) → ((f ≡ from) × (t ≡ to) → ⊥) → AreEnds past next f t m → AreEnds (past ++ e ∷ []) next' f t m)
       → AreLanes ranks (past ++ e ∷ []) next' (slice_set lanes (from * ranks + to) l)
@@ -192,7 +192,7 @@ module _ {P : Type 0} where
               elim (slice_get-set lanes (from * ranks + to) l (f * ranks + t) m h)
               [ inl k ↦ absurd (apart (same_from_place f t from to ranks t_in to_in k.0)) | inr k ↦ k ]
 
-  -- the lanes stay kept as a letter is posted
+  -- the ends of all lanes stay right as a letter is posted
   pub AreLanes-post : (ranks : ℕ) (past : List (Event P)) (next : List ℕ) (lanes : List LaneEnds) (from to : ℕ) (l : LaneEnds) (x : Letter P) (closes : Bool) → AreLanes ranks past next lanes
       → to < ranks → AreEnds past next from to l → length past ≤ length next → x.number ≡ l.posted → is_close x.body ≡ closes
       → AreLanes ranks (past ++ Sent from to x ∷ []) (next_after_post l (length past) next) (slice_set lanes (from * ranks + to) (after_post l (length past) closes))
@@ -209,7 +209,7 @@ module _ {P : Type 0} where
           let same = IsPost-unique past f t from to l.newest n (l.posted - 1) there (ends.newest some) in
           other (same.0, same.1)))
 
-  -- and as one is taken
+  -- the ends of all lanes stay right as a letter is taken
   pub AreLanes-take : (ranks : ℕ) (past : List (Event P)) (next : List ℕ) (lanes : List LaneEnds) (from to : ℕ) (l : LaneEnds) (x : Letter P) → AreLanes ranks past next lanes
       → to < ranks → AreEnds past next from to l → l.taken < l.posted → AreLanes ranks (past ++ Got from to x ∷ []) next (slice_set lanes (from * ranks + to) (after_take l next))
   AreLanes-take ranks past next lanes from to l x a to_in ends some =

@@ -7,7 +7,7 @@ use Rattle.cb_trace.specs.Ends.{IsPost}
 use Rattle.cb_trace.proofs.Appended.{slice_get-append, slice_get-last, slice_get-push}
 
 module _ {P : Type 0} where
-  -- a post stays where it is as events follow
+  -- a post stays at its place as events follow
   pub IsPost-kept : (past es : List (Event P)) (f t p n : ℕ) → IsPost past f t p n → IsPost (past ++ es) f t p n
   IsPost-kept past es f t p n h = record { letter = h.letter; found = slice_get-append past es p (Sent f t h.letter) h.found; numbered = h.numbered }
 
@@ -22,11 +22,11 @@ module _ {P : Type 0} where
       elim (slice_get-push past e p (Sent f t h.letter) h.found)
       [ inl k ↦ inl (record { letter = h.letter; found = k; numbered = h.numbered }) | inr k ↦ inr (k.0, (h.letter, k.1, h.numbered)) ]
 
-  -- a post is at a place of an event
+  -- the place of a post is the place of an event
   pub IsPost-within : (past : List (Event P)) (f t p n : ℕ) → IsPost past f t p n → p < length past
   IsPost-within past f t p n h = slice_get_within past p (Sent f t h.letter) h.found
 
-  -- what is at one place is one letter, of one lane
+  -- there is only one letter at a place, of one lane
   pub IsPost-unique : (past : List (Event P)) (f t g u p n m : ℕ) → IsPost past f t p n → IsPost past g u p m → (f ≡ g) × (t ≡ u) × (n ≡ m)
   IsPost-unique past f t g u p n m h k =
       let same : Some (Sent f t h.letter) ≡ Some (Sent g u k.letter) = sym h.found ∙ k.found in

@@ -8,7 +8,7 @@ use crate::events::TraceEvent;
 /// wasn't taken, each leads to the next that was posted.
 #[derive(Clone, Copy, Drop)]
 pub struct LaneEnds {
-    /// How many letters were posted, a close mark included, and how many of them were taken.
+    /// The number of letters posted, a close mark included, and the number of those taken.
     pub posted: u64,
     pub taken: u64,
     pub is_closed: bool,
@@ -35,7 +35,7 @@ impl LaneEnds {
         !self.is_closed && number == self.posted
     }
 
-    /// Records that an event of this lane stands at this place. `next` has, at the place of a letter's post, the place
+    /// Records an event of this lane at this place of the trace. `next` has, at the place of a letter's post, the place
     /// at which the lane's next letter was posted.
     pub fn record(&mut self, event: &TraceEvent, place: usize, next: &mut [usize])
         requires posted { self.old.posted + 1 < 2 ^ 64 }

@@ -5,7 +5,7 @@ use crate::events::TraceEvent;
 use crate::traces::{Trace, TraceRefusal};
 use std::sync::{Mutex, Wait};
 
-/// A trace under a lock. Whoever has the lock finds a legal list.
+/// A trace under a lock. Whoever takes the lock finds a legal list.
 #[derive(Drop)]
 pub struct SharedTrace {
     trace: Mutex<Trace>,
@@ -21,7 +21,7 @@ impl SharedTrace {
 
     /// Records an event as the last, and returns its place. It waits while another thread records.
     ///
-    /// The trace that it finds is what the threads that had the lock before left there. No clause says which that is.
+    /// It finds the trace that the threads that had the lock before left. No clause says which trace that is.
     pub fn record<R: Wait>(&self, rt: &R, event: TraceEvent) -> Result<usize, TraceRefusal>
         ensures { (found : TraceView) × (left : TraceView) × IsTrace found × IsTrace left × Records event result found left }
     {
@@ -39,7 +39,7 @@ impl SharedTrace {
     }
 }
 
-/// Records an event as the last, and answers its place.
+/// Records an event as the last, and returns its place.
 fn record_in(trace: &mut Trace, event: TraceEvent) -> Result<usize, TraceRefusal>
     ensures found { IsTrace trace.old }
     ensures left { IsTrace trace.new }

@@ -65,14 +65,14 @@ impl Trace {
         })
     }
 
-    /// How many ranks the lanes are between.
+    /// The number of ranks.
     pub fn ranks(&self) -> u16
         ensures { result ≡ self.now.ranks }
     {
         self.ranks
     }
 
-    /// How many events were recorded.
+    /// The number of events recorded.
     pub fn len(&self) -> usize
         ensures length { result ≡ length self.now.events }
         ensures legal { AreLegalEvents self.now.events }
@@ -82,7 +82,7 @@ impl Trace {
         self.events.len()
     }
 
-    /// Whether none was.
+    /// Whether no event was recorded.
     pub fn is_empty(&self) -> bool
         ensures { result ≡ true ↔ self.now.events ≡ [] }
     {
@@ -159,8 +159,8 @@ impl Trace {
         }
     }
 
-    /// Whether these are the ranks' own lists of what they did, one for each rank in order: the events of each in the
-    /// trace, in order, are its list. It looks at each event once for each rank.
+    /// Whether these are the ranks' own lists of what they did, one for each rank in order: each has exactly the events of
+    /// its rank in the trace, in order. It looks at each event once for each rank.
     pub fn matches(&self, logs: &[Vec<TraceEvent>]) -> bool
         ensures { result ≡ true ↔ AreLogsOf self.now (map (λ log. log.items) logs.now) }
     {

@@ -1,4 +1,4 @@
--- A step of one rank keeps the agreement of the whole.
+-- A step of one rank preserves the agreement of the whole system.
 use Rattle.std.proofs.Common.{◌≡◌, ◌≢◌, ℕ, ◌-◌, true, false, List, [], ◌∷◌, ◌++◌, refl, sym, ◌∙◌, ap, arith, subst, append-nil, append_assoc, inl, inr}
 use Rattle.std.specs.Prelude.{Some, IsSome, nat_lt, ◌==◌, ◌&&◌, slice_get}
 use Rattle.std.proofs.lemmas.Bool.Decides.{nat_tests}
@@ -19,14 +19,15 @@ use Rattle.cb_plan.specs.Programs.{halves_of, project_from}
 use Rattle.cb_plan.proofs.ShapesOfMeaning.{shapes_of_meaning}
 use Rattle.cb_rank.specs.Agreement.{IsSlotOf, System, LaneAgrees, Agrees, ends_marked}
 use Rattle.cb_rank.specs.Halves.{slot_at, slot_of_body}
-use Rattle.cb_rank.proofs.OwnActs.{split, meaning-next, letters-next}
+use Rattle.cb_plan.proofs.Effects.{split}
+use Rattle.cb_rank.proofs.OwnActs.{meaning-next, letters-next}
 use Rattle.cb_rank.proofs.ByOperation.{AllSome}
 use Rattle.cb_rank.proofs.Halves.{is_post, is_take, is_work, is_shut, is_end, copied, arrived_slot, some_by_shape, all_some, worked}
 use Rattle.cb_rank.proofs.NextAct.{act_of_half, next_sound, apart_of, apart_of_shut, not_true}
 use Rattle.cb_world.proofs.Lanes.{slot_later, lane_still, lane_posts, lane_takes}
 use Rattle.cb_world.proofs.SystemHalf.{Did, Moves}
 
--- what a rank has posted or taken is the beginning of the lane
+-- what a rank has posted or taken is a prefix of the letters of the lane
 pub letters_begin : {M : Type 0} (ops : Algebra M) (acts : List Act) (r k : ℕ) (state : State M) (s t : ℕ) → (rest : List (Tag × Cargo M)) × (letters ops (before acts r k) state s t ++ rest ≡ letters ops acts state s t)
 letters_begin ops [] r k state s t = ([], refl)
 letters_begin ops (a ∷ acts) r k state s t =
@@ -35,31 +36,31 @@ letters_begin ops (a ∷ acts) r k state s t =
     (λ u. (letters ops (a ∷ acts) state s t, rw u refl))
     (λ f. (i.0, rw f (append_assoc (letter_of a state s t) _ i.0 ∙ ap (λ x. letter_of a state s t ++ x) i.1)))
 
--- no mark is among the letters
+-- none of the letters is a close mark
 abbrev pub NoMark : {M : Type 0} → List (Tag × Cargo M) → Type 0
 NoMark [] = Unit {0}
 NoMark ((tag, Sheet m) ∷ ws) = NoMark ws
 NoMark ((tag, Mark) ∷ ws) = ⊥
 
--- letters of which none is a mark do not end with one
+-- letters without a close mark do not end with one
 pub unmarked : {M : Type 0} (ws : List (Tag × Cargo M)) → NoMark ws → ends_marked ws ≡ false
 unmarked [] h = refl
 unmarked ((tag, Sheet m) ∷ []) h = refl
 unmarked ((tag, Sheet m) ∷ (v ∷ ws)) h = unmarked (v ∷ ws) h
 unmarked ((tag, Mark) ∷ ws) h = absurd h
 
--- a lane that was shut is shut after an act too
+-- an act leaves a shut lane shut
 pub kept_shut : (a : Act) (shut : Lanes) (s t : ℕ) → shut s t ≡ true → shut_after a shut s t ≡ true
 kept_shut (act_is.Move from to tag slot into) shut s t e = e
 kept_shut (act_is.Work rank op) shut s t e = e
 kept_shut (act_is.Shut from to) shut s t e = split (from == s && to == t) (λ u. rw u refl) (λ u. rw u e)
 
--- a lane that is shut stays so
+-- acts leave a shut lane shut
 stays_shut : (acts : List Act) (shut : Lanes) (s t : ℕ) → shut s t ≡ true → lanes_after acts shut s t ≡ true
 stays_shut [] shut s t e = e
 stays_shut (a ∷ acts) shut s t e = stays_shut acts (shut_after a shut) s t (kept_shut a shut s t e)
 
--- where a lane is open after some acts, they put no mark on it
+-- if a lane is open after some acts, they put no close mark on it
 pub letters_unmarked : {M : Type 0} (ops : Algebra M) (acts : List Act) (state : State M) (shut : Lanes) (s t : ℕ) → lanes_after acts shut s t ≡ false → NoMark (letters ops acts state s t)
 letters_unmarked ops [] state shut s t e = tt
 letters_unmarked ops (act_is.Move from to tag slot into ∷ acts) state shut s t e =
@@ -95,7 +96,7 @@ module _ (s : Arithmetic) (acts : List Act) (first : State Sparse) (r : ℕ) (a 
   pub own_before : (n : ℕ) → IsSlotOf after.refusals (here r n) (now.slots r n)
   own_before n = slot_later now.refusals after.refusals _ (now.slots r n) steps.refusals (agrees.ranks r n)
 
-  -- the rank's slots, where they are what the act makes of them
+  -- the rank's slots, if they are what the act makes of them
   pub ranks_agree : ((n : ℕ) → IsSlotOf after.refusals (act ops a here r n) (after.slots r n)) → (q n : ℕ) → IsSlotOf after.refusals (meaning ops (before acts q (after.done q)) first q n) (after.slots q n)
   ranks_agree own q n =
       split (q == r)
@@ -124,7 +125,7 @@ module _ (s : Arithmetic) (acts : List Act) (first : State Sparse) (r : ℕ) (a 
       (λ u. let e : t ≡ r = grind (arith, nat_tests) in let e2 = rw e at none in rw e (received_grows f ∙ (rw e2 (append-nil _))))
       (λ u. same_elsewhere t f t (grind (arith, nat_tests)))
 
-  -- a lane on which the act puts nothing
+  -- a lane on which the act posts nothing
   pub lane_stays : (f t : ℕ) → f ≢ t → letter_of a here f t ≡ [] → after.lane f t ≡ now.lane f t → LaneAgrees (at f after.done f t) (at t after.done f t) after.refusals f t (after.lane f t)
   lane_stays f t ne none stays =
       rw stays
@@ -233,7 +234,7 @@ module _ (s : Arithmetic) (acts : List Act) (first : State Sparse) (r : ℕ) (a 
 module _ (s : Arithmetic) (ranks : ℕ) (acts : List Act) (first : State Sparse) (r : ℕ) (a : Act) (sh : State Extent) (shut : Lanes) (now after : System Sparse) (is : next_act acts r (now.done r) ≡ Some a) (sound : IsSound ranks sh shut a)
     (same : (q n : ℕ) → sh q n ≡ one (λ (m : Sparse). m.shape) (meaning (matrices s) (before acts r (now.done r)) first q n))
     (unshut : (t : ℕ) → shut r t ≡ false → ends_marked (letters (matrices s) (before acts r (now.done r)) first r t) ≡ false) where
-  -- whichever half a rank does, the agreement goes on
+  -- whichever half a rank does, the agreement is preserved
   pub step_by_half : (h : Half) → halves_of sh a r ≡ h ∷ [] → Moves s r h now after → Agrees (matrices s) acts first now → Agrees (matrices s) acts first after
   step_by_half (half_is.Post to tag slot) e steps agrees =
       let k = is_post sh a r to tag slot e in
@@ -257,7 +258,7 @@ module _ (s : Arithmetic) (ranks : ℕ) (acts : List Act) (first : State Sparse)
       let x = subst (λ b. IsSound ranks sh shut b) k sound in
       end_agrees s acts first r a (half_is.End from) now after is steps agrees from k (apart_of_shut ranks sh shut from r x) steps.half
 
--- a rank's next half keeps the agreement, in a plan that passes the check
+-- a rank's next half preserves the agreement, in a plan that passes the check
 pub step_agrees : (s : Arithmetic) (ranks : ℕ) (acts : List Act) (first : State Sparse) (r : ℕ) (h : Half) (now after : System Sparse) → Passes ranks (images (λ (m : Sparse). m.shape) first) none_shut acts → slice_get (project_from (images (λ (m : Sparse). m.shape) first) acts r) (now.done r) ≡ Some h → Moves s r h now after → Agrees (matrices s) acts first now → Agrees (matrices s) acts first after
 step_agrees s ranks acts first r h now after passes next steps agrees =
     let start : State Extent = images (λ (m : Sparse). m.shape) first in

@@ -1,4 +1,4 @@
--- The mailbox of a rank, read by its number, and the mailboxes as they are made.
+-- The mailbox of a rank, read by its number, and the loop that opens the mailboxes.
 use Rattle.std.proofs.Common.{ℕ, ◌≡◌, ◌≢◌, ◌<◌, ◌+◌, ◌-◌, Bool, true, false, List, [], ◌∷◌, ◌++◌, length, refl, ◌∙◌, ap, arith, if◌then◌else◌, length-append}
 use Rattle.std.specs.Prelude.{slice_index_or, ◌==◌}
 use Rattle.std.proofs.lemmas.List.{get_or_append_left}
@@ -9,13 +9,10 @@ use Rattle.cb_letters.specs.declared.Taken.TheVariants as taken_is
 use Rattle.cb_letters.specs.Letters.{is_close}
 use Rattle.cb_letters.specs.Lane.{new_lane, answer_at}
 use Rattle.cb_mailbox.specs.Inbox.{Inbox, lane_from, is_stranger}
+use Rattle.cb_plan.proofs.Effects.{split}
 use Rattle.cb_world.specs.Ends.{EndsView, IsEnds, box_in, is_out}
 use Rattle.cb_world.specs.EndLaws.{known_there}
 use Rattle.cb_world.specs.Starting.{AreNewBoxes}
-
-split : {Q : Type 0} (b : Bool) → (b ≡ true → Q) → (b ≡ false → Q) → Q
-split true t f = t refl
-split false t f = f refl
 
 module _ {P : Type 0} where
   -- a rank is no stranger in the mailbox of another, read by its number
@@ -27,19 +24,19 @@ module _ {P : Type 0} where
       let it = known_there ends to x sound out read in
       (it.0, it.1)
 
-  -- a take from a lane answers something
+  -- a take from a lane doesn't return `Stranger`
   pub not_stranger : (closed : Bool) (xs : List (Letter P)) → answer_at closed xs ≡ taken_is.Stranger → ⊥
   not_stranger true [] e = cc
   not_stranger false [] e = cc
   not_stranger closed (x ∷ xs) e = split (is_close x.body) (λ t. let f = rw t at e in cc) (λ t. let f = rw t at e in cc)
 
-  -- the mailbox of rank `t`, as it is made
+  -- the mailbox of rank `t` is new
   pub record IsNewBox (ranks capacity t : ℕ) (b : Inbox P) : Type 0 where
     pub owner : b.me ≡ t
     pub lanes : length b.lanes ≡ ranks
     pub new : (from : ℕ) → lane_from b from ≡ new_lane (if is_stranger b from then 0 else capacity)
 
-  -- those of the first ranks
+  -- the mailboxes of the first ranks are new
   pub record AreFirstBoxes (ranks capacity n : ℕ) (boxes : List (Inbox P)) : Type 0 where
     pub size : length boxes ≡ n
     pub each : (t : ℕ) → t < n → IsNewBox ranks capacity t (box_in boxes t)

@@ -44,7 +44,7 @@ one_rank s w after r (half_is.Shut to) did =
 one_rank s w after r (half_is.End from) did =
     record { rank = onward (rank_of w r) (rank_of w r).slots (rank_of w r).refusals; slots = (rank_of w r).slots; refusals = (rank_of w r).refusals; boxes = boxes_after w.boxes from r; is = did.3; onward_is = refl; size = same_length w.boxes from r _ }
 
--- one half less remains
+-- after a half one half fewer remains
 pub does_lower : (s : Arithmetic) (w after : WorldView) (r : ℕ) (h : Half) → IsWorld s w → r < w.plan.ranks → next_of w r ≡ Some h → DoesIn s r h w after → remaining after + 1 ≡ remaining w
 does_lower s w after r h sound inside next did =
     let one = one_rank s w after r h did in
@@ -79,7 +79,7 @@ does_stay s w after r h did =
 same_stays : (w after : WorldView) → after ≡ w → Stays w after
 same_stays w after e = record { plan = ap (λ (x : WorldView). x.plan) e; first = ap (λ (x : WorldView). x.first) e; capacity = ap (λ (x : WorldView). x.capacity) e; ranks = ap (λ (x : WorldView). length x.ranks) e; boxes = ap (λ (x : WorldView). length x.boxes) e }
 
--- what never changes stays in a step, whether its rank waits or does its half
+-- a step keeps what no step changes, whether its rank waits or does its half
 pub steps_stay : (s : Arithmetic) (w after : WorldView) (r : ℕ) (next : Option Half) (moved : Moved) → StepsBy s r next moved w after → Stays w after
 steps_stay s w after r None moved steps = same_stays w after steps.1
 steps_stay s w after r (Some h) moved (inl waits) = same_stays w after waits.2
@@ -88,13 +88,13 @@ steps_stay s w after r (Some h) moved (inr did) = does_stay s w after r h did.2
 stays_trans : (a b c : WorldView) → Stays a b → Stays b c → Stays a c
 stays_trans a b c x y = record { plan = y.plan ∙ x.plan; first = y.first ∙ x.first; capacity = y.capacity ∙ x.capacity; ranks = y.ranks ∙ x.ranks; boxes = y.boxes ∙ x.boxes }
 
--- it stays in a run of any number of events
+-- a run of any number of events keeps it
 pub runs_stay : (s : Arithmetic) (es : List Event) (w after : WorldView) → RunsBy s es w after → Stays w after
 runs_stay s [] w after runs = same_stays w after runs
 runs_stay s (e ∷ es) w after runs =
     stays_trans w runs.1 after (steps_stay s w runs.1 (rank_in e) (next_of w (rank_in e)) runs.0 runs.2.half) (runs_stay s es runs.1 after runs.3)
 
--- a run that goes on by one event more
+-- a run with one more event
 pub runs_more : (s : Arithmetic) (es : List Event) (e : Event) (moved : Moved) (w mid after : WorldView) → RunsBy s es w mid → Steps s e moved mid after → RunsBy s (es ++ e ∷ []) w after
 runs_more s [] e moved w mid after runs steps = (moved, after, rw (← runs) steps, refl)
 runs_more s (f ∷ es) e moved w mid after runs steps = (runs.0, runs.1, runs.2, runs_more s es e moved runs.1 mid after runs.3 steps)
@@ -105,7 +105,7 @@ finishes_run s [] w after runs = runs
 finishes_run s (event_is.Step r ∷ es) w after runs = (runs.1, runs.2, runs.3, finishes_run s es runs.2 after runs.4)
 finishes_run s (event_is.Starve r ∷ es) w after runs = absurd runs
 
--- one that goes on by the least rank that can act
+-- a run to the end with one more step of the least rank that can act
 pub finishes_more : (s : Arithmetic) (es : List Event) (r : ℕ) (moved : Moved) (w mid after : WorldView) → FinishesBy s es w mid → IsReady mid (Some r) → Steps s (event_is.Step r) moved mid after → FinishesBy s (es ++ event_is.Step r ∷ []) w after
 finishes_more s [] r moved w mid after runs ready steps = (rw (← runs) ready, moved, after, rw (← runs) steps, refl)
 finishes_more s (event_is.Step q ∷ es) r moved w mid after runs ready steps = (runs.0, runs.1, runs.2, runs.3, finishes_more s es r moved runs.2 mid after runs.4 ready steps)

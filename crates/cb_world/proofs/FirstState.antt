@@ -1,4 +1,4 @@
--- A world in which nothing is done agrees with its plan and first state.
+-- A world in which nothing is done agrees with its plan and its first stores.
 use Rattle.std.proofs.Common.{◌≡◌, ◌≢◌, ℕ, ◌<◌, ◌≤◌, ◌^◌, false, List, [], refl, sym, ◌∙◌, ap, subst, arith, inl, inr}
 use Rattle.std.specs.Prelude.{nat_lt, get_or}
 use Rattle.std.proofs.lemmas.Bool.Decides.{nat_tests}
@@ -16,7 +16,8 @@ use Rattle.cb_plan.specs.PlanTables.{cell}
 use Rattle.cb_rank.specs.Agreement.{IsSlotOf, LaneAgrees}
 use Rattle.cb_rank.specs.Halves.{slot_at}
 use Rattle.cb_rank.specs.Ranks.{RankView, IsRank}
-use Rattle.cb_rank.proofs.OwnActs.{split, meaning-before_next, letters-before_next}
+use Rattle.cb_plan.proofs.Effects.{split}
+use Rattle.cb_rank.proofs.OwnActs.{meaning-before_next, letters-before_next}
 use Rattle.cb_rank.proofs.RankAfterHalf.{starts_as, fits_at}
 use Rattle.cb_mailbox.specs.Inbox.{Inbox, lane_from}
 use Rattle.cb_world.specs.Ends.{box_in}
@@ -40,7 +41,7 @@ module _ (s : Arithmetic) (p : CheckedView) (stores : List (List (Slot Sparse)))
       (λ t. ap (λ (x : RankView). x.done) (fresh.ranks r (grind (arith, nat_tests))))
       (λ f. ap (λ (x : RankView). x.done) (none_there r (grind (arith, nat_tests))))
 
-  -- a store of no rank is empty, as is the rank
+  -- a rank's slots are those of its store, also if the rank doesn't exist: then both are empty
   slots_are : (r n : ℕ) → slot_at (rank_of w r).slots n ≡ cell slot_is.Empty stores r n
   slots_are r n =
       split (nat_lt r p.ranks)
@@ -51,7 +52,7 @@ module _ (s : Arithmetic) (p : CheckedView) (stores : List (List (Slot Sparse)))
       let none : get_or stores r [] ≡ [] = get_or_past stores r [] (omega arith) in
       ap (λ (x : RankView). slot_at x.slots n) (none_there r past) ∙ ap (λ xs. slot_at xs n) (sym none))
 
-  -- and a lane from or to no rank is new
+  -- a lane from or to a rank that doesn't exist is new
   lane_is_new : (f t : ℕ) → f ≢ t → (places : ℕ) × (lane_between w f t ≡ new_lane places)
   lane_is_new f t ne =
       let size = fresh.sizes.1 in
@@ -72,7 +73,7 @@ module _ (s : Arithmetic) (p : CheckedView) (stores : List (List (Slot Sparse)))
       let is = fresh.ranks r inside in
       (ap (λ (x : RankView). x.plan) is, ap (λ (x : RankView). x.me) is, subst (λ x. IsRank x) (sym is) (starts_as p r (get_or stores r []) checked inside (fits_at p.ranks p.starts stores r fits inside)))
 
--- such a world is one
+-- a world in which nothing is done satisfies `IsWorld`
 pub begins : (s : Arithmetic) (p : CheckedView) (stores : List (List (Slot Sparse))) (c : ℕ) (w : WorldView) → IsChecked p → Fits p.ranks p.starts stores → p.ranks < 2 ^ 16 → 1 ≤ c → IsNewWorld p stores c w → IsWorld s w
 begins s p stores c w checked fits few low fresh =
     let ranks : w.plan.ranks ≡ p.ranks = ap (λ (x : CheckedView). x.ranks) fresh.plan in

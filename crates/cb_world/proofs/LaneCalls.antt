@@ -1,4 +1,4 @@
--- The calls of its mailboxes that the ranks of a world make, and what becomes of the letters.
+-- The calls that the ranks of a world make of its mailboxes, and what becomes of the letters.
 use Rattle.std.proofs.Common.{◌≡◌, ◌≢◌, ℕ, ◌<◌, true, false, List, [], ◌∷◌, ◌++◌, length, refl, sym, ◌∙◌, ap, subst, arith, inl, inr}
 use Rattle.std.specs.Prelude.{Option, Some, None, ◌==◌, nat_lt, map, filter, slice_set}
 use Rattle.std.proofs.lemmas.Bool.Decides.{nat_tests}
@@ -24,7 +24,7 @@ use Rattle.cb_plan.specs.declared.acts.Half.TheVariants as half_is
 use Rattle.cb_rank.specs.declared.wants.Moved.{Moved}
 use Rattle.cb_rank.specs.declared.wants.Moved.TheVariants as moved_is
 use Rattle.cb_rank.specs.Steps.{moved_by}
-use Rattle.cb_rank.proofs.OwnActs.{split}
+use Rattle.cb_plan.proofs.Effects.{split}
 use Rattle.cb_rank.proofs.Ports.{opens_post, opens_shut}
 use Rattle.cb_world.specs.declared.events.Event.{Event}
 use Rattle.cb_world.specs.Ends.{box_in, boxes_with, boxes_after, standing}
@@ -49,7 +49,7 @@ boxes_sound s w sound t below from known =
     let lanes = has.lanes in
     subst (λ n. IsLane from n (lane_between w from t)) (sym has.number) (has.sound from (omega arith) (λ e. there.1 (e ∙ sym has.number)))
 
--- many calls after many others
+-- a list of calls after another
 after_all-join : (box : Inbox Sparse) (xs ys : List (Call Sparse)) → after_all box (xs ++ ys) ≡ after_all (after_all box xs) ys
 after_all-join box [] ys = refl
 after_all-join box (x ∷ xs) ys = after_all-join (after box x) xs ys
@@ -68,7 +68,7 @@ answers_from-append t xs ys =
     let mine = λ (x : Exchange). x.to == t in
     ap (map (λ (x : Exchange). x.answered)) (filter-append mine xs ys) ∙ map-append (λ (x : Exchange). x.answered) (filter mine xs) (filter mine ys)
 
--- what the calls among these do of rank t's mailbox
+-- what the calls of rank t's mailbox do to it
 record Goes (old new : List (Inbox Sparse)) (xs : List Exchange) (t : ℕ) : Type 0 where
   after_is : box_in new t ≡ after_all (box_in old t) (calls_to t xs)
   answers : answers_from t xs ≡ answers_to (box_in old t) (calls_to t xs)
@@ -98,7 +98,7 @@ goes_both old mid new xs ys t a b = record {
       ∙ sym (ap (answers_to (box_in old t)) (calls_to-append t xs ys) ∙ answers_to-join (box_in old t) (calls_to t xs) (calls_to t ys));
 }
 
--- a step that answers so calls no mailbox
+-- a step with this result calls no mailbox
 abbrev IsStill : Moved → Type 0
 IsStill moved_is.Worked = Unit {0}
 IsStill moved_is.Waiting = Unit {0}
@@ -123,7 +123,7 @@ step_goes s r half moved_is.Took xs w new t steps calls below = subst (λ ys. Go
 step_goes s r half moved_is.Closed xs w new t steps calls below = subst (λ ys. Goes w.boxes new.boxes ys t) (sym calls.1) (goes_one w.boxes new.boxes calls.0 t below calls.3)
 step_goes s r half moved_is.Drained xs w new t steps calls below = subst (λ ys. Goes w.boxes new.boxes ys t) (sym calls.1) (goes_one w.boxes new.boxes calls.0 t below calls.3)
 
--- the calls of a run leave each mailbox as its own calls do
+-- a run leaves each mailbox as the calls of that mailbox do
 run_goes : (s : Arithmetic) (es : List Event) (xs : List Exchange) (w new : WorldView) (t : ℕ) → AreCallsOf s es xs w new → t < length w.boxes → Goes w.boxes new.boxes xs t
 run_goes s [] xs w new t run below = goes_none w.boxes new.boxes xs t (ap (λ (y : WorldView). y.boxes) run.1) run.0
 run_goes s (e ∷ es) xs w new t (moved, mid, first, rest, is, steps, calls, more) below =
@@ -161,7 +161,7 @@ module _ (s : Arithmetic) (es : List Event) (xs : List Exchange) (w new : WorldV
       let g = box_goes t below in
       rw (g.after_is, g.answers) (given_out (box_in w.boxes t) (calls_to t xs) (boxes_sound s w sound t below))
 
--- a lane on which nothing stands against a post, and with room, refuses none
+-- a lane with room refuses no post if nothing else does
 granted_by : (l : Lane Sparse) (k : Standing) → k.is_stranger ≡ false → k.is_closed ≡ l.closed → k.posted ≡ posted l → standing_refusal k ≡ None → HasRoom l → refusal l ≡ None
 granted_by l k known same counted none room =
     let unshut : l.closed ≡ false = sym same ∙ not_closed k none in
@@ -174,7 +174,7 @@ module _ (s : Arithmetic) (w : WorldView) (r to : ℕ) (sound : IsWorld s w) (in
   no_stranger : (f t : ℕ) → f < w.plan.ranks → t < w.plan.ranks → f ≢ t → is_stranger (box_in w.boxes t) f ≡ false
   no_stranger f t i j ne = let has = sound.boxes t j in rw (has.number, has.lanes) (grind (arith, nat_tests))
 
-  -- where nothing stands against a post the mailbox of the addressee takes the letter
+  -- if nothing refuses a post, the mailbox of the addressee accepts the letter
   posts_made : (tag : Tag) (body : Body Sparse) → standing_refusal (standing (record { me = r; boxes = w.boxes }) to) ≡ None → (standing (record { me = r; boxes = w.boxes }) to).is_stranger ≡ false → length (lane_between w r to).queue < w.capacity
       → boxes_with w.boxes (letter_to w r to tag body) ≡ slice_set w.boxes to (after (box_in w.boxes to) (call_is.Post r tag body))
   posts_made tag body none known room =
@@ -194,7 +194,7 @@ module _ (s : Arithmetic) (w : WorldView) (r to : ℕ) (sound : IsWorld s w) (in
   takes_made : boxes_after w.boxes to r ≡ slice_set w.boxes r (after (box_in w.boxes r) (call_is.Take to))
   takes_made = let known = no_stranger to r there inside (λ e. apart (sym e)) in rw known refl
 
--- a half that is done calls a mailbox, or none
+-- the call that a rank makes for its half, if any
 half_calls : (s : Arithmetic) (w new : WorldView) (r : ℕ) (h : Half) → IsWorld s w → r < w.plan.ranks → next_of w r ≡ Some h → CanDo w r (Some h) → DoesIn s r h w new → (xs : List Exchange) × Calls r (Some h) (moved_by h) xs w.boxes new.boxes
 half_calls s w new r (half_is.Work op) sound inside next can did = ([], refl)
 half_calls s w new r (half_is.Post to tag slot) sound inside next can did =
@@ -220,7 +220,7 @@ half_calls s w new r (half_is.End from) sound inside next can did =
     let x : Exchange = record { to = r; call = call; answered = answer (box_in w.boxes r) call } in
     (x ∷ [], (x, refl, (refl, refl), (refl, ap (λ (y : WorldView). y.boxes) did.3 ∙ takes_made s w r from sound inside f.0 (λ e. f.1 (sym e)))))
 
--- what a step calls, and the world goes on as one
+-- the calls of a step, and that it leaves a world
 step_calls : (s : Arithmetic) (w new : WorldView) (r : ℕ) (half : Option Half) (moved : Moved) → IsWorld s w → next_of w r ≡ half → StepsBy s r half moved w new → ((xs : List Exchange) × Calls r half moved xs w.boxes new.boxes) × IsWorld s new
 step_calls s w new r None moved sound next steps = (([], subst (λ m. Calls r None m [] w.boxes new.boxes) (sym steps.0) refl), subst (IsWorld s) (sym steps.1) sound)
 step_calls s w new r (Some h) moved sound next (inl waits) = (([], subst (λ m. Calls r (Some h) m [] w.boxes new.boxes) (sym waits.0) refl), subst (IsWorld s) (sym waits.2) sound)
@@ -234,7 +234,7 @@ step_calls s w new r (Some h) moved sound next (inr did) =
     ((made.0, subst (λ m. Calls r (Some h) m made.0 w.boxes new.boxes) (sym did.0) made.1), does_keep s w new r h sound inside next did.2))
     (λ f. let none = sym next ∙ no_next w r (grind (arith, nat_tests)) in cc)
 
--- each run makes calls
+-- every run has its list of calls
 pub run_calls : (s : Arithmetic) (es : List Event) (w new : WorldView) → IsWorld s w → RunsBy s es w new → (xs : List Exchange) × AreCallsOf s es xs w new
 run_calls s [] w new sound runs = ([], (refl, runs))
 run_calls s (e ∷ es) w new sound (moved, mid, steps, more) =

@@ -1,5 +1,5 @@
--- What a rank's next half asks of its lanes: the other rank exists and is another, and the half can be done where
--- there is room, or where a letter is queued.
+-- What a rank's next half needs of its lanes: the other rank exists and is another one, and the half can be done if
+-- there is room, or if a letter is queued.
 use Rattle.std.proofs.Common.{ℕ, ◌≡◌, ◌≢◌, ◌<◌, ◌+◌, List, length, slice_index_or, refl, sym, ◌∙◌, ap, subst, arith, IsTrue, inl, inr}
 use Rattle.std.specs.Prelude.{Option, Some, None, Ok, Err, ◌↔◌, ◌==◌, nat_lt}
 use Rattle.std.proofs.lemmas.Bool.Decides.{nat_tests}
@@ -18,13 +18,13 @@ use Rattle.cb_world.specs.Worlds.{WorldView, IsWorld, no_rank, rank_of, next_of,
 use Rattle.cb_world.specs.WorldSteps.{DoesIn, Steps, StepsBy, RunsBy, rank_in}
 use Rattle.cb_world.specs.declared.events.Event.{Event}
 use Rattle.cb_world.specs.declared.events.Event.TheVariants as event_is
-use Rattle.cb_rank.proofs.OwnActs.{split}
+use Rattle.cb_plan.proofs.Effects.{split}
 use Rattle.cb_world.proofs.NoDeadlock.{no_next}
 use Rattle.cb_world.proofs.Changes.{does_lower, steps_stay, runs_stay}
 use Rattle.cb_world.proofs.NextHalf.{finds_half}
 use Rattle.cb_world.proofs.OneStep.{Came}
 
--- a list read at a place, whatever stands for what is past its end
+-- an element of a list, whatever stands for one past the end
 pub read_at : {X : Type 0} (xs : List X) (i : ℕ) (x d : X) → i < length xs → x ≡ slice_index_or xs i x → x ≡ slice_index_or xs i d
 read_at xs i x d l e = e ∙ same_Some _ _ (sym (slice_get-get_or xs i x l) ∙ slice_get-get_or xs i d l)
 
@@ -62,7 +62,7 @@ module _ (s : Arithmetic) (w : WorldView) (sound : IsWorld s w) (r : ℕ) (x : R
   can : (half : Option Half) → next_of w r ≡ half → CanDo w r half ↔ CanAct w r
   can half e = (λ h. subst (CanDo w r) (sym e) h, λ h. subst (CanDo w r) e h)
 
-  -- a rank that wants to post can act just where the lane to the other rank has room
+  -- a rank that wants to post can act exactly if the lane to the other rank has room
   pub at_post : (to : ℕ) → want_of (next_half x) ≡ want_is.Post to → AreTwo to × (HasRoom (lane_between w r to) ↔ CanAct w r)
   at_post to e =
       let it = wants_post_to (next_half x) to e in
@@ -73,7 +73,7 @@ module _ (s : Arithmetic) (w : WorldView) (sound : IsWorld s w) (r : ℕ) (x : R
       let b = can (Some half) is in
       (two to f.0 f.1, (λ h. b.0 (a.0 h), λ h. a.1 (b.1 h)))
 
-  -- one that wants to shut a lane can act just where that lane has room
+  -- a rank that wants to shut a lane can act exactly if that lane has room
   pub at_shut : (to : ℕ) → want_of (next_half x) ≡ want_is.Shut to → AreTwo to × (HasRoom (lane_between w r to) ↔ CanAct w r)
   at_shut to e =
       let half : Half = half_is.Shut to in
@@ -83,7 +83,7 @@ module _ (s : Arithmetic) (w : WorldView) (sound : IsWorld s w) (r : ℕ) (x : R
       let b = can (Some half) is in
       (two to f.0 f.1, (λ h. b.0 (a.0 h), λ h. a.1 (b.1 h)))
 
-  -- one that wants a letter can act just where one waits on the lane from the other rank
+  -- a rank that wants a letter can act exactly if one is queued on the lane from the other rank
   pub at_take : (from : ℕ) → want_of (next_half x) ≡ want_is.Take from → AreTwo from × ((0 < length (lane_between w from r).queue) ↔ CanAct w r)
   at_take from e =
       let it = wants_take (next_half x) from e in
@@ -92,7 +92,7 @@ module _ (s : Arithmetic) (w : WorldView) (sound : IsWorld s w) (r : ℕ) (x : R
       let f = finds_half s w r half sound inside is in
       (two from f.0 (λ z. f.1 (sym z)), can (Some half) is)
 
-  -- one that wants the end of a lane can act just where a letter waits there
+  -- a rank that wants the end of a lane can act exactly if a letter is queued there
   pub at_end : (from : ℕ) → want_of (next_half x) ≡ want_is.End from → AreTwo from × ((0 < length (lane_between w from r).queue) ↔ CanAct w r)
   at_end from e =
       let half : Half = half_is.End from in
@@ -106,7 +106,7 @@ module _ (s : Arithmetic) (w : WorldView) (sound : IsWorld s w) (r : ℕ) (x : R
   pub at_done : want_of (next_half x) ≡ want_is.Done → ¬ CanAct w r
   at_done e c = (can None (next None (wants_nothing (next_half x) e))).1 c
 
--- a number passes the test for zero just where it is zero
+-- a number passes the test for zero exactly if it is zero
 pub zero_test : (n : ℕ) → IsTrue (n == 0) ↔ (n ≡ 0)
 zero_test n = (λ t. grind (arith, nat_tests), λ e. grind (arith, nat_tests))
 
@@ -114,14 +114,14 @@ moved_in : Answer → Moved → Moved
 moved_in (Ok m) other = m
 moved_in (Err e) other = other
 
--- a step of the world, by the answer that its rank gave
+-- a step of the world, by the result of its rank's step
 pub came_as : (s : Arithmetic) (w : WorldView) (r : ℕ) (answer : Answer) (after : WorldView) (m : Moved) → Came s w r answer after → answer ≡ Ok m → StepsBy s r (next_of w r) m w after
 unfolding moved_in
 came_as s w r answer after m came e =
     let same : came.moved ≡ m = ap (λ a. moved_in a m) (sym came.answer_is ∙ e) in
     subst (λ m. StepsBy s r (next_of w r) m w after) same came.steps
 
--- one half less remains after a half of a rank
+-- after a half of a rank one half fewer remains
 lowers : (s : Arithmetic) (w after : WorldView) (r : ℕ) (h : Half) → IsWorld s w → next_of w r ≡ Some h → DoesIn s r h w after → remaining after + 1 ≡ remaining w
 lowers s w after r h sound next did =
     split (nat_lt r (length w.ranks))
@@ -136,7 +136,7 @@ acts s w after r None m sound next can steps = absurd (subst (CanDo w r) next ca
 acts s w after r (Some h) m sound next can (inl waits) = absurd (waits.1 can)
 acts s w after r (Some h) m sound next can (inr did) = let less = lowers s w after r h sound next did.2 in omega arith
 
--- less remains after a step of a rank that can act
+-- a step of a rank that can act lowers what remains
 pub acts_lower : (s : Arithmetic) (w after : WorldView) (r : ℕ) (m : Moved) → IsWorld s w → CanAct w r → Steps s (event_is.Step r) m w after → remaining after < remaining w
 acts_lower s w after r m sound can steps = acts s w after r (next_of w r) m sound refl can steps.half
 
@@ -146,7 +146,7 @@ falls s w after r None m sound next steps waits idles = absurd (idles steps.0)
 falls s w after r (Some h) m sound next (inl held) waits idles = absurd (waits held.0)
 falls s w after r (Some h) m sound next (inr did) waits idles = lowers s w after r h sound next did.2
 
--- no step changes the plan and the first state
+-- no step changes the plan and the first stores
 abbrev pub Keeps : WorldView → WorldView → Type 0
 Keeps w after = (after.plan ≡ w.plan) × (after.first ≡ w.first)
 
@@ -155,6 +155,6 @@ step_keeps s event m w after steps =
     let stay = steps_stay s w after (rank_in event) (next_of w (rank_in event)) m steps.half in
     (stay.plan, stay.first)
 
--- nor does a run of any number of events
+-- no run of events changes them
 pub run_keeps : (s : Arithmetic) (events : List Event) (w after : WorldView) → RunsBy s events w after → Keeps w after
 run_keeps s events w after runs = let stay = runs_stay s events w after runs in (stay.plan, stay.first)

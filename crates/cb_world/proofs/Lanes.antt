@@ -13,7 +13,7 @@ use Rattle.cb_plan.specs.declared.stores.Slot.TheVariants as slot_is
 use Rattle.cb_plan.specs.PlanLetters.{Cargo, Sheet, Mark}
 use Rattle.cb_rank.specs.Agreement.{IsSlotOf, IsBodyOf, AreLettersOf, ends_marked, LaneAgrees}
 
--- more refusals don't break an agreement
+-- an agreement holds with higher counts of refusals too
 pub slot_later : {M : Type 0} (r r' : ℕ → ℕ) (w : Option M) (x : Slot M) → ((o : ℕ) → r o ≤ r' o) → IsSlotOf r w x → IsSlotOf r' w x
 slot_later r r' w slot_is.Empty g h = h
 slot_later r r' w (slot_is.Sheet m) g h = h
@@ -53,7 +53,7 @@ mark_last ((t, Sheet m) ∷ []) w = mark_last [] w
 mark_last ((t, Mark) ∷ (v ∷ ws)) w = mark_last (v ∷ ws) w
 mark_last ((t, Sheet m) ∷ (v ∷ ws)) w = mark_last (v ∷ ws) w
 
--- a step that posts and takes nothing here
+-- a step that posts and takes nothing on this lane
 pub lane_still : {M : Type 0} (r r' : ℕ → ℕ) (sent sent' received received' : List (Tag × Cargo M)) (from to : ℕ) (l : Lane M) → ((o : ℕ) → r o ≤ r' o) → sent' ≡ sent → received' ≡ received → LaneAgrees sent received r from to l → LaneAgrees sent' received' r' from to l
 lane_still r r' sent sent' received received' from to l g es er h = record {
   counted = rw er h.counted;
@@ -77,14 +77,14 @@ lane_posts r r' sent sent' received from to l w x g es unshut a tag body h = rec
   );
 }
 
--- the first letter that waits is the next one of the lane
+-- the oldest queued letter is the next one of the lane
 pub first_waiting : {L : Type 0} (sent received waiting whole after_sent after_received : List L) (v w : L) → received ++ v ∷ waiting ≡ sent → sent ++ after_sent ≡ whole → (received ++ w ∷ []) ++ after_received ≡ whole → v ≡ w
 first_waiting sent received waiting whole after_sent after_received v w e s r =
     let both : received ++ (v ∷ (waiting ++ after_sent)) ≡ received ++ (w ∷ after_received) = sym (append_assoc received (v ∷ waiting) after_sent) ∙ (rw e s) ∙ sym (rw (append_assoc received (w ∷ []) after_received) at r) in
     let tails = append_cancel_left received (v ∷ (waiting ++ after_sent)) (w ∷ after_received) both in
     cc
 
--- the letter taken is the one that the plan says, and the rest goes on waiting
+-- the letter taken is the plan's, and the rest stays queued
 took : {M : Type 0} (r r' : ℕ → ℕ) (sent received received' whole after_sent after_received : List (Tag × Cargo M)) (from to n : ℕ) (queue : List (Letter M)) (w : Tag × Cargo M) (x : Letter M) (waiting : List (Tag × Cargo M)) → ((o : ℕ) → r o ≤ r' o) → sent ++ after_sent ≡ whole → received' ++ after_received ≡ whole → received' ≡ received ++ w ∷ [] → received ++ waiting ≡ sent → AreLettersOf r from to n waiting (x ∷ queue) → (x.tag ≡ w.0) × IsBodyOf r w.1 x.body × ((rest : List (Tag × Cargo M)) × (received' ++ rest ≡ sent) × AreLettersOf r' from to (n + 1) rest queue)
 took r r' sent received received' whole after_sent after_received from to n queue w x [] g s_whole r_whole er ew m = absurd m
 took r r' sent received received' whole after_sent after_received from to n queue w x (v ∷ waiting) g s_whole r_whole er ew m =
@@ -94,7 +94,7 @@ took r r' sent received received' whole after_sent after_received from to n queu
       (waiting, rw (er, ← same) (append_assoc received (v ∷ []) waiting ∙ ew), letters_later r r' from to (n + 1) waiting queue g m.3),
     )
 
--- the letter at the head of a lane has the tag and the body that the plan says, and without it the lane agrees still
+-- the oldest letter of a lane has the plan's tag and body, and the lane still agrees without it
 pub lane_takes : {M : Type 0} (r r' : ℕ → ℕ) (sent received received' whole after_sent after_received : List (Tag × Cargo M)) (from to : ℕ) (l l' : Lane M) (w : Tag × Cargo M) (x : Letter M) → ((o : ℕ) → r o ≤ r' o) → sent ++ after_sent ≡ whole → received' ++ after_received ≡ whole → received' ≡ received ++ w ∷ [] → l.queue ≡ x ∷ l'.queue → l'.taken ≡ l.taken + 1 → l'.closed ≡ l.closed → LaneAgrees sent received r from to l → (x.tag ≡ w.0) × IsBodyOf r w.1 x.body × LaneAgrees sent received' r' from to l'
 lane_takes r r' sent received received' whole after_sent after_received from to l l' w x g s_whole r_whole er eq et ec h =
     let letters : AreLettersOf r from to l.taken h.waits.0 (x ∷ l'.queue) = subst (λ q. AreLettersOf r from to l.taken h.waits.0 q) eq h.waits.2 in

@@ -24,14 +24,15 @@ use Rattle.cb_rank.specs.Agreement.{IsSlotOf, AreLettersOf}
 use Rattle.cb_rank.specs.Halves.{slot_at}
 use Rattle.cb_rank.specs.Leavings.{HoldsMeaning}
 use Rattle.cb_rank.specs.Ranks.{RankView}
-use Rattle.cb_rank.proofs.OwnActs.{split, counted}
+use Rattle.cb_plan.proofs.Effects.{split}
+use Rattle.cb_rank.proofs.OwnActs.{counted}
 use Rattle.cb_rank.proofs.NextAct.{both_below}
 use Rattle.cb_rank.proofs.LostSlots.{whole_by}
 use Rattle.cb_world.specs.Worlds.{WorldView, IsWorld, no_rank, rank_of, lane_between, system_of, AllDone, IsFinished}
 use Rattle.cb_world.proofs.NextHalf.{passes_of, program_of}
 use Rattle.cb_world.proofs.NoDeadlock.{is_done_by}
 
--- how many halves of the acts a rank does
+-- the number of halves of the acts that a rank does
 abbrev pub total : List Act → ℕ → ℕ
 total [] r = 0
 total (a ∷ acts) r = count_of a r + total acts r
@@ -42,7 +43,7 @@ before_all (a ∷ acts) r k l =
     let f : nat_lt k (count_of a r) ≡ false = grind (arith, nat_tests) in
     rw f (ap (λ x. a ∷ x) (before_all acts r (k - count_of a r) (omega arith)))
 
--- as many as its program has
+-- it is the length of the rank's program
 pub total_program : (ranks : ℕ) (shut : Lanes) (acts : List Act) (state : State Extent) (r : ℕ) → Passes ranks state shut acts → length (project_from state acts r) ≡ total acts r
 total_program ranks shut [] state r p = refl
 total_program ranks shut (a ∷ acts) state r p =
@@ -55,7 +56,7 @@ outside ranks state shut (act_is.Move from to tag slot into) r h l = let both = 
 outside ranks state shut (act_is.Work rank op) r h l = let b = (first_below ranks rank [] h.ranks_exist).0 in grind (arith, nat_tests)
 outside ranks state shut (act_is.Shut from to) r h l = let both = both_below ranks from to h.ranks_exist in let b = both.0 in let c = both.1 in grind (arith, nat_tests)
 
--- what is no rank does nothing
+-- a rank that doesn't exist does nothing
 pub total_outside : (ranks : ℕ) (shut : Lanes) (acts : List Act) (state : State Extent) (r : ℕ) → Passes ranks state shut acts → ranks ≤ r → total acts r ≡ 0
 total_outside ranks shut [] state r p l = refl
 total_outside ranks shut (a ∷ acts) state r p l =
@@ -68,7 +69,7 @@ no_letters refusals from to n [] [] e h = refl
 no_letters refusals from to n [] (l ∷ ls) e h = absurd h
 no_letters refusals from to n (w ∷ ws) ls e h = cc
 
--- once all is done, each rank has all acts behind it
+-- once all are done, no act is ahead of any rank
 pub all_before : (s : Arithmetic) (w : WorldView) → IsWorld s w → AllDone w → (r : ℕ) → before w.plan.acts r (rank_of w r).done ≡ w.plan.acts
 all_before s w sound done r =
     let passes = passes_of s w sound in
@@ -85,7 +86,7 @@ all_before s w sound done r =
     let nothing = total_outside w.plan.ranks none_shut w.plan.acts (started w.plan.starts) r passes out in
     omega arith))
 
--- nothing is on its way, and all letters of the plan were taken
+-- no letter is queued, and all letters of the plan were taken
 pub finishes : (s : Arithmetic) (w : WorldView) → IsWorld s w → AllDone w → IsFinished s w
 finishes s w sound done =
     let all = all_before s w sound done in
@@ -100,22 +101,22 @@ finishes s w sound done =
       taken = λ p q ne. (sound.agrees.lanes p q ne).counted ∙ ap (λ x. length (letters (matrices s) x (state_of w.first) p q)) (all q);
     }
 
--- the ranks' stores, in a list, are their slots
+-- the list of the ranks' stores has their slots
 slots_in_order : (w : WorldView) (r n : ℕ) → cell slot_is.Empty (map (λ (x : RankView). x.slots) w.ranks) r n ≡ slot_at (rank_of w r).slots n
 slots_in_order w r n = ap (λ xs. slot_at xs n) (get_or-map (λ (x : RankView). x.slots) w.ranks r no_rank)
 
--- and so are their counts of refusals
+-- the list of their counts has their counts of refusals
 counts_in_order : (w : WorldView) → (λ k. get_or (map (λ (x : RankView). x.refusals) w.ranks) k 0) ≡ (system_of w).refusals
 counts_in_order w = λ i k. get_or-map (λ (x : RankView). x.refusals) w.ranks k no_rank i
 
--- a store for each rank, each of as many slots as a rank has
+-- there is a store for each rank, with all the slots of a rank
 stores_are_table : (s : Arithmetic) (w : WorldView) → IsWorld s w → IsTable w.plan.ranks 256 (map (λ (x : RankView). x.slots) w.ranks)
 stores_are_table s w sound = record {
   rows = length-map w.ranks (λ (x : RankView). x.slots) ∙ sound.sizes.0;
   cols = λ r l. ap length (get_or-map (λ (x : RankView). x.slots) w.ranks r no_rank) ∙ (sound.ranks r l).sound.size;
 }
 
--- once all is done, a rank's slot stands for what the plan means there
+-- once all are done, a rank's slot agrees with what the plan means there
 slot_means : (s : Arithmetic) (w : WorldView) → IsWorld s w → AllDone w → (r n : ℕ) →
     IsSlotOf (λ k. get_or (map (λ (x : RankView). x.refusals) w.ranks) k 0) (meaning (matrices s) w.plan.acts (state_of w.first) r n) (cell slot_is.Empty (map (λ (x : RankView). x.slots) w.ranks) r n)
 slot_means s w sound done r n =

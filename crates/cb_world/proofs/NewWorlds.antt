@@ -1,4 +1,4 @@
--- There is a new world for every plan whose stores fit, whatever its lanes hold.
+-- There is a new world for every plan and stores that fit it, for every capacity.
 use Rattle.std.proofs.Common.{◌≡◌, ℕ, zero, suc, ◌+◌, ◌<◌, List, [], ◌∷◌, length, replicate, refl, ◌∙◌, ap, arith}
 use Rattle.std.specs.Prelude.{get_or}
 use Rattle.std.proofs.lemmas.List.{get_or-replicate, length-replicate}
@@ -13,7 +13,7 @@ use Rattle.cb_world.specs.Starting.{new_ranks, AreNewBoxes}
 use Rattle.cb_world.specs.Worlds.{WorldView, IsNewWorld}
 use Rattle.cb_world.proofs.NewRanks.{new_world}
 
--- so many mailboxes, numbered from k on, each with so many new lanes
+-- a list of mailboxes, numbered from k, each with new lanes
 abbrev boxes_from : ℕ → ℕ → ℕ → ℕ → List (Inbox Sparse)
 boxes_from ranks capacity k zero = []
 boxes_from ranks capacity k (suc n) = record { me = k; lanes = replicate ranks (new_lane capacity) } ∷ boxes_from ranks capacity (k + 1) n
@@ -39,7 +39,7 @@ new_boxes ranks capacity =
       lanes = λ f t l m ne. ap (λ (b : Inbox Sparse). lane_from b f) (read t m) ∙ get_or-replicate ranks f (new_lane capacity) (new_lane 0) l;
     }
 
--- a new world of a plan, with these stores
+-- a new world of a plan with these stores
 pub some_world : (p : CheckedView) (stores : List (List (Slot Sparse))) (capacity : ℕ) → Fits p.ranks p.starts stores → (w : WorldView) × IsNewWorld p stores capacity w
 some_world p stores capacity fits =
     let w : WorldView = record { plan = p; first = stores; capacity = capacity; ranks = new_ranks p 0 stores; boxes = boxes_from p.ranks capacity 0 p.ranks } in

@@ -58,14 +58,14 @@ mark_is refs c body_is.Close e h = refl
 moved : (a : Act) (state : State Sparse) (from to : ℕ) (tag : Tag) (slot into : ℕ) → a ≡ act_is.Move from to tag slot into → letter_of a state from to ≡ (tag, Sheet (state from slot)) ∷ []
 moved a state from to tag slot into e = rw e (grind (arith, nat_tests))
 
--- the oldest letter is the one that is to be taken next
+-- the oldest letter is the one to be taken next
 oldest : (refs : ℕ → ℕ) (sent received received' whole after_sent after_received : List (Tag × Cargo Sparse)) (from to n : ℕ) (w : Tag × Cargo Sparse) (x : Letter Sparse) (queue : List (Letter Sparse)) (waiting : List (Tag × Cargo Sparse)) → sent ++ after_sent ≡ whole → received' ++ after_received ≡ whole → received' ≡ received ++ w ∷ [] → received ++ waiting ≡ sent → AreLettersOf refs from to n waiting (x ∷ queue) → IsAddressed from to n x × (x.tag ≡ w.0) × IsBodyOf refs w.1 x.body
 oldest refs sent received received' whole after_sent after_received from to n w x queue [] es er e ew m = absurd m
 oldest refs sent received received' whole after_sent after_received from to n w x queue (v ∷ waiting) es er e ew m =
     let same : v ≡ w = first_waiting sent received waiting whole after_sent after_received v w ew es (rw e at er) in
     (m.0, m.1 ∙ ap (λ y. y.0) same, subst (λ y. IsBodyOf refs y.1 x.body) same m.2)
 
--- where no letter is queued, none waits
+-- if the queue is empty, no letter of the plan waits
 no_waiting : (refs : ℕ → ℕ) (from to n : ℕ) (ws : List (Tag × Cargo Sparse)) (ls : List (Letter Sparse)) → ls ≡ [] → AreLettersOf refs from to n ws ls → ws ≡ []
 no_waiting refs from to n [] ls e h = refl
 no_waiting refs from to n (w ∷ ws) [] e h = absurd h
@@ -113,7 +113,7 @@ module _ (s : Arithmetic) (w : WorldView) (r : ℕ) (h : Half) (sound : IsWorld 
       oldest (system_of w).refusals (letters (matrices s) (before w.plan.acts from (done_by from)) (state_of w.first) from r) (letters (matrices s) past (state_of w.first) from r) (letters (matrices s) (before w.plan.acts r (done_by r + 1)) (state_of w.first) from r) (letters (matrices s) w.plan.acts (state_of w.first) from r) sent.0 received.0 from r (lane_between w from r).taken v x rest lane.waits.0 sent.1 received.1 grown lane.waits.1
       (subst (λ q. AreLettersOf (system_of w).refusals from r (lane_between w from r).taken lane.waits.0 q) queue lane.waits.2)
 
-  -- where a lane from another rank is still open for its next letter, and nothing is queued, it isn't closed
+  -- a lane that is still open for its next letter, and on which nothing is queued, isn't closed
   none_waiting : (from : ℕ) → from ≢ r → lanes_after past none_shut from r ≡ false → (lane_between w from r).queue ≡ [] → (lane_between w from r).closed ≡ false
   none_waiting from ne e queue =
       let lane = sound.agrees.lanes from r ne in
@@ -122,7 +122,7 @@ module _ (s : Arithmetic) (w : WorldView) (r : ℕ) (h : Half) (sound : IsWorld 
       let all : letters (matrices s) past (state_of w.first) from r ≡ letters (matrices s) (before w.plan.acts from (done_by from)) (state_of w.first) from r = sym (append-nil _) ∙ ap (λ xs. letters (matrices s) past (state_of w.first) from r ++ xs) (sym none) ∙ lane.waits.1 in
       lane.marked ∙ ap ends_marked (sym all) ∙ unmarked_yet
 
--- what a world says of a rank's next half: a post or a shut finds its lane open, and a take or an end the letter that it wants, if any
+-- what a rank's next half finds: a Post or a Shut finds its lane open; a Take or an End finds the letter that it wants, or none
 abbrev pub Finds : WorldView → ℕ → Half → Type 0
 Finds w r (half_is.Post to tag slot) = (to < w.plan.ranks) × (r ≢ to) × ((lane_between w r to).closed ≡ false)
 Finds w r (half_is.Take from tag into shape) =

@@ -12,7 +12,7 @@ use Rattle.cb_plan.specs.Checks.{none_shut, started}
 use Rattle.cb_plan.specs.Programs.{project}
 use Rattle.cb_plan.specs.Stores.{state_of}
 use Rattle.cb_rank.specs.Ranks.{RankView, next_half}
-use Rattle.cb_rank.proofs.OwnActs.{split}
+use Rattle.cb_plan.proofs.Effects.{split}
 use Rattle.cb_rank.proofs.RankAfterHalf.{few_halves}
 use Rattle.cb_world.specs.Worlds.{WorldView, IsWorld, no_rank, rank_of, next_of, lane_between, system_of, CanDo, CanAct, AllDone, remaining, refusals_in}
 use Rattle.cb_world.proofs.Progress.{Can, someone_moves, queued_of_agrees}
@@ -27,11 +27,11 @@ can_do w r (Some (half_is.Shut to)) c = c
 can_do w r (Some (half_is.End from)) c = c
 can_do w r None c = c
 
--- there is no half where there is no rank
+-- a rank that doesn't exist has no next half
 pub no_next : (w : WorldView) (r : ℕ) → length w.ranks ≤ r → next_of w r ≡ None
 no_next w r past = let none : rank_of w r ≡ no_rank = get_or_past w.ranks r no_rank past in ap next_half none
 
--- nor after the last
+-- past the last half there is none
 done_next : (x : RankView) → length x.program ≤ x.done → next_half x ≡ None
 done_next x past = slice_get_past x.program x.done past
 
@@ -46,7 +46,7 @@ is_done_by x none =
     cc)
     (λ f. grind (arith, nat_tests))
 
--- where no rank can act, all are done
+-- if no rank can act, all are done
 pub someone_acts : (s : Arithmetic) (w : WorldView) → IsWorld s w → ((r : ℕ) → r < w.plan.ranks → ¬ CanAct w r) → AllDone w
 someone_acts s w sound none r =
     split (nat_lt r w.plan.ranks)
@@ -64,11 +64,11 @@ someone_acts s w sound none r =
     (λ f. done_next (rank_of w r) (grind (arith, nat_tests))))
     (λ o. no_next w r (let size = sound.sizes.0 in let past : w.plan.ranks ≤ r = grind (arith, nat_tests) in omega arith))
 
--- all is done just where nothing remains
+-- if all are done, nothing remains
 pub none_remains : (w : WorldView) → AllDone w → remaining w ≡ 0
 none_remains w done = sum_is_none (λ x. length x.program - x.done) no_rank w.ranks (λ r l. let past = is_done_by (rank_of w r) (done r) in omega arith)
 
--- where nothing remains, all is done
+-- if nothing remains, all are done
 pub all_done_by : (w : WorldView) → remaining w ≡ 0 → AllDone w
 all_done_by w none r =
     split (nat_lt r (length w.ranks))
@@ -81,7 +81,7 @@ few_remain s w sound =
     sum_is_below (λ x. length x.program - x.done) no_rank 4294967295 w.ranks (λ r l.
     let few = few_halves (rank_of w r) (sound.ranks r (let size = sound.sizes.0 in omega arith)).sound in omega arith)
 
--- the refusals of all ranks are at most 2^32 - 1 for each of them
+-- each rank was refused memory at most 2^32 - 1 times
 pub few_refused : (s : Arithmetic) (w : WorldView) → IsWorld s w → refusals_in w ≤ length w.ranks * 4294967295
 few_refused s w sound =
     sum_is_below (λ x. x.refusals) no_rank 4294967295 w.ranks (λ r l.

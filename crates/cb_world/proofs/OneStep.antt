@@ -1,4 +1,4 @@
--- What a step of a rank through its ends of its lanes is in the world.
+-- A step of a rank through its ends is a step of the world.
 use Rattle.std.proofs.Common.{◌≡◌, ◌≢◌, ℕ, ◌+◌, ◌<◌, Bool, true, false, List, [], ◌∷◌, length, refl, sym, ◌∙◌, ap, subst, arith, inl, inr}
 use Rattle.std.specs.Prelude.{Option, Some, None, Ok, IfSome, slice_set}
 use Rattle.std.proofs.lemmas.Bool.Decides.{nat_tests}
@@ -30,14 +30,14 @@ use Rattle.cb_world.specs.WorldSteps.{with_rank, DoesIn, StepsBy, IsStarved}
 use Rattle.cb_world.proofs.NextHalf.{finds_half}
 use Rattle.cb_world.proofs.WorldAfterHalf.{does_keep}
 
--- what the step of a rank came to: no stray, and the world after it
+-- what a rank's step comes to: no stray, and the world after it
 pub record Came (s : Arithmetic) (w : WorldView) (r : ℕ) (answer : Answer) (after : WorldView) : Type 0 where
   pub moved : Moved
   pub answer_is : answer ≡ Ok moved
   pub steps : StepsBy s r (next_of w r) moved w after
   pub sound : IsWorld s after
 
--- a rank and mailboxes that are as they were leave the world as it was
+-- if the rank and the mailboxes are unchanged, so is the world
 same_world : (w : WorldView) (r : ℕ) (x : RankView) (boxes : List (Inbox Sparse)) → x ≡ rank_of w r → boxes ≡ w.boxes → with_rank w r x boxes ≡ w
 same_world w r x boxes e f =
     let ranks : slice_set w.ranks r x ≡ w.ranks = ap (λ y. slice_set w.ranks r y) e ∙ set-get_or w.ranks r no_rank in
@@ -92,7 +92,7 @@ module _ (s : Arithmetic) (w : WorldView) (r : ℕ) (sound : IsWorld s w) (insid
   both : {x y : RankView} {b c : List (Inbox Sparse)} → x ≡ y → b ≡ c → with_rank w r x b ≡ with_rank w r y c
   both e f = rw (e, f) refl
 
-  -- what a take gave, where a letter was queued: the letter, or the end of its lane
+  -- what a take gives if a letter is queued: the letter, or the end of the lane
   took : (from : ℕ) (t : Taken Sparse) → is_out own from ≡ false → takes own from t q → (t ≡ take_answer (lane_between w from r)) × (q.boxes ≡ boxes_after w.boxes from r)
   took from t out h =
       let is : q ≡ record own { boxes = boxes_after w.boxes from r } = h.2 ∙ rw out refl in
@@ -124,7 +124,7 @@ module _ (s : Arithmetic) (w : WorldView) (r : ℕ) (sound : IsWorld s w) (insid
         | inr u ↦ absurd (u.0 (subst (λ me. IsAwaited (Some half) me (arrival_is.Letter y)) (sym (sound.ranks r inside).number) awaited))
       ]
 
-  -- and so does an End
+  -- the same for an End
   end_from : (from : ℕ) → next_of w r ≡ Some (half_is.End from) → (queue : List (Letter Sparse)) (closed : Bool) → (lane_between w from r).queue ≡ queue → (lane_between w from r).closed ≡ closed
       → (t : Taken Sparse) → takes own from t q → TakesUp (half_is.End from) from t answer (rank_of w r) x → Came s w r answer after
   end_from from next [] closed e g t h up =
@@ -179,7 +179,7 @@ module _ (s : Arithmetic) (w : WorldView) (r : ℕ) (sound : IsWorld s w) (insid
   step_by (Some (half_is.Take from tag into shape)) next p t k = take_from from tag into shape next (lane_between w from r).queue (lane_between w from r).closed refl refl t.0 t.1 t.2
   step_by (Some (half_is.End from)) next p t k = end_from from next (lane_between w from r).queue (lane_between w from r).closed refl refl t.0 t.1 t.2
 
--- a step of rank r over its own ends of the world's lanes: no stray comes, it is a step of the world, and the world goes on as one
+-- a step of rank r through its own ends of the world's lanes: no stray comes, it is a step of the world, and it leaves a world
 pub step_is : (s : Arithmetic) (w : WorldView) (r : ℕ) (old x : RankView) (answer : Answer) (p q : EndsView Sparse) → IsWorld s w → r < w.plan.ranks → old ≡ rank_of w r → p ≡ record { me = r; boxes = w.boxes }
     → StepPosts standing has_room may_be_full keeps posts (next_half old) answer old p x q → StepTakes takes (next_half old) answer old p x q → StepWorks s (next_half old) answer old p x q → Came s w r answer (with_rank w r x q.boxes)
 step_is s w r old x answer p q sound inside e f posted taken worked =
@@ -195,7 +195,7 @@ moved_not_waiting (half_is.Work op) e = cc
 moved_not_waiting (half_is.Shut to) e = cc
 moved_not_waiting (half_is.End from) e = cc
 
--- where a step of a rank that can act was starved, its count is one more if it asked for memory
+-- if a starved rank can act and asks for memory, its count of refusals rises by one
 starved_by : (s : Arithmetic) (w : WorldView) (r : ℕ) (next : Option Half) (m : Moved) (answer : Answer) (after : WorldView) (n : ℕ) → answer ≡ Ok m → StepsBy s r next m w after → CanAct w r → (rank_of after r).refusals ≡ n
     → IfSome next (λ h. asks_memory (rank_of w r).slots h ≡ true → answer ≢ Ok moved_is.Waiting → n ≡ (rank_of w r).refusals + 1)
     → IfSome next (λ h. asks_memory (rank_of w r).slots h ≡ true → (rank_of after r).refusals ≡ (rank_of w r).refusals + 1)
@@ -208,7 +208,7 @@ starved_by s w r (Some h) m answer after n is (inr did) can count refused = λ a
     moved_not_waiting h same in
     count ∙ refused asks went
 
--- a rank that was starved at its step counts one refusal more, if it asked for memory and could act
+-- a starved rank that can act counts one more refusal, if it asks for memory
 pub starved_is : (s : Arithmetic) (w : WorldView) (r : ℕ) (old x : RankView) (answer : Answer) (boxes : List (Inbox Sparse)) (m : Moved) → IsWorld s w → r < w.plan.ranks → old ≡ rank_of w r → answer ≡ Ok m → StepsBy s r (next_of w r) m w (with_rank w r x boxes)
     → IfSome (next_half old) (λ h. asks_memory old.slots h ≡ true → answer ≢ Ok moved_is.Waiting → x.refusals ≡ old.refusals + 1)
     → IsStarved (event_is.Starve r) w (with_rank w r x boxes)

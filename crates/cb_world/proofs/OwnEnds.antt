@@ -1,4 +1,4 @@
--- A rank's own ends of its lanes stand as the halves that it has done left them.
+-- A rank's own ends of its lanes stand as its finished halves left them.
 use Rattle.std.proofs.Common.{◌≡◌, ◌≢◌, ℕ, ◌-◌, ◌<◌, ◌≤◌, true, false, List, [], ◌∷◌, take, refl, sym, ◌∙◌, ap, arith}
 use Rattle.std.specs.Prelude.{Option, Some, None, nat_lt, ◌==◌, ◌&&◌}
 use Rattle.std.proofs.lemmas.Bool.Decides.{nat_tests}
@@ -19,7 +19,8 @@ use Rattle.cb_plan.specs.Programs.{halves_of, project, project_from, take_of}
 use Rattle.cb_plan.specs.Stores.{state_of}
 use Rattle.cb_rank.specs.Agreement.{ends_marked}
 use Rattle.cb_rank.specs.Ranks.{ArePortsOf, is_shut_to, posted_to, standing_by}
-use Rattle.cb_rank.proofs.OwnActs.{split, counted, one_half}
+use Rattle.cb_plan.proofs.Effects.{split}
+use Rattle.cb_rank.proofs.OwnActs.{counted, one_half}
 use Rattle.cb_rank.proofs.NextAct.{not_true}
 use Rattle.cb_rank.proofs.LanesByHalves.{lanes_by_halves, posted_to-append, take_none, take_past}
 use Rattle.cb_world.specs.Ends.{standing}
@@ -28,7 +29,7 @@ use Rattle.cb_world.proofs.Progress.{posts, posts_of, length-letters, queued_of_
 use Rattle.cb_world.proofs.AgreementAfterHalf.{kept_shut, letters_unmarked, unmarked}
 use Rattle.cb_world.proofs.NextHalf.{passes_of, program_of}
 
--- the first of acts that pass do
+-- a prefix of acts that pass also passes
 passes_before : (ranks : ℕ) (shut : Lanes) (acts : List Act) (state : State Extent) (r k : ℕ) → Passes ranks state shut acts → Passes ranks state shut (before acts r k)
 passes_before ranks shut [] state r k p = tt
 passes_before ranks shut (a ∷ acts) state r k p =
@@ -67,7 +68,7 @@ ends_later w [] e = cc
 ends_later (tag, Sheet m) (v ∷ ws) e = e
 ends_later (tag, Mark) (v ∷ ws) e = e
 
--- where a lane is shut after some acts, their last letter on it is the mark
+-- if a lane is shut after some acts, their last letter on it is the close mark
 ends_shut : {M : Type 0} (ops : Algebra M) (ranks : ℕ) (shut : Lanes) (acts : List Act) (outline : State Extent) (state : State M) (s t : ℕ) → Passes ranks outline shut acts → shut s t ≡ false → lanes_after acts shut s t ≡ true → ends_marked (letters ops acts state s t) ≡ true
 ends_shut ops ranks shut [] outline state s t p e l = let both : true ≡ false = sym l ∙ e in cc
 ends_shut ops ranks shut (act_is.Move from to tag slot into ∷ acts) outline state s t p e l =
@@ -85,7 +86,7 @@ ends_shut ops ranks shut (act_is.Shut from to ∷ acts) outline state s t p e l 
     let now : shut_after (act_is.Shut from to) shut s t ≡ false = rw u e in
     rw u (ends_shut ops ranks (shut_after (act_is.Shut from to) shut) acts (act shapes (act_is.Shut from to) outline) (act ops (act_is.Shut from to) state) s t p.1 now l))
 
--- acts end a lane with its mark just where they shut it
+-- acts end a lane with a close mark exactly if they shut it
 pub marks : {M : Type 0} (ops : Algebra M) (ranks : ℕ) (acts : List Act) (outline : State Extent) (state : State M) (s t : ℕ) → Passes ranks outline none_shut acts → ends_marked (letters ops acts state s t) ≡ lanes_after acts none_shut s t
 marks ops ranks acts outline state s t p =
     split (lanes_after acts none_shut s t)
@@ -108,7 +109,7 @@ posts_by_half state (act_is.Shut from to) r k =
     (λ t. rw t (split (to == k) (λ u. rw u refl) (λ u. rw u refl)))
     (λ f. rw f (split (to == r) (λ t. rw t refl) (λ g. rw g refl)))
 
--- what is posted before a rank's next half, of the letters from it, is what its halves posted
+-- the letters from a rank that are posted before its next half are those that its halves posted
 posts_by_halves : (ranks : ℕ) (shut : Lanes) (acts : List Act) (state : State Extent) (r done k : ℕ) → Passes ranks state shut acts → posts (before acts r done) r k ≡ posted_to k (take done (project_from state acts r))
 posts_by_halves ranks shut [] state r done k p = rw (take_none done) refl
 posts_by_halves ranks shut (a ∷ acts) state r done k p =

@@ -1,4 +1,4 @@
--- Where some rank is not done, some rank can act.
+-- If some rank is not done, some rank can act.
 use Rattle.std.proofs.Common.{◌≡◌, ◌≢◌, ℕ, ◌+◌, ◌-◌, ◌<◌, ◌≤◌, true, false, List, [], ◌∷◌, length, refl, ap, arith, length-append, inl, inr}
 use Rattle.std.specs.Prelude.{Option, Some, None, nat_lt, ◌==◌, ◌&&◌, slice_get, if◌then◌else◌, ◌⊎◌}
 use Rattle.std.proofs.lemmas.Bool.Decides.{nat_tests}
@@ -16,16 +16,17 @@ use Rattle.cb_plan.specs.Checks.{Lanes, IsSound, Passes, shut_after}
 use Rattle.cb_plan.specs.Programs.{take_of, halves_of, project_from}
 use Rattle.cb_plan.proofs.ActOnStores.{first_below}
 use Rattle.cb_rank.specs.Agreement.{AreLettersOf, Agrees, System}
-use Rattle.cb_rank.proofs.OwnActs.{split, some_shape, counted}
+use Rattle.cb_plan.proofs.Effects.{split}
+use Rattle.cb_rank.proofs.OwnActs.{some_shape, counted}
 use Rattle.cb_rank.proofs.NextAct.{slice_get_right, apart_of, apart_of_shut, both_below}
 
--- how many letters an act, and acts, put on a lane
+-- the number of letters that an act, or a list of acts, posts on a lane
 abbrev pub posts_of : Act → ℕ → ℕ → ℕ
 posts_of (act_is.Move from to tag slot into) s t = if from == s && to == t then 1 else 0
 posts_of (act_is.Work rank op) s t = 0
 posts_of (act_is.Shut from to) s t = if from == s && to == t then 1 else 0
 
--- how many letters acts put on the lane from s to t
+-- the number of letters that acts post on the lane from s to t
 abbrev pub posts : List Act → ℕ → ℕ → ℕ
 posts [] s t = 0
 posts (a ∷ acts) s t = posts_of a s t + posts acts s t
@@ -35,7 +36,7 @@ length-letter_of (act_is.Move from to tag slot into) state s t = grind (arith, n
 length-letter_of (act_is.Work rank op) state s t = refl
 length-letter_of (act_is.Shut from to) state s t = grind (arith, nat_tests)
 
--- as many letters as that are on the lane
+-- it is the number of the acts' letters on that lane
 pub length-letters : {M : Type 0} (ops : Algebra M) (acts : List Act) (state : State M) (s t : ℕ) → length (letters ops acts state s t) ≡ posts acts s t
 length-letters ops [] state s t = refl
 length-letters ops (a ∷ acts) state s t =
@@ -49,7 +50,7 @@ before_past a acts r k h =
     let f : nat_lt k (count_of a r) ≡ false = grind (arith, nat_tests) in
     rw f refl
 
--- what every agreeing state has of its queues' lengths
+-- the lengths of the queues, in a system that agrees with the plan
 abbrev pub Queued : List Act → (ℕ → ℕ) → (ℕ → ℕ → ℕ) → Type 0
 Queued acts done queued = (s t : ℕ) → s ≢ t → posts (before acts t (done t)) s t + queued s t ≡ posts (before acts s (done s)) s t
 
@@ -146,7 +147,7 @@ module _ (ranks : ℕ) (capacity : ℕ) (queued : ℕ → ℕ → ℕ) (room : 0
       inl (to, there.1, rw (first_half state (act_is.Shut from to) acts to (done to) (half_is.End from) k0 one) some))
       (λ y. inr (λ r. grind (arith, nat_tests))))
 
-  -- where some rank is not done, some rank can act
+  -- if some rank is not done, some rank can act
   pub someone_moves : (state : State Extent) (shut : Lanes) (acts : List Act) (done : ℕ → ℕ) → Passes ranks state shut acts → Queued acts done queued → (waits : ℕ) → done waits < length (project_from state acts waits) → Moves state acts done
   someone_moves state shut [] done passes q waits h = absurd (omega arith)
   someone_moves state shut (a ∷ acts) done passes q waits h =
@@ -164,7 +165,7 @@ letters_length r from to n (w ∷ ws) (l ∷ ls) h = let e = letters_length r fr
 letters_length r from to n [] (l ∷ ls) h = absurd h
 letters_length r from to n (w ∷ ws) [] h = absurd h
 
--- where a system agrees with the plan, as many letters wait on its lanes as the plan says
+-- if a system agrees with the plan, its queues have the lengths that the plan says
 pub queued_of_agrees : {M : Type 0} (ops : Algebra M) (acts : List Act) (first : State M) (now : System M) → Agrees ops acts first now → Queued acts now.done (λ s t. length (now.lane s t).queue)
 queued_of_agrees ops acts first now agrees s t ne =
     let h = agrees.lanes s t ne in

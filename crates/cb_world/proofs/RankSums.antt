@@ -3,7 +3,7 @@ use Rattle.std.proofs.Common.{◌≡◌, ℕ, zero, suc, ◌+◌, ◌*◌, ◌<�
 use Rattle.std.specs.Prelude.{get_or, slice_set, sum_by}
 use Rattle.std.proofs.lemmas.List.Sums.{sum_by-cons}
 
--- a sum is none where each of its numbers is, and the other way round
+-- a sum is zero if each of its numbers is
 pub sum_is_none : {X : Type 0} (f : X → ℕ) (d : X) (xs : List X) → ((i : ℕ) → i < length xs → f (get_or xs i d) ≡ 0) → sum_by f xs ≡ 0
 sum_is_none f d [] h = refl
 sum_is_none f d (x ∷ xs) h =
@@ -11,7 +11,7 @@ sum_is_none f d (x ∷ xs) h =
     let rest = sum_is_none f d xs (λ i l. h (suc i) (omega arith)) in
     sum_by-cons f x xs ∙ rw (here, rest) refl
 
--- where a sum is none, so is each of its numbers
+-- if a sum is zero, so is each of its numbers
 pub none_of_sum : {X : Type 0} (f : X → ℕ) (d : X) (xs : List X) → sum_by f xs ≡ 0 → (i : ℕ) → i < length xs → f (get_or xs i d) ≡ 0
 none_of_sum f d [] e i l = absurd (omega arith)
 none_of_sum f d (x ∷ xs) e zero l = let c = sum_by-cons f x xs in omega arith

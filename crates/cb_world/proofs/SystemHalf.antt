@@ -16,30 +16,30 @@ use Rattle.cb_rank.specs.Halves.{slot_at, IsCopy, IsWork, slot_of_body}
 pub record SlotsStay (r : ℕ) (now after : System Sparse) : Type 0 where
   pub stay : (n : ℕ) → after.slots r n ≡ now.slots r n
 
--- all but one slot of a rank stay
+-- one slot of a rank is set, and its other slots stay
 pub record OneSlot (r n : ℕ) (x : Slot Sparse) (now after : System Sparse) : Type 0 where
   pub set : after.slots r n ≡ x
   pub stay : (k : ℕ) → n ≢ k → after.slots r k ≡ now.slots r k
 
--- the lanes from other ranks stay, and those to other ranks
+-- the lanes other than the one from this rank to that one stay
 pub record OtherLanesStay (from to : ℕ) (now after : System Sparse) : Type 0 where
   pub by_sender : (p q : ℕ) → p ≢ from → after.lane p q ≡ now.lane p q
   pub by_addressee : (p q : ℕ) → q ≢ to → after.lane p q ≡ now.lane p q
 
--- one letter more on a lane
+-- one more letter on a lane
 pub record Posts (from to : ℕ) (x : Letter Sparse) (now after : System Sparse) : Type 0 where
   pub addressed : IsAddressed from to (posted (now.lane from to)) x
   pub lane : after.lane from to ≡ append (now.lane from to) x
   pub others : OtherLanesStay from to now after
 
--- one letter less
+-- one letter fewer on a lane
 pub record Takes (from to : ℕ) (x : Letter Sparse) (now after : System Sparse) : Type 0 where
   pub queue : (now.lane from to).queue ≡ x ∷ (after.lane from to).queue
   pub taken : (after.lane from to).taken ≡ (now.lane from to).taken + 1
   pub closed : (after.lane from to).closed ≡ (now.lane from to).closed
   pub others : OtherLanesStay from to now after
 
--- what this half of rank r makes of a system: the letter that it posts or takes, and the slot that it sets
+-- what this half of rank r does to a system: the letter that it posts or takes, and the slot that it sets
 abbrev pub Did : Arithmetic → ℕ → Half → System Sparse → System Sparse → Type 0
 Did s r (half_is.Post to tag slot) now after =
     (x : Letter Sparse) × (x.tag ≡ tag) × IsCopy r (now.slots r slot) x.body (now.refusals r) (after.refusals r) × Posts r to x now after × SlotsStay r now after

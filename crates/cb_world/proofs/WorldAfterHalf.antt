@@ -1,4 +1,4 @@
--- A world after a half: it agrees with its plan and first state as it did.
+-- A world after a half still agrees with its plan and its first stores.
 use Rattle.std.proofs.Common.{◌≡◌, ◌≢◌, ℕ, ◌+◌, ◌<◌, ◌≤◌, List, [], ◌∷◌, length, refl, sym, ◌∙◌, ap, subst, arith, inl, inr}
 use Rattle.std.specs.Prelude.{Some, ◌==◌, slice_get, slice_set, min}
 use Rattle.std.proofs.lemmas.Bool.Decides.{nat_tests}
@@ -28,7 +28,7 @@ use Rattle.cb_plan.specs.Stores.{state_of}
 use Rattle.cb_rank.specs.Agreement.{System, Agrees}
 use Rattle.cb_rank.specs.Halves.{slot_at, slot_of_body, IsCopy, IsWork}
 use Rattle.cb_rank.specs.Ranks.{RankView, IsRank, onward}
-use Rattle.cb_rank.proofs.OwnActs.{split}
+use Rattle.cb_plan.proofs.Effects.{split}
 use Rattle.cb_rank.proofs.RankAfterHalf.{posts_on, shuts_on, takes_on, ends_on, works_on}
 use Rattle.cb_world.specs.Ends.{box_in, with_lane_in, boxes_with, boxes_after}
 use Rattle.cb_world.specs.EndLaws.{same_length, box_here, box_there, lane_here, lane_by_addressee, lane_by_sender}
@@ -38,7 +38,7 @@ use Rattle.cb_world.proofs.SystemHalf.{Did, Moves, OtherLanesStay}
 use Rattle.cb_world.proofs.AgreementAfterHalf.{step_agrees}
 use Rattle.cb_world.proofs.NextHalf.{program_of, passes_of, finds_half}
 
--- what a rank's next half makes of the system agrees too
+-- the system still agrees after a rank's next half
 pub agrees_on : (s : Arithmetic) (w : WorldView) (r : ℕ) (h : Half) (after : System Sparse) → IsWorld s w → r < w.plan.ranks → next_of w r ≡ Some h → Moves s r h (system_of w) after → Agrees (matrices s) w.plan.acts (state_of w.first) after
 agrees_on s w r h after sound inside next moves =
     let shapes_are : images (λ (m : Sparse). m.shape) (state_of w.first) ≡ started w.plan.starts = sound.fits.shapes in
@@ -88,7 +88,7 @@ module _ (w : WorldView) (ranks : List RankView) (f t : ℕ) (l : Lane Sparse) (
         sound = λ p i ne. are_lanes h new p q (has.sound p i ne);
       }
 
--- what any half of one rank gives, but for the half itself
+-- what is common to all halves of a rank
 module _ (s : Arithmetic) (w : WorldView) (r : ℕ) (h : Half) (slots : List (Slot Sparse)) (refusals : ℕ) (boxes : List (Inbox Sparse)) (sound : IsWorld s w) (inside : r < w.plan.ranks) where
   abbrev rank : RankView
   rank = onward (rank_of w r) slots refusals
@@ -166,7 +166,7 @@ work_grows : (s : Arithmetic) (me : ℕ) (op : Op) (slots : List (Slot Sparse)) 
 work_grows s me op slots x old new (inl e) = let k = e.1 in omega arith
 work_grows s me op slots x old new (inr e) = let k = e.1 in omega arith
 
--- the mailbox of a rank stands among the world's, with a lane from each
+-- each rank has its mailbox among the world's, with a lane from each rank
 has_place : (s : Arithmetic) (w : WorldView) (f t : ℕ) → IsWorld s w → f < w.plan.ranks → t < w.plan.ranks → (t < length w.boxes) × (f < length (box_in w.boxes t).lanes)
 has_place s w f t sound i j = let n = sound.sizes.1 in let l = (sound.boxes t j).lanes in (omega arith, omega arith)
 
@@ -225,7 +225,7 @@ oldest_of : (queue : List (Letter Sparse)) (x : Letter Sparse) → slice_get que
 oldest_of [] x e = cc
 oldest_of (y ∷ ys) x e = (ys, let same = same_Some y x e in rw same refl)
 
--- a take from a lane where a letter is queued
+-- a take from a lane on which a letter is queued
 taken_lane : (l : Lane Sparse) (x : Letter Sparse) (rest : List (Letter Sparse)) → l.queue ≡ x ∷ rest → (l.queue ≡ x ∷ (after_take l).queue) × ((after_take l).taken ≡ l.taken + 1)
 taken_lane l x rest e = (rw e refl, let some : 0 < length l.queue = rw e (omega arith) in ap (λ n. l.taken + n) (one_taken (length l.queue) some))
 
@@ -309,7 +309,7 @@ works_keep s w r op x refusals sound inside next work =
       ),
     )
 
--- a world is one after each half
+-- after each half the world satisfies `IsWorld`
 pub does_keep : (s : Arithmetic) (w after : WorldView) (r : ℕ) (h : Half) → IsWorld s w → r < w.plan.ranks → next_of w r ≡ Some h → DoesIn s r h w after → IsWorld s after
 does_keep s w after r (half_is.Post to tag slot) sound inside next did =
     let me = (sound.ranks r inside).number in

@@ -1,9 +1,9 @@
-//! One rank's ends of its lanes, over the mailboxes of all ranks: it posts into the mailbox of the addressee, and
+//! One rank's ends of its lanes, over the mailboxes of all ranks. The rank posts to the mailbox of the addressee, and
 //! takes from its own.
 ghost use Rattle.std.specs.Prelude.{ℕ, ◌≡◌, ◌≢◌, ◌<◌, false, length, None, IfOk, IfErr, IsOk, IsTrue, ◌↔◌};
 ghost use Rattle.cb_letters.specs.Lane.{posted, HasRoom};
 ghost use Rattle.cb_letters.specs.Letters.{is_close};
-ghost use Rattle.cb_letters.specs.Standing.{standing_refusal, MayRefuse, next_letter};
+ghost use Rattle.cb_letters.specs.Standing.{standing_refusal, IsAccepted};
 ghost use Rattle.cb_mailbox.specs.Inbox.{lane_from};
 ghost use Rattle.cb_world.specs.Ends as ends;
 ghost use Rattle.cb_world.specs.Ends.{box_in};
@@ -33,7 +33,7 @@ impl<P> Model for Ends<P> {
 }
 
 impl<P: Drop> Ends<P> {
-    /// New mailboxes, with lanes of so many letters.
+    /// A new mailbox for each rank, with lanes of this capacity.
     pub(crate) fn open(alloc: Global, ranks: u16, capacity: Capacity) -> Result<Ends<P>, AllocError>
         ensures { IfOk result (λ e. AreNewBoxes ranks capacity e.boxes) }
     {
@@ -44,7 +44,7 @@ impl<P: Drop> Ends<P> {
         Ok(Ends { me: 0, boxes })
     }
 
-    /// From now on these are the ends of this rank.
+    /// Makes these the ends of another rank.
     pub(crate) fn turn_to(&mut self, me: u16)
         requires { me < length self.old.boxes }
         ensures { self.new ≡ record self.old { me = me } }
@@ -62,7 +62,7 @@ impl<P: Drop> Ends<P> {
         self.boxes[to as usize].room(from)
     }
 
-    /// Whether a letter is on its way on that lane.
+    /// Whether a letter is queued on the lane from one rank to another.
     pub(crate) fn has_letter(&self, from: u16, to: u16) -> bool
         requires from { from < length self.now.boxes }
         requires to { to < length self.now.boxes }
@@ -72,7 +72,7 @@ impl<P: Drop> Ends<P> {
         self.taken(from, to) < self.posted(from, to)
     }
 
-    /// How many letters were posted on it.
+    /// The number of letters posted on the lane from one rank to another, the close mark included.
     pub(crate) fn posted(&self, from: u16, to: u16) -> u64
         requires from { from < length self.now.boxes }
         requires to { to < length self.now.boxes }
@@ -82,7 +82,7 @@ impl<P: Drop> Ends<P> {
         self.boxes[to as usize].posted(from)
     }
 
-    /// How many of them were taken.
+    /// The number of letters taken on the lane from one rank to another, the close mark included.
     pub(crate) fn taken(&self, from: u16, to: u16) -> u64
         requires from { from < length self.now.boxes }
         requires to { to < length self.now.boxes }
@@ -92,7 +92,7 @@ impl<P: Drop> Ends<P> {
         self.boxes[to as usize].taken(from)
     }
 
-    /// Whether there is no lane between this rank and that one.
+    /// Whether there is no lane to this rank, because it is the ends' own rank, or no rank.
     fn is_out(&self, other: u16) -> bool
         ensures { result ≡ ends.is_out self.now other }
     {
@@ -132,8 +132,8 @@ impl<P: Drop> Ports<P> for Ends<P> {
 
     fn try_post(&mut self, to: u16, tag: Tag, body: Body<P>) -> Result<u64, (PostRefusal, Body<P>)>
         requires { is_close body ≡ false }
-        ensures accepted { IfOk result (λ number. (standing_refusal (ends.standing self.old to) ≡ None) × (number ≡ (ends.standing self.old to).posted) × ends.posts self.old to (next_letter (ends.standing self.old to) to tag body) self.new) }
-        ensures refused { IfErr result (λ e. MayRefuse (ends.standing self.old to) (ends.may_be_full self.old to) e.0 × (e.1 ≡ body) × ends.keeps self.old self.new) }
+        ensures accepted { IfOk result (λ number. IsAccepted (ends.standing self.old to) to tag body number (λ x. ends.posts self.old to x self.new)) }
+        ensures refused { IfErr result (λ e. ends.MayRefusePost self.old to e.0 × (e.1 ≡ body) × ends.keeps self.old self.new) }
         ensures succeeds { ends.has_room self.old to → standing_refusal (ends.standing self.old to) ≡ None → IsOk result }
     {
         if self.is_out(to) {

@@ -1,10 +1,10 @@
-//! What may happen next in a world.
+//! The events of a world.
 
-/// A step of one rank.
+/// A step of one rank: it does its next half, if it can.
 #[derive(Clone, Copy, Debug, PartialEq, Eq, Drop)]
 pub enum Event {
-    /// This rank does its next half, if it can.
+    /// This rank steps.
     Step(u16),
-    /// The same, where memory is refused.
+    /// This rank steps, and is refused the memory that it asks for.
     Starve(u16),
 }

@@ -1,4 +1,4 @@
-//! The ranks of a world, made of their stores and turned into them again.
+//! Making the ranks of a world from their stores, and getting the stores back.
 ghost use Rattle.std.specs.Prelude.{◌≡◌, ◌+◌, ◌≤◌, [], ◌++◌, length, map, reverse, vec_capacity, IfOk, IfErr};
 ghost use Rattle.cb_plan.specs.Stores.{Fits};
 ghost use Rattle.cb_world.specs.Starting.{new_ranks, HasRoomFor};
@@ -8,7 +8,8 @@ use cb_rank::Rank;
 use cb_semirings::Semiring;
 use std::alloc::{AllocError, Global};
 
-/// The new ranks, and the vector that the stores were in, emptied. Where memory is refused, the stores come back.
+/// Makes a new rank for each store. Returns the vector of the stores too, which is empty now. If memory is refused, the
+/// stores come back.
 pub(crate) fn start_ranks<S: Semiring>(
     alloc: Global,
     plan: &CheckedPlan,
@@ -24,7 +25,7 @@ pub(crate) fn start_ranks<S: Semiring>(
         Ok(ranks) => ranks,
         Err(refused) => return Err((stores, refused)),
     };
-    // From the last on, so that each store leaves the end of its vector, and comes back there.
+    // From the last store to the first, so that a refused one can be pushed back where it was.
     while let Some(store) = stores.pop() {
         match Rank::start(alloc, plan, stores.len() as u16, store) {
             Ok(rank) => ranks.push_reserved(rank),
@@ -38,7 +39,7 @@ pub(crate) fn start_ranks<S: Semiring>(
     Ok((ranks, stores))
 }
 
-/// The stores, and after them those of the ranks, the last rank's first.
+/// Appends the stores of these ranks, the last rank's first.
 fn with_stores_of<S: Semiring>(stores: Vec<RankStore<S>>, ranks: Vec<Rank<S>>) -> Vec<RankStore<S>>
     requires { length stores.items + length ranks.items ≤ vec_capacity stores }
     ensures { result.items ≡ stores.items ++ map (λ r. r.slots) (reverse ranks.items) }
@@ -51,7 +52,7 @@ fn with_stores_of<S: Semiring>(stores: Vec<RankStore<S>>, ranks: Vec<Rank<S>>) -
     stores
 }
 
-/// The stores of the ranks, and how often each was refused memory, in vectors with room for them.
+/// The stores of the ranks and their counts of refusals, in vectors with room for them.
 pub(crate) fn parts_of<S: Semiring>(
     ranks: Vec<Rank<S>>,
     stores: Vec<RankStore<S>>,

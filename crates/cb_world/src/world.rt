@@ -1,4 +1,4 @@
-//! All ranks of a checked plan, one event at a time.
+//! All ranks of a checked plan, stepped one event at a time.
 ghost use Rattle.std.specs.Prelude.{ℕ, ◌≡◌, ◌≢◌, ◌+◌, ◌<◌, ◌≤◌, ◌↔◌, List, length, map, IfOk, IfErr, IsTrue};
 ghost use Rattle.cb_letters.specs.Lane.{posted};
 ghost use Rattle.cb_plan.specs.Stores.{Fits};
@@ -29,7 +29,7 @@ pub struct World<S: Semiring> {
     capacity: usize,
     ranks: Vec<Rank<S>>,
     ends: Ends<Block<S>>,
-    // Empty, with room for the store of each rank, and for its count of refusals.
+    // Both are empty, with room for the store of each rank and for its count of refusals.
     stores: Vec<RankStore<S>>,
     counts: Vec<u64>,
 }
@@ -37,18 +37,20 @@ pub struct World<S: Semiring> {
 impl<S: Semiring> Model for World<S> {
     ghost use Rattle.std.specs.Prelude.{length};
     ghost use Rattle.cb_world.specs.Starting.{HasRoomFor};
-    ghost use Rattle.cb_world.specs.Worlds.{WorldView, IsWorld};
+    ghost use Rattle.cb_world.specs.Worlds.{WorldView, world_view, IsWorld};
 
     ghost Value = { WorldView };
 
-    ghost view = { λ w. record { plan = w.plan.value; first = w.first.value.items; capacity = w.capacity; ranks = w.ranks.items; boxes = w.ends.boxes } };
+    ghost view = { λ w. world_view w.plan.value w.first.value.items w.capacity w.ranks.items w.ends.boxes };
 
-    ghost invariant = { λ w. IsWorld S.arithmetic (record { plan = w.plan.value; first = w.first.value.items; capacity = w.capacity; ranks = w.ranks.items; boxes = w.ends.boxes }) × HasRoomFor (length w.ranks.items) w.stores × HasRoomFor (length w.ranks.items) w.counts };
+    ghost invariant = { λ w. IsWorld S.arithmetic (world_view w.plan.value w.first.value.items w.capacity w.ranks.items w.ends.boxes)
+        × HasRoomFor (length w.ranks.items) w.stores
+        × HasRoomFor (length w.ranks.items) w.counts };
 }
 
 impl<S: Semiring> World<S> {
-    /// A world in which nothing is done: a rank for each store, and lanes of `capacity` letters. All
-    /// memory that a world itself needs is taken here; where it is refused the stores come back.
+    /// A world in which nothing is done: a rank for each store, and lanes of `capacity` letters. All memory that the
+    /// world itself needs is taken here. If it is refused, the stores come back.
     pub fn start(
         alloc: Global,
         plan: &CheckedPlan,
@@ -81,10 +83,10 @@ impl<S: Semiring> World<S> {
         })
     }
 
-    /// One event: a rank does its next half, if it can, and the answer says which kind it was. A rank that waits,
-    /// or is done, or isn't there, changes nothing.
+    /// Does one event: the rank does its next half, if it can. Returns the kind of half that was done. If the rank waits,
+    /// or is done, or there is no such rank, nothing changes.
     ///
-    /// Costs what the half costs, whatever the length of the plan and the number of ranks.
+    /// The cost is that of the half, whatever the length of the plan and the number of ranks.
     pub fn step(&mut self, event: Event) -> Moved
         ensures step { Steps S.arithmetic event result self.old self.new }
         ensures falls { result ≢ Moved.Waiting → result ≢ Moved.Idle → remaining self.new + 1 ≡ remaining self.old }
@@ -97,7 +99,7 @@ impl<S: Semiring> World<S> {
         }
     }
 
-    /// A step of a rank, with this supply of memory.
+    /// Steps a rank, with this supply of memory.
     fn advance(&mut self, r: u16, supply: Supply) -> Moved
         ensures half { StepsBy S.arithmetic r (next_of self.old r) result self.old self.new }
         ensures starved { supply ≡ Supply.Refused → IsStarved (Starve r) self.old self.new }
@@ -114,11 +116,11 @@ impl<S: Semiring> World<S> {
         }
     }
 
-    /// Some events, one after the other.
+    /// Does these events, one after the other.
     ///
-    /// Whatever was done before, and whatever the events: each letter is taken at most once, by its addressee alone,
-    /// per sender in posting order; nothing is accepted after a close; and a lane that is drained has given out all
-    /// that stood on it and was accepted.
+    /// Whatever the events are, and whatever was done before: each letter is taken at most once, by its addressee alone,
+    /// per sender in posting order; nothing is accepted after a close; and a drained lane has given out all letters that
+    /// were queued on it and accepted.
     pub fn run(&mut self, events: &[Event])
         ensures runs { RunsBy S.arithmetic events.now self.old self.new }
         ensures keeps { (self.new.plan ≡ self.old.plan) × (self.new.first ≡ self.old.first) }
@@ -131,11 +133,11 @@ impl<S: Semiring> World<S> {
     {
         let _ranks = &self.ranks;
         for event in events {
-            let _moved = self.step(*event);
+            self.step(*event);
         }
     }
 
-    /// Whether a rank can act.
+    /// Whether this rank can do its next half now.
     fn can_act(&self, r: u16) -> bool
         ensures { IsTrue result ↔ CanAct self.now r }
     {
@@ -152,10 +154,10 @@ impl<S: Semiring> World<S> {
         }
     }
 
-    /// The least rank that can act. There is none only where all are done, whatever the capacity and whatever
-    /// was refused.
+    /// The least rank that can act. There is none only if all are done, whatever the capacity and whatever memory was
+    /// refused.
     ///
-    /// Looks at each rank once.
+    /// Looks at each rank at most once.
     pub fn ready(&self) -> Option<u16>
         ensures ready { IsReady self.now result }
         ensures world { IsWorld S.arithmetic self.now }
@@ -175,11 +177,11 @@ impl<S: Semiring> World<S> {
         ensures keeps { (self.new.plan ≡ self.old.plan) × (self.new.first ≡ self.old.first) }
     {
         while let Some(r) = self.ready() {
-            let _moved = self.step(Event::Step(r));
+            self.step(Event::Step(r));
         }
     }
 
-    /// How many halves are not done, of all ranks.
+    /// The number of halves that aren't done, over all ranks.
     pub fn remaining(&self) -> u64
         ensures { result ≡ remaining self.now }
     {
@@ -198,7 +200,7 @@ impl<S: Semiring> World<S> {
         self.remaining() == 0
     }
 
-    /// How often memory was refused, to all ranks.
+    /// The number of times that memory was refused, over all ranks.
     pub fn refusals(&self) -> u64
         ensures { result ≡ refusals_in self.now }
     {
@@ -209,7 +211,7 @@ impl<S: Semiring> World<S> {
         refusals
     }
 
-    /// How many letters one rank has posted to another, its close mark among them.
+    /// The number of letters posted on the lane from one rank to another, the close mark included.
     pub fn posted(&self, from: u16, to: u16) -> u64
         requires from { from < self.now.plan.ranks }
         requires to { to < self.now.plan.ranks }
@@ -219,7 +221,7 @@ impl<S: Semiring> World<S> {
         self.ends.posted(from, to)
     }
 
-    /// How many letters of one rank another has taken, the close mark among them.
+    /// The number of letters taken on the lane from one rank to another, the close mark included.
     pub fn taken(&self, from: u16, to: u16) -> u64
         requires from { from < self.now.plan.ranks }
         requires to { to < self.now.plan.ranks }
@@ -229,9 +231,9 @@ impl<S: Semiring> World<S> {
         self.ends.taken(from, to)
     }
 
-    /// The store of each rank, and how often each was refused memory, once all is done. The stores hold what the plan
-    /// means, but for what was lost where memory was refused. They come in the vector that `start` was given, and room
-    /// for the counts was taken there, so no memory is taken.
+    /// The store of each rank, and how often each was refused memory, once all are done. The stores hold what the plan
+    /// means, except for what was lost to refused memory. They come in the vector that was given to `start`, which also
+    /// took the memory for the counts, so this call takes none.
     pub fn into_parts(self) -> (Vec<RankStore<S>>, Vec<u64>)
         requires { AllDone self }
         ensures stores { result.0.items ≡ map (λ x. x.slots) self.ranks }

@@ -1,2 +1,2 @@
--- For this crate alone. Sheets: what is on sheets of which each is written by itself.
+-- For this crate alone. Sheets: what is on sheets that are written independently.
 pub mod Sheets

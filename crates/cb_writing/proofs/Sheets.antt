@@ -1,9 +1,9 @@
--- Sheets that are written, each by itself.
+-- Sheets that are written independently.
 use Rattle.std.proofs.Common.{◌≡◌, ℕ, suc, ◌<◌, List, [], ◌∷◌, ◌++◌, length, get_or, refl, arith}
 use Rattle.cb_market.specs.Sheets.{SheetText, share_of}
 use Rattle.cb_writing.specs.Rounds.{written_on, dealt_to}
 
--- where each has all of its share written, all shares are written
+-- if each sheet has its whole share written, all shares are written
 pub all_written : (old new : List SheetText) → length new ≡ length old → ((i : ℕ) (d : SheetText) → i < length old → (get_or new i d).written ≡ share_of (get_or old i d)) → written_on new ≡ dealt_to old
 all_written [] [] e h = refl
 all_written [] (y ∷ ys) e h = absurd (omega (arith, e))

@@ -1,8 +1,8 @@
-//! A gate that a thread passes before it writes a sheet.
+//! Gates: hooks that a thread passes before it writes a sheet.
 
-/// Called before each sheet of a round is written, by the thread that writes it. It may look, count and wait.
+/// A hook that runs before each sheet of a round is written, on the thread that writes it. It can observe, count or wait.
 pub trait Gate: Sync {
-    /// Called before the sheet of this number is written, counted from 0 in each round.
+    /// Runs before the sheet with this number is written. Sheets are counted from 0 in each round.
     fn pass(&self, sheet: usize);
 }
 

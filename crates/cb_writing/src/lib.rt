@@ -1,11 +1,11 @@
-//! The text of a matrix over a grid, written side by side.
+//! The text of a matrix over a grid, written by several threads.
 //!
-//! A text is made in rounds. In each, the next entries are dealt to the sheets of a [`Round`] in order, as many as each
-//! has room for, and then every sheet is written by a thread of its own. So the sheets, one after the other, are the
-//! next part of the text: the same bytes as from one thread, whatever the threads do. If a thread isn't available, the
-//! caller's writes its sheet.
+//! A text is written in rounds. In each round the next entries are dealt to the sheets of a [`Round`] in order, as many
+//! as each sheet has room for. Then each sheet is written by its own thread. The sheets in order are the next part of the
+//! text: the same bytes as from one thread, however the threads are scheduled. If a thread isn't available, the caller's
+//! thread writes its sheet.
 //!
-//! All memory except that of the threads is taken when a `Round` is made, and is reused for every round.
+//! A `Round` takes all its memory when it is made, and reuses it for every round. Only the threads take more.
 #![tactic(auto)]
 
 mod gates;

@@ -1,4 +1,4 @@
-//! Rounds of sheets, which are dealt out in order and written side by side.
+//! Rounds of sheets, which are dealt out in order and written in parallel.
 ghost use Rattle.std.specs.Prelude.{◌≡◌, ◌≤◌, ◌<◌, [], ◌++◌, length, true, false, IfOk};
 ghost use Rattle.cb_market.specs.Sheets.{share_of};
 ghost use Rattle.cb_writing.specs.Rounds.{written_on, dealt_to};
@@ -12,13 +12,13 @@ use std::marker::Model;
 use std::thread;
 use std::thread::Threads;
 
-/// How many lines a sheet has room for, if there are many.
+/// The most lines that [`Round::new`] makes room for on a sheet.
 const LINES: usize = 65_536;
 
-/// Fewer lines aren't worth a thread.
+/// The fewest lines that it makes room for: fewer aren't worth a thread.
 const FEW: usize = 16_384;
 
-/// Some sheets of a text, at least one. In contracts it is what is written on them, one after the other.
+/// The sheets of a round, at least one. In contracts it is what is written on them, in order.
 #[derive(Drop)]
 pub struct Round<'a, S: Semiring> {
     sheets: Vec<Sheet<'a, S>>,
@@ -36,8 +36,8 @@ impl<'a, S: Semiring> Model for Round<'a, S> {
 }
 
 impl<'a, S: Semiring> Round<'a, S> {
-    /// Empty sheets for the text of a matrix: one for each thread, or fewer if the matrix has too few entries for that
-    /// many. They take at most 2.9 MB each.
+    /// Makes empty sheets for the text of a matrix: one per thread, or fewer if the matrix has too few entries. Each takes
+    /// at most 2.9 MB.
     pub fn new(
         alloc: Global,
         threads: usize,
@@ -51,7 +51,7 @@ impl<'a, S: Semiring> Round<'a, S> {
         Round::with_lines(alloc, sheets, lines, matrix)
     }
 
-    /// This many empty sheets for the text of a matrix, with room for this many lines each. A line takes 43 bytes.
+    /// Makes this many empty sheets for the text of a matrix, with room for this many lines each. A line takes 43 bytes.
     pub fn with_lines(
         alloc: Global,
         sheets: usize,
@@ -70,7 +70,7 @@ impl<'a, S: Semiring> Round<'a, S> {
         Ok(Round { sheets: blank })
     }
 
-    /// The sheets in order, which hold the bytes of the round.
+    /// Returns the sheets in order, which hold the bytes of the round.
     pub fn sheets(&self) -> &[Sheet<'a, S>]
         ensures { written_on result.now ≡ self.now }
     {
@@ -79,11 +79,11 @@ impl<'a, S: Semiring> Round<'a, S> {
 }
 
 impl<'a, S: Semiring + Send + Sync> Round<'a, S> {
-    /// Takes the next part of a text in place of what was on the sheets, as much as they have room for, and returns
-    /// whether there was any; if not, the whole text is written. The sheets are written side by side, each by a thread,
-    /// or by the caller's if there is work for only one or no other is available.
+    /// Replaces what is on the sheets by the next part of a text, as much as there is room for, and returns whether there
+    /// was any. If there was none, the whole text has been written. Each sheet is written by its own thread, or by the
+    /// caller's if only one has work or no other thread is available.
     ///
-    /// The caller's thread goes over the entries too, at the cost of a step for each segment.
+    /// Dealing the entries takes the caller's thread one step per segment.
     pub fn fill<R: Threads + Sync>(&mut self, rt: &R, text: &mut TextPages<'a, S>) -> bool
         ensures text { text.old ≡ self.new ++ text.new }
         ensures some { result ≡ true → 0 < length self.new }
@@ -110,7 +110,7 @@ impl<'a, S: Semiring + Send + Sync> Round<'a, S> {
     }
 }
 
-/// Gives each sheet in order the next part of a text, and returns how many have some of it.
+/// Gives each sheet in order the next part of a text, and returns how many got some of it.
 fn deal<'a, S: Semiring>(sheets: &mut [Sheet<'a, S>], text: &mut TextPages<'a, S>) -> usize
     ensures text { text.old ≡ dealt_to sheets.new ++ text.new }
     ensures some { 0 < result → 0 < length (dealt_to sheets.new) }
@@ -125,7 +125,7 @@ fn deal<'a, S: Semiring>(sheets: &mut [Sheet<'a, S>], text: &mut TextPages<'a, S
     dealt
 }
 
-/// Writes each sheet, in at most this many threads.
+/// Writes each sheet, on at most this many threads.
 fn write_all<'a, S: Semiring + Send + Sync, R: Threads + Sync, G: Gate>(
     rt: &R,
     sheets: &mut [Sheet<'a, S>],
@@ -138,7 +138,7 @@ fn write_all<'a, S: Semiring + Send + Sync, R: Threads + Sync, G: Gate>(
     thread::for_each_mut(rt, sheets, threads, &|n, sheet| write_one(gate, n, sheet));
 }
 
-/// Writes a sheet, once the gate is passed.
+/// Writes a sheet after the gate is passed.
 fn write_one<'a, S: Semiring, G: Gate>(gate: &G, n: usize, sheet: &mut Sheet<'a, S>)
     ensures { sheet.new ≡ record { written = share_of sheet.old; left = [] } }
 {

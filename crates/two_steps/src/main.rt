@@ -1,5 +1,5 @@
-//! How many walks of two edges lead from one vertex of a small graph to another: the square of its adjacency
-//! matrix in plus-times. It shows how a library uses the crates.
+//! Counts the walks of two edges between the vertices of a small graph: the square of its adjacency matrix over
+//! plus-times. An example of how a program uses the crates.
 #![tactic(auto)]
 
 use anyhow::Context;

@@ -1,15 +1,15 @@
-use Rattle.std.proofs.Common.{◌≡◌, ◌<◌, ◌≤◌, get_or, sym, refl, ap, subst, ◌∙◌, arith, rules}
+use Rattle.std.proofs.Common.{◌≡◌, ◌<◌, ◌≤◌, get_or, sym, ap, subst, ◌∙◌, arith, rules}
 use Rattle.std.specs.Prelude.{All}
-use Rattle.std.proofs.lemmas.List.{get_or_default}
 use Rattle.cb_matrix.specs.Sparse.{Extent}
 use Rattle.cb_matrix.specs.Values.{product_shape, empty_matrix}
 use Rattle.cb_matrix.specs.declared.TheConstants.{LIMIT}
 use Rattle.cb_dcsc.specs.Columns.{in_column, rows_of, values_of, row_value}
 use Rattle.cb_dcsc.proofs.Lookup.{as_long, rows_inside}
+use Rattle.cb_product.proofs.ColumnsMade.{walk_none, walk_more, walk_all, before_column}
 use Rattle.cb_product.proofs.RowValues.{absent_above}
 use Rattle.cb_product.proofs.StoredColumn.{column_inside, column_adds}
 use Rattle.cb_masked.proofs.AscendingPlaces.{few_below}
-use Rattle.cb_masked.proofs.MaskedColumns.{left_of, left_absent, left_column, made_start, made_more, made_all}
+use Rattle.cb_masked.proofs.MaskedColumns.{left_of, left_absent, left_column}
 use Rattle.cb_masked.proofs.make_columns.Goals as goal
 
 pub loop-n-init : goal.loop-n-init
@@ -24,9 +24,12 @@ loop-n-init g c =
     let within = subst (λ (e : Extent). All (λ k. k < e.cols) columns.result.now) r.shape columns.ensures.inside in
     let absent = left_absent s laws a b m c.shape.ensures.matrix c.shape-2.ensures.matrix c.shape-3.ensures.matrix r.agree r.shape columns.result.now columns.ensures.all in
     record {
-      made = made_start s laws (product_shape a b) (left_of s a b m) columns.result.now columns.ensures.ascending within absent _ r.matrix (r.empty ∙ ap empty_matrix r.shape);
+      made = walk_none s (product_shape a b) (left_of s a b m) columns.result.now columns.ensures.ascending within absent _ r.matrix (r.empty ∙ ap empty_matrix r.shape);
       cleared = r.cleared;
     }
+
+pub sum_column-requires-clause-left : goal.sum_column-requires-clause-left
+sum_column-requires-clause-left g c = c.shape.ensures.matrix
 
 pub sum_column-requires-clause-few : goal.sum_column-requires-clause-few
 sum_column-requires-clause-few g c =
@@ -65,8 +68,7 @@ push_column-requires-clause-column g c =
 
 pub push_column-requires-clause-before : goal.push_column-requires-clause-before
 push_column-requires-clause-before g c =
-    let here = get_or_default c.column_numbers-columns.result.now c.loop-n.n c.args.right.now.shape.cols 0 c.loop-n-test.true in
-    subst (λ k. All (λ e. e.column < k) c.loop-n.out.entries) here c.loop-n.invariant.made.before
+    before_column g.S.Semiring.arithmetic _ _ c.column_numbers-columns.result.now c.loop-n.n c.loop-n.out c.loop-n-test.true c.loop-n.invariant.made
 
 pub push_column-requires-clause-rows : goal.push_column-requires-clause-rows
 push_column-requires-clause-rows g c =
@@ -104,12 +106,11 @@ loop-n-preserved g c =
     let sum = c.in_ok-sum_column.ensures in
     let kept = c.in_ok-keep_nonzero.ensures in
     let has = rw c.deref.ensures.value at kept.values in
-    let here = get_or_default cs n b.shape.cols 0 l in
-    let before = subst (λ k. All (λ e. e.column < k) c.loop-n.out.entries) here inv.made.before in
+    let before = before_column s (product_shape a b) (left_of s a b m) cs n c.loop-n.out l inv.made in
     let stored = rw (c.deref-in-loop-n.ensures.value, c.deref-in-loop-n-2.ensures.value) at c.in_ok-push_column.ensures.ok in
     let adds = column_adds s j _ _ _ kept.column has c.loop-n.out _ before stored c.in_ok-push_column.ensures.matrix in
     record {
-      made = made_more s laws (product_shape a b) (left_of s a b m) cs columns.ensures.ascending within absent c.loop-n.out _ n j _ l refl inv.made adds (left_column s laws a b m is_a is_b is_m r.agree r.shape j lj c.nth_column.result.0.now c.nth_column.result.1.now c.column.result.0.now c.column.result.1.now _ rows_are values_are c.column.ensures.rows c.column.ensures.values sum.same_length sum.sums);
+      made = walk_more s (product_shape a b) (left_of s a b m) cs columns.ensures.ascending within absent c.loop-n.out _ n _ l adds (left_column s laws a b m is_a is_b is_m r.agree r.shape j lj c.nth_column.result.0.now c.nth_column.result.1.now c.column.result.0.now c.column.result.1.now _ rows_are values_are c.column.ensures.rows c.column.ensures.values sum.same_length sum.sums) inv.made;
       cleared = sum.cleared;
     }
 
@@ -124,4 +125,4 @@ returns g c =
     let columns = c.column_numbers-columns in
     let within = subst (λ (e : Extent). All (λ k. k < e.cols) columns.result.now) r.shape columns.ensures.inside in
     let absent = left_absent s laws a b m c.shape.ensures.matrix c.shape-2.ensures.matrix c.shape-3.ensures.matrix r.agree r.shape columns.result.now columns.ensures.all in
-    made_all s laws (product_shape a b) (left_of s a b m) columns.result.now columns.ensures.ascending within absent c.loop-n.out c.loop-n.n c.loop-n-test.false c.loop-n.invariant.made
+    walk_all s (product_shape a b) (left_of s a b m) columns.result.now columns.ensures.ascending within absent laws c.loop-n.out c.loop-n.n c.loop-n-test.false c.loop-n.invariant.made

@@ -4,7 +4,7 @@ use cb_plan::{Act, CheckedPlan, Op, PlanFault, PlanFaultKind};
 use std::alloc::Global;
 use std::test::Fail;
 
-/// The answer of the check, where a block of 1 by 2 stands in slot 0 of rank 0.
+/// The check's answer, with a 1 by 2 block in slot 0 of rank 0.
 fn answer(alloc: Global, acts: &[Act]) -> Result<Option<PlanFault>, Fail> {
     match CheckedPlan::check(alloc, grown(alloc, acts)?, &[row_at_0()?]) {
         Ok(_) => Ok(None),
@@ -17,10 +17,10 @@ fn answer(alloc: Global, acts: &[Act]) -> Result<Option<PlanFault>, Fail> {
     }
 }
 
-/// Some acts, and the fault that the check finds in them.
+/// Acts, and the fault that the check finds in them.
 type Finding<'a> = (&'a [Act], Option<PlanFault>);
 
-/// The number of the first plan in which another fault is found than said.
+/// The number of the first plan with an unexpected answer.
 fn wrong_plan(alloc: Global, findings: &[Finding<'_>]) -> Result<Option<usize>, Fail> {
     for (number, (acts, fault)) in findings.iter().enumerate() {
         if answer(alloc, acts)? != *fault {

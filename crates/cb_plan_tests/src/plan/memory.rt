@@ -1,4 +1,4 @@
-//! Memory that was taken before, and memory that is refused.
+//! Memory that was reserved, and memory that is refused.
 ghost use Rattle.std.specs.Prelude.{◌≡◌};
 
 use crate::plan::{checked, fault, plan_of, row_at_0, small, two_stores};
@@ -11,7 +11,7 @@ use cb_semirings::PlusTimes;
 use std::alloc::{AllocError, Global};
 use std::test::Fail;
 
-/// Whether the small plan grows where it has no room, where it has some, and where it is made.
+/// Whether the small plan grows after room for it is reserved.
 fn grows(alloc: Global) -> Result<bool, Fail> {
     let mut plan = Plan::new(alloc, 2);
     plan.reserve(2)?;
@@ -30,7 +30,7 @@ fn halves(alloc: Global) -> Option<usize> {
     Some(plan.project(alloc, 1).ok()?.len())
 }
 
-/// With ample memory no call that may be refused is.
+/// With ample memory no call is refused.
 #[test]
 fn a_plan_grows_with_ample_memory(rt: HostRuntime) -> Result<(), Fail> {
     assert!(rt; grows(rt.alloc())?);
@@ -46,7 +46,7 @@ fn entries_in(slot: &Slot<Block<PlusTimes>>) -> Option<Vec<Entry>> {
     }
 }
 
-/// Whether a slot holds the block that rank 0 has at first.
+/// Whether a slot holds the block that rank 0 starts with.
 fn is_block(slot: &Slot<Block<PlusTimes>>) -> bool {
     match entries_in(slot) {
         Some(entries) => entries.as_slice() == [entry(0, 1, 6)].as_slice(),
@@ -72,15 +72,15 @@ fn is_sent(alloc: Global) -> Option<bool> {
     Some(is_block(after[1].slot(3)))
 }
 
-/// The same of the stores.
+/// The same for the calls on stores.
 #[test]
 fn a_block_is_copied_and_sent_with_ample_memory(rt: HostRuntime) {
     assert!(rt; is_copied(rt.alloc()) == Some(true));
     assert!(rt; is_sent(rt.alloc()) == Some(true));
 }
 
-/// Whether the check of the small plan is refused memory and hands it back, or rank 1 has three halves, or there is no
-/// memory for them.
+/// Whether the check of the small plan hands the plan back if memory is refused; or else whether rank 1 has three halves,
+/// or is refused memory for them.
 fn is_checked_or_refused(alloc: Global, plan: Plan, start: Start) -> bool
     requires ranks { plan.ranks ≡ 2 }
     requires place { start ≡ record { rank = 0; slot = 0; shape = record { rows = 1; cols = 2 } } }
@@ -96,8 +96,8 @@ fn is_checked_or_refused(alloc: Global, plan: Plan, start: Start) -> bool
     }
 }
 
-/// Passes whichever single allocation is refused (`rt try --test --fail-alloc N`, for each N in turn): each call
-/// gives the right answer, or memory was wanting.
+/// Passes whichever single allocation is refused (`rt try --test --fail-alloc N`, for each N in turn): each result is
+/// right, or the error is want of memory.
 #[test]
 fn refused_memory_is_answered(rt: HostRuntime) -> Result<(), Fail> {
     let start = row_at_0()?;
@@ -124,7 +124,7 @@ fn runs_or_is_refused(alloc: Global) -> bool {
     }
 }
 
-/// The same of a plan that runs.
+/// The same for a plan that is run.
 #[test]
 fn a_run_is_refused_for_want_of_memory(rt: HostRuntime) {
     assert!(rt; runs_or_is_refused(rt.alloc()));

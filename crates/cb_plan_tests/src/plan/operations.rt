@@ -1,4 +1,4 @@
-//! What operations make, on the rank that does them and where it is sent.
+//! The results of operations, on the rank that does them and on the one that they are sent to.
 ghost use Rattle.std.specs.Prelude.{◌≡◌, ◌<◌, ℕ, All, AllPairs, IfOk, length};
 ghost use Rattle.cb_plan.specs.Plans.{IsElsewhere};
 
@@ -11,7 +11,7 @@ use cb_semirings::PlusTimes;
 use std::alloc::Global;
 use std::test::Fail;
 
-/// Two stores: in those of rank 0 stand a matrix A, a matrix B, a vector, and an accumulator.
+/// Two stores. Rank 0 has a matrix A, a matrix B, a vector and an accumulator.
 fn stores(alloc: Global) -> Result<Vec<RankStore<PlusTimes>>, Fail>
     ensures { IfOk result (λ v. length v.items ≡ 2) }
 {
@@ -29,7 +29,7 @@ fn stores(alloc: Global) -> Result<Vec<RankStore<PlusTimes>>, Fail>
     Ok(vec![in alloc; first, RankStore::new(alloc)?]?)
 }
 
-/// What the starts say of these stores.
+/// The starts of these stores.
 fn starts() -> Result<[Start; 4], Fail>
     ensures exist { IfOk result (λ v. All (λ s. (s.rank < 2) × (s.slot < SLOTS)) v) }
     ensures once { IfOk result (λ v. AllPairs IsElsewhere v) }
@@ -72,14 +72,14 @@ fn entries_at(store: &RankStore<PlusTimes>, n: u16) -> Result<Vec<Entry>, Fail>
     }
 }
 
-/// What rank 1 is sent of a slot of rank 0 after an operation there.
+/// What rank 1 receives from a slot of rank 0 after an operation there.
 fn sent_after(alloc: Global, op: Op, slot: u16) -> Result<Vec<Entry>, Fail> {
     let work = Act::Work { rank: 0, op };
     let stores = after(alloc, &[work, send(0, 1, slot, 9), shut(0, 1), shut(1, 0)])?;
     entries_at(&stores[1], 9)
 }
 
-/// Whether an operation reads just these slots, in this order.
+/// Whether an operation reads exactly these slots, in this order.
 fn reads(op: &Op, slots: &[u16]) -> bool {
     op.operands().as_slice() == slots
 }
@@ -95,10 +95,10 @@ fn operands_are_read_in_the_order_of_the_fields(rt: HostRuntime) -> Result<(), F
     Ok(())
 }
 
-/// An operation, the slot that it fills, and the entries that come there.
+/// An operation, the slot that it fills, and the expected entries there.
 type Outcome<'a> = (Op, u16, &'a [Entry]);
 
-/// The first slot that doesn't come out as said.
+/// The first slot with unexpected entries.
 fn wrong_slot(alloc: Global, outcomes: &[Outcome<'_>]) -> Result<Option<u16>, Fail> {
     for (op, slot, wanted) in outcomes {
         if sent_after(alloc, *op, *slot)?.as_slice() != *wanted {
@@ -108,7 +108,7 @@ fn wrong_slot(alloc: Global, outcomes: &[Outcome<'_>]) -> Result<Option<u16>, Fa
     Ok(None)
 }
 
-/// Into slot 8, or over the accumulator: what the product is added to may be one of its factors.
+/// Products into slot 8 or over the accumulator. The accumulator can be one of the factors.
 #[test]
 fn products_make_their_results(rt: HostRuntime) -> Result<(), Fail> {
     let (a, b, x, into) = (0, 1, 2, 8);

@@ -4,7 +4,7 @@ use cb_letters::Tag;
 use cb_plan::Half;
 use std::test::Fail;
 
-/// Whether a program posts slot 0 to rank 1, and then both lanes are at their end.
+/// Whether a program posts slot 0 to rank 1 and then ends both lanes.
 fn posts(program: &[Half]) -> bool {
     matches!(
         program,
@@ -20,7 +20,7 @@ fn posts(program: &[Half]) -> bool {
     )
 }
 
-/// Whether a program takes a block of 1 by 2 from rank 0 into slot 3, and then both lanes are at their end.
+/// Whether a program takes a 1 by 2 block from rank 0 into slot 3 and then ends both lanes.
 fn takes(program: &[Half]) -> bool {
     match program {
         [

@@ -1,4 +1,4 @@
-//! Stores, and whether they have what the starts of a plan say.
+//! Whether stores fit the starts of a plan.
 ghost use Rattle.std.specs.Prelude.{◌≡◌, IfSome, length};
 
 use crate::plan::checked;
@@ -8,7 +8,7 @@ use cb_semirings::PlusTimes;
 use std::alloc::Global;
 use std::test::Fail;
 
-/// Two stores, of which the first has a block of so many rows and columns without entries in slot 0.
+/// Two stores, the first with an empty block of this many rows and columns in slot 0.
 fn two_with(alloc: Global, rows: u32, cols: u32) -> Option<Vec<RankStore<PlusTimes>>>
     ensures { IfSome result (λ v. length v.items ≡ 2) }
 {
@@ -18,7 +18,7 @@ fn two_with(alloc: Global, rows: u32, cols: u32) -> Option<Vec<RankStore<PlusTim
     vec![in alloc; first, second].ok()
 }
 
-/// Whether the stores fit the plan with a block of 1 by 2, and not where one is wanting or has a lost slot.
+/// Whether stores with a 1 by 2 block fit the plan, and don't if one is missing or has a lost slot.
 fn fit_as_started(alloc: Global, plan: &CheckedPlan) -> Option<bool> {
     let mut stores = two_with(alloc, 1, 2)?;
     let fits = plan.fits(&stores) && !plan.fits(&stores[..1]);
@@ -26,7 +26,7 @@ fn fit_as_started(alloc: Global, plan: &CheckedPlan) -> Option<bool> {
     Some(fits && !plan.fits(&stores))
 }
 
-/// Whether neither stores without a block nor those with another one fit it.
+/// Whether neither stores without a block nor stores with another block fit it.
 fn do_not_fit(alloc: Global, plan: &CheckedPlan) -> Option<bool> {
     let first = RankStore::<PlusTimes>::new(alloc).ok()?;
     let second = RankStore::new(alloc).ok()?;
@@ -35,7 +35,7 @@ fn do_not_fit(alloc: Global, plan: &CheckedPlan) -> Option<bool> {
     Some(!plan.fits(&empty) && !plan.fits(&turned))
 }
 
-/// Of another block, of no block, of a lost slot and of a store too few none is what the starts say.
+/// Another block, no block, a lost slot, or too few stores: none fits the starts.
 #[test]
 fn stores_that_do_not_fit(rt: HostRuntime) -> Result<(), Fail> {
     let plan = checked(rt.alloc()).ok_or("no plan")?;

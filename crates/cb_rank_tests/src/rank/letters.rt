@@ -8,7 +8,7 @@ use cb_samples::shape;
 use cb_semirings::PlusTimes;
 use std::alloc::Global;
 
-/// Slot 0 is copied to slot 3, which is posted.
+/// Copies slot 0 to slot 3, which is posted.
 const COPY: Op = Op::Copy { a: 0, into: 3 };
 
 /// Rank 0 after that copy.
@@ -24,7 +24,7 @@ fn posted(rank: &mut Rank<PlusTimes>, supply: Supply) -> Option<(Tag, Body<Block
     }
 }
 
-/// Whether a letter with tag 9 and a block of one entry was posted.
+/// Whether a letter with tag 9 and a block with one entry is posted.
 fn posts_one_entry(rank: &mut Rank<PlusTimes>) -> bool {
     match posted(rank, Supply::Granted) {
         Some((tag, Body::Sheet(copy))) => tag == Tag(9) && copy.len() == 1,
@@ -32,7 +32,7 @@ fn posts_one_entry(rank: &mut Rank<PlusTimes>) -> bool {
     }
 }
 
-/// Whether a Shut was done, to rank 1.
+/// Whether the lane to rank 1 is shut.
 fn shuts(rank: &mut Rank<PlusTimes>) -> bool {
     match rank.want() {
         Want::Shut(1) => {
@@ -43,14 +43,14 @@ fn shuts(rank: &mut Rank<PlusTimes>) -> bool {
     }
 }
 
-/// Whether a rank that has done its operation posts its copy, closes its lane, and is done at the end of the other.
+/// Whether a rank that has done its operation posts its copy, closes its lane, and is done when the other lane ends.
 fn is_done_at_the_end(rank: &mut Rank<PlusTimes>) -> bool {
-    let mut as_said = rank.want() == Want::Post(1);
-    as_said &= posts_one_entry(rank);
-    as_said &= shuts(rank);
-    as_said &= rank.want() == Want::End(1) && !rank.is_done();
-    as_said &= accepts(rank, Arrival::End(1));
-    as_said & (rank.want() == Want::Done && rank.is_done() && rank.refusals() == 0)
+    let mut as_expected = rank.want() == Want::Post(1);
+    as_expected &= posts_one_entry(rank);
+    as_expected &= shuts(rank);
+    as_expected &= rank.want() == Want::End(1) && !rank.is_done();
+    as_expected &= accepts(rank, Arrival::End(1));
+    as_expected & (rank.want() == Want::Done && rank.is_done() && rank.refusals() == 0)
 }
 
 /// What slot 3 holds at the end of such a rank.
@@ -66,8 +66,7 @@ fn a_program_is_done_half_by_half(rt: HostRuntime) {
     assert!(rt; left_at_the_end(rt.alloc()) == Some(Held::Entries(1, 2)));
 }
 
-/// The rank at which what is posted for the copy was lost, where no memory is granted for it, and how often memory
-/// was refused.
+/// The rank at which the posted copy was lost, if no memory is granted for it, and how often memory was refused.
 fn lost_at(alloc: Global, lost: bool) -> Option<(u16, u64)> {
     let mut rank = copied(alloc, lost)?;
     match posted(&mut rank, Supply::Refused) {
@@ -82,7 +81,7 @@ fn a_refused_copy_is_lost_at_this_rank_and_a_lost_slot_at_its_origin(rt: HostRun
     assert!(rt; lost_at(rt.alloc(), true) == Some((10, 0)));
 }
 
-/// A letter to a first Take that is right but for what is named.
+/// A letter for the first Take, with these fields.
 fn other(from: u16, to: u16, tag: u32, body: Body<Block<PlusTimes>>) -> Arrival<Block<PlusTimes>> {
     Arrival::Letter(Letter {
         from,
@@ -93,7 +92,7 @@ fn other(from: u16, to: u16, tag: u32, body: Body<Block<PlusTimes>>) -> Arrival<
     })
 }
 
-/// Whether a rank that waits for its first letter takes none of these arrivals, and waits on.
+/// Whether a rank that waits for its first letter accepts none of these arrivals and keeps waiting.
 fn takes_none(rank: &mut Rank<PlusTimes>, strays: [Arrival<Block<PlusTimes>>; 6]) -> bool {
     let mut none = true;
     for stray in strays {
@@ -102,7 +101,7 @@ fn takes_none(rank: &mut Rank<PlusTimes>, strays: [Arrival<Block<PlusTimes>>; 6]
     none
 }
 
-/// Letters that are right but for the sender, the addressee, the tag, the kind, and the shape; and an end.
+/// Letters that are wrong only in the sender, the addressee, the tag, the kind, or the shape; and an end.
 fn strays(wide: Block<PlusTimes>) -> [Arrival<Block<PlusTimes>>; 6] {
     [
         other(0, 0, 5, Body::Lost(4)),
@@ -114,14 +113,14 @@ fn strays(wide: Block<PlusTimes>) -> [Arrival<Block<PlusTimes>>; 6] {
     ]
 }
 
-/// What slot 0 holds of a rank that takes none of them, and then the letter that it waits for.
+/// What slot 0 holds after a rank accepts none of them, and then the letter that it waits for.
 fn taken_after_strays(alloc: Global) -> Option<Held> {
     let wide = Block::empty(alloc, shape(1, 2).ok()?);
     let mut rank = rank_0(alloc, COPY, 3)?;
-    let mut as_said = takes_none(&mut rank, strays(wide));
-    as_said &= accepts(&mut rank, letter(0, 5, Body::Lost(4)));
+    let mut as_expected = takes_none(&mut rank, strays(wide));
+    as_expected &= accepts(&mut rank, letter(0, 5, Body::Lost(4)));
     let held = contents_of(&rank.into_store(), 0);
-    if as_said { Some(held) } else { None }
+    if as_expected { Some(held) } else { None }
 }
 
 #[test]
@@ -129,7 +128,7 @@ fn a_take_takes_no_other_letter(rt: HostRuntime) {
     assert!(rt; taken_after_strays(rt.alloc()) == Some(Held::LostAt(4)));
 }
 
-/// Whether a rank that waits for the end of the lane from rank 1 takes no close mark and no other lane's end.
+/// Whether a rank that waits for the end of the lane from rank 1 accepts no close mark and no other lane's end.
 fn takes_its_end_alone(rank: &mut Rank<PlusTimes>) -> bool {
     let mark = accepts(rank, letter(3, 0, Body::Close));
     let other_end = accepts(rank, Arrival::End(0));
@@ -138,7 +137,7 @@ fn takes_its_end_alone(rank: &mut Rank<PlusTimes>) -> bool {
     !mark && !other_end && waits && end
 }
 
-/// Whether a rank that has posted its copy and closed its lane does so.
+/// The same, for a rank that has posted its copy and closed its lane.
 fn ends_alone(alloc: Global) -> Option<bool> {
     let mut rank = copied(alloc, true)?;
     let _letter = posted(&mut rank, Supply::Granted);

@@ -9,8 +9,8 @@ use cb_samples::shape;
 use std::alloc::Global;
 use std::test::Fail;
 
-/// An operation, the slot that it sets, how many of slots 0, 1 and 2 it reads, the first ones, and what it makes of
-/// 2, 3 and 5 in them.
+/// An operation, the slot that it sets, how many of slots 0, 1 and 2 it reads, starting with 0, and its result for 2, 3
+/// and 5 in them.
 #[derive(Clone, Copy, Drop)]
 struct Case {
     op: Op,
@@ -19,7 +19,7 @@ struct Case {
     makes: Held,
 }
 
-/// An operation that sets slot 3 to a block of one entry.
+/// An operation that sets slot 3 to a block with one entry.
 macro_rules! one_entry {
     ($op:expr, $reads:literal, $value:literal) => {
         Case {
@@ -31,7 +31,7 @@ macro_rules! one_entry {
     };
 }
 
-/// Each operation that needs memory, but for Place.
+/// Each operation that needs memory, except Place.
 const CASES: [Case; 10] = [
     Case {
         op: Op::MulAdd { a: 0, b: 1, acc: 2 },
@@ -100,7 +100,7 @@ const CASES: [Case; 10] = [
     },
 ];
 
-/// Place.
+/// The case of Place.
 fn place() -> Result<Case, Fail> {
     let op = Op::Place {
         a: 0,
@@ -111,8 +111,7 @@ fn place() -> Result<Case, Fail> {
     Ok(one_entry!(op, 1, 2))
 }
 
-/// What the target of an operation holds after it, and the count of refusals, where some of slots 0, 1 and 2 are
-/// lost.
+/// What the target of an operation holds after it, and the count of refusals, if some of slots 0, 1 and 2 are lost.
 fn after(
     alloc: Global,
     op: Op,
@@ -128,7 +127,7 @@ fn after(
     Some((contents_of(&rank.into_store(), target), refusals))
 }
 
-/// Whether an operation makes its result, and where memory is refused is lost at this rank.
+/// Whether an operation gives its result, which is lost at this rank if memory is refused.
 fn is_made(alloc: Global, case: &Case) -> bool {
     let none = [false, false, false];
     let made = after(alloc, case.op, case.target, none, Supply::Granted);
@@ -145,8 +144,8 @@ fn an_operation_makes_its_result_or_is_lost_at_this_rank(rt: HostRuntime) -> Res
     Ok(())
 }
 
-/// Whether an operation that reads this slot is lost with it, and one that doesn't makes its result. No memory is
-/// asked for where an operand is lost, and the first that is names the origin.
+/// Whether the result of an operation is lost if this slot is, provided that it reads the slot. If an operand is lost, no
+/// memory is asked for, and the first lost operand names the origin.
 fn is_lost_with(alloc: Global, case: &Case, slot: u16) -> bool
     requires { slot < 3 }
 {
@@ -162,7 +161,7 @@ fn is_lost_with(alloc: Global, case: &Case, slot: u16) -> bool
     first == lost && second == lost
 }
 
-/// Whether it is lost with each slot that it reads, and with no other.
+/// Whether the result is lost with each slot that the operation reads, and with no other.
 fn is_lost_with_each(alloc: Global, case: &Case) -> bool {
     for slot in 0..3 {
         if !is_lost_with(alloc, case, slot) {

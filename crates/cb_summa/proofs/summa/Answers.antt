@@ -1,4 +1,4 @@
-use Rattle.std.proofs.Common.{◌≡◌, ℕ, ◌+◌, ◌*◌, ◌<◌, ◌≤◌, ◌++◌, List, [], sym, ap, subst, ◌∙◌, arith}
+use Rattle.std.proofs.Common.{◌≡◌, ℕ, ◌*◌, ◌<◌, ◌≤◌, ◌++◌, List, [], sym, ap, subst, ◌∙◌, arith}
 use Rattle.std.proofs.lemmas.Result.{IfOk-weaker}
 use Rattle.cb_matrix.specs.Sparse.{Extent}
 use Rattle.cb_plan.specs.declared.plans.Planned.{Planned}
@@ -20,7 +20,7 @@ whole q a b new l e = within_new (summa_acts q a b) new e (let m = summa_at_most
 pub multiply-requires : goal.multiply-requires
 multiply-requires c =
     let q = c.args.grid.now.side in
-    let l : q ≤ 6 = (let a = c.side-side.ensures.value in let b = c.side-side.ensures.limit in omega arith) in
+    let l : q ≤ 6 = (let a = c.side.ensures.value in let b = c.side.ensures.limit in omega arith) in
     within_first (product_acts q c.args.a c.args.b) (shut_acts (q * q)) c.new-plan.result (whole q c.args.a c.args.b c.new-plan.result l c.new-plan.ensures.acts)
 
 pub finish-requires-clause-ranks : goal.finish-requires-clause-ranks
@@ -29,13 +29,13 @@ finish-requires-clause-ranks c = c.in_ok-multiply.ensures.acts.ranks_are ∙ c.n
 pub finish-requires-clause-limit : goal.finish-requires-clause-limit
 finish-requires-clause-limit c =
     let q = c.args.grid.now.side in
-    let l : q ≤ 6 = (let a = c.side-side.ensures.value in let b = c.side-side.ensures.limit in omega arith) in
+    let l : q ≤ 6 = (let a = c.side.ensures.value in let b = c.side.ensures.limit in omega arith) in
     within_rest (product_acts q c.args.a c.args.b) (shut_acts (q * q)) c.new-plan.result c.multiply.new.plan (whole q c.args.a c.args.b c.new-plan.result l c.new-plan.ensures.acts) c.in_ok-multiply.ensures.acts
 
 pub finish-requires-clause-flows : goal.finish-requires-clause-flows
 finish-requires-clause-flows c =
     let q = c.args.grid.now.side in
-    let pos : 0 < q = (let a = c.side-side.ensures.value in let b = c.side-side.ensures.some in omega arith) in
+    let pos : 0 < q = (let a = c.side.ensures.value in let b = c.side.ensures.some in omega arith) in
     grown_flows (q * q) (operand_starts q (factors c.args.a c.args.b)) c.in-Ok.starts.items (product_acts q c.args.a c.args.b) c.new-plan.result c.multiply.new.plan
     c.new-plan.ensures.acts c.in_ok-multiply.ensures.acts c.in-Ok.ensures.starts (product_flow q pos c.args.a c.args.b c.requires)
 
@@ -56,7 +56,7 @@ returns-clause-acts c =
 pub returns-clause-product : goal.returns-clause-product
 returns-clause-product c =
     let q = c.args.grid.now.side in
-    let pos : 0 < q = (let a = c.side-side.ensures.value in let b = c.side-side.ensures.some in omega arith) in
+    let pos : 0 < q = (let a = c.side.ensures.value in let b = c.side.ensures.some in omega arith) in
     IfOk-weaker c.finish.result (λ (p : Planned). p.plan.acts ≡ c.multiply.new.plan.acts ++ shut_acts (q * q)) (λ p. IsProductPlan p.plan.acts q c.args.a c.args.b)
     (λ p e. subst (λ acts. IsProductPlan acts q c.args.a c.args.b) (sym (acts_are q c.args.a c.args.b p.plan.acts c.new-plan.result c.multiply.new.plan c.new-plan.ensures.acts c.in_ok-multiply.ensures.acts e)) (is_product_plan q pos c.args.a c.args.b c.requires))
     c.finish.ensures.acts

@@ -13,7 +13,7 @@ fn fault<S: Semiring>(alloc: Global, text: &[u8]) -> Option<(u64, Kind)> {
     }
 }
 
-/// Texts whose header or size line has a fault, and the line and the kind of it.
+/// Texts with a fault in the header or the size line, and the line and kind of that fault.
 const HEADERS_AND_SIZES: [(&[u8], u64, Kind); 12] = [
     (b"", 1, BadHeader),
     (
@@ -77,7 +77,7 @@ fn of_the_header_and_the_size(rt: HostRuntime) {
     }
 }
 
-/// Texts whose lines of entries have a fault, and the line and the kind of it.
+/// Texts with a fault in the entries, and the line and kind of that fault.
 const ENTRIES: [(&[u8], u64, Kind); 11] = [
     (
         b"%%MatrixMarket matrix coordinate integer general\n2 2 1\n1 1 5 6\n",
@@ -144,7 +144,7 @@ fn of_entries(rt: HostRuntime) {
     }
 }
 
-/// Whether this is the first fault of a text, or that it has none.
+/// Whether this is the first fault of a text, or whether it has none if `wanted` is None.
 fn is_fault<S: Semiring>(alloc: Global, text: &[u8], wanted: Option<(u64, Kind)>) -> bool {
     fault::<S>(alloc, text) == wanted
 }
@@ -167,7 +167,7 @@ fn of_other_semirings(rt: HostRuntime) {
     assert!(&rt; is_fault::<MaxMin>(alloc, skew, Some((1, Unsupported))));
 }
 
-/// The one value of a matrix of one row and one column that a text reads as, or its first fault.
+/// The value of the only place of the 1 by 1 matrix that a text reads as, or the first fault of the text.
 fn value(alloc: Global, text: &[u8]) -> Result<Option<u64>, (u64, Kind)> {
     match read::<PlusTimes>(alloc, text) {
         Ok(matrix) => {
@@ -180,7 +180,7 @@ fn value(alloc: Global, text: &[u8]) -> Result<Option<u64>, (u64, Kind)> {
     }
 }
 
-/// What the first bytes of a text of 62 bytes read as.
+/// What a prefix of this length of the text below reads as.
 fn of_beginning(length: usize) -> Result<Option<u64>, (u64, Kind)> {
     match length {
         0..=41 => Err((1, BadHeader)),
@@ -193,7 +193,7 @@ fn of_beginning(length: usize) -> Result<Option<u64>, (u64, Kind)> {
     }
 }
 
-/// Each beginning of a text is read or refused.
+/// Every prefix of a text is read or refused.
 #[test]
 fn of_every_prefix(rt: HostRuntime) {
     let text = b"%%MatrixMarket matrix coordinate integer general\n1 1 1\n1 1 12\n";
@@ -204,7 +204,7 @@ fn of_every_prefix(rt: HostRuntime) {
     }
 }
 
-/// Whether a kind of fault is shown as these words.
+/// Whether a kind of fault is displayed as these words.
 fn is_shown_as(kind: Kind, words: &str) -> bool {
     let shown: InlineText<64> = InlineText::of(kind);
     shown.as_str() == words

@@ -3,7 +3,7 @@ use cb_market::{Kind, ReadFault, read, text, vertex_text};
 use cb_semirings::{MaxMin, MinPlus, OrAnd, PlusTimes, Semiring};
 use std::alloc::{AllocError, Global};
 
-/// The text of the matrix that a text reads as.
+/// Reads a text, and writes the matrix again.
 fn again<S: Semiring>(alloc: Global, given: &[u8]) -> Result<Vec<u8>, Kind> {
     match read::<S>(alloc, given) {
         Ok(matrix) => text(alloc, &matrix).map_err(|_| Kind::Memory),
@@ -11,7 +11,7 @@ fn again<S: Semiring>(alloc: Global, given: &[u8]) -> Result<Vec<u8>, Kind> {
     }
 }
 
-/// Whether a text reads as the matrix of which this is the text.
+/// Whether a text reads as the matrix whose text is `wanted`.
 fn reads_as<S: Semiring>(alloc: Global, given: &[u8], wanted: &[u8]) -> bool {
     match again::<S>(alloc, given) {
         Ok(bytes) => bytes.as_slice() == wanted,
@@ -33,7 +33,7 @@ fn add_what_is_given_twice(rt: HostRuntime) {
     assert!(&rt; reads_as::<MaxMin>(alloc, given, greatest));
 }
 
-/// 0 is stored where it isn't the semiring's zero.
+/// A 0 is stored unless it is the semiring's zero.
 #[test]
 fn store_no_zero(rt: HostRuntime) {
     let alloc = rt.alloc();
@@ -58,7 +58,7 @@ fn keep_the_greatest_values(rt: HostRuntime) {
     assert!(&rt; reads_as::<MinPlus>(alloc, weight, weight));
 }
 
-/// Any case, signs, tabs, comments, empty lines, carriage returns, and no end of the last line.
+/// Mixed case, signs, tabs, comments, empty lines, carriage returns, and a last line without a line feed.
 #[test]
 fn may_be_untidy(rt: HostRuntime) {
     let given =
@@ -87,7 +87,7 @@ fn mirror_entries(rt: HostRuntime) {
     assert!(&rt; reads_as::<PlusTimes>(alloc, cancelled, wanted));
 }
 
-/// `H`, the size line of one entry, and a line of some words around many equal digits.
+/// A header, a size line for one entry, and a line with many equal digits between `before` and `after`.
 fn long_line(alloc: Global, before: &[u8], digit: u8, after: &[u8]) -> Result<Vec<u8>, AllocError> {
     let mut text = Vec::from_slice(
         alloc,
@@ -101,7 +101,7 @@ fn long_line(alloc: Global, before: &[u8], digit: u8, after: &[u8]) -> Result<Ve
     Ok(text)
 }
 
-/// Whether a text is refused at its third line for this.
+/// Whether a text is refused with this fault at its third line.
 fn is_refused(alloc: Global, given: &[u8], kind: Kind) -> bool {
     match read::<PlusTimes>(alloc, given) {
         Ok(_) => false,
@@ -115,14 +115,14 @@ fn refuses_a_long_index(alloc: Global) -> Result<bool, AllocError> {
     Ok(is_refused(alloc, &index, Kind::IndexRange))
 }
 
-/// Whether a value with many zeros before it is read.
+/// Whether a value with many leading zeros is read.
 fn reads_a_long_value(alloc: Global) -> Result<bool, AllocError> {
     let zeros = long_line(alloc, b"1 1 ", b'0', b"7\n")?;
     let wanted = b"%%MatrixMarket matrix coordinate integer general\n1 1 1\n1 1 7\n";
     Ok(reads_as::<PlusTimes>(alloc, &zeros, wanted))
 }
 
-/// Numbers have any length, and an announced count takes no room.
+/// Numbers can have any length, and no memory is taken for entries that are only announced.
 #[test]
 fn have_long_numbers(rt: HostRuntime) {
     let alloc = rt.alloc();
@@ -132,7 +132,7 @@ fn have_long_numbers(rt: HostRuntime) {
     assert_eq!(&rt; reads_a_long_value(alloc), Ok(true));
 }
 
-/// The text of the vertices that a text of one column reads as.
+/// Reads a text of one column, and writes it as a list of vertices.
 pub(crate) fn of_vertices(alloc: Global, given: &[u8]) -> Result<Vec<u8>, Kind> {
     match read::<MinPlus>(alloc, given) {
         Ok(levels) => {

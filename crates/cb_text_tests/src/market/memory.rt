@@ -1,12 +1,12 @@
-//! Where memory is refused, that is the answer, and else the right one. These tests are also run with
-//! each of their allocations refused in turn.
+//! If memory is refused, the calls say so; otherwise their results are right. These tests are also run with each
+//! allocation refused in turn.
 use super::matrices::of_vertices;
 use cb_market::{Kind, ReadFault, read, text};
 use cb_semirings::{OrAnd, PlusTimes, Semiring};
 use std::alloc::Global;
 
-/// The wanted text; or want of memory, at a line of the text, at the one past its last, or for the
-/// text of the answer.
+/// Whether a text is read and written again as `wanted`; or whether memory is refused, with a line up to the one past the
+/// last if it is while reading.
 fn right_or_memory<S: Semiring>(alloc: Global, given: &[u8], wanted: &[u8], last: u64) -> bool {
     match read::<S>(alloc, given) {
         Ok(matrix) => match text(alloc, &matrix) {

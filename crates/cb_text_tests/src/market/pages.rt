@@ -6,7 +6,7 @@ use cb_samples::are_values;
 use cb_semirings::{MinPlus, OrAnd, PlusTimes, Semiring};
 use std::alloc::{AllocError, Global};
 
-/// The pages of a matrix over a grid, one after the other, and how many they are.
+/// The concatenated pages of a matrix over a grid, and their number.
 fn joined<S: Semiring>(
     alloc: Global,
     matrix: &DistributedMatrix<S>,
@@ -22,7 +22,7 @@ fn joined<S: Semiring>(
     Ok((bytes, count))
 }
 
-/// The pages of the matrix that a text reads as, over the grid of a side.
+/// Reads a text over the grid of this side, and returns the concatenated pages of the matrix and their number.
 fn read_and_joined<S: Semiring>(
     alloc: Global,
     side: u32,
@@ -37,7 +37,7 @@ fn read_and_joined<S: Semiring>(
     }
 }
 
-/// Whether the pages of the matrix that a text reads as are a text on one page, on the grid of each side.
+/// Whether the matrix that a text reads as is written as `wanted`, on one page, on the grid of every side.
 fn is_one_page<S: Semiring>(alloc: Global, given: &[u8], wanted: &[u8]) -> bool {
     for side in 1..=6 {
         match read_and_joined::<S>(alloc, side, given) {
@@ -66,7 +66,7 @@ fn are_the_text_on_each_grid(rt: HostRuntime) {
     assert!(&rt; is_one_page::<PlusTimes>(alloc, empty, empty));
 }
 
-/// Entries that ascend at first, and then don't: one goes back, or stands at the place before it.
+/// Entries that ascend at first. Then one comes out of order, or is at the same place as the one before.
 #[test]
 fn are_in_order_on_each_grid(rt: HostRuntime) {
     let alloc = rt.alloc();
@@ -78,7 +78,7 @@ fn are_in_order_on_each_grid(rt: HostRuntime) {
     assert!(&rt; is_one_page::<PlusTimes>(alloc, twice, sum));
 }
 
-/// A matrix of seven columns, whose text has more bytes than a page.
+/// A matrix of seven columns, whose text is longer than a page.
 fn long_matrix(alloc: Global) -> Option<Matrix<PlusTimes>> {
     let mut entries = Vec::new(alloc);
     for row in 0u32..9_000 {
@@ -92,7 +92,7 @@ fn long_matrix(alloc: Global) -> Option<Matrix<PlusTimes>> {
     Matrix::from_entries(alloc, Shape::new(9_000, 7)?, &entries).ok()
 }
 
-/// Whether the pages of a matrix over the grid of a side are its text, on two pages.
+/// Whether the text of a matrix over the grid of this side is written on two pages.
 fn are_two_pages(
     alloc: Global,
     side: u32,
@@ -111,7 +111,7 @@ fn are_two_pages(
     }
 }
 
-/// A column goes on where a page is full.
+/// A column continues on the next page.
 #[test]
 fn follow_one_another(rt: HostRuntime) {
     let alloc = rt.alloc();
@@ -123,7 +123,7 @@ fn follow_one_another(rt: HostRuntime) {
     }
 }
 
-/// Run with each of its allocations refused in turn.
+/// Also run with each allocation refused in turn.
 #[test]
 fn are_refused_or_joined(rt: HostRuntime) {
     let alloc = rt.alloc();

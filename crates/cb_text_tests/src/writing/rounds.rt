@@ -1,4 +1,4 @@
-//! What the rounds of a text have, one after the other.
+//! The rounds of a text: together they are the whole text.
 ghost use Rattle.std.specs.Prelude.{◌≤◌, ◌<◌};
 ghost use Rattle.cb_market.specs.declared.sheets.TheConstants.{MOST_LINES};
 
@@ -11,8 +11,8 @@ use cb_writing::Round;
 use std::alloc::{AllocError, Global};
 use std::thread::Threads;
 
-/// The rounds of a matrix over a grid, one after the other, by so many sheets of so many lines each, and how many
-/// rounds they are.
+/// The concatenated rounds of a matrix over a grid, with this many sheets of this many lines each, and the number of
+/// rounds.
 pub(crate) fn joined<S: Semiring + Send + Sync, R: Threads + Sync>(
     rt: &R,
     alloc: Global,
@@ -36,7 +36,7 @@ pub(crate) fn joined<S: Semiring + Send + Sync, R: Threads + Sync>(
     Ok((bytes, count))
 }
 
-/// Whether the rounds of a matrix over a grid are a text, by one to five sheets of a few lines each or of many.
+/// Whether the rounds of a matrix over a grid are this text, with one to five sheets of a few lines each or of many.
 fn are_text<S: Semiring + Send + Sync, R: Threads + Sync>(
     rt: &R,
     alloc: Global,
@@ -54,7 +54,7 @@ fn are_text<S: Semiring + Send + Sync, R: Threads + Sync>(
     Ok(true)
 }
 
-/// Whether the rounds of the matrix that a text reads as, over the grid of a side, are that text.
+/// Whether a text that is read over the grid of this side is written in rounds as the same text.
 fn read_and_joined<S: Semiring + Send + Sync, R: Threads + Sync>(
     rt: &R,
     alloc: Global,
@@ -70,7 +70,7 @@ fn read_and_joined<S: Semiring + Send + Sync, R: Threads + Sync>(
     }
 }
 
-/// The same on the grids of side 1 to 3.
+/// The same on the grids of sides 1 to 3.
 fn are_on_each_grid<S: Semiring + Send + Sync, R: Threads + Sync>(
     rt: &R,
     alloc: Global,
@@ -102,7 +102,7 @@ fn are_the_text_on_each_grid(rt: HostRuntime) {
     assert!(&rt; are_on_each_grid::<PlusTimes, _>(&rt, alloc, empty));
 }
 
-/// A matrix of two columns, with so many entries in the second.
+/// A matrix of two columns, with this many entries in the second.
 fn long_column(alloc: Global, count: u32) -> Option<Matrix<PlusTimes>> {
     let mut entries = Vec::new(alloc);
     let first = Entry {
@@ -122,7 +122,7 @@ fn long_column(alloc: Global, count: u32) -> Option<Matrix<PlusTimes>> {
     Matrix::from_entries(alloc, Shape::new(20_000, 2)?, &entries).ok()
 }
 
-/// Whether the rounds of a matrix over the grid of a side are its text, in so many rounds of two sheets of so many
+/// Whether the text of a matrix over the grid of this side is written in this many rounds of two sheets of this many
 /// lines.
 fn are_rounds<R: Threads + Sync>(
     rt: &R,
@@ -149,7 +149,7 @@ fn are_rounds<R: Threads + Sync>(
     }
 }
 
-/// A column goes on where a sheet is full, and where a round is: 9,001 entries by twice 1,000 or by twice 4,501.
+/// A column continues on the next sheet and in the next round: 9,001 entries on two sheets of 1,000 or of 4,501 lines.
 #[test]
 fn follow_one_another(rt: HostRuntime) {
     let alloc = rt.alloc();
@@ -162,7 +162,7 @@ fn follow_one_another(rt: HostRuntime) {
     }
 }
 
-/// How many sheets a round has that is made for so many threads, or 0 where memory is refused.
+/// How many sheets a round for this many threads has, or 0 if memory is refused.
 fn sheets_of(alloc: Global, threads: usize, entries: u32) -> usize {
     let Some(matrix) = long_column(alloc, entries) else {
         return 0;
@@ -176,7 +176,7 @@ fn sheets_of(alloc: Global, threads: usize, entries: u32) -> usize {
     round.sheets().len()
 }
 
-/// A sheet for each thread that has enough to do, and one at least.
+/// There is a sheet for each thread with enough work, and at least one.
 #[test]
 fn have_a_sheet_for_each_thread(rt: HostRuntime) {
     let alloc = rt.alloc();
@@ -192,7 +192,7 @@ fn have_a_sheet_for_each_thread(rt: HostRuntime) {
     }
 }
 
-/// Run with each of its allocations refused in turn.
+/// Also run with each allocation refused in turn.
 #[test]
 fn are_refused_or_joined(rt: HostRuntime) {
     let alloc = rt.alloc();

@@ -7,10 +7,10 @@ use std::alloc::Global;
 use std::sync::atomic::{AtomicBool, AtomicUsize, Ordering};
 use std::thread::Threads;
 
-/// How often a thread looks for another one at the gate.
+/// How often a thread checks for another one at the gate.
 const LOOKS: usize = 20_000_000;
 
-/// A gate at which each thread waits a while, until two are there at once.
+/// A gate at which each thread waits a while for another.
 #[derive(Drop)]
 struct Meeting {
     here: AtomicUsize,
@@ -32,7 +32,7 @@ impl Gate for Meeting {
     }
 }
 
-/// Whether two threads that write a round of two sheets of two lines were at a gate at once.
+/// Whether the two threads that write a round of two sheets of two lines were at the gate at the same time.
 fn meet<R: Threads + Sync>(
     rt: &R,
     alloc: Global,

@@ -8,6 +8,10 @@ pub loop-rank-preserved : goal.loop-rank-preserved
 loop-rank-preserved g c =
     let q = c.args.self.now.side in
     let r = c.loop-rank.rank in
-    c.in_ok-push.ensures.items
-    ∙ (λ t. c.loop-rank.invariant t ++ (c.empty.ensures.value ∙ ap empty_matrix c.input_shape-piece.ensures) t ∷ [])
-    ∙ sym (map-range_with_len_more (λ n. empty_matrix (piece_shape q c.args.shape (n % q) (n / q))) 0 r r (omega arith))
+    record {
+      blocks = c.push_reserved.ensures.items
+          ∙ (λ t. c.loop-rank.invariant.blocks t ++ (c.empty.ensures.value ∙ ap empty_matrix c.input_shape-piece.ensures) t ∷ [])
+          ∙ sym (map-range_with_len_more (λ n. empty_matrix (piece_shape q c.args.shape (n % q) (n / q))) 0 r r (omega arith));
+      count = omega (arith, c.push_reserved.ensures.len, c.loop-rank.invariant.count);
+      room = omega (arith, c.push_reserved.ensures.capacity, c.loop-rank.invariant.room);
+    }

@@ -11,9 +11,9 @@ use Rattle.cb_layout.proofs.Grid.gather.Goals as goal
 
 pub new-segments-requires : goal.new-segments-requires
 new-segments-requires g c =
-    let side = c.side-side.ensures.value in
-    let some = c.side-side.ensures.some in
-    let few = c.side-side.ensures.limit in
+    let side = c.side.ensures.value in
+    let some = c.side.ensures.some in
+    let few = c.side.ensures.limit in
     record { some = omega arith; few = omega arith; count = c.requires.count; shapes = c.requires.shapes; matrices = c.stored.ensures.matrices }
 
 pub append_segment-requires-clause-lengths : goal.append_segment-requires-clause-lengths
@@ -47,9 +47,9 @@ pub from_ordered-requires : goal.from_ordered-requires
 from_ordered-requires g c =
     let s = g.S.Semiring.arithmetic in
     let q = c.args.self.now.side in
-    let side = c.side-side.ensures.value in
-    let some = c.side-side.ensures.some in
-    let few = c.side-side.ensures.limit in
+    let side = c.side.ensures.value in
+    let some = c.side.ensures.some in
+    let few = c.side.ensures.limit in
     let bs = c.args.blocks.now in
     let are : AreBlocks s q c.args.shape bs = record { some = omega arith; few = omega arith; count = c.requires.count; shapes = c.requires.shapes; matrices = c.stored.ensures.matrices } in
     let all : c.loop-segment.entries.items ≡ (glued_blocks s q c.args.shape bs).entries =
@@ -67,9 +67,9 @@ pub returns-clause-cuts : goal.returns-clause-cuts
 returns-clause-cuts g c i j l k =
     let s = g.S.Semiring.arithmetic in
     let q = c.args.self.now.side in
-    let side = c.side-side.ensures.value in
-    let some = c.side-side.ensures.some in
-    let few = c.side-side.ensures.limit in
+    let side = c.side.ensures.value in
+    let some = c.side.ensures.some in
+    let few = c.side.ensures.limit in
     let bs = c.args.blocks.now in
     let are : AreBlocks s q c.args.shape bs = record { some = omega arith; few = omega arith; count = c.requires.count; shapes = c.requires.shapes; matrices = c.stored.ensures.matrices } in
     let all : c.loop-segment.entries.items ≡ (glued_blocks s q c.args.shape bs).entries =

@@ -22,7 +22,7 @@ deliver-requires-clause-rank g c =
     let entry = get_or entries c.loop-entry.entry-index x in
     let here : c.in_block-rank.result.0 ≡ owner_of (block_tiles q m.shape) entry = c.in_block-rank.ensures.rank ∙ ap (λ e. owner_of (block_tiles q e) entry) shape in
     let place : c.in_block-rank.result.1 ≡ moved (block_tiles q m.shape) entry = c.in_block-rank.ensures.entry ∙ ap (λ e. moved (block_tiles q e) entry) shape in
-    (next_is_owed g.S.Semiring.arithmetic m c.shape-shape.ensures.matrix (block_tiles q m.shape) (block_tiling q m.shape (rw c.side-side.ensures.value at c.side-side.ensures.some)) entries c.entries-entry-items.ensures c.loop-entry.entry-index c.loop-entry-test.true c.loop-entry.blocks.items c.loop-entry.invariant x _ _ here place).rank
+    (next_is_owed g.S.Semiring.arithmetic m c.shape-shape.ensures.matrix (block_tiles q m.shape) (block_tiling q m.shape (rw c.side.ensures.value at c.side.ensures.some)) entries c.entries-entry-items.ensures c.loop-entry.entry-index c.loop-entry-test.true c.loop-entry.blocks.items c.loop-entry.invariant x _ _ here place).rank
 
 pub deliver-requires-clause-inside : goal.deliver-requires-clause-inside
 deliver-requires-clause-inside g c =
@@ -34,7 +34,7 @@ deliver-requires-clause-inside g c =
     let entry = get_or entries c.loop-entry.entry-index x in
     let here : c.in_block-rank.result.0 ≡ owner_of (block_tiles q m.shape) entry = c.in_block-rank.ensures.rank ∙ ap (λ e. owner_of (block_tiles q e) entry) shape in
     let place : c.in_block-rank.result.1 ≡ moved (block_tiles q m.shape) entry = c.in_block-rank.ensures.entry ∙ ap (λ e. moved (block_tiles q e) entry) shape in
-    (next_is_owed g.S.Semiring.arithmetic m c.shape-shape.ensures.matrix (block_tiles q m.shape) (block_tiling q m.shape (rw c.side-side.ensures.value at c.side-side.ensures.some)) entries c.entries-entry-items.ensures c.loop-entry.entry-index c.loop-entry-test.true c.loop-entry.blocks.items c.loop-entry.invariant x _ _ here place).inside
+    (next_is_owed g.S.Semiring.arithmetic m c.shape-shape.ensures.matrix (block_tiles q m.shape) (block_tiling q m.shape (rw c.side.ensures.value at c.side.ensures.some)) entries c.entries-entry-items.ensures c.loop-entry.entry-index c.loop-entry-test.true c.loop-entry.blocks.items c.loop-entry.invariant x _ _ here place).inside
 
 pub deliver-requires-clause-order : goal.deliver-requires-clause-order
 deliver-requires-clause-order g c =
@@ -46,7 +46,7 @@ deliver-requires-clause-order g c =
     let entry = get_or entries c.loop-entry.entry-index x in
     let here : c.in_block-rank.result.0 ≡ owner_of (block_tiles q m.shape) entry = c.in_block-rank.ensures.rank ∙ ap (λ e. owner_of (block_tiles q e) entry) shape in
     let place : c.in_block-rank.result.1 ≡ moved (block_tiles q m.shape) entry = c.in_block-rank.ensures.entry ∙ ap (λ e. moved (block_tiles q e) entry) shape in
-    (next_is_owed g.S.Semiring.arithmetic m c.shape-shape.ensures.matrix (block_tiles q m.shape) (block_tiling q m.shape (rw c.side-side.ensures.value at c.side-side.ensures.some)) entries c.entries-entry-items.ensures c.loop-entry.entry-index c.loop-entry-test.true c.loop-entry.blocks.items c.loop-entry.invariant x _ _ here place).order
+    (next_is_owed g.S.Semiring.arithmetic m c.shape-shape.ensures.matrix (block_tiles q m.shape) (block_tiling q m.shape (rw c.side.ensures.value at c.side.ensures.some)) entries c.entries-entry-items.ensures c.loop-entry.entry-index c.loop-entry-test.true c.loop-entry.blocks.items c.loop-entry.invariant x _ _ here place).order
 
 pub deliver-requires-clause-value : goal.deliver-requires-clause-value
 deliver-requires-clause-value g c =
@@ -58,7 +58,7 @@ deliver-requires-clause-value g c =
     let entry = get_or entries c.loop-entry.entry-index x in
     let here : c.in_block-rank.result.0 ≡ owner_of (block_tiles q m.shape) entry = c.in_block-rank.ensures.rank ∙ ap (λ e. owner_of (block_tiles q e) entry) shape in
     let place : c.in_block-rank.result.1 ≡ moved (block_tiles q m.shape) entry = c.in_block-rank.ensures.entry ∙ ap (λ e. moved (block_tiles q e) entry) shape in
-    (next_is_owed g.S.Semiring.arithmetic m c.shape-shape.ensures.matrix (block_tiles q m.shape) (block_tiling q m.shape (rw c.side-side.ensures.value at c.side-side.ensures.some)) entries c.entries-entry-items.ensures c.loop-entry.entry-index c.loop-entry-test.true c.loop-entry.blocks.items c.loop-entry.invariant x _ _ here place).value
+    (next_is_owed g.S.Semiring.arithmetic m c.shape-shape.ensures.matrix (block_tiles q m.shape) (block_tiling q m.shape (rw c.side.ensures.value at c.side.ensures.some)) entries c.entries-entry-items.ensures c.loop-entry.entry-index c.loop-entry-test.true c.loop-entry.blocks.items c.loop-entry.invariant x _ _ here place).value
 
 pub deliver-requires-clause-not_zero : goal.deliver-requires-clause-not_zero
 deliver-requires-clause-not_zero g c =
@@ -70,7 +70,7 @@ deliver-requires-clause-not_zero g c =
     let entry = get_or entries c.loop-entry.entry-index x in
     let here : c.in_block-rank.result.0 ≡ owner_of (block_tiles q m.shape) entry = c.in_block-rank.ensures.rank ∙ ap (λ e. owner_of (block_tiles q e) entry) shape in
     let place : c.in_block-rank.result.1 ≡ moved (block_tiles q m.shape) entry = c.in_block-rank.ensures.entry ∙ ap (λ e. moved (block_tiles q e) entry) shape in
-    (next_is_owed g.S.Semiring.arithmetic m c.shape-shape.ensures.matrix (block_tiles q m.shape) (block_tiling q m.shape (rw c.side-side.ensures.value at c.side-side.ensures.some)) entries c.entries-entry-items.ensures c.loop-entry.entry-index c.loop-entry-test.true c.loop-entry.blocks.items c.loop-entry.invariant x _ _ here place).not_zero
+    (next_is_owed g.S.Semiring.arithmetic m c.shape-shape.ensures.matrix (block_tiles q m.shape) (block_tiling q m.shape (rw c.side.ensures.value at c.side.ensures.some)) entries c.entries-entry-items.ensures c.loop-entry.entry-index c.loop-entry-test.true c.loop-entry.blocks.items c.loop-entry.invariant x _ _ here place).not_zero
 
 pub loop-entry-preserved : goal.loop-entry-preserved
 loop-entry-preserved g c =
@@ -82,7 +82,7 @@ loop-entry-preserved g c =
     let entry = get_or entries c.loop-entry.entry-index x in
     let here : c.in_block-rank.result.0 ≡ owner_of (block_tiles q m.shape) entry = c.in_block-rank.ensures.rank ∙ ap (λ e. owner_of (block_tiles q e) entry) shape in
     let place : c.in_block-rank.result.1 ≡ moved (block_tiles q m.shape) entry = c.in_block-rank.ensures.entry ∙ ap (λ e. moved (block_tiles q e) entry) shape in
-    next_is_scattered g.S.Semiring.arithmetic m c.shape-shape.ensures.matrix (block_tiles q m.shape) (block_tiling q m.shape (rw c.side-side.ensures.value at c.side-side.ensures.some)) entries c.entries-entry-items.ensures c.loop-entry.entry-index c.loop-entry-test.true c.loop-entry.blocks.items c.loop-entry.invariant x _ _ here place _ c.in_ok-deliver.ensures.ok
+    next_is_scattered g.S.Semiring.arithmetic m c.shape-shape.ensures.matrix (block_tiles q m.shape) (block_tiling q m.shape (rw c.side.ensures.value at c.side.ensures.some)) entries c.entries-entry-items.ensures c.loop-entry.entry-index c.loop-entry-test.true c.loop-entry.blocks.items c.loop-entry.invariant x _ _ here place _ c.in_ok-deliver.ensures.ok
 
 pub returns-clause-blocks : goal.returns-clause-blocks
 returns-clause-blocks g c i j l k =
@@ -90,7 +90,7 @@ returns-clause-blocks g c i j l k =
     let m = c.args.matrix.now in
     let past = rw c.entries-entry-items.ensures at c.loop-entry-test.false in
     let all = scattered_all (block_tiles q m.shape) m.entries c.loop-entry.entry-index c.loop-entry.blocks.items past c.loop-entry.invariant in
-    (block_is g.S.Semiring.arithmetic g.met.S.Semiring.is_semiring q (rw c.side-side.ensures.value at c.side-side.ensures.some) m c.shape-shape.ensures.matrix c.loop-entry.blocks.items all i j l k).0
+    (block_is g.S.Semiring.arithmetic g.met.S.Semiring.is_semiring q (rw c.side.ensures.value at c.side.ensures.some) m c.shape-shape.ensures.matrix c.loop-entry.blocks.items all i j l k).0
 
 pub returns-clause-matrices : goal.returns-clause-matrices
 returns-clause-matrices g c i j l k =
@@ -98,7 +98,7 @@ returns-clause-matrices g c i j l k =
     let m = c.args.matrix.now in
     let past = rw c.entries-entry-items.ensures at c.loop-entry-test.false in
     let all = scattered_all (block_tiles q m.shape) m.entries c.loop-entry.entry-index c.loop-entry.blocks.items past c.loop-entry.invariant in
-    (block_is g.S.Semiring.arithmetic g.met.S.Semiring.is_semiring q (rw c.side-side.ensures.value at c.side-side.ensures.some) m c.shape-shape.ensures.matrix c.loop-entry.blocks.items all i j l k).1
+    (block_is g.S.Semiring.arithmetic g.met.S.Semiring.is_semiring q (rw c.side.ensures.value at c.side.ensures.some) m c.shape-shape.ensures.matrix c.loop-entry.blocks.items all i j l k).1
 
 pub returns-clause-law : goal.returns-clause-law
 returns-clause-law g c =
@@ -109,4 +109,4 @@ returns-clause-law g c =
     let is = c.shape-shape.ensures.matrix in
     let past = rw c.entries-entry-items.ensures at c.loop-entry-test.false in
     let all = scattered_all (block_tiles q m.shape) m.entries c.loop-entry.entry-index c.loop-entry.blocks.items past c.loop-entry.invariant in
-    glued_cut s laws q (rw c.side-side.ensures.value at c.side-side.ensures.some) m is (λ i j. block_at c.loop-entry.blocks.items (i * q + j)) (λ i j l k. (block_is s laws q (rw c.side-side.ensures.value at c.side-side.ensures.some) m is c.loop-entry.blocks.items all i j l k).0)
+    glued_cut s laws q (rw c.side.ensures.value at c.side.ensures.some) m is (λ i j. block_at c.loop-entry.blocks.items (i * q + j)) (λ i j l k. (block_is s laws q (rw c.side.ensures.value at c.side.ensures.some) m is c.loop-entry.blocks.items all i j l k).0)

@@ -3,7 +3,7 @@ use Rattle.cb_market.specs.Lines.{number, number_from}
 use Rattle.cb_market.specs.Cursor.{after_digits, front_digits}
 use Rattle.cb_market.proofs.plain_lines.number_before.Given as goal
 
--- the digits that are left are those of the text, and their number goes on from that of the digits before
+-- the remaining digits continue the number of the digits before
 abbrev pub invariant-loop-rest : goal.invariant-loop-rest
 invariant-loop-rest l = record {
   after : after_digits l.rest ≡ after_digits l.text;

@@ -1,9 +1,9 @@
-use Rattle.std.proofs.Common.{rules, ◌≡◌, ◌<◌, [], ◌∷◌, ◌++◌, length, sym, ◌∙◌, ap, subst, length-append}
+use Rattle.std.proofs.Common.{rules, ◌≡◌, ◌<◌, [], ◌∷◌, length, refl, sym, ◌∙◌, ap, subst, length-append}
 use Rattle.std.specs.Prelude.{drop, get_or}
 use Rattle.cb_rank.specs.Ranks.{FitsAt, new_rank}
 use Rattle.cb_rank.proofs.RankAfterHalf.{fits_at}
-use Rattle.cb_ranks.specs.Crews.{desks_of}
-use Rattle.cb_ranks.proofs.CrewSoFar.{drop_head, started_more, desks_grow, nothing_left}
+use Rattle.cb_ranks.specs.Crews.{Member, desks_of}
+use Rattle.cb_ranks.proofs.CrewSoFar.{drop_head, started_more, images_go_on, nothing_left}
 use Rattle.cb_ranks.proofs.crew.pair_up.Goals as goal
 
 pub start-requires-clause-fits : goal.start-requires-clause-fits
@@ -29,7 +29,7 @@ loop-store-preserved g c =
     let new = c.in-Ok.ensures.new ∙ ap (λ n. new_rank p n c.in-Some.store) number ∙ ap (λ st. new_rank p (length crew) st) (sym head.0) in
     let other : c.loop-store.store-iterator.b.rest.items ≡ c.in-Some.desk ∷ c.next.new.self.b.rest.items = search rules in
     record {
-      desks = ap (λ ms. desks_of ms ++ c.next.new.self.b.rest.items) c.push_reserved.ensures.items ∙ desks_grow crew (c.in-Ok.rank, c.in-Some.desk) c.next.new.self.b.rest.items ∙ ap (λ ds. desks_of crew ++ ds) (sym other) ∙ c.loop-store.invariant.desks;
+      desks = images_go_on (λ (m : Member). m.1) crew _ (c.in-Ok.rank, c.in-Some.desk) c.in-Some.desk c.next.new.self.b.rest.items _ _ c.push_reserved.ensures.items refl other c.loop-store.invariant.desks;
       stores = ap (λ n. drop n first) (ap length c.push_reserved.ensures.items ∙ length-append crew ((c.in-Ok.rank, c.in-Some.desk) ∷ [])) ∙ head.1;
       ranks = rw c.push_reserved.ensures.items (started_more p first crew (c.in-Ok.rank, c.in-Some.desk) c.loop-store.invariant.ranks new);
       same = search rules;

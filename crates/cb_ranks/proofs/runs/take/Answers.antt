@@ -1,8 +1,10 @@
-use Rattle.std.proofs.Common.{◌≡◌, refl, subst}
+use Rattle.std.proofs.Common.{◌≡◌, refl, sym, subst}
 use Rattle.cb_rank.specs.Ranks.{IsAwaited, next_half, onward, slots_with}
 use Rattle.cb_rank.proofs.Ports.{waits_for}
 use Rattle.cb_lanes.specs.Desks.{Takes}
-use Rattle.cb_ranks.proofs.HalfOverDesk.{is_lane, does_letter, does_mark}
+use Rattle.cb_ranks.specs.Runs.{IsOther}
+use Rattle.cb_ranks.proofs.HalfOverDesk.{is_lane, is_waiting, does_letter, does_mark}
+use Rattle.cb_ranks.proofs.RanksInFaults.{err_is}
 use Rattle.cb_ranks.proofs.RecorderEvents.{tells_arrival}
 use Rattle.cb_ranks.proofs.runs.take.Goals.{in-Letter, in-End}
 use Rattle.cb_ranks.proofs.runs.take.Goals as goal
@@ -18,6 +20,18 @@ unreachable-requires-in-Stranger g c =
     let lane = is_lane c.args.rank.now c.args.desk.now c.args.from c.requires.under_way it.other.0 it.other.1 in
     let stranger = c.in_ok-letter.ensures.stranger.0 c.in-Stranger.is in
     cc
+
+pub accept-requires : goal.accept-requires
+accept-requires g c = is_waiting c.args.rank.now c.args.from c.requires.want
+
+pub returns-in_default-clause-gone : goal.returns-in_default-clause-gone
+returns-in_default-clause-gone g c = (waits_for _ c.args.from c.requires.rank c.requires.want).other
+
+pub returns-in_err-letter-clause-gone : goal.returns-in_err-letter-clause-gone
+returns-in_err-letter-clause-gone g c =
+    let other = (waits_for _ c.args.from c.requires.rank c.requires.want).other in
+    err_is (λ e. IsOther c.args.rank.now e.0) c.in_err-letter.field-0.0 c.from_residual.result c.from_residual.ensures.1
+    (subst (λ k. IsOther c.args.rank.now k) (sym c.in_err-letter.ensures.gone.0) other)
 
 pub returns-clause-next : goal.returns-clause-next
 returns-clause-next g c =

@@ -1,10 +1,24 @@
 use Rattle.std.proofs.Common.{rules, length, ◌≡◌, ◌++◌, ◌∷◌, sym, ap, ◌∙◌, subst, map}
 use Rattle.std.proofs.lemmas.List.{length-map}
-use Rattle.cb_ranks.specs.Crews.{IsOneOf}
+use Rattle.cb_ranks.specs.Crews.{Member, AreNew, IsOneOf}
 use Rattle.cb_ranks.specs.Started.{started, started_recorder}
 use Rattle.cb_ranks.proofs.RanksInFaults.{member_is_one, member_is_next}
-use Rattle.cb_ranks.proofs.CrewSoFar.{nothing_left}
+use Rattle.cb_ranks.proofs.CrewSoFar.{images_go_on, nothing_left}
 use Rattle.cb_ranks.proofs.threads.start_all.Goals as goal
+
+pub loop-rank-preserved : goal.loop-rank-preserved
+loop-rank-preserved g c =
+    let member : Member = (c.in-Some.rank, c.in-Some.desk) in
+    let next : c.loop-rank.rank-iterator.a.rest.items ≡ member ∷ c.next.new.self.a.rest.items = search rules in
+    let other : c.loop-rank.rank-iterator.b.rest.items ≡ c.in-Some.recorder ∷ c.next.new.self.b.rest.items = search rules in
+    record {
+      all = images_go_on (started {S = g.row.S.Denot} {T = g.row.T.Denot}) _ _ _ member _ _ _ c.push_reserved.ensures.items c.in-Some-start_one.ensures.0 next c.loop-rank.invariant.all;
+      recorders = images_go_on (started_recorder {S = g.row.S.Denot} {T = g.row.T.Denot}) _ _ _ c.in-Some.recorder _ _ _ c.push_reserved.ensures.items c.in-Some-start_one.ensures.1 other c.loop-rank.invariant.recorders;
+      same = search rules;
+      new = (subst AreNew next c.loop-rank.invariant.new).1;
+      few = search rules;
+      room = search rules;
+    }
 
 pub returns-in_default-clause-missing : goal.returns-in_default-clause-missing
 returns-in_default-clause-missing g c =

@@ -1,10 +1,9 @@
-use Rattle.std.proofs.Common.{◌≡◌, ℕ, ◌<◌, ◌≤◌, ◌++◌, length, map, slice_index, sym, ap, ◌∙◌, subst, arith}
+use Rattle.std.proofs.Common.{◌≡◌, ◌<◌, ◌++◌, length, map, slice_index, sym, ap, ◌∙◌, subst, arith}
 use Rattle.cb_semirings.specs.Tables.{min_plus}
 use Rattle.cb_matrix.specs.Sparse.{Sparse, Extent, IsMatrix}
 use Rattle.cb_searches.specs.Walks.{AreDistances}
-use Rattle.cb_searches.specs.Searches.{HasEdges}
-use Rattle.cb_searches.specs.SeveralSources.{AreDistancesFrom, columns_shape, column_at, in_column_of}
-use Rattle.cb_searches.proofs.ColumnsBesides.{HasColumns, column_more}
+use Rattle.cb_searches.specs.SeveralSources.{columns_shape, column_at, in_column_of}
+use Rattle.cb_searches.proofs.ColumnsBesides.{column_more}
 use Rattle.cb_searches.proofs.several_sources.columns_from.Goals as goal
 
 pub loop-n-preserved : goal.loop-n-preserved

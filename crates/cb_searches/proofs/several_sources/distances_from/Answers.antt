@@ -1,4 +1,4 @@
-use Rattle.std.proofs.Common.{◌≡◌, ◌<◌, ap, sym, subst}
+use Rattle.std.proofs.Common.{◌<◌, ap, sym, subst}
 use Rattle.std.specs.Prelude.{All}
 use Rattle.cb_matrix.specs.Sparse.{Sparse}
 use Rattle.cb_searches.proofs.several_sources.distances_from.Goals as goal

@@ -3,7 +3,7 @@ use Rattle.std.proofs.lemmas.List.Elements.{All-get_or}
 use Rattle.cb_matrix.specs.Sparse.{Extent}
 use Rattle.cb_dcsc.proofs.Lookup.{rows_inside}
 use Rattle.cb_product.proofs.OwnColumn.{own_sparse}
-use Rattle.cb_selections.proofs.ColumnsMade.{walk_none, walk_more, walk_all, before_column}
+use Rattle.cb_product.proofs.ColumnsMade.{walk_none, walk_more, walk_all, before_column}
 use Rattle.cb_selections.proofs.DiagonalPlaces.{on_diagonal, place_absent, place_adds}
 use Rattle.cb_selections.proofs.diagonals.push_places.Goals as goal
 

@@ -1,5 +1,5 @@
 use Rattle.std.proofs.Common.{get_or}
-use Rattle.cb_selections.proofs.ColumnsMade.{IsMadeTo}
+use Rattle.cb_product.proofs.ColumnsMade.{IsMadeTo}
 use Rattle.cb_selections.specs.Replaced.{where_true}
 use Rattle.cb_matrix.specs.Sparse.{at}
 use Rattle.std.specs.Prelude.{◌==◌}

@@ -5,7 +5,7 @@ use Rattle.cb_dcsc.proofs.Lookup.{rows_inside}
 use Rattle.cb_product.proofs.OwnColumn.{own_sparse}
 use Rattle.cb_product.proofs.ProductColumns.{own_column}
 use Rattle.cb_product.proofs.StoredColumn.{column_adds}
-use Rattle.cb_selections.proofs.ColumnsMade.{IsMadeTo, made_more, made_all}
+use Rattle.cb_product.proofs.ColumnsMade.{IsMadeTo, made_more, made_all}
 use Rattle.cb_selections.proofs.extracts.push_columns.Goals as goal
 
 pub push_column-requires-clause-rows : goal.push_column-requires-clause-rows

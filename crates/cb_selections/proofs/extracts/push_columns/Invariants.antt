@@ -1,6 +1,6 @@
 use Rattle.std.proofs.Common.{get_or, length}
 use Rattle.cb_matrix.specs.Sparse.{at}
-use Rattle.cb_selections.proofs.ColumnsMade.{IsMadeTo}
+use Rattle.cb_product.proofs.ColumnsMade.{IsMadeTo}
 use Rattle.cb_selections.proofs.extracts.push_columns.Given as goal
 
 abbrev pub invariant-loop-n : goal.invariant-loop-n

@@ -1,17 +1,16 @@
-use Rattle.std.proofs.Common.{◌≡◌, ◌+◌, ◌*◌, ◌/◌, ◌%◌, ◌<◌, ◌≤◌, ◌∙◌, ℕ, get_or, refl, sym, ap, subst, arith}
+use Rattle.std.proofs.Common.{◌≡◌, ◌+◌, ◌*◌, ◌<◌, ◌≤◌, ◌∙◌, ℕ, get_or, refl, sym, ap, subst, arith}
 use Rattle.std.specs.Prelude.{All}
 use Rattle.std.proofs.Math.Nat.{mul-le-mul_right}
 use Rattle.std.proofs.lemmas.List.Elements.{All-weaker}
 use Rattle.cb_matrix.specs.declared.TheConstants.{LIMIT}
 use Rattle.cb_matrix.specs.Sparse.{Extent, at}
-use Rattle.cb_dcsc.specs.Columns.{rows_of, values_of, row_value}
+use Rattle.cb_dcsc.specs.Columns.{rows_of, values_of}
 use Rattle.cb_dcsc.proofs.Lookup.{rows_inside}
 use Rattle.cb_product.proofs.OwnColumn.{own_sparse}
-use Rattle.cb_product.proofs.ProductColumns.{own_column}
 use Rattle.cb_product.proofs.StoredColumn.{column_adds, column_inside}
 use Rattle.cb_selections.specs.Selections.{pair_value}
 use Rattle.cb_selections.proofs.ReplacedColumns.{nth_are}
-use Rattle.cb_selections.proofs.PairedColumns.{columns_none, columns_all, column_none, column_all, column_more, column_before, column_low, pair_past}
+use Rattle.cb_selections.proofs.PairedColumns.{columns_none, columns_all, column_none, column_all, column_more, column_before, column_low, pair_past, paired_has}
 use Rattle.cb_selections.proofs.kronecker_products.push_products.Goals as goal
 
 pub loop-n-init : goal.loop-n-init
@@ -37,97 +36,52 @@ loop-m-init g c =
 pub pair_column-requires-clause-left : goal.pair_column-requires-clause-left
 pair_column-requires-clause-left g c =
     let s = g.S.Semiring.arithmetic in
-    let laws = g.met.S.Semiring.is_semiring in
     let a = c.args.left.now in
-    let b = c.args.right.now in
     let cs = c.column_numbers-outer in
-    let ds = c.column_numbers-inner in
     let n = c.loop-n.n in
-    let m = c.loop-m.m in
     let p = get_or cs.result.now n 0 in
-    let q = get_or ds.result.now m 0 in
     let left_rows = c.nth_column.result.0.now in
     let left_values = c.nth_column.result.1.now in
-    let rows = c.nth_column-in-loop-m.result.0.now in
-    let values = c.nth_column-in-loop-m.result.1.now in
     let left_rows_are = nth_are a.entries cs.result.now left_rows n rows_of cs.ensures.numbers c.nth_column.ensures.rows in
     let left_values_are = nth_are a.entries cs.result.now left_values n values_of cs.ensures.numbers c.nth_column.ensures.values in
-    let rows_are = nth_are b.entries ds.result.now rows m rows_of ds.ensures.numbers c.nth_column-in-loop-m.ensures.rows in
-    let values_are = nth_are b.entries ds.result.now values m values_of ds.ensures.numbers c.nth_column-in-loop-m.ensures.values in
-    let height_is : c.rows-height.result ≡ b.shape.rows = c.rows-height.ensures.value ∙ ap (λ (x : Extent). x.rows) c.shape.ensures.shape in
-    let width_is : c.cols-width.result ≡ b.shape.cols = c.cols-width.ensures.value ∙ ap (λ (x : Extent). x.cols) c.shape-2.ensures.shape in
     own_sparse s a c.requires.left p left_rows left_values left_rows_are left_values_are
 
 pub pair_column-requires-clause-right : goal.pair_column-requires-clause-right
 pair_column-requires-clause-right g c =
     let s = g.S.Semiring.arithmetic in
-    let laws = g.met.S.Semiring.is_semiring in
-    let a = c.args.left.now in
     let b = c.args.right.now in
-    let cs = c.column_numbers-outer in
     let ds = c.column_numbers-inner in
-    let n = c.loop-n.n in
     let m = c.loop-m.m in
-    let p = get_or cs.result.now n 0 in
     let q = get_or ds.result.now m 0 in
-    let left_rows = c.nth_column.result.0.now in
-    let left_values = c.nth_column.result.1.now in
     let rows = c.nth_column-in-loop-m.result.0.now in
     let values = c.nth_column-in-loop-m.result.1.now in
-    let left_rows_are = nth_are a.entries cs.result.now left_rows n rows_of cs.ensures.numbers c.nth_column.ensures.rows in
-    let left_values_are = nth_are a.entries cs.result.now left_values n values_of cs.ensures.numbers c.nth_column.ensures.values in
     let rows_are = nth_are b.entries ds.result.now rows m rows_of ds.ensures.numbers c.nth_column-in-loop-m.ensures.rows in
     let values_are = nth_are b.entries ds.result.now values m values_of ds.ensures.numbers c.nth_column-in-loop-m.ensures.values in
-    let height_is : c.rows-height.result ≡ b.shape.rows = c.rows-height.ensures.value ∙ ap (λ (x : Extent). x.rows) c.shape.ensures.shape in
-    let width_is : c.cols-width.result ≡ b.shape.cols = c.cols-width.ensures.value ∙ ap (λ (x : Extent). x.cols) c.shape-2.ensures.shape in
     own_sparse s b c.requires.right q rows values rows_are values_are
 
 pub pair_column-requires-clause-low : goal.pair_column-requires-clause-low
 pair_column-requires-clause-low g c =
     let s = g.S.Semiring.arithmetic in
-    let laws = g.met.S.Semiring.is_semiring in
-    let a = c.args.left.now in
     let b = c.args.right.now in
-    let cs = c.column_numbers-outer in
     let ds = c.column_numbers-inner in
-    let n = c.loop-n.n in
     let m = c.loop-m.m in
-    let p = get_or cs.result.now n 0 in
     let q = get_or ds.result.now m 0 in
-    let left_rows = c.nth_column.result.0.now in
-    let left_values = c.nth_column.result.1.now in
     let rows = c.nth_column-in-loop-m.result.0.now in
-    let values = c.nth_column-in-loop-m.result.1.now in
-    let left_rows_are = nth_are a.entries cs.result.now left_rows n rows_of cs.ensures.numbers c.nth_column.ensures.rows in
-    let left_values_are = nth_are a.entries cs.result.now left_values n values_of cs.ensures.numbers c.nth_column.ensures.values in
     let rows_are = nth_are b.entries ds.result.now rows m rows_of ds.ensures.numbers c.nth_column-in-loop-m.ensures.rows in
-    let values_are = nth_are b.entries ds.result.now values m values_of ds.ensures.numbers c.nth_column-in-loop-m.ensures.values in
     let height_is : c.rows-height.result ≡ b.shape.rows = c.rows-height.ensures.value ∙ ap (λ (x : Extent). x.rows) c.shape.ensures.shape in
-    let width_is : c.cols-width.result ≡ b.shape.cols = c.cols-width.ensures.value ∙ ap (λ (x : Extent). x.cols) c.shape-2.ensures.shape in
     subst (λ h. All (λ i. i < h) rows) (sym height_is) (rows_inside s b q rows c.requires.right rows_are)
 
 pub pair_column-requires-clause-limit : goal.pair_column-requires-clause-limit
 pair_column-requires-clause-limit g c =
     let s = g.S.Semiring.arithmetic in
-    let laws = g.met.S.Semiring.is_semiring in
     let a = c.args.left.now in
     let b = c.args.right.now in
     let cs = c.column_numbers-outer in
-    let ds = c.column_numbers-inner in
     let n = c.loop-n.n in
-    let m = c.loop-m.m in
     let p = get_or cs.result.now n 0 in
-    let q = get_or ds.result.now m 0 in
     let left_rows = c.nth_column.result.0.now in
-    let left_values = c.nth_column.result.1.now in
-    let rows = c.nth_column-in-loop-m.result.0.now in
-    let values = c.nth_column-in-loop-m.result.1.now in
     let left_rows_are = nth_are a.entries cs.result.now left_rows n rows_of cs.ensures.numbers c.nth_column.ensures.rows in
-    let left_values_are = nth_are a.entries cs.result.now left_values n values_of cs.ensures.numbers c.nth_column.ensures.values in
-    let rows_are = nth_are b.entries ds.result.now rows m rows_of ds.ensures.numbers c.nth_column-in-loop-m.ensures.rows in
-    let values_are = nth_are b.entries ds.result.now values m values_of ds.ensures.numbers c.nth_column-in-loop-m.ensures.values in
     let height_is : c.rows-height.result ≡ b.shape.rows = c.rows-height.ensures.value ∙ ap (λ (x : Extent). x.rows) c.shape.ensures.shape in
-    let width_is : c.cols-width.result ≡ b.shape.cols = c.cols-width.ensures.value ∙ ap (λ (x : Extent). x.cols) c.shape-2.ensures.shape in
     let most = c.requires.rows in
     subst (λ h. All (λ i. (i + 1) * h ≤ LIMIT) left_rows) (sym height_is)
     (All-weaker (λ i. i < a.shape.rows) (λ i. (i + 1) * b.shape.rows ≤ LIMIT) (λ i l. let up : i + 1 ≤ a.shape.rows = omega arith in let more = mul-le-mul_right b.shape.rows up in omega (arith, more, most)) left_rows (rows_inside s a p left_rows c.requires.left left_rows_are))
@@ -153,13 +107,10 @@ push_column-requires-clause-rows g c =
     let rows_are = nth_are b.entries ds.result.now rows m rows_of ds.ensures.numbers c.nth_column-in-loop-m.ensures.rows in
     let values_are = nth_are b.entries ds.result.now values m values_of ds.ensures.numbers c.nth_column-in-loop-m.ensures.values in
     let height_is : c.rows-height.result ≡ b.shape.rows = c.rows-height.ensures.value ∙ ap (λ (x : Extent). x.rows) c.shape.ensures.shape in
-    let width_is : c.cols-width.result ≡ b.shape.cols = c.cols-width.ensures.value ∙ ap (λ (x : Extent). x.cols) c.shape-2.ensures.shape in
     let ks = c.pair_column.new.kept_rows.items in
     let ws = c.pair_column.new.kept_values.items in
     let f : ℕ → ℕ = λ i. pair_value s b.shape.rows (λ k. at s a k p) (λ k. at s b k q) i in
-    let has : (i : ℕ) → row_value s.zero ks ws i ≡ f i = λ i.
-    c.in_ok-pair_column.ensures.values i ∙ ap (λ h. pair_value s h (row_value s.zero left_rows left_values) (row_value s.zero rows values) i) height_is
-    ∙ (λ t. s.mul (own_column s a p left_rows left_values left_rows_are left_values_are (i / b.shape.rows) t) (own_column s b q rows values rows_are values_are (i % b.shape.rows) t)) in
+    let has = paired_has s a b p q left_rows left_values rows values ks ws left_rows_are left_values_are rows_are values_are height_is c.in_ok-pair_column.ensures.values in
     let inside = column_inside s p f ks ws c.in_ok-pair_column.ensures.column has (a.shape.rows * b.shape.rows) (λ i l. pair_past s laws a b c.requires.left c.requires.right cs.result.now ds.result.now cs.ensures.ascending ds.ensures.ascending cs.ensures.inside ds.ensures.inside cs.ensures.all ds.ensures.all p q i l) in
     let shape = ap (λ (x : Extent). x.rows) c.loop-m.invariant.shape in
     subst (λ h. All (λ i. i < h) c.deref.result.now) (sym shape) (subst (All (λ i. i < a.shape.rows * b.shape.rows)) (sym c.deref.ensures.value) inside)
@@ -176,15 +127,6 @@ push_column-requires-clause-column g c =
     let m = c.loop-m.m in
     let p = get_or cs.result.now n 0 in
     let q = get_or ds.result.now m 0 in
-    let left_rows = c.nth_column.result.0.now in
-    let left_values = c.nth_column.result.1.now in
-    let rows = c.nth_column-in-loop-m.result.0.now in
-    let values = c.nth_column-in-loop-m.result.1.now in
-    let left_rows_are = nth_are a.entries cs.result.now left_rows n rows_of cs.ensures.numbers c.nth_column.ensures.rows in
-    let left_values_are = nth_are a.entries cs.result.now left_values n values_of cs.ensures.numbers c.nth_column.ensures.values in
-    let rows_are = nth_are b.entries ds.result.now rows m rows_of ds.ensures.numbers c.nth_column-in-loop-m.ensures.rows in
-    let values_are = nth_are b.entries ds.result.now values m values_of ds.ensures.numbers c.nth_column-in-loop-m.ensures.values in
-    let height_is : c.rows-height.result ≡ b.shape.rows = c.rows-height.ensures.value ∙ ap (λ (x : Extent). x.rows) c.shape.ensures.shape in
     let width_is : c.cols-width.result ≡ b.shape.cols = c.cols-width.ensures.value ∙ ap (λ (x : Extent). x.cols) c.shape-2.ensures.shape in
     let low = column_low s laws a b c.requires.left c.requires.right cs.result.now ds.result.now cs.ensures.ascending ds.ensures.ascending cs.ensures.inside ds.ensures.inside cs.ensures.all ds.ensures.all n m c.loop-n-test.true c.loop-m-test.true in
     let shape = ap (λ (x : Extent). x.cols) c.loop-m.invariant.shape in
@@ -215,9 +157,7 @@ loop-m-preserved g c =
     let ks = c.pair_column.new.kept_rows.items in
     let ws = c.pair_column.new.kept_values.items in
     let f : ℕ → ℕ = λ i. pair_value s b.shape.rows (λ k. at s a k p) (λ k. at s b k q) i in
-    let has : (i : ℕ) → row_value s.zero ks ws i ≡ f i = λ i.
-    c.in_ok-pair_column.ensures.values i ∙ ap (λ h. pair_value s h (row_value s.zero left_rows left_values) (row_value s.zero rows values) i) height_is
-    ∙ (λ t. s.mul (own_column s a p left_rows left_values left_rows_are left_values_are (i / b.shape.rows) t) (own_column s b q rows values rows_are values_are (i % b.shape.rows) t)) in
+    let has = paired_has s a b p q left_rows left_values rows values ks ws left_rows_are left_values_are rows_are values_are height_is c.in_ok-pair_column.ensures.values in
     let before = column_before s laws a b c.requires.left c.requires.right cs.result.now ds.result.now cs.ensures.ascending ds.ensures.ascending cs.ensures.inside ds.ensures.inside cs.ensures.all ds.ensures.all c.loop-m.out n m c.loop-m-test.true c.loop-m.invariant in
     let stored = rw (c.deref.ensures.value, c.deref-in-loop-m.ensures.value, width_is) at c.in_ok-push_column.ensures.ok in
     let adds = column_adds s (p * b.shape.cols + q) f ks ws c.in_ok-pair_column.ensures.column has c.loop-m.out c.push_column.new.self before stored c.in_ok-push_column.ensures.matrix in

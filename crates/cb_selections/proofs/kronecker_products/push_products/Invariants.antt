@@ -1,7 +1,7 @@
 use Rattle.std.proofs.Common.{◌*◌, ◌+◌, ◌/◌, ◌%◌, get_or}
 use Rattle.cb_matrix.specs.Sparse.{at}
 use Rattle.cb_selections.specs.Selections.{pair_shape, pair_value}
-use Rattle.cb_selections.proofs.ColumnsMade.{IsMadeTo}
+use Rattle.cb_product.proofs.ColumnsMade.{IsMadeTo}
 use Rattle.cb_selections.proofs.kronecker_products.push_products.Given as goal
 
 abbrev pub invariant-loop-n : goal.invariant-loop-n

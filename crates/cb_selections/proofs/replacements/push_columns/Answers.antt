@@ -6,7 +6,7 @@ use Rattle.cb_dcsc.specs.Columns.{rows_of, values_of}
 use Rattle.cb_dcsc.proofs.Lookup.{rows_inside}
 use Rattle.cb_product.proofs.OwnColumn.{own_sparse}
 use Rattle.cb_product.proofs.StoredColumn.{column_adds}
-use Rattle.cb_selections.proofs.ColumnsMade.{walk_none, walk_more, walk_all, before_column}
+use Rattle.cb_product.proofs.ColumnsMade.{walk_none, walk_more, walk_all, before_column}
 use Rattle.cb_selections.proofs.ReplacedColumns.{nth_are, value_for, replaced_absent, replaced_has, replaced_inside}
 use Rattle.cb_selections.proofs.replacements.push_columns.Goals as goal
 

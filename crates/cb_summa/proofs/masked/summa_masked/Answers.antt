@@ -1,4 +1,4 @@
-use Rattle.std.proofs.Common.{◌≡◌, ℕ, ◌+◌, ◌*◌, ◌<◌, ◌≤◌, ◌++◌, List, [], ◌∷◌, sym, ap, subst, ◌∙◌, arith}
+use Rattle.std.proofs.Common.{◌≡◌, ℕ, ◌*◌, ◌<◌, ◌≤◌, ◌++◌, List, [], ◌∷◌, sym, ap, subst, ◌∙◌, arith}
 use Rattle.std.proofs.lemmas.Result.{IfOk-weaker}
 use Rattle.cb_matrix.specs.Sparse.{Extent}
 use Rattle.cb_plan.specs.declared.plans.Planned.{Planned}
@@ -28,13 +28,13 @@ most q a b new l e = within_first (open_acts q a b) (shut_acts (q * q)) new (who
 pub multiply-requires : goal.multiply-requires
 multiply-requires c =
     let q = c.args.grid.now.side in
-    let l : q ≤ 6 = (let a = c.side-side.ensures.value in let b = c.side-side.ensures.limit in omega arith) in
+    let l : q ≤ 6 = (let a = c.side.ensures.value in let b = c.side.ensures.limit in omega arith) in
     within_first (product_acts q c.args.a c.args.b) (each_rank q mask_op) c.new-plan.result (most q c.args.a c.args.b c.new-plan.result l c.new-plan.ensures.acts)
 
 pub work_everywhere-requires : goal.work_everywhere-requires
 work_everywhere-requires c =
     let q = c.args.grid.now.side in
-    let l : q ≤ 6 = (let a = c.side-side.ensures.value in let b = c.side-side.ensures.limit in omega arith) in
+    let l : q ≤ 6 = (let a = c.side.ensures.value in let b = c.side.ensures.limit in omega arith) in
     within_rest (product_acts q c.args.a c.args.b) (each_rank q mask_op) c.new-plan.result c.multiply.new.plan (most q c.args.a c.args.b c.new-plan.result l c.new-plan.ensures.acts) c.in_ok-multiply.ensures.acts
 
 -- the acts so far
@@ -47,14 +47,14 @@ finish-requires-clause-ranks c = c.in_ok-work_everywhere.ensures.acts.ranks_are 
 pub finish-requires-clause-limit : goal.finish-requires-clause-limit
 finish-requires-clause-limit c =
     let q = c.args.grid.now.side in
-    let l : q ≤ 6 = (let a = c.side-side.ensures.value in let b = c.side-side.ensures.limit in omega arith) in
+    let l : q ≤ 6 = (let a = c.side.ensures.value in let b = c.side.ensures.limit in omega arith) in
     within_rest (open_acts q c.args.a c.args.b) (shut_acts (q * q)) c.new-plan.result c.work_everywhere.new.plan (whole q c.args.a c.args.b c.new-plan.result l c.new-plan.ensures.acts)
     (grown q c.args.a c.args.b c.new-plan.result c.multiply.new.plan c.work_everywhere.new.plan c.in_ok-multiply.ensures.acts c.in_ok-work_everywhere.ensures.acts)
 
 pub finish-requires-clause-flows : goal.finish-requires-clause-flows
 finish-requires-clause-flows c =
     let q = c.args.grid.now.side in
-    let pos : 0 < q = (let a = c.side-side.ensures.value in let b = c.side-side.ensures.some in omega arith) in
+    let pos : 0 < q = (let a = c.side.ensures.value in let b = c.side.ensures.some in omega arith) in
     let is = c.in-Ok.ensures.starts ∙ ap (λ (d : Extent). operand_starts q (record { slot = 0; shape = c.args.a } ∷ record { slot = 1; shape = c.args.b } ∷ record { slot = 7; shape = d } ∷ [])) c.with_columns_of.ensures in
     grown_flows (q * q) (operand_starts q (masked_factors c.args.a c.args.b)) c.in-Ok.starts.items (open_acts q c.args.a c.args.b) c.new-plan.result c.work_everywhere.new.plan
     c.new-plan.ensures.acts (grown q c.args.a c.args.b c.new-plan.result c.multiply.new.plan c.work_everywhere.new.plan c.in_ok-multiply.ensures.acts c.in_ok-work_everywhere.ensures.acts) is (masked_flow q pos c.args.a c.args.b c.requires)
@@ -78,7 +78,7 @@ returns-clause-acts c =
 pub returns-clause-product : goal.returns-clause-product
 returns-clause-product c =
     let q = c.args.grid.now.side in
-    let pos : 0 < q = (let a = c.side-side.ensures.value in let b = c.side-side.ensures.some in omega arith) in
+    let pos : 0 < q = (let a = c.side.ensures.value in let b = c.side.ensures.some in omega arith) in
     IfOk-weaker c.finish.result (λ (p : Planned). p.plan.acts ≡ c.work_everywhere.new.plan.acts ++ shut_acts (q * q)) (λ p. IsMaskedPlan p.plan.acts q c.args.a c.args.b)
     (λ p e. subst (λ acts. IsMaskedPlan acts q c.args.a c.args.b) (sym (acts_are q c.args.a c.args.b p.plan.acts c.new-plan.result c.multiply.new.plan c.work_everywhere.new.plan c.new-plan.ensures.acts c.in_ok-multiply.ensures.acts c.in_ok-work_everywhere.ensures.acts e)) (is_masked_plan q pos c.args.a c.args.b c.requires))
     c.finish.ensures.acts

@@ -13,9 +13,9 @@ invariant_of-result g c =
     let q = c.args.grid.side in
     let shape = c.args.shape in
     let bs = c.args.blocks.items in
-    let side = c.side-side.ensures.value in
-    let some = c.side-side.ensures.some in
-    let few = c.side-side.ensures.limit in
+    let side = c.side.ensures.value in
+    let some = c.side.ensures.some in
+    let few = c.side.ensures.limit in
     let known : (r : ℕ) → r < length bs → IsMatrix s (block_at bs r) = subst (λ (xs : List Sparse). (r : ℕ) → r < length xs → IsMatrix s (block_at xs r)) c.deref.ensures.value c.stored-len.ensures.matrices in
     let are : AreBlocks s q shape bs = record { some = omega arith; few = omega arith; count = c.requires.count; shapes = c.requires.shapes; matrices = known } in
     let rows : shape.rows ≤ 2147483647 = let v = c.rows.ensures.value in let l = c.rows.ensures.limit in omega arith in

@@ -6,10 +6,10 @@ use Rattle.cb_world.proofs.Changes.{finishes_run, finishes_more}
 use Rattle.cb_world.proofs.world.World.finish.Goals as goal
 
 pub loop-r-smaller : goal.loop-r-smaller
-loop-r-smaller g c = acts_lower _ _ _ c.in-Some.r _ c.in-Some.ensures.world c.in-Some.ensures.ready.0 c.step-moved.ensures.step
+loop-r-smaller g c = acts_lower _ _ _ c.in-Some.r _ c.in-Some.ensures.world c.in-Some.ensures.ready.0 c.step.ensures.step
 
 pub loop-r-preserved : goal.loop-r-preserved
-loop-r-preserved g c = (c.loop-r.invariant.0 ++ Step c.in-Some.r ∷ [], finishes_more _ c.loop-r.invariant.0 c.in-Some.r c.step-moved.result _ _ _ c.loop-r.invariant.1 c.in-Some.ensures.ready c.step-moved.ensures.step)
+loop-r-preserved g c = (c.loop-r.invariant.0 ++ Step c.in-Some.r ∷ [], finishes_more _ c.loop-r.invariant.0 c.in-Some.r c.step.result _ _ _ c.loop-r.invariant.1 c.in-Some.ensures.ready c.step.ensures.step)
 
 pub returns-clause-keeps : goal.returns-clause-keeps
 returns-clause-keeps g c = run_keeps g.S.Semiring.arithmetic _ _ _ (finishes_run _ _ _ _ c.loop-r.invariant.1)

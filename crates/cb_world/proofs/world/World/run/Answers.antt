@@ -16,8 +16,8 @@ pub loop-event-preserved : goal.loop-event-preserved
 loop-event-preserved g c =
     let event : Event = get_or c.args.events.now c.loop-event.event-index (Step 0) in
     let next = take-next c.args.events.now c.loop-event.event-index event (slice_get-get_or c.args.events.now c.loop-event.event-index (Step 0) c.loop-event-test.true) in
-    let more = runs_more g.S.Semiring.arithmetic (take c.loop-event.event-index c.args.events.now) event c.step-moved.result c.args.self.now c.loop-event.self c.step-moved.new.self c.loop-event.invariant c.step-moved.ensures.step in
-    subst (λ es. RunsBy g.S.Semiring.arithmetic es c.args.self.now c.step-moved.new.self) (sym next) more
+    let more = runs_more g.S.Semiring.arithmetic (take c.loop-event.event-index c.args.events.now) event c.step.result c.args.self.now c.loop-event.self c.step.new.self c.loop-event.invariant c.step.ensures.step in
+    subst (λ es. RunsBy g.S.Semiring.arithmetic es c.args.self.now c.step.new.self) (sym next) more
 
 pub returns-clause-keeps : goal.returns-clause-keeps
 returns-clause-keeps g c = run_keeps g.S.Semiring.arithmetic _ _ _ c.loop-event.invariant
