@@ -35,3 +35,6 @@ pub mod AppendedBlocks
 pub mod Recasts
 -- OneBlock: a grid of side 1 has the whole matrix as its only block.
 pub mod OneBlock
+-- PanelWalks: panels side by side, each walked as the only block of a grid. Panels: panels that are appended and joined.
+pub mod PanelWalks
+pub mod Panels

@@ -191,7 +191,7 @@ impl<S: Semiring> DistributedMatrix<S> {
     pub fn segments(&self) -> Segments<'_, S>
         ensures { result ≡ self.now.matrix.entries }
     {
-        Segments::new(self.grid, self.shape, &self.blocks)
+        Segments::over_grid(self.grid, self.shape, &self.blocks)
     }
 }
 

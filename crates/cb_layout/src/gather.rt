@@ -6,7 +6,8 @@ ghost use Rattle.cb_layout.specs.Blocks.{AreBlocksOf, HavePartShapes, block_at};
 ghost use Rattle.cb_layout.specs.Distributed.{glued_blocks};
 ghost use Rattle.cb_layout.specs.Segments.{shifted, entries_of};
 
-use crate::{Grid, LARGEST_SIDE, Segment, Segments};
+use crate::traversal::GridSegments;
+use crate::{Grid, LARGEST_SIDE, Segment};
 use cb_dcsc::Block;
 use cb_matrix::{Entry, Matrix, Shape};
 use cb_semirings::Semiring;
@@ -31,7 +32,7 @@ impl Grid {
         prove!(self.side() <= LARGEST_SIDE);
         let mut entries = Vec::new(alloc);
         entries.reserve(stored(blocks))?;
-        let mut segments = Segments::new(*self, shape, blocks);
+        let mut segments = GridSegments::new(*self, shape, blocks);
         loop {
             match segments.next_segment() {
                 Some(segment) => append_segment(&mut entries, segment)?,

@@ -1,4 +1,4 @@
-//! Matrices and vectors over a square grid of ranks.
+//! Matrices and vectors over a square grid of ranks, and matrices in panels.
 //!
 //! A grid of side q has q times q ranks; the one in row i and column j has the number i*q + j. A dimension of d places
 //! is cut into q parts of `d.div_ceil(q)` places each; the last parts may have fewer, or none. Rank (i, j) keeps the
@@ -9,7 +9,10 @@
 //! Rank (t, j) keeps piece t of part j of an input ([`Grid::scatter_input`]), and rank (i, t) keeps piece t of part i of
 //! a result ([`Grid::gather_result`]).
 //!
-//! This is the two-dimensional distribution of Buluç and Gilbert, The Combinatorial BLAS (IJHPCA 2011).
+//! A matrix without a grid can stand in panels ([`PanelledMatrix`]): blocks side by side, each with the entries of some
+//! columns. Both layouts are walked alike, column by column ([`Segments`]).
+//!
+//! The grid is the two-dimensional distribution of Buluç and Gilbert, The Combinatorial BLAS (IJHPCA 2011).
 #![tactic(auto)]
 
 ghost use Rattle.std.specs.Prelude.{◌≡◌, ◌↔◌, ℕ, ◌<◌, ◌≤◌, ◌+◌, ◌*◌, List, [], ◌∷◌, ◌++◌, length, min, IsOk, IfOk};
@@ -17,12 +20,14 @@ ghost use Rattle.std.specs.Prelude.{◌≡◌, ◌↔◌, ℕ, ◌<◌, ◌≤�
 mod distributed;
 mod front;
 mod gather;
+mod panelled;
 mod scatter;
 mod single;
 mod traversal;
 mod vectors;
 
 pub use distributed::DistributedMatrix;
+pub use panelled::PanelledMatrix;
 use smallvec::SmallVec;
 use std::alloc::Global;
 use std::marker::Model;

@@ -1,7 +1,8 @@
-//! A walk over a matrix on a grid in the matrix's order: column by column, and by row in each column.
+//! Walks over a matrix in its order: column by column, and by row in each column. A matrix stands over a grid or in panels.
 ghost use Rattle.std.specs.Prelude.{◌≡◌, ℕ, ◌<◌, ◌≤◌, ◌+◌, ◌*◌, [], ◌++◌, length, All, IfSome, IfNone};
 ghost use Rattle.cb_layout.specs.Distributed.{AreBlocks, glued_blocks};
 ghost use Rattle.cb_layout.specs.Fronts.{IsFront};
+ghost use Rattle.cb_layout.specs.Panels.{entries_of_panels};
 ghost use Rattle.cb_layout.specs.Segments.{shifted, entries_left};
 
 use crate::Grid;
@@ -25,10 +26,85 @@ pub struct Segment<'a> {
     pub values: &'a [u64],
 }
 
-/// The remaining segments of a matrix over a grid, by column and then by row. Contracts see the remaining entries. Each
-/// segment costs finding the least of six numbers; no cost depends on a dimension.
+/// The remaining segments of a matrix over a grid or in panels, by column and then by row. Contracts see the remaining
+/// entries. Each segment costs finding the least of six numbers; no cost depends on a dimension.
 #[derive(Drop)]
 pub struct Segments<'a, S: Semiring> {
+    /// Those of the panel that the walk has come to. A matrix over a grid is a single panel.
+    current: GridSegments<'a, S>,
+    /// The panels after it.
+    panels: &'a [Block<S>],
+}
+
+impl<'a, S: Semiring> Model for Segments<'a, S> {
+    ghost use Rattle.std.specs.Prelude.{List, ◌++◌};
+    ghost use Rattle.cb_matrix.specs.declared.Entry.{Entry};
+    ghost use Rattle.cb_layout.specs.Panels.{entries_of_panels};
+
+    ghost Value = { List Entry };
+
+    ghost view = { λ a. a.current ++ entries_of_panels a.panels.now };
+}
+
+impl<'a, S: Semiring> Segments<'a, S> {
+    /// All segments of the matrix of a shape that blocks over a grid are glued to.
+    pub(crate) fn over_grid(grid: Grid, shape: Shape, blocks: &'a [Block<S>]) -> Segments<'a, S>
+        requires { AreBlocks S.arithmetic grid.side shape blocks.now }
+        ensures { result ≡ (glued_blocks S.arithmetic grid.side shape blocks.now).entries }
+    {
+        Segments {
+            current: GridSegments::new(grid, shape, blocks),
+            panels: &[],
+        }
+    }
+
+    /// All segments of some panels, at least one.
+    pub(crate) fn over_panels(panels: &'a [Block<S>]) -> Segments<'a, S>
+        requires { 0 < length panels.now }
+        ensures { result ≡ entries_of_panels panels.now }
+    {
+        let (first, others) = panels.split_at(1);
+        Segments {
+            current: GridSegments::of_panel(first),
+            panels: others,
+        }
+    }
+
+    /// A second walk over the remaining segments. Takes constant time.
+    pub fn fork(&self) -> Segments<'a, S>
+        ensures { result ≡ self.now }
+    {
+        Segments {
+            current: self.current.fork(),
+            panels: self.panels,
+        }
+    }
+
+    /// The next segment, with at least one entry, or None if no entry remains.
+    pub fn next_segment(&mut self) -> Option<Segment<'a>>
+        ensures some { IfSome result (λ g. self.old ≡ shifted g.top g.column g.rows.now g.values.now ++ self.new) }
+        ensures none { IfNone result ((self.old ≡ []) × (self.new ≡ [])) }
+        ensures lengths { IfSome result (λ g. length g.values.now ≡ length g.rows.now) }
+        ensures entries { IfSome result (λ g. 0 < length g.rows.now) }
+        ensures inside { IfSome result (λ g. (g.column < LIMIT) × All (λ i. g.top + i < LIMIT) g.rows.now) }
+    {
+        loop {
+            if let Some(segment) = self.current.next_segment() {
+                return Some(segment);
+            }
+            if self.panels.is_empty() {
+                return None;
+            }
+            let (next, others) = self.panels.split_at(1);
+            self.current = GridSegments::of_panel(next);
+            self.panels = others;
+        }
+    }
+}
+
+/// The remaining segments of a matrix over a grid, by column and then by row. Contracts see the remaining entries.
+#[derive(Drop)]
+pub(crate) struct GridSegments<'a, S: Semiring> {
     grid: Grid,
     shape: Shape,
     blocks: &'a [Block<S>],
@@ -37,7 +113,7 @@ pub struct Segments<'a, S: Semiring> {
     front: Front,
 }
 
-impl<'a, S: Semiring> Model for Segments<'a, S> {
+impl<'a, S: Semiring> Model for GridSegments<'a, S> {
     ghost use Rattle.std.specs.Prelude.{List};
     ghost use Rattle.cb_matrix.specs.declared.Entry.{Entry};
 
@@ -50,13 +126,13 @@ impl<'a, S: Semiring> Model for Segments<'a, S> {
     ghost invariant = { λ a. AreSegments S.arithmetic a.grid.side a.shape a.blocks.now a.front a.tops };
 }
 
-impl<'a, S: Semiring> Segments<'a, S> {
+impl<'a, S: Semiring> GridSegments<'a, S> {
     /// All segments of the matrix of a shape that blocks over a grid are glued to.
-    pub(crate) fn new(grid: Grid, shape: Shape, blocks: &'a [Block<S>]) -> Segments<'a, S>
+    pub(crate) fn new(grid: Grid, shape: Shape, blocks: &'a [Block<S>]) -> GridSegments<'a, S>
         requires { AreBlocks S.arithmetic grid.side shape blocks.now }
         ensures { result ≡ (glued_blocks S.arithmetic grid.side shape blocks.now).entries }
     {
-        Segments {
+        GridSegments {
             grid,
             shape,
             blocks,
@@ -65,11 +141,20 @@ impl<'a, S: Semiring> Segments<'a, S> {
         }
     }
 
+    /// All segments of a single panel, which is walked as the only block of a grid.
+    fn of_panel(panel: &'a [Block<S>]) -> GridSegments<'a, S>
+        requires { length panel.now ≡ 1 }
+        ensures { result ≡ entries_of_panels panel.now }
+    {
+        let shape = panel[0].shape();
+        GridSegments::new(Grid::single(), shape, panel)
+    }
+
     /// A second walk over the remaining segments. Takes constant time.
-    pub fn fork(&self) -> Segments<'a, S>
+    pub(crate) fn fork(&self) -> GridSegments<'a, S>
         ensures { result ≡ self.now }
     {
-        Segments {
+        GridSegments {
             grid: self.grid,
             shape: self.shape,
             blocks: self.blocks,

@@ -19,9 +19,10 @@ pub mod Segments
 pub mod WrittenBytes
 pub mod EntryRuns
 pub mod PartedTexts
--- For this crate alone. NumberLines: lines of numbers. NextEntries: the faults and the entries of a text, one entry on.
+-- For this crate alone. NumberLines: lines of numbers. EntryWords: the words of the line of an entry. NextEntries: the faults and the entries of a text, one entry on.
 -- Listed, Gatherings: the entries of a text, as they are gathered.
 mod NumberLines
+mod EntryWords
 mod NextEntries
 mod Listed
 mod Gatherings

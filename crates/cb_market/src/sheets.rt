@@ -22,7 +22,7 @@ pub const MOST_LINES: usize = 1_048_576;
 /// The most bytes that the header and the size line can have: 49, and three numbers of 20 digits with a byte after each.
 const LONGEST_HEAD: usize = 112;
 
-/// A part of the text of a matrix over a grid. In contracts a sheet is what is written on it and what is left to write.
+/// A part of the text of a matrix over a grid or in panels. In contracts a sheet is what is written on it and what is left to write.
 #[derive(Drop)]
 pub struct Sheet<'a, S: Semiring> {
     /// The buffer, of which the first `end` bytes are written.

@@ -1,4 +1,4 @@
-//! The text of a matrix over a grid, page by page, without gathering the matrix.
+//! The text of a matrix over a grid or in panels, page by page, without gathering the matrix.
 ghost use Rattle.std.specs.Prelude.{◌≡◌, ◌+◌, ◌≤◌, ◌<◌, [], ◌++◌, length, take, drop, true, false, IfSome, IfNone};
 ghost use Rattle.cb_layout.specs.Segments.{entries_of};
 ghost use Rattle.cb_market.specs.Sheets.{lines_of};
@@ -6,13 +6,13 @@ ghost use Rattle.cb_market.specs.Text.{text_of, column_lines, first_lines, line_
 
 use crate::pages::{LINE, Page, SIZE};
 use crate::writing::put_head;
-use cb_layout::{DistributedMatrix, Segment, Segments};
+use cb_layout::{DistributedMatrix, PanelledMatrix, Segment, Segments};
 use cb_matrix::Shape;
 use cb_semirings::Semiring;
 use itoa::Buffer;
 use std::marker::Model;
 
-/// The rest of the text of a matrix over a grid, still to be written. In contracts it is these bytes.
+/// The rest of the text of a matrix over a grid or in panels, still to be written. In contracts it is these bytes.
 ///
 /// The entries are read from the blocks in place, column by column. The digits of a column are computed once per block.
 /// The cost is proportional to the stored entries, and no call takes memory.
@@ -44,8 +44,25 @@ impl<'a, S: Semiring> TextPages<'a, S> {
             shape: matrix.shape(),
             len: matrix.len(),
             has_head: true,
-            entries: EntriesLeft::new(matrix),
+            entries: EntriesLeft::new(matrix.segments()),
         }
+    }
+
+    /// Starts the text of a matrix in panels, the same that [`text`](crate::text) makes of the joined matrix.
+    pub fn of_panels(matrix: &'a PanelledMatrix<S>) -> TextPages<'a, S>
+        ensures { result ≡ text_of S.arithmetic matrix.now }
+    {
+        TextPages {
+            shape: matrix.shape(),
+            len: matrix.len(),
+            has_head: true,
+            entries: EntriesLeft::new(matrix.segments()),
+        }
+    }
+
+    /// Returns the number of entries of the matrix, whether their lines are written or not.
+    pub fn entry_count(&self) -> usize {
+        self.len
     }
 
     /// Clears a page, writes as many of the next lines on it as there is room for, and returns whether there were any. If
@@ -65,8 +82,8 @@ impl<'a, S: Semiring> TextPages<'a, S> {
     }
 }
 
-/// An iterator over the entries of a matrix over a grid, of which one segment may be partly done. In contracts it is the
-/// remaining entries.
+/// An iterator over the entries of a matrix, of which one segment may be partly done. In contracts it is the remaining
+/// entries.
 #[derive(Drop)]
 pub(crate) struct EntriesLeft<'a, S: Semiring> {
     pub(crate) segment: Segment<'a>,
@@ -86,9 +103,9 @@ impl<'a, S: Semiring> Model for EntriesLeft<'a, S> {
 }
 
 impl<'a, S: Semiring> EntriesLeft<'a, S> {
-    /// Starts with all entries of a matrix.
-    fn new(matrix: &'a DistributedMatrix<S>) -> EntriesLeft<'a, S>
-        ensures { result ≡ matrix.now.matrix.entries }
+    /// Starts with all entries of some segments.
+    fn new(segments: Segments<'a, S>) -> EntriesLeft<'a, S>
+        ensures { result ≡ segments.entry }
     {
         EntriesLeft {
             segment: Segment {
@@ -97,7 +114,7 @@ impl<'a, S: Semiring> EntriesLeft<'a, S> {
                 rows: &[],
                 values: &[],
             },
-            segments: matrix.segments(),
+            segments,
         }
     }
 

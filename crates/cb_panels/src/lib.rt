@@ -1,27 +1,25 @@
 //! Products of blocks by several threads, which share the operands.
 //!
 //! Each thread makes a panel of the product: the product of the left block and some columns of the right. The columns
-//! are parted so that each panel takes about as many products of two values, as by Nagasaka, Matsuoka, Azad and Buluç,
-//! High-performance Sparse Matrix-Matrix Products on Intel KNL and Multicore Architectures (ICPP Workshops 2018). No
-//! operand is copied, and one index of the left block's columns serves all threads.
+//! are parted so that each panel takes about as many products of two values (`cb_shares`). No operand is copied, and one
+//! index of the left block's columns serves all threads.
 //!
-//! Panels are made by halves and joined by halves: a thread makes the first half, another one the second, which is
-//! appended to the first. The first panel takes room for the whole product, so only the entries of the others are
-//! copied. If no thread is available, the caller's thread makes the panel.
+//! Panels are made by halves: a thread makes the first half, another one the second. If no thread is available, the
+//! caller's thread makes the panel. The panels stand side by side, and no entry is copied; [`multiply`] copies them into
+//! one block for those who need one.
 #![tactic(auto)]
 
 ghost use Rattle.std.specs.Prelude.{◌≡◌, ◌<◌, ◌≤◌, IfOk, length};
 ghost use Rattle.std.specs.Thread.{IsSync};
-ghost use Rattle.cb_matrix.specs.Sparse.{IsMatrix};
 ghost use Rattle.cb_matrix.specs.Values.{product};
-ghost use Rattle.cb_dcsc.specs.Columns.{with_entries};
-ghost use Rattle.cb_product.specs.ColumnStarts.{Tells};
 ghost use Rattle.cb_product.specs.Factors.{AreFactors};
 ghost use Rattle.cb_product.specs.InColumns.{only_columns};
 
 use cb_dcsc::Block;
+use cb_layout::PanelledMatrix;
 use cb_product::{ColumnIndex, multiply_columns};
 use cb_semirings::Semiring;
+use cb_shares::{products_of_columns, total};
 use std::alloc::{AllocError, Global};
 use std::thread::{Threads, join};
 
@@ -42,11 +40,9 @@ impl Panels {
     }
 }
 
-/// The product of two blocks, as [`cb_product::multiply`] returns it, in panels, each by a thread.
+/// The product of two blocks, as [`cb_product::multiply`] returns it, made by several threads and joined in one block.
 ///
-/// The columns of the left block are as many as the rows of the right. Costs the time of the products, divided among the
-/// threads, and a pass over the entries of the right block; all panels but the first are copied once. Besides the
-/// product, memory is that of these panels while they are joined, and an accumulator for each thread.
+/// Costs what [`multiply_panels`] costs, and a copy of all panels but the first by the caller's thread.
 pub fn multiply<S: Semiring + Send + Sync, R: Threads + Sync>(
     rt: &R,
     alloc: Global,
@@ -57,45 +53,33 @@ pub fn multiply<S: Semiring + Send + Sync, R: Threads + Sync>(
     requires { left.now.shape.cols ≡ right.now.shape.rows }
     ensures { IfOk result (λ m. m ≡ product S.arithmetic left.now right.now) }
 {
+    let made = multiply_panels(rt, alloc, panels, left, right)?;
+    made.into_block()
+}
+
+/// The product of two blocks in panels, each made by a thread.
+///
+/// The columns of the left block are as many as the rows of the right. Costs the time of the products, divided among the
+/// threads, and a pass over the entries of the right block. Besides the product, memory is an accumulator for each thread.
+pub fn multiply_panels<S: Semiring + Send + Sync, R: Threads + Sync>(
+    rt: &R,
+    alloc: Global,
+    panels: Panels,
+    left: &Block<S>,
+    right: &Block<S>,
+) -> Result<PanelledMatrix<S>, AllocError>
+    requires { left.now.shape.cols ≡ right.now.shape.rows }
+    ensures { IfOk result (λ m. m ≡ product S.arithmetic left.now right.now) }
+{
     if panels.most < 2 || right.columns() < 2 {
-        return cb_product::multiply(alloc, left, right);
+        let whole = cb_product::multiply(alloc, left, right)?;
+        return PanelledMatrix::from_block(alloc, whole);
     }
     let index = ColumnIndex::new(alloc, left, right.len())?;
     let counts = products_of_columns(alloc, left, &index, right)?;
     let count = panels.of(total(&counts));
     let columns = right.column_numbers();
-    make_panels::<S, R>(
-        rt, alloc, left, &index, right, columns, &counts, &counts, count,
-    )
-}
-
-/// How many products each column of the right block that has entries takes.
-fn products_of_columns<S: Semiring>(
-    alloc: Global,
-    left: &Block<S>,
-    index: &ColumnIndex,
-    right: &Block<S>,
-) -> Result<Vec<usize>, AllocError>
-    requires agree { left.now.shape.cols ≡ right.now.shape.rows }
-    requires told { Tells index.now left.now }
-{
-    let right_shape = right.shape();
-    let mut counts = Vec::new(alloc);
-    counts.reserve(right.columns())?;
-    for n in 0..right.columns() {
-        let (rows, _) = right.nth_column(n);
-        counts.push(index.products(left, rows))?;
-    }
-    Ok(counts)
-}
-
-/// All of these counts together.
-fn total(counts: &[usize]) -> usize {
-    let mut sum = 0usize;
-    for count in counts {
-        sum = sum.saturating_add(*count);
-    }
-    sum
+    make_panels::<S, R>(rt, alloc, left, &index, right, columns, &counts, count)
 }
 
 /// How many of these columns make up the first `low` of `count` panels: those with that share of the products.
@@ -123,8 +107,7 @@ fn most_entries(counts: &[usize], rows: u32) -> usize {
     sum
 }
 
-/// Makes these columns of the product in so many panels. It takes room for the entries of the columns that take `room`
-/// products: these columns, and those that are to be appended to them.
+/// Makes these columns of the product in so many panels. Each takes room for the entries that its columns can have.
 fn make_panels<S: Semiring + Send + Sync, R: Threads + Sync>(
     rt: &R,
     alloc: Global,
@@ -133,15 +116,13 @@ fn make_panels<S: Semiring + Send + Sync, R: Threads + Sync>(
     right: &Block<S>,
     columns: &[u32],
     counts: &[usize],
-    room: &[usize],
     count: u32,
-) -> Result<Block<S>, AllocError>
+) -> Result<PanelledMatrix<S>, AllocError>
     requires { AreFactors index.now left.now right.now columns.now }
     ensures { IfOk result (λ m. m ≡ product S.arithmetic left.now (only_columns columns.now right.now)) }
 {
     if count < 2 {
-        let most = most_entries(room, left.shape().rows());
-        return multiply_columns(alloc, left, index, right, columns, most);
+        return make_panel(alloc, left, index, right, columns, counts);
     }
     prove_eq!(left.shape().cols(), right.shape().rows());
     let (low, high) = (count / 2, count - count / 2);
@@ -150,50 +131,33 @@ fn make_panels<S: Semiring + Send + Sync, R: Threads + Sync>(
     let (first_counts, last_counts) = counts.split_at(place);
     let (front, back) = join(
         rt,
-        || -> Result<Block<S>, AllocError>
+        || -> Result<PanelledMatrix<S>, AllocError>
             requires { IsSync R.row × AreFactors index.now left.now right.now first.now }
             ensures { IfOk result (λ m. m ≡ product S.arithmetic left.entry.now (only_columns first.entry.now right.entry.now)) }
-        {
-            make_panels::<S, R>(
-                rt,
-                alloc,
-                left,
-                index,
-                right,
-                first,
-                first_counts,
-                room,
-                low,
-            )
-        },
-        || -> Result<Block<S>, AllocError>
+        { make_panels::<S, R>(rt, alloc, left, index, right, first, first_counts, low) },
+        || -> Result<PanelledMatrix<S>, AllocError>
             requires { IsSync R.row × AreFactors index.now left.now right.now last.now }
             ensures { IfOk result (λ m. m ≡ product S.arithmetic left.entry.now (only_columns last.entry.now right.entry.now)) }
-        {
-            make_panels::<S, R>(
-                rt,
-                alloc,
-                left,
-                index,
-                right,
-                last,
-                last_counts,
-                last_counts,
-                high,
-            )
-        },
+        { make_panels::<S, R>(rt, alloc, left, index, right, last, last_counts, high) },
     );
     let front = front?;
     let back = back?;
-    appended(front, back)
+    front.append(back)
 }
 
-/// A block with the entries of another after all its own.
-fn appended<S: Semiring>(mut front: Block<S>, mut back: Block<S>) -> Result<Block<S>, AllocError>
-    requires shape { back.shape ≡ front.shape }
-    requires matrix { IsMatrix S.arithmetic (with_entries front back.entries) }
-    ensures { IfOk result (λ m. m ≡ with_entries front back.entries) }
+/// Makes these columns of the product in one panel, with room for the entries that they can have.
+fn make_panel<S: Semiring>(
+    alloc: Global,
+    left: &Block<S>,
+    index: &ColumnIndex,
+    right: &Block<S>,
+    columns: &[u32],
+    counts: &[usize],
+) -> Result<PanelledMatrix<S>, AllocError>
+    requires { AreFactors index.now left.now right.now columns.now }
+    ensures { IfOk result (λ m. m ≡ product S.arithmetic left.now (only_columns columns.now right.now)) }
 {
-    front.append(&mut back)?;
-    Ok(front)
+    let room = most_entries(counts, left.shape().rows());
+    let panel = multiply_columns(alloc, left, index, right, columns, room)?;
+    PanelledMatrix::from_block(alloc, panel)
 }

@@ -2,4 +2,4 @@
 mod faults;
 mod matrices;
 mod memory;
-mod pages;
+pub(crate) mod pages;

@@ -1,3 +1,4 @@
-//! Texts of matrices over grids, written by several threads.
+//! Texts of matrices over grids and in panels, written by several threads.
+mod panels;
 mod rounds;
 mod threads;

@@ -1,4 +1,4 @@
-//! The text of a matrix over a grid, written by several threads.
+//! The text of a matrix over a grid or in panels, written by several threads.
 //!
 //! A text is written in rounds. In each round the next entries are dealt to the sheets of a [`Round`] in order, as many
 //! as each sheet has room for. Then each sheet is written by its own thread. The sheets in order are the next part of the

@@ -4,7 +4,6 @@ ghost use Rattle.cb_market.specs.Sheets.{share_of};
 ghost use Rattle.cb_writing.specs.Rounds.{written_on, dealt_to};
 
 use crate::gates::{Gate, OpenGate};
-use cb_layout::DistributedMatrix;
 use cb_market::{MOST_LINES, Sheet, TextPages};
 use cb_semirings::Semiring;
 use std::alloc::{AllocError, Global};
@@ -36,36 +35,36 @@ impl<'a, S: Semiring> Model for Round<'a, S> {
 }
 
 impl<'a, S: Semiring> Round<'a, S> {
-    /// Makes empty sheets for the text of a matrix: one per thread, or fewer if the matrix has too few entries. Each takes
-    /// at most 2.9 MB.
+    /// Makes empty sheets for a text: one per thread, or fewer if the matrix has too few entries. Each takes at most
+    /// 2.9 MB.
     pub fn new(
         alloc: Global,
         threads: usize,
-        matrix: &'a DistributedMatrix<S>,
+        text: &TextPages<'a, S>,
     ) -> Result<Round<'a, S>, AllocError>
         ensures { IfOk result (λ round. round ≡ []) }
     {
         let threads = threads.max(1);
-        let lines = matrix.len().div_ceil(threads).clamp(FEW, LINES);
-        let sheets = matrix.len().div_ceil(lines).clamp(1, threads);
-        Round::with_lines(alloc, sheets, lines, matrix)
+        let entries = text.entry_count();
+        let lines = entries.div_ceil(threads).clamp(FEW, LINES);
+        let sheets = entries.div_ceil(lines).clamp(1, threads);
+        Round::with_lines(alloc, sheets, lines, text)
     }
 
-    /// Makes this many empty sheets for the text of a matrix, with room for this many lines each. A line takes 43 bytes.
+    /// Makes this many empty sheets for a text, with room for this many lines each. A line takes 43 bytes.
     pub fn with_lines(
         alloc: Global,
         sheets: usize,
         lines: usize,
-        matrix: &'a DistributedMatrix<S>,
+        text: &TextPages<'a, S>,
     ) -> Result<Round<'a, S>, AllocError>
         requires sheets { 0 < sheets }
         requires lines { (0 < lines) × (lines ≤ MOST_LINES) }
         ensures { IfOk result (λ round. round ≡ []) }
     {
-        let text = TextPages::new(matrix);
         let mut blank = Vec::with_capacity(alloc, sheets)?;
         for _ in 0..sheets {
-            blank.push_reserved(Sheet::new(alloc, lines, &text)?);
+            blank.push_reserved(Sheet::new(alloc, lines, text)?);
         }
         Ok(Round { sheets: blank })
     }

@@ -6,8 +6,8 @@ use Rattle.cb_product.specs.InColumns.{only_columns}
 use Rattle.cb_product.proofs.Panels.{both_matrix, both_joined}
 use Rattle.cb_panels.proofs.+fn-make_panels-join+arg2+fn-make_panels-join+arg3+make_panels.Goals as goal
 
-pub appended-requires-clause-matrix : goal.appended-requires-clause-matrix
-appended-requires-clause-matrix g t c =
+pub append-requires-clause-matrix : goal.append-requires-clause-matrix
+append-requires-clause-matrix g t c =
     let s = g.S.Semiring.arithmetic in
     let laws = (g.met.S.Semiring g.world.𝓛 g.world.𝓜 g.world.𝓡 ((λ s x. x), (λ x. x), (λ x. x), λ x. x)).is_semiring in
     let a = c.args.left.now in
@@ -18,7 +18,7 @@ appended-requires-clause-matrix g t c =
     let up = subst (AllPairs (λ c d. c < d)) all c.requires.ascending in
     let first : c.in_ok-front.front ≡ product s a (only_columns xs b) = search rules in
     let last : c.in_ok-back.back ≡ product s a (only_columns ys b) = search rules in
-    both_matrix s laws a b c.shape-2.ensures.matrix c.shape-3.ensures.matrix c.requires.agree xs ys up c.args.columns.now all c.in_ok-front.front c.in_ok-back.back first last
+    both_matrix s laws a b c.shape.ensures.matrix c.shape-2.ensures.matrix c.requires.agree xs ys up c.args.columns.now all c.in_ok-front.front c.in_ok-back.back first last
 
 pub returns : goal.returns
 returns g t c =
@@ -32,5 +32,5 @@ returns g t c =
     let up = subst (AllPairs (λ c d. c < d)) all c.requires.ascending in
     let first : c.in_ok-front.front ≡ product s a (only_columns xs b) = search rules in
     let last : c.in_ok-back.back ≡ product s a (only_columns ys b) = search rules in
-    let both = both_joined s laws a b c.shape-2.ensures.matrix c.shape-3.ensures.matrix c.requires.agree xs ys up c.args.columns.now all c.in_ok-front.front c.in_ok-back.back first last in
-    subst (λ (m : Sparse). IfOk c.appended.result (λ n. n ≡ m)) both c.appended.ensures
+    let both = both_joined s laws a b c.shape.ensures.matrix c.shape-2.ensures.matrix c.requires.agree xs ys up c.args.columns.now all c.in_ok-front.front c.in_ok-back.back first last in
+    subst (λ (m : Sparse). IfOk c.append.result (λ n. n ≡ m)) both c.append.ensures

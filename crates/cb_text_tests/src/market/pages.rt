@@ -6,13 +6,12 @@ use cb_samples::are_values;
 use cb_semirings::{MinPlus, OrAnd, PlusTimes, Semiring};
 use std::alloc::{AllocError, Global};
 
-/// The concatenated pages of a matrix over a grid, and their number.
-fn joined<S: Semiring>(
+/// The concatenated pages of a text, and their number.
+pub(crate) fn joined<S: Semiring>(
     alloc: Global,
-    matrix: &DistributedMatrix<S>,
+    mut pages: TextPages<'_, S>,
 ) -> Result<(Vec<u8>, usize), AllocError> {
     let mut page = Page::new(alloc)?;
-    let mut pages = TextPages::new(matrix);
     let mut bytes = Vec::new(alloc);
     let mut count: usize = 0;
     while pages.next_page(&mut page) {
@@ -32,7 +31,7 @@ fn read_and_joined<S: Semiring>(
         return Err(Kind::TooLarge);
     };
     match read_distributed::<S>(alloc, &grid, given) {
-        Ok(matrix) => joined(alloc, &matrix).map_err(|_| Kind::Memory),
+        Ok(matrix) => joined(alloc, TextPages::new(&matrix)).map_err(|_| Kind::Memory),
         Err(fault) => Err(fault.kind),
     }
 }
@@ -105,7 +104,7 @@ fn are_two_pages(
     let Ok(blocks) = DistributedMatrix::scatter(alloc, grid, matrix) else {
         return Err(Kind::Memory);
     };
-    match joined(alloc, &blocks) {
+    match joined(alloc, TextPages::new(&blocks)) {
         Ok((bytes, count)) => Ok(count == 2 && bytes.as_slice() == whole),
         Err(_) => Err(Kind::Memory),
     }

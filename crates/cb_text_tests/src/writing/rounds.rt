@@ -11,20 +11,18 @@ use cb_writing::Round;
 use std::alloc::{AllocError, Global};
 use std::thread::Threads;
 
-/// The concatenated rounds of a matrix over a grid, with this many sheets of this many lines each, and the number of
-/// rounds.
+/// The concatenated rounds of a text, with this many sheets of this many lines each, and the number of rounds.
 pub(crate) fn joined<S: Semiring + Send + Sync, R: Threads + Sync>(
     rt: &R,
     alloc: Global,
     sheets: usize,
     lines: usize,
-    matrix: &DistributedMatrix<S>,
+    mut left: TextPages<'_, S>,
 ) -> Result<(Vec<u8>, usize), AllocError>
     requires sheets { 0 < sheets }
     requires lines { (0 < lines) × (lines ≤ MOST_LINES) }
 {
-    let mut round = Round::with_lines(alloc, sheets, lines, matrix)?;
-    let mut left = TextPages::new(matrix);
+    let mut round = Round::with_lines(alloc, sheets, lines, &left)?;
     let mut bytes = Vec::new(alloc);
     let mut count: usize = 0;
     while round.fill(rt, &mut left) {
@@ -45,7 +43,7 @@ fn are_text<S: Semiring + Send + Sync, R: Threads + Sync>(
 ) -> Result<bool, AllocError> {
     for sheets in 1..=5 {
         for lines in [1, 2, 3, 1_000] {
-            let (bytes, _) = joined(rt, alloc, sheets, lines, matrix)?;
+            let (bytes, _) = joined(rt, alloc, sheets, lines, TextPages::new(matrix))?;
             if bytes.as_slice() != wanted {
                 return Ok(false);
             }
@@ -143,7 +141,7 @@ fn are_rounds<R: Threads + Sync>(
     let Ok(blocks) = DistributedMatrix::scatter(alloc, grid, matrix) else {
         return Err(Kind::Memory);
     };
-    match joined(rt, alloc, 2, lines, &blocks) {
+    match joined(rt, alloc, 2, lines, TextPages::new(&blocks)) {
         Ok((bytes, count)) => Ok(count == rounds && bytes.as_slice() == whole.as_slice()),
         Err(_) => Err(Kind::Memory),
     }
@@ -170,7 +168,7 @@ fn sheets_of(alloc: Global, threads: usize, entries: u32) -> usize {
     let Ok(blocks) = DistributedMatrix::scatter(alloc, Grid::single(), &matrix) else {
         return 0;
     };
-    let Ok(round) = Round::new(alloc, threads, &blocks) else {
+    let Ok(round) = Round::new(alloc, threads, &TextPages::new(&blocks)) else {
         return 0;
     };
     round.sheets().len()

@@ -42,10 +42,10 @@ fn meet<R: Threads + Sync>(
         here: AtomicUsize::new(0),
         have_met: AtomicBool::new(false),
     };
-    let Ok(mut round) = Round::with_lines(alloc, 2, 2, matrix) else {
+    let mut left = TextPages::new(matrix);
+    let Ok(mut round) = Round::with_lines(alloc, 2, 2, &left) else {
         return Err(Kind::Memory);
     };
-    let mut left = TextPages::new(matrix);
     let _some = round.fill_through(rt, &mut left, &gate);
     Ok(gate.have_met.load(Ordering::SeqCst))
 }

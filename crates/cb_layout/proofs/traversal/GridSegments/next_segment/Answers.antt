@@ -12,7 +12,7 @@ use Rattle.cb_layout.specs.Segments.{entries_left}
 use Rattle.cb_layout.proofs.Fronts.{least_row, least_known, least_is, are_next}
 use Rattle.cb_layout.proofs.BlockColumns.{column_inside, rows_inside, column_is, some_in}
 use Rattle.cb_layout.proofs.RemainingEntries.{stepped_left}
-use Rattle.cb_layout.proofs.traversal.Segments.next_segment.Goals as goal
+use Rattle.cb_layout.proofs.traversal.GridSegments.next_segment.Goals as goal
 
 pub reach-requires-clause-blocks : goal.reach-requires-clause-blocks
 reach-requires-clause-blocks g c = c.self.invariant.are_blocks

@@ -1,0 +1,2 @@
+-- Shares: panels of a product, and where ranges of its columns end.
+pub mod Shares

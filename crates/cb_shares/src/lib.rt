@@ -1,0 +1,240 @@
+//! Shares of a product: which of its columns each thread makes, how it makes them, and how the panels are joined.
+//!
+//! Columns are parted so that each share takes about as many products of two values, as by Nagasaka, Matsuoka, Azad and
+//! Buluç, High-performance Sparse Matrix-Matrix Products on Intel KNL and Multicore Architectures (ICPP Workshops 2018).
+//!
+//! Nothing here starts a thread: `cb_panels` does, by a runtime, and so may a program in C.
+#![tactic(auto)]
+
+ghost use Rattle.std.specs.Prelude.{◌≡◌, ℕ, ◌↔◌, ◌<◌, ◌≤◌, IsTrue, length, get_or, slice_index, All, AllPairs, IfOk};
+ghost use Rattle.cb_matrix.specs.Sparse.{IsMatrix};
+ghost use Rattle.cb_dcsc.specs.Columns.{columns_with_entries, with_entries};
+ghost use Rattle.cb_product.specs.ColumnStarts.{Tells};
+ghost use Rattle.cb_shares.specs.Shares.{panel, AreEnds, AreBefore, JoinsPanels};
+
+use cb_dcsc::Block;
+use cb_product::{ColumnIndex, multiply_columns};
+use cb_semirings::Semiring;
+use std::alloc::{AllocError, Global};
+
+/// The fewest products of two values in a share. For fewer, a thread takes longer to start than to multiply.
+pub const LEAST_PRODUCTS: usize = 65_536;
+
+/// How many products each column of the right block that has entries takes. Costs a pass over the right block's entries.
+pub fn products_of_columns<S: Semiring>(
+    alloc: Global,
+    left: &Block<S>,
+    index: &ColumnIndex,
+    right: &Block<S>,
+) -> Result<Vec<usize>, AllocError>
+    requires agree { left.now.shape.cols ≡ right.now.shape.rows }
+    requires told { Tells index.now left.now }
+{
+    let mut counts = Vec::new(alloc);
+    counts.reserve(right.columns())?;
+    for n in 0..right.columns() {
+        counts.push(products_of(left, index, right, n))?;
+    }
+    Ok(counts)
+}
+
+/// How many products the nth column of the right block that has entries takes.
+fn products_of<S: Semiring>(
+    left: &Block<S>,
+    index: &ColumnIndex,
+    right: &Block<S>,
+    n: usize,
+) -> usize
+    requires agree { left.now.shape.cols ≡ right.now.shape.rows }
+    requires told { Tells index.now left.now }
+    requires within { n < length (columns_with_entries right.now.entries) }
+{
+    let right_shape = right.shape();
+    let (rows, _) = right.nth_column(n);
+    index.products(left, rows)
+}
+
+/// All of these counts together.
+pub fn total(counts: &[usize]) -> usize {
+    let mut sum = 0usize;
+    for count in counts {
+        sum = sum.saturating_add(*count);
+    }
+    sum
+}
+
+/// Returns where each of `count` shares of a product's columns ends: each share takes about as many products of two values.
+/// No share takes fewer than `least` products, except for the last that has columns and those behind it, which have none.
+///
+/// Costs an index of the left block's columns, and a pass over the right block's entries.
+pub fn ends_of<S: Semiring>(
+    alloc: Global,
+    left: &Block<S>,
+    right: &Block<S>,
+    count: usize,
+    least: usize,
+) -> Result<Vec<u32>, AllocError>
+    requires { left.now.shape.cols ≡ right.now.shape.rows }
+    ensures { IfOk result (λ ends. AreEnds count right.now.shape.cols ends.items) }
+{
+    let index = ColumnIndex::new(alloc, left, right.len())?;
+    let counts = products_of_columns(alloc, left, &index, right)?;
+    let share = (total(&counts) / count.max(1)).saturating_add(1).max(least);
+    let cols = right.shape().cols();
+    ends_by(alloc, right.column_numbers(), cols, &counts, share, count)
+}
+
+/// Where shares end that take so many products each, of columns that take these.
+fn ends_by(
+    alloc: Global,
+    columns: &[u32],
+    cols: u32,
+    counts: &[usize],
+    share: usize,
+    count: usize,
+) -> Result<Vec<u32>, AllocError>
+    requires ascending { AllPairs (λ c d. c < d) columns.now }
+    requires within { All (λ c. c < cols) columns.now }
+    ensures { IfOk result (λ ends. AreEnds count cols ends.items) }
+{
+    let mut ends = Vec::with_capacity(alloc, count)?;
+    if count == 0 {
+        return Ok(ends);
+    }
+    let mut place = 0;
+    let mut sum = 0usize;
+    for n in 1..count {
+        place = place_after(counts, place, &mut sum, share.saturating_mul(n));
+        ends.push(column_at(columns, cols, place))?;
+    }
+    ends.push(cols)?;
+    Ok(ends)
+}
+
+/// The first place, from one on, before which the counts make up a target. `sum` is what those before the place make up.
+fn place_after(counts: &[usize], from: usize, sum: &mut usize, target: usize) -> usize
+    ensures { from ≤ result }
+{
+    for n in from..counts.len() {
+        if *sum >= target {
+            return n;
+        }
+        *sum = sum.saturating_add(counts[n]);
+    }
+    from.max(counts.len())
+}
+
+/// The column at a place among columns that have entries, or the number of all columns behind the last of them.
+fn column_at(columns: &[u32], cols: u32, place: usize) -> u32
+    ensures { result ≡ get_or columns.now place cols }
+{
+    match columns.get(place) {
+        Some(column) => *column,
+        None => cols,
+    }
+}
+
+/// Returns a panel of a product: the product with the right block's columns from `first` up to, but not including, `end`, in
+/// a block with the shape of the whole product.
+///
+/// The columns of the left block are as many as the rows of the right. Costs two binary searches, an index of the left
+/// block's columns, and the products of these columns.
+pub fn multiply_panel<S: Semiring>(
+    alloc: Global,
+    left: &Block<S>,
+    right: &Block<S>,
+    first: u32,
+    end: u32,
+) -> Result<Block<S>, AllocError>
+    requires { left.now.shape.cols ≡ right.now.shape.rows }
+    ensures { IfOk result (λ m. m ≡ panel S.arithmetic left.now right.now first end) }
+{
+    let columns = right.column_numbers();
+    let low = first_from(columns, first);
+    let high = first_from(columns, end).max(low);
+    let index = ColumnIndex::new(alloc, left, entries_between(right, low, high))?;
+    let room = most_entries(left, &index, right, low, high);
+    multiply_columns(alloc, left, &index, right, &columns[low..high], room)
+}
+
+/// How many of these numbers, which ascend, are below a bound.
+fn first_from(numbers: &[u32], bound: u32) -> usize
+    requires { AllPairs (λ i j. i < j) numbers.now }
+    ensures within { result ≤ length numbers.now }
+    ensures below { (k : ℕ) → k < result → slice_index numbers.now k < bound }
+    ensures from { (k : ℕ) → result ≤ k → k < length numbers.now → bound ≤ slice_index numbers.now k }
+{
+    match numbers.binary_search(&bound) {
+        Ok(n) => n,
+        Err(n) => n,
+    }
+}
+
+/// How many entries are in the columns from one place up to another among those that have entries.
+fn entries_between<S: Semiring>(block: &Block<S>, low: usize, high: usize) -> usize
+    requires { high ≤ length (columns_with_entries block.now.entries) }
+{
+    if low >= high {
+        return 0;
+    }
+    let (start, _) = block.nth_range(low);
+    let (_, end) = block.nth_range(high - 1);
+    end.saturating_sub(start)
+}
+
+/// How many entries can come to stand in the columns from one place up to another: in each no more than its products, or than
+/// there are rows.
+fn most_entries<S: Semiring>(
+    left: &Block<S>,
+    index: &ColumnIndex,
+    right: &Block<S>,
+    low: usize,
+    high: usize,
+) -> usize
+    requires agree { left.now.shape.cols ≡ right.now.shape.rows }
+    requires told { Tells index.now left.now }
+    requires within { high ≤ length (columns_with_entries right.now.entries) }
+{
+    let rows = left.shape().rows() as usize;
+    let mut sum = 0usize;
+    for n in low..high {
+        sum = sum.saturating_add(products_of(left, index, right, n).min(rows));
+    }
+    sum
+}
+
+/// Whether the columns of one block that have entries are all before those of another. Takes constant time.
+pub fn are_before<S: Semiring>(front: &Block<S>, back: &Block<S>) -> bool
+    ensures { IsTrue result ↔ AreBefore front.now.entries back.now.entries }
+{
+    ends_before(front.column_numbers(), back.column_numbers())
+}
+
+/// Whether the last of some numbers, which ascend, is before the first of others.
+fn ends_before(front: &[u32], back: &[u32]) -> bool
+    requires front { AllPairs (λ c d. c < d) front.now }
+    requires back { AllPairs (λ c d. c < d) back.now }
+    ensures { IsTrue result ↔ All (λ c. All (λ d. c < d) back.now) front.now }
+{
+    let Some(last) = front.last() else {
+        return true;
+    };
+    let Some(first) = back.first() else {
+        return true;
+    };
+    last < first
+}
+
+/// Returns a block with the entries of another after all its own. Costs a copy of the other's entries, or nothing if the
+/// block has none.
+///
+/// If both are panels of a product, the second next to the first, the result is the panel of the columns of both.
+pub fn joined<S: Semiring>(mut front: Block<S>, mut back: Block<S>) -> Result<Block<S>, AllocError>
+    requires shape { back.shape ≡ front.shape }
+    requires matrix { IsMatrix S.arithmetic (with_entries front back.entries) }
+    ensures entries { IfOk result (λ m. m ≡ with_entries front back.entries) }
+    ensures panels { IfOk result (JoinsPanels S.arithmetic front back) }
+{
+    front.append(&mut back)?;
+    Ok(front)
+}

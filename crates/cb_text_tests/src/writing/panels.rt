@@ -1,0 +1,85 @@
+//! The text of a product in panels is that of the whole product.
+ghost use Rattle.std.specs.Prelude.{◌≡◌};
+
+use crate::market::pages;
+use crate::writing::rounds;
+use cb_dcsc::Block;
+use cb_layout::{Grid, PanelledMatrix};
+use cb_market::{Kind, TextPages, read_distributed};
+use cb_panels::{Panels, multiply_panels};
+use cb_semirings::PlusTimes;
+use std::alloc::{AllocError, Global};
+use std::thread::Threads;
+
+/// How many panels a product is made in.
+const COUNTS: [u32; 4] = [1, 2, 3, 64];
+
+/// Ones on the diagonal of a matrix of five rows and columns.
+const ONE: &[u8] =
+    b"%%MatrixMarket matrix coordinate integer general\n5 5 5\n1 1 1\n2 2 1\n3 3 1\n4 4 1\n5 5 1\n";
+
+/// A matrix of five rows, with columns that have no entries, and one without entries.
+const FACTORS: [&[u8]; 2] = [
+    b"%%MatrixMarket matrix coordinate integer general\n5 9 7\n1 1 7\n5 1 10\n2 2 18446744073709551615\n4 2 3\n1 6 99999\n3 6 1\n4 8 2\n",
+    b"%%MatrixMarket matrix coordinate integer general\n5 9 0\n",
+];
+
+/// Reads a text as one block.
+fn block_of(alloc: Global, given: &[u8]) -> Result<Block<PlusTimes>, Kind> {
+    match read_distributed::<PlusTimes>(alloc, &Grid::single(), given) {
+        Ok(matrix) => Ok(matrix.into_block()),
+        Err(fault) => Err(fault.kind),
+    }
+}
+
+/// Whether a matrix in panels is written as this text, page by page and in rounds of sheets of a few lines.
+fn is_text<R: Threads + Sync>(
+    rt: &R,
+    alloc: Global,
+    matrix: &PanelledMatrix<PlusTimes>,
+    wanted: &[u8],
+) -> Result<bool, AllocError> {
+    let (by_pages, _) = pages::joined(alloc, TextPages::of_panels(matrix))?;
+    if by_pages.as_slice() != wanted {
+        return Ok(false);
+    }
+    for lines in [1, 2, 3, 1_000] {
+        let (by_rounds, _) = rounds::joined(rt, alloc, 3, lines, TextPages::of_panels(matrix))?;
+        if by_rounds.as_slice() != wanted {
+            return Ok(false);
+        }
+    }
+    Ok(true)
+}
+
+/// Whether one times a matrix, made in at most this many panels, is written as the text of the matrix.
+fn is_own_text<R: Threads + Sync>(
+    rt: &R,
+    alloc: Global,
+    most: u32,
+    given: &[u8],
+) -> Result<bool, Kind> {
+    let left = block_of(alloc, ONE)?;
+    let right = block_of(alloc, given)?;
+    if left.shape().cols() != right.shape().rows() {
+        return Ok(false);
+    }
+    let panels = Panels {
+        most,
+        least_products: 1,
+    };
+    let Ok(product) = multiply_panels(rt, alloc, panels, &left, &right) else {
+        return Err(Kind::Memory);
+    };
+    is_text(rt, alloc, &product, given).map_err(|_| Kind::Memory)
+}
+
+#[test]
+fn panels_are_written_as_one_matrix(rt: HostRuntime) {
+    for most in COUNTS {
+        for given in FACTORS {
+            let answer = is_own_text(&rt, rt.alloc(), most, given);
+            assert_eq!(&rt; answer, Ok(true), "{most} panels");
+        }
+    }
+}
