@@ -29,3 +29,5 @@ mod samples;
 mod selections;
 #[cfg(test)]
 mod semirings;
+#[cfg(test)]
+mod updates;

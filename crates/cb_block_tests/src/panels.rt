@@ -5,7 +5,7 @@ use crate::masked::random;
 use crate::samples::is_right_or_refused;
 use cb_dcsc::Block;
 use cb_matrix::LIMIT;
-use cb_panels::{Panels, multiply};
+use cb_panels::{Panels, multiply, multiply_panels};
 use cb_samples::SampleFault;
 use cb_semirings::{MinPlus, PlusTimes, Semiring};
 use std::alloc::{AllocError, Global};
@@ -83,6 +83,39 @@ fn products_in_panels_are_the_same(rt: HostRuntime) {
     for factors in &FACTORS {
         assert!(&rt; are_products::<PlusTimes, _>(&rt, rt.alloc(), factors));
         assert!(&rt; are_products::<MinPlus, _>(&rt, rt.alloc(), factors));
+    }
+}
+
+/// How many panels the product of the factors of a seed has, of at most this many.
+fn panel_count<R: Threads + Sync>(
+    rt: &R,
+    alloc: Global,
+    most: u32,
+    factors: &Factors,
+) -> Result<usize, SampleFault> {
+    let ([rows, inner, cols], [rows_used, inner_used, cols_used], [one, two]) = *factors;
+    let left = random::<PlusTimes>(alloc, rows, inner, (rows_used, inner_used), one, 7919)?;
+    let right = random::<PlusTimes>(alloc, inner, cols, (inner_used, cols_used), two, !7919)?;
+    let panels = Panels {
+        most,
+        least_products: 1,
+    };
+    Ok(
+        multiply_panels(rt, alloc, panels, &left, &right)?
+            .panels()
+            .len(),
+    )
+}
+
+/// There are as many as are asked for, at least one, unless only one column has entries.
+#[test]
+fn a_product_has_as_many_panels_as_are_asked_for(rt: HostRuntime) {
+    let alloc = rt.alloc();
+    for (most, wanted) in [(0, 1), (1, 1), (2, 2), (5, 5), (64, 64)] {
+        let count = panel_count(&rt, alloc, most, &FACTORS[1]);
+        assert_eq!(&rt; count, Ok(wanted), "at most {most}");
+        let count = panel_count(&rt, alloc, most, &FACTORS[3]);
+        assert_eq!(&rt; count, Ok(1), "at most {most}, one column");
     }
 }
 

@@ -28,7 +28,7 @@ use std::marker::{Model, PhantomData};
 use std::mem::swap;
 
 /// A sparse matrix, stored by the columns that have entries.
-#[derive(Debug, Drop)]
+#[derive(Drop)]
 pub struct Block<S: Semiring> {
     shape: Shape,
     /// JC: the columns that have entries.

@@ -2,7 +2,7 @@
 -- that have spread are the least vertices of components. Counting: sums over ranges and over lists. AnyOrder: joined
 -- triples are counted alike in every order. Listed: numbers that lists have in common. Later: orders of places. Marked:
 -- marks, and lists one after another. Beside: lists of the places of neighbours. Apexes: all triangles, and those of one
--- vertex, by the places of their vertices.
+-- vertex, by the places of their vertices. DegreeCounts: how many entries a column has.
 pub mod Undirected
 pub mod Flooded
 pub mod Joined
@@ -13,3 +13,4 @@ pub mod Later
 pub mod Marked
 pub mod Beside
 pub mod Apexes
+pub mod DegreeCounts

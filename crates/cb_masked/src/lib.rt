@@ -1,4 +1,5 @@
-//! Masked products of blocks: the product's entries at the places where a mask has an entry. No others are computed.
+//! Masked products of blocks: the product's entries at the places where a mask has an entry. No others are computed. For those
+//! where it has none, see `outside`.
 //!
 //! Column j of a product is a sum of terms: for each entry (k, j) of the right block, column k of the left block times
 //! that entry. Each entry of the mask's column j has a sum, in the order of rows, and terms are added to these sums only. So
@@ -28,10 +29,12 @@ ghost use Rattle.cb_masked.specs.declared.places.TheConstants.{NONE};
 ghost use Rattle.cb_masked.specs.Places.{AreNoted};
 
 mod kept;
+mod outside;
 mod places;
 mod sums;
 
 use crate::kept::keep_nonzero;
+pub use crate::outside::multiply_outside;
 use crate::places::{cleared, noted};
 use crate::sums::sum_column;
 use cb_dcsc::Block;

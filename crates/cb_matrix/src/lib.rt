@@ -100,7 +100,7 @@ impl Shape {
 }
 
 /// A matrix over the semiring `S`. Zeros aren't stored.
-#[derive(Debug, Drop)]
+#[derive(Drop)]
 pub struct Matrix<S: Semiring> {
     shape: Shape,
     entries: Vec<Entry>,

@@ -20,6 +20,7 @@
 -- Panels: products with some columns, one after another: `panels_matrix`, `panels_joined`, `both_matrix`, `both_joined`;
 --   `front_factors`, `back_factors`; with all columns they are the product, `whole_panel`.
 -- EmptyFactors: a product with a matrix without entries has none: `product_vanishes`.
+-- Outside: a column without its entries in excluded rows; `among_none`.
 pub mod RowValues
 pub mod ColumnSoFar
 pub mod RowSums
@@ -31,6 +32,7 @@ pub mod AbsentColumns
 pub mod OnlyColumns
 pub mod Panels
 pub mod EmptyFactors
+pub mod Outside
 -- For this crate alone, beside the rest of those above. ScaledSum: two columns joined. TermSums: sums of terms. HeapStep: a
 -- step of the merge by a heap. MarkBits, WordStep: marks, and the rows of a word of them. Union: two ascending lists
 -- merged. ColumnStarts: where each column starts. Written: a vector that was lent as a slice and written to.
@@ -41,4 +43,5 @@ pub mod WordStep
 pub mod HeapStep
 pub mod Union
 pub mod ColumnStarts
+pub mod MarkedRows
 mod Written

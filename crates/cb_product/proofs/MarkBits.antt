@@ -31,6 +31,24 @@ module _ (words : List ℕ) (row : ℕ) (l : row / 64 < length words) where
   pub words_stay : (k : ℕ) → k ≢ row / 64 → get_or marked k 0 ≡ get_or words k 0
   words_stay k ne = get_or-set_other words (row / 64) k _ 0 ne
 
+-- a row's bit is cleared in its word
+module _ (words : List ℕ) (row : ℕ) (l : row / 64 < length words) where
+  abbrev without : List ℕ
+  without = set words (row / 64) (bit_and (get_or words (row / 64) 0) (bit_not w64 (1 * 2 ^ (row % 64) % 18446744073709551616)))
+
+  -- the row isn't marked
+  pub unmark_here : mark_of without row ≡ 0
+  unmark_here = ap (λ w. bit_at w (row % 64)) (get_or-set_same words (row / 64) _ 0 l) ∙ bit_at_clear_same w64 (get_or words (row / 64) 0) (row % 64) (omega arith)
+
+  -- the marks of other rows stay the same
+  pub unmark_others : (i : ℕ) → i ≢ row → mark_of without i ≡ mark_of words i
+  unmark_others i n = ⊎_elim
+      (λ (e : i / 64 ≡ row / 64).
+      let other : i % 64 ≢ row % 64 = λ m. n (omega arith) in
+      ap (λ k. bit_at (get_or without k 0) (i % 64)) e ∙ ap (λ w. bit_at w (i % 64)) (get_or-set_same words (row / 64) _ 0 l) ∙ bit_at_clear_other w64 (get_or words (row / 64) 0) (row % 64) (omega arith) (i % 64) (omega arith) other ∙ ap (λ k. bit_at (get_or words k 0) (i % 64)) (sym e))
+      (λ (e : i / 64 ≡ row / 64 → ⊥). let ne : i / 64 ≢ row / 64 = e in ap (λ w. bit_at w (i % 64)) (get_or-set_other words (row / 64) (i / 64) _ 0 ne))
+      (cases_eq (i / 64) (row / 64))
+
 -- the bits of a word from k on
 module _ (w k : ℕ) (within : k < 64) where
   abbrev rest : ℕ

@@ -7,6 +7,10 @@ use Rattle.cb_semirings.specs.Arithmetic.{Arithmetic, IsValue}
 abbrev pub mark_of : List ℕ → ℕ → ℕ
 mark_of words i = bit_at (slice_index words (i / 64)) (i % 64)
 
+-- no row is marked
+abbrev pub MarksNone : List ℕ → Type 0
+MarksNone words = (i : ℕ) → mark_of words i ≡ 0
+
 -- Each sum other than zero is marked, and so is each word of marks other than zero.
 pub record AreMarked (zero : ℕ) (sums marks groups : List ℕ) : Type 0 where
   pub room : length sums ≤ 64 * length marks

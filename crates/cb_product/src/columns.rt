@@ -2,7 +2,9 @@
 ghost use Rattle.std.specs.Prelude.{◌≡◌, ◌≢◌, ◌↔◌, IsTrue, ℕ, ◌<◌, ◌≤◌, List, [], length, drop, All, AllPairs, Contains, IfOk, IfSome, OnOk, slice_index};
 ghost use Rattle.cb_semirings.specs.Arithmetic.{IsValue};
 ghost use Rattle.cb_dcsc.specs.Columns.{in_column, rows_of, values_of};
-ghost use Rattle.cb_product.specs.SparseColumn.{IsSparseColumn, IsColumnOf, AddsToColumn, one_value, scaled, scaled_rest, joined_value};
+ghost use Rattle.cb_product.specs.SparseColumn.{IsSparseColumn, IsColumnOf, AddsToColumn, one_value, scaled, scaled_at, scaled_rest, joined_value};
+ghost use Rattle.cb_product.specs.InColumns.{is_among};
+ghost use Rattle.cb_product.specs.Outside.{outside, ArePassed};
 
 use cb_dcsc::Block;
 use cb_semirings::Semiring;
@@ -140,6 +142,47 @@ impl<S: Semiring> Column<S> {
         self.append(own_rows, own_values, None, x)?;
         self.append(rows, values, scale, y)
     }
+
+    /// Replaces this column by another, times a factor if there is one, without its entries in the excluded rows. Costs
+    /// O(entries + excluded rows).
+    pub fn fill_outside(
+        &mut self,
+        rows: &[u32],
+        values: &[u64],
+        scale: Option<u64>,
+        excluded: &[u32],
+    ) -> Result<(), AllocError>
+        requires lengths { length values.now ≡ length rows.now }
+        requires values { All (IsValue S.arithmetic) values.now }
+        requires order { AllPairs (λ i j. i < j) rows.now }
+        requires scale { IfSome scale (IsValue S.arithmetic) }
+        requires excluded { AllPairs (λ i j. i < j) excluded.now }
+        ensures { OnOk result (IsColumnOf S.arithmetic (outside S.arithmetic.zero excluded.now (scaled_at S.arithmetic rows.now values.now scale)) self.new) }
+    {
+        self.clear();
+        let mut next = 0;
+        for n in 0..rows.len() {
+            if !is_next(excluded, &mut next, rows[n]) {
+                self.keep(rows[n], scaled::<S>(values[n], scale))?;
+            }
+        }
+        Ok(())
+    }
+}
+
+/// Whether a row is one of these rows, which ascend. A caller that asks for rows in ascending order, and keeps `next` from
+/// call to call, gets all answers in O(rows + answers).
+#[inline(always)]
+fn is_next(rows: &[u32], next: &mut usize, row: u32) -> bool
+    requires ascending { AllPairs (λ i j. i < j) rows.now }
+    requires passed { ArePassed rows.now next.old row }
+    ensures among { result ≡ is_among rows.now row }
+    ensures passed { ArePassed rows.now next.new row }
+{
+    while *next < rows.len() && rows[*next] < row {
+        *next += 1;
+    }
+    *next < rows.len() && rows[*next] == row
 }
 
 /// Returns a value times a factor if there is one. No factor stands for one, which a semiring need not have.

@@ -28,6 +28,7 @@ ghost use Rattle.cb_product.specs.Factors.{AreFactors};
 ghost use Rattle.cb_product.specs.InColumns.{AreInColumns, only_columns};
 
 pub use crate::column_index::ColumnIndex;
+pub use crate::product_column::ProductColumn;
 use crate::terms::{Term, gather};
 use crate::workspace::Workspace;
 use cb_dcsc::Block;
@@ -38,6 +39,7 @@ mod column_index;
 mod columns;
 mod heads;
 mod marks;
+mod product_column;
 mod sparse_accumulator;
 mod terms;
 mod workspace;

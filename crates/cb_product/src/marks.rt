@@ -1,6 +1,9 @@
 //! Marks of rows: a bit for each row, in words of 64. Marked rows are found in order, 64 rows with one look.
-ghost use Rattle.std.specs.Prelude.{◌≡◌, ◌≢◌, ◌↔◌, IsTrue, ℕ, ◌<◌, ◌≤◌, ◌/◌, ◌^◌, length, All, IfSome, IfNone, slice_index};
-ghost use Rattle.cb_product.specs.Marks.{mark_of};
+ghost use Rattle.std.specs.Prelude.{◌≡◌, ◌≢◌, ◌↔◌, IsTrue, ℕ, ◌<◌, ◌≤◌, ◌/◌, ◌*◌, ◌^◌, cond, length, All, IfSome, IfNone, OnOk, slice_index};
+ghost use Rattle.cb_product.specs.InColumns.{is_among};
+ghost use Rattle.cb_product.specs.Marks.{mark_of, MarksNone};
+
+use std::alloc::AllocError;
 
 /// Marks a row.
 fn mark(words: &mut [u64], row: usize)
@@ -13,8 +16,58 @@ fn mark(words: &mut [u64], row: usize)
     words[row / 64] |= 1 << (row % 64);
 }
 
+/// Removes the mark of a row.
+fn unmark(words: &mut [u64], row: usize)
+    requires { row / 64 < length words.old }
+    ensures length { length words.new ≡ length words.old }
+    ensures here { mark_of words.new row ≡ 0 }
+    ensures others { (i : ℕ) → i ≢ row → mark_of words.new i ≡ mark_of words.old i }
+{
+    words[row / 64] &= !(1 << (row % 64));
+}
+
+/// Makes room for the marks of this many rows. No row is marked before or after.
+pub(crate) fn make_room(words: &mut Vec<u64>, rows: u32) -> Result<(), AllocError>
+    requires { MarksNone words.old.items }
+    ensures room { OnOk result (rows ≤ 64 * length words.new.items) }
+    ensures none { OnOk result (MarksNone words.new.items) }
+{
+    let count = rows as usize / 64 + 1;
+    if words.len() < count {
+        words.clear();
+        words.resize(count, 0)?;
+    }
+    Ok(())
+}
+
+/// Marks these rows, or removes their marks.
+pub(crate) fn set_marks(words: &mut [u64], rows: &[u32], marked: bool)
+    requires { All (λ i. i / 64 < length words.old) rows.now }
+    ensures length { length words.new ≡ length words.old }
+    ensures marks { (i : ℕ) → mark_of words.new i ≡ cond (is_among rows.now i) (cond marked 1 0) (mark_of words.old i) }
+{
+    for n in 0..rows.len() {
+        set_mark(words, rows[n] as usize, marked);
+    }
+}
+
+/// Marks a row, or removes its mark.
+fn set_mark(words: &mut [u64], row: usize, marked: bool)
+    requires { row / 64 < length words.old }
+    ensures length { length words.new ≡ length words.old }
+    ensures here { mark_of words.new row ≡ cond marked 1 0 }
+    ensures others { (i : ℕ) → i ≢ row → mark_of words.new i ≡ mark_of words.old i }
+{
+    if marked {
+        mark(words, row);
+    } else {
+        unmark(words, row);
+    }
+}
+
 /// Whether a row is marked.
-fn is_marked(words: &[u64], row: usize) -> bool
+#[inline(always)]
+pub(crate) fn is_marked(words: &[u64], row: usize) -> bool
     requires { row / 64 < length words.now }
     ensures { IsTrue result ↔ (mark_of words.now row ≡ 1) }
 {

@@ -4,16 +4,17 @@
 //! of 64 such bits. The marks are read in order, so the rows need no sorting, and one word of the second level tells which
 //! of 4,096 rows to look at. It is the accumulator of Gilbert, Moler and Schreiber, Sparse Matrices in MATLAB (SIAM J.
 //! Matrix Anal. Appl. 1992, section 3.1), with bits in place of a list of rows.
-ghost use Rattle.std.specs.Prelude.{◌≡◌, ℕ, ◌<◌, ◌+◌, ◌*◌, ◌^◌, List, [], length, All, AllPairs, IfOk, IfSome, OnOk, slice_index_or};
+ghost use Rattle.std.specs.Prelude.{◌≡◌, ℕ, ◌<◌, ◌≤◌, ◌+◌, ◌*◌, ◌^◌, List, [], length, All, AllPairs, IfOk, IfSome, OnOk, slice_index_or};
 ghost use Rattle.std.specs.Int.{bit_at};
 ghost use Rattle.cb_semirings.specs.Arithmetic.{IsValue};
 ghost use Rattle.cb_product.specs.SparseColumn.{IsColumnOf, scaled_at};
 ghost use Rattle.cb_product.specs.DenseSums.{AddsToSums, ZerosStay, column_and_sum};
 ghost use Rattle.cb_product.specs.Terms.{IsTerm, terms_value};
 ghost use Rattle.cb_product.specs.Marks.{IsAccumulator};
+ghost use Rattle.cb_product.specs.Outside.{unmarked};
 
 use crate::columns::{Column, scaled};
-use crate::marks::{mark_row, next_marked, unmark_all};
+use crate::marks::{is_marked, mark_row, next_marked, unmark_all};
 use crate::terms::Term;
 use cb_semirings::Semiring;
 use std::alloc::{AllocError, Global};
@@ -118,6 +119,61 @@ impl<S: Semiring> SparseAccumulator<S> {
         }
     }
 
+    /// Adds a column, times a factor if there is one, to the sums of its rows, except for the excluded rows, which are marked.
+    #[inline(always)]
+    pub fn add_outside(
+        &mut self,
+        rows: &[u32],
+        values: &[u64],
+        scale: Option<u64>,
+        excluded: &[u64],
+    )
+        requires lengths { length values.now ≡ length rows.now }
+        requires values { All (IsValue S.arithmetic) values.now }
+        requires order { AllPairs (λ i j. i < j) rows.now }
+        requires scale { IfSome scale (IsValue S.arithmetic) }
+        requires inside { All (λ i. i < length self.old) rows.now }
+        requires room { length self.old ≤ 64 * length excluded.now }
+        ensures length { length self.new ≡ length self.old }
+        ensures values { All (IsValue S.arithmetic) self.new }
+        ensures sums { AddsToSums S.arithmetic (length self.old) (unmarked S.arithmetic.zero excluded.now (scaled_at S.arithmetic rows.now values.now scale)) self.old self.new }
+    {
+        let SparseAccumulator {
+            sums,
+            marks,
+            groups,
+            ..
+        } = self;
+        add_entries_outside::<S>(sums, marks, groups, rows, values, scale, excluded);
+    }
+
+    /// Adds terms to the sums of their rows, except for the excluded rows, which are marked.
+    pub fn add_terms_outside(
+        &mut self,
+        rows: &[u32],
+        values: &[u64],
+        terms: &[Term],
+        excluded: &[u64],
+    )
+        requires lengths { length values.now ≡ length rows.now }
+        requires values { All (IsValue S.arithmetic) values.now }
+        requires terms { All (IsTerm S.arithmetic rows.now) terms.now }
+        requires inside { All (λ i. i < length self.old) rows.now }
+        requires room { length self.old ≤ 64 * length excluded.now }
+        requires sums { All (IsValue S.arithmetic) self.old }
+        ensures length { length self.new ≡ length self.old }
+        ensures sums { AddsToSums S.arithmetic (length self.old) (unmarked S.arithmetic.zero excluded.now (λ i. terms_value S.arithmetic rows.now values.now i terms.now)) self.old self.new }
+    {
+        for term in terms {
+            self.add_outside(
+                &rows[term.at..term.end],
+                &values[term.at..term.end],
+                Some(term.scale),
+                excluded,
+            );
+        }
+    }
+
     /// Moves all sums into a column, which replaces the one in `made`, and leaves zeros. Costs O(a + n / 4096) for n rows of
     /// which a were added to.
     pub fn take(&mut self, made: &mut Column<S>) -> Result<(), AllocError>
@@ -159,6 +215,37 @@ fn add_entries<S: Semiring>(
         let row = rows[n] as usize;
         sums[row] = S::add(sums[row], scaled::<S>(values[n], scale));
         mark_row(marks, groups, row);
+    }
+}
+
+/// Adds a column, times a factor if there is one, to the sums of its rows, except for the excluded rows, which are marked.
+#[inline(always)]
+fn add_entries_outside<S: Semiring>(
+    sums: &mut [u64],
+    marks: &mut [u64],
+    groups: &mut [u64],
+    rows: &[u32],
+    values: &[u64],
+    scale: Option<u64>,
+    excluded: &[u64],
+)
+    requires lengths { length values.now ≡ length rows.now }
+    requires values { All (IsValue S.arithmetic) values.now }
+    requires order { AllPairs (λ i j. i < j) rows.now }
+    requires scale { IfSome scale (IsValue S.arithmetic) }
+    requires inside { All (λ i. i < length sums.old) rows.now }
+    requires room { length sums.old ≤ 64 * length excluded.now }
+    requires accumulator { IsAccumulator S.arithmetic sums.old marks.old groups.old }
+    ensures accumulator { IsAccumulator S.arithmetic sums.new marks.new groups.new }
+    ensures length { length sums.new ≡ length sums.old }
+    ensures sums { AddsToSums S.arithmetic (length sums.old) (unmarked S.arithmetic.zero excluded.now (scaled_at S.arithmetic rows.now values.now scale)) sums.old sums.new }
+{
+    for n in 0..rows.len() {
+        let row = rows[n] as usize;
+        if !is_marked(excluded, row) {
+            sums[row] = S::add(sums[row], scaled::<S>(values[n], scale));
+            mark_row(marks, groups, row);
+        }
     }
 }
 

@@ -1,9 +1,10 @@
 //! One column of a product, computed in the cheapest of four ways.
-ghost use Rattle.std.specs.Prelude.{◌≡◌, length, All, IfOk, OnOk};
+ghost use Rattle.std.specs.Prelude.{◌≡◌, ◌<◌, ◌≤◌, ◌*◌, length, All, AllPairs, IfOk, OnOk};
 ghost use Rattle.cb_matrix.specs.Sparse.{IsMatrix};
 ghost use Rattle.cb_dcsc.specs.Columns.{rows_of};
 ghost use Rattle.cb_product.specs.SparseColumn.{AreEntries, IsColumnOf};
-ghost use Rattle.cb_product.specs.Terms.{IsTerm, sum_with};
+ghost use Rattle.cb_product.specs.Terms.{IsTerm, terms_at, sum_with};
+ghost use Rattle.cb_product.specs.Outside.{outside, unmarked};
 
 use crate::columns::Column;
 use crate::heads::merge;
@@ -71,6 +72,52 @@ impl<S: Semiring> Workspace<S> {
         let (merged_rows, merged_values) = self.spare.entries();
         self.made
             .join(own_rows, own_values, merged_rows, merged_values, None)
+    }
+
+    /// Computes the sum of terms, without its entries in the excluded rows, which ascend.
+    pub fn make_outside(
+        &mut self,
+        left: &Block<S>,
+        terms: &[Term],
+        excluded: &[u32],
+        dense: bool,
+    ) -> Result<(), AllocError>
+        requires left { IsMatrix S.arithmetic left.now }
+        requires terms { All (IsTerm S.arithmetic (rows_of left.now.entries)) terms.now }
+        requires excluded { AllPairs (λ i j. i < j) excluded.now }
+        requires zeros { All (λ x. x ≡ S.arithmetic.zero) self.old.sums }
+        ensures zeros { OnOk result (All (λ x. x ≡ S.arithmetic.zero) self.new.sums) }
+        ensures column { OnOk result (IsColumnOf S.arithmetic (outside S.arithmetic.zero excluded.now (λ i. terms_at S.arithmetic left.now i terms.now)) self.new.made) }
+    {
+        self.make(left, terms, &[], &[], dense)?;
+        if excluded.is_empty() {
+            return Ok(());
+        }
+        swap(&mut self.made, &mut self.spare);
+        let (rows, values) = self.spare.entries();
+        self.made.fill_outside(rows, values, None, excluded)
+    }
+
+    /// Computes the sum of terms in the sparse accumulator, without its entries in the excluded rows, which are marked.
+    /// Products in these rows are skipped.
+    pub fn make_dense_outside(
+        &mut self,
+        left: &Block<S>,
+        terms: &[Term],
+        excluded: &[u64],
+    ) -> Result<(), AllocError>
+        requires left { IsMatrix S.arithmetic left.now }
+        requires terms { All (IsTerm S.arithmetic (rows_of left.now.entries)) terms.now }
+        requires room { left.now.shape.rows ≤ 64 * length excluded.now }
+        requires zeros { All (λ x. x ≡ S.arithmetic.zero) self.old.sums }
+        ensures zeros { OnOk result (All (λ x. x ≡ S.arithmetic.zero) self.new.sums) }
+        ensures column { OnOk result (IsColumnOf S.arithmetic (unmarked S.arithmetic.zero excluded.now (λ i. terms_at S.arithmetic left.now i terms.now)) self.new.made) }
+    {
+        let rows = left.shape().rows();
+        self.sums.make_room(self.alloc, rows)?;
+        self.sums
+            .add_terms_outside(left.row_numbers(), left.values(), terms, excluded);
+        self.sums.take(&mut self.made)
     }
 
     /// Computes it by joining the only term with the accumulator's column.

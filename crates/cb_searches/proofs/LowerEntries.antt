@@ -36,6 +36,10 @@ module _ (s : Arithmetic) (m : Sparse) (is : IsMatrix s m) (one : m.shape.cols �
   pub rows_apart : AllPairs (λ d e. d.row ≢ e.row) m.entries
   rows_apart i j d l k e = ⊎_elim (λ h. let a = in_column i d (omega arith) in let b = in_column j d k in omega arith) (λ h. omega (arith, h.1)) (is.ascending i j d l k)
 
+-- each entry of weights is in a row of the matrix, and below infinity
+pub entries_finite : (m : Sparse) → IsMatrix min_plus m → All (λ e. (e.row < m.shape.rows) × (e.value < infinite)) m.entries
+entries_finite m is k d l = ((is.inside k d l).0, let a = is.values k d l in let b = is.not_zero k d l in omega arith)
+
 -- what passes the test of being lower is at its places, and nothing else is there
 module _ (known : Numbers) (z v : ℕ) (fits : number_at known v ≤ infinite) where
   abbrev Lower : ℕ → ℕ → Type 0
@@ -93,7 +97,7 @@ module _ (m : Sparse) (is : IsMatrix min_plus m) (one : m.shape.cols ≡ 1) (kno
 
   -- each is in a row of the column, and below infinity
   pub lower_finite : All (λ e. (e.row < m.shape.rows) × (e.value < infinite)) es
-  lower_finite k d l = ((lower_matrix.inside k d l).0, let a = lower_matrix.values k d l in let b = lower_matrix.not_zero k d l in omega arith)
+  lower_finite = entries_finite (record { shape = m.shape; entries = es }) lower_matrix
 
   module _ (fits : (v : ℕ) → number_at known v ≤ infinite) where
     values : (z v : ℕ) → Lower known z v (fits v) (value_at z es v 0) (at min_plus m v 0)

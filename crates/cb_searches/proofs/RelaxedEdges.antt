@@ -19,17 +19,17 @@ edges_are edges a same u rows values p q v = (λ t. row_value infinite (p t) (q 
 
 -- What d is while the edges from a vertex are relaxed: as for all vertices that settle, but the vertex itself needs
 -- only to be unable to lower the first n that its edges lead to.
-pub record IsRelaxing (a : Sparse) (source : ℕ) (d : ℕ → ℕ) (waiting : List Tentative) (from : Tentative) (rows values : List ℕ) (n : ℕ) : Type 0 where
+pub record IsRelaxing (a : Sparse) (f d : ℕ → ℕ) (waiting : List Tentative) (from : Tentative) (rows values : List ℕ) (n : ℕ) : Type 0 where
   pub fits : (v : ℕ) → d v ≤ infinite
-  pub begins : d source ≡ 0
-  pub reached : (v : ℕ) → d v ≢ infinite → (walk : List ℕ) × IsWalk min_plus a source v walk × (cost a walk ≡ d v)
+  pub begins : (v : ℕ) → d v ≤ f v
+  pub reached : (v : ℕ) → d v ≢ infinite → (u : ℕ) × (walk : List ℕ) × IsWalk min_plus a u v walk × (f u + cost a walk ≡ d v)
   pub number : d from.vertex ≡ from.number
   pub others : (u : ℕ) → u ≢ from.vertex → IsWaiting d waiting u ⊎ IsRelaxed a d u
   pub passed : (k : ℕ) → k < n → d (get_or rows k 0) ≤ from.number + get_or values k 0
 
-module _ (a : Sparse) (source : ℕ) (waiting : List Tentative) (from : Tentative) (rows values : List ℕ) where
+module _ (a : Sparse) (f : ℕ → ℕ) (waiting : List Tentative) (from : Tentative) (rows values : List ℕ) where
   -- at first only the vertex itself is taken out
-  pub relaxing_begun : (d : ℕ → ℕ) → d from.vertex ≡ from.number → IsSettling a source d (from ∷ waiting) → IsRelaxing a source d waiting from rows values 0
+  pub relaxing_begun : (d : ℕ → ℕ) → d from.vertex ≡ from.number → IsSettling a f d (from ∷ waiting) → IsRelaxing a f d waiting from rows values 0
   relaxing_begun d number is = record {
     fits = is.fits;
     begins = is.begins;
@@ -55,7 +55,7 @@ module _ (a : Sparse) (source : ℕ) (waiting : List Tentative) (from : Tentativ
         (cases_eq r v)
 
     -- in the end all edges are relaxed
-    pub relaxing_done : (d : ℕ → ℕ) (n : ℕ) → length rows ≤ n → IsRelaxing a source d waiting from rows values n → IsSettling a source d waiting
+    pub relaxing_done : (d : ℕ → ℕ) (n : ℕ) → length rows ≤ n → IsRelaxing a f d waiting from rows values n → IsSettling a f d waiting
     relaxing_done d n l is = record {
       fits = is.fits;
       begins = is.begins;
@@ -71,7 +71,7 @@ module _ (a : Sparse) (source : ℕ) (waiting : List Tentative) (from : Tentativ
     }
 
     module _ (ascending : AllPairs (λ i j. i < j) rows) (n : ℕ) (inside : n < length rows) (d e : ℕ → ℕ) (next : List Tentative) (to : Tentative) (number : to.number ≡ min (from.number + get_or values n 0) infinite) (vertex : to.vertex ≡ get_or rows n 0)
-        (least : (v : ℕ) → e v ≡ cond (v == to.vertex) (min (d v) to.number) (d v)) (stays : (t : Tentative) → Contains waiting t → Contains next t) (waits : to.number < d to.vertex → Contains next to) (is : IsRelaxing a source d waiting from rows values n) where
+        (least : (v : ℕ) → e v ≡ cond (v == to.vertex) (min (d v) to.number) (d v)) (stays : (t : Tentative) → Contains waiting t → Contains next t) (waits : to.number < d to.vertex → Contains next to) (is : IsRelaxing a f d waiting from rows values n) where
       here : e to.vertex ≡ min (d to.vertex) to.number
       here = least to.vertex ∙ cond-true _ _ _ (eq-eqb to.vertex to.vertex refl)
 
@@ -90,36 +90,36 @@ module _ (a : Sparse) (source : ℕ) (waiting : List Tentative) (from : Tentativ
       weight_is = sym (edge to.vertex) ∙ row_value-found infinite rows values n to.vertex same ascending inside (sym vertex)
 
       -- a walk to the vertex goes on by the edge
-      more : to.number < infinite → (walk : List ℕ) × IsWalk min_plus a source to.vertex walk × (cost a walk ≡ to.number)
+      more : to.number < infinite → (u : ℕ) × (walk : List ℕ) × IsWalk min_plus a u to.vertex walk × (f u + cost a walk ≡ to.number)
       more l =
           let from_is : d from.vertex ≡ from.number = is.number in
-          let w : (walk : List ℕ) × IsWalk min_plus a source from.vertex walk × (cost a walk ≡ d from.vertex) = is.reached from.vertex (λ i. omega (arith, i, from_is, number, l)) in
+          let w : (u : ℕ) × (walk : List ℕ) × IsWalk min_plus a u from.vertex walk × (f u + cost a walk ≡ d from.vertex) = is.reached from.vertex (λ i. omega (arith, i, from_is, number, l)) in
           let stored : at min_plus a from.vertex to.vertex ≢ min_plus.zero = λ i. omega (arith, i, weight_is, number, l) in
-          (w.0 ++ to.vertex ∷ [], walk_more min_plus a source from.vertex to.vertex w.0 w.1 stored, omega (arith, cost_more a w.0 from.vertex to.vertex w.1.ends, w.2, from_is, weight_is, number, l))
+          (w.0, w.1 ++ to.vertex ∷ [], walk_more min_plus a w.0 from.vertex to.vertex w.1 w.2 stored, omega (arith, cost_more a w.1 from.vertex to.vertex w.2.ends, w.3, from_is, weight_is, number, l))
 
-      step_reached : (v : ℕ) → e v ≢ infinite → (walk : List ℕ) × IsWalk min_plus a source v walk × (cost a walk ≡ e v)
+      step_reached : (v : ℕ) → e v ≢ infinite → (u : ℕ) × (walk : List ℕ) × IsWalk min_plus a u v walk × (f u + cost a walk ≡ e v)
       step_reached v i =
           ⊎_elim
           (λ (q : v ≡ to.vertex).
-          subst (λ (u : ℕ). (walk : List ℕ) × IsWalk min_plus a source u walk × (cost a walk ≡ e u)) (sym q)
+          subst (λ (x : ℕ). (u : ℕ) × (walk : List ℕ) × IsWalk min_plus a u x walk × (f u + cost a walk ≡ e x)) (sym q)
           (⊎_elim
           (λ (l : to.number < d to.vertex).
-          let w = more (let f = is.fits to.vertex in omega (arith, f, l)) in
-          (w.0, w.1, omega (arith, w.2, here, l)))
+          let w = more (let fit = is.fits to.vertex in omega (arith, fit, l)) in
+          (w.0, w.1, w.2, omega (arith, w.3, here, l)))
           (λ (l : d to.vertex ≤ to.number).
           let same : e to.vertex ≡ d to.vertex = omega (arith, here, l) in
           let w = is.reached to.vertex (λ j. i (ap e q ∙ same ∙ j)) in
-          (w.0, w.1, w.2 ∙ sym same))
+          (w.0, w.1, w.2, omega (arith, w.3, same)))
           (cases_lt to.number (d to.vertex))))
           (λ (n : v ≡ to.vertex → ⊥).
           let same : e v ≡ d v = there v n in
           let w = is.reached v (λ j. i (same ∙ j)) in
-          (w.0, w.1, w.2 ∙ sym same))
+          (w.0, w.1, w.2, w.3 ∙ sym same))
           (cases_eq v to.vertex)
 
       -- what no edge from a vertex could lower, it can't now
       still : (u : ℕ) → e u ≡ d u → IsRelaxed a d u → IsRelaxed a e u
-      still u same r v = let h = r v in let f = falls v in omega (arith, h, f, same)
+      still u same r v = let h = r v in let low = falls v in omega (arith, h, low, same)
 
       waiting_still : (u : ℕ) → e u ≡ d u → IsWaiting d waiting u → IsWaiting e next u
       waiting_still u same w = subst (λ (x : ℕ). Contains next (record { number = x; vertex = u })) (sym same) (stays (record { number = d u; vertex = u }) w)
@@ -145,7 +145,7 @@ module _ (a : Sparse) (source : ℕ) (waiting : List Tentative) (from : Tentativ
       step_passed : (k : ℕ) → k < n + 1 → e (get_or rows k 0) ≤ from.number + get_or values k 0
       step_passed k l =
           ⊎_elim
-          (λ (b : k < n). let h = is.passed k b in let f = falls (get_or rows k 0) in omega (arith, h, f))
+          (λ (b : k < n). let h = is.passed k b in let low = falls (get_or rows k 0) in omega (arith, h, low))
           (λ (b : n ≤ k).
           let same : k ≡ n = omega arith in
           let low : e to.vertex ≤ from.number + get_or values n 0 = omega (arith, here, number) in
@@ -153,13 +153,13 @@ module _ (a : Sparse) (source : ℕ) (waiting : List Tentative) (from : Tentativ
           (cases_lt k n)
 
       -- one more edge
-      pub relaxing_step : IsRelaxing a source e next from rows values (n + 1)
+      pub relaxing_step : IsRelaxing a f e next from rows values (n + 1)
       relaxing_step = record {
-        fits = λ v. let f = falls v in let h = is.fits v in omega (arith, f, h);
-        begins = let f = falls source in let h = is.begins in omega (arith, f, h);
+        fits = λ v. let low = falls v in let h = is.fits v in omega (arith, low, h);
+        begins = λ v. let low = falls v in let h = is.begins v in omega (arith, low, h);
         reached = step_reached;
         number = ⊎_elim
-            (λ (q : from.vertex ≡ to.vertex). let h : e from.vertex ≡ min (d from.vertex) to.number = subst (λ (u : ℕ). e u ≡ min (d u) to.number) (sym q) here in let f = is.fits from.vertex in let m = is.number in omega (arith, h, f, m, number))
+            (λ (q : from.vertex ≡ to.vertex). let h : e from.vertex ≡ min (d from.vertex) to.number = subst (λ (u : ℕ). e u ≡ min (d u) to.number) (sym q) here in let fit = is.fits from.vertex in let m = is.number in omega (arith, h, fit, m, number))
             (λ (n : from.vertex ≡ to.vertex → ⊥). there from.vertex n ∙ is.number)
             (cases_eq from.vertex to.vertex);
         others = step_others;

@@ -1,5 +1,5 @@
 -- Vertices that settle: how they begin, which ones wait, and what holds once none waits.
-use Rattle.std.proofs.Common.{◌≡◌, ◌≢◌, ℕ, zero, suc, ◌+◌, ◌<◌, ◌≤◌, Bool, true, false, cond, inl, inr, ⊎_elim, List, [], ◌∷◌, length, map, take, get_or, subst, sym, refl, ap, ◌∙◌, arith}
+use Rattle.std.proofs.Common.{◌≡◌, ◌≢◌, ℕ, zero, suc, ◌+◌, ◌<◌, ◌≤◌, Bool, true, false, cond, ◌⊎◌, inl, inr, ⊎_elim, List, [], ◌∷◌, length, map, take, get_or, subst, sym, refl, ap, ◌∙◌, arith}
 use Rattle.std.specs.Prelude.{All, Contains, ◌==◌}
 use Rattle.std.specs.List.{sum_by, range_with_len}
 use Rattle.std.specs.List.Sorted.{IsPermutation}
@@ -21,10 +21,10 @@ use Rattle.cb_matrix.proofs.Totals.{value_at-value}
 use Rattle.cb_searches.specs.declared.dijkstra.Tentative.{Tentative}
 use Rattle.cb_searches.specs.declared.numbers.Numbers.{Numbers}
 use Rattle.cb_searches.specs.declared.searches.Search.{Search}
-use Rattle.cb_searches.specs.Walks.{infinite}
+use Rattle.cb_searches.specs.Walks.{infinite, IsWalk, cost}
 use Rattle.cb_searches.specs.Numbers.{number_at, AreNumbers}
 use Rattle.cb_searches.specs.Searches.{Nearing, IsSearch, IsWholeSearch}
-use Rattle.cb_searches.specs.Settling.{AreEdges, IsWaiting, IsRelaxed, IsSettling, tentative, work_left}
+use Rattle.cb_searches.specs.Settling.{AreEdges, IsWaiting, IsRelaxed, IsSettling, first_at, tentative, work_left}
 use Rattle.cb_searches.proofs.WalkCosts.{walk_here}
 use Rattle.cb_searches.proofs.NumbersByRound.{closed}
 use Rattle.cb_searches.proofs.TakenNumbers.{ne-eqb}
@@ -47,9 +47,9 @@ edges_turned a is u v =
     (cases_lt u a.shape.rows)
 
 -- ---- what waits
-module _ (a : Sparse) (source : ℕ) (d : ℕ → ℕ) where
+module _ (a : Sparse) (f d : ℕ → ℕ) where
   -- more may wait
-  pub settling_more : (xs ys : List Tentative) → ((t : Tentative) → Contains xs t → Contains ys t) → IsSettling a source d xs → IsSettling a source d ys
+  pub settling_more : (xs ys : List Tentative) → ((t : Tentative) → Contains xs t → Contains ys t) → IsSettling a f d xs → IsSettling a f d ys
   settling_more xs ys more is = record {
     fits = is.fits;
     begins = is.begins;
@@ -58,11 +58,11 @@ module _ (a : Sparse) (source : ℕ) (d : ℕ → ℕ) where
   }
 
   -- they may wait in another order
-  pub settling_moved : (xs ys : List Tentative) → IsPermutation xs ys → IsSettling a source d xs → IsSettling a source d ys
+  pub settling_moved : (xs ys : List Tentative) → IsPermutation xs ys → IsSettling a f d xs → IsSettling a f d ys
   settling_moved xs ys moved = settling_more xs ys (λ t. Contains-permutation xs ys t moved)
 
   -- what waits with a number that its vertex no longer has is passed over
-  pub passed_over : (xs ys : List Tentative) (x : Tentative) → IsPermutation xs (x ∷ ys) → (x.number ≡ d x.vertex → ⊥) → IsSettling a source d xs → IsSettling a source d ys
+  pub passed_over : (xs ys : List Tentative) (x : Tentative) → IsPermutation xs (x ∷ ys) → (x.number ≡ d x.vertex → ⊥) → IsSettling a f d xs → IsSettling a f d ys
   passed_over xs ys x moved stale h =
       let is = settling_moved xs (x ∷ ys) moved h in
       record {
@@ -74,6 +74,10 @@ module _ (a : Sparse) (source : ℕ) (d : ℕ → ℕ) where
             (λ (r : IsRelaxed a d u). inr r)
             (is.settled u);
       }
+
+-- if none waits, no number can lower another
+pub all_relaxed : (a : Sparse) (f d : ℕ → ℕ) → IsSettling a f d [] → (u v : ℕ) → d v ≤ d u + at min_plus a u v
+all_relaxed a f d is u v = ⊎_elim (λ (w : IsWaiting d [] u). absurd (omega (arith, w.1))) (λ (r : IsRelaxed a d u). r v) (is.settled u)
 
 -- if each of some entries is in a list, so is what they stand for
 pub all_wait : (es : List Entry) (ts : List Tentative) → All (λ e. Contains ts (tentative e)) es → (t : Tentative) → Contains (map tentative es) t → Contains ts t
@@ -102,36 +106,60 @@ number_waits (e ∷ es) u h =
       | false ↦ λ _ n. Contains-append_right (tentative e ∷ []) (map tentative es) (record { number = value_at infinite es u 0; vertex = u }) (number_waits es u n)
     ] refl h
 
+-- whether or not a vertex's number is finite, it waits with it or can lower no other
+pub waits_or_relaxed : (a : Sparse) (d : ℕ → ℕ) (es : List Entry) (u : ℕ) → ((v : ℕ) → d v ≤ infinite) → value_at infinite es u 0 ≡ d u → IsWaiting d (map tentative es) u ⊎ IsRelaxed a d u
+waits_or_relaxed a d es u fits q = ⊎_elim
+    (λ (e : d u ≡ infinite). inr (λ v. let fit = fits v in omega (arith, fit, e)))
+    (λ (n : d u ≡ infinite → ⊥). inl (subst (λ (x : ℕ). Contains (map tentative es) (record { number = x; vertex = u })) q (number_waits es u (λ e. n (sym q ∙ e)))))
+    (cases_eq (d u) infinite)
+
+-- the source has the first number 0, and the others have none
+first_here : (source v : ℕ) → v ≡ source → first_at source v ≡ 0
+first_here source v e = cond-true _ _ _ (eq-eqb v source e)
+
+first_there : (source v : ℕ) → (v ≡ source → ⊥) → first_at source v ≡ infinite
+first_there source v n = cond-false _ _ _ (ne-eqb v source n)
+
 module _ (a : Sparse) (source k : ℕ) (d : ℕ → ℕ) where
   -- after some rounds, those that fell in the last one wait
-  pub settling_begun : (es : List Entry) → Nearing a source k d (λ u. value_at infinite es u 0) → IsSettling a source d (map tentative es)
+  pub settling_begun : (es : List Entry) → Nearing a source k d (λ u. value_at infinite es u 0) → IsSettling a (first_at source) d (map tentative es)
   settling_begun es is = record {
     fits = is.fits;
-    begins = let l : d source ≤ 0 = is.within source (source ∷ []) (walk_here min_plus a source) (omega arith) in omega arith;
-    reached = is.reached;
+    begins = λ v. ⊎_elim
+        (λ (e : v ≡ source).
+        let here : d source ≤ 0 = is.within source (source ∷ []) (walk_here min_plus a source) (omega arith) in
+        let same : d v ≡ d source = ap d e in
+        omega (arith, here, same, first_here source v e))
+        (λ (n : v ≡ source → ⊥). let fit = is.fits v in omega (arith, fit, first_there source v n))
+        (cases_eq v source);
+    reached = λ v some.
+        let w : (walk : List ℕ) × IsWalk min_plus a source v walk × (cost a walk ≡ d v) = is.reached v some in
+        (source, w.0, w.1, omega (arith, w.2, first_here source source refl));
     settled = λ u. ⊎_elim
-        (λ (e : d u ≡ infinite). inr (λ v. let f = is.fits v in omega (arith, f, e)))
-        (λ (n : d u ≡ infinite → ⊥). ⊎_elim
-        (λ (q : value_at infinite es u 0 ≡ d u). inl (subst (λ (x : ℕ). Contains (map tentative es) (record { number = x; vertex = u })) q (number_waits es u (λ e. n (sym q ∙ e)))))
+        (λ (q : value_at infinite es u 0 ≡ d u). waits_or_relaxed a d es u is.fits q)
         (λ (q : (value_at infinite es u 0 ≡ infinite) × ((v : ℕ) → d v ≤ d u + at min_plus a u v)). inr q.1)
-        (is.fell u))
-        (cases_eq (d u) infinite);
+        (is.fell u);
   }
 
   -- if nothing waits, no walk costs less, whatever its steps
-  pub settling_done : (x : ℕ → ℕ) → ((u : ℕ) → x u ≡ infinite) → IsSettling a source d [] → Nearing a source k d x
+  pub settling_done : (x : ℕ → ℕ) → ((u : ℕ) → x u ≡ infinite) → IsSettling a (first_at source) d [] → Nearing a source k d x
   settling_done x none is =
-      let relaxed : (u v : ℕ) → d v ≤ d u + at min_plus a u v = λ u v. ⊎_elim (λ (w : IsWaiting d [] u). absurd (omega (arith, w.1))) (λ (r : IsRelaxed a d u). r v) (is.settled u) in
+      let relaxed = all_relaxed a (first_at source) d is in
       record {
         fits = is.fits;
-        reached = is.reached;
-        within = λ v walk h _. let l = closed a source d relaxed source v walk h in let z = is.begins in omega (arith, l, z);
+        reached = λ v some.
+            let w : (u : ℕ) × (walk : List ℕ) × IsWalk min_plus a u v walk × (first_at source u + cost a walk ≡ d v) = is.reached v some in
+            ⊎_elim
+            (λ (e : w.0 ≡ source). (w.1, subst (λ (u : ℕ). IsWalk min_plus a u v w.1) e w.2, omega (arith, w.3, first_here source w.0 e)))
+            (λ (n : w.0 ≡ source → ⊥). absurd (let fit = is.fits v in some (omega (arith, w.3, first_there source w.0 n, fit))))
+            (cases_eq w.0 source);
+        within = λ v walk h _. let l = closed a source d relaxed source v walk h in let z = is.begins source in omega (arith, l, z, first_here source source refl);
         fell = λ u. inr (none u, relaxed u);
       }
 
 -- once all vertices settled, a search has come to its end
 pub search_settled : (a : Sparse) (source k : ℕ) (search last : Search) → IsSearch a source k search → AreNumbers a.shape.rows last.known → last.fell ≡ empty_matrix search.fell.shape
-    → (IsSettling a source (number_at search.known) (map tentative search.fell.entries) → IsSettling a source (number_at last.known) []) → IsWholeSearch a source k last
+    → (IsSettling a (first_at source) (number_at search.known) (map tentative search.fell.entries) → IsSettling a (first_at source) (number_at last.known) []) → IsWholeSearch a source k last
 unfolding value_at
 search_settled a source k search last is numbers none settles =
     let entries : last.fell.entries ≡ [] = ap (λ (m : Sparse). m.entries) none in (

@@ -1,5 +1,5 @@
 -- Vertices that settle one after another: the numbers so far, and those of them that may still lower others.
-use Rattle.std.specs.Prelude.{◌≡◌, ◌≢◌, ℕ, ◌+◌, ◌≤◌, ◌⊎◌, List, length, Contains}
+use Rattle.std.specs.Prelude.{◌≡◌, ◌≢◌, ℕ, ◌+◌, ◌≤◌, ◌==◌, cond, ◌⊎◌, List, length, Contains}
 use Rattle.std.specs.List.{sum_by, range_with_len}
 use Rattle.cb_semirings.specs.Tables.{min_plus}
 use Rattle.cb_matrix.specs.declared.Entry.{Entry}
@@ -25,11 +25,16 @@ IsWaiting d waiting v = Contains waiting (record { number = d v; vertex = v })
 abbrev pub IsRelaxed : Sparse → (ℕ → ℕ) → ℕ → Type 0
 IsRelaxed a d u = (v : ℕ) → d v ≤ d u + at min_plus a u v
 
--- Each number is the cost of a walk, the source has 0, and a vertex that doesn't wait can lower no other.
-pub record IsSettling (a : Sparse) (source : ℕ) (d : ℕ → ℕ) (waiting : List Tentative) : Type 0 where
+-- first numbers of which only the source has one: 0
+abbrev pub first_at : ℕ → ℕ → ℕ
+first_at source v = cond (v == source) 0 infinite
+
+-- Given the first number f of each vertex: each number is a first number plus the cost of a walk from there, at most the
+-- vertex's own first number, and a vertex that doesn't wait can lower no other.
+pub record IsSettling (a : Sparse) (f d : ℕ → ℕ) (waiting : List Tentative) : Type 0 where
   pub fits : (v : ℕ) → d v ≤ infinite
-  pub begins : d source ≡ 0
-  pub reached : (v : ℕ) → d v ≢ infinite → (walk : List ℕ) × IsWalk min_plus a source v walk × (cost a walk ≡ d v)
+  pub begins : (v : ℕ) → d v ≤ f v
+  pub reached : (v : ℕ) → d v ≢ infinite → (u : ℕ) × (walk : List ℕ) × IsWalk min_plus a u v walk × (f u + cost a walk ≡ d v)
   pub settled : (u : ℕ) → IsWaiting d waiting u ⊎ IsRelaxed a d u
 
 -- a bound for the remaining work: a number that falls makes the sum of all less and waits once more; a number that is
@@ -39,8 +44,8 @@ work_left n known waiting = sum_by (number_at known) (range_with_len 0 n) + leng
 
 -- if vertices settle with the old numbers and what waited, they settle with the new ones and what waits
 abbrev pub KeepSettling : Sparse → Numbers → List Tentative → Numbers → List Tentative → Type 0
-KeepSettling edges old waited new waiting = (a : Sparse) (source : ℕ) → AreEdges edges a →
-    IsSettling a source (number_at old) waited → IsSettling a source (number_at new) waiting
+KeepSettling edges old waited new waiting = (a : Sparse) (f : ℕ → ℕ) → AreEdges edges a →
+    IsSettling a f (number_at old) waited → IsSettling a f (number_at new) waiting
 
 -- there is no more work left than before
 abbrev pub IsNoMoreWork : {X : Type 0} → ℕ → Numbers → List X → Numbers → List X → Type 0

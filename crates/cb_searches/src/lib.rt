@@ -5,11 +5,13 @@
 //! [`Search::advance`] with the product of the transposed matrix and a column, however it is computed. [`distances`]
 //! and [`levels`] search in one block: they make a few rounds, and then settle the remaining vertices one after
 //! another. For levels each edge weighs 1, and [`parents`] finds the vertices from which the levels were reached.
-//! [`distances_from`] and [`levels_from`] search from several sources. [`Numbers`] holds a search's numbers of vertices;
-//! other kernels that number vertices use it too.
+//! [`distances_from`] and [`levels_from`] search from several sources; [`distances_given`] and [`levels_given`] from all
+//! vertices that have a first number. [`Numbers`] holds a search's numbers of vertices; other kernels that number vertices
+//! use it too.
 #![tactic(auto)]
 
 mod dijkstra;
+mod given_numbers;
 mod least_parents;
 mod numbers;
 mod one_block;
@@ -17,8 +19,9 @@ mod relaxations;
 mod searches;
 mod several_sources;
 
+pub use given_numbers::{distances_given, levels_given};
 pub use least_parents::parents;
 pub use numbers::Numbers;
 pub use one_block::{distances, levels};
-pub use searches::{Search, column_shape, vector_product};
+pub use searches::{Search, as_matrix, column_shape, vector_product};
 pub use several_sources::{distances_from, levels_from};

@@ -148,7 +148,7 @@ fn lower_entries(
 }
 
 /// Takes over the values of the entries.
-fn take_over(known: &mut Numbers, entries: &[Entry]) -> Result<(), AllocError>
+pub(crate) fn take_over(known: &mut Numbers, entries: &[Entry]) -> Result<(), AllocError>
     requires numbers { (n : ℕ) × AreNumbers n known.old × All (λ e. (e.row < n) × (e.value < infinite)) entries.now }
     requires rows { AllPairs (λ d e. d.row ≢ e.row) entries.now }
     requires column { All (λ e. e.column ≡ 0) entries.now }
@@ -217,6 +217,14 @@ pub fn vector_product<S: Semiring>(
 {
     let column = Block::from_ordered(alloc, vector.shape(), vector.entries())?;
     let product = cb_product::multiply(alloc, block, &column)?;
-    let entries = product.entries()?;
-    Ok(Matrix::from_ordered(product.shape(), entries))
+    as_matrix(&product)
+}
+
+/// A block as a matrix. Copies its entries.
+pub fn as_matrix<S: Semiring>(block: &Block<S>) -> Result<Matrix<S>, AllocError>
+    ensures { IfOk result (λ m. m ≡ block.now) }
+{
+    let shape = block.shape();
+    let entries = block.entries()?;
+    Ok(Matrix::from_ordered(shape, entries))
 }

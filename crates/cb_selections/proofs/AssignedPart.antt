@@ -1,7 +1,6 @@
 -- A matrix with another in place of a part: what is outside the part, and what is put there.
-use Rattle.std.proofs.Common.{◌≡◌, ℕ, ◌+◌, ◌-◌, ◌<◌, ◌≤◌, true, false, sym, refl, ap, ◌∙◌, ⊎_elim}
+use Rattle.std.proofs.Common.{◌≡◌, ℕ, ◌-◌, true, false, ap, ◌∙◌}
 use Rattle.std.specs.Prelude.{Bool, cond, not}
-use Rattle.std.proofs.lemmas.Bool.{cases_Bool}
 use Rattle.cb_semirings.specs.Arithmetic.{Arithmetic, IsValue, IsSemiring}
 use Rattle.cb_matrix.specs.Sparse.{Sparse, IsMatrix, at}
 use Rattle.cb_matrix.specs.Operations.{is_covered, placed, sum_of}

@@ -2,6 +2,8 @@
 -- ReplacedColumns: all columns. RegionValues: values in a region. DiagonalColumn: the diagonal as a column.
 -- DiagonalPlaces: a column as a diagonal. ExtractedColumns: rows and columns by their numbers. NumberPairs: a walk over pairs of
 -- numbers. ListMade: a column that is made row by row. PairedRows, PairedColumns: those of a Kronecker product.
+-- UpdatedPlaces: a matrix updated by another one, place by place. PowerSteps: powers, one product
+-- after another.
 mod AssignedPart
 mod ReplacedColumn
 mod ReplacedColumns
@@ -13,3 +15,5 @@ mod NumberPairs
 mod ListMade
 mod PairedRows
 mod PairedColumns
+mod UpdatedPlaces
+mod PowerSteps

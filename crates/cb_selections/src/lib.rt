@@ -1,12 +1,12 @@
 //! Further operations that GraphBLAS programs consist of: entries selected by their place, values replaced, the diagonal,
-//! rows and columns extracted by their numbers, a part assigned, and the Kronecker product.
+//! rows and columns extracted by their numbers, a part assigned, the Kronecker product, and a block updated under a mask.
 //!
 //! Each goes over the columns that have entries, in order, so its cost is proportional to the entries, whatever the
 //! dimensions. A rule (`rules`) gives an entry its new value: it is a region of places (`regions`), or a function of the
 //! value and the place (`functions`). One walk (`replacements`) applies any rule.
 //!
 //! The operations are `GrB_select`, `GrB_apply`, `GrB_Matrix_diag`, `GrB_extract`, `GrB_assign` and `GrB_kronecker` of The
-//! GraphBLAS C API Specification, version 2.1, section 4.3.
+//! GraphBLAS C API Specification, version 2.1, section 4.3, and the write-back under a mask that ends each of them.
 #![tactic(auto)]
 
 ghost use Rattle.std.specs.Prelude.{◌≡◌, ℕ, ◌<◌, ◌≤◌, IfOk};
@@ -19,9 +19,12 @@ mod diagonals;
 mod extracts;
 mod functions;
 mod kronecker_products;
+mod powers;
 mod regions;
 mod replacements;
 mod rules;
+mod turned_products;
+mod updates;
 
 use crate::replacements::replaced;
 pub use assignments::assign;
@@ -32,8 +35,11 @@ pub use diagonals::{diagonal, diagonal_matrix};
 pub use extracts::extract;
 pub use functions::Function;
 pub use kronecker_products::kronecker;
+pub use powers::power;
 pub use regions::{Diagonal, Region};
 use std::alloc::{AllocError, Global};
+pub use turned_products::multiply_turned;
+pub use updates::{WriteBack, update};
 
 /// The entries of a block that are in a region.
 ///

@@ -3,7 +3,7 @@ use crate::{DistributiveSemiring, Semiring};
 
 /// The numbers below 2^64, with the maximum as the sum and the minimum as the product. The capacities of widest walks
 /// combine in this way.
-#[derive(Clone, Copy, Debug, PartialEq, Eq)]
+#[derive(Clone, Copy)]
 pub struct MaxMin;
 
 impl Semiring for MaxMin {

@@ -3,7 +3,7 @@ use crate::{DistributiveSemiring, Semiring};
 
 /// The numbers below 2^64, with the minimum as the sum and the sum as the product, saturating at 2^64 - 1. That number
 /// is infinity, the semiring's zero. The weights of shortest walks combine in this way.
-#[derive(Clone, Copy, Debug, PartialEq, Eq)]
+#[derive(Clone, Copy)]
 pub struct MinPlus;
 
 impl Semiring for MinPlus {

@@ -3,7 +3,7 @@ use crate::{DistributiveSemiring, Semiring};
 
 /// 0 and 1, with logical or as the sum and logical and as the product. Every number in a file except 0 stands for 1, and
 /// entries are written without values.
-#[derive(Clone, Copy, Debug, PartialEq, Eq)]
+#[derive(Clone, Copy)]
 pub struct OrAnd;
 
 impl Semiring for OrAnd {

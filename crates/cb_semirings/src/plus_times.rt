@@ -2,7 +2,7 @@
 use crate::{DistributiveSemiring, Semiring};
 
 /// The numbers below 2^64, with sums and products modulo 2^64. A negative number in a file is taken modulo 2^64.
-#[derive(Clone, Copy, Debug, PartialEq, Eq)]
+#[derive(Clone, Copy)]
 pub struct PlusTimes;
 
 impl Semiring for PlusTimes {

@@ -10,7 +10,7 @@ pub loop-n-init : goal.loop-n-init
 loop-n-init c = record {
   numbers = c.requires.numbers;
   work = omega arith;
-  relaxing = λ a source _ is. relaxing_begun a source (heap_items c.args.waiting.now) c.args.from c.edges_of.result.0.now c.edges_of.result.1.now (number_at c.args.known.now) c.requires.current is;
+  relaxing = λ a f _ is. relaxing_begun a f (heap_items c.args.waiting.now) c.args.from c.edges_of.result.0.now c.edges_of.result.1.now (number_at c.args.known.now) c.requires.current is;
 }
 
 pub lower-requires : goal.lower-requires
@@ -32,16 +32,16 @@ loop-n-preserved c =
     record {
       numbers = lower.numbers edges.shape.rows c.loop-n.invariant.numbers inside;
       work = omega (arith, lower.work edges.shape.rows inside, c.loop-n.invariant.work);
-      relaxing = λ a source same is.
-          relaxing_step a source (heap_items c.loop-n.waiting) c.args.from rows values (as_long edges.entries rows values u c.edges_of.ensures.rows c.edges_of.ensures.values) (edges_are edges a same u rows values c.edges_of.ensures.rows c.edges_of.ensures.values)
+      relaxing = λ a f same is.
+          relaxing_step a f (heap_items c.loop-n.waiting) c.args.from rows values (as_long edges.entries rows values u c.edges_of.ensures.rows c.edges_of.ensures.values) (edges_are edges a same u rows values c.edges_of.ensures.rows c.edges_of.ensures.values)
           (ascending_rows min_plus edges u rows c.shape-shape.ensures.matrix c.edges_of.ensures.rows) n l (number_at c.loop-n.known) (number_at c.lower.new.known) (heap_items c.lower.new.waiting) (record { number = c.saturating_add.result; vertex = get_or rows n 0 }) (omega (arith, c.saturating_add.ensures)) (λ _. get_or rows n 0)
-          lower.least lower.stays lower.waits (c.loop-n.invariant.relaxing a source same is);
+          lower.least lower.stays lower.waits (c.loop-n.invariant.relaxing a f same is);
     }
 
 pub returns-clause-settling : goal.returns-clause-settling
-returns-clause-settling c = λ a source same is.
+returns-clause-settling c = λ a f same is.
     let edges = c.args.edges.now in
     let rows = c.edges_of.result.0.now in
     let values = c.edges_of.result.1.now in
     let u = c.args.from.vertex in
-    relaxing_done a source (heap_items c.loop-n.waiting) c.args.from rows values (as_long edges.entries rows values u c.edges_of.ensures.rows c.edges_of.ensures.values) (edges_are edges a same u rows values c.edges_of.ensures.rows c.edges_of.ensures.values) (number_at c.loop-n.known) c.loop-n.n (omega arith) (c.loop-n.invariant.relaxing a source same is)
+    relaxing_done a f (heap_items c.loop-n.waiting) c.args.from rows values (as_long edges.entries rows values u c.edges_of.ensures.rows c.edges_of.ensures.values) (edges_are edges a same u rows values c.edges_of.ensures.rows c.edges_of.ensures.values) (number_at c.loop-n.known) c.loop-n.n (omega arith) (c.loop-n.invariant.relaxing a f same is)

@@ -10,5 +10,5 @@ abbrev pub invariant-loop-n : goal.invariant-loop-n
 invariant-loop-n l = record {
   numbers : AreNumbers l.edges.shape.rows l.known;
   work : work_left l.edges.shape.rows l.known (heap_items l.waiting) ≤ work_left l.edges.shape.rows l.fn.known (heap_items l.fn.waiting);
-  relaxing : (a : Sparse) (source : ℕ) → AreEdges l.edges a → IsSettling a source (number_at l.fn.known) (l.from ∷ heap_items l.fn.waiting) → IsRelaxing a source (number_at l.known) (heap_items l.waiting) l.from l.rows l.values l.n;
+  relaxing : (a : Sparse) (f : ℕ → ℕ) → AreEdges l.edges a → IsSettling a f (number_at l.fn.known) (l.from ∷ heap_items l.fn.waiting) → IsRelaxing a f (number_at l.known) (heap_items l.waiting) l.from l.rows l.values l.n;
 }

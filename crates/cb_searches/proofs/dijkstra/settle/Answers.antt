@@ -9,5 +9,5 @@ pub returns-clause-settled : goal.returns-clause-settled
 returns-clause-settled c =
     let waiting = heap_items c.in_ok-waiting.waiting in
     on_ok_weaker c.settle_waiting.result
-    (λ h a source edges is. h a source edges (settling_more a source (number_at c.args.known.now) (map tentative c.args.fell.now) waiting (all_wait c.args.fell.now waiting c.in_ok-waiting.ensures) is))
+    (λ h a f edges is. h a f edges (settling_more a f (number_at c.args.known.now) (map tentative c.args.fell.now) waiting (all_wait c.args.fell.now waiting c.in_ok-waiting.ensures) is))
     c.settle_waiting.ensures.settled

@@ -8,7 +8,7 @@ use Rattle.cb_searches.proofs.dijkstra.settle_waiting.Given as goal
 abbrev pub invariant-loop-least : goal.invariant-loop-least
 invariant-loop-least l = record {
   numbers : AreNumbers l.edges.shape.rows l.known;
-  settling : (a : Sparse) (source : ℕ) → AreEdges l.edges a → IsSettling a source (number_at l.fn.known) (heap_items l.fn.waiting) → IsSettling a source (number_at l.known) (heap_items l.waiting);
+  settling : (a : Sparse) (f : ℕ → ℕ) → AreEdges l.edges a → IsSettling a f (number_at l.fn.known) (heap_items l.fn.waiting) → IsSettling a f (number_at l.known) (heap_items l.waiting);
 }
 
 abbrev pub decreases-loop-least : goal.decreases-loop-least

@@ -132,6 +132,32 @@ push_column-requires-clause-column g c =
     let shape = ap (λ (x : Extent). x.cols) c.loop-m.invariant.shape in
     subst (λ w. p * c.cols-width.result + q < w) (sym shape) (subst (λ w. p * w + q < a.shape.cols * b.shape.cols) (sym width_is) low)
 
+pub push_column-requires-clause-lengths : goal.push_column-requires-clause-lengths
+push_column-requires-clause-lengths g c = rw (c.deref.ensures.value, c.deref-in-loop-m.ensures.value) c.in_ok-pair_column.ensures.column.same_length
+
+pub push_column-requires-clause-ascending : goal.push_column-requires-clause-ascending
+push_column-requires-clause-ascending g c = rw c.deref.ensures.value c.in_ok-pair_column.ensures.column.ascending
+
+pub push_column-requires-clause-before : goal.push_column-requires-clause-before
+push_column-requires-clause-before g c =
+    let s = g.S.Semiring.arithmetic in
+    let laws = g.met.S.Semiring.is_semiring in
+    let a = c.args.left.now in
+    let b = c.args.right.now in
+    let cs = c.column_numbers-outer in
+    let ds = c.column_numbers-inner in
+    let n = c.loop-n.n in
+    let m = c.loop-m.m in
+    let width_is : c.cols-width.result ≡ b.shape.cols = c.cols-width.ensures.value ∙ ap (λ (x : Extent). x.cols) c.shape-2.ensures.shape in
+    let before = column_before s laws a b c.requires.left c.requires.right cs.result.now ds.result.now cs.ensures.ascending ds.ensures.ascending cs.ensures.inside ds.ensures.inside cs.ensures.all ds.ensures.all c.loop-m.out n m c.loop-m-test.true c.loop-m.invariant in
+    subst (λ w. All (λ e. e.column < get_or cs.result.now n 0 * w + get_or ds.result.now m 0) c.loop-m.out.entries) (sym width_is) before
+
+pub push_column-requires-clause-values : goal.push_column-requires-clause-values
+push_column-requires-clause-values g c = rw c.deref-in-loop-m.ensures.value c.in_ok-pair_column.ensures.column.are_values
+
+pub push_column-requires-clause-not_zero : goal.push_column-requires-clause-not_zero
+push_column-requires-clause-not_zero g c = rw c.deref-in-loop-m.ensures.value c.in_ok-pair_column.ensures.column.not_zero
+
 pub loop-m-preserved : goal.loop-m-preserved
 loop-m-preserved g c =
     let s = g.S.Semiring.arithmetic in

@@ -1,0 +1,98 @@
+//! Searches from first numbers that some vertices have.
+//!
+//! All vertices with a first number wait at the start, and then vertices [settle](crate::dijkstra) one after another.
+//! A search from one source is the case in which the source alone has a first number: 0.
+ghost use Rattle.std.specs.Prelude.{◌≡◌, ℕ, IfOk};
+ghost use Rattle.cb_semirings.specs.Tables.{min_plus};
+ghost use Rattle.cb_matrix.specs.Sparse.{Sparse, IsMatrix};
+ghost use Rattle.cb_searches.specs.Walks.{column_shape};
+ghost use Rattle.cb_searches.specs.Numbers.{number_at, number_in, AreNumbers};
+ghost use Rattle.cb_searches.specs.Searches.{HasEdges};
+ghost use Rattle.cb_searches.specs.GivenNumbers.{AreDistancesGiven, AreLevelsGiven};
+
+use crate::dijkstra::settle;
+use crate::numbers::Numbers;
+use crate::searches::take_over;
+use cb_dcsc::Block;
+use cb_matrix::Matrix;
+use cb_semirings::{MinPlus, OrAnd};
+use std::alloc::{AllocError, Global};
+
+/// The distance of each vertex from first numbers, in the graph of a square block: the least sum of a vertex's first
+/// number and the weight of a walk from there, over all vertices that have a first number. First numbers and distances
+/// are columns; sums saturate at 2^64 - 1, and a vertex whose distance is that isn't stored. A vertex's distance is at
+/// most its own first number.
+///
+/// Costs a transpose, and then the algorithm of Dijkstra (1959) with a heap, in which all first numbers are at the
+/// start: the entries of the vertices that it reaches, and for each number that is given or falls the logarithm of how
+/// many wait.
+pub fn distances_given(
+    alloc: Global,
+    graph: &Block<MinPlus>,
+    given: &Matrix<MinPlus>,
+) -> Result<Matrix<MinPlus>, AllocError>
+    requires square { graph.now.shape.rows ≡ graph.now.shape.cols }
+    requires column { given.now.shape ≡ column_shape graph.now }
+    ensures distances { IfOk result (AreDistancesGiven graph.now given.now) }
+    ensures matrix { IfOk result (IsMatrix min_plus) }
+{
+    let shape = graph.shape();
+    prove_eq!(shape.rows(), shape.cols());
+    let edges = cb_reshape::transpose(alloc, graph)?;
+    let column = given_by_edges(alloc, &edges, given)?;
+    prove_eq!(column.shape(), given.shape());
+    Ok(column)
+}
+
+/// The level of each vertex from first numbers, in the graph of a square block: the least sum of a vertex's first number
+/// and the number of entries of a walk from there, over all vertices that have a first number. The result is that of
+/// [`distances_given`] if each entry weighs 1, and so is the cost.
+pub fn levels_given(
+    alloc: Global,
+    graph: &Block<OrAnd>,
+    given: &Matrix<MinPlus>,
+) -> Result<Matrix<MinPlus>, AllocError>
+    requires square { graph.now.shape.rows ≡ graph.now.shape.cols }
+    requires column { given.now.shape ≡ column_shape graph.now }
+    ensures levels { IfOk result (AreLevelsGiven graph.now given.now) }
+    ensures matrix { IfOk result (IsMatrix min_plus) }
+{
+    let shape = graph.shape();
+    prove_eq!(shape.rows(), shape.cols());
+    let turned = cb_reshape::transpose(alloc, graph)?;
+    let edges = turned.recast();
+    let column = given_by_edges(alloc, &edges, given)?;
+    prove_eq!(column.shape(), given.shape());
+    Ok(column)
+}
+
+/// The distances from first numbers, given the transposed matrix of the graph.
+fn given_by_edges(
+    alloc: Global,
+    edges: &Block<MinPlus>,
+    given: &Matrix<MinPlus>,
+) -> Result<Matrix<MinPlus>, AllocError>
+    requires graph { (a : Sparse) × HasEdges edges.now a × (given.now.shape ≡ column_shape a) }
+    ensures shape { IfOk result (λ column. column.shape ≡ given.now.shape) }
+    ensures distances { IfOk result (λ column. (a : Sparse) → HasEdges edges.now a → given.now.shape ≡ column_shape a → AreDistancesGiven a given.now column) }
+{
+    let mut known = first_numbers(alloc, edges.len(), given)?;
+    settle(alloc, &mut known, edges, given.entries())?;
+    known.column(alloc, given.shape())
+}
+
+/// The first numbers, in a graph with this many entries.
+fn first_numbers(
+    alloc: Global,
+    entries: usize,
+    given: &Matrix<MinPlus>,
+) -> Result<Numbers, AllocError>
+    requires column { given.now.shape.cols ≡ 1 }
+    ensures values { IfOk result (λ known. (v : ℕ) → number_at known v ≡ number_in given.now v) }
+    ensures numbers { IfOk result (AreNumbers given.now.shape.rows) }
+{
+    let shape = given.shape();
+    let mut known = Numbers::unknown(alloc, shape.rows(), entries.max(given.len()))?;
+    take_over(&mut known, given.entries())?;
+    Ok(known)
+}
