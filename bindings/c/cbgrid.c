@@ -1,10 +1,12 @@
 /*
  * The C side of cbgrid. It looks for null pointers, replaces the null pointer of an empty list by a valid one, turns
- * the number of a diagonal into a place on it, calls the proved library crates/cb_ffi, and frees. Compressed rows are
- * the compressed columns of the transpose: calls on them make two proved calls. The library does everything else.
+ * the number of a diagonal into a place on it, starts and joins threads, calls the proved library crates/cb_ffi, and
+ * frees. Compressed rows are the compressed columns of the transpose: calls on them make two proved calls. The library
+ * does everything else.
  */
 #include "cbgrid.h"
 
+#include <pthread.h>
 #include <stdlib.h>
 
 /* The layouts of crates/cb_ffi, where a slice is a pointer and a length. */
@@ -112,6 +114,7 @@ uint32_t cbgrid_kernel_keep_triples(uint32_t semiring, uint32_t nrows, uint32_t 
                                     const struct cbgrid_triple *triples, size_t len, struct owned *out);
 uint32_t cbgrid_kernel_kept_multiply(kept a, kept b, struct owned *out);
 uint32_t cbgrid_kernel_kept_multiply_masked(kept a, kept b, kept mask, struct owned *out);
+uint32_t cbgrid_kernel_kept_multiply_outside(kept a, kept b, kept mask, struct owned *out);
 uint32_t cbgrid_kernel_kept_vector(kept a, kept x, struct owned *out);
 uint32_t cbgrid_kernel_kept_transpose(kept a, struct owned *out);
 uint32_t cbgrid_kernel_kept_row_sums(kept a, struct owned *out);
@@ -130,11 +133,19 @@ uint32_t cbgrid_kernel_kept_extract(kept a, const uint32_t *rows, size_t row_cou
 uint32_t cbgrid_kernel_kept_kronecker(kept a, kept b, struct owned *out);
 uint32_t cbgrid_kernel_kept_assign(kept a, uint32_t row, uint32_t column, kept part, struct owned *out);
 uint32_t cbgrid_kernel_kept_exclude(kept a, kept mask, struct owned *out);
+uint32_t cbgrid_kernel_kept_update(kept a, kept b, uint32_t flags, struct owned *out);
+uint32_t cbgrid_kernel_kept_update_masked(kept a, kept b, kept mask, uint32_t flags, struct owned *out);
+uint32_t cbgrid_kernel_kept_multiply_turned(kept a, uint32_t turn_a, kept b, uint32_t turn_b, struct owned *out);
+uint32_t cbgrid_kernel_kept_power(kept a, uint32_t factors, struct owned *out);
+uint32_t cbgrid_kernel_kept_row_degrees(kept a, struct owned *out);
+uint32_t cbgrid_kernel_kept_column_degrees(kept a, struct owned *out);
 uint64_t cbgrid_kernel_kept_total(kept a);
 uint32_t cbgrid_kernel_kept_levels(kept a, uint32_t source, struct owned *out);
 uint32_t cbgrid_kernel_kept_distances(kept a, uint32_t source, struct owned *out);
 uint32_t cbgrid_kernel_kept_levels_from(kept a, const uint32_t *sources, size_t count, struct owned *out);
 uint32_t cbgrid_kernel_kept_distances_from(kept a, const uint32_t *sources, size_t count, struct owned *out);
+uint32_t cbgrid_kernel_kept_levels_given(kept a, kept given, struct owned *out);
+uint32_t cbgrid_kernel_kept_distances_given(kept a, kept given, struct owned *out);
 uint32_t cbgrid_kernel_kept_parents(kept a, uint32_t source, struct owned *out);
 uint32_t cbgrid_kernel_kept_components(kept a, struct owned *out);
 uint32_t cbgrid_kernel_kept_triangles(kept a, uint64_t *out);
@@ -432,6 +443,13 @@ int cbgrid_matrix_multiply_masked(const struct cbgrid_matrix *a, const struct cb
     return hand(cbgrid_kernel_kept_multiply_masked((kept){a}, (kept){b}, (kept){mask}, &made), made, out);
 }
 
+int cbgrid_matrix_multiply_outside(const struct cbgrid_matrix *a, const struct cbgrid_matrix *b,
+                                   const struct cbgrid_matrix *mask, struct cbgrid_matrix **out) {
+    struct owned made = {NULL};
+    if (!a || !b || !mask || !out) return CBGRID_NULL_POINTER;
+    return hand(cbgrid_kernel_kept_multiply_outside((kept){a}, (kept){b}, (kept){mask}, &made), made, out);
+}
+
 int cbgrid_matrix_vector(const struct cbgrid_matrix *a, const struct cbgrid_matrix *x, struct cbgrid_matrix **out) {
     struct owned made = {NULL};
     if (!a || !x || !out) return CBGRID_NULL_POINTER;
@@ -536,6 +554,39 @@ int cbgrid_matrix_exclude(const struct cbgrid_matrix *a, const struct cbgrid_mat
     return hand(cbgrid_kernel_kept_exclude((kept){a}, (kept){mask}, &made), made, out);
 }
 
+int cbgrid_matrix_update(const struct cbgrid_matrix *a, const struct cbgrid_matrix *b, const struct cbgrid_matrix *mask,
+                         uint32_t flags, struct cbgrid_matrix **out) {
+    struct owned made = {NULL};
+    if (!a || !b || !out) return CBGRID_NULL_POINTER;
+    if (!mask) return hand(cbgrid_kernel_kept_update((kept){a}, (kept){b}, flags, &made), made, out);
+    return hand(cbgrid_kernel_kept_update_masked((kept){a}, (kept){b}, (kept){mask}, flags, &made), made, out);
+}
+
+int cbgrid_matrix_multiply_turned(const struct cbgrid_matrix *a, int turn_a, const struct cbgrid_matrix *b, int turn_b,
+                                  struct cbgrid_matrix **out) {
+    struct owned made = {NULL};
+    if (!a || !b || !out) return CBGRID_NULL_POINTER;
+    return hand(cbgrid_kernel_kept_multiply_turned((kept){a}, turn_a != 0, (kept){b}, turn_b != 0, &made), made, out);
+}
+
+int cbgrid_matrix_power(const struct cbgrid_matrix *a, uint32_t factors, struct cbgrid_matrix **out) {
+    struct owned made = {NULL};
+    if (!a || !out) return CBGRID_NULL_POINTER;
+    return hand(cbgrid_kernel_kept_power((kept){a}, factors, &made), made, out);
+}
+
+int cbgrid_matrix_row_degrees(const struct cbgrid_matrix *a, struct cbgrid_matrix **out) {
+    struct owned made = {NULL};
+    if (!a || !out) return CBGRID_NULL_POINTER;
+    return hand(cbgrid_kernel_kept_row_degrees((kept){a}, &made), made, out);
+}
+
+int cbgrid_matrix_column_degrees(const struct cbgrid_matrix *a, struct cbgrid_matrix **out) {
+    struct owned made = {NULL};
+    if (!a || !out) return CBGRID_NULL_POINTER;
+    return hand(cbgrid_kernel_kept_column_degrees((kept){a}, &made), made, out);
+}
+
 int cbgrid_matrix_reduce_all(const struct cbgrid_matrix *a, uint64_t *out) {
     if (!a || !out) return CBGRID_NULL_POINTER;
     *out = cbgrid_kernel_kept_total((kept){a});
@@ -568,6 +619,20 @@ int cbgrid_matrix_distances_from(const struct cbgrid_matrix *a, const uint32_t *
     if (!a || !out || (count && !sources)) return CBGRID_NULL_POINTER;
     if (!count) sources = NOTHING32;
     return hand(cbgrid_kernel_kept_distances_from((kept){a}, sources, count, &made), made, out);
+}
+
+int cbgrid_matrix_levels_given(const struct cbgrid_matrix *a, const struct cbgrid_matrix *given,
+                               struct cbgrid_matrix **out) {
+    struct owned made = {NULL};
+    if (!a || !given || !out) return CBGRID_NULL_POINTER;
+    return hand(cbgrid_kernel_kept_levels_given((kept){a}, (kept){given}, &made), made, out);
+}
+
+int cbgrid_matrix_distances_given(const struct cbgrid_matrix *a, const struct cbgrid_matrix *given,
+                                  struct cbgrid_matrix **out) {
+    struct owned made = {NULL};
+    if (!a || !given || !out) return CBGRID_NULL_POINTER;
+    return hand(cbgrid_kernel_kept_distances_given((kept){a}, (kept){given}, &made), made, out);
 }
 
 int cbgrid_matrix_parents(const struct cbgrid_matrix *a, uint32_t source, struct cbgrid_matrix **out) {
@@ -612,6 +677,89 @@ void cbgrid_matrix_free(struct cbgrid_matrix *a) {
     free(a);
 }
 
+/*
+ * ---- Products by several threads. The library parts the columns of the product, makes the panel of each range, and
+ * joins panels. Here a thread is started for each panel.
+ */
+uint32_t cbgrid_kernel_kept_ends(kept a, kept b, uint32_t *ends, size_t count);
+uint32_t cbgrid_kernel_kept_panel(kept a, kept b, uint32_t first, uint32_t end, struct owned *out);
+uint32_t cbgrid_kernel_kept_join(struct owned front, struct owned back, struct owned *out);
+
+/* The columns from `first` up to `end` of a product, and the thread that makes them. */
+struct panel {
+    kept a, b;
+    uint32_t first, end, code;
+    struct owned made;
+    pthread_t thread;
+    int is_started;
+};
+
+static void *make_panel(void *at) {
+    struct panel *panel = at;
+    panel->code = cbgrid_kernel_kept_panel(panel->a, panel->b, panel->first, panel->end, &panel->made);
+    return NULL;
+}
+
+/* A panel for each range that has columns, or one without columns. Returns how many. */
+static size_t panels_of(kept a, kept b, const uint32_t *ends, size_t count, struct panel *panels) {
+    size_t used = 0;
+    uint32_t first = 0;
+    for (size_t n = 0; n < count; n++) {
+        if (ends[n] == first && (used || n + 1 < count)) continue;
+        panels[used++] = (struct panel){.a = a, .b = b, .first = first, .end = ends[n]};
+        first = ends[n];
+    }
+    return used;
+}
+
+/* Makes all panels. The caller's thread makes the first, and those for which no thread can be started. */
+static void make_panels(struct panel *panels, size_t count) {
+    for (size_t n = 1; n < count; n++) {
+        panels[n].is_started = !pthread_create(&panels[n].thread, NULL, make_panel, &panels[n]);
+    }
+    for (size_t n = 0; n < count; n++) {
+        if (!panels[n].is_started) make_panel(&panels[n]);
+    }
+    for (size_t n = 1; n < count; n++) {
+        if (panels[n].is_started) pthread_join(panels[n].thread, NULL);
+    }
+}
+
+/* Joins the panels, one after another, to the first. Frees all of them if one wasn't made or can't be joined. */
+static uint32_t join_panels(struct panel *panels, size_t count, struct owned *out) {
+    uint32_t code = CBGRID_OK;
+    for (size_t n = 0; n < count && !code; n++) code = panels[n].code;
+    struct owned whole = panels[0].made;
+    for (size_t n = 1; n < count; n++) {
+        struct owned front = whole, back = panels[n].made;
+        if (code) {
+            cbgrid_matrix_free(back.at);
+            continue;
+        }
+        code = cbgrid_kernel_kept_join(front, back, &whole);
+        free(back.at);
+        if (code) free(front.at), whole.at = NULL;
+    }
+    if (code) cbgrid_matrix_free(whole.at);
+    else *out = whole;
+    return code;
+}
+
+int cbgrid_matrix_multiply_threads(const struct cbgrid_matrix *a, const struct cbgrid_matrix *b, uint32_t threads,
+                                   struct cbgrid_matrix **out) {
+    struct panel panels[CBGRID_MOST_THREADS];
+    uint32_t ends[CBGRID_MOST_THREADS];
+    struct owned made = {NULL};
+    size_t count = threads < CBGRID_MOST_THREADS ? threads : CBGRID_MOST_THREADS;
+    if (!a || !b || !out) return CBGRID_NULL_POINTER;
+    if (count < 2) return cbgrid_matrix_multiply(a, b, out);
+    uint32_t code = cbgrid_kernel_kept_ends((kept){a}, (kept){b}, ends, count);
+    if (code) return (int)code;
+    size_t used = panels_of((kept){a}, (kept){b}, ends, count, panels);
+    make_panels(panels, used);
+    return hand(join_panels(panels, used, &made), made, out);
+}
+
 const char *cbgrid_version(void) {
     return CBGRID_VERSION;
 }
@@ -621,7 +769,7 @@ const char *cbgrid_message(int code) {
         "done",
         "no such semiring",
         "grid side not 1 to 6",
-        "no such test",
+        "no such test, region, function, flag or power",
         "no such form of a matrix",
         "more than 2147483647 rows or columns",
         "lengths of the lists don't agree",

@@ -27,14 +27,14 @@
  * operands.
  *
  * Threads. Any number of threads may call any function at once, also on the same operands, as long as no thread
- * writes to lists or structs that a running call reads. A call runs on the caller's thread alone. Don't call a
- * function from a signal handler.
+ * writes to lists or structs that a running call reads. A call runs on the caller's thread alone, except for
+ * cbgrid_matrix_multiply_threads. Don't call a function from a signal handler.
  *
  * What is proved. For every input, each call is proved to stay within the lists that you pass, to terminate, and to
  * give the result that its comment describes, exact to the last value. The proofs run whenever libcb_ffi.a is built
  * (docs/PROMISES.md). Not proved are this header and cbgrid.c (null pointers, messages, freeing; that compressed rows
- * are the compressed columns of the transpose; the triples of a kept matrix; which place stands for a diagonal), the C
- * compiler and malloc. The library trusts you to pass what a struct describes: pointers that are aligned for their
+ * are the compressed columns of the transpose; the triples of a kept matrix; which place stands for a diagonal; that
+ * threads make each panel of a product, and that all are joined in order), the C compiler, malloc and POSIX threads. The library trusts you to pass what a struct describes: pointers that are aligned for their
  * type, to as many elements as the length says, which nobody changes while a call runs; and kept matrices that nobody
  * has freed.
  *
@@ -55,6 +55,9 @@ extern "C" {
 
 /* The most rows or columns that a matrix can have. */
 #define CBGRID_LIMIT 2147483647u
+
+/* The most threads that one call uses. */
+#define CBGRID_MOST_THREADS 256u
 
 /*
  * How values are added and multiplied. A place without an entry has the semiring's zero.
@@ -123,12 +126,19 @@ enum cbgrid_function {
     CBGRID_COLUMN = 5          /* j; it ignores n */
 };
 
+/* How cbgrid_matrix_update writes. The flags that are wanted are added up. */
+enum cbgrid_update {
+    CBGRID_ACCUMULATE = 1,  /* a new value is added to the old one by the semiring's sum; otherwise it takes its place */
+    CBGRID_COMPLEMENT = 2,  /* the mask allows the places where it has no entry; otherwise those where it has one */
+    CBGRID_REPLACE = 4      /* old entries at places that aren't allowed are dropped; otherwise they stay */
+};
+
 /* What a call returns: CBGRID_OK, or the first fault. cbgrid_message has each in words. */
 enum cbgrid_code {
     CBGRID_OK = 0,
     CBGRID_SEMIRING = 1,     /* no such semiring */
     CBGRID_GRID = 2,         /* the side of the grid is not 1 to 6 */
-    CBGRID_TEST = 3,         /* no such test, region or function */
+    CBGRID_TEST = 3,         /* no such test, region, function, flag or power */
     CBGRID_FORM = 4,         /* `kind` or `wide` is above 1 */
     CBGRID_TOO_LARGE = 5,    /* more rows or columns than CBGRID_LIMIT */
     CBGRID_LENGTHS = 6,      /* the lists' lengths don't agree, or the starts don't go from 0 to rows_len */
@@ -424,6 +434,48 @@ int cbgrid_matrix_assign(const struct cbgrid_matrix *a, uint32_t row, uint32_t c
  * of both. */
 int cbgrid_matrix_exclude(const struct cbgrid_matrix *a, const struct cbgrid_matrix *mask, struct cbgrid_matrix **out);
 
+/* Multiplies a and b at the places where the mask has no entry: what cbgrid_matrix_exclude leaves of the product, with the
+ * codes of cbgrid_matrix_multiply_masked. Costs the product and a walk over the mask; nothing is stored for its places. */
+int cbgrid_matrix_multiply_outside(const struct cbgrid_matrix *a, const struct cbgrid_matrix *b,
+                                   const struct cbgrid_matrix *mask, struct cbgrid_matrix **out);
+
+/*
+ * ---- Calls that other calls are built from
+ *
+ * cbgrid_matrix_update writes the result of any call back to a matrix, as GraphBLAS does at the end of each operation.
+ * It makes a matrix of the shape of a from it and from b, of the same shape:
+ *
+ *   at a place that is allowed      the value of b or, with CBGRID_ACCUMULATE, the sum of that of a and that of b
+ *   at any other place              the value of a or, with CBGRID_REPLACE, none
+ *
+ * A place is allowed if the mask has an entry there, whatever its value; with CBGRID_COMPLEMENT, if it has none. If the
+ * mask is a null pointer, all places are allowed and, with CBGRID_COMPLEMENT, none. At an allowed place without an entry
+ * of b the entry of a goes, unless the call accumulates.
+ *
+ * `flags` is a sum of enum cbgrid_update, or 0. CBGRID_TEST if it is above 7, then CBGRID_MIXED if the semirings of the
+ * three differ, then CBGRID_SHAPES if their shapes do. Costs a few walks over the entries of the three.
+ */
+int cbgrid_matrix_update(const struct cbgrid_matrix *a, const struct cbgrid_matrix *b, const struct cbgrid_matrix *mask,
+                         uint32_t flags, struct cbgrid_matrix **out);
+
+/* Multiplies a and b as cbgrid_matrix_multiply does, and transposes a before if turn_a isn't 0, b if turn_b isn't 0.
+ * CBGRID_MIXED if their semirings differ, then CBGRID_SHAPES if their shapes don't agree after that. Also costs the
+ * transposes. */
+int cbgrid_matrix_multiply_turned(const struct cbgrid_matrix *a, int turn_a, const struct cbgrid_matrix *b, int turn_b,
+                                  struct cbgrid_matrix **out);
+
+/* Multiplies a by itself: the power with this many factors, from the left, ((a a) a) a and so on. (In some semirings
+ * the product isn't associative.) CBGRID_TEST if there are no factors, then CBGRID_NOT_SQUARE. Costs the products, one
+ * less than there are factors. */
+int cbgrid_matrix_power(const struct cbgrid_matrix *a, uint32_t factors, struct cbgrid_matrix **out);
+
+/* Count the entries of each row, and of each column, whatever the values are. The result is one column over PLUS_TIMES,
+ * with as many rows as a has rows, or columns; a count of 0 isn't stored. In a graph these are the edges that leave a
+ * vertex, and those that lead to it. cbgrid_matrix_row_degrees costs a transpose, cbgrid_matrix_column_degrees a walk
+ * over the columns that have entries. */
+int cbgrid_matrix_row_degrees(const struct cbgrid_matrix *a, struct cbgrid_matrix **out);
+int cbgrid_matrix_column_degrees(const struct cbgrid_matrix *a, struct cbgrid_matrix **out);
+
 /* Writes the semiring's sum of all values of a to `out`: its zero if a has no entries. Costs a walk over the values,
  * and takes no memory. */
 int cbgrid_matrix_reduce_all(const struct cbgrid_matrix *a, uint64_t *out);
@@ -441,6 +493,16 @@ int cbgrid_matrix_levels_from(const struct cbgrid_matrix *a, const uint32_t *sou
                               struct cbgrid_matrix **out);
 int cbgrid_matrix_distances_from(const struct cbgrid_matrix *a, const uint32_t *sources, size_t count,
                                  struct cbgrid_matrix **out);
+
+/* The same from first numbers: `given` is a column over MIN_PLUS, and its entry in row u is the first number of vertex
+ * u. The result has for each vertex the least sum of a vertex's first number and the level or distance from there, over
+ * all vertices that have a first number; sums stop at 2^64 - 1, which isn't stored. CBGRID_MIXED, then
+ * CBGRID_NOT_SQUARE, as above; then CBGRID_MIXED if `given` isn't over MIN_PLUS, then CBGRID_SHAPES if it isn't a column
+ * with a place for each vertex. Transposes the graph, and then searches once. */
+int cbgrid_matrix_levels_given(const struct cbgrid_matrix *a, const struct cbgrid_matrix *given,
+                               struct cbgrid_matrix **out);
+int cbgrid_matrix_distances_given(const struct cbgrid_matrix *a, const struct cbgrid_matrix *given,
+                                  struct cbgrid_matrix **out);
 
 /*
  * Calls on a graph over OR_AND. CBGRID_MIXED if it is over another semiring, then CBGRID_NOT_SQUARE, then
@@ -463,6 +525,17 @@ int cbgrid_matrix_triangles(const struct cbgrid_matrix *a, uint64_t *out);
  * cbgrid_free_text. */
 int cbgrid_matrix_read(uint32_t semiring, const void *text, size_t len, uint64_t *line, struct cbgrid_matrix **out);
 int cbgrid_matrix_text(const struct cbgrid_matrix *a, struct cbgrid_text *out);
+
+/*
+ * Multiplies a and b as cbgrid_matrix_multiply does, with the same codes and the same result, by up to `threads`
+ * threads, and at most CBGRID_MOST_THREADS: the caller's and new ones, which have ended when the call returns. With
+ * 0 or 1 the caller's thread does everything. Each thread makes some columns, which take about as many products of
+ * entries that meet, and at least 65536 unless few are left. The caller's thread also does what no new thread can be
+ * started for, and joins the columns. Besides the products, it costs a pass over the entries of b, an index of the
+ * columns of a for each thread, and a copy of the result except for the columns of the first thread.
+ */
+int cbgrid_matrix_multiply_threads(const struct cbgrid_matrix *a, const struct cbgrid_matrix *b, uint32_t threads,
+                                   struct cbgrid_matrix **out);
 
 /* Frees a kept matrix. Call it once for each. A null pointer is allowed. */
 void cbgrid_matrix_free(struct cbgrid_matrix *a);

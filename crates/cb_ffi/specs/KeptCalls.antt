@@ -1,5 +1,5 @@
 -- What C gets of a call that keeps a matrix.
-use Rattle.std.specs.Prelude.{◌≡◌, ℕ, ◌⊎◌, List, Option, Some}
+use Rattle.std.specs.Prelude.{◌≡◌, ℕ, ◌⊎◌, List, length, Option, Some, IfSome}
 use Rattle.std.specs.Borrow.{MutBor}
 use Rattle.cb_semirings.specs.Names.{arithmetic_of, numbered}
 use Rattle.cb_semirings.specs.Arithmetic.{Arithmetic}
@@ -11,14 +11,21 @@ use Rattle.cb_interop.specs.declared.triples.Triple.{Triple}
 use Rattle.cb_interop.specs.declared.faults.Fault.{Fault}
 use Rattle.cb_interop.specs.declared.faults.Fault.TheVariants.{Memory}
 use Rattle.cb_interop.specs.declared.kept.Kept.{Kept}
-use Rattle.cb_interop.specs.Refusals.{code_of, over, read_faults, text_faults}
+use Rattle.cb_interop.specs.Refusals.{code_of, over, read_faults, text_faults, IsMemory}
 use Rattle.cb_interop.specs.KeptAnswers.{kept_faults, HasMadeKept, OverName, IsKeptOf}
 use Rattle.cb_interop.specs.declared.selections.Selection.{Selection}
 use Rattle.cb_interop.specs.Kept.{matrix_in}
 use Rattle.cb_interop.specs.KeptSelections.{kept_selection_faults, HasSelected, number_faults, IsKeptExtract}
 use Rattle.cb_interop.specs.declared.pairings.Pairing.{Pairing}
 use Rattle.cb_interop.specs.KeptPairings.{pair_faults, IsKeptPair}
-use Rattle.cb_interop.specs.KeptGraphs.{searches_faults, IsKeptLevelsFrom, IsKeptDistancesFrom}
+use Rattle.cb_selections.specs.declared.updates.WriteBack.{WriteBack}
+use Rattle.cb_interop.specs.KeptUpdates.{update_faults, HasUpdated}
+use Rattle.cb_interop.specs.declared.axes.Axis.{Axis}
+use Rattle.cb_interop.specs.KeptDegrees.{IsKeptDegrees}
+use Rattle.cb_interop.specs.KeptProducts.{outside_faults, IsKeptOutside}
+use Rattle.cb_shares.specs.Shares.{AreEnds}
+use Rattle.cb_interop.specs.KeptPanels.{factor_faults, join_faults, IsKeptJoin, IsKeptPanel}
+use Rattle.cb_interop.specs.KeptGraphs.{searches_faults, given_faults, IsKeptLevelsFrom, IsKeptDistancesFrom, IsKeptLevelsGiven, IsKeptDistancesGiven}
 use Rattle.cb_interop.specs.Triples.{triple_faults, IsKeptTriples}
 use Rattle.cb_interop.specs.KeptTexts.{IsKeptRead}
 use Rattle.cb_ffi.specs.declared.handles.Owned.{Owned}
@@ -51,12 +58,32 @@ IsExtractCall rows cols k code old new = IsKeptCall (number_faults rows cols (ma
 unfoldable pub IsPairCall : Pairing → Kept → Kept → ℕ → Owned → Owned → Type 0
 IsPairCall p a b code old new = IsKeptCall (pair_faults p a b) (IsKeptPair p a b) code old new
 
+-- the same of a kept matrix updated by another, under a mask if there is one
+unfoldable pub IsUpdateCall : Option WriteBack → Kept → Kept → Option Kept → ℕ → Owned → Owned → Type 0
+IsUpdateCall how a b mask code old new = IsKeptCall (update_faults how a b mask) (HasUpdated how a b mask) code old new
+
+-- the same of a product outside a mask
+unfoldable pub IsOutsideCall : Kept → Kept → Kept → ℕ → Owned → Owned → Type 0
+IsOutsideCall a b mask code old new = IsKeptCall (outside_faults a b mask) (IsKeptOutside a b mask) code old new
+
+-- the same of the degrees of rows or columns
+unfoldable pub IsDegreesCall : Axis → Kept → ℕ → Owned → Owned → Type 0
+IsDegreesCall axis k code old new = IsKeptCall IsMemory (IsKeptDegrees axis k) code old new
+
 -- the same of searches from several sources in a kept graph
 unfoldable pub IsLevelsCall : List ℕ → Kept → ℕ → Owned → Owned → Type 0
 IsLevelsCall sources k code old new = IsKeptCall (searches_faults name_is.OrAnd k sources) (IsKeptLevelsFrom (matrix_in k) sources) code old new
 
 unfoldable pub IsDistancesCall : List ℕ → Kept → ℕ → Owned → Owned → Type 0
 IsDistancesCall sources k code old new = IsKeptCall (searches_faults name_is.MinPlus k sources) (IsKeptDistancesFrom (matrix_in k) sources) code old new
+
+-- the same of searches from first numbers in a kept graph
+unfoldable pub IsLevelsGivenCall : Kept → Kept → ℕ → Owned → Owned → Type 0
+IsLevelsGivenCall k given code old new = IsKeptCall (given_faults name_is.OrAnd k given) (IsKeptLevelsGiven (matrix_in k) (matrix_in given)) code old new
+
+unfoldable pub IsDistancesGivenCall : Kept → Kept → ℕ → Owned → Owned → Type 0
+IsDistancesGivenCall k given code old new =
+    IsKeptCall (given_faults name_is.MinPlus k given) (IsKeptDistancesGiven (matrix_in k) (matrix_in given)) code old new
 
 -- C owns this kept matrix; or memory for it was refused, and C has what it had
 abbrev pub HasHandedOut : ℕ → Owned → Owned → Kept → Type 0
@@ -76,3 +103,20 @@ IsTriplesCall semiring nrows ncols ts code old new =
 abbrev pub IsReadCall : ℕ → List ℕ → ℕ → Owned → Owned → Type 0
 IsReadCall semiring text code old new =
     IsKeptCallOver semiring (λ s. read_faults s text) (λ s name. IsKeptRead s name text) code old new
+
+-- ---- products by several threads
+-- what C gets of the call that parts a product's columns into as many ranges as its list has places
+unfoldable pub IsEndsCall : Kept → Kept → ℕ → List ℕ → List ℕ → Type 0
+IsEndsCall a b code old new = IsCall (factor_faults a b) (AreEnds (length old) (matrix_in b).shape.cols) code old new
+
+-- of the call that makes the panel of a range
+unfoldable pub IsPanelCall : ℕ → ℕ → Kept → Kept → ℕ → Owned → Owned → Type 0
+IsPanelCall first end a b code old new = IsKeptCall (factor_faults a b) (IsKeptPanel first end a b) code old new
+
+-- of the call that joins two panels
+unfoldable pub IsJoinCall : Kept → Kept → ℕ → Owned → Owned → Type 0
+IsJoinCall front back code old new = IsKeptCall (join_faults front back) (IsKeptJoin front back) code old new
+
+-- the same of panels that C has owned so far
+abbrev pub IsOwnedJoinCall : Owned → Owned → ℕ → Owned → Owned → Type 0
+IsOwnedJoinCall front back code old new = IfSome front.kept (λ f. IfSome back.kept (λ b. IsJoinCall f.now b.now code old new))

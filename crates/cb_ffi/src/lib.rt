@@ -14,10 +14,11 @@
 //! on.
 //!
 //! `grid` is the side of a grid, 1 to 6. It is checked and has no other effect: each call works on whole blocks, on the
-//! caller's thread.
+//! caller's thread. A program that has threads parts the columns of a product ([`cbgrid_kernel_kept_ends`]), makes a panel
+//! of it in each thread ([`cbgrid_kernel_kept_panel`]), and joins the panels in order ([`cbgrid_kernel_kept_join`]).
 #![tactic(auto)]
 
-ghost use Rattle.std.specs.Prelude.{◌≡◌, ◌≢◌, [], ◌∷◌, length, Some, IfSome, IsSome, IfOk, IfErr};
+ghost use Rattle.std.specs.Prelude.{◌≡◌, ◌≢◌, [], ◌∷◌, length, ◌==◌, not, Some, None, IfSome, IsSome, IfOk, IfErr, option_copied};
 ghost use Rattle.cb_semirings.specs.Tables.{min_plus, or_and};
 ghost use Rattle.cb_semirings.specs.Names.{arithmetic_of, numbered};
 ghost use Rattle.cb_semirings.specs.declared.names.SemiringName.TheVariants as name_is;
@@ -36,20 +37,24 @@ ghost use Rattle.cb_reductions.specs.Sums.{matrix_total};
 ghost use Rattle.cb_interop.specs.declared.pairings.Pairing.TheVariants as pairing_is;
 ghost use Rattle.cb_interop.specs.declared.selections.Selection.TheVariants as selection_is;
 ghost use Rattle.cb_interop.specs.KeptSelections.{function_of, region_of};
+ghost use Rattle.cb_interop.specs.KeptUpdates.{write_back_of};
+ghost use Rattle.cb_interop.specs.declared.axes.Axis.TheVariants as axis_is;
 ghost use Rattle.cb_interop.specs.KeptTexts.{IsKeptText};
 ghost use Rattle.cb_ffi.specs.Calls.{IsCall, IsCallOver, IsLine, IsOperationCall};
-ghost use Rattle.cb_ffi.specs.KeptCalls.{HasHandedOut, IsDistancesCall, IsExtractCall, IsKeepCall, IsKeptCall, IsKeptOperation, IsLevelsCall, IsPairCall, IsReadCall, IsSelectionCall, IsTriplesCall};
+ghost use Rattle.cb_ffi.specs.KeptCalls.{HasHandedOut, IsDegreesCall, IsDistancesCall, IsDistancesGivenCall, IsEndsCall, IsExtractCall, IsJoinCall, IsKeepCall, IsKeptCall, IsKeptOperation, IsLevelsCall, IsLevelsGivenCall, IsOutsideCall, IsOwnedJoinCall, IsPairCall, IsPanelCall, IsReadCall, IsSelectionCall, IsTriplesCall, IsUpdateCall};
 
 mod handles;
 
 use cb_interop::{
-    Columns, Fault, Kept, Pairing, Selection, Summary, Text, Triple, answer, distances,
-    function_of, keep_lists, keep_triples, kept_components, kept_distances, kept_distances_from,
-    kept_extract, kept_levels, kept_levels_from, kept_pair, kept_parents, kept_selection,
-    kept_total, kept_triangles, levels, lists_of, operate, prune_of, read_kept, read_lists,
-    region_of, summary_of, text_of, text_of_lists, value_at,
+    Axis, Columns, Fault, Kept, Pairing, Selection, Summary, Text, Triple, answer, distances,
+    function_of, keep_lists, keep_triples, kept_components, kept_degrees, kept_distances,
+    kept_distances_from, kept_distances_given, kept_ends, kept_extract, kept_join, kept_levels,
+    kept_levels_from, kept_levels_given, kept_outside, kept_pair, kept_panel, kept_parents,
+    kept_selection, kept_total, kept_triangles, kept_update, levels, lists_of, operate, prune_of,
+    read_kept, read_lists, region_of, summary_of, text_of, text_of_lists, value_at, write_back_of,
 };
 use cb_operations::Operation;
+use cb_selections::WriteBack;
 pub use handles::{Lent, Owned};
 use handles::{borrowed, hand_out, take_back};
 use std::alloc::Global;
@@ -147,6 +152,113 @@ fn distances_kept(alloc: Global, graph: &Kept, sources: &[u32], out: &mut Owned)
     ensures { IsDistancesCall sources.now graph.now result out.old out.new }
 {
     put_kept(alloc, out, kept_distances_from(alloc, graph, sources))
+}
+
+/// Keeps an updated matrix, or returns the number of the fault.
+fn update_kept(
+    alloc: Global,
+    how: Option<WriteBack>,
+    old: &Kept,
+    new: &Kept,
+    mask: Option<&Kept>,
+    out: &mut Owned,
+) -> u32
+    ensures { IsUpdateCall how old.now new.now (option_copied mask.entry) result out.old out.new }
+{
+    put_kept(alloc, out, kept_update(alloc, how, old, new, mask))
+}
+
+/// Keeps a product outside a mask, or returns the number of the fault.
+fn outside_kept(alloc: Global, left: &Kept, right: &Kept, mask: &Kept, out: &mut Owned) -> u32
+    ensures { IsOutsideCall left.now right.now mask.now result out.old out.new }
+{
+    put_kept(alloc, out, kept_outside(alloc, left, right, mask))
+}
+
+/// Keeps the degrees of the rows or columns of a kept matrix, or returns the number of the fault.
+fn degrees_kept(alloc: Global, axis: Axis, kept: &Kept, out: &mut Owned) -> u32
+    ensures { IsDegreesCall axis kept.now result out.old out.new }
+{
+    put_kept(alloc, out, kept_degrees(alloc, axis, kept))
+}
+
+/// Writes where the ranges of a product's columns end, or returns the number of the fault.
+fn put_ends(ends: &mut [u32], answer: Result<Vec<u32>, Fault>) -> u32
+    requires { IfOk answer (λ made. length made.items ≡ length ends.old) }
+    ensures ok { IfOk answer (λ made. (result ≡ 0) × (ends.new ≡ made.items)) }
+    ensures refused { IfErr answer (λ f. (result ≡ code_of f) × (result ≢ 0) × (ends.new ≡ ends.old)) }
+{
+    match answer {
+        Ok(made) => {
+            ends.copy_from_slice(&made);
+            0
+        }
+        Err(fault) => fault.code(),
+    }
+}
+
+/// Parts the columns of a product into as many ranges as C has places, or returns the number of the fault.
+fn ends_kept(alloc: Global, left: &Kept, right: &Kept, ends: &mut [u32]) -> u32
+    ensures { IsEndsCall left.now right.now result ends.old ends.new }
+{
+    let answer = kept_ends(alloc, left, right, ends.len());
+    put_ends(ends, answer)
+}
+
+/// Keeps the panel of a product, or returns the number of the fault.
+fn panel_kept(
+    alloc: Global,
+    left: &Kept,
+    right: &Kept,
+    first: u32,
+    end: u32,
+    out: &mut Owned,
+) -> u32
+    ensures { IsPanelCall first end left.now right.now result out.old out.new }
+{
+    put_kept(alloc, out, kept_panel(alloc, left, right, first, end))
+}
+
+/// Hands a kept matrix to C where another was, or returns the number of the fault.
+fn put_in_place(place: &'static mut Kept, out: &mut Owned, answer: Result<Kept, Fault>) -> u32
+    ensures ok { IfOk answer (HasHandedOut result out.old out.new) }
+    ensures refused { IfErr answer (λ f. (result ≡ code_of f) × (result ≢ 0) × (out.new ≡ out.old)) }
+{
+    match answer {
+        Ok(kept) => {
+            *place = kept;
+            *out = hand_out(place);
+            0
+        }
+        Err(fault) => fault.code(),
+    }
+}
+
+/// Joins two panels where the first of them is, or returns the number of the fault.
+fn join_kept(
+    alloc: Global,
+    front: &'static mut Kept,
+    back: &'static mut Kept,
+    out: &mut Owned,
+) -> u32
+    ensures { IsJoinCall front.old back.old result out.old out.new }
+{
+    let answer = kept_join(alloc, front, back);
+    put_in_place(front, out, answer)
+}
+
+/// Keeps the levels from first numbers in a kept graph, or returns the number of the fault.
+fn levels_given_kept(alloc: Global, graph: &Kept, given: &Kept, out: &mut Owned) -> u32
+    ensures { IsLevelsGivenCall graph.now given.now result out.old out.new }
+{
+    put_kept(alloc, out, kept_levels_given(alloc, graph, given))
+}
+
+/// Keeps the distances from first numbers in a kept graph, or returns the number of the fault.
+fn distances_given_kept(alloc: Global, graph: &Kept, given: &Kept, out: &mut Owned) -> u32
+    ensures { IsDistancesGivenCall graph.now given.now result out.old out.new }
+{
+    put_kept(alloc, out, kept_distances_given(alloc, graph, given))
 }
 
 /// Multiplies two matrices.
@@ -394,6 +506,20 @@ pub extern "C" fn cbgrid_kernel_kept_multiply_masked(
     call_kept(alloc, Some(Operation::MultiplyMasked), &operands, out)
 }
 
+/// Multiplies two kept matrices at the places where a mask has no entries.
+#[unsafe(no_mangle)]
+pub extern "C" fn cbgrid_kernel_kept_multiply_outside(
+    alloc: Global,
+    a: Lent,
+    b: Lent,
+    mask: Lent,
+    out: &mut Owned,
+) -> u32
+    ensures { IsOutsideCall a.kept.now b.kept.now mask.kept.now result out.old out.new }
+{
+    outside_kept(alloc, borrowed(a), borrowed(b), borrowed(mask), out)
+}
+
 /// Multiplies a kept matrix and a kept vector, which is a matrix of one column.
 #[unsafe(no_mangle)]
 pub extern "C" fn cbgrid_kernel_kept_vector(alloc: Global, a: Lent, x: Lent, out: &mut Owned) -> u32
@@ -577,6 +703,83 @@ pub extern "C" fn cbgrid_kernel_kept_exclude(
     pair_kept(alloc, Pairing::Exclude, borrowed(a), borrowed(mask), out)
 }
 
+/// Multiplies two kept matrices, of which each is transposed first if its flag isn't 0.
+#[unsafe(no_mangle)]
+pub extern "C" fn cbgrid_kernel_kept_multiply_turned(
+    alloc: Global,
+    a: Lent,
+    turn_a: u32,
+    b: Lent,
+    turn_b: u32,
+    out: &mut Owned,
+) -> u32
+    ensures { IsPairCall (pairing_is.Multiply (not (turn_a == 0)) (not (turn_b == 0))) a.kept.now b.kept.now result out.old out.new }
+{
+    let pairing = Pairing::Multiply(turn_a != 0, turn_b != 0);
+    pair_kept(alloc, pairing, borrowed(a), borrowed(b), out)
+}
+
+/// The power of a kept square matrix with this many factors.
+#[unsafe(no_mangle)]
+pub extern "C" fn cbgrid_kernel_kept_power(
+    alloc: Global,
+    a: Lent,
+    factors: u32,
+    out: &mut Owned,
+) -> u32
+    ensures { IsSelectionCall (Some (selection_is.Power factors)) a.kept.now result out.old out.new }
+{
+    select_kept(alloc, Some(Selection::Power(factors)), borrowed(a), out)
+}
+
+/// A kept matrix, updated at all places by a new one. `flags` says how ([`write_back_of`]).
+#[unsafe(no_mangle)]
+pub extern "C" fn cbgrid_kernel_kept_update(
+    alloc: Global,
+    a: Lent,
+    b: Lent,
+    flags: u32,
+    out: &mut Owned,
+) -> u32
+    ensures { IsUpdateCall (write_back_of flags) a.kept.now b.kept.now None result out.old out.new }
+{
+    let how = write_back_of(flags);
+    update_kept(alloc, how, borrowed(a), borrowed(b), None, out)
+}
+
+/// A kept matrix, updated by a new one at the places that a kept mask allows. `flags` says how ([`write_back_of`]).
+#[unsafe(no_mangle)]
+pub extern "C" fn cbgrid_kernel_kept_update_masked(
+    alloc: Global,
+    a: Lent,
+    b: Lent,
+    mask: Lent,
+    flags: u32,
+    out: &mut Owned,
+) -> u32
+    ensures { IsUpdateCall (write_back_of flags) a.kept.now b.kept.now (Some mask.kept.now) result out.old out.new }
+{
+    let how = write_back_of(flags);
+    let allowed = Some(borrowed(mask));
+    update_kept(alloc, how, borrowed(a), borrowed(b), allowed, out)
+}
+
+/// How many entries each row of a kept matrix has, in one column over plus-times.
+#[unsafe(no_mangle)]
+pub extern "C" fn cbgrid_kernel_kept_row_degrees(alloc: Global, a: Lent, out: &mut Owned) -> u32
+    ensures { IsDegreesCall axis_is.Rows a.kept.now result out.old out.new }
+{
+    degrees_kept(alloc, Axis::Rows, borrowed(a), out)
+}
+
+/// How many entries each column of a kept matrix has, in one column over plus-times.
+#[unsafe(no_mangle)]
+pub extern "C" fn cbgrid_kernel_kept_column_degrees(alloc: Global, a: Lent, out: &mut Owned) -> u32
+    ensures { IsDegreesCall axis_is.Columns a.kept.now result out.old out.new }
+{
+    degrees_kept(alloc, Axis::Columns, borrowed(a), out)
+}
+
 /// The semiring's sum of all values of a kept matrix.
 #[unsafe(no_mangle)]
 pub extern "C" fn cbgrid_kernel_kept_total(a: Lent) -> u64
@@ -639,6 +842,34 @@ pub extern "C" fn cbgrid_kernel_kept_distances_from(
     ensures { IsDistancesCall sources.now a.kept.now result out.old out.new }
 {
     distances_kept(alloc, borrowed(a), sources, out)
+}
+
+/// The levels from first numbers, which a kept column over min-plus has, in a graph that is kept over or-and. Transposes
+/// the graph.
+#[unsafe(no_mangle)]
+pub extern "C" fn cbgrid_kernel_kept_levels_given(
+    alloc: Global,
+    a: Lent,
+    given: Lent,
+    out: &mut Owned,
+) -> u32
+    ensures { IsLevelsGivenCall a.kept.now given.kept.now result out.old out.new }
+{
+    levels_given_kept(alloc, borrowed(a), borrowed(given), out)
+}
+
+/// The distances from first numbers, which a kept column over min-plus has, in a graph that is kept over min-plus.
+/// Transposes the graph.
+#[unsafe(no_mangle)]
+pub extern "C" fn cbgrid_kernel_kept_distances_given(
+    alloc: Global,
+    a: Lent,
+    given: Lent,
+    out: &mut Owned,
+) -> u32
+    ensures { IsDistancesGivenCall a.kept.now given.kept.now result out.old out.new }
+{
+    distances_given_kept(alloc, borrowed(a), borrowed(given), out)
 }
 
 /// Keeps the matrix of triples in any order. Values at one place are added up.
@@ -736,6 +967,49 @@ pub extern "C" fn cbgrid_kernel_kept_value(a: Lent, row: u32, column: u32) -> u6
     ensures { result ≡ at (arithmetic_of (semiring_of a.kept.now)) (matrix_in a.kept.now) row column }
 {
     value_at(borrowed(a), row, column)
+}
+
+/// Parts the columns of the product of two kept matrices into ranges that take about as many products of two values, as many
+/// ranges as `ends` has places. Writes the column at which each range ends and the next begins. Ranges of a small product
+/// may have no columns.
+#[unsafe(no_mangle)]
+pub extern "C" fn cbgrid_kernel_kept_ends(alloc: Global, a: Lent, b: Lent, ends: &mut [u32]) -> u32
+    ensures { IsEndsCall a.kept.now b.kept.now result ends.old ends.new }
+{
+    ends_kept(alloc, borrowed(a), borrowed(b), ends)
+}
+
+/// Multiplies a kept matrix and the columns of another from `first` up to, but not including, `end`. The result has the
+/// shape of the whole product.
+#[unsafe(no_mangle)]
+pub extern "C" fn cbgrid_kernel_kept_panel(
+    alloc: Global,
+    a: Lent,
+    b: Lent,
+    first: u32,
+    end: u32,
+    out: &mut Owned,
+) -> u32
+    ensures { IsPanelCall first end a.kept.now b.kept.now result out.old out.new }
+{
+    panel_kept(alloc, borrowed(a), borrowed(b), first, end, out)
+}
+
+/// Joins two panels of a product: puts the entries of a kept matrix behind those of another, whose columns are all before its
+/// own. Takes both back, and copies the entries of the second. The result is at the pointer of the first. The caller then
+/// frees the memory at the pointer of the second, and at a fault that at the pointer of the first too.
+#[unsafe(no_mangle)]
+pub extern "C" fn cbgrid_kernel_kept_join(
+    alloc: Global,
+    front: Owned,
+    back: Owned,
+    out: &mut Owned,
+) -> u32
+    requires front { IsSome front.kept }
+    requires back { IsSome back.kept }
+    ensures { IsOwnedJoinCall front back result out.old out.new }
+{
+    join_kept(alloc, take_back(front), take_back(back), out)
 }
 
 /// Frees the lists of a kept matrix. The caller then frees the memory at the pointer.

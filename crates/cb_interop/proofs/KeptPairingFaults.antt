@@ -5,8 +5,9 @@ use Rattle.cb_semirings.specs.Arithmetic.{Arithmetic}
 use Rattle.cb_matrix.specs.Sparse.{Sparse, Extent}
 use Rattle.cb_elementwise.specs.Complements.{excluded}
 use Rattle.cb_selections.specs.Selections.{assigned, kronecker}
+use Rattle.cb_selections.specs.Products.{turned_shape, turned_product}
 use Rattle.cb_interop.specs.declared.pairings.Pairing.{Pairing}
-use Rattle.cb_interop.specs.declared.pairings.Pairing.TheVariants.{Kronecker, Assign, Exclude}
+use Rattle.cb_interop.specs.declared.pairings.Pairing.TheVariants.{Kronecker, Assign, Exclude, Multiply}
 use Rattle.cb_interop.specs.declared.faults.Fault.{Fault}
 use Rattle.cb_interop.specs.declared.faults.Fault.TheVariants.{Mixed}
 use Rattle.cb_interop.specs.declared.kept.Kept.{Kept}
@@ -55,6 +56,10 @@ module _ (s : Arithmetic) (a b : Sparse) (p : Pairing) (E : Type 0) (r : Result 
   unfolding paired_by
   makes_excluded e h = subst Makes (sym e) h
 
+  pub makes_product : (left right : Bool) → p ≡ Multiply left right → IfOk r (λ m. m ≡ turned_product s left right a b) → Makes p
+  unfolding paired_by
+  makes_product left right e h = subst Makes (sym e) h
+
 -- the shapes that suit each variant
 module _ (p : Pairing) (a b : Extent) where
   pub suits_kronecker : p ≡ Kronecker → Suits p a b → FitsLimit (a.rows * b.rows) (a.cols * b.cols)
@@ -68,6 +73,10 @@ module _ (p : Pairing) (a b : Extent) where
   pub suits_excluded : p ≡ Exclude → Suits p a b → b ≡ a
   unfolding Suits
   suits_excluded e h = subst (λ (q : Pairing). Suits q a b) e h
+
+  pub suits_product : (left right : Bool) → p ≡ Multiply left right → Suits p a b → (turned_shape left a).cols ≡ (turned_shape right b).rows
+  unfolding Suits
+  suits_product left right e h = subst (λ (q : Pairing). Suits q a b) e h
 
   module _ (is : Bool) where
     abbrev Decides : Pairing → Type 0
@@ -84,3 +93,7 @@ module _ (p : Pairing) (a b : Extent) where
     pub decides_excluded : p ≡ Exclude → (IsTrue is ↔ (b ≡ a)) → Decides p
     unfolding Suits
     decides_excluded e h = subst Decides (sym e) h
+
+    pub decides_product : (left right : Bool) → p ≡ Multiply left right → (IsTrue is ↔ ((turned_shape left a).cols ≡ (turned_shape right b).rows)) → Decides p
+    unfolding Suits
+    decides_product left right e h = subst Decides (sym e) h

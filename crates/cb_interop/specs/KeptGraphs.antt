@@ -4,13 +4,14 @@ use Rattle.cb_semirings.specs.declared.names.SemiringName.{SemiringName}
 use Rattle.cb_semirings.specs.declared.names.SemiringName.TheVariants as name_is
 use Rattle.cb_semirings.specs.Tables.{min_plus}
 use Rattle.cb_matrix.specs.declared.TheConstants.{LIMIT}
-use Rattle.cb_matrix.specs.Sparse.{Sparse, IsMatrix}
+use Rattle.cb_matrix.specs.Sparse.{Sparse, Extent, IsMatrix}
 use Rattle.cb_searches.specs.Walks.{AreLevels, AreDistances}
 use Rattle.cb_searches.specs.SeveralSources.{AreLevelsFrom, AreDistancesFrom}
+use Rattle.cb_searches.specs.GivenNumbers.{AreLevelsGiven, AreDistancesGiven}
 use Rattle.cb_searches.specs.Parents.{AreParents}
 use Rattle.cb_graphs.specs.Components.{AreComponents}
 use Rattle.cb_interop.specs.declared.faults.Fault.{Fault}
-use Rattle.cb_interop.specs.declared.faults.Fault.TheVariants.{Mixed, NotSquare, TooLarge, Source}
+use Rattle.cb_interop.specs.declared.faults.Fault.TheVariants.{Mixed, NotSquare, Shapes, TooLarge, Source}
 use Rattle.cb_interop.specs.declared.kept.Kept.{Kept}
 use Rattle.cb_interop.specs.Kept.{Keeps, semiring_of, matrix_in}
 use Rattle.cb_interop.specs.Refusals.{Unless, IsMemory}
@@ -38,6 +39,15 @@ search_faults name k source = kept_graph_faults name k (source_faults source)
 abbrev pub searches_faults : SemiringName → Kept → List ℕ → Fault → Type 0
 searches_faults name k sources = kept_graph_faults name k (sources_faults sources)
 
+-- the faults of a column of first numbers: it isn't over min-plus, or it isn't a column with a place for each vertex
+abbrev pub column_faults : Extent → Kept → Fault → Type 0
+column_faults graph given =
+    Unless (semiring_of given ≡ name_is.MinPlus) Mixed (Unless ((matrix_in given).shape ≡ record { rows = graph.rows; cols = 1 }) Shapes IsMemory)
+
+-- the faults of a call on a graph, from first numbers
+abbrev pub given_faults : SemiringName → Kept → Kept → Fault → Type 0
+given_faults name k given = kept_graph_faults name k (λ m. column_faults m.shape given)
+
 -- the matrix that is right, kept over min-plus
 abbrev pub IsKeptColumn : (Sparse → Type 0) → Kept → Type 0
 IsKeptColumn is_right made = (column : Sparse) × IsMatrix min_plus column × is_right column × Keeps name_is.MinPlus column made
@@ -55,6 +65,13 @@ IsKeptLevelsFrom m sources = IsKeptColumn (AreLevelsFrom m sources)
 
 abbrev pub IsKeptDistancesFrom : Sparse → List ℕ → Kept → Type 0
 IsKeptDistancesFrom m sources = IsKeptColumn (AreDistancesFrom m sources)
+
+-- the column of levels from first numbers, and of distances
+abbrev pub IsKeptLevelsGiven : Sparse → Sparse → Kept → Type 0
+IsKeptLevelsGiven m given = IsKeptColumn (AreLevelsGiven m given)
+
+abbrev pub IsKeptDistancesGiven : Sparse → Sparse → Kept → Type 0
+IsKeptDistancesGiven m given = IsKeptColumn (AreDistancesGiven m given)
 
 -- the column of the least parents from a source, and of the least vertex of each component
 abbrev pub IsKeptParents : Sparse → ℕ → Kept → Type 0

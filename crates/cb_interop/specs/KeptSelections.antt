@@ -1,5 +1,5 @@
--- Operations on one kept matrix, place by place: entries in a region, values replaced, diagonals, parts, rows and columns by
--- their numbers.
+-- Operations on one kept matrix: entries in a region, values replaced, diagonals, parts, powers, rows and columns by their
+-- numbers.
 use Rattle.std.specs.Prelude.{◌≡◌, ℕ, ◌<◌, ◌≤◌, ◌==◌, cond, List, length, All, Option, Some, None, Result}
 use Rattle.cb_semirings.specs.Arithmetic.{Arithmetic, IsValue}
 use Rattle.cb_semirings.specs.declared.names.SemiringName.{SemiringName}
@@ -13,10 +13,11 @@ use Rattle.cb_selections.specs.declared.functions.Function.{Function}
 use Rattle.cb_selections.specs.declared.functions.Function.TheVariants.{Constant, Sum, LeftProduct, RightProduct, Row, Column}
 use Rattle.cb_selections.specs.Functions.{operand_of}
 use Rattle.cb_selections.specs.Selections.{selected, applied, diagonal_of, diagonal_matrix, extracted}
+use Rattle.cb_selections.specs.Products.{power}
 use Rattle.cb_interop.specs.declared.selections.Selection.{Selection}
-use Rattle.cb_interop.specs.declared.selections.Selection.TheVariants.{Select, Apply, Diagonal, DiagonalMatrix, Part}
+use Rattle.cb_interop.specs.declared.selections.Selection.TheVariants.{Select, Apply, Diagonal, DiagonalMatrix, Part, Power}
 use Rattle.cb_interop.specs.declared.faults.Fault.{Fault}
-use Rattle.cb_interop.specs.declared.faults.Fault.TheVariants.{Test, TooLarge, Place, Value, Shapes}
+use Rattle.cb_interop.specs.declared.faults.Fault.TheVariants.{Test, TooLarge, Place, Value, Shapes, NotSquare}
 use Rattle.cb_interop.specs.declared.kept.Kept.{Kept}
 use Rattle.cb_interop.specs.Kept.{Keeps, semiring_of, matrix_in}
 use Rattle.cb_interop.specs.Refusals.{Unless, IsMemory}
@@ -50,6 +51,7 @@ made_by (Apply function) s a = applied s function a
 made_by Diagonal s a = diagonal_of s a
 made_by DiagonalMatrix s a = diagonal_matrix s a
 made_by (Part rows cols) s a = cut s rows cols a
+made_by (Power n) s a = power s a n
 
 -- the number that a function takes is a value at each place of a shape
 abbrev pub TakesValues : Arithmetic → Function → Extent → Type 0
@@ -60,7 +62,8 @@ abbrev pub IsRange : ℕ → ℕ × ℕ → Type 0
 IsRange n range = (range.0 ≤ range.1) × (range.1 ≤ n)
 
 -- The faults of a selection: no region or function has the number; the number that a function takes isn't a value; only one
--- column makes a diagonal matrix; a range of a part descends or ends beyond the matrix.
+-- column makes a diagonal matrix; a range of a part descends or ends beyond the matrix; a power has no factors, or its matrix
+-- isn't square.
 unfoldable pub selection_faults : Option Selection → Arithmetic → Sparse → Fault → Type 0
 selection_faults None s a = λ f. f ≡ Test
 selection_faults (Some (Select region)) s a = IsMemory
@@ -68,6 +71,7 @@ selection_faults (Some (Apply function)) s a = Unless (TakesValues s function a.
 selection_faults (Some Diagonal) s a = IsMemory
 selection_faults (Some DiagonalMatrix) s a = Unless (a.shape.cols ≡ 1) Shapes IsMemory
 selection_faults (Some (Part rows cols)) s a = Unless (IsRange a.shape.rows rows × IsRange a.shape.cols cols) Place IsMemory
+selection_faults (Some (Power n)) s a = Unless (1 ≤ n) Test (Unless (a.shape.rows ≡ a.shape.cols) NotSquare IsMemory)
 
 -- what a selection from a matrix returns: its result, or the first fault
 abbrev pub IsMade : Selection → Arithmetic → Sparse → Result Sparse Fault → Type 0

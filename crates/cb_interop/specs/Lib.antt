@@ -2,7 +2,8 @@
 -- Refusals: the faults of calls. Answers: what a call returns.
 -- Kept: kept matrices. KeptAnswers: what an operation on them returns.
 -- Triples: matrices of triples. KeptTexts: texts of kept matrices. KeptGraphs: searches, parents, components and triangles
--- of kept graphs. KeptSelections: operations on one kept matrix, place by place. KeptPairings: operations on two.
+-- of kept graphs. KeptSelections: operations on one kept matrix. KeptPairings: operations on two. KeptProducts: products
+-- outside a mask. KeptPanels: products of two in panels. KeptUpdates: one updated by another, under a mask. KeptDegrees: how many entries rows and columns have.
 pub mod Lists
 pub mod Refusals
 pub mod Answers
@@ -13,3 +14,7 @@ pub mod KeptTexts
 pub mod KeptGraphs
 pub mod KeptSelections
 pub mod KeptPairings
+pub mod KeptUpdates
+pub mod KeptDegrees
+pub mod KeptProducts
+pub mod KeptPanels

@@ -13,7 +13,7 @@ pub enum Fault {
     Semiring,
     /// The side of the grid is not 1 to 6.
     Grid,
-    /// No test, region or function has the number.
+    /// No test, region, function, update or power has the number.
     Test,
     /// The kind of a matrix, or the width of its starts, is above 1.
     Form,

@@ -28,6 +28,11 @@ pub trait Keep: Semiring {
     fn block_of(kept: &Kept) -> Option<&Block<Self>>
         ensures some { IfSome result (λ b. Keeps name b.now kept.now) }
         ensures none { IfNone result (semiring_of kept.now ≢ name) };
+
+    /// Takes the block out of a kept matrix, and leaves an empty block in its place; or none if it is over another semiring.
+    fn take(alloc: Global, kept: &mut Kept) -> Option<Block<Self>>
+        ensures some { IfSome result (λ b. Keeps name b kept.old) }
+        ensures none { IfNone result (semiring_of kept.old ≢ name) };
 }
 
 /// Takes a block, and leaves an empty one of its shape in its place.
@@ -53,6 +58,13 @@ impl Keep for PlusTimes {
             _ => None,
         }
     }
+
+    fn take(alloc: Global, kept: &mut Kept) -> Option<Block<PlusTimes>> {
+        match kept {
+            Kept::PlusTimes(block) => Some(taken(alloc, block)),
+            _ => None,
+        }
+    }
 }
 
 impl Keep for MinPlus {
@@ -67,6 +79,13 @@ impl Keep for MinPlus {
     fn block_of(kept: &Kept) -> Option<&Block<MinPlus>> {
         match kept {
             Kept::MinPlus(block) => Some(block),
+            _ => None,
+        }
+    }
+
+    fn take(alloc: Global, kept: &mut Kept) -> Option<Block<MinPlus>> {
+        match kept {
+            Kept::MinPlus(block) => Some(taken(alloc, block)),
             _ => None,
         }
     }
@@ -87,6 +106,13 @@ impl Keep for OrAnd {
             _ => None,
         }
     }
+
+    fn take(alloc: Global, kept: &mut Kept) -> Option<Block<OrAnd>> {
+        match kept {
+            Kept::OrAnd(block) => Some(taken(alloc, block)),
+            _ => None,
+        }
+    }
 }
 
 impl Keep for MaxMin {
@@ -101,6 +127,13 @@ impl Keep for MaxMin {
     fn block_of(kept: &Kept) -> Option<&Block<MaxMin>> {
         match kept {
             Kept::MaxMin(block) => Some(block),
+            _ => None,
+        }
+    }
+
+    fn take(alloc: Global, kept: &mut Kept) -> Option<Block<MaxMin>> {
+        match kept {
+            Kept::MaxMin(block) => Some(taken(alloc, block)),
             _ => None,
         }
     }
@@ -121,6 +154,13 @@ impl Keep for PlusPair {
             _ => None,
         }
     }
+
+    fn take(alloc: Global, kept: &mut Kept) -> Option<Block<PlusPair>> {
+        match kept {
+            Kept::PlusPair(block) => Some(taken(alloc, block)),
+            _ => None,
+        }
+    }
 }
 
 impl Keep for PlusMin {
@@ -135,6 +175,13 @@ impl Keep for PlusMin {
     fn block_of(kept: &Kept) -> Option<&Block<PlusMin>> {
         match kept {
             Kept::PlusMin(block) => Some(block),
+            _ => None,
+        }
+    }
+
+    fn take(alloc: Global, kept: &mut Kept) -> Option<Block<PlusMin>> {
+        match kept {
+            Kept::PlusMin(block) => Some(taken(alloc, block)),
             _ => None,
         }
     }
@@ -155,6 +202,13 @@ impl Keep for PlusFirst {
             _ => None,
         }
     }
+
+    fn take(alloc: Global, kept: &mut Kept) -> Option<Block<PlusFirst>> {
+        match kept {
+            Kept::PlusFirst(block) => Some(taken(alloc, block)),
+            _ => None,
+        }
+    }
 }
 
 impl Keep for PlusSecond {
@@ -169,6 +223,13 @@ impl Keep for PlusSecond {
     fn block_of(kept: &Kept) -> Option<&Block<PlusSecond>> {
         match kept {
             Kept::PlusSecond(block) => Some(block),
+            _ => None,
+        }
+    }
+
+    fn take(alloc: Global, kept: &mut Kept) -> Option<Block<PlusSecond>> {
+        match kept {
+            Kept::PlusSecond(block) => Some(taken(alloc, block)),
             _ => None,
         }
     }
@@ -189,6 +250,13 @@ impl Keep for MinFirst {
             _ => None,
         }
     }
+
+    fn take(alloc: Global, kept: &mut Kept) -> Option<Block<MinFirst>> {
+        match kept {
+            Kept::MinFirst(block) => Some(taken(alloc, block)),
+            _ => None,
+        }
+    }
 }
 
 impl Keep for MinSecond {
@@ -203,6 +271,13 @@ impl Keep for MinSecond {
     fn block_of(kept: &Kept) -> Option<&Block<MinSecond>> {
         match kept {
             Kept::MinSecond(block) => Some(block),
+            _ => None,
+        }
+    }
+
+    fn take(alloc: Global, kept: &mut Kept) -> Option<Block<MinSecond>> {
+        match kept {
+            Kept::MinSecond(block) => Some(taken(alloc, block)),
             _ => None,
         }
     }
@@ -223,6 +298,13 @@ impl Keep for MaxFirst {
             _ => None,
         }
     }
+
+    fn take(alloc: Global, kept: &mut Kept) -> Option<Block<MaxFirst>> {
+        match kept {
+            Kept::MaxFirst(block) => Some(taken(alloc, block)),
+            _ => None,
+        }
+    }
 }
 
 impl Keep for MaxSecond {
@@ -237,6 +319,13 @@ impl Keep for MaxSecond {
     fn block_of(kept: &Kept) -> Option<&Block<MaxSecond>> {
         match kept {
             Kept::MaxSecond(block) => Some(block),
+            _ => None,
+        }
+    }
+
+    fn take(alloc: Global, kept: &mut Kept) -> Option<Block<MaxSecond>> {
+        match kept {
+            Kept::MaxSecond(block) => Some(taken(alloc, block)),
             _ => None,
         }
     }
@@ -257,6 +346,13 @@ impl Keep for MaxPlus {
             _ => None,
         }
     }
+
+    fn take(alloc: Global, kept: &mut Kept) -> Option<Block<MaxPlus>> {
+        match kept {
+            Kept::MaxPlus(block) => Some(taken(alloc, block)),
+            _ => None,
+        }
+    }
 }
 
 impl Keep for MinMax {
@@ -271,6 +367,13 @@ impl Keep for MinMax {
     fn block_of(kept: &Kept) -> Option<&Block<MinMax>> {
         match kept {
             Kept::MinMax(block) => Some(block),
+            _ => None,
+        }
+    }
+
+    fn take(alloc: Global, kept: &mut Kept) -> Option<Block<MinMax>> {
+        match kept {
+            Kept::MinMax(block) => Some(taken(alloc, block)),
             _ => None,
         }
     }

@@ -1,5 +1,5 @@
 //! Operations on two kept matrices over one semiring, whose result is kept: the Kronecker product, one matrix in place of a
-//! part of the other, and the entries of one at the places where the other has none.
+//! part of the other, the entries of one at the places where the other has none, and products of transposes.
 ghost use Rattle.std.specs.Prelude.{◌≡◌, IfOk, IfErr};
 ghost use Rattle.cb_semirings.specs.Names.{arithmetic_of};
 ghost use Rattle.cb_interop.specs.Answers.{IsAnswer, NoFault};
@@ -13,7 +13,7 @@ use crate::kept_operations::block_in;
 use crate::pairings::Pairing;
 use cb_dcsc::Block;
 use cb_elementwise::exclude;
-use cb_selections::{assign, kronecker};
+use cb_selections::{assign, kronecker, multiply_turned};
 use cb_semirings::{Semiring, SemiringName, over_semiring};
 use std::alloc::{AllocError, Global};
 
@@ -47,6 +47,9 @@ fn paired<S: Semiring>(
         Pairing::Kronecker => kronecker(alloc, left, right),
         Pairing::Assign(corner) => assign(alloc, left, corner, right),
         Pairing::Exclude => exclude(alloc, left, right),
+        Pairing::Multiply(turn_left, turn_right) => {
+            multiply_turned(alloc, left, turn_left, right, turn_right)
+        }
     }
 }
 

@@ -1,4 +1,4 @@
-//! Operations on one kept matrix, place by place; rows and columns by their numbers; and the sum of all values.
+//! Operations on one kept matrix: place by place, and powers; rows and columns by their numbers; and the sum of all values.
 ghost use Rattle.std.specs.Prelude.{◌≡◌, ◌↔◌, ◌<◌, ◌≤◌, length, All, IsTrue, IfOk, IfErr};
 ghost use Rattle.cb_semirings.specs.Names.{arithmetic_of};
 ghost use Rattle.cb_reductions.specs.Sums.{matrix_total};
@@ -17,7 +17,7 @@ use cb_dcsc::Block;
 use cb_matrix::{LIMIT, Shape};
 use cb_reductions::total;
 use cb_reshape::cut;
-use cb_selections::{Function, Region, apply, diagonal, diagonal_matrix, extract, select};
+use cb_selections::{Function, Region, apply, diagonal, diagonal_matrix, extract, power, select};
 use cb_semirings::{Semiring, SemiringName, over_semiring};
 use std::alloc::{AllocError, Global};
 
@@ -95,6 +95,21 @@ fn part<S: Semiring>(
     Ok(cut(alloc, block, rows, cols)?)
 }
 
+/// The power of a block, if it is square and there are factors.
+#[tactic(auto, unfolding(crate::specs::KeptSelections::made_by, crate::specs::KeptSelections::selection_faults))]
+fn power_of<S: Semiring>(alloc: Global, block: &Block<S>, factors: u32) -> Result<Block<S>, Fault>
+    ensures { IsMade (selection_is.Power factors) S.arithmetic block.now result }
+{
+    if factors == 0 {
+        return Err(Fault::Test);
+    }
+    let shape = block.shape();
+    if shape.rows() != shape.cols() {
+        return Err(Fault::NotSquare);
+    }
+    Ok(power(alloc, block, factors)?)
+}
+
 /// The result of a selection from a block.
 fn made<S: Semiring>(
     alloc: Global,
@@ -109,6 +124,7 @@ fn made<S: Semiring>(
         Selection::Diagonal => diagonal_column(alloc, block),
         Selection::DiagonalMatrix => on_diagonal(alloc, block),
         Selection::Part(rows, cols) => part(alloc, block, rows, cols),
+        Selection::Power(factors) => power_of(alloc, block, factors),
     }
 }
 

@@ -12,19 +12,24 @@
 //! on the caller's thread.
 #![tactic(auto)]
 
+mod axes;
 mod checks;
 mod faults;
 mod incoming;
 mod keeping;
 mod kept;
 mod kept_checks;
+mod kept_given;
 mod kept_graphs;
 mod kept_lists;
 mod kept_operations;
 mod kept_pairings;
+mod kept_panels;
+mod kept_products;
 mod kept_selections;
 mod kept_sources;
 mod kept_texts;
+mod kept_updates;
 mod kept_values;
 mod kept_walks;
 mod lists;
@@ -36,15 +41,20 @@ mod texts;
 mod triples;
 mod walks;
 
+pub use axes::{Axis, kept_degrees};
 pub use faults::Fault;
 pub use kept::Kept;
+pub use kept_given::{kept_distances_given, kept_levels_given};
 pub use kept_graphs::{kept_components, kept_parents, kept_triangles};
 pub use kept_lists::{keep_lists, lists_of};
 pub use kept_operations::operate;
 pub use kept_pairings::kept_pair;
+pub use kept_panels::{kept_ends, kept_join, kept_panel};
+pub use kept_products::kept_outside;
 pub use kept_selections::{kept_extract, kept_selection, kept_total};
 pub use kept_sources::{kept_distances_from, kept_levels_from};
 pub use kept_texts::{read_kept, text_of, text_of_lists};
+pub use kept_updates::{kept_update, write_back_of};
 pub use kept_values::{Summary, summary_of, value_at};
 pub use kept_walks::{kept_distances, kept_levels};
 pub use lists::Columns;

@@ -1,5 +1,6 @@
 //! Operations on two kept matrices over one semiring, as values.
 ghost use Rattle.std.specs.Prelude.{◌≡◌, ◌↔◌, ◌*◌, IsTrue};
+ghost use Rattle.cb_selections.specs.Products.{turned_shape};
 ghost use Rattle.cb_interop.specs.KeptPairings.{FitsLimit, HasPart, Suits, misfit_of};
 
 use crate::faults::Fault;
@@ -14,6 +15,8 @@ pub enum Pairing {
     Assign((u32, u32)),
     /// The entries of the first matrix at the places where the second has none: a complemented mask.
     Exclude,
+    /// The product, of which the first matrix, and the second, may be transposed before.
+    Multiply(bool, bool),
 }
 
 /// Whether the Kronecker product of two shapes is within the limit.
@@ -34,6 +37,19 @@ fn has_part(whole: Shape, corner: (u32, u32), part: Shape) -> bool
     down <= u64::from(whole.rows()) && right <= u64::from(whole.cols())
 }
 
+/// Whether the product of two shapes, each turned if it is asked for, has a shape.
+fn agree(left: Shape, turn_left: bool, right: Shape, turn_right: bool) -> bool
+    ensures { IsTrue result ↔ ((turned_shape turn_left left).cols ≡ (turned_shape turn_right right).rows) }
+{
+    let inner = if turn_left { left.rows() } else { left.cols() };
+    let rows = if turn_right {
+        right.cols()
+    } else {
+        right.rows()
+    };
+    inner == rows
+}
+
 impl Pairing {
     /// Whether the shapes of two matrices suit the operation.
     pub(crate) fn suits(self, left: Shape, right: Shape) -> bool
@@ -43,6 +59,7 @@ impl Pairing {
             Pairing::Kronecker => fit_limit(left, right),
             Pairing::Assign(corner) => has_part(left, corner, right),
             Pairing::Exclude => right == left,
+            Pairing::Multiply(turn_left, turn_right) => agree(left, turn_left, right, turn_right),
         }
     }
 
@@ -54,6 +71,7 @@ impl Pairing {
             Pairing::Kronecker => Fault::TooLarge,
             Pairing::Assign(_corner) => Fault::Place,
             Pairing::Exclude => Fault::Shapes,
+            Pairing::Multiply(_turn_left, _turn_right) => Fault::Shapes,
         }
     }
 }

@@ -1,10 +1,10 @@
-//! Operations on one kept matrix, place by place, as values.
+//! Operations on one kept matrix, as values.
 ghost use Rattle.std.specs.Prelude.{◌≡◌};
 ghost use Rattle.cb_interop.specs.KeptSelections.{region_of, function_of};
 
 use cb_selections::{Diagonal, Function, Region};
 
-/// An operation on one kept matrix, place by place.
+/// An operation on one kept matrix.
 #[derive(Clone, Copy)]
 pub enum Selection {
     /// The entries in a region.
@@ -17,6 +17,8 @@ pub enum Selection {
     DiagonalMatrix,
     /// The part in a range of rows and a range of columns, each from the first number up to, but not including, the second.
     Part((u32, u32), (u32, u32)),
+    /// The power with this many factors.
+    Power(u32),
 }
 
 /// Returns the selection of the region of a number, by a place on its diagonal: 0 for the lower and 1 for the upper triangle,

@@ -5,14 +5,22 @@
 #[cfg(test)]
 mod examples;
 #[cfg(test)]
+mod first_numbers;
+#[cfg(test)]
 mod graphs;
 #[cfg(test)]
 mod operations;
 #[cfg(test)]
 mod pairings;
 #[cfg(test)]
+mod panels;
+#[cfg(test)]
+mod products;
+#[cfg(test)]
 mod refusals;
 #[cfg(test)]
 mod selections;
 #[cfg(test)]
 mod texts;
+#[cfg(test)]
+mod updates;

@@ -1,5 +1,5 @@
-//! Operations on two kept matrices: Kronecker products, a matrix in place of a part of another, and the entries where a mask
-//! has none; and their faults.
+//! Operations on two kept matrices: Kronecker products, a matrix in place of a part of another, the entries where a mask has
+//! none, and products of transposes; and their faults.
 use crate::examples::{FAR, GRAPH, NAMED, NONE, TURNED, code, keeps};
 use cb_interop::{Columns, Fault, Kept, Pairing, keep_lists, kept_pair};
 use std::alloc::Global;
@@ -23,7 +23,7 @@ const BLANK: Columns = Columns {
 };
 
 /// Two matrices over plus-times, an operation, and the expected result.
-static PAIRINGS: [(Columns, Pairing, Columns, Columns); 9] = [
+static PAIRINGS: [(Columns, Pairing, Columns, Columns); 13] = [
     (
         NAMED,
         Pairing::Kronecker,
@@ -99,6 +99,57 @@ static PAIRINGS: [(Columns, Pairing, Columns, Columns); 9] = [
             ..FAR
         },
     ),
+    (
+        NAMED,
+        Pairing::Multiply(false, true),
+        NAMED,
+        Columns {
+            nrows: 2,
+            ncols: 2,
+            columns: &[0, 1],
+            starts64: &[0, 2, 4],
+            rows: &[0, 1, 0, 1],
+            values: &[1, 2, 2, 13],
+            ..NONE
+        },
+    ),
+    (
+        NAMED,
+        Pairing::Multiply(true, false),
+        NAMED,
+        Columns {
+            nrows: 3,
+            ncols: 3,
+            columns: &[0, 2],
+            starts64: &[0, 2, 4],
+            rows: &[0, 2, 0, 2],
+            values: &[5, 6, 6, 9],
+            ..NONE
+        },
+    ),
+    (
+        NAMED,
+        Pairing::Multiply(true, true),
+        TURNED,
+        Columns {
+            nrows: 3,
+            ncols: 3,
+            columns: &[0, 2],
+            starts64: &[0, 2, 4],
+            rows: &[0, 2, 0, 2],
+            values: &[5, 6, 6, 9],
+            ..NONE
+        },
+    ),
+    (
+        FAR,
+        Pairing::Multiply(true, true),
+        FAR,
+        Columns {
+            values: &[49],
+            ..FAR
+        },
+    ),
 ];
 
 /// The result of an operation on two matrices that calls keep.
@@ -145,7 +196,7 @@ fn each_pairing_of_two_matrices(rt: HostRuntime) {
 
 /// A matrix over plus-times, an operation, another matrix over the semiring of a number, and the expected code: different
 /// semirings come first, and then shapes that don't suit.
-static REFUSED: [(Columns, Pairing, u32, Columns, u32); 8] = [
+static REFUSED: [(Columns, Pairing, u32, Columns, u32); 11] = [
     (FAR, Pairing::Kronecker, 1, FAR, 16),
     (FAR, Pairing::Kronecker, 0, PAIR, 5),
     (NAMED, Pairing::Assign((2, 3)), 1, PAIR, 16),
@@ -154,6 +205,9 @@ static REFUSED: [(Columns, Pairing, u32, Columns, u32); 8] = [
     (FAR, Pairing::Assign((4_294_967_295, 0)), 0, NONE, 8),
     (NAMED, Pairing::Exclude, 1, TURNED, 16),
     (NAMED, Pairing::Exclude, 0, TURNED, 10),
+    (NAMED, Pairing::Multiply(false, false), 1, NAMED, 16),
+    (NAMED, Pairing::Multiply(true, true), 0, NAMED, 10),
+    (NAMED, Pairing::Multiply(false, true), 0, TURNED, 10),
 ];
 
 /// Whether a row's operation returns the row's code.

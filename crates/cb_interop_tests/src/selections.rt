@@ -1,5 +1,5 @@
-//! Operations on one kept matrix: entries in a region, values replaced, diagonals, parts, rows and columns by their numbers,
-//! and the sum of all values; and their faults.
+//! Operations on one kept matrix: entries in a region, values replaced, diagonals, parts, powers, rows and columns by their
+//! numbers, and the sum of all values; and their faults.
 use crate::examples::{FAR, GRAPH, NAMED, NONE, VECTOR, code, keeps};
 use cb_interop::{
     Columns, Fault, Kept, Selection, function_of, keep_lists, kept_extract, kept_selection,
@@ -158,7 +158,7 @@ static FUNCTIONS: [(u32, u32, u64, Columns); 9] = [
 ];
 
 /// A matrix over plus-times, a selection, and the expected result.
-static SELECTIONS: [(Columns, Selection, Columns); 6] = [
+static SELECTIONS: [(Columns, Selection, Columns); 9] = [
     (
         NAMED,
         Selection::Diagonal,
@@ -216,6 +216,26 @@ static SELECTIONS: [(Columns, Selection, Columns); 6] = [
         },
     ),
     (NONE, Selection::Part((0, 0), (0, 0)), NONE),
+    (GRAPH, Selection::Power(1), GRAPH),
+    (
+        GRAPH,
+        Selection::Power(2),
+        Columns {
+            columns: &[1],
+            starts64: &[0, 1],
+            rows: &[0],
+            values: &[8],
+            ..GRAPH
+        },
+    ),
+    (
+        FAR,
+        Selection::Power(3),
+        Columns {
+            values: &[343],
+            ..FAR
+        },
+    ),
 ];
 
 /// The result of a selection from lists that are kept over the semiring of a number.
@@ -267,18 +287,20 @@ fn is_selection(alloc: Global, row: &(Columns, Selection, Columns)) -> bool {
 }
 
 #[test]
-fn diagonals_and_parts(rt: HostRuntime) {
+fn diagonals_parts_and_powers(rt: HostRuntime) {
     for row in &SELECTIONS {
         assert!(rt; is_selection(rt.alloc(), row));
     }
 }
 
 /// The number of a semiring, a matrix, a selection, and the expected code: a diagonal of more than one column, parts outside
-/// the rows or columns, an unknown selection.
-static REFUSED: [(u32, Columns, Option<Selection>, u32); 4] = [
+/// the rows or columns, powers without factors and of a matrix that isn't square, an unknown selection.
+static REFUSED: [(u32, Columns, Option<Selection>, u32); 6] = [
     (0, NAMED, Some(Selection::DiagonalMatrix), 10),
     (0, NAMED, Some(Selection::Part((0, 3), (0, 3))), 8),
     (0, NAMED, Some(Selection::Part((0, 2), (2, 1))), 8),
+    (0, NAMED, Some(Selection::Power(0)), 3),
+    (0, NAMED, Some(Selection::Power(1)), 11),
     (0, NAMED, None, 3),
 ];
 

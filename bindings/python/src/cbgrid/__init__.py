@@ -55,7 +55,8 @@ on the caller's thread.
 TypeError.
 
 **Threads.** Calls release the interpreter's lock. Any number of them may run at once, also on the same
-matrices, as long as no thread writes to those matrices.
+matrices, as long as no thread writes to those matrices. A call runs on the caller's thread alone, except for a
+product of a `Matrix` that is given more `threads`.
 """
 
 from __future__ import annotations
@@ -95,6 +96,7 @@ __all__ = [
     "Matrix",
     "add",
     "bfs",
+    "bfs_given",
     "components",
     "multiply",
     "parents",
@@ -102,6 +104,7 @@ __all__ = [
     "read",
     "reduce",
     "relax",
+    "relax_given",
     "spmv",
     "text",
     "times",
@@ -213,7 +216,13 @@ def _check_pair(a: Any, b: Any) -> None:
 
 
 def multiply(
-    a: Sparse, b: Any, semiring: str | None = None, mask: Any = None, grid: int = 1, complement: bool = False
+    a: Sparse,
+    b: Any,
+    semiring: str | None = None,
+    mask: Any = None,
+    grid: int = 1,
+    complement: bool = False,
+    threads: int = 1,
 ) -> Sparse:
     """Product of two matrices.
 
@@ -231,6 +240,9 @@ def multiply(
     complement : bool
         Whether to keep only the entries at places where the mask has none. Only if `a` is a `Matrix`. The whole
         product is computed first.
+    threads : int
+        How many threads may compute the whole product, 1 or more. More than 1 only if `a` is a `Matrix`. The result
+        is the same.
 
     Returns
     -------
@@ -255,9 +267,11 @@ def multiply(
            [0, 9]])
     """
     if isinstance(a, Matrix):
-        return _of_kept(a, semiring, grid).multiply(b, mask, complement)
+        return _of_kept(a, semiring, grid).multiply(b, mask, complement, threads)
     if complement:
         raise TypeError("complement: a Matrix is wanted for a")
+    if operator.index(threads) != 1:
+        raise TypeError("threads: a Matrix is wanted for a")
     _check_pair(a, b)
     turned = a.format == "csr"
     operands: tuple = (b, a) if turned else (a, b)
@@ -557,6 +571,68 @@ def relax(graph: Any, source: Any, grid: int = 1) -> Any:
     distances = answer.values(graph.dtype)
     _lists.check_signed(distances)
     return answer.rows(), distances
+
+
+def bfs_given(graph: Any, vertices: Any, numbers: Any) -> tuple[np.ndarray, np.ndarray]:
+    """Levels of the vertices of a graph, from first numbers that some of them have.
+
+    Parameters
+    ----------
+    graph : csc, csr or coo matrix or array of scipy.sparse, of int64 or uint64, or a `Matrix` over or-and
+        Square. Its edges are those of `bfs`.
+    vertices, numbers : lists or numpy arrays of one length
+        Some vertices, in any order, and the first number of each, 0 to 2**64 - 1. For a vertex that is named more than
+        once its least number counts. 2**64 - 1 is as good as none.
+
+    Returns
+    -------
+    vertices : numpy array of int32
+        The vertices that walks from these reach, in ascending order.
+    levels : numpy array of uint64
+        For each of them the least sum of a vertex's first number and the number of edges of a walk from there. A vertex
+        whose least sum is 2**64 - 1 or more counts as not reached.
+
+    Examples
+    --------
+    >>> import numpy as np, scipy.sparse, cbgrid
+    >>> roads = scipy.sparse.csr_array(np.array([[0, 7, 2], [0, 0, 0], [0, 4, 0]]))
+    >>> cbgrid.bfs_given(roads, [0, 1], [0, 5])
+    (array([0, 1, 2], dtype=int32), array([0, 1, 1], dtype=uint64))
+    """
+    reached, levels = _graph(graph).walk_given(True, vertices, numbers)
+    return reached.astype(np.int32), levels
+
+
+def relax_given(graph: Any, vertices: Any, numbers: Any) -> tuple[np.ndarray, np.ndarray]:
+    """Distances of the vertices of a graph, from first numbers that some of them have.
+
+    Parameters
+    ----------
+    graph : csc, csr or coo matrix or array of scipy.sparse, of int64 or uint64, or a `Matrix` over min-plus
+        Square. Its edges and their lengths are those of `relax`.
+    vertices, numbers
+        As in `bfs_given`.
+
+    Returns
+    -------
+    vertices : numpy array of int32
+        The vertices that walks from these reach, in ascending order.
+    distances : numpy array of uint64
+        For each of them the least sum of a vertex's first number and the length of a walk from there. A vertex whose
+        least sum is 2**64 - 1 or more counts as not reached.
+
+    Examples
+    --------
+    >>> import numpy as np, scipy.sparse, cbgrid
+    >>> roads = scipy.sparse.csr_array(np.array([[0, 7, 2], [0, 0, 0], [0, 4, 0]]))
+    >>> cbgrid.relax_given(roads, [0, 1], [0, 5])
+    (array([0, 1, 2], dtype=int32), array([0, 5, 2], dtype=uint64))
+    """
+    if not isinstance(graph, Matrix):
+        _lists.check_matrix(graph, "graph")
+        graph = Matrix(graph, "min-plus")
+    reached, distances = graph.walk_given(False, vertices, numbers)
+    return reached.astype(np.int32), distances
 
 
 def _walk(call: Any, graph: Any, source: int, grid: int, nonzero: bool) -> _lists.Answer:

@@ -439,6 +439,67 @@ class Matrix:
         operand = self._wanted(mask, "mask")
         return self._made(library.cbgrid_matrix_exclude, operand._at)
 
+    def update(
+        self, new: Any, mask: Any = None, complement: bool = False, accumulate: bool = False, replace: bool = False
+    ) -> Matrix:
+        """This matrix with another one written to it at the places that a mask allows, as GraphBLAS writes each result.
+
+        At an allowed place the result has the value of the new matrix, or none. At any other place it has the value of
+        this one.
+
+        Parameters
+        ----------
+        new : Matrix or scipy.sparse matrix, or numpy array of two dimensions
+        mask : the same, optional
+            Allows the places where it has an entry, whatever its value. Without a mask all places are allowed.
+        complement : bool
+            Whether the mask allows the places where it has no entry; without a mask, none.
+        accumulate : bool
+            Whether a new value is added to that of this matrix by the semiring's sum. Entries of this matrix at allowed
+            places then stay where the new one has none.
+        replace : bool
+            Whether the entries of this matrix at places that aren't allowed are dropped.
+
+        Raises
+        ------
+        CbgridValueError
+            Of two shapes, code 10; of matrices over two semirings, code 16.
+        """
+        written = self._wanted(new, "new")
+        kept = None if mask is None else self._wanted(mask, "mask")
+        flags = bool(accumulate) + 2 * bool(complement) + 4 * bool(replace)
+        return self._made(library.cbgrid_matrix_update, written._at, None if kept is None else kept._at, flags)
+
+    def power(self, factors: int) -> Matrix:
+        """The power with this many factors, 1 or more, multiplied from the left. `a ** n` is the same.
+
+        Raises
+        ------
+        CbgridValueError
+            No factors or more than 2**32 - 1, code 3; a matrix that isn't square, code 11.
+        """
+        factors = operator.index(factors)
+        if not 0 < factors < 2**32:
+            raise error(TEST, f"factors: 1 to 2^32 - 1 are wanted, not {factors}")
+        return self._made(library.cbgrid_matrix_power, factors)
+
+    def __pow__(self, factors: Any) -> Any:
+        return self.power(factors) if hasattr(factors, "__index__") else NotImplemented
+
+    def degrees(self, axis: int = 1) -> Matrix:
+        """The number of entries of each row or column, in one column over ``plus-times``, as `getnnz` of scipy counts.
+
+        Parameters
+        ----------
+        axis : {1, 0}
+            1 counts those of each row, the edges that leave a vertex; 0 those of each column, which lead to it. Any other
+            axis raises ValueError.
+        """
+        if axis not in (0, 1):
+            raise ValueError(f"axis: 0 or 1 is wanted, not {axis!r}")
+        call = library.cbgrid_matrix_row_degrees if axis else library.cbgrid_matrix_column_degrees
+        return self._made(call, number=SEMIRINGS["plus-times"])
+
     def _made(self, call: Any, *arguments: Any, number: int | None = None) -> Matrix:
         out = _void()
         code = call(self._at, *arguments, _byref(out))
@@ -485,19 +546,42 @@ class Matrix:
     __rmul__ = __mul__
     __array_ufunc__ = None  # so that numpy leaves operators to the methods above
 
-    def multiply(self, other: Any, mask: Any = None, complement: bool = False) -> Matrix:
+    def multiply(
+        self,
+        other: Any,
+        mask: Any = None,
+        complement: bool = False,
+        transpose_left: bool = False,
+        transpose_right: bool = False,
+        threads: int = 1,
+    ) -> Matrix:
         """The product, at the places where the mask has an entry if there is one.
 
-        With `complement`, the product at the places where the mask has no entry: the whole product is computed, and the
-        other entries are then dropped.
+        With `complement`, the product at the places where the mask has no entry; no others are stored on the way. With
+        `transpose_left` or `transpose_right` this matrix or the other one is transposed before.
+
+        Without a mask and transposes, the product is computed by up to `threads` threads, 1 or more, and at most 256; the
+        result is the same. Other products are computed by one.
         """
+        threads = operator.index(threads)
+        if threads < 1:
+            raise ValueError(f"threads: 1 or more is wanted, not {threads}")
         operand = self._wanted(other, "b")
         if mask is None:
-            return self._made(library.cbgrid_matrix_multiply, operand._at)
+            if transpose_left or transpose_right:
+                return self._made(
+                    library.cbgrid_matrix_multiply_turned, bool(transpose_left), operand._at, bool(transpose_right)
+                )
+            return self._product(operand, threads)
+        left, right = self.T if transpose_left else self, operand.T if transpose_right else operand
         kept = self._wanted(mask, "mask")
         if complement:
-            return self._made(library.cbgrid_matrix_multiply, operand._at).exclude(kept)
-        return self._made(library.cbgrid_matrix_multiply_masked, operand._at, kept._at)
+            return left._made(library.cbgrid_matrix_multiply_outside, right._at, kept._at)
+        return left._made(library.cbgrid_matrix_multiply_masked, right._at, kept._at)
+
+    def _product(self, operand: Matrix, threads: int) -> Matrix:
+        """The product by up to so many threads."""
+        return self._made(library.cbgrid_matrix_multiply_threads, operand._at, min(threads, 2**32 - 1))
 
     def _wanted(self, other: Any, name: str) -> Matrix:
         operand = self._operand(other)
@@ -518,6 +602,14 @@ class Matrix:
         """The levels or distances from several sources, over min-plus: a row for each source."""
         call = library.cbgrid_matrix_levels_from if is_levels else library.cbgrid_matrix_distances_from
         return self._made(call, sources.ctypes.data, len(sources), number=1).T
+
+    def walk_given(self, is_levels: bool, vertices: Any, numbers: Any) -> tuple[np.ndarray, np.ndarray]:
+        """The vertices that are reached from first numbers, and their levels or distances from these."""
+        call = library.cbgrid_matrix_levels_given if is_levels else library.cbgrid_matrix_distances_given
+        column = np.zeros(len(vertices), np.uint32)
+        given = Matrix.from_triples(vertices, column, numbers, (self.shape[0], 1), "min-plus")
+        rows, _columns, values = self._made(call, given._at, number=1).to_triples()
+        return rows, values
 
     def parents(self, source: int) -> tuple[np.ndarray, np.ndarray]:
         """The vertices that a source reaches, without itself, and the parent of each."""

@@ -1,4 +1,4 @@
-use Rattle.cb_interop.proofs.KeptPairingFaults.{makes_kronecker, makes_assigned, makes_excluded, suits_kronecker, suits_assigned, suits_excluded}
+use Rattle.cb_interop.proofs.KeptPairingFaults.{makes_kronecker, makes_assigned, makes_excluded, makes_product, suits_kronecker, suits_assigned, suits_excluded, suits_product}
 use Rattle.cb_interop.proofs.kept_pairings.paired.Goals as goal
 
 pub kronecker-requires-clause-rows : goal.kronecker-requires-clause-rows
@@ -18,6 +18,10 @@ assign-requires-clause-cols g c =
 pub exclude-requires : goal.exclude-requires
 exclude-requires g c = suits_excluded c.args.pairing c.args.left.now.shape c.args.right.now.shape c.in-Exclude.is c.requires
 
+pub multiply_turned-requires : goal.multiply_turned-requires
+multiply_turned-requires g c =
+    suits_product c.args.pairing c.args.left.now.shape c.args.right.now.shape c.in-Multiply.turn_left c.in-Multiply.turn_right c.in-Multiply.is c.requires
+
 pub returns-in-Kronecker : goal.returns-in-Kronecker
 returns-in-Kronecker g c = makes_kronecker g.S.Semiring.arithmetic c.args.left.now c.args.right.now c.args.pairing _ c.kronecker.result c.in-Kronecker.is c.kronecker.ensures
 
@@ -27,3 +31,7 @@ returns-in-Assign g c =
 
 pub returns-in-Exclude : goal.returns-in-Exclude
 returns-in-Exclude g c = makes_excluded g.S.Semiring.arithmetic c.args.left.now c.args.right.now c.args.pairing _ c.exclude.result c.in-Exclude.is c.exclude.ensures
+
+pub returns-in-Multiply : goal.returns-in-Multiply
+returns-in-Multiply g c =
+    makes_product g.S.Semiring.arithmetic c.args.left.now c.args.right.now c.args.pairing _ c.multiply_turned.result c.in-Multiply.turn_left c.in-Multiply.turn_right c.in-Multiply.is c.multiply_turned.ensures

@@ -15,3 +15,6 @@ returns-in-DiagonalMatrix g c = made_as g.S.Semiring.arithmetic c.args.block.now
 
 pub returns-in-Part : goal.returns-in-Part
 returns-in-Part g c = made_as g.S.Semiring.arithmetic c.args.block.now c.args.selection _ c.part.result c.in-Part.is c.part.ensures
+
+pub returns-in-Power : goal.returns-in-Power
+returns-in-Power g c = made_as g.S.Semiring.arithmetic c.args.block.now c.args.selection _ c.power_of.result c.in-Power.is c.power_of.ensures

@@ -1,5 +1,5 @@
 use Rattle.std.proofs.Common.{rules, ◌≡◌, ◌↔◌, IsTrue}
-use Rattle.cb_interop.proofs.KeptPairingFaults.{decides_kronecker, decides_assigned, decides_excluded}
+use Rattle.cb_interop.proofs.KeptPairingFaults.{decides_kronecker, decides_assigned, decides_excluded, decides_product}
 use Rattle.cb_interop.proofs.pairings.Pairing.suits.Goals as goal
 
 pub returns-in-Kronecker : goal.returns-in-Kronecker
@@ -12,3 +12,6 @@ pub returns-in-Exclude : goal.returns-in-Exclude
 returns-in-Exclude c =
     let same : IsTrue c.eq.result ↔ (c.args.right ≡ c.args.left) = search rules in
     decides_excluded c.args.self c.args.left c.args.right c.eq.result c.in-Exclude.is same
+
+pub returns-in-Multiply : goal.returns-in-Multiply
+returns-in-Multiply c = decides_product c.args.self c.args.left c.args.right c.agree.result c.in-Multiply.turn_left c.in-Multiply.turn_right c.in-Multiply.is c.agree.ensures
