@@ -1,8 +1,6 @@
-//! Tests of mailboxes, lanes between threads, traces and crews, through their public calls alone.
+//! Tests of mailboxes, lanes between threads and traces, through their public calls alone.
 #![tactic(auto)]
 
-#[cfg(test)]
-mod crew;
 #[cfg(test)]
 mod lanes;
 #[cfg(test)]

@@ -1,5 +1,7 @@
 //! The operations of a plan, done on the slots of one rank by the block kernels.
-ghost use Rattle.std.specs.Prelude.{◌≡◌, ◌≢◌, ◌<◌, ℕ, true, false, length, get_or, slice_set, IfOk, OnOk, OnErr, IsOk, IsSome, ◌∷◌, []};
+ghost use Rattle.std.specs.Prelude.{◌≡◌, ◌≢◌, ◌<◌, ℕ, true, false, length, get_or, slice_set, IfOk, OnOk, OnErr, IsOk, IsSome, Some, ◌∷◌, []};
+ghost use Rattle.cb_matrix.specs.Values.{product, product_shape};
+ghost use Rattle.cb_matrix.specs.Operations.{sum_of};
 ghost use Rattle.cb_plan.specs.Meaning.{result_of, target_of, needs_memory};
 ghost use Rattle.cb_plan.specs.Algebras.{matrices};
 ghost use Rattle.cb_plan.specs.Checks.{operands_of, all_below, all_filled, shapes_agree};
@@ -30,47 +32,56 @@ pub fn work<S: Semiring>(alloc: Global, store: &mut RankStore<S>, op: &Op) -> Re
     {
         return accumulate(alloc, store, *a, *b, *acc);
     }
+    if let Op::Clear { slot } = op {
+        store.clear(*slot);
+        return Ok(());
+    }
     let made = made_by(alloc, store, *op)?;
-    store.set(op.target(), made);
+    store.put(op.target(), made);
     Ok(())
 }
 
-/// What an operation makes.
-fn made_by<S: Semiring>(
-    alloc: Global,
-    store: &RankStore<S>,
-    op: Op,
-) -> Result<Slot<Block<S>>, AllocError>
+/// The block that an operation makes. It may be any operation but `Clear`, which makes none.
+fn made_by<S: Semiring>(alloc: Global, store: &RankStore<S>, op: Op) -> Result<Block<S>, AllocError>
+    requires makes { (slot : ℕ) → op ≢ Op.Clear slot }
     requires slots { all_below SLOTS (operands_of op) ≡ true }
     requires filled { all_filled (shapes_in store.now) (operands_of op) ≡ true }
     requires agree { shapes_agree (shapes_in store.now) op ≡ true }
-    ensures made { IfOk result (λ slot. slot ≡ slot_of (result_of (matrices S.arithmetic) op (sheets_in store.now))) }
+    ensures made { IfOk result (λ block. Some block ≡ result_of (matrices S.arithmetic) op (sheets_in store.now)) }
     ensures granted { needs_memory op ≡ false → IsOk result }
 {
     match op {
-        Op::Zero { shape, .. } => Ok(Slot::Sheet(Block::empty(alloc, shape))),
+        Op::Zero { shape, .. } => Ok(Block::empty(alloc, shape)),
         Op::MulAdd { a, b, acc } => {
-            let product = multiply(alloc, store.sheet(a), store.sheet(b))?;
-            Ok(Slot::Sheet(add(alloc, store.sheet(acc), &product)?))
+            product_added(alloc, store.sheet(a), store.sheet(b), store.sheet(acc))
         }
-        Op::Add { a, b, .. } => Ok(Slot::Sheet(add(alloc, store.sheet(a), store.sheet(b))?)),
-        Op::Times { a, b, .. } => Ok(Slot::Sheet(times(alloc, store.sheet(a), store.sheet(b))?)),
-        Op::Transpose { a, .. } => Ok(Slot::Sheet(transpose(alloc, store.sheet(a))?)),
-        Op::ColumnSums { a, .. } => Ok(Slot::Sheet(column_sums(alloc, store.sheet(a))?)),
-        Op::Cut { a, rows, cols, .. } => {
-            Ok(Slot::Sheet(cut(alloc, store.sheet(a), rows, cols)?))
-        }
-        Op::Place { a, shape, at, .. } => {
-            Ok(Slot::Sheet(place(alloc, store.sheet(a), shape, at)?))
-        }
-        Op::MulVec { a, x, .. } => {
-            Ok(Slot::Sheet(multiply(alloc, store.sheet(a), store.sheet(x))?))
-        }
-        Op::Prune { a, test, .. } => Ok(Slot::Sheet(prune(alloc, store.sheet(a), test)?)),
-        Op::Copy { a, .. } => Ok(Slot::Sheet(store.sheet(a).try_clone()?)),
-        Op::Clear { .. } => Ok(Slot::Empty),
-        Op::Mask { a, m, .. } => Ok(Slot::Sheet(mask(alloc, store.sheet(a), store.sheet(m))?)),
+        Op::Add { a, b, .. } => add(alloc, store.sheet(a), store.sheet(b)),
+        Op::Times { a, b, .. } => times(alloc, store.sheet(a), store.sheet(b)),
+        Op::Transpose { a, .. } => transpose(alloc, store.sheet(a)),
+        Op::ColumnSums { a, .. } => column_sums(alloc, store.sheet(a)),
+        Op::Cut { a, rows, cols, .. } => cut(alloc, store.sheet(a), rows, cols),
+        Op::Place { a, shape, at, .. } => place(alloc, store.sheet(a), shape, at),
+        Op::MulVec { a, x, .. } => multiply(alloc, store.sheet(a), store.sheet(x)),
+        Op::Prune { a, test, .. } => prune(alloc, store.sheet(a), test),
+        Op::Copy { a, .. } => store.sheet(a).try_clone(),
+        Op::Clear { .. } => unreachable!(),
+        Op::Mask { a, m, .. } => mask(alloc, store.sheet(a), store.sheet(m)),
     }
+}
+
+/// The product of two blocks, added to a third.
+fn product_added<S: Semiring>(
+    alloc: Global,
+    left: &Block<S>,
+    right: &Block<S>,
+    sum: &Block<S>,
+) -> Result<Block<S>, AllocError>
+    requires agree { left.now.shape.cols ≡ right.now.shape.rows }
+    requires shape { sum.now.shape ≡ product_shape left.now right.now }
+    ensures { IfOk result (λ m. m ≡ sum_of S.arithmetic sum.now (product S.arithmetic left.now right.now)) }
+{
+    let product = multiply(alloc, left, right)?;
+    add(alloc, sum, &product)
 }
 
 /// Adds the product of two blocks to a third, which is neither of them and is replaced by the sum.

@@ -9,7 +9,7 @@ use cb_letters::{Body, PostRefusal, Tag, Taken};
 use std::alloc::{AllocError, Global};
 
 /// A call of a mailbox, with the sender whose lane it uses.
-#[derive(Debug, PartialEq, Eq, Drop)]
+#[derive(Drop)]
 pub enum Call<P> {
     Post { from: u16, tag: Tag, body: Body<P> },
     Take { from: u16 },
@@ -17,7 +17,7 @@ pub enum Call<P> {
 }
 
 /// The answer to a call of a mailbox.
-#[derive(Debug, PartialEq, Eq, Drop)]
+#[derive(PartialEq, Eq, Drop)]
 pub enum Answer<P> {
     /// A post or a close was accepted, and its letter has this number.
     Posted(u64),

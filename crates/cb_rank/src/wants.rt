@@ -2,7 +2,7 @@
 use cb_letters::Letter;
 
 /// The next half of a rank's program, by its kind and the rank at the lane's other end.
-#[derive(Clone, Copy, Debug, PartialEq, Eq, Drop)]
+#[derive(Clone, Copy, PartialEq, Eq, Drop)]
 pub enum Want {
     /// It posts a letter to this rank.
     Post(u16),
@@ -20,14 +20,14 @@ pub enum Want {
 
 /// Whether a half is granted memory. If not, a copy of a sheet fails as if there were no memory, and so does an operation
 /// that needs memory and has no lost operand.
-#[derive(Clone, Copy, Debug, PartialEq, Eq, Drop)]
+#[derive(Clone, Copy, PartialEq, Eq, Drop)]
 pub enum Supply {
     Granted,
     Refused,
 }
 
 /// What arrived on a lane.
-#[derive(Debug, PartialEq, Eq, Drop)]
+#[derive(Drop)]
 pub enum Arrival<P> {
     /// A letter.
     Letter(Letter<P>),
@@ -36,11 +36,11 @@ pub enum Arrival<P> {
 }
 
 /// Something arrived that the rank doesn't wait for.
-#[derive(Debug, PartialEq, Eq, Drop)]
+#[derive(Drop)]
 pub struct Stray<P>(pub Arrival<P>);
 
 /// What a step did.
-#[derive(Clone, Copy, Debug, PartialEq, Eq, Drop)]
+#[derive(Clone, Copy, PartialEq, Eq, Drop)]
 pub enum Moved {
     /// It posted a letter.
     Posted,

@@ -58,3 +58,35 @@ pub images_go_on : {X Y : Type 0} (f : X → Y) (xs new : List X) (x : X) (y : Y
     → new ≡ xs ++ x ∷ [] → f x ≡ y → left ≡ y ∷ rest → map f xs ++ left ≡ all → map f new ++ rest ≡ all
 images_go_on f xs new x y rest left all grown is next so_far =
     ap (λ zs. map f zs ++ rest) grown ∙ images_grow f xs x rest ∙ ap (λ z. map f xs ++ (z ∷ rest)) is ∙ ap (λ zs. map f xs ++ zs) (sym next) ∙ so_far
+
+-- no image was taken yet
+pub none_taken : {X Y : Type 0} (f : X → Y) (done : List Y) (left all : List X) → done ≡ [] → left ≡ all → done ++ map f left ≡ map f all
+none_taken f done left all none is = ap (λ ys. ys ++ map f left) none ∙ ap (λ xs. map f xs) is
+
+-- if no element is left, all images were taken
+pub all_taken : {X Y : Type 0} (f : X → Y) (done : List Y) (left : List X) (all : List Y) → length left ≡ 0 → done ++ map f left ≡ all → done ≡ all
+all_taken f done [] all none e = sym (append-nil done) ∙ e
+all_taken f done (x ∷ xs) all none e = absurd (omega arith)
+
+-- one place is filled, and one element fewer is left
+pub room_left : {X : Type 0} (count more capacity same : ℕ) (x : X) (left rest : List X) → more ≡ count + 1 → same ≡ capacity → left ≡ x ∷ rest → count + length left ≤ capacity → more + length rest ≤ same
+room_left count more capacity same x left rest longer kept next so_far =
+    let fewer : length left ≡ length rest + 1 = omega (arith, ap length next) in
+    omega arith
+
+-- one element more is done, and one fewer is left
+pub count_left : {X : Type 0} (count more all : ℕ) (x : X) (left rest : List X) → more ≡ count + 1 → left ≡ x ∷ rest → count + length left ≡ all → more + length rest ≡ all
+count_left count more all x left rest longer next so_far =
+    let fewer : length left ≡ length rest + 1 = omega (arith, ap length next) in
+    omega arith
+
+-- two lists with as many elements, without the first of each
+pub same_left : {X Y : Type 0} (x : X) (y : Y) (left rest : List X) (others more : List Y) → left ≡ x ∷ rest → others ≡ y ∷ more → length left ≡ length others → length rest ≡ length more
+same_left x y left rest others more next other same =
+    let fewer : length left ≡ length rest + 1 = omega (arith, ap length next) in
+    let fewer_others : length others ≡ length more + 1 = omega (arith, ap length other) in
+    omega arith
+
+-- there is as much room as before
+pub room_stays : (wanted capacity same : ℕ) → same ≡ capacity → wanted ≤ capacity → wanted ≤ same
+room_stays wanted capacity same kept fits = omega arith

@@ -4,3 +4,5 @@ pub mod Operations
 pub mod Orders
 -- SteppedProducts: products by vectors of ranks that were stepped in an order.
 mod SteppedProducts
+-- WalkLosses: blocks that ranks lose in a search.
+mod WalkLosses

@@ -15,4 +15,4 @@ mod walks;
 pub use operation_faults::OperationFault;
 pub use products::{Multiplied, multiply_vector};
 pub use runs::{run, run_matrices};
-pub use walks::{check_graph, distances, levels};
+pub use walks::{distances, levels};

@@ -2,39 +2,28 @@
 //!
 //! A square matrix is a graph: a stored entry (i, j) is an edge from i to j. Both are one [search](cb_searches::Search);
 //! for levels each edge weighs 1.
-ghost use Rattle.std.specs.Prelude.{◌≡◌, ◌<◌, ◌*◌, IfOk, IfErr, OnOk};
+ghost use Rattle.std.specs.Prelude.{◌≡◌, ◌<◌, ◌*◌, [], ◌∷◌, IfOk, IfErr};
 ghost use Rattle.cb_semirings.specs.Tables.{min_plus};
 ghost use Rattle.cb_matrix.specs.Operations.{transposed};
 ghost use Rattle.cb_searches.specs.Walks.{AreLevels, AreDistances};
 ghost use Rattle.cb_placement.specs.Answers.{over_grid};
 ghost use Rattle.cb_engines.specs.EngineRuns.{IsEngineFault};
-ghost use Rattle.cb_run.specs.Searched.{DistancesAreLevels, HasSource, IsGraphRefusal, IsWalkRefusal};
+ghost use Rattle.cb_operations.specs.Graphs.{HasSource};
+ghost use Rattle.cb_run.specs.Outcomes.{IsLossFor};
+ghost use Rattle.cb_run.specs.Searched.{DistancesAreLevels, IsWalkLoss, IsWalkRefusal};
+ghost use Rattle.cb_run.specs.declared.operation_faults.OperationFault.TheVariants.{Failed};
 
 use crate::{OperationFault, multiply_vector, run};
 use cb_engines::{Engine, EngineFault};
 use cb_layout::{DistributedMatrix, Grid};
-use cb_matrix::{LIMIT, Matrix, Shape};
-use cb_operations::{Operands, Operation, Refusal};
+use cb_matrix::{LIMIT, Matrix};
+use cb_operations::{Operands, Operation, check_graph};
 use cb_searches::Search;
 use cb_semirings::{MinPlus, OrAnd, Semiring};
 use cb_vectors::vector_plan;
 use std::alloc::{AllocError, Global};
 use std::sync::Wait;
 use std::thread::Threads;
-
-/// Refuses a shape that isn't square, then a source that isn't one of its vertices.
-pub fn check_graph(shape: Shape, source: u32) -> Result<(), Refusal>
-    ensures ok { OnOk result (HasSource shape source) }
-    ensures refused { IfErr result (IsGraphRefusal shape source) }
-{
-    if shape.rows() != shape.cols() {
-        return Err(Refusal::NotSquare);
-    }
-    if source >= shape.rows() {
-        return Err(Refusal::Source);
-    }
-    Ok(())
-}
 
 /// Returns the transpose of a matrix over a grid.
 fn transposed<S: Semiring + Send + Sync, R: Threads + Wait + Sync>(
@@ -47,6 +36,7 @@ fn transposed<S: Semiring + Send + Sync, R: Threads + Wait + Sync>(
     requires { matrix.side ≡ grid.now.side }
     ensures ok { IfOk result (λ m. m ≡ over_grid grid.now.side (transposed S.arithmetic matrix.matrix)) }
     ensures fault { IfErr result (IsEngineFault engine.entry (grid.now.side * grid.now.side)) }
+    ensures lost { IfErr result (λ e. IsLossFor S.arithmetic engine.entry Operation.Transpose grid.now.side (matrix.matrix ∷ []) (Failed e)) }
 {
     match run(
         rt,
@@ -73,6 +63,7 @@ fn nearest<R: Threads + Wait + Sync>(
     requires { HasSource graph.matrix.shape source }
     ensures ok { IfOk result (λ column. AreDistances graph.matrix source column) }
     ensures fault { IfErr result (IsEngineFault engine.entry (graph.side * graph.side)) }
+    ensures lost { IfErr result (λ e. IsWalkLoss engine.entry graph.side graph.matrix source (Failed e)) }
 {
     let grid = graph.grid();
     let shape = graph.shape();
@@ -121,6 +112,7 @@ pub fn distances<R: Threads + Wait + Sync>(
     ensures ok { IfOk result (λ column. AreDistances graph.matrix source column) }
     ensures agree { IfOk result (λ column. HasSource graph.matrix.shape source) }
     ensures fault { IfErr result (IsWalkRefusal engine.entry graph.side graph.matrix.shape source) }
+    ensures lost { IfErr result (IsWalkLoss engine.entry graph.side graph.matrix source) }
 {
     check_graph(graph.shape(), source)?;
     Ok(nearest(rt, alloc, engine, graph, source)?)
@@ -141,6 +133,7 @@ pub fn levels<R: Threads + Wait + Sync>(
     ensures ok { IfOk result (λ column. AreLevels graph.matrix source column) }
     ensures agree { IfOk result (λ column. HasSource graph.matrix.shape source) }
     ensures fault { IfErr result (IsWalkRefusal engine.entry graph.side graph.matrix.shape source) }
+    ensures lost { IfErr result (IsWalkLoss engine.entry graph.side graph.matrix source) }
 {
     check_graph(graph.shape(), source)?;
     let weighted = weighted(alloc, graph)?;

@@ -1,11 +1,12 @@
-//! A worked product in several orders of events, on grids of several sides.
-use crate::examples::{PRODUCT, grid, has, is_right_or_refused, operands};
+//! A worked product in several orders of events, on grids of several sides; and ranks that are starved.
+use crate::examples::{PRODUCT, grid, has, is_right_or_refused, matrix, operands};
+use crate::walks::{PATH, levels_by_ranks};
 use cb_engines::{Engine, EngineFault};
 use cb_layout::Grid;
 use cb_matrix::Matrix;
 use cb_operations::{Operands, Operation};
 use cb_run::{OperationFault, run_matrices};
-use cb_semirings::PlusTimes;
+use cb_semirings::{OrAnd, PlusTimes};
 use cb_world::Event;
 use std::alloc::{AllocError, Global};
 use std::sync::Wait;
@@ -98,18 +99,74 @@ fn any_order_makes_the_product(rt: HostRuntime) -> Result<(), Fail> {
     Ok(())
 }
 
+/// What is made of the factors, or of the path.
+#[derive(Clone, Copy)]
+enum Job {
+    Product,
+    Vector,
+    Walk,
+}
+
+/// The factors of a product, a column, and a path.
+#[derive(Drop)]
+struct Given {
+    factors: Factors,
+    column: Matrix<PlusTimes>,
+    path: Matrix<OrAnd>,
+}
+
+/// Two factors, a column and a path.
+fn samples(alloc: Global) -> Option<Given> {
+    let path = matrix(alloc, PATH.vertices, PATH.vertices, PATH.edges)?;
+    let column = matrix(alloc, 2, 1, &[(0, 0, 1), (1, 0, 1)])?;
+    Some(Given {
+        factors: operands(alloc)?,
+        column,
+        path,
+    })
+}
+
+/// Why a job fails in an order of events.
+fn fault<R: Threads + Wait + Sync>(
+    rt: &R,
+    alloc: Global,
+    grid: &Grid,
+    given: &Given,
+    job: Job,
+    order: &[Event],
+) -> Option<OperationFault> {
+    let engine = Engine::InOrder(1, order);
+    match job {
+        Job::Product => product(rt, alloc, grid, &given.factors, 1, order).err(),
+        Job::Vector => {
+            let operands = Operands::Two(&given.factors.0, &given.column);
+            let operation = Operation::MultiplyVector;
+            run_matrices(rt, alloc, engine, grid, operation, operands).err()
+        }
+        Job::Walk => levels_by_ranks(rt, alloc, engine, grid.side(), &given.path, 0).err(),
+    }
+}
+
+/// Whether a block was lost at this rank.
+fn is_lost_at(rank: u16, fault: Option<OperationFault>) -> bool {
+    match fault {
+        Some(OperationFault::Failed(EngineFault::Lost { rank: lost, .. })) => lost == rank,
+        _ => false,
+    }
+}
+
 /// Whether each rank is named if it is starved.
 fn are_named<R: Threads + Wait + Sync>(
     rt: &R,
     alloc: Global,
     grid: &Grid,
-    factors: &Factors,
+    given: &Given,
+    job: Job,
 ) -> Result<bool, AllocError> {
     for rank in 0..grid.ranks() {
         let order = backwards(alloc, grid.ranks(), Some(rank))?;
-        match product(rt, alloc, grid, factors, 1, &order) {
-            Err(OperationFault::Failed(EngineFault::Lost { rank: lost, .. })) if lost == rank => {}
-            _ => return Ok(false),
+        if !is_lost_at(rank, fault(rt, alloc, grid, given, job, &order)) {
+            return Ok(false);
         }
     }
     Ok(true)
@@ -117,12 +174,12 @@ fn are_named<R: Threads + Wait + Sync>(
 
 #[test]
 fn a_starved_rank_is_named(rt: HostRuntime) -> Result<(), Fail> {
-    let factors = operands(rt.alloc()).ok_or("memory")?;
+    let given = samples(rt.alloc()).ok_or("memory")?;
     for side in SIDES {
-        assert!(rt;
-            are_named(&rt, rt.alloc(), &grid(side)?, &factors)?,
-            "{side}"
-        );
+        let grid = grid(side)?;
+        for job in [Job::Product, Job::Vector, Job::Walk] {
+            assert!(rt; are_named(&rt, rt.alloc(), &grid, &given, job)?, "{side}");
+        }
     }
     Ok(())
 }

@@ -66,7 +66,7 @@ pub enum By {
 pub const SEARCHES: [By; 2] = [By::One, By::Ranks(Engine::Threads(2), 2)];
 
 /// The levels of a graph from a source, by ranks.
-fn levels_by_ranks<R: Threads + Wait + Sync>(
+pub fn levels_by_ranks<R: Threads + Wait + Sync>(
     rt: &R,
     alloc: Global,
     engine: Engine,

@@ -1,9 +1,9 @@
-use Rattle.std.proofs.Common.{rules, ◌≡◌, ◌<◌, [], ◌∷◌, length, refl, sym, ◌∙◌, ap, subst, length-append}
+use Rattle.std.proofs.Common.{rules, ◌≡◌, ◌<◌, [], ◌∷◌, length, refl, sym, ◌∙◌, ap, subst, length-append, vec_len, vec_capacity}
 use Rattle.std.specs.Prelude.{drop, get_or}
 use Rattle.cb_rank.specs.Ranks.{FitsAt, new_rank}
 use Rattle.cb_rank.proofs.RankAfterHalf.{fits_at}
 use Rattle.cb_ranks.specs.Crews.{Member, desks_of}
-use Rattle.cb_ranks.proofs.CrewSoFar.{drop_head, started_more, images_go_on, nothing_left}
+use Rattle.cb_ranks.proofs.CrewSoFar.{drop_head, started_more, images_go_on, count_left, room_left, same_left, nothing_left}
 use Rattle.cb_ranks.proofs.crew.pair_up.Goals as goal
 
 pub start-requires-clause-fits : goal.start-requires-clause-fits
@@ -32,9 +32,9 @@ loop-store-preserved g c =
       desks = images_go_on (λ (m : Member). m.1) crew _ (c.in-Ok.rank, c.in-Some.desk) c.in-Some.desk c.next.new.self.b.rest.items _ _ c.push_reserved.ensures.items refl other c.loop-store.invariant.desks;
       stores = ap (λ n. drop n first) (ap length c.push_reserved.ensures.items ∙ length-append crew ((c.in-Ok.rank, c.in-Some.desk) ∷ [])) ∙ head.1;
       ranks = rw c.push_reserved.ensures.items (started_more p first crew (c.in-Ok.rank, c.in-Some.desk) c.loop-store.invariant.ranks new);
-      same = search rules;
-      count = search rules;
-      room = search rules;
+      same = same_left c.in-Some.store c.in-Some.desk c.loop-store.store-iterator.a.rest.items c.next.new.self.a.rest.items c.loop-store.store-iterator.b.rest.items c.next.new.self.b.rest.items next other c.loop-store.invariant.same;
+      count = count_left (vec_len c.loop-store.crew) (vec_len c.push_reserved.new.self) (length c.args.desks.items) c.in-Some.store c.loop-store.store-iterator.a.rest.items c.next.new.self.a.rest.items c.push_reserved.ensures.len next c.loop-store.invariant.count;
+      room = room_left (vec_len c.loop-store.crew) (vec_len c.push_reserved.new.self) (vec_capacity c.loop-store.crew) (vec_capacity c.push_reserved.new.self) c.in-Some.store c.loop-store.store-iterator.a.rest.items c.next.new.self.a.rest.items c.push_reserved.ensures.len c.push_reserved.ensures.capacity next c.loop-store.invariant.room;
     }
 
 pub returns-clause-desks : goal.returns-clause-desks

@@ -1,9 +1,9 @@
-use Rattle.std.proofs.Common.{rules, length, ◌≡◌, ◌++◌, ◌∷◌, sym, ap, ◌∙◌, subst, map}
+use Rattle.std.proofs.Common.{rules, length, ◌≡◌, ◌++◌, ◌∷◌, sym, ap, ◌∙◌, subst, map, vec_len, vec_capacity}
 use Rattle.std.proofs.lemmas.List.{length-map}
 use Rattle.cb_ranks.specs.Crews.{Member, AreNew, IsOneOf}
 use Rattle.cb_ranks.specs.Started.{started, started_recorder}
 use Rattle.cb_ranks.proofs.RanksInFaults.{member_is_one, member_is_next}
-use Rattle.cb_ranks.proofs.CrewSoFar.{images_go_on, nothing_left}
+use Rattle.cb_ranks.proofs.CrewSoFar.{images_go_on, count_left, same_left, room_stays, nothing_left}
 use Rattle.cb_ranks.proofs.threads.start_all.Goals as goal
 
 pub loop-rank-preserved : goal.loop-rank-preserved
@@ -12,12 +12,12 @@ loop-rank-preserved g c =
     let next : c.loop-rank.rank-iterator.a.rest.items ≡ member ∷ c.next.new.self.a.rest.items = search rules in
     let other : c.loop-rank.rank-iterator.b.rest.items ≡ c.in-Some.recorder ∷ c.next.new.self.b.rest.items = search rules in
     record {
-      all = images_go_on (started {S = g.row.S.Denot} {T = g.row.T.Denot}) _ _ _ member _ _ _ c.push_reserved.ensures.items c.in-Some-start_one.ensures.0 next c.loop-rank.invariant.all;
-      recorders = images_go_on (started_recorder {S = g.row.S.Denot} {T = g.row.T.Denot}) _ _ _ c.in-Some.recorder _ _ _ c.push_reserved.ensures.items c.in-Some-start_one.ensures.1 other c.loop-rank.invariant.recorders;
-      same = search rules;
+      all = images_go_on (started {S = g.row.S.Denot} {T = g.row.T.Denot}) c.loop-rank.threads.items c.push_reserved.new.self.items c.in-Some-start_one.thread member c.next.new.self.a.rest.items c.loop-rank.rank-iterator.a.rest.items c.args.crew.items c.push_reserved.ensures.items c.in-Some-start_one.ensures.0 next c.loop-rank.invariant.all;
+      recorders = images_go_on (started_recorder {S = g.row.S.Denot} {T = g.row.T.Denot}) c.loop-rank.threads.items c.push_reserved.new.self.items c.in-Some-start_one.thread c.in-Some.recorder c.next.new.self.b.rest.items c.loop-rank.rank-iterator.b.rest.items c.args.recorders.items c.push_reserved.ensures.items c.in-Some-start_one.ensures.1 other c.loop-rank.invariant.recorders;
+      same = same_left member c.in-Some.recorder c.loop-rank.rank-iterator.a.rest.items c.next.new.self.a.rest.items c.loop-rank.rank-iterator.b.rest.items c.next.new.self.b.rest.items next other c.loop-rank.invariant.same;
       new = (subst AreNew next c.loop-rank.invariant.new).1;
-      few = search rules;
-      room = search rules;
+      few = count_left (vec_len c.loop-rank.threads) (vec_len c.push_reserved.new.self) (vec_len c.args.crew) member c.loop-rank.rank-iterator.a.rest.items c.next.new.self.a.rest.items c.push_reserved.ensures.len next c.loop-rank.invariant.few;
+      room = room_stays (vec_len c.args.crew) (vec_capacity c.loop-rank.threads) (vec_capacity c.push_reserved.new.self) c.push_reserved.ensures.capacity c.loop-rank.invariant.room;
     }
 
 pub returns-in_default-clause-missing : goal.returns-in_default-clause-missing

@@ -1,6 +1,6 @@
 use Rattle.std.proofs.Common.{subst}
 use Rattle.cb_matrix.specs.Sparse.{Extent}
-use Rattle.cb_run.specs.Searched.{HasSource}
+use Rattle.cb_operations.specs.Graphs.{HasSource}
 use Rattle.cb_run.proofs.walks.levels.Goals as goal
 
 pub returns-clause-ok : goal.returns-clause-ok

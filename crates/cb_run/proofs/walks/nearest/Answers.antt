@@ -1,4 +1,4 @@
-use Rattle.std.proofs.Common.{◌≡◌, ℕ, ◌∙◌, inl, inr, sym, ap, arith, subst}
+use Rattle.std.proofs.Common.{rules, ◌≡◌, ℕ, ◌∙◌, inl, inr, sym, ap, arith, subst}
 use Rattle.cb_semirings.specs.Tables.{min_plus}
 use Rattle.cb_matrix.specs.Sparse.{Sparse, Extent}
 use Rattle.cb_matrix.specs.Values.{product}
@@ -9,6 +9,9 @@ use Rattle.cb_grid_plans.specs.VectorPlans.{column}
 use Rattle.cb_vectors.specs.SpreadVectors.{MultipliesVectors}
 use Rattle.cb_placement.specs.Answers.{over_grid}
 use Rattle.cb_searches.specs.Searches.{HasEnded}
+use Rattle.cb_run.specs.declared.operation_faults.OperationFault.TheVariants.{Failed}
+use Rattle.cb_run.specs.Searched.{IsWalkLoss}
+use Rattle.cb_run.proofs.WalkLosses.{transpose_loss, round_loss}
 use Rattle.cb_run.proofs.walks.nearest.Goals as goal
 use Rattle.cb_run.proofs.walks.nearest.Goals.{else-loop-round-test, then-loop-round-test+then-is_empty}
 
@@ -62,3 +65,20 @@ returns-clause-ok g c =
       | then-loop-round-test+then-is_empty w ↦ inl (ap (λ (m : Sparse). m.entries) (sym w.fell-fell.ensures) ∙ w.is_empty.ensures.0 w.if-is_empty.true)
     ] in
     c.in_ok-column.ensures a c.args.source c.loop-round._round c.loop-round.invariant.search ended
+
+pub returns-in_err-turned-clause-lost : goal.returns-in_err-turned-clause-lost
+returns-in_err-turned-clause-lost g c =
+    let fault = c.in_err-turned.field-0.0 in
+    let lost = transpose_loss c.args.engine c.grid-grid.result.side c.args.graph.matrix c.args.source fault c.in_err-turned.ensures.lost in
+    let there = subst (λ n. IsWalkLoss c.args.engine n c.args.graph.matrix c.args.source (Failed fault)) (ap (λ (g : Square). g.side) c.grid-grid.ensures) lost in
+    search (rules, there)
+
+pub returns-in_err-reached-clause-lost : goal.returns-in_err-reached-clause-lost
+returns-in_err-reached-clause-lost g c =
+    let fault = c.in_err-reached.field-0.0 in
+    let multiplies = subst (λ (d : Extent). MultipliesVectors c.grid-grid.result.side d c.in_ok-plan.plan)
+    (c.shape.ensures.shape ∙ ap (λ (m : Distributed). m.matrix.shape) ((over_same c.grid-grid.result.side c.args.graph.side (transposed min_plus c.args.graph.matrix) c.in_ok-turned.turned (ap (λ (g : Square). g.side) c.grid-grid.ensures) c.in_ok-turned.ensures.ok) ∙ sym c.loop-round.invariant.turned)) c.in_ok-plan.ensures in
+    let lost = round_loss c.args.engine c.grid-grid.result.side c.args.graph.matrix c.args.source c.loop-round._round c.loop-round.search c.loop-round.invariant.search c.loop-round.turned.matrix c.fell-fell.result.now
+    (ap (λ (m : Distributed). m.matrix) c.loop-round.invariant.turned) c.fell-fell.ensures c.in_ok-plan.plan multiplies fault c.in_err-reached.ensures.lost in
+    let there = subst (λ n. IsWalkLoss c.args.engine n c.args.graph.matrix c.args.source (Failed fault)) (ap (λ (g : Square). g.side) c.grid-grid.ensures) lost in
+    search (rules, there)

@@ -3,7 +3,7 @@ use Rattle.std.proofs.lemmas.Result.{IfOk-weaker}
 use Rattle.cb_matrix.specs.Sparse.{Sparse, Extent}
 use Rattle.cb_layout.specs.Distributed.{Distributed}
 use Rattle.cb_searches.specs.Walks.{infinite, AreLevels, AreDistances}
-use Rattle.cb_run.specs.Searched.{HasSource}
+use Rattle.cb_operations.specs.Graphs.{HasSource}
 use Rattle.cb_searches.proofs.UnitWeights.{levels_are, weights_stored}
 use Rattle.cb_run.proofs.walks.weighted.Goals as goal
 

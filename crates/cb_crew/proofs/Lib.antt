@@ -1,3 +1,0 @@
-pub mod LastItems
-pub mod AnswersSoFar
-pub mod NewRings
