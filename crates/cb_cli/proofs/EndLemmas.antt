@@ -1,45 +1,56 @@
 -- How jobs end, from how the calls that they make end.
-use Rattle.std.proofs.Common.{◌≡◌, ℕ, List, Bool, sym, subst}
-use Rattle.std.specs.Prelude.{Option, Result, Vec}
-use Rattle.cb_semirings.specs.Arithmetic.{Arithmetic}
+use Rattle.std.proofs.Common.{◌≡◌, ◌≢◌, ℕ, List, Bool, refl, sym, subst}
+use Rattle.std.specs.Prelude.{Option, Some, None, Result, Vec}
 use Rattle.cb_semirings.specs.Names.{arithmetic_of}
 use Rattle.cb_semirings.specs.declared.names.SemiringName.{SemiringName}
+use Rattle.cb_operations.specs.declared.operations.Operation.{Operation}
 use Rattle.cb_words.specs.declared.jobs.Job.{Job}
 use Rattle.cb_words.specs.declared.jobs.Task.{Task}
+use Rattle.cb_words.specs.declared.jobs.Task.TheVariants.{Matrix, Levels, Distances, Parents, Components, Triangles, TriangleCounts, RowDegrees, ColumnDegrees, Selected, Kronecker}
+use Rattle.cb_tasks.specs.WriteEnds.{IsEndOn, IsTaskEnd}
+use Rattle.cb_tasks.specs.declared.faults.JobFault.{JobFault}
+use Rattle.cb_engines.specs.declared.engines.Engine.{Engine}
+use Rattle.cb_cli.specs.Answers.{IsAnswerFor, IsFaultFor}
+use Rattle.cb_cli.specs.Ends.{IsEndBy, IsJobEnd, IsRanksEnd}
 use Rattle.cb_cli.specs.Engines.{engine_of}
-use Rattle.cb_cli.specs.Answers.{IsAnswer, IsFault}
-use Rattle.cb_cli.specs.Files.{bytes_of}
-use Rattle.cb_cli.specs.WriteEnds.{IsEnd, IsEndOf, IsEndIn, IsTaskEnd}
-use Rattle.cb_cli.specs.declared.backends.Backend.{Backend}
-use Rattle.cb_cli.specs.declared.matrix_tasks.MatrixTask.{MatrixTask}
-use Rattle.cb_cli.specs.declared.execution.JobFault.{JobFault}
+use Rattle.cb_cli.specs.declared.ranks.Ranks.{Ranks}
 
--- a task on matrices over the semiring of a name
-pub over_named : {T A : Type 0} (task : MatrixTask) (backend : Backend) (texts : List (Vec ℕ A)) (old new : Option (List ℕ)) (failed : Bool) (r : Result T JobFault) (semiring name : SemiringName) → semiring ≡ name
-    → IsEndIn task (arithmetic_of name) backend texts old new failed r → IsEndIn task (arithmetic_of semiring) backend texts old new failed r
-over_named task backend texts old new failed r semiring name e h = subst (λ s. IsEndIn task (arithmetic_of s) backend texts old new failed r) (sym e) h
+module _ {T A : Type 0} (texts : List (Vec ℕ A)) (old new : Option (List ℕ)) (failed : Bool) (r : Result T JobFault) where
+  -- an operation over the semiring of a name
+  pub over_named : (operation : Operation) (ranks : Ranks) (semiring name : SemiringName) → semiring ≡ name
+      → IsRanksEnd operation (arithmetic_of name) ranks texts old new failed r → IsRanksEnd operation (arithmetic_of semiring) ranks texts old new failed r
+  over_named operation ranks semiring name e h = subst (λ s. IsRanksEnd operation (arithmetic_of s) ranks texts old new failed r) (sym e) h
 
--- a task on matrices that is known ends as that task does
-pub of_matrix_task : {T A : Type 0} (s : Arithmetic) (backend : Backend) (texts : List (Vec ℕ A)) (old new : Option (List ℕ)) (failed : Bool) (r : Result T JobFault) (task known : MatrixTask) → task ≡ known
-    → IsEndIn known s backend texts old new failed r → IsEndIn task s backend texts old new failed r
-of_matrix_task s backend texts old new failed r task known e h = subst (λ t. IsEndIn t s backend texts old new failed r) (sym e) h
+  -- a task that is known ends as that task does
+  pub of_task : (ranks : Ranks) (task known : Task) → task ≡ known → IsEndBy ranks known texts old new failed r → IsEndBy ranks task texts old new failed r
+  of_task ranks task known e h = subst (λ t. IsEndBy ranks t texts old new failed r) (sym e) h
 
-module _ {T A : Type 0} (job : Job) (texts : List (Vec ℕ A)) (old new : Option (List ℕ)) (failed : Bool) (r : Result T JobFault) where
-  -- a job ends as its task does by the engine and on the grid of the job
-  pub of_task : (backend : Backend) (task : Task) → backend.engine ≡ engine_of job.engine → backend.grid.side ≡ job.grid.side → job.task ≡ task
-      → IsTaskEnd task backend texts old new failed r → IsEndOf job (bytes_of texts) old new failed r
-  of_task backend task f g e h =
-      let bytes = bytes_of texts in
-      let engine = engine_of job.engine in
-      subst (λ t. IsEnd (IsAnswer t engine job.grid.side bytes) (IsFault t engine job.grid.side bytes) old new failed r) (sym e)
-      (subst (λ side. IsEnd (IsAnswer task engine side bytes) (IsFault task engine side bytes) old new failed r) g
-      (subst (λ x. IsEnd (IsAnswer task x backend.grid.side bytes) (IsFault task x backend.grid.side bytes) old new failed r) f h))
+  -- a task that ranks don't compute ends as it does without them
+  pub of_other : (ranks : Ranks) (task : Task) → ((operation : Operation) (semiring : SemiringName) → task ≢ Matrix operation semiring)
+      → ((source : ℕ) → task ≢ Levels source) → ((source : ℕ) → task ≢ Distances source)
+      → IsTaskEnd task texts old new failed r → IsEndBy ranks task texts old new failed r
+  of_other ranks (Matrix operation semiring) m l d h = absurd (m operation semiring refl)
+  of_other ranks (Levels source) m l d h = absurd (l source refl)
+  of_other ranks (Distances source) m l d h = absurd (d source refl)
+  of_other ranks (Parents source) m l d h = h
+  of_other ranks Components m l d h = h
+  of_other ranks Triangles m l d h = h
+  of_other ranks TriangleCounts m l d h = h
+  of_other ranks RowDegrees m l d h = h
+  of_other ranks ColumnDegrees m l d h = h
+  of_other ranks (Selected selection semiring) m l d h = h
+  of_other ranks (Kronecker semiring) m l d h = h
 
-  -- a job whose task one thread computes ends as that task does
-  pub of_alone : (task : Task) → job.task ≡ task
-      → IsEnd (IsAnswer task (engine_of job.engine) job.grid.side (bytes_of texts)) (IsFault task (engine_of job.engine) job.grid.side (bytes_of texts)) old new failed r
-      → IsEndOf job (bytes_of texts) old new failed r
-  of_alone task e h =
-      let bytes = bytes_of texts in
-      let engine = engine_of job.engine in
-      subst (λ t. IsEnd (IsAnswer t engine job.grid.side bytes) (IsFault t engine job.grid.side bytes) old new failed r) (sym e) h
+  module _ (job : Job) where
+    -- a job that names no engine ends as its task does without ranks
+    pub without_engine : engine_of job.engine ≡ None → IsTaskEnd job.task texts old new failed r → IsJobEnd job texts old new failed r
+    without_engine e h =
+        subst (λ x. IsEndOn (IsAnswerFor x job.grid.side job.task) (IsFaultFor x job.grid.side job.task) texts old new failed r) (sym e) h
+
+    -- any other ends as its task does by the ranks of its engine
+    pub by_engine : (engine : Engine) (ranks : Ranks) → engine_of job.engine ≡ Some engine → ranks.engine ≡ engine → ranks.grid ≡ job.grid
+        → IsEndBy ranks job.task texts old new failed r → IsJobEnd job texts old new failed r
+    by_engine engine ranks e f g h =
+        subst (λ x. IsEndOn (IsAnswerFor x job.grid.side job.task) (IsFaultFor x job.grid.side job.task) texts old new failed r) (sym e)
+        (subst (λ x. IsEndOn (IsAnswerFor (Some x) job.grid.side job.task) (IsFaultFor (Some x) job.grid.side job.task) texts old new failed r) f
+        (subst (λ x. IsEndOn (IsAnswerFor (Some ranks.engine) x.side job.task) (IsFaultFor (Some ranks.engine) x.side job.task) texts old new failed r) g h))

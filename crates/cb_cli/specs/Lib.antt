@@ -1,11 +1,4 @@
 pub mod Engines
-pub mod Sinks
-pub mod Writers
-pub mod FaultLines
-pub mod Files
 pub mod TraceTexts
-pub mod Selected
 pub mod Answers
-pub mod WriteEnds
-pub mod Endings
-pub mod Statuses
+pub mod Ends

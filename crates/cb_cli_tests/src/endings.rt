@@ -1,9 +1,9 @@
 //! Whole runs: what goes to each stream, and the exit status.
 use crate::lines::job;
 use crate::products::{FIRST, PRODUCT, SECOND, Short};
-use cb_cli::endings::run;
-use cb_cli::files::{FileSource, Unreadable};
-use cb_cli::sinks::WriterSink;
+use cb_cli::runs::run;
+use cb_tasks::files::{FileSource, Unreadable};
+use cb_tasks::sinks::WriterSink;
 use std::alloc::Global;
 use std::sync::Wait;
 use std::thread::Threads;
@@ -173,6 +173,49 @@ fn of_usage_and_help_go_to_their_streams(rt: HostRuntime) {
         ("cbgrid multiply --help", true),
     ] {
         assert!(rt; goes_to_its_stream(&rt, line, is_help), "{line}");
+    }
+}
+
+/// Runs a command line on the files by the program without ranks.
+fn small_outcome<R: Threads + Sync + AllocGlobal>(rt: &R, line: &str) -> Outcome {
+    let alloc = rt.alloc();
+    let asked = job(alloc, line);
+    let mut out = WriterSink::new(Short::new(alloc, usize::MAX, usize::MAX));
+    let mut errors = WriterSink::new(Short::new(alloc, usize::MAX, usize::MAX));
+    let files = Table::new(alloc);
+    let status = cb_tasks::runs::run(rt, alloc, asked, &files, &mut out, &mut errors);
+    Outcome {
+        out: out.into_inner().into_bytes(),
+        errors: errors.into_inner().into_bytes(),
+        code: status.code(),
+    }
+}
+
+/// Whether the program without ranks ends so.
+fn small_is_right<R: Threads + Sync + AllocGlobal>(
+    rt: &R,
+    line: &str,
+    out: &str,
+    errors: &str,
+    code: u8,
+) -> bool {
+    let run = small_outcome(rt, line);
+    run.out.as_slice() == out.as_bytes()
+        && run.errors.as_slice() == errors.as_bytes()
+        && run.code == code
+}
+
+#[test]
+fn without_ranks_are_told(rt: HostRuntime) {
+    const NONE: &str = "cbgrid: no ranks in this program\n";
+    for (line, out, errors, code) in [
+        ("cbgrid multiply a.mtx b.mtx", PRODUCT, "", 0),
+        ("cbgrid multiply a.mtx b.mtx --grid 2", "", NONE, 69),
+        ("cbgrid multiply a.mtx b.mtx --lane 1", "", NONE, 69),
+        ("cbgrid multiply a.mtx b.mtx --trace", "", NONE, 69),
+        ("cbgrid transpose a.mtx --engine ranks", "", NONE, 69),
+    ] {
+        assert!(rt; small_is_right(&rt, line, out, errors, code), "{line}");
     }
 }
 

@@ -1,4 +1,4 @@
-//! Levels, distances, parents and components of the vertices of a graph, and its triangles, by `execute`.
+//! Levels, distances, parents and components of the vertices of a graph, its triangles, and degrees, by `execute`.
 use crate::products::{Example, failed_alone, failed_example, text, writes_with};
 use std::alloc::{AllocError, Global};
 use std::sync::Wait;
@@ -108,6 +108,47 @@ const ALONE: [Example; 11] = [
     },
 ];
 
+/// Degrees of rows and columns.
+const DEGREES: [Example; 7] = [
+    Example {
+        line: "cbgrid degrees a",
+        texts: &[SQUARE],
+        wanted: "1 3\n2 1\n4 1\n",
+    },
+    Example {
+        line: "cbgrid degrees a --by column",
+        texts: &[SQUARE],
+        wanted: "2 1\n3 3\n4 1\n",
+    },
+    // a value of 0 is no entry
+    Example {
+        line: "cbgrid degrees --by=row a",
+        texts: &[WEIGHTLESS],
+        wanted: "1 1\n2 1\n",
+    },
+    // two lines for one place are one entry, and the matrix need not be square
+    Example {
+        line: "cbgrid degrees a",
+        texts: &[text!("2 3 3\n2 1 4\n2 3 5\n2 3 6\n")],
+        wanted: "2 2\n",
+    },
+    Example {
+        line: "cbgrid degrees a --by column",
+        texts: &[text!("2 3 3\n2 1 4\n2 3 5\n1 3 6\n")],
+        wanted: "1 1\n3 2\n",
+    },
+    Example {
+        line: "cbgrid degrees a --by column",
+        texts: &[text!("1 2147483647 1\n1 2147483647 9\n")],
+        wanted: "2147483647 1\n",
+    },
+    Example {
+        line: "cbgrid degrees a",
+        texts: &[text!("0 0 0\n")],
+        wanted: "",
+    },
+];
+
 #[test]
 fn have_levels_and_distances(rt: HostRuntime) {
     let failed = failed_example(&rt, &EXAMPLES);
@@ -117,6 +158,12 @@ fn have_levels_and_distances(rt: HostRuntime) {
 #[test]
 fn have_parents_components_and_triangles(rt: HostRuntime) {
     let failed = failed_alone(&rt, &ALONE);
+    assert!(rt; failed.is_none(), "{}", failed.unwrap_or(""));
+}
+
+#[test]
+fn have_degrees(rt: HostRuntime) {
+    let failed = failed_alone(&rt, &DEGREES);
     assert!(rt; failed.is_none(), "{}", failed.unwrap_or(""));
 }
 

@@ -1,15 +1,15 @@
 //! Command lines, and the lines of faults.
-use cb_cli::execution::{JobFault, status};
-use cb_cli::fault_lines::fault_line;
-use cb_cli::selection_refusals::SelectionRefusal;
-use cb_engines::EngineFault;
 use cb_market::{Kind, ReadFault};
 use cb_matrix::Test;
 use cb_operations::{Operation, Refusal};
-use cb_run::OperationFault;
 use cb_semirings::SemiringName;
+use cb_tasks::execution::status;
+use cb_tasks::fault_lines::fault_line;
+use cb_tasks::faults::{JobFault, RanksFault};
+use cb_tasks::selection_refusals::SelectionRefusal;
 use cb_words::{EngineName, FunctionName, Job, RegionName, Selection, Task, UsageFault, read_job};
 use std::alloc::{AllocError, Global};
+use std::num::NonZeroU32;
 use std::test::Fail;
 
 /// The words of a command line.
@@ -85,7 +85,7 @@ struct Asked {
     files: &'static [&'static str],
 }
 
-const LINES: [Asked; 38] = [
+const LINES: [Asked; 43] = [
     Asked {
         line: "cbgrid multiply left.mtx right.mtx",
         task: over!(PlusTimes, Operation::Multiply),
@@ -219,6 +219,21 @@ const LINES: [Asked; 38] = [
         files: &["a"],
     },
     Asked {
+        line: "cbgrid degrees a",
+        task: Task::RowDegrees,
+        files: &["a"],
+    },
+    Asked {
+        line: "cbgrid degrees --by row a",
+        task: Task::RowDegrees,
+        files: &["a"],
+    },
+    Asked {
+        line: "cbgrid degrees a --by=column",
+        task: Task::ColumnDegrees,
+        files: &["a"],
+    },
+    Asked {
         line: "cbgrid select a --region lower",
         task: chosen!(PlusTimes, kept!(Lower, 0, 0)),
         files: &["a"],
@@ -274,6 +289,16 @@ const LINES: [Asked; 38] = [
         files: &["x"],
     },
     Asked {
+        line: "cbgrid power a --exponent 1",
+        task: chosen!(PlusTimes, Selection::Power(NonZeroU32::MIN)),
+        files: &["a"],
+    },
+    Asked {
+        line: "cbgrid power --exponent=4294967295 a --semiring or-and",
+        task: chosen!(OrAnd, Selection::Power(NonZeroU32::MAX)),
+        files: &["a"],
+    },
+    Asked {
         line: "cbgrid kron a b --semiring max-min",
         task: Task::Kronecker {
             semiring: SemiringName::MaxMin,
@@ -307,7 +332,7 @@ fn ask_for_each_task(rt: HostRuntime) {
 /// What a command line chooses with this many processors: the engine, the side of the grid, and how many threads may work.
 type Choice = (&'static str, usize, EngineName, u32, u32);
 
-const CHOICES: [Choice; 30] = [
+const CHOICES: [Choice; 32] = [
     ("cbgrid multiply a b", 1, EngineName::Plain, 1, 1),
     ("cbgrid multiply a b", 2, EngineName::Plain, 2, 2),
     ("cbgrid multiply a b --mask m", 8, EngineName::Plain, 2, 8),
@@ -420,7 +445,9 @@ const CHOICES: [Choice; 30] = [
     ("cbgrid parents a --source 1", 4, EngineName::Plain, 2, 4),
     ("cbgrid components a", 999, EngineName::Plain, 6, 36),
     ("cbgrid triangles a", 1, EngineName::Plain, 1, 1),
+    ("cbgrid degrees a", 16, EngineName::Plain, 4, 16),
     ("cbgrid kron a b", 4, EngineName::Plain, 2, 4),
+    ("cbgrid power a --exponent 2", 1, EngineName::Plain, 1, 1),
     (
         "cbgrid select a --region lower",
         16,
@@ -447,7 +474,7 @@ fn choose_the_engine_the_grid_and_the_threads(rt: HostRuntime) {
 }
 
 /// Command lines that are usage errors.
-const REFUSED: [&str; 94] = [
+const REFUSED: [&str; 109] = [
     "cbgrid multiply",
     "cbgrid multiply a",
     "cbgrid multiply a b c",
@@ -512,6 +539,21 @@ const REFUSED: [&str; 94] = [
     "cbgrid kron a b c",
     "cbgrid kron a b --semiring plus",
     "cbgrid kron a b --lane 2",
+    "cbgrid power a",
+    "cbgrid power --exponent 2",
+    "cbgrid power a b --exponent 2",
+    "cbgrid power a --exponent",
+    "cbgrid power a --exponent 0",
+    "cbgrid power a --exponent -1",
+    "cbgrid power a --exponent two",
+    "cbgrid power a --exponent 4294967296",
+    "cbgrid power a --exponent 2 --exponent 2",
+    "cbgrid power a --exponent 2 --engine plain",
+    "cbgrid degrees",
+    "cbgrid degrees a b",
+    "cbgrid degrees a --by rows",
+    "cbgrid degrees a --by row --by row",
+    "cbgrid degrees a --semiring or-and",
     "cbgrid bfs a",
     "cbgrid bfs --source 1",
     "cbgrid bfs a b --source 1",
@@ -526,7 +568,7 @@ const REFUSED: [&str; 94] = [
     "cbgrid relax a --source 1 --mask m",
     "cbgrid",
     "cbgrid help",
-    "cbgrid power a b",
+    "cbgrid square a",
     "cbgrid transpose",
     "cbgrid transpose a b",
     "cbgrid transpose a --mask m",
@@ -579,10 +621,12 @@ fn offer_help(rt: HostRuntime) {
         "cbgrid apply -h",
         "cbgrid diagonal --help",
         "cbgrid kron --help",
+        "cbgrid power --help",
         "cbgrid bfs --help",
         "cbgrid parents --help",
         "cbgrid components --help",
         "cbgrid triangles -h",
+        "cbgrid degrees --help",
         "cbgrid relax --help",
     ] {
         assert!(rt; is_help(rt.alloc(), line), "{line}");
@@ -642,7 +686,7 @@ fn ends_so(alloc: Global, fault: &JobFault, number: u8, line: &str) -> Result<bo
     Ok(status(fault) == number && printed.as_slice() == line.as_bytes())
 }
 
-const FAULTS: [(JobFault, u8, &str); 14] = [
+const FAULTS: [(JobFault, u8, &str); 16] = [
     (
         read_fault!(1, 7, BadNumber),
         4,
@@ -654,40 +698,42 @@ const FAULTS: [(JobFault, u8, &str); 14] = [
         "cbgrid: a.mtx:3: out of memory\n",
     ),
     (
-        JobFault::Run(OperationFault::Refused(Refusal::Shapes)),
+        JobFault::Refused(Refusal::Shapes),
         5,
         "cbgrid: shapes don't agree\n",
     ),
     (
-        JobFault::Run(OperationFault::Refused(Refusal::NotSquare)),
+        JobFault::Refused(Refusal::NotSquare),
         5,
         "cbgrid: matrix not square\n",
     ),
     (
-        JobFault::Run(OperationFault::Refused(Refusal::Source)),
+        JobFault::Refused(Refusal::Source),
         5,
         "cbgrid: no such source\n",
     ),
     (
-        JobFault::Run(OperationFault::Failed(EngineFault::Memory)),
-        6,
-        "cbgrid: out of memory\n",
+        JobFault::Ranks(RanksFault::Absent),
+        69,
+        "cbgrid: no ranks in this program\n",
     ),
     (
-        JobFault::Run(OperationFault::Failed(EngineFault::NotStarted(35))),
+        JobFault::Ranks(RanksFault::NotStarted(35)),
         6,
         "cbgrid: rank 35 not started\n",
     ),
     (
-        JobFault::Run(OperationFault::Failed(EngineFault::Gone(0))),
+        JobFault::Ranks(RanksFault::Gone(0)),
         6,
         "cbgrid: rank 0 gone\n",
     ),
     (
-        JobFault::Run(OperationFault::Failed(EngineFault::Lost {
-            rank: 7,
-            refusals: 1,
-        })),
+        JobFault::Ranks(RanksFault::TraceTorn),
+        6,
+        "cbgrid: trace torn\n",
+    ),
+    (
+        JobFault::Ranks(RanksFault::Lost(7)),
         6,
         "cbgrid: lost at rank 7\n",
     ),
@@ -700,6 +746,11 @@ const FAULTS: [(JobFault, u8, &str); 14] = [
         JobFault::Unselected(SelectionRefusal::NotColumn),
         5,
         "cbgrid: matrix not a column\n",
+    ),
+    (
+        JobFault::Unselected(SelectionRefusal::NotSquare),
+        5,
+        "cbgrid: matrix not square\n",
     ),
     (
         JobFault::Unselected(SelectionRefusal::TooLarge),

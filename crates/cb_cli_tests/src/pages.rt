@@ -1,7 +1,7 @@
 //! Answers whose text is longer than a page.
 use crate::products::answer;
 use crate::sinks::is_cut;
-use cb_cli::execution::JobFault;
+use cb_tasks::faults::JobFault;
 use std::alloc::{AllocError, Global};
 use std::test::Fail;
 

@@ -2,8 +2,9 @@
 ghost use Rattle.std.specs.Prelude.{◌≡◌, false};
 
 use crate::lines::job;
-use cb_cli::execution::{JobFault, execute};
-use cb_cli::sinks::{Sink, WriterSink};
+use cb_cli::execution::execute;
+use cb_tasks::faults::JobFault;
+use cb_tasks::sinks::{Sink, WriterSink};
 use std::alloc::{AllocError, Global};
 use std::io::{self, Write};
 use std::sync::Wait;

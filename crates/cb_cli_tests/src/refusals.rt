@@ -2,12 +2,11 @@
 use crate::graphs::{CYCLE, WEIGHTLESS};
 use crate::lines::read_fault;
 use crate::products::{FIRST, SECOND, SKEW, Short, run_into, text};
-use cb_cli::execution::JobFault;
-use cb_cli::selection_refusals::SelectionRefusal;
-use cb_cli::sinks::WriterSink;
 use cb_market::{Kind, ReadFault};
 use cb_operations::Refusal;
-use cb_run::OperationFault;
+use cb_tasks::faults::JobFault;
+use cb_tasks::selection_refusals::SelectionRefusal;
+use cb_tasks::sinks::WriterSink;
 use std::sync::Wait;
 use std::thread::Threads;
 
@@ -21,15 +20,17 @@ const ROW: &str = text!("1 2 0\n");
 
 const THREE: &str = text!("1 3 0\n");
 
-const SHAPES: JobFault = JobFault::Run(OperationFault::Refused(Refusal::Shapes));
+const SHAPES: JobFault = JobFault::Refused(Refusal::Shapes);
 
-const NOT_SQUARE: JobFault = JobFault::Run(OperationFault::Refused(Refusal::NotSquare));
+const NOT_SQUARE: JobFault = JobFault::Refused(Refusal::NotSquare);
 
-const SOURCE: JobFault = JobFault::Run(OperationFault::Refused(Refusal::Source));
+const SOURCE: JobFault = JobFault::Refused(Refusal::Source);
 
 const NO_VALUE: JobFault = JobFault::Unselected(SelectionRefusal::NoValue);
 
 const NOT_COLUMN: JobFault = JobFault::Unselected(SelectionRefusal::NotColumn);
+
+const NO_POWER: JobFault = JobFault::Unselected(SelectionRefusal::NotSquare);
 
 const TOO_LARGE: JobFault = JobFault::Unselected(SelectionRefusal::TooLarge);
 
@@ -40,7 +41,7 @@ struct Refused {
     fault: JobFault,
 }
 
-const REFUSALS: [Refused; 29] = [
+const REFUSALS: [Refused; 33] = [
     Refused {
         line: "cbgrid multiply a b",
         texts: &[BAD, WORSE],
@@ -143,6 +144,11 @@ const REFUSALS: [Refused; 29] = [
         fault: NOT_SQUARE,
     },
     Refused {
+        line: "cbgrid degrees a --by column",
+        texts: &[BAD],
+        fault: read_fault!(0, 3, BadNumber),
+    },
+    Refused {
         line: "cbgrid select a --region lower",
         texts: &[BAD],
         fault: read_fault!(0, 3, BadNumber),
@@ -172,6 +178,22 @@ const REFUSALS: [Refused; 29] = [
         line: "cbgrid diagonal a --as matrix",
         texts: &[text!("3 0 0\n")],
         fault: NOT_COLUMN,
+    },
+    Refused {
+        line: "cbgrid power a --exponent 2",
+        texts: &[WORSE],
+        fault: read_fault!(0, 1, BadHeader),
+    },
+    Refused {
+        line: "cbgrid power a --exponent 2",
+        texts: &[WIDE],
+        fault: NO_POWER,
+    },
+    // the only factor too
+    Refused {
+        line: "cbgrid power a --exponent 1",
+        texts: &[WIDE],
+        fault: NO_POWER,
     },
     Refused {
         line: "cbgrid kron a b",

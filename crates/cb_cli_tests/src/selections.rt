@@ -1,4 +1,5 @@
-//! Regions, functions of values, diagonals and Kronecker products, by `execute`.
+//! Regions, functions of values, diagonals, powers and Kronecker products, by `execute`.
+use crate::graphs::CYCLE;
 use crate::products::{Example, FIRST, SECOND, failed_alone, text};
 
 /// Two entries on the diagonal, two below it and one above it.
@@ -150,6 +151,48 @@ const DIAGONALS: [Example; 5] = [
     },
 ];
 
+/// Two walks of three edges from the first vertex to the last, which meet before it.
+const FORK: &str = text!("5 5 5\n1 2 1\n1 3 1\n2 4 1\n3 4 1\n4 5 1\n");
+
+const POWERS: [Example; 7] = [
+    Example {
+        line: "cbgrid power a --exponent 1",
+        texts: &[FIRST],
+        wanted: text!("2 2 3\n1 1 1\n1 2 2\n2 2 3\n"),
+    },
+    Example {
+        line: "cbgrid power --exponent 2 a",
+        texts: &[FIRST],
+        wanted: text!("2 2 3\n1 1 1\n1 2 8\n2 2 9\n"),
+    },
+    Example {
+        line: "cbgrid power a --exponent=3",
+        texts: &[FIRST],
+        wanted: text!("2 2 3\n1 1 1\n1 2 26\n2 2 27\n"),
+    },
+    Example {
+        line: "cbgrid power a --exponent 2 --semiring min-plus",
+        texts: &[text!("3 3 2\n1 2 5\n2 3 7\n")],
+        wanted: text!("3 3 1\n1 3 12\n"),
+    },
+    Example {
+        line: "cbgrid power a --exponent 6 --semiring or-and",
+        texts: &[CYCLE],
+        wanted: "%%MatrixMarket matrix coordinate pattern general\n4 4 4\n1 1\n2 2\n3 3\n4 4\n",
+    },
+    Example {
+        line: "cbgrid power a --exponent 3",
+        texts: &[FORK],
+        wanted: text!("5 5 1\n1 5 2\n"),
+    },
+    // from the left: in plus-pair another order gives another value
+    Example {
+        line: "cbgrid power a --exponent 3 --semiring plus-pair",
+        texts: &[FORK],
+        wanted: text!("5 5 1\n1 5 1\n"),
+    },
+];
+
 const KRONECKER: [Example; 5] = [
     Example {
         line: "cbgrid kron a b",
@@ -196,6 +239,12 @@ fn apply_functions(rt: HostRuntime) {
 #[test]
 fn take_and_make_diagonals(rt: HostRuntime) {
     let failed = failed_alone(&rt, &DIAGONALS);
+    assert!(rt; failed.is_none(), "{}", failed.unwrap_or(""));
+}
+
+#[test]
+fn raise_to_powers(rt: HostRuntime) {
+    let failed = failed_alone(&rt, &POWERS);
     assert!(rt; failed.is_none(), "{}", failed.unwrap_or(""));
 }
 

@@ -1,8 +1,8 @@
 //! Writers that accept a few bytes at a time, that fail, and that accept no more.
 use crate::graphs::CYCLE;
 use crate::products::{FIRST, PRODUCT, SECOND, Short, run_into};
-use cb_cli::execution::JobFault;
-use cb_cli::sinks::{Sink, WriterSink};
+use cb_tasks::faults::JobFault;
+use cb_tasks::sinks::{Sink, WriterSink};
 use std::sync::Wait;
 use std::thread::Threads;
 

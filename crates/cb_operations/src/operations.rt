@@ -8,7 +8,7 @@ use cb_matrix::{Shape, Test};
 pub const MOST_OPERANDS: usize = 3;
 
 /// An operation on matrices over a semiring, whose result is a matrix.
-#[derive(Clone, Copy, Debug, PartialEq, Eq)]
+#[derive(Clone, Copy, PartialEq, Eq)]
 pub enum Operation {
     /// The product of two matrices. The second has as many rows as the first has columns.
     Multiply,
@@ -32,7 +32,7 @@ pub enum Operation {
 }
 
 /// The operands of an operation, in order.
-#[derive(Clone, Copy, Debug, PartialEq, Eq, Drop)]
+#[derive(Drop)]
 pub enum Operands<M> {
     /// For an operation on one matrix.
     One(M),

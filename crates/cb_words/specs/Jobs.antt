@@ -4,7 +4,7 @@ use Rattle.clap.specs.declared.error.kind.ErrorKind.{ErrorKind}
 use Rattle.clap.specs.declared.error.kind.ErrorKind.TheVariants.{DisplayHelp, DisplayVersion}
 use Rattle.cb_operations.specs.OperationAnswers.{operand_count_of}
 use Rattle.cb_words.specs.declared.jobs.Task.{Task}
-use Rattle.cb_words.specs.declared.jobs.Task.TheVariants.{Matrix, Levels, Distances, Parents, Components, Triangles, TriangleCounts, Selected, Kronecker}
+use Rattle.cb_words.specs.declared.jobs.Task.TheVariants.{Matrix, Levels, Distances, Parents, Components, Triangles, TriangleCounts, RowDegrees, ColumnDegrees, Selected, Kronecker}
 
 -- how many files a task reads
 abbrev pub file_count_of : Task → ℕ
@@ -15,6 +15,8 @@ file_count_of (Parents source) = 1
 file_count_of Components = 1
 file_count_of Triangles = 1
 file_count_of TriangleCounts = 1
+file_count_of RowDegrees = 1
+file_count_of ColumnDegrees = 1
 file_count_of (Selected selection semiring) = 1
 file_count_of (Kronecker semiring) = 2
 

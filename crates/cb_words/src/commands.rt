@@ -18,6 +18,8 @@ static FORMS: [&str; 2] = ["column", "matrix"];
 
 static COUNTS: [&str; 2] = ["graph", "vertex"];
 
+static LINES: [&str; 2] = ["row", "column"];
+
 /// The version of the program, and of the libraries for C and Python, which take it from here.
 const VERSION: &str = "0.1.0";
 
@@ -63,7 +65,9 @@ enum Choice {
     Function,
     Number,
     Form,
+    Exponent,
     Counts,
+    Lines,
     Source,
     Grid,
     Engine,
@@ -196,6 +200,18 @@ const KRON: Outline = Outline {
     common: &ALONE,
 };
 
+const POWER: Outline = Outline {
+    name: "power",
+    about: "Write the power of a square matrix",
+    after_help: after_help!(
+        "power links.mtx --exponent 3 > three-links.mtx",
+        "the matrix isn't square"
+    ),
+    files: &["A"],
+    options: &[Choice::Semiring, Choice::Exponent],
+    common: &ALONE,
+};
+
 const BFS: Outline = Outline {
     name: "bfs",
     about: "Write how many edges lead from a source to each vertex, by breadth-first search",
@@ -241,8 +257,17 @@ const TRIANGLES: Outline = Outline {
     common: &ALONE,
 };
 
+const DEGREES: Outline = Outline {
+    name: "degrees",
+    about: "Write how many entries each row of a matrix has, or each column",
+    after_help: after_help!("degrees links.mtx > links-of-each.txt"),
+    files: &["A"],
+    options: &[Choice::Lines],
+    common: &ALONE,
+};
+
 /// The commands, in the order in which help shows them.
-const OUTLINES: [&Outline; 16] = [
+static OUTLINES: [&Outline; 18] = [
     &MULTIPLY,
     &SPMV,
     &TRANSPOSE,
@@ -254,11 +279,13 @@ const OUTLINES: [&Outline; 16] = [
     &APPLY,
     &DIAGONAL,
     &KRON,
+    &POWER,
     &BFS,
     &RELAX,
     &PARENTS,
     &COMPONENTS,
     &TRIANGLES,
+    &DEGREES,
 ];
 
 /// An option `--NAME` that takes a value.
@@ -350,11 +377,24 @@ fn form<'a>(alloc: Global) -> Arg<'a> {
         .default_value("column")
 }
 
+fn exponent<'a>(alloc: Global) -> Arg<'a> {
+    let help = "How many factors the power has, each of them the matrix";
+    with_value(alloc, "exponent", "N", help)
+        .required(true)
+        .value_parser(value_parser!(u32).range(1..))
+}
+
 fn counts<'a>(alloc: Global) -> Arg<'a> {
     let help = "What triangles are counted of: the graph, or each vertex";
     with_value(alloc, "by", "WHAT", help)
         .value_parser(COUNTS.as_slice())
         .default_value("graph")
+}
+
+fn lines<'a>(alloc: Global) -> Arg<'a> {
+    with_value(alloc, "by", "SIDE", "Whose entries are counted")
+        .value_parser(LINES.as_slice())
+        .default_value("row")
 }
 
 fn source<'a>(alloc: Global) -> Arg<'a> {
@@ -405,7 +445,9 @@ fn option_of<'a>(alloc: Global, choice: Choice) -> Arg<'a> {
         Choice::Function => function(alloc),
         Choice::Number => number(alloc),
         Choice::Form => form(alloc),
+        Choice::Exponent => exponent(alloc),
         Choice::Counts => counts(alloc),
+        Choice::Lines => lines(alloc),
         Choice::Source => source(alloc),
         Choice::Grid => grid(alloc),
         Choice::Engine => engine(alloc),
@@ -421,41 +463,45 @@ fn file<'a>(alloc: Global, name: &'a str) -> Arg<'a> {
         .help("A Matrix Market file")
 }
 
-/// Adds file arguments to a command.
-fn with_files<'a>(
+/// Appends file arguments to a list.
+fn push_files<'a>(
     alloc: Global,
-    command: Command<'a>,
+    arguments: &mut Vec<Arg<'a>>,
     files: &[&'a str],
-) -> Result<Command<'a>, AllocError> {
-    let mut command = command;
+) -> Result<(), AllocError> {
     for name in files {
-        command = command.arg(file(alloc, name))?;
+        arguments.push(file(alloc, name))?;
     }
-    Ok(command)
+    Ok(())
 }
 
-/// Adds options to a command.
-fn with_options<'a>(
+/// Appends options to a list of arguments.
+fn push_options<'a>(
     alloc: Global,
-    command: Command<'a>,
+    arguments: &mut Vec<Arg<'a>>,
     choices: &[Choice],
-) -> Result<Command<'a>, AllocError> {
-    let mut command = command;
+) -> Result<(), AllocError> {
     for choice in choices {
-        command = command.arg(option_of(alloc, *choice))?;
+        arguments.push(option_of(alloc, *choice))?;
     }
-    Ok(command)
+    Ok(())
+}
+
+/// Builds a command from its outline, without its arguments.
+fn bare_command<'a>(alloc: Global, outline: &Outline) -> Command<'a> {
+    Command::new(alloc, outline.name)
+        .about(outline.about)
+        .after_help(outline.after_help)
+        .disable_help_flag(true)
 }
 
 /// Builds a command from its outline.
 fn command<'a>(alloc: Global, outline: &Outline) -> Result<Command<'a>, AllocError> {
-    let command = Command::new(alloc, outline.name)
-        .about(outline.about)
-        .after_help(outline.after_help)
-        .disable_help_flag(true);
-    let command = with_files(alloc, command, outline.files)?;
-    let command = with_options(alloc, command, outline.options)?;
-    with_options(alloc, command, outline.common)
+    let mut arguments = Vec::new(alloc);
+    push_files(alloc, &mut arguments, outline.files)?;
+    push_options(alloc, &mut arguments, outline.options)?;
+    push_options(alloc, &mut arguments, outline.common)?;
+    bare_command(alloc, outline).args(arguments)
 }
 
 /// Builds `multiply` on its own, for the usage error of a conflict between its options.
@@ -480,29 +526,35 @@ fn bare_program<'a>(alloc: Global) -> Command<'a> {
         .disable_help_subcommand(true)
 }
 
-/// Adds the options of the program, which stand before its command.
-fn with_program_options<'a>(
-    alloc: Global,
-    program: Command<'a>,
-) -> Result<Command<'a>, AllocError> {
-    let program = program.arg(help(alloc))?;
-    program.arg(version(alloc))
+/// Builds the program with the options that stand before its command.
+fn program_alone<'a>(alloc: Global) -> Result<Command<'a>, AllocError> {
+    let mut options = Vec::new(alloc);
+    options.push(help(alloc))?;
+    options.push(version(alloc))?;
+    bare_program(alloc).args(options)
 }
 
-/// Adds a command to the program. The command is passed as the result of building it, so that an exit of the caller
-/// drops no program.
-fn with_command<'a>(
-    program: Command<'a>,
-    made: Result<Command<'a>, AllocError>,
-) -> Result<Command<'a>, AllocError> {
-    program.subcommand(made?)
+/// Appends the commands with these outlines to a list.
+fn push_commands<'a>(
+    alloc: Global,
+    commands: &mut Vec<Command<'a>>,
+    outlines: &[&Outline],
+) -> Result<(), AllocError> {
+    for outline in outlines {
+        let made = command(alloc, outline)?;
+        commands.push(made)?;
+    }
+    Ok(())
+}
+
+/// The commands, in the order in which help shows them.
+fn outlines() -> &'static [&'static Outline] {
+    &OUTLINES
 }
 
 /// Builds the program with all its commands.
 pub fn program<'a>(alloc: Global) -> Result<Command<'a>, AllocError> {
-    let mut program = with_program_options(alloc, bare_program(alloc))?;
-    for outline in OUTLINES {
-        program = with_command(program, command(alloc, outline))?;
-    }
-    Ok(program)
+    let mut commands = Vec::new(alloc);
+    push_commands(alloc, &mut commands, outlines())?;
+    program_alone(alloc)?.subcommands(commands)
 }

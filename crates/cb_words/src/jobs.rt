@@ -10,7 +10,7 @@ use std::alloc::{AllocError, AllocFailed};
 use thiserror::Error;
 
 /// What is computed from the files. A source is a vertex of the graph of the file's matrix, counted from 0.
-#[derive(Clone, Copy, Debug, PartialEq, Eq)]
+#[derive(Clone, Copy, PartialEq, Eq)]
 pub enum Task {
     /// An operation on the files' matrices, over a semiring.
     Matrix {
@@ -35,6 +35,10 @@ pub enum Task {
     Triangles,
     /// The number of triangles that each vertex is part of. The file is read in or-and.
     TriangleCounts,
+    /// The number of entries in each row. The file is read in or-and.
+    RowDegrees,
+    /// The number of entries in each column. The file is read in or-and.
+    ColumnDegrees,
     /// A selection from the file's matrix, over a semiring.
     Selected {
         selection: Selection,
@@ -47,7 +51,7 @@ pub enum Task {
 }
 
 /// What computes a job.
-#[derive(Clone, Copy, Debug, PartialEq, Eq)]
+#[derive(Clone, Copy, PartialEq, Eq)]
 pub enum EngineName {
     /// The caller's thread, without ranks.
     Plain,

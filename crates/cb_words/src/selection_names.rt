@@ -1,7 +1,8 @@
 //! Selections from a matrix, as a command line names them.
+use std::num::NonZeroU32;
 
-/// A matrix made from another one, by the places of its entries or by their values.
-#[derive(Clone, Copy, Debug, PartialEq, Eq)]
+/// A matrix made from another one: by the places of its entries, by their values, or by multiplying it by itself.
+#[derive(Clone, Copy, PartialEq, Eq)]
 pub enum Selection {
     /// The entries in a region of the diagonal that is `right` columns right of the main one, or `down` rows below it.
     Select {
@@ -15,10 +16,12 @@ pub enum Selection {
     Diagonal,
     /// The square matrix whose diagonal is a column.
     DiagonalMatrix,
+    /// The power with this many factors.
+    Power(NonZeroU32),
 }
 
 /// The places of a region: on a diagonal or below it, on it or above it, on it, or off it.
-#[derive(Clone, Copy, Debug, PartialEq, Eq)]
+#[derive(Clone, Copy, PartialEq, Eq)]
 pub enum RegionName {
     Lower,
     Upper,
@@ -28,7 +31,7 @@ pub enum RegionName {
 
 /// The new value of an entry: a number, the sum or the product of its value and a number, or the number of its row or
 /// column, counted from 0.
-#[derive(Clone, Copy, Debug, PartialEq, Eq)]
+#[derive(Clone, Copy, PartialEq, Eq)]
 pub enum FunctionName {
     Constant(u64),
     Plus(u64),

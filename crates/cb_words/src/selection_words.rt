@@ -1,6 +1,7 @@
 //! Reads the selection of a command line.
 use crate::selection_names::{FunctionName, RegionName, Selection};
 use clap::ArgMatches;
+use std::num::NonZeroU32;
 
 /// How many columns the diagonal of `--diagonal` is right of the main one, and how many rows below it. One of them is 0.
 fn diagonal_of(found: &ArgMatches<'_>) -> Option<(u32, u32)> {
@@ -51,6 +52,12 @@ pub fn takes_number(found: &ArgMatches<'_>) -> bool {
     !matches!(found.get_str("function"), Some("row" | "column"))
 }
 
+/// The selection of `power`.
+fn power_of(found: &ArgMatches<'_>) -> Option<Selection> {
+    let factors = found.get_one::<NonZeroU32>("exponent")?;
+    Some(Selection::Power(factors))
+}
+
 /// The selection of a command.
 pub fn selection_of(command: &str, found: &ArgMatches<'_>) -> Option<Selection> {
     match command {
@@ -58,6 +65,7 @@ pub fn selection_of(command: &str, found: &ArgMatches<'_>) -> Option<Selection> 
         "apply" => Some(Selection::Apply(function_of(found)?)),
         "diagonal" if found.get_str("as") == Some("matrix") => Some(Selection::DiagonalMatrix),
         "diagonal" => Some(Selection::Diagonal),
+        "power" => power_of(found),
         _ => None,
     }
 }

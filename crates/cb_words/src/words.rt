@@ -72,6 +72,7 @@ fn arguments(task: Task) -> &'static [&'static str]
         Task::Matrix { operation, .. } => operands(operation),
         Task::Levels { .. } | Task::Distances { .. } | Task::Parents { .. } => &["A"],
         Task::Components | Task::Triangles | Task::TriangleCounts => &["A"],
+        Task::RowDegrees | Task::ColumnDegrees => &["A"],
         Task::Selected { .. } => &["A"],
         Task::Kronecker { .. } => &["A", "B"],
     }
@@ -238,7 +239,9 @@ fn task_of(command: &str, found: &ArgMatches<'_>) -> Option<Task> {
         "components" => Some(Task::Components),
         "triangles" if found.get_str("by") == Some("vertex") => Some(Task::TriangleCounts),
         "triangles" => Some(Task::Triangles),
-        "select" | "apply" | "diagonal" => selected_of(command, found),
+        "degrees" if found.get_str("by") == Some("column") => Some(Task::ColumnDegrees),
+        "degrees" => Some(Task::RowDegrees),
+        "select" | "apply" | "diagonal" | "power" => selected_of(command, found),
         "kron" => kronecker_of(found),
         _ => matrix_of(command, found),
     }
@@ -312,6 +315,27 @@ pub fn asked<R: Env + AllocGlobal + Threads>(rt: &R) -> Result<Job, UsageFault> 
     }
 }
 
+/// What `clap` finds in the words of a command line, or the fault of its error.
+fn matches_of(alloc: Global, words: &[String]) -> Result<ArgMatches<'_>, UsageFault> {
+    match program(alloc)?.try_get_matches_from(words) {
+        Ok(matches) => Ok(matches),
+        Err(error) => Err(fault_of(alloc, &error)),
+    }
+}
+
+/// Reads what `clap` found in a command line.
+fn job_in(alloc: Global, matches: &ArgMatches<'_>, processors: usize) -> Result<Job, UsageFault>
+    ensures { IfOk result (λ job. vec_len job.files ≡ file_count_of job.task) }
+{
+    if let Some(conflict) = conflict_in(matches) {
+        return Err(conflict_fault(alloc, conflict)?);
+    }
+    match job_of(alloc, matches, processors)? {
+        Some(job) => Ok(job),
+        None => Err(usage(alloc, "error: the command line can't be read\n")),
+    }
+}
+
 /// Reads the words of a command line. The first word is the program's name.
 ///
 /// The job names as many files as its task reads. What no option chooses depends on the command and on the number of
@@ -320,15 +344,6 @@ pub fn asked<R: Env + AllocGlobal + Threads>(rt: &R) -> Result<Job, UsageFault> 
 pub fn read_job(alloc: Global, words: &[String], processors: usize) -> Result<Job, UsageFault>
     ensures { IfOk result (λ job. vec_len job.files ≡ file_count_of job.task) }
 {
-    let matches = match program(alloc)?.try_get_matches_from(words) {
-        Ok(matches) => matches,
-        Err(error) => return Err(fault_of(alloc, &error)),
-    };
-    if let Some(conflict) = conflict_in(&matches) {
-        return Err(conflict_fault(alloc, conflict)?);
-    }
-    match job_of(alloc, &matches, processors)? {
-        Some(job) => Ok(job),
-        None => Err(usage(alloc, "error: the command line can't be read\n")),
-    }
+    let matches = matches_of(alloc, words)?;
+    job_in(alloc, &matches, processors)
 }

@@ -2,9 +2,10 @@
 //! run. `cb_cli` does the rest.
 #![tactic(auto)]
 
-use cb_cli::endings::{Status, run};
-use cb_cli::files::SystemFiles;
-use cb_cli::sinks::WriterSink;
+use cb_cli::runs::run;
+use cb_tasks::endings::Status;
+use cb_tasks::files::SystemFiles;
+use cb_tasks::sinks::WriterSink;
 use cb_words::asked;
 use std::io;
 

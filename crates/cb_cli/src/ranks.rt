@@ -1,0 +1,52 @@
+//! The ranks that compute a job, and their faults.
+ghost use Rattle.std.specs.Prelude.{◌≡◌, ◌≢◌};
+ghost use Rattle.cb_cli.specs.Engines.{engine_of, fault_of_engine, fault_of_operation};
+ghost use Rattle.cb_tasks.specs.declared.faults.JobFault.TheVariants.{Output};
+
+use cb_engines::{Engine, EngineFault};
+use cb_layout::Grid;
+use cb_run::OperationFault;
+use cb_tasks::faults::{JobFault, RanksFault};
+use cb_words::EngineName;
+
+/// The ranks that compute a job: an engine over the ranks of a grid; and how many threads read and write.
+#[derive(Clone, Copy)]
+pub struct Ranks<'o> {
+    pub engine: Engine<'o>,
+    pub grid: Grid,
+    pub threads: u32,
+}
+
+/// The engine of a name, or none where no ranks compute.
+pub fn engine_of(name: EngineName) -> Option<Engine<'static>>
+    ensures { result ≡ engine_of name }
+{
+    match name {
+        EngineName::Plain => None,
+        EngineName::Ranks(letters) => Some(Engine::Threads(letters)),
+        EngineName::Traced(letters) => Some(Engine::Traced(letters)),
+    }
+}
+
+/// The fault of a job for a fault of an engine.
+fn engine_fault(fault: EngineFault) -> JobFault
+    ensures { result ≡ fault_of_engine fault }
+{
+    match fault {
+        EngineFault::Memory => JobFault::Memory,
+        EngineFault::NotStarted(rank) => JobFault::Ranks(RanksFault::NotStarted(rank)),
+        EngineFault::Gone(rank) => JobFault::Ranks(RanksFault::Gone(rank)),
+        EngineFault::TraceTorn => JobFault::Ranks(RanksFault::TraceTorn),
+        EngineFault::Lost { rank, .. } => JobFault::Ranks(RanksFault::Lost(rank)),
+    }
+}
+
+/// The fault of a job for a fault of an operation by an engine.
+pub fn job_fault(fault: OperationFault) -> JobFault
+    ensures { result ≡ fault_of_operation fault }
+{
+    match fault {
+        OperationFault::Refused(refusal) => JobFault::Refused(refusal),
+        OperationFault::Failed(fault) => engine_fault(fault),
+    }
+}

@@ -1,0 +1,8 @@
+mod SinkLemmas
+mod EndLemmas
+mod FileLemmas
+mod OperandLemmas
+pub mod EndingLemmas
+mod LineLemmas
+mod ProductFaults
+mod OperationFaults

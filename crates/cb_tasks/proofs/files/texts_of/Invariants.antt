@@ -1,0 +1,10 @@
+use Rattle.std.proofs.Common.{◌≡◌, length}
+use Rattle.cb_tasks.specs.Files.{bytes_of, HoldsBelow}
+use Rattle.cb_tasks.proofs.files.texts_of.Given as goal
+
+-- one text for each name so far, what its file holds
+abbrev pub invariant-loop-which : goal.invariant-loop-which
+invariant-loop-which g l = record {
+  held : HoldsBelow (g.F.FileSource.holds l.files) l.names (bytes_of l.texts.items) l.which;
+  count : length l.texts.items ≡ l.which;
+}

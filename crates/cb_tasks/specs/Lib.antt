@@ -1,0 +1,9 @@
+pub mod Sinks
+pub mod Writers
+pub mod FaultLines
+pub mod Files
+pub mod Selected
+pub mod Answers
+pub mod WriteEnds
+pub mod Endings
+pub mod Statuses

@@ -1,0 +1,140 @@
+//! Reads the operands of a job, in the job's order. Each text is read in pieces, by at most `threads` threads, and dropped
+//! once it is read.
+ghost use Rattle.std.specs.Prelude.{◌≡◌, ◌∷◌, [], length, vec_len, IfOk, IfErr};
+ghost use Rattle.cb_market.specs.Reads.{Reads};
+ghost use Rattle.cb_operations.specs.Operands.{list_of};
+ghost use Rattle.cb_operations.specs.OperationAnswers.{operand_count_of};
+ghost use Rattle.cb_tasks.specs.Answers.{AreMatrices, IsTextFault, IsReadFault};
+ghost use Rattle.cb_tasks.specs.Files.{bytes_of, text_at};
+
+use crate::faults::JobFault;
+use cb_dcsc::Block;
+use cb_layout::{DistributedMatrix, Grid};
+use cb_operations::{Operands, Operation};
+use cb_reading::{Pieces, read_side_by_side};
+use cb_semirings::Semiring;
+use std::alloc::Global;
+use std::thread::Threads;
+
+/// The least number of bytes for which a thread is started.
+const LEAST_BYTES: usize = 262_144;
+
+/// Reads the text at position `which` into the blocks of a grid.
+fn read_text<S: Semiring + Send + Sync, R: Threads + Sync>(
+    rt: &R,
+    alloc: Global,
+    grid: &Grid,
+    threads: u32,
+    which: usize,
+    text: Vec<u8>,
+) -> Result<DistributedMatrix<S>, JobFault>
+    ensures ok { IfOk result (λ m. Reads S.arithmetic text.items m.matrix) }
+    ensures side { IfOk result (λ m. m.side ≡ grid.now.side) }
+    ensures fault { IfErr result (IsTextFault S.arithmetic which text.items) }
+{
+    let pieces = Pieces {
+        most: threads,
+        least_bytes: LEAST_BYTES,
+    };
+    match read_side_by_side::<S, R>(rt, alloc, grid, pieces, &text) {
+        Ok(matrix) => Ok(matrix),
+        Err(fault) => Err(JobFault::Read { which, fault }),
+    }
+}
+
+/// Reads the only text into the blocks of a grid.
+pub fn read_one<S: Semiring + Send + Sync, R: Threads + Sync>(
+    rt: &R,
+    alloc: Global,
+    grid: &Grid,
+    threads: u32,
+    mut texts: Vec<Vec<u8>>,
+) -> Result<DistributedMatrix<S>, JobFault>
+    requires { vec_len texts ≡ 1 }
+    ensures ok { IfOk result (λ m. AreMatrices S.arithmetic (bytes_of texts.items) (m.matrix ∷ [])) }
+    ensures only { IfOk result (λ m. Reads S.arithmetic (text_at (bytes_of texts.items) 0) m.matrix) }
+    ensures side { IfOk result (λ m. m.side ≡ grid.now.side) }
+    ensures fault { IfErr result (IsReadFault S.arithmetic (bytes_of texts.items)) }
+{
+    let text = texts.remove(0);
+    read_text(rt, alloc, grid, threads, 0, text)
+}
+
+/// Reads two texts into the blocks of a grid.
+pub fn read_two<S: Semiring + Send + Sync, R: Threads + Sync>(
+    rt: &R,
+    alloc: Global,
+    grid: &Grid,
+    threads: u32,
+    mut texts: Vec<Vec<u8>>,
+) -> Result<(DistributedMatrix<S>, DistributedMatrix<S>), JobFault>
+    requires { vec_len texts ≡ 2 }
+    ensures ok { IfOk result (λ p. AreMatrices S.arithmetic (bytes_of texts.items) (p.0.matrix ∷ p.1.matrix ∷ [])) }
+    ensures sides { IfOk result (λ p. (p.0.side ≡ grid.now.side) × (p.1.side ≡ grid.now.side)) }
+    ensures fault { IfErr result (IsReadFault S.arithmetic (bytes_of texts.items)) }
+{
+    let first = texts.remove(0);
+    let second = texts.remove(0);
+    let left = read_text(rt, alloc, grid, threads, 0, first)?;
+    let right = read_text(rt, alloc, grid, threads, 1, second)?;
+    Ok((left, right))
+}
+
+/// Reads three texts into the blocks of a grid.
+pub fn read_three<S: Semiring + Send + Sync, R: Threads + Sync>(
+    rt: &R,
+    alloc: Global,
+    grid: &Grid,
+    threads: u32,
+    mut texts: Vec<Vec<u8>>,
+) -> Result<
+    (
+        DistributedMatrix<S>,
+        DistributedMatrix<S>,
+        DistributedMatrix<S>,
+    ),
+    JobFault,
+>
+    requires { vec_len texts ≡ 3 }
+    ensures ok { IfOk result (λ p. AreMatrices S.arithmetic (bytes_of texts.items) (p.0.matrix ∷ p.1.matrix ∷ p.2.matrix ∷ [])) }
+    ensures sides { IfOk result (λ p. (p.0.side ≡ grid.now.side) × (p.1.side ≡ grid.now.side) × (p.2.side ≡ grid.now.side)) }
+    ensures fault { IfErr result (IsReadFault S.arithmetic (bytes_of texts.items)) }
+{
+    let first = texts.remove(0);
+    let second = texts.remove(0);
+    let third = texts.remove(0);
+    let left = read_text(rt, alloc, grid, threads, 0, first)?;
+    let right = read_text(rt, alloc, grid, threads, 1, second)?;
+    let mask = read_text(rt, alloc, grid, threads, 2, third)?;
+    Ok((left, right, mask))
+}
+
+/// Reads the operands of an operation, each into one block.
+pub fn read_blocks<S: Semiring + Send + Sync, R: Threads + Sync>(
+    rt: &R,
+    alloc: Global,
+    threads: u32,
+    operation: Operation,
+    texts: Vec<Vec<u8>>,
+) -> Result<Operands<Block<S>>, JobFault>
+    requires { vec_len texts ≡ operand_count_of operation }
+    ensures count { IfOk result (λ o. operand_count_of operation ≡ length (list_of o)) }
+    ensures ok { IfOk result (λ o. AreMatrices S.arithmetic (bytes_of texts.items) (list_of o)) }
+    ensures fault { IfErr result (IsReadFault S.arithmetic (bytes_of texts.items)) }
+{
+    let grid = Grid::single();
+    match operation.operand_count() {
+        1 => {
+            let matrix = read_one(rt, alloc, &grid, threads, texts)?;
+            Ok(Operands::One(matrix.into_block()))
+        }
+        2 => {
+            let (left, right) = read_two(rt, alloc, &grid, threads, texts)?;
+            Ok(Operands::Two(left.into_block(), right.into_block()))
+        }
+        _ => {
+            let (left, right, mask) = read_three(rt, alloc, &grid, threads, texts)?;
+            Ok(Operands::Three(left.into_block(), right.into_block(), mask.into_block()))
+        }
+    }
+}

@@ -1,0 +1,14 @@
+//! Tasks on the matrices of texts, over any semiring.
+use cb_operations::Operation;
+use cb_words::Selection;
+
+/// What is made of the matrices of texts over a semiring.
+#[derive(Clone, Copy)]
+pub enum MatrixTask {
+    /// An operation.
+    Operation(Operation),
+    /// A selection from one matrix.
+    Selection(Selection),
+    /// The Kronecker product of two matrices.
+    Kronecker,
+}
