@@ -42,26 +42,24 @@ fn block_of<S: Semiring>(
     block::<S>(alloc, sides.0, sides.1, entries)
 }
 
-/// The first block updated by the second, under a mask if there is one.
+/// The first block updated by the second, under the first of some masks if there is one.
 fn updated<S: Semiring>(
     alloc: Global,
     how: WriteBack,
     first: &Block<S>,
     second: &Block<S>,
-    mask: Option<&Block<S>>,
+    masks: &[Block<S>],
 ) -> Result<Block<S>, SampleFault> {
     if second.shape() != first.shape() {
         return Err(SampleFault::Shape);
     }
-    match mask {
-        Some(mask) => {
-            if mask.shape() != first.shape() {
-                return Err(SampleFault::Shape);
-            }
-            Ok(update(alloc, how, first, second, Some(mask))?)
+    let mask = masks.first();
+    if let Some(mask) = mask {
+        if mask.shape() != first.shape() {
+            return Err(SampleFault::Shape);
         }
-        None => Ok(update(alloc, how, first, second, None)?),
     }
+    Ok(update(alloc, how, first, second, mask)?)
 }
 
 /// The first block updated under a mask with these entries.
@@ -74,7 +72,7 @@ fn updated_under<S: Semiring>(
 ) -> Result<Block<S>, SampleFault> {
     let shape = first.shape();
     let mask = block::<S>(alloc, shape.rows(), shape.cols(), mask)?;
-    updated(alloc, how, first, second, Some(&mask))
+    updated(alloc, how, first, second, &[mask])
 }
 
 /// The product of two blocks, each transposed first or not.
@@ -119,7 +117,7 @@ fn made_of<S: Semiring>(
     second: &Block<S>,
 ) -> Result<Block<S>, SampleFault> {
     match ask {
-        Ask::Update(how) => updated(alloc, *how, first, second, None),
+        Ask::Update(how) => updated(alloc, *how, first, second, &[]),
         Ask::Masked(how, mask) => updated_under(alloc, *how, first, second, mask),
         Ask::Multiply(turn_first, turn_second) => {
             multiplied(alloc, first, *turn_first, second, *turn_second)
@@ -483,9 +481,13 @@ fn agrees(alloc: Global, seed: u64, how: WriteBack) -> Result<bool, SampleFault>
     let old = block_of(alloc, &(sides, &scattered(alloc, seed, sides)?))?;
     let new = block_of(alloc, &(sides, &scattered(alloc, next(seed), sides)?))?;
     let mask = block_of(alloc, &(sides, &scattered(alloc, next(!seed), sides)?))?;
-    let under = updated(alloc, how, &old, &new, Some(&mask))?;
-    let all = updated(alloc, how, &old, &new, None)?;
-    Ok(has_values(&under, how, &old, &new, Some(&mask)) && has_values(&all, how, &old, &new, None))
+    let masks = [mask];
+    let under = updated(alloc, how, &old, &new, &masks)?;
+    let all = updated(alloc, how, &old, &new, &[])?;
+    Ok(
+        has_values(&under, how, &old, &new, Some(&masks[0]))
+            && has_values(&all, how, &old, &new, None),
+    )
 }
 
 /// Whether all updates agree.
