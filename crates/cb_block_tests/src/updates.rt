@@ -62,6 +62,17 @@ fn updated<S: Semiring>(
     Ok(update(alloc, how, first, second, mask)?)
 }
 
+/// The first block updated everywhere.
+fn updated_everywhere<S: Semiring>(
+    alloc: Global,
+    how: WriteBack,
+    first: &Block<S>,
+    second: &Block<S>,
+) -> Result<Block<S>, SampleFault> {
+    let none = Vec::new(alloc);
+    updated(alloc, how, first, second, &none)
+}
+
 /// The first block updated under a mask with these entries.
 fn updated_under<S: Semiring>(
     alloc: Global,
@@ -117,7 +128,7 @@ fn made_of<S: Semiring>(
     second: &Block<S>,
 ) -> Result<Block<S>, SampleFault> {
     match ask {
-        Ask::Update(how) => updated(alloc, *how, first, second, &[]),
+        Ask::Update(how) => updated_everywhere(alloc, *how, first, second),
         Ask::Masked(how, mask) => updated_under(alloc, *how, first, second, mask),
         Ask::Multiply(turn_first, turn_second) => {
             multiplied(alloc, first, *turn_first, second, *turn_second)
@@ -483,7 +494,7 @@ fn agrees(alloc: Global, seed: u64, how: WriteBack) -> Result<bool, SampleFault>
     let mask = block_of(alloc, &(sides, &scattered(alloc, next(!seed), sides)?))?;
     let masks = [mask];
     let under = updated(alloc, how, &old, &new, &masks)?;
-    let all = updated(alloc, how, &old, &new, &[])?;
+    let all = updated_everywhere(alloc, how, &old, &new)?;
     Ok(
         has_values(&under, how, &old, &new, Some(&masks[0]))
             && has_values(&all, how, &old, &new, None),

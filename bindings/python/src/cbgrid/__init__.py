@@ -267,7 +267,7 @@ def multiply(
            [0, 9]])
     """
     if isinstance(a, Matrix):
-        return _of_kept(a, semiring, grid).multiply(b, mask, complement, threads)
+        return _of_kept(a, semiring, grid).multiply(b, mask, complement, threads=threads)
     if complement:
         raise TypeError("complement: a Matrix is wanted for a")
     if operator.index(threads) != 1:
