@@ -14,7 +14,7 @@
 --   `length-part`, `is_nth`, `nth_column_rows`.
 -- Pushed: one more entry after all others: `matrix_push`, and in the lists `pushed_same`, `pushed_new`.
 -- Faultless: an entry in order comes after those of the block: `next_after`.
--- Appended: entries added after all those of a block: `matrix_append`.
+-- Appended: entries added after all those of a block: `matrix_append`; without them it is a block: `matrix_front`.
 pub mod Pieces
 pub mod Lookup
 pub mod Numbers

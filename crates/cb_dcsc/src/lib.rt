@@ -344,10 +344,8 @@ impl<S: Semiring> Block<S> {
         if columns == 0 {
             return Ok(());
         }
-        self.columns.reserve(columns)?;
-        self.starts.reserve(columns + 1)?;
-        self.rows.reserve(entries)?;
-        self.values.reserve(entries)?;
+        reserve_both(&mut self.columns, &mut self.starts, columns, columns + 1)?;
+        reserve_both(&mut self.rows, &mut self.values, entries, entries)?;
         Ok(())
     }
 
@@ -361,8 +359,7 @@ impl<S: Semiring> Block<S> {
         ensures err { OnErr result (self.new ≡ self.old) }
         ensures matrix { IsMatrix S.arithmetic self.new }
     {
-        self.rows.reserve(1)?;
-        self.values.reserve(1)?;
+        reserve_both(&mut self.rows, &mut self.values, 1, 1)?;
         let len = self.rows.len();
         if ends_with(&self.columns, entry.column) {
             let last = self.starts.len() - 1;
@@ -401,8 +398,7 @@ impl<S: Semiring> Block<S> {
         if rows.is_empty() {
             return Ok(());
         }
-        self.rows.reserve(rows.len())?;
-        self.values.reserve(rows.len())?;
+        reserve_both(&mut self.rows, &mut self.values, rows.len(), rows.len())?;
         let end = len + rows.len();
         start_column(&mut self.columns, &mut self.starts, column, end)?;
         extend_reserved(&mut self.rows, rows);
@@ -559,6 +555,26 @@ fn start_column(
     }
     columns.push_reserved(column);
     starts.push_reserved(end);
+    Ok(())
+}
+
+/// Reserves memory for more items of two lists: `more_left` of one and `more_right` of the other.
+#[inline(always)]
+fn reserve_both<T: Copy, U: Copy>(
+    left: &mut Vec<T>,
+    right: &mut Vec<U>,
+    more_left: usize,
+    more_right: usize,
+) -> Result<(), AllocError>
+    ensures left { left.new.items ≡ left.old.items }
+    ensures right { right.new.items ≡ right.old.items }
+    ensures left_len { vec_len left.new ≡ vec_len left.old }
+    ensures right_len { vec_len right.new ≡ vec_len right.old }
+    ensures left_room { OnOk result (vec_len left.new + more_left ≤ vec_capacity left.new) }
+    ensures right_room { OnOk result (vec_len right.new + more_right ≤ vec_capacity right.new) }
+{
+    left.reserve(more_left)?;
+    right.reserve(more_right)?;
     Ok(())
 }
 

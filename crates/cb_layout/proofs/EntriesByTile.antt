@@ -119,37 +119,37 @@ pub record IsOwed (s : Arithmetic) (blocks : List Sparse) (n : ℕ) (e : Entry) 
   pub not_zero : e.value ≢ s.zero
 
 -- the next entry of a matrix, at its rank and with its place there, where the entries are read from a slice
-module _ (s : Arithmetic) (m : Sparse) (is : IsMatrix s m) (t : Tiles) (tiling : IsTiling m.shape t) (entries : List Entry) (same : entries ≡ m.entries) (k : ℕ) (l : k < length entries) (blocks : List Sparse) (so_far : IsScattered t (take k m.entries) blocks)
-    (x : Entry) (rank : ℕ) (local : Entry) (here : rank ≡ owner_of t (get_or entries k x)) (place : local ≡ moved t (get_or entries k x)) where
+module _ (s : Arithmetic) (m : Sparse) (is : IsMatrix s m) (tiles : Extent → Tiles) (tiling : IsTiling m.shape (tiles m.shape)) (entries : List Entry) (same : entries ≡ m.entries) (k : ℕ) (l : k < length entries) (blocks : List Sparse) (so_far : IsScattered (tiles m.shape) (take k m.entries) blocks)
+    (shape : Extent) (own : shape ≡ m.shape) (x : Entry) (rank : ℕ) (local : Entry) (here : rank ≡ owner_of (tiles shape) (get_or entries k x)) (place : local ≡ moved (tiles shape) (get_or entries k x)) where
   within : k < length m.entries
   within = subst (λ es. k < length es) same l
 
-  here_of : rank ≡ owner_of t (get_or m.entries k x)
-  here_of = here ∙ ap (λ es. owner_of t (get_or es k x)) same
+  here_of : rank ≡ owner_of (tiles m.shape) (get_or m.entries k x)
+  here_of = here ∙ (λ i. owner_of (tiles (own i)) (get_or (same i) k x))
 
-  place_of : local ≡ moved t (get_or m.entries k x)
-  place_of = place ∙ ap (λ es. moved t (get_or es k x)) same
+  place_of : local ≡ moved (tiles m.shape) (get_or m.entries k x)
+  place_of = place ∙ (λ i. moved (tiles (own i)) (get_or (same i) k x))
 
   pub next_is_owed : IsOwed s blocks rank local
   next_is_owed =
       subst (λ n. IsOwed s blocks n local) (sym here_of)
-      (subst (λ e. IsOwed s blocks (owner_of t (get_or m.entries k x)) e) (sym place_of) (record {
-        rank = rank_there m.shape t tiling m.entries is.inside is.ascending k x within blocks so_far;
-        inside = inside_there m.shape t tiling m.entries is.inside is.ascending k x within blocks so_far;
-        order = order_there m.shape t tiling m.entries is.inside is.ascending k x within blocks so_far;
+      (subst (λ e. IsOwed s blocks (owner_of (tiles m.shape) (get_or m.entries k x)) e) (sym place_of) (record {
+        rank = rank_there m.shape (tiles m.shape) tiling m.entries is.inside is.ascending k x within blocks so_far;
+        inside = inside_there m.shape (tiles m.shape) tiling m.entries is.inside is.ascending k x within blocks so_far;
+        order = order_there m.shape (tiles m.shape) tiling m.entries is.inside is.ascending k x within blocks so_far;
         value = is.values k x within;
         not_zero = is.not_zero k x within;
       }))
 
   -- with it the blocks have the entries of their tiles among one more entry
-  pub next_is_scattered : (new : List Sparse) → new ≡ set blocks rank (with_entry (block_at blocks rank) local) → IsScattered t (take (k + 1) m.entries) new
+  pub next_is_scattered : (new : List Sparse) → new ≡ set blocks rank (with_entry (block_at blocks rank) local) → IsScattered (tiles m.shape) (take (k + 1) m.entries) new
   next_is_scattered new h =
-      scattered_more m.shape t tiling m.entries is.inside is.ascending k x within blocks so_far new
+      scattered_more m.shape (tiles m.shape) tiling m.entries is.inside is.ascending k x within blocks so_far new
       (h ∙ (λ i. set blocks (here_of i) (with_entry (block_at blocks (here_of i)) (place_of i))))
 
 -- all entries taken
-pub scattered_all : (t : Tiles) (all : List Entry) (k : ℕ) (blocks : List Sparse) → length all ≤ k → IsScattered t (take k all) blocks → IsScattered t all blocks
-scattered_all t all k blocks l h = subst (λ es. IsScattered t es blocks) (take_all k all l) h
+pub scattered_all : (t : Tiles) (all entries : List Entry) (k : ℕ) (blocks : List Sparse) → entries ≡ all → length entries ≤ k → IsScattered t (take k all) blocks → IsScattered t all blocks
+scattered_all t all entries k blocks same l h = subst (λ es. IsScattered t es blocks) (take_all k all (rw same at l)) h
 
 -- each block has the values of its tile
 pub tile_is : (s : Arithmetic) → IsSemiring s → (m : Sparse) (t : Tiles) → IsTiling m.shape t → IsMatrix s m → (blocks : List Sparse) → IsScattered t m.entries blocks → (r : ℕ) → r < t.count

@@ -6,10 +6,13 @@
 --   `own_below`, `own_part`, `part_order`.
 -- Cuts: the blocks of a matrix: `block_tiling`, `block_is`, and `glued_cut`, that they glue to it.
 -- VectorPieces: the pieces of a vector: `input_tiling`, `result_tiling`, `piece_is`, and `glued_pieces_cut`, that they
---   glue to it.
+--   glue to it; a grid that has ranks has a side: `some_side`.
+-- GrownBlocks: a matrix without entries is one: `empty_is_matrix`. The rest, on blocks that grow entry by entry, is for
+--   this crate.
 pub mod Parts
 pub mod Cuts
 pub mod VectorPieces
+pub mod GrownBlocks
 -- For this crate alone. SmallCases: what the definitions give in a few cases. Tiles: a shape cut into tiles, each
 -- place in one of them. EntriesByTile: a matrix in a list of entries for each tile. PlacedEntries: entries of tiles
 -- with their places in the whole. GluedTiles: the matrix of which tiles are the cuts. EntryCounts: the entries of a
@@ -28,9 +31,7 @@ pub mod Splits
 pub mod Fronts
 pub mod BlockColumns
 pub mod RemainingEntries
--- GrownBlocks: blocks that grow entry by entry. AppendedBlocks: blocks that grow by those of another matrix.
--- Recasts: blocks taken over to another semiring.
-pub mod GrownBlocks
+-- AppendedBlocks: blocks that grow by those of another matrix. Recasts: blocks taken over to another semiring.
 pub mod AppendedBlocks
 pub mod Recasts
 -- OneBlock: a grid of side 1 has the whole matrix as its only block.

@@ -59,14 +59,6 @@ module _ (shape : Extent) (t : Tiles) (is : IsTiling shape t) (r : ℕ) (known :
       ne (sym (is.own n x y l a b) ∙ (λ i. t.owner (p.0 i) (p.1 i)) ∙ is.own r e.row e.column known inside.0 inside.1)) in
       rw missed (placed_elsewhere n x y es l ne a b (All-tail (IsInside (t.size r)) e es k))
 
--- if no tile has given an entry, none are gathered
-pub gathered_none : (s : Arithmetic) (shape : Extent) (t : Tiles) (some : ℕ → List Entry) → ((r : ℕ) → some r ≡ []) → IsGathered s shape t some []
-gathered_none s shape t some h = record {
-  values = λ r x y _ _ _. sym (ap (λ es. values_at es x y) (h r));
-  inside = All-nil (IsInside shape);
-  are_values = All-nil (λ e. IsValue s e.value);
-}
-
 -- said of the same entries in another way
 pub gathered_same : (s : Arithmetic) (shape : Extent) (t : Tiles) (some more : ℕ → List Entry) (out : List Entry) → ((r : ℕ) → r < t.count → some r ≡ more r) → IsGathered s shape t some out → IsGathered s shape t more out
 gathered_same s shape t some more out h k = record {

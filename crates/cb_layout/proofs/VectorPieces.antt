@@ -1,5 +1,5 @@
 -- The pieces of vectors are tiles.
-use Rattle.std.proofs.Common.{◌≡◌, ℕ, zero, suc, ◌+◌, ◌-◌, ◌*◌, ◌/◌, ◌%◌, ◌<◌, true, false, List, [], ◌++◌, length, map, refl, sym, ap, subst, ◌∙◌, arith}
+use Rattle.std.proofs.Common.{◌≡◌, ℕ, zero, suc, ◌+◌, ◌-◌, ◌*◌, ◌/◌, ◌%◌, ◌<◌, true, false, List, ◌++◌, length, map, refl, sym, ap, subst, ◌∙◌, arith}
 use Rattle.std.specs.Prelude.{All, nat_lt}
 use Rattle.std.proofs.lemmas.Bool.Decides.{nat_tests}
 use Rattle.std.proofs.lemmas.List.Elements.{All-map, All-weaker}
@@ -19,7 +19,7 @@ use Rattle.cb_layout.proofs.Parts.{row_of_rank, column_of_rank, rank_below, rank
 use Rattle.cb_layout.proofs.Tiles.{IsTiling}
 use Rattle.cb_layout.proofs.GluedTiles.{tile_is_cut}
 use Rattle.cb_layout.proofs.EntriesByTile.{IsScattered, tile_is}
-use Rattle.cb_layout.proofs.PlacedEntries.{placed_column, gathered_none, gathered_more, gathered_same, gathered_all}
+use Rattle.cb_layout.proofs.PlacedEntries.{placed_column, gathered_more, gathered_same, gathered_all}
 use Rattle.std.proofs.lemmas.Nat.{mod_below}
 
 module _ (q d : ℕ) (pos : 0 < q) where
@@ -176,9 +176,6 @@ module _ (s : Arithmetic) (q : ℕ) (pos : 0 < q) (shape : Extent) (one : shape.
       (gathered_same s shape (result_tiles q shape) (before_rank blocks n) (λ r. (block_at blocks r).entries) out (λ r l.
       let t : nat_lt r n ≡ true = grind (arith, nat_tests) in
       rw t refl) h)
-
-pub none_before_rank : (s : Arithmetic) (q : ℕ) (shape : Extent) (blocks : List Sparse) → IsGathered s shape (result_tiles q shape) (before_rank blocks 0) []
-none_before_rank s q shape blocks = gathered_none s shape (result_tiles q shape) (before_rank blocks 0) (λ r. let f : nat_lt r 0 ≡ false = grind (arith, nat_tests) in rw f refl)
 
 -- a grid that has ranks has a side
 pub some_side : (q n : ℕ) → n < q * q → 0 < q

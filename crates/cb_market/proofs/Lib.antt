@@ -19,9 +19,11 @@ pub mod Segments
 pub mod WrittenBytes
 pub mod EntryRuns
 pub mod PartedTexts
--- For this crate alone. NumberLines: lines of numbers. EntryWords: the words of the line of an entry. NextEntries: the faults and the entries of a text, one entry on.
+-- For this crate alone. NumberLines: lines of numbers. HeaderWords: the words of the header and of the size line. EntryWords:
+-- the words of the line of an entry. NextEntries: the faults and the entries of a text, one entry on.
 -- Listed, Gatherings: the entries of a text, as they are gathered.
 mod NumberLines
+mod HeaderWords
 mod EntryWords
 mod NextEntries
 mod Listed

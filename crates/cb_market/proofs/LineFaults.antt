@@ -1,18 +1,17 @@
 -- The faults of entries, line by line.
-use Rattle.std.proofs.Common.{◌≡◌, ◌≢◌, ℕ, zero, suc, ◌+◌, ◌-◌, ◌≤◌, ◌<◌, Option, Some, None, List, [], ◌∷◌, ◌++◌, arith, sym, ap, ◌∙◌, refl, inl, inr, append_assoc, subst, map, filter, true, false, not, ⊎_elim}
+use Rattle.std.proofs.Common.{◌≡◌, ◌≢◌, ℕ, zero, suc, ◌+◌, ◌-◌, ◌≤◌, ◌<◌, Option, Some, None, List, [], ◌∷◌, arith, sym, ap, ◌∙◌, refl, inl, inr, subst, map, filter, true, false, not, ⊎_elim}
 use Rattle.std.specs.List.{enumerate_from}
 use Rattle.std.proofs.lemmas.Bool.{cases_Bool}
 use Rattle.std.specs.Prelude.{IfSome}
 use Rattle.cb_semirings.specs.Arithmetic.{Arithmetic}
-use Rattle.cb_matrix.specs.declared.Entry.{Entry}
 use Rattle.cb_matrix.specs.Sparse.{Extent}
 use Rattle.cb_market.specs.declared.Kind.{Kind}
 use Rattle.cb_market.specs.declared.Kind.TheVariants.{ExtraEntry, MissingEntries, Memory}
 use Rattle.cb_market.specs.declared.ReadFault.{ReadFault}
 use Rattle.cb_market.specs.declared.header.Header.{Header}
 use Rattle.cb_market.specs.Lines.{kept_from, lines, words, is_skipped}
-use Rattle.cb_market.specs.Checks.{entry_fault, entry_of, given_by}
-use Rattle.cb_market.specs.Faults.{entries_fault, given, IsAnswer, IsLineAnswer, at_line}
+use Rattle.cb_market.specs.Checks.{entry_fault}
+use Rattle.cb_market.specs.Faults.{entries_fault, IsAnswer, IsLineAnswer, at_line}
 
 -- the entries that are left have the faults of all
 abbrev pub SameFault : Arithmetic → Header → Extent → ℕ → ℕ → List (ℕ × List (List ℕ)) → ℕ → List (ℕ × List (List ℕ)) → Type 0
@@ -102,11 +101,6 @@ refused_at s header shape n left l more f h k a =
 pub refused : (s : Arithmetic) (header : Header) (shape : Extent) (n left : ℕ) (ls : List (ℕ × List (List ℕ))) (l : ℕ × List (List ℕ)) (more : List (ℕ × List (List ℕ))) (all : Option ReadFault) (f : ReadFault) → entries_fault s header shape n left ls ≡ all → left ≢ 0 → ls ≡ l ∷ more → From (l.0 + 1) more → l.0 + 1 ≤ n → IsLineAnswer l.0 (entry_fault s header shape l.1) f → IsAnswer all f
 refused s header shape n zero ls l more all f e z h p q a = absurd (z refl)
 refused s header shape n (suc left) ls l more all f e z h p q a = subst (λ (o : Option ReadFault). IsAnswer o f) (sym (ap (entries_fault s header shape n (suc left)) h) ∙ e) (refused_at s header shape n left l more f p q a)
-
--- what the entries give, one entry on
-pub gives_more : (s : Arithmetic) (header : Header) (items new all : List Entry) (ls : List (ℕ × List (List ℕ))) (l : ℕ × List (List ℕ)) (more : List (ℕ × List (List ℕ))) → items ++ given s header ls ≡ all → ls ≡ l ∷ more → new ≡ items ++ given_by s header.symmetry (entry_of s header l.1) → new ++ given s header more ≡ all
-gives_more s header items new all ls l more e h k =
-    ap (λ xs. xs ++ given s header more) k ∙ append_assoc items (given_by s header.symmetry (entry_of s header l.1)) (given s header more) ∙ sym (ap (λ xs. items ++ given s header xs) h) ∙ e
 
 -- missing entries at lines of the same number are the same fault
 pub at_end : {m n : ℕ} → m ≡ n → record_at m MissingEntries ≡ record_at n MissingEntries

@@ -1,7 +1,7 @@
 -- The faults and the entries of a text, one entry on.
-use Rattle.std.proofs.Common.{◌≡◌, ◌≢◌, ℕ, ◌+◌, ◌-◌, ◌≤◌, Option, List, ◌++◌, ap, ◌∙◌, refl, inl, inr}
+use Rattle.std.proofs.Common.{◌≡◌, ◌≢◌, ℕ, ◌+◌, ◌-◌, ◌≤◌, Option, List, ap, ◌∙◌, refl, inl, inr}
 use Rattle.std.specs.Prelude.{Result, Ok, Err, is_err, OnOk, false}
-use Rattle.cb_semirings.specs.Arithmetic.{Arithmetic}
+use Rattle.cb_semirings.specs.Arithmetic.{Arithmetic, IsValue, ReadsNumbers}
 use Rattle.cb_matrix.specs.declared.Entry.{Entry}
 use Rattle.cb_matrix.specs.Sparse.{Extent, IsInside}
 use Rattle.cb_market.specs.declared.Kind.{Kind}
@@ -9,10 +9,9 @@ use Rattle.cb_market.specs.declared.Kind.TheVariants.{ExtraEntry, Memory}
 use Rattle.cb_market.specs.declared.ReadFault.{ReadFault}
 use Rattle.cb_market.specs.declared.header.Header.{Header}
 use Rattle.cb_market.specs.Lines.{kept_from}
-use Rattle.cb_market.specs.Checks.{given_by}
-use Rattle.cb_market.specs.Faults.{entries_fault, given, IsAnswer, IsNextEntry}
-use Rattle.cb_market.proofs.Bodies.{entry_inside}
-use Rattle.cb_market.proofs.LineFaults.{extra, passed, refused, gives_more, kept_numbers}
+use Rattle.cb_market.specs.Faults.{entries_fault, IsAnswer, IsNextEntry}
+use Rattle.cb_market.proofs.Bodies.{entry_inside, entry_value}
+use Rattle.cb_market.proofs.LineFaults.{extra, passed, refused, kept_numbers}
 
 module _ (s : Arithmetic) (header : Header) (shape : Extent) (n left k : ℕ) (text : List ℕ) (m : ℕ) (rest : List ℕ) (all : Option ReadFault) where
   -- an entry too many
@@ -31,15 +30,13 @@ module _ (s : Arithmetic) (header : Header) (shape : Extent) (n left k : ℕ) (t
   pub next_passed : (entry : Entry) (j : ℕ) → j ≡ m + 1 → entries_fault s header shape n left (kept_from k text) ≡ all → left ≢ 0 → IsNextEntry s header shape k text m (Ok entry) rest → entries_fault s header shape n (left - 1) (kept_from j rest) ≡ all
   next_passed entry j i e z h = ap (λ a. entries_fault s header shape n (left - 1) (kept_from a rest)) i ∙ passed s header shape n left (kept_from k text) (m, h.line_words) (kept_from (m + 1) rest) all e z h.kept h.found_is.0
 
--- what it gives was added
-pub next_gives : (s : Arithmetic) (header : Header) (shape : Extent) (k : ℕ) (text : List ℕ) (m : ℕ) (rest : List ℕ) (items new all : List Entry) (entry : Entry) (j : ℕ) → j ≡ m + 1 → items ++ given s header (kept_from k text) ≡ all → IsNextEntry s header shape k text m (Ok entry) rest → new ≡ items ++ given_by s header.symmetry entry → new ++ given s header (kept_from j rest) ≡ all
-next_gives s header shape k text m rest items new all entry j i e h a =
-    ap (λ b. new ++ given s header (kept_from b rest)) i
-    ∙ gives_more s header items new all (kept_from k text) (m, h.line_words) (kept_from (m + 1) rest) e h.kept (a ∙ ap (λ d. items ++ given_by s header.symmetry d) h.found_is.1)
-
 -- it is inside the shape
 pub next_inside : (s : Arithmetic) (header : Header) (shape : Extent) (k : ℕ) (text : List ℕ) (m : ℕ) (rest : List ℕ) (entry : Entry) → IsNextEntry s header shape k text m (Ok entry) rest → IsInside shape entry
 next_inside s header shape k text m rest entry h = rw h.found_is.1 (entry_inside s header shape h.line_words h.found_is.0)
+
+-- its value is one of the semiring
+pub next_value : (s : Arithmetic) (numbers : ReadsNumbers s) (header : Header) (shape : Extent) (k : ℕ) (text : List ℕ) (m : ℕ) (rest : List ℕ) (entry : Entry) → IsNextEntry s header shape k text m (Ok entry) rest → IsValue s entry.value
+next_value s numbers header shape k text m rest entry h = rw h.found_is.1 (entry_value s numbers header shape h.line_words h.found_is.0)
 
 -- what holds at Ok, where there was no error
 pub at_ok : {A E : Type 0} (r : Result A E) (P : Type 0) → is_err r ≡ false → OnOk r P → P

@@ -1,5 +1,5 @@
 -- A text in parts: its lines give what the lines of its parts give, in order.
-use Rattle.std.proofs.Common.{◌≡◌, ℕ, ◌+◌, ◌-◌, ◌<◌, ◌≤◌, true, false, not, List, [], ◌∷◌, ◌++◌, arith, length, map, filter, sym, ap, ◌∙◌, refl, append_assoc, subst, None, Some, Option, ⊎_elim, zero, suc, take, get_or, length-append}
+use Rattle.std.proofs.Common.{◌≡◌, ◌≢◌, ℕ, ◌+◌, ◌-◌, ◌<◌, ◌≤◌, true, false, not, List, [], ◌∷◌, ◌++◌, arith, length, map, filter, sym, ap, ◌∙◌, refl, append_assoc, subst, None, Some, Option, ⊎_elim, zero, suc, take, get_or, length-append}
 use Rattle.std.proofs.lemmas.List.Concat.{flat_map-append}
 use Rattle.std.specs.Prelude.{◌==◌, IfSome, Ok}
 use Rattle.std.proofs.lemmas.Bool.{cases_Bool}
@@ -101,32 +101,29 @@ some_joined s header shape side a b text p q None whole both x y is = tt
 some_joined s header shape side a b text p q (Some r) whole both x y is = parts_joined s header shape side a b text p q r whole both x y is
 
 -- ---- one part, entry by entry
--- what was read before the lines that are left
-pub record Reading (s : Arithmetic) (header : Header) (shape : Extent) (all left : List (List (List ℕ))) (count : ℕ) (items : List Entry) : Type 0 where
+-- The lines that are left have been reached without a fault: how many are announced and how many of those weren't reached,
+-- and the entries before and now.
+pub record Reading (s : Arithmetic) (header : Header) (shape : Extent) (all left : List (List (List ℕ))) (announced missing : ℕ) (before items : List Entry) : Type 0 where
   pub faultless : AreFaultless s header shape left → AreFaultless s header shape all
-  pub counted : count + length left ≡ length all
-  pub gives : items ++ given_in s header left ≡ given_in s header all
+  pub counted : missing + length all ≡ announced + length left
+  pub gives : items ++ given_in s header left ≡ before ++ given_in s header all
 
 -- nothing of a text has been read
-pub reading_none : (s : Arithmetic) (header : Header) (shape : Extent) (all : List (List (List ℕ))) (items : List Entry) → items ≡ [] → Reading s header shape all all 0 items
-reading_none s header shape all items e = record {
-  faultless = λ h. h;
-  counted = omega arith;
-  gives = ap (λ es. es ++ given_in s header all) e;
-}
+pub reading_none : (s : Arithmetic) (header : Header) (shape : Extent) (all : List (List (List ℕ))) (announced : ℕ) (items : List Entry) → Reading s header shape all all announced announced items items
+reading_none s header shape all announced items = record { faultless = λ h. h; counted = refl; gives = refl }
 
 -- one more entry is read
-pub reading_more : (s : Arithmetic) (header : Header) (shape : Extent) (all : List (List (List ℕ))) (k j m : ℕ) (rest after : List ℕ) (count : ℕ) (items new : List Entry) (e : Entry) → j ≡ m + 1
-    → Reading s header shape all (words_of (kept_from k rest)) count items → IsNextEntry s header shape k rest m (Ok e) after → new ≡ items ++ given_by s header.symmetry e
-    → Reading s header shape all (words_of (kept_from j after)) (count + 1) new
-reading_more s header shape all k j m rest after count items new e i r x n =
+pub reading_more : (s : Arithmetic) (header : Header) (shape : Extent) (all : List (List (List ℕ))) (k j m : ℕ) (rest after : List ℕ) (announced missing : ℕ) (before items new : List Entry) (e : Entry) → j ≡ m + 1 → missing ≢ 0
+    → Reading s header shape all (words_of (kept_from k rest)) announced missing before items → IsNextEntry s header shape k rest m (Ok e) after → new ≡ items ++ given_by s header.symmetry e
+    → Reading s header shape all (words_of (kept_from j after)) announced (missing - 1) before new
+reading_more s header shape all k j m rest after announced missing before items new e i some r x n =
     let ws = x.line_words in
     let next : words_of (kept_from k rest) ≡ ws ∷ words_of (kept_from j after) = ap words_of x.kept ∙ ap (λ (l : ℕ). ws ∷ words_of (kept_from l after)) (sym i) in
     let size = ap length next in
     let more = given_in s header (words_of (kept_from j after)) in
     record {
       faultless = λ h. r.faultless (subst (λ (l : List (List (List ℕ))). AreFaultless s header shape l) (sym next) (x.found_is.0, h));
-      counted = omega (arith, size, r.counted);
+      counted = omega (arith, some, size, r.counted);
       gives =
           ap (λ es. es ++ more) n
           ∙ append_assoc items (given_by s header.symmetry e) more
@@ -135,21 +132,37 @@ reading_more s header shape all k j m rest after count items new e i r x n =
           ∙ r.gives;
     }
 
+-- what is known once all is read
+pub record Finished (s : Arithmetic) (header : Header) (shape : Extent) (text : List ℕ) (announced missing : ℕ) (before items : List Entry) : Type 0 where
+  pub faultless : AreFaultless s header shape (kept (lines text))
+  pub counted : missing + length (kept (lines text)) ≡ announced
+  pub gives : items ≡ before ++ given_in s header (kept (lines text))
+
 -- all is read
-pub reading_all : (s : Arithmetic) (header : Header) (shape : Extent) (text : List ℕ) (n k : ℕ) (rest : List ℕ) (p : Part) → Reading s header shape (words_of (kept_from n text)) (words_of (kept_from k rest)) p.lines p.entries → kept_from k rest ≡ []
-    → p.shape ≡ shape → IsPart s header shape p.side text p
+pub reading_all : (s : Arithmetic) (header : Header) (shape : Extent) (text : List ℕ) (n k : ℕ) (rest : List ℕ) (announced missing : ℕ) (before items : List Entry)
+    → Reading s header shape (words_of (kept_from n text)) (words_of (kept_from k rest)) announced missing before items → kept_from k rest ≡ [] → Finished s header shape text announced missing before items
 unfolding kept_from
-reading_all s header shape text n k rest p r e z =
+reading_all s header shape text n k rest announced missing before items r e =
     let none : words_of (kept_from k rest) ≡ [] = ap words_of e in
     let all : words_of (kept_from n text) ≡ kept (lines text) = kept_words n (lines text) in
     let left = ap length none in
+    let size = ap length all in
     record {
-      on_grid = refl;
-      in_shape = z;
       faultless = subst (λ (l : List (List (List ℕ))). AreFaultless s header shape l) all (r.faultless (subst (λ (l : List (List (List ℕ))). AreFaultless s header shape l) (sym none) tt));
-      count = (let c = r.counted in let d : p.lines ≡ length (words_of (kept_from n text)) = omega arith in d) ∙ ap length all;
-      given = λ i j. ap (filter (is_at i j)) (sym (append-nil p.entries) ∙ ap (λ l. p.entries ++ given_in s header l) (sym none) ∙ r.gives ∙ ap (given_in s header) all);
+      counted = omega (arith, left, size, r.counted);
+      gives = sym (append-nil items) ∙ ap (λ l. items ++ given_in s header l) (sym none) ∙ r.gives ∙ ap (λ l. before ++ given_in s header l) all;
     }
+
+-- what was read of a text is a part
+pub part_read : (s : Arithmetic) (header : Header) (shape : Extent) (side : ℕ) (text : List ℕ) (before : List Entry) (p : Part) → p.side ≡ side → p.shape ≡ shape → AreFaultless s header shape (kept (lines text))
+    → p.lines ≡ length (kept (lines text)) → before ≡ [] → p.entries ≡ before ++ given_in s header (kept (lines text)) → IsPart s header shape side text p
+part_read s header shape side text before p on_grid in_shape faultless count none gives = record {
+  on_grid = on_grid;
+  in_shape = in_shape;
+  faultless = faultless;
+  count = count;
+  given = λ i j. ap (filter (is_at i j)) (gives ∙ ap (λ es. es ++ given_in s header (kept (lines text))) none);
+}
 
 -- a part with its entries sorted is a part
 pub part_sorted : (s : Arithmetic) (header : Header) (shape : Extent) (side : ℕ) (text : List ℕ) (p : Part) (o : Option Part) → IsPart s header shape side text p → IfSome o (λ q. AreSamePlaces q.entries p.entries)
@@ -170,9 +183,33 @@ unfolding entries_fault
 faultless_none s header shape n [] h = refl
 faultless_none s header shape n (l ∷ ls) h = ap (λ b. at_line l.0 b (entries_fault s header shape n (length (words_of ls)) ls)) h.0 ∙ faultless_none s header shape n ls h.1
 
+-- lines without a fault leave those that are missing
+faultless_left : (s : Arithmetic) (header : Header) (shape : Extent) (n missing : ℕ) (ls : List (ℕ × List (List ℕ))) → AreFaultless s header shape (words_of ls) → entries_fault s header shape n (missing + length (words_of ls)) ls ≡ entries_fault s header shape n missing []
+unfolding entries_fault
+faultless_left s header shape n missing [] h = (let e : missing + 0 ≡ missing = omega arith in ap (λ k. entries_fault s header shape n k []) e)
+faultless_left s header shape n missing (l ∷ ls) h =
+    let rest = entries_fault s header shape n (missing + length (words_of ls)) ls in
+    let e : missing + suc (length (words_of ls)) ≡ suc (missing + length (words_of ls)) = omega arith in
+    ap (λ k. entries_fault s header shape n k (l ∷ ls)) e ∙ ap (λ b. at_line l.0 b rest) h.0 ∙ faultless_left s header shape n missing ls h.1
+
+-- so their first fault is that of the end of the text
+pub fault_left : (s : Arithmetic) (header : Header) (shape : Extent) (m n announced missing : ℕ) (text : List ℕ) → AreFaultless s header shape (kept (lines text)) → missing + length (kept (lines text)) ≡ announced
+    → entries_fault s header shape m missing [] ≡ entries_fault s header shape m announced (kept_from n text)
+unfolding kept_from
+fault_left s header shape m n announced missing text h e =
+    let all : words_of (kept_from n text) ≡ kept (lines text) = kept_words n (lines text) in
+    let faultless = subst (λ (l : List (List (List ℕ))). AreFaultless s header shape l) (sym all) h in
+    let count : missing + length (words_of (kept_from n text)) ≡ announced = ap (λ l. missing + length l) all ∙ e in
+    sym (faultless_left s header shape m missing (kept_from n text) faultless) ∙ ap (λ k. entries_fault s header shape m k (kept_from n text)) count
+
 given_words : (s : Arithmetic) (header : Header) (ls : List (ℕ × List (List ℕ))) → given s header ls ≡ given_in s header (words_of ls)
 given_words s header [] = refl
 given_words s header (l ∷ ls) = ap (λ es. given_by s header.symmetry (entry_of s header l.1) ++ es) (given_words s header ls)
+
+-- what the lines of a text give, with their numbers or without
+pub given_kept : (s : Arithmetic) (header : Header) (n : ℕ) (text : List ℕ) → given_in s header (kept (lines text)) ≡ given s header (kept_from n text)
+unfolding kept_from
+given_kept s header n text = ap (given_in s header) (sym (kept_words n (lines text))) ∙ sym (given_words s header (kept_from n text))
 
 -- entries that are the same place by place make the same matrix
 same_collected : (s : Arithmetic) (shape : Extent) (es fs : List Entry) → AreSamePlaces es fs → collected s shape es ≡ collected s shape fs

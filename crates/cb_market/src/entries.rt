@@ -2,13 +2,14 @@
 ghost use Rattle.std.specs.Prelude.{◌≡◌, ◌+◌, ◌*◌, ◌/◌, ◌^◌, ◌<◌, ◌++◌, IsTrue, IfOk, IfErr, OnOk, IfSome, OnSome, IfNone, [], ◌∷◌, length, Some, None};
 ghost use Rattle.cb_semirings.specs.Arithmetic.{IsValue};
 ghost use Rattle.cb_matrix.specs.Sparse.{IsInside};
-ghost use Rattle.cb_market.specs.Lines.{is_number, number, past_last, kept_from};
+ghost use Rattle.cb_market.specs.Lines.{is_number, number, lines, kept, past_last, kept_from};
 ghost use Rattle.cb_market.specs.Cursor.{words_at, after_line};
 ghost use Rattle.cb_market.specs.Checks.{is_shape, is_above, is_on_diagonal, place_fault, mirrored, negative_of, given_by};
 ghost use Rattle.cb_market.specs.Checks.{NamesPlace, WritesEntry, HasEntryFault};
 ghost use Rattle.cb_market.specs.Checks.{WriteInteger, HaveIntegerFault, WritePattern, HavePatternFault};
 ghost use Rattle.cb_market.specs.Room.{shortest_line, most_given, room_of};
 ghost use Rattle.cb_market.specs.Faults.{entries_fault_from, given, IsAnswer, IsLineOf, IsNextEntry};
+ghost use Rattle.cb_market.specs.Pieces.{AreFaultless, given_in};
 
 use crate::gathered::Gathered;
 use crate::header::{Field, Header, Symmetry};
@@ -308,6 +309,34 @@ impl<'a> Scanner<'a> {
         ensures fault { IfErr result (IsAnswer (entries_fault_from S.arithmetic header size self.old.line self.old.rest.now)) }
         ensures place { IfErr result (IsLineOf self.old.line self.old.rest.now) }
     {
+        let missing = self.remaining_entries::<S>(alloc, entries, header, size)?;
+        if missing != 0 {
+            return Err(self.fault(Kind::MissingEntries));
+        }
+        Ok(())
+    }
+
+    /// Reads the entries of all lines that are left, and adds them to `entries`. Returns how many of those announced are
+    /// missing, or the first fault of a line.
+    pub fn remaining_entries<S: Semiring>(
+        &mut self,
+        alloc: Global,
+        entries: &mut Gathered<S>,
+        header: Header,
+        size: Size,
+    ) -> Result<u32, ReadFault>
+        requires lines { past_last self.old.line self.old.rest.now < 2 ^ 64 }
+        requires same_shape { entries.old.shape ≡ size.shape }
+        requires shape { IsTrue (is_shape header.symmetry size.shape) }
+        ensures faultless { OnOk result (AreFaultless S.arithmetic header size.shape (kept (lines self.old.rest.now))) }
+        ensures missing { IfOk result (λ missing. missing + length (kept (lines self.old.rest.now)) ≡ size.count) }
+        ensures given { OnOk result (entries.new.entries ≡ entries.old.entries ++ given_in S.arithmetic header (kept (lines self.old.rest.now))) }
+        ensures side { entries.new.side ≡ entries.old.side }
+        ensures shape { entries.new.shape ≡ size.shape }
+        ensures line { OnOk result (self.new.line ≡ past_last self.old.line self.old.rest.now) }
+        ensures fault { IfErr result (IsAnswer (entries_fault_from S.arithmetic header size self.old.line self.old.rest.now)) }
+        ensures place { IfErr result (IsLineOf self.old.line self.old.rest.now) }
+    {
         let mut left = size.count;
         loop {
             let Some((line, found)) = self.next_entry::<S>(header, size.shape) else {
@@ -331,9 +360,6 @@ impl<'a> Scanner<'a> {
             }
             left -= 1;
         }
-        if left != 0 {
-            return Err(self.fault(Kind::MissingEntries));
-        }
-        Ok(())
+        Ok(left)
     }
 }

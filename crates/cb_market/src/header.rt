@@ -1,5 +1,5 @@
 //! The first line of a text.
-ghost use Rattle.std.specs.Prelude.{◌≡◌, IfOk, IfErr, IfSome, IfNone, Some, false};
+ghost use Rattle.std.specs.Prelude.{◌≡◌, ◌≢◌, IfOk, IfErr, IfSome, IfNone, Some, false, [], ◌∷◌, length};
 ghost use Rattle.cb_semirings.specs.Arithmetic.{has_negatives};
 ghost use Rattle.cb_market.specs.Lines.{begins_blank};
 ghost use Rattle.cb_market.specs.Cursor.{line_at, words_at, after_line};
@@ -121,24 +121,34 @@ impl<'a> Scanner<'a> {
         let Some(banner) = self.word() else {
             return Err(Kind::BadHeader);
         };
-        let Some(object) = self.word() else {
+        let Some((object, format, field, symmetry)) = self.last_four() else {
             return Err(Kind::BadHeader);
         };
-        let Some(format) = self.word() else {
-            return Err(Kind::BadHeader);
-        };
-        let Some(field) = self.word() else {
-            return Err(Kind::BadHeader);
-        };
-        let Some(symmetry) = self.word() else {
-            return Err(Kind::BadHeader);
-        };
-        if self.word().is_some() || !banner.is_exactly(b"%%MatrixMarket") {
+        if !banner.is_exactly(b"%%MatrixMarket") {
             return Err(Kind::BadHeader);
         }
         let Some(header) = header_of::<S>(&object, &format, &field, &symmetry) else {
             return Err(Kind::Unsupported);
         };
         Ok(header)
+    }
+
+    /// Returns the other words of the line, if there are four.
+    fn last_four(&mut self) -> Option<(Word<'a>, Word<'a>, Word<'a>, Word<'a>)>
+        ensures some { IfSome result (λ p. words_at self.old.rest.now ≡ p.0.bytes.now ∷ p.1.bytes.now ∷ p.2.bytes.now ∷ p.3.bytes.now ∷ []) }
+        ensures none { IfNone result (length (words_at self.old.rest.now) ≢ 4) }
+        ensures after { after_line self.new.rest.now ≡ after_line self.old.rest.now }
+        ensures line { self.new.line ≡ self.old.line }
+    {
+        let Some((object, format)) = self.two_words() else {
+            return None;
+        };
+        let Some((field, symmetry)) = self.two_words() else {
+            return None;
+        };
+        if self.word().is_some() {
+            return None;
+        }
+        Some((object, format, field, symmetry))
     }
 }

@@ -17,11 +17,11 @@
 ghost use Rattle.std.specs.Prelude.{◌≡◌};
 ghost use Rattle.cb_market.specs.Kinds.{kind_text};
 
+use std::fmt;
 use thiserror::Error;
 
 /// The kinds of faults that a text can have.
-#[derive(Clone, Copy, Debug, PartialEq, Eq, Error)]
-#[error("{}", self.text())]
+#[derive(Clone, Copy, Debug, PartialEq, Eq)]
 pub enum Kind {
     /// The first line is not five words that begin with `%%MatrixMarket`.
     BadHeader,
@@ -76,6 +76,14 @@ impl Kind {
         }
     }
 }
+
+impl fmt::Display for Kind {
+    fn fmt<W: fmt::Write>(&self, f: &mut fmt::Formatter<W>) -> fmt::Result {
+        f.write_str(self.text())
+    }
+}
+
+impl std::error::Error for Kind {}
 
 /// The first fault of a text, or that memory was refused before one was found.
 #[derive(Clone, Copy, Debug, PartialEq, Eq, Error)]

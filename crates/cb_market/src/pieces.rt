@@ -3,14 +3,14 @@
 //! A text is cut where lines end. Its entries are those of its pieces, in order. If no piece has a fault and together they
 //! have as many entries as are announced, the text has no fault. Faults aren't reported here: the whole text has to be
 //! read to find the first.
-ghost use Rattle.std.specs.Prelude.{◌≡◌, ◌++◌, ◌+◌, ◌^◌, ◌<◌, ◌≤◌, [], true, length, IsTrue, IfOk, IfSome};
+ghost use Rattle.std.specs.Prelude.{◌≡◌, ◌++◌, ◌+◌, ◌≤◌, true, length, IsTrue, IfOk, IfSome, OnSome};
 ghost use Rattle.cb_matrix.specs.Values.{collected};
 ghost use Rattle.cb_market.specs.Lines.{lines, kept};
 ghost use Rattle.cb_market.specs.Checks.{is_shape};
 ghost use Rattle.cb_market.specs.Gathered.{AreSamePlaces};
 ghost use Rattle.cb_market.specs.Pieces.{joined, is_whole, AreFaultless, given_in, IsPart};
 
-use crate::entries::{give, room_for_entries};
+use crate::entries::room_for_entries;
 use crate::gathered::Gathered;
 use crate::header::Header;
 use crate::scanner::Scanner;
@@ -68,50 +68,36 @@ pub fn read_piece<S: Semiring>(
     ensures { IfSome result (λ p. IsPart S.arithmetic header size.shape grid.side piece.now p) }
 {
     let room = room_for_entries(header, size.count, text);
-    let Ok(start) = Gathered::start(alloc, grid, size.shape, room, true) else {
+    let Ok(mut entries) = Gathered::start(alloc, grid, size.shape, room, true) else {
         return None;
     };
-    let mut scanner = Scanner::new(piece);
-    let Some(found) = scanner.piece::<S>(alloc, start, header, size) else {
+    let Some(lines) = read_lines::<S>(alloc, &mut entries, header, size, piece) else {
         return None;
     };
-    found.sorted()
+    Piece { entries, lines }.sorted()
 }
 
-impl<'a> Scanner<'a> {
-    /// Reads the entries of all lines into `start`, which is empty.
-    fn piece<S: Semiring>(
-        &mut self,
-        alloc: Global,
-        start: Gathered<S>,
-        header: Header,
-        size: Size,
-    ) -> Option<Piece<S>>
-        requires lines { self.old.line + length (lines self.old.rest.now) < 2 ^ 64 }
-        requires none { start.entries ≡ [] }
-        requires same_shape { start.shape ≡ size.shape }
-        requires shape { IsTrue (is_shape header.symmetry size.shape) }
-        ensures { IfSome result (λ p. IsPart S.arithmetic header size.shape start.side self.old.rest.now p) }
-    {
-        let mut entries = start;
-        let mut lines = 0;
-        loop {
-            let Some((_line, found)) = self.next_entry::<S>(header, size.shape) else {
-                break;
-            };
-            if lines == size.count {
-                return None;
-            }
-            let entry = match found {
-                Ok(entry) => entry,
-                Err(_kind) => return None,
-            };
-            if give::<S>(alloc, &mut entries, header.symmetry, entry).is_err() {
-                return None;
-            }
-            lines += 1;
-        }
-        Some(Piece { entries, lines })
+/// Reads the entries of all lines of a piece and adds them to `entries`. Returns how many lines had one.
+fn read_lines<S: Semiring>(
+    alloc: Global,
+    entries: &mut Gathered<S>,
+    header: Header,
+    size: Size,
+    piece: &[u8],
+) -> Option<u32>
+    requires same_shape { entries.old.shape ≡ size.shape }
+    requires shape { IsTrue (is_shape header.symmetry size.shape) }
+    ensures faultless { OnSome result (AreFaultless S.arithmetic header size.shape (kept (lines piece.now))) }
+    ensures count { IfSome result (λ n. n ≡ length (kept (lines piece.now))) }
+    ensures given { OnSome result (entries.new.entries ≡ entries.old.entries ++ given_in S.arithmetic header (kept (lines piece.now))) }
+    ensures side { entries.new.side ≡ entries.old.side }
+    ensures shape { entries.new.shape ≡ size.shape }
+{
+    let announced = size.count;
+    let mut scanner = Scanner::new(piece);
+    match scanner.remaining_entries::<S>(alloc, entries, header, size) {
+        Ok(missing) => Some(announced - missing),
+        Err(_) => None,
     }
 }
 

@@ -2,7 +2,7 @@
 //!
 //! The cursor is the rest of the text. The contract of each step is stated over the lines and words of the rest
 //! (`specs/Cursor.antt`).
-ghost use Rattle.std.specs.Prelude.{◌≡◌, ◌+◌, ◌^◌, ◌<◌, ◌≤◌, MatchOption, IfSome, IfNone, [], length};
+ghost use Rattle.std.specs.Prelude.{◌≡◌, ◌+◌, ◌^◌, ◌<◌, ◌≤◌, MatchOption, IfSome, IfNone, [], ◌∷◌, length};
 ghost use Rattle.cb_market.specs.Lines.{is_blank, number, past_last, kept_from};
 ghost use Rattle.cb_market.specs.Cursor.{is_line_end, words_at, after_line, IsNextWord, IsKeptWord, is_word_end, front_digits, after_digits};
 ghost use Rattle.cb_market.specs.Cursor.{front_word, after_word, after_blanks, after_sign, if_small, number_of};
@@ -159,6 +159,22 @@ impl<'a> Scanner<'a> {
             bytes: &start[..start.len() - self.rest.len()],
             number,
         })
+    }
+
+    /// Returns the next two words of the line, if there are two.
+    pub fn two_words(&mut self) -> Option<(Word<'a>, Word<'a>)>
+        ensures some { IfSome result (λ p. words_at self.old.rest.now ≡ p.0.bytes.now ∷ p.1.bytes.now ∷ words_at self.new.rest.now) }
+        ensures none { IfNone result (length (words_at self.old.rest.now) < 2) }
+        ensures after { after_line self.new.rest.now ≡ after_line self.old.rest.now }
+        ensures line { self.new.line ≡ self.old.line }
+    {
+        let Some(first) = self.word() else {
+            return None;
+        };
+        let Some(second) = self.word() else {
+            return None;
+        };
+        Some((first, second))
     }
 
     /// Skips the rest of a line and its line feed.

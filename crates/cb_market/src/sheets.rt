@@ -5,12 +5,13 @@
 //! it can be written independently of every other sheet.
 ghost use Rattle.std.specs.Prelude.{◌≡◌, ◌+◌, ◌*◌, ◌≤◌, ◌<◌, [], ◌∷◌, ◌++◌, length, take, if◌then◌else◌, true, false, IfOk};
 ghost use Rattle.cb_market.specs.Sheets.{lines_of, share_of};
-ghost use Rattle.cb_market.specs.Text.{head_of, header_line};
+ghost use Rattle.cb_market.specs.Text.{head_of};
 
 use crate::TextPages;
 use crate::pages::{put_bytes, put_number};
 use crate::runs::LONGEST_LINE;
 use crate::text_pages::EntriesLeft;
+use crate::writing::header;
 use cb_matrix::Shape;
 use cb_semirings::Semiring;
 use std::alloc::{AllocError, Global};
@@ -150,16 +151,4 @@ fn put_head(buffer: &mut [u8], is_pattern: bool, shape: Shape, entries: usize) -
     let end = put_number(buffer, end, shape.rows() as u64, b' ');
     let end = put_number(buffer, end, shape.cols() as u64, b' ');
     put_number(buffer, end, entries as u64, b'\n')
-}
-
-/// Returns the header without its line feed.
-fn header(is_pattern: bool) -> &'static [u8]
-    ensures line { result.now ++ 10 ∷ [] ≡ header_line is_pattern }
-    ensures length { length result.now ≡ 48 }
-{
-    if is_pattern {
-        b"%%MatrixMarket matrix coordinate pattern general"
-    } else {
-        b"%%MatrixMarket matrix coordinate integer general"
-    }
 }

@@ -62,10 +62,7 @@ impl<'a> Scanner<'a> {
         ensures after { after_line self.new.rest.now ≡ after_line self.old.rest.now }
         ensures line { self.new.line ≡ self.old.line }
     {
-        let Some(second) = self.word() else {
-            return Err(Kind::BadSize);
-        };
-        let Some(third) = self.word() else {
+        let Some((second, third)) = self.two_words() else {
             return Err(Kind::BadSize);
         };
         if self.word().is_some() {

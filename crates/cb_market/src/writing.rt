@@ -3,7 +3,7 @@ ghost use Rattle.std.specs.Prelude.{◌≡◌, ◌+◌, ◌≤◌, ◌++◌, IfO
 ghost use Rattle.cb_semirings.specs.Tables.{min_plus};
 ghost use Rattle.cb_matrix.specs.Sparse.{IsMatrix};
 ghost use Rattle.cb_market.specs.Reads.{Reads};
-ghost use Rattle.cb_market.specs.Text.{text_of, entry_line, head_of, vertex_text_of, vertex_pairs_text_of, with_value_from_one, line_of};
+ghost use Rattle.cb_market.specs.Text.{text_of, entry_line, head_of, header_line, vertex_text_of, vertex_pairs_text_of, with_value_from_one, line_of};
 
 use crate::pages::{LINE, Page, SIZE, digits};
 use cb_matrix::{Entry, LIMIT, Matrix, Shape};
@@ -89,10 +89,54 @@ fn put_lines(
 ) -> Result<(), AllocError>
     ensures { OnOk result (text.new.items ≡ text.old.items ++ flat_map (line_of line) entries.now) }
 {
-    for some in entries.chunks(LINES) {
-        put_page(text, page, line, some)?;
+    let mut left = entries;
+    while !left.is_empty() {
+        let count = left.len().min(LINES);
+        put_page(text, page, line, &left[..count])?;
+        left = &left[count..];
     }
     Ok(())
+}
+
+/// Appends the page to the text, and then the lines of entries.
+fn put_all(
+    text: &mut Vec<u8>,
+    page: &mut Page,
+    line: Line,
+    entries: &[Entry],
+) -> Result<(), AllocError>
+    ensures { OnOk result (text.new.items ≡ text.old.items ++ page.old ++ flat_map (line_of line) entries.now) }
+{
+    text.extend_from_slice(page.written())?;
+    put_lines(text, page, line, entries)
+}
+
+/// Makes a text of what a page has and the lines of entries.
+fn text_after(
+    alloc: Global,
+    head: Page,
+    shape: Shape,
+    line: Line,
+    entries: &[Entry],
+) -> Result<Vec<u8>, AllocError>
+    ensures { IfOk result (λ text. text.items ≡ head ++ flat_map (line_of line) entries.now) }
+{
+    let mut page = head;
+    let mut text = text_of_lines(alloc, shape, entries.len())?;
+    put_all(&mut text, &mut page, line, entries)?;
+    Ok(text)
+}
+
+/// Returns the header without its line feed.
+pub(crate) fn header(is_pattern: bool) -> &'static [u8]
+    ensures line { result.now ++ 10 ∷ [] ≡ header_line is_pattern }
+    ensures length { length result.now ≡ 48 }
+{
+    if is_pattern {
+        b"%%MatrixMarket matrix coordinate pattern general"
+    } else {
+        b"%%MatrixMarket matrix coordinate integer general"
+    }
 }
 
 /// Writes the header and the size line.
@@ -100,11 +144,7 @@ pub(crate) fn put_head(page: &mut Page, is_pattern: bool, shape: Shape, entries:
     requires { page.old ≡ [] }
     ensures { page.new ≡ head_of is_pattern shape entries }
 {
-    if is_pattern {
-        page.append(b"%%MatrixMarket matrix coordinate pattern general", b'\n');
-    } else {
-        page.append(b"%%MatrixMarket matrix coordinate integer general", b'\n');
-    }
+    page.append(header(is_pattern), b'\n');
     page.put(shape.rows() as u64, b' ');
     page.put(shape.cols() as u64, b' ');
     page.put(entries as u64, b'\n');
@@ -118,13 +158,10 @@ pub fn text<S: Semiring>(alloc: Global, matrix: &Matrix<S>) -> Result<Vec<u8>, A
 {
     let shape = matrix.shape();
     let is_pattern = S::writes_pattern();
-    let mut text = text_of_lines(alloc, shape, matrix.len())?;
     let mut page = Page::new(alloc)?;
     put_head(&mut page, is_pattern, shape, matrix.len());
-    text.extend_from_slice(page.written())?;
     let line = Line::of_entry(is_pattern);
-    put_lines(&mut text, &mut page, line, matrix.entries())?;
-    Ok(text)
+    text_after(alloc, page, shape, line, matrix.entries())
 }
 
 /// Writes the stored entries of a vector, one line each: the number of the vertex, counted from 1, and its value. There
@@ -133,10 +170,14 @@ pub fn vertex_text(alloc: Global, vector: &Matrix<MinPlus>) -> Result<Vec<u8>, A
     requires { vector.now.shape.cols ≡ 1 }
     ensures { IfOk result (λ bytes. bytes.items ≡ vertex_text_of vector.now) }
 {
-    let mut text = text_of_lines(alloc, vector.shape(), vector.len())?;
-    let mut page = Page::new(alloc)?;
-    put_lines(&mut text, &mut page, Line::RowAndValue, vector.entries())?;
-    Ok(text)
+    let page = Page::new(alloc)?;
+    text_after(
+        alloc,
+        page,
+        vector.shape(),
+        Line::RowAndValue,
+        vector.entries(),
+    )
 }
 
 /// Copies the entries of a vector whose values are vertices, with the values counted from 1.
@@ -160,9 +201,8 @@ fn counted_from_one(alloc: Global, vector: &Matrix<MinPlus>) -> Result<Vec<Entry
 pub fn vertex_pairs_text(alloc: Global, vector: &Matrix<MinPlus>) -> Result<Vec<u8>, AllocError>
     ensures { IfOk result (λ bytes. bytes.items ≡ vertex_pairs_text_of vector.now) }
 {
-    let mut text = text_of_lines(alloc, vector.shape(), vector.len())?;
+    let shape = vector.shape();
     let counted = counted_from_one(alloc, vector)?;
-    let mut page = Page::new(alloc)?;
-    put_lines(&mut text, &mut page, Line::RowAndValue, &counted)?;
-    Ok(text)
+    let page = Page::new(alloc)?;
+    text_after(alloc, page, shape, Line::RowAndValue, &counted)
 }

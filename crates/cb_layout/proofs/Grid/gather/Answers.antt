@@ -7,14 +7,24 @@ use Rattle.cb_layout.specs.Distributed.{AreBlocks, glued_blocks}
 use Rattle.cb_layout.specs.Segments.{shifted}
 use Rattle.cb_layout.proofs.PlacedEntries.{length-shifted}
 use Rattle.cb_layout.proofs.BlockColumns.{whole_is_matrix, blocks_are_cuts}
+use Rattle.cb_layout.proofs.Grid.gather.Given as given
+use Rattle.cb_layout.proofs.Grid.gather.Goals.{After-stored, In-None}
 use Rattle.cb_layout.proofs.Grid.gather.Goals as goal
 
-pub new-segments-requires : goal.new-segments-requires
-new-segments-requires g c =
+are_blocks : (g : given.Over) (c : After-stored g) → AreBlocks g.S.Semiring.arithmetic c.args.self.now.side c.args.shape c.args.blocks.now
+are_blocks g c =
     let side = c.side.ensures.value in
     let some = c.side.ensures.some in
     let few = c.side.ensures.limit in
     record { some = omega arith; few = omega arith; count = c.requires.count; shapes = c.requires.shapes; matrices = c.stored.ensures.matrices }
+
+-- the entries of all segments are those of the whole matrix
+all_entries : (g : given.Over) (c : In-None g) → c.loop-segment.entries.items ≡ (glued_blocks g.S.Semiring.arithmetic c.args.self.now.side c.args.shape c.args.blocks.now).entries
+all_entries g c =
+    sym (append-nil c.loop-segment.entries.items) ∙ ap (λ es. c.loop-segment.entries.items ++ es) (sym c.in-None.ensures.none.0) ∙ c.loop-segment.invariant
+
+pub new-segments-requires : goal.new-segments-requires
+new-segments-requires g c = are_blocks g (goal.at.new-segments-requires g c).After-stored
 
 pub append_segment-requires-clause-lengths : goal.append_segment-requires-clause-lengths
 append_segment-requires-clause-lengths g c = c.in-Some.ensures.lengths
@@ -45,35 +55,15 @@ loop-segment-smaller g c =
 
 pub from_ordered-requires : goal.from_ordered-requires
 from_ordered-requires g c =
-    let s = g.S.Semiring.arithmetic in
-    let q = c.args.self.now.side in
-    let side = c.side.ensures.value in
-    let some = c.side.ensures.some in
-    let few = c.side.ensures.limit in
-    let bs = c.args.blocks.now in
-    let are : AreBlocks s q c.args.shape bs = record { some = omega arith; few = omega arith; count = c.requires.count; shapes = c.requires.shapes; matrices = c.stored.ensures.matrices } in
-    let all : c.loop-segment.entries.items ≡ (glued_blocks s q c.args.shape bs).entries =
-    sym (append-nil c.loop-segment.entries.items) ∙ ap (λ es. c.loop-segment.entries.items ++ es) (sym c.in-None.ensures.none.0) ∙ c.loop-segment.invariant in
-    subst (λ es. IsMatrix s (record { shape = c.args.shape; entries = es })) (sym all) (whole_is_matrix s g.met.S.Semiring.is_semiring q c.args.shape bs are)
+    subst (λ es. IsMatrix g.S.Semiring.arithmetic (record { shape = c.args.shape; entries = es })) (sym (all_entries g (goal.at.from_ordered-requires g c).In-None))
+    (whole_is_matrix _ g.met.S.Semiring.is_semiring _ _ _ (are_blocks g (goal.at.from_ordered-requires g c).After-stored))
 
 pub returns-clause-glued : goal.returns-clause-glued
 returns-clause-glued g c =
-    let s = g.S.Semiring.arithmetic in
-    let all : c.loop-segment.entries.items ≡ (glued_blocks s c.args.self.now.side c.args.shape c.args.blocks.now).entries =
-    sym (append-nil c.loop-segment.entries.items) ∙ ap (λ es. c.loop-segment.entries.items ++ es) (sym c.in-None.ensures.none.0) ∙ c.loop-segment.invariant in
-    c.from_ordered.ensures ∙ ap (λ (es : List Entry). record { shape = c.args.shape; entries = es }) all
+    c.from_ordered.ensures ∙ ap (λ (es : List Entry). record { shape = c.args.shape; entries = es }) (all_entries g (goal.at.returns-clause-glued g c).In-None)
 
 pub returns-clause-cuts : goal.returns-clause-cuts
 returns-clause-cuts g c i j l k =
-    let s = g.S.Semiring.arithmetic in
-    let q = c.args.self.now.side in
-    let side = c.side.ensures.value in
-    let some = c.side.ensures.some in
-    let few = c.side.ensures.limit in
-    let bs = c.args.blocks.now in
-    let are : AreBlocks s q c.args.shape bs = record { some = omega arith; few = omega arith; count = c.requires.count; shapes = c.requires.shapes; matrices = c.stored.ensures.matrices } in
-    let all : c.loop-segment.entries.items ≡ (glued_blocks s q c.args.shape bs).entries =
-    sym (append-nil c.loop-segment.entries.items) ∙ ap (λ es. c.loop-segment.entries.items ++ es) (sym c.in-None.ensures.none.0) ∙ c.loop-segment.invariant in
-    let whole : c.from_ordered.result ≡ glued_blocks s q c.args.shape bs = c.from_ordered.ensures ∙ ap (λ (es : List Entry). record { shape = c.args.shape; entries = es }) all in
-    blocks_are_cuts s g.met.S.Semiring.is_semiring q c.args.shape bs are i j l k
-    ∙ ap (λ (m : Sparse). block_of s q m i j) (sym whole)
+    let whole = c.from_ordered.ensures ∙ ap (λ (es : List Entry). record { shape = c.args.shape; entries = es }) (all_entries g (goal.at.returns-clause-cuts g c).In-None) in
+    blocks_are_cuts _ g.met.S.Semiring.is_semiring _ _ _ (are_blocks g (goal.at.returns-clause-cuts g c).After-stored) i j l k
+    ∙ ap (λ (m : Sparse). block_of g.S.Semiring.arithmetic c.args.self.now.side m i j) (sym whole)

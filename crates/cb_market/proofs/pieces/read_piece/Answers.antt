@@ -1,17 +1,16 @@
-use Rattle.std.proofs.Common.{rules, arith, ◌<◌, ◌^◌, length, ap}
-use Rattle.cb_market.specs.Lines.{lines}
-use Rattle.cb_market.specs.Pieces.{IsPart}
-use Rattle.cb_market.proofs.Cursor.{lines-le}
-use Rattle.cb_market.proofs.PartedTexts.{part_sorted}
+use Rattle.std.proofs.Common.{ap, ◌∙◌}
+use Rattle.cb_market.specs.Gathered.{Listed}
+use Rattle.cb_market.specs.Pieces.{Part}
+use Rattle.cb_market.proofs.PartedTexts.{part_read, part_sorted}
 use Rattle.cb_market.proofs.pieces.read_piece.Goals as goal
-
-pub piece-requires-clause-lines : goal.piece-requires-clause-lines
-piece-requires-clause-lines g c =
-    let small : length c.args.piece.now < 2 ^ 63 = search rules in
-    omega (arith, small, lines-le c.args.piece.now, ap (λ l. length (lines l)) c.new-scanner.ensures.rest, c.new-scanner.ensures.line)
 
 pub returns : goal.returns
 returns g c =
     let s = g.S.Semiring.arithmetic in
-    let part : IsPart s c.args.header c.args.size.shape c.args.grid.side c.args.piece.now c.in-Some.found = search rules in
-    part_sorted s c.args.header c.args.size.shape c.args.grid.side c.args.piece.now c.in-Some.found c.sorted.result part c.sorted.ensures.places c.sorted.ensures.rest
+    let e = c.in-Some.ensures in
+    let es = c.read_lines.new.entries in
+    let p : Part = record { side = es.side; shape = es.shape; lines = c.in-Some.lines; entries = es.entries } in
+    let none = ap (λ (l : Listed). l.entries) c.in-Ok.ensures in
+    let side = c.read_lines.ensures.side ∙ ap (λ (l : Listed). l.side) c.in-Ok.ensures in
+    let part = part_read s c.args.header c.args.size.shape c.args.grid.side c.args.piece.now _ p side e.shape e.faultless e.count none e.given in
+    part_sorted s c.args.header c.args.size.shape c.args.grid.side c.args.piece.now p c.sorted.result part c.sorted.ensures.places c.sorted.ensures.rest

@@ -1,11 +1,11 @@
-use Rattle.std.proofs.Common.{◌≡◌, ◌++◌}
+use Rattle.std.proofs.Common.{◌≡◌, ◌++◌, length}
 use Rattle.std.specs.Prelude.{flat_map}
-use Rattle.std.specs.Slice.Iter.{chunks_rest, chunks_size}
 use Rattle.cb_market.specs.Text.{line_of}
 use Rattle.cb_market.proofs.writing.put_lines.Given as goal
 
-abbrev pub invariant-loop-some : goal.invariant-loop-some
-invariant-loop-some l =
-    goal.iterator-loop-some.can_next l.some-iterator × goal.iterator-loop-some.is_finite l.some-iterator
-    × (chunks_size l.some-iterator ≡ 1024)
-    × (l.text.items ++ flat_map (line_of l.line) (chunks_rest l.some-iterator) ≡ l.initial.text.items ++ flat_map (line_of l.line) l.entries)
+-- what is left comes after the text so far
+abbrev pub invariant-loop-left : goal.invariant-loop-left
+invariant-loop-left l = l.text.items ++ flat_map (line_of l.line) l.left ≡ l.initial.text.items ++ flat_map (line_of l.line) l.entries
+
+abbrev pub decreases-loop-left : goal.decreases-loop-left
+decreases-loop-left l = length l.left

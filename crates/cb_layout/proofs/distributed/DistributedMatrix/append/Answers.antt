@@ -1,36 +1,44 @@
-use Rattle.std.proofs.Common.{◌≤◌, length, ap, sym, ◌∙◌, arith}
+use Rattle.std.proofs.Common.{◌≡◌, ◌≤◌, length, ap, sym, ◌∙◌, arith}
 use Rattle.std.proofs.lemmas.List.{length-append}
 use Rattle.cb_matrix.specs.Sparse.{Sparse}
-use Rattle.cb_layout.specs.Distributed.{Distributed}
+use Rattle.cb_dcsc.specs.Columns.{with_entries}
+use Rattle.cb_layout.specs.Distributed.{AreBlocks, Distributed, glued_blocks}
 use Rattle.cb_layout.proofs.BlockColumns.{counted_below}
-use Rattle.cb_layout.proofs.AppendedBlocks.{counted, joined_blocks, joined_is_matrix, joined_shapes, blocks_joined}
+use Rattle.cb_layout.proofs.AppendedBlocks.{AreJoined, counted, joined_blocks, joined_is_matrix, joined_shapes, blocks_joined}
+use Rattle.cb_layout.proofs.distributed.DistributedMatrix.append.Given as given
+use Rattle.cb_layout.proofs.distributed.DistributedMatrix.append.Goals.{After-other, In_ok-append_blocks}
 use Rattle.cb_layout.proofs.distributed.DistributedMatrix.append.Goals as goal
 
-pub append_blocks-requires-clause-count : goal.append_blocks-requires-clause-count
-append_blocks-requires-clause-count g c =
-    let s = g.S.Semiring.arithmetic in
+-- the two lists of blocks are over one grid, and in order
+joined : (g : given.Over) (c : After-other g) → AreJoined g.S.Semiring.arithmetic c.self.inside.grid.side c.self.inside.shape c.self.inside.blocks.items c.other.inside.blocks.items c.args.self c.args.other
+joined g c =
     let a = c.self.inside in
     let b = c.other.inside in
-    let j = joined_blocks s a.grid.side b.grid.side a.shape b.shape a.blocks.items b.blocks.items c.args.self c.args.other c.self.invariant.0 c.other.invariant.0 c.self.view_is c.other.view_is c.requires.side c.requires.shape c.requires.order in
-    j.others.count ∙ sym j.are.count
+    joined_blocks g.S.Semiring.arithmetic a.grid.side b.grid.side a.shape b.shape a.blocks.items b.blocks.items c.args.self c.args.other c.self.invariant.0 c.other.invariant.0 c.self.view_is c.other.view_is c.requires.side c.requires.shape c.requires.order
 
-pub append_blocks-requires-clause-shapes : goal.append_blocks-requires-clause-shapes
-append_blocks-requires-clause-shapes g c =
+-- the new blocks are those of both
+both : (g : given.Over) (c : In_ok-append_blocks g) → AreJoined g.S.Semiring.arithmetic c.self.inside.grid.side c.self.inside.shape c.self.inside.blocks.items c.other.inside.blocks.items c.args.self c.args.other →
+    let a = c.self.inside in
+    let new = c.append_blocks.new.blocks.items in
+    AreBlocks g.S.Semiring.arithmetic a.grid.side a.shape new × (glued_blocks g.S.Semiring.arithmetic a.grid.side a.shape new ≡ with_entries c.args.self.matrix c.args.other.matrix.entries)
+both g c j =
+    let a = c.self.inside in
+    let both = blocks_joined g.S.Semiring.arithmetic g.met.S.Semiring.is_semiring a.grid.side a.shape a.blocks.items c.other.inside.blocks.items j.are j.others j.order c.append_blocks.new.blocks.items
+    c.in_ok-append_blocks.ensures.count c.in_ok-append_blocks.ensures.blocks in
+    (both.0, both.1 ∙ j.whole)
+
+pub append_blocks-requires : goal.append_blocks-requires
+append_blocks-requires g c =
     let s = g.S.Semiring.arithmetic in
     let laws = g.met.S.Semiring.is_semiring in
     let a = c.self.inside in
-    let b = c.other.inside in
-    let j = joined_blocks s a.grid.side b.grid.side a.shape b.shape a.blocks.items b.blocks.items c.args.self c.args.other c.self.invariant.0 c.other.invariant.0 c.self.view_is c.other.view_is c.requires.side c.requires.shape c.requires.order in
-    joined_shapes s laws a.grid.side a.shape a.blocks.items b.blocks.items j.are j.others j.order
-
-pub append_blocks-requires-clause-matrices : goal.append_blocks-requires-clause-matrices
-append_blocks-requires-clause-matrices g c =
-    let s = g.S.Semiring.arithmetic in
-    let laws = g.met.S.Semiring.is_semiring in
-    let a = c.self.inside in
-    let b = c.other.inside in
-    let j = joined_blocks s a.grid.side b.grid.side a.shape b.shape a.blocks.items b.blocks.items c.args.self c.args.other c.self.invariant.0 c.other.invariant.0 c.self.view_is c.other.view_is c.requires.side c.requires.shape c.requires.order in
-    joined_is_matrix s laws a.grid.side a.shape a.blocks.items b.blocks.items j.are j.others j.order
+    let others = c.other.inside.blocks.items in
+    let j = joined g (goal.at.append_blocks-requires g c).After-other in
+    record {
+      count = j.others.count ∙ sym j.are.count;
+      shapes = joined_shapes s laws a.grid.side a.shape a.blocks.items others j.are j.others j.order;
+      matrices = joined_is_matrix s laws a.grid.side a.shape a.blocks.items others j.are j.others j.order;
+    }
 
 pub overflow_add-result : goal.overflow_add-result
 overflow_add-result g c =
@@ -38,7 +46,7 @@ overflow_add-result g c =
     let laws = g.met.S.Semiring.is_semiring in
     let a = c.self.inside in
     let b = c.other.inside in
-    let j = joined_blocks s a.grid.side b.grid.side a.shape b.shape a.blocks.items b.blocks.items c.args.self c.args.other c.self.invariant.0 c.other.invariant.0 c.self.view_is c.other.view_is c.requires.side c.requires.shape c.requires.order in
+    let j = joined g (goal.at.overflow_add-result g c).After-other in
     let rows : a.shape.rows ≤ 2147483647 = let v = c.rows.ensures.value in let l = c.rows.ensures.limit in omega arith in
     let cols : a.shape.cols ≤ 2147483647 = let v = c.cols.ensures.value in let l = c.cols.ensures.limit in omega arith in
     let below = counted_below s laws a.grid.side a.shape a.blocks.items c.self.invariant.0 rows cols in
@@ -50,14 +58,8 @@ overflow_add-result g c =
 
 pub invariant_of-result : goal.invariant_of-result
 invariant_of-result g c =
-    let s = g.S.Semiring.arithmetic in
-    let laws = g.met.S.Semiring.is_semiring in
-    let a = c.self.inside in
-    let b = c.other.inside in
-    let j = joined_blocks s a.grid.side b.grid.side a.shape b.shape a.blocks.items b.blocks.items c.args.self c.args.other c.self.invariant.0 c.other.invariant.0 c.self.view_is c.other.view_is c.requires.side c.requires.shape c.requires.order in
-    let new = c.append_blocks.new.blocks.items in
-    let both = blocks_joined s laws a.grid.side a.shape a.blocks.items b.blocks.items j.are j.others j.order new c.in_ok-append_blocks.ensures.count c.in_ok-append_blocks.ensures.blocks in
-    let new_count = ap (λ (m : Sparse). length m.entries) (both.1 ∙ j.whole) in
+    let both = both g (goal.at.invariant_of-result g c).In_ok-append_blocks (joined g (goal.at.invariant_of-result g c).After-other) in
+    let new_count = ap (λ (m : Sparse). length m.entries) both.1 in
     let sum = length-append c.args.self.matrix.entries c.args.other.matrix.entries in
     let old = ap (λ (d : Distributed). length d.matrix.entries) c.self.view_is in
     let old' = ap (λ (d : Distributed). length d.matrix.entries) c.other.view_is in
@@ -67,12 +69,6 @@ invariant_of-result g c =
 
 pub returns : goal.returns
 returns g c =
-    let s = g.S.Semiring.arithmetic in
-    let laws = g.met.S.Semiring.is_semiring in
-    let a = c.self.inside in
-    let b = c.other.inside in
-    let j = joined_blocks s a.grid.side b.grid.side a.shape b.shape a.blocks.items b.blocks.items c.args.self c.args.other c.self.invariant.0 c.other.invariant.0 c.self.view_is c.other.view_is c.requires.side c.requires.shape c.requires.order in
-    let new = c.append_blocks.new.blocks.items in
-    let both = blocks_joined s laws a.grid.side a.shape a.blocks.items b.blocks.items j.are j.others j.order new c.in_ok-append_blocks.ensures.count c.in_ok-append_blocks.ensures.blocks in
+    let both = both g (goal.at.returns g c).In_ok-append_blocks (joined g (goal.at.returns g c).After-other) in
     let side = ap (λ (d : Distributed). d.side) c.self.view_is in
-    λ t. record { side = side t; matrix = (both.1 ∙ j.whole) t }
+    λ t. record { side = side t; matrix = both.1 t }

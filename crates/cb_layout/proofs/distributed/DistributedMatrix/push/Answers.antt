@@ -8,27 +8,20 @@ use Rattle.cb_layout.proofs.distributed.DistributedMatrix.push.Goals as goal
 
 pub deliver-requires-clause-rank : goal.deliver-requires-clause-rank
 deliver-requires-clause-rank g c =
-    let s = g.S.Semiring.arithmetic in
-    let laws = g.met.S.Semiring.is_semiring in
     let a = c.self.inside in
-    let whole = ap (λ (d : Distributed). d.matrix) c.self.view_is in
-    rw c.in_block-rank.ensures.rank (rank_grown s laws a.grid.side a.shape a.blocks.items c.self.invariant.0 c.args.self.now.matrix whole c.args.entry c.requires.inside c.requires.order)
+    rw c.in_block-rank.ensures.rank (rank_grown _ g.met.S.Semiring.is_semiring a.grid.side a.shape a.blocks.items c.self.invariant.0 c.args.self.now.matrix (ap (λ (d : Distributed). d.matrix) c.self.view_is) c.args.entry c.requires.inside c.requires.order)
 
 pub deliver-requires-clause-inside : goal.deliver-requires-clause-inside
 deliver-requires-clause-inside g c =
-    let s = g.S.Semiring.arithmetic in
-    let laws = g.met.S.Semiring.is_semiring in
     let a = c.self.inside in
-    let whole = ap (λ (d : Distributed). d.matrix) c.self.view_is in
-    rw (c.in_block-rank.ensures.rank, c.in_block-rank.ensures.entry) (inside_grown s laws a.grid.side a.shape a.blocks.items c.self.invariant.0 c.args.self.now.matrix whole c.args.entry c.requires.inside c.requires.order)
+    rw (c.in_block-rank.ensures.rank, c.in_block-rank.ensures.entry)
+    (inside_grown _ g.met.S.Semiring.is_semiring a.grid.side a.shape a.blocks.items c.self.invariant.0 c.args.self.now.matrix (ap (λ (d : Distributed). d.matrix) c.self.view_is) c.args.entry c.requires.inside c.requires.order)
 
 pub deliver-requires-clause-order : goal.deliver-requires-clause-order
 deliver-requires-clause-order g c =
-    let s = g.S.Semiring.arithmetic in
-    let laws = g.met.S.Semiring.is_semiring in
     let a = c.self.inside in
-    let whole = ap (λ (d : Distributed). d.matrix) c.self.view_is in
-    rw (c.in_block-rank.ensures.rank, c.in_block-rank.ensures.entry) (order_grown s laws a.grid.side a.shape a.blocks.items c.self.invariant.0 c.args.self.now.matrix whole c.args.entry c.requires.inside c.requires.order)
+    rw (c.in_block-rank.ensures.rank, c.in_block-rank.ensures.entry)
+    (order_grown _ g.met.S.Semiring.is_semiring a.grid.side a.shape a.blocks.items c.self.invariant.0 c.args.self.now.matrix (ap (λ (d : Distributed). d.matrix) c.self.view_is) c.args.entry c.requires.inside c.requires.order)
 
 pub overflow_add-self : goal.overflow_add-self
 overflow_add-self g c =
