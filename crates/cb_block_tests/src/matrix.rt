@@ -2,7 +2,7 @@
 use crate::samples::entries;
 use cb_matrix::{Entry, EntryFault, LIMIT, Matrix, ProductFault, Shape};
 use cb_samples::{are_values, entry, shape};
-use cb_semirings::{MinPlus, OrAnd, PlusTimes, Semiring};
+use cb_semirings::{MinPlus, OrAnd, PlusFirst, PlusTimes, Semiring};
 use std::alloc::{AllocError, Global};
 use std::test::Fail;
 
@@ -106,6 +106,14 @@ const OF_OR_AND: Factors = Factors {
     product: entries![(0, 0, 1), (1, 1, 1), (2, 2, 1)],
 };
 
+/// The product of two values is the one from the first matrix, so it tells the factors apart.
+const OF_PLUS_FIRST: Factors = Factors {
+    sides: [2, 2, 2],
+    left: entries![(0, 0, 2), (0, 1, 3), (1, 1, 4)],
+    right: entries![(0, 0, 5), (1, 0, 6), (1, 1, 7)],
+    product: entries![(0, 0, 5), (1, 0, 4), (0, 1, 3), (1, 1, 4)],
+};
+
 #[test]
 fn plain_products(rt: HostRuntime) -> Result<(), Fail> {
     for factors in &OF_PLUS_TIMES {
@@ -115,6 +123,7 @@ fn plain_products(rt: HostRuntime) -> Result<(), Fail> {
         assert!(rt; is_product::<MinPlus>(rt.alloc(), factors)?);
     }
     assert!(rt; is_product::<OrAnd>(rt.alloc(), &OF_OR_AND)?);
+    assert!(rt; is_product::<PlusFirst>(rt.alloc(), &OF_PLUS_FIRST)?);
     Ok(())
 }
 

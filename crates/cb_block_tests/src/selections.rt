@@ -7,8 +7,8 @@ use cb_dcsc::{Block, BlockFault};
 use cb_matrix::{Entry, LIMIT};
 use cb_samples::{SampleFault, block, entry};
 use cb_selections::{
-    Diagonal, Function, Region, apply, assign, diagonal, diagonal_matrix, extract, kronecker,
-    select,
+    Diagonal, Function, Region, apply, assign, diagonal, diagonal_matrix, extract, extract_columns,
+    extract_rows, kronecker, select,
 };
 use cb_semirings::{MinPlus, OrAnd, PlusTimes, Semiring};
 use std::alloc::{AllocError, Global};
@@ -27,6 +27,8 @@ enum Ask<'a> {
     Diagonal,
     DiagonalMatrix,
     Extract(&'a [u32], &'a [u32]),
+    ExtractRows(&'a [u32]),
+    ExtractColumns(&'a [u32]),
     /// The Kronecker product with a block of these sides.
     Kronecker((u32, u32), &'a [Entry]),
     /// Assigns a block of these sides, the second pair, to the part at the corner, the first pair.
@@ -66,6 +68,8 @@ fn made_of<S: Semiring>(
             Ok(diagonal_matrix(alloc, whole)?)
         }
         Ask::Extract(rows, cols) => extracted(alloc, whole, rows, cols),
+        Ask::ExtractRows(rows) => some_rows(alloc, whole, rows),
+        Ask::ExtractColumns(cols) => some_columns(alloc, whole, cols),
         Ask::Kronecker(sides, given) => paired(alloc, whole, *sides, given),
         Ask::Assign(corner, sides, given) => assigned(alloc, whole, *corner, *sides, given),
     }
@@ -87,6 +91,31 @@ fn extracted<S: Semiring>(
         return Err(SampleFault::Shape);
     }
     Ok(extract(alloc, whole, rows, cols)?)
+}
+
+/// The rows of a block with these numbers.
+fn some_rows<S: Semiring>(
+    alloc: Global,
+    whole: &Block<S>,
+    rows: &[u32],
+) -> Result<Block<S>, SampleFault> {
+    let shape = whole.shape();
+    if rows.len() > LIMIT as usize || !are_below(rows, shape.rows()) {
+        return Err(SampleFault::Shape);
+    }
+    Ok(extract_rows(alloc, whole, rows)?)
+}
+
+/// The columns of a block with these numbers.
+fn some_columns<S: Semiring>(
+    alloc: Global,
+    whole: &Block<S>,
+    cols: &[u32],
+) -> Result<Block<S>, SampleFault> {
+    if cols.len() > LIMIT as usize {
+        return Err(SampleFault::Shape);
+    }
+    Ok(extract_columns(alloc, whole, cols)?)
 }
 
 /// The Kronecker product of a block with one of these sides.
@@ -360,7 +389,7 @@ const REPLACED: [Case<'static>; 8] = [
 ];
 
 /// Rows and columns in another order, some left out and some repeated; none; and the last of the largest sides.
-const EXTRACTED: [Case<'static>; 5] = [
+const EXTRACTED: [Case<'static>; 7] = [
     (
         Ask::Extract(&[3, 0, 0], &[3, 1, 3, 0]),
         (4, 5),
@@ -377,6 +406,29 @@ const EXTRACTED: [Case<'static>; 5] = [
         entries![(LAST, 0, 1), (LAST, LAST, TOP)],
         (2, 2),
         entries![(0, 0, 1), (0, 1, TOP)],
+    ),
+    (
+        Ask::ExtractRows(&[3, 0, 0]),
+        (4, 5),
+        GIVEN,
+        (3, 5),
+        entries![
+            (1, 0, 1),
+            (2, 0, 1),
+            (0, 1, 4),
+            (1, 2, 5),
+            (2, 2, 5),
+            (0, 3, 7),
+            (1, 4, 8),
+            (2, 4, 8)
+        ],
+    ),
+    (
+        Ask::ExtractColumns(&[LAST, LAST]),
+        (LIMIT, LIMIT),
+        entries![(LAST, 0, 1), (LAST, LAST, TOP)],
+        (LIMIT, 2),
+        entries![(LAST, 0, TOP), (LAST, 1, TOP)],
     ),
 ];
 
@@ -562,6 +614,14 @@ fn wanted(given: &[Entry], ask: &Ask<'_>, row: u32, column: u32) -> u64 {
         Ask::Extract(rows, cols) => match (rows.get(row as usize), cols.get(column as usize)) {
             (Some(i), Some(j)) => value_among(given, *i, *j),
             _ => 0,
+        },
+        Ask::ExtractRows(rows) => match rows.get(row as usize) {
+            Some(i) => value_among(given, *i, column),
+            None => 0,
+        },
+        Ask::ExtractColumns(cols) => match cols.get(column as usize) {
+            Some(j) => value_among(given, row, *j),
+            None => 0,
         },
         Ask::Kronecker(sides, other) => {
             if sides.0 == 0 || sides.1 == 0 {

@@ -1,7 +1,9 @@
 //! Products outside a mask: the product's entries at the places where the mask has none.
 //!
-//! Column j of the product is computed as without a mask, except for the rows in which column j of the mask has an entry.
-//! So nothing is stored, or removed later, for the mask's places.
+//! Column j of the product is computed as without a mask, except for the rows in which column j of the mask has an entry. If
+//! it is added up in the sparse accumulator, products in these rows are skipped. In the other three ways their sums are
+//! computed too, and left out as the column is copied. Nothing is stored in the result, or removed later, for the mask's
+//! places.
 ghost use Rattle.std.specs.Prelude.{◌≡◌, ◌<◌, All, AllPairs, IfOk, OnOk};
 ghost use Rattle.cb_matrix.specs.Sparse.{IsMatrix};
 ghost use Rattle.cb_matrix.specs.Values.{product, product_shape, empty_matrix};

@@ -11,12 +11,12 @@
 -- ColumnsMade: a matrix that is built column by column, `IsMadeTo`: `made_none`, `made_past`, `made_more`, `made_all`; by
 --   an ascending list of columns: `walk_none`, `walk_more`, `walk_all`, `before_column`; and which numbers such a list
 --   leaves out: `before_first`, `between`, `below_next`, `absent_value`.
--- ProductColumns: a column of a product is a sum over the right column's entries: `column_total`; and a column of a
---   matrix by its rows and values: `own_column`.
+-- ProductColumns: a column of a product is a sum over the right column's entries: `column_total`, `stored_sum`,
+--   whose terms are `inner`; and a column of a matrix by its rows and values: `own_column`.
 -- OwnColumn: a column of a matrix is a sparse column, `own_sparse`.
 -- AbsentColumns: columns without entries: `all_columns`, `nothing_there`.
 -- OnlyColumns: a matrix without its entries outside given columns: `only_in`, `only_matrix`, `only_column`, `only_value`,
---   `only_all`.
+--   `only_all`; which numbers are among given ones: `among_from`, `among_holds`.
 -- Panels: products with some columns, one after another: `panels_matrix`, `panels_joined`, `both_matrix`, `both_joined`;
 --   `front_factors`, `back_factors`; with all columns they are the product, `whole_panel`.
 -- EmptyFactors: a product with a matrix without entries has none: `product_vanishes`.
@@ -35,7 +35,8 @@ pub mod EmptyFactors
 pub mod Outside
 -- For this crate alone, beside the rest of those above. ScaledSum: two columns joined. TermSums: sums of terms. HeapStep: a
 -- step of the merge by a heap. MarkBits, WordStep: marks, and the rows of a word of them. Union: two ascending lists
--- merged. ColumnStarts: where each column starts. Written: a vector that was lent as a slice and written to.
+-- merged. ColumnStarts: where each column starts. Written: a vector that was lent as a slice and written to. ExcludedMarks:
+-- the marks of excluded rows, set and removed.
 pub mod ScaledSum
 pub mod TermSums
 pub mod MarkBits
@@ -45,3 +46,4 @@ pub mod Union
 pub mod ColumnStarts
 pub mod MarkedRows
 mod Written
+mod ExcludedMarks

@@ -1,6 +1,6 @@
 -- Rows that are marked, or whose marks are removed, one after another; and sums to which only products in unmarked rows are added.
 use Rattle.std.proofs.Common.{◌≡◌, ◌≢◌, ℕ, ◌+◌, ◌<◌, ◌≤◌, Bool, true, false, cond, Option, List, length, drop, get_or, set, sym, refl, ap, ◌∙◌, ⊎_elim, arith}
-use Rattle.std.specs.Prelude.{All, AllPairs, IfSome, ◌==◌}
+use Rattle.std.specs.Prelude.{All, AllPairs, IfSome}
 use Rattle.std.proofs.lemmas.Bool.{cases_Bool, cases_eq, cases_lt, eq-eqb, ne_eqb, cond-true, cond-false}
 use Rattle.std.proofs.lemmas.List.{get_or_default, get_or-set_same, get_or-set_other, get_or_past}
 use Rattle.std.proofs.lemmas.List.Elements.{All-get_or, All-drop}
@@ -155,17 +155,3 @@ module _ (s : Arithmetic) (laws : IsSemiring s) (a : Sparse) (is : IsMatrix s a)
       let past : terms_at s a i ts ≡ s.zero = terms_past s laws (rows_of a.entries) (values_of a.entries) a.shape.rows i (all_rows_inside s a (rows_of a.entries) is refl) l ts terms in
       get_or_past sums i s.zero (omega arith) ∙ sym (ap (cond (p i) s.zero) past ∙ elim (p i) as (λ b. cond b s.zero s.zero ≡ s.zero) [ true ↦ refl | false ↦ refl ]))
       (cases_lt i a.shape.rows)
-
-either_none : (b : Bool) (x y : ℕ) → cond b x (cond b y x) ≡ x
-either_none true x y = refl
-either_none false x y = refl
-
--- ---- words that mark the listed rows
-module _ (rows words : List ℕ) (i : ℕ) where
-  -- a row is marked if it is listed
-  pub marked_listed : mark_of words i ≡ cond (is_among rows i) 1 0 → (mark_of words i == 1) ≡ is_among rows i
-  marked_listed h = rw h (elim (is_among rows i) as (λ b. (cond b 1 0 == 1) ≡ b) [ true ↦ refl | false ↦ refl ])
-
-  -- without the marks of these rows, none is left
-  pub none_listed : (new : List ℕ) → mark_of words i ≡ cond (is_among rows i) 1 0 → mark_of new i ≡ cond (is_among rows i) 0 (mark_of words i) → mark_of new i ≡ 0
-  none_listed new h e = e ∙ ap (cond (is_among rows i) 0) h ∙ either_none (is_among rows i) 0 1

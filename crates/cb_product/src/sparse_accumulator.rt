@@ -242,10 +242,11 @@ fn add_entries_outside<S: Semiring>(
 {
     for n in 0..rows.len() {
         let row = rows[n] as usize;
-        if !is_marked(excluded, row) {
-            sums[row] = S::add(sums[row], scaled::<S>(values[n], scale));
-            mark_row(marks, groups, row);
+        if is_marked(excluded, row) {
+            continue;
         }
+        sums[row] = S::add(sums[row], scaled::<S>(values[n], scale));
+        mark_row(marks, groups, row);
     }
 }
 

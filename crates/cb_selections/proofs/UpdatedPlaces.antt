@@ -1,24 +1,19 @@
 -- A matrix updated by another one, place by place.
-use Rattle.std.proofs.Common.{◌≡◌, ℕ, ◌<◌, true, false, Some, None, sym, refl, ap, ◌∙◌, subst}
+use Rattle.std.proofs.Common.{◌≡◌, ℕ, ◌<◌, true, false, Some, None, sym, refl, ap, ◌∙◌}
 use Rattle.std.specs.Prelude.{Bool, cond, not}
 use Rattle.std.proofs.lemmas.Bool.{cond-true, cond-false}
 use Rattle.cb_semirings.specs.Arithmetic.{Arithmetic, IsValue, IsSemiring}
 use Rattle.cb_matrix.specs.Sparse.{Sparse, IsMatrix, at, value_at}
 use Rattle.cb_matrix.specs.Values.{matrix_of, empty_matrix}
-use Rattle.cb_matrix.specs.Operations.{has_entry, sum_of, masked}
+use Rattle.cb_matrix.specs.Operations.{has_entry, sum_of}
 use Rattle.cb_matrix.proofs.Made.{same_matrix_of, at-matrix_of}
 use Rattle.cb_matrix.proofs.Totals.{add_zero, value_at-value}
 use Rattle.cb_matrix.proofs.Equal.{matrix_is}
-use Rattle.cb_elementwise.specs.Complements.{excluded}
 use Rattle.cb_selections.specs.declared.updates.WriteBack.{WriteBack}
 use Rattle.cb_selections.specs.Updates.{allows, written, updated, allowed}
 
 -- ---- at one place
 module _ (s : Arithmetic) (laws : IsSemiring s) (how : WriteBack) (x y : ℕ) (is_x : IsValue s x) (is_y : IsValue s y) where
-  alone : how.accumulate ≡ false → how.replace ≡ true → (b : Bool) → cond b y s.zero ≡ written s how b x y
-  alone p q true = sym (cond-false how.accumulate (s.add x y) y p)
-  alone p q false = sym (cond-true how.replace s.zero x q)
-
   on_old : how.accumulate ≡ true → how.replace ≡ false → (b : Bool) → s.add x (cond b y s.zero) ≡ written s how b x y
   on_old p q true = sym (cond-true how.accumulate (s.add x y) y p)
   on_old p q false = add_zero s laws x is_x ∙ sym (cond-false how.replace s.zero x q)
@@ -36,23 +31,6 @@ other_way : (c : Bool) (t : Bool) → cond (not c) (not t) t ≡ not (cond c (no
 other_way true true = refl
 other_way true false = refl
 other_way false t = refl
-
--- ---- the entries that a mask allows
-module _ (s : Arithmetic) (m a : Sparse) where
-  pub allowed_plain : (c : Bool) → c ≡ false → masked s a m ≡ allowed s c m a
-  allowed_plain c e = subst (λ d. masked s a m ≡ allowed s d m a) (sym e) refl
-
-  excluded_value : (b : Bool) (x : ℕ) → cond b s.zero x ≡ cond (not b) x s.zero
-  excluded_value true x = refl
-  excluded_value false x = refl
-
-  excluded_allowed : excluded s a m ≡ allowed s true m a
-  excluded_allowed =
-      same_matrix_of s a.shape (λ i j. cond (has_entry s m i j) s.zero (at s a i j)) (λ i j. cond (not (has_entry s m i j)) (at s a i j) s.zero)
-      (λ i j _ _. excluded_value (has_entry s m i j) (at s a i j))
-
-  pub allowed_complement : (c : Bool) → c ≡ true → excluded s a m ≡ allowed s c m a
-  allowed_complement c e = subst (λ d. excluded s a m ≡ allowed s d m a) (sym e) excluded_allowed
 
 -- ---- the update
 module _ (s : Arithmetic) (laws : IsSemiring s) (how : WriteBack) (old new : Sparse) (is_old : IsMatrix s old) (is_new : IsMatrix s new) (same : new.shape ≡ old.shape) where
@@ -79,13 +57,6 @@ module _ (s : Arithmetic) (laws : IsSemiring s) (how : WriteBack) (old new : Spa
       sym (ap (λ b. written s how b (at s old i j) (at s new i j)) (cond-true how.complement false true c)
       ∙ cond-false how.replace s.zero (at s old i j) r))
 
-  pub all_added : how.complement ≡ false → how.accumulate ≡ true → sum_of s old new ≡ updated s how None old new
-  all_added c p =
-      same_matrix_of s old.shape (λ i j. s.add (at s old i j) (at s new i j)) (λ i j. written s how (allows s how.complement None i j) (at s old i j) (at s new i j))
-      (λ i j _ _.
-      sym (ap (λ b. written s how b (at s old i j) (at s new i j)) (cond-false how.complement false true c)
-      ∙ cond-true how.accumulate (s.add (at s old i j) (at s new i j)) (at s new i j) p))
-
   pub all_new : how.complement ≡ false → how.accumulate ≡ false → new ≡ updated s how None old new
   all_new c p =
       matrix_is s laws new old.shape (λ i j. written s how (allows s how.complement None i j) (at s old i j) (at s new i j)) is_new same
@@ -106,12 +77,6 @@ module _ (s : Arithmetic) (laws : IsSemiring s) (how : WriteBack) (old new : Spa
 
     w_at : (i j : ℕ) → i < old.shape.rows → j < old.shape.cols → at s w i j ≡ cond (is_open i j) (at s new i j) s.zero
     w_at i j l k = ap (λ (x : Sparse). at s x i j) same_w ∙ at-matrix_of s old.shape (λ i j. cond (is_open i j) (at s new i j) s.zero) i j l k
-
-    pub written_alone : how.accumulate ≡ false → how.replace ≡ true → w ≡ updated s how (Some m) old new
-    written_alone p q =
-        same_w
-        ∙ same_matrix_of s old.shape (λ i j. cond (is_open i j) (at s new i j) s.zero) goal_at
-        (λ i j _ _. alone s laws how (at s old i j) (at s new i j) (old_value i j) (new_value i j) p q (is_open i j))
 
     pub written_on_old : how.accumulate ≡ true → how.replace ≡ false → sum_of s old w ≡ updated s how (Some m) old new
     written_on_old p q =

@@ -32,6 +32,11 @@ abbrev pub extracted : Arithmetic → List ℕ → List ℕ → Sparse → Spars
 extracted s rows cols a =
     matrix_of s (record { rows = length rows; cols = length cols }) (λ i j. at s a (slice_index rows i) (slice_index cols j))
 
+-- the rows with the given numbers, in that order
+abbrev pub rows_by : Arithmetic → List ℕ → Sparse → Sparse
+rows_by s rows a =
+    matrix_of s (record { rows = length rows; cols = a.shape.cols }) (λ i j. at s a (slice_index rows i) j)
+
 -- the columns with the given numbers, in that order
 abbrev pub columns_by : Arithmetic → List ℕ → Sparse → Sparse
 columns_by s cols a =

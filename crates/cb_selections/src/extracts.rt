@@ -2,7 +2,8 @@
 ghost use Rattle.std.specs.Prelude.{◌≡◌, ◌<◌, ◌≤◌, length, All, IfOk, OnOk};
 ghost use Rattle.cb_matrix.specs.Sparse.{IsMatrix};
 ghost use Rattle.cb_matrix.specs.Values.{empty_matrix};
-ghost use Rattle.cb_selections.specs.Selections.{extracted, columns_by};
+ghost use Rattle.cb_matrix.specs.Operations.{transposed};
+ghost use Rattle.cb_selections.specs.Selections.{extracted, rows_by, columns_by};
 
 use crate::shape_of;
 use cb_dcsc::Block;
@@ -27,14 +28,45 @@ pub fn extract<S: Semiring>(
     requires column_limit { length cols.now ≤ LIMIT }
     ensures { IfOk result (λ part. part ≡ extracted S.arithmetic rows.now cols.now block.now) }
 {
-    let some_columns = columns_by(alloc, block, cols)?;
-    let turned = transpose(alloc, &some_columns)?;
-    let some_rows = columns_by(alloc, &turned, rows)?;
+    let turned = turned_columns(alloc, block, cols)?;
+    turned_columns(alloc, &turned, rows)
+}
+
+/// The transpose of the columns of a block with the given numbers, in that order.
+fn turned_columns<S: Semiring>(
+    alloc: Global,
+    block: &Block<S>,
+    columns: &[u32],
+) -> Result<Block<S>, AllocError>
+    requires { length columns.now ≤ LIMIT }
+    ensures { IfOk result (λ part. part ≡ transposed S.arithmetic (columns_by S.arithmetic columns.now block.now)) }
+{
+    let some = extract_columns(alloc, block, columns)?;
+    transpose(alloc, &some)
+}
+
+/// The rows of a block with the given numbers, in that order. A number may appear more than once.
+///
+/// Costs a binary search for each number, a few instructions for each entry of the rows and of the result, and two
+/// transposes.
+pub fn extract_rows<S: Semiring>(
+    alloc: Global,
+    block: &Block<S>,
+    rows: &[u32],
+) -> Result<Block<S>, AllocError>
+    requires rows { All (λ i. i < block.now.shape.rows) rows.now }
+    requires limit { length rows.now ≤ LIMIT }
+    ensures { IfOk result (λ part. part ≡ rows_by S.arithmetic rows.now block.now) }
+{
+    let turned = transpose(alloc, block)?;
+    let some_rows = extract_columns(alloc, &turned, rows)?;
     transpose(alloc, &some_rows)
 }
 
-/// The columns of a block with the given numbers, in that order.
-fn columns_by<S: Semiring>(
+/// The columns of a block with the given numbers, in that order. A number may appear more than once.
+///
+/// Costs a binary search for each number, and a few instructions for each entry of the result.
+pub fn extract_columns<S: Semiring>(
     alloc: Global,
     block: &Block<S>,
     columns: &[u32],

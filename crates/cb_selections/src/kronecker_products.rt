@@ -67,7 +67,8 @@ fn push_products<S: Semiring>(
                 values,
                 height,
             )?;
-            out.push_column(outer[n] * width + inner[m], kept_rows, kept_values)?;
+            let column = outer[n] * width + inner[m];
+            out.push_column(column, kept_rows, kept_values)?;
         }
     }
     Ok(())

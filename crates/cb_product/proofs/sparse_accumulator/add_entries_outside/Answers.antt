@@ -1,4 +1,4 @@
-use Rattle.std.proofs.Common.{◌≡◌, ◌<◌, true, false, rules, length, sym, refl, subst, ◌∙◌, arith, get_or}
+use Rattle.std.proofs.Common.{◌≡◌, ◌<◌, true, false, length, sym, refl, subst, ◌∙◌, arith, get_or}
 use Rattle.std.specs.Prelude.{◌==◌}
 use Rattle.std.proofs.lemmas.Bool.{eq-eqb, ne_eqb, false≢true}
 use Rattle.std.proofs.lemmas.List.{length-set}
@@ -9,7 +9,6 @@ use Rattle.cb_product.proofs.RowValues.{nth_product}
 use Rattle.cb_product.proofs.MarkBits.{marked_more}
 use Rattle.cb_product.proofs.MarkedRows.{outside_added, outside_skipped, outside_all_added}
 use Rattle.cb_product.proofs.sparse_accumulator.add_entries_outside.Goals as goal
-use Rattle.cb_product.proofs.sparse_accumulator.add_entries_outside.Goals.{then-not-is_marked, else-not-is_marked}
 
 pub loop-n-init : goal.loop-n-init
 loop-n-init g c = record { long = refl; accumulator = c.requires.accumulator; sums = λ i l. refl }
@@ -53,6 +52,17 @@ returns-clause-sums g c =
     let r = c.requires in
     λ i li. outside_all_added g.S.Semiring.arithmetic g.met.S.Semiring.is_semiring c.args.rows.now c.args.values.now c.args.scale r.lengths r.values r.scale r.order (λ k. mark_of c.args.excluded.now k == 1) c.loop-n.n c.loop-n.sums _ c.loop-n-test.false inv.accumulator.values inv.sums i (subst (λ m. i < m) (sym inv.long) li)
 
+pub loop-n-preserved-then-is_marked : goal.loop-n-preserved-then-is_marked
+loop-n-preserved-then-is_marked g c =
+    let inv = c.loop-n.invariant in
+    let r = c.requires in
+    let taken : (mark_of c.args.excluded.now (get_or c.args.rows.now c.loop-n.n 0) == 1) ≡ true = eq-eqb _ 1 (c.is_marked.ensures.0 c.if-is_marked.true) in
+    record {
+      long = inv.long;
+      accumulator = inv.accumulator;
+      sums = outside_skipped g.S.Semiring.arithmetic g.met.S.Semiring.is_semiring c.args.rows.now c.args.values.now c.args.scale r.lengths r.values r.scale r.order (λ m. mark_of c.args.excluded.now m == 1) c.loop-n.n c.loop-n.sums _ c.loop-n-test.true taken inv.sums;
+    }
+
 pub loop-n-preserved : goal.loop-n-preserved
 loop-n-preserved g c =
     let s = g.S.Semiring.arithmetic in
@@ -68,24 +78,41 @@ loop-n-preserved g c =
     let long = inv.long in
     let lr : get_or rows n 0 < length c.loop-n.sums = omega arith in
     let product = nth_product s laws rows values k r.lengths r.values r.scale n l in
-    elim c.if-not-is_marked.branch [
-      | then-not-is_marked w ↦
-          let unset : c.is_marked.result ≡ false = search rules in
-          let free : (mark_of c.args.excluded.now (get_or rows n 0) == 1) ≡ false = ne_eqb _ 1 (λ e. false≢true (sym unset ∙ c.is_marked.ensures.1 e)) in
-          rw (w.sums-is, w.marks-is, w.groups-is, w.add.ensures, w.scaled.ensures) (record {
-            long = length-set c.loop-n.sums _ _ ∙ inv.long;
-            accumulator = record {
-              values = All-set (IsValue s) c.loop-n.sums _ _ (laws.add_value _ _ (All-get_or (IsValue s) c.loop-n.sums _ 0 lr inv.accumulator.values) product) inv.accumulator.values;
-              marked = marked_more s.zero c.loop-n.sums c.loop-n.marks c.loop-n.groups _ _ (get_or rows n 0) _ inv.accumulator.marked lr w.mark_row.ensures.length w.mark_row.ensures.here w.mark_row.ensures.others w.mark_row.ensures.words w.mark_row.ensures.groups_length w.mark_row.ensures.group w.mark_row.ensures.other_groups;
-            };
-            sums = λ i li. outside_added s laws rows values k r.lengths r.values r.scale r.order (λ m. mark_of c.args.excluded.now m == 1) n c.loop-n.sums _ l free inv.accumulator.values lr inv.sums i (subst (λ m. i < m) (length-set c.loop-n.sums _ _) li);
-          })
-      | else-not-is_marked w ↦
-          let set : c.is_marked.result ≡ true = search rules in
-          let taken : (mark_of c.args.excluded.now (get_or rows n 0) == 1) ≡ true = eq-eqb _ 1 (c.is_marked.ensures.0 set) in
-          rw (w.sums-is, w.marks-is, w.groups-is) (record {
-            long = inv.long;
-            accumulator = inv.accumulator;
-            sums = outside_skipped s laws rows values k r.lengths r.values r.scale r.order (λ m. mark_of c.args.excluded.now m == 1) n c.loop-n.sums _ l taken inv.sums;
-          })
-    ]
+    let free : (mark_of c.args.excluded.now (get_or rows n 0) == 1) ≡ false = ne_eqb _ 1 (λ e. false≢true (sym c.if-is_marked.false ∙ c.is_marked.ensures.1 e)) in
+    rw (c.add.ensures, c.scaled.ensures) (record {
+      long = length-set c.loop-n.sums _ _ ∙ inv.long;
+      accumulator = record {
+        values = All-set (IsValue s) c.loop-n.sums _ _ (laws.add_value _ _ (All-get_or (IsValue s) c.loop-n.sums _ 0 lr inv.accumulator.values) product) inv.accumulator.values;
+        marked = marked_more s.zero c.loop-n.sums c.loop-n.marks c.loop-n.groups _ _ (get_or rows n 0) _ inv.accumulator.marked lr c.mark_row.ensures.length c.mark_row.ensures.here c.mark_row.ensures.others c.mark_row.ensures.words c.mark_row.ensures.groups_length c.mark_row.ensures.group c.mark_row.ensures.other_groups;
+      };
+      sums = λ i li. outside_added s laws rows values k r.lengths r.values r.scale r.order (λ m. mark_of c.args.excluded.now m == 1) n c.loop-n.sums _ l free inv.accumulator.values lr inv.sums i (subst (λ m. i < m) (length-set c.loop-n.sums _ _) li);
+    })
+
+pub bounds-sums-row : goal.bounds-sums-row
+bounds-sums-row g c =
+    let lr = All-get_or (λ i. i < length c.args.sums.now) c.args.rows.now c.loop-n.n 0 c.loop-n-test.true c.requires.inside in
+    let long = c.loop-n.invariant.long in
+    omega arith
+
+pub bounds-values-n : goal.bounds-values-n
+bounds-values-n g c =
+    let l = c.loop-n-test.true in
+    let e = c.requires.lengths in
+    omega arith
+
+pub scaled-requires-clause-value : goal.scaled-requires-clause-value
+scaled-requires-clause-value g c = let l = c.loop-n-test.true in let e = c.requires.lengths in c.requires.values c.loop-n.n 0 (omega arith)
+
+pub scaled-requires-clause-scale : goal.scaled-requires-clause-scale
+scaled-requires-clause-scale g c = c.requires.scale
+
+pub add-requires-clause-right_is_value : goal.add-requires-clause-right_is_value
+add-requires-clause-right_is_value g c =
+    let r = c.requires in
+    rw c.scaled.ensures (nth_product g.S.Semiring.arithmetic g.met.S.Semiring.is_semiring c.args.rows.now c.args.values.now c.args.scale r.lengths r.values r.scale c.loop-n.n c.loop-n-test.true)
+
+pub returns-clause-accumulator : goal.returns-clause-accumulator
+returns-clause-accumulator g c = c.loop-n.invariant.accumulator
+
+pub returns-clause-length : goal.returns-clause-length
+returns-clause-length g c = c.loop-n.invariant.long

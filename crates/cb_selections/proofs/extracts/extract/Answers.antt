@@ -11,5 +11,5 @@ returns g c =
     let a = c.args.block.now in
     let rows = c.args.rows.now in
     let cols = c.args.cols.now in
-    IfOk-weaker c.transpose-2.result (λ m. m ≡ transposed s c.in_ok-some_rows.some_rows) (λ m. m ≡ extracted s rows cols a)
-    (λ m is. is ∙ ap (transposed s) (c.in_ok-some_rows.ensures ∙ ap (columns_by s rows) (c.in_ok-turned.ensures ∙ ap (transposed s) c.in_ok-some_columns.ensures)) ∙ extracted_is s a rows cols c.requires.rows) c.transpose-2.ensures
+    IfOk-weaker c.turned_columns-2.result (λ m. m ≡ transposed s (columns_by s rows c.in_ok-turned.turned)) (λ m. m ≡ extracted s rows cols a)
+    (λ m is. is ∙ ap (λ t. transposed s (columns_by s rows t)) c.in_ok-turned.ensures ∙ extracted_is s a rows cols c.requires.rows) c.turned_columns-2.ensures

@@ -86,6 +86,32 @@ pair_column-requires-clause-limit g c =
     subst (λ h. All (λ i. (i + 1) * h ≤ LIMIT) left_rows) (sym height_is)
     (All-weaker (λ i. i < a.shape.rows) (λ i. (i + 1) * b.shape.rows ≤ LIMIT) (λ i l. let up : i + 1 ≤ a.shape.rows = omega arith in let more = mul-le-mul_right b.shape.rows up in omega (arith, more, most)) left_rows (rows_inside s a p left_rows c.requires.left left_rows_are))
 
+pub overflow_mul-column : goal.overflow_mul-column
+overflow_mul-column g c =
+    let s = g.S.Semiring.arithmetic in
+    let laws = g.met.S.Semiring.is_semiring in
+    let a = c.args.left.now in
+    let b = c.args.right.now in
+    let cs = c.column_numbers-outer in
+    let ds = c.column_numbers-inner in
+    let width_is : c.cols-width.result ≡ b.shape.cols = c.cols-width.ensures.value ∙ ap (λ (x : Extent). x.cols) c.shape-2.ensures.shape in
+    let low = column_low s laws a b c.requires.left c.requires.right cs.result.now ds.result.now cs.ensures.ascending ds.ensures.ascending cs.ensures.inside ds.ensures.inside cs.ensures.all ds.ensures.all c.loop-n.n c.loop-m.m c.loop-n-test.true c.loop-m-test.true in
+    let most = c.requires.cols in
+    rw width_is (omega (arith, low, most))
+
+pub overflow_add-column : goal.overflow_add-column
+overflow_add-column g c =
+    let s = g.S.Semiring.arithmetic in
+    let laws = g.met.S.Semiring.is_semiring in
+    let a = c.args.left.now in
+    let b = c.args.right.now in
+    let cs = c.column_numbers-outer in
+    let ds = c.column_numbers-inner in
+    let width_is : c.cols-width.result ≡ b.shape.cols = c.cols-width.ensures.value ∙ ap (λ (x : Extent). x.cols) c.shape-2.ensures.shape in
+    let low = column_low s laws a b c.requires.left c.requires.right cs.result.now ds.result.now cs.ensures.ascending ds.ensures.ascending cs.ensures.inside ds.ensures.inside cs.ensures.all ds.ensures.all c.loop-n.n c.loop-m.m c.loop-n-test.true c.loop-m-test.true in
+    let most = c.requires.cols in
+    rw width_is (omega (arith, low, most))
+
 pub push_column-requires-clause-rows : goal.push_column-requires-clause-rows
 push_column-requires-clause-rows g c =
     let s = g.S.Semiring.arithmetic in
