@@ -12,7 +12,7 @@
 -- BroadcastCheck: a broadcast passes the check (`broadcast_passes`) and shuts no lane (`broadcast_keeps_lanes`); a copy
 --   passes too (`copy_is_sound`).
 -- SendCheck: slots that are sent one after another pass the check (`sends_pass`) and shut no lane
---   (`sends_keep_lanes`); so do gather and all_to_all (`gather_passes`, `all_to_all_passes`).
+--   (`sends_keep_lanes`); so does all_to_all (`all_to_all_passes`).
 -- ShutCheck: shutting all lanes passes the check if they are open (`shut_acts_pass`), and shuts each
 --   (`all_shut_after`).
 -- PlanGrowth: how a plan grows: not at all (`grew_none`), and twice (`grew_both`); the total length of lists of acts

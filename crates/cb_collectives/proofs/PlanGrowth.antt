@@ -36,13 +36,6 @@ room_left xs ys first now h k =
     let r = k.room in
     record { memory = omega arith; limit = omega arith }
 
-pub room_first : (xs ys : List Act) (first : PlanView) → HasRoom first (xs ++ ys) → HasRoom first xs
-room_first xs ys first h =
-    let f = length-append xs ys in
-    let m = h.memory in
-    let l = h.limit in
-    record { memory = omega arith; limit = omega arith }
-
 room_for : (xs ys all : List Act) (first now : PlanView) → length xs + length ys ≤ length all → HasRoom first all → Appended xs first now → HasRoom now ys
 room_for xs ys all first now le h k =
     let e = ap length k.grew.acts_are ∙ length-append first.acts xs in

@@ -10,7 +10,7 @@ use Rattle.cb_plan.specs.Meaning.{State, act, meaning}
 use Rattle.cb_plan.specs.Algebras.{shapes}
 use Rattle.cb_plan.specs.Checks.{Lanes, IsSound, Passes, lanes_after, shut_after}
 use Rattle.cb_plan.proofs.Effects.{split}
-use Rattle.cb_collectives.specs.Collectives.{member, sent, gather_acts, sent_from, all_to_all_acts}
+use Rattle.cb_collectives.specs.Collectives.{member, sent, sent_from, all_to_all_acts}
 use Rattle.cb_collectives.proofs.SendMeaning.{act_sent}
 use Rattle.cb_plan.proofs.PassingActs.{passes-append}
 
@@ -63,14 +63,6 @@ module _ (ranks : ℕ) (tag : Tag) (shut : Lanes) (open_lanes : (s t : ℕ) → 
         sent_is_sound ranks state shut (from a) (to a) tag (slot a) (into a) here.0 here.1 here.2 here.3 (filled a (omega arith)) (open_lanes (from a) (to a)),
         subst (λ (lanes : Lanes). Passes ranks (act shapes x state) lanes (sends (a + 1) n)) (sym (sent_keeps_lanes (from a) (to a) tag (slot a) (into a) shut)) rest,
       )
-
--- a gather passes if the members are ranks, their slots are filled and the lanes are open
-pub gather_passes : (ranks : ℕ) (members : List ℕ) (root : ℕ) (tag : Tag) (slot into : ℕ) (shut : Lanes) (state : State Extent) →
-    ((p : ℕ) → p < length members → member members p < ranks) → root < ranks → slot < 256 → into + length members ≤ 256 →
-    ((s t : ℕ) → shut s t ≡ false) → ((p : ℕ) → p < length members → is_some (state (member members p) slot) ≡ true) → Passes ranks state shut (gather_acts members root tag slot into)
-gather_passes ranks members root tag slot into shut state below root_below slot_exists run open_lanes filled =
-    sends_pass ranks tag shut open_lanes (member members) (λ k. root) (λ k. slot) (λ k. into + k) (length members)
-    (λ k l. (below k l, root_below, slot_exists, omega arith)) 0 (length members) state (omega arith) filled
 
 module _ (ranks : ℕ) (members : List ℕ) (tag : Tag) (slot into : ℕ) (shut : Lanes) (open_lanes : (s t : ℕ) → shut s t ≡ false)
     (below : (p : ℕ) → p < length members → member members p < ranks) (read : slot + length members ≤ 256) (set : into + length members ≤ 256) where

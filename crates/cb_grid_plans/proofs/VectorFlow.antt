@@ -196,13 +196,6 @@ module _ (q : ℕ) (pos : 0 < q) (few : q ≤ 6) (shape : Extent) where
     abbrev fifth : State Extent
     fifth = after_exchanges shapes q few shape state
 
-    -- a rank by its row and its column
-    abbrev Each : (ℕ → Type 0) → Type 0
-    Each P = (i j : ℕ) → i < q → j < q → P (i * q + j)
-
-    by_places : (P : ℕ → Type 0) → Each P → (r : ℕ) → r < q * q → P r
-    by_places P each r l = subst P (rank_of q r) (each (r / q) (r % q) (row_below q r l) (mod_below r q pos))
-
     products_flow : Flow second (each_works q (products_at q shape))
     products_flow = each_works_flow q none_shut (products_at q shape) second (λ r l.
         let i = r / q in

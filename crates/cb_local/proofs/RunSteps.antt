@@ -1,5 +1,5 @@
 -- The steps of a plan that runs.
-use Rattle.std.proofs.Common.{◌≡◌, ℕ, ◌+◌, ◌<◌, List, length, get_or, drop, refl, sym, ap, ◌∙◌}
+use Rattle.std.proofs.Common.{◌≡◌, ℕ, ◌+◌, ◌<◌, List, length, get_or, drop, sym, ap, ◌∙◌}
 use Rattle.std.specs.Prelude.{None}
 use Rattle.cb_semirings.specs.Arithmetic.{Arithmetic}
 use Rattle.cb_matrix.specs.Sparse.{Sparse}
@@ -7,9 +7,8 @@ use Rattle.cb_plan.specs.declared.acts.Act.{Act}
 use Rattle.cb_plan.specs.declared.stores.Slot.{Slot}
 use Rattle.cb_plan.specs.Meaning.{images, act, meaning}
 use Rattle.cb_plan.specs.Algebras.{matrices, shapes}
-use Rattle.cb_plan.specs.Checks.{Lanes, IsSound, fault_from, shut_after, none_shut}
-use Rattle.cb_plan.specs.Stores.{state_of, shapes_of, NoneLost, Fits}
-use Rattle.cb_plan.specs.Plans.{CheckedView, IsChecked}
+use Rattle.cb_plan.specs.Checks.{Lanes, IsSound, fault_from, shut_after}
+use Rattle.cb_plan.specs.Stores.{state_of, shapes_of, NoneLost}
 use Rattle.cb_plan.specs.PlanTables.{IsTable}
 use Rattle.cb_plan.proofs.Faults.{next_element}
 use Rattle.cb_plan.proofs.Effects.{same_state}
@@ -17,23 +16,9 @@ use Rattle.cb_plan.proofs.PassingActs.{no_fault_next}
 use Rattle.cb_plan.proofs.ShapesOfMeaning.{act_turns, shape_turns}
 use Rattle.cb_local.specs.Running.{Runs}
 
--- a checked plan on stores that fit runs, before its first act
-pub first_runs : (s : Arithmetic) (p : CheckedView) (first : List (List (Slot Sparse))) → IsChecked p → Fits p.ranks p.starts first → Runs s p.ranks p.acts 0 first first
-first_runs s p first checked fits = record {
-  table = fits.table;
-  none_lost = fits.none_lost;
-  shut = none_shut;
-  no_fault = ap (λ x. fault_from p.ranks 0 x none_shut p.acts) fits.shapes ∙ checked.no_fault;
-  means = refl;
-}
-
 module _ (s : Arithmetic) (ranks : ℕ) (acts : List Act) (i : ℕ) (first now : List (List (Slot Sparse))) (runs : Runs s ranks acts i first now) (a : Act) (l : i < length acts) (e : a ≡ get_or acts i a) where
   next : IsSound ranks (shapes_of now) runs.shut a × (fault_from ranks (i + 1) (act shapes a (shapes_of now)) (shut_after a runs.shut) (drop (i + 1) acts) ≡ None)
   next = no_fault_next ranks i (shapes_of now) runs.shut acts a l e runs.no_fault
-
-  -- the stores are a table
-  pub now_is_table : IsTable (length now) 256 now
-  now_is_table = rw runs.table.rows runs.table
 
   -- the next act can be done
   pub next_is_sound : (shut : Lanes) × IsSound (length now) (shapes_of now) shut a

@@ -1,11 +1,10 @@
 -- Tables, read and written.
 use Rattle.std.proofs.Common.{◌≡◌, ◌≢◌, ℕ, ◌<◌, false, List, [], length, get_or, set, replicate, zero, suc, refl, ap, ◌∙◌, arith}
-use Rattle.std.specs.Prelude.{Option, None, ◌==◌, ◌&&◌, if◌then◌else◌}
+use Rattle.std.specs.Prelude.{None, ◌==◌, ◌&&◌, if◌then◌else◌}
 use Rattle.std.proofs.lemmas.Bool.Decides.{nat_tests}
 use Rattle.std.proofs.lemmas.List.{length-set, get_or-set_same, get_or-set_other, get_or-replicate, length-replicate}
 use Rattle.cb_plan.specs.PlanTables.{cell, cell_set, IsTable}
-use Rattle.cb_matrix.specs.Sparse.{Extent}
-use Rattle.cb_plan.specs.Checks.{CheckState, IsCheckState, IsBlank, SetSlot, slots_in, lanes_in}
+use Rattle.cb_plan.specs.Checks.{CheckState, IsBlank, slots_in, lanes_in}
 use Rattle.cb_plan.proofs.Effects.{split}
 
 -- a table with one place changed is one of the same size
@@ -61,19 +60,4 @@ blank_state o ranks e f g = record {
   ranks_are = e;
   slots = λ i r n. (ap (λ t. slots_in t r n) f ∙ blank_cell None ranks 256 r n) i;
   shut = λ i r n. (ap (λ t. lanes_in t r n) g ∙ blank_cell false ranks ranks r n) i;
-}
-
--- new tables have a slot for each rank and number, and a lane for each two ranks
-pub blank_is_state : (o : CheckState) (ranks : ℕ) → o.ranks ≡ ranks → o.slots ≡ replicate ranks (replicate 256 None) → o.shut ≡ replicate ranks (replicate ranks false) → IsCheckState o
-blank_is_state o ranks e f g = record {
-  slots = rw (e, f) (blank_is_table None ranks 256);
-  shut = rw (e, g) (blank_is_table false ranks ranks);
-}
-
--- one place of the slots set is one slot with another shape
-pub slot_is_set : (o : CheckState) (r n : ℕ) (x : Option Extent) → IsCheckState o → r < o.ranks → n < 256 → SetSlot r n x o (record o { slots = cell_set o.slots r n x })
-slot_is_set o r n x is l m = record {
-  ranks = refl;
-  slots = λ i q k. cell_after_set None o.ranks 256 o.slots r n x is.slots l m q k i;
-  shut = refl;
 }

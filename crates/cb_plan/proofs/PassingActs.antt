@@ -1,6 +1,6 @@
 -- Acts that pass the check.
-use Rattle.std.proofs.Common.{◌≡◌, ◌≢◌, ℕ, ◌+◌, ◌<◌, Bool, true, false, List, [], ◌∷◌, ◌++◌, length, get_or, drop, refl, sym, ap, ◌∙◌, arith}
-use Rattle.std.specs.Prelude.{Option, Some, None, ◌==◌, nat_lt, if◌then◌else◌}
+use Rattle.std.proofs.Common.{◌≡◌, ◌≢◌, ℕ, ◌+◌, ◌<◌, true, false, List, [], ◌∷◌, ◌++◌, length, get_or, drop, refl, sym, ap, ◌∙◌, arith}
+use Rattle.std.specs.Prelude.{Option, Some, None, ◌==◌, nat_lt}
 use Rattle.std.proofs.lemmas.Bool.Decides.{nat_tests}
 use Rattle.cb_letters.specs.declared.Tag.{Tag}
 use Rattle.cb_matrix.specs.Sparse.{Extent}
@@ -8,7 +8,6 @@ use Rattle.cb_plan.specs.declared.acts.Act.{Act}
 use Rattle.cb_plan.specs.declared.acts.Act.TheVariants as act_is
 use Rattle.cb_plan.specs.declared.plans.PlanFault.{PlanFault}
 use Rattle.cb_plan.specs.declared.plans.PlanFaultKind.{PlanFaultKind}
-use Rattle.cb_plan.specs.declared.plans.PlanFaultKind.TheVariants as kind_is
 use Rattle.cb_plan.specs.Meaning.{State, act, meaning}
 use Rattle.cb_plan.specs.Algebras.{shapes}
 use Rattle.cb_plan.specs.Checks.{Lanes, IsSound, Passes, lanes_after, shut_after, act_fault, fault_from, fault_or, are_all_shut}
@@ -53,20 +52,6 @@ checked_passes ranks n state shut [] h = tt
 checked_passes ranks n state shut (a ∷ acts) h =
     let parts = both_none n (act_fault ranks state shut a) (fault_from ranks (n + 1) (act shapes a state) (shut_after a shut) acts) h in
     (no_fault ranks state shut a parts.0, checked_passes ranks (n + 1) (act shapes a state) (shut_after a shut) acts parts.1)
-
-abbrev no_fault_at : Option PlanFault
-no_fault_at = None
-
-shut_at_end : (b : Bool) (n : ℕ) → (if b then no_fault_at else Some (record { act = n; kind = kind_is.NotShut })) ≡ no_fault_at → b ≡ true
-shut_at_end true n h = refl
-shut_at_end false n h = absurd (grind arith)
-
--- if there is no fault, each lane is shut in the end
-pub checked_shuts : (ranks n : ℕ) (state : State Extent) (shut : Lanes) (acts : List Act) → fault_from ranks n state shut acts ≡ None → are_all_shut ranks (lanes_after acts shut) ≡ true
-unfolding fault_from
-checked_shuts ranks n state shut [] h = shut_at_end (are_all_shut ranks shut) n h
-checked_shuts ranks n state shut (a ∷ acts) h =
-    checked_shuts ranks (n + 1) (act shapes a state) (shut_after a shut) acts (both_none n (act_fault ranks state shut a) (fault_from ranks (n + 1) (act shapes a state) (shut_after a shut) acts) h).1
 
 -- a move between two ranks, of a slot that is filled, on a lane that is open
 pub move_is_sound : (ranks : ℕ) (state : State Extent) (shut : Lanes) (from to : ℕ) (tag : Tag) (slot into : ℕ) (v : Extent) → from < ranks → to < ranks → from ≢ to → slot < 256 → into < 256 → state from slot ≡ Some v → shut from to ≡ false → IsSound ranks state shut (act_is.Move from to tag slot into)

@@ -11,9 +11,6 @@ use Rattle.cb_plan.specs.Stores.{is_filled, count_filled}
 use Rattle.cb_plan.specs.PlanTables.{IsTable, cell, cell_set}
 use Rattle.cb_plan.proofs.Effects.{split}
 
-below_or_past : (n m : ℕ) → (n < m → n < m) × (m ≤ n → m ≤ n)
-below_or_past n m = (λ l. l, λ l. l)
-
 -- one slot fewer
 pub count_emptied : (height : ℕ) (t : List (List (Slot Sparse))) (r n : ℕ) → IsTable height 256 t → r < height → n < 256 → is_filled (cell slot_is.Empty t r n) ≡ true → count_filled (cell_set t r n slot_is.Empty) + 1 ≡ count_filled t
 count_emptied height t r n is l m filled =

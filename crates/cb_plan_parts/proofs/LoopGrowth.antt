@@ -1,9 +1,10 @@
 -- Plans that grow in loops over a range, within the limit of a plan.
 use Rattle.std.proofs.Common.{◌≡◌, ℕ, ◌+◌, ◌<◌, ◌≤◌, ◌⊎◌, List, [], ◌∷◌, ◌++◌, map, length, length-append, sym, ap, subst, ◌∙◌, ⊎_elim, arith}
-use Rattle.std.specs.Prelude.{Result, Ok, Err, OnOk}
+use Rattle.std.specs.Prelude.{Result, Ok, Err, OnOk, IfOk}
 use Rattle.std.specs.List.{range_with_len, flat_map}
 use Rattle.std.proofs.lemmas.List.FromFn.{length-map-range_with_len}
 use Rattle.cb_plan.specs.declared.acts.Act.{Act}
+use Rattle.cb_plan.specs.declared.plans.Planned.{Planned}
 use Rattle.cb_plan.specs.declared.plans.PlanFault.{PlanFault}
 use Rattle.cb_plan.specs.declared.acts.Start.{Start}
 use Rattle.cb_plan.specs.Checks.{started, none_shut}
@@ -72,6 +73,11 @@ pub room_refused : (f : ℕ → Act) (n count : ℕ) (plan : PlanView) (e : Plan
 room_refused f n count plan e is l h =
     let k = length-map-range_with_len f 0 n in
     ⊎_elim (λ (t : (4294967295 < length plan.acts + count) × (e ≡ too_long plan)). absurd (let m = t.0 in omega arith)) (λ (m : e ≡ no_memory). m) h
+
+-- what holds of a new plan's acts with some others after them holds of the plan that is ended by these
+pub ended : {E : Type 0} (P : List Act → Type 0) (acts ends : List Act) (first now : PlanView) (r : Result Planned E) → first.acts ≡ [] → Grew acts first now → IfOk r (λ p. p.plan.acts ≡ now.acts ++ ends) → P (acts ++ ends) → IfOk r (λ p. P p.plan.acts)
+ended P acts ends first now (Ok p) e h is holds = subst P (sym (is ∙ ap (λ xs. xs ++ ends) (grew_all acts first now e h))) holds
+ended P acts ends first now (Err f) e h is holds = tt
 
 -- what flows from the starts flows in a plan that has these acts alone
 pub grown_flows : (ranks : ℕ) (starts same : List Start) (acts : List Act) (first now : PlanView) → first.acts ≡ [] → Grew acts first now → same ≡ starts → Flows ranks none_shut (started starts) acts → Flows ranks none_shut (started same) now.acts

@@ -17,17 +17,20 @@ fn grid() -> Result<Grid, Fail>
 
 /// The starts of a 3 by 5 matrix in slot 0 and a 1 by 2 matrix in slot 7 on the grid of side 2.
 fn starts(alloc: Global) -> Result<Vec<Start>, Fail> {
+    let grid = grid()?;
+    let large = shape(3, 5)?;
+    let small = shape(1, 2)?;
     let operands = [
         Operand {
             slot: 0,
-            shape: shape(3, 5)?,
+            shape: large,
         },
         Operand {
             slot: 7,
-            shape: shape(1, 2)?,
+            shape: small,
         },
     ];
-    Ok(operand_starts(alloc, &grid()?, &operands)?)
+    Ok(operand_starts(alloc, &grid, &operands)?)
 }
 
 /// Whether a start has this rank and slot, and this many rows and columns.

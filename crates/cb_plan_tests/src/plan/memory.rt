@@ -3,10 +3,10 @@ ghost use Rattle.std.specs.Prelude.{◌≡◌};
 
 use crate::plan::{checked, fault, plan_of, row_at_0, small, two_stores};
 use cb_dcsc::Block;
-use cb_local::run_plain;
-use cb_matrix::Entry;
-use cb_plan::{CheckedPlan, Plan, PlanFaultKind, Slot, Start};
-use cb_samples::entry;
+use cb_local::{run_plain, work};
+use cb_matrix::{Entry, Shape};
+use cb_plan::{CheckedPlan, Op, Plan, PlanFaultKind, RankStore, Slot, Start};
+use cb_samples::{entry, shape};
 use cb_semirings::PlusTimes;
 use std::alloc::{AllocError, Global};
 use std::test::Fail;
@@ -77,6 +77,23 @@ fn is_sent(alloc: Global) -> Option<bool> {
 fn a_block_is_copied_and_sent_with_ample_memory(rt: HostRuntime) {
     assert!(rt; is_copied(rt.alloc()) == Some(true));
     assert!(rt; is_sent(rt.alloc()) == Some(true));
+}
+
+/// Makes a block without entries in slot 0. That it isn't refused, whatever memory there is, is proved.
+fn blank(alloc: Global, store: &mut RankStore<PlusTimes>, shape: Shape) {
+    let zero = Op::Zero { into: 0, shape };
+    match work(alloc, store, &zero) {
+        Ok(()) => {}
+        Err(AllocError) => unreachable!(),
+    }
+}
+
+#[test]
+fn a_block_without_entries_takes_no_memory(rt: HostRuntime) -> Result<(), Fail> {
+    let mut store = RankStore::new(rt.alloc())?;
+    blank(rt.alloc(), &mut store, shape(2, 2)?);
+    assert!(rt; store.filled() == 1);
+    Ok(())
 }
 
 /// Whether the check of the small plan hands the plan back if memory is refused; or else whether rank 1 has three halves,
