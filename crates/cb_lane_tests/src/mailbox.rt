@@ -1,5 +1,5 @@
 //! Worked examples of a mailbox.
-ghost use Rattle.std.specs.Prelude.{◌≡◌, ◌<◌, All, IfOk, IfSome, false};
+ghost use Rattle.std.specs.Prelude.{◌≡◌, ◌<◌, All, IfErr, IfOk, IfSome, false};
 ghost use Rattle.cb_mailbox.specs.Inbox.{is_stranger};
 ghost use Rattle.cb_mailbox.specs.Run.{IsPostable};
 
@@ -32,6 +32,21 @@ fn refused(refusal: PostRefusal, sheet: u64) -> Answer<u64> {
     Answer::Refused(refusal, Some(Body::Sheet(sheet)))
 }
 
+/// The answers to these calls. That calls which are refused memory come back is proved.
+fn answered(
+    alloc: Global,
+    mailbox: &mut Mailbox<u64>,
+    calls: Vec<Call<u64>>,
+) -> Result<Vec<Answer<u64>>, Vec<Call<u64>>>
+    requires { All IsPostable calls.items }
+    ensures { IfErr result (λ back. back ≡ calls) }
+{
+    match mailbox.run(alloc, calls) {
+        Ok(answers) => Ok(answers),
+        Err((back, AllocError)) => Err(back),
+    }
+}
+
 /// Whether a mailbox gives these answers to these calls.
 fn is_answered(
     alloc: Global,
@@ -41,7 +56,7 @@ fn is_answered(
 ) -> bool
     requires { All IsPostable calls.items }
 {
-    match mailbox.run(alloc, calls) {
+    match answered(alloc, mailbox, calls) {
         Ok(answers) => answers.as_slice() == expected,
         Err(_) => false,
     }
@@ -62,7 +77,7 @@ fn gives_answers(
     Ok(is_answered(alloc, &mut mailbox, calls, expected))
 }
 
-/// Calls for one sender, which fill its queue and close it.
+/// Calls for one sender, which fill its queue and close it. Posts are refused then, while it is full and once it is empty.
 fn calls_of_one(alloc: Global) -> Result<Vec<Call<u64>>, AllocError>
     ensures { IfOk result (λ calls. All IsPostable calls.items) }
 {
@@ -79,6 +94,7 @@ fn calls_of_one(alloc: Global) -> Result<Vec<Call<u64>>, AllocError>
         Call::Take { from: 1 },
         Call::Take { from: 1 },
         Call::Take { from: 1 },
+        post(1, 15),
     ]?)
 }
 
@@ -97,6 +113,7 @@ fn answers_to_one(alloc: Global) -> Result<Vec<Answer<u64>>, AllocError> {
         took(1, 0, 2, 13),
         Answer::Took(Taken::End),
         Answer::Took(Taken::End),
+        refused(PostRefusal::Closed, 15),
     ]?)
 }
 

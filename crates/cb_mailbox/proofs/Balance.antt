@@ -105,5 +105,3 @@ module _ {P : Type 0} where
       rw (posts_on-append, takes_on-append)
       (joined (lane_from box from).queue (posts_on from box.me (events_of box c)) (posts_on from box.me (events (after box c) cs)) (takes_on from box.me (events (after box c) cs)) (lane_from (after box c) from).queue (takes_on from box.me (events_of box c)) (lane_from (after_all (after box c) cs) from).queue
       (call_balanced box c from inside) rest)
-
-pub ruleset balance = (posts_on-append, takes_on-append, all_balanced)

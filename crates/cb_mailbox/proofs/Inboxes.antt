@@ -1,14 +1,15 @@
 -- The lanes of a mailbox stay lanes as one of them changes.
-use Rattle.std.proofs.Common.{◌≡◌, ◌≢◌, ℕ, ◌<◌, Bool, true, false, List, Some, None, Result, Ok, Err, IfOk, IfErr, refl, sym, subst, arith, ⊎_elim}
+use Rattle.std.proofs.Common.{◌≡◌, ◌≢◌, ℕ, ◌<◌, Bool, true, false, List, Some, None, Result, Ok, Err, IfOk, IfErr, OnErr, if◌then◌else◌, refl, sym, ◌∙◌, ap, subst, arith, ⊎_elim}
 use Rattle.std.proofs.lemmas.Grind.{common_steps}
-use Rattle.std.proofs.lemmas.List.{get_or-set_other, length-set}
+use Rattle.std.proofs.lemmas.List.{get_or-set_other, length-set, set-get_or}
 use Rattle.std.proofs.lemmas.Bool.{cases_order}
 use Rattle.cb_letters.specs.declared.Tag.{Tag}
 use Rattle.cb_letters.specs.declared.Body.{Body}
 use Rattle.cb_letters.specs.declared.PostRefusal.{PostRefusal}
-use Rattle.cb_letters.specs.Lane.{Lane, IsLane, new_lane, append, after_take, posted, refusal}
+use Rattle.cb_letters.specs.declared.PostRefusal.TheVariants.{Stranger}
+use Rattle.cb_letters.specs.Lane.{Lane, IsLane, Accepts, new_lane, append, after_take, posted, refusal}
 use Rattle.cb_letters.proofs.Lanes.{IsLane-new, IsLane-append, IsLane-take}
-use Rattle.cb_mailbox.specs.Inbox.{Inbox, is_stranger, lane_from, with_lane, next_letter, HasLanes}
+use Rattle.cb_mailbox.specs.Inbox.{Inbox, is_stranger, lane_from, with_lane, next_letter, post_refusal, AcceptsFrom, HasLanes}
 
 -- a fact for each of two equal numbers, and for two that differ
 pub same_or_other : (a b : ℕ) (Q : Type 0) → (a ≡ b → Q) → (a ≢ b → Q) → Q
@@ -68,5 +69,35 @@ module _ {P : Type 0} where
       rw (accepted.2, accepted.1, here) (HasLanes-post box from tag body h inside (still_open (lane_from box from) (rw here at accepted.0)))
   HasLanes-answer box from tag body (Err why) old new h inside here accepted refused =
       rw (refused.2, here) (HasLanes-set box from (lane_from box from) h inside (h from inside))
+
+  module _ (box : Inbox P) (from : ℕ) (old new : Lane P) (here : old ≡ lane_from box from) where
+    -- a sender that has a lane is refused what its lane refuses
+    refused_as : is_stranger box from ≡ false → (why : _) → refusal old ≡ why → post_refusal box from ≡ why
+    refused_as inside why e = subst (λ b. (if b then Some Stranger else refusal (lane_from box from)) ≡ why) (sym inside) (ap refusal (sym here) ∙ e)
+
+    -- what a lane accepts, its mailbox accepts
+    pub accepts_from : (tag : Tag) (body : Body P) (number : ℕ) → is_stranger box from ≡ false → Accepts old from box.me tag body number new → AcceptsFrom box from tag body number (with_lane box from new)
+    accepts_from tag body number inside accepted = (refused_as inside None accepted.0, accepted.1 ∙ ap posted here, rw (accepted.2, accepted.1, here) refl)
+
+    -- what its lane refuses, it refuses, and is as before
+    pub refuses_from : (why : PostRefusal) → is_stranger box from ≡ false → refusal old ≡ Some why → post_refusal box from ≡ Some why
+    refuses_from why inside e = refused_as inside (Some why) e
+
+    pub unchanged_from : new ≡ old → with_lane box from new ≡ box
+    unchanged_from same = ap (λ l. with_lane box from l) (same ∙ here) ∙ ap (λ ls. record box { lanes = ls }) (set-get_or box.lanes from (new_lane 0))
+
+    module _ (body : Body P) (inside : is_stranger box from ≡ false) where
+      -- the same of an answer of the lane
+      pub answer_accepts : (tag : Tag) (r : Result ℕ (PostRefusal × Body P)) → IfOk r (λ number. Accepts old from box.me tag body number new) → IfOk r (λ number. AcceptsFrom box from tag body number (with_lane box from new))
+      answer_accepts tag (Ok number) accepted = accepts_from tag body number inside accepted
+      answer_accepts tag (Err why) accepted = tt
+
+      pub answer_refuses : (r : Result ℕ (PostRefusal × Body P)) → IfErr r (λ e. (refusal old ≡ Some e.0) × (e.1 ≡ body) × (new ≡ old)) → IfErr r (λ e. (post_refusal box from ≡ Some e.0) × (e.1 ≡ body))
+      answer_refuses (Ok number) refused = tt
+      answer_refuses (Err why) refused = (refuses_from why.0 inside refused.0, refused.1)
+
+      pub answer_changes_nothing : (r : Result ℕ (PostRefusal × Body P)) → IfErr r (λ e. (refusal old ≡ Some e.0) × (e.1 ≡ body) × (new ≡ old)) → OnErr r (with_lane box from new ≡ box)
+      answer_changes_nothing (Ok number) refused = tt
+      answer_changes_nothing (Err why) refused = unchanged_from refused.2
 
 pub ruleset lanes = (HasLanes-new)

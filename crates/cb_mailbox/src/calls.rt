@@ -1,5 +1,5 @@
 //! Calls of a mailbox as values, and lists of them.
-ghost use Rattle.std.specs.Prelude.{◌≡◌, All, IfOk, OnOk, IfErr};
+ghost use Rattle.std.specs.Prelude.{◌≡◌, ◌≤◌, [], All, IfOk, OnOk, IfErr, length, vec_capacity};
 ghost use Rattle.cb_mailbox.specs.Run.{IsPostable, answer, after, answers_to, after_all, events, IsBalanced, IsNew};
 ghost use Rattle.cb_mailbox.specs.Exchanges.{AreTakenOnce, AreForAddressee, AreInPostingOrder, NothingAcceptedAfterClose, HasGivenOutAll};
 ghost use Rattle.cb_letters.specs.Events.{AreLegal};
@@ -29,7 +29,6 @@ pub enum Answer<P> {
 impl<P: Drop> Mailbox<P> {
     /// Makes the calls one after the other, and returns their answers in order. Memory for all answers is allocated
     /// before the first call; if it is refused, the calls come back and none was made.
-    #[tactic(auto, using(crate::proofs::Runs::runs, crate::proofs::Balance::balance))]
     pub fn run(
         &mut self,
         alloc: Global,
@@ -52,11 +51,22 @@ impl<P: Drop> Mailbox<P> {
             Ok(answers) => answers,
             Err(refused) => return Err((calls, refused)),
         };
+        self.make(calls, &mut answers);
+        Ok(answers)
+    }
+
+    /// Makes the calls one after the other, and puts their answers into the list, which has room for them.
+    fn make(&mut self, calls: Vec<Call<P>>, answers: &mut Vec<Answer<P>>)
+        requires postable { All IsPostable calls.items }
+        requires empty { answers.old.items ≡ [] }
+        requires room { length calls.items ≤ vec_capacity answers.old }
+        ensures answers { answers.new.items ≡ answers_to self.old calls.items }
+        ensures after { self.new ≡ after_all self.old calls.items }
+    {
         for call in calls {
             let answer = self.call(call);
             answers.push_reserved(answer);
         }
-        Ok(answers)
     }
 
     fn call(&mut self, call: Call<P>) -> Answer<P>

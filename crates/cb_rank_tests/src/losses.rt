@@ -1,4 +1,5 @@
 //! Worlds of a product over four ranks, where one half is refused memory.
+ghost use Rattle.std.specs.Prelude.{◌≡◌, IfErr};
 ghost use Rattle.cb_plan.specs.Stores.{Fits};
 
 use crate::events::{answers, product_world, stores_of};
@@ -120,6 +121,21 @@ fn is_product_or_lost(found: [Held; 4], refusals: u64) -> bool {
     true
 }
 
+/// Starts a world. That a refused start hands back the stores as they were is proved.
+fn started(
+    alloc: Global,
+    plan: &CheckedPlan,
+    stores: Vec<RankStore<PlusTimes>>,
+) -> Result<World<PlusTimes>, Vec<RankStore<PlusTimes>>>
+    requires { Fits plan.now.ranks plan.now.starts stores.items }
+    ensures { IfErr result (λ back. back.items ≡ stores.items) }
+{
+    match World::start(alloc, plan, stores, Capacity::nearest(1)) {
+        Ok(world) => Ok(world),
+        Err((back, AllocError)) => Err(back),
+    }
+}
+
 /// Whether a world of the product runs to its end and counts each refusal that loses something; or, if its start is
 /// refused, whether it hands back the stores unchanged.
 fn ends_or_is_refused(
@@ -130,7 +146,7 @@ fn ends_or_is_refused(
 ) -> bool
     requires { Fits plan.now.ranks plan.now.starts stores.items }
 {
-    match World::start(alloc, plan, stores, Capacity::nearest(1)) {
+    match started(alloc, plan, stores) {
         Ok(mut world) => {
             world.finish();
             let refusals = world.refusals();
@@ -139,7 +155,7 @@ fn ends_or_is_refused(
                 None => false,
             }
         }
-        Err((stores, AllocError)) => kept(&stores, given) == (true, 0),
+        Err(stores) => kept(&stores, given) == (true, 0),
     }
 }
 

@@ -4,10 +4,12 @@ use Rattle.std.specs.Prelude.{All, Option}
 use Rattle.cb_semirings.specs.Arithmetic.{Arithmetic, IsSemiring}
 use Rattle.cb_matrix.specs.Sparse.{Sparse, Extent, IsMatrix}
 use Rattle.cb_plan.specs.declared.plans.Planned.{Planned}
+use Rattle.cb_plan.specs.Plans.{CheckedView}
+use Rattle.cb_vectors.specs.SpreadVectors.{MultipliesVectors}
 use Rattle.cb_trace.specs.Traces.{TraceView}
 use Rattle.cb_operations.specs.declared.operations.Operation.{Operation}
 use Rattle.cb_operations.specs.declared.operations.Operation.TheVariants.{Multiply, MultiplyMasked, MultiplyVector, Transpose, RowSums, ColumnSums, Add, Times, Prune}
-use Rattle.cb_operations.specs.OperationAnswers.{shape_of, answer_of, shapes_in}
+use Rattle.cb_operations.specs.OperationAnswers.{extent_at, shape_of, answer_of, shapes_in}
 use Rattle.cb_placement.specs.Answers.{Makes}
 use Rattle.cb_planner.specs.OperationPlans.{Computes, placed_operands}
 use Rattle.cb_engines.specs.declared.engines.Engine.{Engine}
@@ -40,3 +42,9 @@ pub trace_for : (operation : Operation) → operation ≢ MultiplyVector → (q 
 trace_for operation other q (Threads letters) shapes planned computes t is = is
 trace_for operation other q (Traced letters) shapes planned computes t is = (checked_of planned, plan_for operation other q shapes planned computes, is)
 trace_for operation other q (InOrder letters order) shapes planned computes t is = is
+
+-- the trace that an engine keeps of a plan for products by vectors is one of a product by a vector
+pub vector_trace : (q : ℕ) (engine : Engine) (shapes : List Extent) (plan : CheckedView) → MultipliesVectors q (extent_at shapes 0) plan → (t : Option TraceView) → IsTraceOf engine plan t → IsTraceFor engine MultiplyVector q shapes t
+vector_trace q (Threads letters) shapes plan multiplies t is = is
+vector_trace q (Traced letters) shapes plan multiplies t is = (plan, multiplies, is)
+vector_trace q (InOrder letters order) shapes plan multiplies t is = is

@@ -6,7 +6,7 @@ use Rattle.cb_matrix.specs.Operations.{transposed}
 use Rattle.cb_operations.specs.Graphs.{HasSource, IsGraphRefusal}
 use Rattle.cb_operations.specs.declared.operations.Operation.TheVariants.{MultiplyVector, Transpose}
 use Rattle.cb_searches.specs.declared.searches.Search.{Search}
-use Rattle.cb_searches.specs.Searches.{IsSearch}
+use Rattle.cb_searches.specs.Searches.{HasEdges, IsSearch}
 use Rattle.cb_searches.specs.Walks.{AreLevels, AreDistances}
 use Rattle.cb_world.specs.declared.events.Event.{Event}
 use Rattle.cb_engines.specs.declared.engines.Engine.{Engine}
@@ -45,3 +45,7 @@ IsSteppedWalkLoss q graph source letters order r count =
 abbrev pub IsWalkLoss : Engine → ℕ → Sparse → ℕ → OperationFault → Type 0
 IsWalkLoss engine q graph source (Failed (Lost r count)) = OfItsOrder engine (λ letters order. IsSteppedWalkLoss q graph source letters order r count)
 IsWalkLoss engine q graph source _ = Unit {0}
+
+-- this holds for each graph and source of which these are the edges and the beginning of the search
+abbrev pub OfEachSearch : Sparse → Search → (Sparse → ℕ → Type 0) → Type 0
+OfEachSearch edges begun holds = (a : Sparse) (source : ℕ) → HasEdges edges a → IsSearch a source 0 begun → holds a source

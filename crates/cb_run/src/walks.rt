@@ -2,15 +2,19 @@
 //!
 //! A square matrix is a graph: a stored entry (i, j) is an edge from i to j. Both are one [search](cb_searches::Search);
 //! for levels each edge weighs 1.
-ghost use Rattle.std.specs.Prelude.{◌≡◌, ◌<◌, ◌*◌, [], ◌∷◌, IfOk, IfErr};
+ghost use Rattle.std.specs.Prelude.{◌≡◌, ℕ, ◌<◌, ◌*◌, [], ◌∷◌, IfOk, IfErr};
 ghost use Rattle.cb_semirings.specs.Tables.{min_plus};
+ghost use Rattle.cb_matrix.specs.Sparse.{Sparse};
 ghost use Rattle.cb_matrix.specs.Operations.{transposed};
 ghost use Rattle.cb_searches.specs.Walks.{AreLevels, AreDistances};
+ghost use Rattle.cb_searches.specs.Searches.{HasEdges, IsNextRound, IsSearch, IsWholeSearch};
+ghost use Rattle.cb_vectors.specs.SpreadVectors.{MultipliesVectors};
 ghost use Rattle.cb_placement.specs.Answers.{over_grid};
 ghost use Rattle.cb_engines.specs.EngineRuns.{IsEngineFault};
 ghost use Rattle.cb_operations.specs.Graphs.{HasSource};
 ghost use Rattle.cb_run.specs.Outcomes.{IsLossFor};
-ghost use Rattle.cb_run.specs.Searched.{DistancesAreLevels, IsWalkLoss, IsWalkRefusal};
+ghost use Rattle.cb_run.specs.Searched.{DistancesAreLevels, IsWalkLoss, IsWalkRefusal, OfEachSearch};
+ghost use Rattle.cb_run.specs.VectorOrders.{IsOrderedProductLoss};
 ghost use Rattle.cb_run.specs.declared.operation_faults.OperationFault.TheVariants.{Failed};
 
 use crate::{OperationFault, multiply_vector, run};
@@ -18,6 +22,7 @@ use cb_engines::{Engine, EngineFault};
 use cb_layout::{DistributedMatrix, Grid};
 use cb_matrix::{LIMIT, Matrix};
 use cb_operations::{Operands, Operation, check_graph};
+use cb_plan::CheckedPlan;
 use cb_searches::Search;
 use cb_semirings::{MinPlus, OrAnd, Semiring};
 use cb_vectors::vector_plan;
@@ -67,20 +72,68 @@ fn nearest<R: Threads + Wait + Sync>(
 {
     let grid = graph.grid();
     let shape = graph.shape();
-    let mut search = Search::begin(alloc, shape, graph.len(), source)?;
-    let mut turned = transposed(rt, alloc, engine, &grid, graph)?;
+    let begun = Search::begin(alloc, shape, graph.len(), source)?;
+    let turned = transposed(rt, alloc, engine, &grid, graph)?;
     let plan = vector_plan(alloc, &grid, turned.shape())?;
+    let ended = search_on(rt, alloc, engine, &grid, &plan, turned, begun)?;
+    let column = ended.column(alloc)?;
+    Ok(column)
+}
+
+/// Makes the rounds of a search by the transposed matrix, until no number falls.
+fn search_on<R: Threads + Wait + Sync>(
+    rt: &R,
+    alloc: Global,
+    engine: Engine,
+    grid: &Grid,
+    plan: &CheckedPlan,
+    edges: DistributedMatrix<MinPlus>,
+    begun: Search,
+) -> Result<Search, EngineFault>
+    requires side { edges.side ≡ grid.now.side }
+    requires plan { MultipliesVectors grid.now.side edges.matrix.shape plan.now }
+    requires search { (a : Sparse) × (source : ℕ) × HasEdges edges.matrix a × IsSearch a source 0 begun }
+    ensures ended { IfOk result (λ search. OfEachSearch edges.matrix begun (λ a source. (k : ℕ) × IsWholeSearch a source k search)) }
+    ensures fault { IfErr result (IsEngineFault engine.entry (grid.now.side * grid.now.side)) }
+    ensures lost { IfErr result (λ e. OfEachSearch edges.matrix begun (λ a source. IsWalkLoss engine.entry grid.now.side a source (Failed e))) }
+{
+    let shape = edges.shape();
+    let mut turned = edges;
+    let mut search = begun;
     for _round in 0..shape.rows() {
         let fell = search.fell();
         if fell.is_empty() {
             break;
         }
-        let reached = multiply_vector(rt, alloc, engine, &grid, &plan, turned, fell)?;
-        turned = reached.matrix;
-        search = search.advance(alloc, &reached.product)?;
+        let (matrix, next) = search_round(rt, alloc, engine, grid, plan, turned, search)?;
+        turned = matrix;
+        search = next;
     }
-    let column = search.column(alloc)?;
-    Ok(column)
+    Ok(search)
+}
+
+/// Makes one round of a search by the transposed matrix, and returns that matrix too.
+fn search_round<R: Threads + Wait + Sync>(
+    rt: &R,
+    alloc: Global,
+    engine: Engine,
+    grid: &Grid,
+    plan: &CheckedPlan,
+    edges: DistributedMatrix<MinPlus>,
+    search: Search,
+) -> Result<(DistributedMatrix<MinPlus>, Search), EngineFault>
+    requires side { edges.side ≡ grid.now.side }
+    requires plan { MultipliesVectors grid.now.side edges.matrix.shape plan.now }
+    requires search { (a : Sparse) × (source : ℕ) × (k : ℕ) × HasEdges edges.matrix a × IsSearch a source k search }
+    ensures same { IfOk result (λ p. p.0 ≡ edges) }
+    ensures next { IfOk result (λ p. IsNextRound (HasEdges edges.matrix) search p.1) }
+    ensures fault { IfErr result (IsEngineFault engine.entry (grid.now.side * grid.now.side)) }
+    ensures lost { IfErr result (IsOrderedProductLoss min_plus engine.entry grid.now.side plan.now edges.matrix search.fell) }
+{
+    let fell = search.fell();
+    let reached = multiply_vector(rt, alloc, engine, grid, plan, edges, fell)?;
+    let next = search.advance(alloc, &reached.product)?;
+    Ok((reached.matrix, next))
 }
 
 /// Returns the matrix as one of weights, in which distances are levels: each stored value is 1 already. No entry is

@@ -26,7 +26,7 @@ fn threads_now<R: Files + Alloc>(rt: &R) -> Option<u32> {
 enum Job {
     Product,
     Vector,
-    Walk,
+    Walk(Search),
 }
 
 /// Does the job with an engine, if there is memory.
@@ -59,7 +59,7 @@ fn does<R: Threads + Wait + Sync>(
             );
             Some(product.is_ok_and(|product| has(&product, &[(0, 0, 3), (1, 0, 3)])))
         }
-        Job::Walk => { Some(finds(rt, alloc, By::Ranks(engine, 2), Search::Levels, &PATH)) }
+        Job::Walk(search) => Some(finds(rt, alloc, By::Ranks(engine, 2), search, &PATH)),
     }
 }
 
@@ -119,8 +119,10 @@ fn ranks_have_threads_of_their_own(rt: HostRuntime) -> Result<(), Fail> {
     let rows = [
         (Engine::Threads(2), Job::Product, true),
         (Engine::Threads(2), Job::Vector, true),
-        (Engine::Threads(2), Job::Walk, true),
+        (Engine::Threads(2), Job::Walk(Search::Levels), true),
+        (Engine::Threads(2), Job::Walk(Search::Distances), true),
         (Engine::Traced(2), Job::Product, true),
+        (Engine::Traced(2), Job::Walk(Search::Levels), true),
         (Engine::InOrder(2, &[]), Job::Product, false),
     ];
     for (engine, job, threads) in rows {

@@ -24,6 +24,7 @@ pub mod NewWorlds
 -- OwnEnds: a rank's ends of its lanes are its ports, as `Rank::step` requires.
 -- OneStep: a step of a rank through its ends is a step of the world, and no stray comes; if it is starved, its count rises.
 -- LastState: a world in which all are done is finished, and what its ranks leave holds what its plan means.
+-- Posts: a post to a mailbox, as the rank that posts sees it.
 -- Boxes: the mailbox of a rank, read by its number, and the loop that opens the mailboxes.
 -- NewRanks: the ranks of a new world, made from their stores, the last first.
 -- LaneNeeds: what a rank's next half needs of its lanes; a step as `World::step` leaves it.
@@ -36,6 +37,7 @@ pub mod RankSums
 pub mod OwnEnds
 pub mod OneStep
 pub mod LastState
+pub mod Posts
 pub mod Boxes
 pub mod NewRanks
 pub mod LaneNeeds
