@@ -2,7 +2,7 @@
 use Rattle.std.proofs.Common.{◌≡◌, ◌≢◌, ℕ, sym, subst, arith}
 use Rattle.std.specs.Prelude.{Option, Result, Ok, Err, IfOk, IfErr}
 use Rattle.cb_interop.specs.declared.faults.Fault.{Fault}
-use Rattle.cb_interop.specs.declared.faults.Fault.TheVariants.{Semiring, Grid, Test, Form, TooLarge, Lengths, Order, Place, Value, Shapes, NotSquare, Source, Text, Memory, Mixed}
+use Rattle.cb_interop.specs.declared.faults.Fault.TheVariants.{Text}
 use Rattle.cb_interop.specs.Refusals.{code_of}
 use Rattle.cb_interop.specs.Answers.{IsAnswer, IsLineOf, IsFaultLine}
 use Rattle.cb_ffi.specs.Calls.{IsCall, IsLine}
@@ -25,20 +25,7 @@ call_of faults is (Err f) code old new a h k = record {
 -- the line that a fault leaves, as C gets it
 pub line_at : (first : Option ReadFault) (f : Fault) (code old new : ℕ) → IsLineOf first f old new → code ≡ code_of f → IsLine first code old new
 line_at first Text code old new a e = record { text = λ _. a; other = λ n. absurd (n e) }
-line_at first Semiring code old new a e = let k : code ≡ 1 = e in record { text = λ z. absurd (omega arith); other = λ _. a }
-line_at first Grid code old new a e = let k : code ≡ 2 = e in record { text = λ z. absurd (omega arith); other = λ _. a }
-line_at first Test code old new a e = let k : code ≡ 3 = e in record { text = λ z. absurd (omega arith); other = λ _. a }
-line_at first Form code old new a e = let k : code ≡ 4 = e in record { text = λ z. absurd (omega arith); other = λ _. a }
-line_at first TooLarge code old new a e = let k : code ≡ 5 = e in record { text = λ z. absurd (omega arith); other = λ _. a }
-line_at first Lengths code old new a e = let k : code ≡ 6 = e in record { text = λ z. absurd (omega arith); other = λ _. a }
-line_at first Order code old new a e = let k : code ≡ 7 = e in record { text = λ z. absurd (omega arith); other = λ _. a }
-line_at first Place code old new a e = let k : code ≡ 8 = e in record { text = λ z. absurd (omega arith); other = λ _. a }
-line_at first Value code old new a e = let k : code ≡ 9 = e in record { text = λ z. absurd (omega arith); other = λ _. a }
-line_at first Shapes code old new a e = let k : code ≡ 10 = e in record { text = λ z. absurd (omega arith); other = λ _. a }
-line_at first NotSquare code old new a e = let k : code ≡ 11 = e in record { text = λ z. absurd (omega arith); other = λ _. a }
-line_at first Source code old new a e = let k : code ≡ 12 = e in record { text = λ z. absurd (omega arith); other = λ _. a }
-line_at first Memory code old new a e = let k : code ≡ 14 = e in record { text = λ z. absurd (omega arith); other = λ _. a }
-line_at first Mixed code old new a e = let k : code ≡ 16 = e in record { text = λ z. absurd (omega arith); other = λ _. a }
+line_at first f code old new a e = record { text = λ z. absurd (omega arith); other = λ _. a }
 
 -- the line of a text that is read, as C gets it
 pub line_of : {X : Type 0} (first : Option ReadFault) (r : Result X Fault) (code old new : ℕ) (was now : X) → IsFaultLine first r old new

@@ -8,9 +8,9 @@ use Rattle.cb_ffi.specs.declared.handles.Owned.{Owned}
 use Rattle.cb_interop.specs.Refusals.{code_of}
 use Rattle.cb_interop.specs.Answers.{IsAnswer, IsFaultLine}
 use Rattle.cb_ffi.specs.Calls.{IsLine}
-use Rattle.cb_ffi.specs.KeptCalls.{HasHandedOut, IsKeptCall}
+use Rattle.cb_ffi.specs.KeptCalls.{Has, HasHandedOut, IsKeptCall}
 use Rattle.cb_market.specs.declared.ReadFault.{ReadFault}
-use Rattle.cb_ffi.proofs.Calls.{line_at}
+use Rattle.cb_ffi.proofs.Calls.{call_of, line_at}
 
 -- the result as C gets it: memory may be refused for the handle
 pub kept_call_of : (faults : Fault → Type 0) (is : Kept → Type 0) (r : Result Kept Fault) (code : ℕ) (old new : Owned) → IsAnswer faults is r
@@ -20,11 +20,7 @@ kept_call_of faults is (Ok x) code old new a h k =
     (λ g. record { answer = λ _. (a.0, (g.1.0, g.1.1, subst is (sym g.1.2) a.1)); fault = λ n. absurd (n g.0); unchanged = λ n. absurd (n g.0) })
     (λ g. record { answer = λ z. absurd (let e : code ≡ 14 = g.0 in omega arith); fault = λ _. (Memory, g.0, (a.0).memory); unchanged = λ _. g.1 })
     h
-kept_call_of faults is (Err f) code old new a h k = record {
-  answer = λ z. absurd (k.1 z);
-  fault = λ _. (f, k.0, a);
-  unchanged = λ _. k.2;
-}
+kept_call_of faults is (Err f) code old new a h k = call_of faults (Has is) (Err f) code old new a tt k
 
 -- the line of a text that is read
 pub kept_line_of : (first : Option ReadFault) (r : Result Kept Fault) (code old new : ℕ) (was now : Owned) → IsFaultLine first r old new

@@ -126,32 +126,11 @@ fn select_kept(alloc: Global, selection: Option<Selection>, kept: &Kept, out: &m
     put_kept(alloc, out, kept_selection(alloc, selection, kept))
 }
 
-/// Keeps rows and columns of a kept matrix by their numbers, or returns the number of the fault.
-fn extract_kept(alloc: Global, kept: &Kept, rows: &[u32], columns: &[u32], out: &mut Owned) -> u32
-    ensures { IsExtractCall rows.now columns.now kept.now result out.old out.new }
-{
-    put_kept(alloc, out, kept_extract(alloc, kept, rows, columns))
-}
-
 /// Keeps the result of an operation on two kept matrices, or returns the number of the fault.
 fn pair_kept(alloc: Global, pairing: Pairing, left: &Kept, right: &Kept, out: &mut Owned) -> u32
     ensures { IsPairCall pairing left.now right.now result out.old out.new }
 {
     put_kept(alloc, out, kept_pair(alloc, pairing, left, right))
-}
-
-/// Keeps the levels from several sources in a kept graph, or returns the number of the fault.
-fn levels_kept(alloc: Global, graph: &Kept, sources: &[u32], out: &mut Owned) -> u32
-    ensures { IsLevelsCall sources.now graph.now result out.old out.new }
-{
-    put_kept(alloc, out, kept_levels_from(alloc, graph, sources))
-}
-
-/// Keeps the distances from several sources in a kept graph, or returns the number of the fault.
-fn distances_kept(alloc: Global, graph: &Kept, sources: &[u32], out: &mut Owned) -> u32
-    ensures { IsDistancesCall sources.now graph.now result out.old out.new }
-{
-    put_kept(alloc, out, kept_distances_from(alloc, graph, sources))
 }
 
 /// Keeps an updated matrix, or returns the number of the fault.
@@ -166,13 +145,6 @@ fn update_kept(
     ensures { IsUpdateCall how old.now new.now (option_copied mask.entry) result out.old out.new }
 {
     put_kept(alloc, out, kept_update(alloc, how, old, new, mask))
-}
-
-/// Keeps a product outside a mask, or returns the number of the fault.
-fn outside_kept(alloc: Global, left: &Kept, right: &Kept, mask: &Kept, out: &mut Owned) -> u32
-    ensures { IsOutsideCall left.now right.now mask.now result out.old out.new }
-{
-    put_kept(alloc, out, kept_outside(alloc, left, right, mask))
 }
 
 /// Keeps the degrees of the rows or columns of a kept matrix, or returns the number of the fault.
@@ -205,20 +177,6 @@ fn ends_kept(alloc: Global, left: &Kept, right: &Kept, ends: &mut [u32]) -> u32
     put_ends(ends, answer)
 }
 
-/// Keeps the panel of a product, or returns the number of the fault.
-fn panel_kept(
-    alloc: Global,
-    left: &Kept,
-    right: &Kept,
-    first: u32,
-    end: u32,
-    out: &mut Owned,
-) -> u32
-    ensures { IsPanelCall first end left.now right.now result out.old out.new }
-{
-    put_kept(alloc, out, kept_panel(alloc, left, right, first, end))
-}
-
 /// Hands a kept matrix to C where another was, or returns the number of the fault.
 fn put_in_place(place: &'static mut Kept, out: &mut Owned, answer: Result<Kept, Fault>) -> u32
     ensures ok { IfOk answer (HasHandedOut result out.old out.new) }
@@ -245,20 +203,6 @@ fn join_kept(
 {
     let answer = kept_join(alloc, front, back);
     put_in_place(front, out, answer)
-}
-
-/// Keeps the levels from first numbers in a kept graph, or returns the number of the fault.
-fn levels_given_kept(alloc: Global, graph: &Kept, given: &Kept, out: &mut Owned) -> u32
-    ensures { IsLevelsGivenCall graph.now given.now result out.old out.new }
-{
-    put_kept(alloc, out, kept_levels_given(alloc, graph, given))
-}
-
-/// Keeps the distances from first numbers in a kept graph, or returns the number of the fault.
-fn distances_given_kept(alloc: Global, graph: &Kept, given: &Kept, out: &mut Owned) -> u32
-    ensures { IsDistancesGivenCall graph.now given.now result out.old out.new }
-{
-    put_kept(alloc, out, kept_distances_given(alloc, graph, given))
 }
 
 /// Multiplies two matrices.
@@ -517,7 +461,8 @@ pub extern "C" fn cbgrid_kernel_kept_multiply_outside(
 ) -> u32
     ensures { IsOutsideCall a.kept.now b.kept.now mask.kept.now result out.old out.new }
 {
-    outside_kept(alloc, borrowed(a), borrowed(b), borrowed(mask), out)
+    let answer = kept_outside(alloc, borrowed(a), borrowed(b), borrowed(mask));
+    put_kept(alloc, out, answer)
 }
 
 /// Multiplies a kept matrix and a kept vector, which is a matrix of one column.
@@ -658,7 +603,8 @@ pub extern "C" fn cbgrid_kernel_kept_extract(
 ) -> u32
     ensures { IsExtractCall rows.now columns.now a.kept.now result out.old out.new }
 {
-    extract_kept(alloc, borrowed(a), rows, columns, out)
+    let answer = kept_extract(alloc, borrowed(a), rows, columns);
+    put_kept(alloc, out, answer)
 }
 
 /// The Kronecker product of two kept matrices.
@@ -827,7 +773,8 @@ pub extern "C" fn cbgrid_kernel_kept_levels_from(
 ) -> u32
     ensures { IsLevelsCall sources.now a.kept.now result out.old out.new }
 {
-    levels_kept(alloc, borrowed(a), sources, out)
+    let answer = kept_levels_from(alloc, borrowed(a), sources);
+    put_kept(alloc, out, answer)
 }
 
 /// The distances from several sources, a column for each, in a graph that is kept over min-plus. Copies and transposes the
@@ -841,7 +788,8 @@ pub extern "C" fn cbgrid_kernel_kept_distances_from(
 ) -> u32
     ensures { IsDistancesCall sources.now a.kept.now result out.old out.new }
 {
-    distances_kept(alloc, borrowed(a), sources, out)
+    let answer = kept_distances_from(alloc, borrowed(a), sources);
+    put_kept(alloc, out, answer)
 }
 
 /// The levels from first numbers, which a kept column over min-plus has, in a graph that is kept over or-and. Transposes
@@ -855,7 +803,8 @@ pub extern "C" fn cbgrid_kernel_kept_levels_given(
 ) -> u32
     ensures { IsLevelsGivenCall a.kept.now given.kept.now result out.old out.new }
 {
-    levels_given_kept(alloc, borrowed(a), borrowed(given), out)
+    let answer = kept_levels_given(alloc, borrowed(a), borrowed(given));
+    put_kept(alloc, out, answer)
 }
 
 /// The distances from first numbers, which a kept column over min-plus has, in a graph that is kept over min-plus.
@@ -869,7 +818,8 @@ pub extern "C" fn cbgrid_kernel_kept_distances_given(
 ) -> u32
     ensures { IsDistancesGivenCall a.kept.now given.kept.now result out.old out.new }
 {
-    distances_given_kept(alloc, borrowed(a), borrowed(given), out)
+    let answer = kept_distances_given(alloc, borrowed(a), borrowed(given));
+    put_kept(alloc, out, answer)
 }
 
 /// Keeps the matrix of triples in any order. Values at one place are added up.
@@ -992,7 +942,8 @@ pub extern "C" fn cbgrid_kernel_kept_panel(
 ) -> u32
     ensures { IsPanelCall first end a.kept.now b.kept.now result out.old out.new }
 {
-    panel_kept(alloc, borrowed(a), borrowed(b), first, end, out)
+    let answer = kept_panel(alloc, borrowed(a), borrowed(b), first, end);
+    put_kept(alloc, out, answer)
 }
 
 /// Joins two panels of a product: puts the entries of a kept matrix behind those of another, whose columns are all before its

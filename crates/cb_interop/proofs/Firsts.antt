@@ -28,10 +28,6 @@ passed P g next p none = record { memory = inr (p, none.memory); only = λ f h. 
 pub no_more : NoFault IsMemory
 no_more = record { memory = refl; only = λ f h. h }
 
--- without another fault, refused memory is the fault
-pub memory_is : {X : Type 0} (r : Result X Fault) (faults : Fault → Type 0) → NoFault faults → IfErr r IsMemory → IfErr r faults
-memory_is r faults none h = IfErr-weaker r IsMemory faults (λ f e. subst faults (sym e) none.memory) h
-
 -- without a fault, a call whose only fault is refused memory returns the result
 pub answer_after : {X : Type 0} (faults : Fault → Type 0) (is asked : X → Type 0) (r : Result X Fault) → NoFault faults → ((x : X) → is x → asked x) → IsAnswer IsMemory is r → IsAnswer faults asked r
 answer_after faults is asked (Ok x) none k h = (none, k x h.1)

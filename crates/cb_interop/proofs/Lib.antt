@@ -2,8 +2,8 @@
 -- WellFormed: what well-formed lists have in each stored column, and their matrix, column by column.
 -- Nonzero: the entries of a column that aren't zero, one after another.
 -- Held: each matrix has lists in doubly compressed columns, and no others.
--- Firsts: the first fault of a call. TripleFaults, KeptFirsts, KeptGraphFaults, KeptSelectionFaults, KeptPairingFaults,
--- KeptUpdateFaults, KeptPanelFaults: that of a call on kept matrices.
+-- Firsts: the first fault of a call. TripleFaults: that of triples. KeptFirsts, KeptGraphFaults: that of a call on kept
+-- matrices.
 -- KeptTextsOfLists: the text of lists is that of the kept matrix.
 pub mod Rising
 pub mod WellFormed
@@ -14,7 +14,3 @@ pub mod KeptFirsts
 pub mod TripleFaults
 pub mod KeptGraphFaults
 pub mod KeptTextsOfLists
-pub mod KeptSelectionFaults
-pub mod KeptPairingFaults
-pub mod KeptUpdateFaults
-pub mod KeptPanelFaults

@@ -1,5 +1,5 @@
 -- A kept matrix updated by another one, under a mask.
-use Rattle.std.specs.Prelude.{◌≡◌, ℕ, nat_lt, ◌/◌, ◌%◌, ◌==◌, cond, Option, Some, None, option_map, IfSome}
+use Rattle.std.specs.Prelude.{◌≡◌, ℕ, nat_lt, ◌/◌, ◌%◌, ◌==◌, cond, Option, Some, None, option_map, IfSome, Result}
 use Rattle.cb_semirings.specs.Arithmetic.{Arithmetic}
 use Rattle.cb_semirings.specs.Names.{arithmetic_of}
 use Rattle.cb_semirings.specs.declared.names.SemiringName.{SemiringName}
@@ -11,6 +11,7 @@ use Rattle.cb_interop.specs.declared.faults.Fault.TheVariants.{Test, Shapes, Mix
 use Rattle.cb_interop.specs.declared.kept.Kept.{Kept}
 use Rattle.cb_interop.specs.Kept.{Keeps, semiring_of, matrix_in}
 use Rattle.cb_interop.specs.Refusals.{Unless, IsMemory}
+use Rattle.cb_interop.specs.Answers.{IsAnswer}
 
 -- the update of a number, 0 to 7: 1 if it accumulates, 2 if the mask is complemented and 4 if it replaces, added up
 abbrev pub write_back_of : ℕ → Option WriteBack
@@ -39,3 +40,7 @@ updated_in s how old new mask = updated s how (option_map matrix_in mask) (matri
 abbrev pub HasUpdated : Option WriteBack → Kept → Kept → Option Kept → Kept → Type 0
 HasUpdated None old new mask made = ⊥
 HasUpdated (Some how) old new mask made = Keeps (semiring_of old) (updated_in (arithmetic_of (semiring_of old)) how old new mask) made
+
+-- what an update returns
+abbrev pub IsUpdate : Option WriteBack → Kept → Kept → Option Kept → Result Kept Fault → Type 0
+IsUpdate how old new mask = IsAnswer (update_faults how old new mask) (HasUpdated how old new mask)

@@ -1,11 +1,10 @@
 //! Products of kept matrices outside a kept mask, whose result is kept. They copy no operand.
 ghost use Rattle.std.specs.Prelude.{◌≡◌, IfOk};
 ghost use Rattle.cb_semirings.specs.Names.{arithmetic_of};
-ghost use Rattle.cb_matrix.specs.Values.{product, product_shape};
-ghost use Rattle.cb_elementwise.specs.Complements.{excluded};
+ghost use Rattle.cb_matrix.specs.Values.{product_shape};
 ghost use Rattle.cb_interop.specs.Answers.{IsAnswer};
 ghost use Rattle.cb_interop.specs.Kept.{Keeps, semiring_of, matrix_in};
-ghost use Rattle.cb_interop.specs.KeptProducts.{outside_faults, IsKeptOutside};
+ghost use Rattle.cb_interop.specs.KeptProducts.{outside_faults, outside_in, IsKeptOutside};
 
 use crate::faults::Fault;
 use crate::keeping::Keep;
@@ -29,7 +28,7 @@ fn outside_over<S: Keep>(
     requires mask { semiring_of mask.now ≡ S.name }
     requires agree { (matrix_in left.now).shape.cols ≡ (matrix_in right.now).shape.rows }
     requires shape { (matrix_in mask.now).shape ≡ product_shape (matrix_in left.now) (matrix_in right.now) }
-    ensures { IfOk result (Keeps S.name (excluded S.arithmetic (product S.arithmetic (matrix_in left.now) (matrix_in right.now)) (matrix_in mask.now))) }
+    ensures { IfOk result (Keeps S.name (outside_in S.arithmetic left.now right.now mask.now)) }
 {
     let (a, b) = (block_in::<S>(left), block_in::<S>(right));
     let mut block = multiply_outside(alloc, a, b, block_in::<S>(mask))?;
@@ -49,7 +48,7 @@ fn outside_named(
     requires mask { semiring_of mask.now ≡ semiring }
     requires agree { (matrix_in left.now).shape.cols ≡ (matrix_in right.now).shape.rows }
     requires shape { (matrix_in mask.now).shape ≡ product_shape (matrix_in left.now) (matrix_in right.now) }
-    ensures { IfOk result (Keeps semiring (excluded (arithmetic_of semiring) (product (arithmetic_of semiring) (matrix_in left.now) (matrix_in right.now)) (matrix_in mask.now))) }
+    ensures { IfOk result (Keeps semiring (outside_in (arithmetic_of semiring) left.now right.now mask.now)) }
 {
     over_semiring!(semiring, outside_over::<_>(alloc, left, right, mask))
 }

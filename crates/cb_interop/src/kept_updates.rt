@@ -1,9 +1,9 @@
 //! A kept matrix updated by another one, under a mask that is kept too.
 ghost use Rattle.std.specs.Prelude.{◌≡◌, ◌↔◌, IsTrue, Some, IfSome, IfOk, IfErr, option_copied, option_map};
 ghost use Rattle.cb_semirings.specs.Names.{arithmetic_of};
-ghost use Rattle.cb_interop.specs.Answers.{IsAnswer, NoFault};
+ghost use Rattle.cb_interop.specs.Answers.{NoFault};
 ghost use Rattle.cb_interop.specs.Kept.{Keeps, semiring_of, matrix_in};
-ghost use Rattle.cb_interop.specs.KeptUpdates.{write_back_of, HaveSemiring, HaveShape, update_faults, updated_in, HasUpdated};
+ghost use Rattle.cb_interop.specs.KeptUpdates.{write_back_of, HaveSemiring, HaveShape, update_faults, updated_in, IsUpdate};
 
 use crate::faults::Fault;
 use crate::keeping::Keep;
@@ -120,7 +120,7 @@ fn update_known(
     new: &Kept,
     mask: Option<&Kept>,
 ) -> Result<Kept, Fault>
-    ensures { IsAnswer (update_faults (Some how) old.now new.now (option_copied mask.entry)) (HasUpdated (Some how) old.now new.now (option_copied mask.entry)) result }
+    ensures { IsUpdate (Some how) old.now new.now (option_copied mask.entry) result }
 {
     check_update(how, old, new, mask)?;
     Ok(update_named(alloc, old.semiring(), how, old, new, mask)?)
@@ -135,7 +135,7 @@ pub fn kept_update(
     new: &Kept,
     mask: Option<&Kept>,
 ) -> Result<Kept, Fault>
-    ensures { IsAnswer (update_faults how old.now new.now (option_copied mask.entry)) (HasUpdated how old.now new.now (option_copied mask.entry)) result }
+    ensures { IsUpdate how old.now new.now (option_copied mask.entry) result }
 {
     match how {
         Some(known) => update_known(alloc, known, old, new, mask),

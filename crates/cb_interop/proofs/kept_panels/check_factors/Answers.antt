@@ -1,21 +1,26 @@
-use Rattle.std.proofs.Common.{rules, ◌≡◌}
+use Rattle.std.proofs.Common.{rules, ◌≡◌, refl, inl, inr}
+use Rattle.cb_interop.specs.declared.faults.Fault.TheVariants.{Shapes, Mixed}
 use Rattle.cb_interop.specs.Kept.{semiring_of, matrix_in}
-use Rattle.cb_interop.proofs.KeptPanelFaults.{mixed_factors, shapes_of_factors, none_of_factors}
+use Rattle.cb_interop.specs.KeptPanels.{factor_faults}
+use Rattle.cb_interop.proofs.Firsts.{passed, no_more}
 use Rattle.cb_interop.proofs.kept_panels.check_factors.Goals as goal
 
 pub returns-then-ne-clause-fault : goal.returns-then-ne-clause-fault
+unfolding factor_faults
 returns-then-ne-clause-fault c =
     let n : semiring_of c.args.right.now ≡ semiring_of c.args.left.now → ⊥ = search rules in
-    mixed_factors c.args.left.now c.args.right.now n
+    inl (refl, n)
 
 pub returns-then-cols-rows-clause-fault : goal.returns-then-cols-rows-clause-fault
+unfolding factor_faults
 returns-then-cols-rows-clause-fault c =
     let same : semiring_of c.args.right.now ≡ semiring_of c.args.left.now = search rules in
     let n : (matrix_in c.args.left.now).shape.cols ≡ (matrix_in c.args.right.now).shape.rows → ⊥ = search rules in
-    shapes_of_factors c.args.left.now c.args.right.now same n
+    inr (same, inl (refl, n))
 
 pub returns-clause-none : goal.returns-clause-none
+unfolding factor_faults
 returns-clause-none c =
     let same : semiring_of c.args.right.now ≡ semiring_of c.args.left.now = search rules in
     let agree : (matrix_in c.args.left.now).shape.cols ≡ (matrix_in c.args.right.now).shape.rows = search rules in
-    none_of_factors c.args.left.now c.args.right.now same agree
+    passed _ Mixed _ same (passed _ Shapes _ agree no_more)

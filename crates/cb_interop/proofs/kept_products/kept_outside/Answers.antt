@@ -1,10 +1,9 @@
 use Rattle.std.proofs.Common.{rules, ◌<◌, List, [], ◌∷◌, subst, arith}
 use Rattle.cb_semirings.specs.Names.{arithmetic_of}
-use Rattle.cb_matrix.specs.Values.{product}
-use Rattle.cb_elementwise.specs.Complements.{excluded}
 use Rattle.cb_operations.specs.declared.operations.Operation.TheVariants.{MultiplyMasked}
 use Rattle.cb_interop.specs.declared.kept.Kept.{Kept}
-use Rattle.cb_interop.specs.Kept.{Keeps, AreOver, matrix_in}
+use Rattle.cb_interop.specs.Kept.{Keeps, AreOver}
+use Rattle.cb_interop.specs.KeptProducts.{outside_in}
 use Rattle.cb_interop.proofs.KeptFirsts.{none_of_kept}
 use Rattle.cb_interop.proofs.kept_products.kept_outside.Goals as goal
 
@@ -26,5 +25,5 @@ returns c =
     let ks : List Kept = c.args.left.now ∷ c.args.right.now ∷ c.args.mask.now ∷ [] in
     let k = c.in_ok-semiring.ensures in (
       none_of_kept MultiplyMasked ks (subst (λ n. AreOver n ks) k.first k.over) k.agree,
-      subst (λ n. Keeps n (excluded (arithmetic_of n) (product (arithmetic_of n) (matrix_in c.args.left.now) (matrix_in c.args.right.now)) (matrix_in c.args.mask.now)) c.in_ok-outside_named.field-0) k.first c.in_ok-outside_named.ensures,
+      subst (λ n. Keeps n (outside_in (arithmetic_of n) c.args.left.now c.args.right.now c.args.mask.now) c.in_ok-outside_named.field-0) k.first c.in_ok-outside_named.ensures,
     )

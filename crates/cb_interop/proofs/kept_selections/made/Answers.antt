@@ -1,20 +1,19 @@
-use Rattle.cb_interop.proofs.KeptSelectionFaults.{made_as}
 use Rattle.cb_interop.proofs.kept_selections.made.Goals as goal
 
 pub returns-in-Select : goal.returns-in-Select
-returns-in-Select g c = made_as g.S.Semiring.arithmetic c.args.block.now c.args.selection _ c.in_region.result c.in-Select.is c.in_region.ensures
+returns-in-Select g c = rw c.in-Select.is c.in_region.ensures
 
 pub returns-in-Apply : goal.returns-in-Apply
-returns-in-Apply g c = made_as g.S.Semiring.arithmetic c.args.block.now c.args.selection _ c.replaced.result c.in-Apply.is c.replaced.ensures
+returns-in-Apply g c = rw c.in-Apply.is c.replaced.ensures
 
 pub returns-in-Diagonal : goal.returns-in-Diagonal
-returns-in-Diagonal g c = made_as g.S.Semiring.arithmetic c.args.block.now c.args.selection _ c.diagonal_column.result c.in-Diagonal.is c.diagonal_column.ensures
+returns-in-Diagonal g c = rw c.in-Diagonal.is c.diagonal_column.ensures
 
 pub returns-in-DiagonalMatrix : goal.returns-in-DiagonalMatrix
-returns-in-DiagonalMatrix g c = made_as g.S.Semiring.arithmetic c.args.block.now c.args.selection _ c.on_diagonal.result c.in-DiagonalMatrix.is c.on_diagonal.ensures
+returns-in-DiagonalMatrix g c = rw c.in-DiagonalMatrix.is c.on_diagonal.ensures
 
 pub returns-in-Part : goal.returns-in-Part
-returns-in-Part g c = made_as g.S.Semiring.arithmetic c.args.block.now c.args.selection _ c.part.result c.in-Part.is c.part.ensures
+returns-in-Part g c = rw c.in-Part.is c.part.ensures
 
 pub returns-in-Power : goal.returns-in-Power
-returns-in-Power g c = made_as g.S.Semiring.arithmetic c.args.block.now c.args.selection _ c.power_of.result c.in-Power.is c.power_of.ensures
+returns-in-Power g c = rw c.in-Power.is c.power_of.ensures
