@@ -6,7 +6,7 @@ use Rattle.cb_semirings.specs.declared.names.SemiringName.{SemiringName}
 use Rattle.cb_operations.specs.declared.operations.Operation.{Operation}
 use Rattle.cb_words.specs.declared.jobs.Job.{Job}
 use Rattle.cb_words.specs.declared.jobs.Task.{Task}
-use Rattle.cb_words.specs.declared.jobs.Task.TheVariants.{Matrix, Levels, Distances, Parents, Components, Triangles, TriangleCounts, RowDegrees, ColumnDegrees, Selected, Kronecker}
+use Rattle.cb_words.specs.declared.jobs.Task.TheVariants.{Matrix, Levels, Distances, Parents, Components, Triangles, TriangleCounts, RowDegrees, ColumnDegrees, Selected, Kronecker, Extract}
 use Rattle.cb_tasks.specs.WriteEnds.{IsEndOn, IsTaskEnd}
 use Rattle.cb_tasks.specs.declared.faults.JobFault.{JobFault}
 use Rattle.cb_engines.specs.declared.engines.Engine.{Engine}
@@ -40,6 +40,7 @@ module _ {T A : Type 0} (texts : List (Vec ℕ A)) (old new : Option (List ℕ))
   of_other ranks ColumnDegrees m l d h = h
   of_other ranks (Selected selection semiring) m l d h = h
   of_other ranks (Kronecker semiring) m l d h = h
+  of_other ranks (Extract lists semiring) m l d h = h
 
   module _ (job : Job) where
     -- a job that names no engine ends as its task does without ranks

@@ -1,7 +1,7 @@
 //! A run of the program.
 ghost use Rattle.std.specs.Prelude.{◌≡◌, false};
 ghost use Rattle.cb_cli.specs.Answers.{IsJobAnswer, IsJobFault};
-ghost use Rattle.cb_tasks.specs.Endings.{IsJobEnding, IsRun};
+ghost use Rattle.cb_tasks.specs.Endings.{IsEnding, IsJobEnding, IsRun, names_of};
 
 use crate::execution::execute;
 use cb_tasks::endings::{Ending, Status, finish, unloaded, usage_ending};
@@ -48,7 +48,8 @@ pub fn run<R: Threads + Wait + Sync, F: FileSource, K: Sink, E: Sink>(
 ) -> Status
     requires out { K.has_failed out.old ≡ false }
     requires err { E.has_failed err.old ≡ false }
-    ensures { IsRun IsJobAnswer IsJobFault (F.holds files.now) (F.refuses files.now) asked (K.written out.old) (K.written out.new) (E.written err.old) (E.written err.new) result }
+    ensures { let ends = IsEnding IsJobAnswer IsJobFault (F.holds files.now) (F.refuses files.now) asked (K.written out.old) (K.written out.new) in
+        IsRun ends (names_of asked) (E.written err.old) (E.written err.new) result }
 {
     match asked {
         Ok(job) => {

@@ -1,23 +1,8 @@
-//! Worked examples of the command line: how it is read, whole runs from texts to bytes, and sinks that fail.
+//! Command lines and how they are read, the lines of faults, and sinks that fail. `tools/answers` and `tools/endings` run
+//! the built program.
 #![tactic(auto)]
 
 #[cfg(test)]
-mod endings;
-#[cfg(test)]
-mod graphs;
-#[cfg(test)]
 mod lines;
 #[cfg(test)]
-mod operations;
-#[cfg(test)]
-mod pages;
-#[cfg(test)]
-mod products;
-#[cfg(test)]
-mod refusals;
-#[cfg(test)]
-mod selections;
-#[cfg(test)]
 mod sinks;
-#[cfg(test)]
-mod traces;

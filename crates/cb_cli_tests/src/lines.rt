@@ -7,7 +7,9 @@ use cb_tasks::execution::status;
 use cb_tasks::fault_lines::fault_line;
 use cb_tasks::faults::{JobFault, RanksFault};
 use cb_tasks::selection_refusals::SelectionRefusal;
-use cb_words::{EngineName, FunctionName, Job, RegionName, Selection, Task, UsageFault, read_job};
+use cb_words::{
+    EngineName, FunctionName, Job, Lists, RegionName, Selection, Task, UsageFault, read_job,
+};
 use std::alloc::{AllocError, Global};
 use std::num::NonZeroU32;
 use std::test::Fail;
@@ -28,7 +30,7 @@ fn job_by(alloc: Global, line: &str, processors: usize) -> Result<Job, UsageFaul
 }
 
 /// The job of a command line with four processors, or why there is none.
-pub fn job(alloc: Global, line: &str) -> Result<Job, UsageFault> {
+fn job(alloc: Global, line: &str) -> Result<Job, UsageFault> {
     job_by(alloc, line, 4)
 }
 
@@ -47,6 +49,16 @@ macro_rules! chosen {
     ($semiring:ident, $selection:expr) => {
         Task::Selected {
             selection: $selection,
+            semiring: SemiringName::$semiring,
+        }
+    };
+}
+
+/// The listed rows and columns of a matrix over a semiring.
+macro_rules! listed {
+    ($semiring:ident, $lists:ident) => {
+        Task::Extract {
+            lists: Lists::$lists,
             semiring: SemiringName::$semiring,
         }
     };
@@ -76,8 +88,6 @@ macro_rules! read_fault {
     };
 }
 
-pub(crate) use read_fault;
-
 /// What a command line asks for: a task on these files.
 struct Asked {
     line: &'static str,
@@ -85,7 +95,7 @@ struct Asked {
     files: &'static [&'static str],
 }
 
-const LINES: [Asked; 43] = [
+const PRODUCTS: [Asked; 8] = [
     Asked {
         line: "cbgrid multiply left.mtx right.mtx",
         task: over!(PlusTimes, Operation::Multiply),
@@ -126,6 +136,9 @@ const LINES: [Asked; 43] = [
         task: over!(PlusTimes, Operation::MultiplyMasked),
         files: &["a", "b", "m"],
     },
+];
+
+const OPERATIONS: [Asked; 10] = [
     Asked {
         line: "cbgrid spmv a x",
         task: over!(PlusTimes, Operation::MultiplyVector),
@@ -176,6 +189,9 @@ const LINES: [Asked; 43] = [
         task: over!(PlusTimes, Operation::Prune(Test::Equal(7))),
         files: &["a"],
     },
+];
+
+const GRAPHS: [Asked; 11] = [
     Asked {
         line: "cbgrid bfs a --source 1",
         task: Task::Levels { source: 0 },
@@ -233,6 +249,9 @@ const LINES: [Asked; 43] = [
         task: Task::ColumnDegrees,
         files: &["a"],
     },
+];
+
+const SELECTIONS: [Asked; 17] = [
     Asked {
         line: "cbgrid select a --region lower",
         task: chosen!(PlusTimes, kept!(Lower, 0, 0)),
@@ -305,6 +324,21 @@ const LINES: [Asked; 43] = [
         },
         files: &["a", "b"],
     },
+    Asked {
+        line: "cbgrid extract a --rows k",
+        task: listed!(PlusTimes, Rows),
+        files: &["a", "k"],
+    },
+    Asked {
+        line: "cbgrid extract --columns=l --semiring max-min a",
+        task: listed!(MaxMin, Columns),
+        files: &["a", "l"],
+    },
+    Asked {
+        line: "cbgrid extract --columns l a --semiring or-and --rows k",
+        task: listed!(OrAnd, Both),
+        files: &["a", "k", "l"],
+    },
 ];
 
 /// Whether these are the files of a job, in this order.
@@ -322,17 +356,44 @@ fn asks_for(alloc: Global, asked: &Asked) -> bool {
     }
 }
 
-#[test]
-fn ask_for_each_task(rt: HostRuntime) {
-    for asked in &LINES {
-        assert!(rt; asks_for(rt.alloc(), asked), "{}", asked.line);
+/// The first of these command lines that doesn't ask for what it should.
+fn failed_line(alloc: Global, lines: &[Asked]) -> Option<&'static str> {
+    for asked in lines {
+        if !asks_for(alloc, asked) {
+            return Some(asked.line);
+        }
     }
+    None
+}
+
+#[test]
+fn ask_for_products(rt: HostRuntime) {
+    let failed = failed_line(rt.alloc(), &PRODUCTS);
+    assert!(rt; failed.is_none(), "{}", failed.unwrap_or(""));
+}
+
+#[test]
+fn ask_for_operations(rt: HostRuntime) {
+    let failed = failed_line(rt.alloc(), &OPERATIONS);
+    assert!(rt; failed.is_none(), "{}", failed.unwrap_or(""));
+}
+
+#[test]
+fn ask_for_graphs(rt: HostRuntime) {
+    let failed = failed_line(rt.alloc(), &GRAPHS);
+    assert!(rt; failed.is_none(), "{}", failed.unwrap_or(""));
+}
+
+#[test]
+fn ask_for_selections(rt: HostRuntime) {
+    let failed = failed_line(rt.alloc(), &SELECTIONS);
+    assert!(rt; failed.is_none(), "{}", failed.unwrap_or(""));
 }
 
 /// What a command line chooses with this many processors: the engine, the side of the grid, and how many threads may work.
 type Choice = (&'static str, usize, EngineName, u32, u32);
 
-const CHOICES: [Choice; 32] = [
+const CHOICES: [Choice; 33] = [
     ("cbgrid multiply a b", 1, EngineName::Plain, 1, 1),
     ("cbgrid multiply a b", 2, EngineName::Plain, 2, 2),
     ("cbgrid multiply a b --mask m", 8, EngineName::Plain, 2, 8),
@@ -447,6 +508,7 @@ const CHOICES: [Choice; 32] = [
     ("cbgrid triangles a", 1, EngineName::Plain, 1, 1),
     ("cbgrid degrees a", 16, EngineName::Plain, 4, 16),
     ("cbgrid kron a b", 4, EngineName::Plain, 2, 4),
+    ("cbgrid extract a --rows k", 9, EngineName::Plain, 3, 9),
     ("cbgrid power a --exponent 2", 1, EngineName::Plain, 1, 1),
     (
         "cbgrid select a --region lower",
@@ -474,7 +536,7 @@ fn choose_the_engine_the_grid_and_the_threads(rt: HostRuntime) {
 }
 
 /// Command lines that are usage errors.
-const REFUSED: [&str; 109] = [
+const REFUSED: [&str; 116] = [
     "cbgrid multiply",
     "cbgrid multiply a",
     "cbgrid multiply a b c",
@@ -549,6 +611,13 @@ const REFUSED: [&str; 109] = [
     "cbgrid power a --exponent 4294967296",
     "cbgrid power a --exponent 2 --exponent 2",
     "cbgrid power a --exponent 2 --engine plain",
+    "cbgrid extract a",
+    "cbgrid extract --rows k",
+    "cbgrid extract a b --rows k",
+    "cbgrid extract a --rows",
+    "cbgrid extract a --rows k --rows k",
+    "cbgrid extract a --columns l --engine plain",
+    "cbgrid kron a b --rows k",
     "cbgrid degrees",
     "cbgrid degrees a b",
     "cbgrid degrees a --by rows",
@@ -590,11 +659,20 @@ fn is_usage(alloc: Global, line: &str) -> bool {
     matches!(job(alloc, line), Err(UsageFault::Usage(_)))
 }
 
+/// The first of these command lines that isn't a usage error.
+fn accepted_line(alloc: Global, lines: &[&'static str]) -> Option<&'static str> {
+    for line in lines {
+        if !is_usage(alloc, line) {
+            return Some(line);
+        }
+    }
+    None
+}
+
 #[test]
 fn refuse_what_is_not_offered(rt: HostRuntime) {
-    for line in REFUSED {
-        assert!(rt; is_usage(rt.alloc(), line), "{line}");
-    }
+    let accepted = accepted_line(rt.alloc(), &REFUSED);
+    assert!(rt; accepted.is_none(), "{}", accepted.unwrap_or(""));
 }
 
 fn is_help(alloc: Global, line: &str) -> bool {
@@ -622,6 +700,7 @@ fn offer_help(rt: HostRuntime) {
         "cbgrid diagonal --help",
         "cbgrid kron --help",
         "cbgrid power --help",
+        "cbgrid extract --help",
         "cbgrid bfs --help",
         "cbgrid parents --help",
         "cbgrid components --help",
@@ -634,7 +713,7 @@ fn offer_help(rt: HostRuntime) {
 }
 
 /// Command lines whose options can't be combined, and the text of each usage error.
-const CONFLICTS: [(&str, &str); 3] = [
+const CONFLICTS: [(&str, &str); 4] = [
     (
         "cbgrid multiply --engine=plain a b --trace",
         "error: the argument '--trace' cannot be used with '--engine plain'
@@ -658,6 +737,15 @@ For more information, try '--help'.
         "error: the argument '--value <N>' cannot be used if '--function' is row or column
 
 Usage: cbgrid apply [OPTIONS] --function <FUNCTION> <A>
+
+For more information, try '--help'.
+",
+    ),
+    (
+        "cbgrid extract a",
+        "error: the argument '--rows <FILE>' or '--columns <FILE>' is required
+
+Usage: cbgrid extract [OPTIONS] <A>
 
 For more information, try '--help'.
 ",
@@ -686,7 +774,7 @@ fn ends_so(alloc: Global, fault: &JobFault, number: u8, line: &str) -> Result<bo
     Ok(status(fault) == number && printed.as_slice() == line.as_bytes())
 }
 
-const FAULTS: [(JobFault, u8, &str); 16] = [
+const FAULTS: [(JobFault, u8, &str); 18] = [
     (
         read_fault!(1, 7, BadNumber),
         4,
@@ -756,6 +844,16 @@ const FAULTS: [(JobFault, u8, &str); 16] = [
         JobFault::Unselected(SelectionRefusal::TooLarge),
         5,
         "cbgrid: product too large\n",
+    ),
+    (
+        JobFault::Unselected(SelectionRefusal::NoRow),
+        5,
+        "cbgrid: no such row\n",
+    ),
+    (
+        JobFault::Unselected(SelectionRefusal::NoColumn),
+        5,
+        "cbgrid: no such column\n",
     ),
     (JobFault::Memory, 6, "cbgrid: out of memory\n"),
     (JobFault::Output, 7, "cbgrid: can't write\n"),

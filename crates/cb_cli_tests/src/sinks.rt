@@ -1,73 +1,110 @@
 //! Writers that accept a few bytes at a time, that fail, and that accept no more.
-use crate::graphs::CYCLE;
-use crate::products::{FIRST, PRODUCT, SECOND, Short, run_into};
+use cb_layout::Grid;
+use cb_market::{ReadFault, TextPages, read_distributed};
+use cb_semirings::PlusTimes;
 use cb_tasks::faults::JobFault;
+use cb_tasks::output::put_text_and_lines;
 use cb_tasks::sinks::{Sink, WriterSink};
-use std::sync::Wait;
+use std::alloc::Global;
+use std::io::{self, Write};
 use std::thread::Threads;
 
-const MULTIPLY: &str = "cbgrid multiply a b --engine plain";
+const PRODUCT: &str =
+    "%%MatrixMarket matrix coordinate integer general\n2 2 3\n1 1 8\n2 1 12\n1 2 1\n";
 
-/// How a run over a writer ended.
+const LINES: &str = "% posted 0 1 0 3\n% took 0 1 0 3\n";
+
+/// A writer that accepts at most `step` bytes at a time, and `room` in all. Then it fails or, with `stops`, returns that it
+/// accepted none.
 #[derive(Drop)]
-pub struct Written {
-    pub answer: Result<(), JobFault>,
-    pub has_failed: bool,
-    pub bytes: Vec<u8>,
+struct Short {
+    room: usize,
+    step: usize,
+    stops: bool,
+    bytes: Vec<u8>,
+}
+
+impl Short {
+    fn new(alloc: Global, room: usize, step: usize) -> Short {
+        Short {
+            room,
+            step,
+            stops: false,
+            bytes: Vec::new(alloc),
+        }
+    }
+}
+
+impl Write for Short {
+    fn write(&mut self, bytes: &[u8]) -> io::Result<usize> {
+        let count = bytes.len().min(self.room).min(self.step);
+        if count == 0 && !self.stops {
+            return Err(io::Error::from(io::ErrorKind::BrokenPipe));
+        }
+        self.bytes.extend_from_slice(&bytes[..count])?;
+        self.room -= count;
+        Ok(count)
+    }
+
+    fn flush(&mut self) -> io::Result<()> {
+        Ok(())
+    }
+}
+
+/// How a text ended that was written to a writer.
+#[derive(Drop)]
+struct Written {
+    answer: Result<(), JobFault>,
+    has_failed: bool,
+    bytes: Vec<u8>,
 }
 
 impl Written {
-    /// Whether it failed after this many bytes, which are a beginning of this text, or this text and more.
-    pub fn is_cut(&self, text: &[u8], room: usize) -> bool {
-        let bytes = self.bytes.as_slice();
-        let is_beginning = text.starts_with(bytes) || bytes.starts_with(text);
-        self.answer == Err(JobFault::Output)
-            && self.has_failed
-            && bytes.len() == room
-            && is_beginning
+    /// Whether it failed after this many bytes, which are a beginning of the product and the lines.
+    fn is_cut(&self, room: usize) -> bool {
+        let (product, bytes) = (PRODUCT.as_bytes(), self.bytes.as_slice());
+        let is_beginning = match bytes.strip_prefix(product) {
+            Some(after) => LINES.as_bytes().starts_with(after),
+            None => product.starts_with(bytes),
+        };
+        let has_failed = self.answer == Err(JobFault::Output) && self.has_failed;
+        has_failed && bytes.len() == room && is_beginning
+    }
+
+    /// Whether the product and the lines were written whole.
+    fn is_whole(&self) -> bool {
+        let is_right = match self.bytes.strip_prefix(PRODUCT.as_bytes()) {
+            Some(after) => after == LINES.as_bytes(),
+            None => false,
+        };
+        self.answer.is_ok() && !self.has_failed && is_right
     }
 }
 
-/// Runs a command line on texts with a writer.
-pub fn write_to<R: Threads + Wait + Sync + AllocGlobal>(
+/// Writes the product and the lines to a writer, by this many threads.
+fn write_to<R: Threads + Sync + AllocGlobal>(
     rt: &R,
-    line: &str,
-    texts: &[&str],
+    threads: u32,
     writer: Short,
-) -> Written {
+) -> Result<Written, ReadFault> {
+    let alloc = rt.alloc();
+    let product = read_distributed::<PlusTimes>(alloc, &Grid::single(), PRODUCT.as_bytes())?;
     let mut out = WriterSink::new(writer);
-    let answer = run_into(rt, line, texts, &mut out);
-    Written {
+    let text = TextPages::new(&product);
+    let answer = put_text_and_lines(rt, alloc, threads, text, LINES.as_bytes(), &mut out);
+    Ok(Written {
         answer,
         has_failed: out.failed(),
-        bytes: out.into_inner().into_bytes(),
-    }
+        bytes: out.into_inner().bytes,
+    })
 }
 
-/// Whether a run is cut where a writer with this room fails, which accepts at most `step` bytes at a time.
-pub fn is_cut<R: Threads + Wait + Sync + AllocGlobal>(
-    rt: &R,
-    line: &str,
-    texts: &[&str],
-    text: &[u8],
-    room: usize,
-    step: usize,
-) -> bool {
-    let writer = Short::new(rt.alloc(), room, step);
-    write_to(rt, line, texts, writer).is_cut(text, room)
-}
-
-/// Whether it is cut with each room below `end`.
-fn is_cut_below<R: Threads + Wait + Sync + AllocGlobal>(
-    rt: &R,
-    line: &str,
-    texts: &[&str],
-    text: &[u8],
-    end: usize,
-) -> bool {
-    for room in 0..end {
-        if !is_cut(rt, line, texts, text, room, usize::MAX) {
-            return false;
+/// Whether one thread and two are cut where a writer with this room fails, which accepts at most `step` bytes at a time.
+fn is_cut<R: Threads + Sync + AllocGlobal>(rt: &R, room: usize, step: usize) -> bool {
+    for threads in [1, 2] {
+        match write_to(rt, threads, Short::new(rt.alloc(), room, step)) {
+            Ok(run) if run.is_cut(room) => (),
+            _ => return false,
         }
     }
     true
@@ -75,44 +112,39 @@ fn is_cut_below<R: Threads + Wait + Sync + AllocGlobal>(
 
 #[test]
 fn get_a_beginning_where_they_fail(rt: HostRuntime) {
-    let product = PRODUCT.as_bytes();
-    assert!(rt; product.len() == 74);
-    assert!(rt; is_cut_below(&rt, MULTIPLY, &[FIRST, SECOND], product, 74));
-    let levels = b"1 0\n2 1\n3 2\n".as_slice();
-    assert!(rt;
-        is_cut_below(
-            &rt,
-            "cbgrid bfs a --source 1 --engine plain",
-            &[CYCLE],
-            levels,
-            12
-        )
-    );
+    assert!(rt; PRODUCT.len() + LINES.len() == 106);
     // in the product, or in the lines after it
-    for room in [0, 10, 73, 74, 75, 400] {
-        let line = "cbgrid multiply a b --trace";
-        let is_cut = is_cut(&rt, line, &[FIRST, SECOND], product, room, 7);
-        assert!(rt; is_cut, "{room}");
+    for room in [0, 1, 40, 73, 74, 75, 105] {
+        assert!(rt; is_cut(&rt, room, usize::MAX), "{room}");
+        assert!(rt; is_cut(&rt, room, 7), "{room}, by sevens");
     }
 }
 
-/// Whether a writer with this room, which accepts at most `step` bytes at a time, gets the whole product.
-fn is_whole<R: Threads + Wait + Sync + AllocGlobal>(rt: &R, room: usize, step: usize) -> bool {
-    let writer = Short::new(rt.alloc(), room, step);
-    let run = write_to(rt, MULTIPLY, &[FIRST, SECOND], writer);
-    run.answer.is_ok() && !run.has_failed && run.bytes.as_slice() == PRODUCT.as_bytes()
+/// Whether a writer with this room, which accepts at most `step` bytes at a time, gets everything from one thread and two.
+fn is_whole<R: Threads + Sync + AllocGlobal>(rt: &R, room: usize, step: usize) -> bool {
+    for threads in [1, 2] {
+        match write_to(rt, threads, Short::new(rt.alloc(), room, step)) {
+            Ok(run) if run.is_whole() => (),
+            _ => return false,
+        }
+    }
+    true
 }
 
 #[test]
 fn get_the_whole_where_they_have_room(rt: HostRuntime) {
-    assert!(rt; is_whole(&rt, 74, usize::MAX));
+    assert!(rt; is_whole(&rt, 106, usize::MAX));
     assert!(rt; is_whole(&rt, usize::MAX, 1));
+}
+
+/// Whether a writer that takes no byte counts as failed.
+fn fails_at_once<R: Threads + Sync + AllocGlobal>(rt: &R) -> bool {
+    let mut writer = Short::new(rt.alloc(), 0, 1);
+    writer.stops = true;
+    matches!(write_to(rt, 1, writer), Ok(run) if run.is_cut(0))
 }
 
 #[test]
 fn fail_where_they_take_nothing(rt: HostRuntime) {
-    let mut writer = Short::new(rt.alloc(), 0, 1);
-    writer.stops = true;
-    let run = write_to(&rt, MULTIPLY, &[FIRST, SECOND], writer);
-    assert!(rt; run.is_cut(b"", 0));
+    assert!(rt; fails_at_once(&rt));
 }

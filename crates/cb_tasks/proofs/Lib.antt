@@ -5,4 +5,5 @@ mod OperandLemmas
 pub mod EndingLemmas
 mod LineLemmas
 mod ProductFaults
+mod ListLemmas
 mod OperationFaults

@@ -1,5 +1,5 @@
 -- The answers of jobs, and the reasons why there is none.
-use Rattle.std.specs.Prelude.{ℕ, ◌≡◌, ◌≢◌, ◌<◌, ◌⊎◌, List, [], ◌∷◌, length}
+use Rattle.std.specs.Prelude.{ℕ, ◌≡◌, ◌≢◌, ◌+◌, ◌<◌, ◌⊎◌, List, [], ◌∷◌, length}
 use Rattle.cb_semirings.specs.Arithmetic.{Arithmetic}
 use Rattle.cb_semirings.specs.Names.{arithmetic_of}
 use Rattle.cb_semirings.specs.Tables.{min_plus, or_and, plus_times}
@@ -19,13 +19,15 @@ use Rattle.cb_graphs.specs.Components.{AreComponents}
 use Rattle.cb_graphs.specs.Degrees.{row_degrees, column_degrees}
 use Rattle.cb_graphs.specs.Triangles.{AreTriangleCounts, triangle_count, stopped}
 use Rattle.cb_selections.specs.Selections.{kronecker}
+use Rattle.cb_words.specs.Jobs.{list_count_of}
 use Rattle.cb_words.specs.declared.jobs.EngineName.TheVariants.{Plain}
 use Rattle.cb_words.specs.declared.jobs.Job.{Job}
 use Rattle.cb_words.specs.declared.jobs.Task.{Task}
-use Rattle.cb_words.specs.declared.jobs.Task.TheVariants.{Matrix, Levels, Distances, Parents, Components, Triangles, TriangleCounts, RowDegrees, ColumnDegrees, Selected, Kronecker}
+use Rattle.cb_words.specs.declared.jobs.Task.TheVariants.{Matrix, Levels, Distances, Parents, Components, Triangles, TriangleCounts, RowDegrees, ColumnDegrees, Selected, Kronecker, Extract}
 use Rattle.cb_words.specs.declared.selection_names.Selection.{Selection}
+use Rattle.cb_tasks.specs.Extracts.{IsExtractAnswer, IsExtractFault}
 use Rattle.cb_tasks.specs.Selected.{Fits, FitsInShape, IsSelectionRefusal, selection_of}
-use Rattle.cb_tasks.specs.declared.selection_refusals.SelectionRefusal.TheVariants.{NoValue, NotColumn, NotSquare, TooLarge}
+use Rattle.cb_tasks.specs.declared.selection_refusals.SelectionRefusal.TheVariants.{NoValue, NotColumn, NotSquare, TooLarge, NoRow, NoColumn}
 use Rattle.cb_tasks.specs.Files.{text_at}
 use Rattle.cb_tasks.specs.declared.matrix_tasks.MatrixTask.{MatrixTask}
 use Rattle.cb_tasks.specs.declared.matrix_tasks.MatrixTask.TheVariants as task_is
@@ -199,6 +201,8 @@ IsKroneckerFault s texts (Refused refusal) = ⊥
 IsKroneckerFault s texts (Unselected NoValue) = ⊥
 IsKroneckerFault s texts (Unselected NotColumn) = ⊥
 IsKroneckerFault s texts (Unselected NotSquare) = ⊥
+IsKroneckerFault s texts (Unselected NoRow) = ⊥
+IsKroneckerFault s texts (Unselected NoColumn) = ⊥
 IsKroneckerFault s texts (Unselected TooLarge) = (a : Sparse) × (b : Sparse) × AreMatrices s texts (a ∷ b ∷ []) × ¬ FitsInShape a.shape b.shape
 IsKroneckerFault s texts (Ranks fault) = ⊥
 IsKroneckerFault s texts Memory = (a : Sparse) × (b : Sparse) × AreFactors s texts a b
@@ -216,18 +220,21 @@ abbrev pub text_count_of : MatrixTask → ℕ
 text_count_of (task_is.Operation operation) = operand_count_of operation
 text_count_of (task_is.Selection selection) = 1
 text_count_of task_is.Kronecker = 2
+text_count_of (task_is.Extract lists) = 1 + list_count_of lists
 
 -- its answer over a semiring
 abbrev pub IsAnswerIn : MatrixTask → Arithmetic → List (List ℕ) → List ℕ → Type 0
 IsAnswerIn (task_is.Operation operation) s = IsAnswerOver operation s
 IsAnswerIn (task_is.Selection selection) s = IsSelectedAnswer selection s
 IsAnswerIn task_is.Kronecker s = IsKroneckerAnswer s
+IsAnswerIn (task_is.Extract lists) s = IsExtractAnswer lists s
 
 -- why it has no answer, or why the answer wasn't written
 abbrev pub IsFaultIn : MatrixTask → Arithmetic → List (List ℕ) → JobFault → Type 0
 IsFaultIn (task_is.Operation operation) s = IsFaultOver operation s
 IsFaultIn (task_is.Selection selection) s = IsSelectedFault selection s
 IsFaultIn task_is.Kronecker s = IsKroneckerFault s
+IsFaultIn (task_is.Extract lists) s = IsExtractFault lists s
 
 -- ---- of any task
 -- The answer of a task: of a task on matrices over the semiring that it names, of levels in or-and, of distances in min-plus.
@@ -243,6 +250,7 @@ IsAnswer RowDegrees = IsDegreesAnswer (row_degrees or_and)
 IsAnswer ColumnDegrees = IsDegreesAnswer (column_degrees or_and)
 IsAnswer (Selected selection semiring) = IsSelectedAnswer selection (arithmetic_of semiring)
 IsAnswer (Kronecker semiring) = IsKroneckerAnswer (arithmetic_of semiring)
+IsAnswer (Extract lists semiring) = IsExtractAnswer lists (arithmetic_of semiring)
 
 -- why it has no answer, or why the answer wasn't written
 abbrev pub IsFault : Task → List (List ℕ) → JobFault → Type 0
@@ -257,6 +265,7 @@ IsFault RowDegrees = IsDegreesFault
 IsFault ColumnDegrees = IsDegreesFault
 IsFault (Selected selection semiring) = IsSelectedFault selection (arithmetic_of semiring)
 IsFault (Kronecker semiring) = IsKroneckerFault (arithmetic_of semiring)
+IsFault (Extract lists semiring) = IsExtractFault lists (arithmetic_of semiring)
 
 -- ---- of a job, by a program without ranks
 -- the answer of its task

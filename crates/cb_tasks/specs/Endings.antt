@@ -74,12 +74,10 @@ abbrev pub names_of : Result Job UsageFault → List (String Global)
 names_of (Ok job) = job.files.items
 names_of (Err fault) = []
 
--- How a program with these answers and faults of jobs ends, on a command line that asks for this, over files: by what is
--- known of the bytes on standard output and on standard error, before and after, and by its status.
-pub record IsRun (answers : Job → List (List ℕ) → List ℕ → Type 0) (faults : Job → List (List ℕ) → JobFault → Type 0)
-    (holds : List ℕ → List ℕ → Type 0) (refuses : List ℕ → Type 0) (asked : Result Job UsageFault)
-    (out out_after err err_after : Option (List ℕ)) (status : Status) : Type 0 where
+-- A run ends in one of these ways, for a command line that names these files: by what is known of the bytes on standard
+-- error, before and after, and by its status.
+pub record IsRun (ends : Ending → Type 0) (names : List (String Global)) (err err_after : Option (List ℕ)) (status : Status) : Type 0 where
   pub ending : Ending
-  pub ends : IsEnding answers faults holds refuses asked out out_after ending
-  pub message : AppendsPrefix err err_after (message_of (names_of asked) ending)
+  pub is : ends ending
+  pub message : AppendsPrefix err err_after (message_of names ending)
   pub status_is : status_code status ≡ ending_status ending

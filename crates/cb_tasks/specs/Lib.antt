@@ -3,6 +3,8 @@ pub mod Writers
 pub mod FaultLines
 pub mod Files
 pub mod Selected
+pub mod Lists
+pub mod Extracts
 pub mod Answers
 pub mod WriteEnds
 pub mod Endings

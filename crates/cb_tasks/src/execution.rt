@@ -10,6 +10,7 @@ ghost use Rattle.cb_tasks.specs.declared.matrix_tasks.MatrixTask.TheVariants as 
 
 use crate::alone::compute_alone;
 use crate::degree_answers::{put_column_degrees, put_row_degrees};
+use crate::extracts::put_extract;
 use crate::faults::{JobFault, RanksFault};
 use crate::graph_answers::{put_components, put_parents, put_triangle_counts, put_triangles};
 use crate::inputs::read_blocks;
@@ -81,6 +82,9 @@ fn execute_over<S: Semiring + Send + Sync, R: Threads + Sync, K: Sink>(
             put_selected::<S, R, K>(rt, alloc, threads, selection, texts, out)
         }
         MatrixTask::Kronecker => put_kronecker::<S, R, K>(rt, alloc, threads, texts, out),
+        MatrixTask::Extract(lists) => {
+            put_extract::<S, R, K>(rt, alloc, threads, lists, texts, out)
+        }
     }
 }
 
@@ -145,6 +149,10 @@ pub fn execute<R: Threads + Sync, K: Sink>(
         }
         Task::Kronecker { semiring } => {
             let task = MatrixTask::Kronecker;
+            execute_named(rt, alloc, threads, task, semiring, texts, out)
+        }
+        Task::Extract { lists, semiring } => {
+            let task = MatrixTask::Extract(lists);
             execute_named(rt, alloc, threads, task, semiring, texts, out)
         }
         Task::Levels { source } => put_levels(rt, alloc, threads, source, texts, out),

@@ -20,7 +20,7 @@ use std::thread::Threads;
 const LEAST_BYTES: usize = 262_144;
 
 /// Reads the text at position `which` into the blocks of a grid.
-fn read_text<S: Semiring + Send + Sync, R: Threads + Sync>(
+pub(crate) fn read_text<S: Semiring + Send + Sync, R: Threads + Sync>(
     rt: &R,
     alloc: Global,
     grid: &Grid,

@@ -1,6 +1,6 @@
 //! Tasks on the matrices of texts, over any semiring.
 use cb_operations::Operation;
-use cb_words::Selection;
+use cb_words::{Lists, Selection};
 
 /// What is made of the matrices of texts over a semiring.
 #[derive(Clone, Copy)]
@@ -11,4 +11,6 @@ pub enum MatrixTask {
     Selection(Selection),
     /// The Kronecker product of two matrices.
     Kronecker,
+    /// The listed rows and columns of a matrix.
+    Extract(Lists),
 }

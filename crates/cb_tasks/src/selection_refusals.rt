@@ -24,6 +24,12 @@ pub enum SelectionRefusal {
     /// The Kronecker product has more rows or columns than a matrix may have.
     #[error("product too large")]
     TooLarge,
+    /// A list names a row that the matrix hasn't, or has a place without a number.
+    #[error("no such row")]
+    NoRow,
+    /// A list names a column that the matrix hasn't, or has a place without a number.
+    #[error("no such column")]
+    NoColumn,
 }
 
 /// The region of a name, by the diagonal that is `right` columns right of the main one, or `down` rows below it.

@@ -23,33 +23,29 @@ static LINES: [&str; 2] = ["row", "column"];
 /// The version of the program, and of the libraries for C and Python, which take it from here.
 const VERSION: &str = "0.1.0";
 
-/// The end of a help text: an example, and the exit statuses. The second argument says when status 5 is returned; by
-/// default these are the reasons of products and graphs.
+/// The end of a command's help text: an example, and if the command has reasons of its own for status 5, these. The help
+/// text of the program has the other reasons, and all statuses.
 macro_rules! after_help {
     ($example:literal) => {
-        after_help!(
-            $example,
-            "the shapes don't agree, a graph's matrix isn't square, or it has no such source"
-        )
+        concat!("Example:\n  cbgrid ", $example)
     };
     ($example:literal, $refused:literal) => {
-        concat!(
-            "Example:\n  cbgrid ",
-            $example,
-            "\n
+        concat!("Example:\n  cbgrid ", $example, "\n\nExit status 5: ", $refused)
+    };
+}
+
+/// The end of the program's help text.
+const AFTER_HELP: &str = "Example:
+  cbgrid multiply a.mtx b.mtx > product.mtx
+
 Exit status:
   0  done
   2  the words are no command line
   3  a file can't be read
   4  a file is no matrix
-  5  ",
-            $refused,
-            "
+  5  the shapes don't agree, a graph's matrix isn't square, or it has no such source
   6  memory was refused, or a thread
-  7  the answer can't be written"
-        )
-    };
-}
+  7  the answer can't be written";
 
 /// An option of a command.
 #[derive(Clone, Copy)]
@@ -66,6 +62,8 @@ enum Choice {
     Number,
     Form,
     Exponent,
+    Rows,
+    Columns,
     Counts,
     Lines,
     Source,
@@ -212,6 +210,18 @@ const POWER: Outline = Outline {
     common: &ALONE,
 };
 
+const EXTRACT: Outline = Outline {
+    name: "extract",
+    about: "Write rows and columns of a matrix by their numbers, in any order",
+    after_help: after_help!(
+        "extract links.mtx --rows people.mtx --columns people.mtx > among-them.mtx",
+        "a list isn't a column, or the matrix has no such row or column"
+    ),
+    files: &["A"],
+    options: &[Choice::Semiring, Choice::Rows, Choice::Columns],
+    common: &ALONE,
+};
+
 const BFS: Outline = Outline {
     name: "bfs",
     about: "Write how many edges lead from a source to each vertex, by breadth-first search",
@@ -267,7 +277,7 @@ const DEGREES: Outline = Outline {
 };
 
 /// The commands, in the order in which help shows them.
-static OUTLINES: [&Outline; 18] = [
+static OUTLINES: [&Outline; 19] = [
     &MULTIPLY,
     &SPMV,
     &TRANSPOSE,
@@ -280,6 +290,7 @@ static OUTLINES: [&Outline; 18] = [
     &DIAGONAL,
     &KRON,
     &POWER,
+    &EXTRACT,
     &BFS,
     &RELAX,
     &PARENTS,
@@ -384,6 +395,16 @@ fn exponent<'a>(alloc: Global) -> Arg<'a> {
         .value_parser(value_parser!(u32).range(1..))
 }
 
+fn rows<'a>(alloc: Global) -> Arg<'a> {
+    let help = "A column that lists the numbers of rows, from 1 [default: all rows]";
+    with_value(alloc, "rows", "FILE", help)
+}
+
+fn columns<'a>(alloc: Global) -> Arg<'a> {
+    let help = "A column that lists the numbers of columns, from 1 [default: all columns]";
+    with_value(alloc, "columns", "FILE", help)
+}
+
 fn counts<'a>(alloc: Global) -> Arg<'a> {
     let help = "What triangles are counted of: the graph, or each vertex";
     with_value(alloc, "by", "WHAT", help)
@@ -446,6 +467,8 @@ fn option_of<'a>(alloc: Global, choice: Choice) -> Arg<'a> {
         Choice::Number => number(alloc),
         Choice::Form => form(alloc),
         Choice::Exponent => exponent(alloc),
+        Choice::Rows => rows(alloc),
+        Choice::Columns => columns(alloc),
         Choice::Counts => counts(alloc),
         Choice::Lines => lines(alloc),
         Choice::Source => source(alloc),
@@ -514,11 +537,16 @@ pub fn apply_alone<'a>(alloc: Global) -> Result<Command<'a>, AllocError> {
     command(alloc, &APPLY)?.bin_name("cbgrid apply")
 }
 
+/// Builds `extract` on its own, for the same purpose.
+pub fn extract_alone<'a>(alloc: Global) -> Result<Command<'a>, AllocError> {
+    command(alloc, &EXTRACT)?.bin_name("cbgrid extract")
+}
+
 /// The program, without its options and commands.
 fn bare_program<'a>(alloc: Global) -> Command<'a> {
     Command::new(alloc, "cbgrid")
         .about("Sparse matrices over semirings, read and written as Matrix Market files")
-        .after_help(after_help!("multiply a.mtx b.mtx > product.mtx"))
+        .after_help(AFTER_HELP)
         .version(VERSION)
         .subcommand_required(true)
         .disable_help_flag(true)

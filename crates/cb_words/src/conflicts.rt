@@ -1,5 +1,6 @@
 //! Conflicts between options that `clap` accepts one by one.
-use crate::commands::{apply_alone, multiply_alone};
+use crate::commands::{apply_alone, extract_alone, multiply_alone};
+use crate::list_words::lists_of;
 use crate::selection_words::takes_number;
 use clap::error::ErrorKind;
 use clap::{ArgMatches, Command};
@@ -14,6 +15,8 @@ pub enum Conflict {
     NoNumber,
     /// A `--value` for a function that takes no number.
     NumberTooMany,
+    /// Neither `--rows` nor `--columns`.
+    NoList,
 }
 
 /// The conflict between the options of a command line, if there is one.
@@ -28,6 +31,7 @@ pub fn conflict_in(matches: &ArgMatches<'_>) -> Option<Conflict> {
             (false, true) => Some(Conflict::NumberTooMany),
             _ => None,
         },
+        ("extract", found) if lists_of(found).is_none() => Some(Conflict::NoList),
         _ => None,
     }
 }
@@ -37,6 +41,7 @@ fn command_of<'a>(alloc: Global, conflict: Conflict) -> Result<Command<'a>, Allo
     match conflict {
         Conflict::TraceOfOneThread => multiply_alone(alloc),
         Conflict::NoNumber | Conflict::NumberTooMany => apply_alone(alloc),
+        Conflict::NoList => extract_alone(alloc),
     }
 }
 
@@ -50,6 +55,7 @@ fn message_of(conflict: Conflict) -> &'static str {
         Conflict::NumberTooMany => {
             "the argument '--value <N>' cannot be used if '--function' is row or column"
         }
+        Conflict::NoList => "the argument '--rows <FILE>' or '--columns <FILE>' is required",
     }
 }
 

@@ -2,6 +2,7 @@
 ghost use Rattle.std.specs.Prelude.{◌≡◌, vec_len};
 ghost use Rattle.cb_words.specs.Jobs.{file_count_of};
 
+use crate::lists::Lists;
 use crate::selection_names::Selection;
 use cb_layout::Grid;
 use cb_operations::Operation;
@@ -46,6 +47,11 @@ pub enum Task {
     },
     /// The Kronecker product of the files' matrices, over a semiring.
     Kronecker {
+        semiring: SemiringName,
+    },
+    /// The listed rows and columns of the first file's matrix, over a semiring. The other files have the lists.
+    Extract {
+        lists: Lists,
         semiring: SemiringName,
     },
 }

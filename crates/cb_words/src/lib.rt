@@ -10,10 +10,13 @@
 mod commands;
 mod conflicts;
 mod jobs;
+mod list_words;
+mod lists;
 mod selection_names;
 mod selection_words;
 mod words;
 
 pub use jobs::{EngineName, Job, Task, UsageFault};
+pub use lists::Lists;
 pub use selection_names::{FunctionName, RegionName, Selection};
 pub use words::{asked, read_job};

@@ -1,14 +1,16 @@
 //! Reads a command line. `clap` checks its words: an unknown command or option, a missing file, a surplus one, a repeated
 //! option and an unknown value are usage errors.
-ghost use Rattle.std.specs.Prelude.{◌≢◌, String, ◌≡◌, IfOk, IfSome, length, vec_len};
+ghost use Rattle.std.specs.Prelude.{◌≢◌, String, ◌≡◌, ◌+◌, IfOk, IfSome, length, vec_len};
 ghost use Rattle.std.specs.declared.io.ErrorKind.TheVariants as io_is;
 ghost use Rattle.clap.specs.Words.{kind_of};
 ghost use Rattle.cb_operations.specs.OperationAnswers.{operand_count_of};
-ghost use Rattle.cb_words.specs.Jobs.{AsksForText, file_count_of};
+ghost use Rattle.cb_words.specs.Jobs.{AsksForText, file_count_of, list_count_of};
 
 use crate::commands::program;
 use crate::conflicts::{Conflict, conflict_error, conflict_in};
 use crate::jobs::{EngineName, Job, Task, UsageFault};
+use crate::list_words::lists_of;
+use crate::lists::Lists;
 use crate::selection_words::selection_of;
 use cb_layout::Grid;
 use cb_matrix::Test;
@@ -64,6 +66,17 @@ fn operands(operation: Operation) -> &'static [&'static str]
     }
 }
 
+/// The arguments that name a matrix and the files of lists, in the order in which they are read.
+fn listed(lists: Lists) -> &'static [&'static str]
+    ensures { length result.now ≡ 1 + list_count_of lists }
+{
+    match lists {
+        Lists::Rows => &["A", "rows"],
+        Lists::Columns => &["A", "columns"],
+        Lists::Both => &["A", "rows", "columns"],
+    }
+}
+
 /// The arguments that name the files of a task, in the order in which they are read.
 fn arguments(task: Task) -> &'static [&'static str]
     ensures { length result.now ≡ file_count_of task }
@@ -75,6 +88,7 @@ fn arguments(task: Task) -> &'static [&'static str]
         Task::RowDegrees | Task::ColumnDegrees => &["A"],
         Task::Selected { .. } => &["A"],
         Task::Kronecker { .. } => &["A", "B"],
+        Task::Extract { lists, .. } => listed(lists),
     }
 }
 
@@ -222,6 +236,13 @@ fn kronecker_of(found: &ArgMatches<'_>) -> Option<Task> {
     Some(Task::Kronecker { semiring })
 }
 
+/// The task of `extract`.
+fn extract_of(found: &ArgMatches<'_>) -> Option<Task> {
+    let lists = lists_of(found)?;
+    let semiring = semiring_of(found)?;
+    Some(Task::Extract { lists, semiring })
+}
+
 /// The task of a command that is an operation on matrices.
 fn matrix_of(command: &str, found: &ArgMatches<'_>) -> Option<Task> {
     let operation = operation_of(command, found)?;
@@ -243,6 +264,7 @@ fn task_of(command: &str, found: &ArgMatches<'_>) -> Option<Task> {
         "degrees" => Some(Task::RowDegrees),
         "select" | "apply" | "diagonal" | "power" => selected_of(command, found),
         "kron" => kronecker_of(found),
+        "extract" => extract_of(found),
         _ => matrix_of(command, found),
     }
 }

@@ -33,3 +33,6 @@ returns-in-RowDegrees g c = of_task c.args.texts.items _ _ _ _ _ _ c.in-RowDegre
 
 pub returns-in-ColumnDegrees : goal.returns-in-ColumnDegrees
 returns-in-ColumnDegrees g c = of_task c.args.texts.items _ _ _ _ _ _ c.in-ColumnDegrees.is c.put_column_degrees.ensures
+
+pub returns-in-Extract : goal.returns-in-Extract
+returns-in-Extract g c = of_task c.args.texts.items _ _ _ _ _ _ c.in-Extract.is c.execute_named-in-Extract.ensures

@@ -1,0 +1,83 @@
+-- Texts that are read over semirings of their own, and faults of lists.
+use Rattle.std.proofs.Common.{◌≡◌, ℕ, zero, suc, ◌<◌, List, ◌∷◌, length, refl, sym, subst, arith}
+use Rattle.cb_semirings.specs.Arithmetic.{Arithmetic}
+use Rattle.cb_semirings.specs.Tables.{plus_times}
+use Rattle.cb_matrix.specs.Sparse.{Sparse}
+use Rattle.cb_selections.specs.Selections.{extracted, rows_by, columns_by}
+use Rattle.cb_words.specs.declared.lists.Lists.{Lists}
+use Rattle.cb_words.specs.declared.lists.Lists.TheVariants.{Rows, Columns, Both}
+use Rattle.cb_tasks.specs.Files.{text_at}
+use Rattle.cb_tasks.specs.Answers.{IsMatrixText, IsTextFault}
+use Rattle.cb_tasks.specs.Lists.{IsFirstReadFault, IsListFault, arithmetic_at, numbers_in}
+use Rattle.cb_tasks.specs.Extracts.{AreWithList, AreWithLists, AreListsFault, IsExtractFault}
+use Rattle.cb_tasks.specs.declared.selection_refusals.SelectionRefusal.TheVariants.{NoRow, NoColumn}
+use Rattle.cb_tasks.specs.declared.faults.JobFault.{JobFault}
+use Rattle.cb_tasks.specs.declared.faults.JobFault.TheVariants.{Read, Refused, Unselected, Ranks, Memory, Output}
+
+module _ (by : ℕ → Arithmetic) where
+  at_place : (ts : List (List ℕ)) (place : ℕ) → place < length ts → ((i : ℕ) → i < place → IsMatrixText (by i) (text_at ts i)) → (f : JobFault) → IsTextFault (by place) place (text_at ts place) f → IsFirstReadFault by ts f
+  at_place ts place l before (Read which fault) h =
+      subst (λ n. IsFirstReadFault by ts (Read n fault)) (sym h.0) (l, before, h.1)
+  at_place ts place l before (Refused refusal) h = absurd h
+  at_place ts place l before (Unselected refusal) h = absurd h
+  at_place ts place l before (Ranks fault) h = absurd h
+  at_place ts place l before Memory h = absurd h
+  at_place ts place l before Output h = absurd h
+
+  before_first : (ts : List (List ℕ)) (i : ℕ) → i < 0 → IsMatrixText (by i) (text_at ts i)
+  before_first ts i l = absurd (omega arith)
+
+  before_second : (t : List ℕ) (ts : List (List ℕ)) → IsMatrixText (by 0) t → (i : ℕ) → i < 1 → IsMatrixText (by i) (text_at (t ∷ ts) i)
+  before_second t ts is_t zero l = is_t
+  before_second t ts is_t (suc i) l = absurd (omega arith)
+
+  before_third : (t u : List ℕ) (ts : List (List ℕ)) → IsMatrixText (by 0) t → IsMatrixText (by 1) u → (i : ℕ) → i < 2 → IsMatrixText (by i) (text_at (t ∷ u ∷ ts) i)
+  before_third t u ts is_t is_u zero l = is_t
+  before_third t u ts is_t is_u (suc zero) l = is_u
+  before_third t u ts is_t is_u (suc (suc i)) l = absurd (omega arith)
+
+  module _ (texts : List (List ℕ)) where
+    -- the fault of the first text; of the second, if the first is a matrix; of the third, if both are
+    pub first_fault_by : (t : List ℕ) (ts : List (List ℕ)) → texts ≡ t ∷ ts → (f : JobFault) → IsTextFault (by 0) 0 t f → IsFirstReadFault by texts f
+    first_fault_by t ts e f h = subst (λ xs. IsFirstReadFault by xs f) (sym e) (at_place (t ∷ ts) 0 (omega arith) (before_first (t ∷ ts)) f h)
+
+    pub second_fault_by : (t u : List ℕ) (ts : List (List ℕ)) → texts ≡ t ∷ u ∷ ts → IsMatrixText (by 0) t → (f : JobFault) → IsTextFault (by 1) 1 u f → IsFirstReadFault by texts f
+    second_fault_by t u ts e is_t f h = subst (λ xs. IsFirstReadFault by xs f) (sym e) (at_place (t ∷ u ∷ ts) 1 (omega arith) (before_second t (u ∷ ts) is_t) f h)
+
+    pub third_fault_by : (t u v : List ℕ) (ts : List (List ℕ)) → texts ≡ t ∷ u ∷ v ∷ ts → IsMatrixText (by 0) t → IsMatrixText (by 1) u → (f : JobFault) → IsTextFault (by 2) 2 v f → IsFirstReadFault by texts f
+    third_fault_by t u v ts e is_t is_u f h = subst (λ xs. IsFirstReadFault by xs f) (sym e) (at_place (t ∷ u ∷ v ∷ ts) 2 (omega arith) (before_third t u (v ∷ ts) is_t is_u) f h)
+
+module _ (s : Arithmetic) (texts : List (List ℕ)) where
+  -- a fault of reading
+  pub of_reading : (lists : Lists) (f : JobFault) → IsFirstReadFault (arithmetic_at s plus_times) texts f → IsExtractFault lists s texts f
+  of_reading lists (Read which fault) h = h
+  of_reading lists (Refused refusal) h = absurd h
+  of_reading lists (Unselected refusal) h = absurd h
+  of_reading lists (Ranks fault) h = absurd h
+  of_reading lists Memory h = absurd h
+  of_reading lists Output h = absurd h
+
+  -- a fault of a list of rows, of a list of columns, and of both lists
+  pub of_rows : (a l : Sparse) (f : JobFault) → AreWithList s texts a l → IsListFault NoRow a.shape.rows l f → IsExtractFault Rows s texts f
+  of_rows a l (Read which fault) w h = absurd h
+  of_rows a l (Refused refusal) w h = absurd h
+  of_rows a l (Unselected refusal) w h = (a, l, w, h)
+  of_rows a l (Ranks fault) w h = absurd h
+  of_rows a l Memory w h = (rows_by s (numbers_in l) a, (a, l, w, h, refl))
+  of_rows a l Output w h = absurd h
+
+  pub of_columns : (a l : Sparse) (f : JobFault) → AreWithList s texts a l → IsListFault NoColumn a.shape.cols l f → IsExtractFault Columns s texts f
+  of_columns a l (Read which fault) w h = absurd h
+  of_columns a l (Refused refusal) w h = absurd h
+  of_columns a l (Unselected refusal) w h = (a, l, w, h)
+  of_columns a l (Ranks fault) w h = absurd h
+  of_columns a l Memory w h = (columns_by s (numbers_in l) a, (a, l, w, h, refl))
+  of_columns a l Output w h = absurd h
+
+  pub of_both : (a k l : Sparse) (f : JobFault) → AreWithLists s texts a k l → AreListsFault a k l f → IsExtractFault Both s texts f
+  of_both a k l (Read which fault) w h = absurd h
+  of_both a k l (Refused refusal) w h = absurd h
+  of_both a k l (Unselected refusal) w h = (a, k, l, w, h)
+  of_both a k l (Ranks fault) w h = absurd h
+  of_both a k l Memory w h = (extracted s (numbers_in k) (numbers_in l) a, (a, k, l, w, h, refl))
+  of_both a k l Output w h = absurd h
