@@ -18,8 +18,9 @@
  *
  * Errors. A call returns CBGRID_OK (0) if it has written its result. Otherwise it returns the code of the first
  * fault and leaves `out` as it was. It looks for null pointers first, then for the other faults in the order of
- * their codes below, those of a matrix for each operand in turn. CBGRID_MEMORY may come at any time. No call
- * prints, exits, aborts or keeps state between calls. You need not start the library or shut it down.
+ * their codes below, those of a matrix for each operand in turn. CBGRID_MEMORY means that there is no other fault,
+ * except while a text is read: then it may come before a fault of the text is found. No call prints, exits, aborts
+ * or keeps state between calls. The library needs no initialization and no shutdown.
  *
  * Memory. Results are malloc'ed; release them with cbgrid_free_columns and cbgrid_free_text. A call only writes to
  * `out`: if `out` still holds a result, free that result first. `out` may be one of the operands if that operand's
@@ -31,12 +32,13 @@
  * cbgrid_matrix_multiply_threads. Don't call a function from a signal handler.
  *
  * What is proved. For every input, each call is proved to stay within the lists that you pass, to terminate, and to
- * give the result that its comment describes, exact to the last value. The proofs run whenever libcb_ffi.a is built
- * (docs/PROMISES.md). Not proved are this header and cbgrid.c (null pointers, messages, freeing; that compressed rows
- * are the compressed columns of the transpose; the triples of a kept matrix; which place stands for a diagonal; that
- * threads make each panel of a product, and that all are joined in order), the C compiler, malloc and POSIX threads. The library trusts you to pass what a struct describes: pointers that are aligned for their
- * type, to as many elements as the length says, which nobody changes while a call runs; and kept matrices that nobody
- * has freed.
+ * give exactly the result that its comment describes. The proofs run whenever libcb_ffi.a is built (docs/PROMISES.md).
+ * Not proved are this header and cbgrid.c (null pointers, messages, freeing; that compressed rows are the compressed
+ * columns of the transpose; the triples of a kept matrix; which place stands for a diagonal; that threads make each
+ * panel of a product, and that all are joined in order), the C compiler, malloc and POSIX threads.
+ *
+ * What the library relies on. Pointers are aligned for their type and lead to as many elements as the length says.
+ * Nobody changes these elements while a call runs. Kept matrices haven't been freed.
  *
  * The code needs x86-64-v2 (any x86-64 processor since about 2009), and doesn't check for it.
  */
@@ -78,7 +80,7 @@ extern "C" {
  *   MAX_PLUS          0 to 2^64 - 1    the greatest      the sum, at most 2^64 - 1      0
  *   MIN_MAX           0 to 2^64 - 1    the least         the greatest                   2^64 - 1
  *
- * In each of them a product with zero is zero. For the last ten the table gives the product of two values other
+ * In every semiring a product with zero is zero. For the last ten, the table gives the product of two values other
  * than zero.
  */
 enum cbgrid_semiring {
@@ -126,14 +128,14 @@ enum cbgrid_function {
     CBGRID_COLUMN = 5          /* j; it ignores n */
 };
 
-/* How cbgrid_matrix_update writes. The flags that are wanted are added up. */
+/* How cbgrid_matrix_update writes: a sum of flags. */
 enum cbgrid_update {
     CBGRID_ACCUMULATE = 1,  /* a new value is added to the old one by the semiring's sum; otherwise it takes its place */
     CBGRID_COMPLEMENT = 2,  /* the mask allows the places where it has no entry; otherwise those where it has one */
     CBGRID_REPLACE = 4      /* old entries at places that aren't allowed are dropped; otherwise they stay */
 };
 
-/* What a call returns: CBGRID_OK, or the first fault. cbgrid_message has each in words. */
+/* What a call returns: CBGRID_OK, or the first fault. cbgrid_message describes each in words. */
 enum cbgrid_code {
     CBGRID_OK = 0,
     CBGRID_SEMIRING = 1,     /* no such semiring */
@@ -151,7 +153,7 @@ enum cbgrid_code {
     CBGRID_FORMAT = 13,      /* not a Matrix Market text of the profile (docs/FORMAT.md) */
     CBGRID_MEMORY = 14,      /* out of memory */
     CBGRID_NULL_POINTER = 15, /* an argument, or a list that isn't empty, is a null pointer */
-    CBGRID_MIXED = 16         /* the semirings of kept matrices differ, or a graph isn't over that of the call */
+    CBGRID_MIXED = 16         /* the semirings of kept matrices differ, or a call needs another semiring */
 };
 
 /* What `kind` and `wide` of struct cbgrid_columns may be. */
@@ -232,19 +234,20 @@ struct cbgrid_columns cbgrid_dcsc64(uint32_t nrows, uint32_t ncols, const uint32
  */
 
 /* Multiplies a and b: the entry at row i and column j is the sum over k of a(i, k) times b(k, j). CBGRID_SHAPES if a
- * doesn't have as many columns as b has rows. Costs the products of entries that meet. */
+ * doesn't have as many columns as b has rows. Costs the products of matching entries. */
 int cbgrid_multiply(uint32_t semiring, uint32_t grid, const struct cbgrid_columns *a, const struct cbgrid_columns *b,
                     struct cbgrid_columns *out);
 
 /* Multiplies a and b at the places where mask has an entry, whatever its value. CBGRID_SHAPES if a doesn't have as many
  * columns as b has rows, or the mask doesn't have the product's shape. Computes only the entries that the mask allows:
- * it costs the mask's entries and the products of entries in the mask's columns. */
+ * it costs the mask's entries and the products of matching entries in the mask's columns. */
 int cbgrid_multiply_masked(uint32_t semiring, uint32_t grid, const struct cbgrid_columns *a,
                            const struct cbgrid_columns *b, const struct cbgrid_columns *mask,
                            struct cbgrid_columns *out);
 
 /* Multiplies a and the vector x. Both x and the result are matrices of one column. CBGRID_SHAPES if x doesn't have one
- * column, or doesn't have as many rows as a has columns. Costs the entries of the columns of a that x names. */
+ * column, or doesn't have as many rows as a has columns. Costs the entries of the columns of a for which x has an
+ * entry. */
 int cbgrid_vector(uint32_t semiring, uint32_t grid, const struct cbgrid_columns *a, const struct cbgrid_columns *x,
                   struct cbgrid_columns *out);
 
@@ -273,11 +276,11 @@ int cbgrid_times(uint32_t semiring, uint32_t grid, const struct cbgrid_columns *
 int cbgrid_prune(uint32_t semiring, uint32_t grid, const struct cbgrid_columns *a, uint32_t test, uint64_t bound,
                  struct cbgrid_columns *out);
 
-/* Breadth-first search: finds the least number of edges from the source to each vertex of a graph. a is over OR_AND; an
+/* Breadth-first search: finds the least number of edges from the source to each vertex of a graph. a is over OR_AND. An
  * entry at row i and column j is an edge from i to j. CBGRID_NOT_SQUARE if a isn't square, CBGRID_SOURCE if the source
  * isn't below nrows. The result is one column over MIN_PLUS with an entry for each vertex that the source reaches. The
  * source has level 0, which is stored: the zero of MIN_PLUS is 2^64 - 1. Costs a transpose of a, then at most 16 rounds
- * over the edges of the vertices whose number fell, and for the rest the algorithm of Dijkstra with a heap. */
+ * over the edges of the vertices whose level fell, and for the rest Dijkstra's algorithm with a heap. */
 int cbgrid_levels(uint32_t grid, const struct cbgrid_columns *a, uint32_t source, struct cbgrid_columns *out);
 
 /* Shortest paths: finds the least sum of edge lengths from the source to each vertex of a graph. Like cbgrid_levels,
@@ -295,16 +298,16 @@ int cbgrid_read(uint32_t semiring, const void *text, size_t len, uint64_t *line,
  * cbgrid_read reads the same matrix back if it has at most 2147483647 entries. */
 int cbgrid_text(uint32_t semiring, const struct cbgrid_columns *a, struct cbgrid_text *out);
 
-/* Free the lists of a result, or its bytes, and leave it empty: a second call does nothing. Never pass a matrix over
- * lists of your own. A null pointer is allowed. */
+/* Free the lists of a result, or its bytes, and leave it empty, so that a second call does nothing. Never pass a matrix
+ * over lists of your own. A null pointer is allowed. */
 void cbgrid_free_columns(struct cbgrid_columns *matrix);
 void cbgrid_free_text(struct cbgrid_text *text);
 
 /*
  * ---- Kept matrices
  *
- * A call above checks its lists, copies them into a block of its own, and returns lists. A kept matrix is such a block,
- * over one semiring. You make it once and free it once; it never changes. Unless its comment says otherwise, a call on
+ * The calls above check their lists, copy them into blocks of their own, and return lists. A kept matrix is such a
+ * block, over one semiring. You make it once and free it once; it never changes. Unless its comment says otherwise, a call on
  * kept matrices copies no operand.
  *
  *     struct cbgrid_matrix *graph, *walks;
@@ -317,7 +320,7 @@ void cbgrid_free_text(struct cbgrid_text *text);
  * Errors. As above: a call returns the code of the first fault and leaves `out` as it was. It looks for
  * CBGRID_NULL_POINTER first. Unless the comment of a call gives another order, it then looks for CBGRID_TEST,
  * CBGRID_MIXED, CBGRID_SHAPES, CBGRID_NOT_SQUARE and CBGRID_SOURCE, all before it takes memory. CBGRID_MEMORY
- * comes last. The operands stay as they are.
+ * comes last. The operands don't change.
  *
  * Memory. A matrix that a call writes to `out` is new and yours; free it with cbgrid_matrix_free. A call doesn't free
  * the matrix that `out` pointed to before.
@@ -333,8 +336,8 @@ struct cbgrid_triple {
     uint64_t value;
 };
 
-/* Keeps the matrix of lists over a semiring. Copies the lists once; they stay yours. CBGRID_SEMIRING, and CBGRID_FORM
- * to CBGRID_VALUE. */
+/* Makes a kept matrix of lists, over a semiring. Copies the lists once; they stay yours. CBGRID_SEMIRING, and
+ * CBGRID_FORM to CBGRID_VALUE. */
 int cbgrid_matrix_of_columns(uint32_t semiring, const struct cbgrid_columns *lists, struct cbgrid_matrix **out);
 
 /* The same from compressed rows (CSR, or doubly compressed). `rows` has the lists of the transpose: its nrows is the
@@ -342,7 +345,7 @@ int cbgrid_matrix_of_columns(uint32_t semiring, const struct cbgrid_columns *lis
  * Also costs a transpose. */
 int cbgrid_matrix_of_rows(uint32_t semiring, const struct cbgrid_columns *rows, struct cbgrid_matrix **out);
 
-/* Keeps the matrix of `len` triples, in any order. Values at one place are added up in the semiring, and a sum that
+/* Makes a kept matrix of `len` triples, in any order. Values at one place are added up in the semiring, and a sum that
  * is zero isn't stored. CBGRID_SEMIRING, CBGRID_TOO_LARGE, CBGRID_PLACE, CBGRID_VALUE, in this order. With a length
  * of 0, `triples` may be a null pointer. Costs a sort of the triples, or one walk if they ascend by column and then
  * by row. */
@@ -356,7 +359,7 @@ int cbgrid_matrix_columns(const struct cbgrid_matrix *a, struct cbgrid_columns *
 int cbgrid_matrix_rows(const struct cbgrid_matrix *a, struct cbgrid_columns *out);
 
 /* Writes the entries of a matrix, by column and then by row, to `out`, which has room for cbgrid_matrix_entries
- * triples. Copies the lists meanwhile, so CBGRID_MEMORY may come. */
+ * triples. It copies the lists first, so it may return CBGRID_MEMORY. */
 int cbgrid_matrix_triples(const struct cbgrid_matrix *a, struct cbgrid_triple *out);
 
 /* Return the shape, the semiring (enum cbgrid_semiring) and the number of stored entries of a matrix, or 0 for a null
@@ -371,7 +374,7 @@ uint64_t cbgrid_matrix_entries(const struct cbgrid_matrix *a);
 int cbgrid_matrix_value(const struct cbgrid_matrix *a, uint32_t row, uint32_t column, uint64_t *out);
 
 /* Do what the calls of the same names above do, with the same codes. CBGRID_MIXED if the operands are over different
- * semirings; the result is over theirs. */
+ * semirings. The result is over the semiring of the operands. */
 int cbgrid_matrix_multiply(const struct cbgrid_matrix *a, const struct cbgrid_matrix *b, struct cbgrid_matrix **out);
 int cbgrid_matrix_multiply_masked(const struct cbgrid_matrix *a, const struct cbgrid_matrix *b,
                                   const struct cbgrid_matrix *mask, struct cbgrid_matrix **out);
@@ -423,9 +426,9 @@ int cbgrid_matrix_extract(const struct cbgrid_matrix *a, const uint32_t *rows, s
  * of a times those of b. */
 int cbgrid_matrix_kron(const struct cbgrid_matrix *a, const struct cbgrid_matrix *b, struct cbgrid_matrix **out);
 
-/* Copies a with `part` in place of the part of its shape that begins at (row, column). The entries of a in that part
- * are dropped, also where `part` has none. CBGRID_MIXED if their semirings differ, then CBGRID_PLACE if the part ends
- * beyond a. Costs a walk over the entries of both. */
+/* Makes a copy of a in which `part` replaces the part of its shape that begins at (row, column). All entries of a in
+ * that part are dropped, whether or not `part` has an entry in their places. CBGRID_MIXED if their semirings differ, then
+ * CBGRID_PLACE if the part ends beyond a. Costs a walk over the entries of both. */
 int cbgrid_matrix_assign(const struct cbgrid_matrix *a, uint32_t row, uint32_t column,
                          const struct cbgrid_matrix *part, struct cbgrid_matrix **out);
 
@@ -434,8 +437,9 @@ int cbgrid_matrix_assign(const struct cbgrid_matrix *a, uint32_t row, uint32_t c
  * of both. */
 int cbgrid_matrix_exclude(const struct cbgrid_matrix *a, const struct cbgrid_matrix *mask, struct cbgrid_matrix **out);
 
-/* Multiplies a and b at the places where the mask has no entry: what cbgrid_matrix_exclude leaves of the product, with the
- * codes of cbgrid_matrix_multiply_masked. Costs the product and a walk over the mask; nothing is stored for its places. */
+/* Multiplies a and b at the places where the mask has no entry: what cbgrid_matrix_exclude leaves of the product, with
+ * the codes of cbgrid_matrix_multiply_masked. Costs at most the product and a walk over the mask. Nothing is stored at
+ * the mask's places on the way. */
 int cbgrid_matrix_multiply_outside(const struct cbgrid_matrix *a, const struct cbgrid_matrix *b,
                                    const struct cbgrid_matrix *mask, struct cbgrid_matrix **out);
 
@@ -449,8 +453,8 @@ int cbgrid_matrix_multiply_outside(const struct cbgrid_matrix *a, const struct c
  *   at any other place              the value of a or, with CBGRID_REPLACE, none
  *
  * A place is allowed if the mask has an entry there, whatever its value; with CBGRID_COMPLEMENT, if it has none. If the
- * mask is a null pointer, all places are allowed and, with CBGRID_COMPLEMENT, none. At an allowed place without an entry
- * of b the entry of a goes, unless the call accumulates.
+ * mask is a null pointer, all places are allowed; with CBGRID_COMPLEMENT, none. At an allowed place where b has no
+ * entry, the entry of a is dropped, unless the call accumulates.
  *
  * `flags` is a sum of enum cbgrid_update, or 0. CBGRID_TEST if it is above 7, then CBGRID_MIXED if the semirings of the
  * three differ, then CBGRID_SHAPES if their shapes do. Costs a few walks over the entries of the three.
@@ -458,15 +462,15 @@ int cbgrid_matrix_multiply_outside(const struct cbgrid_matrix *a, const struct c
 int cbgrid_matrix_update(const struct cbgrid_matrix *a, const struct cbgrid_matrix *b, const struct cbgrid_matrix *mask,
                          uint32_t flags, struct cbgrid_matrix **out);
 
-/* Multiplies a and b as cbgrid_matrix_multiply does, and transposes a before if turn_a isn't 0, b if turn_b isn't 0.
- * CBGRID_MIXED if their semirings differ, then CBGRID_SHAPES if their shapes don't agree after that. Also costs the
+/* Multiplies a and b as cbgrid_matrix_multiply does, after transposing a if turn_a isn't 0, and b if turn_b isn't 0.
+ * CBGRID_MIXED if their semirings differ, then CBGRID_SHAPES if the shapes of the factors don't agree. Also costs the
  * transposes. */
 int cbgrid_matrix_multiply_turned(const struct cbgrid_matrix *a, int turn_a, const struct cbgrid_matrix *b, int turn_b,
                                   struct cbgrid_matrix **out);
 
-/* Multiplies a by itself: the power with this many factors, from the left, ((a a) a) a and so on. (In some semirings
- * the product isn't associative.) CBGRID_TEST if there are no factors, then CBGRID_NOT_SQUARE. Costs the products, one
- * less than there are factors. */
+/* Makes the power of a with this many factors, multiplied from the left: ((a a) a) a and so on. (In some semirings the
+ * product isn't associative.) CBGRID_TEST if there are no factors, then CBGRID_NOT_SQUARE. Costs one product less than
+ * there are factors. */
 int cbgrid_matrix_power(const struct cbgrid_matrix *a, uint32_t factors, struct cbgrid_matrix **out);
 
 /* Count the entries of each row, and of each column, whatever the values are. The result is one column over PLUS_TIMES,
@@ -494,9 +498,9 @@ int cbgrid_matrix_levels_from(const struct cbgrid_matrix *a, const uint32_t *sou
 int cbgrid_matrix_distances_from(const struct cbgrid_matrix *a, const uint32_t *sources, size_t count,
                                  struct cbgrid_matrix **out);
 
-/* The same from first numbers: `given` is a column over MIN_PLUS, and its entry in row u is the first number of vertex
- * u. The result has for each vertex the least sum of a vertex's first number and the level or distance from there, over
- * all vertices that have a first number; sums stop at 2^64 - 1, which isn't stored. CBGRID_MIXED, then
+/* The same from initial values: `given` is a column over MIN_PLUS, and its entry in row u is the initial value of vertex
+ * u. The result has for each vertex the least sum of an initial value and the level or distance from its vertex, over
+ * all vertices that have an initial value; sums stop at 2^64 - 1, which isn't stored. CBGRID_MIXED, then
  * CBGRID_NOT_SQUARE, as above; then CBGRID_MIXED if `given` isn't over MIN_PLUS, then CBGRID_SHAPES if it isn't a column
  * with a place for each vertex. Transposes the graph, and then searches once. */
 int cbgrid_matrix_levels_given(const struct cbgrid_matrix *a, const struct cbgrid_matrix *given,
@@ -505,8 +509,8 @@ int cbgrid_matrix_distances_given(const struct cbgrid_matrix *a, const struct cb
                                   struct cbgrid_matrix **out);
 
 /*
- * Calls on a graph over OR_AND. CBGRID_MIXED if it is over another semiring, then CBGRID_NOT_SQUARE, then
- * CBGRID_SOURCE.
+ * Calls on a graph over OR_AND. CBGRID_MIXED if it is over another semiring, then CBGRID_NOT_SQUARE, then, for
+ * parents, CBGRID_SOURCE.
  *
  *   parents     for each vertex that the source reaches, other than the source: the least vertex one level nearer
  *               that has an edge to it. One column over MIN_PLUS; its values are vertices. Costs a search, and a
@@ -529,10 +533,10 @@ int cbgrid_matrix_text(const struct cbgrid_matrix *a, struct cbgrid_text *out);
 /*
  * Multiplies a and b as cbgrid_matrix_multiply does, with the same codes and the same result, by up to `threads`
  * threads, and at most CBGRID_MOST_THREADS: the caller's and new ones, which have ended when the call returns. With
- * 0 or 1 the caller's thread does everything. Each thread makes some columns, which take about as many products of
- * entries that meet, and at least 65536 unless few are left. The caller's thread also does what no new thread can be
- * started for, and joins the columns. Besides the products, it costs a pass over the entries of b, an index of the
- * columns of a for each thread, and a copy of the result except for the columns of the first thread.
+ * 0 or 1 the caller's thread does everything. Each thread makes some columns. All make about the same number of products
+ * of matching entries, and about 65536 or more: a small product takes fewer threads. The caller's thread also does what
+ * no new thread can be started for, and joins the columns. Besides the products, it costs a pass over the entries of b,
+ * an index of the columns of a for each thread, and a copy of the result except for the columns of the first thread.
  */
 int cbgrid_matrix_multiply_threads(const struct cbgrid_matrix *a, const struct cbgrid_matrix *b, uint32_t threads,
                                    struct cbgrid_matrix **out);
@@ -543,8 +547,8 @@ void cbgrid_matrix_free(struct cbgrid_matrix *a);
 /* Returns the version of the library, such as "0.1.0": a static string, which you don't free. */
 const char *cbgrid_version(void);
 
-/* Returns a code in a few words of English, or "no such code" for any other number: a static string, which you don't
- * free. */
+/* Returns a description of a code in a few words of English, or "no such code" for any other number: a static string,
+ * which you don't free. */
 const char *cbgrid_message(int code);
 
 #ifdef __cplusplus

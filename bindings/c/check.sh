@@ -15,6 +15,7 @@ grep -qx "const VERSION: &str = \"$version\";" ../../crates/cb_words/src/command
 grep -qx "version = \"$version\"" ../python/pyproject.toml || fail "the Python package has another version than $version"
 
 "$out/check"
+"$out/check_panels"
 
 "$out/example" | cmp - example.out || fail "the example prints something else than example.out"
 
@@ -66,6 +67,8 @@ fi
 if command -v valgrind >/dev/null; then
     valgrind --quiet --error-exitcode=9 --leak-check=full --show-leak-kinds=all "$out/check" --few >/dev/null ||
         fail "valgrind finds a fault"
+    valgrind --quiet --error-exitcode=9 --leak-check=full --show-leak-kinds=all "$out/check_panels" >/dev/null ||
+        fail "valgrind finds a fault in panels"
     valgrind --quiet --error-exitcode=9 --leak-check=full --show-leak-kinds=all "$out/example" >/dev/null ||
         fail "valgrind finds a fault in the example"
 else

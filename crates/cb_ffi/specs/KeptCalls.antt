@@ -77,7 +77,7 @@ IsLevelsCall sources k code old new = IsKeptCall (searches_faults name_is.OrAnd 
 unfoldable pub IsDistancesCall : List ℕ → Kept → ℕ → Owned → Owned → Type 0
 IsDistancesCall sources k code old new = IsKeptCall (searches_faults name_is.MinPlus k sources) (IsKeptDistancesFrom (matrix_in k) sources) code old new
 
--- the same of searches from first numbers in a kept graph
+-- the same of searches from initial values in a kept graph
 unfoldable pub IsLevelsGivenCall : Kept → Kept → ℕ → Owned → Owned → Type 0
 IsLevelsGivenCall k given code old new = IsKeptCall (given_faults name_is.OrAnd k given) (IsKeptLevelsGiven (matrix_in k) (matrix_in given)) code old new
 

@@ -14,7 +14,7 @@
 //! on.
 //!
 //! `grid` is the side of a grid, 1 to 6. It is checked and has no other effect: each call works on whole blocks, on the
-//! caller's thread. A program that has threads parts the columns of a product ([`cbgrid_kernel_kept_ends`]), makes a panel
+//! caller's thread. A program with threads divides the columns of a product ([`cbgrid_kernel_kept_ends`]), makes a panel
 //! of it in each thread ([`cbgrid_kernel_kept_panel`]), and joins the panels in order ([`cbgrid_kernel_kept_join`]).
 #![tactic(auto)]
 
@@ -169,7 +169,7 @@ fn put_ends(ends: &mut [u32], answer: Result<Vec<u32>, Fault>) -> u32
     }
 }
 
-/// Parts the columns of a product into as many ranges as C has places, or returns the number of the fault.
+/// Divides the columns of a product into as many ranges as C has places for, or returns the number of the fault.
 fn ends_kept(alloc: Global, left: &Kept, right: &Kept, ends: &mut [u32]) -> u32
     ensures { IsEndsCall left.now right.now result ends.old ends.new }
 {
@@ -792,7 +792,7 @@ pub extern "C" fn cbgrid_kernel_kept_distances_from(
     put_kept(alloc, out, answer)
 }
 
-/// The levels from first numbers, which a kept column over min-plus has, in a graph that is kept over or-and. Transposes
+/// The levels from initial values, which a kept column over min-plus has, in a graph that is kept over or-and. Transposes
 /// the graph.
 #[unsafe(no_mangle)]
 pub extern "C" fn cbgrid_kernel_kept_levels_given(
@@ -807,7 +807,7 @@ pub extern "C" fn cbgrid_kernel_kept_levels_given(
     put_kept(alloc, out, answer)
 }
 
-/// The distances from first numbers, which a kept column over min-plus has, in a graph that is kept over min-plus.
+/// The distances from initial values, which a kept column over min-plus has, in a graph that is kept over min-plus.
 /// Transposes the graph.
 #[unsafe(no_mangle)]
 pub extern "C" fn cbgrid_kernel_kept_distances_given(

@@ -6,7 +6,7 @@ use Rattle.std.proofs.lemmas.List.Elements.{All-nil, All-cons, All-head, All-tai
 use Rattle.cb_semirings.specs.declared.names.SemiringName.{SemiringName}
 use Rattle.cb_semirings.specs.Names.{arithmetic_of}
 use Rattle.cb_operations.specs.declared.operations.Operation.{Operation}
-use Rattle.cb_operations.specs.declared.operations.Operation.TheVariants.{Multiply, MultiplyMasked, MultiplyVector, Transpose, RowSums, ColumnSums, Add, Times, Prune}
+use Rattle.cb_operations.specs.declared.operations.Operation.TheVariants.{Multiply}
 use Rattle.cb_operations.specs.OperationAnswers.{operand_count_of, Agree, answer_of, shapes_in}
 use Rattle.cb_interop.specs.declared.faults.Fault.TheVariants.{Test, Mixed, Shapes}
 use Rattle.cb_interop.specs.declared.kept.Kept.{Kept}
@@ -19,14 +19,7 @@ use Rattle.cb_interop.proofs.Firsts.{passed, no_more}
 -- each operation takes at least one matrix
 pub some_operand : (o : Operation) → 1 ≤ operand_count_of o
 some_operand Multiply = omega arith
-some_operand MultiplyMasked = omega arith
-some_operand MultiplyVector = omega arith
-some_operand Transpose = omega arith
-some_operand RowSums = omega arith
-some_operand ColumnSums = omega arith
-some_operand Add = omega arith
-some_operand Times = omega arith
-some_operand (Prune test) = omega arith
+some_operand _ = omega arith
 
 module _ (name : SemiringName) where
   abbrev IsOver : Bor Kept → Type 0

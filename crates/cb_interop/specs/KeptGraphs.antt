@@ -39,12 +39,12 @@ search_faults name k source = kept_graph_faults name k (source_faults source)
 abbrev pub searches_faults : SemiringName → Kept → List ℕ → Fault → Type 0
 searches_faults name k sources = kept_graph_faults name k (sources_faults sources)
 
--- the faults of a column of first numbers: it isn't over min-plus, or it isn't a column with a place for each vertex
+-- the faults of a column of initial values: it isn't over min-plus, or it isn't a column with a place for each vertex
 abbrev pub column_faults : Extent → Kept → Fault → Type 0
 column_faults graph given =
     Unless (semiring_of given ≡ name_is.MinPlus) Mixed (Unless ((matrix_in given).shape ≡ record { rows = graph.rows; cols = 1 }) Shapes IsMemory)
 
--- the faults of a call on a graph, from first numbers
+-- the faults of a call on a graph, from initial values
 abbrev pub given_faults : SemiringName → Kept → Kept → Fault → Type 0
 given_faults name k given = kept_graph_faults name k (λ m. column_faults m.shape given)
 
@@ -66,7 +66,7 @@ IsKeptLevelsFrom m sources = IsKeptColumn (AreLevelsFrom m sources)
 abbrev pub IsKeptDistancesFrom : Sparse → List ℕ → Kept → Type 0
 IsKeptDistancesFrom m sources = IsKeptColumn (AreDistancesFrom m sources)
 
--- the column of levels from first numbers, and of distances
+-- the column of levels from initial values, and of distances
 abbrev pub IsKeptLevelsGiven : Sparse → Sparse → Kept → Type 0
 IsKeptLevelsGiven m given = IsKeptColumn (AreLevelsGiven m given)
 

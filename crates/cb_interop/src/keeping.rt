@@ -2,6 +2,7 @@
 #![tactic(auto, unfolding(crate::specs::Kept::semiring_of, crate::specs::Kept::matrix_in))]
 
 ghost use Rattle.std.specs.Prelude.{◌≡◌, ◌≢◌, IfSome, IfNone};
+ghost use Rattle.cb_semirings.specs.declared.names.SemiringName.TheVariants as name_is;
 
 use crate::kept::Kept;
 use cb_dcsc::Block;
@@ -43,338 +44,236 @@ fn taken<S: Semiring>(alloc: Global, block: &mut Block<S>) -> Block<S>
     replace(block, nothing)
 }
 
-impl Keep for PlusTimes {
-    ghost use Rattle.cb_semirings.specs.declared.names.SemiringName.TheVariants.{PlusTimes};
+/// What is made of the block of a kept matrix, or none if the matrix is over another semiring than this one.
+macro_rules! if_over {
+    ($kept:expr, $semiring:ident, $block:ident => $made:expr) => {
+        match $kept {
+            Kept::$semiring($block) => Some($made),
+            _ => None,
+        }
+    };
+}
 
-    ghost name = { PlusTimes };
+impl Keep for PlusTimes {
+    ghost name = { name_is.PlusTimes };
 
     fn keep(alloc: Global, block: &mut Block<PlusTimes>) -> Kept {
         Kept::PlusTimes(taken(alloc, block))
     }
 
     fn block_of(kept: &Kept) -> Option<&Block<PlusTimes>> {
-        match kept {
-            Kept::PlusTimes(block) => Some(block),
-            _ => None,
-        }
+        if_over!(kept, PlusTimes, block => block)
     }
 
     fn take(alloc: Global, kept: &mut Kept) -> Option<Block<PlusTimes>> {
-        match kept {
-            Kept::PlusTimes(block) => Some(taken(alloc, block)),
-            _ => None,
-        }
+        if_over!(kept, PlusTimes, block => taken(alloc, block))
     }
 }
 
 impl Keep for MinPlus {
-    ghost use Rattle.cb_semirings.specs.declared.names.SemiringName.TheVariants.{MinPlus};
-
-    ghost name = { MinPlus };
+    ghost name = { name_is.MinPlus };
 
     fn keep(alloc: Global, block: &mut Block<MinPlus>) -> Kept {
         Kept::MinPlus(taken(alloc, block))
     }
 
     fn block_of(kept: &Kept) -> Option<&Block<MinPlus>> {
-        match kept {
-            Kept::MinPlus(block) => Some(block),
-            _ => None,
-        }
+        if_over!(kept, MinPlus, block => block)
     }
 
     fn take(alloc: Global, kept: &mut Kept) -> Option<Block<MinPlus>> {
-        match kept {
-            Kept::MinPlus(block) => Some(taken(alloc, block)),
-            _ => None,
-        }
+        if_over!(kept, MinPlus, block => taken(alloc, block))
     }
 }
 
 impl Keep for OrAnd {
-    ghost use Rattle.cb_semirings.specs.declared.names.SemiringName.TheVariants.{OrAnd};
-
-    ghost name = { OrAnd };
+    ghost name = { name_is.OrAnd };
 
     fn keep(alloc: Global, block: &mut Block<OrAnd>) -> Kept {
         Kept::OrAnd(taken(alloc, block))
     }
 
     fn block_of(kept: &Kept) -> Option<&Block<OrAnd>> {
-        match kept {
-            Kept::OrAnd(block) => Some(block),
-            _ => None,
-        }
+        if_over!(kept, OrAnd, block => block)
     }
 
     fn take(alloc: Global, kept: &mut Kept) -> Option<Block<OrAnd>> {
-        match kept {
-            Kept::OrAnd(block) => Some(taken(alloc, block)),
-            _ => None,
-        }
+        if_over!(kept, OrAnd, block => taken(alloc, block))
     }
 }
 
 impl Keep for MaxMin {
-    ghost use Rattle.cb_semirings.specs.declared.names.SemiringName.TheVariants.{MaxMin};
-
-    ghost name = { MaxMin };
+    ghost name = { name_is.MaxMin };
 
     fn keep(alloc: Global, block: &mut Block<MaxMin>) -> Kept {
         Kept::MaxMin(taken(alloc, block))
     }
 
     fn block_of(kept: &Kept) -> Option<&Block<MaxMin>> {
-        match kept {
-            Kept::MaxMin(block) => Some(block),
-            _ => None,
-        }
+        if_over!(kept, MaxMin, block => block)
     }
 
     fn take(alloc: Global, kept: &mut Kept) -> Option<Block<MaxMin>> {
-        match kept {
-            Kept::MaxMin(block) => Some(taken(alloc, block)),
-            _ => None,
-        }
+        if_over!(kept, MaxMin, block => taken(alloc, block))
     }
 }
 
 impl Keep for PlusPair {
-    ghost use Rattle.cb_semirings.specs.declared.names.SemiringName.TheVariants.{PlusPair};
-
-    ghost name = { PlusPair };
+    ghost name = { name_is.PlusPair };
 
     fn keep(alloc: Global, block: &mut Block<PlusPair>) -> Kept {
         Kept::PlusPair(taken(alloc, block))
     }
 
     fn block_of(kept: &Kept) -> Option<&Block<PlusPair>> {
-        match kept {
-            Kept::PlusPair(block) => Some(block),
-            _ => None,
-        }
+        if_over!(kept, PlusPair, block => block)
     }
 
     fn take(alloc: Global, kept: &mut Kept) -> Option<Block<PlusPair>> {
-        match kept {
-            Kept::PlusPair(block) => Some(taken(alloc, block)),
-            _ => None,
-        }
+        if_over!(kept, PlusPair, block => taken(alloc, block))
     }
 }
 
 impl Keep for PlusMin {
-    ghost use Rattle.cb_semirings.specs.declared.names.SemiringName.TheVariants.{PlusMin};
-
-    ghost name = { PlusMin };
+    ghost name = { name_is.PlusMin };
 
     fn keep(alloc: Global, block: &mut Block<PlusMin>) -> Kept {
         Kept::PlusMin(taken(alloc, block))
     }
 
     fn block_of(kept: &Kept) -> Option<&Block<PlusMin>> {
-        match kept {
-            Kept::PlusMin(block) => Some(block),
-            _ => None,
-        }
+        if_over!(kept, PlusMin, block => block)
     }
 
     fn take(alloc: Global, kept: &mut Kept) -> Option<Block<PlusMin>> {
-        match kept {
-            Kept::PlusMin(block) => Some(taken(alloc, block)),
-            _ => None,
-        }
+        if_over!(kept, PlusMin, block => taken(alloc, block))
     }
 }
 
 impl Keep for PlusFirst {
-    ghost use Rattle.cb_semirings.specs.declared.names.SemiringName.TheVariants.{PlusFirst};
-
-    ghost name = { PlusFirst };
+    ghost name = { name_is.PlusFirst };
 
     fn keep(alloc: Global, block: &mut Block<PlusFirst>) -> Kept {
         Kept::PlusFirst(taken(alloc, block))
     }
 
     fn block_of(kept: &Kept) -> Option<&Block<PlusFirst>> {
-        match kept {
-            Kept::PlusFirst(block) => Some(block),
-            _ => None,
-        }
+        if_over!(kept, PlusFirst, block => block)
     }
 
     fn take(alloc: Global, kept: &mut Kept) -> Option<Block<PlusFirst>> {
-        match kept {
-            Kept::PlusFirst(block) => Some(taken(alloc, block)),
-            _ => None,
-        }
+        if_over!(kept, PlusFirst, block => taken(alloc, block))
     }
 }
 
 impl Keep for PlusSecond {
-    ghost use Rattle.cb_semirings.specs.declared.names.SemiringName.TheVariants.{PlusSecond};
-
-    ghost name = { PlusSecond };
+    ghost name = { name_is.PlusSecond };
 
     fn keep(alloc: Global, block: &mut Block<PlusSecond>) -> Kept {
         Kept::PlusSecond(taken(alloc, block))
     }
 
     fn block_of(kept: &Kept) -> Option<&Block<PlusSecond>> {
-        match kept {
-            Kept::PlusSecond(block) => Some(block),
-            _ => None,
-        }
+        if_over!(kept, PlusSecond, block => block)
     }
 
     fn take(alloc: Global, kept: &mut Kept) -> Option<Block<PlusSecond>> {
-        match kept {
-            Kept::PlusSecond(block) => Some(taken(alloc, block)),
-            _ => None,
-        }
+        if_over!(kept, PlusSecond, block => taken(alloc, block))
     }
 }
 
 impl Keep for MinFirst {
-    ghost use Rattle.cb_semirings.specs.declared.names.SemiringName.TheVariants.{MinFirst};
-
-    ghost name = { MinFirst };
+    ghost name = { name_is.MinFirst };
 
     fn keep(alloc: Global, block: &mut Block<MinFirst>) -> Kept {
         Kept::MinFirst(taken(alloc, block))
     }
 
     fn block_of(kept: &Kept) -> Option<&Block<MinFirst>> {
-        match kept {
-            Kept::MinFirst(block) => Some(block),
-            _ => None,
-        }
+        if_over!(kept, MinFirst, block => block)
     }
 
     fn take(alloc: Global, kept: &mut Kept) -> Option<Block<MinFirst>> {
-        match kept {
-            Kept::MinFirst(block) => Some(taken(alloc, block)),
-            _ => None,
-        }
+        if_over!(kept, MinFirst, block => taken(alloc, block))
     }
 }
 
 impl Keep for MinSecond {
-    ghost use Rattle.cb_semirings.specs.declared.names.SemiringName.TheVariants.{MinSecond};
-
-    ghost name = { MinSecond };
+    ghost name = { name_is.MinSecond };
 
     fn keep(alloc: Global, block: &mut Block<MinSecond>) -> Kept {
         Kept::MinSecond(taken(alloc, block))
     }
 
     fn block_of(kept: &Kept) -> Option<&Block<MinSecond>> {
-        match kept {
-            Kept::MinSecond(block) => Some(block),
-            _ => None,
-        }
+        if_over!(kept, MinSecond, block => block)
     }
 
     fn take(alloc: Global, kept: &mut Kept) -> Option<Block<MinSecond>> {
-        match kept {
-            Kept::MinSecond(block) => Some(taken(alloc, block)),
-            _ => None,
-        }
+        if_over!(kept, MinSecond, block => taken(alloc, block))
     }
 }
 
 impl Keep for MaxFirst {
-    ghost use Rattle.cb_semirings.specs.declared.names.SemiringName.TheVariants.{MaxFirst};
-
-    ghost name = { MaxFirst };
+    ghost name = { name_is.MaxFirst };
 
     fn keep(alloc: Global, block: &mut Block<MaxFirst>) -> Kept {
         Kept::MaxFirst(taken(alloc, block))
     }
 
     fn block_of(kept: &Kept) -> Option<&Block<MaxFirst>> {
-        match kept {
-            Kept::MaxFirst(block) => Some(block),
-            _ => None,
-        }
+        if_over!(kept, MaxFirst, block => block)
     }
 
     fn take(alloc: Global, kept: &mut Kept) -> Option<Block<MaxFirst>> {
-        match kept {
-            Kept::MaxFirst(block) => Some(taken(alloc, block)),
-            _ => None,
-        }
+        if_over!(kept, MaxFirst, block => taken(alloc, block))
     }
 }
 
 impl Keep for MaxSecond {
-    ghost use Rattle.cb_semirings.specs.declared.names.SemiringName.TheVariants.{MaxSecond};
-
-    ghost name = { MaxSecond };
+    ghost name = { name_is.MaxSecond };
 
     fn keep(alloc: Global, block: &mut Block<MaxSecond>) -> Kept {
         Kept::MaxSecond(taken(alloc, block))
     }
 
     fn block_of(kept: &Kept) -> Option<&Block<MaxSecond>> {
-        match kept {
-            Kept::MaxSecond(block) => Some(block),
-            _ => None,
-        }
+        if_over!(kept, MaxSecond, block => block)
     }
 
     fn take(alloc: Global, kept: &mut Kept) -> Option<Block<MaxSecond>> {
-        match kept {
-            Kept::MaxSecond(block) => Some(taken(alloc, block)),
-            _ => None,
-        }
+        if_over!(kept, MaxSecond, block => taken(alloc, block))
     }
 }
 
 impl Keep for MaxPlus {
-    ghost use Rattle.cb_semirings.specs.declared.names.SemiringName.TheVariants.{MaxPlus};
-
-    ghost name = { MaxPlus };
+    ghost name = { name_is.MaxPlus };
 
     fn keep(alloc: Global, block: &mut Block<MaxPlus>) -> Kept {
         Kept::MaxPlus(taken(alloc, block))
     }
 
     fn block_of(kept: &Kept) -> Option<&Block<MaxPlus>> {
-        match kept {
-            Kept::MaxPlus(block) => Some(block),
-            _ => None,
-        }
+        if_over!(kept, MaxPlus, block => block)
     }
 
     fn take(alloc: Global, kept: &mut Kept) -> Option<Block<MaxPlus>> {
-        match kept {
-            Kept::MaxPlus(block) => Some(taken(alloc, block)),
-            _ => None,
-        }
+        if_over!(kept, MaxPlus, block => taken(alloc, block))
     }
 }
 
 impl Keep for MinMax {
-    ghost use Rattle.cb_semirings.specs.declared.names.SemiringName.TheVariants.{MinMax};
-
-    ghost name = { MinMax };
+    ghost name = { name_is.MinMax };
 
     fn keep(alloc: Global, block: &mut Block<MinMax>) -> Kept {
         Kept::MinMax(taken(alloc, block))
     }
 
     fn block_of(kept: &Kept) -> Option<&Block<MinMax>> {
-        match kept {
-            Kept::MinMax(block) => Some(block),
-            _ => None,
-        }
+        if_over!(kept, MinMax, block => block)
     }
 
     fn take(alloc: Global, kept: &mut Kept) -> Option<Block<MinMax>> {
-        match kept {
-            Kept::MinMax(block) => Some(taken(alloc, block)),
-            _ => None,
-        }
+        if_over!(kept, MinMax, block => taken(alloc, block))
     }
 }

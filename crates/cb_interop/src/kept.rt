@@ -32,6 +32,30 @@ pub enum Kept {
     MinMax(Block<MinMax>),
 }
 
+/// What is made of the block of a kept matrix, over any semiring.
+macro_rules! of_block {
+    ($kept:expr, $block:ident => $made:expr) => {
+        match $kept {
+            Kept::PlusTimes($block) => $made,
+            Kept::MinPlus($block) => $made,
+            Kept::OrAnd($block) => $made,
+            Kept::MaxMin($block) => $made,
+            Kept::PlusPair($block) => $made,
+            Kept::PlusMin($block) => $made,
+            Kept::PlusFirst($block) => $made,
+            Kept::PlusSecond($block) => $made,
+            Kept::MinFirst($block) => $made,
+            Kept::MinSecond($block) => $made,
+            Kept::MaxFirst($block) => $made,
+            Kept::MaxSecond($block) => $made,
+            Kept::MaxPlus($block) => $made,
+            Kept::MinMax($block) => $made,
+        }
+    };
+}
+
+pub(crate) use of_block;
+
 impl Kept {
     /// The semiring of the matrix.
     pub(crate) fn semiring(&self) -> SemiringName
@@ -81,44 +105,14 @@ impl Kept {
     pub(crate) fn shape(&self) -> Shape
         ensures { result ≡ (matrix_in self.now).shape }
     {
-        match self {
-            Kept::PlusTimes(block) => block.shape(),
-            Kept::MinPlus(block) => block.shape(),
-            Kept::OrAnd(block) => block.shape(),
-            Kept::MaxMin(block) => block.shape(),
-            Kept::PlusPair(block) => block.shape(),
-            Kept::PlusMin(block) => block.shape(),
-            Kept::PlusFirst(block) => block.shape(),
-            Kept::PlusSecond(block) => block.shape(),
-            Kept::MinFirst(block) => block.shape(),
-            Kept::MinSecond(block) => block.shape(),
-            Kept::MaxFirst(block) => block.shape(),
-            Kept::MaxSecond(block) => block.shape(),
-            Kept::MaxPlus(block) => block.shape(),
-            Kept::MinMax(block) => block.shape(),
-        }
+        of_block!(self, block => block.shape())
     }
 
     /// How many entries the matrix has.
     pub(crate) fn len(&self) -> usize
         ensures { result ≡ length (matrix_in self.now).entries }
     {
-        match self {
-            Kept::PlusTimes(block) => block.len(),
-            Kept::MinPlus(block) => block.len(),
-            Kept::OrAnd(block) => block.len(),
-            Kept::MaxMin(block) => block.len(),
-            Kept::PlusPair(block) => block.len(),
-            Kept::PlusMin(block) => block.len(),
-            Kept::PlusFirst(block) => block.len(),
-            Kept::PlusSecond(block) => block.len(),
-            Kept::MinFirst(block) => block.len(),
-            Kept::MinSecond(block) => block.len(),
-            Kept::MaxFirst(block) => block.len(),
-            Kept::MaxSecond(block) => block.len(),
-            Kept::MaxPlus(block) => block.len(),
-            Kept::MinMax(block) => block.len(),
-        }
+        of_block!(self, block => block.len())
     }
 
     /// Frees the lists of the matrix, and leaves one without rows, columns and entries.

@@ -1,4 +1,4 @@
-//! Levels and distances from first numbers in a kept graph: a kept column over min-plus has them.
+//! Levels and distances from initial values in a kept graph: a kept column over min-plus has them.
 ghost use Rattle.std.specs.Prelude.{◌≡◌, IfOk, IfErr};
 ghost use Rattle.cb_semirings.specs.declared.names.SemiringName.TheVariants as name_is;
 ghost use Rattle.cb_searches.specs.Walks.{column_shape};
@@ -33,7 +33,7 @@ fn column_in(graph: Shape, given: &Kept) -> Result<&Block<MinPlus>, Fault>
     Ok(column)
 }
 
-/// The blocks of a square graph over a semiring, and of the first numbers of its vertices; or else the first fault.
+/// The blocks of a square graph over a semiring, and of the initial values of its vertices; or else the first fault.
 fn blocks_in<'a, S: Keep>(
     graph: &'a Kept,
     given: &'a Kept,
@@ -50,7 +50,7 @@ fn blocks_in<'a, S: Keep>(
     Ok((block, column))
 }
 
-/// The column of levels from first numbers, kept.
+/// The column of levels from initial values, kept.
 fn level_column(
     alloc: Global,
     graph: &Block<OrAnd>,
@@ -65,7 +65,7 @@ fn level_column(
     keep_column(alloc, &column)
 }
 
-/// The column of distances from first numbers, kept.
+/// The column of distances from initial values, kept.
 fn distance_column(
     alloc: Global,
     graph: &Block<MinPlus>,
@@ -80,8 +80,8 @@ fn distance_column(
     keep_column(alloc, &column)
 }
 
-/// Returns the column of levels from first numbers, in a graph over or-and. The first numbers are a column over min-plus,
-/// and so is the result. The graph is transposed, and the first numbers are copied.
+/// Returns the column of levels from initial values, in a graph over or-and. The initial values are a column over
+/// min-plus, and so is the result. The graph is transposed, and the initial values are copied.
 pub fn kept_levels_given(alloc: Global, graph: &Kept, given: &Kept) -> Result<Kept, Fault>
     ensures { IsAnswer (given_faults name_is.OrAnd graph.now given.now) (IsKeptLevelsGiven (matrix_in graph.now) (matrix_in given.now)) result }
 {
@@ -89,8 +89,8 @@ pub fn kept_levels_given(alloc: Global, graph: &Kept, given: &Kept) -> Result<Ke
     Ok(level_column(alloc, block, column)?)
 }
 
-/// Returns the column of distances from first numbers, in a graph over min-plus. The first numbers are a column over
-/// min-plus, and so is the result. The graph is transposed, and the first numbers are copied.
+/// Returns the column of distances from initial values, in a graph over min-plus. The initial values are a column over
+/// min-plus, and so is the result. The graph is transposed, and the initial values are copied.
 pub fn kept_distances_given(alloc: Global, graph: &Kept, given: &Kept) -> Result<Kept, Fault>
     ensures { IsAnswer (given_faults name_is.MinPlus graph.now given.now) (IsKeptDistancesGiven (matrix_in graph.now) (matrix_in given.now)) result }
 {

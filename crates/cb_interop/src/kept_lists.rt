@@ -1,21 +1,19 @@
 //! Kept matrices from lists, and lists of a kept matrix.
-ghost use Rattle.std.specs.Prelude.{◌≡◌, IfOk};
-ghost use Rattle.cb_semirings.specs.Names.{arithmetic_of};
 ghost use Rattle.cb_interop.specs.Lists.{HasLists};
 ghost use Rattle.cb_interop.specs.Refusals.{IsMemory, text_faults};
 ghost use Rattle.cb_interop.specs.Answers.{IsAnswer};
-ghost use Rattle.cb_interop.specs.Kept.{semiring_of, matrix_in};
+ghost use Rattle.cb_interop.specs.Kept.{matrix_in};
 ghost use Rattle.cb_interop.specs.KeptAnswers.{IsKeptAnswerOver, IsKeptOf};
 
 use crate::faults::Fault;
 use crate::incoming::block_of;
 use crate::keeping::Keep;
-use crate::kept::Kept;
-use crate::kept_operations::block_in;
+use crate::kept::{Kept, of_block};
 use crate::lists::Columns;
 use crate::outgoing::block_lists;
-use cb_semirings::{SemiringName, over_semiring};
-use std::alloc::{AllocError, Global};
+use cb_dcsc::Block;
+use cb_semirings::{Semiring, SemiringName, over_semiring};
+use std::alloc::Global;
 
 /// The matrix of lists, kept over a semiring.
 fn keep_over<S: Keep>(alloc: Global, a: &Columns) -> Result<Kept, Fault>
@@ -26,43 +24,28 @@ fn keep_over<S: Keep>(alloc: Global, a: &Columns) -> Result<Kept, Fault>
     Ok(S::keep(alloc, &mut block))
 }
 
-/// The same, over the semiring of a name.
-fn keep_named(alloc: Global, semiring: SemiringName, a: &Columns) -> Result<Kept, Fault>
-    ensures { IsAnswer (text_faults (arithmetic_of semiring) a.now) (IsKeptOf (arithmetic_of semiring) semiring a.now) result }
-{
-    over_semiring!(semiring, keep_over::<_>(alloc, a))
-}
-
 /// Keeps the matrix of lists, over the semiring of a number. The entries are copied once.
 pub fn keep_lists(alloc: Global, semiring: u32, a: &Columns) -> Result<Kept, Fault>
     ensures { IsKeptAnswerOver semiring (λ s. text_faults s a.now) (λ s name. IsKeptOf s name a.now) result }
 {
     match SemiringName::numbered(semiring) {
-        Some(name) => keep_named(alloc, name, a),
+        Some(name) => over_semiring!(name, keep_over::<_>(alloc, a)),
         None => Err(Fault::Semiring),
     }
 }
 
-/// The lists of a kept matrix over a semiring.
-fn lists_over<S: Keep>(alloc: Global, kept: &Kept) -> Result<Columns, AllocError>
-    requires { semiring_of kept.now ≡ S.name }
-    ensures { IfOk result (HasLists (matrix_in kept.now)) }
+/// A copy of the lists of a block.
+fn copied_lists<S: Semiring>(alloc: Global, block: &Block<S>) -> Result<Columns, Fault>
+    ensures { IsAnswer IsMemory (HasLists block.now) result }
 {
-    let block = block_in::<S>(kept).try_clone()?;
-    block_lists(alloc, block)
-}
-
-/// The same, over the semiring of a name.
-fn lists_named(alloc: Global, semiring: SemiringName, kept: &Kept) -> Result<Columns, AllocError>
-    requires { semiring_of kept.now ≡ semiring }
-    ensures { IfOk result (HasLists (matrix_in kept.now)) }
-{
-    over_semiring!(semiring, lists_over::<_>(alloc, kept))
+    let copy = block.try_clone()?;
+    Ok(block_lists(alloc, copy)?)
 }
 
 /// Returns a copy of the lists of a kept matrix, which belongs to the caller.
+#[tactic(auto, unfolding(crate::specs::Kept::semiring_of, crate::specs::Kept::matrix_in))]
 pub fn lists_of(alloc: Global, kept: &Kept) -> Result<Columns, Fault>
     ensures { IsAnswer IsMemory (HasLists (matrix_in kept.now)) result }
 {
-    Ok(lists_named(alloc, kept.semiring(), kept)?)
+    of_block!(kept, block => copied_lists(alloc, block))
 }

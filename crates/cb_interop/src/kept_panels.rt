@@ -1,5 +1,5 @@
-//! Products of two kept matrices in panels, for threads of a program in another language: where the columns are parted, the
-//! panel of a range of columns, and panels that are joined.
+//! Products of two kept matrices in panels, for threads of a program in another language: where the columns are divided,
+//! the panel of a range of columns, and panels that are joined.
 ghost use Rattle.std.specs.Prelude.{◌≡◌, ◌↔◌, IsTrue, IfOk, IfErr};
 ghost use Rattle.cb_semirings.specs.Names.{arithmetic_of};
 ghost use Rattle.cb_dcsc.specs.Columns.{with_entries};
@@ -65,9 +65,9 @@ fn ends_named(
     over_semiring!(semiring, ends_over::<_>(alloc, left, right, count))
 }
 
-/// Returns where each of `count` ranges of a product's columns ends, parted so that each takes about as many products of two
-/// values, and none much fewer than [`LEAST_PRODUCTS`]: ranges that are left over have no columns. Costs an index of the
-/// left matrix's columns, and a pass over the right matrix's entries.
+/// Returns where each of `count` ranges of a product's columns ends. All ranges take about the same number of products of
+/// two values, and about [`LEAST_PRODUCTS`] or more: ranges that are left over have no columns. Costs an index of the left
+/// matrix's columns, and a pass over the right matrix's entries.
 pub fn kept_ends(alloc: Global, left: &Kept, right: &Kept, count: usize) -> Result<Vec<u32>, Fault>
     ensures { IsAnswer (factor_faults left.now right.now) (λ ends. AreEnds count (matrix_in right.now).shape.cols ends.items) result }
 {

@@ -10,16 +10,15 @@ ghost use Rattle.cb_interop.specs.KeptSelections.{kept_selection_faults, HasSele
 
 use crate::faults::Fault;
 use crate::keeping::Keep;
-use crate::kept::Kept;
-use crate::kept_operations::block_in;
+use crate::kept::{Kept, of_block};
 use crate::selections::Selection;
 use cb_dcsc::Block;
 use cb_matrix::{LIMIT, Shape};
 use cb_reductions::total;
 use cb_reshape::cut;
 use cb_selections::{Function, Region, apply, diagonal, diagonal_matrix, extract, power, select};
-use cb_semirings::{Semiring, SemiringName, over_semiring};
-use std::alloc::{AllocError, Global};
+use cb_semirings::Semiring;
+use std::alloc::Global;
 
 /// The entries of a block in a region.
 #[tactic(auto, unfolding(crate::specs::KeptSelections::made_by, crate::specs::KeptSelections::selection_faults))]
@@ -128,30 +127,17 @@ fn made<S: Semiring>(
     }
 }
 
-/// The kept result of a selection from a kept matrix over a semiring.
-fn made_over<S: Keep>(alloc: Global, selection: Selection, kept: &Kept) -> Result<Kept, Fault>
-    requires { semiring_of kept.now ≡ S.name }
-    ensures { IsMadeOver S.name selection S.arithmetic (matrix_in kept.now) result }
+/// The same, kept.
+fn made_kept<S: Keep>(alloc: Global, selection: Selection, block: &Block<S>) -> Result<Kept, Fault>
+    ensures { IsMadeOver S.name selection S.arithmetic block.now result }
 {
-    let mut block = made(alloc, selection, block_in::<S>(kept))?;
+    let mut block = made(alloc, selection, block)?;
     Ok(S::keep(alloc, &mut block))
-}
-
-/// The same, over the semiring of a name.
-fn made_named(
-    alloc: Global,
-    semiring: SemiringName,
-    selection: Selection,
-    kept: &Kept,
-) -> Result<Kept, Fault>
-    requires { semiring_of kept.now ≡ semiring }
-    ensures { IsMadeOver semiring selection (arithmetic_of semiring) (matrix_in kept.now) result }
-{
-    over_semiring!(semiring, made_over::<_>(alloc, selection, kept))
 }
 
 /// Computes an operation on one kept matrix, place by place, and keeps the result. `None` stands for an unknown region or
 /// function.
+#[tactic(auto, unfolding(crate::specs::Kept::semiring_of, crate::specs::Kept::matrix_in))]
 pub fn kept_selection(
     alloc: Global,
     selection: Option<Selection>,
@@ -160,7 +146,7 @@ pub fn kept_selection(
     ensures { IsAnswer (kept_selection_faults selection kept.now) (HasSelected selection kept.now) result }
 {
     match selection {
-        Some(known) => made_named(alloc, kept.semiring(), known, kept),
+        Some(known) => of_block!(kept, block => made_kept(alloc, known, block)),
         None => Err(Fault::Test),
     }
 }
@@ -198,70 +184,33 @@ fn check_numbers(shape: Shape, rows: &[u32], cols: &[u32]) -> Result<(), Fault>
     Ok(())
 }
 
-/// The rows and columns of a kept matrix over a semiring by their numbers, kept.
-fn extract_over<S: Keep>(
+/// The rows and columns of a block by their numbers, kept.
+fn extract_kept<S: Keep>(
     alloc: Global,
-    kept: &Kept,
+    block: &Block<S>,
     rows: &[u32],
     cols: &[u32],
-) -> Result<Kept, AllocError>
-    requires over { semiring_of kept.now ≡ S.name }
-    requires rows { All (λ i. i < (matrix_in kept.now).shape.rows) rows.now }
-    requires cols { All (λ j. j < (matrix_in kept.now).shape.cols) cols.now }
-    requires row_limit { length rows.now ≤ LIMIT }
-    requires column_limit { length cols.now ≤ LIMIT }
-    ensures { IfOk result (Keeps S.name (extracted S.arithmetic rows.now cols.now (matrix_in kept.now))) }
+) -> Result<Kept, Fault>
+    ensures { IsAnswer (number_faults rows.now cols.now block.now.shape) (Keeps S.name (extracted S.arithmetic rows.now cols.now block.now)) result }
 {
-    let mut block = extract(alloc, block_in::<S>(kept), rows, cols)?;
-    Ok(S::keep(alloc, &mut block))
-}
-
-/// The same, over the semiring of a name.
-fn extract_named(
-    alloc: Global,
-    semiring: SemiringName,
-    kept: &Kept,
-    rows: &[u32],
-    cols: &[u32],
-) -> Result<Kept, AllocError>
-    requires over { semiring_of kept.now ≡ semiring }
-    requires rows { All (λ i. i < (matrix_in kept.now).shape.rows) rows.now }
-    requires cols { All (λ j. j < (matrix_in kept.now).shape.cols) cols.now }
-    requires row_limit { length rows.now ≤ LIMIT }
-    requires column_limit { length cols.now ≤ LIMIT }
-    ensures { IfOk result (Keeps semiring (extracted (arithmetic_of semiring) rows.now cols.now (matrix_in kept.now))) }
-{
-    over_semiring!(semiring, extract_over::<_>(alloc, kept, rows, cols))
+    check_numbers(block.shape(), rows, cols)?;
+    let mut part = extract(alloc, block, rows, cols)?;
+    Ok(S::keep(alloc, &mut part))
 }
 
 /// Keeps the matrix of the rows and columns of a kept matrix by their numbers, in any order, with repetitions. Costs a
 /// binary search for each number, and two transposes of the result.
+#[tactic(auto, unfolding(crate::specs::Kept::semiring_of, crate::specs::Kept::matrix_in))]
 pub fn kept_extract(alloc: Global, kept: &Kept, rows: &[u32], cols: &[u32]) -> Result<Kept, Fault>
     ensures { IsAnswer (number_faults rows.now cols.now (matrix_in kept.now).shape) (IsKeptExtract rows.now cols.now kept.now) result }
 {
-    check_numbers(kept.shape(), rows, cols)?;
-    Ok(extract_named(alloc, kept.semiring(), kept, rows, cols)?)
-}
-
-/// The sum of all values of a kept matrix over a semiring.
-fn total_over<S: Keep>(kept: &Kept) -> u64
-    requires { semiring_of kept.now ≡ S.name }
-    ensures { result ≡ matrix_total S.arithmetic (matrix_in kept.now) }
-{
-    total(block_in::<S>(kept))
-}
-
-/// The same, over the semiring of a name.
-fn total_named(semiring: SemiringName, kept: &Kept) -> u64
-    requires { semiring_of kept.now ≡ semiring }
-    ensures { result ≡ matrix_total (arithmetic_of semiring) (matrix_in kept.now) }
-{
-    over_semiring!(semiring, total_over::<_>(kept))
+    of_block!(kept, block => extract_kept(alloc, block, rows, cols))
 }
 
 /// Returns the semiring's sum of all values of a kept matrix: its zero if there are no entries.
+#[tactic(auto, unfolding(crate::specs::Kept::semiring_of, crate::specs::Kept::matrix_in))]
 pub fn kept_total(kept: &Kept) -> u64
     ensures { result ≡ matrix_total (arithmetic_of (semiring_of kept.now)) (matrix_in kept.now) }
 {
-    total_named(kept.semiring(), kept)
+    of_block!(kept, block => total(block))
 }

@@ -1,5 +1,4 @@
 //! Matrix Market texts, to and from kept matrices.
-ghost use Rattle.std.specs.Prelude.{◌≡◌, IfOk};
 ghost use Rattle.cb_semirings.specs.Names.{arithmetic_of, numbered};
 ghost use Rattle.cb_market.specs.Faults.{first_fault};
 ghost use Rattle.cb_interop.specs.Refusals.{IsMemory, first_over, read_faults, text_faults};
@@ -10,35 +9,19 @@ ghost use Rattle.cb_interop.specs.KeptTexts.{IsKeptText, IsKeptRead};
 
 use crate::faults::Fault;
 use crate::keeping::Keep;
-use crate::kept::Kept;
+use crate::kept::{Kept, of_block};
 use crate::kept_lists::keep_lists;
-use crate::kept_operations::block_in;
 use crate::lists::Columns;
 use crate::texts::{Text, block_text, read_block};
 use cb_semirings::{SemiringName, over_semiring};
-use std::alloc::{AllocError, Global};
-
-/// The text of a kept matrix over a semiring.
-fn text_over<S: Keep>(alloc: Global, kept: &Kept) -> Result<Text, AllocError>
-    requires { semiring_of kept.now ≡ S.name }
-    ensures { IfOk result (IsKeptText S.arithmetic kept.now) }
-{
-    block_text(alloc, block_in::<S>(kept))
-}
-
-/// The same, over the semiring of a name.
-fn text_named(alloc: Global, semiring: SemiringName, kept: &Kept) -> Result<Text, AllocError>
-    requires { semiring_of kept.now ≡ semiring }
-    ensures { IfOk result (IsKeptText (arithmetic_of semiring) kept.now) }
-{
-    over_semiring!(semiring, text_over::<_>(alloc, kept))
-}
+use std::alloc::Global;
 
 /// Returns the Matrix Market text of a kept matrix. Its bytes belong to the caller.
+#[tactic(auto, unfolding(crate::specs::Kept::semiring_of, crate::specs::Kept::matrix_in))]
 pub fn text_of(alloc: Global, kept: &Kept) -> Result<Text, Fault>
     ensures { IsAnswer IsMemory (IsKeptText (arithmetic_of (semiring_of kept.now)) kept.now) result }
 {
-    Ok(text_named(alloc, kept.semiring(), kept)?)
+    of_block!(kept, block => block_text(alloc, block))
 }
 
 /// Returns the Matrix Market text of lists, over the semiring of a number. The entries are copied once.
@@ -60,19 +43,6 @@ fn read_over<S: Keep>(alloc: Global, text: &[u8], line: &mut u64) -> Result<Kept
     }
 }
 
-/// The same, over the semiring of a name.
-fn read_named(
-    alloc: Global,
-    semiring: SemiringName,
-    text: &[u8],
-    line: &mut u64,
-) -> Result<Kept, Fault>
-    ensures answer { IsAnswer (read_faults (arithmetic_of semiring) text.now) (IsKeptRead (arithmetic_of semiring) semiring text.now) result }
-    ensures line { IsFaultLine (first_fault (arithmetic_of semiring) text.now) result line.old line.new }
-{
-    over_semiring!(semiring, read_over::<_>(alloc, text, line))
-}
-
 /// Reads a Matrix Market text over the semiring of a number, and keeps its matrix. If the text has a fault, `line` gets its
 /// line, counted from 1.
 pub fn read_kept(alloc: Global, semiring: u32, text: &[u8], line: &mut u64) -> Result<Kept, Fault>
@@ -80,7 +50,7 @@ pub fn read_kept(alloc: Global, semiring: u32, text: &[u8], line: &mut u64) -> R
     ensures line { IsFaultLine (first_over (numbered semiring) text.now) result line.old line.new }
 {
     match SemiringName::numbered(semiring) {
-        Some(name) => read_named(alloc, name, text, line),
+        Some(name) => over_semiring!(name, read_over::<_>(alloc, text, line)),
         None => Err(Fault::Semiring),
     }
 }

@@ -5,10 +5,7 @@ ghost use Rattle.cb_matrix.specs.Sparse.{at};
 ghost use Rattle.cb_interop.specs.Kept.{semiring_of, matrix_in};
 ghost use Rattle.cb_interop.specs.KeptAnswers.{IsSummary};
 
-use crate::keeping::Keep;
-use crate::kept::Kept;
-use crate::kept_operations::block_in;
-use cb_semirings::{SemiringName, over_semiring};
+use crate::kept::{Kept, of_block};
 
 /// What a kept matrix is, without its entries.
 #[repr(C)]
@@ -37,26 +34,11 @@ pub fn summary_of(kept: &Kept) -> Summary
     }
 }
 
-/// The value at a place of a kept matrix over a semiring, by two binary searches.
-fn value_over<S: Keep>(kept: &Kept, row: u32, column: u32) -> u64
-    requires { semiring_of kept.now ≡ S.name }
-    ensures { result ≡ at S.arithmetic (matrix_in kept.now) row column }
-{
-    block_in::<S>(kept).get(row, column)
-}
-
-/// The same, over the semiring of a name.
-fn value_named(semiring: SemiringName, kept: &Kept, row: u32, column: u32) -> u64
-    requires { semiring_of kept.now ≡ semiring }
-    ensures { result ≡ at (arithmetic_of semiring) (matrix_in kept.now) row column }
-{
-    over_semiring!(semiring, value_over::<_>(kept, row, column))
-}
-
 /// Returns the value of a kept matrix at a place: the semiring's zero if the place has no entry or is outside the shape.
 /// Costs two binary searches.
+#[tactic(auto, unfolding(crate::specs::Kept::semiring_of, crate::specs::Kept::matrix_in))]
 pub fn value_at(kept: &Kept, row: u32, column: u32) -> u64
     ensures { result ≡ at (arithmetic_of (semiring_of kept.now)) (matrix_in kept.now) row column }
 {
-    value_named(kept.semiring(), kept, row, column)
+    of_block!(kept, block => block.get(row, column))
 }

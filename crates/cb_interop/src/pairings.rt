@@ -15,7 +15,7 @@ pub enum Pairing {
     Assign((u32, u32)),
     /// The entries of the first matrix at the places where the second has none: a complemented mask.
     Exclude,
-    /// The product, of which the first matrix, and the second, may be transposed before.
+    /// The product, where the first matrix, and the second, may be transposed first.
     Multiply(bool, bool),
 }
 
@@ -37,7 +37,7 @@ fn has_part(whole: Shape, corner: (u32, u32), part: Shape) -> bool
     down <= u64::from(whole.rows()) && right <= u64::from(whole.cols())
 }
 
-/// Whether the product of two shapes, each turned if it is asked for, has a shape.
+/// Whether two shapes, each turned if its flag is set, have a product.
 fn agree(left: Shape, turn_left: bool, right: Shape, turn_right: bool) -> bool
     ensures { IsTrue result ↔ ((turned_shape turn_left left).cols ≡ (turned_shape turn_right right).rows) }
 {

@@ -3,7 +3,6 @@
 ghost use Rattle.std.specs.Prelude.{◌≡◌, length, map, All, IfSome, IfOk};
 ghost use Rattle.cb_operations.specs.OperationAnswers.{operand_count_of, Agree, answer_of, shapes_in};
 ghost use Rattle.cb_interop.specs.Lists.{shape_of, matrices, AreLists};
-ghost use Rattle.cb_semirings.specs.Names.{arithmetic_of};
 ghost use Rattle.cb_interop.specs.Refusals.{faults_of};
 ghost use Rattle.cb_interop.specs.Answers.{prune_of, HasMade, IsAnswer, IsAnswerOver};
 
@@ -81,20 +80,6 @@ fn answer_over<S: Semiring>(
     Ok(block_lists(alloc, block)?)
 }
 
-/// The same, over the semiring of a name.
-fn answer_named(
-    alloc: Global,
-    semiring: SemiringName,
-    side: u32,
-    operation: Option<Operation>,
-    operands: &[Columns],
-) -> Result<Columns, Fault>
-    requires count { IfSome operation (λ o. length operands.now ≡ operand_count_of o) }
-    ensures { IsAnswer (faults_of (arithmetic_of semiring) side operation operands.now) (HasMade (arithmetic_of semiring) operation operands.now) result }
-{
-    over_semiring!(semiring, answer_over::<_>(alloc, side, operation, operands))
-}
-
 /// Computes an operation on lists over the semiring of a number, and returns the lists of the result. `None` stands for a
 /// prune by an unknown test. The side of the grid is checked and has no other effect.
 pub fn answer(
@@ -108,7 +93,7 @@ pub fn answer(
     ensures { IsAnswerOver semiring (λ s. faults_of s side operation operands.now) (λ s. HasMade s operation operands.now) result }
 {
     match SemiringName::numbered(semiring) {
-        Some(name) => answer_named(alloc, name, side, operation, operands),
+        Some(name) => over_semiring!(name, answer_over::<_>(alloc, side, operation, operands)),
         None => Err(Fault::Semiring),
     }
 }

@@ -1,10 +1,10 @@
 //! Reads and writes Matrix Market texts.
-ghost use Rattle.std.specs.Prelude.{◌≡◌, IfOk};
+ghost use Rattle.std.specs.Prelude.{◌≡◌};
 ghost use Rattle.cb_market.specs.Faults.{first_fault};
 ghost use Rattle.cb_market.specs.Reads.{Reads};
 ghost use Rattle.cb_market.specs.Text.{text_of};
-ghost use Rattle.cb_semirings.specs.Names.{arithmetic_of, numbered};
-ghost use Rattle.cb_interop.specs.Refusals.{first_over, read_faults};
+ghost use Rattle.cb_semirings.specs.Names.{numbered};
+ghost use Rattle.cb_interop.specs.Refusals.{IsMemory, first_over, read_faults};
 ghost use Rattle.cb_interop.specs.Answers.{IsAnswer, IsAnswerOver, IsRead, IsFaultLine};
 
 use crate::faults::Fault;
@@ -15,7 +15,7 @@ use cb_dcsc::Block;
 use cb_market::{Kind, read, text};
 use cb_matrix::Matrix;
 use cb_semirings::{Semiring, SemiringName, over_semiring};
-use std::alloc::{AllocError, Global};
+use std::alloc::Global;
 
 /// The bytes of a text.
 #[repr(C)]
@@ -25,8 +25,8 @@ pub struct Text {
 }
 
 /// The text of a block. Its bytes belong to the caller.
-pub(crate) fn block_text<S: Semiring>(alloc: Global, block: &Block<S>) -> Result<Text, AllocError>
-    ensures { IfOk result (λ t. t.bytes.now ≡ text_of S.arithmetic block.now) }
+pub(crate) fn block_text<S: Semiring>(alloc: Global, block: &Block<S>) -> Result<Text, Fault>
+    ensures { IsAnswer IsMemory (λ t. t.bytes.now ≡ text_of S.arithmetic block.now) result }
 {
     let matrix = Matrix::<S>::from_ordered(block.shape(), block.entries()?);
     let bytes = text(alloc, &matrix)?;
@@ -67,19 +67,6 @@ fn read_over<S: Semiring>(alloc: Global, text: &[u8], line: &mut u64) -> Result<
     }
 }
 
-/// The same, over the semiring of a name.
-fn read_named(
-    alloc: Global,
-    semiring: SemiringName,
-    text: &[u8],
-    line: &mut u64,
-) -> Result<Columns, Fault>
-    ensures answer { IsAnswer (read_faults (arithmetic_of semiring) text.now) (IsRead (arithmetic_of semiring) text.now) result }
-    ensures line { IsFaultLine (first_fault (arithmetic_of semiring) text.now) result line.old line.new }
-{
-    over_semiring!(semiring, read_over::<_>(alloc, text, line))
-}
-
 /// Reads a Matrix Market text over the semiring of a number, and returns the lists of its matrix. If the text has a fault,
 /// `line` gets its line, counted from 1.
 pub fn read_lists(
@@ -92,7 +79,7 @@ pub fn read_lists(
     ensures line { IsFaultLine (first_over (numbered semiring) text.now) result line.old line.new }
 {
     match SemiringName::numbered(semiring) {
-        Some(name) => read_named(alloc, name, text, line),
+        Some(name) => over_semiring!(name, read_over::<_>(alloc, text, line)),
         None => Err(Fault::Semiring),
     }
 }

@@ -1,6 +1,5 @@
 //! Kept matrices from triples in any order. Values at one place are added up.
 ghost use Rattle.std.specs.Prelude.{◌≡◌, ◌↔◌, IsTrue, map, IfOk, IfErr};
-ghost use Rattle.cb_semirings.specs.Names.{arithmetic_of};
 ghost use Rattle.cb_matrix.specs.Values.{collected};
 ghost use Rattle.cb_interop.specs.Answers.{NoFault};
 ghost use Rattle.cb_interop.specs.KeptAnswers.{IsKeptAnswerOver};
@@ -106,19 +105,6 @@ fn triples_over<S: Keep>(
     Ok(S::keep(alloc, &mut block))
 }
 
-/// The same, over the semiring of a name.
-fn triples_named(
-    alloc: Global,
-    semiring: SemiringName,
-    nrows: u32,
-    ncols: u32,
-    triples: &[Triple],
-) -> Result<Kept, Fault>
-    ensures { IsTriplesAnswer (arithmetic_of semiring) semiring nrows ncols triples.now result }
-{
-    over_semiring!(semiring, triples_over::<_>(alloc, nrows, ncols, triples))
-}
-
 /// Keeps the matrix of triples in any order, over the semiring of a number. Values at one place are added up. Costs a sort
 /// of the triples, or one walk if they ascend by column and then by row.
 pub fn keep_triples(
@@ -131,7 +117,7 @@ pub fn keep_triples(
     ensures { IsKeptAnswerOver semiring (λ s. triple_faults s nrows ncols triples.now) (λ s name. IsKeptTriples s name nrows ncols triples.now) result }
 {
     match SemiringName::numbered(semiring) {
-        Some(name) => triples_named(alloc, name, nrows, ncols, triples),
+        Some(name) => over_semiring!(name, triples_over::<_>(alloc, nrows, ncols, triples)),
         None => Err(Fault::Semiring),
     }
 }

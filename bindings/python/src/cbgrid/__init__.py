@@ -2,7 +2,7 @@
 
 All functions accept matrices of `scipy.sparse` with values of dtype int64 or uint64, in the formats csc, csr
 and coo. A result that is a matrix has the class, the format and the dtype of the first one. Its entries are
-sorted, without duplicates, and none is the semiring's zero. `bfs` and `relax` return arrays.
+sorted, without duplicates, and none is the semiring's zero. Functions of graphs return arrays, or a number.
 
 ===============  ================  ==============  =====================  ==============
 semiring         values            sum             product                zero
@@ -23,7 +23,7 @@ semiring         values            sum             product                zero
 ``min-max``      0 to 2**64 - 1    the least       the greatest           2**64 - 1
 ===============  ================  ==============  =====================  ==============
 
-In each of them a product with zero is zero. For the last ten the table gives the product of two values other
+In every semiring a product with zero is zero. For the last ten, the table gives the product of two values other
 than zero.
 
 A place that a matrix doesn't store has the semiring's zero. A stored value other than that zero is an entry,
@@ -31,7 +31,7 @@ for example 0 in ``min-plus``. Duplicate entries are added up as integers, as ev
 semiring.
 
 **int64.** Arithmetic in ``plus-times``, ``plus-pair``, ``plus-first`` and ``plus-second`` is modulo 2**64, so
-int64 results wrap as numpy's do, and their signs are right. The other semirings compare values as unsigned
+int64 results wrap as numpy's do, and have the right signs. The other semirings compare values as unsigned
 numbers and refuse negative ones. ``min-plus`` and ``max-plus`` raise OverflowError if an int64 result is above
 2**63 - 1.
 
@@ -44,8 +44,10 @@ coo matrix is sorted in a copy, and costs what its entries cost, whatever its sh
 as long as one of their sides.
 
 **Matrix.** A `Matrix` is kept by the library, over one semiring. It is built once from a matrix of scipy or
-numpy, never changes, and is used without a copy. All functions also accept a `Matrix` as their first matrix.
-They then work over its semiring and return a `Matrix`; the other operands may be matrices of scipy.
+numpy, and never changes. Operations on it, except for searches, copy no operand. All functions except `read`
+also accept a `Matrix` as their first matrix. They then work over its semiring, the other operands may be
+matrices of scipy, and a result that is a matrix is a `Matrix`. Functions of graphs need a `Matrix` over
+``or-and``; `relax` and `relax_given` need one over ``min-plus``.
 
 **grid.** The side of a grid, 1 to 6. It is checked and has no other effect: each call works on whole matrices,
 on the caller's thread.
@@ -238,11 +240,10 @@ def multiply(
     grid : int
         The side of a grid, 1 to 6. It is checked and has no other effect.
     complement : bool
-        Whether to keep only the entries at places where the mask has none. Only if `a` is a `Matrix`. The whole
-        product is computed first.
+        Whether to keep only the entries at places where the mask has none. Only if `a` is a `Matrix`.
     threads : int
-        How many threads may compute the whole product, 1 or more. More than 1 only if `a` is a `Matrix`. The result
-        is the same.
+        How many threads may compute a product without a mask, 1 or more; at most 256 are used. More than 1 only if `a`
+        is a `Matrix`. The result is the same.
 
     Returns
     -------
@@ -574,22 +575,22 @@ def relax(graph: Any, source: Any, grid: int = 1) -> Any:
 
 
 def bfs_given(graph: Any, vertices: Any, numbers: Any) -> tuple[np.ndarray, np.ndarray]:
-    """Levels of the vertices of a graph, from first numbers that some of them have.
+    """Levels of the vertices of a graph, from initial values that some of them have.
 
     Parameters
     ----------
     graph : csc, csr or coo matrix or array of scipy.sparse, of int64 or uint64, or a `Matrix` over or-and
         Square. Its edges are those of `bfs`.
     vertices, numbers : lists or numpy arrays of one length
-        Some vertices, in any order, and the first number of each, 0 to 2**64 - 1. For a vertex that is named more than
-        once its least number counts. 2**64 - 1 is as good as none.
+        Some vertices, in any order, and the initial value of each, 0 to 2**64 - 1. For a vertex that is named more than
+        once, its least value counts. A value of 2**64 - 1 is ignored.
 
     Returns
     -------
     vertices : numpy array of int32
         The vertices that walks from these reach, in ascending order.
     levels : numpy array of uint64
-        For each of them the least sum of a vertex's first number and the number of edges of a walk from there. A vertex
+        For each of them the least sum of an initial value and the number of edges of a walk from its vertex. A vertex
         whose least sum is 2**64 - 1 or more counts as not reached.
 
     Examples
@@ -604,7 +605,7 @@ def bfs_given(graph: Any, vertices: Any, numbers: Any) -> tuple[np.ndarray, np.n
 
 
 def relax_given(graph: Any, vertices: Any, numbers: Any) -> tuple[np.ndarray, np.ndarray]:
-    """Distances of the vertices of a graph, from first numbers that some of them have.
+    """Distances of the vertices of a graph, from initial values that some of them have.
 
     Parameters
     ----------
@@ -618,7 +619,7 @@ def relax_given(graph: Any, vertices: Any, numbers: Any) -> tuple[np.ndarray, np
     vertices : numpy array of int32
         The vertices that walks from these reach, in ascending order.
     distances : numpy array of uint64
-        For each of them the least sum of a vertex's first number and the length of a walk from there. A vertex whose
+        For each of them the least sum of an initial value and the length of a walk from its vertex. A vertex whose
         least sum is 2**64 - 1 or more counts as not reached.
 
     Examples

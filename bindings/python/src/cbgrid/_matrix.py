@@ -82,7 +82,7 @@ def _numbers32(numbers: Any, limit: int, name: str) -> np.ndarray:
 class Matrix:
     """A matrix over a semiring, kept by the library. It is built once, never changes, and is freed with the object.
 
-    Calls on it copy and convert nothing, and their result is another Matrix.
+    Operations on it convert nothing, and their result is another Matrix.
 
     Parameters
     ----------
@@ -455,15 +455,15 @@ class Matrix:
         complement : bool
             Whether the mask allows the places where it has no entry; without a mask, none.
         accumulate : bool
-            Whether a new value is added to that of this matrix by the semiring's sum. Entries of this matrix at allowed
-            places then stay where the new one has none.
+            Whether a new value is added to that of this matrix by the semiring's sum. Then entries of this matrix at
+            allowed places stay where the new one has none.
         replace : bool
             Whether the entries of this matrix at places that aren't allowed are dropped.
 
         Raises
         ------
         CbgridValueError
-            Of two shapes, code 10; of matrices over two semirings, code 16.
+            Code 10 if the shapes differ, code 16 if the semirings differ.
         """
         written = self._wanted(new, "new")
         kept = None if mask is None else self._wanted(mask, "mask")
@@ -476,7 +476,7 @@ class Matrix:
         Raises
         ------
         CbgridValueError
-            No factors or more than 2**32 - 1, code 3; a matrix that isn't square, code 11.
+            Code 3 if there are no factors, or more than 2**32 - 1; code 11 if the matrix isn't square.
         """
         factors = operator.index(factors)
         if not 0 < factors < 2**32:
@@ -492,8 +492,8 @@ class Matrix:
         Parameters
         ----------
         axis : {1, 0}
-            1 counts those of each row, the edges that leave a vertex; 0 those of each column, which lead to it. Any other
-            axis raises ValueError.
+            1 counts the entries of each row: the edges that leave a vertex. 0 counts those of each column: the edges
+            that lead to it. Any other axis raises ValueError.
         """
         if axis not in (0, 1):
             raise ValueError(f"axis: 0 or 1 is wanted, not {axis!r}")
@@ -557,11 +557,11 @@ class Matrix:
     ) -> Matrix:
         """The product, at the places where the mask has an entry if there is one.
 
-        With `complement`, the product at the places where the mask has no entry; no others are stored on the way. With
-        `transpose_left` or `transpose_right` this matrix or the other one is transposed before.
+        With `complement`, the product at the places where the mask has no entry. With `transpose_left` or
+        `transpose_right` this matrix or the other one is transposed first.
 
-        Without a mask and transposes, the product is computed by up to `threads` threads, 1 or more, and at most 256; the
-        result is the same. Other products are computed by one.
+        A product without a mask and transposes is computed by up to `threads` threads, 1 or more, of which at most 256
+        are used; the result is the same. One thread computes other products.
         """
         threads = operator.index(threads)
         if threads < 1:
@@ -604,7 +604,7 @@ class Matrix:
         return self._made(call, sources.ctypes.data, len(sources), number=1).T
 
     def walk_given(self, is_levels: bool, vertices: Any, numbers: Any) -> tuple[np.ndarray, np.ndarray]:
-        """The vertices that are reached from first numbers, and their levels or distances from these."""
+        """The vertices that are reached from initial values, and their levels or distances from these."""
         call = library.cbgrid_matrix_levels_given if is_levels else library.cbgrid_matrix_distances_given
         column = np.zeros(len(vertices), np.uint32)
         given = Matrix.from_triples(vertices, column, numbers, (self.shape[0], 1), "min-plus")

@@ -1,0 +1,18 @@
+/*
+ * Tests of cbgrid for C: results against dense matrices, in every semiring, form and grid; each code; null pointers;
+ * refused memory and threads; and nothing lost. With --few it makes few rounds, for valgrind.
+ */
+#include "check.h"
+
+int main(int argc, char **argv) {
+    int is_few = argc > 1 && !strcmp(argv[1], "--few");
+    test_codes();
+    test_kept_codes();
+    test_limits();
+    test_operations(is_few);
+    test_graphs(is_few);
+    test_selections(is_few);
+    test_updates(is_few);
+    test_threads(is_few);
+    return report();
+}
