@@ -38,15 +38,11 @@ same_result ops (op_is.Zero into shape) f g h = refl
 same_result ops (op_is.MulAdd a b acc) f g h = rw (h.0, h.1.0, h.1.1.0) refl
 same_result ops (op_is.Add a b into) f g h = rw (h.0, h.1.0) refl
 same_result ops (op_is.Times a b into) f g h = rw (h.0, h.1.0) refl
-same_result ops (op_is.Transpose a into) f g h = rw h.0 refl
-same_result ops (op_is.ColumnSums a into) f g h = rw h.0 refl
-same_result ops (op_is.Cut a rows cols into) f g h = rw h.0 refl
-same_result ops (op_is.Place a shape at into) f g h = rw h.0 refl
 same_result ops (op_is.MulVec a x into) f g h = rw (h.0, h.1.0) refl
-same_result ops (op_is.Prune a test into) f g h = rw h.0 refl
 same_result ops (op_is.Copy a into) f g h = h.0
 same_result ops (op_is.Clear slot) f g h = refl
 same_result ops (op_is.Mask a m into) f g h = rw (h.0, h.1.0) refl
+same_result ops _ f g h = rw h.0 refl
 
 some_one : {M : Type 0} (f : M → M) (x : Option M) → IsSome x → IsSome (one f x)
 some_one f (Some m) h = refl
@@ -79,18 +75,8 @@ some_result ops (op_is.Mask a m into) f n h = some_two ops.mask (f a) (f m) h.0 
 -- only an operation that needs memory reads a lost slot
 pub lost_needs : (op : Op) (slots : List (Slot Sparse)) (o : ℕ) → first_lost slots (reads_of op) ≡ Some o → needs_memory op ≡ true
 lost_needs (op_is.Zero into shape) slots o e = cc
-lost_needs (op_is.MulAdd a b acc) slots o e = refl
-lost_needs (op_is.Add a b into) slots o e = refl
-lost_needs (op_is.Times a b into) slots o e = refl
-lost_needs (op_is.Transpose a into) slots o e = refl
-lost_needs (op_is.ColumnSums a into) slots o e = refl
-lost_needs (op_is.Cut a rows cols into) slots o e = refl
-lost_needs (op_is.Place a shape at into) slots o e = refl
-lost_needs (op_is.MulVec a x into) slots o e = refl
-lost_needs (op_is.Prune a test into) slots o e = refl
-lost_needs (op_is.Copy a into) slots o e = refl
 lost_needs (op_is.Clear slot) slots o e = cc
-lost_needs (op_is.Mask a m into) slots o e = refl
+lost_needs _ slots o e = refl
 
 -- if two states have the same shapes at the operands, an operation may be done on both or on neither
 pub may_work : (op : Op) (f g : ℕ → Option Extent) → AreSame f g (operands_of op) → (all_filled g (operands_of op) ≡ true) × (shapes_agree g op ≡ true) → (all_filled f (operands_of op) ≡ true) × (shapes_agree f op ≡ true)
@@ -98,12 +84,6 @@ may_work (op_is.Zero into shape) f g h k = k
 may_work (op_is.MulAdd a b acc) f g h k = rw (h.0, h.1.0, h.1.1.0) k
 may_work (op_is.Add a b into) f g h k = rw (h.0, h.1.0) k
 may_work (op_is.Times a b into) f g h k = rw (h.0, h.1.0) k
-may_work (op_is.Transpose a into) f g h k = rw h.0 k
-may_work (op_is.ColumnSums a into) f g h k = rw h.0 k
-may_work (op_is.Cut a rows cols into) f g h k = rw h.0 k
-may_work (op_is.Place a shape at into) f g h k = rw h.0 k
 may_work (op_is.MulVec a x into) f g h k = rw (h.0, h.1.0) k
-may_work (op_is.Prune a test into) f g h k = rw h.0 k
-may_work (op_is.Copy a into) f g h k = rw h.0 k
-may_work (op_is.Clear slot) f g h k = rw h.0 k
 may_work (op_is.Mask a m into) f g h k = rw (h.0, h.1.0) k
+may_work _ f g h k = rw h.0 k

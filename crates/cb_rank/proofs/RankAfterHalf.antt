@@ -209,12 +209,8 @@ fits_at ranks starts stores r fits inside = record {
 -- what has arrived and is awaited
 pub accepts_on : (x : RankView) (h : Half) (arrival : Arrival Sparse) → IsRank x → next_half x ≡ Some h → IsAwaited (Some h) x.me arrival → IsRank (onward x (slots_with (Some h) arrival x.slots) x.refusals)
 accepts_on x (half_is.Take from tag into shape) (arrival_is.Letter y) is next e = takes_on x from tag into shape y.body is next e.3
-accepts_on x (half_is.Take from tag into shape) (arrival_is.End k) is next e = absurd e
 accepts_on x (half_is.End from) (arrival_is.End k) is next e = ends_on x from is next
-accepts_on x (half_is.End from) (arrival_is.Letter y) is next e = absurd e
-accepts_on x (half_is.Post to tag slot) arrival is next e = absurd e
-accepts_on x (half_is.Work op) arrival is next e = absurd e
-accepts_on x (half_is.Shut to) arrival is next e = absurd e
+accepts_on x _ arrival is next e = absurd e
 
 -- a slot that is filled for the check is filled
 pub filled_slot : (v : Option Extent) (y : Slot Sparse) → IsSome v → HasShape v y → is_filled y ≡ true
@@ -244,19 +240,15 @@ few_halves x is =
 pub copy_counts : (me : ℕ) (y : Slot Sparse) (b : Body Sparse) (n k : ℕ) → IsCopy me y b 0 k → IsCopy me y b n (n + k)
 copy_counts me (slot_is.Sheet m) (body_is.Sheet p) n k c = let e = c.1 in (c.0, omega arith)
 copy_counts me (slot_is.Sheet m) (body_is.Lost o) n k c = let e = c.1 in (c.0, omega arith)
-copy_counts me (slot_is.Sheet m) body_is.Close n k c = absurd c
 copy_counts me (slot_is.Lost o) (body_is.Lost p) n k c = let e = c.1 in (c.0, omega arith)
-copy_counts me (slot_is.Lost o) (body_is.Sheet p) n k c = absurd c
-copy_counts me (slot_is.Lost o) body_is.Close n k c = absurd c
-copy_counts me slot_is.Empty b n k c = absurd c
+copy_counts me _ b n k c = absurd c
 
 -- a close mark is no copy
 pub copy_is_open : (me : ℕ) (y : Slot Sparse) (b : Body Sparse) (old new : ℕ) → IsCopy me y b old new → is_close b ≡ false
 copy_is_open me y (body_is.Sheet p) old new c = refl
 copy_is_open me y (body_is.Lost o) old new c = refl
 copy_is_open me slot_is.Empty body_is.Close old new c = absurd c
-copy_is_open me (slot_is.Sheet m) body_is.Close old new c = absurd c
-copy_is_open me (slot_is.Lost o) body_is.Close old new c = absurd c
+copy_is_open me _ b old new c = absurd c
 
 -- a truth value as a number is at most one
 pub bool_few : (b : Bool) → from_bool b ≤ 1
@@ -294,7 +286,4 @@ works_of s x op new b is next done lost cause =
 -- the slot that a Take fills exists
 pub slot_exists : (x : RankView) (h : Half) → IsRank x → next_half x ≡ Some h → HasSlot h
 slot_exists x (half_is.Take from tag into shape) is next = (finds x (half_is.Take from tag into shape) is next).2
-slot_exists x (half_is.Post to tag slot) is next = tt
-slot_exists x (half_is.Work op) is next = tt
-slot_exists x (half_is.Shut to) is next = tt
-slot_exists x (half_is.End from) is next = tt
+slot_exists x _ is next = tt

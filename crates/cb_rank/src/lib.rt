@@ -1,4 +1,4 @@
-//! One rank of a plan, run apart from the others: it does the halves of its own program, in order.
+//! One rank of a plan, run independently of the others: it does the halves of its own program, in order.
 //!
 //! A rank knows its program, how many halves of it are done, and its slots; it knows nothing of the other ranks.
 //! [`Rank::want`] names its next half. A Post hands out a copy of a slot ([`Rank::outgoing`]), a Take or an End accepts

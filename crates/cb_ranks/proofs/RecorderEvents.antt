@@ -191,11 +191,8 @@ module _ {T : Type 0} (tells : T → TraceEvent → T → Type 0) where
 
   told_count : (ms : List Member) (olds news : List T) → HaveTold tells ms olds news → length news ≡ length ms
   told_count [] [] [] h = refl
-  told_count [] [] (n ∷ news) h = absurd h
-  told_count [] (o ∷ olds) news h = absurd h
-  told_count (m ∷ ms) [] news h = absurd h
-  told_count (m ∷ ms) (o ∷ olds) [] h = absurd h
   told_count (m ∷ ms) (o ∷ olds) (n ∷ news) h = ap suc (told_count ms olds news h.1)
+  told_count _ _ _ h = absurd h
 
   -- the k-th recorder, before and after
   record ToldAt (ms : List Member) (olds news : List T) (k : ℕ) : Type 0 where
@@ -209,14 +206,11 @@ module _ {T : Type 0} (tells : T → TraceEvent → T → Type 0) where
 
   told_at : (ms : List Member) (olds news : List T) (k : ℕ) → HaveTold tells ms olds news → k < length ms → ToldAt ms olds news k
   told_at [] [] [] k h l = absurd (omega arith)
-  told_at [] [] (n ∷ news) k h l = absurd h
-  told_at [] (o ∷ olds) news k h l = absurd h
-  told_at (m ∷ ms) [] news k h l = absurd h
-  told_at (m ∷ ms) (o ∷ olds) [] k h l = absurd h
   told_at (m ∷ ms) (o ∷ olds) (n ∷ news) zero h l = record { member = m; old = o; new = n; member_is = refl; old_is = refl; new_is = refl; told = h.0 }
   told_at (m ∷ ms) (o ∷ olds) (n ∷ news) (suc k) h l =
       let it = told_at ms olds news k h.1 (omega arith) in
       record { member = it.member; old = it.old; new = it.new; member_is = it.member_is; old_is = it.old_is; new_is = it.new_is; told = it.told }
+  told_at _ _ _ k h l = absurd h
 
   -- the recorders of a plan's crew were told of its programs
   pub tells_plan : (p : CheckedView) (first : List (List (Slot Sparse))) (crew : List Member) (olds news : List T) → IsCrew p first crew → HaveTold tells crew olds news → HaveToldPlan tells p olds news

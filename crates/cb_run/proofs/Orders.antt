@@ -1,5 +1,5 @@
 -- What ranks make that are stepped in an order, as an operation's.
-use Rattle.std.proofs.Common.{◌≡◌, ◌≢◌, ℕ, List, [], ◌∷◌, refl, sym, subst, inr}
+use Rattle.std.proofs.Common.{◌≡◌, ◌≢◌, ℕ, List, [], ◌∷◌, sym, subst, inr}
 use Rattle.cb_semirings.specs.Arithmetic.{Arithmetic}
 use Rattle.cb_matrix.specs.Sparse.{Sparse, Extent}
 use Rattle.cb_layout.specs.Distributed.{Distributed}
@@ -7,31 +7,20 @@ use Rattle.cb_plan.specs.declared.plans.Planned.{Planned}
 use Rattle.cb_plan.specs.Plans.{CheckedView}
 use Rattle.cb_world.specs.declared.events.Event.{Event}
 use Rattle.cb_operations.specs.declared.operations.Operation.{Operation}
-use Rattle.cb_operations.specs.declared.operations.Operation.TheVariants.{Multiply, MultiplyMasked, MultiplyVector, Transpose, RowSums, ColumnSums, Add, Times, Prune}
+use Rattle.cb_operations.specs.declared.operations.Operation.TheVariants.{MultiplyVector}
 use Rattle.cb_operations.specs.OperationAnswers.{matrix_at, shape_of, shapes_in}
 use Rattle.cb_planner.specs.OperationPlans.{Computes, placed_operands}
 use Rattle.cb_engines.specs.declared.engines.Engine.{Engine}
 use Rattle.cb_engines.specs.declared.engines.Engine.TheVariants.{Threads, Traced, InOrder}
 use Rattle.cb_engines.specs.declared.engine_faults.EngineFault.{EngineFault}
-use Rattle.cb_engines.specs.declared.engine_faults.EngineFault.TheVariants.{Memory, NotStarted, Gone, TraceTorn, Lost}
+use Rattle.cb_engines.specs.declared.engine_faults.EngineFault.TheVariants.{Lost}
 use Rattle.cb_engines.specs.Orders.{IsSteppedLoss, IsSteppedRun, IsOrderedLoss, IsOrderedRun}
 use Rattle.cb_engines.proofs.SteppedRuns.{of_its_order}
 use Rattle.cb_vectors.specs.SpreadVectors.{MultipliesVectors}
 use Rattle.cb_run.specs.VectorOrders.{IsSteppedProduct, IsSteppedProductLoss, IsOrderedProduct}
 use Rattle.cb_run.specs.declared.operation_faults.OperationFault.TheVariants.{Failed}
-use Rattle.cb_run.specs.Outcomes.{ByPlan, IsSteppedFor, IsOrderedFor, IsSteppedLossFor, IsLossFor}
-
--- what holds of a plan that computes any operation but a product by a vector
-by_plan : (operation : Operation) → operation ≢ MultiplyVector → (q : ℕ) (shapes : List Extent) (of_vectors : CheckedView → Type 0) (of_others : Planned → Type 0) (planned : Planned) → Computes operation q shapes planned → of_others planned → ByPlan operation q shapes of_vectors of_others
-by_plan Multiply other q shapes of_vectors of_others planned computes holds = (planned, computes, holds)
-by_plan MultiplyMasked other q shapes of_vectors of_others planned computes holds = (planned, computes, holds)
-by_plan MultiplyVector other q shapes of_vectors of_others planned computes holds = absurd (other refl)
-by_plan Transpose other q shapes of_vectors of_others planned computes holds = (planned, computes, holds)
-by_plan RowSums other q shapes of_vectors of_others planned computes holds = (planned, computes, holds)
-by_plan ColumnSums other q shapes of_vectors of_others planned computes holds = (planned, computes, holds)
-by_plan Add other q shapes of_vectors of_others planned computes holds = (planned, computes, holds)
-by_plan Times other q shapes of_vectors of_others planned computes holds = (planned, computes, holds)
-by_plan (Prune test) other q shapes of_vectors of_others planned computes holds = (planned, computes, holds)
+use Rattle.cb_run.specs.Outcomes.{IsSteppedFor, IsOrderedFor, IsSteppedLossFor, IsLossFor}
+use Rattle.cb_run.proofs.Operations.{by_plan}
 
 module _ (s : Arithmetic) (q : ℕ) (ms : List Sparse) where
   -- a run on these operands in these slots, with an answer of this shape, is one of the operation
@@ -66,13 +55,10 @@ module _ (s : Arithmetic) (q : ℕ) (ms : List Sparse) where
   -- a loss by an operation's plan is one of the operation
   pub lost_for : (operation : Operation) → operation ≢ MultiplyVector → (engine : Engine) (planned : Planned) → Computes operation q (shapes_in ms) planned →
       (there : List (ℕ × Sparse)) → there ≡ placed_operands ms → (e : EngineFault) → IsOrderedLoss s engine q planned there e → IsLossFor s engine operation q ms (Failed e)
-  lost_for operation other engine planned computes there placed Memory loss = tt
-  lost_for operation other engine planned computes there placed (NotStarted r) loss = tt
-  lost_for operation other engine planned computes there placed (Gone r) loss = tt
-  lost_for operation other engine planned computes there placed TraceTorn loss = tt
   lost_for operation other engine planned computes there placed (Lost r count) loss =
       of_its_order engine (λ letters order. IsSteppedLoss s q planned there letters order r count) (λ letters order. IsSteppedLossFor s operation q ms letters order r count)
       (λ letters order is. lost_there operation other planned computes there placed letters order r count is) loss
+  lost_for operation other engine planned computes there placed _ loss = tt
 
 -- a run of a plan for products by vectors is one of a product by a vector
 pub ordered_vector : (s : Arithmetic) (engine : Engine) (q : ℕ) (a x : Sparse) (plan : CheckedView) → MultipliesVectors q a.shape plan → (answer : Distributed) (y : Sparse) → answer.matrix ≡ y → (refusals : List ℕ) →

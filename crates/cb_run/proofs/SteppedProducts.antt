@@ -10,7 +10,7 @@ use Rattle.cb_grid_plans.specs.VectorPlans.{column}
 use Rattle.cb_rank.specs.Leavings.{HoldsMeaning}
 use Rattle.cb_engines.specs.declared.engines.Engine.{Engine}
 use Rattle.cb_engines.specs.declared.engine_faults.EngineFault.{EngineFault}
-use Rattle.cb_engines.specs.declared.engine_faults.EngineFault.TheVariants.{Memory, NotStarted, Gone, TraceTorn, Lost}
+use Rattle.cb_engines.specs.declared.engine_faults.EngineFault.TheVariants.{Memory, Lost}
 use Rattle.cb_engines.specs.Orders.{IsLeftInOrder, IsOrdered}
 use Rattle.cb_engines.proofs.Lost.{left_means}
 use Rattle.cb_engines.proofs.SteppedRuns.{of_its_order}
@@ -34,9 +34,7 @@ module _ (s : Arithmetic) (q : ℕ) (plan : CheckedView) (a x : Sparse) (first :
   -- a loss in such a run is one in a product
   pub ordered_product_loss : (engine : Engine) → IsOrdered s engine plan first stores refusals → (e : EngineFault) → IsProductLoss stores refusals e → IsOrderedProductLoss s engine q plan a x e
   ordered_product_loss engine ordered Memory h = tt
-  ordered_product_loss engine ordered (NotStarted r) h = absurd h
-  ordered_product_loss engine ordered (Gone r) h = absurd h
-  ordered_product_loss engine ordered TraceTorn h = absurd h
   ordered_product_loss engine ordered (Lost r count) h =
       of_its_order engine (λ letters order. IsLeftInOrder s plan first stores refusals letters order) (λ letters order. IsSteppedProductLoss s q plan a x letters order r count)
       (λ letters order left. record { first = first; has = has; stores = stores; refusals = refusals; left = left; lost = h }) ordered
+  ordered_product_loss engine ordered _ h = absurd h

@@ -10,7 +10,7 @@ use Rattle.cb_searches.specs.Searches.{IsSearch}
 use Rattle.cb_world.specs.declared.events.Event.{Event}
 use Rattle.cb_engines.specs.declared.engines.Engine.{Engine}
 use Rattle.cb_engines.specs.declared.engine_faults.EngineFault.{EngineFault}
-use Rattle.cb_engines.specs.declared.engine_faults.EngineFault.TheVariants.{Memory, NotStarted, Gone, TraceTorn, Lost}
+use Rattle.cb_engines.specs.declared.engine_faults.EngineFault.TheVariants.{Lost}
 use Rattle.cb_engines.proofs.SteppedRuns.{of_its_order}
 use Rattle.cb_vectors.specs.SpreadVectors.{MultipliesVectors}
 use Rattle.cb_run.specs.declared.operation_faults.OperationFault.TheVariants.{Failed}
@@ -21,13 +21,10 @@ use Rattle.cb_run.specs.VectorOrders.{IsSteppedProductLoss, IsOrderedProductLoss
 module _ (engine : Engine) (q : ℕ) (graph : Sparse) (source : ℕ) where
   -- a loss in the transpose is one in the search
   pub transpose_loss : (e : EngineFault) → IsLossFor min_plus engine Transpose q (graph ∷ []) (Failed e) → IsWalkLoss engine q graph source (Failed e)
-  transpose_loss Memory loss = tt
-  transpose_loss (NotStarted r) loss = tt
-  transpose_loss (Gone r) loss = tt
-  transpose_loss TraceTorn loss = tt
   transpose_loss (Lost r count) loss =
       of_its_order engine (λ letters order. IsSteppedLossFor min_plus Transpose q (graph ∷ []) letters order r count)
       (λ letters order. IsSteppedWalkLoss q graph source letters order r count) (λ letters order is. inl is) loss
+  transpose_loss _ loss = tt
 
   module _ (round : ℕ) (search : Search) (so_far : IsSearch graph source round search) (turned fell : Sparse) (turned_is : turned ≡ transposed min_plus graph) (fell_is : fell ≡ search.fell)
       (plan : CheckedView) (multiplies : MultipliesVectors q turned.shape plan) where
@@ -46,10 +43,7 @@ module _ (engine : Engine) (q : ℕ) (graph : Sparse) (source : ℕ) where
 
     -- a loss in a round's product is one in the search
     pub round_loss : (e : EngineFault) → IsOrderedProductLoss min_plus engine q plan turned fell e → IsWalkLoss engine q graph source (Failed e)
-    round_loss Memory loss = tt
-    round_loss (NotStarted r) loss = tt
-    round_loss (Gone r) loss = tt
-    round_loss TraceTorn loss = tt
     round_loss (Lost r count) loss =
         of_its_order engine (λ letters order. IsSteppedProductLoss min_plus q plan turned fell letters order r count)
         (λ letters order. IsSteppedWalkLoss q graph source letters order r count) (λ letters order is. inr (stepped_round_loss letters order r count is)) loss
+    round_loss _ loss = tt

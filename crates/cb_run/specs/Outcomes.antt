@@ -25,23 +25,17 @@ pub use Rattle.cb_planner.specs.ScatteredOperands.{LieOver, wholes, IsEmptyProdu
 use Rattle.cb_run.specs.declared.operation_faults.OperationFault.{OperationFault}
 use Rattle.cb_run.specs.declared.operation_faults.OperationFault.TheVariants.{Refused, Failed}
 
--- a plan by which ranks compute an operation, over any semiring, on any matrices of these shapes; for a product by a vector,
--- one with the vector spread over all ranks
-abbrev pub IsPlanFor : Operation → ℕ → List Extent → CheckedView → Type 0
-IsPlanFor MultiplyVector q shapes plan = MultipliesVectors q (extent_at shapes 0) plan
-IsPlanFor operation q shapes plan = (planned : Planned) × (plan ≡ checked_of planned) × Computes operation q shapes planned
+-- The first holds of a plan for products by vectors, if the operation is one, with the vector spread over all ranks. For any
+-- other operation, the second holds of a plan by which ranks compute it, over any semiring, on any matrices of these shapes.
+abbrev pub ByPlan : Operation → ℕ → List Extent → (CheckedView → Type 0) → (Planned → Type 0) → Type 0
+ByPlan MultiplyVector q shapes of_vectors of_others = (plan : CheckedView) × MultipliesVectors q (extent_at shapes 0) plan × of_vectors plan
+ByPlan operation q shapes of_vectors of_others = (planned : Planned) × Computes operation q shapes planned × of_others planned
 
 -- an engine that keeps a trace has that of a plan by which ranks compute the operation; the others have none
 abbrev pub IsTraceFor : Engine → Operation → ℕ → List Extent → Option TraceView → Type 0
 IsTraceFor (Traced letters) operation q shapes t =
-    (plan : CheckedView) × IsPlanFor operation q shapes plan × IsTraceOf (Traced letters) plan t
+    ByPlan operation q shapes (λ plan. IsTraceOf (Traced letters) plan t) (λ planned. IsTraceOf (Traced letters) (checked_of planned) t)
 IsTraceFor engine operation q shapes t = t ≡ None
-
--- for a product by a vector, the first holds of a plan for such products; for any other operation, the second holds of a plan
--- that computes it
-abbrev pub ByPlan : Operation → ℕ → List Extent → (CheckedView → Type 0) → (Planned → Type 0) → Type 0
-ByPlan MultiplyVector q shapes of_vectors of_others = (plan : CheckedView) × MultipliesVectors q (extent_at shapes 0) plan × of_vectors plan
-ByPlan operation q shapes of_vectors of_others = (planned : Planned) × Computes operation q shapes planned × of_others planned
 
 -- ranks that are stepped in an order make this answer, by a plan for the operation
 abbrev pub IsSteppedFor : Arithmetic → Operation → ℕ → List Sparse → ℕ → List Event → Distributed → List ℕ → Type 0

@@ -1,12 +1,12 @@
 //! A worked product in several orders of events, on grids of several sides; and ranks that are starved.
 use crate::examples::{PRODUCT, grid, has, is_right_or_refused, matrix, operands};
-use crate::walks::{PATH, levels_by_ranks};
+use crate::walks::{PATH, distances_by_ranks, levels_by_ranks};
 use cb_engines::{Engine, EngineFault};
 use cb_layout::Grid;
 use cb_matrix::Matrix;
 use cb_operations::{Operands, Operation};
 use cb_run::{OperationFault, run_matrices};
-use cb_semirings::{OrAnd, PlusTimes};
+use cb_semirings::{MinPlus, OrAnd, PlusTimes};
 use cb_world::Event;
 use std::alloc::{AllocError, Global};
 use std::sync::Wait;
@@ -99,30 +99,34 @@ fn any_order_makes_the_product(rt: HostRuntime) -> Result<(), Fail> {
     Ok(())
 }
 
-/// What is made of the factors, or of the path.
+/// What is made of the factors, or what is searched for on the path.
 #[derive(Clone, Copy)]
 enum Job {
     Product,
     Vector,
-    Walk,
+    Levels,
+    Distances,
 }
 
-/// The factors of a product, a column, and a path.
+/// The factors of a product, a column, and a path without and with weights.
 #[derive(Drop)]
 struct Given {
     factors: Factors,
     column: Matrix<PlusTimes>,
     path: Matrix<OrAnd>,
+    weights: Matrix<MinPlus>,
 }
 
-/// Two factors, a column and a path.
+/// Two factors, a column, and a path without and with weights.
 fn samples(alloc: Global) -> Option<Given> {
     let path = matrix(alloc, PATH.vertices, PATH.vertices, PATH.edges)?;
+    let weights = matrix(alloc, PATH.vertices, PATH.vertices, PATH.edges)?;
     let column = matrix(alloc, 2, 1, &[(0, 0, 1), (1, 0, 1)])?;
     Some(Given {
         factors: operands(alloc)?,
         column,
         path,
+        weights,
     })
 }
 
@@ -143,7 +147,10 @@ fn fault<R: Threads + Wait + Sync>(
             let operation = Operation::MultiplyVector;
             run_matrices(rt, alloc, engine, grid, operation, operands).err()
         }
-        Job::Walk => levels_by_ranks(rt, alloc, engine, grid.side(), &given.path, 0).err(),
+        Job::Levels => levels_by_ranks(rt, alloc, engine, grid.side(), &given.path, 0).err(),
+        Job::Distances => {
+            distances_by_ranks(rt, alloc, engine, grid.side(), &given.weights, 0).err()
+        }
     }
 }
 
@@ -177,7 +184,7 @@ fn a_starved_rank_is_named(rt: HostRuntime) -> Result<(), Fail> {
     let given = samples(rt.alloc()).ok_or("memory")?;
     for side in SIDES {
         let grid = grid(side)?;
-        for job in [Job::Product, Job::Vector, Job::Walk] {
+        for job in [Job::Product, Job::Vector, Job::Levels, Job::Distances] {
             assert!(rt; are_named(&rt, rt.alloc(), &grid, &given, job)?, "{side}");
         }
     }

@@ -123,6 +123,7 @@ fn ranks_have_threads_of_their_own(rt: HostRuntime) -> Result<(), Fail> {
         (Engine::Threads(2), Job::Walk(Search::Distances), true),
         (Engine::Traced(2), Job::Product, true),
         (Engine::Traced(2), Job::Walk(Search::Levels), true),
+        (Engine::Traced(2), Job::Walk(Search::Distances), true),
         (Engine::InOrder(2, &[]), Job::Product, false),
     ];
     for (engine, job, threads) in rows {

@@ -107,7 +107,7 @@ fn levels_by<R: Threads + Wait + Sync>(
 }
 
 /// The distances of a graph from a source, by ranks.
-fn distances_by_ranks<R: Threads + Wait + Sync>(
+pub fn distances_by_ranks<R: Threads + Wait + Sync>(
     rt: &R,
     alloc: Global,
     engine: Engine,

@@ -109,10 +109,7 @@ still : (s : Arithmetic) (r : ℕ) (half : Option Half) (moved : Moved) (w new :
 still s r None moved w new steps q = ap (λ (y : WorldView). y.boxes) steps.1
 still s r (Some h) moved w new (inl waits) q = ap (λ (y : WorldView). y.boxes) waits.2
 still s r (Some (half_is.Work op)) moved w new (inr did) q = ap (λ (y : WorldView). y.boxes) did.2.2
-still s r (Some (half_is.Post to tag slot)) moved w new (inr did) q = absurd (subst IsStill did.0 q)
-still s r (Some (half_is.Take from tag into shape)) moved w new (inr did) q = absurd (subst IsStill did.0 q)
-still s r (Some (half_is.Shut to)) moved w new (inr did) q = absurd (subst IsStill did.0 q)
-still s r (Some (half_is.End from)) moved w new (inr did) q = absurd (subst IsStill did.0 q)
+still s r _ moved w new (inr did) q = absurd (subst IsStill did.0 q)
 
 step_goes : (s : Arithmetic) (r : ℕ) (half : Option Half) (moved : Moved) (xs : List Exchange) (w new : WorldView) (t : ℕ) → StepsBy s r half moved w new → Calls r half moved xs w.boxes new.boxes → t < length w.boxes → Goes w.boxes new.boxes xs t
 step_goes s r half moved_is.Worked xs w new t steps calls below = goes_none w.boxes new.boxes xs t (still s r half moved_is.Worked w new steps tt) calls

@@ -20,12 +20,8 @@ use Rattle.cb_world.proofs.RankSums.{sum_is_none, none_of_sum, sum_is_below}
 use Rattle.cb_world.proofs.NextHalf.{passes_of, program_of}
 
 can_do : (w : WorldView) (r : ℕ) (h : Option Half) → Can w.capacity (λ p q. length (lane_between w p q).queue) r h → CanDo w r h
-can_do w r (Some (half_is.Post to tag slot)) c = c
-can_do w r (Some (half_is.Take from tag into shape)) c = c
 can_do w r (Some (half_is.Work op)) c = c
-can_do w r (Some (half_is.Shut to)) c = c
-can_do w r (Some (half_is.End from)) c = c
-can_do w r None c = c
+can_do w r _ c = c
 
 -- a rank that doesn't exist has no next half
 pub no_next : (w : WorldView) (r : ℕ) → length w.ranks ≤ r → next_of w r ≡ None

@@ -189,11 +189,8 @@ step_is s w r old x answer p q sound inside e f posted taken worked =
     (subst (λ a. StepWorks s (next_of w r) answer (rank_of w r) a x q) f (subst (λ o. StepWorks s (next_half o) answer o p x q) e worked))
 
 moved_not_waiting : (h : Half) → moved_by h ≢ moved_is.Waiting
-moved_not_waiting (half_is.Post to tag slot) e = cc
-moved_not_waiting (half_is.Take from tag into shape) e = cc
 moved_not_waiting (half_is.Work op) e = cc
-moved_not_waiting (half_is.Shut to) e = cc
-moved_not_waiting (half_is.End from) e = cc
+moved_not_waiting _ e = cc
 
 -- if a starved rank can act and asks for memory, its count of refusals rises by one
 starved_by : (s : Arithmetic) (w : WorldView) (r : ℕ) (next : Option Half) (m : Moved) (answer : Answer) (after : WorldView) (n : ℕ) → answer ≡ Ok m → StepsBy s r next m w after → CanAct w r → (rank_of after r).refusals ≡ n
