@@ -6,7 +6,7 @@ use Rattle.cb_semirings.specs.declared.names.SemiringName.{SemiringName}
 use Rattle.cb_operations.specs.declared.operations.Operation.{Operation}
 use Rattle.cb_words.specs.declared.jobs.Job.{Job}
 use Rattle.cb_words.specs.declared.jobs.Task.{Task}
-use Rattle.cb_words.specs.declared.jobs.Task.TheVariants.{Matrix, Levels, Distances, Parents, Components, Triangles, TriangleCounts, RowDegrees, ColumnDegrees, Selected, Kronecker, Extract}
+use Rattle.cb_words.specs.declared.jobs.Task.TheVariants.{Matrix, Levels, Distances}
 use Rattle.cb_tasks.specs.WriteEnds.{IsEndOn, IsTaskEnd}
 use Rattle.cb_tasks.specs.declared.faults.JobFault.{JobFault}
 use Rattle.cb_engines.specs.declared.engines.Engine.{Engine}
@@ -32,15 +32,7 @@ module _ {T A : Type 0} (texts : List (Vec ℕ A)) (old new : Option (List ℕ))
   of_other ranks (Matrix operation semiring) m l d h = absurd (m operation semiring refl)
   of_other ranks (Levels source) m l d h = absurd (l source refl)
   of_other ranks (Distances source) m l d h = absurd (d source refl)
-  of_other ranks (Parents source) m l d h = h
-  of_other ranks Components m l d h = h
-  of_other ranks Triangles m l d h = h
-  of_other ranks TriangleCounts m l d h = h
-  of_other ranks RowDegrees m l d h = h
-  of_other ranks ColumnDegrees m l d h = h
-  of_other ranks (Selected selection semiring) m l d h = h
-  of_other ranks (Kronecker semiring) m l d h = h
-  of_other ranks (Extract lists semiring) m l d h = h
+  of_other ranks _ m l d h = h
 
   module _ (job : Job) where
     -- a job that names no engine ends as its task does without ranks

@@ -13,7 +13,8 @@ use std::alloc::Global;
 use std::sync::Wait;
 use std::thread::Threads;
 
-/// Does a task: ranks compute operations, levels and distances, and the caller's thread everything else.
+/// Does a task: ranks compute operations, and levels and distances from one source; the caller's thread computes everything
+/// else.
 fn execute_by<R: Threads + Wait + Sync, K: Sink>(
     rt: &R,
     alloc: Global,

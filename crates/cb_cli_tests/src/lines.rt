@@ -64,6 +64,16 @@ macro_rules! listed {
     };
 }
 
+/// A matrix with another in place of the part at a corner, over a semiring.
+macro_rules! assigned {
+    ($semiring:ident, $corner:expr) => {
+        Task::Assign {
+            corner: $corner,
+            semiring: SemiringName::$semiring,
+        }
+    };
+}
+
 /// The entries in a region of a diagonal.
 macro_rules! kept {
     ($region:ident, $right:literal, $down:literal) => {
@@ -251,7 +261,30 @@ const GRAPHS: [Asked; 11] = [
     },
 ];
 
-const SELECTIONS: [Asked; 17] = [
+const STARTS: [Asked; 4] = [
+    Asked {
+        line: "cbgrid bfs-from a s",
+        task: Task::LevelsFrom,
+        files: &["a", "s"],
+    },
+    Asked {
+        line: "cbgrid relax-from s a",
+        task: Task::DistancesFrom,
+        files: &["s", "a"],
+    },
+    Asked {
+        line: "cbgrid bfs-given a x",
+        task: Task::LevelsGiven,
+        files: &["a", "x"],
+    },
+    Asked {
+        line: "cbgrid relax-given x a",
+        task: Task::DistancesGiven,
+        files: &["x", "a"],
+    },
+];
+
+const SELECTIONS: [Asked; 19] = [
     Asked {
         line: "cbgrid select a --region lower",
         task: chosen!(PlusTimes, kept!(Lower, 0, 0)),
@@ -325,6 +358,16 @@ const SELECTIONS: [Asked; 17] = [
         files: &["a", "b"],
     },
     Asked {
+        line: "cbgrid assign a b --row 1 --column 2147483647",
+        task: assigned!(PlusTimes, (0, 2_147_483_646)),
+        files: &["a", "b"],
+    },
+    Asked {
+        line: "cbgrid assign --column=3 a --semiring max-min --row 2147483647 b",
+        task: assigned!(MaxMin, (2_147_483_646, 2)),
+        files: &["a", "b"],
+    },
+    Asked {
         line: "cbgrid extract a --rows k",
         task: listed!(PlusTimes, Rows),
         files: &["a", "k"],
@@ -381,6 +424,12 @@ fn ask_for_operations(rt: HostRuntime) {
 #[test]
 fn ask_for_graphs(rt: HostRuntime) {
     let failed = failed_line(rt.alloc(), &GRAPHS);
+    assert!(rt; failed.is_none(), "{}", failed.unwrap_or(""));
+}
+
+#[test]
+fn ask_for_searches_from_several_vertices(rt: HostRuntime) {
+    let failed = failed_line(rt.alloc(), &STARTS);
     assert!(rt; failed.is_none(), "{}", failed.unwrap_or(""));
 }
 
@@ -536,7 +585,7 @@ fn choose_the_engine_the_grid_and_the_threads(rt: HostRuntime) {
 }
 
 /// Command lines that are usage errors.
-const REFUSED: [&str; 116] = [
+const REFUSED: [&str; 126] = [
     "cbgrid multiply",
     "cbgrid multiply a",
     "cbgrid multiply a b c",
@@ -618,6 +667,16 @@ const REFUSED: [&str; 116] = [
     "cbgrid extract a --rows k --rows k",
     "cbgrid extract a --columns l --engine plain",
     "cbgrid kron a b --rows k",
+    "cbgrid assign a b --row 1",
+    "cbgrid assign a b --column 1",
+    "cbgrid assign a --row 1 --column 1",
+    "cbgrid assign a b c --row 1 --column 1",
+    "cbgrid assign a b --row 0 --column 1",
+    "cbgrid assign a b --row 1 --column 0",
+    "cbgrid assign a b --row 2147483648 --column 1",
+    "cbgrid assign a b --row 1 --column 2147483648",
+    "cbgrid assign a b --row 1 --column 1 --row 1",
+    "cbgrid assign a b --row 1 --column 1 --engine plain",
     "cbgrid degrees",
     "cbgrid degrees a b",
     "cbgrid degrees a --by rows",
@@ -701,6 +760,7 @@ fn offer_help(rt: HostRuntime) {
         "cbgrid kron --help",
         "cbgrid power --help",
         "cbgrid extract --help",
+        "cbgrid assign --help",
         "cbgrid bfs --help",
         "cbgrid parents --help",
         "cbgrid components --help",
@@ -774,7 +834,7 @@ fn ends_so(alloc: Global, fault: &JobFault, number: u8, line: &str) -> Result<bo
     Ok(status(fault) == number && printed.as_slice() == line.as_bytes())
 }
 
-const FAULTS: [(JobFault, u8, &str); 18] = [
+const FAULTS: [(JobFault, u8, &str); 19] = [
     (
         read_fault!(1, 7, BadNumber),
         4,
@@ -844,6 +904,11 @@ const FAULTS: [(JobFault, u8, &str); 18] = [
         JobFault::Unselected(SelectionRefusal::TooLarge),
         5,
         "cbgrid: product too large\n",
+    ),
+    (
+        JobFault::Unselected(SelectionRefusal::Place),
+        5,
+        "cbgrid: part ends beyond the matrix\n",
     ),
     (
         JobFault::Unselected(SelectionRefusal::NoRow),

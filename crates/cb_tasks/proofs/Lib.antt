@@ -6,4 +6,6 @@ pub mod EndingLemmas
 mod LineLemmas
 mod ProductFaults
 mod ListLemmas
+mod PartFaults
+mod SourceLemmas
 mod OperationFaults

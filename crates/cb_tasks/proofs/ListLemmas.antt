@@ -12,17 +12,13 @@ use Rattle.cb_tasks.specs.Lists.{IsFirstReadFault, IsListFault, arithmetic_at, n
 use Rattle.cb_tasks.specs.Extracts.{AreWithList, AreWithLists, AreListsFault, IsExtractFault}
 use Rattle.cb_tasks.specs.declared.selection_refusals.SelectionRefusal.TheVariants.{NoRow, NoColumn}
 use Rattle.cb_tasks.specs.declared.faults.JobFault.{JobFault}
-use Rattle.cb_tasks.specs.declared.faults.JobFault.TheVariants.{Read, Refused, Unselected, Ranks, Memory, Output}
+use Rattle.cb_tasks.specs.declared.faults.JobFault.TheVariants.{Read, Unselected, Memory}
 
 module _ (by : ℕ → Arithmetic) where
   at_place : (ts : List (List ℕ)) (place : ℕ) → place < length ts → ((i : ℕ) → i < place → IsMatrixText (by i) (text_at ts i)) → (f : JobFault) → IsTextFault (by place) place (text_at ts place) f → IsFirstReadFault by ts f
   at_place ts place l before (Read which fault) h =
       subst (λ n. IsFirstReadFault by ts (Read n fault)) (sym h.0) (l, before, h.1)
-  at_place ts place l before (Refused refusal) h = absurd h
-  at_place ts place l before (Unselected refusal) h = absurd h
-  at_place ts place l before (Ranks fault) h = absurd h
-  at_place ts place l before Memory h = absurd h
-  at_place ts place l before Output h = absurd h
+  at_place ts place l before _ h = absurd h
 
   before_first : (ts : List (List ℕ)) (i : ℕ) → i < 0 → IsMatrixText (by i) (text_at ts i)
   before_first ts i l = absurd (omega arith)
@@ -51,33 +47,20 @@ module _ (s : Arithmetic) (texts : List (List ℕ)) where
   -- a fault of reading
   pub of_reading : (lists : Lists) (f : JobFault) → IsFirstReadFault (arithmetic_at s plus_times) texts f → IsExtractFault lists s texts f
   of_reading lists (Read which fault) h = h
-  of_reading lists (Refused refusal) h = absurd h
-  of_reading lists (Unselected refusal) h = absurd h
-  of_reading lists (Ranks fault) h = absurd h
-  of_reading lists Memory h = absurd h
-  of_reading lists Output h = absurd h
+  of_reading lists _ h = absurd h
 
   -- a fault of a list of rows, of a list of columns, and of both lists
   pub of_rows : (a l : Sparse) (f : JobFault) → AreWithList s texts a l → IsListFault NoRow a.shape.rows l f → IsExtractFault Rows s texts f
-  of_rows a l (Read which fault) w h = absurd h
-  of_rows a l (Refused refusal) w h = absurd h
   of_rows a l (Unselected refusal) w h = (a, l, w, h)
-  of_rows a l (Ranks fault) w h = absurd h
   of_rows a l Memory w h = (rows_by s (numbers_in l) a, (a, l, w, h, refl))
-  of_rows a l Output w h = absurd h
+  of_rows a l _ w h = absurd h
 
   pub of_columns : (a l : Sparse) (f : JobFault) → AreWithList s texts a l → IsListFault NoColumn a.shape.cols l f → IsExtractFault Columns s texts f
-  of_columns a l (Read which fault) w h = absurd h
-  of_columns a l (Refused refusal) w h = absurd h
   of_columns a l (Unselected refusal) w h = (a, l, w, h)
-  of_columns a l (Ranks fault) w h = absurd h
   of_columns a l Memory w h = (columns_by s (numbers_in l) a, (a, l, w, h, refl))
-  of_columns a l Output w h = absurd h
+  of_columns a l _ w h = absurd h
 
   pub of_both : (a k l : Sparse) (f : JobFault) → AreWithLists s texts a k l → AreListsFault a k l f → IsExtractFault Both s texts f
-  of_both a k l (Read which fault) w h = absurd h
-  of_both a k l (Refused refusal) w h = absurd h
   of_both a k l (Unselected refusal) w h = (a, k, l, w, h)
-  of_both a k l (Ranks fault) w h = absurd h
   of_both a k l Memory w h = (extracted s (numbers_in k) (numbers_in l) a, (a, k, l, w, h, refl))
-  of_both a k l Output w h = absurd h
+  of_both a k l _ w h = absurd h

@@ -7,35 +7,27 @@ use Rattle.cb_matrix.specs.Sparse.{Sparse}
 use Rattle.cb_market.specs.Reads.{Reads}
 use Rattle.cb_tasks.specs.Files.{bytes_of, text_at}
 use Rattle.cb_operations.specs.OperationAnswers.{matrix_at}
-use Rattle.cb_tasks.specs.Answers.{IsMatrixText, AreMatrices, IsTextFault, IsReadFault}
-use Rattle.cb_tasks.specs.declared.faults.JobFault.{JobFault}
-use Rattle.cb_tasks.specs.declared.faults.JobFault.TheVariants.{Read, Refused, Unselected, Ranks, Memory, Output}
+use Rattle.cb_tasks.specs.Answers.{AreMatrices}
 
 module _ {A : Type 0} where
   only_item : (xs : List (Vec ℕ A)) (t : Vec ℕ A) → length xs ≡ 1 → t ≡ get_or xs 0 t → bytes_of xs ≡ t.items ∷ []
-  only_item [] t n e = absurd (omega arith)
   only_item (x ∷ []) t n e = ap (λ v. v.items ∷ []) (sym e)
-  only_item (x ∷ y ∷ xs) t n e = absurd (omega arith)
+  only_item _ t n e = absurd (omega arith)
 
   two_items : (xs ys : List (Vec ℕ A)) (t u : Vec ℕ A) → length xs ≡ 2 → t ≡ get_or xs 0 t → ys ≡ remove xs 0 → u ≡ get_or ys 0 u → bytes_of xs ≡ t.items ∷ u.items ∷ []
-  two_items [] ys t u n e r f = absurd (omega arith)
-  two_items (x ∷ []) ys t u n e r f = absurd (omega arith)
   two_items (x ∷ y ∷ []) ys t u n e r f =
       let here : x.items ≡ t.items = ap (λ v. v.items) (sym e) in
       let next : y.items ≡ u.items = ap (λ v. v.items) (sym (rw r at f)) in
       cc
-  two_items (x ∷ y ∷ z ∷ xs) ys t u n e r f = absurd (omega arith)
+  two_items _ ys t u n e r f = absurd (omega arith)
 
   three_items : (xs ys zs : List (Vec ℕ A)) (t u v : Vec ℕ A) → length xs ≡ 3 → t ≡ get_or xs 0 t → ys ≡ remove xs 0 → u ≡ get_or ys 0 u → zs ≡ remove ys 0 → v ≡ get_or zs 0 v → bytes_of xs ≡ t.items ∷ u.items ∷ v.items ∷ []
-  three_items [] ys zs t u v n e r f q g = absurd (omega arith)
-  three_items (x ∷ []) ys zs t u v n e r f q g = absurd (omega arith)
-  three_items (x ∷ y ∷ []) ys zs t u v n e r f q g = absurd (omega arith)
   three_items (x ∷ y ∷ z ∷ []) ys zs t u v n e r f q g =
       let here : x.items ≡ t.items = ap (λ w. w.items) (sym e) in
       let next : y.items ≡ u.items = ap (λ w. w.items) (sym (rw r at f)) in
       let last : z.items ≡ v.items = ap (λ w. w.items) (sym (rw (q, r) at g)) in
       cc
-  three_items (x ∷ y ∷ z ∷ w ∷ xs) ys zs t u v n e r f q g = absurd (omega arith)
+  three_items _ ys zs t u v n e r f q g = absurd (omega arith)
 
   -- the bytes of one text, two texts and three that are taken out of a list
   pub one_text : {B : Type 0} (xs : Vec (Vec ℕ A) B) (t : Vec ℕ A) → vec_len xs ≡ 1 → t ≡ get_or xs.items 0 t → bytes_of xs.items ≡ t.items ∷ []
@@ -75,37 +67,3 @@ module _ (s : Arithmetic) where
 
     pub are_three : (t u v : List ℕ) (a b m : Sparse) → texts ≡ t ∷ u ∷ v ∷ [] → Reads s t a → Reads s u b → Reads s v m → AreMatrices s texts (a ∷ b ∷ m ∷ [])
     are_three t u v a b m e is_a is_b is_m = subst (λ ts. AreMatrices s ts (a ∷ b ∷ m ∷ [])) (sym e) (refl, three_read t u v a b m is_a is_b is_m)
-
-  before_first : (ts : List (List ℕ)) (i : ℕ) → i < 0 → IsMatrixText s (text_at ts i)
-  before_first ts i l = absurd (omega arith)
-
-  before_second : (t : List ℕ) (ts : List (List ℕ)) → IsMatrixText s t → (i : ℕ) → i < 1 → IsMatrixText s (text_at (t ∷ ts) i)
-  before_second t ts is_t zero l = is_t
-  before_second t ts is_t (suc i) l = absurd (omega arith)
-
-  before_third : (t u : List ℕ) (ts : List (List ℕ)) → IsMatrixText s t → IsMatrixText s u → (i : ℕ) → i < 2 → IsMatrixText s (text_at (t ∷ u ∷ ts) i)
-  before_third t u ts is_t is_u zero l = is_t
-  before_third t u ts is_t is_u (suc zero) l = is_u
-  before_third t u ts is_t is_u (suc (suc i)) l = absurd (omega arith)
-
-  at_place : (ts : List (List ℕ)) (place : ℕ) → place < length ts → ((i : ℕ) → i < place → IsMatrixText s (text_at ts i)) → (f : JobFault) → IsTextFault s place (text_at ts place) f → IsReadFault s ts f
-  at_place ts place l before (Read which fault) h =
-      subst (λ n. IsReadFault s ts (Read n fault)) (sym h.0) (l, before, h.1)
-  at_place ts place l before (Refused refusal) h = absurd h
-  at_place ts place l before (Unselected refusal) h = absurd h
-  at_place ts place l before (Ranks fault) h = absurd h
-  at_place ts place l before Memory h = absurd h
-  at_place ts place l before Output h = absurd h
-
-  -- the first text's fault, the second's if the first is a matrix, and the third's if both are
-  module _ (texts : List (List ℕ)) where
-    pub first_told : (t : List ℕ) (ts : List (List ℕ)) → texts ≡ t ∷ ts → (f : JobFault) → IsTextFault s 0 t f → IsReadFault s texts f
-    first_told t ts e f h = subst (λ xs. IsReadFault s xs f) (sym e) (at_place (t ∷ ts) 0 (omega arith) (before_first (t ∷ ts)) f h)
-
-    -- if the first text is a matrix, a fault of the second is that of the texts
-    pub second_told : (t u : List ℕ) (ts : List (List ℕ)) → texts ≡ t ∷ u ∷ ts → IsMatrixText s t → (f : JobFault) → IsTextFault s 1 u f → IsReadFault s texts f
-    second_told t u ts e is_t f h = subst (λ xs. IsReadFault s xs f) (sym e) (at_place (t ∷ u ∷ ts) 1 (omega arith) (before_second t (u ∷ ts) is_t) f h)
-
-    -- if the first two are matrices, a fault of the third is
-    pub third_told : (t u v : List ℕ) (ts : List (List ℕ)) → texts ≡ t ∷ u ∷ v ∷ ts → IsMatrixText s t → IsMatrixText s u → (f : JobFault) → IsTextFault s 2 v f → IsReadFault s texts f
-    third_told t u v ts e is_t is_u f h = subst (λ xs. IsReadFault s xs f) (sym e) (at_place (t ∷ u ∷ v ∷ ts) 2 (omega arith) (before_third t u (v ∷ ts) is_t is_u) f h)

@@ -3,7 +3,7 @@ use Rattle.std.proofs.Common.{ℕ, List}
 use Rattle.cb_semirings.specs.Arithmetic.{Arithmetic}
 use Rattle.cb_matrix.specs.Sparse.{Sparse}
 use Rattle.cb_operations.specs.declared.operations.Operation.{Operation}
-use Rattle.cb_operations.specs.declared.refusals.Refusal.TheVariants.{Shapes, NotSquare, Source}
+use Rattle.cb_operations.specs.declared.refusals.Refusal.TheVariants.{Shapes}
 use Rattle.cb_serial.specs.SerialFaults.{IsFaultOf}
 use Rattle.cb_serial.specs.declared.checked.SerialFault.{SerialFault}
 use Rattle.cb_serial.specs.declared.checked.SerialFault.TheVariants.{Refused, Memory}
@@ -14,6 +14,5 @@ use Rattle.cb_tasks.specs.FaultLines.{job_fault_of}
 pub of_blocks : (operation : Operation) (s : Arithmetic) (texts : List (List ℕ)) (ms : List Sparse) (fault : SerialFault) → AreMatrices s texts ms
     → IsFaultOf operation ms fault → IsFaultOver operation s texts (job_fault_of fault)
 of_blocks operation s texts ms (Refused Shapes) are h = (ms, are, h)
-of_blocks operation s texts ms (Refused NotSquare) are h = absurd h
-of_blocks operation s texts ms (Refused Source) are h = absurd h
 of_blocks operation s texts ms Memory are h = (ms, are, h)
+of_blocks operation s texts ms _ are h = absurd h

@@ -3,20 +3,12 @@ use Rattle.std.proofs.Common.{ℕ, List, [], ◌∷◌}
 use Rattle.cb_semirings.specs.Arithmetic.{Arithmetic}
 use Rattle.cb_matrix.specs.Sparse.{Sparse}
 use Rattle.cb_tasks.specs.Answers.{AreMatrices, IsKroneckerFault, IsProductFault}
-use Rattle.cb_tasks.specs.declared.selection_refusals.SelectionRefusal.TheVariants.{NoValue, NotColumn, NotSquare, TooLarge, NoRow, NoColumn}
+use Rattle.cb_tasks.specs.declared.selection_refusals.SelectionRefusal.TheVariants.{TooLarge}
 use Rattle.cb_tasks.specs.declared.faults.JobFault.{JobFault}
-use Rattle.cb_tasks.specs.declared.faults.JobFault.TheVariants.{Read, Refused, Unselected, Ranks, Memory, Output}
+use Rattle.cb_tasks.specs.declared.faults.JobFault.TheVariants.{Unselected, Memory}
 
 -- a fault of the product of two matrices is a fault of the texts that read as them
 pub of_factors : (s : Arithmetic) (texts : List (List ℕ)) (a b : Sparse) (f : JobFault) → AreMatrices s texts (a ∷ b ∷ []) → IsProductFault a.shape b.shape f → IsKroneckerFault s texts f
-of_factors s texts a b (Read which fault) are h = absurd h
-of_factors s texts a b (Refused refusal) are h = absurd h
-of_factors s texts a b (Ranks fault) are h = absurd h
-of_factors s texts a b (Unselected NoValue) are h = absurd h
-of_factors s texts a b (Unselected NotColumn) are h = absurd h
-of_factors s texts a b (Unselected NotSquare) are h = absurd h
-of_factors s texts a b (Unselected NoRow) are h = absurd h
-of_factors s texts a b (Unselected NoColumn) are h = absurd h
 of_factors s texts a b (Unselected TooLarge) are h = (a, b, are, h)
 of_factors s texts a b Memory are h = (a, b, (are, h))
-of_factors s texts a b Output are h = absurd h
+of_factors s texts a b _ are h = absurd h

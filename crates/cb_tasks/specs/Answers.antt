@@ -14,6 +14,8 @@ use Rattle.cb_operations.specs.declared.refusals.Refusal.TheVariants as refusal_
 use Rattle.cb_operations.specs.Graphs.{HasSource, IsGraphRefusal}
 use Rattle.cb_operations.specs.OperationAnswers.{Agree, answer_of, matrix_at, operand_count_of, shapes_in}
 use Rattle.cb_searches.specs.Walks.{AreLevels, AreDistances}
+use Rattle.cb_searches.specs.SeveralSources.{AreLevelsFrom, AreDistancesFrom}
+use Rattle.cb_searches.specs.GivenNumbers.{AreLevelsGiven, AreDistancesGiven}
 use Rattle.cb_searches.specs.Parents.{AreParents}
 use Rattle.cb_graphs.specs.Components.{AreComponents}
 use Rattle.cb_graphs.specs.Degrees.{row_degrees, column_degrees}
@@ -23,12 +25,18 @@ use Rattle.cb_words.specs.Jobs.{list_count_of}
 use Rattle.cb_words.specs.declared.jobs.EngineName.TheVariants.{Plain}
 use Rattle.cb_words.specs.declared.jobs.Job.{Job}
 use Rattle.cb_words.specs.declared.jobs.Task.{Task}
-use Rattle.cb_words.specs.declared.jobs.Task.TheVariants.{Matrix, Levels, Distances, Parents, Components, Triangles, TriangleCounts, RowDegrees, ColumnDegrees, Selected, Kronecker, Extract}
+use Rattle.cb_words.specs.declared.jobs.Task.TheVariants.{Matrix, Levels, Distances, LevelsFrom, DistancesFrom, LevelsGiven, DistancesGiven}
+use Rattle.cb_words.specs.declared.jobs.Task.TheVariants.{Parents, Components, Triangles, TriangleCounts, RowDegrees, ColumnDegrees}
+use Rattle.cb_words.specs.declared.jobs.Task.TheVariants.{Selected, Kronecker, Assign, Extract}
 use Rattle.cb_words.specs.declared.selection_names.Selection.{Selection}
+use Rattle.cb_tasks.specs.Assignments.{IsAssignedAnswer, IsAssignedFault}
 use Rattle.cb_tasks.specs.Extracts.{IsExtractAnswer, IsExtractFault}
+use Rattle.cb_tasks.specs.ListedSources.{IsWalksAnswer, IsWalksFault}
+use Rattle.cb_tasks.specs.InitialValues.{IsGivenAnswer, IsGivenFault}
 use Rattle.cb_tasks.specs.Selected.{Fits, FitsInShape, IsSelectionRefusal, selection_of}
-use Rattle.cb_tasks.specs.declared.selection_refusals.SelectionRefusal.TheVariants.{NoValue, NotColumn, NotSquare, TooLarge, NoRow, NoColumn}
+use Rattle.cb_tasks.specs.declared.selection_refusals.SelectionRefusal.TheVariants.{NoValue, NotColumn, NotSquare, TooLarge, Place, NoRow, NoColumn}
 use Rattle.cb_tasks.specs.Files.{text_at}
+use Rattle.cb_tasks.specs.Lists.{IsFirstReadFault}
 use Rattle.cb_tasks.specs.declared.matrix_tasks.MatrixTask.{MatrixTask}
 use Rattle.cb_tasks.specs.declared.matrix_tasks.MatrixTask.TheVariants as task_is
 use Rattle.cb_tasks.specs.declared.faults.RanksFault.{RanksFault}
@@ -64,9 +72,7 @@ IsTextFault s place text _ = ⊥
 
 -- the first text that isn't a matrix, with its first fault, or want of memory with no fault before it
 abbrev pub IsReadFault : Arithmetic → List (List ℕ) → JobFault → Type 0
-IsReadFault s texts (Read which fault) =
-    (which < length texts) × ((i : ℕ) → i < which → IsMatrixText s (text_at texts i)) × market.IsAnswer (market.first_fault s (text_at texts which)) fault
-IsReadFault s texts _ = ⊥
+IsReadFault s = IsFirstReadFault (λ _. s)
 
 -- the texts read as matrices whose shapes agree
 abbrev pub AreOperands : Operation → Arithmetic → List (List ℕ) → Type 0
@@ -201,6 +207,7 @@ IsKroneckerFault s texts (Refused refusal) = ⊥
 IsKroneckerFault s texts (Unselected NoValue) = ⊥
 IsKroneckerFault s texts (Unselected NotColumn) = ⊥
 IsKroneckerFault s texts (Unselected NotSquare) = ⊥
+IsKroneckerFault s texts (Unselected Place) = ⊥
 IsKroneckerFault s texts (Unselected NoRow) = ⊥
 IsKroneckerFault s texts (Unselected NoColumn) = ⊥
 IsKroneckerFault s texts (Unselected TooLarge) = (a : Sparse) × (b : Sparse) × AreMatrices s texts (a ∷ b ∷ []) × ¬ FitsInShape a.shape b.shape
@@ -220,6 +227,7 @@ abbrev pub text_count_of : MatrixTask → ℕ
 text_count_of (task_is.Operation operation) = operand_count_of operation
 text_count_of (task_is.Selection selection) = 1
 text_count_of task_is.Kronecker = 2
+text_count_of (task_is.Assign corner) = 2
 text_count_of (task_is.Extract lists) = 1 + list_count_of lists
 
 -- its answer over a semiring
@@ -227,6 +235,7 @@ abbrev pub IsAnswerIn : MatrixTask → Arithmetic → List (List ℕ) → List �
 IsAnswerIn (task_is.Operation operation) s = IsAnswerOver operation s
 IsAnswerIn (task_is.Selection selection) s = IsSelectedAnswer selection s
 IsAnswerIn task_is.Kronecker s = IsKroneckerAnswer s
+IsAnswerIn (task_is.Assign corner) s = IsAssignedAnswer corner s
 IsAnswerIn (task_is.Extract lists) s = IsExtractAnswer lists s
 
 -- why it has no answer, or why the answer wasn't written
@@ -234,6 +243,7 @@ abbrev pub IsFaultIn : MatrixTask → Arithmetic → List (List ℕ) → JobFaul
 IsFaultIn (task_is.Operation operation) s = IsFaultOver operation s
 IsFaultIn (task_is.Selection selection) s = IsSelectedFault selection s
 IsFaultIn task_is.Kronecker s = IsKroneckerFault s
+IsFaultIn (task_is.Assign corner) s = IsAssignedFault corner s
 IsFaultIn (task_is.Extract lists) s = IsExtractFault lists s
 
 -- ---- of any task
@@ -242,6 +252,10 @@ abbrev pub IsAnswer : Task → List (List ℕ) → List ℕ → Type 0
 IsAnswer (Matrix operation semiring) = IsAnswerOver operation (arithmetic_of semiring)
 IsAnswer (Levels source) = IsWalkAnswer AreLevels or_and source
 IsAnswer (Distances source) = IsWalkAnswer AreDistances min_plus source
+IsAnswer LevelsFrom = IsWalksAnswer AreLevelsFrom or_and
+IsAnswer DistancesFrom = IsWalksAnswer AreDistancesFrom min_plus
+IsAnswer LevelsGiven = IsGivenAnswer AreLevelsGiven or_and
+IsAnswer DistancesGiven = IsGivenAnswer AreDistancesGiven min_plus
 IsAnswer (Parents source) = IsParentsAnswer source
 IsAnswer Components = IsComponentsAnswer
 IsAnswer Triangles = IsTrianglesAnswer
@@ -250,6 +264,7 @@ IsAnswer RowDegrees = IsDegreesAnswer (row_degrees or_and)
 IsAnswer ColumnDegrees = IsDegreesAnswer (column_degrees or_and)
 IsAnswer (Selected selection semiring) = IsSelectedAnswer selection (arithmetic_of semiring)
 IsAnswer (Kronecker semiring) = IsKroneckerAnswer (arithmetic_of semiring)
+IsAnswer (Assign corner semiring) = IsAssignedAnswer corner (arithmetic_of semiring)
 IsAnswer (Extract lists semiring) = IsExtractAnswer lists (arithmetic_of semiring)
 
 -- why it has no answer, or why the answer wasn't written
@@ -257,6 +272,10 @@ abbrev pub IsFault : Task → List (List ℕ) → JobFault → Type 0
 IsFault (Matrix operation semiring) = IsFaultOver operation (arithmetic_of semiring)
 IsFault (Levels source) = IsWalkFault or_and source
 IsFault (Distances source) = IsWalkFault min_plus source
+IsFault LevelsFrom = IsWalksFault or_and
+IsFault DistancesFrom = IsWalksFault min_plus
+IsFault LevelsGiven = IsGivenFault or_and
+IsFault DistancesGiven = IsGivenFault min_plus
 IsFault (Parents source) = IsWalkFault or_and source
 IsFault Components = IsSquareFault
 IsFault Triangles = IsSquareFault
@@ -265,6 +284,7 @@ IsFault RowDegrees = IsDegreesFault
 IsFault ColumnDegrees = IsDegreesFault
 IsFault (Selected selection semiring) = IsSelectedFault selection (arithmetic_of semiring)
 IsFault (Kronecker semiring) = IsKroneckerFault (arithmetic_of semiring)
+IsFault (Assign corner semiring) = IsAssignedFault corner (arithmetic_of semiring)
 IsFault (Extract lists semiring) = IsExtractFault lists (arithmetic_of semiring)
 
 -- ---- of a job, by a program without ranks

@@ -38,12 +38,13 @@ refusal_line_of refusal_is.Shapes = codes "cbgrid: shapes don't agree\n"
 refusal_line_of refusal_is.NotSquare = codes "cbgrid: matrix not square\n"
 refusal_line_of refusal_is.Source = codes "cbgrid: no such source\n"
 
--- the line for a refused selection, list or Kronecker product
+-- the line for a refused selection, list, part or Kronecker product
 abbrev pub selection_line_of : SelectionRefusal → List ℕ
 selection_line_of selection_is.NoValue = codes "cbgrid: no value of the semiring\n"
 selection_line_of selection_is.NotColumn = codes "cbgrid: matrix not a column\n"
 selection_line_of selection_is.NotSquare = codes "cbgrid: matrix not square\n"
 selection_line_of selection_is.TooLarge = codes "cbgrid: product too large\n"
+selection_line_of selection_is.Place = codes "cbgrid: part ends beyond the matrix\n"
 selection_line_of selection_is.NoRow = codes "cbgrid: no such row\n"
 selection_line_of selection_is.NoColumn = codes "cbgrid: no such column\n"
 

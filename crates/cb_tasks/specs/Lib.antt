@@ -5,6 +5,9 @@ pub mod Files
 pub mod Selected
 pub mod Lists
 pub mod Extracts
+pub mod Assignments
+pub mod ListedSources
+pub mod InitialValues
 pub mod Answers
 pub mod WriteEnds
 pub mod Endings

@@ -9,11 +9,14 @@ ghost use Rattle.cb_tasks.specs.Files.{bytes_of};
 ghost use Rattle.cb_tasks.specs.declared.matrix_tasks.MatrixTask.TheVariants as task_is;
 
 use crate::alone::compute_alone;
+use crate::assignments::put_assigned;
 use crate::degree_answers::{put_column_degrees, put_row_degrees};
 use crate::extracts::put_extract;
 use crate::faults::{JobFault, RanksFault};
 use crate::graph_answers::{put_components, put_parents, put_triangle_counts, put_triangles};
+use crate::initial_values::{put_distances_given, put_levels_given};
 use crate::inputs::read_blocks;
+use crate::listed_sources::{put_distances_from, put_levels_from};
 use crate::matrix_tasks::MatrixTask;
 use crate::output::put_matrix;
 use crate::selection_answers::{put_kronecker, put_selected};
@@ -82,6 +85,9 @@ fn execute_over<S: Semiring + Send + Sync, R: Threads + Sync, K: Sink>(
             put_selected::<S, R, K>(rt, alloc, threads, selection, texts, out)
         }
         MatrixTask::Kronecker => put_kronecker::<S, R, K>(rt, alloc, threads, texts, out),
+        MatrixTask::Assign(corner) => {
+            put_assigned::<S, R, K>(rt, alloc, threads, corner, texts, out)
+        }
         MatrixTask::Extract(lists) => {
             put_extract::<S, R, K>(rt, alloc, threads, lists, texts, out)
         }
@@ -111,8 +117,9 @@ fn execute_named<R: Threads + Sync, K: Sink>(
 /// Reads the texts of a task in order, computes the answer, and writes its text. At most `threads` threads read, compute a
 /// product and write; the caller's thread does everything else.
 ///
-/// A matrix is written page by page. Levels, distances, parents, components, counts of triangles and degrees take one
-/// line for each vertex that has one.
+/// A matrix is written page by page; levels and distances from listed sources are a matrix with a column for each source.
+/// Other levels and distances, parents, components, counts of triangles and degrees take one line for each vertex that has
+/// one.
 ///
 /// All memory is taken before the first byte is written: at a fault other than `Output` nothing has been written. At
 /// `Output` the sink has failed, which it has in no other case, and a beginning of the text has been written.
@@ -151,12 +158,20 @@ pub fn execute<R: Threads + Sync, K: Sink>(
             let task = MatrixTask::Kronecker;
             execute_named(rt, alloc, threads, task, semiring, texts, out)
         }
+        Task::Assign { corner, semiring } => {
+            let task = MatrixTask::Assign(corner);
+            execute_named(rt, alloc, threads, task, semiring, texts, out)
+        }
         Task::Extract { lists, semiring } => {
             let task = MatrixTask::Extract(lists);
             execute_named(rt, alloc, threads, task, semiring, texts, out)
         }
         Task::Levels { source } => put_levels(rt, alloc, threads, source, texts, out),
         Task::Distances { source } => put_distances(rt, alloc, threads, source, texts, out),
+        Task::LevelsFrom => put_levels_from(rt, alloc, threads, texts, out),
+        Task::DistancesFrom => put_distances_from(rt, alloc, threads, texts, out),
+        Task::LevelsGiven => put_levels_given(rt, alloc, threads, texts, out),
+        Task::DistancesGiven => put_distances_given(rt, alloc, threads, texts, out),
         Task::Parents { source } => put_parents(rt, alloc, threads, source, texts, out),
         Task::Components => put_components(rt, alloc, threads, texts, out),
         Task::Triangles => put_triangles(rt, alloc, threads, texts, out),

@@ -68,7 +68,7 @@ fn refusal_line(alloc: Global, refusal: Refusal) -> Result<Vec<u8>, AllocError>
     }
 }
 
-/// The line for a refused selection, list or Kronecker product.
+/// The line for a refused selection, list, part or Kronecker product.
 fn selection_line(alloc: Global, refusal: SelectionRefusal) -> Result<Vec<u8>, AllocError>
     ensures { IfOk result (λ v. v.items ≡ selection_line_of refusal) }
 {
@@ -77,12 +77,13 @@ fn selection_line(alloc: Global, refusal: SelectionRefusal) -> Result<Vec<u8>, A
         SelectionRefusal::NotColumn => Vec::from_slice(alloc, b"cbgrid: matrix not a column\n"),
         SelectionRefusal::NotSquare => Vec::from_slice(alloc, b"cbgrid: matrix not square\n"),
         SelectionRefusal::TooLarge => Vec::from_slice(alloc, b"cbgrid: product too large\n"),
+        SelectionRefusal::Place => Vec::from_slice(alloc, b"cbgrid: part ends beyond the matrix\n"),
         SelectionRefusal::NoRow => Vec::from_slice(alloc, b"cbgrid: no such row\n"),
         SelectionRefusal::NoColumn => Vec::from_slice(alloc, b"cbgrid: no such column\n"),
     }
 }
 
-/// The line for ranks that failed, or that the program hasn't.
+/// The line for ranks that failed, or that the program doesn't have.
 fn ranks_line(alloc: Global, fault: RanksFault) -> Result<Vec<u8>, AllocError>
     ensures { IfOk result (λ v. v.items ≡ ranks_line_of fault) }
 {

@@ -37,7 +37,7 @@ pub enum JobFault {
     /// The shapes of the operands don't agree, the matrix of a graph isn't square, or the source isn't a vertex.
     #[error("{0}")]
     Refused(Refusal),
-    /// The selection can't be made from the matrix, or the Kronecker product is too large.
+    /// The selection can't be made from the matrix, the part doesn't fit into it, or the Kronecker product is too large.
     #[error("{0}")]
     Unselected(SelectionRefusal),
     /// The job asks for ranks, and they failed, or there are none.

@@ -16,7 +16,7 @@ use cb_semirings::Semiring;
 use std::alloc::Global;
 use std::thread::Threads;
 
-/// The least number of bytes for which a thread is started.
+/// The fewest bytes that get a thread of their own.
 const LEAST_BYTES: usize = 262_144;
 
 /// Reads the text at position `which` into the blocks of a grid.

@@ -14,6 +14,7 @@
 #![tactic(auto)]
 
 mod alone;
+mod assignments;
 mod count_lines;
 mod degree_answers;
 pub mod endings;
@@ -24,8 +25,10 @@ pub mod faults;
 pub mod files;
 mod graph_answers;
 mod graph_inputs;
+mod initial_values;
 pub mod inputs;
 mod list_inputs;
+mod listed_sources;
 mod lists;
 mod matrix_tasks;
 pub mod output;

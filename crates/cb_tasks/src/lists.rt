@@ -20,7 +20,7 @@ fn are_numbers(values: &[u64], limit: u32) -> bool
 }
 
 /// Whether each place of a column has a number from 1 to the limit.
-fn is_full(column: &Block<PlusTimes>, limit: u32) -> bool
+pub fn is_full(column: &Block<PlusTimes>, limit: u32) -> bool
     ensures { IsTrue result ↔ AreNumbersTo limit column.now }
 {
     let places = column.shape().rows() as usize;

@@ -11,6 +11,8 @@ pub enum MatrixTask {
     Selection(Selection),
     /// The Kronecker product of two matrices.
     Kronecker,
+    /// A matrix with another in place of the part that begins at a corner, a row and a column.
+    Assign((u32, u32)),
     /// The listed rows and columns of a matrix.
     Extract(Lists),
 }

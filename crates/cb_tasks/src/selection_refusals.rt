@@ -1,4 +1,4 @@
-//! The refusals of selections and Kronecker products.
+//! The refusals of selections, parts and Kronecker products.
 ghost use Rattle.std.specs.Prelude.{◌≡◌, ◌≢◌, ◌↔◌, ◌*◌, ◌≤◌, IsTrue, IfErr, OnOk};
 ghost use Rattle.cb_tasks.specs.Selected.{Fits, FitsInShape, IsSelectionRefusal, region_of, function_of};
 ghost use Rattle.cb_tasks.specs.declared.selection_refusals.SelectionRefusal.TheVariants.{NotColumn, NotSquare, TooLarge};
@@ -9,13 +9,13 @@ use cb_semirings::Semiring;
 use cb_words::{FunctionName, RegionName, Selection};
 use thiserror::Error;
 
-/// Why a selection or a Kronecker product of these matrices can't be made.
+/// Why a selection or a Kronecker product of these matrices can't be made, or a part put in its place.
 #[derive(Clone, Copy, Debug, PartialEq, Eq, Error)]
 pub enum SelectionRefusal {
     /// A number that the function takes isn't a value of the semiring.
     #[error("no value of the semiring")]
     NoValue,
-    /// The matrix must be a column, and has another number of columns than one.
+    /// The matrix must have exactly one column.
     #[error("matrix not a column")]
     NotColumn,
     /// The matrix must be square.
@@ -24,10 +24,13 @@ pub enum SelectionRefusal {
     /// The Kronecker product has more rows or columns than a matrix may have.
     #[error("product too large")]
     TooLarge,
-    /// A list names a row that the matrix hasn't, or has a place without a number.
+    /// The part ends beyond the matrix.
+    #[error("part ends beyond the matrix")]
+    Place,
+    /// A list names a row that the matrix doesn't have, or has a place without a number.
     #[error("no such row")]
     NoRow,
-    /// A list names a column that the matrix hasn't, or has a place without a number.
+    /// A list names a column that the matrix doesn't have, or has a place without a number.
     #[error("no such column")]
     NoColumn,
 }

@@ -4,22 +4,6 @@ use cb_semirings::NAMES;
 use clap::{Arg, ArgAction, Command, value_parser};
 use std::alloc::{AllocError, Global};
 
-static ENGINES: [&str; 2] = ["plain", "ranks"];
-
-static SIDES: [&str; 2] = ["rows", "columns"];
-
-static TESTS: [&str; 3] = ["below", "above", "equal"];
-
-static REGIONS: [&str; 4] = ["lower", "upper", "diagonal", "off-diagonal"];
-
-static FUNCTIONS: [&str; 5] = ["constant", "plus", "times", "row", "column"];
-
-static FORMS: [&str; 2] = ["column", "matrix"];
-
-static COUNTS: [&str; 2] = ["graph", "vertex"];
-
-static LINES: [&str; 2] = ["row", "column"];
-
 /// The version of the program, and of the libraries for C and Python, which take it from here.
 const VERSION: &str = "0.1.0";
 
@@ -40,12 +24,54 @@ const AFTER_HELP: &str = "Example:
 
 Exit status:
   0  done
-  2  the words are no command line
+  2  usage error
   3  a file can't be read
-  4  a file is no matrix
+  4  a file isn't a matrix
   5  the shapes don't agree, a graph's matrix isn't square, or it has no such source
-  6  memory was refused, or a thread
+  6  out of memory, or a thread couldn't be started
   7  the answer can't be written";
+
+/// What stands after the name of an option.
+#[derive(Clone, Copy)]
+enum Takes<'a> {
+    /// Nothing: the option is there or not.
+    Nothing,
+    /// Nothing: the option asks for help.
+    Help,
+    /// A word, such as the name of a file.
+    Text,
+    /// The name of a semiring.
+    Semiring,
+    /// One of these words.
+    OneOf(&'a [&'a str]),
+    /// A whole number of at most 64 bits.
+    Number,
+    /// A whole number from the first to the second.
+    Count(i64, i64),
+    /// A whole number, possibly negative, from the first to the second.
+    Distance(i64, i64),
+}
+
+/// What is so if an option isn't given.
+#[derive(Clone, Copy)]
+enum Absent<'a> {
+    /// Nothing is chosen.
+    Nothing,
+    /// That is a usage error.
+    Refused,
+    /// It has this value.
+    Means(&'a str),
+}
+
+/// The words of an option: `--NAME`, what help prints for its value if it takes one, its help text, what it takes, and
+/// what is so without it.
+struct Words<'a> {
+    name: &'a str,
+    value: &'a str,
+    help: &'a str,
+    takes: Takes<'a>,
+    absent: Absent<'a>,
+}
 
 /// An option of a command.
 #[derive(Clone, Copy)]
@@ -64,6 +90,8 @@ enum Choice {
     Exponent,
     Rows,
     Columns,
+    Row,
+    Column,
     Counts,
     Lines,
     Source,
@@ -164,10 +192,10 @@ const SELECT: Outline = Outline {
 
 const APPLY: Outline = Outline {
     name: "apply",
-    about: "Write what a function makes of the value of each entry of a matrix",
+    about: "Apply a function to the value of each entry of a matrix",
     after_help: after_help!(
         "apply roads.mtx --semiring min-plus --function times --value 5 > longer-roads.mtx",
-        "the number of the function is no value of the semiring"
+        "a number that the function takes isn't a value of the semiring"
     ),
     files: &["A"],
     options: &[Choice::Semiring, Choice::Function, Choice::Number],
@@ -179,7 +207,7 @@ const DIAGONAL: Outline = Outline {
     about: "Write the diagonal of a matrix as a column, or a column as the diagonal of a matrix",
     after_help: after_help!(
         "diagonal links.mtx > loops.mtx",
-        "a matrix whose column is asked for has more columns than one, or none"
+        "with --as matrix, the matrix isn't a column"
     ),
     files: &["A"],
     options: &[Choice::Semiring, Choice::Form],
@@ -222,6 +250,18 @@ const EXTRACT: Outline = Outline {
     common: &ALONE,
 };
 
+const ASSIGN: Outline = Outline {
+    name: "assign",
+    about: "Write a matrix with another in place of a part of it",
+    after_help: after_help!(
+        "assign links.mtx corner.mtx --row 1 --column 1 > new-links.mtx",
+        "the part ends beyond the matrix"
+    ),
+    files: &["A", "B"],
+    options: &[Choice::Semiring, Choice::Row, Choice::Column],
+    common: &ALONE,
+};
+
 const BFS: Outline = Outline {
     name: "bfs",
     about: "Write how many edges lead from a source to each vertex, by breadth-first search",
@@ -240,9 +280,57 @@ const RELAX: Outline = Outline {
     common: &BY_RANKS,
 };
 
+const BFS_FROM: Outline = Outline {
+    name: "bfs-from",
+    about: "Write how many edges lead from each of several sources to each vertex, as a matrix",
+    after_help: after_help!(
+        "bfs-from roads.mtx depots.mtx > steps.mtx",
+        "the matrix isn't square, the list of sources isn't a column, or a source is no vertex"
+    ),
+    files: &["A", "s"],
+    options: &[],
+    common: &ALONE,
+};
+
+const RELAX_FROM: Outline = Outline {
+    name: "relax-from",
+    about: "Write the distance of each vertex from each of several sources, as a matrix",
+    after_help: after_help!(
+        "relax-from roads.mtx depots.mtx > distances.mtx",
+        "the matrix isn't square, the list of sources isn't a column, or a source is no vertex"
+    ),
+    files: &["A", "s"],
+    options: &[],
+    common: &ALONE,
+};
+
+const BFS_GIVEN: Outline = Outline {
+    name: "bfs-given",
+    about: "Write the level of each vertex from initial values of some vertices",
+    after_help: after_help!(
+        "bfs-given roads.mtx starts.mtx > levels.txt",
+        "the matrix isn't square, or the initial values aren't a column with a place for each vertex"
+    ),
+    files: &["A", "x"],
+    options: &[],
+    common: &ALONE,
+};
+
+const RELAX_GIVEN: Outline = Outline {
+    name: "relax-given",
+    about: "Write the distance of each vertex from initial values of some vertices",
+    after_help: after_help!(
+        "relax-given roads.mtx starts.mtx > distances.txt",
+        "the matrix isn't square, or the initial values aren't a column with a place for each vertex"
+    ),
+    files: &["A", "x"],
+    options: &[],
+    common: &ALONE,
+};
+
 const PARENTS: Outline = Outline {
     name: "parents",
-    about: "Write the vertex before each vertex on a shortest way from a source, by breadth-first search",
+    about: "Write the vertex before each vertex on a shortest path from a source, by breadth-first search",
     after_help: after_help!("parents roads.mtx --source 1 > tree.txt"),
     files: &["A"],
     options: &[Choice::Source],
@@ -251,7 +339,7 @@ const PARENTS: Outline = Outline {
 
 const COMPONENTS: Outline = Outline {
     name: "components",
-    about: "Write the least vertex that each vertex is joined to, by edges in either direction",
+    about: "Write the connected component of each vertex, named by its least vertex",
     after_help: after_help!("components roads.mtx > islands.txt"),
     files: &["A"],
     options: &[],
@@ -260,7 +348,7 @@ const COMPONENTS: Outline = Outline {
 
 const TRIANGLES: Outline = Outline {
     name: "triangles",
-    about: "Write how many triangles a graph has, of edges in either direction",
+    about: "Count the triangles of a graph, or of each vertex; edges count in both directions",
     after_help: after_help!("triangles friends.mtx"),
     files: &["A"],
     options: &[Choice::Counts],
@@ -277,7 +365,7 @@ const DEGREES: Outline = Outline {
 };
 
 /// The commands, in the order in which help shows them.
-static OUTLINES: [&Outline; 19] = [
+static OUTLINES: [&Outline; 24] = [
     &MULTIPLY,
     &SPMV,
     &TRANSPOSE,
@@ -291,192 +379,233 @@ static OUTLINES: [&Outline; 19] = [
     &KRON,
     &POWER,
     &EXTRACT,
+    &ASSIGN,
     &BFS,
     &RELAX,
+    &BFS_FROM,
+    &RELAX_FROM,
+    &BFS_GIVEN,
+    &RELAX_GIVEN,
     &PARENTS,
     &COMPONENTS,
     &TRIANGLES,
     &DEGREES,
 ];
 
-/// An option `--NAME` that takes a value.
-fn with_value<'a>(alloc: Global, name: &'a str, value: &'a str, help: &'a str) -> Arg<'a> {
-    Arg::new(alloc, name)
-        .long(name)
-        .value_name(value)
-        .help(help)
+/// The words of an option.
+fn words_of<'a>(choice: Choice) -> Words<'a> {
+    match choice {
+        Choice::Semiring => Words {
+            name: "semiring",
+            value: "NAME",
+            help: "What adds and multiplies values",
+            takes: Takes::Semiring,
+            absent: Absent::Means("plus-times"),
+        },
+        Choice::Mask => Words {
+            name: "mask",
+            value: "FILE",
+            help: "Keep the entries at the places where this matrix has one",
+            takes: Takes::Text,
+            absent: Absent::Nothing,
+        },
+        Choice::Trace => Words {
+            name: "trace",
+            value: "",
+            help: "Print after the product what every rank did",
+            takes: Takes::Nothing,
+            absent: Absent::Nothing,
+        },
+        Choice::By => Words {
+            name: "by",
+            value: "SIDE",
+            help: "What to add up: rows or columns",
+            takes: Takes::OneOf(&["rows", "columns"]),
+            absent: Absent::Means("rows"),
+        },
+        Choice::Test => Words {
+            name: "test",
+            value: "TEST",
+            help: "How the values that are dropped compare to the number of --value",
+            takes: Takes::OneOf(&["below", "above", "equal"]),
+            absent: Absent::Refused,
+        },
+        Choice::Value => Words {
+            name: "value",
+            value: "N",
+            help: "The number that values are compared to",
+            takes: Takes::Number,
+            absent: Absent::Refused,
+        },
+        Choice::Region => Words {
+            name: "region",
+            value: "REGION",
+            help: "Which entries to keep, relative to the diagonal of --diagonal",
+            takes: Takes::OneOf(&["lower", "upper", "diagonal", "off-diagonal"]),
+            absent: Absent::Refused,
+        },
+        Choice::Diagonal => Words {
+            name: "diagonal",
+            value: "K",
+            help: "How many columns the diagonal is right of the main one; if negative, left of it",
+            takes: Takes::Distance(-2_147_483_647, 2_147_483_647),
+            absent: Absent::Means("0"),
+        },
+        Choice::Function => Words {
+            name: "function",
+            value: "FUNCTION",
+            help: "The new value: the number of --value, the sum or product with it, or the number of the row or column",
+            takes: Takes::OneOf(&["constant", "plus", "times", "row", "column"]),
+            absent: Absent::Refused,
+        },
+        Choice::Number => Words {
+            name: "value",
+            value: "N",
+            help: "The number that constant, plus and times take",
+            takes: Takes::Number,
+            absent: Absent::Nothing,
+        },
+        Choice::Form => Words {
+            name: "as",
+            value: "FORM",
+            help: "What is written: the diagonal as a column, or a square matrix with the column on its diagonal",
+            takes: Takes::OneOf(&["column", "matrix"]),
+            absent: Absent::Means("column"),
+        },
+        Choice::Exponent => Words {
+            name: "exponent",
+            value: "N",
+            help: "The number of factors, each of them the matrix",
+            takes: Takes::Count(1, 4_294_967_295),
+            absent: Absent::Refused,
+        },
+        Choice::Rows => Words {
+            name: "rows",
+            value: "FILE",
+            help: "A column that lists the numbers of rows, from 1 [default: all rows]",
+            takes: Takes::Text,
+            absent: Absent::Nothing,
+        },
+        Choice::Columns => Words {
+            name: "columns",
+            value: "FILE",
+            help: "A column that lists the numbers of columns, from 1 [default: all columns]",
+            takes: Takes::Text,
+            absent: Absent::Nothing,
+        },
+        Choice::Row => Words {
+            name: "row",
+            value: "N",
+            help: "The row of A where B begins, counted from 1",
+            takes: Takes::Count(1, 2_147_483_647),
+            absent: Absent::Refused,
+        },
+        Choice::Column => Words {
+            name: "column",
+            value: "N",
+            help: "The column of A where B begins, counted from 1",
+            takes: Takes::Count(1, 2_147_483_647),
+            absent: Absent::Refused,
+        },
+        Choice::Counts => Words {
+            name: "by",
+            value: "WHAT",
+            help: "What to count triangles of: the graph, or each vertex",
+            takes: Takes::OneOf(&["graph", "vertex"]),
+            absent: Absent::Means("graph"),
+        },
+        Choice::Lines => Words {
+            name: "by",
+            value: "SIDE",
+            help: "What to count the entries of: each row, or each column",
+            takes: Takes::OneOf(&["row", "column"]),
+            absent: Absent::Means("row"),
+        },
+        Choice::Source => Words {
+            name: "source",
+            value: "N",
+            help: "The vertex to start from, counted from 1",
+            takes: Takes::Count(1, 2_147_483_647),
+            absent: Absent::Refused,
+        },
+        Choice::Grid => Words {
+            name: "grid",
+            value: "N",
+            help: "The side of the grid of ranks, 1 to 6 [default: by the number of processors]",
+            takes: Takes::Count(1, 6),
+            absent: Absent::Nothing,
+        },
+        Choice::Engine => Words {
+            name: "engine",
+            value: "ENGINE",
+            help: "What computes: plain (one thread) or ranks (a thread for each rank) [default: threads that share the matrices]",
+            takes: Takes::OneOf(&["plain", "ranks"]),
+            absent: Absent::Nothing,
+        },
+        Choice::Lane => Words {
+            name: "lane",
+            value: "N",
+            help: "How many blocks may be in transit from one rank to another, 1 to 64 [default: 2]",
+            takes: Takes::Count(1, 64),
+            absent: Absent::Nothing,
+        },
+        Choice::Help => Words {
+            name: "help",
+            value: "",
+            help: "Print help",
+            takes: Takes::Help,
+            absent: Absent::Nothing,
+        },
+    }
 }
 
-/// An option `--NAME` with this action, which takes no value.
-fn flag<'a>(alloc: Global, name: &'a str, action: ArgAction, help: &'a str) -> Arg<'a> {
-    Arg::new(alloc, name).long(name).action(action).help(help)
+/// Adds to an option what it takes, and what help prints for its value.
+fn taking<'a>(option: Arg<'a>, value: &'a str, takes: Takes<'a>) -> Arg<'a> {
+    match takes {
+        Takes::Nothing => option.action(ArgAction::SetTrue),
+        Takes::Help => option.action(ArgAction::Help).short('h'),
+        Takes::Text => option.value_name(value),
+        Takes::Semiring => option.value_name(value).value_parser(NAMES.as_slice()),
+        Takes::OneOf(words) => option.value_name(value).value_parser(words),
+        Takes::Number => option.value_name(value).value_parser(value_parser!(u64)),
+        Takes::Count(least, most) => option
+            .value_name(value)
+            .value_parser(value_parser!(u32).range(least..=most)),
+        Takes::Distance(least, most) => option
+            .value_name(value)
+            .allow_negative_numbers(true)
+            .value_parser(value_parser!(i64).range(least..=most)),
+    }
 }
 
-fn semiring<'a>(alloc: Global) -> Arg<'a> {
-    with_value(alloc, "semiring", "NAME", "What adds and multiplies values")
-        .value_parser(NAMES.as_slice())
-        .default_value("plus-times")
+/// Adds to an option what is so without it.
+fn or_absent<'a>(option: Arg<'a>, absent: Absent<'a>) -> Arg<'a> {
+    match absent {
+        Absent::Nothing => option,
+        Absent::Refused => option.required(true),
+        Absent::Means(value) => option.default_value(value),
+    }
 }
 
-fn mask<'a>(alloc: Global) -> Arg<'a> {
-    let help = "Keep the entries at the places where this matrix has one";
-    with_value(alloc, "mask", "FILE", help)
-}
-
-fn trace<'a>(alloc: Global) -> Arg<'a> {
-    let help = "Print after the product what every rank did";
-    flag(alloc, "trace", ArgAction::SetTrue, help)
-}
-
-fn by<'a>(alloc: Global) -> Arg<'a> {
-    with_value(alloc, "by", "SIDE", "Whose entries are added up")
-        .value_parser(SIDES.as_slice())
-        .default_value("rows")
-}
-
-fn test<'a>(alloc: Global) -> Arg<'a> {
-    let help = "How the values that are dropped compare to the number of --value";
-    with_value(alloc, "test", "TEST", help)
-        .required(true)
-        .value_parser(TESTS.as_slice())
-}
-
-fn value<'a>(alloc: Global) -> Arg<'a> {
-    with_value(
-        alloc,
-        "value",
-        "N",
-        "The number that values are compared to",
-    )
-    .required(true)
-    .value_parser(value_parser!(u64))
-}
-
-fn region<'a>(alloc: Global) -> Arg<'a> {
-    let help = "The entries that are kept, by where they are from the diagonal of --diagonal";
-    with_value(alloc, "region", "REGION", help)
-        .required(true)
-        .value_parser(REGIONS.as_slice())
-}
-
-fn diagonal<'a>(alloc: Global) -> Arg<'a> {
-    let help = "How many columns the diagonal is right of the main one; if negative, left of it";
-    with_value(alloc, "diagonal", "K", help)
-        .allow_negative_numbers(true)
-        .value_parser(value_parser!(i64).range(-2_147_483_647..=2_147_483_647))
-        .default_value("0")
-}
-
-fn function<'a>(alloc: Global) -> Arg<'a> {
-    let help =
-        "What becomes of a value: the number of --value, the sum or the product with it, or its place's row or column";
-    with_value(alloc, "function", "FUNCTION", help)
-        .required(true)
-        .value_parser(FUNCTIONS.as_slice())
-}
-
-fn number<'a>(alloc: Global) -> Arg<'a> {
-    let help = "The number that constant, plus and times take";
-    with_value(alloc, "value", "N", help).value_parser(value_parser!(u64))
-}
-
-fn form<'a>(alloc: Global) -> Arg<'a> {
-    let help =
-        "What is written: the diagonal as a column, or a square matrix with the column on its diagonal";
-    with_value(alloc, "as", "FORM", help)
-        .value_parser(FORMS.as_slice())
-        .default_value("column")
-}
-
-fn exponent<'a>(alloc: Global) -> Arg<'a> {
-    let help = "How many factors the power has, each of them the matrix";
-    with_value(alloc, "exponent", "N", help)
-        .required(true)
-        .value_parser(value_parser!(u32).range(1..))
-}
-
-fn rows<'a>(alloc: Global) -> Arg<'a> {
-    let help = "A column that lists the numbers of rows, from 1 [default: all rows]";
-    with_value(alloc, "rows", "FILE", help)
-}
-
-fn columns<'a>(alloc: Global) -> Arg<'a> {
-    let help = "A column that lists the numbers of columns, from 1 [default: all columns]";
-    with_value(alloc, "columns", "FILE", help)
-}
-
-fn counts<'a>(alloc: Global) -> Arg<'a> {
-    let help = "What triangles are counted of: the graph, or each vertex";
-    with_value(alloc, "by", "WHAT", help)
-        .value_parser(COUNTS.as_slice())
-        .default_value("graph")
-}
-
-fn lines<'a>(alloc: Global) -> Arg<'a> {
-    with_value(alloc, "by", "SIDE", "Whose entries are counted")
-        .value_parser(LINES.as_slice())
-        .default_value("row")
-}
-
-fn source<'a>(alloc: Global) -> Arg<'a> {
-    with_value(
-        alloc,
-        "source",
-        "N",
-        "The vertex to start from, counted from 1",
-    )
-    .required(true)
-    .value_parser(value_parser!(u32).range(1..=2_147_483_647))
-}
-
-fn grid<'a>(alloc: Global) -> Arg<'a> {
-    let help = "The side of the grid of ranks, 1 to 6 [default: by the processors]";
-    with_value(alloc, "grid", "N", help).value_parser(value_parser!(u32).range(1..=6))
-}
-
-fn engine<'a>(alloc: Global) -> Arg<'a> {
-    let help =
-        "What computes: plain is one thread, ranks a thread for each rank of the grid [default: threads that share the matrices]";
-    with_value(alloc, "engine", "ENGINE", help).value_parser(ENGINES.as_slice())
-}
-
-fn lane<'a>(alloc: Global) -> Arg<'a> {
-    let help = "How many blocks may be on the way from a rank to another, 1 to 64 [default: 2]";
-    with_value(alloc, "lane", "N", help).value_parser(value_parser!(u32).range(1..=64))
-}
-
-fn help<'a>(alloc: Global) -> Arg<'a> {
-    flag(alloc, "help", ArgAction::Help, "Print help").short('h')
+/// Builds an option of a command.
+fn option_of<'a>(alloc: Global, choice: Choice) -> Arg<'a> {
+    let Words {
+        name,
+        value,
+        help,
+        takes,
+        absent,
+    } = words_of(choice);
+    let option = Arg::new(alloc, name).long(name).help(help);
+    or_absent(taking(option, value, takes), absent)
 }
 
 fn version<'a>(alloc: Global) -> Arg<'a> {
-    flag(alloc, "version", ArgAction::Version, "Print the version").short('V')
-}
-
-fn option_of<'a>(alloc: Global, choice: Choice) -> Arg<'a> {
-    match choice {
-        Choice::Semiring => semiring(alloc),
-        Choice::Mask => mask(alloc),
-        Choice::Trace => trace(alloc),
-        Choice::By => by(alloc),
-        Choice::Test => test(alloc),
-        Choice::Value => value(alloc),
-        Choice::Region => region(alloc),
-        Choice::Diagonal => diagonal(alloc),
-        Choice::Function => function(alloc),
-        Choice::Number => number(alloc),
-        Choice::Form => form(alloc),
-        Choice::Exponent => exponent(alloc),
-        Choice::Rows => rows(alloc),
-        Choice::Columns => columns(alloc),
-        Choice::Counts => counts(alloc),
-        Choice::Lines => lines(alloc),
-        Choice::Source => source(alloc),
-        Choice::Grid => grid(alloc),
-        Choice::Engine => engine(alloc),
-        Choice::Lane => lane(alloc),
-        Choice::Help => help(alloc),
-    }
+    Arg::new(alloc, "version")
+        .long("version")
+        .action(ArgAction::Version)
+        .help("Print the version")
+        .short('V')
 }
 
 fn file<'a>(alloc: Global, name: &'a str) -> Arg<'a> {
@@ -557,7 +686,7 @@ fn bare_program<'a>(alloc: Global) -> Command<'a> {
 /// Builds the program with the options that stand before its command.
 fn program_alone<'a>(alloc: Global) -> Result<Command<'a>, AllocError> {
     let mut options = Vec::new(alloc);
-    options.push(help(alloc))?;
+    options.push(option_of(alloc, Choice::Help))?;
     options.push(version(alloc))?;
     bare_program(alloc).args(options)
 }

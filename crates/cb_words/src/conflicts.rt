@@ -6,7 +6,7 @@ use clap::error::ErrorKind;
 use clap::{ArgMatches, Command};
 use std::alloc::{AllocError, Global};
 
-/// Options that can't be combined.
+/// Options that can't be combined, or that are missing.
 #[derive(Clone, Copy)]
 pub enum Conflict {
     /// `--trace` with `--engine plain`, which runs no ranks.

@@ -10,7 +10,8 @@ use cb_semirings::SemiringName;
 use std::alloc::{AllocError, AllocFailed};
 use thiserror::Error;
 
-/// What is computed from the files. A source is a vertex of the graph of the file's matrix, counted from 0.
+/// What is computed from the files. A source is a vertex of the graph of the file's matrix, counted from 0. So are the row
+/// and the column of a corner.
 #[derive(Clone, Copy, PartialEq, Eq)]
 pub enum Task {
     /// An operation on the files' matrices, over a semiring.
@@ -26,6 +27,16 @@ pub enum Task {
     Distances {
         source: u32,
     },
+    /// The levels from each of the sources that the second file lists. The first file is read in or-and.
+    LevelsFrom,
+    /// The distances from each of the sources that the second file lists. The first file is read in min-plus.
+    DistancesFrom,
+    /// The levels from initial values that some vertices have. The first file is read in or-and; the second has these
+    /// values, and is read in min-plus.
+    LevelsGiven,
+    /// The distances from initial values that some vertices have. Both files are read in min-plus; the second has these
+    /// values.
+    DistancesGiven,
     /// The least parent of each vertex in a breadth-first search from the source. The file is read in or-and.
     Parents {
         source: u32,
@@ -49,6 +60,12 @@ pub enum Task {
     Kronecker {
         semiring: SemiringName,
     },
+    /// The first file's matrix with the second's in place of the part that begins at a corner, a row and a column, over a
+    /// semiring.
+    Assign {
+        corner: (u32, u32),
+        semiring: SemiringName,
+    },
     /// The listed rows and columns of the first file's matrix, over a semiring. The other files have the lists.
     Extract {
         lists: Lists,
@@ -59,7 +76,7 @@ pub enum Task {
 /// What computes a job.
 #[derive(Clone, Copy, PartialEq, Eq)]
 pub enum EngineName {
-    /// The caller's thread, without ranks.
+    /// No ranks: threads that share the matrices.
     Plain,
     /// Ranks, each in a thread of its own, over lanes with room for so many letters.
     Ranks(usize),

@@ -9,6 +9,7 @@
 
 mod commands;
 mod conflicts;
+mod corner_words;
 mod jobs;
 mod list_words;
 mod lists;

@@ -8,6 +8,7 @@ ghost use Rattle.cb_words.specs.Jobs.{AsksForText, file_count_of, list_count_of}
 
 use crate::commands::program;
 use crate::conflicts::{Conflict, conflict_error, conflict_in};
+use crate::corner_words::{corner_of, number_of};
 use crate::jobs::{EngineName, Job, Task, UsageFault};
 use crate::list_words::lists_of;
 use crate::lists::Lists;
@@ -84,10 +85,12 @@ fn arguments(task: Task) -> &'static [&'static str]
     match task {
         Task::Matrix { operation, .. } => operands(operation),
         Task::Levels { .. } | Task::Distances { .. } | Task::Parents { .. } => &["A"],
+        Task::LevelsFrom | Task::DistancesFrom => &["A", "s"],
+        Task::LevelsGiven | Task::DistancesGiven => &["A", "x"],
         Task::Components | Task::Triangles | Task::TriangleCounts => &["A"],
         Task::RowDegrees | Task::ColumnDegrees => &["A"],
         Task::Selected { .. } => &["A"],
-        Task::Kronecker { .. } => &["A", "B"],
+        Task::Kronecker { .. } | Task::Assign { .. } => &["A", "B"],
         Task::Extract { lists, .. } => listed(lists),
     }
 }
@@ -188,11 +191,6 @@ fn test_of(found: &ArgMatches<'_>) -> Option<Test> {
     }
 }
 
-/// The vertex of `--source`, counted from 0.
-fn source_of(found: &ArgMatches<'_>) -> Option<u32> {
-    found.get_one::<u32>("source")?.checked_sub(1)
-}
-
 /// The operation of a command on matrices.
 fn operation_of(command: &str, found: &ArgMatches<'_>) -> Option<Operation> {
     match command {
@@ -211,7 +209,7 @@ fn operation_of(command: &str, found: &ArgMatches<'_>) -> Option<Operation> {
 
 /// The task of a command that starts from a source.
 fn walk_of(command: &str, found: &ArgMatches<'_>) -> Option<Task> {
-    let source = source_of(found)?;
+    let source = number_of(found, "source")?;
     match command {
         "bfs" => Some(Task::Levels { source }),
         "relax" => Some(Task::Distances { source }),
@@ -236,6 +234,13 @@ fn kronecker_of(found: &ArgMatches<'_>) -> Option<Task> {
     Some(Task::Kronecker { semiring })
 }
 
+/// The task of `assign`.
+fn assign_of(found: &ArgMatches<'_>) -> Option<Task> {
+    let corner = corner_of(found)?;
+    let semiring = semiring_of(found)?;
+    Some(Task::Assign { corner, semiring })
+}
+
 /// The task of `extract`.
 fn extract_of(found: &ArgMatches<'_>) -> Option<Task> {
     let lists = lists_of(found)?;
@@ -257,6 +262,10 @@ fn matrix_of(command: &str, found: &ArgMatches<'_>) -> Option<Task> {
 fn task_of(command: &str, found: &ArgMatches<'_>) -> Option<Task> {
     match command {
         "bfs" | "relax" | "parents" => walk_of(command, found),
+        "bfs-from" => Some(Task::LevelsFrom),
+        "relax-from" => Some(Task::DistancesFrom),
+        "bfs-given" => Some(Task::LevelsGiven),
+        "relax-given" => Some(Task::DistancesGiven),
         "components" => Some(Task::Components),
         "triangles" if found.get_str("by") == Some("vertex") => Some(Task::TriangleCounts),
         "triangles" => Some(Task::Triangles),
@@ -264,6 +273,7 @@ fn task_of(command: &str, found: &ArgMatches<'_>) -> Option<Task> {
         "degrees" => Some(Task::RowDegrees),
         "select" | "apply" | "diagonal" | "power" => selected_of(command, found),
         "kron" => kronecker_of(found),
+        "assign" => assign_of(found),
         "extract" => extract_of(found),
         _ => matrix_of(command, found),
     }
@@ -360,9 +370,8 @@ fn job_in(alloc: Global, matches: &ArgMatches<'_>, processors: usize) -> Result<
 
 /// Reads the words of a command line. The first word is the program's name.
 ///
-/// The job names as many files as its task reads. What no option chooses depends on the command and on the number of
-/// processors. If the words aren't a job, the `UsageFault` holds the text to print. Building and matching the command
-/// line by `clap` takes less than a millisecond.
+/// The job names as many files as its task reads. Defaults depend on the command and on the number of processors. If the
+/// words aren't a job, the `UsageFault` holds the text to print.
 pub fn read_job(alloc: Global, words: &[String], processors: usize) -> Result<Job, UsageFault>
     ensures { IfOk result (λ job. vec_len job.files ≡ file_count_of job.task) }
 {

@@ -10,6 +10,9 @@ returns-in-Selected g c = of_task c.args.texts.items _ _ _ _ _ _ c.in-Selected.i
 pub returns-in-Kronecker : goal.returns-in-Kronecker
 returns-in-Kronecker g c = of_task c.args.texts.items _ _ _ _ _ _ c.in-Kronecker.is c.execute_named-in-Kronecker.ensures
 
+pub returns-in-Assign : goal.returns-in-Assign
+returns-in-Assign g c = of_task c.args.texts.items _ _ _ _ _ _ c.in-Assign.is c.execute_named-in-Assign.ensures
+
 pub returns-in-Levels : goal.returns-in-Levels
 returns-in-Levels g c = of_task c.args.texts.items _ _ _ _ _ _ c.in-Levels.is c.put_levels.ensures
 
@@ -36,3 +39,15 @@ returns-in-ColumnDegrees g c = of_task c.args.texts.items _ _ _ _ _ _ c.in-Colum
 
 pub returns-in-Extract : goal.returns-in-Extract
 returns-in-Extract g c = of_task c.args.texts.items _ _ _ _ _ _ c.in-Extract.is c.execute_named-in-Extract.ensures
+
+pub returns-in-LevelsFrom : goal.returns-in-LevelsFrom
+returns-in-LevelsFrom g c = of_task c.args.texts.items _ _ _ _ _ _ c.in-LevelsFrom.is c.put_levels_from.ensures
+
+pub returns-in-DistancesFrom : goal.returns-in-DistancesFrom
+returns-in-DistancesFrom g c = of_task c.args.texts.items _ _ _ _ _ _ c.in-DistancesFrom.is c.put_distances_from.ensures
+
+pub returns-in-LevelsGiven : goal.returns-in-LevelsGiven
+returns-in-LevelsGiven g c = of_task c.args.texts.items _ _ _ _ _ _ c.in-LevelsGiven.is c.put_levels_given.ensures
+
+pub returns-in-DistancesGiven : goal.returns-in-DistancesGiven
+returns-in-DistancesGiven g c = of_task c.args.texts.items _ _ _ _ _ _ c.in-DistancesGiven.is c.put_distances_given.ensures

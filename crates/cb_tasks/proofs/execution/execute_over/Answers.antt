@@ -10,5 +10,8 @@ returns-in-Selection g c = of_matrix_task c.args.texts.items _ _ _ _ g.S.Semirin
 pub returns-in-Kronecker : goal.returns-in-Kronecker
 returns-in-Kronecker g c = of_matrix_task c.args.texts.items _ _ _ _ g.S.Semiring.arithmetic _ _ c.in-Kronecker.is c.put_kronecker.ensures
 
+pub returns-in-Assign : goal.returns-in-Assign
+returns-in-Assign g c = of_matrix_task c.args.texts.items _ _ _ _ g.S.Semiring.arithmetic _ _ c.in-Assign.is c.put_assigned.ensures
+
 pub returns-in-Extract : goal.returns-in-Extract
 returns-in-Extract g c = of_matrix_task c.args.texts.items _ _ _ _ g.S.Semiring.arithmetic _ _ c.in-Extract.is c.put_extract.ensures

@@ -1,7 +1,8 @@
 use Rattle.std.proofs.Common.{[]}
 use Rattle.std.proofs.lemmas.Result.{err_from_is_err_and}
 use Rattle.cb_tasks.specs.Files.{bytes_of}
-use Rattle.cb_tasks.proofs.OperandLemmas.{two_texts, second_told}
+use Rattle.cb_tasks.proofs.OperandLemmas.{two_texts}
+use Rattle.cb_tasks.proofs.ListLemmas.{second_fault_by}
 use Rattle.cb_tasks.proofs.inputs.read_two.Goals as goal
 
 pub returns-in_err-right-clause-fault : goal.returns-in_err-right-clause-fault
@@ -10,4 +11,4 @@ returns-in_err-right-clause-fault g c =
     let second = c.remove-second in
     let are = two_texts c.args.texts first.new.self first.result second.result c.requires first.ensures.value first.ensures.items second.ensures.value in
     let p = err_from_is_err_and c.from_residual-in_err-right.result c.from_residual-in_err-right.ensures.1 in
-    rw (p.1, p.2) (second_told g.S.Semiring.arithmetic (bytes_of c.args.texts.items) first.result.items second.result.items [] are (c.in_ok-left.left.matrix, c.in_ok-left.ensures.ok) c.in_err-right.field-0.0 c.in_err-right.ensures.fault)
+    rw (p.1, p.2) (second_fault_by (λ _. g.S.Semiring.arithmetic) (bytes_of c.args.texts.items) first.result.items second.result.items [] are (c.in_ok-left.left.matrix, c.in_ok-left.ensures.ok) c.in_err-right.field-0.0 c.in_err-right.ensures.fault)
