@@ -1,4 +1,4 @@
-//! Levels and distances from first numbers that some vertices have.
+//! Levels and distances from initial values that some vertices have.
 ghost use Rattle.std.specs.Prelude.{◌≡◌, IfOk};
 
 use crate::graphs::{graph, has};
@@ -15,8 +15,8 @@ const LAST: u32 = LIMIT - 1;
 /// Vertices and their numbers, ascending.
 type Column = &'static [(u32, u64)];
 
-/// The number of vertices of a graph, its edges, first numbers, and the levels from them: no first number; one, of 0; a
-/// vertex that is nearer by a walk than by its own first number, and one that isn't; a sum that stops at infinity; and
+/// The number of vertices of a graph, its edges, initial values, and the levels from them: no initial value; one, of 0; a
+/// vertex that is nearer by a walk than by its own initial value, and one that isn't; a sum that stops at infinity; and
 /// 2,147,483,647 vertices, three of them with edges.
 const LEVELS: [(u32, &[(u32, u32)], Column, Column); 5] = [
     (3, &[(0, 1)], &[], &[]),
@@ -36,7 +36,7 @@ const LEVELS: [(u32, &[(u32, u32)], Column, Column); 5] = [
     ),
 ];
 
-/// First numbers in the graph of three edges, and the distances from them.
+/// Initial values in the graph of three edges, and the distances from them.
 const DISTANCES: [(Column, Column); 3] = [
     (&[(0, 0)], &[(0, 0), (1, 6), (2, 2)]),
     (&[(0, 3), (1, 8), (2, 1)], &[(0, 3), (1, 5), (2, 1)]),
@@ -64,7 +64,7 @@ fn column(alloc: Global, side: u32, numbers: Column) -> Result<Matrix<MinPlus>, 
     Ok(as_matrix(&made)?)
 }
 
-/// Whether these are the levels from first numbers.
+/// Whether these are the levels from initial values.
 fn are_levels(
     alloc: Global,
     side: u32,
@@ -78,7 +78,7 @@ fn are_levels(
     Ok(has(&made, wanted))
 }
 
-/// Whether these are the distances from first numbers.
+/// Whether these are the distances from initial values.
 fn are_distances(alloc: Global, numbers: Column, wanted: Column) -> Result<bool, SampleFault> {
     let edges = [entry(0, 1, 7), entry(2, 1, 4), entry(0, 2, 2)];
     let graph: Block<MinPlus> = block(alloc, 3, 3, &edges)?;

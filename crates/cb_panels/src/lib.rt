@@ -1,12 +1,12 @@
 //! Products of blocks by several threads, which share the operands.
 //!
 //! Each thread makes a panel of the product: the product of the left block and some columns of the right. The columns
-//! are parted so that each panel takes about as many products of two values (`cb_shares`). No operand is copied, and one
-//! index of the left block's columns serves all threads.
+//! are divided so that all panels take about the same number of products of two values (`cb_shares`). No operand is
+//! copied, and one index of the left block's columns serves all threads.
 //!
 //! Panels are made by halves: a thread makes the first half, another one the second. If no thread is available, the
 //! caller's thread makes the panel. The panels stand side by side, and no entry is copied; [`multiply`] copies them into
-//! one block for those who need one.
+//! one block, for callers that need one.
 #![tactic(auto)]
 
 ghost use Rattle.std.specs.Prelude.{◌≡◌, ◌<◌, ◌≤◌, IfOk, length};
@@ -23,17 +23,17 @@ use cb_shares::{products_of_columns, total};
 use std::alloc::{AllocError, Global};
 use std::thread::{Threads, join};
 
-/// How many panels a product is made in.
+/// Into how many panels a product is divided.
 #[derive(Clone, Copy)]
 pub struct Panels {
     /// At most this many.
     pub most: u32,
-    /// As few as take this many products each. Columns stay whole, so one panel may take fewer.
+    /// So few that each takes this many products. Columns stay whole, so one panel may take fewer.
     pub least_products: usize,
 }
 
 impl Panels {
-    /// How many panels so many products are made in.
+    /// Into how many panels a product is divided that takes this many products of two values.
     fn of(&self, products: usize) -> u32 {
         let fitting = products / self.least_products.max(1);
         fitting.min(self.most as usize) as u32
@@ -98,7 +98,7 @@ fn place_of(counts: &[usize], low: u32, count: u32) -> usize
     counts.len()
 }
 
-/// How many entries can come to stand in columns that take so many products: in each no more than there are rows.
+/// The most entries of columns that take these numbers of products: in each no more than there are rows.
 fn most_entries(counts: &[usize], rows: u32) -> usize {
     let mut sum = 0usize;
     for count in counts {
@@ -107,7 +107,7 @@ fn most_entries(counts: &[usize], rows: u32) -> usize {
     sum
 }
 
-/// Makes these columns of the product in so many panels. Each takes room for the entries that its columns can have.
+/// Makes these columns of the product in this many panels. Each takes room for the entries that its columns can have.
 fn make_panels<S: Semiring + Send + Sync, R: Threads + Sync>(
     rt: &R,
     alloc: Global,

@@ -13,7 +13,7 @@ pub mod VertexColumns
 -- round. TurnedProducts: a round is the product of the turned matrix. TakenNumbers, LowerEntries, NumberColumns,
 -- FallenNumbers: the numbers known so far, those that fall, and their column. RelaxedEdges: the edges from one vertex.
 -- TurnedUnits: levels on the transposed matrix. LeastNearer: parents are nearer vertices. ParentFacts: who has a parent.
--- ColumnsBesides: columns of distances, side by side. NearestGiven: what is nearest from first numbers.
+-- ColumnsBesides: columns of distances, side by side. NearestGiven: what is nearest from initial values.
 pub mod ShortWalks
 pub mod NumbersByRound
 pub mod TurnedProducts

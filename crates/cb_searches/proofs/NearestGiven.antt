@@ -1,4 +1,4 @@
--- What is nearest from first numbers: how the search begins and ends, and that levels are distances if each entry weighs 1.
+-- What is nearest from initial values: how the search begins and ends, and that levels are distances if each entry weighs 1.
 use Rattle.std.proofs.Common.{◌≡◌, ◌≢◌, ℕ, ◌+◌, ◌<◌, ◌≤◌, ⊎_elim, List, [], ◌∷◌, map, subst, sym, refl, ◌∙◌, arith}
 use Rattle.std.proofs.lemmas.Bool.{cases_lt}
 use Rattle.cb_semirings.specs.Tables.{min_plus, or_and}
@@ -18,7 +18,7 @@ use Rattle.cb_searches.proofs.SettledVertices.{edges_turned, waits_or_relaxed, a
 use Rattle.cb_searches.proofs.UnitWeights.{to_unit, from_unit, unit_cost}
 
 module _ (a given : Sparse) (d : ℕ → ℕ) (fits : (v : ℕ) → d v ≤ infinite) where
-  -- at first each vertex has its first number, and waits with it
+  -- at first each vertex has its initial value, and waits with it
   pub given_begun : ((v : ℕ) → d v ≡ number_in given v) → IsSettling a (number_in given) d (map tentative given.entries)
   given_begun same = record {
     fits = fits;
@@ -59,7 +59,7 @@ given_found edges a given n m old new es has same first begins last keep column 
 
 -- in the graph of a matrix of bits
 module _ (a : Sparse) (is : IsMatrix or_and a) (square : a.shape.rows ≡ a.shape.cols) (fits : a.shape.rows < infinite) (given : Sparse) (column_is : IsMatrix min_plus given) (rows : given.shape.rows ≡ a.shape.rows) where
-  -- a vertex that has a first number is one of the graph's
+  -- a vertex that has an initial value is one of the graph's
   given_inside : (from : ℕ) → number_in given from ≢ infinite → from < a.shape.rows
   given_inside from some =
       ⊎_elim (λ (l : from < given.shape.rows). omega (arith, l, rows))

@@ -113,7 +113,7 @@ waits_or_relaxed a d es u fits q = ⊎_elim
     (λ (n : d u ≡ infinite → ⊥). inl (subst (λ (x : ℕ). Contains (map tentative es) (record { number = x; vertex = u })) q (number_waits es u (λ e. n (sym q ∙ e)))))
     (cases_eq (d u) infinite)
 
--- the source has the first number 0, and the others have none
+-- the source has the initial value 0, and the others have none
 first_here : (source v : ℕ) → v ≡ source → first_at source v ≡ 0
 first_here source v e = cond-true _ _ _ (eq-eqb v source e)
 

@@ -1,7 +1,7 @@
 -- Walks: walks in a graph, levels and distances. Numbers: the numbers of vertices so far. Searches: how they approach
 -- the least costs of walks, round by round. Settling: how they become least, vertex after vertex. Parents: the parents
 -- of vertices in a breadth-first search. SeveralSources: results from several sources, side by side. GivenNumbers: what is
--- nearest from first numbers that some vertices have.
+-- nearest from initial values that some vertices have.
 pub mod Walks
 pub mod Numbers
 pub mod Searches

@@ -25,12 +25,12 @@ IsWaiting d waiting v = Contains waiting (record { number = d v; vertex = v })
 abbrev pub IsRelaxed : Sparse → (ℕ → ℕ) → ℕ → Type 0
 IsRelaxed a d u = (v : ℕ) → d v ≤ d u + at min_plus a u v
 
--- first numbers of which only the source has one: 0
+-- initial values, of which only the source has one: 0
 abbrev pub first_at : ℕ → ℕ → ℕ
 first_at source v = cond (v == source) 0 infinite
 
--- Given the first number f of each vertex: each number is a first number plus the cost of a walk from there, at most the
--- vertex's own first number, and a vertex that doesn't wait can lower no other.
+-- Given the initial value f of each vertex: each number is an initial value plus the cost of a walk from its vertex, at
+-- most the vertex's own initial value, and a vertex that doesn't wait can lower no other.
 pub record IsSettling (a : Sparse) (f d : ℕ → ℕ) (waiting : List Tentative) : Type 0 where
   pub fits : (v : ℕ) → d v ≤ infinite
   pub begins : (v : ℕ) → d v ≤ f v

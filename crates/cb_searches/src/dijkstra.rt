@@ -6,9 +6,9 @@
 //! more is skipped, so the heap is never searched.
 //!
 //! This is the algorithm of Dijkstra, A Note on Two Problems in Connexion with Graphs (Numerische Mathematik 1959,
-//! problem 2), with a binary heap. The order only keeps the work small. The proof holds in any order, and whatever first
-//! numbers vertices have: each number is a first number plus the cost of a walk from there, and a vertex that doesn't wait
-//! can lower no other; in the end none waits.
+//! problem 2), with a binary heap. The order only keeps the work small. The proof holds in any order, and whatever
+//! initial values vertices have: each number is an initial value plus the cost of a walk from its vertex, and a vertex that
+//! doesn't wait can lower no other; in the end none waits.
 ghost use Rattle.std.specs.Prelude.{◌≡◌, ◌==◌, ℕ, ◌<◌, ◌≤◌, min, cond, map, [], ◌∷◌, All, Contains, IfOk, OnOk};
 ghost use Rattle.std.proofs.Common.{rules};
 ghost use Rattle.std.specs.Cmp.{partial_order_from_own_ties};

@@ -1,7 +1,7 @@
-//! Searches from first numbers that some vertices have.
+//! Searches from initial values that some vertices have.
 //!
-//! All vertices with a first number wait at the start, and then vertices [settle](crate::dijkstra) one after another.
-//! A search from one source is the case in which the source alone has a first number: 0.
+//! All vertices with an initial value wait at the start, and then vertices [settle](crate::dijkstra) one after another.
+//! A search from one source is the case in which the source alone has an initial value: 0.
 ghost use Rattle.std.specs.Prelude.{◌≡◌, ℕ, IfOk};
 ghost use Rattle.cb_semirings.specs.Tables.{min_plus};
 ghost use Rattle.cb_matrix.specs.Sparse.{Sparse, IsMatrix};
@@ -18,12 +18,12 @@ use cb_matrix::Matrix;
 use cb_semirings::{MinPlus, OrAnd};
 use std::alloc::{AllocError, Global};
 
-/// The distance of each vertex from first numbers, in the graph of a square block: the least sum of a vertex's first
-/// number and the weight of a walk from there, over all vertices that have a first number. First numbers and distances
-/// are columns; sums saturate at 2^64 - 1, and a vertex whose distance is that isn't stored. A vertex's distance is at
-/// most its own first number.
+/// The distance of each vertex from initial values, in the graph of a square block: the least sum of an initial value and
+/// the weight of a walk from its vertex, over all vertices that have an initial value. Initial values and distances are
+/// columns; sums saturate at 2^64 - 1, and a vertex whose distance is that isn't stored. A vertex's distance is at most its
+/// own initial value.
 ///
-/// Costs a transpose, and then the algorithm of Dijkstra (1959) with a heap, in which all first numbers are at the
+/// Costs a transpose, and then the algorithm of Dijkstra (1959) with a heap, in which all initial values are at the
 /// start: the entries of the vertices that it reaches, and for each number that is given or falls the logarithm of how
 /// many wait.
 pub fn distances_given(
@@ -44,8 +44,8 @@ pub fn distances_given(
     Ok(column)
 }
 
-/// The level of each vertex from first numbers, in the graph of a square block: the least sum of a vertex's first number
-/// and the number of entries of a walk from there, over all vertices that have a first number. The result is that of
+/// The level of each vertex from initial values, in the graph of a square block: the least sum of an initial value and the
+/// number of entries of a walk from its vertex, over all vertices that have an initial value. The result is that of
 /// [`distances_given`] if each entry weighs 1, and so is the cost.
 pub fn levels_given(
     alloc: Global,
@@ -66,7 +66,7 @@ pub fn levels_given(
     Ok(column)
 }
 
-/// The distances from first numbers, given the transposed matrix of the graph.
+/// The distances from initial values, given the transposed matrix of the graph.
 fn given_by_edges(
     alloc: Global,
     edges: &Block<MinPlus>,
@@ -81,7 +81,7 @@ fn given_by_edges(
     known.column(alloc, given.shape())
 }
 
-/// The first numbers, in a graph with this many entries.
+/// The initial values, in a graph with this many entries.
 fn first_numbers(
     alloc: Global,
     entries: usize,

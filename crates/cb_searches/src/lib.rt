@@ -6,7 +6,7 @@
 //! and [`levels`] search in one block: they make a few rounds, and then settle the remaining vertices one after
 //! another. For levels each edge weighs 1, and [`parents`] finds the vertices from which the levels were reached.
 //! [`distances_from`] and [`levels_from`] search from several sources; [`distances_given`] and [`levels_given`] from all
-//! vertices that have a first number. [`Numbers`] holds a search's numbers of vertices; other kernels that number vertices
+//! vertices that have an initial value. [`Numbers`] holds a search's numbers of vertices; other kernels that number vertices
 //! use it too.
 #![tactic(auto)]
 

@@ -1,7 +1,8 @@
-//! Further operations that GraphBLAS programs consist of: entries selected by their place, values replaced, the diagonal,
-//! rows and columns extracted by their numbers, a part assigned, the Kronecker product, and a block updated under a mask.
+//! Further operations of GraphBLAS: entries selected by their place, values replaced, the diagonal, rows and columns
+//! extracted by their numbers, a part assigned, the Kronecker product, a block updated under a mask, products of transposes,
+//! and powers.
 //!
-//! Each goes over the columns that have entries, in order, so its cost is proportional to the entries, whatever the
+//! Each walks the columns that have entries, in order, so its cost is proportional to the entries, whatever the
 //! dimensions. A rule (`rules`) gives an entry its new value: it is a region of places (`regions`), or a function of the
 //! value and the place (`functions`). One walk (`replacements`) applies any rule.
 //!

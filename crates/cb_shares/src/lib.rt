@@ -1,7 +1,8 @@
 //! Shares of a product: which of its columns each thread makes, how it makes them, and how the panels are joined.
 //!
-//! Columns are parted so that each share takes about as many products of two values, as by Nagasaka, Matsuoka, Azad and
-//! Buluç, High-performance Sparse Matrix-Matrix Products on Intel KNL and Multicore Architectures (ICPP Workshops 2018).
+//! Columns are divided so that all shares take about the same number of products of two values, as in Nagasaka, Matsuoka,
+//! Azad and Buluç, High-performance Sparse Matrix-Matrix Products on Intel KNL and Multicore Architectures (ICPP Workshops
+//! 2018).
 //!
 //! Nothing here starts a thread: `cb_panels` does, by a runtime, and so may a program in C.
 #![tactic(auto)]
@@ -54,7 +55,7 @@ fn products_of<S: Semiring>(
     index.products(left, rows)
 }
 
-/// All of these counts together.
+/// The sum of these counts, saturating.
 pub fn total(counts: &[usize]) -> usize {
     let mut sum = 0usize;
     for count in counts {
@@ -63,8 +64,9 @@ pub fn total(counts: &[usize]) -> usize {
     sum
 }
 
-/// Returns where each of `count` shares of a product's columns ends: each share takes about as many products of two values.
-/// No share takes fewer than `least` products, except for the last that has columns and those behind it, which have none.
+/// Returns where each of `count` shares of a product's columns ends. All shares take about the same number of products of
+/// two values, and about `least` or more: if there are too few products, the last shares have no columns. Columns stay
+/// whole, so a share next to a large column may take fewer.
 ///
 /// Costs an index of the left block's columns, and a pass over the right block's entries.
 pub fn ends_of<S: Semiring>(
@@ -84,7 +86,7 @@ pub fn ends_of<S: Semiring>(
     ends_by(alloc, right.column_numbers(), cols, &counts, share, count)
 }
 
-/// Where shares end that take so many products each, of columns that take these.
+/// Where shares end, given how many products each column takes, and each share.
 fn ends_by(
     alloc: Global,
     columns: &[u32],
@@ -111,7 +113,7 @@ fn ends_by(
     Ok(ends)
 }
 
-/// The first place, from one on, before which the counts make up a target. `sum` is what those before the place make up.
+/// The first place, at or after `from`, before which the counts add up to a target. `sum` is the sum of those before it.
 fn place_after(counts: &[usize], from: usize, sum: &mut usize, target: usize) -> usize
     ensures { from ≤ result }
 {
@@ -124,7 +126,7 @@ fn place_after(counts: &[usize], from: usize, sum: &mut usize, target: usize) ->
     from.max(counts.len())
 }
 
-/// The column at a place among columns that have entries, or the number of all columns behind the last of them.
+/// The column at a place among columns that have entries, or the number of all columns after the last of them.
 fn column_at(columns: &[u32], cols: u32, place: usize) -> u32
     ensures { result ≡ get_or columns.now place cols }
 {
