@@ -1,4 +1,4 @@
-// Matrices for measuring, as Matrix Market files on standard output: the same words make the same file.
+// Matrices for measuring, as Matrix Market files on standard output. The same arguments give the same file.
 //   generate er N D         N by N, N*D places drawn evenly
 //   generate rmat S D       R-MAT with the probabilities of Graph500: 2^S vertices, D*2^S edges, vertices renumbered at random
 //   generate grid S         the graph of a grid of S by S, both directions

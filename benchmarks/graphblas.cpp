@@ -1,4 +1,4 @@
-// Products, levels and distances by SuiteSparse:GraphBLAS.
+// Products, searches, components and triangles by SuiteSparse:GraphBLAS.
 extern "C" {
 #include <GraphBLAS.h>
 }
