@@ -1,10 +1,9 @@
 //! What a command line asks for.
-ghost use Rattle.std.specs.Prelude.{◌≡◌, vec_len};
+ghost use Rattle.std.specs.Prelude.{◌≡◌, ◌≤◌, vec_len};
 ghost use Rattle.cb_words.specs.Jobs.{file_count_of};
 
 use crate::lists::Lists;
 use crate::selection_names::Selection;
-use cb_layout::Grid;
 use cb_operations::Operation;
 use cb_semirings::SemiringName;
 use std::alloc::{AllocError, AllocFailed};
@@ -88,14 +87,16 @@ pub enum EngineName {
 #[derive(Drop)]
 pub struct Job {
     pub task: Task,
-    /// The grid of the ranks that compute it.
-    pub grid: Grid,
+    /// The side of the grid of the ranks that compute it, 1 to 6.
+    pub side: u32,
     pub engine: EngineName,
     /// How many threads may read the files, compute a product without ranks, and write the answer.
     pub threads: u32,
     /// The names of the files, in the order in which they are read.
     pub files: Vec<String>,
     pub ghost file_count: { vec_len files ≡ file_count_of task },
+    pub ghost some_ranks: { 1 ≤ side },
+    pub ghost few_ranks: { side ≤ 6 },
 }
 
 impl Job {

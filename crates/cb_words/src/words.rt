@@ -1,6 +1,6 @@
 //! Reads a command line. `clap` checks its words: an unknown command or option, a missing file, a surplus one, a repeated
 //! option and an unknown value are usage errors.
-ghost use Rattle.std.specs.Prelude.{◌≢◌, String, ◌≡◌, ◌+◌, IfOk, IfSome, length, vec_len};
+ghost use Rattle.std.specs.Prelude.{◌≢◌, String, ◌≡◌, ◌≤◌, ◌+◌, IfOk, IfSome, length, vec_len};
 ghost use Rattle.std.specs.declared.io.ErrorKind.TheVariants as io_is;
 ghost use Rattle.clap.specs.Words.{kind_of};
 ghost use Rattle.cb_operations.specs.OperationAnswers.{operand_count_of};
@@ -13,7 +13,6 @@ use crate::jobs::{EngineName, Job, Task, UsageFault};
 use crate::list_words::lists_of;
 use crate::lists::Lists;
 use crate::selection_words::selection_of;
-use cb_layout::Grid;
 use cb_matrix::Test;
 use cb_operations::Operation;
 use cb_semirings::SemiringName;
@@ -113,6 +112,9 @@ fn files_of(
     Ok(Some(files))
 }
 
+/// The greatest side of a grid of ranks.
+const LARGEST_SIDE: u32 = 6;
+
 /// The most threads by default: the number of ranks of the largest grid.
 const MOST_THREADS: usize = 36;
 
@@ -157,23 +159,28 @@ fn side_for(processors: usize) -> u32 {
     }
 }
 
-/// The grid of a command. By default its side follows the number of processors; with `--trace` it is 2.
-fn grid_of(command: &str, found: &ArgMatches<'_>, processors: usize) -> Option<Grid> {
+/// The side of a command's grid. By default it follows the number of processors; with `--trace` it is 2.
+fn side_of(command: &str, found: &ArgMatches<'_>, processors: usize) -> Option<u32>
+    ensures some { IfSome result (λ side. 1 ≤ side) }
+    ensures few { IfSome result (λ side. side ≤ 6) }
+{
     let side = match found.get_one::<u32>("grid") {
         Some(side) => side,
         None if asks_for_trace(command, found) => 2,
         None => side_for(processors),
     };
-    Grid::new(side).ok()
+    (1..=LARGEST_SIDE).contains(&side).then_some(side)
 }
 
 /// How many threads may work on a command: one with `--engine plain`, as many as ranks if ranks compute it, and otherwise
 /// as many as processors, up to `MOST_THREADS`.
-fn threads_of(command: &str, found: &ArgMatches<'_>, grid: &Grid, processors: usize) -> u32 {
+fn threads_of(command: &str, found: &ArgMatches<'_>, side: u32, processors: usize) -> u32
+    requires { side ≤ 6 }
+{
     match found.get_str("engine") {
         Some("plain") => 1,
         None if !asks_for_ranks(command, found) => processors.clamp(1, MOST_THREADS) as u32,
-        _ => u32::from(grid.ranks()),
+        _ => side * side,
     }
 }
 
@@ -287,9 +294,9 @@ fn job_of(
     let Some((command, found)) = matches.subcommand() else {
         return Ok(None);
     };
-    let (Some(task), Some(grid), Some(engine)) = (
+    let (Some(task), Some(side), Some(engine)) = (
         task_of(command, found),
-        grid_of(command, found, processors),
+        side_of(command, found, processors),
         engine_of(command, found),
     ) else {
         return Ok(None);
@@ -299,9 +306,9 @@ fn job_of(
     };
     Ok(Some(Job {
         task,
-        grid,
+        side,
         engine,
-        threads: threads_of(command, found, &grid, processors),
+        threads: threads_of(command, found, side, processors),
         files,
     }))
 }
