@@ -7,8 +7,9 @@ use Rattle.cb_operations.specs.declared.operations.Operation.{Operation}
 use Rattle.cb_words.specs.declared.jobs.Job.{Job}
 use Rattle.cb_words.specs.declared.jobs.Task.{Task}
 use Rattle.cb_words.specs.declared.jobs.Task.TheVariants.{Matrix, Levels, Distances}
-use Rattle.cb_tasks.specs.WriteEnds.{IsEndOn, IsTaskEnd}
-use Rattle.cb_tasks.specs.declared.faults.JobFault.{JobFault}
+use Rattle.cb_job_texts.specs.WriteEnds.{IsEndOn}
+use Rattle.cb_tasks.specs.TaskEnds.{IsTaskEnd}
+use Rattle.cb_job_texts.specs.declared.faults.JobFault.{JobFault}
 use Rattle.cb_engines.specs.declared.engines.Engine.{Engine}
 use Rattle.cb_cli.specs.Answers.{IsAnswerFor, IsFaultFor}
 use Rattle.cb_cli.specs.Ends.{IsEndBy, IsJobEnd, IsRanksEnd}
@@ -38,12 +39,12 @@ module _ {T A : Type 0} (texts : List (Vec ℕ A)) (old new : Option (List ℕ))
     -- a job that names no engine ends as its task does without ranks
     pub without_engine : engine_of job.engine ≡ None → IsTaskEnd job.task texts old new failed r → IsJobEnd job texts old new failed r
     without_engine e h =
-        subst (λ x. IsEndOn (IsAnswerFor x job.grid.side job.task) (IsFaultFor x job.grid.side job.task) texts old new failed r) (sym e) h
+        subst (λ x. IsEndOn (IsAnswerFor x job.side job.task) (IsFaultFor x job.side job.task) texts old new failed r) (sym e) h
 
     -- any other ends as its task does by the ranks of its engine
-    pub by_engine : (engine : Engine) (ranks : Ranks) → engine_of job.engine ≡ Some engine → ranks.engine ≡ engine → ranks.grid ≡ job.grid
+    pub by_engine : (engine : Engine) (ranks : Ranks) → engine_of job.engine ≡ Some engine → ranks.engine ≡ engine → ranks.grid.side ≡ job.side
         → IsEndBy ranks job.task texts old new failed r → IsJobEnd job texts old new failed r
     by_engine engine ranks e f g h =
-        subst (λ x. IsEndOn (IsAnswerFor x job.grid.side job.task) (IsFaultFor x job.grid.side job.task) texts old new failed r) (sym e)
-        (subst (λ x. IsEndOn (IsAnswerFor (Some x) job.grid.side job.task) (IsFaultFor (Some x) job.grid.side job.task) texts old new failed r) f
-        (subst (λ x. IsEndOn (IsAnswerFor (Some ranks.engine) x.side job.task) (IsFaultFor (Some ranks.engine) x.side job.task) texts old new failed r) g h))
+        subst (λ x. IsEndOn (IsAnswerFor x job.side job.task) (IsFaultFor x job.side job.task) texts old new failed r) (sym e)
+        (subst (λ x. IsEndOn (IsAnswerFor (Some x) job.side job.task) (IsFaultFor (Some x) job.side job.task) texts old new failed r) f
+        (subst (λ x. IsEndOn (IsAnswerFor (Some ranks.engine) x job.task) (IsFaultFor (Some ranks.engine) x job.task) texts old new failed r) g h))

@@ -18,9 +18,12 @@ use Rattle.cb_run.specs.Searched.{IsWalkLoss, IsWalkRefusal}
 use Rattle.cb_words.specs.declared.jobs.Job.{Job}
 use Rattle.cb_words.specs.declared.jobs.Task.{Task}
 use Rattle.cb_words.specs.declared.jobs.Task.TheVariants.{Matrix, Levels, Distances}
-use Rattle.cb_tasks.specs.Answers.{AreMatrices, IsAnswer, IsFault, IsFaultOver, IsWalkFault}
-use Rattle.cb_tasks.specs.Files.{text_at}
-use Rattle.cb_tasks.specs.declared.faults.JobFault.{JobFault}
+use Rattle.cb_job_texts.specs.Inputs.{AreMatrices}
+use Rattle.cb_tasks.specs.Answers.{IsAnswer, IsFault}
+use Rattle.cb_matrix_tasks.specs.MatrixAnswers.{IsFaultOver}
+use Rattle.cb_graph_tasks.specs.GraphAnswers.{IsWalkFault}
+use Rattle.cb_job_texts.specs.Texts.{text_at}
+use Rattle.cb_job_texts.specs.declared.faults.JobFault.{JobFault}
 use Rattle.cb_cli.specs.Engines.{engine_of, fault_of_engine}
 use Rattle.cb_cli.specs.TraceTexts.{trace_lines}
 
@@ -88,8 +91,8 @@ IsFaultFor (Some engine) side task = IsFaultBy engine side task
 
 -- the answer of a job: of its task, by the engine that it names
 abbrev pub IsJobAnswer : Job → List (List ℕ) → List ℕ → Type 0
-IsJobAnswer job = IsAnswerFor (engine_of job.engine) job.grid.side job.task
+IsJobAnswer job = IsAnswerFor (engine_of job.engine) job.side job.task
 
 -- why it has no answer, or why the answer wasn't written
 abbrev pub IsJobFault : Job → List (List ℕ) → JobFault → Type 0
-IsJobFault job = IsFaultFor (engine_of job.engine) job.grid.side job.task
+IsJobFault job = IsFaultFor (engine_of job.engine) job.side job.task

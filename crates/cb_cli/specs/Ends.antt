@@ -4,8 +4,8 @@ use Rattle.cb_semirings.specs.Arithmetic.{Arithmetic}
 use Rattle.cb_operations.specs.declared.operations.Operation.{Operation}
 use Rattle.cb_words.specs.declared.jobs.Job.{Job}
 use Rattle.cb_words.specs.declared.jobs.Task.{Task}
-use Rattle.cb_tasks.specs.WriteEnds.{IsEndOn}
-use Rattle.cb_tasks.specs.declared.faults.JobFault.{JobFault}
+use Rattle.cb_job_texts.specs.WriteEnds.{IsEndOn}
+use Rattle.cb_job_texts.specs.declared.faults.JobFault.{JobFault}
 use Rattle.cb_cli.specs.Answers.{IsAnswerBy, IsFaultBy, IsJobAnswer, IsJobFault, IsRanksAnswer, IsRanksFaultOver}
 use Rattle.cb_cli.specs.declared.ranks.Ranks.{Ranks}
 

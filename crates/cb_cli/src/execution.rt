@@ -6,8 +6,9 @@ ghost use Rattle.cb_cli.specs.Ends.{IsEndBy, IsJobEnd};
 use crate::operations::put_operation;
 use crate::ranks::{Ranks, engine_of};
 use crate::walks::{put_distances, put_levels};
-use cb_tasks::faults::JobFault;
-use cb_tasks::sinks::Sink;
+use cb_job_texts::faults::JobFault;
+use cb_job_texts::sinks::Sink;
+use cb_layout::Grid;
 use cb_words::{Job, Task};
 use std::alloc::Global;
 use std::sync::Wait;
@@ -38,6 +39,13 @@ fn execute_by<R: Threads + Wait + Sync, K: Sink>(
     }
 }
 
+/// The grid of the ranks that compute a job.
+fn grid_of(job: &Job) -> Grid
+    ensures { result.side ≡ job.now.side }
+{
+    Grid::new(job.side).unwrap()
+}
+
 /// Reads the texts of a job's files in the job's order, computes the answer by what the job names, and writes its text, as
 /// [`cb_tasks::execution::execute`] does. If the engine keeps a trace of an operation, a line for each event follows.
 ///
@@ -58,7 +66,7 @@ pub fn execute<R: Threads + Wait + Sync, K: Sink>(
     };
     let ranks = Ranks {
         engine,
-        grid: job.grid,
+        grid: grid_of(job),
         threads: job.threads,
     };
     execute_by(rt, alloc, &ranks, job.task, texts, out)

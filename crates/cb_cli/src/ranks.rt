@@ -1,12 +1,12 @@
 //! The ranks that compute a job, and their faults.
 ghost use Rattle.std.specs.Prelude.{◌≡◌, ◌≢◌};
+ghost use Rattle.cb_job_texts.specs.declared.faults.JobFault.TheVariants.{Output};
 ghost use Rattle.cb_cli.specs.Engines.{engine_of, fault_of_engine, fault_of_operation};
-ghost use Rattle.cb_tasks.specs.declared.faults.JobFault.TheVariants.{Output};
 
 use cb_engines::{Engine, EngineFault};
+use cb_job_texts::faults::{JobFault, RanksFault};
 use cb_layout::Grid;
 use cb_run::OperationFault;
-use cb_tasks::faults::{JobFault, RanksFault};
 use cb_words::EngineName;
 
 /// The ranks that compute a job: an engine over the ranks of a grid; and how many threads read and write.

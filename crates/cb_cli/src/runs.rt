@@ -1,12 +1,12 @@
 //! A run of the program.
 ghost use Rattle.std.specs.Prelude.{◌≡◌, false};
+ghost use Rattle.cb_endings.specs.Endings.{IsEnding, IsJobEnding, IsRun, names_of};
 ghost use Rattle.cb_cli.specs.Answers.{IsJobAnswer, IsJobFault};
-ghost use Rattle.cb_tasks.specs.Endings.{IsEnding, IsJobEnding, IsRun, names_of};
 
 use crate::execution::execute;
-use cb_tasks::endings::{Ending, Status, finish, unloaded, usage_ending};
-use cb_tasks::files::{FileSource, texts_of};
-use cb_tasks::sinks::Sink;
+use cb_endings::endings::{Ending, Status, finish, unloaded, usage_ending};
+use cb_endings::files::{FileSource, texts_of};
+use cb_job_texts::sinks::Sink;
 use cb_words::{Job, UsageFault};
 use std::alloc::Global;
 use std::sync::Wait;

@@ -3,20 +3,20 @@ ghost use Rattle.std.specs.Prelude.{◌≡◌, ◌≢◌, vec_len, false, IfOk, 
 ghost use Rattle.cb_semirings.specs.Tables.{min_plus, or_and};
 ghost use Rattle.cb_market.specs.Text.{vertex_text_of};
 ghost use Rattle.cb_searches.specs.Walks.{AreLevels, AreDistances};
-ghost use Rattle.cb_tasks.specs.Answers.{IsWalkAnswer};
-ghost use Rattle.cb_tasks.specs.Files.{bytes_of};
+ghost use Rattle.cb_graph_tasks.specs.GraphAnswers.{IsWalkAnswer};
+ghost use Rattle.cb_job_texts.specs.Texts.{bytes_of};
+ghost use Rattle.cb_words.specs.declared.jobs.Task.TheVariants as task_is;
 ghost use Rattle.cb_cli.specs.Answers.{IsRanksWalkFault};
 ghost use Rattle.cb_cli.specs.Ends.{IsEndBy};
-ghost use Rattle.cb_words.specs.declared.jobs.Task.TheVariants as task_is;
 
 use crate::ranks::{Ranks, job_fault};
+use cb_graph_tasks::column_output::put_column;
+use cb_job_texts::faults::JobFault;
+use cb_job_texts::inputs::read_one;
+use cb_job_texts::sinks::Sink;
 use cb_matrix::Matrix;
 use cb_run::{distances, levels};
 use cb_semirings::{MinPlus, OrAnd};
-use cb_tasks::faults::JobFault;
-use cb_tasks::inputs::read_one;
-use cb_tasks::output::put_column;
-use cb_tasks::sinks::Sink;
 use std::alloc::Global;
 use std::sync::Wait;
 use std::thread::Threads;

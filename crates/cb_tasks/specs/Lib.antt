@@ -1,14 +1,3 @@
-pub mod Sinks
-pub mod Writers
-pub mod FaultLines
-pub mod Files
-pub mod Selected
-pub mod Lists
-pub mod Extracts
-pub mod Assignments
-pub mod ListedSources
-pub mod InitialValues
+pub mod MatrixTasks
 pub mod Answers
-pub mod WriteEnds
-pub mod Endings
-pub mod Statuses
+pub mod TaskEnds

@@ -1,19 +1,26 @@
-//! A run of the program without ranks.
-ghost use Rattle.std.specs.Prelude.{◌≡◌, vec_len, false};
-ghost use Rattle.cb_tasks.specs.Answers.{IsJobAnswer, IsJobFault};
-ghost use Rattle.cb_tasks.specs.Endings.{IsEnding, IsJobEnding, IsRun, names_of};
-ghost use Rattle.cb_tasks.specs.WriteEnds.{IsJobEnd};
+//! A run of the small program: without ranks, over the distributive semirings.
+ghost use Rattle.std.specs.Prelude.{◌≡◌, ◌↔◌, vec_len, IsTrue, false};
+ghost use Rattle.cb_endings.specs.Endings.{IsEnding, IsJobEnding, IsRun, names_of};
+ghost use Rattle.cb_tasks.specs.Answers.{HasAll, IsJobAnswer, IsJobFault};
+ghost use Rattle.cb_tasks.specs.TaskEnds.{IsJobEnd};
 
-use crate::endings::{Ending, Status, finish, unloaded, usage_ending};
-use crate::execution::execute;
-use crate::faults::{JobFault, RanksFault};
-use crate::files::{FileSource, texts_of};
-use crate::sinks::Sink;
+use crate::execution::{execute_distributive, has_semiring};
+use cb_endings::endings::{Ending, Status, finish, unloaded, usage_ending};
+use cb_endings::files::{FileSource, texts_of};
+use cb_job_texts::faults::JobFault;
+use cb_job_texts::sinks::Sink;
 use cb_words::{EngineName, Job, UsageFault};
 use std::alloc::Global;
 use std::thread::Threads;
 
-/// Writes the answer of a job on the texts of its files, unless it asks for ranks.
+/// Whether the program has what a job asks for: no ranks, and no semiring but the distributive ones.
+fn has_all(job: &Job) -> bool
+    ensures { IsTrue result ↔ HasAll job.now }
+{
+    job.engine == EngineName::Plain && has_semiring(job.task)
+}
+
+/// Writes the answer of a job on the texts of its files, unless it asks for what the program doesn't have.
 fn answer<R: Threads + Sync, K: Sink>(
     rt: &R,
     alloc: Global,
@@ -25,10 +32,10 @@ fn answer<R: Threads + Sync, K: Sink>(
     requires works { K.has_failed out.old ≡ false }
     ensures { IsJobEnd job.now texts.items (K.written out.old) (K.written out.new) (K.has_failed out.new) result }
 {
-    match job.engine {
-        EngineName::Plain => execute(rt, alloc, job.threads, job.task, texts, out),
-        _ => Err(JobFault::Ranks(RanksFault::Absent)),
+    if !has_all(job) {
+        return Err(JobFault::Absent);
     }
+    execute_distributive(rt, alloc, job.threads, job.task, texts, out)
 }
 
 /// Loads the files of a job, and writes its answer.
@@ -52,8 +59,9 @@ fn job_ending<R: Threads + Sync, F: FileSource, K: Sink>(
     }
 }
 
-/// Runs a program without ranks on a command line that was read. The answer or the help goes to `out`, the text of a fault
-/// to `err`. A job that asks for ranks ends with status 69, and writes nothing to `out`.
+/// Runs the small program on a command line that was read. The answer or the help goes to `out`, the text of a fault to
+/// `err`. A job that asks for ranks, or for a semiring that isn't distributive, ends with status 69, and writes nothing to
+/// `out`.
 ///
 /// The files are loaded in the job's order before any text is parsed, and the first fault ends the run. The status and
 /// the text on `err` are those of the ending. If memory for that text is refused, or `err` fails, only a beginning of it

@@ -3,9 +3,9 @@
 #![tactic(auto)]
 
 use cb_cli::runs::run;
-use cb_tasks::endings::Status;
-use cb_tasks::files::SystemFiles;
-use cb_tasks::sinks::WriterSink;
+use cb_endings::endings::Status;
+use cb_endings::files::SystemFiles;
+use cb_job_texts::sinks::WriterSink;
 use cb_words::asked;
 use std::io;
 

@@ -1,10 +1,11 @@
-//! The program `cbgrid` without ranks. It does every job that doesn't ask for ranks, and is proved in half the time.
+//! The small program. It does every job of `cbgrid` that asks for no ranks and for no semiring but the distributive ones,
+//! and is proved and compiled in half the time.
 #![tactic(auto)]
 
-use cb_tasks::endings::Status;
-use cb_tasks::files::SystemFiles;
+use cb_endings::endings::Status;
+use cb_endings::files::SystemFiles;
+use cb_job_texts::sinks::WriterSink;
 use cb_tasks::runs::run;
-use cb_tasks::sinks::WriterSink;
 use cb_words::asked;
 use std::io;
 

@@ -1,7 +1,7 @@
 use Rattle.std.proofs.Common.{sym, subst}
 use Rattle.cb_semirings.specs.Tables.{or_and}
 use Rattle.cb_run.specs.Searched.{IsWalkLoss, IsWalkRefusal}
-use Rattle.cb_tasks.specs.Files.{bytes_of}
+use Rattle.cb_job_texts.specs.Texts.{bytes_of}
 use Rattle.cb_cli.specs.Answers.{IsRanksWalkFault}
 use Rattle.cb_cli.proofs.Faults.{of_search}
 use Rattle.cb_cli.proofs.walks.levels_of.Goals as goal

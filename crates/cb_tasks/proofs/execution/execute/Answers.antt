@@ -1,53 +1,6 @@
-use Rattle.cb_tasks.proofs.EndLemmas.{of_task}
+use Rattle.std.proofs.Common.{sym, ◌∙◌}
+use Rattle.cb_tasks.proofs.EndLemmas.{of_matrices}
 use Rattle.cb_tasks.proofs.execution.execute.Goals as goal
 
-pub returns-in-Matrix : goal.returns-in-Matrix
-returns-in-Matrix g c = of_task c.args.texts.items _ _ _ _ _ _ c.in-Matrix.is c.execute_named.ensures
-
-pub returns-in-Selected : goal.returns-in-Selected
-returns-in-Selected g c = of_task c.args.texts.items _ _ _ _ _ _ c.in-Selected.is c.execute_named-in-Selected.ensures
-
-pub returns-in-Kronecker : goal.returns-in-Kronecker
-returns-in-Kronecker g c = of_task c.args.texts.items _ _ _ _ _ _ c.in-Kronecker.is c.execute_named-in-Kronecker.ensures
-
-pub returns-in-Assign : goal.returns-in-Assign
-returns-in-Assign g c = of_task c.args.texts.items _ _ _ _ _ _ c.in-Assign.is c.execute_named-in-Assign.ensures
-
-pub returns-in-Levels : goal.returns-in-Levels
-returns-in-Levels g c = of_task c.args.texts.items _ _ _ _ _ _ c.in-Levels.is c.put_levels.ensures
-
-pub returns-in-Distances : goal.returns-in-Distances
-returns-in-Distances g c = of_task c.args.texts.items _ _ _ _ _ _ c.in-Distances.is c.put_distances.ensures
-
-pub returns-in-Parents : goal.returns-in-Parents
-returns-in-Parents g c = of_task c.args.texts.items _ _ _ _ _ _ c.in-Parents.is c.put_parents.ensures
-
-pub returns-in-Components : goal.returns-in-Components
-returns-in-Components g c = of_task c.args.texts.items _ _ _ _ _ _ c.in-Components.is c.put_components.ensures
-
-pub returns-in-Triangles : goal.returns-in-Triangles
-returns-in-Triangles g c = of_task c.args.texts.items _ _ _ _ _ _ c.in-Triangles.is c.put_triangles.ensures
-
-pub returns-in-TriangleCounts : goal.returns-in-TriangleCounts
-returns-in-TriangleCounts g c = of_task c.args.texts.items _ _ _ _ _ _ c.in-TriangleCounts.is c.put_triangle_counts.ensures
-
-pub returns-in-RowDegrees : goal.returns-in-RowDegrees
-returns-in-RowDegrees g c = of_task c.args.texts.items _ _ _ _ _ _ c.in-RowDegrees.is c.put_row_degrees.ensures
-
-pub returns-in-ColumnDegrees : goal.returns-in-ColumnDegrees
-returns-in-ColumnDegrees g c = of_task c.args.texts.items _ _ _ _ _ _ c.in-ColumnDegrees.is c.put_column_degrees.ensures
-
-pub returns-in-Extract : goal.returns-in-Extract
-returns-in-Extract g c = of_task c.args.texts.items _ _ _ _ _ _ c.in-Extract.is c.execute_named-in-Extract.ensures
-
-pub returns-in-LevelsFrom : goal.returns-in-LevelsFrom
-returns-in-LevelsFrom g c = of_task c.args.texts.items _ _ _ _ _ _ c.in-LevelsFrom.is c.put_levels_from.ensures
-
-pub returns-in-DistancesFrom : goal.returns-in-DistancesFrom
-returns-in-DistancesFrom g c = of_task c.args.texts.items _ _ _ _ _ _ c.in-DistancesFrom.is c.put_distances_from.ensures
-
-pub returns-in-LevelsGiven : goal.returns-in-LevelsGiven
-returns-in-LevelsGiven g c = of_task c.args.texts.items _ _ _ _ _ _ c.in-LevelsGiven.is c.put_levels_given.ensures
-
-pub returns-in-DistancesGiven : goal.returns-in-DistancesGiven
-returns-in-DistancesGiven g c = of_task c.args.texts.items _ _ _ _ _ _ c.in-DistancesGiven.is c.put_distances_given.ensures
+pub returns-in-Some : goal.returns-in-Some
+returns-in-Some g c = of_matrices c.args.texts.items _ _ _ _ c.args.task (c.in-Some.task, c.in-Some.semiring) (sym c.matrix_task.ensures ∙ c.in-Some.is) c.execute_named.ensures

@@ -1,8 +1,9 @@
 use Rattle.std.proofs.Common.{sym, subst, ap, Err}
-use Rattle.cb_tasks.specs.Files.{AreTexts, IsUnloaded, bytes_of}
+use Rattle.cb_endings.specs.Files.{AreTexts, IsUnloaded}
+use Rattle.cb_job_texts.specs.Texts.{bytes_of}
 use Rattle.cb_tasks.specs.Answers.{IsJobAnswer, IsJobFault}
-use Rattle.cb_tasks.specs.Endings.{IsJobEnding}
-use Rattle.cb_tasks.proofs.EndingLemmas.{job_unloaded}
+use Rattle.cb_endings.specs.Endings.{IsJobEnding}
+use Rattle.cb_endings.proofs.EndingLemmas.{job_unloaded}
 use Rattle.cb_tasks.proofs.runs.job_ending.Goals as goal
 
 pub returns-in-Err : goal.returns-in-Err

@@ -1,5 +1,5 @@
 use Rattle.cb_tasks.specs.Answers.{IsJobAnswer, IsJobFault}
-use Rattle.cb_tasks.proofs.EndingLemmas.{run_of_job, run_of_usage}
+use Rattle.cb_endings.proofs.EndingLemmas.{run_of_job, run_of_usage}
 use Rattle.cb_tasks.proofs.runs.run.Goals as goal
 
 pub returns-in-Ok : goal.returns-in-Ok

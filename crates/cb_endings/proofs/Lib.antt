@@ -1,0 +1,2 @@
+mod FileLemmas
+pub mod EndingLemmas

@@ -1,0 +1,4 @@
+pub mod FaultLines
+pub mod Files
+pub mod Endings
+pub mod Statuses

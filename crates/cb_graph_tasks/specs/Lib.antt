@@ -1,0 +1,4 @@
+pub mod ListedSources
+pub mod InitialValues
+pub mod GraphAnswers
+pub mod GraphEnds

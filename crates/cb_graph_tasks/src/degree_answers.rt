@@ -1,0 +1,69 @@
+//! How many entries each row or column of the matrix of a text has, which one thread counts.
+ghost use Rattle.std.specs.Prelude.{◌≡◌, ◌≢◌, vec_len, false, IfOk, IfErr};
+ghost use Rattle.cb_graphs.specs.Degrees.{row_degrees, column_degrees};
+ghost use Rattle.cb_market.specs.Reads.{Reads};
+ghost use Rattle.cb_semirings.specs.Tables.{or_and};
+ghost use Rattle.cb_job_texts.specs.Texts.{bytes_of, text_at};
+ghost use Rattle.cb_graph_tasks.specs.GraphAnswers.{IsDegreesFault};
+ghost use Rattle.cb_graph_tasks.specs.GraphEnds.{IsDegreesEnd};
+
+use crate::column_output::put_degrees;
+use cb_dcsc::Block;
+use cb_graphs::{column_degrees, row_degrees};
+use cb_job_texts::faults::JobFault;
+use cb_job_texts::inputs::read_one;
+use cb_job_texts::sinks::Sink;
+use cb_layout::Grid;
+use cb_semirings::OrAnd;
+use std::alloc::Global;
+use std::thread::Threads;
+
+/// Reads the matrix of a text in or-and. It may have any shape.
+fn pattern<R: Threads + Sync>(
+    rt: &R,
+    alloc: Global,
+    threads: u32,
+    texts: Vec<Vec<u8>>,
+) -> Result<Block<OrAnd>, JobFault>
+    requires { vec_len texts ≡ 1 }
+    ensures ok { IfOk result (Reads or_and (text_at (bytes_of texts.items) 0)) }
+    ensures fault { IfErr result (IsDegreesFault (bytes_of texts.items)) }
+    ensures unwritten { IfErr result (λ f. f ≢ JobFault.Output) }
+{
+    let matrix = read_one::<OrAnd, R>(rt, alloc, &Grid::single(), threads, texts)?;
+    Ok(matrix.into_block())
+}
+
+/// Writes the number of entries in each row.
+pub fn put_row_degrees<R: Threads + Sync, K: Sink>(
+    rt: &R,
+    alloc: Global,
+    threads: u32,
+    texts: Vec<Vec<u8>>,
+    out: &mut K,
+) -> Result<(), JobFault>
+    requires texts { vec_len texts ≡ 1 }
+    requires works { K.has_failed out.old ≡ false }
+    ensures { IsDegreesEnd (row_degrees or_and) texts.items (K.written out.old) (K.written out.new) (K.has_failed out.new) result }
+{
+    let pattern = pattern(rt, alloc, threads, texts)?;
+    let degrees = row_degrees(alloc, &pattern)?;
+    put_degrees(alloc, &degrees, out)
+}
+
+/// Writes the number of entries in each column.
+pub fn put_column_degrees<R: Threads + Sync, K: Sink>(
+    rt: &R,
+    alloc: Global,
+    threads: u32,
+    texts: Vec<Vec<u8>>,
+    out: &mut K,
+) -> Result<(), JobFault>
+    requires texts { vec_len texts ≡ 1 }
+    requires works { K.has_failed out.old ≡ false }
+    ensures { IsDegreesEnd (column_degrees or_and) texts.items (K.written out.old) (K.written out.new) (K.has_failed out.new) result }
+{
+    let pattern = pattern(rt, alloc, threads, texts)?;
+    let degrees = column_degrees(alloc, &pattern)?;
+    put_degrees(alloc, &degrees, out)
+}

@@ -1,0 +1,51 @@
+//! Reads the graph of a text into one block, for searches and counts by one thread. Several threads read a large text.
+ghost use Rattle.std.specs.Prelude.{◌≡◌, ◌≢◌, vec_len, IfOk, IfErr};
+ghost use Rattle.cb_job_texts.specs.Texts.{bytes_of};
+ghost use Rattle.cb_graph_tasks.specs.GraphAnswers.{IsSquareFault, IsSquareGraph, IsWalkFault, IsWalkGraph};
+
+use cb_dcsc::Block;
+use cb_job_texts::faults::JobFault;
+use cb_job_texts::inputs::read_one;
+use cb_layout::Grid;
+use cb_operations::{Refusal, check_graph};
+use cb_semirings::{OrAnd, Semiring};
+use std::alloc::Global;
+use std::thread::Threads;
+
+/// Reads the graph of a text. The source must be a vertex of it.
+pub fn graph_with_source<S: Semiring + Send + Sync, R: Threads + Sync>(
+    rt: &R,
+    alloc: Global,
+    threads: u32,
+    source: u32,
+    texts: Vec<Vec<u8>>,
+) -> Result<Block<S>, JobFault>
+    requires { vec_len texts ≡ 1 }
+    ensures ok { IfOk result (IsWalkGraph S.arithmetic source (bytes_of texts.items)) }
+    ensures fault { IfErr result (IsWalkFault S.arithmetic source (bytes_of texts.items)) }
+    ensures unwritten { IfErr result (λ f. f ≢ JobFault.Output) }
+{
+    let graph = read_one::<S, R>(rt, alloc, &Grid::single(), threads, texts)?;
+    check_graph(graph.shape(), source)?;
+    Ok(graph.into_block())
+}
+
+/// Reads the graph of a text. The matrix must be square.
+pub fn square_graph<R: Threads + Sync>(
+    rt: &R,
+    alloc: Global,
+    threads: u32,
+    texts: Vec<Vec<u8>>,
+) -> Result<Block<OrAnd>, JobFault>
+    requires { vec_len texts ≡ 1 }
+    ensures ok { IfOk result (IsSquareGraph (bytes_of texts.items)) }
+    ensures fault { IfErr result (IsSquareFault (bytes_of texts.items)) }
+    ensures unwritten { IfErr result (λ f. f ≢ JobFault.Output) }
+{
+    let graph = read_one::<OrAnd, R>(rt, alloc, &Grid::single(), threads, texts)?;
+    let shape = graph.shape();
+    if shape.rows() != shape.cols() {
+        return Err(JobFault::from(Refusal::NotSquare));
+    }
+    Ok(graph.into_block())
+}

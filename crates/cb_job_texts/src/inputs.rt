@@ -1,0 +1,78 @@
+//! Reads the texts of a job in the job's order. Each text is read in pieces, by at most `threads` threads, and dropped
+//! once it is read.
+ghost use Rattle.std.specs.Prelude.{◌≡◌, ◌∷◌, [], vec_len, IfOk, IfErr};
+ghost use Rattle.cb_market.specs.Reads.{Reads};
+ghost use Rattle.cb_job_texts.specs.Inputs.{AreMatrices, IsFirstReadFault, IsReadFault, IsTextFault, arithmetic_at};
+ghost use Rattle.cb_job_texts.specs.Texts.{bytes_of, text_at};
+
+use crate::faults::JobFault;
+use cb_dcsc::Block;
+use cb_layout::{DistributedMatrix, Grid};
+use cb_reading::{Pieces, read_side_by_side};
+use cb_semirings::Semiring;
+use std::alloc::Global;
+use std::thread::Threads;
+
+/// The fewest bytes that get a thread of their own.
+const LEAST_BYTES: usize = 262_144;
+
+/// Reads the text at position `which` into the blocks of a grid.
+pub fn read_text<S: Semiring + Send + Sync, R: Threads + Sync>(
+    rt: &R,
+    alloc: Global,
+    grid: &Grid,
+    threads: u32,
+    which: usize,
+    text: Vec<u8>,
+) -> Result<DistributedMatrix<S>, JobFault>
+    ensures ok { IfOk result (λ m. Reads S.arithmetic text.items m.matrix) }
+    ensures side { IfOk result (λ m. m.side ≡ grid.now.side) }
+    ensures fault { IfErr result (IsTextFault S.arithmetic which text.items) }
+{
+    let pieces = Pieces {
+        most: threads,
+        least_bytes: LEAST_BYTES,
+    };
+    match read_side_by_side::<S, R>(rt, alloc, grid, pieces, &text) {
+        Ok(matrix) => Ok(matrix),
+        Err(fault) => Err(JobFault::Read { which, fault }),
+    }
+}
+
+/// Reads the only text into the blocks of a grid.
+pub fn read_one<S: Semiring + Send + Sync, R: Threads + Sync>(
+    rt: &R,
+    alloc: Global,
+    grid: &Grid,
+    threads: u32,
+    mut texts: Vec<Vec<u8>>,
+) -> Result<DistributedMatrix<S>, JobFault>
+    requires { vec_len texts ≡ 1 }
+    ensures ok { IfOk result (λ m. AreMatrices S.arithmetic (bytes_of texts.items) (m.matrix ∷ [])) }
+    ensures only { IfOk result (λ m. Reads S.arithmetic (text_at (bytes_of texts.items) 0) m.matrix) }
+    ensures side { IfOk result (λ m. m.side ≡ grid.now.side) }
+    ensures fault { IfErr result (IsReadFault S.arithmetic (bytes_of texts.items)) }
+{
+    let text = texts.remove(0);
+    read_text(rt, alloc, grid, threads, 0, text)
+}
+
+/// Reads two texts, each over its own semiring.
+pub fn read_pair<S: Semiring + Send + Sync, T: Semiring + Send + Sync, R: Threads + Sync>(
+    rt: &R,
+    alloc: Global,
+    threads: u32,
+    mut texts: Vec<Vec<u8>>,
+) -> Result<(Block<S>, Block<T>), JobFault>
+    requires { vec_len texts ≡ 2 }
+    ensures first { IfOk result (λ p. Reads S.arithmetic (text_at (bytes_of texts.items) 0) p.0) }
+    ensures second { IfOk result (λ p. Reads T.arithmetic (text_at (bytes_of texts.items) 1) p.1) }
+    ensures fault { IfErr result (IsFirstReadFault (arithmetic_at S.arithmetic T.arithmetic) (bytes_of texts.items)) }
+{
+    let grid = Grid::single();
+    let first = texts.remove(0);
+    let second = texts.remove(0);
+    let left = read_text::<S, R>(rt, alloc, &grid, threads, 0, first)?;
+    let right = read_text::<T, R>(rt, alloc, &grid, threads, 1, second)?;
+    Ok((left.into_block(), right.into_block()))
+}

@@ -1,0 +1,5 @@
+mod EndLemmas
+mod OperationFaults
+mod ProductFaults
+mod ListFaults
+mod PartFaults

@@ -1,8 +1,0 @@
-use Rattle.std.proofs.Common.{◌≡◌, ◌-◌, ◌<◌, map, take}
-use Rattle.std.specs.Prelude.{All}
-use Rattle.cb_tasks.proofs.lists.less_one.Given as goal
-
--- the numbers so far
-abbrev pub invariant-loop-value : goal.invariant-loop-value
-invariant-loop-value l =
-    (l.numbers.items ≡ map (λ x. x - 1) (take l.value-index l.values)) × All (λ i. i < l.limit) l.numbers.items
