@@ -530,13 +530,21 @@ void cbgrid_matrix_free(struct cbgrid_matrix *a) {
 }
 
 /*
- * ---- Products by several threads. The library parts the columns of the product, makes the panel of each range, and
- * joins panels. Here a thread is started for each panel.
+ * ---- Products by several threads, also under a mask and outside one. The library parts the columns of the product, makes
+ * the panel of each range, and joins panels. Here a thread is started for each panel.
  */
+
+/* Where a product is made: at all places, at those where the mask has an entry, or at those where it has none. */
+enum places { EVERYWHERE, UNDER_MASK, OUTSIDE_MASK };
+
+struct product {
+    enum places places;
+    const struct cbgrid_matrix *a, *b, *mask;
+};
 
 /* The columns from `first` up to `end` of a product, and the thread that makes them. */
 struct panel {
-    kept a, b;
+    const struct product *product;
     uint32_t first, end, code;
     struct owned made;
     pthread_t thread;
@@ -544,18 +552,30 @@ struct panel {
 };
 
 static void *make_panel(void *at) {
-    struct panel *panel = at;
-    panel->code = cbgrid_kernel_kept_panel(panel->a, panel->b, panel->first, panel->end, &panel->made);
+    struct panel *it = at;
+    const struct product *p = it->product;
+    kept a = {p->a}, b = {p->b}, mask = {p->mask};
+    switch (p->places) {
+    case EVERYWHERE:
+        it->code = cbgrid_kernel_kept_panel(a, b, it->first, it->end, &it->made);
+        break;
+    case UNDER_MASK:
+        it->code = cbgrid_kernel_kept_masked_panel(a, b, mask, it->first, it->end, &it->made);
+        break;
+    case OUTSIDE_MASK:
+        it->code = cbgrid_kernel_kept_outside_panel(a, b, mask, it->first, it->end, &it->made);
+        break;
+    }
     return NULL;
 }
 
 /* A panel for each range that has columns, or one without columns. Returns how many. */
-static size_t panels_of(kept a, kept b, const uint32_t *ends, size_t count, struct panel *panels) {
+static size_t panels_of(const struct product *product, const uint32_t *ends, size_t count, struct panel *panels) {
     size_t used = 0;
     uint32_t first = 0;
     for (size_t n = 0; n < count; n++) {
         if (ends[n] == first && (used || n + 1 < count)) continue;
-        panels[used++] = (struct panel){.a = a, .b = b, .first = first, .end = ends[n]};
+        panels[used++] = (struct panel){.product = product, .first = first, .end = ends[n]};
         first = ends[n];
     }
     return used;
@@ -594,19 +614,44 @@ static uint32_t join_panels(struct panel *panels, size_t count, struct owned *ou
     return code;
 }
 
-int cbgrid_matrix_multiply_threads(const struct cbgrid_matrix *a, const struct cbgrid_matrix *b, uint32_t threads,
-                                   struct cbgrid_matrix **out) {
+static int by_one_thread(const struct product *p, struct cbgrid_matrix **out) {
+    switch (p->places) {
+    case UNDER_MASK: return cbgrid_matrix_multiply_masked(p->a, p->b, p->mask, out);
+    case OUTSIDE_MASK: return cbgrid_matrix_multiply_outside(p->a, p->b, p->mask, out);
+    default: return cbgrid_matrix_multiply(p->a, p->b, out);
+    }
+}
+
+/* If the columns can't be parted, one thread does it all: it finds the faults in their order, also those of the mask. */
+static int by_threads(const struct product *p, uint32_t threads, struct cbgrid_matrix **out) {
     struct panel panels[CBGRID_MOST_THREADS];
     uint32_t ends[CBGRID_MOST_THREADS];
     struct owned made = {NULL};
     size_t count = threads < CBGRID_MOST_THREADS ? threads : CBGRID_MOST_THREADS;
-    if (!a || !b || !out) return CBGRID_NULL_POINTER;
-    if (count < 2) return cbgrid_matrix_multiply(a, b, out);
-    uint32_t code = cbgrid_kernel_kept_ends((kept){a}, (kept){b}, ends, count);
-    if (code) return (int)code;
-    size_t used = panels_of((kept){a}, (kept){b}, ends, count, panels);
+    if (count < 2 || cbgrid_kernel_kept_ends((kept){p->a}, (kept){p->b}, ends, count)) return by_one_thread(p, out);
+    size_t used = panels_of(p, ends, count, panels);
     make_panels(panels, used);
     return hand(join_panels(panels, used, &made), made, out);
+}
+
+int cbgrid_matrix_multiply_threads(const struct cbgrid_matrix *a, const struct cbgrid_matrix *b, uint32_t threads,
+                                   struct cbgrid_matrix **out) {
+    if (!a || !b || !out) return CBGRID_NULL_POINTER;
+    return by_threads(&(struct product){EVERYWHERE, a, b, NULL}, threads, out);
+}
+
+int cbgrid_matrix_multiply_masked_threads(const struct cbgrid_matrix *a, const struct cbgrid_matrix *b,
+                                          const struct cbgrid_matrix *mask, uint32_t threads,
+                                          struct cbgrid_matrix **out) {
+    if (!a || !b || !mask || !out) return CBGRID_NULL_POINTER;
+    return by_threads(&(struct product){UNDER_MASK, a, b, mask}, threads, out);
+}
+
+int cbgrid_matrix_multiply_outside_threads(const struct cbgrid_matrix *a, const struct cbgrid_matrix *b,
+                                           const struct cbgrid_matrix *mask, uint32_t threads,
+                                           struct cbgrid_matrix **out) {
+    if (!a || !b || !mask || !out) return CBGRID_NULL_POINTER;
+    return by_threads(&(struct product){OUTSIDE_MASK, a, b, mask}, threads, out);
 }
 
 const char *cbgrid_version(void) {

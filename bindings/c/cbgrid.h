@@ -28,8 +28,8 @@
  * operands.
  *
  * Threads. Any number of threads may call any function at once, also on the same operands, as long as no thread
- * writes to lists or structs that a running call reads. A call runs on the caller's thread alone, except for
- * cbgrid_matrix_multiply_threads. Don't call a function from a signal handler.
+ * writes to lists or structs that a running call reads. A call runs on the caller's thread alone, except for those whose
+ * names end in _threads. Don't call a function from a signal handler.
  *
  * What is proved. For every input, each call is proved to stay within the lists that you pass, to terminate, and to
  * give exactly the result that its comment describes. The proofs run whenever libcb_ffi.a is built (docs/PROMISES.md).
@@ -540,6 +540,16 @@ int cbgrid_matrix_text(const struct cbgrid_matrix *a, struct cbgrid_text *out);
  */
 int cbgrid_matrix_multiply_threads(const struct cbgrid_matrix *a, const struct cbgrid_matrix *b, uint32_t threads,
                                    struct cbgrid_matrix **out);
+
+/* The same under a mask, as cbgrid_matrix_multiply_masked multiplies, and outside it, as cbgrid_matrix_multiply_outside
+ * does: with the codes and the result of these. Columns are divided by all products of matching entries, also by those
+ * that the mask spares. */
+int cbgrid_matrix_multiply_masked_threads(const struct cbgrid_matrix *a, const struct cbgrid_matrix *b,
+                                          const struct cbgrid_matrix *mask, uint32_t threads,
+                                          struct cbgrid_matrix **out);
+int cbgrid_matrix_multiply_outside_threads(const struct cbgrid_matrix *a, const struct cbgrid_matrix *b,
+                                           const struct cbgrid_matrix *mask, uint32_t threads,
+                                           struct cbgrid_matrix **out);
 
 /* Frees a kept matrix. Call it once for each. A null pointer is allowed. */
 void cbgrid_matrix_free(struct cbgrid_matrix *a);

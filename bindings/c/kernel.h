@@ -162,6 +162,8 @@ void cbgrid_kernel_release(struct owned a);
 
 uint32_t cbgrid_kernel_kept_ends(kept a, kept b, uint32_t *ends, size_t count);
 uint32_t cbgrid_kernel_kept_panel(kept a, kept b, uint32_t first, uint32_t end, struct owned *out);
+uint32_t cbgrid_kernel_kept_masked_panel(kept a, kept b, kept mask, uint32_t first, uint32_t end, struct owned *out);
+uint32_t cbgrid_kernel_kept_outside_panel(kept a, kept b, kept mask, uint32_t first, uint32_t end, struct owned *out);
 uint32_t cbgrid_kernel_kept_join(struct owned front, struct owned back, struct owned *out);
 
 #endif

@@ -1,6 +1,7 @@
 /*
- * Tests of what cbgrid_matrix_multiply_threads is made of, by worked examples: where ranges of a product's columns end,
- * the panel of a range, and two panels joined; and the codes of each, in the order of the checks.
+ * Tests of what products by several threads are made of, by worked examples: where ranges of a product's columns end, the
+ * panel of a range, without a mask, under one and outside one, and two panels joined; and the codes of each, in the order
+ * of the checks.
  */
 #include "../kernel.h"
 #include "check.h"
@@ -23,9 +24,18 @@ static const struct example left_factor = {2, 3, left_triples, 3}, right_factor 
 static const struct example whole = {2, 2, product_triples, 4}, empty = {2, 2, NULL, 0};
 static const struct example first_column = {2, 2, product_triples, 2}, last_column = {2, 2, product_triples + 2, 2};
 
+/* A mask; what it allows of the product, and the rest; columns of these. */
+static const struct cbgrid_triple mask_triples[] = {{1, 0, 9}, {0, 1, 9}}, rest_triples[] = {{0, 0, 1}, {1, 1, 13}};
+static const struct cbgrid_triple under_triples[] = {{1, 0, 2}, {0, 1, 2}};
+static const struct example mask_of_whole = {2, 2, mask_triples, 2};
+static const struct example under = {2, 2, under_triples, 2}, rest = {2, 2, rest_triples, 2};
+static const struct example under_first = {2, 2, under_triples, 1}, under_last = {2, 2, under_triples + 1, 1};
+static const struct example rest_first = {2, 2, rest_triples, 1}, rest_last = {2, 2, rest_triples + 1, 1};
+
 /* A matrix with sides at the limit, and its square; a matrix without sides. */
 static const struct example far = {CBGRID_LIMIT, CBGRID_LIMIT, &far_triple, 1}, none = {0, 0, NULL, 0};
 static const struct example far_square = {CBGRID_LIMIT, CBGRID_LIMIT, &far_square_triple, 1};
+static const struct example far_empty = {CBGRID_LIMIT, CBGRID_LIMIT, NULL, 0};
 
 static struct cbgrid_matrix *kept_of(uint32_t semiring, const struct example *it) {
     struct cbgrid_matrix *made = NULL;
@@ -61,6 +71,36 @@ static void test_panels(void) {
     }
 }
 
+static void test_masked_panels(void) {
+    static const struct {
+        const struct example *left, *right, *mask;
+        uint32_t first, end;
+        const struct example *under, *rest;
+    } rows[] = {
+        {&left_factor, &right_factor, &mask_of_whole, 0, 2, &under, &rest},
+        {&left_factor, &right_factor, &mask_of_whole, 0, 1, &under_first, &rest_first},
+        {&left_factor, &right_factor, &mask_of_whole, 1, UINT32_MAX, &under_last, &rest_last},
+        {&left_factor, &right_factor, &mask_of_whole, 2, 0, &empty, &empty},
+        {&left_factor, &right_factor, &whole, 0, 1, &first_column, &empty},
+        {&left_factor, &right_factor, &last_column, 0, 1, &empty, &first_column},
+        {&left_factor, &right_factor, &empty, 1, 2, &empty, &last_column},
+        {&far, &far, &far, CBGRID_LIMIT - 1, CBGRID_LIMIT, &far_square, &far_empty},
+        {&none, &none, &none, 0, 7, &none, &none},
+    };
+    for (size_t n = 0; n < sizeof rows / sizeof *rows; n++) {
+        struct cbgrid_matrix *a = kept_of(0, rows[n].left), *b = kept_of(0, rows[n].right), *mask = kept_of(0, rows[n].mask);
+        struct cbgrid_matrix *want_under = kept_of(0, rows[n].under), *want_rest = kept_of(0, rows[n].rest);
+        uint32_t first = rows[n].first, end = rows[n].end;
+        struct owned made_under = {NULL}, made_rest = {NULL};
+        EXPECT(cbgrid_kernel_kept_masked_panel((kept){a}, (kept){b}, (kept){mask}, first, end, &made_under) == CBGRID_OK);
+        EXPECT(cbgrid_kernel_kept_outside_panel((kept){a}, (kept){b}, (kept){mask}, first, end, &made_rest) == CBGRID_OK);
+        EXPECT(is_same(made_under.at, want_under) && is_same(made_rest.at, want_rest));
+        struct cbgrid_matrix *all[] = {a, b, mask, want_under, want_rest, made_under.at, made_rest.at};
+        for (size_t k = 0; k < sizeof all / sizeof *all; k++) cbgrid_matrix_free(all[k]);
+        EXPECT(live == 0);
+    }
+}
+
 /* The result of joining two matrices is where the first was. */
 static void test_joins(void) {
     static const struct {
@@ -80,7 +120,8 @@ static void test_joins(void) {
     }
 }
 
-/* Semirings that differ come first, then shapes, then columns that aren't after those of the first. */
+/* Semirings that differ come first, then shapes, then columns that aren't after those of the first. At a fault the lists of
+ * both are freed. */
 static void test_codes_of_joins(void) {
     static const struct {
         const struct example *front;
@@ -95,8 +136,8 @@ static void test_codes_of_joins(void) {
     for (size_t n = 0; n < sizeof rows / sizeof *rows; n++) {
         struct owned front = {kept_of(0, rows[n].front)}, back = {kept_of(rows[n].semiring, rows[n].back)}, made = {NULL};
         EXPECT(cbgrid_kernel_kept_join(front, back, &made) == rows[n].code && !made.at);
-        cbgrid_matrix_free(front.at);
-        cbgrid_matrix_free(back.at);
+        free(front.at);
+        free(back.at);
         EXPECT(live == 0);
     }
 }
@@ -139,11 +180,40 @@ static void test_codes_of_factors(void) {
     }
 }
 
+/* The same of three operands. */
+static void test_codes_of_masked_factors(void) {
+    static const struct {
+        const struct example *right, *mask;
+        uint32_t semiring, code;
+    } rows[] = {
+        {&right_factor, &left_factor, CBGRID_MIN_PLUS, CBGRID_MIXED},
+        {&left_factor, &mask_of_whole, CBGRID_MIN_PLUS, CBGRID_MIXED},
+        {&left_factor, &mask_of_whole, CBGRID_PLUS_TIMES, CBGRID_SHAPES},
+        {&right_factor, &left_factor, CBGRID_PLUS_TIMES, CBGRID_SHAPES},
+    };
+    for (size_t n = 0; n < sizeof rows / sizeof *rows; n++) {
+        struct cbgrid_matrix *a = kept_of(0, &left_factor), *b = kept_of(0, rows[n].right);
+        struct cbgrid_matrix *mask = kept_of(rows[n].semiring, rows[n].mask);
+        struct owned made = {NULL};
+        left = 0;
+        EXPECT(cbgrid_kernel_kept_masked_panel((kept){a}, (kept){b}, (kept){mask}, 0, 1, &made) == rows[n].code);
+        EXPECT(cbgrid_kernel_kept_outside_panel((kept){a}, (kept){b}, (kept){mask}, 0, 1, &made) == rows[n].code);
+        EXPECT(left == 0 && !made.at);
+        left = -1;
+        cbgrid_matrix_free(a);
+        cbgrid_matrix_free(b);
+        cbgrid_matrix_free(mask);
+        EXPECT(live == 0);
+    }
+}
+
 int main(void) {
     test_panels();
+    test_masked_panels();
     test_joins();
     test_codes_of_joins();
     test_ends();
     test_codes_of_factors();
+    test_codes_of_masked_factors();
     return report();
 }

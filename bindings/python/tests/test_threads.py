@@ -41,10 +41,23 @@ class Threads(unittest.TestCase):
         self.assertEqual((made != a @ a).nnz, 0)
 
     def test_masks(self):
-        a, b = self.factor(300, 300, 30000, "plus-times"), self.factor(300, 300, 30000, "plus-times")
+        for semiring in SEMIRINGS:
+            for nrows, inner, ncols, count in FACTORS:
+                a, b = self.factor(nrows, inner, count, semiring), self.factor(inner, ncols, count, semiring)
+                mask = self.factor(nrows, ncols, nrows * ncols // 4, semiring)
+                product = a @ b
+                rest = product.exclude(mask)
+                self.assertEqual(rest.nnz + a.multiply(b, mask).nnz, product.nnz)
+                for threads in THREADS:
+                    self.assertEqual(a.multiply(b, mask, threads=threads), a.multiply(b, mask))
+                    self.assertEqual(cbgrid.multiply(a, b, mask=mask, complement=True, threads=threads), rest)
+
+    def test_masks_of_transposes(self):
+        a = self.factor(300, 300, 30000, "plus-times")
         mask = self.factor(300, 300, 900, "plus-times")
-        self.assertEqual(a.multiply(b, mask, threads=4), a.multiply(b, mask))
-        self.assertEqual(a.multiply(b, mask, complement=True, threads=4), (a @ b).exclude(mask))
+        made = a.multiply(a, mask, transpose_left=True, threads=4)
+        self.assertEqual(made, a.T.multiply(a, mask))
+        self.assertEqual(a.multiply(a, mask, True, True, threads=4), (a.T @ a).exclude(mask))
 
     def test_many_callers(self):
         a = self.factor(300, 300, 30000, "min-plus")
@@ -68,6 +81,13 @@ class Threads(unittest.TestCase):
         with self.assertRaises(cbgrid.CbgridValueError) as mixed:
             a.multiply(self.factor(4, 3, 5, "min-plus"), threads=2)
         self.assertEqual(mixed.exception.code, 16)
+        for complement in (False, True):
+            with self.assertRaises(cbgrid.CbgridValueError) as shapes:
+                a.multiply(a.T, a, complement, threads=2)
+            self.assertEqual(shapes.exception.code, 10)
+            with self.assertRaises(cbgrid.CbgridValueError) as mixed:
+                a.multiply(a, self.factor(3, 3, 5, "min-plus"), complement, threads=2)
+            self.assertEqual(mixed.exception.code, 16)
 
 
 if __name__ == "__main__":

@@ -1,5 +1,5 @@
 -- What C gets of the call that parts a product's columns.
-use Rattle.std.proofs.Common.{◌≡◌, ◌≢◌, ℕ, List, length, Result, Ok, Err, sym, ◌∙◌, subst}
+use Rattle.std.proofs.Common.{◌≡◌, ◌≢◌, ℕ, List, length, Result, Ok, Err, ◌∙◌, subst}
 use Rattle.std.specs.Prelude.{Vec, IfOk, IfErr}
 use Rattle.cb_shares.specs.Shares.{AreEnds}
 use Rattle.cb_interop.specs.declared.faults.Fault.{Fault}

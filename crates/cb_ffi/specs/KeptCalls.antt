@@ -24,7 +24,8 @@ use Rattle.cb_interop.specs.declared.axes.Axis.{Axis}
 use Rattle.cb_interop.specs.KeptDegrees.{IsKeptDegrees}
 use Rattle.cb_interop.specs.KeptProducts.{outside_faults, IsKeptOutside}
 use Rattle.cb_shares.specs.Shares.{AreEnds}
-use Rattle.cb_interop.specs.KeptPanels.{factor_faults, join_faults, IsKeptJoin, IsKeptPanel}
+use Rattle.cb_interop.specs.declared.kept_masked_panels.Allowed.{Allowed}
+use Rattle.cb_interop.specs.KeptPanels.{factor_faults, join_faults, IsKeptJoin, IsKeptMaskedPanel, IsKeptPanel}
 use Rattle.cb_interop.specs.KeptGraphs.{searches_faults, given_faults, IsKeptLevelsFrom, IsKeptDistancesFrom, IsKeptLevelsGiven, IsKeptDistancesGiven}
 use Rattle.cb_interop.specs.Triples.{triple_faults, IsKeptTriples}
 use Rattle.cb_interop.specs.KeptTexts.{IsKeptRead}
@@ -112,6 +113,10 @@ IsEndsCall a b code old new = IsCall (factor_faults a b) (AreEnds (length old) (
 -- of the call that makes the panel of a range
 unfoldable pub IsPanelCall : ℕ → ℕ → Kept → Kept → ℕ → Owned → Owned → Type 0
 IsPanelCall first end a b code old new = IsKeptCall (factor_faults a b) (IsKeptPanel first end a b) code old new
+
+-- the same of a product at the places that a mask allows
+unfoldable pub IsMaskedPanelCall : Allowed → ℕ → ℕ → Kept → Kept → Kept → ℕ → Owned → Owned → Type 0
+IsMaskedPanelCall allowed first end a b mask code old new = IsKeptCall (outside_faults a b mask) (IsKeptMaskedPanel allowed first end a b mask) code old new
 
 -- of the call that joins two panels
 unfoldable pub IsJoinCall : Kept → Kept → ℕ → Owned → Owned → Type 0

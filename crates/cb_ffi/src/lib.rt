@@ -15,7 +15,8 @@
 //!
 //! `grid` is the side of a grid, 1 to 6. It is checked and has no other effect: each call works on whole blocks, on the
 //! caller's thread. A program with threads divides the columns of a product ([`cbgrid_kernel_kept_ends`]), makes a panel
-//! of it in each thread ([`cbgrid_kernel_kept_panel`]), and joins the panels in order ([`cbgrid_kernel_kept_join`]).
+//! of it in each thread ([`cbgrid_kernel_kept_panel`], [`cbgrid_kernel_kept_masked_panel`],
+//! [`cbgrid_kernel_kept_outside_panel`]), and joins the panels in order ([`cbgrid_kernel_kept_join`]).
 #![tactic(auto)]
 
 ghost use Rattle.std.specs.Prelude.{◌≡◌, ◌≢◌, [], ◌∷◌, length, ◌==◌, not, Some, None, IfSome, IsSome, IfOk, IfErr, option_copied};
@@ -39,19 +40,21 @@ ghost use Rattle.cb_interop.specs.declared.selections.Selection.TheVariants as s
 ghost use Rattle.cb_interop.specs.KeptSelections.{function_of, region_of};
 ghost use Rattle.cb_interop.specs.KeptUpdates.{write_back_of};
 ghost use Rattle.cb_interop.specs.declared.axes.Axis.TheVariants as axis_is;
+ghost use Rattle.cb_interop.specs.declared.kept_masked_panels.Allowed.TheVariants as allowed_is;
 ghost use Rattle.cb_interop.specs.KeptTexts.{IsKeptText};
 ghost use Rattle.cb_ffi.specs.Calls.{IsCall, IsCallOver, IsLine, IsOperationCall};
-ghost use Rattle.cb_ffi.specs.KeptCalls.{HasHandedOut, IsDegreesCall, IsDistancesCall, IsDistancesGivenCall, IsEndsCall, IsExtractCall, IsJoinCall, IsKeepCall, IsKeptCall, IsKeptOperation, IsLevelsCall, IsLevelsGivenCall, IsOutsideCall, IsOwnedJoinCall, IsPairCall, IsPanelCall, IsReadCall, IsSelectionCall, IsTriplesCall, IsUpdateCall};
+ghost use Rattle.cb_ffi.specs.KeptCalls.{HasHandedOut, IsDegreesCall, IsDistancesCall, IsDistancesGivenCall, IsEndsCall, IsExtractCall, IsJoinCall, IsKeepCall, IsKeptCall, IsKeptOperation, IsLevelsCall, IsLevelsGivenCall, IsMaskedPanelCall, IsOutsideCall, IsOwnedJoinCall, IsPairCall, IsPanelCall, IsReadCall, IsSelectionCall, IsTriplesCall, IsUpdateCall};
 
 mod handles;
 
 use cb_interop::{
-    Axis, Columns, Fault, Kept, Pairing, Selection, Summary, Text, Triple, answer, distances,
-    function_of, keep_lists, keep_triples, kept_components, kept_degrees, kept_distances,
-    kept_distances_from, kept_distances_given, kept_ends, kept_extract, kept_join, kept_levels,
-    kept_levels_from, kept_levels_given, kept_outside, kept_pair, kept_panel, kept_parents,
-    kept_selection, kept_total, kept_triangles, kept_update, levels, lists_of, operate, prune_of,
-    read_kept, read_lists, region_of, summary_of, text_of, text_of_lists, value_at, write_back_of,
+    Allowed, Axis, Columns, Fault, Kept, Pairing, Selection, Summary, Text, Triple, answer,
+    distances, function_of, keep_lists, keep_triples, kept_components, kept_degrees,
+    kept_distances, kept_distances_from, kept_distances_given, kept_ends, kept_extract, kept_join,
+    kept_levels, kept_levels_from, kept_levels_given, kept_masked_panel, kept_outside, kept_pair,
+    kept_panel, kept_parents, kept_selection, kept_total, kept_triangles, kept_update, levels,
+    lists_of, operate, prune_of, read_kept, read_lists, region_of, summary_of, text_of,
+    text_of_lists, value_at, write_back_of,
 };
 use cb_operations::Operation;
 use cb_selections::WriteBack;
@@ -177,6 +180,23 @@ fn ends_kept(alloc: Global, left: &Kept, right: &Kept, ends: &mut [u32]) -> u32
     put_ends(ends, answer)
 }
 
+/// Keeps the panel of a product at the places that a mask allows, or returns the number of the fault.
+fn masked_panel_kept(
+    alloc: Global,
+    allowed: Allowed,
+    left: &Kept,
+    right: &Kept,
+    mask: &Kept,
+    first: u32,
+    end: u32,
+    out: &mut Owned,
+) -> u32
+    ensures { IsMaskedPanelCall allowed first end left.now right.now mask.now result out.old out.new }
+{
+    let answer = kept_masked_panel(alloc, allowed, left, right, mask, first, end);
+    put_kept(alloc, out, answer)
+}
+
 /// Hands a kept matrix to C where another was, or returns the number of the fault.
 fn put_in_place(place: &'static mut Kept, out: &mut Owned, answer: Result<Kept, Fault>) -> u32
     ensures ok { IfOk answer (HasHandedOut result out.old out.new) }
@@ -192,7 +212,7 @@ fn put_in_place(place: &'static mut Kept, out: &mut Owned, answer: Result<Kept, 
     }
 }
 
-/// Joins two panels where the first of them is, or returns the number of the fault.
+/// Joins two panels where the first of them is, or frees the lists of both and returns the number of the fault.
 fn join_kept(
     alloc: Global,
     front: &'static mut Kept,
@@ -202,6 +222,10 @@ fn join_kept(
     ensures { IsJoinCall front.old back.old result out.old out.new }
 {
     let answer = kept_join(alloc, front, back);
+    if answer.is_err() {
+        front.clear(alloc);
+        back.clear(alloc);
+    }
     put_in_place(front, out, answer)
 }
 
@@ -944,6 +968,41 @@ pub extern "C" fn cbgrid_kernel_kept_panel(
 {
     let answer = kept_panel(alloc, borrowed(a), borrowed(b), first, end);
     put_kept(alloc, out, answer)
+}
+
+/// Multiplies two kept matrices at the places where a kept mask has entries, in the columns from `first` up to, but not
+/// including, `end`. The result has the shape of the whole product.
+#[unsafe(no_mangle)]
+pub extern "C" fn cbgrid_kernel_kept_masked_panel(
+    alloc: Global,
+    a: Lent,
+    b: Lent,
+    mask: Lent,
+    first: u32,
+    end: u32,
+    out: &mut Owned,
+) -> u32
+    ensures { IsMaskedPanelCall allowed_is.Entries first end a.kept.now b.kept.now mask.kept.now result out.old out.new }
+{
+    let (a, b, mask) = (borrowed(a), borrowed(b), borrowed(mask));
+    masked_panel_kept(alloc, Allowed::Entries, a, b, mask, first, end, out)
+}
+
+/// The same at the places where the mask has none.
+#[unsafe(no_mangle)]
+pub extern "C" fn cbgrid_kernel_kept_outside_panel(
+    alloc: Global,
+    a: Lent,
+    b: Lent,
+    mask: Lent,
+    first: u32,
+    end: u32,
+    out: &mut Owned,
+) -> u32
+    ensures { IsMaskedPanelCall allowed_is.Others first end a.kept.now b.kept.now mask.kept.now result out.old out.new }
+{
+    let (a, b, mask) = (borrowed(a), borrowed(b), borrowed(mask));
+    masked_panel_kept(alloc, Allowed::Others, a, b, mask, first, end, out)
 }
 
 /// Joins two panels of a product: puts the entries of a kept matrix behind those of another, whose columns are all before its

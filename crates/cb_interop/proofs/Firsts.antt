@@ -1,9 +1,8 @@
 -- The first fault of a call, from the faults of its parts.
 use Rattle.std.proofs.Common.{◌≡◌, ℕ, ◌+◌, ◌<◌, List, [], ◌∷◌, ◌++◌, length, take, drop, get_or, refl, sym, subst, inl, inr, ⊎_elim}
-use Rattle.std.specs.Prelude.{All, map, Option, Some, None, Result, Ok, Err, IfErr}
+use Rattle.std.specs.Prelude.{All, map, Option, Some, None, Result, Ok, Err}
 use Rattle.std.proofs.lemmas.List.{take-append-drop, drop_more}
 use Rattle.std.proofs.lemmas.List.Elements.{All-head, All-tail}
-use Rattle.std.proofs.lemmas.Result.{IfErr-weaker}
 use Rattle.cb_semirings.specs.Arithmetic.{Arithmetic}
 use Rattle.cb_operations.specs.declared.operations.Operation.{Operation}
 use Rattle.cb_operations.specs.OperationAnswers.{Agree}

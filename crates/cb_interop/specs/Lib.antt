@@ -3,7 +3,8 @@
 -- Kept: kept matrices. KeptAnswers: what an operation on them returns.
 -- Triples: matrices of triples. KeptTexts: texts of kept matrices. KeptGraphs: searches, parents, components and triangles
 -- of kept graphs. KeptSelections: operations on one kept matrix. KeptPairings: operations on two. KeptProducts: products
--- outside a mask. KeptPanels: products of two in panels. KeptUpdates: one updated by another, under a mask. KeptDegrees: how many entries rows and columns have.
+-- outside a mask. KeptPanels: products in panels. KeptUpdates: one updated by another, under a mask. KeptDegrees: how
+-- many entries rows and columns have.
 pub mod Lists
 pub mod Refusals
 pub mod Answers

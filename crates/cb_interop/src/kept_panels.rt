@@ -2,6 +2,7 @@
 //! the panel of a range of columns, and panels that are joined.
 ghost use Rattle.std.specs.Prelude.{◌≡◌, ◌↔◌, IsTrue, IfOk, IfErr};
 ghost use Rattle.cb_semirings.specs.Names.{arithmetic_of};
+ghost use Rattle.cb_matrix.specs.Values.{product};
 ghost use Rattle.cb_dcsc.specs.Columns.{with_entries};
 ghost use Rattle.cb_shares.specs.Shares.{panel, AreBefore, AreEnds, JoinsPanels};
 ghost use Rattle.cb_interop.specs.Answers.{IsAnswer, NoFault};
@@ -86,7 +87,7 @@ fn panel_over<S: Keep>(
     requires left { semiring_of left.now ≡ S.name }
     requires right { semiring_of right.now ≡ S.name }
     requires agree { (matrix_in left.now).shape.cols ≡ (matrix_in right.now).shape.rows }
-    ensures { IfOk result (Keeps S.name (panel S.arithmetic (matrix_in left.now) (matrix_in right.now) first end)) }
+    ensures { IfOk result (Keeps S.name (panel (product S.arithmetic (matrix_in left.now) (matrix_in right.now)) first end)) }
 {
     let (a, b) = (block_in::<S>(left), block_in::<S>(right));
     let mut block = multiply_panel(alloc, a, b, first, end)?;
@@ -105,7 +106,7 @@ fn panel_named(
     requires left { semiring_of left.now ≡ semiring }
     requires right { semiring_of right.now ≡ semiring }
     requires agree { (matrix_in left.now).shape.cols ≡ (matrix_in right.now).shape.rows }
-    ensures { IfOk result (Keeps semiring (panel (arithmetic_of semiring) (matrix_in left.now) (matrix_in right.now) first end)) }
+    ensures { IfOk result (Keeps semiring (panel (product (arithmetic_of semiring) (matrix_in left.now) (matrix_in right.now)) first end)) }
 {
     over_semiring!(semiring, panel_over::<_>(alloc, left, right, first, end))
 }
@@ -217,7 +218,7 @@ fn join_named(
     over_semiring!(semiring, join_over::<_>(alloc, front, back))
 }
 
-/// Joins two panels of a product: keeps the entries of one matrix, and after them those of another, whose columns are all
+/// Joins two panels of a product, also of one under a mask or outside it: keeps the entries of one matrix, and after them those of another, whose columns are all
 /// after its own. Takes the entries out of both. Costs a copy of the second matrix's entries, or nothing if the first has
 /// none.
 pub fn kept_join(alloc: Global, front: &mut Kept, back: &mut Kept) -> Result<Kept, Fault>

@@ -1,12 +1,14 @@
 -- The toolbox of lemmas on shares of a product. Crates above cite what is named here; each lemma's own sentence stands over
 -- it.
 --
--- Ranges: which columns a range has: `range_holds`, `range_has`; it ascends, `range_ascends`; two neighbouring ranges are
---   one, `ranges_joined`; a matrix with the columns of all is the matrix, `all_columns`.
--- Neighbours: neighbouring panels are the panel of both ranges, `neighbours_joined`, `joins`; entries whose columns are before others are
---   a matrix with these, `before_matrix`.
+-- Ranges: which columns a range has: `range_holds`, `range_has`; a matrix with the columns of all is the matrix,
+--   `all_columns`.
+-- Neighbours: neighbouring panels are the panel of both ranges, `neighbours_joined`, `joins`; entries whose columns are before
+--   others are a matrix with these, `before_matrix`.
 pub mod Ranges
 pub mod Neighbours
--- For this crate alone. Places: where the columns of a range are among those that have entries. Ends: where ranges end.
+-- For this crate alone. Places: where the columns of a range are among those that have entries. ColumnValues: products with
+-- some columns are some columns of products. Ends: where ranges end.
 mod Places
+mod ColumnValues
 mod Ends

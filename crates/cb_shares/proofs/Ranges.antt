@@ -1,6 +1,6 @@
 -- Ranges of columns, as lists.
-use Rattle.std.proofs.Common.{◌≡◌, ℕ, zero, suc, ◌+◌, ◌-◌, ◌<◌, ◌≤◌, true, false, Bool, cond, List, [], ◌∷◌, ◌++◌, get_or, filter, sym, refl, ap, ◌∙◌, subst, arith}
-use Rattle.std.specs.Prelude.{All, AllPairs, Contains}
+use Rattle.std.proofs.Common.{◌≡◌, ℕ, ◌+◌, ◌-◌, ◌<◌, ◌≤◌, true, false, Bool, cond, List, [], ◌∷◌, get_or, filter, sym, refl, subst, arith}
+use Rattle.std.specs.Prelude.{All, Contains}
 use Rattle.std.specs.List.{range_with_len}
 use Rattle.std.proofs.lemmas.List.FromFn.{length-range_with_len, get_or-range_with_len}
 use Rattle.std.proofs.lemmas.List.Elements.{All-head, All-tail, All-weaker, Contains-get_or}
@@ -30,38 +30,14 @@ range_has first end c l m =
     let same : get_or (range_with_len first (end - first)) (c - first) c ≡ c = omega arith in
     among_from (columns_from first end) c (subst (Contains (columns_from first end)) same (Contains-get_or (columns_from first end) (c - first) c (omega arith)))
 
--- it ascends
-pub range_ascends : (first n : ℕ) → AllPairs (λ c d. c < d) (range_with_len first n)
-range_ascends first n i j d l m =
-    let long = length-range_with_len first n in
-    let e = get_or-range_with_len first n i d (omega arith) in
-    let f = get_or-range_with_len first n j d (omega arith) in
-    omega arith
-
-range_append : (a n k : ℕ) → range_with_len a (n + k) ≡ range_with_len a n ++ range_with_len (a + n) k
-range_append a zero k =
-    let e : 0 + k ≡ k = omega arith in
-    let f : a ≡ a + 0 = omega arith in
-    ap (range_with_len a) e ∙ ap (λ b. range_with_len b k) f
-range_append a (suc n) k =
-    let e : suc n + k ≡ suc (n + k) = omega arith in
-    let f : a + 1 + n ≡ a + suc n = omega arith in
-    ap (range_with_len a) e ∙ ap (λ xs. a ∷ xs) (range_append (a + 1) n k ∙ ap (λ b. range_with_len (a + 1) n ++ range_with_len b k) f)
-
--- two neighbouring ranges are one
-pub ranges_joined : (p q r : ℕ) → p ≤ q → q ≤ r → columns_from p r ≡ columns_from p q ++ columns_from q r
-ranges_joined p q r l m =
-    let e : r - p ≡ (q - p) + (r - q) = omega arith in
-    let f : p + (q - p) ≡ q = omega arith in
-    ap (range_with_len p) e ∙ range_append p (q - p) (r - q) ∙ ap (λ b. columns_from p q ++ range_with_len b (r - q)) f
-
 -- a test has one answer where each follows from the other
 pub same_answer : (x y : Bool) → (x ≡ true → y ≡ true) → (y ≡ true → x ≡ true) → x ≡ y
 same_answer true y f g = sym (f refl)
 same_answer false true f g = g refl
 same_answer false false f g = refl
 
-kept_same : (xs ys : List ℕ) (es : List Entry) → All (λ e. is_among xs e.column ≡ is_among ys e.column) es → filter (λ e. is_among xs e.column) es ≡ filter (λ e. is_among ys e.column) es
+-- lists that agree on the columns of entries keep the same of them
+pub kept_same : (xs ys : List ℕ) (es : List Entry) → All (λ e. is_among xs e.column ≡ is_among ys e.column) es → filter (λ e. is_among xs e.column) es ≡ filter (λ e. is_among ys e.column) es
 kept_same xs ys [] h = refl
 kept_same xs ys (e ∷ es) h =
     let here : is_among xs e.column ≡ is_among ys e.column = All-head (λ e. is_among xs e.column ≡ is_among ys e.column) e es h in

@@ -1,10 +1,9 @@
--- Panels of a product, each with a range of its columns, and where such ranges end.
+-- Panels of a matrix, each with a range of its columns, and where such ranges end.
 use Rattle.std.specs.Prelude.{◌≡◌, ℕ, ◌<◌, ◌≤◌, ◌-◌, List, length, slice_index, All, AllPairs}
 use Rattle.std.specs.List.{range_with_len}
 use Rattle.cb_semirings.specs.Arithmetic.{Arithmetic}
 use Rattle.cb_matrix.specs.declared.Entry.{Entry}
 use Rattle.cb_matrix.specs.Sparse.{Sparse, IsMatrix}
-use Rattle.cb_matrix.specs.Values.{product}
 use Rattle.cb_dcsc.specs.Columns.{columns_with_entries}
 use Rattle.cb_product.specs.InColumns.{only_columns}
 
@@ -12,9 +11,9 @@ use Rattle.cb_product.specs.InColumns.{only_columns}
 abbrev pub columns_from : ℕ → ℕ → List ℕ
 columns_from first end = range_with_len first (end - first)
 
--- the product of a matrix and the columns of another from one up to, but not including, another, in the shape of the whole
-abbrev pub panel : Arithmetic → Sparse → Sparse → ℕ → ℕ → Sparse
-panel s a b first end = product s a (only_columns (columns_from first end) b)
+-- these columns of a matrix, in the shape of the whole
+abbrev pub panel : Sparse → ℕ → ℕ → Sparse
+panel m first end = only_columns (columns_from first end) m
 
 -- Where each of so many ranges of columns ends, one after another, and the next begins: none ends before the one in front of
 -- it, and the last one ends with the last column.
@@ -27,9 +26,9 @@ pub record AreEnds (count cols : ℕ) (ends : List ℕ) : Type 0 where
 abbrev pub AreBefore : List Entry → List Entry → Type 0
 AreBefore front back = All (λ c. All (λ d. c < d) (columns_with_entries back)) (columns_with_entries front)
 
--- If two matrices are neighbouring panels of a product, a third is the panel of both ranges. If these are all columns, it is
--- the product.
+-- If two matrices are neighbouring panels of another one, a third is the panel of both ranges. If these are all columns, it is
+-- the whole matrix.
 abbrev pub JoinsPanels : Arithmetic → Sparse → Sparse → Sparse → Type 0
 JoinsPanels s front back made =
-    (a b : Sparse) → IsMatrix s a → IsMatrix s b → a.shape.cols ≡ b.shape.rows → (p q r : ℕ) → p ≤ q → q ≤ r
-    → front ≡ panel s a b p q → back ≡ panel s a b q r → (made ≡ panel s a b p r) × (p ≡ 0 → b.shape.cols ≤ r → made ≡ product s a b)
+    (whole : Sparse) → IsMatrix s whole → (p q r : ℕ) → p ≤ q → q ≤ r → front ≡ panel whole p q → back ≡ panel whole q r
+    → (made ≡ panel whole p r) × (p ≡ 0 → whole.shape.cols ≤ r → made ≡ whole)

@@ -1,4 +1,5 @@
-//! Shares of a product: which of its columns each thread makes, how it makes them, and how the panels are joined.
+//! Shares of a product: which of its columns each thread makes, how it makes them, and how the panels are joined. The product
+//! may be one under a mask or outside one.
 //!
 //! Columns are divided so that all shares take about the same number of products of two values, as in Nagasaka, Matsuoka,
 //! Azad and Buluç, High-performance Sparse Matrix-Matrix Products on Intel KNL and Multicore Architectures (ICPP Workshops
@@ -9,11 +10,15 @@
 
 ghost use Rattle.std.specs.Prelude.{◌≡◌, ℕ, ◌↔◌, ◌<◌, ◌≤◌, IsTrue, length, get_or, slice_index, All, AllPairs, IfOk};
 ghost use Rattle.cb_matrix.specs.Sparse.{IsMatrix};
+ghost use Rattle.cb_matrix.specs.Operations.{masked};
+ghost use Rattle.cb_matrix.specs.Values.{product, product_shape};
 ghost use Rattle.cb_dcsc.specs.Columns.{columns_with_entries, with_entries};
+ghost use Rattle.cb_elementwise.specs.Complements.{excluded};
 ghost use Rattle.cb_product.specs.ColumnStarts.{Tells};
 ghost use Rattle.cb_shares.specs.Shares.{panel, AreEnds, AreBefore, JoinsPanels};
 
 use cb_dcsc::Block;
+use cb_masked::{entries_between, multiply_masked_columns, multiply_outside_columns};
 use cb_product::{ColumnIndex, multiply_columns};
 use cb_semirings::Semiring;
 use std::alloc::{AllocError, Global};
@@ -149,14 +154,61 @@ pub fn multiply_panel<S: Semiring>(
     end: u32,
 ) -> Result<Block<S>, AllocError>
     requires { left.now.shape.cols ≡ right.now.shape.rows }
-    ensures { IfOk result (λ m. m ≡ panel S.arithmetic left.now right.now first end) }
+    ensures { IfOk result (λ m. m ≡ panel (product S.arithmetic left.now right.now) first end) }
 {
+    prove_eq!(left.shape().cols(), right.shape().rows());
     let columns = right.column_numbers();
     let low = first_from(columns, first);
     let high = first_from(columns, end).max(low);
     let index = ColumnIndex::new(alloc, left, entries_between(right, low, high))?;
     let room = most_entries(left, &index, right, low, high);
     multiply_columns(alloc, left, &index, right, &columns[low..high], room)
+}
+
+/// Returns a panel of a product under a mask: the product's entries in the columns from `first` up to, but not including, `end`
+/// at the places where the mask has an entry, in a block with the shape of the whole product. The mask's values are ignored.
+///
+/// The columns of the left block are as many as the rows of the right, and the mask has the product's shape. Costs two binary
+/// searches, and what the product under the mask costs for these columns.
+pub fn masked_panel<S: Semiring>(
+    alloc: Global,
+    left: &Block<S>,
+    right: &Block<S>,
+    mask: &Block<S>,
+    first: u32,
+    end: u32,
+) -> Result<Block<S>, AllocError>
+    requires agree { left.now.shape.cols ≡ right.now.shape.rows }
+    requires shape { mask.now.shape ≡ product_shape left.now right.now }
+    ensures { IfOk result (λ m. m ≡ panel (masked S.arithmetic (product S.arithmetic left.now right.now) mask.now) first end) }
+{
+    prove_eq!(left.shape().cols(), right.shape().rows());
+    let columns = mask.column_numbers();
+    let low = first_from(columns, first);
+    let high = first_from(columns, end).max(low);
+    multiply_masked_columns(alloc, left, right, mask, low, high)
+}
+
+/// Returns a panel of a product outside a mask: the same at the places where the mask has no entry.
+///
+/// Costs two binary searches, and what the product outside the mask costs for these columns.
+pub fn outside_panel<S: Semiring>(
+    alloc: Global,
+    left: &Block<S>,
+    right: &Block<S>,
+    mask: &Block<S>,
+    first: u32,
+    end: u32,
+) -> Result<Block<S>, AllocError>
+    requires agree { left.now.shape.cols ≡ right.now.shape.rows }
+    requires shape { mask.now.shape ≡ product_shape left.now right.now }
+    ensures { IfOk result (λ m. m ≡ panel (excluded S.arithmetic (product S.arithmetic left.now right.now) mask.now) first end) }
+{
+    prove_eq!(left.shape().cols(), right.shape().rows());
+    let columns = right.column_numbers();
+    let low = first_from(columns, first);
+    let high = first_from(columns, end).max(low);
+    multiply_outside_columns(alloc, left, right, mask, low, high)
 }
 
 /// How many of these numbers, which ascend, are below a bound.
@@ -170,18 +222,6 @@ fn first_from(numbers: &[u32], bound: u32) -> usize
         Ok(n) => n,
         Err(n) => n,
     }
-}
-
-/// How many entries are in the columns from one place up to another among those that have entries.
-fn entries_between<S: Semiring>(block: &Block<S>, low: usize, high: usize) -> usize
-    requires { high ≤ length (columns_with_entries block.now.entries) }
-{
-    if low >= high {
-        return 0;
-    }
-    let (start, _) = block.nth_range(low);
-    let (_, end) = block.nth_range(high - 1);
-    end.saturating_sub(start)
 }
 
 /// How many entries can come to stand in the columns from one place up to another: in each no more than its products, or than
@@ -230,7 +270,8 @@ fn ends_before(front: &[u32], back: &[u32]) -> bool
 /// Returns a block with the entries of another after all its own. Costs a copy of the other's entries, or nothing if the
 /// block has none.
 ///
-/// If both are panels of a product, the second next to the first, the result is the panel of the columns of both.
+/// If both are panels of a matrix, such as a product under a mask, the second next to the first, the result is the panel of the
+/// columns of both.
 pub fn joined<S: Semiring>(mut front: Block<S>, mut back: Block<S>) -> Result<Block<S>, AllocError>
     requires shape { back.shape ≡ front.shape }
     requires matrix { IsMatrix S.arithmetic (with_entries front back.entries) }

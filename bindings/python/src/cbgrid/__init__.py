@@ -242,8 +242,8 @@ def multiply(
     complement : bool
         Whether to keep only the entries at places where the mask has none. Only if `a` is a `Matrix`.
     threads : int
-        How many threads may compute a product without a mask, 1 or more; at most 256 are used. More than 1 only if `a`
-        is a `Matrix`. The result is the same.
+        How many threads may compute the product, 1 or more; at most 256 are used. More than 1 only if `a` is a `Matrix`.
+        The result is the same.
 
     Returns
     -------

@@ -63,6 +63,8 @@ _CALLS = {
     "cbgrid_matrix_multiply_masked": [_kept, _kept, _kept, _made],
     "cbgrid_matrix_multiply_outside": [_kept, _kept, _kept, _made],
     "cbgrid_matrix_multiply_threads": [_kept, _kept, _u32, _made],
+    "cbgrid_matrix_multiply_masked_threads": [_kept, _kept, _kept, _u32, _made],
+    "cbgrid_matrix_multiply_outside_threads": [_kept, _kept, _kept, _u32, _made],
     "cbgrid_matrix_vector": [_kept, _kept, _made],
     "cbgrid_matrix_transpose": [_kept, _made],
     "cbgrid_matrix_row_sums": [_kept, _made],

@@ -560,28 +560,25 @@ class Matrix:
         With `complement`, the product at the places where the mask has no entry. With `transpose_left` or
         `transpose_right` this matrix or the other one is transposed first.
 
-        A product without a mask and transposes is computed by up to `threads` threads, 1 or more, of which at most 256
-        are used; the result is the same. One thread computes other products.
+        The product is computed by up to `threads` threads, 1 or more, of which at most 256 are used; the result is the
+        same. One thread computes a product of transposes without a mask.
         """
         threads = operator.index(threads)
         if threads < 1:
             raise ValueError(f"threads: 1 or more is wanted, not {threads}")
+        count = min(threads, 2**32 - 1)
         operand = self._wanted(other, "b")
         if mask is None:
             if transpose_left or transpose_right:
                 return self._made(
                     library.cbgrid_matrix_multiply_turned, bool(transpose_left), operand._at, bool(transpose_right)
                 )
-            return self._product(operand, threads)
+            return self._made(library.cbgrid_matrix_multiply_threads, operand._at, count)
         left, right = self.T if transpose_left else self, operand.T if transpose_right else operand
         kept = self._wanted(mask, "mask")
         if complement:
-            return left._made(library.cbgrid_matrix_multiply_outside, right._at, kept._at)
-        return left._made(library.cbgrid_matrix_multiply_masked, right._at, kept._at)
-
-    def _product(self, operand: Matrix, threads: int) -> Matrix:
-        """The product by up to so many threads."""
-        return self._made(library.cbgrid_matrix_multiply_threads, operand._at, min(threads, 2**32 - 1))
+            return left._made(library.cbgrid_matrix_multiply_outside_threads, right._at, kept._at, count)
+        return left._made(library.cbgrid_matrix_multiply_masked_threads, right._at, kept._at, count)
 
     def _wanted(self, other: Any, name: str) -> Matrix:
         operand = self._operand(other)

@@ -1,15 +1,18 @@
-use Rattle.std.proofs.Common.{◌≡◌, ◌<◌, ◌≤◌, get_or, sym, ap, subst, ◌∙◌, arith, rules}
-use Rattle.std.specs.Prelude.{All}
+use Rattle.std.proofs.Common.{◌≡◌, ◌<◌, ◌≤◌, length, get_or, sym, ap, subst, ◌∙◌, arith, rules}
+use Rattle.std.specs.Prelude.{All, slice_range}
 use Rattle.cb_matrix.specs.Sparse.{Extent}
 use Rattle.cb_matrix.specs.Values.{product_shape, empty_matrix}
 use Rattle.cb_matrix.specs.declared.TheConstants.{LIMIT}
-use Rattle.cb_dcsc.specs.Columns.{in_column, rows_of, values_of, row_value}
+use Rattle.cb_dcsc.specs.Columns.{columns_with_entries, rows_of, values_of, row_value}
 use Rattle.cb_dcsc.proofs.Lookup.{as_long, rows_inside}
+use Rattle.cb_product.proofs.OnlyColumns.{only_matrix}
 use Rattle.cb_product.proofs.ColumnsMade.{walk_none, walk_more, walk_all, before_column}
 use Rattle.cb_product.proofs.RowValues.{absent_above}
 use Rattle.cb_product.proofs.StoredColumn.{column_inside, column_adds}
+use Rattle.cb_masked.specs.SomeColumns.{only_places}
 use Rattle.cb_masked.proofs.AscendingPlaces.{few_below}
 use Rattle.cb_masked.proofs.MaskedColumns.{left_of, left_absent, left_column}
+use Rattle.cb_masked.proofs.SomeColumns.{some_ascend, some_inside, in_some, same_column}
 use Rattle.cb_masked.proofs.make_columns.Goals as goal
 
 pub loop-n-init : goal.loop-n-init
@@ -20,11 +23,18 @@ loop-n-init g c =
     let a = c.args.left.now in
     let b = c.args.right.now in
     let m = c.args.mask.now in
-    let columns = c.column_numbers-columns in
-    let within = subst (λ (e : Extent). All (λ k. k < e.cols) columns.result.now) r.shape columns.ensures.inside in
-    let absent = left_absent s laws a b m c.shape.ensures.matrix c.shape-2.ensures.matrix c.shape-3.ensures.matrix r.agree r.shape columns.result.now columns.ensures.all in
+    let all = c.column_numbers-all in
+    let low = c.args.low in
+    let high = c.args.high in
+    let h : high ≤ length all.result.now = subst (λ cs. high ≤ length cs) (sym all.ensures.numbers) r.within in
+    let cs = slice_range all.result.now low high in
+    let some = only_places low high m in
+    let is_some = only_matrix s (slice_range (columns_with_entries m.entries) low high) m c.shape-3.ensures.matrix in
+    let up = some_ascend all.result.now low high h all.ensures.ascending in
+    let within = subst (λ (e : Extent). All (λ k. k < e.cols) cs) r.shape (some_inside all.result.now low high h m.shape.cols all.ensures.inside) in
+    let absent = left_absent s laws a b some c.shape.ensures.matrix c.shape-2.ensures.matrix is_some r.agree r.shape cs (in_some m low high all.result.now all.ensures.numbers) in
     record {
-      made = walk_none s (product_shape a b) (left_of s a b m) columns.result.now columns.ensures.ascending within absent _ r.matrix (r.empty ∙ ap empty_matrix r.shape);
+      made = walk_none s (product_shape a b) (left_of s a b some) cs up within absent _ r.matrix (r.empty ∙ ap empty_matrix r.shape);
       cleared = r.cleared;
     }
 
@@ -63,12 +73,18 @@ push_column-requires-clause-not_zero g c = rw c.deref-in-loop-n-2.ensures.value 
 
 pub push_column-requires-clause-column : goal.push_column-requires-clause-column
 push_column-requires-clause-column g c =
-    let inside = c.column_numbers-columns.ensures.inside c.loop-n.n 0 c.loop-n-test.true in
-    subst (λ (e : Extent). get_or c.column_numbers-columns.result.now c.loop-n.n 0 < e.cols) (c.requires.shape ∙ sym c.loop-n.invariant.made.shape) inside
+    let r = c.requires in
+    let all = c.column_numbers-all in
+    let low = c.args.low in
+    let high = c.args.high in
+    let h : high ≤ length all.result.now = subst (λ cs. high ≤ length cs) (sym all.ensures.numbers) r.within in
+    let cs = slice_range all.result.now low high in
+    let inside = some_inside all.result.now low high h c.args.mask.now.shape.cols all.ensures.inside c.loop-n.n 0 c.loop-n-test.true in
+    subst (λ (e : Extent). get_or cs c.loop-n.n 0 < e.cols) (r.shape ∙ sym c.loop-n.invariant.made.shape) inside
 
 pub push_column-requires-clause-before : goal.push_column-requires-clause-before
 push_column-requires-clause-before g c =
-    before_column g.S.Semiring.arithmetic _ _ c.column_numbers-columns.result.now c.loop-n.n c.loop-n.out c.loop-n-test.true c.loop-n.invariant.made
+    before_column g.S.Semiring.arithmetic _ _ (slice_range c.column_numbers-all.result.now c.args.low c.args.high) c.loop-n.n c.loop-n.out c.loop-n-test.true c.loop-n.invariant.made
 
 pub push_column-requires-clause-rows : goal.push_column-requires-clause-rows
 push_column-requires-clause-rows g c =
@@ -88,29 +104,32 @@ loop-n-preserved g c =
     let a = c.args.left.now in
     let b = c.args.right.now in
     let m = c.args.mask.now in
-    let is_a = c.shape.ensures.matrix in
-    let is_b = c.shape-2.ensures.matrix in
-    let is_m = c.shape-3.ensures.matrix in
-    let columns = c.column_numbers-columns in
-    let cs = columns.result.now in
-    let within = subst (λ (e : Extent). All (λ k. k < e.cols) cs) r.shape columns.ensures.inside in
-    let absent = left_absent s laws a b m is_a is_b is_m r.agree r.shape cs columns.ensures.all in
+    let all = c.column_numbers-all in
+    let low = c.args.low in
+    let high = c.args.high in
+    let h : high ≤ length all.result.now = subst (λ cs. high ≤ length cs) (sym all.ensures.numbers) r.within in
+    let cs = slice_range all.result.now low high in
+    let some = only_places low high m in
+    let is_some = only_matrix s (slice_range (columns_with_entries m.entries) low high) m c.shape-3.ensures.matrix in
+    let up = some_ascend all.result.now low high h all.ensures.ascending in
+    let within = subst (λ (e : Extent). All (λ k. k < e.cols) cs) r.shape (some_inside all.result.now low high h m.shape.cols all.ensures.inside) in
+    let absent = left_absent s laws a b some c.shape.ensures.matrix c.shape-2.ensures.matrix is_some r.agree r.shape cs (in_some m low high all.result.now all.ensures.numbers) in
     let n = c.loop-n.n in
     let l = c.loop-n-test.true in
     let inv = c.loop-n.invariant in
     let j = get_or cs n 0 in
-    let lj : j < m.shape.cols = columns.ensures.inside n 0 l in
-    let number = ap (λ ks. get_or ks n 0) (sym columns.ensures.numbers) in
-    let rows_are = c.nth_column.ensures.rows ∙ ap (λ k. rows_of (in_column k m.entries)) number in
-    let values_are = c.nth_column.ensures.values ∙ ap (λ k. values_of (in_column k m.entries)) number in
+    let lj : j < m.shape.cols = some_inside all.result.now low high h m.shape.cols all.ensures.inside n 0 l in
+    let same = same_column m low high all.result.now all.ensures.numbers n h l in
+    let rows_are = c.nth_column.ensures.rows ∙ ap rows_of same in
+    let values_are = c.nth_column.ensures.values ∙ ap values_of same in
     let sum = c.in_ok-sum_column.ensures in
     let kept = c.in_ok-keep_nonzero.ensures in
     let has = rw c.deref.ensures.value at kept.values in
-    let before = before_column s (product_shape a b) (left_of s a b m) cs n c.loop-n.out l inv.made in
+    let before = before_column s (product_shape a b) (left_of s a b some) cs n c.loop-n.out l inv.made in
     let stored = rw (c.deref-in-loop-n.ensures.value, c.deref-in-loop-n-2.ensures.value) at c.in_ok-push_column.ensures.ok in
     let adds = column_adds s j _ _ _ kept.column has c.loop-n.out _ before stored c.in_ok-push_column.ensures.matrix in
     record {
-      made = walk_more s (product_shape a b) (left_of s a b m) cs columns.ensures.ascending within absent c.loop-n.out _ n _ l adds (left_column s laws a b m is_a is_b is_m r.agree r.shape j lj c.nth_column.result.0.now c.nth_column.result.1.now c.column.result.0.now c.column.result.1.now _ rows_are values_are c.column.ensures.rows c.column.ensures.values sum.same_length sum.sums) inv.made;
+      made = walk_more s (product_shape a b) (left_of s a b some) cs up within absent c.loop-n.out _ n _ l adds (left_column s laws a b some c.shape.ensures.matrix c.shape-2.ensures.matrix is_some r.agree r.shape j lj c.nth_column.result.0.now c.nth_column.result.1.now c.column.result.0.now c.column.result.1.now _ rows_are values_are c.column.ensures.rows c.column.ensures.values sum.same_length sum.sums) inv.made;
       cleared = sum.cleared;
     }
 
@@ -122,7 +141,14 @@ returns g c =
     let a = c.args.left.now in
     let b = c.args.right.now in
     let m = c.args.mask.now in
-    let columns = c.column_numbers-columns in
-    let within = subst (λ (e : Extent). All (λ k. k < e.cols) columns.result.now) r.shape columns.ensures.inside in
-    let absent = left_absent s laws a b m c.shape.ensures.matrix c.shape-2.ensures.matrix c.shape-3.ensures.matrix r.agree r.shape columns.result.now columns.ensures.all in
-    walk_all s (product_shape a b) (left_of s a b m) columns.result.now columns.ensures.ascending within absent laws c.loop-n.out c.loop-n.n c.loop-n-test.false c.loop-n.invariant.made
+    let all = c.column_numbers-all in
+    let low = c.args.low in
+    let high = c.args.high in
+    let h : high ≤ length all.result.now = subst (λ cs. high ≤ length cs) (sym all.ensures.numbers) r.within in
+    let cs = slice_range all.result.now low high in
+    let some = only_places low high m in
+    let is_some = only_matrix s (slice_range (columns_with_entries m.entries) low high) m c.shape-3.ensures.matrix in
+    let up = some_ascend all.result.now low high h all.ensures.ascending in
+    let within = subst (λ (e : Extent). All (λ k. k < e.cols) cs) r.shape (some_inside all.result.now low high h m.shape.cols all.ensures.inside) in
+    let absent = left_absent s laws a b some c.shape.ensures.matrix c.shape-2.ensures.matrix is_some r.agree r.shape cs (in_some m low high all.result.now all.ensures.numbers) in
+    walk_all s (product_shape a b) (left_of s a b some) cs up within absent laws c.loop-n.out c.loop-n.n c.loop-n-test.false c.loop-n.invariant.made

@@ -1,13 +1,17 @@
-use Rattle.std.proofs.Common.{◌≡◌, arith, subst}
+use Rattle.std.proofs.Common.{◌≡◌, ◌∙◌, arith, ap, subst}
 use Rattle.std.specs.Prelude.{IfOk}
 use Rattle.cb_matrix.specs.Sparse.{Sparse}
 use Rattle.cb_matrix.specs.Values.{product}
+use Rattle.cb_shares.specs.Shares.{columns_from}
+use Rattle.cb_shares.proofs.ColumnValues.{only_product}
 use Rattle.cb_shares.proofs.Places.{some_columns}
 use Rattle.cb_shares.proofs.multiply_panel.Goals as goal
 
 pub returns : goal.returns
 returns g c =
     let s = g.S.Semiring.arithmetic in
+    let a = c.args.left.now in
+    let b = c.args.right.now in
     let xs = c.column_numbers-columns.result.now in
     let low = c.first_from-low.ensures in
     let high = c.first_from.ensures in
@@ -15,5 +19,6 @@ returns g c =
     let within = low.within in
     let within' = high.within in
     let same = some_columns xs c.args.first c.args.end c.first_from-low.result c.max-high.result (omega arith) (omega arith) low.below low.from
-    (λ k l m. high.below k (omega arith)) (λ k l m. high.from k (omega arith) m) c.args.right.now c.column_numbers-columns.ensures.all in
-    subst (λ (m : Sparse). IfOk c.multiply_columns.result (λ n. n ≡ product s c.args.left.now m)) same c.multiply_columns.ensures
+    (λ k l m. high.below k (omega arith)) (λ k l m. high.from k (omega arith) m) b c.column_numbers-columns.ensures.all in
+    let is = ap (λ (m : Sparse). product s a m) same ∙ only_product s g.met.S.Semiring.is_semiring a b c.shape.ensures.matrix c.shape-2.ensures.matrix (columns_from c.args.first c.args.end) in
+    subst (λ (m : Sparse). IfOk c.multiply_columns.result (λ n. n ≡ m)) is c.multiply_columns.ensures

@@ -1,4 +1,4 @@
-use Rattle.std.proofs.Common.{rules, ◌≡◌, refl, sym, subst, inl, inr}
+use Rattle.std.proofs.Common.{rules, ◌≡◌, refl, inl, inr}
 use Rattle.cb_interop.specs.declared.faults.Fault.TheVariants.{Mixed}
 use Rattle.cb_interop.specs.Kept.{semiring_of, matrix_in}
 use Rattle.cb_interop.specs.KeptPairings.{Suits, misfit_of, pair_faults}

@@ -1,11 +1,14 @@
-use Rattle.std.proofs.Common.{◌<◌, get_or, sym, ap, subst, ◌∙◌}
-use Rattle.std.specs.Prelude.{All}
+use Rattle.std.proofs.Common.{◌<◌, ◌≤◌, length, get_or, sym, ap, subst, ◌∙◌}
+use Rattle.std.specs.Prelude.{All, slice_range}
 use Rattle.cb_matrix.specs.Sparse.{Extent}
 use Rattle.cb_matrix.specs.Values.{product_shape, empty_matrix}
-use Rattle.cb_dcsc.specs.Columns.{in_column, rows_of, values_of}
+use Rattle.cb_dcsc.specs.Columns.{columns_with_entries, rows_of, values_of}
 use Rattle.cb_dcsc.proofs.Lookup.{as_long, rows_inside}
+use Rattle.cb_product.proofs.OnlyColumns.{only_matrix}
 use Rattle.cb_product.proofs.ColumnsMade.{walk_none, walk_more, walk_all, before_column}
 use Rattle.cb_product.proofs.StoredColumn.{column_inside, column_adds}
+use Rattle.cb_masked.specs.SomeColumns.{only_places}
+use Rattle.cb_masked.proofs.SomeColumns.{some_ascend, some_inside, in_some, same_column}
 use Rattle.cb_masked.proofs.OutsideColumns.{left_outside_of, outside_absent, outside_column, outside_past, outside_all}
 use Rattle.cb_masked.proofs.outside.make_outside.Goals as goal
 
@@ -16,10 +19,21 @@ loop-n-init g c =
     let a = c.args.left.now in
     let b = c.args.right.now in
     let m = c.args.mask.now in
-    let columns = c.column_numbers-columns in
-    let absent = outside_absent s g.met.S.Semiring.is_semiring a b m c.shape.ensures.matrix c.shape-2.ensures.matrix c.shape-3.ensures.matrix r.agree columns.result.now columns.ensures.all in
+    let laws = g.met.S.Semiring.is_semiring in
+    let all = c.column_numbers-all in
+    let low = c.args.low in
+    let high = c.args.high in
+    let h : high ≤ length all.result.now = subst (λ cs. high ≤ length cs) (sym all.ensures.numbers) r.within in
+    let cs = slice_range all.result.now low high in
+    let some = only_places low high b in
+    let is_a = c.shape.ensures.matrix in
+    let is_some = only_matrix s (slice_range (columns_with_entries b.entries) low high) b c.shape-2.ensures.matrix in
+    let is_m = c.shape-3.ensures.matrix in
+    let up = some_ascend all.result.now low high h all.ensures.ascending in
+    let within = some_inside all.result.now low high h b.shape.cols all.ensures.inside in
+    let absent = outside_absent s laws a some m is_a is_some is_m r.agree cs (in_some b low high all.result.now all.ensures.numbers) in
     record {
-      made = walk_none s (product_shape a b) (left_outside_of s a b m) columns.result.now columns.ensures.ascending columns.ensures.inside absent _ r.matrix (r.empty ∙ ap empty_matrix r.shape);
+      made = walk_none s (product_shape a b) (left_outside_of s a some m) cs up within absent _ r.matrix (r.empty ∙ ap empty_matrix r.shape);
       told = r.told;
     }
 
@@ -59,13 +73,17 @@ push_column-requires-clause-not_zero g c = rw c.entries.ensures.values c.entries
 
 pub push_column-requires-clause-column : goal.push_column-requires-clause-column
 push_column-requires-clause-column g c =
-    let inside = c.column_numbers-columns.ensures.inside c.loop-n.n 0 c.loop-n-test.true in
+    let all = c.column_numbers-all in
+    let low = c.args.low in
+    let high = c.args.high in
+    let h : high ≤ length all.result.now = subst (λ cs. high ≤ length cs) (sym all.ensures.numbers) c.requires.within in
+    let inside = some_inside all.result.now low high h c.args.right.now.shape.cols all.ensures.inside c.loop-n.n 0 c.loop-n-test.true in
     let cols = ap (λ (e : Extent). e.cols) c.loop-n.invariant.made.shape in
-    subst (λ n. get_or c.column_numbers-columns.result.now c.loop-n.n 0 < n) (sym cols) inside
+    subst (λ n. get_or (slice_range all.result.now low high) c.loop-n.n 0 < n) (sym cols) inside
 
 pub push_column-requires-clause-before : goal.push_column-requires-clause-before
 push_column-requires-clause-before g c =
-    before_column g.S.Semiring.arithmetic _ _ c.column_numbers-columns.result.now c.loop-n.n c.loop-n.out c.loop-n-test.true c.loop-n.invariant.made
+    before_column g.S.Semiring.arithmetic _ _ (slice_range c.column_numbers-all.result.now c.args.low c.args.high) c.loop-n.n c.loop-n.out c.loop-n-test.true c.loop-n.invariant.made
 
 pub push_column-requires-clause-rows : goal.push_column-requires-clause-rows
 push_column-requires-clause-rows g c =
@@ -82,24 +100,30 @@ loop-n-preserved g c =
     let a = c.args.left.now in
     let b = c.args.right.now in
     let m = c.args.mask.now in
+    let all = c.column_numbers-all in
+    let low = c.args.low in
+    let high = c.args.high in
+    let h : high ≤ length all.result.now = subst (λ cs. high ≤ length cs) (sym all.ensures.numbers) r.within in
+    let cs = slice_range all.result.now low high in
+    let some = only_places low high b in
     let is_a = c.shape.ensures.matrix in
-    let is_b = c.shape-2.ensures.matrix in
+    let is_some = only_matrix s (slice_range (columns_with_entries b.entries) low high) b c.shape-2.ensures.matrix in
     let is_m = c.shape-3.ensures.matrix in
-    let columns = c.column_numbers-columns in
-    let cs = columns.result.now in
-    let absent = outside_absent s laws a b m is_a is_b is_m r.agree cs columns.ensures.all in
+    let up = some_ascend all.result.now low high h all.ensures.ascending in
+    let within = some_inside all.result.now low high h b.shape.cols all.ensures.inside in
+    let absent = outside_absent s laws a some m is_a is_some is_m r.agree cs (in_some b low high all.result.now all.ensures.numbers) in
     let n = c.loop-n.n in
     let l = c.loop-n-test.true in
     let inv = c.loop-n.invariant in
     let j = get_or cs n 0 in
-    let number = ap (λ ks. get_or ks n 0) (sym columns.ensures.numbers) in
-    let inner_are = c.nth_column.ensures.rows ∙ ap (λ k. rows_of (in_column k b.entries)) number in
-    let factors_are = c.nth_column.ensures.values ∙ ap (λ k. values_of (in_column k b.entries)) number in
-    let before = before_column s (product_shape a b) (left_outside_of s a b m) cs n c.loop-n.out l inv.made in
+    let same = same_column b low high all.result.now all.ensures.numbers n h l in
+    let inner_are = c.nth_column.ensures.rows ∙ ap rows_of same in
+    let factors_are = c.nth_column.ensures.values ∙ ap values_of same in
+    let before = before_column s (product_shape a b) (left_outside_of s a some m) cs n c.loop-n.out l inv.made in
     let stored = rw (c.entries.ensures.rows, c.entries.ensures.values) at c.in_ok-push_column.ensures.ok in
     let adds = column_adds s j _ _ _ c.entries.ensures.column c.in_ok-make_outside.ensures c.loop-n.out _ before stored c.in_ok-push_column.ensures.matrix in
     record {
-      made = walk_more s (product_shape a b) (left_outside_of s a b m) cs columns.ensures.ascending columns.ensures.inside absent c.loop-n.out _ n _ l adds (outside_column s laws a b m is_a is_b is_m r.agree j c.column.result.0.now c.column.result.1.now c.nth_column.result.0.now c.nth_column.result.1.now c.column.ensures.rows c.column.ensures.values inner_are factors_are) inv.made;
+      made = walk_more s (product_shape a b) (left_outside_of s a some m) cs up within absent c.loop-n.out _ n _ l adds (outside_column s laws a some m is_a is_some is_m r.agree j c.column.result.0.now c.column.result.1.now c.nth_column.result.0.now c.nth_column.result.1.now c.column.ensures.rows c.column.ensures.values inner_are factors_are) inv.made;
       told = inv.told;
     }
 
@@ -111,7 +135,17 @@ returns g c =
     let a = c.args.left.now in
     let b = c.args.right.now in
     let m = c.args.mask.now in
-    let columns = c.column_numbers-columns in
-    let absent = outside_absent s laws a b m c.shape.ensures.matrix c.shape-2.ensures.matrix c.shape-3.ensures.matrix r.agree columns.result.now columns.ensures.all in
-    outside_all s laws a b m c.shape.ensures.matrix c.shape-2.ensures.matrix c.shape-3.ensures.matrix r.agree c.loop-n.out
-    (walk_all s (product_shape a b) (left_outside_of s a b m) columns.result.now columns.ensures.ascending columns.ensures.inside absent laws c.loop-n.out c.loop-n.n c.loop-n-test.false c.loop-n.invariant.made)
+    let all = c.column_numbers-all in
+    let low = c.args.low in
+    let high = c.args.high in
+    let h : high ≤ length all.result.now = subst (λ cs. high ≤ length cs) (sym all.ensures.numbers) r.within in
+    let cs = slice_range all.result.now low high in
+    let some = only_places low high b in
+    let is_a = c.shape.ensures.matrix in
+    let is_some = only_matrix s (slice_range (columns_with_entries b.entries) low high) b c.shape-2.ensures.matrix in
+    let is_m = c.shape-3.ensures.matrix in
+    let up = some_ascend all.result.now low high h all.ensures.ascending in
+    let within = some_inside all.result.now low high h b.shape.cols all.ensures.inside in
+    let absent = outside_absent s laws a some m is_a is_some is_m r.agree cs (in_some b low high all.result.now all.ensures.numbers) in
+    outside_all s laws a some m is_a is_some is_m r.agree c.loop-n.out
+    (walk_all s (product_shape a b) (left_outside_of s a some m) cs up within absent laws c.loop-n.out c.loop-n.n c.loop-n-test.false c.loop-n.invariant.made)
