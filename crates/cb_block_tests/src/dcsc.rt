@@ -1,5 +1,5 @@
 //! Worked examples, with ample memory and with each allocation refused in turn.
-ghost use Rattle.std.specs.Prelude.{◌≡◌};
+ghost use Rattle.std.specs.Prelude.{◌≡◌, []};
 
 use crate::samples::{entries, has_entries, is_right_or_refused};
 use cb_dcsc::{Block, BlockFault};
@@ -62,7 +62,7 @@ const NONE: Lists = Lists {
 
 /// The sides of a block (rows, columns), its entries, and its lists. The second is a vector, whose row 0 isn't stored. The
 /// third has the largest sides, which cost no more than its entries.
-const BLOCKS: [((u32, u32), &'static [Entry], Lists); 6] = [
+const BLOCKS: &[((u32, u32), &[Entry], Lists)] = &[
     ((4, 1000), SPREAD, OF_SPREAD),
     (
         (3, 1),
@@ -89,6 +89,19 @@ const BLOCKS: [((u32, u32), &'static [Entry], Lists); 6] = [
     ((LIMIT, LIMIT), &[], NONE),
 ];
 
+/// Whether a block's copy has these sides, lists and entries.
+fn is_copied(
+    block: &Block<PlusTimes>,
+    sides: (u32, u32),
+    given: &[Entry],
+    lists: &Lists,
+) -> Result<bool, AllocError> {
+    let copy = block.try_clone()?;
+    let entries = copy.entries()?;
+    let is_shaped = (copy.shape().rows(), copy.shape().cols()) == sides;
+    Ok(is_shaped && has_lists(&copy, lists) && entries.as_slice() == given)
+}
+
 /// Whether the block of these entries and its copy have these lists and entries; or why there is no block.
 fn is_held(
     alloc: Global,
@@ -96,17 +109,14 @@ fn is_held(
     given: &[Entry],
     lists: &Lists,
 ) -> Result<bool, SampleFault> {
-    let block = block::<PlusTimes>(alloc, sides.0, sides.1, given)?;
-    let copy = block.try_clone()?;
-    let entries = copy.entries()?;
-    let is_shaped = (copy.shape().rows(), copy.shape().cols()) == sides;
-    let is_copied = is_shaped && has_lists(&copy, lists) && entries.as_slice() == given;
+    let block = block(alloc, sides.0, sides.1, given)?;
+    let is_copied = is_copied(&block, sides, given, lists)?;
     Ok(is_copied && has_lists(&block, lists) && has_entries(&block, given))
 }
 
 #[test]
 fn the_lists_hold_the_columns_that_have_entries(rt: HostRuntime) {
-    for (sides, given, lists) in &BLOCKS {
+    for (sides, given, lists) in BLOCKS {
         assert!(rt; is_held(rt.alloc(), *sides, given, lists) == Ok(true));
     }
 }
@@ -136,7 +146,7 @@ fn a_block_grows_by_entries(rt: HostRuntime) -> Result<(), Fail> {
 }
 
 /// Entries that make no block, and why.
-const FAULTS: [(&'static [Entry], BlockFault); 4] = [
+const FAULTS: &[(&[Entry], BlockFault)] = &[
     (
         entries![(2, 3, 6), (0, 3, 5), (1, 900, 7)],
         BlockFault::Order(1),
@@ -160,7 +170,7 @@ fn fault_of(alloc: Global, entries: &[Entry]) -> Option<SampleFault> {
 #[test]
 fn the_first_fault_is_named(rt: HostRuntime) {
     for (entries, fault) in FAULTS {
-        assert!(rt; fault_of(rt.alloc(), entries) == Some(SampleFault::Block(fault)));
+        assert!(rt; fault_of(rt.alloc(), entries) == Some(SampleFault::Block(*fault)));
     }
 }
 
@@ -189,21 +199,35 @@ fn a_block_is_walked_and_looked_up(rt: HostRuntime) -> Result<(), Fail> {
     Ok(())
 }
 
-/// A column is appended after all others; one without rows isn't stored.
-#[test]
-fn a_column_is_stored_whole(rt: HostRuntime) -> Result<(), Fail> {
-    let mut block = Block::<PlusTimes>::empty(rt.alloc(), shape(4, 1000)?);
+/// Appends three columns, one of them without rows, to a block of four rows and a thousand columns.
+fn push_columns(block: &mut Block<PlusTimes>) -> Result<(), AllocError>
+    requires shape { block.old.shape ≡ record { rows = 4; cols = 1000 } }
+    requires empty { block.old.entries ≡ [] }
+{
     block.push_column(3, &[1], &[6])?;
     block.push_column(5, &[], &[])?;
     block.push_column(900, &[0, 2], &[7, 8])?;
-    let lists = Lists {
-        columns: &[3, 900],
-        ranges: &[(0, 1), (1, 3)],
-        rows: &[1, 0, 2],
-        values: &[6, 7, 8],
-    };
-    assert!(rt; has_lists(&block, &lists));
     Ok(())
+}
+
+const OF_THREE: Lists = Lists {
+    columns: &[3, 900],
+    ranges: &[(0, 1), (1, 3)],
+    rows: &[1, 0, 2],
+    values: &[6, 7, 8],
+};
+
+/// Whether the lists of a block of three columns are the expected ones.
+fn has_columns(alloc: Global) -> Result<bool, SampleFault> {
+    let mut block = Block::empty(alloc, shape(4, 1000)?);
+    push_columns(&mut block)?;
+    Ok(has_lists(&block, &OF_THREE))
+}
+
+/// A column is appended after all others; one without rows isn't stored.
+#[test]
+fn a_column_is_stored_whole(rt: HostRuntime) {
+    assert!(rt; has_columns(rt.alloc()) == Ok(true));
 }
 
 /// A block over or-and is taken as one over min-plus.

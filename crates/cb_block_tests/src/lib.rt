@@ -6,6 +6,8 @@
 #![tactic(auto)]
 
 #[cfg(test)]
+mod calls;
+#[cfg(test)]
 mod dcsc;
 #[cfg(test)]
 mod dense;
@@ -13,6 +15,8 @@ mod dense;
 mod elementwise;
 #[cfg(test)]
 mod masked;
+#[cfg(test)]
+mod masked_panels;
 #[cfg(test)]
 mod matrix;
 #[cfg(test)]

@@ -1,13 +1,13 @@
 //! Products in panels, beside the product by one thread.
 ghost use Rattle.std.specs.Prelude.{◌≡◌};
 
-use crate::masked::random;
-use crate::samples::is_right_or_refused;
+use crate::calls::push;
+use crate::samples::{are_same, is_right_or_refused};
 use cb_dcsc::Block;
-use cb_matrix::LIMIT;
+use cb_matrix::{Entry, LIMIT};
 use cb_panels::{Panels, multiply, multiply_panels};
-use cb_samples::SampleFault;
-use cb_semirings::{MinPlus, PlusTimes, Semiring};
+use cb_samples::{SampleFault, block, entry};
+use cb_semirings::PlusTimes;
 use std::alloc::{AllocError, Global};
 use std::thread::Threads;
 
@@ -16,62 +16,102 @@ use std::thread::Threads;
 type Factors = ([u32; 3], [u32; 3], [u32; 2]);
 
 /// More panels than columns, columns of many entries, the largest sides, and one column.
-const FACTORS: [Factors; 4] = [
+const FACTORS: &[Factors] = &[
     ([9, 7, 8], [9, 7, 8], [2, 2]),
-    ([60, 6, 40], [60, 6, 40], [1, 3]),
+    MANY,
     ([LIMIT, LIMIT, LIMIT], [20, 6, 15], [2, 2]),
-    ([300, 200, 100], [20, 6, 1], [1, 1]),
+    ONE,
 ];
 
-/// How many panels each product is made in.
-const COUNTS: [u32; 6] = [0, 1, 2, 3, 5, 64];
+/// The next pseudo-random number.
+fn next(number: u32) -> u32 {
+    let number = number ^ number.wrapping_shl(13);
+    let number = number ^ (number >> 17);
+    number ^ number.wrapping_shl(5)
+}
 
-/// Whether the product in so many panels, however small, is the product by one thread.
-fn is_same<S: Semiring + Send + Sync, R: Threads + Sync>(
+/// Random entries at about one in this many of the places of the first rows and columns.
+pub(crate) fn scattered(
+    alloc: Global,
+    rows: u32,
+    cols: u32,
+    one_in: u32,
+    seed: u32,
+) -> Result<Vec<Entry>, AllocError> {
+    let mut entries = Vec::new(alloc);
+    let mut number = seed;
+    for column in 0..cols {
+        for row in 0..rows {
+            number = next(number);
+            if number % one_in.max(1) == 0 {
+                entries.push(entry(row, column, u64::from(number % 7) + 1))?;
+            }
+        }
+    }
+    Ok(entries)
+}
+
+/// The factors of a seed.
+fn factors_of(
+    alloc: Global,
+    factors: &Factors,
+    seed: u32,
+) -> Result<Vec<Block<PlusTimes>>, SampleFault> {
+    let ([rows, inner, cols], [rows_used, inner_used, cols_used], [one, two]) = *factors;
+    let left = scattered(alloc, rows_used, inner_used, one, seed)?;
+    let right = scattered(alloc, inner_used, cols_used, two, !seed)?;
+    let mut made = Vec::new(alloc);
+    push(&mut made, block(alloc, rows, inner, &left)?)?;
+    push(&mut made, block(alloc, inner, cols, &right)?)?;
+    Ok(made)
+}
+
+/// However small, at most this many.
+fn panels(most: u32) -> Panels {
+    Panels {
+        most,
+        least_products: 1,
+    }
+}
+
+/// Whether the product in so many panels is the product by one thread.
+fn is_same<R: Threads + Sync>(
     rt: &R,
     alloc: Global,
     most: u32,
-    left: &Block<S>,
-    right: &Block<S>,
+    left: &Block<PlusTimes>,
+    right: &Block<PlusTimes>,
 ) -> Result<bool, AllocError>
     requires { left.now.shape.cols ≡ right.now.shape.rows }
 {
-    let panels = Panels {
-        most,
-        least_products: 1,
-    };
     let wanted = cb_product::multiply(alloc, left, right)?;
-    let wanted = wanted.entries()?;
-    let found = multiply(rt, alloc, panels, left, right)?;
-    let found = found.entries()?;
-    Ok(found.as_slice() == wanted.as_slice())
+    let found = multiply(rt, alloc, panels(most), left, right)?;
+    Ok(are_same(&found, &wanted))
 }
 
 /// Whether it is for factors of a seed.
-fn is_product<S: Semiring + Send + Sync, R: Threads + Sync>(
+fn is_product<R: Threads + Sync>(
     rt: &R,
     alloc: Global,
     most: u32,
     factors: &Factors,
     seed: u32,
 ) -> Result<bool, SampleFault> {
-    let ([rows, inner, cols], [rows_used, inner_used, cols_used], [one, two]) = *factors;
-    let left = random::<S>(alloc, rows, inner, (rows_used, inner_used), one, seed)?;
-    let right = random::<S>(alloc, inner, cols, (inner_used, cols_used), two, !seed)?;
-    Ok(is_same(rt, alloc, most, &left, &right)?)
+    let operands = factors_of(alloc, factors, seed)?;
+    match operands.as_slice() {
+        [left, right] if left.shape().cols() == right.shape().rows() => {
+            Ok(is_same(rt, alloc, most, left, right)?)
+        }
+        _ => Err(SampleFault::Shape),
+    }
 }
 
 /// Whether it is for some seeds and in as many panels as are tried.
-fn are_products<S: Semiring + Send + Sync, R: Threads + Sync>(
-    rt: &R,
-    alloc: Global,
-    factors: &Factors,
-) -> bool {
+fn are_products<R: Threads + Sync>(rt: &R, alloc: Global, factors: &Factors) -> bool {
     for seed in 1..8 {
-        for most in COUNTS {
-            match is_product::<S, R>(rt, alloc, most, factors, seed * 7919) {
-                Ok(true) => {}
-                _ => return false,
+        for most in [0, 1, 2, 3, 5, 64] {
+            if is_product(rt, alloc, most, factors, seed * 7919) != Ok(true) {
+                return false;
             }
         }
     }
@@ -80,48 +120,67 @@ fn are_products<S: Semiring + Send + Sync, R: Threads + Sync>(
 
 #[test]
 fn products_in_panels_are_the_same(rt: HostRuntime) {
-    for factors in &FACTORS {
-        assert!(&rt; are_products::<PlusTimes, _>(&rt, rt.alloc(), factors));
-        assert!(&rt; are_products::<MinPlus, _>(&rt, rt.alloc(), factors));
+    for factors in FACTORS {
+        assert!(&rt; are_products(&rt, rt.alloc(), factors));
     }
 }
 
-/// How many panels the product of the factors of a seed has, of at most this many.
+/// How many panels a product has, of at most this many.
 fn panel_count<R: Threads + Sync>(
     rt: &R,
     alloc: Global,
     most: u32,
+    left: &Block<PlusTimes>,
+    right: &Block<PlusTimes>,
+) -> Result<usize, AllocError>
+    requires { left.now.shape.cols ≡ right.now.shape.rows }
+{
+    let made = multiply_panels(rt, alloc, panels(most), left, right)?;
+    Ok(made.panels().len())
+}
+
+/// Whether the product of some factors has this many panels, of at most so many.
+fn has_panels<R: Threads + Sync>(
+    rt: &R,
+    alloc: Global,
+    most: u32,
     factors: &Factors,
-) -> Result<usize, SampleFault> {
-    let ([rows, inner, cols], [rows_used, inner_used, cols_used], [one, two]) = *factors;
-    let left = random::<PlusTimes>(alloc, rows, inner, (rows_used, inner_used), one, 7919)?;
-    let right = random::<PlusTimes>(alloc, inner, cols, (inner_used, cols_used), two, !7919)?;
-    let panels = Panels {
-        most,
-        least_products: 1,
-    };
-    Ok(
-        multiply_panels(rt, alloc, panels, &left, &right)?
-            .panels()
-            .len(),
-    )
+    wanted: usize,
+) -> Result<bool, SampleFault> {
+    let operands = factors_of(alloc, factors, 7919)?;
+    match operands.as_slice() {
+        [left, right] if left.shape().cols() == right.shape().rows() => {
+            Ok(panel_count(rt, alloc, most, left, right)? == wanted)
+        }
+        _ => Err(SampleFault::Shape),
+    }
+}
+
+const MANY: Factors = ([60, 6, 40], [60, 6, 40], [1, 3]);
+
+const ONE: Factors = ([300, 200, 100], [20, 6, 1], [1, 1]);
+
+/// Whether products have as many panels as are asked for, and of one column one.
+fn have_panels<R: Threads + Sync>(rt: &R, alloc: Global) -> bool {
+    for (most, wanted) in [(0, 1), (1, 1), (2, 2), (5, 5), (64, 64)] {
+        let many = has_panels(rt, alloc, most, &MANY, wanted);
+        let one = has_panels(rt, alloc, most, &ONE, 1);
+        if many != Ok(true) || one != Ok(true) {
+            return false;
+        }
+    }
+    true
 }
 
 /// There are as many as are asked for, at least one, unless only one column has entries.
 #[test]
 fn a_product_has_as_many_panels_as_are_asked_for(rt: HostRuntime) {
-    let alloc = rt.alloc();
-    for (most, wanted) in [(0, 1), (1, 1), (2, 2), (5, 5), (64, 64)] {
-        let count = panel_count(&rt, alloc, most, &FACTORS[1]);
-        assert_eq!(&rt; count, Ok(wanted), "at most {most}");
-        let count = panel_count(&rt, alloc, most, &FACTORS[3]);
-        assert_eq!(&rt; count, Ok(1), "at most {most}, one column");
-    }
+    assert!(&rt; have_panels(&rt, rt.alloc()));
 }
 
 /// Passes whichever single allocation is refused (`rt try --test --fail-alloc N`, for each N in turn).
 #[test]
 fn a_refused_product_in_panels_answers_memory(rt: HostRuntime) {
-    let made = is_product::<PlusTimes, _>(&rt, rt.alloc(), 3, &FACTORS[0], 7919);
+    let made = is_product(&rt, rt.alloc(), 3, &MANY, 7919);
     assert!(&rt; is_right_or_refused(made));
 }

@@ -1,35 +1,16 @@
 //! Worked examples, with ample memory and with each allocation refused in turn.
+use crate::calls::{Call, Case, are_right, are_right_or_refused, is_right};
 use crate::matrix::matrix;
-use crate::samples::{entries, has_entries, is_right_or_refused};
-use cb_dcsc::BlockFault;
+use crate::samples::{entries, has_entries};
+use cb_dcsc::{Block, BlockFault};
 use cb_matrix::{Entry, LIMIT, Matrix};
-use cb_product::{multiply, multiply_into};
+use cb_product::multiply_into;
 use cb_samples::{SampleFault, block, entry};
-use cb_semirings::{PlusPair, PlusTimes, Semiring};
+use cb_semirings::PlusTimes;
 use std::alloc::{AllocError, Global};
-use std::test::Fail;
 
 /// The last row and the last column of the largest sides.
 const LAST: u32 = LIMIT - 1;
-
-/// Two factors and the entries of their product. The sides are the rows of the first, the columns of the first, which are
-/// the rows of the second, and the columns of the second.
-#[derive(Clone, Copy)]
-struct Factors<'a> {
-    sides: [u32; 3],
-    left: &'a [Entry],
-    right: &'a [Entry],
-    product: &'a [Entry],
-}
-
-/// Whether the product of two blocks is the expected one.
-fn is_product<S: Semiring>(alloc: Global, factors: &Factors<'_>) -> Result<bool, SampleFault> {
-    let [rows, inner, cols] = factors.sides;
-    let a = block::<S>(alloc, rows, inner, factors.left)?;
-    let b = block::<S>(alloc, inner, cols, factors.right)?;
-    let product = multiply(alloc, &a, &b)?;
-    Ok(has_entries(&product, factors.product))
-}
 
 /// Entries in columns 1, 3, 4 and 6 alone.
 const GAPPED: &'static [Entry] = entries![
@@ -52,109 +33,157 @@ const MEETING: &'static [Entry] = entries![
 
 const SUMS_OF_MEETING: &'static [Entry] = entries![(0, 0, 4), (1, 0, 25), (3, 0, 2), (4, 0, 32)];
 
-const PRODUCTS: [Factors<'static>; 12] = [
+/// One entry in each of eight rows.
+const EIGHT: &[Entry] = entries![
+    (0, 0, 1),
+    (1, 0, 1),
+    (2, 0, 1),
+    (3, 0, 1),
+    (4, 0, 1),
+    (5, 0, 1),
+    (6, 0, 1),
+    (7, 0, 1)
+];
+
+const SUMS_OF_GAPPED: &[Entry] = entries![
+    (0, 0, 30),
+    (1, 0, 10),
+    (2, 0, 31),
+    (3, 0, 60),
+    (4, 0, 40)
+];
+
+const PRODUCTS: &[Case<'static>] = &[
     // two by two
-    Factors {
-        sides: [2, 2, 2],
-        left: entries![(0, 0, 1), (0, 1, 2), (1, 1, 3)],
-        right: entries![(1, 0, 4), (0, 1, 1)],
-        product: entries![(0, 0, 8), (1, 0, 12), (0, 1, 1)],
-    },
+    (
+        Call::Multiply,
+        &[
+            ((2, 2), entries![(0, 0, 1), (0, 1, 2), (1, 1, 3)]),
+            ((2, 2), entries![(1, 0, 4), (0, 1, 1)]),
+        ],
+        ((2, 2), entries![(0, 0, 8), (1, 0, 12), (0, 1, 1)]),
+    ),
     // a sum that is zero
-    Factors {
-        sides: [3, 2, 1],
-        left: entries![(0, 0, 1), (2, 0, 1), (0, 1, u64::MAX), (1, 1, 5)],
-        right: entries![(0, 0, 1), (1, 0, 1)],
-        product: entries![(1, 0, 5), (2, 0, 1)],
-    },
+    (
+        Call::Multiply,
+        &[
+            (
+                (3, 2),
+                entries![(0, 0, 1), (2, 0, 1), (0, 1, u64::MAX), (1, 1, 5)],
+            ),
+            ((2, 1), entries![(0, 0, 1), (1, 0, 1)]),
+        ],
+        ((3, 1), entries![(1, 0, 5), (2, 0, 1)]),
+    ),
     // the largest sides, which cost no more than the entries
-    Factors {
-        sides: [LIMIT; 3],
-        left: entries![(0, LAST, 7), (LAST, LAST, 5)],
-        right: entries![(LAST, 4, 3)],
-        product: entries![(0, 4, 21), (LAST, 4, 15)],
-    },
+    (
+        Call::Multiply,
+        &[
+            ((LIMIT, LIMIT), entries![(0, LAST, 7), (LAST, LAST, 5)]),
+            ((LIMIT, LIMIT), entries![(LAST, 4, 3)]),
+        ],
+        ((LIMIT, LIMIT), entries![(0, 4, 21), (LAST, 4, 15)]),
+    ),
     // columns that select one column and are scaled copies of it, where 2 times 2^63 is zero
-    Factors {
-        sides: [3, 2, 2],
-        left: entries![(0, 0, 1 << 63), (2, 0, 3), (1, 1, 9)],
-        right: entries![(0, 0, 2), (1, 1, 5)],
-        product: entries![(2, 0, 6), (1, 1, 45)],
-    },
+    (
+        Call::Multiply,
+        &[
+            ((3, 2), entries![(0, 0, 1 << 63), (2, 0, 3), (1, 1, 9)]),
+            ((2, 2), entries![(0, 0, 2), (1, 1, 5)]),
+        ],
+        ((3, 2), entries![(2, 0, 6), (1, 1, 45)]),
+    ),
     // one column of the largest sides
-    Factors {
-        sides: [LIMIT, LIMIT, 1],
-        left: entries![(0, 7, 4), (LAST, LAST, 3)],
-        right: entries![(LAST, 0, 2)],
-        product: entries![(LAST, 0, 6)],
-    },
+    (
+        Call::Multiply,
+        &[
+            ((LIMIT, LIMIT), entries![(0, 7, 4), (LAST, LAST, 3)]),
+            ((LIMIT, 1), entries![(LAST, 0, 2)]),
+        ],
+        ((LIMIT, 1), entries![(LAST, 0, 6)]),
+    ),
     // with 5 rows the products are summed row by row, with 2,147,483,647 the columns are joined
-    Factors {
-        sides: [5, 3, 1],
-        left: MEETING,
-        right: entries![(0, 0, 1), (1, 0, 1), (2, 0, 1)],
-        product: SUMS_OF_MEETING,
-    },
-    Factors {
-        sides: [LIMIT, 3, 1],
-        left: MEETING,
-        right: entries![(0, 0, 1), (1, 0, 1), (2, 0, 1)],
-        product: SUMS_OF_MEETING,
-    },
+    (
+        Call::Multiply,
+        &[
+            ((5, 3), MEETING),
+            ((3, 1), entries![(0, 0, 1), (1, 0, 1), (2, 0, 1)]),
+        ],
+        ((5, 1), SUMS_OF_MEETING),
+    ),
+    (
+        Call::Multiply,
+        &[
+            ((LIMIT, 3), MEETING),
+            ((3, 1), entries![(0, 0, 1), (1, 0, 1), (2, 0, 1)]),
+        ],
+        ((LIMIT, 1), SUMS_OF_MEETING),
+    ),
     // neither block has entries
-    Factors {
-        sides: [2, 3, 4],
-        left: &[],
-        right: &[],
-        product: &[],
-    },
+    (
+        Call::Multiply,
+        &[((2, 3), &[]), ((3, 4), &[])],
+        ((2, 4), &[]),
+    ),
     // a column that has entries, and columns without entries before, between and after those that do: each product
     // looks up one of them
-    Factors {
-        sides: [5, 8, 1],
-        left: GAPPED,
-        right: entries![(3, 0, 1)],
-        product: entries![(0, 0, 30), (2, 0, 31)],
-    },
-    Factors {
-        sides: [5, 8, 1],
-        left: GAPPED,
-        right: entries![(0, 0, 1)],
-        product: &[],
-    },
-    Factors {
-        sides: [5, 8, 1],
-        left: GAPPED,
-        right: entries![(5, 0, 1)],
-        product: &[],
-    },
-    Factors {
-        sides: [5, 8, 1],
-        left: GAPPED,
-        right: entries![(7, 0, 1)],
-        product: &[],
-    },
+    (
+        Call::Multiply,
+        &[((5, 8), GAPPED), ((8, 1), entries![(3, 0, 1)])],
+        ((5, 1), entries![(0, 0, 30), (2, 0, 31)]),
+    ),
+    (
+        Call::Multiply,
+        &[((5, 8), GAPPED), ((8, 1), entries![(0, 0, 1)])],
+        ((5, 1), &[]),
+    ),
+    (
+        Call::Multiply,
+        &[((5, 8), GAPPED), ((8, 1), entries![(5, 0, 1)])],
+        ((5, 1), &[]),
+    ),
+    (
+        Call::Multiply,
+        &[((5, 8), GAPPED), ((8, 1), entries![(7, 0, 1)])],
+        ((5, 1), &[]),
+    ),
+    // no rows or no columns
+    (
+        Call::Multiply,
+        &[((0, 0), &[]), ((0, 0), &[])],
+        ((0, 0), &[]),
+    ),
+    (
+        Call::Multiply,
+        &[((0, 3), &[]), ((3, 2), &[])],
+        ((0, 2), &[]),
+    ),
+    (
+        Call::Multiply,
+        &[((2, 0), &[]), ((0, 3), &[])],
+        ((2, 3), &[]),
+    ),
+    (
+        Call::Multiply,
+        &[((2, 3), &[]), ((3, 0), &[])],
+        ((2, 0), &[]),
+    ),
+    // eight columns are looked up: with 8 the index is an array of starts, with 2,147,483,647 it is a hash table
+    (
+        Call::Multiply,
+        &[((5, 8), GAPPED), ((8, 1), EIGHT)],
+        ((5, 1), SUMS_OF_GAPPED),
+    ),
+    (
+        Call::Multiply,
+        &[((5, LIMIT), GAPPED), ((LIMIT, 1), EIGHT)],
+        ((5, 1), SUMS_OF_GAPPED),
+    ),
 ];
 
 #[test]
 fn products_of_plus_times(rt: HostRuntime) {
-    for (number, factors) in PRODUCTS.iter().enumerate() {
-        let is_right = is_product::<PlusTimes>(rt.alloc(), factors) == Ok(true);
-        assert!(rt; is_right, "{number}");
-    }
-}
-
-#[test]
-fn blocks_without_rows_or_columns_have_empty_products(rt: HostRuntime) {
-    for sides in [[0, 0, 0], [0, 3, 2], [2, 0, 3], [2, 3, 0]] {
-        let factors = Factors {
-            sides,
-            left: &[],
-            right: &[],
-            product: &[],
-        };
-        assert!(rt; is_product::<PlusTimes>(rt.alloc(), &factors) == Ok(true));
-    }
+    assert!(rt; are_right(rt.alloc(), PRODUCTS));
 }
 
 /// This many entries of one column, whose rows are `step` apart.
@@ -172,18 +201,6 @@ fn rows_apart(
     Ok(entries)
 }
 
-/// Whether eight columns of a block with gaps are looked up correctly by one column of the other factor.
-fn finds_eight(alloc: Global, cols: u32) -> Result<bool, SampleFault> {
-    let all = rows_apart(alloc, 1, 8, 0, 1)?;
-    let factors = Factors {
-        sides: [5, cols, 1],
-        left: GAPPED,
-        right: all.as_slice(),
-        product: entries![(0, 0, 30), (1, 0, 10), (2, 0, 31), (3, 0, 60), (4, 0, 40)],
-    };
-    is_product::<PlusTimes>(alloc, &factors)
-}
-
 /// Entries in columns that are 200,000,000 apart.
 const FAR_APART: &'static [Entry] = entries![
     (0, 0, 1),
@@ -199,29 +216,23 @@ const FAR_APART: &'static [Entry] = entries![
 /// Whether columns that are 25,000,000 apart are looked up correctly in a block where one in eight of them has an entry.
 fn finds_one_in_eight(alloc: Global) -> Result<bool, SampleFault> {
     let asked = rows_apart(alloc, 25_000_000, 64, 5, 3)?;
-    let factors = Factors {
-        sides: [LIMIT; 3],
-        left: FAR_APART,
-        right: asked.as_slice(),
-        product: entries![
-            (0, 5, 3),
-            (1, 5, 6),
-            (2, 5, 9),
-            (3, 5, 12),
-            (4, 5, 15),
-            (5, 5, 18),
-            (6, 5, 21),
-            (7, 5, 24)
-        ],
-    };
-    is_product::<PlusTimes>(alloc, &factors)
+    let wanted = entries![
+        (0, 5, 3),
+        (1, 5, 6),
+        (2, 5, 9),
+        (3, 5, 12),
+        (4, 5, 15),
+        (5, 5, 18),
+        (6, 5, 21),
+        (7, 5, 24)
+    ];
+    let sides = (LIMIT, LIMIT);
+    let operands = [(sides, FAR_APART), (sides, asked.as_slice())];
+    is_right(alloc, &(Call::Multiply, &operands, (sides, wanted)))
 }
 
-/// With 8 columns the index is an array of starts, with 2,147,483,647 it is a hash table.
 #[test]
-fn each_index_finds_columns_with_and_without_entries(rt: HostRuntime) {
-    assert!(rt; finds_eight(rt.alloc(), 8) == Ok(true));
-    assert!(rt; finds_eight(rt.alloc(), LIMIT) == Ok(true));
+fn the_hash_table_finds_columns_with_and_without_entries(rt: HostRuntime) {
     assert!(rt; finds_one_in_eight(rt.alloc()) == Ok(true));
 }
 
@@ -252,13 +263,9 @@ fn has_marked_rows(alloc: Global) -> Result<bool, SampleFault> {
     let right = ten_columns(alloc, &[(0, 1), (1, 1)])?;
     let sums = [(0, 1), (63, 16), (64, 34), (127, 4), (128, 64), (199, 8)];
     let product = ten_columns(alloc, &sums)?;
-    let factors = Factors {
-        sides: [200, 2, 10],
-        left: MARKED,
-        right: right.as_slice(),
-        product: product.as_slice(),
-    };
-    is_product::<PlusTimes>(alloc, &factors)
+    let operands = [((200, 2), MARKED), ((2, 10), right.as_slice())];
+    let wanted = ((200, 10), product.as_slice());
+    is_right(alloc, &(Call::Multiply, &operands, wanted))
 }
 
 /// The first columns are joined, the last are summed.
@@ -279,18 +286,30 @@ struct Added<'a> {
 
 /// Whether the product of two blocks is added to the third; or, if memory is refused, whether the third is handed back
 /// unchanged.
-fn is_sum<S: Semiring>(
+fn adds(
     alloc: Global,
+    left: &Block<PlusTimes>,
+    right: &Block<PlusTimes>,
+    own: Block<PlusTimes>,
     added: &Added<'_>,
-) -> Result<Result<bool, bool>, SampleFault> {
-    let [rows, inner, cols] = added.sides;
-    let a = block::<S>(alloc, rows, inner, added.left)?;
-    let b = block::<S>(alloc, inner, cols, added.right)?;
-    let own = block::<S>(alloc, rows, cols, added.own)?;
-    match multiply_into(alloc, &a, &b, own) {
-        Ok(sum) => Ok(Ok(has_entries(&sum, added.sum))),
-        Err((same, _)) => Ok(Err(has_entries(&same, added.own))),
+) -> Result<bool, bool> {
+    let (outer, inner) = (left.shape(), right.shape());
+    if outer.cols() != inner.rows() || own.shape() != outer.with_columns_of(inner) {
+        return Ok(false);
     }
+    match multiply_into(alloc, left, right, own) {
+        Ok(sum) => Ok(has_entries(&sum, added.sum)),
+        Err((same, _)) => Err(has_entries(&same, added.own)),
+    }
+}
+
+/// The same for a row.
+fn is_sum(alloc: Global, added: &Added<'_>) -> Result<Result<bool, bool>, SampleFault> {
+    let [rows, inner, cols] = added.sides;
+    let left = block(alloc, rows, inner, added.left)?;
+    let right = block(alloc, inner, cols, added.right)?;
+    let own = block(alloc, rows, cols, added.own)?;
+    Ok(adds(alloc, &left, &right, own, added))
 }
 
 /// A column with one term; one with none; one that selects a column without entries; and one of two terms, where a sum is
@@ -342,32 +361,6 @@ const ONE_TERM: Added<'static> = Added {
     ],
 };
 
-const OWN: Added<'static> = Added {
-    sides: [5, 2, 3],
-    left: entries![(0, 0, 7), (0, 1, 9), (1, 1, 3)],
-    right: entries![(0, 0, 4), (1, 0, 6), (1, 1, 8)],
-    own: entries![(0, 0, 5), (4, 0, 5), (3, 1, 5), (2, 2, 5)],
-    sum: entries![
-        (0, 0, 7),
-        (1, 0, 1),
-        (4, 0, 5),
-        (0, 1, 1),
-        (1, 1, 1),
-        (3, 1, 5),
-        (2, 2, 5)
-    ],
-};
-
-/// Values of the block that is added to aren't multiplied: over plus-pair a 5 stays 5 and doesn't become 1. With five rows,
-/// and with 2,147,483,647.
-const PAIRS: [Added<'static>; 2] = [
-    OWN,
-    Added {
-        sides: [LIMIT, 2, 3],
-        ..OWN
-    },
-];
-
 const SMALL: Added<'static> = Added {
     sides: [2, 2, 3],
     left: entries![(0, 0, 1), (0, 1, 2), (1, 1, 3)],
@@ -376,7 +369,8 @@ const SMALL: Added<'static> = Added {
     sum: entries![(0, 0, 215), (1, 0, 305), (1, 1, 7), (0, 2, 3)],
 };
 
-const SUMS: [Added<'static>; 8] = [
+const SUMS: &[Added<'static>] = &[
+    SMALL,
     // a factor without entries: nothing is added
     Added {
         sides: [2, 2, 2],
@@ -423,16 +417,8 @@ const SUMS: [Added<'static>; 8] = [
 
 #[test]
 fn products_that_are_added(rt: HostRuntime) {
-    for (number, added) in SUMS.iter().enumerate() {
-        let is_right = is_sum::<PlusTimes>(rt.alloc(), added) == Ok(Ok(true));
-        assert!(rt; is_right, "{number}");
-    }
-}
-
-#[test]
-fn own_values_are_no_products(rt: HostRuntime) {
-    for pairs in &PAIRS {
-        assert!(rt; is_sum::<PlusPair>(rt.alloc(), pairs) == Ok(Ok(true)));
+    for added in SUMS {
+        assert!(rt; is_sum(rt.alloc(), added) == Ok(Ok(true)));
     }
 }
 
@@ -461,97 +447,104 @@ fn named(alloc: Global) -> Result<Vec<Entry>, AllocError> {
     Ok(entries)
 }
 
-/// The product of two matrices by the definition, row by column, and its sum with a third.
-fn plain(
+/// The product of two matrices by the definition, row by column.
+fn plain_product(
+    alloc: Global,
+    sides: [u32; 3],
+    left: &[Entry],
+    right: &[Entry],
+) -> Result<Matrix<PlusTimes>, SampleFault> {
+    let [rows, inner, cols] = sides;
+    let a = matrix(alloc, rows, inner, left)?;
+    let b = matrix(alloc, inner, cols, right)?;
+    match Matrix::plain_product(alloc, &a, &b) {
+        Ok(product) => Ok(product),
+        Err(_) => Err(SampleFault::Shape),
+    }
+}
+
+/// The sum of two lists of entries.
+fn plain_sum(
+    alloc: Global,
+    rows: u32,
+    cols: u32,
+    product: &[Entry],
+    own: &[Entry],
+) -> Result<Matrix<PlusTimes>, SampleFault> {
+    let mut both = product.to_vec(alloc)?;
+    both.extend_from_slice(own)?;
+    matrix(alloc, rows, cols, &both)
+}
+
+/// Whether the product of two blocks and its sum with a third are these.
+fn are(
     alloc: Global,
     sides: [u32; 3],
     given: [&[Entry]; 3],
-) -> Result<(Matrix<PlusTimes>, Matrix<PlusTimes>), Fail> {
+    product: &[Entry],
+    sum: &[Entry],
+) -> Result<bool, SampleFault> {
     let [rows, inner, cols] = sides;
     let [left, right, own] = given;
-    let a = matrix::<PlusTimes>(alloc, rows, inner, left)?;
-    let b = matrix::<PlusTimes>(alloc, inner, cols, right)?;
-    let product = Matrix::plain_product(alloc, &a, &b)?;
-    let mut both = product.entries().to_vec(alloc)?;
-    both.extend_from_slice(own)?;
-    let sum = matrix::<PlusTimes>(alloc, rows, cols, &both)?;
-    Ok((product, sum))
-}
-
-/// Whether the product of two blocks and its sum with a third agree with the definition.
-fn are_plain(alloc: Global, sides: [u32; 3], given: [&[Entry]; 3]) -> Result<bool, Fail> {
-    let [left, right, own] = given;
-    let (product, sum) = plain(alloc, sides, given)?;
-    let factors = Factors {
-        sides,
-        left,
-        right,
-        product: product.entries(),
-    };
+    let operands = [((rows, inner), left), ((inner, cols), right)];
+    let is_product = is_right(alloc, &(Call::Multiply, &operands, ((rows, cols), product)))?;
     let added = Added {
         sides,
         left,
         right,
         own,
-        sum: sum.entries(),
+        sum,
     };
-    Ok(is_product::<PlusTimes>(alloc, &factors)? && is_sum::<PlusTimes>(alloc, &added)? == Ok(true))
+    Ok(is_product && is_sum(alloc, &added)? == Ok(true))
 }
 
+/// Whether they agree with the definition.
+fn are_plain(alloc: Global, sides: [u32; 3], given: [&[Entry]; 3]) -> Result<bool, SampleFault> {
+    let [left, right, own] = given;
+    let product = plain_product(alloc, sides, left, right)?;
+    let sum = plain_sum(alloc, sides[0], sides[2], product.entries(), own)?;
+    are(alloc, sides, given, product.entries(), sum.entries())
+}
+
+const FEW: &[Entry] = entries![(0, 0, 7), (1, 0, 8), (0, 1, 5), (3, 3, 1)];
+
 /// Whether they agree with this many rows.
-fn is_plain_among(alloc: Global, rows: u32) -> Result<bool, Fail> {
-    let (left, right) = (spread(alloc, rows)?, named(alloc)?);
-    let own: &[Entry] = entries![(0, 0, 7), (1, 0, 8), (0, 1, 5), (3, 3, 1)];
-    are_plain(
-        alloc,
-        [rows, 30, 4],
-        [left.as_slice(), right.as_slice(), own],
-    )
+fn is_plain_among(alloc: Global, rows: u32) -> Result<bool, SampleFault> {
+    let left = spread(alloc, rows)?;
+    let right = named(alloc)?;
+    are_plain(alloc, [rows, 30, 4], [&left, &right, FEW])
 }
 
 /// With 5,000 rows the first two columns are computed by the sparse accumulator; with 2,147,483,647 one is computed by the
 /// heap and one by joining. The third has one term, and the last has none. Each way agrees with the definition, also when
 /// the product is added to a block.
 #[test]
-fn each_way_gives_the_plain_product(rt: HostRuntime) -> Result<(), Fail> {
+fn each_way_gives_the_plain_product(rt: HostRuntime) {
     for rows in [5000, LIMIT] {
-        assert!(rt; is_plain_among(rt.alloc(), rows)?);
+        assert!(rt; is_plain_among(rt.alloc(), rows) == Ok(true));
     }
-    Ok(())
 }
 
 /// Passes whichever single allocation is refused (`rt try --test --fail-alloc N`, for each N in turn): the result is
 /// right, or the error is want of memory.
 #[test]
 fn a_refused_product_reports_memory(rt: HostRuntime) {
-    for factors in &PRODUCTS {
-        let is_right = is_product::<PlusTimes>(rt.alloc(), factors);
-        assert!(rt; is_right_or_refused(is_right));
-    }
+    assert!(rt; are_right_or_refused(rt.alloc(), PRODUCTS));
 }
 
 /// Whether a product is added; or, if memory is refused, whether the block is handed back unchanged.
 fn is_sum_or_refused(alloc: Global, added: &Added<'_>) -> bool {
-    match is_sum::<PlusTimes>(alloc, added) {
+    match is_sum(alloc, added) {
         Ok(Ok(is_right)) => is_right,
         Ok(Err(is_back)) => is_back,
         Err(fault) => fault == SampleFault::Block(BlockFault::Memory),
     }
 }
 
-/// With two rows, and with 2,147,483,647, where the columns are joined.
-const SMALL_AND_TALL: [Added<'static>; 2] = [
-    SMALL,
-    Added {
-        sides: [LIMIT, 2, 3],
-        ..SMALL
-    },
-];
-
 /// The same for a product that is added to a block.
 #[test]
 fn a_refused_product_hands_the_block_back(rt: HostRuntime) {
-    for added in &SMALL_AND_TALL {
+    for added in SUMS {
         assert!(rt; is_sum_or_refused(rt.alloc(), added));
     }
 }

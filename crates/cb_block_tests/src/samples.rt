@@ -3,7 +3,6 @@ use cb_dcsc::{Block, BlockFault};
 use cb_samples::{SampleFault, block, entry};
 use cb_semirings::{OrAnd, PlusTimes, Semiring};
 use std::alloc::Global;
-use std::test::Fail;
 
 /// Entries, each written as its row, column and value.
 macro_rules! entries {
@@ -27,6 +26,19 @@ pub(crate) fn has_entries<S: Semiring>(block: &Block<S>, wanted: &[cb_matrix::En
     true
 }
 
+/// Whether two blocks are the same.
+pub(crate) fn are_same<S: Semiring>(left: &Block<S>, right: &Block<S>) -> bool {
+    if left.shape() != right.shape() || left.len() != right.len() {
+        return false;
+    }
+    for n in 0..left.len() {
+        if n >= right.len() || left.entry_at(n) != right.entry_at(n) {
+            return false;
+        }
+    }
+    true
+}
+
 /// Whether a result is right, or its error is want of memory.
 pub(crate) fn is_right_or_refused(made: Result<bool, SampleFault>) -> bool {
     match made {
@@ -35,12 +47,16 @@ pub(crate) fn is_right_or_refused(made: Result<bool, SampleFault>) -> bool {
     }
 }
 
+/// Whether the block of two rows and columns with these entries has them.
+fn is_written_out(alloc: Global, given: &[cb_matrix::Entry]) -> Result<bool, SampleFault> {
+    let made = block::<PlusTimes>(alloc, 2, 2, given)?;
+    Ok(has_entries(&made, given))
+}
+
 #[test]
-fn a_block_is_what_is_written_out(rt: HostRuntime) -> Result<(), Fail> {
+fn a_block_is_what_is_written_out(rt: HostRuntime) {
     let given = [entry(1, 0, 4), entry(0, 1, 3)];
-    let made = block::<PlusTimes>(rt.alloc(), 2, 2, &given)?;
-    assert!(rt; has_entries(&made, &given));
-    Ok(())
+    assert!(rt; is_written_out(rt.alloc(), &given) == Ok(true));
 }
 
 /// Why entries make no block of this many rows and one column.

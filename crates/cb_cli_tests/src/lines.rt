@@ -1,12 +1,11 @@
 //! Command lines, and the lines of faults.
+use cb_endings::fault_lines::fault_line;
+use cb_endings::statuses::status;
+use cb_job_texts::faults::{JobFault, RanksFault, SelectionRefusal};
 use cb_market::{Kind, ReadFault};
 use cb_matrix::Test;
 use cb_operations::{Operation, Refusal};
 use cb_semirings::SemiringName;
-use cb_tasks::execution::status;
-use cb_tasks::fault_lines::fault_line;
-use cb_tasks::faults::{JobFault, RanksFault};
-use cb_tasks::selection_refusals::SelectionRefusal;
 use cb_words::{
     EngineName, FunctionName, Job, Lists, RegionName, Selection, Task, UsageFault, read_job,
 };
@@ -572,7 +571,7 @@ const CHOICES: [Choice; 33] = [
 fn chooses(alloc: Global, choice: &Choice) -> bool {
     let (line, processors, engine, side, threads) = *choice;
     match job_by(alloc, line, processors) {
-        Ok(job) => job.engine == engine && job.grid.side() == side && job.threads == threads,
+        Ok(job) => job.engine == engine && job.side == side && job.threads == threads,
         Err(_) => false,
     }
 }
@@ -860,11 +859,7 @@ const FAULTS: [(JobFault, u8, &str); 19] = [
         5,
         "cbgrid: no such source\n",
     ),
-    (
-        JobFault::Ranks(RanksFault::Absent),
-        69,
-        "cbgrid: no ranks in this program\n",
-    ),
+    (JobFault::Absent, 69, "cbgrid: not in this program\n"),
     (
         JobFault::Ranks(RanksFault::NotStarted(35)),
         6,

@@ -1,10 +1,10 @@
 //! Writers that accept a few bytes at a time, that fail, and that accept no more.
+use cb_job_texts::faults::JobFault;
+use cb_job_texts::output::put_text_and_lines;
+use cb_job_texts::sinks::{Sink, WriterSink};
 use cb_layout::Grid;
 use cb_market::{ReadFault, TextPages, read_distributed};
 use cb_semirings::PlusTimes;
-use cb_tasks::faults::JobFault;
-use cb_tasks::output::put_text_and_lines;
-use cb_tasks::sinks::{Sink, WriterSink};
 use std::alloc::Global;
 use std::io::{self, Write};
 use std::thread::Threads;

@@ -1,45 +1,42 @@
 //! Worked examples of desks, and desks on their own threads.
-ghost use Rattle.std.specs.Prelude.{◌≡◌, [], ◌∷◌, IfOk};
+ghost use Rattle.std.specs.Prelude.{◌≡◌, [], ◌∷◌, IfSome};
 ghost use Rattle.cb_lanes.specs.Desks.{identity, AreOfOneOpening};
 
 use cb_lanes::{Desk, Gone, WaitRefusal, open, settle};
 use cb_letters::{Body, Capacity, Letter, PostRefusal, Tag, Taken};
-use std::alloc::{AllocError, Global};
+use std::alloc::Global;
 use std::sync::Wait;
-use std::test::Fail;
 use std::thread::{Threads, join};
 
-/// The letter with this number on the lane from 0 to 1, without a sheet and with tag 4.
-fn lost_letter(number: u64) -> Taken<u64> {
-    Taken::Letter(Letter {
-        from: 0,
-        to: 1,
-        number,
-        tag: Tag(4),
-        body: Body::Lost(0),
-    })
-}
+/// The first letter on the lane from 0 to 1, without a sheet and with tag 4.
+const LOST: Taken<u64> = Taken::Letter(Letter {
+    from: 0,
+    to: 1,
+    number: 0,
+    tag: Tag(4),
+    body: Body::Lost(0),
+});
 
 /// The desks of two ranks, with lanes for this many letters.
-pub(crate) fn two_desks(alloc: Global, letters: usize) -> Result<(Desk<u64>, Desk<u64>), Fail>
-    ensures { IfOk result (λ desks. AreOfOneOpening (identity desks.0 ∷ identity desks.1 ∷ [])) }
+pub(crate) fn two_desks(alloc: Global, letters: usize) -> Option<(Desk<u64>, Desk<u64>)>
+    ensures { IfSome result (λ desks. AreOfOneOpening (identity desks.0 ∷ identity desks.1 ∷ [])) }
 {
-    let mut desks = open::<u64>(alloc, 2, Capacity::nearest(letters))?;
-    let second = desks.pop().ok_or("two desks")?;
-    let first = desks.pop().ok_or("two desks")?;
-    Ok((first, second))
+    let Ok(desks) = open::<u64>(alloc, 2, Capacity::nearest(letters)) else {
+        return None;
+    };
+    let mut desks = desks;
+    let second = desks.pop()?;
+    let first = desks.pop()?;
+    Some((first, second))
 }
 
 /// How many letters were posted and taken from the first of two desks to the second, and in the other direction.
-fn settled(
-    alloc: Global,
-    first: Desk<u64>,
-    second: Desk<u64>,
-) -> Result<[(u64, u64); 2], AllocError>
+fn settled(alloc: Global, first: Desk<u64>, second: Desk<u64>) -> Option<[(u64, u64); 2]>
     requires { AreOfOneOpening (identity first ∷ identity second ∷ []) }
 {
-    let settled = settle(vec![in alloc; first, second]?);
-    Ok([
+    let desks = vec![in alloc; first, second].ok()?;
+    let settled = settle(desks);
+    Some([
         (settled.posted(0, 1), settled.taken(0, 1)),
         (settled.posted(1, 0), settled.taken(1, 0)),
     ])
@@ -78,6 +75,17 @@ fn takes(desk: &mut Desk<u64>, rows: &[Taken<u64>]) -> bool
     as_expected
 }
 
+/// What is refused once the lane is closed, and on no lane.
+const REFUSED: &[(u16, Result<u64, PostRefusal>)] = &[
+    (1, Err(PostRefusal::Closed)),
+    (0, Err(PostRefusal::Stranger)),
+];
+
+/// What is taken while the lane holds one letter, and once it is closed.
+const ONE_LETTER: &[Taken<u64>] = &[LOST, Taken::Empty];
+
+const ENDED: &[Taken<u64>] = &[Taken::End, Taken::End];
+
 /// Whether the only place of the lane from the first desk to the second is filled, emptied, free again, and filled by the
 /// close mark.
 fn is_filled_and_closed(first: &mut Desk<u64>, second: &mut Desk<u64>) -> bool
@@ -87,33 +95,33 @@ fn is_filled_and_closed(first: &mut Desk<u64>, second: &mut Desk<u64>) -> bool
     let mut as_expected = first.room(1);
     as_expected &= posts(first, &[(1, Ok(0)), (1, Err(PostRefusal::Full))]);
     as_expected &= !first.room(1);
-    as_expected &= takes(second, &[lost_letter(0), Taken::Empty]);
+    as_expected &= takes(second, ONE_LETTER);
     as_expected &= first.room(1);
     as_expected &= first.try_close(1) == Ok(1);
-    let refusals = [
-        (1, Err(PostRefusal::Closed)),
-        (0, Err(PostRefusal::Stranger)),
-    ];
-    as_expected &= posts(first, &refusals);
-    as_expected & takes(second, &[Taken::End, Taken::End])
+    as_expected &= posts(first, REFUSED);
+    as_expected & takes(second, ENDED)
+}
+
+/// Whether the desks are of ranks 0 and 1, and two letters went from the first to the second.
+fn are_counted(first: &Desk<u64>, second: &Desk<u64>) -> bool {
+    let mut as_expected = first.rank() == 0 && second.rank() == 1;
+    as_expected &= counts(first, 0).is_none() && counts(first, 2).is_none();
+    as_expected &= counts(first, 1) == Some((2, 0));
+    as_expected & (counts(second, 0) == Some((0, 2)))
+}
+
+/// What the lanes of two desks on one thread carried, if all is answered as expected.
+fn settled_on_one_thread(alloc: Global) -> Option<[(u64, u64); 2]> {
+    let (mut first, mut second) = two_desks(alloc, 1)?;
+    let is_closed = is_filled_and_closed(&mut first, &mut second);
+    let as_expected = is_closed & are_counted(&first, &second);
+    let lanes = settled(alloc, first, second);
+    if as_expected { lanes } else { None }
 }
 
 #[test]
-fn a_pair_of_desks_on_one_thread(rt: HostRuntime) -> Result<(), Fail> {
-    let (mut first, mut second) = two_desks(rt.alloc(), 1)?;
-    assert_eq!(rt; (first.rank(), second.rank()), (0, 1));
-    assert!(rt; is_filled_and_closed(&mut first, &mut second));
-    assert_eq!(rt;
-        [
-            counts(&first, 0),
-            counts(&first, 1),
-            counts(&first, 2),
-            counts(&second, 0)
-        ],
-        [None, Some((2, 0)), None, Some((0, 2))]
-    );
-    assert_eq!(rt; settled(rt.alloc(), first, second)?, [(2, 2), (0, 0)]);
-    Ok(())
+fn a_pair_of_desks_on_one_thread(rt: HostRuntime) {
+    assert!(rt; settled_on_one_thread(rt.alloc()) == Some([(2, 2), (0, 0)]));
 }
 
 /// Whether waiting posts of a sheet to these ranks are answered as expected. Each sheet that is refused comes back.
@@ -160,49 +168,78 @@ pub(crate) fn waits_to_take<R: Wait>(
     as_expected
 }
 
-#[test]
-fn waiting_calls_refuse_as_the_others(rt: HostRuntime) -> Result<(), Fail> {
-    let (mut first, mut second) = two_desks(rt.alloc(), 2)?;
-    assert_eq!(rt; first.post(&rt, 1, Tag(4), Body::Lost(0)), Ok(0));
-    let closes = [
-        (1, Ok(1)),
-        (1, Err(WaitRefusal::Closed)),
-        (2, Err(WaitRefusal::Stranger)),
-    ];
-    assert!(rt; waits_to_close(&rt, &mut first, &closes));
-    let posts = [
-        (1, Err(WaitRefusal::Closed)),
-        (0, Err(WaitRefusal::Stranger)),
-    ];
-    assert!(rt; waits_to_post(&rt, &mut first, 7, &posts));
-    assert!(rt; waits_to_take(&rt, &mut first, 0, &[Ok(Taken::Stranger)]));
-    let takes = [Ok(lost_letter(0)), Ok(Taken::End), Ok(Taken::End)];
-    assert!(rt; waits_to_take(&rt, &mut second, 0, &takes));
-    Ok(())
+/// Closes after one post, and posts after the close, with their answers.
+const CLOSES: &[(u16, Result<u64, WaitRefusal>)] = &[
+    (1, Ok(1)),
+    (1, Err(WaitRefusal::Closed)),
+    (2, Err(WaitRefusal::Stranger)),
+];
+
+const POSTS: &[(u16, Result<u64, WaitRefusal>)] = &[
+    (1, Err(WaitRefusal::Closed)),
+    (0, Err(WaitRefusal::Stranger)),
+];
+
+/// What is then taken at the other desk, and from no lane.
+const TAKES: &[Result<Taken<u64>, Gone>] = &[Ok(LOST), Ok(Taken::End), Ok(Taken::End)];
+
+const NO_LANE: &[Result<Taken<u64>, Gone>] = &[Ok(Taken::Stranger)];
+
+/// Whether waiting calls on two new desks are answered as expected.
+fn wait_as_expected<R: Wait>(rt: &R, first: &mut Desk<u64>, second: &mut Desk<u64>) -> bool {
+    let mut as_expected = matches!(first.post(rt, 1, Tag(4), Body::Lost(0)), Ok(0));
+    as_expected &= waits_to_close(rt, first, CLOSES);
+    as_expected &= waits_to_post(rt, first, 7, POSTS);
+    as_expected &= waits_to_take(rt, first, 0, NO_LANE);
+    as_expected & waits_to_take(rt, second, 0, TAKES)
 }
+
+/// The same for desks that it makes.
+fn two_wait_as_expected<R: Wait>(rt: &R, alloc: Global) -> Option<bool> {
+    let (mut first, mut second) = two_desks(alloc, 2)?;
+    Some(wait_as_expected(rt, &mut first, &mut second))
+}
+
+#[test]
+fn waiting_calls_refuse_as_the_others(rt: HostRuntime) {
+    assert!(rt; two_wait_as_expected(&rt, rt.alloc()) == Some(true));
+}
+
+/// What is answered to calls that name a rank whose desk is gone, and to a close of another lane.
+const GONE_TAKE: &[Result<Taken<u64>, Gone>] = &[Err(Gone(1))];
+
+const GONE_POST: &[(u16, Result<u64, WaitRefusal>)] = &[(1, Err(WaitRefusal::Gone(1)))];
+
+const GONE_CLOSES: &[(u16, Result<u64, WaitRefusal>)] = &[
+    (1, Err(WaitRefusal::Gone(1))),
+    (2, Ok(0)),
+];
 
 /// Whether calls that name rank 1, which left a letter, don't wait for it once its desk is gone.
 fn gives_up_rank_1<R: Wait>(rt: &R, first: &mut Desk<u64>, third: &mut Desk<u64>) -> bool {
-    let none = waits_to_take(rt, third, 1, &[Err(Gone(1))]);
+    let none = waits_to_take(rt, third, 1, GONE_TAKE);
     let letter = matches!(first.take(rt, 1), Ok(Taken::Letter(_)));
-    let no_more = waits_to_take(rt, first, 1, &[Err(Gone(1))]);
+    let no_more = waits_to_take(rt, first, 1, GONE_TAKE);
     let _ = first.try_post(1, Tag(4), Body::Sheet(8));
-    let full = waits_to_post(rt, first, 9, &[(1, Err(WaitRefusal::Gone(1)))]);
-    let closes = [(1, Err(WaitRefusal::Gone(1))), (2, Ok(0))];
-    let closed = waits_to_close(rt, first, &closes);
+    let full = waits_to_post(rt, first, 9, GONE_POST);
+    let closed = waits_to_close(rt, first, GONE_CLOSES);
     none && letter && no_more && full && closed
 }
 
+/// Whether calls on two of three desks are answered as expected once the third, of rank 1, has left a letter and is gone.
+fn two_give_up_rank_1<R: Wait>(rt: &R, alloc: Global) -> Option<bool> {
+    let mut desks = open::<u64>(alloc, 3, Capacity::nearest(1)).ok()?;
+    let mut third = desks.pop()?;
+    let mut second = desks.pop()?;
+    let mut first = desks.pop()?;
+    let is_posted = waits_to_post(rt, &mut second, 7, &[(0, Ok(0))]);
+    drop(second);
+    Some(is_posted & gives_up_rank_1(rt, &mut first, &mut third))
+}
+
 #[test]
-fn a_desk_that_is_gone_is_not_waited_for(rt: HostRuntime) -> Result<(), Fail> {
-    let mut desks = open::<u64>(rt.alloc(), 3, Capacity::nearest(1))?;
-    assert_eq!(rt; desks[1].post(&rt, 0, Tag(4), Body::Sheet(7)), Ok(0));
-    drop(desks.remove(1));
-    let [first, third] = desks.as_mut_slice() else {
-        return Err("two desks are left".into());
-    };
-    assert!(rt; gives_up_rank_1(&rt, first, third));
-    Ok(())
+fn a_desk_that_is_gone_is_not_waited_for(rt: HostRuntime) {
+    assert!(rt; two_give_up_rank_1(&rt, rt.alloc()) == Some(true));
 }
 
 /// How many sheets are sent from thread to thread.
@@ -261,24 +298,33 @@ fn send_and_receive<R: Threads + Wait + Sync>(
     (first, second, in_order)
 }
 
+/// What the lanes of two desks on two threads carried, if all sheets arrive in order.
+fn settled_on_two_threads<R: Threads + Wait + Sync>(
+    rt: &R,
+    alloc: Global,
+) -> Option<[(u64, u64); 2]> {
+    let (first, second) = two_desks(alloc, 1)?;
+    let (first, second, in_order) = send_and_receive(rt, first, second);
+    let lanes = settled(alloc, first, second);
+    if in_order == SHEETS { lanes } else { None }
+}
+
 #[test]
-fn two_desks_on_two_threads(rt: HostRuntime) -> Result<(), Fail> {
-    let (first, second) = two_desks(rt.alloc(), 1)?;
-    let (first, second, in_order) = send_and_receive(&rt, first, second);
-    assert_eq!(rt; in_order, SHEETS);
-    let [there, _back] = settled(rt.alloc(), first, second)?;
-    assert_eq!(rt; there, (SHEETS + 1, SHEETS + 1));
-    Ok(())
+fn two_desks_on_two_threads(rt: HostRuntime) {
+    let wanted = [(SHEETS + 1, SHEETS + 1), (0, 0)];
+    assert!(rt; settled_on_two_threads(&rt, rt.alloc()) == Some(wanted));
+}
+
+/// How many letters were posted and taken on two lanes of three new desks, if there is memory for them.
+fn letters_of_three(alloc: Global) -> Option<(u64, u64)> {
+    let desks = open::<u64>(alloc, 3, Capacity::nearest(2)).ok()?;
+    let settled = settle(desks);
+    Some((settled.posted(0, 2), settled.taken(2, 1)))
 }
 
 /// Passes whichever single growth is refused (`rt try --test --fail-alloc N`, for each N in turn): either
 /// all desks are made, with every lane, or none is.
 #[test]
-fn a_refused_opening_is_reported(rt: HostRuntime) -> Result<(), Fail> {
-    let Ok(desks) = open::<u64>(rt.alloc(), 3, Capacity::nearest(2)) else {
-        return Ok(());
-    };
-    let settled = settle(desks);
-    assert_eq!(rt; (settled.posted(0, 2), settled.taken(2, 1)), (0, 0));
-    Ok(())
+fn a_refused_opening_is_reported(rt: HostRuntime) {
+    assert!(rt; letters_of_three(rt.alloc()).is_none_or(|letters| letters == (0, 0)));
 }

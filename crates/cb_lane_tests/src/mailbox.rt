@@ -1,12 +1,11 @@
 //! Worked examples of a mailbox.
-ghost use Rattle.std.specs.Prelude.{◌≡◌, ◌<◌, All, IfErr, IfOk, IfSome, false};
+ghost use Rattle.std.specs.Prelude.{◌≡◌, ◌<◌, All, IfErr, IfSome, false};
 ghost use Rattle.cb_mailbox.specs.Inbox.{is_stranger};
 ghost use Rattle.cb_mailbox.specs.Run.{IsPostable};
 
 use cb_letters::{Body, Capacity, Letter, PostRefusal, Tag, Taken};
 use cb_mailbox::{Answer, Call, Mailbox};
 use std::alloc::{AllocError, Global};
-use std::test::Fail;
 
 fn post(from: u16, sheet: u64) -> Call<u64>
     ensures { IsPostable result }
@@ -18,18 +17,24 @@ fn post(from: u16, sheet: u64) -> Call<u64>
     }
 }
 
-fn took(from: u16, to: u16, number: u64, sheet: u64) -> Answer<u64> {
-    Answer::Took(Taken::Letter(Letter {
-        from,
-        to,
-        number,
-        tag: Tag(7),
-        body: Body::Sheet(sheet),
-    }))
+/// The answer to a take of this letter.
+macro_rules! took {
+    ($from:literal, $to:literal, $number:literal, $sheet:literal) => {
+        Answer::Took(Taken::Letter(Letter {
+            from: $from,
+            to: $to,
+            number: $number,
+            tag: Tag(7),
+            body: Body::Sheet($sheet),
+        }))
+    };
 }
 
-fn refused(refusal: PostRefusal, sheet: u64) -> Answer<u64> {
-    Answer::Refused(refusal, Some(Body::Sheet(sheet)))
+/// The answer to a post of this sheet that was refused.
+macro_rules! refused {
+    ($refusal:ident, $sheet:literal) => {
+        Answer::Refused(PostRefusal::$refusal, Some(Body::Sheet($sheet)))
+    };
 }
 
 /// The answers to these calls. That calls which are refused memory come back is proved.
@@ -67,21 +72,24 @@ fn gives_answers(
     alloc: Global,
     me: u16,
     ranks: u16,
-    calls: Vec<Call<u64>>,
+    calls: Option<Vec<Call<u64>>>,
     expected: &[Answer<u64>],
-) -> Result<bool, AllocError>
+) -> Option<bool>
     requires me { me < ranks }
-    requires postable { All IsPostable calls.items }
+    requires postable { IfSome calls (λ calls. All IsPostable calls.items) }
 {
-    let mut mailbox = Mailbox::open(alloc, me, ranks, Capacity::nearest(2))?;
-    Ok(is_answered(alloc, &mut mailbox, calls, expected))
+    let mut mailbox = Mailbox::open(alloc, me, ranks, Capacity::nearest(2)).ok()?;
+    match calls {
+        Some(calls) => Some(is_answered(alloc, &mut mailbox, calls, expected)),
+        None => None,
+    }
 }
 
 /// Calls for one sender, which fill its queue and close it. Posts are refused then, while it is full and once it is empty.
-fn calls_of_one(alloc: Global) -> Result<Vec<Call<u64>>, AllocError>
-    ensures { IfOk result (λ calls. All IsPostable calls.items) }
+fn calls_of_one(alloc: Global) -> Option<Vec<Call<u64>>>
+    ensures { IfSome result (λ calls. All IsPostable calls.items) }
 {
-    Ok(vec![in alloc;
+    vec![in alloc;
         post(1, 10),
         post(1, 11),
         post(1, 12),
@@ -95,41 +103,38 @@ fn calls_of_one(alloc: Global) -> Result<Vec<Call<u64>>, AllocError>
         Call::Take { from: 1 },
         Call::Take { from: 1 },
         post(1, 15),
-    ]?)
+    ]
+    .ok()
 }
 
 /// The expected answers.
-fn answers_to_one(alloc: Global) -> Result<Vec<Answer<u64>>, AllocError> {
-    Ok(vec![in alloc;
-        Answer::Posted(0),
-        Answer::Posted(1),
-        refused(PostRefusal::Full, 12),
-        took(1, 0, 0, 10),
-        Answer::Posted(2),
-        Answer::Refused(PostRefusal::Full, None),
-        took(1, 0, 1, 11),
-        Answer::Posted(3),
-        refused(PostRefusal::Closed, 14),
-        took(1, 0, 2, 13),
-        Answer::Took(Taken::End),
-        Answer::Took(Taken::End),
-        refused(PostRefusal::Closed, 15),
-    ]?)
-}
+const ANSWERS_TO_ONE: &[Answer<u64>] = &[
+    Answer::Posted(0),
+    Answer::Posted(1),
+    refused!(Full, 12),
+    took!(1, 0, 0, 10),
+    Answer::Posted(2),
+    Answer::Refused(PostRefusal::Full, None),
+    took!(1, 0, 1, 11),
+    Answer::Posted(3),
+    refused!(Closed, 14),
+    took!(1, 0, 2, 13),
+    Answer::Took(Taken::End),
+    Answer::Took(Taken::End),
+    refused!(Closed, 15),
+];
 
 #[test]
-fn one_sender_fills_its_queue_and_closes(rt: HostRuntime) -> Result<(), Fail> {
-    let expected = answers_to_one(rt.alloc())?;
-    let calls = calls_of_one(rt.alloc())?;
-    assert!(rt; gives_answers(rt.alloc(), 0, 2, calls, &expected)?);
-    Ok(())
+fn one_sender_fills_its_queue_and_closes(rt: HostRuntime) {
+    let calls = calls_of_one(rt.alloc());
+    assert!(rt; gives_answers(rt.alloc(), 0, 2, calls, ANSWERS_TO_ONE) == Some(true));
 }
 
 /// Calls for two senders, and for ranks that aren't senders.
-fn calls_of_two(alloc: Global) -> Result<Vec<Call<u64>>, AllocError>
-    ensures { IfOk result (λ calls. All IsPostable calls.items) }
+fn calls_of_two(alloc: Global) -> Option<Vec<Call<u64>>>
+    ensures { IfSome result (λ calls. All IsPostable calls.items) }
 {
-    Ok(vec![in alloc;
+    vec![in alloc;
         post(0, 10),
         post(1, 11),
         post(0, 12),
@@ -139,30 +144,27 @@ fn calls_of_two(alloc: Global) -> Result<Vec<Call<u64>>, AllocError>
         Call::Take { from: 0 },
         Call::Take { from: 9 },
         Call::Take { from: 2 },
-    ]?)
+    ]
+    .ok()
 }
 
 /// The expected answers of rank 2.
-fn answers_to_two(alloc: Global) -> Result<Vec<Answer<u64>>, AllocError> {
-    Ok(vec![in alloc;
-        Answer::Posted(0),
-        Answer::Posted(0),
-        Answer::Posted(1),
-        took(1, 2, 0, 11),
-        took(0, 2, 0, 10),
-        took(0, 2, 1, 12),
-        Answer::Took(Taken::Empty),
-        Answer::Took(Taken::Stranger),
-        Answer::Took(Taken::Stranger),
-    ]?)
-}
+const ANSWERS_TO_TWO: &[Answer<u64>] = &[
+    Answer::Posted(0),
+    Answer::Posted(0),
+    Answer::Posted(1),
+    took!(1, 2, 0, 11),
+    took!(0, 2, 0, 10),
+    took!(0, 2, 1, 12),
+    Answer::Took(Taken::Empty),
+    Answer::Took(Taken::Stranger),
+    Answer::Took(Taken::Stranger),
+];
 
 #[test]
-fn two_senders_have_a_queue_each(rt: HostRuntime) -> Result<(), Fail> {
-    let expected = answers_to_two(rt.alloc())?;
-    let calls = calls_of_two(rt.alloc())?;
-    assert!(rt; gives_answers(rt.alloc(), 2, 3, calls, &expected)?);
-    Ok(())
+fn two_senders_have_a_queue_each(rt: HostRuntime) {
+    let calls = calls_of_two(rt.alloc());
+    assert!(rt; gives_answers(rt.alloc(), 2, 3, calls, ANSWERS_TO_TWO) == Some(true));
 }
 
 /// The state of a sender's lane: whether its queue has room, how many letters were posted and taken, and whether it is
@@ -208,12 +210,15 @@ fn refuses_its_own(mailbox: &mut Mailbox<u64>) -> bool {
     }
 }
 
+/// Whether a new mailbox does all of that.
+fn follows_the_calls(alloc: Global) -> Option<bool> {
+    let mut mailbox = Mailbox::open(alloc, 0, 2, Capacity::nearest(1)).ok()?;
+    Some(fills(&mut mailbox) && drains(&mut mailbox) && refuses_its_own(&mut mailbox))
+}
+
 #[test]
-fn counts_and_room_follow_the_calls(rt: HostRuntime) -> Result<(), Fail> {
-    let mut mailbox = Mailbox::open(rt.alloc(), 0, 2, Capacity::nearest(1))?;
-    assert!(rt; fills(&mut mailbox) && drains(&mut mailbox));
-    assert!(rt; refuses_its_own(&mut mailbox));
-    Ok(())
+fn counts_and_room_follow_the_calls(rt: HostRuntime) {
+    assert!(rt; follows_the_calls(rt.alloc()) == Some(true));
 }
 
 /// Posts from ranks 1 and 2, and a take.
@@ -223,22 +228,16 @@ fn three_calls(alloc: Global) -> Option<Vec<Call<u64>>>
     vec![in alloc; post(1, 10), post(2, 20), Call::Take { from: 2 }].ok()
 }
 
-/// Whether these are the expected answers.
+/// The expected answers.
+const ANSWERS_TO_THREE: &[Answer<u64>] = &[
+    Answer::Posted(0),
+    Answer::Posted(0),
+    took!(2, 0, 0, 20),
+];
+
+/// Whether these are they.
 fn are_three(answers: &[Answer<u64>]) -> bool {
-    matches!(
-        answers,
-        [
-            Answer::Posted(0),
-            Answer::Posted(0),
-            Answer::Took(Taken::Letter(Letter {
-                from: 2,
-                to: 0,
-                number: 0,
-                tag: Tag(7),
-                body: Body::Sheet(20),
-            })),
-        ]
-    )
+    answers == ANSWERS_TO_THREE
 }
 
 /// Whether an empty mailbox gives them.
@@ -270,14 +269,16 @@ fn answers_three_in_the_end(
     }
 }
 
+/// The same for a new mailbox, if there is memory for it and for the calls.
+fn new_answers_three(alloc: Global) -> Option<bool> {
+    let mut mailbox = Mailbox::open(alloc, 0, 3, Capacity::nearest(2)).ok()?;
+    let calls = three_calls(alloc)?;
+    Some(answers_three_in_the_end(alloc, &mut mailbox, calls))
+}
+
 /// Passes whichever single growth is refused (`rt try --test --fail-alloc N`, for each N in turn): a
 /// refused `open` reports it, and a refused `run` hands back calls that can be run again.
 #[test]
 fn a_refused_run_can_be_made_again(rt: HostRuntime) {
-    let Ok(mut mailbox) = Mailbox::open(rt.alloc(), 0, 3, Capacity::nearest(2)) else {
-        return;
-    };
-    if let Some(calls) = three_calls(rt.alloc()) {
-        assert!(rt; answers_three_in_the_end(rt.alloc(), &mut mailbox, calls));
-    }
+    assert!(rt; new_answers_three(rt.alloc()) != Some(false));
 }

@@ -3,9 +3,9 @@
 use crate::lanes::{two_desks, waits_to_post, waits_to_take};
 use cb_lanes::{Desk, Gone, WaitRefusal, open};
 use cb_letters::{Body, Capacity, Tag, Taken};
+use std::alloc::Global;
 use std::sync::Wait;
 use std::sync::atomic::{AtomicU64, Ordering};
-use std::test::Fail;
 use std::thread;
 use std::thread::{Threads, join};
 use std::time::{Clock, Duration};
@@ -47,29 +47,21 @@ fn sleep_three_times<R: Wait>(rt: &R, desk: Desk<u64>, last: Last) -> bool {
     letter && room && gone
 }
 
-fn sleep_beside_a_dawdler<R: Threads + Wait + Clock + Sync>(
-    rt: &R,
-    first: Desk<u64>,
-    second: Desk<u64>,
-    last: Last,
-) -> bool {
+/// Whether a desk that sleeps three times beside one that dawdles is woken each time.
+fn is_woken<R: Threads + Wait + Clock + Sync>(rt: &R, alloc: Global, last: Last) -> Option<bool> {
+    let (first, second) = two_desks(alloc, 1)?;
     let (done, waited) = join(
         rt,
         move || dawdle(rt, second),
         move || sleep_three_times(rt, first, last),
     );
-    done && waited
+    Some(done && waited)
 }
 
 #[test]
-fn a_sleeper_is_woken_by_a_letter_by_room_and_as_the_other_goes(
-    rt: HostRuntime,
-) -> Result<(), Fail> {
-    for last in [Last::Letter, Last::Room] {
-        let (first, second) = two_desks(rt.alloc(), 1)?;
-        assert!(rt; sleep_beside_a_dawdler(&rt, first, second, last));
-    }
-    Ok(())
+fn a_sleeper_is_woken_by_a_letter_by_room_and_as_the_other_goes(rt: HostRuntime) {
+    assert!(rt; is_woken(&rt, rt.alloc(), Last::Letter) == Some(true));
+    assert!(rt; is_woken(&rt, rt.alloc(), Last::Room) == Some(true));
 }
 
 /// How many ranks form the ring.
@@ -114,13 +106,14 @@ fn goes_round<R: Wait>(rt: &R, desk: Desk<u64>, laps: u64, first: First) -> bool
     as_expected
 }
 
-/// How many ranks of the ring did, each on its own thread.
+/// How many ranks of a new ring did, each on its own thread.
 fn go_round<R: Threads + Wait + Sync>(
     rt: &R,
-    desks: Vec<Desk<u64>>,
+    alloc: Global,
     laps: u64,
     first: First,
-) -> u64 {
+) -> Option<u64> {
+    let desks = open::<u64>(alloc, RANKS, Capacity::nearest(1)).ok()?;
     let count = AtomicU64::new(0);
     let done = &count;
     thread::scope(thread::scope_env(), rt, |scope| {
@@ -132,19 +125,15 @@ fn go_round<R: Threads + Wait + Sync>(
             });
         }
     });
-    count.load(Ordering::SeqCst)
+    Some(count.load(Ordering::SeqCst))
 }
 
 #[test]
-fn a_chain_of_sleepers_passes_a_letter_round(rt: HostRuntime) -> Result<(), Fail> {
-    let desks = open::<u64>(rt.alloc(), RANKS, Capacity::nearest(1))?;
-    assert_eq!(rt; go_round(&rt, desks, 60, First::Rank0), 36);
-    Ok(())
+fn a_chain_of_sleepers_passes_a_letter_round(rt: HostRuntime) {
+    assert!(rt; go_round(&rt, rt.alloc(), 60, First::Rank0) == Some(36));
 }
 
 #[test]
-fn thousands_of_letters_go_round_at_once(rt: HostRuntime) -> Result<(), Fail> {
-    let desks = open::<u64>(rt.alloc(), RANKS, Capacity::nearest(1))?;
-    assert_eq!(rt; go_round(&rt, desks, 200, First::Each), 36);
-    Ok(())
+fn thousands_of_letters_go_round_at_once(rt: HostRuntime) {
+    assert!(rt; go_round(&rt, rt.alloc(), 200, First::Each) == Some(36));
 }

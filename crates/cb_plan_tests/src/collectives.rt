@@ -72,49 +72,47 @@ fn has(plan: &Plan, copied: &[Copied], moved: &[Moved]) -> bool {
 #[test]
 fn broadcasts_by_a_tree(rt: HostRuntime) {
     let mut plan = Plan::new(rt.alloc(), 4);
-    assert!(rt; broadcast(&mut plan, &[0, 1, 2, 3], 2, TAG, 0, 1).is_ok());
-    let copied = [(2, 0, 1)];
-    let moved = [(2, 3, 0, 1), (2, 0, 0, 1), (3, 1, 1, 1)];
-    assert!(rt; has(&plan, &copied, &moved));
+    let is_appended = broadcast(&mut plan, &[0, 1, 2, 3], 2, TAG, 0, 1).is_ok();
+    let moved: &[Moved] = &[(2, 3, 0, 1), (2, 0, 0, 1), (3, 1, 1, 1)];
+    assert!(rt; is_appended && has(&plan, &[(2, 0, 1)], moved));
 }
 
 #[test]
 fn broadcasts_to_six(rt: HostRuntime) {
     let mut plan = Plan::new(rt.alloc(), 6);
-    assert!(rt; broadcast(&mut plan, &[0, 1, 2, 3, 4, 5], 0, TAG, 1, 1).is_ok());
-    let moved = [
+    let is_appended = broadcast(&mut plan, &[0, 1, 2, 3, 4, 5], 0, TAG, 1, 1).is_ok();
+    let moved: &[Moved] = &[
         (0, 1, 1, 1),
         (0, 2, 1, 1),
         (1, 3, 1, 1),
         (1, 4, 1, 1),
         (2, 5, 1, 1),
     ];
-    assert!(rt; has(&plan, &[], &moved));
+    assert!(rt; is_appended && has(&plan, &[], moved));
 }
 
 #[test]
 fn gathers_in_list_order(rt: HostRuntime) {
     let mut plan = Plan::new(rt.alloc(), 3);
-    assert!(rt; gather(&mut plan, &[0, 1, 2], 0, TAG, 0, 10).is_ok());
-    let moved = [(1, 0, 0, 11), (2, 0, 0, 12)];
-    assert!(rt; has(&plan, &[(0, 0, 10)], &moved));
+    let is_appended = gather(&mut plan, &[0, 1, 2], 0, TAG, 0, 10).is_ok();
+    let moved: &[Moved] = &[(1, 0, 0, 11), (2, 0, 0, 12)];
+    assert!(rt; is_appended && has(&plan, &[(0, 0, 10)], moved));
 }
 
 #[test]
 fn reduces_by_two_sums(rt: HostRuntime) {
     let mut plan = Plan::new(rt.alloc(), 3);
-    assert!(rt; reduce(&mut plan, &[0, 1, 2], 2, TAG, 0, 2, 3).is_ok());
-    assert!(rt; plan.len() == 5);
-    let moved = [(0, 2, 0, 3), (1, 2, 0, 3)];
-    assert!(rt; has(&plan, &[(2, 0, 2)], &moved));
+    let is_appended = reduce(&mut plan, &[0, 1, 2], 2, TAG, 0, 2, 3).is_ok();
+    let moved: &[Moved] = &[(0, 2, 0, 3), (1, 2, 0, 3)];
+    assert!(rt; is_appended && plan.len() == 5 && has(&plan, &[(2, 0, 2)], moved));
 }
 
 #[test]
 fn exchanges_among_three(rt: HostRuntime) {
     let mut plan = Plan::new(rt.alloc(), 3);
-    assert!(rt; all_to_all(&mut plan, &[0, 1, 2], TAG, 20, 30).is_ok());
-    let copied = [(0, 20, 30), (1, 21, 31), (2, 22, 32)];
-    let moved = [
+    let is_appended = all_to_all(&mut plan, &[0, 1, 2], TAG, 20, 30).is_ok();
+    let copied: &[Copied] = &[(0, 20, 30), (1, 21, 31), (2, 22, 32)];
+    let moved: &[Moved] = &[
         (0, 1, 21, 30),
         (0, 2, 22, 30),
         (1, 0, 20, 31),
@@ -122,13 +120,13 @@ fn exchanges_among_three(rt: HostRuntime) {
         (2, 0, 20, 32),
         (2, 1, 21, 32),
     ];
-    assert!(rt; has(&plan, &copied, &moved));
+    assert!(rt; is_appended && has(&plan, copied, moved));
 }
 
 #[test]
 fn shuts_each_lane_once(rt: HostRuntime) {
     let mut plan = Plan::new(rt.alloc(), 3);
-    assert!(rt; shut_all(&mut plan).is_ok());
-    let lanes = [(0, 1), (0, 2), (1, 0), (1, 2), (2, 0), (2, 1)];
-    assert!(rt; are_closed(plan.acts(), &lanes));
+    let is_appended = shut_all(&mut plan).is_ok();
+    let lanes: &[(u16, u16)] = &[(0, 1), (0, 2), (1, 0), (1, 2), (2, 0), (2, 1)];
+    assert!(rt; is_appended && are_closed(plan.acts(), lanes));
 }

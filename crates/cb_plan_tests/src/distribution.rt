@@ -1,23 +1,14 @@
 //! The acts and starts that plans over a grid are made of. With ample memory the calls succeed.
-ghost use Rattle.std.specs.Prelude.{◌≡◌, IfOk};
-
-use cb_layout::Grid;
+use crate::samples::grid_of;
 use cb_plan::{Act, Op, Plan, Start};
 use cb_plan_parts::{Operand, finish, operand_starts, work_everywhere, zero_everywhere};
-use cb_samples::shape;
+use cb_samples::{SampleFault, shape};
 use std::alloc::Global;
 use std::test::Fail;
 
-/// The grid of side 2.
-fn grid() -> Result<Grid, Fail>
-    ensures { IfOk result (λ grid. grid.side ≡ 2) }
-{
-    Ok(Grid::new(2).map_err(|_| "a side")?)
-}
-
 /// The starts of a 3 by 5 matrix in slot 0 and a 1 by 2 matrix in slot 7 on the grid of side 2.
-fn starts(alloc: Global) -> Result<Vec<Start>, Fail> {
-    let grid = grid()?;
+fn starts(alloc: Global) -> Result<Vec<Start>, SampleFault> {
+    let grid = grid_of(2)?;
     let large = shape(3, 5)?;
     let small = shape(1, 2)?;
     let operands = [
@@ -49,29 +40,33 @@ fn are_starts(starts: &[Start], wanted: &[(u16, u16, u32, u32)]) -> bool {
     starts.len() == wanted.len()
 }
 
+const STARTS: &[(u16, u16, u32, u32)] = &[
+    (0, 0, 2, 3),
+    (0, 7, 1, 1),
+    (1, 0, 2, 2),
+    (1, 7, 1, 1),
+    (2, 0, 1, 3),
+    (2, 7, 0, 1),
+    (3, 0, 1, 2),
+    (3, 7, 0, 1),
+];
+
 #[test]
 fn starts_by_ranks(rt: HostRuntime) -> Result<(), Fail> {
-    let expected: [(u16, u16, u32, u32); 8] = [
-        (0, 0, 2, 3),
-        (0, 7, 1, 1),
-        (1, 0, 2, 2),
-        (1, 7, 1, 1),
-        (2, 0, 1, 3),
-        (2, 7, 0, 1),
-        (3, 0, 1, 2),
-        (3, 7, 0, 1),
-    ];
     let starts = starts(rt.alloc())?;
-    assert!(rt; are_starts(&starts, &expected));
+    assert!(rt; are_starts(&starts, STARTS));
     Ok(())
 }
 
 /// A plan in which each rank in turn copies slot 0 to slot 1 and then puts an empty 3 by 3 block into slot 2.
-fn works(alloc: Global) -> Result<Plan, Fail> {
-    let grid = grid()?;
+fn works(alloc: Global) -> Result<Plan, SampleFault> {
+    let grid = grid_of(2)?;
     let mut plan = Plan::new(alloc, grid.ranks());
-    work_everywhere(&mut plan, &grid, &Op::Copy { a: 0, into: 1 }).map_err(|_| "copies")?;
-    zero_everywhere(&mut plan, &grid, 2, shape(3, 3)?).map_err(|_| "zeros")?;
+    let shape = shape(3, 3)?;
+    let copies = work_everywhere(&mut plan, &grid, &Op::Copy { a: 0, into: 1 }).is_ok();
+    if !copies || zero_everywhere(&mut plan, &grid, 2, shape).is_err() {
+        return Err(SampleFault::Shape);
+    }
     Ok(plan)
 }
 
@@ -104,8 +99,8 @@ fn each_rank_works(rt: HostRuntime) -> Result<(), Fail> {
 
 /// The numbers of acts and starts of a plan that starts with a 3 by 3 matrix on four ranks and does nothing, and the slot
 /// of its result.
-fn starts_alone(alloc: Global) -> Result<(usize, usize, u16), Fail> {
-    let grid = grid()?;
+fn starts_alone(alloc: Global) -> Result<(usize, usize, u16), SampleFault> {
+    let grid = grid_of(2)?;
     let operands = [Operand {
         slot: 2,
         shape: shape(3, 3)?,
@@ -114,12 +109,11 @@ fn starts_alone(alloc: Global) -> Result<(usize, usize, u16), Fail> {
     let plan = Plan::new(alloc, grid.ranks());
     match finish(&grid, plan, starts, 2) {
         Ok(planned) => Ok((planned.plan.len(), planned.starts.len(), planned.result)),
-        Err(_) => Err("a plan".into()),
+        Err(_) => Err(SampleFault::Shape),
     }
 }
 
 #[test]
-fn a_plan_of_starts_alone(rt: HostRuntime) -> Result<(), Fail> {
-    assert!(rt; starts_alone(rt.alloc())? == (12, 4, 2));
-    Ok(())
+fn a_plan_of_starts_alone(rt: HostRuntime) {
+    assert!(rt; starts_alone(rt.alloc()) == Ok((12, 4, 2)));
 }

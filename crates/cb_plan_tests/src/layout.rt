@@ -1,37 +1,42 @@
 //! Worked examples, with ample memory and with each allocation refused in turn.
 ghost use Rattle.std.specs.Prelude.{◌≡◌, ◌*◌, IfOk};
 
+use crate::samples::{Given, entries, grid_of, matrix};
 use cb_dcsc::{Block, BlockFault};
 use cb_layout::{DistributedMatrix, Grid, Segments, Side};
 use cb_matrix::{Entry, LIMIT, Matrix};
-use cb_samples::{SampleFault, block, entry, shape};
-use cb_semirings::{MinPlus, OrAnd, PlusTimes, Semiring};
+use cb_samples::{SampleFault, entry};
+use cb_semirings::PlusTimes;
 use std::alloc::{AllocError, Global};
 use std::test::Fail;
 
-/// The grid of this side, or the fault of a shape if there is none.
-fn grid_of(side: u32) -> Result<Grid, SampleFault>
-    ensures { IfOk result (λ g. g.side ≡ side) }
-{
-    Grid::new(side).map_err(|_| SampleFault::Shape)
-}
-
-/// The matrix of these entries, by column and then by row.
-fn matrix<S: Semiring>(
-    alloc: Global,
-    rows: u32,
-    cols: u32,
-    given: &[Entry],
-) -> Result<Matrix<S>, SampleFault>
-    ensures { IfOk result (λ m. m.shape ≡ record { rows = rows; cols = cols }) }
-{
-    let block = block::<S>(alloc, rows, cols, given)?;
-    let shape = block.shape();
-    Ok(Matrix::from_ordered(shape, block.entries()?))
-}
-
 /// The contents of a block: its rows and columns, and the rows and values of its entries.
 type Contents<'a> = (u32, u32, &'a [u32], &'a [u64]);
+
+/// The parts of a segment: its column, the row from which its rows count, its rows, and their values.
+type Parts<'a> = (u32, u32, &'a [u32], &'a [u64]);
+
+/// What a matrix over a grid is compared with.
+#[derive(Clone, Copy)]
+enum Check<'a> {
+    /// The blocks.
+    Blocks(&'a [Contents<'a>]),
+    /// The matrix itself, gathered again.
+    Whole,
+    /// The same, built entry by entry with room for this many.
+    Grown(usize),
+    /// The segments.
+    Segments(&'a [Parts<'a>]),
+    /// The pieces of an input vector.
+    Pieces(&'a [Contents<'a>]),
+    /// How many rows the first pieces of an input vector have; the others have none.
+    Rows(&'a [u32]),
+    /// The result whose pieces are those of an input vector with a row for each rank.
+    Turned(&'a [Entry]),
+}
+
+/// The side of a grid, a matrix, and what it is compared with.
+type Case<'a> = (u32, Given<'a>, Check<'a>);
 
 /// Whether a block has these contents.
 fn is(block: &Block<PlusTimes>, wanted: &Contents<'_>) -> bool {
@@ -66,14 +71,14 @@ fn are_same(blocks: &[Block<PlusTimes>], others: &[Block<PlusTimes>]) -> bool {
     blocks.len() == others.len()
 }
 
-/// Whether a matrix over a grid has this grid, shape and number of entries, and is gathered as these entries.
-fn holds<S: Semiring>(
+/// Whether a matrix over a grid has this grid, shape and number of entries, and is gathered as this matrix.
+fn holds(
     alloc: Global,
-    spread: &DistributedMatrix<S>,
+    spread: &DistributedMatrix<PlusTimes>,
     grid: Grid,
-    whole: &Matrix<S>,
-    given: &[Entry],
+    whole: &Matrix<PlusTimes>,
 ) -> Result<bool, AllocError> {
+    let given = whole.entries();
     let says = spread.grid() == grid
         && spread.shape() == whole.shape()
         && spread.len() == given.len()
@@ -123,111 +128,96 @@ fn turned(
     grid.gather_result(alloc, &pieces, vector.shape())
 }
 
-/// A matrix over or-and is taken as one over min-plus.
-fn taken_over(
-    alloc: Global,
-    spread: DistributedMatrix<OrAnd>,
-) -> Result<DistributedMatrix<MinPlus>, AllocError>
-    ensures { IfOk result (λ m. m ≡ spread) }
-{
-    let _shape = spread.shape();
-    spread.recast(alloc)
-}
-
-/// The rows, columns and entries of a matrix.
-type Given<'a> = (u32, u32, &'a [Entry]);
-
-/// Whether a matrix scattered over the grid of this side has these blocks.
+/// Whether a scattered matrix has these blocks.
 fn is_cut_into(
     alloc: Global,
-    side: u32,
-    (rows, cols, given): Given<'_>,
+    grid: &Grid,
+    whole: &Matrix<PlusTimes>,
     wanted: &[Contents<'_>],
-) -> Result<bool, SampleFault> {
-    let grid = grid_of(side)?;
-    let whole = matrix(alloc, rows, cols, given)?;
-    let blocks = grid.scatter(alloc, &whole)?;
+) -> Result<bool, AllocError> {
+    let blocks = grid.scatter(alloc, whole)?;
     Ok(are(&blocks, wanted))
 }
 
-/// Whether a matrix scattered over the grid of this side is gathered unchanged.
+/// Whether the blocks of a matrix are gathered as the matrix.
 fn is_glued_again(
     alloc: Global,
-    side: u32,
-    (rows, cols, given): Given<'_>,
-) -> Result<bool, SampleFault> {
-    let grid = grid_of(side)?;
-    let whole = matrix(alloc, rows, cols, given)?;
-    let again = cut_and_glued(alloc, &grid, &whole)?;
-    Ok(again.entries() == given)
+    grid: &Grid,
+    whole: &Matrix<PlusTimes>,
+) -> Result<bool, AllocError> {
+    let again = cut_and_glued(alloc, grid, whole)?;
+    Ok(again.entries() == whole.entries())
 }
 
-/// Whether a matrix is distributed over the grid of this side, with a block for each rank.
-fn is_spread(
-    alloc: Global,
-    side: u32,
-    (rows, cols, given): Given<'_>,
-) -> Result<bool, SampleFault> {
-    let grid = grid_of(side)?;
-    let whole = matrix::<PlusTimes>(alloc, rows, cols, given)?;
-    let spread = DistributedMatrix::scatter(alloc, grid, &whole)?;
-    let is_whole = holds(alloc, &spread, grid, &whole, given)?;
+/// Whether a matrix is distributed over a grid, with a block for each rank.
+fn is_spread(alloc: Global, grid: Grid, whole: &Matrix<PlusTimes>) -> Result<bool, AllocError> {
+    let spread = DistributedMatrix::scatter(alloc, grid, whole)?;
+    let is_whole = holds(alloc, &spread, grid, whole)?;
     Ok(is_whole && spread.into_blocks().len() == usize::from(grid.ranks()))
 }
 
-/// Whether a matrix built entry by entry over the grid of this side equals the scattered one.
+/// Whether a matrix built entry by entry equals the scattered one.
 fn is_grown(
     alloc: Global,
-    side: u32,
+    grid: Grid,
+    whole: &Matrix<PlusTimes>,
     room: usize,
-    (rows, cols, given): Given<'_>,
-) -> Result<bool, SampleFault> {
-    let grid = grid_of(side)?;
-    let whole = matrix(alloc, rows, cols, given)?;
-    let spread = pushed(alloc, grid, &whole, room)?;
-    let blocks = grid.scatter(alloc, &whole)?;
-    let is_whole = holds(alloc, &spread, grid, &whole, given)?;
+) -> Result<bool, AllocError> {
+    let blocks = grid.scatter(alloc, whole)?;
+    let spread = pushed(alloc, grid, whole, room)?;
+    let is_whole = holds(alloc, &spread, grid, whole)?;
     Ok(is_whole && are_same(spread.blocks(), &blocks))
 }
 
-/// Whether a matrix over or-and on the grid of this side is unchanged as one over min-plus.
-fn is_taken_over(
-    alloc: Global,
-    side: u32,
-    (rows, cols, given): Given<'_>,
-) -> Result<bool, SampleFault> {
-    let grid = grid_of(side)?;
-    let whole = matrix(alloc, rows, cols, given)?;
-    let spread = taken_over(alloc, DistributedMatrix::scatter(alloc, grid, &whole)?)?;
-    let wanted = matrix(alloc, rows, cols, given)?;
-    Ok(holds(alloc, &spread, grid, &wanted, given)?)
+/// Whether these segments come next, and then no other, however often one is asked for.
+fn come(segments: &mut Segments<'_, PlusTimes>, wanted: &[Parts<'_>]) -> bool {
+    for (column, top, rows, values) in wanted {
+        let Some(segment) = segments.next_segment() else {
+            return false;
+        };
+        let is_there = segment.column == *column && segment.top == *top;
+        if !is_there || segment.rows != *rows || segment.values != *values {
+            return false;
+        }
+    }
+    segments.next_segment().is_none() && segments.next_segment().is_none()
 }
 
-/// Whether an input vector scattered over the grid of this side has these pieces.
+/// Whether a matrix has these segments.
+fn has_segments(
+    alloc: Global,
+    grid: Grid,
+    whole: &Matrix<PlusTimes>,
+    wanted: &[Parts<'_>],
+) -> Result<bool, AllocError> {
+    let spread = DistributedMatrix::scatter(alloc, grid, whole)?;
+    Ok(come(&mut spread.segments(), wanted))
+}
+
+/// Whether an input vector has these pieces.
 fn has_pieces(
     alloc: Global,
-    side: u32,
-    (rows, given): (u32, &[Entry]),
+    grid: &Grid,
+    vector: &Matrix<PlusTimes>,
     wanted: &[Contents<'_>],
-) -> Result<bool, SampleFault> {
-    let grid = grid_of(side)?;
-    let vector = matrix(alloc, rows, 1, given)?;
-    let pieces = grid.scatter_input(alloc, &vector)?;
+) -> Result<bool, AllocError>
+    requires { vector.now.shape.cols ≡ 1 }
+{
+    let pieces = grid.scatter_input(alloc, vector)?;
     Ok(are(&pieces, wanted))
 }
 
-/// Whether an input vector scattered over the grid of this side has pieces with these numbers of rows, then pieces without
-/// rows, and all entries.
+/// Whether the pieces of an input vector have these numbers of rows, the others none, and all entries.
 fn has_rows(
     alloc: Global,
-    side: u32,
-    (rows, given): (u32, &[Entry]),
+    grid: &Grid,
+    vector: &Matrix<PlusTimes>,
     wanted: &[u32],
-) -> Result<bool, SampleFault> {
-    let grid = grid_of(side)?;
-    let vector = matrix(alloc, rows, 1, given)?;
-    let pieces = grid.scatter_input(alloc, &vector)?;
-    Ok(are_of_rows(&pieces, wanted) && stored(&pieces) == given.len())
+) -> Result<bool, AllocError>
+    requires { vector.now.shape.cols ≡ 1 }
+{
+    let pieces = grid.scatter_input(alloc, vector)?;
+    Ok(are_of_rows(&pieces, wanted) && stored(&pieces) == vector.len())
 }
 
 /// Whether pieces have these numbers of rows, and the others none.
@@ -249,63 +239,72 @@ fn stored(blocks: &[Block<PlusTimes>]) -> usize {
     count
 }
 
-/// Whether an input vector with a row for each rank of the grid of this side becomes this one if its pieces are taken as
-/// those of a result.
+/// Whether an input vector becomes this one if its pieces are taken as those of a result.
 fn is_turned(
     alloc: Global,
-    side: u32,
-    given: &[Entry],
+    grid: &Grid,
+    vector: &Matrix<PlusTimes>,
     wanted: &[Entry],
-) -> Result<bool, SampleFault> {
-    let grid = grid_of(side)?;
-    let vector = matrix(alloc, u32::from(grid.ranks()), 1, given)?;
-    let result = turned(alloc, &grid, &vector)?;
+) -> Result<bool, AllocError>
+    requires { vector.now.shape.cols ≡ 1 }
+{
+    if vector.rows() != u32::from(grid.ranks()) {
+        return Ok(false);
+    }
+    let result = turned(alloc, grid, vector)?;
     Ok(result.entries() == wanted)
 }
 
-/// A vector with a row for each rank, and the same, transposed as a square.
-fn square(alloc: Global, side: u32) -> Result<(Vec<Entry>, Vec<Entry>), AllocError> {
-    let mut given = Vec::new(alloc);
-    let mut turned = Vec::new(alloc);
-    for i in 0..side {
-        for t in 0..side {
-            let row = i.wrapping_mul(side).wrapping_add(t);
-            let from = t.wrapping_mul(side).wrapping_add(i);
-            given.push(entry(row, 0, u64::from(row) + 1))?;
-            turned.push(entry(row, 0, u64::from(from) + 1))?;
-        }
-    }
-    Ok((given, turned))
-}
-
-/// The parts of a segment: its column, the row from which its rows count, its rows, and their values.
-type Parts<'a> = (u32, u32, &'a [u32], &'a [u64]);
-
-/// Whether these segments come next, and then no other, however often one is asked for.
-fn come(segments: &mut Segments<'_, PlusTimes>, wanted: &[Parts<'_>]) -> bool {
-    for (column, top, rows, values) in wanted {
-        let Some(segment) = segments.next_segment() else {
-            return false;
-        };
-        let is_there = segment.column == *column && segment.top == *top;
-        if !is_there || segment.rows != *rows || segment.values != *values {
-            return false;
-        }
-    }
-    segments.next_segment().is_none() && segments.next_segment().is_none()
-}
-
-/// Whether a matrix over the grid of this side has these segments.
-fn has_segments(
+/// Whether a vector is as it should be.
+fn is_right_vector(
     alloc: Global,
-    side: u32,
-    (rows, cols, given): Given<'_>,
-    wanted: &[Parts<'_>],
-) -> Result<bool, SampleFault> {
-    let grid = grid_of(side)?;
-    let whole = matrix(alloc, rows, cols, given)?;
-    let spread = DistributedMatrix::scatter(alloc, grid, &whole)?;
-    Ok(come(&mut spread.segments(), wanted))
+    grid: &Grid,
+    vector: &Matrix<PlusTimes>,
+    check: &Check<'_>,
+) -> Result<bool, AllocError> {
+    if vector.cols() != 1 {
+        return Ok(false);
+    }
+    match check {
+        Check::Pieces(wanted) => has_pieces(alloc, grid, vector, wanted),
+        Check::Rows(wanted) => has_rows(alloc, grid, vector, wanted),
+        Check::Turned(wanted) => is_turned(alloc, grid, vector, wanted),
+        _ => Ok(false),
+    }
+}
+
+/// Whether a matrix is as it should be.
+fn is_right_matrix(
+    alloc: Global,
+    grid: Grid,
+    whole: &Matrix<PlusTimes>,
+    check: &Check<'_>,
+) -> Result<bool, AllocError> {
+    match check {
+        Check::Blocks(wanted) => is_cut_into(alloc, &grid, whole, wanted),
+        Check::Whole => Ok(is_glued_again(alloc, &grid, whole)? && is_spread(alloc, grid, whole)?),
+        Check::Grown(room) => is_grown(alloc, grid, whole, *room),
+        Check::Segments(wanted) => has_segments(alloc, grid, whole, wanted),
+        _ => is_right_vector(alloc, &grid, whole, check),
+    }
+}
+
+/// Whether a case is right.
+fn is_right(alloc: Global, case: &Case<'_>) -> Result<bool, SampleFault> {
+    let (side, given, check) = case;
+    let grid = grid_of(*side)?;
+    let whole = matrix(alloc, given)?;
+    Ok(is_right_matrix(alloc, grid, &whole, check)?)
+}
+
+/// Whether each case is right.
+fn are_right(alloc: Global, cases: &[Case<'_>]) -> bool {
+    for case in cases {
+        if is_right(alloc, case) != Ok(true) {
+            return false;
+        }
+    }
+    true
 }
 
 /// Whether there is a grid of this side.
@@ -319,7 +318,7 @@ fn has_side(side: u32) -> bool {
 #[test]
 fn sides_are_one_to_six(rt: HostRuntime) {
     for side in 0..=7 {
-        assert!(rt; has_side(side) == (1 <= side && side <= 6), "side {side}");
+        assert!(rt; has_side(side) == (1 <= side && side <= 6));
     }
 }
 
@@ -340,119 +339,149 @@ fn ranks_have_numbers(rt: HostRuntime) -> Result<(), Fail> {
 }
 
 /// Whether a dimension is cut into these ranges by the grid of side 4.
-fn is_cut_at(dimension: u32, wanted: [(u32, u32); 4]) -> bool {
+fn is_cut_at(dimension: u32, wanted: &[(u32, u32)]) -> bool {
     let Ok(grid) = grid_of(4) else {
         return false;
     };
     for part in 0..4 {
-        if grid.range(dimension, part) != wanted[part as usize] {
+        if wanted.get(part as usize) != Some(&grid.range(dimension, part)) {
             return false;
         }
     }
     true
 }
 
-const RANGES: [(u32, [(u32, u32); 4]); 3] = [
-    (10, [(0, 3), (3, 6), (6, 9), (9, 10)]),
-    (5, [(0, 2), (2, 4), (4, 5), (5, 5)]),
-    (0, [(0, 0); 4]),
+const RANGES: &[(u32, &[(u32, u32)])] = &[
+    (10, &[(0, 3), (3, 6), (6, 9), (9, 10)]),
+    (5, &[(0, 2), (2, 4), (4, 5), (5, 5)]),
+    (0, &[(0, 0), (0, 0), (0, 0), (0, 0)]),
 ];
 
 #[test]
 fn ranges_of_dimensions(rt: HostRuntime) {
-    for (dimension, wanted) in &RANGES {
-        assert!(rt; is_cut_at(*dimension, *wanted), "{dimension}");
+    for (dimension, wanted) in RANGES {
+        assert!(rt; is_cut_at(*dimension, wanted));
     }
 }
 
-/// Whether a result is right.
-fn is_right(answer: Result<bool, SampleFault>) -> bool {
-    matches!(answer, Ok(true))
-}
+const BLOCKS: &[Case<'static>] = &[
+    (
+        2,
+        (2, 2, entries![(0, 0, 1), (0, 1, 2), (1, 1, 3)]),
+        Check::Blocks(&[
+            (1, 1, &[0], &[1]),
+            (1, 1, &[0], &[2]),
+            (1, 1, &[], &[]),
+            (1, 1, &[0], &[3]),
+        ]),
+    ),
+    (
+        3,
+        (5, 4, entries![(4, 1, 9), (1, 2, 8)]),
+        Check::Blocks(&[
+            (2, 2, &[], &[]),
+            (2, 2, &[1], &[8]),
+            (2, 0, &[], &[]),
+            (2, 2, &[], &[]),
+            (2, 2, &[], &[]),
+            (2, 0, &[], &[]),
+            (1, 2, &[0], &[9]),
+            (1, 2, &[], &[]),
+            (1, 0, &[], &[]),
+        ]),
+    ),
+];
 
 /// An entry keeps its place in the matrix.
 #[test]
-fn a_matrix_on_four_ranks(rt: HostRuntime) {
-    let given = [entry(0, 0, 1), entry(0, 1, 2), entry(1, 1, 3)];
-    let wanted: [Contents<'_>; 4] = [
-        (1, 1, &[0], &[1]),
-        (1, 1, &[0], &[2]),
-        (1, 1, &[], &[]),
-        (1, 1, &[0], &[3]),
-    ];
-    assert!(rt; is_right(is_cut_into(rt.alloc(), 2, (2, 2, &given), &wanted)));
+fn a_matrix_lies_in_blocks(rt: HostRuntime) {
+    assert!(rt; are_right(rt.alloc(), BLOCKS));
 }
 
-#[test]
-fn a_matrix_on_nine_ranks(rt: HostRuntime) {
-    let given = [entry(4, 1, 9), entry(1, 2, 8)];
-    let wanted: [Contents<'_>; 9] = [
-        (2, 2, &[], &[]),
-        (2, 2, &[1], &[8]),
-        (2, 0, &[], &[]),
-        (2, 2, &[], &[]),
-        (2, 2, &[], &[]),
-        (2, 0, &[], &[]),
-        (1, 2, &[0], &[9]),
-        (1, 2, &[], &[]),
-        (1, 0, &[], &[]),
-    ];
-    assert!(rt; is_right(is_cut_into(rt.alloc(), 3, (5, 4, &given), &wanted)));
-}
+const LAST: u32 = LIMIT - 1;
 
-/// Whether a matrix is distributed over the grid of every side and gathered unchanged.
-fn lies_over_each(alloc: Global, given: Given<'_>) -> Result<bool, SampleFault> {
-    for side in 1..=6 {
-        if !is_glued_again(alloc, side, given)? || !is_spread(alloc, side, given)? {
-            return Ok(false);
-        }
-    }
-    Ok(true)
-}
+/// Seven rows and five columns.
+const FOUR: Given<'static> = (7, 5, entries![(1, 0, 4), (6, 0, 5), (0, 3, 6), (6, 3, 7)]);
 
 /// The largest sides, which cost no more than the entries; dimensions below the side of the grid; and no rows.
+const WHOLE: &[Given<'static>] = &[
+    (
+        LIMIT,
+        LIMIT,
+        entries![(LAST, 0, 2), (0, LAST, 3), (LAST, LAST, 4)],
+    ),
+    (2, 3, entries![(1, 0, 4), (0, 2, 5)]),
+    (0, 1, &[]),
+    FOUR,
+];
+
+/// Whether a matrix is distributed over the grid of every side and gathered unchanged.
+fn lies_over_each(alloc: Global, given: &Given<'_>) -> bool {
+    for side in 1..=6 {
+        if is_right(alloc, &(side, *given, Check::Whole)) != Ok(true) {
+            return false;
+        }
+    }
+    true
+}
+
 #[test]
 fn a_matrix_lies_over_each_grid(rt: HostRuntime) {
-    let last = LIMIT - 1;
-    let corners = [entry(last, 0, 2), entry(0, last, 3), entry(last, last, 4)];
-    assert!(rt; is_right(lies_over_each(rt.alloc(), (LIMIT, LIMIT, &corners))));
-    let few = [entry(1, 0, 4), entry(0, 2, 5)];
-    assert!(rt; is_right(lies_over_each(rt.alloc(), (2, 3, &few))));
-    assert!(rt; is_right(lies_over_each(rt.alloc(), (0, 1, &[]))));
-    assert!(rt; is_right(lies_over_each(rt.alloc(), (7, 5, &four()))));
+    for given in WHOLE {
+        assert!(rt; lies_over_each(rt.alloc(), given));
+    }
 }
 
-/// Four entries of seven rows and five columns.
-fn four() -> [Entry; 4] {
-    [
-        entry(1, 0, 4),
-        entry(6, 0, 5),
-        entry(0, 3, 6),
-        entry(6, 3, 7),
-    ]
-}
+/// Seven rows of one column.
+const SEVEN: Given<'static> = (7, 1, entries![(0, 0, 1), (3, 0, 2), (6, 0, 3)]);
+
+/// Four rows on four ranks; and seven rows on the grid of every side.
+const VECTORS: &[Case<'static>] = &[
+    (
+        2,
+        (4, 1, entries![(0, 0, 5), (1, 0, 6), (2, 0, 7), (3, 0, 8)]),
+        Check::Pieces(&[
+            (1, 1, &[0], &[5]),
+            (1, 1, &[0], &[7]),
+            (1, 1, &[0], &[6]),
+            (1, 1, &[0], &[8]),
+        ]),
+    ),
+    (1, SEVEN, Check::Rows(&[7])),
+    (2, SEVEN, Check::Rows(&[2, 2, 2, 1])),
+    (3, SEVEN, Check::Rows(&[1, 1, 1, 1, 1, 0, 1, 1, 0])),
+    (4, SEVEN, Check::Rows(&[1, 1, 1, 1, 1, 1, 1])),
+    (5, SEVEN, Check::Rows(&[1, 1, 1, 1, 0, 1, 1, 1])),
+    (6, SEVEN, Check::Rows(&[1, 1, 1, 1, 0, 0, 1, 1, 1])),
+];
 
 #[test]
-fn a_vector_on_four_ranks(rt: HostRuntime) {
-    let given = [
-        entry(0, 0, 5),
-        entry(1, 0, 6),
-        entry(2, 0, 7),
-        entry(3, 0, 8),
-    ];
-    let wanted: [Contents<'_>; 4] = [
-        (1, 1, &[0], &[5]),
-        (1, 1, &[0], &[7]),
-        (1, 1, &[0], &[6]),
-        (1, 1, &[0], &[8]),
-    ];
-    assert!(rt; is_right(has_pieces(rt.alloc(), 2, (4, &given), &wanted)));
+fn a_vector_lies_in_pieces(rt: HostRuntime) {
+    assert!(rt; are_right(rt.alloc(), VECTORS));
+}
+
+/// A vector with a row for each rank, and the same, transposed as a square.
+fn square(alloc: Global, side: u32) -> Result<(Vec<Entry>, Vec<Entry>), AllocError> {
+    let mut given = Vec::new(alloc);
+    let mut turned = Vec::new(alloc);
+    for i in 0..side {
+        for t in 0..side {
+            let row = i.wrapping_mul(side).wrapping_add(t);
+            let from = t.wrapping_mul(side).wrapping_add(i);
+            given.push(entry(row, 0, u64::from(row) + 1))?;
+            turned.push(entry(row, 0, u64::from(from) + 1))?;
+        }
+    }
+    Ok((given, turned))
 }
 
 /// Whether a vector with a row for each rank, taken as a result, is the same as the transposed square.
 fn is_a_turned_square(alloc: Global, side: u32) -> Result<bool, SampleFault> {
     let (given, wanted) = square(alloc, side)?;
-    is_turned(alloc, side, &given, &wanted)
+    let Ok(rows) = u32::try_from(given.len()) else {
+        return Err(SampleFault::Shape);
+    };
+    is_right(alloc, &(side, (rows, 1, &given), Check::Turned(&wanted)))
 }
 
 /// Piece t of part i of an input is where piece i of part t of a result is. So a vector with a row for each rank, taken as
@@ -460,104 +489,78 @@ fn is_a_turned_square(alloc: Global, side: u32) -> Result<bool, SampleFault> {
 #[test]
 fn vectors_on_every_side(rt: HostRuntime) {
     for side in 1..=6 {
-        assert!(rt;
-            is_right(is_a_turned_square(rt.alloc(), side)),
-            "side {side}"
-        );
+        assert!(rt; is_a_turned_square(rt.alloc(), side) == Ok(true));
     }
 }
 
-/// The side of a grid, and how many of seven rows the pieces of its first ranks have; those of the others have none.
-const PIECES: [(u32, &[u32]); 6] = [
-    (1, &[7]),
-    (2, &[2, 2, 2, 1]),
-    (3, &[1, 1, 1, 1, 1, 0, 1, 1, 0]),
-    (4, &[1, 1, 1, 1, 1, 1, 1]),
-    (5, &[1, 1, 1, 1, 0, 1, 1, 1]),
-    (6, &[1, 1, 1, 1, 0, 0, 1, 1, 1]),
+const NO_ENTRIES: Given<'static> = (3, 4, &[]);
+
+const GROWN: &[Case<'static>] = &[
+    (1, FOUR, Check::Grown(4)),
+    (2, FOUR, Check::Grown(4)),
+    (3, FOUR, Check::Grown(4)),
+    (1, NO_ENTRIES, Check::Grown(9)),
+    (2, NO_ENTRIES, Check::Grown(9)),
+    (3, NO_ENTRIES, Check::Grown(9)),
 ];
-
-/// Seven rows on the grid of every side: the rows of each piece, and that no entry is lost.
-#[test]
-fn pieces_of_seven_rows(rt: HostRuntime) {
-    let given = [entry(0, 0, 1), entry(3, 0, 2), entry(6, 0, 3)];
-    for (side, wanted) in &PIECES {
-        assert!(rt;
-            is_right(has_rows(rt.alloc(), *side, (7, &given), wanted)),
-            "side {side}"
-        );
-    }
-}
 
 /// Entries pushed one by one make the same matrix as scattering them. Without entries it is empty, whatever the room.
 #[test]
 fn a_matrix_grows_entry_by_entry(rt: HostRuntime) {
-    for side in 1..=3 {
-        let alloc = rt.alloc();
-        assert!(rt;
-            is_right(is_grown(alloc, side, 4, (7, 5, &four()))),
-            "side {side}"
-        );
-        assert!(rt;
-            is_right(is_grown(alloc, side, 9, (3, 4, &[]))),
-            "side {side}"
-        );
-    }
+    assert!(rt; are_right(rt.alloc(), GROWN));
 }
 
-#[test]
-fn a_matrix_is_taken_over_to_another_semiring(rt: HostRuntime) {
-    let ones = [
-        entry(1, 0, 1),
-        entry(6, 0, 1),
-        entry(0, 3, 1),
-        entry(6, 3, 1),
-    ];
-    for side in 1..=3 {
-        assert!(rt;
-            is_right(is_taken_over(rt.alloc(), side, (7, 5, &ones))),
-            "side {side}"
-        );
-    }
-}
-
-#[test]
-fn segments_of_a_matrix_on_four_ranks(rt: HostRuntime) {
-    let given = [
-        entry(0, 0, 1),
-        entry(1, 0, 2),
-        entry(2, 0, 3),
-        entry(3, 2, 4),
-        entry(0, 3, 5),
-    ];
-    let wanted: [Parts<'_>; 4] = [
+const SEGMENTS: Case<'static> = (
+    2,
+    (
+        4,
+        4,
+        entries![(0, 0, 1), (1, 0, 2), (2, 0, 3), (3, 2, 4), (0, 3, 5)],
+    ),
+    Check::Segments(&[
         (0, 0, &[0, 1], &[1, 2]),
         (0, 2, &[0], &[3]),
         (2, 2, &[1], &[4]),
         (3, 0, &[0], &[5]),
-    ];
-    assert!(rt; is_right(has_segments(rt.alloc(), 2, (4, 4, &given), &wanted)));
+    ]),
+);
+
+#[test]
+fn segments_of_a_matrix_on_four_ranks(rt: HostRuntime) {
+    assert!(rt; is_right(rt.alloc(), &SEGMENTS) == Ok(true));
 }
 
-/// Whether a result is right, or its error is want of memory.
-fn is_right_or_memory(answer: Result<bool, SampleFault>) -> bool {
-    match answer {
-        Ok(is_right) => is_right,
-        Err(fault) => fault == SampleFault::Block(BlockFault::Memory),
+/// Four rows and columns.
+const THREE: Given<'static> = (4, 4, entries![(0, 0, 1), (3, 0, 2), (0, 2, 3)]);
+
+/// Every call that takes memory.
+const REFUSED: &[Case<'static>] = &[
+    (2, THREE, Check::Whole),
+    (2, THREE, Check::Grown(3)),
+    (
+        2,
+        (4, 1, entries![(1, 0, 5), (3, 0, 6)]),
+        Check::Turned(entries![(2, 0, 5), (3, 0, 6)]),
+    ),
+];
+
+/// Whether each case is right, or its error is want of memory.
+fn are_right_or_refused(alloc: Global, cases: &[Case<'_>]) -> bool {
+    for case in cases {
+        let is_fine = match is_right(alloc, case) {
+            Ok(is_right) => is_right,
+            Err(fault) => fault == SampleFault::Block(BlockFault::Memory),
+        };
+        if !is_fine {
+            return false;
+        }
     }
+    true
 }
 
-/// Every call that takes memory. Passes whichever single allocation is refused (`rt try --test --fail-alloc N`, for each N
-/// in turn): the call reports it, or its result is right.
+/// Passes whichever single allocation is refused (`rt try --test --fail-alloc N`, for each N in turn): the call reports it,
+/// or its result is right.
 #[test]
 fn refused_memory_is_reported(rt: HostRuntime) {
-    let alloc = rt.alloc();
-    let three = [entry(0, 0, 1), entry(3, 0, 2), entry(0, 2, 3)];
-    let given = (4, 4, three.as_slice());
-    assert!(rt; is_right_or_memory(is_glued_again(alloc, 2, given)));
-    assert!(rt; is_right_or_memory(is_spread(alloc, 2, given)));
-    assert!(rt; is_right_or_memory(is_grown(alloc, 2, 3, given)));
-    let vector = [entry(1, 0, 5), entry(3, 0, 6)];
-    let wanted = [entry(2, 0, 5), entry(3, 0, 6)];
-    assert!(rt; is_right_or_memory(is_turned(alloc, 2, &vector, &wanted)));
+    assert!(rt; are_right_or_refused(rt.alloc(), REFUSED));
 }

@@ -2,11 +2,10 @@
 ghost use Rattle.std.specs.Prelude.{◌≡◌, IfOk, IfSome, length};
 
 use cb_letters::Tag;
-use cb_plan::{Act, CheckedPlan, Plan, PlanFault, PlanFaultKind, RankStore, Start};
+use cb_plan::{Act, CheckedPlan, Plan, PlanFault, RankStore, Start};
 use cb_samples::{SampleFault, block, entry, shape};
 use cb_semirings::PlusTimes;
 use std::alloc::Global;
-use std::test::Fail;
 
 mod faults;
 mod memory;
@@ -14,15 +13,12 @@ mod operations;
 mod programs;
 mod stores;
 
-/// The tag of each letter.
-const TAG: Tag = Tag(0);
-
 /// A Move between two ranks.
 const fn send(from: u16, to: u16, slot: u16, into: u16) -> Act {
     Act::Move {
         from,
         to,
-        tag: TAG,
+        tag: Tag(0),
         slot,
         into,
     }
@@ -31,11 +27,6 @@ const fn send(from: u16, to: u16, slot: u16, into: u16) -> Act {
 /// A Shut of the lane from one rank to another.
 const fn shut(from: u16, to: u16) -> Act {
     Act::Shut { from, to }
-}
-
-/// The check's answer for this fault.
-const fn fault(act: u32, kind: PlanFaultKind) -> Option<PlanFault> {
-    Some(PlanFault { act, kind })
 }
 
 /// A start: a 1 by 2 block in slot 0 of rank 0.
@@ -61,12 +52,12 @@ fn plan_of(alloc: Global, acts: &[Act]) -> Result<Plan, PlanFault>
 }
 
 /// The plan of these acts for two ranks, all of which can be appended.
-fn grown(alloc: Global, acts: &[Act]) -> Result<Plan, Fail>
+fn grown(alloc: Global, acts: &[Act]) -> Result<Plan, SampleFault>
     ensures { IfOk result (λ p. p.ranks ≡ 2) }
 {
     match plan_of(alloc, acts) {
         Ok(plan) => Ok(plan),
-        Err(_) => Err("an act can't be appended".into()),
+        Err(_) => Err(SampleFault::Shape),
     }
 }
 

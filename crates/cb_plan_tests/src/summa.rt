@@ -1,16 +1,20 @@
 //! The plans of products over grids.
-use cb_layout::Grid;
-use cb_plan::{Act, Op, PlanFault, PlanFaultKind, Planned};
-use cb_samples::shape;
+use crate::kernels::has_acts_or_no_memory;
+use crate::samples::grid_of;
+use cb_plan::{Act, Op, Planned};
+use cb_samples::{SampleFault, shape};
 use cb_summa::{summa, summa_masked};
 use std::alloc::Global;
 use std::test::Fail;
 
 /// The plan of the product of two 2 by 2 matrices on the grid of this side.
-fn two_by_two(alloc: Global, side: u32) -> Result<Planned, Fail> {
-    let grid = Grid::new(side).map_err(|_| "a side")?;
+fn two_by_two(alloc: Global, side: u32) -> Result<Planned, SampleFault> {
+    let grid = grid_of(side)?;
     let shape = shape(2, 2)?;
-    Ok(summa(alloc, &grid, shape, shape).map_err(|_| "a plan")?)
+    match summa(alloc, &grid, shape, shape) {
+        Ok(planned) => Ok(planned),
+        Err(_) => Err(SampleFault::Shape),
+    }
 }
 
 /// How many letters a plan has: its Moves and its Shuts.
@@ -24,14 +28,14 @@ fn letters(planned: &Planned) -> usize {
 }
 
 /// Whether the plan on the grid of this side has this many acts, this many of them letters, and its result in slot 2.
-fn has_counts(alloc: Global, side: u32, acts: usize, posted: usize) -> Result<bool, Fail> {
+fn has_counts(alloc: Global, side: u32, acts: usize, posted: usize) -> Result<bool, SampleFault> {
     let planned = two_by_two(alloc, side)?;
     let has_acts = planned.plan.len() == acts && planned.result == 2;
     Ok(has_acts && letters(&planned) == posted)
 }
 
 /// The side of a grid, and how many acts and letters the plan has there.
-const COUNTS: [(u32, usize, usize); 4] = [
+const COUNTS: &[(u32, usize, usize)] = &[
     (2, 40, 20),
     (4, 448, 336),
     (5, 1000, 800),
@@ -39,15 +43,14 @@ const COUNTS: [(u32, usize, usize); 4] = [
 ];
 
 #[test]
-fn acts_and_letters_on_grids(rt: HostRuntime) -> Result<(), Fail> {
-    for (side, acts, posted) in &COUNTS {
-        assert!(rt; has_counts(rt.alloc(), *side, *acts, *posted)?, "{side}");
+fn acts_and_letters_on_grids(rt: HostRuntime) {
+    for (side, acts, posted) in COUNTS {
+        assert!(rt; has_counts(rt.alloc(), *side, *acts, *posted) == Ok(true));
     }
-    Ok(())
 }
 
 /// The Moves of the plan of a product on the grid of side 2: from, to, tag, slot and into.
-const MOVES: [(u16, u16, u32, u16, u16); 8] = [
+const MOVES: &[(u16, u16, u32, u16, u16)] = &[
     (0, 1, 0, 0, 3),
     (2, 3, 0, 0, 3),
     (0, 2, 1, 1, 4),
@@ -80,11 +83,15 @@ fn has_moves(acts: &[Act]) -> bool {
     count == MOVES.len()
 }
 
+/// Whether the plan on the grid of side 2 has those Moves.
+fn has_moves_on_four(alloc: Global) -> Result<bool, SampleFault> {
+    let planned = two_by_two(alloc, 2)?;
+    Ok(has_moves(planned.plan.acts()))
+}
+
 #[test]
-fn moves_on_a_grid_of_side_2(rt: HostRuntime) -> Result<(), Fail> {
-    let planned = two_by_two(rt.alloc(), 2)?;
-    assert!(rt; has_moves(planned.plan.acts()));
-    Ok(())
+fn moves_on_a_grid_of_side_2(rt: HostRuntime) {
+    assert!(rt; has_moves_on_four(rt.alloc()) == Ok(true));
 }
 
 /// How many of these acts are masks.
@@ -109,34 +116,25 @@ fn masks(acts: &[Act]) -> usize {
 }
 
 /// How many acts the plan under a mask has on the grid of side 2, and how many of them are masks.
-fn acts_and_masks(alloc: Global) -> Result<(usize, usize), Fail> {
-    let grid = Grid::new(2).map_err(|_| "a side")?;
+fn acts_and_masks(alloc: Global) -> Result<(usize, usize), SampleFault> {
+    let grid = grid_of(2)?;
     let shape = shape(2, 2)?;
     match summa_masked(alloc, &grid, shape, shape) {
         Ok(planned) => Ok((planned.plan.len(), masks(planned.plan.acts()))),
-        Err(_) => Err("a plan".into()),
+        Err(_) => Err(SampleFault::Shape),
     }
 }
 
 #[test]
-fn acts_under_a_mask(rt: HostRuntime) -> Result<(), Fail> {
-    assert!(rt; acts_and_masks(rt.alloc())? == (44, 4));
-    Ok(())
-}
-
-/// Whether a plan has this many acts, or memory was refused.
-fn has_acts_or_no_memory(planned: Result<Planned, PlanFault>, acts: usize) -> bool {
-    match planned {
-        Ok(planned) => planned.plan.len() == acts,
-        Err(fault) => fault.act == 0 && fault.kind == PlanFaultKind::Memory,
-    }
+fn acts_under_a_mask(rt: HostRuntime) {
+    assert!(rt; acts_and_masks(rt.alloc()) == Ok((44, 4)));
 }
 
 /// Passes whichever single allocation is refused (`rt try --test --fail-alloc N`, for each N in turn): the call reports it,
 /// or its plan is right.
 #[test]
 fn refused_memory_is_reported(rt: HostRuntime) -> Result<(), Fail> {
-    let grid = Grid::new(2).map_err(|_| "a side")?;
+    let grid = grid_of(2)?;
     let shape = shape(2, 2)?;
     let plain = summa(rt.alloc(), &grid, shape, shape);
     assert!(rt; has_acts_or_no_memory(plain, 40));

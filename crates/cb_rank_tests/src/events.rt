@@ -1,4 +1,4 @@
-//! Worlds of a product over four ranks, which step in several orders.
+//! Worlds of a product over four ranks.
 ghost use Rattle.std.specs.Prelude.{◌≡◌, ◌≤◌, IfSome};
 ghost use Rattle.cb_plan.specs.Stores.{Fits};
 
@@ -107,31 +107,4 @@ fn waits_and_leaves_product(alloc: Global) -> Option<bool> {
 #[test]
 fn a_rank_waits_until_the_others_step(rt: HostRuntime) {
     assert!(rt; waits_and_leaves_product(rt.alloc()) == Some(true));
-}
-
-/// Steps each of four ranks in turn, for sixty rounds or until all are done.
-fn step_in_rounds(world: &mut World<PlusTimes>) {
-    for _ in 0..60 {
-        world.run(&[
-            Event::Step(0),
-            Event::Step(1),
-            Event::Step(2),
-            Event::Step(3),
-        ]);
-        if world.all_done() {
-            break;
-        }
-    }
-}
-
-/// Whether ranks that step in rounds leave the product.
-fn leaves_product_in_rounds(alloc: Global) -> Option<bool> {
-    let mut world = product_world(alloc)?;
-    step_in_rounds(&mut world);
-    Some(leaves_product(world))
-}
-
-#[test]
-fn ranks_step_in_rounds(rt: HostRuntime) {
-    assert!(rt; leaves_product_in_rounds(rt.alloc()) == Some(true));
 }

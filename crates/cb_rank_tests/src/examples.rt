@@ -7,10 +7,21 @@ use cb_dcsc::Block;
 use cb_layout::Grid;
 use cb_matrix::{Entry, Matrix};
 use cb_plan::{CheckedPlan, Planned, RankStore, SLOTS, Slot};
-use cb_samples::{are_values, entry, shape};
+use cb_samples::{are_values, shape};
 use cb_semirings::PlusTimes;
 use cb_summa::{LEFT, RESULT, RIGHT, summa};
 use std::alloc::Global;
+
+/// The entry with this value in a row of a column.
+macro_rules! value {
+    ($row:literal, $column:literal, $value:literal) => {
+        Entry {
+            row: $row,
+            column: $column,
+            value: $value,
+        }
+    };
+}
 
 /// The grid of this side, if there is one.
 pub(crate) fn grid(side: u32) -> Option<Grid>
@@ -19,46 +30,23 @@ pub(crate) fn grid(side: u32) -> Option<Grid>
     Grid::new(side).ok()
 }
 
-/// The matrix of this many rows and columns with these entries.
-pub(crate) fn matrix(
-    alloc: Global,
-    rows: u32,
-    cols: u32,
-    entries: &[Entry],
-) -> Option<Matrix<PlusTimes>> {
+/// The entries of two 2 by 2 matrices, and of their product.
+const FIRST: [Entry; 3] = [value!(0, 0, 1), value!(0, 1, 2), value!(1, 1, 3)];
+
+const SECOND: [Entry; 2] = [value!(1, 0, 4), value!(0, 1, 1)];
+
+const PRODUCT: [Entry; 3] = [value!(0, 0, 8), value!(1, 0, 12), value!(0, 1, 1)];
+
+/// The 2 by 2 matrix with these entries.
+fn matrix(alloc: Global, entries: &[Entry]) -> Option<Matrix<PlusTimes>> {
     if !are_values::<PlusTimes>(entries) {
         return None;
     }
-    Matrix::from_entries(alloc, shape(rows, cols).ok()?, entries).ok()
-}
-
-/// The first of two 2 by 2 matrices.
-pub(crate) fn left(alloc: Global) -> Option<Matrix<PlusTimes>> {
-    matrix(
-        alloc,
-        2,
-        2,
-        &[entry(0, 0, 1), entry(0, 1, 2), entry(1, 1, 3)],
-    )
-}
-
-/// The second.
-pub(crate) fn right(alloc: Global) -> Option<Matrix<PlusTimes>> {
-    matrix(alloc, 2, 2, &[entry(1, 0, 4), entry(0, 1, 1)])
-}
-
-/// Their product.
-fn product(alloc: Global) -> Option<Matrix<PlusTimes>> {
-    matrix(
-        alloc,
-        2,
-        2,
-        &[entry(0, 0, 8), entry(1, 0, 12), entry(0, 1, 1)],
-    )
+    Matrix::from_entries(alloc, shape(2, 2).ok()?, entries).ok()
 }
 
 /// Puts a block into a slot of each rank.
-pub(crate) fn fill(stores: &mut [RankStore<PlusTimes>], slot: u16, blocks: Vec<Block<PlusTimes>>)
+fn fill(stores: &mut [RankStore<PlusTimes>], slot: u16, blocks: Vec<Block<PlusTimes>>)
     requires { slot < SLOTS }
 {
     for (store, block) in stores.iter_mut().zip(blocks) {
@@ -70,44 +58,41 @@ pub(crate) fn fill(stores: &mut [RankStore<PlusTimes>], slot: u16, blocks: Vec<B
 fn empty_stores(alloc: Global, ranks: u16) -> Option<Vec<RankStore<PlusTimes>>> {
     let mut stores = Vec::new(alloc);
     for _ in 0..ranks {
-        stores.push(RankStore::new(alloc).ok()?).ok()?;
+        let store = RankStore::new(alloc).ok()?;
+        stores.push(store).ok()?;
     }
     Some(stores)
 }
 
-/// Puts the blocks of a matrix into a slot of each rank.
+/// Puts the blocks of the 2 by 2 matrix with these entries into a slot of each rank.
 fn lay_out(
     alloc: Global,
     grid: &Grid,
     stores: &mut [RankStore<PlusTimes>],
     slot: u16,
-    matrix: &Matrix<PlusTimes>,
-) -> Option<()> {
-    if slot >= SLOTS {
-        return None;
-    }
-    fill(stores, slot, grid.scatter(alloc, matrix).ok()?);
+    entries: &[Entry],
+) -> Option<()>
+    requires { slot < SLOTS }
+{
+    let matrix = matrix(alloc, entries)?;
+    let blocks = grid.scatter(alloc, &matrix).ok()?;
+    fill(stores, slot, blocks);
     Some(())
 }
 
-/// A store for each rank, with the blocks of each matrix in its slot, and nothing else.
-pub(crate) fn laid_out(
-    alloc: Global,
-    grid: &Grid,
-    operands: &[(u16, &Matrix<PlusTimes>)],
-) -> Option<Vec<RankStore<PlusTimes>>> {
+/// A store for each rank, with the blocks of the two factors in their slots, and nothing else.
+fn factors_on(alloc: Global, grid: &Grid) -> Option<Vec<RankStore<PlusTimes>>> {
     let mut stores = empty_stores(alloc, grid.ranks())?;
-    for (slot, matrix) in operands {
-        lay_out(alloc, grid, &mut stores, *slot, matrix)?;
-    }
+    lay_out(alloc, grid, &mut stores, LEFT, &FIRST)?;
+    lay_out(alloc, grid, &mut stores, RIGHT, &SECOND)?;
     Some(stores)
 }
 
 /// A plan, and the store that each of its ranks begins with.
-pub(crate) type Example = (CheckedPlan, Vec<RankStore<PlusTimes>>);
+type Example = (CheckedPlan, Vec<RankStore<PlusTimes>>);
 
 /// A runnable plan with stores, if they fit it.
-pub(crate) fn fitted(planned: Planned, stores: Vec<RankStore<PlusTimes>>) -> Option<Example>
+fn fitted(planned: Planned, stores: Vec<RankStore<PlusTimes>>) -> Option<Example>
     requires { IsRunnable planned }
     ensures fits { IfSome result (λ p. Fits p.0.ranks p.0.starts p.1.items) }
     ensures ranks { IfSome result (λ p. p.0.ranks ≡ planned.plan.ranks) }
@@ -119,32 +104,24 @@ pub(crate) fn fitted(planned: Planned, stores: Vec<RankStore<PlusTimes>>) -> Opt
     Some((plan, stores))
 }
 
-/// The plan of a product over a grid, with the factors in their slots.
-pub(crate) fn product_of(
-    alloc: Global,
-    grid: &Grid,
-    left: &Matrix<PlusTimes>,
-    right: &Matrix<PlusTimes>,
-) -> Option<Example>
-    ensures fits { IfSome result (λ p. Fits p.0.ranks p.0.starts p.1.items) }
-    ensures ranks { IfSome result (λ p. p.0.ranks ≡ grid.now.side * grid.now.side) }
+/// The plan of the product of two 2 by 2 matrices.
+fn product_plan(alloc: Global, grid: &Grid) -> Option<Planned>
+    ensures runnable { IfSome result (λ p. IsRunnable p) }
+    ensures ranks { IfSome result (λ p. p.plan.ranks ≡ grid.now.side * grid.now.side) }
 {
-    let stores = laid_out(alloc, grid, &[(LEFT, left), (RIGHT, right)])?;
-    if left.cols() != right.rows() {
-        return None;
-    }
-    fitted(
-        summa(alloc, grid, left.shape(), right.shape()).ok()?,
-        stores,
-    )
+    let shape = shape(2, 2).ok()?;
+    summa(alloc, grid, shape, shape).ok()
 }
 
-/// The plan of the product of the two 2 by 2 matrices over the grid of this side.
+/// The plan of the product of the two 2 by 2 matrices over the grid of this side, with the factors in their slots.
 pub(crate) fn two_by_two(alloc: Global, side: u32) -> Option<Example>
     ensures fits { IfSome result (λ p. Fits p.0.ranks p.0.starts p.1.items) }
     ensures ranks { IfSome result (λ p. p.0.ranks ≡ side * side) }
 {
-    product_of(alloc, &grid(side)?, &left(alloc)?, &right(alloc)?)
+    let grid = grid(side)?;
+    let stores = factors_on(alloc, &grid)?;
+    let planned = product_plan(alloc, &grid)?;
+    fitted(planned, stores)
 }
 
 /// What a rank leaves of the result.
@@ -161,7 +138,7 @@ pub(crate) enum Held {
 }
 
 /// A block with this value at its first place, and no other entry.
-pub(crate) const fn one(value: u64) -> Held {
+const fn one(value: u64) -> Held {
     Held::One(Entry {
         row: 0,
         column: 0,
@@ -175,7 +152,7 @@ pub(crate) const fn product_blocks() -> [Held; 4] {
 }
 
 /// What a rank leaves of the result.
-pub(crate) fn result_of(stores: &[RankStore<PlusTimes>], rank: usize) -> Held {
+fn result_of(stores: &[RankStore<PlusTimes>], rank: usize) -> Held {
     let Some(store) = stores.get(rank) else {
         return Held::Other;
     };
@@ -266,6 +243,6 @@ pub(crate) fn leave_product(
     stores: &[RankStore<PlusTimes>],
 ) -> Option<bool> {
     let grid = grid(side)?;
-    let wanted = product(alloc)?;
+    let wanted = matrix(alloc, &PRODUCT)?;
     leave(alloc, &grid, stores, &wanted)
 }

@@ -17,8 +17,6 @@ mod losses;
 #[cfg(test)]
 mod meetings;
 #[cfg(test)]
-mod own_threads;
-#[cfg(test)]
 mod plans;
 #[cfg(test)]
 mod rank;

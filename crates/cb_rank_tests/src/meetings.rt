@@ -1,10 +1,11 @@
 //! The ranks of a product on their own threads, which really run in parallel: some wait for each other.
 ghost use Rattle.std.specs.Prelude.{◌≡◌, ◌<◌, length};
+ghost use Rattle.cb_plan.specs.Stores.{Fits};
 ghost use Rattle.cb_ranks.specs.Views.{finished_view};
 
 use crate::examples::{product_blocks, results, two_by_two};
 use cb_letters::Capacity;
-use cb_plan::{CheckedPlan, Half};
+use cb_plan::{CheckedPlan, Half, RankStore};
 use cb_rank::{Rank, Want};
 use cb_ranks::{Finished, Gate, run_threads};
 use cb_semirings::{PlusTimes, Semiring};
@@ -213,14 +214,30 @@ fn is_product(finished: Finished<PlusTimes>) -> bool
     are_sent && refusals.as_slice() == [0; 4].as_slice() && results(&stores) == product_blocks()
 }
 
+/// Whether the ranks of a plan leave the product.
+fn leave_product<R: Threads + Wait + Sync>(
+    rt: &R,
+    alloc: Global,
+    plan: &CheckedPlan,
+    stores: Vec<RankStore<PlusTimes>>,
+    gate: &Keeper<'_, R>,
+) -> bool
+    requires fits { Fits plan.now.ranks plan.now.starts stores.items }
+    requires ranks { plan.now.ranks ≡ 4 }
+{
+    match run_threads(rt, alloc, plan, stores, Capacity::nearest(1), gate) {
+        Ok(finished) => is_product(finished),
+        Err(_) => false,
+    }
+}
+
 /// Whether the ranks of the product meet and leave the product.
 fn meet_and_leave_product<R: Threads + Wait + Sync>(rt: &R, alloc: Global) -> Option<bool> {
     let (plan, stores) = two_by_two(alloc, 2)?;
     let passes = Passes::new(alloc);
     let gate = Keeper { rt, passes };
-    let finished = run_threads(rt, alloc, &plan, stores, Capacity::nearest(1), &gate).ok()?;
-    let have_met = are_met(rt, alloc, &plan, &gate.passes);
-    Some(have_met & is_product(finished))
+    let leave_product = leave_product(rt, alloc, &plan, stores, &gate);
+    Some(leave_product & are_met(rt, alloc, &plan, &gate.passes))
 }
 
 #[test]

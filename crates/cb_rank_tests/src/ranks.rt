@@ -1,6 +1,6 @@
 //! Two ranks, stepped in turns and on their own threads: what they leave, what their trace records, and what is returned if
 //! one of them is gone or memory is refused.
-ghost use Rattle.std.specs.Prelude.{IfSome};
+ghost use Rattle.std.specs.Prelude.{◌<◌, IfSome};
 ghost use Rattle.cb_lanes.specs.Desks.{standing};
 ghost use Rattle.cb_rank.specs.Ranks.{ArePortsOf};
 ghost use Rattle.cb_ranks.specs.Crews.{AreNew};
@@ -10,6 +10,7 @@ use crate::plans::{Held, contents_at, contents_of, doubling, rally};
 use cb_dcsc::Block;
 use cb_lanes::{Desk, Gone};
 use cb_letters::Capacity;
+use cb_plan::SLOTS;
 use cb_rank::{Moved, Rank, Supply};
 use cb_ranks::{
     Finished, Gate, Member, OpenGate, RunFault, assemble, run_rank, run_threads, run_traced,
@@ -19,7 +20,7 @@ use cb_trace::{Trace, TraceEvent};
 use std::alloc::Global;
 use std::sync::Wait;
 use std::sync::atomic::{AtomicU64, Ordering};
-use std::thread::Threads;
+use std::thread::{Threads, join};
 
 /// New ranks for the doubling of 3, with new desks whose lanes hold one letter.
 fn crew(alloc: Global) -> Option<Vec<Member<PlusTimes>>>
@@ -98,6 +99,53 @@ fn two_ranks_step_over_their_desks_in_turns(rt: HostRuntime) {
     ];
     let wanted = (true, Held::Number(6), Held::Number(6));
     assert!(rt; turns(rt.alloc(), &rows) == Some(wanted));
+}
+
+/// What a slot of a rank holds once the rank has run over its desk, unless it gives up.
+fn held_after<R: Wait>(rt: &R, member: Member<PlusTimes>, slot: u16) -> Option<Held>
+    requires new { IsNewRun member.0 member.1 }
+    requires slot { slot < SLOTS }
+{
+    let (rank, desk) = member;
+    match run_rank(rt, rank, desk, &OpenGate) {
+        Ok((rank, _desk)) => Some(contents_of(&rank.into_store(), slot)),
+        Err(_) => None,
+    }
+}
+
+/// The same for two ranks, each on a thread of the caller.
+fn held_after_both<R: Threads + Wait + Sync>(
+    rt: &R,
+    first: Member<PlusTimes>,
+    second: Member<PlusTimes>,
+) -> (Option<Held>, Option<Held>)
+    requires first { IsNewRun first.0 first.1 }
+    requires second { IsNewRun second.0 second.1 }
+{
+    join(
+        rt,
+        move || -> Option<Held>
+            requires { IsNewRun first.0 first.1 }
+        { held_after(rt, first, 2) },
+        move || -> Option<Held>
+            requires { IsNewRun second.0 second.1 }
+        { held_after(rt, second, 1) },
+    )
+}
+
+/// The same for two new ranks.
+fn doubles_on_threads<R: Threads + Wait + Sync>(
+    rt: &R,
+    alloc: Global,
+) -> Option<(Option<Held>, Option<Held>)> {
+    let (first, second) = pair(alloc)?;
+    Some(held_after_both(rt, first, second))
+}
+
+#[test]
+fn two_ranks_run_on_threads_of_the_test(rt: HostRuntime) {
+    let double = Some(Held::Number(6));
+    assert!(rt; doubles_on_threads(&rt, rt.alloc()) == Some((double, double)));
 }
 
 /// The rank that a rank finds gone, if it gives up.
@@ -224,12 +272,14 @@ fn takes_follow_posts(trace: &Trace) -> bool {
     })
 }
 
-/// The trace of a run in which a number goes back and forth this many times.
-fn rally_trace<R: Threads + Wait + Sync>(rt: &R, alloc: Global, rounds: u32) -> Option<Trace> {
+/// Whether takes follow posts in the trace of a run in which a number goes back and forth this many times.
+fn rally_is_legal<R: Threads + Wait + Sync>(rt: &R, alloc: Global, rounds: u32) -> Option<bool> {
     let (plan, stores) = rally(alloc, rounds)?;
     let capacity = Capacity::nearest(1);
-    let (_finished, trace) = run_traced(rt, alloc, &plan, stores, capacity, &OpenGate).ok()?;
-    Some(trace)
+    match run_traced(rt, alloc, &plan, stores, capacity, &OpenGate) {
+        Ok((_finished, trace)) => Some(takes_follow_posts(&trace)),
+        Err(_) => None,
+    }
 }
 
 /// Ten thousand letters, each awaited by a rank on its own thread. If posts were recorded too late, or takes too early,
@@ -237,9 +287,8 @@ fn rally_trace<R: Threads + Wait + Sync>(rt: &R, alloc: Global, rounds: u32) -> 
 #[test]
 fn takes_follow_posts_in_every_trace(rt: HostRuntime) {
     for run in 0..100 {
-        let trace = rally_trace(&rt, rt.alloc(), 50);
         assert!(rt;
-            trace.is_some_and(|trace| takes_follow_posts(&trace)),
+            rally_is_legal(&rt, rt.alloc(), 50) == Some(true),
             "run {run}"
         );
     }

@@ -1,4 +1,5 @@
 //! Worlds of two ranks with events in several orders, with ample memory, and with a post and an operation refused memory.
+use crate::events::answers;
 use crate::plans::{Held, contents_at, doubling, plan_from_0, send, stores_from_0};
 use cb_letters::Capacity;
 use cb_plan::{Act, CheckedPlan, RankStore};
@@ -39,15 +40,6 @@ fn doubles(world: World<PlusTimes>) -> Option<[(Held, u64); 2]> {
 
 /// What they hold with ample memory.
 const WHOLE: [(Held, u64); 2] = [(Held::Number(12), 0), (Held::Number(12), 0)];
-
-/// Whether these events are answered as expected, in order.
-fn answers(world: &mut World<PlusTimes>, rows: &[(Event, Moved)]) -> bool {
-    let mut as_expected = true;
-    for (event, moved) in rows {
-        as_expected &= world.step(*event) == *moved;
-    }
-    as_expected
-}
 
 /// Whether rank 1 of a new world waits, there is no rank 2, and all nine halves are done in the end.
 fn waits_and_finishes(world: &mut World<PlusTimes>) -> bool {

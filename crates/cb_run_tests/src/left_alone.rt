@@ -9,14 +9,14 @@ use cb_letters::{Capacity, Tag};
 use cb_plan::{Act, CheckedPlan, Op, Plan, PlanFault, RankStore};
 use cb_ranks::{OpenGate, assemble, run_rank};
 use cb_samples::shape;
-use cb_semirings::PlusTimes;
+use cb_semirings::MinPlus;
 use std::alloc::Global;
 use std::sync::Wait;
 use std::thread;
 use std::thread::Threads;
 
 /// A rank with its desk.
-type Member = cb_ranks::Member<PlusTimes>;
+type Member = cb_ranks::Member<MinPlus>;
 
 /// The rank that each of three ranks finds gone, if it gives up.
 type Gone = [Option<u16>; 3];
@@ -72,12 +72,13 @@ fn plan_of(alloc: Global, letters: &Letters) -> Option<CheckedPlan> {
 }
 
 /// Empty stores for four ranks.
-fn stores(alloc: Global) -> Option<Vec<RankStore<PlusTimes>>> {
-    let first = RankStore::new(alloc).ok()?;
-    let second = RankStore::new(alloc).ok()?;
-    let third = RankStore::new(alloc).ok()?;
-    let fourth = RankStore::new(alloc).ok()?;
-    vec![in alloc; first, second, third, fourth].ok()
+fn stores(alloc: Global) -> Option<Vec<RankStore<MinPlus>>> {
+    let mut stores = Vec::new(alloc);
+    for _ in 0..4 {
+        let store = RankStore::new(alloc).ok()?;
+        stores.push(store).ok()?;
+    }
+    Some(stores)
 }
 
 /// New ranks for this plan, with new desks whose lanes hold one letter.

@@ -1,36 +1,35 @@
 //! A worked product in several orders of events, on grids of several sides; and ranks that are starved.
-use crate::examples::{PRODUCT, grid, has, is_right_or_refused, matrix, operands};
-use crate::walks::{PATH, distances_by_ranks, levels_by_ranks};
+use crate::examples::{PRODUCT, Place, grid, has, is_refusal, matrix, operands};
 use cb_engines::{Engine, EngineFault};
-use cb_layout::Grid;
+use cb_layout::{DistributedMatrix, Grid};
 use cb_matrix::Matrix;
 use cb_operations::{Operands, Operation};
-use cb_run::{OperationFault, run_matrices};
-use cb_semirings::{MinPlus, OrAnd, PlusTimes};
+use cb_run::{OperationFault, distances, levels, run_matrices};
+use cb_semirings::{MinPlus, OrAnd};
 use cb_world::Event;
-use std::alloc::{AllocError, Global};
+use std::alloc::Global;
 use std::sync::Wait;
-use std::test::Fail;
 use std::thread::Threads;
 
 const SIDES: [u32; 3] = [1, 2, 3];
 
 /// Two factors.
-type Factors = (Matrix<PlusTimes>, Matrix<PlusTimes>);
+type Factors = (Matrix<MinPlus>, Matrix<MinPlus>);
 
 /// A hundred rounds, each with an event of every rank, from the last rank to the first. One rank may be starved.
-fn backwards(alloc: Global, ranks: u16, starved: Option<u16>) -> Result<Vec<Event>, AllocError> {
+fn backwards(alloc: Global, ranks: u16, starved: Option<u16>) -> Option<Vec<Event>> {
     let mut order = Vec::new(alloc);
     for _ in 0..100 {
         for rank in (0..ranks).rev() {
-            if starved == Some(rank) {
-                order.push(Event::Starve(rank))?;
+            let event = if starved == Some(rank) {
+                Event::Starve(rank)
             } else {
-                order.push(Event::Step(rank))?;
-            }
+                Event::Step(rank)
+            };
+            order.push(event).ok()?;
         }
     }
-    Ok(order)
+    Some(order)
 }
 
 /// The product of two matrices in an order of events.
@@ -41,7 +40,7 @@ fn product<R: Threads + Wait + Sync>(
     factors: &Factors,
     letters: usize,
     order: &[Event],
-) -> Result<Matrix<PlusTimes>, OperationFault> {
+) -> Result<Matrix<MinPlus>, OperationFault> {
     let engine = Engine::InOrder(letters, order);
     let operands = Operands::Two(&factors.0, &factors.1);
     run_matrices(rt, alloc, engine, grid, Operation::Multiply, operands)
@@ -56,7 +55,10 @@ fn makes<R: Threads + Wait + Sync>(
     letters: usize,
     order: &[Event],
 ) -> bool {
-    product(rt, alloc, grid, factors, letters, order).is_ok_and(|made| has(&made, &PRODUCT))
+    match product(rt, alloc, grid, factors, letters, order) {
+        Ok(made) => has(&made, &PRODUCT),
+        Err(_) => false,
+    }
 }
 
 /// Whether the product is right if each rank in turn has all events.
@@ -82,22 +84,32 @@ fn makes_backwards<R: Threads + Wait + Sync>(
     factors: &Factors,
 ) -> bool {
     match backwards(alloc, grid.ranks(), None) {
-        Ok(rounds) => makes(rt, alloc, grid, factors, 1, &rounds),
-        Err(_) => false,
+        Some(rounds) => makes(rt, alloc, grid, factors, 1, &rounds),
+        None => false,
     }
 }
 
-#[test]
-fn any_order_makes_the_product(rt: HostRuntime) -> Result<(), Fail> {
-    let factors = operands(rt.alloc()).ok_or("memory")?;
-    for side in SIDES {
-        let grid = grid(side)?;
-        assert!(rt; makes(&rt, rt.alloc(), &grid, &factors, 64, &[]));
-        assert!(rt; makes_backwards(&rt, rt.alloc(), &grid, &factors));
-        assert!(rt; makes_alone(&rt, rt.alloc(), &grid, &factors));
-    }
-    Ok(())
+/// Whether it is right in each of these orders, and without events.
+fn makes_in_any_order<R: Threads + Wait + Sync>(rt: &R, alloc: Global, side: u32) -> Option<bool> {
+    let grid = grid(side)?;
+    let factors = operands(alloc)?;
+    let mut as_expected = makes(rt, alloc, &grid, &factors, 64, &[]);
+    as_expected &= makes_backwards(rt, alloc, &grid, &factors);
+    Some(as_expected & makes_alone(rt, alloc, &grid, &factors))
 }
+
+#[test]
+fn any_order_makes_the_product(rt: HostRuntime) {
+    for side in &SIDES {
+        assert!(rt;
+            makes_in_any_order(&rt, rt.alloc(), *side) == Some(true),
+            "{side}"
+        );
+    }
+}
+
+/// The edges of a path from vertex 0 to 2, and of a loop at 3.
+const PATH: [Place; 4] = [(0, 1, 1), (1, 2, 1), (2, 0, 1), (3, 3, 1)];
 
 /// What is made of the factors, or what is searched for on the path.
 #[derive(Clone, Copy)]
@@ -112,94 +124,125 @@ enum Job {
 #[derive(Drop)]
 struct Given {
     factors: Factors,
-    column: Matrix<PlusTimes>,
+    column: Matrix<MinPlus>,
     path: Matrix<OrAnd>,
     weights: Matrix<MinPlus>,
 }
 
 /// Two factors, a column, and a path without and with weights.
 fn samples(alloc: Global) -> Option<Given> {
-    let path = matrix(alloc, PATH.vertices, PATH.vertices, PATH.edges)?;
-    let weights = matrix(alloc, PATH.vertices, PATH.vertices, PATH.edges)?;
+    let factors = operands(alloc)?;
     let column = matrix(alloc, 2, 1, &[(0, 0, 1), (1, 0, 1)])?;
+    let path = matrix(alloc, 4, 4, &PATH)?;
+    let weights = matrix(alloc, 4, 4, &PATH)?;
     Some(Given {
-        factors: operands(alloc)?,
+        factors,
         column,
         path,
         weights,
     })
 }
 
-/// Why a job fails in an order of events.
-fn fault<R: Threads + Wait + Sync>(
+/// The levels of a path from vertex 0, by ranks.
+fn levels_by_ranks<R: Threads + Wait + Sync>(
+    rt: &R,
+    alloc: Global,
+    engine: Engine,
+    grid: &Grid,
+    path: &Matrix<OrAnd>,
+) -> Result<Matrix<MinPlus>, OperationFault> {
+    let spread = DistributedMatrix::scatter(alloc, *grid, path)?;
+    levels(rt, alloc, engine, spread, 0)
+}
+
+/// The distances.
+fn distances_by_ranks<R: Threads + Wait + Sync>(
+    rt: &R,
+    alloc: Global,
+    engine: Engine,
+    grid: &Grid,
+    weights: &Matrix<MinPlus>,
+) -> Result<Matrix<MinPlus>, OperationFault> {
+    let spread = DistributedMatrix::scatter(alloc, *grid, weights)?;
+    distances(rt, alloc, engine, spread, 0)
+}
+
+/// What a job makes in an order of events.
+fn made<R: Threads + Wait + Sync>(
     rt: &R,
     alloc: Global,
     grid: &Grid,
     given: &Given,
     job: Job,
     order: &[Event],
-) -> Option<OperationFault> {
+) -> Result<Matrix<MinPlus>, OperationFault> {
     let engine = Engine::InOrder(1, order);
     match job {
-        Job::Product => product(rt, alloc, grid, &given.factors, 1, order).err(),
+        Job::Product => product(rt, alloc, grid, &given.factors, 1, order),
         Job::Vector => {
             let operands = Operands::Two(&given.factors.0, &given.column);
-            let operation = Operation::MultiplyVector;
-            run_matrices(rt, alloc, engine, grid, operation, operands).err()
+            run_matrices(rt, alloc, engine, grid, Operation::MultiplyVector, operands)
         }
-        Job::Levels => levels_by_ranks(rt, alloc, engine, grid.side(), &given.path, 0).err(),
-        Job::Distances => {
-            distances_by_ranks(rt, alloc, engine, grid.side(), &given.weights, 0).err()
-        }
+        Job::Levels => levels_by_ranks(rt, alloc, engine, grid, &given.path),
+        Job::Distances => distances_by_ranks(rt, alloc, engine, grid, &given.weights),
     }
 }
 
-/// Whether a block was lost at this rank.
-fn is_lost_at(rank: u16, fault: Option<OperationFault>) -> bool {
-    match fault {
-        Some(OperationFault::Failed(EngineFault::Lost { rank: lost, .. })) => lost == rank,
-        _ => false,
-    }
-}
-
-/// Whether each rank is named if it is starved.
-fn are_named<R: Threads + Wait + Sync>(
+/// Whether a job fails because a block was lost at this rank, which is starved.
+fn is_named<R: Threads + Wait + Sync>(
     rt: &R,
     alloc: Global,
     grid: &Grid,
     given: &Given,
     job: Job,
-) -> Result<bool, AllocError> {
-    for rank in 0..grid.ranks() {
-        let order = backwards(alloc, grid.ranks(), Some(rank))?;
-        if !is_lost_at(rank, fault(rt, alloc, grid, given, job, &order)) {
-            return Ok(false);
+    rank: u16,
+) -> Option<bool> {
+    let order = backwards(alloc, grid.ranks(), Some(rank))?;
+    match made(rt, alloc, grid, given, job, &order) {
+        Err(OperationFault::Failed(EngineFault::Lost { rank: lost, .. })) => Some(lost == rank),
+        _ => Some(false),
+    }
+}
+
+const JOBS: [Job; 4] = [Job::Product, Job::Vector, Job::Levels, Job::Distances];
+
+/// Whether each rank of the grid of this side is named if it is starved, whatever is made.
+fn are_named<R: Threads + Wait + Sync>(rt: &R, alloc: Global, side: u32) -> Option<bool> {
+    let grid = grid(side)?;
+    let given = samples(alloc)?;
+    for job in &JOBS {
+        for rank in 0..grid.ranks() {
+            if !is_named(rt, alloc, &grid, &given, *job, rank)? {
+                return Some(false);
+            }
         }
     }
-    Ok(true)
+    Some(true)
 }
 
 #[test]
-fn a_starved_rank_is_named(rt: HostRuntime) -> Result<(), Fail> {
-    let given = samples(rt.alloc()).ok_or("memory")?;
-    for side in SIDES {
-        let grid = grid(side)?;
-        for job in [Job::Product, Job::Vector, Job::Levels, Job::Distances] {
-            assert!(rt; are_named(&rt, rt.alloc(), &grid, &given, job)?, "{side}");
-        }
+fn a_starved_rank_is_named(rt: HostRuntime) {
+    for side in &SIDES {
+        assert!(rt; are_named(&rt, rt.alloc(), *side) == Some(true), "{side}");
     }
-    Ok(())
+}
+
+/// Events of two of four ranks, one of which doesn't exist.
+const FEW: [Event; 3] = [Event::Step(3), Event::Starve(9), Event::Step(0)];
+
+/// Whether the product is right in this order, or reports refused memory, if there is memory for the factors.
+fn makes_or_reports<R: Threads + Wait + Sync>(rt: &R, alloc: Global) -> Option<bool> {
+    let grid = grid(2)?;
+    let factors = operands(alloc)?;
+    match product(rt, alloc, &grid, &factors, 1, &FEW) {
+        Ok(made) => Some(has(&made, &PRODUCT)),
+        Err(fault) => Some(is_refusal(Engine::InOrder(1, &[]), fault)),
+    }
 }
 
 /// Passes whichever single allocation is refused (`rt try --test --fail-alloc N`, for each N in turn): the call reports
 /// it, or its result is right.
 #[test]
-fn refused_memory_is_reported_in_each_order(rt: HostRuntime) -> Result<(), Fail> {
-    let Some(factors) = operands(rt.alloc()) else {
-        return Ok(());
-    };
-    let order = [Event::Step(3), Event::Starve(9), Event::Step(0)];
-    let made = product(&rt, rt.alloc(), &grid(2)?, &factors, 1, &order);
-    assert!(rt; is_right_or_refused(Engine::InOrder(1, &[]), made, &PRODUCT));
-    Ok(())
+fn refused_memory_is_reported_in_each_order(rt: HostRuntime) {
+    assert!(rt; makes_or_reports(&rt, rt.alloc()) != Some(false));
 }

@@ -2,7 +2,7 @@
 use cb_layout::{DistributedMatrix, Grid};
 use cb_market::{Kind, ReadFault, read, text};
 use cb_reading::{Pieces, read_in_pieces, read_side_by_side};
-use cb_semirings::{OrAnd, PlusTimes, Semiring};
+use cb_semirings::PlusTimes;
 use std::alloc::{AllocError, Global};
 use std::thread::Threads;
 
@@ -18,7 +18,7 @@ fn short(most: u32) -> Pieces {
 }
 
 /// The text of a matrix over a grid.
-fn written<S: Semiring>(alloc: Global, matrix: &DistributedMatrix<S>) -> Option<Vec<u8>> {
+fn written(alloc: Global, matrix: &DistributedMatrix<PlusTimes>) -> Option<Vec<u8>> {
     let Ok(whole) = matrix.gather(alloc) else {
         return None;
     };
@@ -26,15 +26,15 @@ fn written<S: Semiring>(alloc: Global, matrix: &DistributedMatrix<S>) -> Option<
 }
 
 /// Reads a text on one thread, and writes the matrix again.
-fn on_one_thread<S: Semiring>(alloc: Global, given: &[u8]) -> Option<Vec<u8>> {
-    let Ok(matrix) = read::<S>(alloc, given) else {
+fn on_one_thread(alloc: Global, given: &[u8]) -> Option<Vec<u8>> {
+    let Ok(matrix) = read::<PlusTimes>(alloc, given) else {
         return None;
     };
     text(alloc, &matrix).ok()
 }
 
 /// Reads a text in this many pieces over a grid of this side, and writes the matrix again.
-fn in_pieces<S: Semiring + Send + Sync, R: Threads + Sync>(
+fn in_pieces<R: Threads + Sync>(
     rt: &R,
     alloc: Global,
     side: u32,
@@ -44,24 +44,20 @@ fn in_pieces<S: Semiring + Send + Sync, R: Threads + Sync>(
     let Ok(grid) = Grid::new(side) else {
         return None;
     };
-    let Some(matrix) = read_in_pieces::<S, R>(rt, alloc, &grid, short(most), given) else {
+    let Some(matrix) = read_in_pieces::<PlusTimes, R>(rt, alloc, &grid, short(most), given) else {
         return None;
     };
     written(alloc, &matrix)
 }
 
 /// Whether a text is read in pieces, on several grids, with the same result as on one thread.
-fn is_read_in_pieces<S: Semiring + Send + Sync, R: Threads + Sync>(
-    rt: &R,
-    alloc: Global,
-    given: &[u8],
-) -> bool {
-    let Some(wanted) = on_one_thread::<S>(alloc, given) else {
+fn is_read_in_pieces<R: Threads + Sync>(rt: &R, alloc: Global, given: &[u8]) -> bool {
+    let Some(wanted) = on_one_thread(alloc, given) else {
         return false;
     };
     for side in [1, 2, 5] {
         for most in COUNTS {
-            match in_pieces::<S, R>(rt, alloc, side, most, given) {
+            match in_pieces(rt, alloc, side, most, given) {
                 Some(bytes) if bytes.as_slice() == wanted.as_slice() => {}
                 _ => return false,
             }
@@ -70,8 +66,8 @@ fn is_read_in_pieces<S: Semiring + Send + Sync, R: Threads + Sync>(
     true
 }
 
-/// Texts with one entry or more.
-const NUMBERS: [&[u8]; 9] = [
+/// Texts with one entry or more, with and without values.
+const TEXTS: &[&[u8]] = &[
     b"%%MatrixMarket matrix coordinate integer general\n5 4 6\n1 1 7\n5 1 10\n2 2 18446744073709551615\n4 2 3\n1 4 99999\n3 4 1\n",
     b"%%MatrixMarket matrix coordinate integer general\n3 3 3\n2 1 7\n3 3 1\n1 3 5\n",
     b"%%MatrixMarket matrix coordinate integer general\n2 2 3\n1 1 1\n2 2 3\n2 2 4\n",
@@ -81,27 +77,23 @@ const NUMBERS: [&[u8]; 9] = [
     b"%%MatrixMarket matrix coordinate integer general\n1 1 1\n1 1 00000000000000000000000000000000000000000000000000000000000000000007\n",
     b"%%MatrixMarket matrix coordinate integer symmetric\n3 3 3\n1 1 5\n2 1 3\n3 2 4\n",
     b"%%MatrixMarket matrix coordinate integer skew-symmetric\n3 3 2\n2 1 3\n3 1 4\n",
-];
-
-const PATTERNS: [&[u8]; 2] = [
     b"%%MatrixMarket matrix coordinate pattern general\n3 100 3\n2 1\n1 100\n3 100\n",
     b"%%MatrixMarket matrix coordinate pattern symmetric\n3 3 2\n2 1\n3 3\n",
 ];
 
+/// Whether each text is.
+fn all_are_read_in_pieces<R: Threads + Sync>(rt: &R, alloc: Global, texts: &[&[u8]]) -> bool {
+    for given in texts {
+        if !is_read_in_pieces(rt, alloc, given) {
+            return false;
+        }
+    }
+    true
+}
+
 #[test]
 fn are_read_in_pieces(rt: HostRuntime) {
-    for (index, given) in NUMBERS.iter().enumerate() {
-        assert!(&rt;
-            is_read_in_pieces::<PlusTimes, _>(&rt, rt.alloc(), given),
-            "row {index}"
-        );
-    }
-    for (index, given) in PATTERNS.iter().enumerate() {
-        assert!(&rt;
-            is_read_in_pieces::<OrAnd, _>(&rt, rt.alloc(), given),
-            "row {index}"
-        );
-    }
+    assert!(&rt; all_are_read_in_pieces(&rt, rt.alloc(), TEXTS));
 }
 
 /// Appends the last two digits of a number and a byte.
@@ -127,15 +119,21 @@ fn long_text(alloc: Global, step: u32) -> Result<Vec<u8>, AllocError> {
     Ok(text)
 }
 
+/// Whether a long text is read in pieces.
+fn is_long_text_read<R: Threads + Sync>(
+    rt: &R,
+    alloc: Global,
+    step: u32,
+) -> Result<bool, AllocError> {
+    let given = long_text(alloc, step)?;
+    Ok(is_read_in_pieces(rt, alloc, &given))
+}
+
 /// Entries that ascend, and entries that start over in the same column.
 #[test]
 fn may_be_long(rt: HostRuntime) {
     for step in [1, 7, 0] {
-        let given = long_text(rt.alloc(), step).expect(&rt, "text");
-        assert!(&rt;
-            is_read_in_pieces::<PlusTimes, _>(&rt, rt.alloc(), &given),
-            "{step}"
-        );
+        assert!(&rt; is_long_text_read(&rt, rt.alloc(), step) == Ok(true));
     }
 }
 
@@ -151,7 +149,7 @@ fn fault<R: Threads + Sync>(rt: &R, alloc: Global, most: u32, given: &[u8]) -> O
 }
 
 /// Texts with a fault in the header, the size line, one of the pieces or the number of entries.
-const FAULTS: [(&[u8], u64, Kind); 7] = [
+const FAULTS: &[(&[u8], u64, Kind)] = &[
     (b"", 1, Kind::BadHeader),
     (
         b"%%MatrixMarket matrix coordinate integer general\n2 2\n",
@@ -185,14 +183,21 @@ const FAULTS: [(&[u8], u64, Kind); 7] = [
     ),
 ];
 
-#[test]
-fn have_their_first_fault(rt: HostRuntime) {
-    for (index, row) in FAULTS.iter().enumerate() {
+/// Whether each text has its fault, in as many pieces as are tried.
+fn have_faults<R: Threads + Sync>(rt: &R, alloc: Global, rows: &[(&[u8], u64, Kind)]) -> bool {
+    for (given, line, kind) in rows {
         for most in COUNTS {
-            let found = fault(&rt, rt.alloc(), most, row.0);
-            assert_eq!(&rt; found, Some((row.1, row.2)), "row {index} in {most} pieces");
+            if fault(rt, alloc, most, given) != Some((*line, *kind)) {
+                return false;
+            }
         }
     }
+    true
+}
+
+#[test]
+fn have_their_first_fault(rt: HostRuntime) {
+    assert!(&rt; have_faults(&rt, rt.alloc(), FAULTS));
 }
 
 /// Whether a text is read correctly in three pieces, or memory is refused.
@@ -212,9 +217,8 @@ fn right_or_memory<R: Threads + Sync>(rt: &R, alloc: Global, given: &[u8], wante
 /// Also run with each allocation refused in turn.
 #[test]
 fn are_refused_or_read(rt: HostRuntime) {
-    let alloc = rt.alloc();
     let sorted = b"%%MatrixMarket matrix coordinate integer general\n2 2 3\n1 1 1\n1 2 2\n2 2 3\n";
-    assert!(&rt; right_or_memory(&rt, alloc, sorted, sorted));
+    assert!(&rt; right_or_memory(&rt, rt.alloc(), sorted, sorted));
     let mixed = b"%%MatrixMarket matrix coordinate integer general\n2 2 3\n1 1 1\n2 2 3\n1 2 2\n";
-    assert!(&rt; right_or_memory(&rt, alloc, mixed, sorted));
+    assert!(&rt; right_or_memory(&rt, rt.alloc(), mixed, sorted));
 }

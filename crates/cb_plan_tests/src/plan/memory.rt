@@ -1,7 +1,7 @@
 //! Memory that was reserved, and memory that is refused.
 ghost use Rattle.std.specs.Prelude.{◌≡◌};
 
-use crate::plan::{checked, fault, plan_of, row_at_0, small, two_stores};
+use crate::plan::{checked, plan_of, row_at_0, small, two_stores};
 use cb_dcsc::Block;
 use cb_local::{run_plain, work};
 use cb_matrix::{Entry, Shape};
@@ -12,16 +12,15 @@ use std::alloc::{AllocError, Global};
 use std::test::Fail;
 
 /// Whether the small plan grows after room for it is reserved.
-fn grows(alloc: Global) -> Result<bool, Fail> {
+fn grows(alloc: Global) -> bool {
     let mut plan = Plan::new(alloc, 2);
-    plan.reserve(2)?;
-    let has_room = plan.make_room(3).is_ok();
+    let has_room = plan.reserve(2).is_ok() && plan.make_room(3).is_ok();
     for act in small() {
         if plan.push(act).is_err() {
-            return Ok(false);
+            return false;
         }
     }
-    Ok(has_room && plan.len() == 3)
+    has_room && plan.len() == 3
 }
 
 /// How many halves rank 1 of the small plan has.
@@ -32,10 +31,9 @@ fn halves(alloc: Global) -> Option<usize> {
 
 /// With ample memory no call is refused.
 #[test]
-fn a_plan_grows_with_ample_memory(rt: HostRuntime) -> Result<(), Fail> {
-    assert!(rt; grows(rt.alloc())?);
+fn a_plan_grows_with_ample_memory(rt: HostRuntime) {
+    assert!(rt; grows(rt.alloc()));
     assert!(rt; halves(rt.alloc()) == Some(3));
-    Ok(())
 }
 
 /// The entries of the block that a slot holds.
@@ -108,7 +106,7 @@ fn is_checked_or_refused(alloc: Global, plan: Plan, start: Start) -> bool
             Err(AllocError) => true,
         },
         Err((same, wanting)) => {
-            same.len() == 3 && Some(wanting) == fault(0, PlanFaultKind::Memory)
+            same.len() == 3 && wanting.act == 0 && wanting.kind == PlanFaultKind::Memory
         }
     }
 }

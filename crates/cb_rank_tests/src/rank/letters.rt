@@ -66,13 +66,20 @@ fn a_program_is_done_half_by_half(rt: HostRuntime) {
     assert!(rt; left_at_the_end(rt.alloc()) == Some(Held::Entries(1, 2)));
 }
 
+/// The rank at which a body was lost.
+fn origin_of(body: &Body<Block<PlusTimes>>) -> Option<u16> {
+    match body {
+        Body::Lost(origin) => Some(*origin),
+        _ => None,
+    }
+}
+
 /// The rank at which the posted copy was lost, if no memory is granted for it, and how often memory was refused.
 fn lost_at(alloc: Global, lost: bool) -> Option<(u16, u64)> {
     let mut rank = copied(alloc, lost)?;
-    match posted(&mut rank, Supply::Refused) {
-        Some((_, Body::Lost(origin))) => Some((origin, rank.refusals())),
-        _ => None,
-    }
+    let (_tag, body) = posted(&mut rank, Supply::Refused)?;
+    let origin = origin_of(&body)?;
+    Some((origin, rank.refusals()))
 }
 
 #[test]
@@ -81,43 +88,65 @@ fn a_refused_copy_is_lost_at_this_rank_and_a_lost_slot_at_its_origin(rt: HostRun
     assert!(rt; lost_at(rt.alloc(), true) == Some((10, 0)));
 }
 
-/// A letter for the first Take, with these fields.
-fn other(from: u16, to: u16, tag: u32, body: Body<Block<PlusTimes>>) -> Arrival<Block<PlusTimes>> {
-    Arrival::Letter(Letter {
+/// What a letter carries.
+#[derive(Clone, Copy)]
+enum Carried {
+    Lost,
+    Mark,
+    /// A block of two columns.
+    Wide,
+}
+
+/// A letter for the first Take: its sender, its addressee, its tag and what it carries.
+type Stray = (u16, u16, u32, Carried);
+
+/// Letters that are wrong only in the sender, the addressee, the tag, the kind, or the shape.
+const STRAYS: [Stray; 5] = [
+    (0, 0, 5, Carried::Lost),
+    (1, 1, 5, Carried::Lost),
+    (1, 0, 6, Carried::Lost),
+    (1, 0, 5, Carried::Mark),
+    (1, 0, 5, Carried::Wide),
+];
+
+/// What such a letter has in it.
+fn body_of(alloc: Global, carried: Carried) -> Option<Body<Block<PlusTimes>>> {
+    match carried {
+        Carried::Lost => Some(Body::Lost(4)),
+        Carried::Mark => Some(Body::Close),
+        Carried::Wide => Some(Body::Sheet(Block::empty(alloc, shape(1, 2).ok()?))),
+    }
+}
+
+/// Whether a rank that waits for its first letter doesn't accept this one and keeps waiting.
+fn leaves(alloc: Global, rank: &mut Rank<PlusTimes>, stray: &Stray) -> Option<bool> {
+    let (from, to, tag, carried) = *stray;
+    let body = body_of(alloc, carried)?;
+    let letter = Letter {
         from,
         to,
         number: 0,
         tag: Tag(tag),
         body,
-    })
+    };
+    let is_accepted = accepts(rank, Arrival::Letter(letter));
+    Some(!is_accepted && rank.want() == Want::Take(1))
 }
 
-/// Whether a rank that waits for its first letter accepts none of these arrivals and keeps waiting.
-fn takes_none(rank: &mut Rank<PlusTimes>, strays: [Arrival<Block<PlusTimes>>; 6]) -> bool {
-    let mut none = true;
-    for stray in strays {
-        none &= !accepts(rank, stray) && rank.want() == Want::Take(1);
+/// Whether it accepts none of these letters, nor an end.
+fn leaves_all(alloc: Global, rank: &mut Rank<PlusTimes>) -> bool {
+    for stray in &STRAYS {
+        if leaves(alloc, rank, stray) != Some(true) {
+            return false;
+        }
     }
-    none
-}
-
-/// Letters that are wrong only in the sender, the addressee, the tag, the kind, or the shape; and an end.
-fn strays(wide: Block<PlusTimes>) -> [Arrival<Block<PlusTimes>>; 6] {
-    [
-        other(0, 0, 5, Body::Lost(4)),
-        other(1, 1, 5, Body::Lost(4)),
-        other(1, 0, 6, Body::Lost(4)),
-        other(1, 0, 5, Body::Close),
-        other(1, 0, 5, Body::Sheet(wide)),
-        Arrival::End(1),
-    ]
+    !accepts(rank, Arrival::End(1)) && rank.want() == Want::Take(1)
 }
 
 /// What slot 0 holds after a rank accepts none of them, and then the letter that it waits for.
 fn taken_after_strays(alloc: Global) -> Option<Held> {
-    let wide = Block::empty(alloc, shape(1, 2).ok()?);
     let mut rank = rank_0(alloc, COPY, 3)?;
-    let mut as_expected = takes_none(&mut rank, strays(wide));
+    let mut as_expected = leaves_all(alloc, &mut rank);
     as_expected &= accepts(&mut rank, letter(0, 5, Body::Lost(4)));
     let held = contents_of(&rank.into_store(), 0);
     if as_expected { Some(held) } else { None }

@@ -1,7 +1,7 @@
 //! The first faults of texts.
 use cb_market::Kind::*;
 use cb_market::{Kind, ReadFault, read};
-use cb_semirings::{MaxMin, MinPlus, OrAnd, PlusTimes, Semiring};
+use cb_semirings::{MinPlus, OrAnd, PlusTimes, Semiring};
 use std::alloc::Global;
 use std::fmt::InlineText;
 
@@ -13,8 +13,21 @@ fn fault<S: Semiring>(alloc: Global, text: &[u8]) -> Option<(u64, Kind)> {
     }
 }
 
+/// A text, and the line and kind of its first fault.
+type Row<'a> = (&'a [u8], u64, Kind);
+
+/// Whether each text has its fault.
+fn have_faults<S: Semiring>(alloc: Global, rows: &[Row<'_>]) -> bool {
+    for (text, line, kind) in rows {
+        if fault::<S>(alloc, text) != Some((*line, *kind)) {
+            return false;
+        }
+    }
+    true
+}
+
 /// Texts with a fault in the header or the size line, and the line and kind of that fault.
-const HEADERS_AND_SIZES: [(&[u8], u64, Kind); 12] = [
+const HEADERS_AND_SIZES: &[Row<'static>] = &[
     (b"", 1, BadHeader),
     (
         b"%%matrixmarket matrix coordinate integer general\n",
@@ -71,14 +84,11 @@ const HEADERS_AND_SIZES: [(&[u8], u64, Kind); 12] = [
 
 #[test]
 fn of_the_header_and_the_size(rt: HostRuntime) {
-    for (index, row) in HEADERS_AND_SIZES.iter().enumerate() {
-        let found = fault::<PlusTimes>(rt.alloc(), row.0);
-        assert_eq!(&rt; found, Some((row.1, row.2)), "row {index}");
-    }
+    assert!(rt; have_faults::<PlusTimes>(rt.alloc(), HEADERS_AND_SIZES));
 }
 
 /// Texts with a fault in the entries, and the line and kind of that fault.
-const ENTRIES: [(&[u8], u64, Kind); 11] = [
+const ENTRIES: &[Row<'static>] = &[
     (
         b"%%MatrixMarket matrix coordinate integer general\n2 2 1\n1 1 5 6\n",
         3,
@@ -138,33 +148,39 @@ const ENTRIES: [(&[u8], u64, Kind); 11] = [
 
 #[test]
 fn of_entries(rt: HostRuntime) {
-    for (index, row) in ENTRIES.iter().enumerate() {
-        let found = fault::<PlusTimes>(rt.alloc(), row.0);
-        assert_eq!(&rt; found, Some((row.1, row.2)), "row {index}");
-    }
+    assert!(rt; have_faults::<PlusTimes>(rt.alloc(), ENTRIES));
 }
 
-/// Whether this is the first fault of a text, or whether it has none if `wanted` is None.
-fn is_fault<S: Semiring>(alloc: Global, text: &[u8], wanted: Option<(u64, Kind)>) -> bool {
-    fault::<S>(alloc, text) == wanted
-}
+const SKEW: &[u8] = b"%%MatrixMarket matrix coordinate integer skew-symmetric\n2 2 1\n2 1 3\n";
+
+/// Numbers that aren't values of min-plus, and an entry that has no negative there.
+const WEIGHTS: &[Row<'static>] = &[
+    (
+        b"%%MatrixMarket matrix coordinate integer general\n1 1 1\n1 1 -1\n",
+        3,
+        ValueRange,
+    ),
+    (
+        b"%%MatrixMarket matrix coordinate integer general\n1 1 1\n1 1 18446744073709551615\n",
+        3,
+        ValueRange,
+    ),
+    (SKEW, 1, Unsupported),
+];
+
+const PATTERNS: &[Row<'static>] = &[
+    (
+        b"%%MatrixMarket matrix coordinate pattern symmetric\n3 3 1\n2 3\n",
+        3,
+        AboveDiagonal,
+    ),
+    (SKEW, 1, Unsupported),
+];
 
 #[test]
 fn of_other_semirings(rt: HostRuntime) {
-    let alloc = rt.alloc();
-    let minus = b"%%MatrixMarket matrix coordinate integer general\n1 1 1\n1 1 -1\n";
-    assert!(&rt; is_fault::<MinPlus>(alloc, minus, Some((3, ValueRange))));
-    assert!(&rt; is_fault::<MaxMin>(alloc, minus, Some((3, ValueRange))));
-    let top =
-        b"%%MatrixMarket matrix coordinate integer general\n1 1 1\n1 1 18446744073709551615\n";
-    assert!(&rt; is_fault::<MinPlus>(alloc, top, Some((3, ValueRange))));
-    assert!(&rt; is_fault::<MaxMin>(alloc, top, None));
-    let above = b"%%MatrixMarket matrix coordinate pattern symmetric\n3 3 1\n2 3\n";
-    assert!(&rt; is_fault::<OrAnd>(alloc, above, Some((3, AboveDiagonal))));
-    let skew = b"%%MatrixMarket matrix coordinate integer skew-symmetric\n2 2 1\n2 1 3\n";
-    assert!(&rt; is_fault::<MinPlus>(alloc, skew, Some((1, Unsupported))));
-    assert!(&rt; is_fault::<OrAnd>(alloc, skew, Some((1, Unsupported))));
-    assert!(&rt; is_fault::<MaxMin>(alloc, skew, Some((1, Unsupported))));
+    assert!(rt; have_faults::<MinPlus>(rt.alloc(), WEIGHTS));
+    assert!(rt; have_faults::<OrAnd>(rt.alloc(), PATTERNS));
 }
 
 /// The value of the only place of the 1 by 1 matrix that a text reads as, or the first fault of the text.
@@ -193,15 +209,21 @@ fn of_beginning(length: usize) -> Result<Option<u64>, (u64, Kind)> {
     }
 }
 
+/// Whether each prefix of a text is read or refused as it should be.
+fn has_prefixes(alloc: Global, text: &[u8]) -> bool {
+    for length in 0..=text.len() {
+        if value(alloc, &text[..length]) != of_beginning(length) {
+            return false;
+        }
+    }
+    true
+}
+
 /// Every prefix of a text is read or refused.
 #[test]
 fn of_every_prefix(rt: HostRuntime) {
     let text = b"%%MatrixMarket matrix coordinate integer general\n1 1 1\n1 1 12\n";
-    assert_eq!(&rt; text.len(), 62);
-    for length in 0..=text.len() {
-        let found = value(rt.alloc(), &text[..length]);
-        assert_eq!(&rt; found, of_beginning(length), "the first {length} bytes");
-    }
+    assert!(rt; text.len() == 62 && has_prefixes(rt.alloc(), text));
 }
 
 /// Whether a kind of fault is displayed as these words.
@@ -210,31 +232,40 @@ fn is_shown_as(kind: Kind, words: &str) -> bool {
     shown.as_str() == words
 }
 
+const WORDS: &[(Kind, &str)] = &[
+    (BadHeader, "not a Matrix Market header"),
+    (Unsupported, "header not supported"),
+    (BadSize, "bad size line"),
+    (TooLarge, "number too large"),
+    (NotSquare, "matrix not square"),
+    (BadLine, "wrong number of words"),
+    (BadNumber, "not a whole number"),
+    (IndexRange, "index out of range"),
+    (AboveDiagonal, "entry above the diagonal"),
+    (ValueRange, "value out of range"),
+    (ExtraEntry, "more entries than announced"),
+    (MissingEntries, "fewer entries than announced"),
+    (Memory, "out of memory"),
+    (OnDiagonal, "entry on the diagonal"),
+];
+
+/// Whether each kind of fault is displayed as its words.
+fn are_shown(rows: &[(Kind, &str)]) -> bool {
+    for (kind, words) in rows {
+        if !is_shown_as(*kind, words) {
+            return false;
+        }
+    }
+    true
+}
+
 #[test]
 fn in_words(rt: HostRuntime) {
-    let rows: [(Kind, &str); 14] = [
-        (BadHeader, "not a Matrix Market header"),
-        (Unsupported, "header not supported"),
-        (BadSize, "bad size line"),
-        (TooLarge, "number too large"),
-        (NotSquare, "matrix not square"),
-        (BadLine, "wrong number of words"),
-        (BadNumber, "not a whole number"),
-        (IndexRange, "index out of range"),
-        (AboveDiagonal, "entry above the diagonal"),
-        (ValueRange, "value out of range"),
-        (ExtraEntry, "more entries than announced"),
-        (MissingEntries, "fewer entries than announced"),
-        (Memory, "out of memory"),
-        (OnDiagonal, "entry on the diagonal"),
-    ];
-    for row in rows {
-        assert!(&rt; is_shown_as(row.0, row.1), "{}", row.1);
-    }
+    assert!(rt; are_shown(WORDS));
     let fault = ReadFault {
         line: 3,
         kind: BadNumber,
     };
     let shown: InlineText<64> = InlineText::of(fault);
-    assert_eq!(&rt; shown.as_str(), "line 3: not a whole number");
+    assert!(rt; shown.as_str() == "line 3: not a whole number");
 }

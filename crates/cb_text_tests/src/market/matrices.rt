@@ -1,6 +1,6 @@
 //! Texts that read as a matrix.
 use cb_market::{Kind, ReadFault, read, text, vertex_text};
-use cb_semirings::{MaxMin, MinPlus, OrAnd, PlusTimes, Semiring};
+use cb_semirings::{MinPlus, OrAnd, PlusTimes, Semiring};
 use std::alloc::{AllocError, Global};
 
 /// Reads a text, and writes the matrix again.
@@ -19,72 +19,97 @@ fn reads_as<S: Semiring>(alloc: Global, given: &[u8], wanted: &[u8]) -> bool {
     }
 }
 
-#[test]
-fn add_what_is_given_twice(rt: HostRuntime) {
-    let alloc = rt.alloc();
-    let given = b"%%MatrixMarket matrix coordinate integer general\n1 1 2\n1 1 3\n1 1 4\n";
-    let sum = b"%%MatrixMarket matrix coordinate integer general\n1 1 1\n1 1 7\n";
-    assert!(&rt; reads_as::<PlusTimes>(alloc, given, sum));
-    let least = b"%%MatrixMarket matrix coordinate integer general\n1 1 1\n1 1 3\n";
-    assert!(&rt; reads_as::<MinPlus>(alloc, given, least));
-    let any = b"%%MatrixMarket matrix coordinate pattern general\n1 1 1\n1 1\n";
-    assert!(&rt; reads_as::<OrAnd>(alloc, given, any));
-    let greatest = b"%%MatrixMarket matrix coordinate integer general\n1 1 1\n1 1 4\n";
-    assert!(&rt; reads_as::<MaxMin>(alloc, given, greatest));
+/// A text, and the text of the matrix that it reads as.
+type Row<'a> = (&'a [u8], &'a [u8]);
+
+/// Whether each text reads as it should.
+fn all_read_as<S: Semiring>(alloc: Global, rows: &[Row<'_>]) -> bool {
+    for (given, wanted) in rows {
+        if !reads_as::<S>(alloc, given, wanted) {
+            return false;
+        }
+    }
+    true
 }
 
-/// A 0 is stored unless it is the semiring's zero.
-#[test]
-fn store_no_zero(rt: HostRuntime) {
-    let alloc = rt.alloc();
-    let zero = b"%%MatrixMarket matrix coordinate integer general\n1 1 1\n1 1 0\n";
-    let empty = b"%%MatrixMarket matrix coordinate integer general\n1 1 0\n";
-    assert!(&rt; reads_as::<PlusTimes>(alloc, zero, empty));
-    assert!(&rt; reads_as::<MinPlus>(alloc, zero, zero));
-    let negative = b"%%MatrixMarket matrix coordinate integer general\n1 1 1\n1 1 -0\n";
-    assert!(&rt; reads_as::<MinPlus>(alloc, negative, zero));
-    let cancelled = b"%%MatrixMarket matrix coordinate integer general\n1 1 2\n1 1 1\n1 1 -1\n";
-    assert!(&rt; reads_as::<PlusTimes>(alloc, cancelled, empty));
-}
+const NONE: &[u8] = b"%%MatrixMarket matrix coordinate integer general\n1 1 0\n";
+
+const TOP: &[u8] =
+    b"%%MatrixMarket matrix coordinate integer general\n1 1 1\n1 1 18446744073709551615\n";
+
+const NUMBERS: &[Row<'static>] = &[
+    // entries of one place are added up
+    (
+        b"%%MatrixMarket matrix coordinate integer general\n1 1 2\n1 1 3\n1 1 4\n",
+        b"%%MatrixMarket matrix coordinate integer general\n1 1 1\n1 1 7\n",
+    ),
+    // no zero is stored
+    (
+        b"%%MatrixMarket matrix coordinate integer general\n1 1 1\n1 1 0\n",
+        NONE,
+    ),
+    (
+        b"%%MatrixMarket matrix coordinate integer general\n1 1 2\n1 1 1\n1 1 -1\n",
+        NONE,
+    ),
+    // the greatest value
+    (TOP, TOP),
+    // mixed case, signs, tabs, comments, empty lines, carriage returns, and a last line without a line feed
+    (
+        b"%%MatrixMarket MATRIX Coordinate INTEGER General\r\n%\r\n\r\n3 3 3\r\n1 3 +5\r\n\t2 1 007\r\n3 2 -1",
+        b"%%MatrixMarket matrix coordinate integer general\n3 3 3\n2 1 7\n3 2 18446744073709551615\n1 3 5\n",
+    ),
+    // entries are mirrored
+    (
+        b"%%MatrixMarket matrix coordinate integer symmetric\n2 2 2\n1 1 5\n2 1 3\n",
+        b"%%MatrixMarket matrix coordinate integer general\n2 2 3\n1 1 5\n2 1 3\n1 2 3\n",
+    ),
+    (
+        b"%%MatrixMarket matrix coordinate integer skew-symmetric\n2 2 1\n2 1 3\n",
+        b"%%MatrixMarket matrix coordinate integer general\n2 2 2\n2 1 3\n1 2 18446744073709551613\n",
+    ),
+    (
+        b"%%MatrixMarket matrix coordinate integer skew-symmetric\n2 2 2\n2 1 3\n2 1 -3\n",
+        b"%%MatrixMarket matrix coordinate integer general\n2 2 0\n",
+    ),
+];
+
+const ZERO: &[u8] = b"%%MatrixMarket matrix coordinate integer general\n1 1 1\n1 1 0\n";
+
+const GREATEST: &[u8] =
+    b"%%MatrixMarket matrix coordinate integer general\n1 1 1\n1 1 18446744073709551614\n";
+
+/// The least of one place; a 0, which is stored, with and without a sign; and the greatest value.
+const WEIGHTS: &[Row<'static>] = &[
+    (
+        b"%%MatrixMarket matrix coordinate integer general\n1 1 2\n1 1 3\n1 1 4\n",
+        b"%%MatrixMarket matrix coordinate integer general\n1 1 1\n1 1 3\n",
+    ),
+    (ZERO, ZERO),
+    (
+        b"%%MatrixMarket matrix coordinate integer general\n1 1 1\n1 1 -0\n",
+        ZERO,
+    ),
+    (GREATEST, GREATEST),
+];
+
+/// Without values.
+const PATTERNS: &[Row<'static>] = &[
+    (
+        b"%%MatrixMarket matrix coordinate integer general\n1 1 2\n1 1 3\n1 1 4\n",
+        b"%%MatrixMarket matrix coordinate pattern general\n1 1 1\n1 1\n",
+    ),
+    (
+        b"%%MatrixMarket matrix coordinate pattern symmetric\n3 3 2\n2 1\n3 3\n",
+        b"%%MatrixMarket matrix coordinate pattern general\n3 3 3\n2 1\n1 2\n3 3\n",
+    ),
+];
 
 #[test]
-fn keep_the_greatest_values(rt: HostRuntime) {
-    let alloc = rt.alloc();
-    let top =
-        b"%%MatrixMarket matrix coordinate integer general\n1 1 1\n1 1 18446744073709551615\n";
-    assert!(&rt; reads_as::<PlusTimes>(alloc, top, top));
-    let weight =
-        b"%%MatrixMarket matrix coordinate integer general\n1 1 1\n1 1 18446744073709551614\n";
-    assert!(&rt; reads_as::<MinPlus>(alloc, weight, weight));
-}
-
-/// Mixed case, signs, tabs, comments, empty lines, carriage returns, and a last line without a line feed.
-#[test]
-fn may_be_untidy(rt: HostRuntime) {
-    let given =
-        b"%%MatrixMarket MATRIX Coordinate INTEGER General\r\n%\r\n\r\n3 3 3\r\n1 3 +5\r\n\t2 1 007\r\n3 2 -1";
-    let wanted =
-        b"%%MatrixMarket matrix coordinate integer general\n3 3 3\n2 1 7\n3 2 18446744073709551615\n1 3 5\n";
-    assert!(&rt; reads_as::<PlusTimes>(rt.alloc(), given, wanted));
-}
-
-#[test]
-fn mirror_entries(rt: HostRuntime) {
-    let alloc = rt.alloc();
-    let symmetric = b"%%MatrixMarket matrix coordinate pattern symmetric\n3 3 2\n2 1\n3 3\n";
-    let wanted = b"%%MatrixMarket matrix coordinate pattern general\n3 3 3\n2 1\n1 2\n3 3\n";
-    assert!(&rt; reads_as::<OrAnd>(alloc, symmetric, wanted));
-    let diagonal = b"%%MatrixMarket matrix coordinate integer symmetric\n2 2 2\n1 1 5\n2 1 3\n";
-    let wanted = b"%%MatrixMarket matrix coordinate integer general\n2 2 3\n1 1 5\n2 1 3\n1 2 3\n";
-    assert!(&rt; reads_as::<PlusTimes>(alloc, diagonal, wanted));
-    let skew = b"%%MatrixMarket matrix coordinate integer skew-symmetric\n2 2 1\n2 1 3\n";
-    let wanted =
-        b"%%MatrixMarket matrix coordinate integer general\n2 2 2\n2 1 3\n1 2 18446744073709551613\n";
-    assert!(&rt; reads_as::<PlusTimes>(alloc, skew, wanted));
-    let cancelled =
-        b"%%MatrixMarket matrix coordinate integer skew-symmetric\n2 2 2\n2 1 3\n2 1 -3\n";
-    let wanted = b"%%MatrixMarket matrix coordinate integer general\n2 2 0\n";
-    assert!(&rt; reads_as::<PlusTimes>(alloc, cancelled, wanted));
+fn are_read_and_written_again(rt: HostRuntime) {
+    assert!(rt; all_read_as::<PlusTimes>(rt.alloc(), NUMBERS));
+    assert!(rt; all_read_as::<MinPlus>(rt.alloc(), WEIGHTS));
+    assert!(rt; all_read_as::<OrAnd>(rt.alloc(), PATTERNS));
 }
 
 /// A header, a size line for one entry, and a line with many equal digits between `before` and `after`.
@@ -125,15 +150,14 @@ fn reads_a_long_value(alloc: Global) -> Result<bool, AllocError> {
 /// Numbers can have any length, and no memory is taken for entries that are only announced.
 #[test]
 fn have_long_numbers(rt: HostRuntime) {
-    let alloc = rt.alloc();
     let many = b"%%MatrixMarket matrix coordinate integer general\n1 1 2147483647\n";
-    assert!(&rt; is_refused(alloc, many, Kind::MissingEntries));
-    assert_eq!(&rt; refuses_a_long_index(alloc), Ok(true));
-    assert_eq!(&rt; reads_a_long_value(alloc), Ok(true));
+    assert!(rt; is_refused(rt.alloc(), many, Kind::MissingEntries));
+    assert!(rt; refuses_a_long_index(rt.alloc()) == Ok(true));
+    assert!(rt; reads_a_long_value(rt.alloc()) == Ok(true));
 }
 
 /// Reads a text of one column, and writes it as a list of vertices.
-pub(crate) fn of_vertices(alloc: Global, given: &[u8]) -> Result<Vec<u8>, Kind> {
+fn of_vertices(alloc: Global, given: &[u8]) -> Result<Vec<u8>, Kind> {
     match read::<MinPlus>(alloc, given) {
         Ok(levels) => {
             if levels.cols() != 1 {
@@ -145,11 +169,20 @@ pub(crate) fn of_vertices(alloc: Global, given: &[u8]) -> Result<Vec<u8>, Kind> 
     }
 }
 
+/// Levels of four vertices, of which one has none, and the list of them.
+pub(crate) const LEVELS: Row<'static> = (
+    b"%%MatrixMarket matrix coordinate integer general\n4 1 3\n1 1 0\n2 1 1\n3 1 2\n",
+    b"1 0\n2 1\n3 2\n",
+);
+
+/// Whether a text is written as this list, or how the call fails.
+pub(crate) fn is_list(alloc: Global, row: &Row<'_>) -> Result<bool, Kind> {
+    let (given, wanted) = row;
+    let found = of_vertices(alloc, given)?;
+    Ok(found.as_slice() == *wanted)
+}
+
 #[test]
 fn of_vertices_have_no_header(rt: HostRuntime) {
-    let alloc = rt.alloc();
-    let given = b"%%MatrixMarket matrix coordinate integer general\n4 1 3\n1 1 0\n2 1 1\n3 1 2\n";
-    assert!(&rt; reads_as::<MinPlus>(alloc, given, given));
-    let found = of_vertices(alloc, given).expect(&rt, "levels");
-    assert_eq!(&rt; found.as_slice(), b"1 0\n2 1\n3 2\n".as_slice());
+    assert!(rt; is_list(rt.alloc(), &LEVELS) == Ok(true));
 }

@@ -1,5 +1,6 @@
 //! The text of a product in panels is that of the whole product.
-ghost use Rattle.std.specs.Prelude.{◌≡◌};
+ghost use Rattle.std.specs.Prelude.{◌≤◌, ◌<◌};
+ghost use Rattle.cb_market.specs.declared.sheets.TheConstants.{MOST_LINES};
 
 use crate::market::pages;
 use crate::writing::rounds;
@@ -32,24 +33,64 @@ fn block_of(alloc: Global, given: &[u8]) -> Result<Block<PlusTimes>, Kind> {
     }
 }
 
-/// Whether a matrix in panels is written as this text, page by page and in rounds of sheets of a few lines.
+/// Whether a matrix in panels is written page by page as this text.
+fn are_pages(
+    alloc: Global,
+    matrix: &PanelledMatrix<PlusTimes>,
+    wanted: &[u8],
+) -> Result<bool, AllocError> {
+    let (bytes, _) = pages::joined(alloc, TextPages::of_panels(matrix))?;
+    Ok(bytes.as_slice() == wanted)
+}
+
+/// Whether it is written in rounds of three sheets of this many lines as this text.
+fn are_rounds<R: Threads + Sync>(
+    rt: &R,
+    alloc: Global,
+    lines: usize,
+    matrix: &PanelledMatrix<PlusTimes>,
+    wanted: &[u8],
+) -> Result<bool, AllocError>
+    requires { (0 < lines) × (lines ≤ MOST_LINES) }
+{
+    let (bytes, _) = rounds::joined(rt, alloc, 3, lines, TextPages::of_panels(matrix))?;
+    Ok(bytes.as_slice() == wanted)
+}
+
+/// Whether it is written as this text, page by page and in rounds of sheets of a few lines.
 fn is_text<R: Threads + Sync>(
     rt: &R,
     alloc: Global,
     matrix: &PanelledMatrix<PlusTimes>,
     wanted: &[u8],
 ) -> Result<bool, AllocError> {
-    let (by_pages, _) = pages::joined(alloc, TextPages::of_panels(matrix))?;
-    if by_pages.as_slice() != wanted {
-        return Ok(false);
-    }
     for lines in [1, 2, 3, 1_000] {
-        let (by_rounds, _) = rounds::joined(rt, alloc, 3, lines, TextPages::of_panels(matrix))?;
-        if by_rounds.as_slice() != wanted {
+        if !are_rounds(rt, alloc, lines, matrix, wanted)? {
             return Ok(false);
         }
     }
-    Ok(true)
+    are_pages(alloc, matrix, wanted)
+}
+
+/// One times a block, made in at most this many panels.
+fn product_with_one<R: Threads + Sync>(
+    rt: &R,
+    alloc: Global,
+    most: u32,
+    right: &Block<PlusTimes>,
+) -> Result<PanelledMatrix<PlusTimes>, Kind> {
+    let left = block_of(alloc, ONE)?;
+    if left.shape().cols() != right.shape().rows() {
+        return Err(Kind::TooLarge);
+    }
+    let panels = Panels {
+        most,
+        least_products: 1,
+    };
+    match multiply_panels(rt, alloc, panels, &left, right) {
+        Ok(product) => Ok(product),
+        Err(AllocError) => Err(Kind::Memory),
+    }
 }
 
 /// Whether one times a matrix, made in at most this many panels, is written as the text of the matrix.
@@ -59,27 +100,24 @@ fn is_own_text<R: Threads + Sync>(
     most: u32,
     given: &[u8],
 ) -> Result<bool, Kind> {
-    let left = block_of(alloc, ONE)?;
     let right = block_of(alloc, given)?;
-    if left.shape().cols() != right.shape().rows() {
-        return Ok(false);
-    }
-    let panels = Panels {
-        most,
-        least_products: 1,
-    };
-    let Ok(product) = multiply_panels(rt, alloc, panels, &left, &right) else {
-        return Err(Kind::Memory);
-    };
+    let product = product_with_one(rt, alloc, most, &right)?;
     is_text(rt, alloc, &product, given).map_err(|_| Kind::Memory)
+}
+
+/// Whether each matrix is, in as many panels as are tried.
+fn are_own_texts<R: Threads + Sync>(rt: &R, alloc: Global) -> bool {
+    for most in COUNTS {
+        for given in FACTORS {
+            if is_own_text(rt, alloc, most, given) != Ok(true) {
+                return false;
+            }
+        }
+    }
+    true
 }
 
 #[test]
 fn panels_are_written_as_one_matrix(rt: HostRuntime) {
-    for most in COUNTS {
-        for given in FACTORS {
-            let answer = is_own_text(&rt, rt.alloc(), most, given);
-            assert_eq!(&rt; answer, Ok(true), "{most} panels");
-        }
-    }
+    assert!(&rt; are_own_texts(&rt, rt.alloc()));
 }

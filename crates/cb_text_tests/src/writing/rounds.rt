@@ -2,43 +2,61 @@
 ghost use Rattle.std.specs.Prelude.{◌≤◌, ◌<◌};
 ghost use Rattle.cb_market.specs.declared.sheets.TheConstants.{MOST_LINES};
 
+use crate::market::pages::{EMPTY, FAR, GIVEN};
 use cb_layout::{DistributedMatrix, Grid};
 use cb_market::{Kind, MOST_LINES, TextPages, read_distributed, text};
 use cb_matrix::{Entry, Matrix, Shape};
 use cb_samples::are_values;
-use cb_semirings::{MinPlus, OrAnd, PlusTimes, Semiring};
+use cb_semirings::PlusTimes;
 use cb_writing::Round;
 use std::alloc::{AllocError, Global};
 use std::thread::Threads;
 
+/// Appends the sheets of a round.
+fn append(bytes: &mut Vec<u8>, round: &Round<'_, PlusTimes>) -> Result<(), AllocError> {
+    for sheet in round.sheets() {
+        bytes.extend_from_slice(sheet.written())?;
+    }
+    Ok(())
+}
+
+/// Appends the rounds of what is left of a text, and returns their number.
+fn append_rounds<'a, R: Threads + Sync>(
+    rt: &R,
+    round: &mut Round<'a, PlusTimes>,
+    left: &mut TextPages<'a, PlusTimes>,
+    bytes: &mut Vec<u8>,
+) -> Result<usize, AllocError> {
+    let mut count: usize = 0;
+    while round.fill(rt, left) {
+        append(bytes, round)?;
+        count = count.saturating_add(1);
+    }
+    Ok(count)
+}
+
 /// The concatenated rounds of a text, with this many sheets of this many lines each, and the number of rounds.
-pub(crate) fn joined<S: Semiring + Send + Sync, R: Threads + Sync>(
+pub(crate) fn joined<R: Threads + Sync>(
     rt: &R,
     alloc: Global,
     sheets: usize,
     lines: usize,
-    mut left: TextPages<'_, S>,
+    mut left: TextPages<'_, PlusTimes>,
 ) -> Result<(Vec<u8>, usize), AllocError>
     requires sheets { 0 < sheets }
     requires lines { (0 < lines) × (lines ≤ MOST_LINES) }
 {
     let mut round = Round::with_lines(alloc, sheets, lines, &left)?;
     let mut bytes = Vec::new(alloc);
-    let mut count: usize = 0;
-    while round.fill(rt, &mut left) {
-        for sheet in round.sheets() {
-            bytes.extend_from_slice(sheet.written())?;
-        }
-        count = count.saturating_add(1);
-    }
+    let count = append_rounds(rt, &mut round, &mut left, &mut bytes)?;
     Ok((bytes, count))
 }
 
 /// Whether the rounds of a matrix over a grid are this text, with one to five sheets of a few lines each or of many.
-fn are_text<S: Semiring + Send + Sync, R: Threads + Sync>(
+fn are_text<R: Threads + Sync>(
     rt: &R,
     alloc: Global,
-    matrix: &DistributedMatrix<S>,
+    matrix: &DistributedMatrix<PlusTimes>,
     wanted: &[u8],
 ) -> Result<bool, AllocError> {
     for sheets in 1..=5 {
@@ -53,7 +71,7 @@ fn are_text<S: Semiring + Send + Sync, R: Threads + Sync>(
 }
 
 /// Whether a text that is read over the grid of this side is written in rounds as the same text.
-fn read_and_joined<S: Semiring + Send + Sync, R: Threads + Sync>(
+fn read_and_joined<R: Threads + Sync>(
     rt: &R,
     alloc: Global,
     side: u32,
@@ -62,21 +80,19 @@ fn read_and_joined<S: Semiring + Send + Sync, R: Threads + Sync>(
     let Ok(grid) = Grid::new(side) else {
         return Err(Kind::TooLarge);
     };
-    match read_distributed::<S>(alloc, &grid, given) {
+    match read_distributed::<PlusTimes>(alloc, &grid, given) {
         Ok(matrix) => are_text(rt, alloc, &matrix, given).map_err(|_| Kind::Memory),
         Err(fault) => Err(fault.kind),
     }
 }
 
-/// The same on the grids of sides 1 to 3.
-fn are_on_each_grid<S: Semiring + Send + Sync, R: Threads + Sync>(
-    rt: &R,
-    alloc: Global,
-    given: &[u8],
-) -> bool {
-    for side in 1..=3 {
-        if read_and_joined::<S, R>(rt, alloc, side, given) != Ok(true) {
-            return false;
+/// Whether texts are, on the grids of sides 1 to 3.
+fn are_on_each_grid<R: Threads + Sync>(rt: &R, alloc: Global, texts: &[&[u8]]) -> bool {
+    for given in texts {
+        for side in 1..=3 {
+            if read_and_joined(rt, alloc, side, given) != Ok(true) {
+                return false;
+            }
         }
     }
     true
@@ -84,20 +100,7 @@ fn are_on_each_grid<S: Semiring + Send + Sync, R: Threads + Sync>(
 
 #[test]
 fn are_the_text_on_each_grid(rt: HostRuntime) {
-    let alloc = rt.alloc();
-    let given =
-        b"%%MatrixMarket matrix coordinate integer general\n5 4 6\n1 1 7\n5 1 10\n2 2 18446744073709551615\n4 2 3\n1 4 99999\n3 4 1\n";
-    assert!(&rt; are_on_each_grid::<PlusTimes, _>(&rt, alloc, given));
-    let weights =
-        b"%%MatrixMarket matrix coordinate integer general\n11 11 2\n10 10 0\n11 10 123456789\n";
-    assert!(&rt; are_on_each_grid::<MinPlus, _>(&rt, alloc, weights));
-    let pattern = b"%%MatrixMarket matrix coordinate pattern general\n3 100 3\n2 1\n1 100\n3 100\n";
-    assert!(&rt; are_on_each_grid::<OrAnd, _>(&rt, alloc, pattern));
-    let far =
-        b"%%MatrixMarket matrix coordinate integer general\n2147483647 2147483647 2\n2147483646 2147483647 1\n2147483647 2147483647 18446744073709551615\n";
-    assert!(&rt; are_on_each_grid::<PlusTimes, _>(&rt, alloc, far));
-    let empty = b"%%MatrixMarket matrix coordinate integer general\n0 0 0\n";
-    assert!(&rt; are_on_each_grid::<PlusTimes, _>(&rt, alloc, empty));
+    assert!(&rt; are_on_each_grid(&rt, rt.alloc(), &[GIVEN, FAR, EMPTY]));
 }
 
 /// A matrix of two columns, with this many entries in the second.
@@ -120,43 +123,38 @@ fn long_column(alloc: Global, count: u32) -> Option<Matrix<PlusTimes>> {
     Matrix::from_entries(alloc, Shape::new(20_000, 2)?, &entries).ok()
 }
 
-/// Whether the text of a matrix over the grid of this side is written in this many rounds of two sheets of this many
-/// lines.
+/// Whether the text of a matrix over a grid is written in this many rounds of two sheets of this many lines.
 fn are_rounds<R: Threads + Sync>(
     rt: &R,
     alloc: Global,
-    side: u32,
-    matrix: &Matrix<PlusTimes>,
+    blocks: &DistributedMatrix<PlusTimes>,
+    whole: &[u8],
     lines: usize,
     rounds: usize,
-) -> Result<bool, Kind>
+) -> Result<bool, AllocError>
     requires { (0 < lines) × (lines ≤ MOST_LINES) }
 {
-    let Ok(grid) = Grid::new(side) else {
-        return Err(Kind::TooLarge);
-    };
-    let Ok(whole) = text(alloc, matrix) else {
-        return Err(Kind::Memory);
-    };
-    let Ok(blocks) = DistributedMatrix::scatter(alloc, grid, matrix) else {
-        return Err(Kind::Memory);
-    };
-    match joined(rt, alloc, 2, lines, TextPages::new(&blocks)) {
-        Ok((bytes, count)) => Ok(count == rounds && bytes.as_slice() == whole.as_slice()),
-        Err(_) => Err(Kind::Memory),
-    }
+    let (bytes, count) = joined(rt, alloc, 2, lines, TextPages::new(blocks))?;
+    Ok(count == rounds && bytes.as_slice() == whole)
 }
 
-/// A column continues on the next sheet and in the next round: 9,001 entries on two sheets of 1,000 or of 4,501 lines.
+/// Whether the text of 9,001 entries over the grid of this side is written in rounds of two sheets of 1,000 lines, and in
+/// one round of sheets of 4,501.
+fn are_long_rounds<R: Threads + Sync>(rt: &R, alloc: Global, side: u32) -> Option<bool> {
+    let grid = Grid::new(side).ok()?;
+    let matrix = long_column(alloc, 9_000)?;
+    let whole = text(alloc, &matrix).ok()?;
+    let blocks = DistributedMatrix::scatter(alloc, grid, &matrix).ok()?;
+    let many = are_rounds(rt, alloc, &blocks, &whole, 1_000, 5).ok()?;
+    let one = are_rounds(rt, alloc, &blocks, &whole, 4_501, 1).ok()?;
+    Some(many && one)
+}
+
+/// A column continues on the next sheet and in the next round.
 #[test]
 fn follow_one_another(rt: HostRuntime) {
-    let alloc = rt.alloc();
-    let matrix = long_column(alloc, 9_000).expect(&rt, "matrix");
     for side in [1, 3] {
-        let many = are_rounds(&rt, alloc, side, &matrix, 1_000, 5);
-        assert_eq!(&rt; many, Ok(true), "side {side}");
-        let one = are_rounds(&rt, alloc, side, &matrix, 4_501, 1);
-        assert_eq!(&rt; one, Ok(true), "side {side}");
+        assert!(&rt; are_long_rounds(&rt, rt.alloc(), side) == Some(true));
     }
 }
 
@@ -174,30 +172,33 @@ fn sheets_of(alloc: Global, threads: usize, entries: u32) -> usize {
     round.sheets().len()
 }
 
+/// Numbers of threads and of entries, and how many sheets a round then has.
+const SHEETS: &[(usize, u32, usize)] = &[
+    (0, 3, 1),
+    (1, 20_000, 1),
+    (2, 20_000, 2),
+    (4, 20_000, 2),
+    (4, 5_000, 1),
+];
+
 /// There is a sheet for each thread with enough work, and at least one.
 #[test]
 fn have_a_sheet_for_each_thread(rt: HostRuntime) {
-    let alloc = rt.alloc();
-    for (threads, entries, wanted) in [
-        (0, 3, 1),
-        (1, 20_000, 1),
-        (2, 20_000, 2),
-        (4, 20_000, 2),
-        (4, 5_000, 1),
-    ] {
-        let sheets = sheets_of(alloc, threads, entries);
-        assert_eq!(&rt; sheets, wanted, "{threads} threads, {entries} entries");
+    for (threads, entries, wanted) in SHEETS {
+        assert!(rt; sheets_of(rt.alloc(), *threads, *entries) == *wanted);
+    }
+}
+
+/// Whether a text is written as itself, or memory is refused.
+fn is_joined_or_refused<R: Threads + Sync>(rt: &R, alloc: Global, given: &[u8]) -> bool {
+    match read_and_joined(rt, alloc, 2, given) {
+        Ok(is_text) => is_text,
+        Err(kind) => kind == Kind::Memory,
     }
 }
 
 /// Also run with each allocation refused in turn.
 #[test]
 fn are_refused_or_joined(rt: HostRuntime) {
-    let alloc = rt.alloc();
-    let given = b"%%MatrixMarket matrix coordinate integer general\n2 2 3\n1 1 1\n1 2 2\n2 2 3\n";
-    let right = match read_and_joined::<PlusTimes, _>(&rt, alloc, 2, given) {
-        Ok(is_text) => is_text,
-        Err(kind) => kind == Kind::Memory,
-    };
-    assert!(&rt; right);
+    assert!(&rt; is_joined_or_refused(&rt, rt.alloc(), GIVEN));
 }
