@@ -1,14 +1,16 @@
-//! Panels of products under a mask and outside it: two neighbours, one after the other, are the product.
+//! Panels of products: how their columns are divided; under a mask and outside it, two neighbours, one after the other, are
+//! the product.
 ghost use Rattle.std.specs.Prelude.{◌≡◌, IfOk};
 ghost use Rattle.cb_matrix.specs.Values.{product_shape};
 
 use crate::panels::scattered;
+use crate::samples::entries;
 use cb_dcsc::Block;
 use cb_masked::{multiply_masked, multiply_outside};
 use cb_matrix::LIMIT;
 use cb_samples::{SampleFault, block};
 use cb_semirings::PlusTimes;
-use cb_shares::{masked_panel, outside_panel};
+use cb_shares::{ends_of, masked_panel, outside_panel};
 use std::alloc::{AllocError, Global};
 
 type Matrix = Block<PlusTimes>;
@@ -89,4 +91,36 @@ fn neighbouring_panels_are_the_masked_product(rt: HostRuntime) {
             "column {column}"
         );
     }
+}
+
+/// Whether the ranges of a product whose columns take 3, 1, 1 and 1 products end there.
+fn are_ends(
+    alloc: Global,
+    count: usize,
+    least: usize,
+    wanted: &[u32],
+) -> Result<bool, SampleFault> {
+    let left: Matrix = block(
+        alloc,
+        3,
+        2,
+        entries![(0, 0, 1), (1, 0, 1), (2, 0, 1), (0, 1, 1)],
+    )?;
+    let right: Matrix = block(
+        alloc,
+        2,
+        4,
+        entries![(0, 0, 1), (1, 1, 1), (1, 2, 1), (1, 3, 1)],
+    )?;
+    if left.shape().cols() != right.shape().rows() {
+        return Err(SampleFault::Shape);
+    }
+    let found = ends_of(alloc, &left, &right, count, least)?;
+    Ok(found.as_slice() == wanted)
+}
+
+#[test]
+fn ranges_end_by_their_products(rt: HostRuntime) {
+    assert!(rt; are_ends(rt.alloc(), 2, 1, &[2, 4]) == Ok(true));
+    assert!(rt; are_ends(rt.alloc(), 2, 6, &[4, 4]) == Ok(true), "least");
 }

@@ -5,14 +5,15 @@ use Rattle.cb_semirings.specs.Names.{arithmetic_of}
 use Rattle.cb_semirings.specs.declared.names.SemiringName.{SemiringName}
 use Rattle.cb_operations.specs.declared.operations.Operation.{Operation}
 use Rattle.cb_words.specs.declared.jobs.Job.{Job}
-use Rattle.cb_words.specs.declared.jobs.Task.{Task}
-use Rattle.cb_words.specs.declared.jobs.Task.TheVariants.{Matrix, Levels, Distances}
+use Rattle.cb_words.specs.declared.tasks.Task.{Task}
+use Rattle.cb_words.specs.declared.tasks.GraphTask.{GraphTask}
+use Rattle.cb_words.specs.declared.tasks.GraphTask.TheVariants.{Levels, Distances}
 use Rattle.cb_job_texts.specs.WriteEnds.{IsEndOn}
-use Rattle.cb_tasks.specs.TaskEnds.{IsTaskEnd}
+use Rattle.cb_graph_tasks.specs.GraphTasks.{IsGraphEnd}
 use Rattle.cb_job_texts.specs.declared.faults.JobFault.{JobFault}
 use Rattle.cb_engines.specs.declared.engines.Engine.{Engine}
 use Rattle.cb_cli.specs.Answers.{IsAnswerFor, IsFaultFor}
-use Rattle.cb_cli.specs.Ends.{IsEndBy, IsJobEnd, IsRanksEnd}
+use Rattle.cb_cli.specs.Ends.{IsEndBy, IsGraphEndBy, IsJobEnd, IsRanksEnd, IsTaskEnd}
 use Rattle.cb_cli.specs.Engines.{engine_of}
 use Rattle.cb_cli.specs.declared.ranks.Ranks.{Ranks}
 
@@ -23,17 +24,18 @@ module _ {T A : Type 0} (texts : List (Vec ℕ A)) (old new : Option (List ℕ))
   over_named operation ranks semiring name e h = subst (λ s. IsRanksEnd operation (arithmetic_of s) ranks texts old new failed r) (sym e) h
 
   -- a task that is known ends as that task does
+  pub alone_of_task : (task known : Task) → task ≡ known → IsTaskEnd known texts old new failed r → IsTaskEnd task texts old new failed r
+  alone_of_task task known e h = subst (λ t. IsTaskEnd t texts old new failed r) (sym e) h
+
   pub of_task : (ranks : Ranks) (task known : Task) → task ≡ known → IsEndBy ranks known texts old new failed r → IsEndBy ranks task texts old new failed r
   of_task ranks task known e h = subst (λ t. IsEndBy ranks t texts old new failed r) (sym e) h
 
-  -- a task that ranks don't compute ends as it does without them
-  pub of_other : (ranks : Ranks) (task : Task) → ((operation : Operation) (semiring : SemiringName) → task ≢ Matrix operation semiring)
-      → ((source : ℕ) → task ≢ Levels source) → ((source : ℕ) → task ≢ Distances source)
-      → IsTaskEnd task texts old new failed r → IsEndBy ranks task texts old new failed r
-  of_other ranks (Matrix operation semiring) m l d h = absurd (m operation semiring refl)
-  of_other ranks (Levels source) m l d h = absurd (l source refl)
-  of_other ranks (Distances source) m l d h = absurd (d source refl)
-  of_other ranks _ m l d h = h
+  -- a task on a graph that ranks don't compute ends as it does without them
+  pub of_other : (ranks : Ranks) (task : GraphTask) → ((source : ℕ) → task ≢ Levels source) → ((source : ℕ) → task ≢ Distances source)
+      → IsGraphEnd task texts old new failed r → IsGraphEndBy ranks task texts old new failed r
+  of_other ranks (Levels source) l d h = absurd (l source refl)
+  of_other ranks (Distances source) l d h = absurd (d source refl)
+  of_other ranks _ l d h = h
 
   module _ (job : Job) where
     -- a job that names no engine ends as its task does without ranks

@@ -16,16 +16,31 @@ use Rattle.cb_run.specs.declared.operation_faults.OperationFault.TheVariants.{Fa
 use Rattle.cb_run.specs.Outcomes.{IsLossFor, IsRefusal, IsTraceFor}
 use Rattle.cb_run.specs.Searched.{IsWalkLoss, IsWalkRefusal}
 use Rattle.cb_words.specs.declared.jobs.Job.{Job}
-use Rattle.cb_words.specs.declared.jobs.Task.{Task}
-use Rattle.cb_words.specs.declared.jobs.Task.TheVariants.{Matrix, Levels, Distances}
+use Rattle.cb_words.specs.declared.tasks.Task.{Task}
+use Rattle.cb_words.specs.declared.tasks.Task.TheVariants as task_is
+use Rattle.cb_words.specs.declared.tasks.GraphTask.{GraphTask}
+use Rattle.cb_words.specs.declared.tasks.GraphTask.TheVariants.{Levels, Distances}
 use Rattle.cb_job_texts.specs.Inputs.{AreMatrices}
-use Rattle.cb_tasks.specs.Answers.{IsAnswer, IsFault}
-use Rattle.cb_matrix_tasks.specs.MatrixAnswers.{IsFaultOver}
+use Rattle.cb_operation_tasks.specs.OperationTexts.{IsAnswerOver, IsFaultOver}
+use Rattle.cb_selection_tasks.specs.SelectionAnswers.{IsSelectionAnswer, IsSelectionFault}
 use Rattle.cb_graph_tasks.specs.GraphAnswers.{IsWalkFault}
+use Rattle.cb_graph_tasks.specs.GraphTasks.{IsGraphAnswer, IsGraphFault}
 use Rattle.cb_job_texts.specs.Texts.{text_at}
 use Rattle.cb_job_texts.specs.declared.faults.JobFault.{JobFault}
 use Rattle.cb_cli.specs.Engines.{engine_of, fault_of_engine}
 use Rattle.cb_cli.specs.TraceTexts.{trace_lines}
+
+-- the answer of a task without ranks, over the semiring that it names
+abbrev pub IsAnswer : Task → List (List ℕ) → List ℕ → Type 0
+IsAnswer (task_is.Operation operation semiring) = IsAnswerOver operation (arithmetic_of semiring)
+IsAnswer (task_is.Selection task semiring) = IsSelectionAnswer task (arithmetic_of semiring)
+IsAnswer (task_is.Graph task) = IsGraphAnswer task
+
+-- why it has no answer, or why the answer wasn't written
+abbrev pub IsFault : Task → List (List ℕ) → JobFault → Type 0
+IsFault (task_is.Operation operation semiring) = IsFaultOver operation (arithmetic_of semiring)
+IsFault (task_is.Selection task semiring) = IsSelectionFault task (arithmetic_of semiring)
+IsFault (task_is.Graph task) = IsGraphFault task
 
 -- the text that is written: that of the matrix, and then, if there is a trace, a line for each of its events
 abbrev pub text_and_trace : Arithmetic → Sparse → Option TraceView → List ℕ
@@ -69,15 +84,20 @@ IsRanksWalkFault s source engine side texts fault = IsWalkFault s source texts f
 
 -- The answer of a task, by an engine on a grid of this side. Only an operation may have a trace.
 abbrev pub IsAnswerBy : Engine → ℕ → Task → List (List ℕ) → List ℕ → Type 0
-IsAnswerBy engine side (Matrix operation semiring) = IsRanksAnswer operation (arithmetic_of semiring) engine side
+IsAnswerBy engine side (task_is.Operation operation semiring) = IsRanksAnswer operation (arithmetic_of semiring) engine side
 IsAnswerBy engine side task = IsAnswer task
 
--- why it has no answer, or why the answer wasn't written
+-- why a task on a graph has no answer, or why the answer wasn't written
+abbrev pub IsGraphFaultBy : Engine → ℕ → GraphTask → List (List ℕ) → JobFault → Type 0
+IsGraphFaultBy engine side (Levels source) = IsRanksWalkFault or_and source engine side
+IsGraphFaultBy engine side (Distances source) = IsRanksWalkFault min_plus source engine side
+IsGraphFaultBy engine side task = IsGraphFault task
+
+-- the same of any task
 abbrev pub IsFaultBy : Engine → ℕ → Task → List (List ℕ) → JobFault → Type 0
-IsFaultBy engine side (Matrix operation semiring) = IsRanksFaultOver operation (arithmetic_of semiring) engine side
-IsFaultBy engine side (Levels source) = IsRanksWalkFault or_and source engine side
-IsFaultBy engine side (Distances source) = IsRanksWalkFault min_plus source engine side
-IsFaultBy engine side task = IsFault task
+IsFaultBy engine side (task_is.Operation operation semiring) = IsRanksFaultOver operation (arithmetic_of semiring) engine side
+IsFaultBy engine side (task_is.Selection task semiring) = IsSelectionFault task (arithmetic_of semiring)
+IsFaultBy engine side (task_is.Graph task) = IsGraphFaultBy engine side task
 
 -- the same by an engine or, without one, by threads that share whole blocks
 abbrev pub IsAnswerFor : Option Engine → ℕ → Task → List (List ℕ) → List ℕ → Type 0

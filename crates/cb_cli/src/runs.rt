@@ -1,64 +1,30 @@
-//! A run of the program.
-ghost use Rattle.std.specs.Prelude.{◌≡◌, false};
-ghost use Rattle.cb_endings.specs.Endings.{IsEnding, IsJobEnding, IsRun, names_of};
+//! The program, by its answers.
 ghost use Rattle.cb_cli.specs.Answers.{IsJobAnswer, IsJobFault};
 
 use crate::execution::execute;
-use cb_endings::endings::{Ending, Status, finish, unloaded, usage_ending};
-use cb_endings::files::{FileSource, texts_of};
+use cb_endings::runs::Program;
+use cb_job_texts::faults::JobFault;
 use cb_job_texts::sinks::Sink;
-use cb_words::{Job, UsageFault};
+use cb_words::Job;
 use std::alloc::Global;
 use std::sync::Wait;
 use std::thread::Threads;
 
-/// Loads the files of a job, and writes its answer.
-fn job_ending<R: Threads + Wait + Sync, F: FileSource, K: Sink>(
-    rt: &R,
-    alloc: Global,
-    job: &Job,
-    files: &F,
-    out: &mut K,
-) -> Ending
-    requires { K.has_failed out.old ≡ false }
-    ensures { IsJobEnding IsJobAnswer IsJobFault (F.holds files.now) (F.refuses files.now) job.now (K.written out.old) (K.written out.new) result }
-{
-    let texts = match texts_of(alloc, files, job.files()) {
-        Ok(texts) => texts,
-        Err(fault) => return unloaded(fault),
-    };
-    match execute(rt, alloc, job, texts, out) {
-        Ok(()) => Ending::Done,
-        Err(fault) => Ending::Fault(fault),
-    }
-}
+/// The program `cbgrid`: it answers every job.
+pub struct Cbgrid;
 
-/// Runs the program on a command line that was read. The answer or the help goes to `out`, the text of a fault to `err`.
-///
-/// The files are loaded in the job's order before any text is parsed, and the first fault ends the run. The status and
-/// the text on `err` are those of the ending. If memory for that text is refused, or `err` fails, only a beginning of it
-/// may be printed.
-pub fn run<R: Threads + Wait + Sync, F: FileSource, K: Sink, E: Sink>(
-    rt: &R,
-    alloc: Global,
-    asked: Result<Job, UsageFault>,
-    files: &F,
-    out: &mut K,
-    err: &mut E,
-) -> Status
-    requires out { K.has_failed out.old ≡ false }
-    requires err { E.has_failed err.old ≡ false }
-    ensures { let ends = IsEnding IsJobAnswer IsJobFault (F.holds files.now) (F.refuses files.now) asked (K.written out.old) (K.written out.new) in
-        IsRun ends (names_of asked) (E.written err.old) (E.written err.new) result }
-{
-    match asked {
-        Ok(job) => {
-            let ending = job_ending(rt, alloc, &job, files, out);
-            finish(alloc, job.files(), &ending, err)
-        }
-        Err(fault) => {
-            let ending = usage_ending(fault, out);
-            finish(alloc, &[], &ending, err)
-        }
+impl<R: Threads + Wait + Sync> Program<R> for Cbgrid {
+    ghost answers = { IsJobAnswer };
+
+    ghost faults = { IsJobFault };
+
+    fn answer<K: Sink>(
+        rt: &R,
+        alloc: Global,
+        job: &Job,
+        texts: Vec<Vec<u8>>,
+        out: &mut K,
+    ) -> Result<(), JobFault> {
+        execute(rt, alloc, job, texts, out)
     }
 }

@@ -5,9 +5,9 @@ ghost use Rattle.cb_market.specs.Text.{vertex_text_of};
 ghost use Rattle.cb_searches.specs.Walks.{AreLevels, AreDistances};
 ghost use Rattle.cb_graph_tasks.specs.GraphAnswers.{IsWalkAnswer};
 ghost use Rattle.cb_job_texts.specs.Texts.{bytes_of};
-ghost use Rattle.cb_words.specs.declared.jobs.Task.TheVariants as task_is;
+ghost use Rattle.cb_words.specs.declared.tasks.GraphTask.TheVariants as task_is;
 ghost use Rattle.cb_cli.specs.Answers.{IsRanksWalkFault};
-ghost use Rattle.cb_cli.specs.Ends.{IsEndBy};
+ghost use Rattle.cb_cli.specs.Ends.{IsGraphEndBy};
 
 use crate::ranks::{Ranks, job_fault};
 use cb_graph_tasks::column_output::put_column;
@@ -56,7 +56,7 @@ pub fn put_levels<R: Threads + Wait + Sync, K: Sink>(
 ) -> Result<(), JobFault>
     requires texts { vec_len texts ≡ 1 }
     requires works { K.has_failed out.old ≡ false }
-    ensures { IsEndBy ranks.now (task_is.Levels source) texts.items (K.written out.old) (K.written out.new) (K.has_failed out.new) result }
+    ensures { IsGraphEndBy ranks.now (task_is.Levels source) texts.items (K.written out.old) (K.written out.new) (K.has_failed out.new) result }
 {
     let column = levels_of(rt, alloc, ranks, source, texts)?;
     put_column(alloc, &column, out)
@@ -97,7 +97,7 @@ pub fn put_distances<R: Threads + Wait + Sync, K: Sink>(
 ) -> Result<(), JobFault>
     requires texts { vec_len texts ≡ 1 }
     requires works { K.has_failed out.old ≡ false }
-    ensures { IsEndBy ranks.now (task_is.Distances source) texts.items (K.written out.old) (K.written out.new) (K.has_failed out.new) result }
+    ensures { IsGraphEndBy ranks.now (task_is.Distances source) texts.items (K.written out.old) (K.written out.new) (K.has_failed out.new) result }
 {
     let column = distances_of(rt, alloc, ranks, source, texts)?;
     put_column(alloc, &column, out)

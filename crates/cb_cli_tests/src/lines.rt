@@ -7,7 +7,8 @@ use cb_matrix::Test;
 use cb_operations::{Operation, Refusal};
 use cb_semirings::SemiringName;
 use cb_words::{
-    EngineName, FunctionName, Job, Lists, RegionName, Selection, Task, UsageFault, read_job,
+    EngineName, FunctionName, GraphTask, Job, Lists, RegionName, Selection, SelectionTask, Task,
+    UsageFault, read_job,
 };
 use std::alloc::{AllocError, Global};
 use std::num::NonZeroU32;
@@ -36,40 +37,28 @@ fn job(alloc: Global, line: &str) -> Result<Job, UsageFault> {
 /// An operation over a semiring.
 macro_rules! over {
     ($semiring:ident, $operation:expr) => {
-        Task::Matrix {
-            operation: $operation,
-            semiring: SemiringName::$semiring,
-        }
+        Task::Operation($operation, SemiringName::$semiring)
     };
 }
 
 /// A selection from a matrix over a semiring.
 macro_rules! chosen {
     ($semiring:ident, $selection:expr) => {
-        Task::Selected {
-            selection: $selection,
-            semiring: SemiringName::$semiring,
-        }
+        Task::Selection(SelectionTask::Selected($selection), SemiringName::$semiring)
     };
 }
 
 /// The listed rows and columns of a matrix over a semiring.
 macro_rules! listed {
     ($semiring:ident, $lists:ident) => {
-        Task::Extract {
-            lists: Lists::$lists,
-            semiring: SemiringName::$semiring,
-        }
+        Task::Selection(SelectionTask::Extract(Lists::$lists), SemiringName::$semiring)
     };
 }
 
 /// A matrix with another in place of the part at a corner, over a semiring.
 macro_rules! assigned {
     ($semiring:ident, $corner:expr) => {
-        Task::Assign {
-            corner: $corner,
-            semiring: SemiringName::$semiring,
-        }
+        Task::Selection(SelectionTask::Assign($corner), SemiringName::$semiring)
     };
 }
 
@@ -203,59 +192,59 @@ const OPERATIONS: [Asked; 10] = [
 const GRAPHS: [Asked; 11] = [
     Asked {
         line: "cbgrid bfs a --source 1",
-        task: Task::Levels { source: 0 },
+        task: Task::Graph(GraphTask::Levels { source: 0 }),
         files: &["a"],
     },
     Asked {
         line: "cbgrid bfs --source=2147483647 a",
-        task: Task::Levels {
+        task: Task::Graph(GraphTask::Levels {
             source: 2_147_483_646,
-        },
+        }),
         files: &["a"],
     },
     Asked {
         line: "cbgrid relax --source 9 a --grid 3",
-        task: Task::Distances { source: 8 },
+        task: Task::Graph(GraphTask::Distances { source: 8 }),
         files: &["a"],
     },
     Asked {
         line: "cbgrid parents a --source 3",
-        task: Task::Parents { source: 2 },
+        task: Task::Graph(GraphTask::Parents { source: 2 }),
         files: &["a"],
     },
     Asked {
         line: "cbgrid components a",
-        task: Task::Components,
+        task: Task::Graph(GraphTask::Components),
         files: &["a"],
     },
     Asked {
         line: "cbgrid triangles a",
-        task: Task::Triangles,
+        task: Task::Graph(GraphTask::Triangles),
         files: &["a"],
     },
     Asked {
         line: "cbgrid triangles a --by graph",
-        task: Task::Triangles,
+        task: Task::Graph(GraphTask::Triangles),
         files: &["a"],
     },
     Asked {
         line: "cbgrid triangles --by vertex a",
-        task: Task::TriangleCounts,
+        task: Task::Graph(GraphTask::TriangleCounts),
         files: &["a"],
     },
     Asked {
         line: "cbgrid degrees a",
-        task: Task::RowDegrees,
+        task: Task::Graph(GraphTask::RowDegrees),
         files: &["a"],
     },
     Asked {
         line: "cbgrid degrees --by row a",
-        task: Task::RowDegrees,
+        task: Task::Graph(GraphTask::RowDegrees),
         files: &["a"],
     },
     Asked {
         line: "cbgrid degrees a --by=column",
-        task: Task::ColumnDegrees,
+        task: Task::Graph(GraphTask::ColumnDegrees),
         files: &["a"],
     },
 ];
@@ -263,22 +252,22 @@ const GRAPHS: [Asked; 11] = [
 const STARTS: [Asked; 4] = [
     Asked {
         line: "cbgrid bfs-from a s",
-        task: Task::LevelsFrom,
+        task: Task::Graph(GraphTask::LevelsFrom),
         files: &["a", "s"],
     },
     Asked {
         line: "cbgrid relax-from s a",
-        task: Task::DistancesFrom,
+        task: Task::Graph(GraphTask::DistancesFrom),
         files: &["s", "a"],
     },
     Asked {
         line: "cbgrid bfs-given a x",
-        task: Task::LevelsGiven,
+        task: Task::Graph(GraphTask::LevelsGiven),
         files: &["a", "x"],
     },
     Asked {
         line: "cbgrid relax-given x a",
-        task: Task::DistancesGiven,
+        task: Task::Graph(GraphTask::DistancesGiven),
         files: &["x", "a"],
     },
 ];
@@ -351,9 +340,7 @@ const SELECTIONS: [Asked; 19] = [
     },
     Asked {
         line: "cbgrid kron a b --semiring max-min",
-        task: Task::Kronecker {
-            semiring: SemiringName::MaxMin,
-        },
+        task: Task::Selection(SelectionTask::Kronecker, SemiringName::MaxMin),
         files: &["a", "b"],
     },
     Asked {

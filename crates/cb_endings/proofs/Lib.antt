@@ -1,2 +1,5 @@
+-- The toolbox of lemmas on the ends of runs. PartEnds: jobs by a program that has some of them.
+pub mod PartEnds
+-- For this crate alone. FileLemmas: files that can't be loaded. EndingLemmas: what has been written at the end of a run.
 mod FileLemmas
-pub mod EndingLemmas
+mod EndingLemmas

@@ -7,7 +7,7 @@ use cb_market::Kind;
 
 /// The exit status of a fault: 4 for a text that isn't a matrix; 5 for shapes that don't agree, a matrix that isn't
 /// square, a source that isn't a vertex or a selection that can't be made; 6 for want of memory and for ranks that failed;
-/// 7 for a sink that failed; 69 for a job that asks for ranks or for a semiring that the program doesn't have.
+/// 7 for a sink that failed; 69 for a job that asks for what the program doesn't have.
 pub fn status(fault: &JobFault) -> u8
     ensures { result ≡ status_of fault.now }
 {

@@ -1,1 +1,2 @@
 mod SourceLemmas
+mod GraphTaskEnds

@@ -2,6 +2,8 @@
 -- read. ReadFaults: the first text that isn't a matrix.
 pub mod OperandLemmas
 pub mod ReadFaults
--- For this crate alone. SinkLemmas: what puts append. LineLemmas: lines that are written after a text.
+-- For this crate alone. SinkLemmas: what puts append. LineLemmas: lines that are written after a text. Sheets: what is on
+-- sheets that are written independently.
 mod SinkLemmas
 mod LineLemmas
+mod Sheets

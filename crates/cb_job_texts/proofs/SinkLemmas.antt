@@ -6,7 +6,7 @@ use Rattle.std.proofs.Math.Seq.{take-add, take-append-add}
 use Rattle.std.specs.Prelude.{Result, Ok, Err, OnErr}
 use Rattle.std.specs.Io.KnownBytes.{Appends}
 use Rattle.cb_market.specs.Sheets.{SheetText}
-use Rattle.cb_writing.specs.Rounds.{written_on}
+use Rattle.cb_job_texts.specs.Rounds.{written_on}
 use Rattle.cb_job_texts.specs.Sinks.{AppendsPrefix}
 
 -- two runs of puts, one after the other

@@ -6,9 +6,9 @@ ghost use Rattle.cb_job_texts.specs.Inputs.{AreMatrices, IsFirstReadFault, IsRea
 ghost use Rattle.cb_job_texts.specs.Texts.{bytes_of, text_at};
 
 use crate::faults::JobFault;
+use crate::reading::{Pieces, read_side_by_side};
 use cb_dcsc::Block;
 use cb_layout::{DistributedMatrix, Grid};
-use cb_reading::{Pieces, read_side_by_side};
 use cb_semirings::Semiring;
 use std::alloc::Global;
 use std::thread::Threads;
@@ -55,6 +55,55 @@ pub fn read_one<S: Semiring + Send + Sync, R: Threads + Sync>(
 {
     let text = texts.remove(0);
     read_text(rt, alloc, grid, threads, 0, text)
+}
+
+/// Reads two texts into the blocks of a grid.
+pub fn read_two<S: Semiring + Send + Sync, R: Threads + Sync>(
+    rt: &R,
+    alloc: Global,
+    grid: &Grid,
+    threads: u32,
+    mut texts: Vec<Vec<u8>>,
+) -> Result<(DistributedMatrix<S>, DistributedMatrix<S>), JobFault>
+    requires { vec_len texts ≡ 2 }
+    ensures ok { IfOk result (λ p. AreMatrices S.arithmetic (bytes_of texts.items) (p.0.matrix ∷ p.1.matrix ∷ [])) }
+    ensures sides { IfOk result (λ p. (p.0.side ≡ grid.now.side) × (p.1.side ≡ grid.now.side)) }
+    ensures fault { IfErr result (IsReadFault S.arithmetic (bytes_of texts.items)) }
+{
+    let first = texts.remove(0);
+    let second = texts.remove(0);
+    let left = read_text(rt, alloc, grid, threads, 0, first)?;
+    let right = read_text(rt, alloc, grid, threads, 1, second)?;
+    Ok((left, right))
+}
+
+/// Reads three texts into the blocks of a grid.
+pub fn read_three<S: Semiring + Send + Sync, R: Threads + Sync>(
+    rt: &R,
+    alloc: Global,
+    grid: &Grid,
+    threads: u32,
+    mut texts: Vec<Vec<u8>>,
+) -> Result<
+    (
+        DistributedMatrix<S>,
+        DistributedMatrix<S>,
+        DistributedMatrix<S>,
+    ),
+    JobFault,
+>
+    requires { vec_len texts ≡ 3 }
+    ensures ok { IfOk result (λ p. AreMatrices S.arithmetic (bytes_of texts.items) (p.0.matrix ∷ p.1.matrix ∷ p.2.matrix ∷ [])) }
+    ensures sides { IfOk result (λ p. (p.0.side ≡ grid.now.side) × (p.1.side ≡ grid.now.side) × (p.2.side ≡ grid.now.side)) }
+    ensures fault { IfErr result (IsReadFault S.arithmetic (bytes_of texts.items)) }
+{
+    let first = texts.remove(0);
+    let second = texts.remove(0);
+    let third = texts.remove(0);
+    let left = read_text(rt, alloc, grid, threads, 0, first)?;
+    let right = read_text(rt, alloc, grid, threads, 1, second)?;
+    let mask = read_text(rt, alloc, grid, threads, 2, third)?;
+    Ok((left, right, mask))
 }
 
 /// Reads two texts, each over its own semiring.

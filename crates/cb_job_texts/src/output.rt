@@ -2,16 +2,16 @@
 ghost use Rattle.std.specs.Prelude.{◌≡◌, ◌++◌, [], true, false, OnOk, OnErr};
 ghost use Rattle.std.specs.Io.KnownBytes.{Appends};
 ghost use Rattle.cb_market.specs.Text.{text_of};
-ghost use Rattle.cb_writing.specs.Rounds.{written_on};
+ghost use Rattle.cb_job_texts.specs.Rounds.{written_on};
 ghost use Rattle.cb_job_texts.specs.Sinks.{AppendsPrefix};
 ghost use Rattle.cb_job_texts.specs.WriteEnds.{IsTextEnd};
 
 use crate::faults::JobFault;
+use crate::rounds::Round;
 use crate::sinks::{PutFault, Sink, put_all};
 use cb_layout::PanelledMatrix;
 use cb_market::{Page, Sheet, TextPages};
 use cb_semirings::Semiring;
-use cb_writing::Round;
 use std::alloc::{AllocError, Global};
 use std::thread::Threads;
 

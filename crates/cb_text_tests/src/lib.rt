@@ -1,5 +1,4 @@
-//! Worked texts, through the public calls of `cb_market`, and of `cb_reading` and `cb_writing`, which read and write with
-//! several threads.
+//! Worked texts, through the public calls of `cb_market`, and of `cb_job_texts`, which reads and writes with several threads.
 #![tactic(auto)]
 
 #[cfg(test)]

@@ -1,14 +1,26 @@
 -- What a job asks for.
-use Rattle.std.specs.Prelude.{◌≡◌, ◌⊎◌, ℕ, ◌+◌}
+use Rattle.std.specs.Prelude.{◌≡◌, ◌⊎◌, ℕ, ◌+◌, Bool, true, false}
 use Rattle.clap.specs.declared.error.kind.ErrorKind.{ErrorKind}
 use Rattle.clap.specs.declared.error.kind.ErrorKind.TheVariants.{DisplayHelp, DisplayVersion}
+use Rattle.cb_semirings.specs.declared.names.SemiringName.{SemiringName}
+use Rattle.cb_semirings.specs.declared.names.SemiringName.TheVariants.{PlusTimes, MinPlus, OrAnd, MaxMin}
 use Rattle.cb_operations.specs.OperationAnswers.{operand_count_of}
 use Rattle.cb_words.specs.declared.lists.Lists.{Lists}
 use Rattle.cb_words.specs.declared.lists.Lists.TheVariants.{Rows, Columns, Both}
-use Rattle.cb_words.specs.declared.jobs.Task.{Task}
-use Rattle.cb_words.specs.declared.jobs.Task.TheVariants.{Matrix, Levels, Distances, LevelsFrom, DistancesFrom, LevelsGiven, DistancesGiven}
-use Rattle.cb_words.specs.declared.jobs.Task.TheVariants.{Parents, Components, Triangles, TriangleCounts, RowDegrees, ColumnDegrees}
-use Rattle.cb_words.specs.declared.jobs.Task.TheVariants.{Selected, Kronecker, Assign, Extract}
+use Rattle.cb_words.specs.declared.tasks.Task.{Task}
+use Rattle.cb_words.specs.declared.tasks.Task.TheVariants.{Operation, Selection, Graph}
+use Rattle.cb_words.specs.declared.tasks.SelectionTask.{SelectionTask}
+use Rattle.cb_words.specs.declared.tasks.SelectionTask.TheVariants.{Selected, Kronecker, Assign, Extract}
+use Rattle.cb_words.specs.declared.tasks.GraphTask.{GraphTask}
+use Rattle.cb_words.specs.declared.tasks.GraphTask.TheVariants.{LevelsFrom, DistancesFrom, LevelsGiven, DistancesGiven}
+
+-- whether a semiring is one in the sense of algebra, whose product distributes over its sum
+abbrev pub is_distributive : SemiringName → Bool
+is_distributive PlusTimes = true
+is_distributive MinPlus = true
+is_distributive OrAnd = true
+is_distributive MaxMin = true
+is_distributive _ = false
 
 -- how many files have a list
 abbrev pub list_count_of : Lists → ℕ
@@ -16,25 +28,26 @@ list_count_of Rows = 1
 list_count_of Columns = 1
 list_count_of Both = 2
 
+-- how many files a selection reads
+abbrev pub selection_file_count_of : SelectionTask → ℕ
+selection_file_count_of (Selected selection) = 1
+selection_file_count_of Kronecker = 2
+selection_file_count_of (Assign corner) = 2
+selection_file_count_of (Extract lists) = 1 + list_count_of lists
+
+-- how many files a task on a graph reads
+abbrev pub graph_file_count_of : GraphTask → ℕ
+graph_file_count_of LevelsFrom = 2
+graph_file_count_of DistancesFrom = 2
+graph_file_count_of LevelsGiven = 2
+graph_file_count_of DistancesGiven = 2
+graph_file_count_of _ = 1
+
 -- how many files a task reads
 abbrev pub file_count_of : Task → ℕ
-file_count_of (Matrix operation semiring) = operand_count_of operation
-file_count_of (Levels source) = 1
-file_count_of (Distances source) = 1
-file_count_of LevelsFrom = 2
-file_count_of DistancesFrom = 2
-file_count_of LevelsGiven = 2
-file_count_of DistancesGiven = 2
-file_count_of (Parents source) = 1
-file_count_of Components = 1
-file_count_of Triangles = 1
-file_count_of TriangleCounts = 1
-file_count_of RowDegrees = 1
-file_count_of ColumnDegrees = 1
-file_count_of (Selected selection semiring) = 1
-file_count_of (Kronecker semiring) = 2
-file_count_of (Assign corner semiring) = 2
-file_count_of (Extract lists semiring) = 1 + list_count_of lists
+file_count_of (Operation operation semiring) = operand_count_of operation
+file_count_of (Selection task semiring) = selection_file_count_of task
+file_count_of (Graph task) = graph_file_count_of task
 
 -- the command line asks for help, or for the version
 abbrev pub AsksForText : ErrorKind → Type 0

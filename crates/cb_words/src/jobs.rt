@@ -2,75 +2,9 @@
 ghost use Rattle.std.specs.Prelude.{◌≡◌, ◌≤◌, vec_len};
 ghost use Rattle.cb_words.specs.Jobs.{file_count_of};
 
-use crate::lists::Lists;
-use crate::selection_names::Selection;
-use cb_operations::Operation;
-use cb_semirings::SemiringName;
+use crate::tasks::Task;
 use std::alloc::{AllocError, AllocFailed};
 use thiserror::Error;
-
-/// What is computed from the files. A source is a vertex of the graph of the file's matrix, counted from 0. So are the row
-/// and the column of a corner.
-#[derive(Clone, Copy, PartialEq, Eq)]
-pub enum Task {
-    /// An operation on the files' matrices, over a semiring.
-    Matrix {
-        operation: Operation,
-        semiring: SemiringName,
-    },
-    /// The least number of edges from the source to each vertex. The file is read in or-and.
-    Levels {
-        source: u32,
-    },
-    /// The least weight of a walk from the source to each vertex. The file is read in min-plus.
-    Distances {
-        source: u32,
-    },
-    /// The levels from each of the sources that the second file lists. The first file is read in or-and.
-    LevelsFrom,
-    /// The distances from each of the sources that the second file lists. The first file is read in min-plus.
-    DistancesFrom,
-    /// The levels from initial values that some vertices have. The first file is read in or-and; the second has these
-    /// values, and is read in min-plus.
-    LevelsGiven,
-    /// The distances from initial values that some vertices have. Both files are read in min-plus; the second has these
-    /// values.
-    DistancesGiven,
-    /// The least parent of each vertex in a breadth-first search from the source. The file is read in or-and.
-    Parents {
-        source: u32,
-    },
-    /// The least vertex of the connected component of each vertex. The file is read in or-and.
-    Components,
-    /// The number of triangles of the graph. The file is read in or-and.
-    Triangles,
-    /// The number of triangles that each vertex is part of. The file is read in or-and.
-    TriangleCounts,
-    /// The number of entries in each row. The file is read in or-and.
-    RowDegrees,
-    /// The number of entries in each column. The file is read in or-and.
-    ColumnDegrees,
-    /// A selection from the file's matrix, over a semiring.
-    Selected {
-        selection: Selection,
-        semiring: SemiringName,
-    },
-    /// The Kronecker product of the files' matrices, over a semiring.
-    Kronecker {
-        semiring: SemiringName,
-    },
-    /// The first file's matrix with the second's in place of the part that begins at a corner, a row and a column, over a
-    /// semiring.
-    Assign {
-        corner: (u32, u32),
-        semiring: SemiringName,
-    },
-    /// The listed rows and columns of the first file's matrix, over a semiring. The other files have the lists.
-    Extract {
-        lists: Lists,
-        semiring: SemiringName,
-    },
-}
 
 /// What computes a job.
 #[derive(Clone, Copy, PartialEq, Eq)]

@@ -15,9 +15,11 @@ mod list_words;
 mod lists;
 mod selection_names;
 mod selection_words;
+mod tasks;
 mod words;
 
-pub use jobs::{EngineName, Job, Task, UsageFault};
+pub use jobs::{EngineName, Job, UsageFault};
 pub use lists::Lists;
 pub use selection_names::{FunctionName, RegionName, Selection};
+pub use tasks::{GraphTask, SelectionTask, Task, is_distributive};
 pub use words::{asked, read_job};

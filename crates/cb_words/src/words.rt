@@ -4,15 +4,16 @@ ghost use Rattle.std.specs.Prelude.{◌≢◌, String, ◌≡◌, ◌≤◌, ◌
 ghost use Rattle.std.specs.declared.io.ErrorKind.TheVariants as io_is;
 ghost use Rattle.clap.specs.Words.{kind_of};
 ghost use Rattle.cb_operations.specs.OperationAnswers.{operand_count_of};
-ghost use Rattle.cb_words.specs.Jobs.{AsksForText, file_count_of, list_count_of};
+ghost use Rattle.cb_words.specs.Jobs.{AsksForText, file_count_of, graph_file_count_of, list_count_of, selection_file_count_of};
 
 use crate::commands::program;
 use crate::conflicts::{Conflict, conflict_error, conflict_in};
 use crate::corner_words::{corner_of, number_of};
-use crate::jobs::{EngineName, Job, Task, UsageFault};
+use crate::jobs::{EngineName, Job, UsageFault};
 use crate::list_words::lists_of;
 use crate::lists::Lists;
 use crate::selection_words::selection_of;
+use crate::tasks::{GraphTask, SelectionTask, Task};
 use cb_matrix::Test;
 use cb_operations::Operation;
 use cb_semirings::SemiringName;
@@ -77,20 +78,40 @@ fn listed(lists: Lists) -> &'static [&'static str]
     }
 }
 
+/// The arguments that name the files of a selection, in the order in which they are read.
+fn selected(task: SelectionTask) -> &'static [&'static str]
+    ensures { length result.now ≡ selection_file_count_of task }
+{
+    match task {
+        SelectionTask::Selected(_) => &["A"],
+        SelectionTask::Kronecker | SelectionTask::Assign(_) => &["A", "B"],
+        SelectionTask::Extract(lists) => listed(lists),
+    }
+}
+
+/// The arguments that name the files of a task on a graph, in the order in which they are read.
+fn searched(task: GraphTask) -> &'static [&'static str]
+    ensures { length result.now ≡ graph_file_count_of task }
+{
+    match task {
+        GraphTask::Levels { .. } | GraphTask::Distances { .. } | GraphTask::Parents { .. } => &[
+            "A",
+        ],
+        GraphTask::LevelsFrom | GraphTask::DistancesFrom => &["A", "s"],
+        GraphTask::LevelsGiven | GraphTask::DistancesGiven => &["A", "x"],
+        GraphTask::Components | GraphTask::Triangles | GraphTask::TriangleCounts => &["A"],
+        GraphTask::RowDegrees | GraphTask::ColumnDegrees => &["A"],
+    }
+}
+
 /// The arguments that name the files of a task, in the order in which they are read.
 fn arguments(task: Task) -> &'static [&'static str]
     ensures { length result.now ≡ file_count_of task }
 {
     match task {
-        Task::Matrix { operation, .. } => operands(operation),
-        Task::Levels { .. } | Task::Distances { .. } | Task::Parents { .. } => &["A"],
-        Task::LevelsFrom | Task::DistancesFrom => &["A", "s"],
-        Task::LevelsGiven | Task::DistancesGiven => &["A", "x"],
-        Task::Components | Task::Triangles | Task::TriangleCounts => &["A"],
-        Task::RowDegrees | Task::ColumnDegrees => &["A"],
-        Task::Selected { .. } => &["A"],
-        Task::Kronecker { .. } | Task::Assign { .. } => &["A", "B"],
-        Task::Extract { lists, .. } => listed(lists),
+        Task::Operation(operation, _) => operands(operation),
+        Task::Selection(task, _) => selected(task),
+        Task::Graph(task) => searched(task),
     }
 }
 
@@ -215,74 +236,67 @@ fn operation_of(command: &str, found: &ArgMatches<'_>) -> Option<Operation> {
 }
 
 /// The task of a command that starts from a source.
-fn walk_of(command: &str, found: &ArgMatches<'_>) -> Option<Task> {
+fn walk_of(command: &str, found: &ArgMatches<'_>) -> Option<GraphTask> {
     let source = number_of(found, "source")?;
     match command {
-        "bfs" => Some(Task::Levels { source }),
-        "relax" => Some(Task::Distances { source }),
-        "parents" => Some(Task::Parents { source }),
+        "bfs" => Some(GraphTask::Levels { source }),
+        "relax" => Some(GraphTask::Distances { source }),
+        "parents" => Some(GraphTask::Parents { source }),
         _ => None,
     }
 }
 
-/// The task of a command that selects from one matrix.
-fn selected_of(command: &str, found: &ArgMatches<'_>) -> Option<Task> {
-    let selection = selection_of(command, found)?;
-    let semiring = semiring_of(found)?;
-    Some(Task::Selected {
-        selection,
-        semiring,
-    })
+/// The task of a command on a graph.
+fn graph_task_of(command: &str, found: &ArgMatches<'_>) -> Option<GraphTask> {
+    match command {
+        "bfs" | "relax" | "parents" => walk_of(command, found),
+        "bfs-from" => Some(GraphTask::LevelsFrom),
+        "relax-from" => Some(GraphTask::DistancesFrom),
+        "bfs-given" => Some(GraphTask::LevelsGiven),
+        "relax-given" => Some(GraphTask::DistancesGiven),
+        "components" => Some(GraphTask::Components),
+        "triangles" if found.get_str("by") == Some("vertex") => Some(GraphTask::TriangleCounts),
+        "triangles" => Some(GraphTask::Triangles),
+        "degrees" if found.get_str("by") == Some("column") => Some(GraphTask::ColumnDegrees),
+        "degrees" => Some(GraphTask::RowDegrees),
+        _ => None,
+    }
 }
 
-/// The task of `kron`.
-fn kronecker_of(found: &ArgMatches<'_>) -> Option<Task> {
-    let semiring = semiring_of(found)?;
-    Some(Task::Kronecker { semiring })
-}
-
-/// The task of `assign`.
-fn assign_of(found: &ArgMatches<'_>) -> Option<Task> {
-    let corner = corner_of(found)?;
-    let semiring = semiring_of(found)?;
-    Some(Task::Assign { corner, semiring })
-}
-
-/// The task of `extract`.
-fn extract_of(found: &ArgMatches<'_>) -> Option<Task> {
-    let lists = lists_of(found)?;
-    let semiring = semiring_of(found)?;
-    Some(Task::Extract { lists, semiring })
-}
-
-/// The task of a command that is an operation on matrices.
-fn matrix_of(command: &str, found: &ArgMatches<'_>) -> Option<Task> {
-    let operation = operation_of(command, found)?;
-    let semiring = semiring_of(found)?;
-    Some(Task::Matrix {
-        operation,
-        semiring,
-    })
+/// The task of a command that selects from matrices.
+fn selection_task_of(command: &str, found: &ArgMatches<'_>) -> Option<SelectionTask> {
+    match command {
+        "kron" => Some(SelectionTask::Kronecker),
+        "assign" => Some(SelectionTask::Assign(corner_of(found)?)),
+        "extract" => Some(SelectionTask::Extract(lists_of(found)?)),
+        _ => Some(SelectionTask::Selected(selection_of(command, found)?)),
+    }
 }
 
 /// The task of a command.
 fn task_of(command: &str, found: &ArgMatches<'_>) -> Option<Task> {
     match command {
-        "bfs" | "relax" | "parents" => walk_of(command, found),
-        "bfs-from" => Some(Task::LevelsFrom),
-        "relax-from" => Some(Task::DistancesFrom),
-        "bfs-given" => Some(Task::LevelsGiven),
-        "relax-given" => Some(Task::DistancesGiven),
-        "components" => Some(Task::Components),
-        "triangles" if found.get_str("by") == Some("vertex") => Some(Task::TriangleCounts),
-        "triangles" => Some(Task::Triangles),
-        "degrees" if found.get_str("by") == Some("column") => Some(Task::ColumnDegrees),
-        "degrees" => Some(Task::RowDegrees),
-        "select" | "apply" | "diagonal" | "power" => selected_of(command, found),
-        "kron" => kronecker_of(found),
-        "assign" => assign_of(found),
-        "extract" => extract_of(found),
-        _ => matrix_of(command, found),
+        "bfs"
+        | "relax"
+        | "parents"
+        | "bfs-from"
+        | "relax-from"
+        | "bfs-given"
+        | "relax-given"
+        | "components"
+        | "triangles"
+        | "degrees" => {
+            let task = graph_task_of(command, found)?;
+            Some(Task::Graph(task))
+        }
+        "select" | "apply" | "diagonal" | "power" | "kron" | "assign" | "extract" => {
+            let task = selection_task_of(command, found)?;
+            Some(Task::Selection(task, semiring_of(found)?))
+        }
+        _ => {
+            let operation = operation_of(command, found)?;
+            Some(Task::Operation(operation, semiring_of(found)?))
+        }
     }
 }
 

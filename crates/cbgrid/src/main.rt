@@ -2,16 +2,10 @@
 //! run. `cb_cli` does the rest.
 #![tactic(auto)]
 
-use cb_cli::runs::run;
+use cb_cli::runs::Cbgrid;
 use cb_endings::endings::Status;
-use cb_endings::files::SystemFiles;
-use cb_job_texts::sinks::WriterSink;
-use cb_words::asked;
-use std::io;
+use cb_endings::system_runs::run_on_system;
 
 fn main(rt: HostRuntime) -> Status {
-    let mut out = WriterSink::new(io::writer(&rt));
-    let mut errors = WriterSink::new(rt.stderr());
-    let files = SystemFiles::new(&rt);
-    run(&rt, rt.alloc(), asked(&rt), &files, &mut out, &mut errors)
+    run_on_system::<Cbgrid, _, _>(&rt, rt.stderr())
 }

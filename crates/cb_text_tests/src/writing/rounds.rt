@@ -3,12 +3,12 @@ ghost use Rattle.std.specs.Prelude.{◌≤◌, ◌<◌};
 ghost use Rattle.cb_market.specs.declared.sheets.TheConstants.{MOST_LINES};
 
 use crate::market::pages::{EMPTY, FAR, GIVEN};
+use cb_job_texts::rounds::Round;
 use cb_layout::{DistributedMatrix, Grid};
 use cb_market::{Kind, MOST_LINES, TextPages, read_distributed, text};
 use cb_matrix::{Entry, Matrix, Shape};
 use cb_samples::are_values;
 use cb_semirings::PlusTimes;
-use cb_writing::Round;
 use std::alloc::{AllocError, Global};
 use std::thread::Threads;
 

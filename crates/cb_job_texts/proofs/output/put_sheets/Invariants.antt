@@ -1,6 +1,6 @@
 use Rattle.std.proofs.Common.{◌≡◌, take, false}
 use Rattle.std.specs.Io.KnownBytes.{Appends}
-use Rattle.cb_writing.specs.Rounds.{written_on}
+use Rattle.cb_job_texts.specs.Rounds.{written_on}
 use Rattle.cb_job_texts.proofs.output.put_sheets.Given as goal
 
 -- what was on the sheets so far is written, and nothing failed

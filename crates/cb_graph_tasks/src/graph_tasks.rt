@@ -1,0 +1,55 @@
+//! Any task on the graph of a text, or on the pattern of a matrix.
+ghost use Rattle.std.specs.Prelude.{◌≡◌, vec_len, false};
+ghost use Rattle.cb_words.specs.Jobs.{graph_file_count_of};
+ghost use Rattle.cb_graph_tasks.specs.GraphTasks.{IsGraphEnd};
+
+use crate::degree_answers::{put_column_degrees, put_row_degrees};
+use crate::graph_answers::{put_components, put_parents, put_triangle_counts, put_triangles};
+use crate::initial_values::{put_distances_given, put_levels_given};
+use crate::listed_sources::{put_distances_from, put_levels_from};
+use crate::walks::{put_distances, put_levels};
+use cb_job_texts::faults::JobFault;
+use cb_job_texts::sinks::Sink;
+use cb_words::GraphTask;
+use std::alloc::Global;
+use std::thread::Threads;
+
+/// Reads the texts of a task in order, computes the answer, and writes its text. At most `threads` threads read; the caller's
+/// thread does everything else.
+///
+/// Levels and distances from listed sources are a matrix with a column for each source, which is written page by page. Other
+/// levels and distances, parents, components, counts of triangles and degrees take one line for each vertex that has one.
+///
+/// All memory is taken before the first byte is written: at a fault other than `Output` nothing has been written. At
+/// `Output` the sink has failed, which it has in no other case, and a beginning of the text has been written.
+///
+/// The first fault in this order is returned: a text that isn't a matrix; a graph whose matrix isn't square, or a source that
+/// isn't a vertex; want of memory; `Output`. Each text is dropped once it is read, so that its memory is free for the
+/// computation.
+pub fn execute_graph_task<R: Threads + Sync, K: Sink>(
+    rt: &R,
+    alloc: Global,
+    threads: u32,
+    task: GraphTask,
+    texts: Vec<Vec<u8>>,
+    out: &mut K,
+) -> Result<(), JobFault>
+    requires texts { vec_len texts ≡ graph_file_count_of task }
+    requires works { K.has_failed out.old ≡ false }
+    ensures { IsGraphEnd task texts.items (K.written out.old) (K.written out.new) (K.has_failed out.new) result }
+{
+    match task {
+        GraphTask::Levels { source } => put_levels(rt, alloc, threads, source, texts, out),
+        GraphTask::Distances { source } => put_distances(rt, alloc, threads, source, texts, out),
+        GraphTask::LevelsFrom => put_levels_from(rt, alloc, threads, texts, out),
+        GraphTask::DistancesFrom => put_distances_from(rt, alloc, threads, texts, out),
+        GraphTask::LevelsGiven => put_levels_given(rt, alloc, threads, texts, out),
+        GraphTask::DistancesGiven => put_distances_given(rt, alloc, threads, texts, out),
+        GraphTask::Parents { source } => put_parents(rt, alloc, threads, source, texts, out),
+        GraphTask::Components => put_components(rt, alloc, threads, texts, out),
+        GraphTask::Triangles => put_triangles(rt, alloc, threads, texts, out),
+        GraphTask::TriangleCounts => put_triangle_counts(rt, alloc, threads, texts, out),
+        GraphTask::RowDegrees => put_row_degrees(rt, alloc, threads, texts, out),
+        GraphTask::ColumnDegrees => put_column_degrees(rt, alloc, threads, texts, out),
+    }
+}

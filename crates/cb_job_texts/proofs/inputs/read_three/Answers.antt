@@ -1,0 +1,24 @@
+use Rattle.std.proofs.Common.{[], ◌∷◌}
+use Rattle.std.proofs.lemmas.Result.{err_from_is_err_and}
+use Rattle.cb_job_texts.specs.Texts.{bytes_of}
+use Rattle.cb_job_texts.proofs.OperandLemmas.{three_texts}
+use Rattle.cb_job_texts.proofs.ReadFaults.{second_fault_by, third_fault_by}
+use Rattle.cb_job_texts.proofs.inputs.read_three.Goals as goal
+
+pub returns-in_err-right-clause-fault : goal.returns-in_err-right-clause-fault
+returns-in_err-right-clause-fault g c =
+    let first = c.remove-first in
+    let second = c.remove-second in
+    let third = c.remove-third in
+    let are = three_texts c.args.texts first.new.self second.new.self first.result second.result third.result c.requires first.ensures.value first.ensures.items second.ensures.value second.ensures.items third.ensures.value in
+    let p = err_from_is_err_and c.from_residual-in_err-right.result c.from_residual-in_err-right.ensures.1 in
+    rw (p.1, p.2) (second_fault_by (λ _. g.S.Semiring.arithmetic) (bytes_of c.args.texts.items) first.result.items second.result.items (third.result.items ∷ []) are (c.in_ok-left.left.matrix, c.in_ok-left.ensures.ok) c.in_err-right.field-0.0 c.in_err-right.ensures.fault)
+
+pub returns-in_err-mask-clause-fault : goal.returns-in_err-mask-clause-fault
+returns-in_err-mask-clause-fault g c =
+    let first = c.remove-first in
+    let second = c.remove-second in
+    let third = c.remove-third in
+    let are = three_texts c.args.texts first.new.self second.new.self first.result second.result third.result c.requires first.ensures.value first.ensures.items second.ensures.value second.ensures.items third.ensures.value in
+    let p = err_from_is_err_and c.from_residual-in_err-mask.result c.from_residual-in_err-mask.ensures.1 in
+    rw (p.1, p.2) (third_fault_by (λ _. g.S.Semiring.arithmetic) (bytes_of c.args.texts.items) first.result.items second.result.items third.result.items [] are (c.in_ok-left.left.matrix, c.in_ok-left.ensures.ok) (c.in_ok-right.right.matrix, c.in_ok-right.ensures.ok) c.in_err-mask.field-0.0 c.in_err-mask.ensures.fault)

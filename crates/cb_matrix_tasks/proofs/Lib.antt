@@ -1,5 +1,0 @@
-mod EndLemmas
-mod OperationFaults
-mod ProductFaults
-mod ListFaults
-mod PartFaults

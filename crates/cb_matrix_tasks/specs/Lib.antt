@@ -1,4 +1,0 @@
-pub mod Selected
-pub mod Extracts
-pub mod Assignments
-pub mod MatrixAnswers

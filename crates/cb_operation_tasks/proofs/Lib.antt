@@ -1,0 +1,2 @@
+mod OperationFaults
+mod NamedOperations

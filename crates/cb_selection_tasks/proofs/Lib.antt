@@ -1,0 +1,4 @@
+mod SelectionEnds
+mod ProductFaults
+mod ListFaults
+mod PartFaults

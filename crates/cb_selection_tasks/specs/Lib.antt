@@ -1,0 +1,4 @@
+pub mod Selected
+pub mod Extracts
+pub mod Assignments
+pub mod SelectionAnswers

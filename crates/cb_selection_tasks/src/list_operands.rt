@@ -1,0 +1,35 @@
+//! Reads a matrix and two lists, in the job's order.
+ghost use Rattle.std.specs.Prelude.{◌≡◌, vec_len, IfOk, IfErr};
+ghost use Rattle.cb_semirings.specs.Tables.{plus_times};
+ghost use Rattle.cb_job_texts.specs.Inputs.{IsFirstReadFault, arithmetic_at};
+ghost use Rattle.cb_job_texts.specs.Texts.{bytes_of};
+ghost use Rattle.cb_selection_tasks.specs.Extracts.{AreWithLists};
+
+use cb_dcsc::Block;
+use cb_job_texts::faults::JobFault;
+use cb_job_texts::inputs::read_text;
+use cb_layout::Grid;
+use cb_semirings::{PlusTimes, Semiring};
+use std::alloc::Global;
+use std::thread::Threads;
+
+/// Reads a matrix over a semiring, and two lists.
+pub fn read_with_lists<S: Semiring + Send + Sync, R: Threads + Sync>(
+    rt: &R,
+    alloc: Global,
+    threads: u32,
+    mut texts: Vec<Vec<u8>>,
+) -> Result<(Block<S>, Block<PlusTimes>, Block<PlusTimes>), JobFault>
+    requires { vec_len texts ≡ 3 }
+    ensures ok { IfOk result (λ p. AreWithLists S.arithmetic (bytes_of texts.items) p.0 p.1 p.2) }
+    ensures fault { IfErr result (IsFirstReadFault (arithmetic_at S.arithmetic plus_times) (bytes_of texts.items)) }
+{
+    let grid = Grid::single();
+    let first = texts.remove(0);
+    let second = texts.remove(0);
+    let third = texts.remove(0);
+    let matrix = read_text::<S, R>(rt, alloc, &grid, threads, 0, first)?;
+    let rows = read_text::<PlusTimes, R>(rt, alloc, &grid, threads, 1, second)?;
+    let columns = read_text::<PlusTimes, R>(rt, alloc, &grid, threads, 2, third)?;
+    Ok((matrix.into_block(), rows.into_block(), columns.into_block()))
+}

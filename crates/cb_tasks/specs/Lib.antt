@@ -1,3 +1,0 @@
-pub mod MatrixTasks
-pub mod Answers
-pub mod TaskEnds

@@ -1,2 +1,0 @@
--- Rounds: what the sheets of a round have of a text.
-pub mod Rounds
