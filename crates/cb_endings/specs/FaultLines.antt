@@ -3,7 +3,7 @@ use Rattle.std.specs.Prelude.{ℕ, List, [], ◌++◌, codes, decimal, String, s
 use Rattle.cb_job_texts.specs.declared.faults.RanksFault.{RanksFault}
 use Rattle.cb_job_texts.specs.declared.faults.JobFault.{JobFault}
 use Rattle.cb_job_texts.specs.declared.faults.JobFault.TheVariants.{Read, Refused, Unselected, Ranks, Memory, Output, Absent}
-use Rattle.cb_market.specs.Kinds.{kind_text}
+use Rattle.cb_market_lines.specs.Kinds.{kind_text}
 use Rattle.cb_operations.specs.declared.refusals.Refusal.{Refusal}
 use Rattle.cb_operations.specs.declared.refusals.Refusal.TheVariants as refusal_is
 use Rattle.cb_job_texts.specs.declared.faults.SelectionRefusal.{SelectionRefusal}

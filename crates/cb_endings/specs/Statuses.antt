@@ -1,7 +1,7 @@
 -- The exit status of a program.
 use Rattle.std.specs.Prelude.{ℕ}
-use Rattle.cb_market.specs.declared.Kind.{Kind}
-use Rattle.cb_market.specs.declared.Kind.TheVariants as kind_is
+use Rattle.cb_market_lines.specs.declared.Kind.{Kind}
+use Rattle.cb_market_lines.specs.declared.Kind.TheVariants as kind_is
 use Rattle.cb_job_texts.specs.declared.faults.JobFault.{JobFault}
 use Rattle.cb_job_texts.specs.declared.faults.JobFault.TheVariants.{Read, Refused, Unselected, Ranks, Memory, Output, Absent}
 use Rattle.cb_endings.specs.declared.endings.Status.{Status}

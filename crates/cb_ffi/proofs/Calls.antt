@@ -6,7 +6,7 @@ use Rattle.cb_interop.specs.declared.faults.Fault.TheVariants.{Text}
 use Rattle.cb_interop.specs.Refusals.{code_of}
 use Rattle.cb_interop.specs.Answers.{IsAnswer, IsLineOf, IsFaultLine}
 use Rattle.cb_ffi.specs.Calls.{IsCall, IsLine}
-use Rattle.cb_market.specs.declared.ReadFault.{ReadFault}
+use Rattle.cb_market_lines.specs.declared.ReadFault.{ReadFault}
 
 -- the result as C gets it
 pub call_of : {X : Type 0} (faults : Fault → Type 0) (is : X → Type 0) (r : Result X Fault) (code : ℕ) (old new : X) → IsAnswer faults is r

@@ -9,7 +9,7 @@ use Rattle.cb_interop.specs.Refusals.{code_of}
 use Rattle.cb_interop.specs.Answers.{IsAnswer, IsFaultLine}
 use Rattle.cb_ffi.specs.Calls.{IsLine}
 use Rattle.cb_ffi.specs.KeptCalls.{Has, HasHandedOut, IsKeptCall}
-use Rattle.cb_market.specs.declared.ReadFault.{ReadFault}
+use Rattle.cb_market_lines.specs.declared.ReadFault.{ReadFault}
 use Rattle.cb_ffi.proofs.Calls.{call_of, line_at}
 
 -- the result as C gets it: memory may be refused for the handle

@@ -3,7 +3,7 @@ use Rattle.std.specs.Prelude.{ℕ, ◌≡◌, ◌≢◌, List, [], ◌∷◌}
 use Rattle.cb_semirings.specs.Arithmetic.{Arithmetic}
 use Rattle.cb_semirings.specs.Tables.{min_plus, or_and, plus_times}
 use Rattle.cb_matrix.specs.Sparse.{Sparse, IsMatrix}
-use Rattle.cb_market.specs.Reads.{Reads}
+use Rattle.cb_market_lines.specs.Reads.{Reads}
 use Rattle.cb_market.specs.Text.{number_line, vertex_text_of, vertex_pairs_text_of}
 use Rattle.cb_operations.specs.declared.refusals.Refusal.TheVariants as refusal_is
 use Rattle.cb_operations.specs.Graphs.{HasSource, IsGraphRefusal}

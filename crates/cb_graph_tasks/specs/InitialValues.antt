@@ -3,7 +3,7 @@ use Rattle.std.specs.Prelude.{ℕ, ◌≡◌, ◌≢◌, List}
 use Rattle.cb_semirings.specs.Arithmetic.{Arithmetic}
 use Rattle.cb_semirings.specs.Tables.{min_plus}
 use Rattle.cb_matrix.specs.Sparse.{Sparse, Extent, IsMatrix}
-use Rattle.cb_market.specs.Reads.{Reads}
+use Rattle.cb_market_lines.specs.Reads.{Reads}
 use Rattle.cb_market.specs.Text.{vertex_text_of}
 use Rattle.cb_operations.specs.declared.refusals.Refusal.{Refusal}
 use Rattle.cb_operations.specs.declared.refusals.Refusal.TheVariants as refusal_is

@@ -1,7 +1,7 @@
 //! How many entries each row or column of the matrix of a text has, which one thread counts.
 ghost use Rattle.std.specs.Prelude.{◌≡◌, ◌≢◌, vec_len, false, IfOk, IfErr};
 ghost use Rattle.cb_graphs.specs.Degrees.{row_degrees, column_degrees};
-ghost use Rattle.cb_market.specs.Reads.{Reads};
+ghost use Rattle.cb_market_lines.specs.Reads.{Reads};
 ghost use Rattle.cb_semirings.specs.Tables.{or_and};
 ghost use Rattle.cb_job_texts.specs.Texts.{bytes_of, text_at};
 ghost use Rattle.cb_graph_tasks.specs.GraphAnswers.{IsDegreesFault};

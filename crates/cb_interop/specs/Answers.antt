@@ -8,8 +8,8 @@ use Rattle.cb_matrix.specs.Sparse.{Sparse, IsMatrix}
 use Rattle.cb_operations.specs.declared.operations.Operation.{Operation}
 use Rattle.cb_operations.specs.declared.operations.Operation.TheVariants.{Prune}
 use Rattle.cb_operations.specs.OperationAnswers.{answer_of}
-use Rattle.cb_market.specs.declared.ReadFault.{ReadFault}
-use Rattle.cb_market.specs.Reads.{Reads}
+use Rattle.cb_market_lines.specs.declared.ReadFault.{ReadFault}
+use Rattle.cb_market_lines.specs.Reads.{Reads}
 use Rattle.cb_market.specs.Text.{text_of}
 use Rattle.cb_searches.specs.Walks.{AreLevels, AreDistances}
 use Rattle.cb_interop.specs.declared.lists.Columns.{Columns}

@@ -5,8 +5,8 @@ use Rattle.cb_semirings.specs.declared.names.SemiringName.{SemiringName}
 use Rattle.cb_semirings.specs.Names.{arithmetic_of}
 use Rattle.cb_operations.specs.declared.operations.Operation.{Operation}
 use Rattle.cb_operations.specs.OperationAnswers.{Agree}
-use Rattle.cb_market.specs.declared.ReadFault.{ReadFault}
-use Rattle.cb_market.specs.Faults.{first_fault}
+use Rattle.cb_market_lines.specs.declared.ReadFault.{ReadFault}
+use Rattle.cb_market_lines.specs.Faults.{first_fault}
 use Rattle.cb_interop.specs.declared.lists.Columns.{Columns}
 use Rattle.cb_interop.specs.declared.faults.Fault.{Fault}
 use Rattle.cb_interop.specs.declared.faults.Fault.TheVariants.{Semiring, Grid, Test, Form, TooLarge, Lengths, Order, Place, Value, Shapes, NotSquare, Source, Text, Memory, Mixed}

@@ -1,6 +1,6 @@
 //! Matrix Market texts, to and from kept matrices.
 ghost use Rattle.cb_semirings.specs.Names.{arithmetic_of, numbered};
-ghost use Rattle.cb_market.specs.Faults.{first_fault};
+ghost use Rattle.cb_market_lines.specs.Faults.{first_fault};
 ghost use Rattle.cb_interop.specs.Refusals.{IsMemory, first_over, read_faults, text_faults};
 ghost use Rattle.cb_interop.specs.Answers.{IsAnswer, IsAnswerOver, IsFaultLine, IsTextOf};
 ghost use Rattle.cb_interop.specs.Kept.{semiring_of};

@@ -1,7 +1,7 @@
 //! Reads and writes Matrix Market texts.
 ghost use Rattle.std.specs.Prelude.{◌≡◌};
-ghost use Rattle.cb_market.specs.Faults.{first_fault};
-ghost use Rattle.cb_market.specs.Reads.{Reads};
+ghost use Rattle.cb_market_lines.specs.Faults.{first_fault};
+ghost use Rattle.cb_market_lines.specs.Reads.{Reads};
 ghost use Rattle.cb_market.specs.Text.{text_of};
 ghost use Rattle.cb_semirings.specs.Names.{numbered};
 ghost use Rattle.cb_interop.specs.Refusals.{IsMemory, first_over, read_faults};

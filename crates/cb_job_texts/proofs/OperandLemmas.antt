@@ -4,7 +4,7 @@ use Rattle.std.specs.Prelude.{Vec}
 use Rattle.std.specs.List.{remove}
 use Rattle.cb_semirings.specs.Arithmetic.{Arithmetic}
 use Rattle.cb_matrix.specs.Sparse.{Sparse}
-use Rattle.cb_market.specs.Reads.{Reads}
+use Rattle.cb_market_lines.specs.Reads.{Reads}
 use Rattle.cb_job_texts.specs.Texts.{bytes_of, text_at}
 use Rattle.cb_operations.specs.OperationAnswers.{matrix_at}
 use Rattle.cb_job_texts.specs.Inputs.{AreMatrices}

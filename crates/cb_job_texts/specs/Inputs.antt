@@ -3,8 +3,8 @@ use Rattle.std.specs.Prelude.{ℕ, ◌≡◌, ◌<◌, List, length, zero, suc}
 use Rattle.cb_semirings.specs.Arithmetic.{Arithmetic}
 use Rattle.cb_semirings.specs.Tables.{plus_times}
 use Rattle.cb_matrix.specs.Sparse.{Sparse}
-use Rattle.cb_market.specs.Faults as market
-use Rattle.cb_market.specs.Reads.{Reads}
+use Rattle.cb_market_lines.specs.Faults as market
+use Rattle.cb_market_lines.specs.Reads.{Reads}
 use Rattle.cb_operations.specs.OperationAnswers.{matrix_at}
 use Rattle.cb_job_texts.specs.Texts.{text_at}
 use Rattle.cb_job_texts.specs.declared.faults.JobFault.{JobFault}

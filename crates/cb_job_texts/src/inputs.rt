@@ -1,7 +1,7 @@
 //! Reads the texts of a job in the job's order. Each text is read in pieces, by at most `threads` threads, and dropped
 //! once it is read.
 ghost use Rattle.std.specs.Prelude.{◌≡◌, ◌∷◌, [], vec_len, IfOk, IfErr};
-ghost use Rattle.cb_market.specs.Reads.{Reads};
+ghost use Rattle.cb_market_lines.specs.Reads.{Reads};
 ghost use Rattle.cb_job_texts.specs.Inputs.{AreMatrices, IsFirstReadFault, IsReadFault, IsTextFault, arithmetic_at};
 ghost use Rattle.cb_job_texts.specs.Texts.{bytes_of, text_at};
 

@@ -11,9 +11,9 @@
 ghost use Rattle.std.specs.Prelude.{◌≡◌, ◌<◌, ◌≤◌, IsTrue, IfOk, IfErr, IfSome, length};
 ghost use Rattle.std.specs.Thread.{IsSync};
 ghost use Rattle.cb_matrix.specs.Values.{collected};
-ghost use Rattle.cb_market.specs.Checks.{is_shape};
-ghost use Rattle.cb_market.specs.Faults.{first_fault, IsAnswer, IsLineOf};
-ghost use Rattle.cb_market.specs.Reads.{Reads, IsFaultOrMatrix};
+ghost use Rattle.cb_market_lines.specs.Checks.{is_shape};
+ghost use Rattle.cb_market_lines.specs.Faults.{first_fault, IsAnswer, IsLineOf};
+ghost use Rattle.cb_market_lines.specs.Reads.{Reads, IsFaultOrMatrix};
 ghost use Rattle.cb_market.specs.Pieces.{IsPart};
 
 use cb_layout::{DistributedMatrix, Grid};

@@ -5,8 +5,8 @@ use Rattle.std.specs.Prelude.{◌==◌}
 use Rattle.std.proofs.lemmas.Bool.Decides.{nat_tests}
 use Rattle.std.proofs.lemmas.Bool.{and_from, and_parts}
 use Rattle.std.proofs.lemmas.Fmt.{decimal_by_steps}
-use Rattle.cb_market.specs.Lines.{is_blank, is_digit, all_digits, is_number, number, number_from, words, begins_blank}
-use Rattle.cb_market.specs.Cursor.{is_line_end, line_at, after_line}
+use Rattle.cb_market_lines.specs.Lines.{is_blank, is_digit, all_digits, is_number, number, number_from, words, begins_blank}
+use Rattle.cb_market_lines.specs.Cursor.{is_line_end, line_at, after_line}
 
 number_from-push : (ds : List ℕ) (n c : ℕ) → number_from n (ds ++ c ∷ []) ≡ number_from n ds * 10 + (c - 48)
 number_from-push [] n c = refl

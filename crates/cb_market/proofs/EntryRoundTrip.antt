@@ -11,13 +11,13 @@ use Rattle.cb_matrix.specs.Values.{total, values_at, collected}
 use Rattle.cb_matrix.proofs.Places.{is_at-before, is_at-parts, AllPairs-head, AllPairs-tail, IsPlaceBefore}
 use Rattle.cb_matrix.proofs.Totals.{total-one}
 use Rattle.cb_matrix.proofs.Equal.{matrix_is}
-use Rattle.cb_market.specs.declared.header.Header.{Header}
-use Rattle.cb_market.specs.declared.header.Field.TheVariants.{Integer, Pattern}
-use Rattle.cb_market.specs.declared.header.Symmetry.TheVariants.{General}
-use Rattle.cb_market.specs.Lines.{is_number, is_negative, is_digit, magnitude}
-use Rattle.cb_market.specs.Checks.{entry_fault, entry_of, value_in, is_within}
+use Rattle.cb_market_lines.specs.declared.header.Header.{Header}
+use Rattle.cb_market_lines.specs.declared.header.Field.TheVariants.{Integer, Pattern}
+use Rattle.cb_market_lines.specs.declared.header.Symmetry.TheVariants.{General}
+use Rattle.cb_market_lines.specs.Lines.{is_number, is_negative, is_digit, magnitude}
+use Rattle.cb_market_lines.specs.Checks.{entry_fault, entry_of, value_in, is_within}
 use Rattle.cb_market.proofs.Decimals.{number_decimal}
-use Rattle.cb_market.proofs.WordNumbers.{number_magnitude}
+use Rattle.cb_market_lines.proofs.WordNumbers.{number_magnitude}
 
 before_place : (e d : Entry) (i j : ℕ) → i ≡ e.row → j ≡ e.column → IsBefore e d → IsPlaceBefore i j d
 before_place e d i j p q h = ⊎_elim (λ (a : e.column < d.column). inl (omega arith)) (λ (a : (e.column ≡ d.column) × (e.row < d.row)). inr (omega arith, omega arith)) h

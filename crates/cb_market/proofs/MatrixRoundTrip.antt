@@ -8,18 +8,18 @@ use Rattle.cb_semirings.specs.Arithmetic.{Arithmetic, IsValue, IsSemiring, Reads
 use Rattle.cb_matrix.specs.declared.Entry.{Entry}
 use Rattle.cb_matrix.specs.Sparse.{Extent, Sparse, IsMatrix, IsInside}
 use Rattle.cb_matrix.specs.Values.{collected}
-use Rattle.cb_market.specs.declared.size.Size.{Size}
-use Rattle.cb_market.specs.Lines.{is_number, is_digit, is_comment, is_skipped, words, lines, kept_from, begins_blank}
-use Rattle.cb_market.specs.Cursor.{is_line_end, line_at, after_line}
-use Rattle.cb_market.specs.Checks.{header_fault, header_of, size_of, size_fault, is_shape, given_by}
-use Rattle.cb_market.specs.Faults.{first_fault, matrix_in, entries_fault, given, at_line, body_matrix}
+use Rattle.cb_market_lines.specs.declared.size.Size.{Size}
+use Rattle.cb_market_lines.specs.Lines.{is_number, is_digit, is_comment, is_skipped, words, lines, kept_from, begins_blank}
+use Rattle.cb_market_lines.specs.Cursor.{is_line_end, line_at, after_line}
+use Rattle.cb_market_lines.specs.Checks.{header_fault, header_of, size_of, size_fault, is_shape, given_by}
+use Rattle.cb_market_lines.specs.Faults.{first_fault, matrix_in, entries_fault, given, at_line, body_matrix}
 use Rattle.cb_market.specs.Text.{text_of, header_line, size_line, number_line, entry_line}
-use Rattle.cb_market.proofs.Cursor.{kept_here, kept_none}
+use Rattle.cb_market_lines.proofs.Cursor.{kept_here, kept_none}
 use Rattle.cb_market.proofs.Decimals.{number_decimal, numbers_words, numbers_after, AllSmall}
-use Rattle.cb_market.specs.Reads.{Reads}
+use Rattle.cb_market_lines.specs.Reads.{Reads}
 use Rattle.cb_market.proofs.EntryRoundTrip.{own_entries, entry_again, same_again, plain_header, entry_words, Fits}
-use Rattle.cb_market.proofs.Bodies.{first_step, matrix_step, body_is, IsText}
-use Rattle.cb_market.proofs.Law.{text_says}
+use Rattle.cb_market_lines.proofs.Bodies.{first_step, matrix_step, body_is, IsText}
+use Rattle.cb_market_lines.proofs.Law.{text_says}
 
 abbrev pub AllFit : Arithmetic → Extent → List Entry → Type 0
 AllFit s shape [] = Unit {0}

@@ -1,11 +1,4 @@
-pub mod Kinds
-pub mod Lines
-pub mod Cursor
-pub mod Checks
-pub mod Faults
-pub mod Reads
 pub mod Text
-pub mod Rows
 pub mod Room
 pub mod Gathered
 pub mod Sheets

@@ -4,12 +4,12 @@ use Rattle.cb_semirings.specs.Arithmetic.{Arithmetic}
 use Rattle.cb_matrix.specs.declared.Entry.{Entry}
 use Rattle.cb_matrix.specs.Sparse.{Extent}
 use Rattle.cb_matrix.specs.Values.{collected}
-use Rattle.cb_market.specs.declared.header.Header.{Header}
-use Rattle.cb_market.specs.declared.size.Size.{Size}
+use Rattle.cb_market_lines.specs.declared.header.Header.{Header}
+use Rattle.cb_market_lines.specs.declared.size.Size.{Size}
 use Rattle.cb_market.specs.Gathered.{AreSamePlaces}
-use Rattle.cb_market.specs.Lines.{lines, kept, kept_from}
-use Rattle.cb_market.specs.Checks.{is_shape, entry_fault, entry_of, given_by}
-use Rattle.cb_market.specs.Faults.{body_fault_from, body_matrix_from, first_fault, matrix_in, entries_fault_from, given}
+use Rattle.cb_market_lines.specs.Lines.{lines, kept, kept_from}
+use Rattle.cb_market_lines.specs.Checks.{is_shape, entry_fault, entry_of, given_by}
+use Rattle.cb_market_lines.specs.Faults.{body_fault_from, body_matrix_from, first_fault, matrix_in, entries_fault_from, given}
 
 -- no text, or one whose last byte is a line feed
 abbrev pub is_whole : List ℕ → Bool

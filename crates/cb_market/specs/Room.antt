@@ -1,10 +1,10 @@
 -- How much room is taken for entries before they are read.
 use Rattle.std.specs.Prelude.{ℕ, ◌+◌, ◌*◌, ◌/◌, min}
-use Rattle.cb_market.specs.declared.header.Header.{Header}
-use Rattle.cb_market.specs.declared.header.Field.{Field}
-use Rattle.cb_market.specs.declared.header.Field.TheVariants.{Integer, Pattern}
-use Rattle.cb_market.specs.declared.header.Symmetry.{Symmetry}
-use Rattle.cb_market.specs.declared.header.Symmetry.TheVariants.{General, Symmetric, SkewSymmetric}
+use Rattle.cb_market_lines.specs.declared.header.Header.{Header}
+use Rattle.cb_market_lines.specs.declared.header.Field.{Field}
+use Rattle.cb_market_lines.specs.declared.header.Field.TheVariants.{Integer, Pattern}
+use Rattle.cb_market_lines.specs.declared.header.Symmetry.{Symmetry}
+use Rattle.cb_market_lines.specs.declared.header.Symmetry.TheVariants.{General, Symmetric, SkewSymmetric}
 
 -- the bytes of the shortest line of an entry, `1 1 1` or `1 1` with a line feed
 abbrev pub shortest_line : Field → ℕ

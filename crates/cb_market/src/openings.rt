@@ -1,12 +1,11 @@
 //! The beginning of a text, before its entries.
 ghost use Rattle.std.specs.Prelude.{◌^◌, ◌<◌, IsTrue, IfSome};
-ghost use Rattle.cb_market.specs.Lines.{past_last};
-ghost use Rattle.cb_market.specs.Checks.{is_shape};
+ghost use Rattle.cb_market_lines.specs.Lines.{past_last};
+ghost use Rattle.cb_market_lines.specs.Checks.{is_shape};
 ghost use Rattle.cb_market.specs.Pieces.{IsBody, IsOpening};
 
-use crate::header::Header;
-use crate::scanner::Scanner;
-use crate::size::Size;
+use cb_market_lines::scanner::Scanner;
+use cb_market_lines::{Header, Size};
 use cb_semirings::Semiring;
 
 /// The header and the size of a text, the number of the line after the size line, and the bytes from that line on.
@@ -31,7 +30,7 @@ impl<'a> Opening<'a> {
             return None;
         };
         scanner.next_line();
-        let Some(size) = scanner.size_of_entries::<S>(header) else {
+        let Some(size) = size_of_entries::<S>(&mut scanner, header) else {
             return None;
         };
         Some(Opening {
@@ -43,21 +42,19 @@ impl<'a> Opening<'a> {
     }
 }
 
-impl<'a> Scanner<'a> {
-    /// Reads the size from the next line that isn't skipped, and moves to the line after it. None if there is no such
-    /// line or it has a fault.
-    fn size_of_entries<S: Semiring>(&mut self, header: Header) -> Option<Size>
-        requires { past_last self.old.line self.old.rest.now < 2 ^ 64 }
-        ensures shape { IfSome result (λ z. IsTrue (is_shape header.symmetry z.shape)) }
-        ensures body { IfSome result (λ z. IsBody S.arithmetic header self.old.line self.old.rest.now z self.new.line self.new.rest.now) }
-    {
-        let Some(first) = self.kept_line() else {
-            return None;
-        };
-        let Ok(size) = self.size_line(header, &first) else {
-            return None;
-        };
-        self.next_line();
-        Some(size)
-    }
+/// Reads the size from the next line that isn't skipped, and moves to the line after it. None if there is no such
+/// line or it has a fault.
+fn size_of_entries<S: Semiring>(scanner: &mut Scanner<'_>, header: Header) -> Option<Size>
+    requires { past_last scanner.old.line scanner.old.rest.now < 2 ^ 64 }
+    ensures shape { IfSome result (λ z. IsTrue (is_shape header.symmetry z.shape)) }
+    ensures body { IfSome result (λ z. IsBody S.arithmetic header scanner.old.line scanner.old.rest.now z scanner.new.line scanner.new.rest.now) }
+{
+    let Some(first) = scanner.kept_line() else {
+        return None;
+    };
+    let Ok(size) = scanner.size_line(header, &first) else {
+        return None;
+    };
+    scanner.next_line();
+    Some(size)
 }

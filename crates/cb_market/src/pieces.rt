@@ -5,17 +5,16 @@
 //! read to find the first.
 ghost use Rattle.std.specs.Prelude.{◌≡◌, ◌++◌, ◌+◌, ◌≤◌, true, length, IsTrue, IfOk, IfSome, OnSome};
 ghost use Rattle.cb_matrix.specs.Values.{collected};
-ghost use Rattle.cb_market.specs.Lines.{lines, kept};
-ghost use Rattle.cb_market.specs.Checks.{is_shape};
+ghost use Rattle.cb_market_lines.specs.Lines.{lines, kept};
+ghost use Rattle.cb_market_lines.specs.Checks.{is_shape};
 ghost use Rattle.cb_market.specs.Gathered.{AreSamePlaces};
 ghost use Rattle.cb_market.specs.Pieces.{joined, is_whole, AreFaultless, given_in, IsPart};
 
-use crate::entries::room_for_entries;
+use crate::entries::{remaining_entries, room_for_entries};
 use crate::gathered::Gathered;
-use crate::header::Header;
-use crate::scanner::Scanner;
-use crate::size::Size;
 use cb_layout::{DistributedMatrix, Grid};
+use cb_market_lines::scanner::Scanner;
+use cb_market_lines::{Header, Size};
 use cb_matrix::Shape;
 use cb_semirings::Semiring;
 use std::alloc::{AllocError, Global};
@@ -95,7 +94,7 @@ fn read_lines<S: Semiring>(
 {
     let announced = size.count;
     let mut scanner = Scanner::new(piece);
-    match scanner.remaining_entries::<S>(alloc, entries, header, size) {
+    match remaining_entries::<S>(&mut scanner, alloc, entries, header, size) {
         Ok(missing) => Some(announced - missing),
         Err(_) => None,
     }

@@ -1,75 +1,71 @@
 //! Reading a text.
 ghost use Rattle.std.specs.Prelude.{◌≡◌, ◌+◌, ◌^◌, ◌<◌, ◌≤◌, IfOk, IfErr, IsTrue, length, None};
-ghost use Rattle.cb_market.specs.Lines.{lines, past_last, kept_from};
+ghost use Rattle.cb_market_lines.specs.Lines.{lines, past_last, kept_from};
 ghost use Rattle.cb_matrix.specs.Values.{collected};
-ghost use Rattle.cb_market.specs.Checks.{is_shape};
-ghost use Rattle.cb_market.specs.Cursor.{after_line};
-ghost use Rattle.cb_market.specs.Faults.{entries_fault_from, given, body_fault_from, body_matrix_from, first_fault, IsAnswer, IsLineOf};
-ghost use Rattle.cb_market.specs.Reads.{Reads, IsFaultOrMatrix};
+ghost use Rattle.cb_market_lines.specs.Checks.{is_shape};
+ghost use Rattle.cb_market_lines.specs.Cursor.{after_line};
+ghost use Rattle.cb_market_lines.specs.Faults.{entries_fault_from, given, body_fault_from, body_matrix_from, first_fault, IsAnswer, IsLineOf};
+ghost use Rattle.cb_market_lines.specs.Reads.{Reads, IsFaultOrMatrix};
 
-use crate::entries::room_for_entries;
+use crate::entries::{entries_of, room_for_entries};
 use crate::gathered::Gathered;
-use crate::header::Header;
-use crate::scanner::Scanner;
-use crate::size::Size;
-use crate::{Kind, ReadFault};
 use cb_layout::{DistributedMatrix, Grid};
+use cb_market_lines::scanner::Scanner;
+use cb_market_lines::{Header, Kind, ReadFault, Size};
 use cb_matrix::Matrix;
 use cb_semirings::Semiring;
 use std::alloc::Global;
 
-impl<'a> Scanner<'a> {
-    /// Reads the size and the entries of a text, from its second line on.
-    fn body<S: Semiring>(
-        &mut self,
-        alloc: Global,
-        grid: Grid,
-        in_blocks: bool,
-        header: Header,
-    ) -> Result<Gathered<S>, ReadFault>
-        requires { past_last self.old.line self.old.rest.now < 2 ^ 64 }
-        ensures none { IfOk result (λ _. body_fault_from S.arithmetic header self.old.line self.old.rest.now ≡ None) }
-        ensures matrix { IfOk result (λ g. collected S.arithmetic g.shape g.entries ≡ body_matrix_from S.arithmetic header self.old.line self.old.rest.now) }
-        ensures side { IfOk result (λ g. g.side ≡ grid.side) }
-        ensures end { IfOk result (λ _. self.new.line ≡ past_last self.old.line self.old.rest.now) }
-        ensures fault { IfErr result (IsAnswer (body_fault_from S.arithmetic header self.old.line self.old.rest.now)) }
-        ensures place { IfErr result (IsLineOf self.old.line self.old.rest.now) }
-    {
-        let Some(first) = self.kept_line() else {
-            return Err(self.fault(Kind::BadSize));
-        };
-        let size = self.size_line(header, &first)?;
-        self.gathered(alloc, grid, in_blocks, header, size)
-    }
+/// Reads the size and the entries of a text, from its second line on.
+fn body<S: Semiring>(
+    scanner: &mut Scanner<'_>,
+    alloc: Global,
+    grid: Grid,
+    in_blocks: bool,
+    header: Header,
+) -> Result<Gathered<S>, ReadFault>
+    requires { past_last scanner.old.line scanner.old.rest.now < 2 ^ 64 }
+    ensures none { IfOk result (λ _. body_fault_from S.arithmetic header scanner.old.line scanner.old.rest.now ≡ None) }
+    ensures matrix { IfOk result (λ g. collected S.arithmetic g.shape g.entries ≡ body_matrix_from S.arithmetic header scanner.old.line scanner.old.rest.now) }
+    ensures side { IfOk result (λ g. g.side ≡ grid.side) }
+    ensures end { IfOk result (λ _. scanner.new.line ≡ past_last scanner.old.line scanner.old.rest.now) }
+    ensures fault { IfErr result (IsAnswer (body_fault_from S.arithmetic header scanner.old.line scanner.old.rest.now)) }
+    ensures place { IfErr result (IsLineOf scanner.old.line scanner.old.rest.now) }
+{
+    let Some(first) = scanner.kept_line() else {
+        return Err(scanner.fault(Kind::BadSize));
+    };
+    let size = scanner.size_line(header, &first)?;
+    after_size(scanner, alloc, grid, in_blocks, header, size)
+}
 
-    /// Reads the entries, from the end of the size line on.
-    fn gathered<S: Semiring>(
-        &mut self,
-        alloc: Global,
-        grid: Grid,
-        in_blocks: bool,
-        header: Header,
-        size: Size,
-    ) -> Result<Gathered<S>, ReadFault>
-        requires lines { past_last (self.old.line + 1) (after_line self.old.rest.now) < 2 ^ 64 }
-        requires shape { IsTrue (is_shape header.symmetry size.shape) }
-        ensures none { IfOk result (λ _. entries_fault_from S.arithmetic header size (self.old.line + 1) (after_line self.old.rest.now) ≡ None) }
-        ensures shape { IfOk result (λ g. g.shape ≡ size.shape) }
-        ensures given { IfOk result (λ g. g.entries ≡ given S.arithmetic header (kept_from (self.old.line + 1) (after_line self.old.rest.now))) }
-        ensures side { IfOk result (λ g. g.side ≡ grid.side) }
-        ensures end { IfOk result (λ _. self.new.line ≡ past_last (self.old.line + 1) (after_line self.old.rest.now)) }
-        ensures fault { IfErr result (IsAnswer (entries_fault_from S.arithmetic header size (self.old.line + 1) (after_line self.old.rest.now))) }
-        ensures place { IfErr result (λ f. (self.old.line ≤ f.line) × (f.line ≤ past_last (self.old.line + 1) (after_line self.old.rest.now))) }
-    {
-        let refused = self.fault(Kind::Memory);
-        self.next_line();
-        let room = room_for_entries(header, size.count, self.rest);
-        let Ok(mut entries) = Gathered::start(alloc, grid, size.shape, room, in_blocks) else {
-            return Err(refused);
-        };
-        self.entries::<S>(alloc, &mut entries, header, size)?;
-        Ok(entries)
-    }
+/// Reads the entries, from the end of the size line on.
+fn after_size<S: Semiring>(
+    scanner: &mut Scanner<'_>,
+    alloc: Global,
+    grid: Grid,
+    in_blocks: bool,
+    header: Header,
+    size: Size,
+) -> Result<Gathered<S>, ReadFault>
+    requires lines { past_last (scanner.old.line + 1) (after_line scanner.old.rest.now) < 2 ^ 64 }
+    requires shape { IsTrue (is_shape header.symmetry size.shape) }
+    ensures none { IfOk result (λ _. entries_fault_from S.arithmetic header size (scanner.old.line + 1) (after_line scanner.old.rest.now) ≡ None) }
+    ensures shape { IfOk result (λ g. g.shape ≡ size.shape) }
+    ensures given { IfOk result (λ g. g.entries ≡ given S.arithmetic header (kept_from (scanner.old.line + 1) (after_line scanner.old.rest.now))) }
+    ensures side { IfOk result (λ g. g.side ≡ grid.side) }
+    ensures end { IfOk result (λ _. scanner.new.line ≡ past_last (scanner.old.line + 1) (after_line scanner.old.rest.now)) }
+    ensures fault { IfErr result (IsAnswer (entries_fault_from S.arithmetic header size (scanner.old.line + 1) (after_line scanner.old.rest.now))) }
+    ensures place { IfErr result (λ f. (scanner.old.line ≤ f.line) × (f.line ≤ past_last (scanner.old.line + 1) (after_line scanner.old.rest.now))) }
+{
+    let refused = scanner.fault(Kind::Memory);
+    scanner.next_line();
+    let room = room_for_entries(header, size.count, scanner.rest);
+    let Ok(mut entries) = Gathered::start(alloc, grid, size.shape, room, in_blocks) else {
+        return Err(refused);
+    };
+    entries_of::<S>(scanner, alloc, &mut entries, header, size)?;
+    Ok(entries)
 }
 
 /// Reads the entries of a text into the blocks of a grid or into a list. Returns them and the number of the line past the
@@ -98,7 +94,7 @@ fn gathered<S: Semiring>(
         Err(kind) => return Err(ReadFault { line: 1, kind }),
     };
     scanner.next_line();
-    let entries = scanner.body::<S>(alloc, grid, in_blocks, header)?;
+    let entries = body::<S>(&mut scanner, alloc, grid, in_blocks, header)?;
     Ok((entries, scanner.line))
 }
 

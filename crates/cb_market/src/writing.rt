@@ -2,7 +2,7 @@
 ghost use Rattle.std.specs.Prelude.{◌≡◌, ◌+◌, ◌≤◌, ◌++◌, IfOk, OnOk, [], ◌∷◌, length, map, decimal, flat_map};
 ghost use Rattle.cb_semirings.specs.Tables.{min_plus};
 ghost use Rattle.cb_matrix.specs.Sparse.{IsMatrix};
-ghost use Rattle.cb_market.specs.Reads.{Reads};
+ghost use Rattle.cb_market_lines.specs.Reads.{Reads};
 ghost use Rattle.cb_market.specs.Text.{text_of, entry_line, head_of, header_line, vertex_text_of, vertex_pairs_text_of, with_value_from_one, line_of};
 
 use crate::pages::{LINE, Page, SIZE, digits};

@@ -3,7 +3,7 @@ use Rattle.std.specs.Prelude.{ℕ, ◌≡◌, ◌≢◌, ◌⊎◌, List}
 use Rattle.cb_semirings.specs.Arithmetic.{Arithmetic}
 use Rattle.cb_semirings.specs.Tables.{plus_times}
 use Rattle.cb_matrix.specs.Sparse.{Sparse}
-use Rattle.cb_market.specs.Reads.{Reads}
+use Rattle.cb_market_lines.specs.Reads.{Reads}
 use Rattle.cb_market.specs.Text.{text_of}
 use Rattle.cb_job_texts.specs.declared.faults.SelectionRefusal.TheVariants.{NotColumn, NoRow, NoColumn}
 use Rattle.cb_job_texts.specs.Texts.{text_at}

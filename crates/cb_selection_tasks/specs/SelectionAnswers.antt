@@ -2,7 +2,7 @@
 use Rattle.std.specs.Prelude.{ℕ, ◌≡◌, List, [], ◌∷◌, Bool, Option, Result, Vec}
 use Rattle.cb_semirings.specs.Arithmetic.{Arithmetic}
 use Rattle.cb_matrix.specs.Sparse.{Sparse, Extent}
-use Rattle.cb_market.specs.Reads.{Reads}
+use Rattle.cb_market_lines.specs.Reads.{Reads}
 use Rattle.cb_market.specs.Text.{text_of}
 use Rattle.cb_selections.specs.Selections.{kronecker}
 use Rattle.cb_words.specs.declared.selection_names.Selection.{Selection}

@@ -4,10 +4,10 @@ use Rattle.cb_semirings.specs.Arithmetic.{Arithmetic}
 use Rattle.cb_matrix.specs.Sparse.{Sparse}
 use Rattle.cb_matrix.specs.Values.{collected}
 use Rattle.cb_layout.specs.Distributed.{Distributed}
-use Rattle.cb_market.specs.declared.header.Header.{Header}
-use Rattle.cb_market.specs.declared.size.Size.{Size}
+use Rattle.cb_market_lines.specs.declared.header.Header.{Header}
+use Rattle.cb_market_lines.specs.declared.size.Size.{Size}
 use Rattle.cb_market.specs.Pieces.{Part, IsPart, IsOpening}
-use Rattle.cb_market.specs.Reads.{Reads}
+use Rattle.cb_market_lines.specs.Reads.{Reads}
 use Rattle.cb_market.proofs.PartedTexts.{part_reads}
 use Rattle.cb_job_texts.proofs.reading.read_in_pieces.Goals as goal
 

@@ -1,6 +1,6 @@
 use Rattle.std.proofs.Common.{rules, arith, ◌<◌, ◌^◌, length, ap}
-use Rattle.cb_market.specs.Lines.{lines}
-use Rattle.cb_market.proofs.Cursor.{lines-le}
+use Rattle.cb_market_lines.specs.Lines.{lines}
+use Rattle.cb_market_lines.proofs.Cursor.{lines-le}
 use Rattle.cb_market.proofs.pieces.read_lines.Goals as goal
 
 pub remaining_entries-requires-clause-lines : goal.remaining_entries-requires-clause-lines

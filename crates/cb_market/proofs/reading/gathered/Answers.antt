@@ -1,11 +1,11 @@
 use Rattle.std.proofs.Common.{rules, arith, ℕ, zero, suc, Bool, false, ◌==◌, ◌∙◌, ap, sym, ◌<◌, ◌≤◌, ◌≡◌, ◌+◌, length}
 use Rattle.std.proofs.lemmas.Bool.{false≢true}
 use Rattle.cb_matrix.specs.Values.{collected}
-use Rattle.cb_market.specs.Cursor.{after_line}
-use Rattle.cb_market.specs.Lines.{lines}
-use Rattle.cb_market.proofs.Bodies.{read_empty, read_header, read_fault, read_ok}
-use Rattle.cb_market.proofs.Law.{text_says}
-use Rattle.cb_market.proofs.Cursor.{lines-le, lines_more, after_line-lt}
+use Rattle.cb_market_lines.specs.Cursor.{after_line}
+use Rattle.cb_market_lines.specs.Lines.{lines}
+use Rattle.cb_market_lines.proofs.Bodies.{read_empty, read_header, read_fault, read_ok}
+use Rattle.cb_market_lines.proofs.Law.{text_says}
+use Rattle.cb_market_lines.proofs.Cursor.{lines-le, lines_more, after_line-lt}
 use Rattle.cb_market.proofs.reading.gathered.Goals as goal
 
 -- a text that isn't empty has a byte

@@ -1,5 +1,5 @@
 use Rattle.cb_matrix.specs.Values.{collected}
-use Rattle.cb_market.proofs.Law.{fault_or_matrix, end_memory}
+use Rattle.cb_market_lines.proofs.Law.{fault_or_matrix, end_memory}
 use Rattle.cb_market.proofs.reading.read_distributed.Goals as goal
 
 pub returns-in_err-entries-clause-law : goal.returns-in_err-entries-clause-law

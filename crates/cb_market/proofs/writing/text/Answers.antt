@@ -4,7 +4,7 @@ use Rattle.cb_semirings.specs.Arithmetic.{Arithmetic, IsSemiring, ReadsNumbers}
 use Rattle.cb_matrix.specs.declared.Entry.{Entry}
 use Rattle.cb_matrix.specs.Sparse.{Sparse, Extent, IsMatrix}
 use Rattle.cb_market.specs.Text.{text_of, head_of, entry_line, line_of}
-use Rattle.cb_market.specs.Reads.{Reads}
+use Rattle.cb_market_lines.specs.Reads.{Reads}
 use Rattle.cb_market.proofs.MatrixRoundTrip.{written}
 use Rattle.cb_market.proofs.writing.text.Goals as goal
 

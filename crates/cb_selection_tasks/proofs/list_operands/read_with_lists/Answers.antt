@@ -1,7 +1,7 @@
 use Rattle.std.proofs.Common.{[], ◌∷◌, sym, subst}
 use Rattle.std.proofs.lemmas.Result.{err_from_is_err_and}
 use Rattle.cb_matrix.specs.Sparse.{Sparse}
-use Rattle.cb_market.specs.Reads.{Reads}
+use Rattle.cb_market_lines.specs.Reads.{Reads}
 use Rattle.cb_semirings.specs.Tables.{plus_times}
 use Rattle.cb_job_texts.specs.Texts.{bytes_of, text_at}
 use Rattle.cb_job_texts.specs.Inputs.{arithmetic_at}

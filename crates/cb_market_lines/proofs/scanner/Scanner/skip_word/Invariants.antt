@@ -1,0 +1,9 @@
+use Rattle.std.proofs.Common.{length, ◌≡◌}
+use Rattle.cb_market_lines.specs.Cursor.{after_word}
+use Rattle.cb_market_lines.proofs.scanner.Scanner.skip_word.Given as goal
+
+abbrev pub invariant-loop-self : goal.invariant-loop-self
+invariant-loop-self l = record { rest : after_word l.self.rest.now ≡ after_word l.initial.self.rest.now; line : l.self.line ≡ l.initial.self.line }
+
+abbrev pub decreases-loop-self : goal.decreases-loop-self
+decreases-loop-self l = length l.self.rest.now

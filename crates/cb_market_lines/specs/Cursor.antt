@@ -1,0 +1,92 @@
+-- A text from a place on: what is left of a line, and the text after it.
+use Rattle.std.specs.Prelude.{◌≡◌, ℕ, ◌+◌, ◌^◌, ◌<◌, Bool, true, cond, ◌&&◌, ◌||◌, ◌==◌, nat_lt, List, [], ◌∷◌, length, Option, Some, None}
+use Rattle.cb_market_lines.specs.declared.words.Number.{Number}
+use Rattle.cb_market_lines.specs.declared.words.Number.TheVariants.{NotWhole, TooLarge, Whole}
+use Rattle.cb_market_lines.specs.Lines.{is_digit, is_number, is_blank, is_value_word, magnitude, words, kept_from}
+
+-- whether a line ends here: at the end of the text or a line feed, or at a carriage return before either
+abbrev pub is_line_end : List ℕ → Bool
+is_line_end [] = true
+is_line_end (c ∷ []) = (c == 10) || (c == 13)
+is_line_end (c ∷ d ∷ rest) = (c == 10) || ((c == 13) && (d == 10))
+
+-- what is left of a line
+abbrev pub line_at : List ℕ → List ℕ
+line_at [] = []
+line_at (c ∷ rest) = cond (is_line_end (c ∷ rest)) [] (c ∷ line_at rest)
+
+-- the words that are left of a line
+abbrev pub words_at : List ℕ → List (List ℕ)
+words_at text = words (line_at text)
+
+-- the text after a line
+abbrev pub after_line : List ℕ → List ℕ
+after_line [] = []
+after_line (c ∷ rest) = cond (c == 10) rest (after_line rest)
+
+-- The first line that isn't skipped, of a text whose first line has the number n, has the number m and begins with this
+-- word; the rest of the text is what comes after the word.
+abbrev pub IsKeptWord : ℕ → List ℕ → ℕ → List ℕ → List ℕ → Type 0
+IsKeptWord n text m word rest = kept_from n text ≡ (m, word ∷ words_at rest) ∷ kept_from (m + 1) (after_line rest)
+
+-- the next word of the line that a text begins in, and the text after it
+abbrev pub IsNextWord : List ℕ → List ℕ → List ℕ → Type 0
+IsNextWord text word rest = words_at text ≡ word ∷ words_at rest
+
+-- whether a word ends here
+abbrev pub is_word_end : List ℕ → Bool
+is_word_end [] = true
+is_word_end (c ∷ rest) = is_blank c || is_line_end (c ∷ rest)
+
+-- the digits at the front, and what comes after them
+abbrev pub front_digits : List ℕ → List ℕ
+front_digits [] = []
+front_digits (c ∷ rest) = cond (is_digit c) (c ∷ front_digits rest) []
+
+abbrev pub after_digits : List ℕ → List ℕ
+after_digits [] = []
+after_digits (c ∷ rest) = cond (is_digit c) (after_digits rest) (c ∷ rest)
+
+-- the bytes of a word at the front, and what comes after them
+abbrev pub front_word : List ℕ → List ℕ
+front_word [] = []
+front_word (c ∷ rest) = cond (is_word_end (c ∷ rest)) [] (c ∷ front_word rest)
+
+abbrev pub after_word : List ℕ → List ℕ
+after_word [] = []
+after_word (c ∷ rest) = cond (is_word_end (c ∷ rest)) (c ∷ rest) (after_word rest)
+
+abbrev pub after_blanks : List ℕ → List ℕ
+after_blanks [] = []
+after_blanks (c ∷ rest) = cond (is_blank c) (after_blanks rest) (c ∷ rest)
+
+-- a number, if it fits in 64 bits
+abbrev pub if_small : ℕ → Option ℕ
+if_small n = cond (nat_lt n (2 ^ 64)) (Some n) None
+
+-- a number of digits alone
+abbrev pub whole_number : Option ℕ → Number
+whole_number (Some n) = Whole n
+whole_number None = TooLarge
+
+-- the number that a word writes
+abbrev pub number_of : List ℕ → Number
+number_of word = cond (is_value_word word) (whole_number (if_small (magnitude word))) NotWhole
+
+-- what comes after a sign
+abbrev pub after_sign : List ℕ → List ℕ
+after_sign [] = []
+after_sign (c ∷ rest) = cond ((c == 43) || (c == 45)) rest (c ∷ rest)
+
+-- a number of digits at the front, the byte that follows it, and what comes after that byte
+pub record IsNumberBefore (text : List ℕ) (end : ℕ) (word rest : List ℕ) : Type 0 where
+  pub number : is_number word ≡ true
+  pub front : front_digits text ≡ word
+  pub after : after_digits text ≡ end ∷ rest
+
+-- a line of three words, of which the first is a number, and the text after it
+pub record IsPlainLine (text row column value rest : List ℕ) : Type 0 where
+  pub some : 0 < length text
+  pub number : is_number row ≡ true
+  pub words_are : words (line_at text) ≡ row ∷ column ∷ value ∷ []
+  pub after : after_line text ≡ rest
