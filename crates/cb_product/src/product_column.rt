@@ -5,9 +5,9 @@ ghost use Rattle.cb_dcsc.specs.Columns.{rows_of};
 ghost use Rattle.cb_semirings.specs.Arithmetic.{IsValue};
 ghost use Rattle.cb_product.specs.ColumnStarts.{Tells};
 ghost use Rattle.cb_product.specs.SparseColumn.{IsSparseColumn, IsColumnOf};
-ghost use Rattle.cb_product.specs.Terms.{IsTerm, terms_at, column_sum};
+ghost use Rattle.cb_product.specs.Terms.{IsTerm, column_sum};
 ghost use Rattle.cb_product.specs.Marks.{MarksNone};
-ghost use Rattle.cb_product.specs.Outside.{outside};
+ghost use Rattle.cb_product.specs.Outside.{outside, terms_outside};
 
 use crate::column_index::ColumnIndex;
 use crate::is_dense;
@@ -121,7 +121,7 @@ fn make_of_terms<S: Semiring>(
     requires none { MarksNone marks.old.items }
     ensures zeros { OnOk result (All (λ x. x ≡ S.arithmetic.zero) work.new.sums) }
     ensures none { OnOk result (MarksNone marks.new.items) }
-    ensures column { OnOk result (IsColumnOf S.arithmetic (outside S.arithmetic.zero excluded.now (λ i. terms_at S.arithmetic left.now i terms.now)) work.new.made) }
+    ensures column { OnOk result (IsColumnOf S.arithmetic (terms_outside S.arithmetic left.now excluded.now terms.now) work.new.made) }
 {
     if !dense || terms.len() == 1 || excluded.is_empty() {
         return work.make_outside(left, terms, excluded, dense);

@@ -11,7 +11,7 @@ ghost use Rattle.cb_product.specs.SparseColumn.{IsColumnOf, scaled_at};
 ghost use Rattle.cb_product.specs.DenseSums.{AddsToSums, ZerosStay, column_and_sum};
 ghost use Rattle.cb_product.specs.Terms.{IsTerm, terms_value};
 ghost use Rattle.cb_product.specs.Marks.{IsAccumulator};
-ghost use Rattle.cb_product.specs.Outside.{unmarked};
+ghost use Rattle.cb_product.specs.Outside.{scaled_unmarked, terms_unmarked};
 
 use crate::columns::{Column, scaled};
 use crate::marks::{is_marked, mark_row, next_marked, unmark_all};
@@ -136,7 +136,7 @@ impl<S: Semiring> SparseAccumulator<S> {
         requires room { length self.old ≤ 64 * length excluded.now }
         ensures length { length self.new ≡ length self.old }
         ensures values { All (IsValue S.arithmetic) self.new }
-        ensures sums { AddsToSums S.arithmetic (length self.old) (unmarked S.arithmetic.zero excluded.now (scaled_at S.arithmetic rows.now values.now scale)) self.old self.new }
+        ensures sums { AddsToSums S.arithmetic (length self.old) (scaled_unmarked S.arithmetic excluded.now rows.now values.now scale) self.old self.new }
     {
         let SparseAccumulator {
             sums,
@@ -162,7 +162,7 @@ impl<S: Semiring> SparseAccumulator<S> {
         requires room { length self.old ≤ 64 * length excluded.now }
         requires sums { All (IsValue S.arithmetic) self.old }
         ensures length { length self.new ≡ length self.old }
-        ensures sums { AddsToSums S.arithmetic (length self.old) (unmarked S.arithmetic.zero excluded.now (λ i. terms_value S.arithmetic rows.now values.now i terms.now)) self.old self.new }
+        ensures sums { AddsToSums S.arithmetic (length self.old) (terms_unmarked S.arithmetic excluded.now rows.now values.now terms.now) self.old self.new }
     {
         for term in terms {
             self.add_outside(
@@ -238,7 +238,7 @@ fn add_entries_outside<S: Semiring>(
     requires accumulator { IsAccumulator S.arithmetic sums.old marks.old groups.old }
     ensures accumulator { IsAccumulator S.arithmetic sums.new marks.new groups.new }
     ensures length { length sums.new ≡ length sums.old }
-    ensures sums { AddsToSums S.arithmetic (length sums.old) (unmarked S.arithmetic.zero excluded.now (scaled_at S.arithmetic rows.now values.now scale)) sums.old sums.new }
+    ensures sums { AddsToSums S.arithmetic (length sums.old) (scaled_unmarked S.arithmetic excluded.now rows.now values.now scale) sums.old sums.new }
 {
     for n in 0..rows.len() {
         let row = rows[n] as usize;

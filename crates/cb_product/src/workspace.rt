@@ -4,7 +4,7 @@ ghost use Rattle.cb_matrix.specs.Sparse.{IsMatrix};
 ghost use Rattle.cb_dcsc.specs.Columns.{rows_of};
 ghost use Rattle.cb_product.specs.SparseColumn.{AreEntries, IsColumnOf};
 ghost use Rattle.cb_product.specs.Terms.{IsTerm, terms_at, sum_with};
-ghost use Rattle.cb_product.specs.Outside.{outside, unmarked};
+ghost use Rattle.cb_product.specs.Outside.{terms_outside, unmarked};
 
 use crate::columns::Column;
 use crate::heads::merge;
@@ -87,7 +87,7 @@ impl<S: Semiring> Workspace<S> {
         requires excluded { AllPairs (λ i j. i < j) excluded.now }
         requires zeros { All (λ x. x ≡ S.arithmetic.zero) self.old.sums }
         ensures zeros { OnOk result (All (λ x. x ≡ S.arithmetic.zero) self.new.sums) }
-        ensures column { OnOk result (IsColumnOf S.arithmetic (outside S.arithmetic.zero excluded.now (λ i. terms_at S.arithmetic left.now i terms.now)) self.new.made) }
+        ensures column { OnOk result (IsColumnOf S.arithmetic (terms_outside S.arithmetic left.now excluded.now terms.now) self.new.made) }
     {
         self.make(left, terms, &[], &[], dense)?;
         if excluded.is_empty() {
