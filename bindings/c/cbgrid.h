@@ -485,14 +485,14 @@ int cbgrid_matrix_column_degrees(const struct cbgrid_matrix *a, struct cbgrid_ma
 int cbgrid_matrix_reduce_all(const struct cbgrid_matrix *a, uint64_t *out);
 
 /* Do what cbgrid_levels does in a graph over OR_AND, and cbgrid_distances in a graph over MIN_PLUS; CBGRID_MIXED if the
- * graph is over another semiring. The result is over MIN_PLUS. Each call copies and transposes the graph. */
+ * graph is over another semiring. The result is over MIN_PLUS. Each call transposes the graph. */
 int cbgrid_matrix_levels(const struct cbgrid_matrix *a, uint32_t source, struct cbgrid_matrix **out);
 int cbgrid_matrix_distances(const struct cbgrid_matrix *a, uint32_t source, struct cbgrid_matrix **out);
 
 /* The same from each of `count` sources, in any order, with repetitions: column j of the result is that of sources[j].
  * CBGRID_MIXED, then CBGRID_NOT_SQUARE, then CBGRID_TOO_LARGE if there are more than CBGRID_LIMIT sources, then
- * CBGRID_SOURCE if one of them isn't a vertex. With a count of 0, `sources` may be a null pointer. Copies and
- * transposes the graph once for all sources, and then searches from each. */
+ * CBGRID_SOURCE if one of them isn't a vertex. With a count of 0, `sources` may be a null pointer.
+ * Transposes the graph once for all sources, and then searches from each. */
 int cbgrid_matrix_levels_from(const struct cbgrid_matrix *a, const uint32_t *sources, size_t count,
                               struct cbgrid_matrix **out);
 int cbgrid_matrix_distances_from(const struct cbgrid_matrix *a, const uint32_t *sources, size_t count,
@@ -502,7 +502,7 @@ int cbgrid_matrix_distances_from(const struct cbgrid_matrix *a, const uint32_t *
  * u. The result has for each vertex the least sum of an initial value and the level or distance from its vertex, over
  * all vertices that have an initial value; sums stop at 2^64 - 1, which isn't stored. CBGRID_MIXED, then
  * CBGRID_NOT_SQUARE, as above; then CBGRID_MIXED if `given` isn't over MIN_PLUS, then CBGRID_SHAPES if it isn't a column
- * with a place for each vertex. Transposes the graph, and then searches once. */
+ * with a place for each vertex. Copies `given`, transposes the graph, and then searches once. */
 int cbgrid_matrix_levels_given(const struct cbgrid_matrix *a, const struct cbgrid_matrix *given,
                                struct cbgrid_matrix **out);
 int cbgrid_matrix_distances_given(const struct cbgrid_matrix *a, const struct cbgrid_matrix *given,

@@ -4,7 +4,7 @@ use Rattle.std.specs.Borrow.{MutBor}
 use Rattle.cb_semirings.specs.Names.{arithmetic_of, numbered}
 use Rattle.cb_semirings.specs.Arithmetic.{Arithmetic}
 use Rattle.cb_semirings.specs.declared.names.SemiringName.{SemiringName}
-use Rattle.cb_semirings.specs.declared.names.SemiringName.TheVariants as name_is
+use Rattle.cb_matrix.specs.Sparse.{Sparse}
 use Rattle.cb_operations.specs.declared.operations.Operation.{Operation}
 use Rattle.cb_interop.specs.declared.lists.Columns.{Columns}
 use Rattle.cb_interop.specs.declared.triples.Triple.{Triple}
@@ -26,7 +26,7 @@ use Rattle.cb_interop.specs.KeptProducts.{outside_faults, IsKeptOutside}
 use Rattle.cb_shares.specs.Shares.{AreEnds}
 use Rattle.cb_interop.specs.declared.kept_masked_panels.Allowed.{Allowed}
 use Rattle.cb_interop.specs.KeptPanels.{factor_faults, join_faults, IsKeptJoin, IsKeptMaskedPanel, IsKeptPanel}
-use Rattle.cb_interop.specs.KeptGraphs.{searches_faults, given_faults, IsKeptLevelsFrom, IsKeptDistancesFrom, IsKeptLevelsGiven, IsKeptDistancesGiven}
+use Rattle.cb_interop.specs.KeptGraphs.{searches_faults, given_faults, IsKeptColumn}
 use Rattle.cb_interop.specs.Triples.{triple_faults, IsKeptTriples}
 use Rattle.cb_interop.specs.KeptTexts.{IsKeptRead}
 use Rattle.cb_ffi.specs.declared.handles.Owned.{Owned}
@@ -71,20 +71,13 @@ IsOutsideCall a b mask code old new = IsKeptCall (outside_faults a b mask) (IsKe
 unfoldable pub IsDegreesCall : Axis → Kept → ℕ → Owned → Owned → Type 0
 IsDegreesCall axis k code old new = IsKeptCall IsMemory (IsKeptDegrees axis k) code old new
 
--- the same of searches from several sources in a kept graph
-unfoldable pub IsLevelsCall : List ℕ → Kept → ℕ → Owned → Owned → Type 0
-IsLevelsCall sources k code old new = IsKeptCall (searches_faults name_is.OrAnd k sources) (IsKeptLevelsFrom (matrix_in k) sources) code old new
+-- the same of a search from several sources in a kept graph, over a semiring and its name, and from initial values
+unfoldable pub IsNumbersFromCall : SemiringName → (Sparse → List ℕ → Sparse → Type 0) → List ℕ → Kept → ℕ → Owned → Owned → Type 0
+IsNumbersFromCall name are sources k code old new = IsKeptCall (searches_faults name k sources) (IsKeptColumn (are (matrix_in k) sources)) code old new
 
-unfoldable pub IsDistancesCall : List ℕ → Kept → ℕ → Owned → Owned → Type 0
-IsDistancesCall sources k code old new = IsKeptCall (searches_faults name_is.MinPlus k sources) (IsKeptDistancesFrom (matrix_in k) sources) code old new
-
--- the same of searches from initial values in a kept graph
-unfoldable pub IsLevelsGivenCall : Kept → Kept → ℕ → Owned → Owned → Type 0
-IsLevelsGivenCall k given code old new = IsKeptCall (given_faults name_is.OrAnd k given) (IsKeptLevelsGiven (matrix_in k) (matrix_in given)) code old new
-
-unfoldable pub IsDistancesGivenCall : Kept → Kept → ℕ → Owned → Owned → Type 0
-IsDistancesGivenCall k given code old new =
-    IsKeptCall (given_faults name_is.MinPlus k given) (IsKeptDistancesGiven (matrix_in k) (matrix_in given)) code old new
+unfoldable pub IsNumbersGivenCall : SemiringName → (Sparse → Sparse → Sparse → Type 0) → Kept → Kept → ℕ → Owned → Owned → Type 0
+IsNumbersGivenCall name are k given code old new =
+    IsKeptCall (given_faults name k given) (IsKeptColumn (are (matrix_in k) (matrix_in given))) code old new
 
 -- C owns this kept matrix; or memory for it was refused, and C has what it had
 abbrev pub HasHandedOut : ℕ → Owned → Owned → Kept → Type 0

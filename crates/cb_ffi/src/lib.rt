@@ -27,13 +27,16 @@ ghost use Rattle.cb_matrix.specs.Sparse.{at};
 ghost use Rattle.cb_operations.specs.declared.operations.Operation.TheVariants as operation_is;
 ghost use Rattle.cb_operations.specs.OperationAnswers.{operand_count_of};
 ghost use Rattle.cb_serial.specs.Lent.{lent_in};
+ghost use Rattle.cb_searches.specs.Walks.{AreDistances, AreLevels};
+ghost use Rattle.cb_searches.specs.SeveralSources.{AreDistancesFrom, AreLevelsFrom};
+ghost use Rattle.cb_searches.specs.GivenNumbers.{AreDistancesGiven, AreLevelsGiven};
 ghost use Rattle.cb_graphs.specs.Triangles.{triangle_count, stopped};
 ghost use Rattle.cb_interop.specs.Lists.{HasLists};
 ghost use Rattle.cb_interop.specs.Refusals.{code_of, IsMemory, first_over, graph_faults, read_faults, text_faults};
-ghost use Rattle.cb_interop.specs.Answers.{prune_of, HasDistances, HasLevels, IsRead, IsTextOf};
+ghost use Rattle.cb_interop.specs.Answers.{prune_of, HasNumbers, IsRead, IsTextOf};
 ghost use Rattle.cb_interop.specs.Kept.{matrix_in, semiring_of};
 ghost use Rattle.cb_interop.specs.KeptAnswers.{IsSummary};
-ghost use Rattle.cb_interop.specs.KeptGraphs.{search_faults, square_faults, IsKeptComponents, IsKeptDistances, IsKeptLevels, IsKeptParents};
+ghost use Rattle.cb_interop.specs.KeptGraphs.{search_faults, square_faults, IsKeptColumn, IsKeptComponents, IsKeptParents};
 ghost use Rattle.cb_reductions.specs.Sums.{matrix_total};
 ghost use Rattle.cb_interop.specs.declared.pairings.Pairing.TheVariants as pairing_is;
 ghost use Rattle.cb_interop.specs.declared.selections.Selection.TheVariants as selection_is;
@@ -43,21 +46,21 @@ ghost use Rattle.cb_interop.specs.declared.axes.Axis.TheVariants as axis_is;
 ghost use Rattle.cb_interop.specs.declared.kept_masked_panels.Allowed.TheVariants as allowed_is;
 ghost use Rattle.cb_interop.specs.KeptTexts.{IsKeptText};
 ghost use Rattle.cb_ffi.specs.Calls.{IsCall, IsCallOver, IsLine, IsOperationCall};
-ghost use Rattle.cb_ffi.specs.KeptCalls.{HasHandedOut, IsDegreesCall, IsDistancesCall, IsDistancesGivenCall, IsEndsCall, IsExtractCall, IsJoinCall, IsKeepCall, IsKeptCall, IsKeptOperation, IsLevelsCall, IsLevelsGivenCall, IsMaskedPanelCall, IsOutsideCall, IsOwnedJoinCall, IsPairCall, IsPanelCall, IsReadCall, IsSelectionCall, IsTriplesCall, IsUpdateCall};
+ghost use Rattle.cb_ffi.specs.KeptCalls.{HasHandedOut, IsDegreesCall, IsEndsCall, IsExtractCall, IsJoinCall, IsKeepCall, IsKeptCall, IsKeptOperation, IsMaskedPanelCall, IsNumbersFromCall, IsNumbersGivenCall, IsOutsideCall, IsOwnedJoinCall, IsPairCall, IsPanelCall, IsReadCall, IsSelectionCall, IsTriplesCall, IsUpdateCall};
 
 mod handles;
 
 use cb_interop::{
     Allowed, Axis, Columns, Fault, Kept, Pairing, Selection, Summary, Text, Triple, answer,
-    distances, function_of, keep_lists, keep_triples, kept_components, kept_degrees,
-    kept_distances, kept_distances_from, kept_distances_given, kept_ends, kept_extract, kept_join,
-    kept_levels, kept_levels_from, kept_levels_given, kept_masked_panel, kept_outside, kept_pair,
-    kept_panel, kept_parents, kept_selection, kept_total, kept_triangles, kept_update, levels,
-    lists_of, operate, prune_of, read_kept, read_lists, region_of, summary_of, text_of,
-    text_of_lists, value_at, write_back_of,
+    function_of, keep_lists, keep_triples, kept_components, kept_degrees, kept_ends, kept_extract,
+    kept_join, kept_masked_panel, kept_numbers, kept_numbers_from, kept_numbers_given,
+    kept_outside, kept_pair, kept_panel, kept_parents, kept_selection, kept_total, kept_triangles,
+    kept_update, lists_of, numbers, operate, prune_of, read_kept, read_lists, region_of,
+    summary_of, text_of, text_of_lists, value_at, write_back_of,
 };
 use cb_operations::Operation;
 use cb_selections::WriteBack;
+use cb_semirings::{MinPlus, OrAnd};
 pub use handles::{Lent, Owned};
 use handles::{borrowed, hand_out, take_back};
 use std::alloc::Global;
@@ -382,9 +385,9 @@ pub extern "C" fn cbgrid_kernel_levels(
     source: u32,
     out: &mut Columns,
 ) -> u32
-    ensures { IsCall (graph_faults or_and grid graph.now source) (HasLevels graph.now source) result out.old out.new }
+    ensures { IsCall (graph_faults or_and grid graph.now source) (HasNumbers or_and AreLevels graph.now source) result out.old out.new }
 {
-    put(out, levels(alloc, grid, graph, source))
+    put(out, numbers::<OrAnd>(alloc, grid, graph, source))
 }
 
 /// Shortest paths: the least sum of edge lengths from a source to each vertex of a graph. Like [`cbgrid_kernel_levels`], but
@@ -398,9 +401,9 @@ pub extern "C" fn cbgrid_kernel_distances(
     source: u32,
     out: &mut Columns,
 ) -> u32
-    ensures { IsCall (graph_faults min_plus grid graph.now source) (HasDistances graph.now source) result out.old out.new }
+    ensures { IsCall (graph_faults min_plus grid graph.now source) (HasNumbers min_plus AreDistances graph.now source) result out.old out.new }
 {
-    put(out, distances(alloc, grid, graph, source))
+    put(out, numbers::<MinPlus>(alloc, grid, graph, source))
 }
 
 /// Reads the matrix of a Matrix Market text. If the text has a fault (code 13), `line` gets its line, counted from 1;
@@ -758,7 +761,7 @@ pub extern "C" fn cbgrid_kernel_kept_total(a: Lent) -> u64
     kept_total(borrowed(a))
 }
 
-/// The column of levels from a source, over min-plus, in a graph that is kept over or-and. Copies the graph once.
+/// The column of levels from a source, over min-plus, in a graph that is kept over or-and. Transposes the graph.
 #[unsafe(no_mangle)]
 pub extern "C" fn cbgrid_kernel_kept_levels(
     alloc: Global,
@@ -766,13 +769,13 @@ pub extern "C" fn cbgrid_kernel_kept_levels(
     source: u32,
     out: &mut Owned,
 ) -> u32
-    ensures { IsKeptCall (search_faults name_is.OrAnd a.kept.now source) (IsKeptLevels (matrix_in a.kept.now) source) result out.old out.new }
+    ensures { IsKeptCall (search_faults name_is.OrAnd a.kept.now source) (IsKeptColumn (AreLevels (matrix_in a.kept.now) source)) result out.old out.new }
 {
-    let answer = kept_levels(alloc, borrowed(a), source);
+    let answer = kept_numbers::<OrAnd>(alloc, borrowed(a), source);
     put_kept(alloc, out, answer)
 }
 
-/// The column of distances from a source, in a graph that is kept over min-plus. Copies the graph once.
+/// The column of distances from a source, in a graph that is kept over min-plus. Transposes the graph.
 #[unsafe(no_mangle)]
 pub extern "C" fn cbgrid_kernel_kept_distances(
     alloc: Global,
@@ -780,14 +783,14 @@ pub extern "C" fn cbgrid_kernel_kept_distances(
     source: u32,
     out: &mut Owned,
 ) -> u32
-    ensures { IsKeptCall (search_faults name_is.MinPlus a.kept.now source) (IsKeptDistances (matrix_in a.kept.now) source) result out.old out.new }
+    ensures { IsKeptCall (search_faults name_is.MinPlus a.kept.now source) (IsKeptColumn (AreDistances (matrix_in a.kept.now) source)) result out.old out.new }
 {
-    let answer = kept_distances(alloc, borrowed(a), source);
+    let answer = kept_numbers::<MinPlus>(alloc, borrowed(a), source);
     put_kept(alloc, out, answer)
 }
 
-/// The levels from several sources, a column over min-plus for each, in a graph that is kept over or-and. Copies and
-/// transposes the graph once for all sources.
+/// The levels from several sources, a column over min-plus for each, in a graph that is kept over or-and. Transposes
+/// the graph once for all sources.
 #[unsafe(no_mangle)]
 pub extern "C" fn cbgrid_kernel_kept_levels_from(
     alloc: Global,
@@ -795,14 +798,14 @@ pub extern "C" fn cbgrid_kernel_kept_levels_from(
     sources: &[u32],
     out: &mut Owned,
 ) -> u32
-    ensures { IsLevelsCall sources.now a.kept.now result out.old out.new }
+    ensures { IsNumbersFromCall name_is.OrAnd AreLevelsFrom sources.now a.kept.now result out.old out.new }
 {
-    let answer = kept_levels_from(alloc, borrowed(a), sources);
+    let answer = kept_numbers_from::<OrAnd>(alloc, borrowed(a), sources);
     put_kept(alloc, out, answer)
 }
 
-/// The distances from several sources, a column for each, in a graph that is kept over min-plus. Copies and transposes the
-/// graph once for all sources.
+/// The distances from several sources, a column for each, in a graph that is kept over min-plus. Transposes the graph
+/// once for all sources.
 #[unsafe(no_mangle)]
 pub extern "C" fn cbgrid_kernel_kept_distances_from(
     alloc: Global,
@@ -810,9 +813,9 @@ pub extern "C" fn cbgrid_kernel_kept_distances_from(
     sources: &[u32],
     out: &mut Owned,
 ) -> u32
-    ensures { IsDistancesCall sources.now a.kept.now result out.old out.new }
+    ensures { IsNumbersFromCall name_is.MinPlus AreDistancesFrom sources.now a.kept.now result out.old out.new }
 {
-    let answer = kept_distances_from(alloc, borrowed(a), sources);
+    let answer = kept_numbers_from::<MinPlus>(alloc, borrowed(a), sources);
     put_kept(alloc, out, answer)
 }
 
@@ -825,9 +828,9 @@ pub extern "C" fn cbgrid_kernel_kept_levels_given(
     given: Lent,
     out: &mut Owned,
 ) -> u32
-    ensures { IsLevelsGivenCall a.kept.now given.kept.now result out.old out.new }
+    ensures { IsNumbersGivenCall name_is.OrAnd AreLevelsGiven a.kept.now given.kept.now result out.old out.new }
 {
-    let answer = kept_levels_given(alloc, borrowed(a), borrowed(given));
+    let answer = kept_numbers_given::<OrAnd>(alloc, borrowed(a), borrowed(given));
     put_kept(alloc, out, answer)
 }
 
@@ -840,9 +843,9 @@ pub extern "C" fn cbgrid_kernel_kept_distances_given(
     given: Lent,
     out: &mut Owned,
 ) -> u32
-    ensures { IsDistancesGivenCall a.kept.now given.kept.now result out.old out.new }
+    ensures { IsNumbersGivenCall name_is.MinPlus AreDistancesGiven a.kept.now given.kept.now result out.old out.new }
 {
-    let answer = kept_distances_given(alloc, borrowed(a), borrowed(given));
+    let answer = kept_numbers_given::<MinPlus>(alloc, borrowed(a), borrowed(given));
     put_kept(alloc, out, answer)
 }
 

@@ -5,11 +5,12 @@ ghost use Rattle.cb_graph_tasks.specs.GraphTasks.{IsGraphEnd};
 
 use crate::degree_answers::{put_column_degrees, put_row_degrees};
 use crate::graph_answers::{put_components, put_parents, put_triangle_counts, put_triangles};
-use crate::initial_values::{put_distances_given, put_levels_given};
-use crate::listed_sources::{put_distances_from, put_levels_from};
-use crate::walks::{put_distances, put_levels};
+use crate::initial_values::put_numbers_given;
+use crate::listed_sources::put_numbers_from;
+use crate::walks::put_numbers;
 use cb_job_texts::faults::JobFault;
 use cb_job_texts::sinks::Sink;
+use cb_semirings::{MinPlus, OrAnd};
 use cb_words::GraphTask;
 use std::alloc::Global;
 use std::thread::Threads;
@@ -39,12 +40,20 @@ pub fn execute_graph_task<R: Threads + Sync, K: Sink>(
     ensures { IsGraphEnd task texts.items (K.written out.old) (K.written out.new) (K.has_failed out.new) result }
 {
     match task {
-        GraphTask::Levels { source } => put_levels(rt, alloc, threads, source, texts, out),
-        GraphTask::Distances { source } => put_distances(rt, alloc, threads, source, texts, out),
-        GraphTask::LevelsFrom => put_levels_from(rt, alloc, threads, texts, out),
-        GraphTask::DistancesFrom => put_distances_from(rt, alloc, threads, texts, out),
-        GraphTask::LevelsGiven => put_levels_given(rt, alloc, threads, texts, out),
-        GraphTask::DistancesGiven => put_distances_given(rt, alloc, threads, texts, out),
+        GraphTask::Levels { source } => {
+            put_numbers::<OrAnd, _, _>(rt, alloc, threads, source, texts, out)
+        }
+        GraphTask::Distances { source } => {
+            put_numbers::<MinPlus, _, _>(rt, alloc, threads, source, texts, out)
+        }
+        GraphTask::LevelsFrom => put_numbers_from::<OrAnd, _, _>(rt, alloc, threads, texts, out),
+        GraphTask::DistancesFrom => {
+            put_numbers_from::<MinPlus, _, _>(rt, alloc, threads, texts, out)
+        }
+        GraphTask::LevelsGiven => put_numbers_given::<OrAnd, _, _>(rt, alloc, threads, texts, out),
+        GraphTask::DistancesGiven => {
+            put_numbers_given::<MinPlus, _, _>(rt, alloc, threads, texts, out)
+        }
         GraphTask::Parents { source } => put_parents(rt, alloc, threads, source, texts, out),
         GraphTask::Components => put_components(rt, alloc, threads, texts, out),
         GraphTask::Triangles => put_triangles(rt, alloc, threads, texts, out),

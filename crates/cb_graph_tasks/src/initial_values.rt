@@ -1,8 +1,6 @@
 //! Levels and distances from initial values of some vertices: a column in a text of its own has them. The caller's
 //! thread computes them.
 ghost use Rattle.std.specs.Prelude.{◌≡◌, ◌≢◌, vec_len, false, IfOk, IfErr, OnOk};
-ghost use Rattle.cb_searches.specs.GivenNumbers.{AreDistancesGiven, AreLevelsGiven};
-ghost use Rattle.cb_semirings.specs.Tables.{min_plus, or_and};
 ghost use Rattle.cb_job_texts.specs.Texts.{bytes_of};
 ghost use Rattle.cb_graph_tasks.specs.InitialValues.{IsGivenFault, IsGivenOf, IsGraphWithNumbers, IsNumbersRefusal, IsPlaceForEach};
 ghost use Rattle.cb_graph_tasks.specs.GraphEnds.{IsGivenEnd};
@@ -14,8 +12,8 @@ use cb_job_texts::inputs::read_pair;
 use cb_job_texts::sinks::Sink;
 use cb_matrix::{Matrix, Shape};
 use cb_operations::Refusal;
-use cb_searches::{as_matrix, column_shape, distances_given, levels_given};
-use cb_semirings::{MinPlus, OrAnd, Semiring};
+use cb_searches::{Walks, as_matrix, column_shape};
+use cb_semirings::{MinPlus, Semiring};
 use std::alloc::Global;
 use std::thread::Threads;
 
@@ -51,42 +49,27 @@ fn graph_with_numbers<S: Semiring + Send + Sync, R: Threads + Sync>(
     Ok((graph, given))
 }
 
-/// Reads a graph and initial values, and computes the levels from these.
-fn level_column<R: Threads + Sync>(
+/// Reads a graph and initial values, and computes the numbers of the vertices from these.
+fn column_given<S: Walks + Send + Sync, R: Threads + Sync>(
     rt: &R,
     alloc: Global,
     threads: u32,
     texts: Vec<Vec<u8>>,
 ) -> Result<Matrix<MinPlus>, JobFault>
     requires { vec_len texts ≡ 2 }
-    ensures ok { IfOk result (IsGivenOf AreLevelsGiven or_and (bytes_of texts.items)) }
-    ensures fault { IfErr result (IsGivenFault or_and (bytes_of texts.items)) }
+    ensures ok { IfOk result (IsGivenOf S.are_given S.arithmetic (bytes_of texts.items)) }
+    ensures column { IfOk result (λ column. column.shape.cols ≡ 1) }
+    ensures fault { IfErr result (IsGivenFault S.arithmetic (bytes_of texts.items)) }
     ensures unwritten { IfErr result (λ f. f ≢ JobFault.Output) }
 {
-    let (graph, given) = graph_with_numbers::<OrAnd, R>(rt, alloc, threads, texts)?;
-    let column = levels_given(alloc, &graph, &given)?;
+    let (graph, given) = graph_with_numbers::<S, R>(rt, alloc, threads, texts)?;
+    let column = S::numbers_given(alloc, &graph, &given)?;
     Ok(column)
 }
 
-/// Reads a graph and initial values, and computes the distances from these.
-fn distance_column<R: Threads + Sync>(
-    rt: &R,
-    alloc: Global,
-    threads: u32,
-    texts: Vec<Vec<u8>>,
-) -> Result<Matrix<MinPlus>, JobFault>
-    requires { vec_len texts ≡ 2 }
-    ensures ok { IfOk result (IsGivenOf AreDistancesGiven min_plus (bytes_of texts.items)) }
-    ensures fault { IfErr result (IsGivenFault min_plus (bytes_of texts.items)) }
-    ensures unwritten { IfErr result (λ f. f ≢ JobFault.Output) }
-{
-    let (graph, given) = graph_with_numbers::<MinPlus, R>(rt, alloc, threads, texts)?;
-    let column = distances_given(alloc, &graph, &given)?;
-    Ok(column)
-}
-
-/// Writes the level of each vertex that can be reached from initial values.
-pub fn put_levels_given<R: Threads + Sync, K: Sink>(
+/// Writes the number of each vertex that can be reached from initial values, except infinite ones: levels over or-and,
+/// distances over min-plus.
+pub fn put_numbers_given<S: Walks + Send + Sync, R: Threads + Sync, K: Sink>(
     rt: &R,
     alloc: Global,
     threads: u32,
@@ -95,24 +78,8 @@ pub fn put_levels_given<R: Threads + Sync, K: Sink>(
 ) -> Result<(), JobFault>
     requires texts { vec_len texts ≡ 2 }
     requires works { K.has_failed out.old ≡ false }
-    ensures { IsGivenEnd AreLevelsGiven or_and texts.items (K.written out.old) (K.written out.new) (K.has_failed out.new) result }
+    ensures { IsGivenEnd S.are_given S.arithmetic texts.items (K.written out.old) (K.written out.new) (K.has_failed out.new) result }
 {
-    let column = level_column(rt, alloc, threads, texts)?;
-    put_column(alloc, &column, out)
-}
-
-/// Writes the distance of each vertex from initial values, except infinite ones.
-pub fn put_distances_given<R: Threads + Sync, K: Sink>(
-    rt: &R,
-    alloc: Global,
-    threads: u32,
-    texts: Vec<Vec<u8>>,
-    out: &mut K,
-) -> Result<(), JobFault>
-    requires texts { vec_len texts ≡ 2 }
-    requires works { K.has_failed out.old ≡ false }
-    ensures { IsGivenEnd AreDistancesGiven min_plus texts.items (K.written out.old) (K.written out.new) (K.has_failed out.new) result }
-{
-    let column = distance_column(rt, alloc, threads, texts)?;
+    let column = column_given::<S, R>(rt, alloc, threads, texts)?;
     put_column(alloc, &column, out)
 }

@@ -1,8 +1,6 @@
 //! Levels and distances from several sources, which are listed in a text. The caller's thread computes them.
 ghost use Rattle.std.specs.Prelude.{◌≡◌, ◌≢◌, ◌<◌, ◌≤◌, vec_len, length, All, false, IfOk, IfErr, OnOk};
 ghost use Rattle.cb_matrix.specs.declared.TheConstants.{LIMIT};
-ghost use Rattle.cb_searches.specs.SeveralSources.{AreDistancesFrom, AreLevelsFrom};
-ghost use Rattle.cb_semirings.specs.Tables.{min_plus, or_and};
 ghost use Rattle.cb_job_texts.specs.Texts.{bytes_of};
 ghost use Rattle.cb_job_texts.specs.Lists.{numbers_in};
 ghost use Rattle.cb_graph_tasks.specs.ListedSources.{AreSources, AreSourcesRefused, IsGraphWithSources, IsSourcesFault, IsWalksFault, IsWalksOf};
@@ -17,8 +15,8 @@ use cb_job_texts::sinks::Sink;
 use cb_layout::PanelledMatrix;
 use cb_matrix::{Matrix, Shape};
 use cb_operations::Refusal;
-use cb_searches::{distances_from, levels_from};
-use cb_semirings::{MinPlus, OrAnd, PlusTimes, Semiring};
+use cb_searches::Walks;
+use cb_semirings::{MinPlus, PlusTimes, Semiring};
 use std::alloc::{AllocError, Global};
 use std::thread::Threads;
 
@@ -80,44 +78,26 @@ fn panelled(alloc: Global, matrix: Matrix<MinPlus>) -> Result<PanelledMatrix<Min
     PanelledMatrix::from_block(alloc, block)
 }
 
-/// Reads a graph and sources, and computes the levels from each source, a column for each.
-fn level_columns<R: Threads + Sync>(
+/// Reads a graph and sources, and computes the numbers of the vertices from each source, a column for each.
+fn columns_from<S: Walks + Send + Sync, R: Threads + Sync>(
     rt: &R,
     alloc: Global,
     threads: u32,
     texts: Vec<Vec<u8>>,
 ) -> Result<PanelledMatrix<MinPlus>, JobFault>
     requires { vec_len texts ≡ 2 }
-    ensures ok { IfOk result (IsWalksOf AreLevelsFrom or_and (bytes_of texts.items)) }
-    ensures fault { IfErr result (IsWalksFault or_and (bytes_of texts.items)) }
+    ensures ok { IfOk result (IsWalksOf S.are_from S.arithmetic (bytes_of texts.items)) }
+    ensures fault { IfErr result (IsWalksFault S.arithmetic (bytes_of texts.items)) }
     ensures unwritten { IfErr result (λ f. f ≢ JobFault.Output) }
 {
-    let (graph, sources) = graph_with_sources::<OrAnd, R>(rt, alloc, threads, texts)?;
-    let columns = levels_from(alloc, graph, &sources)?;
+    let (graph, sources) = graph_with_sources::<S, R>(rt, alloc, threads, texts)?;
+    let columns = S::numbers_from(alloc, &graph, &sources)?;
     let answer = panelled(alloc, columns)?;
     Ok(answer)
 }
 
-/// Reads a graph and sources, and computes the distances from each source, a column for each.
-fn distance_columns<R: Threads + Sync>(
-    rt: &R,
-    alloc: Global,
-    threads: u32,
-    texts: Vec<Vec<u8>>,
-) -> Result<PanelledMatrix<MinPlus>, JobFault>
-    requires { vec_len texts ≡ 2 }
-    ensures ok { IfOk result (IsWalksOf AreDistancesFrom min_plus (bytes_of texts.items)) }
-    ensures fault { IfErr result (IsWalksFault min_plus (bytes_of texts.items)) }
-    ensures unwritten { IfErr result (λ f. f ≢ JobFault.Output) }
-{
-    let (graph, sources) = graph_with_sources::<MinPlus, R>(rt, alloc, threads, texts)?;
-    let columns = distances_from(alloc, graph, &sources)?;
-    let answer = panelled(alloc, columns)?;
-    Ok(answer)
-}
-
-/// Writes the matrix of the levels from the listed sources, a column for each.
-pub fn put_levels_from<R: Threads + Sync, K: Sink>(
+/// Writes the matrix of the numbers from the listed sources, a column for each: levels over or-and, distances over min-plus.
+pub fn put_numbers_from<S: Walks + Send + Sync, R: Threads + Sync, K: Sink>(
     rt: &R,
     alloc: Global,
     threads: u32,
@@ -126,24 +106,8 @@ pub fn put_levels_from<R: Threads + Sync, K: Sink>(
 ) -> Result<(), JobFault>
     requires texts { vec_len texts ≡ 2 }
     requires works { K.has_failed out.old ≡ false }
-    ensures { IsWalksEnd AreLevelsFrom or_and texts.items (K.written out.old) (K.written out.new) (K.has_failed out.new) result }
+    ensures { IsWalksEnd S.are_from S.arithmetic texts.items (K.written out.old) (K.written out.new) (K.has_failed out.new) result }
 {
-    let answer = level_columns(rt, alloc, threads, texts)?;
-    put_matrix(rt, alloc, threads, &answer, out)
-}
-
-/// Writes the matrix of the distances from the listed sources, a column for each.
-pub fn put_distances_from<R: Threads + Sync, K: Sink>(
-    rt: &R,
-    alloc: Global,
-    threads: u32,
-    texts: Vec<Vec<u8>>,
-    out: &mut K,
-) -> Result<(), JobFault>
-    requires texts { vec_len texts ≡ 2 }
-    requires works { K.has_failed out.old ≡ false }
-    ensures { IsWalksEnd AreDistancesFrom min_plus texts.items (K.written out.old) (K.written out.new) (K.has_failed out.new) result }
-{
-    let answer = distance_columns(rt, alloc, threads, texts)?;
+    let answer = columns_from::<S, R>(rt, alloc, threads, texts)?;
     put_matrix(rt, alloc, threads, &answer, out)
 }

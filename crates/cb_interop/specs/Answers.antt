@@ -3,7 +3,7 @@ use Rattle.std.specs.Prelude.{◌≡◌, ℕ, ◌==◌, cond, List, Option, Some
 use Rattle.cb_matrix.specs.declared.passing.Test.TheVariants.{Below, Above, Equal}
 use Rattle.cb_semirings.specs.Arithmetic.{Arithmetic}
 use Rattle.cb_semirings.specs.Names.{numbered}
-use Rattle.cb_semirings.specs.Tables.{min_plus, or_and}
+use Rattle.cb_semirings.specs.Tables.{min_plus}
 use Rattle.cb_matrix.specs.Sparse.{Sparse, IsMatrix}
 use Rattle.cb_operations.specs.declared.operations.Operation.{Operation}
 use Rattle.cb_operations.specs.declared.operations.Operation.TheVariants.{Prune}
@@ -11,7 +11,6 @@ use Rattle.cb_operations.specs.OperationAnswers.{answer_of}
 use Rattle.cb_market_lines.specs.declared.ReadFault.{ReadFault}
 use Rattle.cb_market_lines.specs.Reads.{Reads}
 use Rattle.cb_market.specs.Text.{text_of}
-use Rattle.cb_searches.specs.Walks.{AreLevels, AreDistances}
 use Rattle.cb_interop.specs.declared.lists.Columns.{Columns}
 use Rattle.cb_interop.specs.declared.texts.Text.{Text as Bytes}
 use Rattle.cb_interop.specs.Lists.{matrix_of, matrices, HasLists}
@@ -50,13 +49,10 @@ IsTextOf s a t = t.bytes.now ≡ text_of s (matrix_of s a)
 abbrev pub IsRead : Arithmetic → List ℕ → Columns → Type 0
 IsRead s text c = (m : Sparse) × Reads s text m × HasLists m c
 
--- The lists of the column of levels from a source in the graph of lists, and of the column of distances. The number of each
--- vertex determines the column, because it is a matrix over min-plus: no infinite number is stored.
-abbrev pub HasLevels : Columns → ℕ → Columns → Type 0
-HasLevels a source c = (column : Sparse) × IsMatrix min_plus column × AreLevels (matrix_of or_and a) source column × HasLists column c
-
-abbrev pub HasDistances : Columns → ℕ → Columns → Type 0
-HasDistances a source c = (column : Sparse) × IsMatrix min_plus column × AreDistances (matrix_of min_plus a) source column × HasLists column c
+-- The lists of the column of levels, or of distances, from a source in the graph of lists. The number of each vertex
+-- determines the column, because it is a matrix over min-plus: no infinite number is stored.
+abbrev pub HasNumbers : Arithmetic → (Sparse → ℕ → Sparse → Type 0) → Columns → ℕ → Columns → Type 0
+HasNumbers s are a source c = (column : Sparse) × IsMatrix min_plus column × are (matrix_of s a) source column × HasLists column c
 
 -- the line of the first fault of a text, if the fault is one of the text; any other fault leaves the number as it was
 abbrev pub IsLineOf : Option ReadFault → Fault → ℕ → ℕ → Type 0

@@ -5,9 +5,6 @@ use Rattle.cb_semirings.specs.declared.names.SemiringName.TheVariants as name_is
 use Rattle.cb_semirings.specs.Tables.{min_plus}
 use Rattle.cb_matrix.specs.declared.TheConstants.{LIMIT}
 use Rattle.cb_matrix.specs.Sparse.{Sparse, Extent, IsMatrix}
-use Rattle.cb_searches.specs.Walks.{AreLevels, AreDistances}
-use Rattle.cb_searches.specs.SeveralSources.{AreLevelsFrom, AreDistancesFrom}
-use Rattle.cb_searches.specs.GivenNumbers.{AreLevelsGiven, AreDistancesGiven}
 use Rattle.cb_searches.specs.Parents.{AreParents}
 use Rattle.cb_graphs.specs.Components.{AreComponents}
 use Rattle.cb_interop.specs.declared.faults.Fault.{Fault}
@@ -51,27 +48,6 @@ given_faults name k given = kept_graph_faults name k (λ m. column_faults m.shap
 -- the matrix that is right, kept over min-plus
 abbrev pub IsKeptColumn : (Sparse → Type 0) → Kept → Type 0
 IsKeptColumn is_right made = (column : Sparse) × IsMatrix min_plus column × is_right column × Keeps name_is.MinPlus column made
-
--- the column of levels from a source in the graph of a matrix, and of distances
-abbrev pub IsKeptLevels : Sparse → ℕ → Kept → Type 0
-IsKeptLevels m source = IsKeptColumn (AreLevels m source)
-
-abbrev pub IsKeptDistances : Sparse → ℕ → Kept → Type 0
-IsKeptDistances m source = IsKeptColumn (AreDistances m source)
-
--- the columns of levels from several sources, side by side, and of distances
-abbrev pub IsKeptLevelsFrom : Sparse → List ℕ → Kept → Type 0
-IsKeptLevelsFrom m sources = IsKeptColumn (AreLevelsFrom m sources)
-
-abbrev pub IsKeptDistancesFrom : Sparse → List ℕ → Kept → Type 0
-IsKeptDistancesFrom m sources = IsKeptColumn (AreDistancesFrom m sources)
-
--- the column of levels from initial values, and of distances
-abbrev pub IsKeptLevelsGiven : Sparse → Sparse → Kept → Type 0
-IsKeptLevelsGiven m given = IsKeptColumn (AreLevelsGiven m given)
-
-abbrev pub IsKeptDistancesGiven : Sparse → Sparse → Kept → Type 0
-IsKeptDistancesGiven m given = IsKeptColumn (AreDistancesGiven m given)
 
 -- the column of the least parents from a source, and of the least vertex of each component
 abbrev pub IsKeptParents : Sparse → ℕ → Kept → Type 0

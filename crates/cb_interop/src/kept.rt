@@ -1,7 +1,7 @@
 //! A kept matrix: a block over any of the semirings, as one type.
 #![tactic(auto, unfolding(crate::specs::Kept::semiring_of, crate::specs::Kept::matrix_in))]
 
-ghost use Rattle.std.specs.Prelude.{◌≡◌, length, Some};
+ghost use Rattle.std.specs.Prelude.{◌≡◌, [], length, Some};
 ghost use Rattle.cb_semirings.specs.Names.{numbered};
 ghost use Rattle.cb_interop.specs.Kept.{semiring_of, matrix_in};
 
@@ -116,7 +116,9 @@ impl Kept {
     }
 
     /// Frees the lists of the matrix, and leaves one without rows, columns and entries.
-    pub fn clear(&mut self, alloc: Global) {
+    pub fn clear(&mut self, alloc: Global)
+        ensures { matrix_in self.new ≡ record { shape = record { rows = 0; cols = 0 }; entries = [] } }
+    {
         let nothing = Block::<PlusTimes>::empty(alloc, Shape::new(0, 0).unwrap());
         *self = Kept::PlusTimes(nothing);
     }

@@ -1,10 +1,9 @@
-//! Levels and distances from initial values in a kept graph: a kept column over min-plus has them.
+//! Levels or distances from initial values in a kept graph: a kept column over min-plus has them.
 ghost use Rattle.std.specs.Prelude.{◌≡◌, IfOk, IfErr};
-ghost use Rattle.cb_semirings.specs.declared.names.SemiringName.TheVariants as name_is;
 ghost use Rattle.cb_searches.specs.Walks.{column_shape};
 ghost use Rattle.cb_interop.specs.Answers.{IsAnswer, NoFault};
 ghost use Rattle.cb_interop.specs.Kept.{matrix_in};
-ghost use Rattle.cb_interop.specs.KeptGraphs.{IsKeptDistancesGiven, IsKeptLevelsGiven, column_faults, given_faults};
+ghost use Rattle.cb_interop.specs.KeptGraphs.{IsKeptColumn, column_faults, given_faults};
 
 use crate::faults::Fault;
 use crate::keeping::Keep;
@@ -13,8 +12,8 @@ use crate::kept_checks::square_in;
 use crate::kept_walks::keep_column;
 use cb_dcsc::Block;
 use cb_matrix::Shape;
-use cb_searches::{as_matrix, column_shape};
-use cb_semirings::{MinPlus, OrAnd};
+use cb_searches::{Walks, as_matrix, column_shape};
+use cb_semirings::MinPlus;
 use std::alloc::{AllocError, Global};
 
 /// The block of a column over min-plus with a place for each vertex of a graph, or else the first fault.
@@ -50,50 +49,31 @@ fn blocks_in<'a, S: Keep>(
     Ok((block, column))
 }
 
-/// The column of levels from initial values, kept.
-fn level_column(
+/// The column of numbers from initial values, kept.
+fn number_column<S: Walks>(
     alloc: Global,
-    graph: &Block<OrAnd>,
+    graph: &Block<S>,
     given: &Block<MinPlus>,
 ) -> Result<Kept, AllocError>
     requires square { graph.now.shape.rows ≡ graph.now.shape.cols }
     requires column { given.now.shape ≡ column_shape graph.now }
-    ensures { IfOk result (IsKeptLevelsGiven graph.now given.now) }
+    ensures { IfOk result (IsKeptColumn (S.are_given graph.now given.now)) }
 {
     let first = as_matrix(given)?;
-    let column = cb_searches::levels_given(alloc, graph, &first)?;
+    let column = S::numbers_given(alloc, graph, &first)?;
     keep_column(alloc, &column)
 }
 
-/// The column of distances from initial values, kept.
-fn distance_column(
+/// Returns the column of numbers from initial values: levels in a graph over or-and, distances in a graph over min-plus. The
+/// initial values are a column over min-plus, and so is the result. The graph is transposed, and the initial values are
+/// copied.
+pub fn kept_numbers_given<S: Walks + Keep>(
     alloc: Global,
-    graph: &Block<MinPlus>,
-    given: &Block<MinPlus>,
-) -> Result<Kept, AllocError>
-    requires square { graph.now.shape.rows ≡ graph.now.shape.cols }
-    requires column { given.now.shape ≡ column_shape graph.now }
-    ensures { IfOk result (IsKeptDistancesGiven graph.now given.now) }
+    graph: &Kept,
+    given: &Kept,
+) -> Result<Kept, Fault>
+    ensures { IsAnswer (given_faults S.name graph.now given.now) (IsKeptColumn (S.are_given (matrix_in graph.now) (matrix_in given.now))) result }
 {
-    let first = as_matrix(given)?;
-    let column = cb_searches::distances_given(alloc, graph, &first)?;
-    keep_column(alloc, &column)
-}
-
-/// Returns the column of levels from initial values, in a graph over or-and. The initial values are a column over
-/// min-plus, and so is the result. The graph is transposed, and the initial values are copied.
-pub fn kept_levels_given(alloc: Global, graph: &Kept, given: &Kept) -> Result<Kept, Fault>
-    ensures { IsAnswer (given_faults name_is.OrAnd graph.now given.now) (IsKeptLevelsGiven (matrix_in graph.now) (matrix_in given.now)) result }
-{
-    let (block, column) = blocks_in::<OrAnd>(graph, given)?;
-    Ok(level_column(alloc, block, column)?)
-}
-
-/// Returns the column of distances from initial values, in a graph over min-plus. The initial values are a column over
-/// min-plus, and so is the result. The graph is transposed, and the initial values are copied.
-pub fn kept_distances_given(alloc: Global, graph: &Kept, given: &Kept) -> Result<Kept, Fault>
-    ensures { IsAnswer (given_faults name_is.MinPlus graph.now given.now) (IsKeptDistancesGiven (matrix_in graph.now) (matrix_in given.now)) result }
-{
-    let (block, column) = blocks_in::<MinPlus>(graph, given)?;
-    Ok(distance_column(alloc, block, column)?)
+    let (block, column) = blocks_in::<S>(graph, given)?;
+    Ok(number_column(alloc, block, column)?)
 }

@@ -1,9 +1,8 @@
-//! Levels and distances from several sources in a kept graph.
+//! Levels or distances from several sources in a kept graph.
 ghost use Rattle.std.specs.Prelude.{◌≡◌, ◌<◌, ◌≤◌, ◌↔◌, IsTrue, length, All, IfOk, IfErr};
-ghost use Rattle.cb_semirings.specs.declared.names.SemiringName.TheVariants as name_is;
 ghost use Rattle.cb_interop.specs.Answers.{IsAnswer, NoFault};
 ghost use Rattle.cb_interop.specs.Kept.{matrix_in};
-ghost use Rattle.cb_interop.specs.KeptGraphs.{IsKeptLevelsFrom, IsKeptDistancesFrom, searches_faults};
+ghost use Rattle.cb_interop.specs.KeptGraphs.{IsKeptColumn, searches_faults};
 
 use crate::faults::Fault;
 use crate::keeping::Keep;
@@ -12,7 +11,7 @@ use crate::kept_checks::square_in;
 use crate::kept_walks::keep_column;
 use cb_dcsc::Block;
 use cb_matrix::LIMIT;
-use cb_semirings::{MinPlus, OrAnd};
+use cb_searches::Walks;
 use std::alloc::{AllocError, Global};
 
 /// Whether all numbers are below a bound.
@@ -41,46 +40,30 @@ fn graph_in<'a, S: Keep>(kept: &'a Kept, sources: &[u32]) -> Result<&'a Block<S>
     Ok(graph)
 }
 
-/// The columns of levels from each source, kept.
-fn level_columns(alloc: Global, graph: &Block<OrAnd>, sources: &[u32]) -> Result<Kept, AllocError>
-    requires square { graph.now.shape.rows ≡ graph.now.shape.cols }
-    requires limit { length sources.now ≤ LIMIT }
-    requires sources { All (λ v. v < graph.now.shape.rows) sources.now }
-    ensures { IfOk result (IsKeptLevelsFrom graph.now sources.now) }
-{
-    let columns = cb_searches::levels_from(alloc, graph.try_clone()?, sources)?;
-    keep_column(alloc, &columns)
-}
-
-/// The columns of distances from each source, kept.
-fn distance_columns(
+/// The columns of numbers from each source, kept.
+fn number_columns<S: Walks>(
     alloc: Global,
-    graph: &Block<MinPlus>,
+    graph: &Block<S>,
     sources: &[u32],
 ) -> Result<Kept, AllocError>
     requires square { graph.now.shape.rows ≡ graph.now.shape.cols }
     requires limit { length sources.now ≤ LIMIT }
     requires sources { All (λ v. v < graph.now.shape.rows) sources.now }
-    ensures { IfOk result (IsKeptDistancesFrom graph.now sources.now) }
+    ensures { IfOk result (IsKeptColumn (S.are_from graph.now sources.now)) }
 {
-    let columns = cb_searches::distances_from(alloc, graph.try_clone()?, sources)?;
+    let columns = S::numbers_from(alloc, graph, sources)?;
     keep_column(alloc, &columns)
 }
 
-/// Returns the levels from several sources in a graph over or-and, a column for each source. The graph is copied and
-/// transposed once for all of them.
-pub fn kept_levels_from(alloc: Global, graph: &Kept, sources: &[u32]) -> Result<Kept, Fault>
-    ensures { IsAnswer (searches_faults name_is.OrAnd graph.now sources.now) (IsKeptLevelsFrom (matrix_in graph.now) sources.now) result }
+/// Returns the numbers from several sources, a column for each source: levels in a graph over or-and, distances in a graph
+/// over min-plus. The graph is transposed once for all of them.
+pub fn kept_numbers_from<S: Walks + Keep>(
+    alloc: Global,
+    graph: &Kept,
+    sources: &[u32],
+) -> Result<Kept, Fault>
+    ensures { IsAnswer (searches_faults S.name graph.now sources.now) (IsKeptColumn (S.are_from (matrix_in graph.now) sources.now)) result }
 {
-    let block = graph_in::<OrAnd>(graph, sources)?;
-    Ok(level_columns(alloc, block, sources)?)
-}
-
-/// Returns the distances from several sources in a graph over min-plus, a column for each source. The graph is copied and
-/// transposed once for all of them.
-pub fn kept_distances_from(alloc: Global, graph: &Kept, sources: &[u32]) -> Result<Kept, Fault>
-    ensures { IsAnswer (searches_faults name_is.MinPlus graph.now sources.now) (IsKeptDistancesFrom (matrix_in graph.now) sources.now) result }
-{
-    let block = graph_in::<MinPlus>(graph, sources)?;
-    Ok(distance_columns(alloc, block, sources)?)
+    let block = graph_in::<S>(graph, sources)?;
+    Ok(number_columns(alloc, block, sources)?)
 }

@@ -1,9 +1,9 @@
-//! Levels and distances from one source in a kept graph.
+//! Levels or distances from one source in a kept graph.
 ghost use Rattle.std.specs.Prelude.{◌≡◌, ◌<◌, IfOk, IfErr};
 ghost use Rattle.cb_semirings.specs.declared.names.SemiringName.TheVariants as name_is;
 ghost use Rattle.cb_interop.specs.Answers.{IsAnswer, NoFault};
 ghost use Rattle.cb_interop.specs.Kept.{Keeps, matrix_in};
-ghost use Rattle.cb_interop.specs.KeptGraphs.{IsKeptLevels, IsKeptDistances, search_faults};
+ghost use Rattle.cb_interop.specs.KeptGraphs.{IsKeptColumn, search_faults};
 
 use crate::faults::Fault;
 use crate::incoming::matrix_block;
@@ -12,7 +12,8 @@ use crate::kept::Kept;
 use crate::kept_checks::square_in;
 use cb_dcsc::Block;
 use cb_matrix::Matrix;
-use cb_semirings::{MinPlus, OrAnd};
+use cb_searches::Walks;
+use cb_semirings::MinPlus;
 use std::alloc::{AllocError, Global};
 
 /// The block of a square graph over a semiring, one of whose vertices is the source; or else the first fault.
@@ -38,39 +39,25 @@ pub(crate) fn keep_column(alloc: Global, column: &Matrix<MinPlus>) -> Result<Kep
     Ok(MinPlus::keep(alloc, &mut block))
 }
 
-/// The column of levels from a source, kept.
-fn level_column(alloc: Global, graph: &Block<OrAnd>, source: u32) -> Result<Kept, AllocError>
+/// The column of numbers from a source, kept.
+fn number_column<S: Walks>(alloc: Global, graph: &Block<S>, source: u32) -> Result<Kept, AllocError>
     requires square { graph.now.shape.rows ≡ graph.now.shape.cols }
     requires source { source < graph.now.shape.rows }
-    ensures { IfOk result (IsKeptLevels graph.now source) }
+    ensures { IfOk result (IsKeptColumn (S.are graph.now source)) }
 {
-    let column = cb_searches::levels(alloc, graph.try_clone()?, source)?;
+    let column = S::numbers(alloc, graph, source)?;
     keep_column(alloc, &column)
 }
 
-/// The column of distances from a source, kept.
-fn distance_column(alloc: Global, graph: &Block<MinPlus>, source: u32) -> Result<Kept, AllocError>
-    requires square { graph.now.shape.rows ≡ graph.now.shape.cols }
-    requires source { source < graph.now.shape.rows }
-    ensures { IfOk result (IsKeptDistances graph.now source) }
+/// Returns the column of numbers from a source: levels in a graph over or-and, distances in a graph over min-plus. The graph
+/// is transposed.
+pub fn kept_numbers<S: Walks + Keep>(
+    alloc: Global,
+    graph: &Kept,
+    source: u32,
+) -> Result<Kept, Fault>
+    ensures { IsAnswer (search_faults S.name graph.now source) (IsKeptColumn (S.are (matrix_in graph.now) source)) result }
 {
-    let column = cb_searches::distances(alloc, graph.try_clone()?, source)?;
-    keep_column(alloc, &column)
-}
-
-/// Returns the column of levels from a source, in a graph over or-and. The graph is copied once, because a search consumes
-/// its block.
-pub fn kept_levels(alloc: Global, graph: &Kept, source: u32) -> Result<Kept, Fault>
-    ensures { IsAnswer (search_faults name_is.OrAnd graph.now source) (IsKeptLevels (matrix_in graph.now) source) result }
-{
-    let block = graph_in::<OrAnd>(graph, source)?;
-    Ok(level_column(alloc, block, source)?)
-}
-
-/// Returns the column of distances from a source, in a graph over min-plus. The graph is copied once.
-pub fn kept_distances(alloc: Global, graph: &Kept, source: u32) -> Result<Kept, Fault>
-    ensures { IsAnswer (search_faults name_is.MinPlus graph.now source) (IsKeptDistances (matrix_in graph.now) source) result }
-{
-    let block = graph_in::<MinPlus>(graph, source)?;
-    Ok(distance_column(alloc, block, source)?)
+    let block = graph_in::<S>(graph, source)?;
+    Ok(number_column(alloc, block, source)?)
 }

@@ -12,6 +12,7 @@ ghost use Rattle.cb_searches.specs.GivenNumbers.{AreDistancesGiven, AreLevelsGiv
 
 use crate::dijkstra::settle;
 use crate::numbers::Numbers;
+use crate::one_block::{unit_edges, weighted_edges};
 use crate::searches::take_over;
 use cb_dcsc::Block;
 use cb_matrix::Matrix;
@@ -36,9 +37,7 @@ pub fn distances_given(
     ensures distances { IfOk result (AreDistancesGiven graph.now given.now) }
     ensures matrix { IfOk result (IsMatrix min_plus) }
 {
-    let shape = graph.shape();
-    prove_eq!(shape.rows(), shape.cols());
-    let edges = cb_reshape::transpose(alloc, graph)?;
+    let edges = weighted_edges(alloc, graph)?;
     let column = given_by_edges(alloc, &edges, given)?;
     prove_eq!(column.shape(), given.shape());
     Ok(column)
@@ -59,8 +58,7 @@ pub fn levels_given(
 {
     let shape = graph.shape();
     prove_eq!(shape.rows(), shape.cols());
-    let turned = cb_reshape::transpose(alloc, graph)?;
-    let edges = turned.recast();
+    let edges = unit_edges(alloc, graph)?;
     let column = given_by_edges(alloc, &edges, given)?;
     prove_eq!(column.shape(), given.shape());
     Ok(column)

@@ -18,6 +18,7 @@ mod one_block;
 mod relaxations;
 mod searches;
 mod several_sources;
+mod walks;
 
 pub use given_numbers::{distances_given, levels_given};
 pub use least_parents::parents;
@@ -25,3 +26,4 @@ pub use numbers::Numbers;
 pub use one_block::{distances, levels};
 pub use searches::{Search, as_matrix, column_shape, vector_product};
 pub use several_sources::{distances_from, levels_from};
+pub use walks::Walks;

@@ -1,12 +1,11 @@
 //! The search in the graph of one block.
 //!
-//! The block is transposed once and dropped. A few rounds, each by [`Search::round`], use the transposed block: they
+//! The block is transposed once. A few rounds, each by [`Search::round`], use the transposed block: they
 //! read the edges in order, which is fastest while most vertices are a few edges away. Then the remaining vertices
 //! [settle](crate::dijkstra) one after another, so long walks take no further rounds.
 ghost use Rattle.std.specs.Prelude.{◌≡◌, ℕ, ◌<◌, IfOk};
 ghost use Rattle.cb_semirings.specs.Tables.{min_plus};
 ghost use Rattle.cb_matrix.specs.Sparse.{Sparse, IsMatrix};
-ghost use Rattle.cb_matrix.specs.Operations.{transposed};
 ghost use Rattle.cb_searches.specs.Walks.{AreDistances, AreLevels};
 ghost use Rattle.cb_searches.specs.Searches.{HasEdges, IsWholeSearch};
 
@@ -23,52 +22,68 @@ const ROUNDS: u32 = 16;
 /// weight is the sum of its entries' values, saturating at 2^64 - 1. The result is a column; unreachable vertices and
 /// those at an infinite distance aren't stored.
 ///
-/// The block is dropped once it is transposed. At most 16 rounds are made. A round costs a few instructions for each
+/// The block is transposed once. At most 16 rounds are made. A round costs a few instructions for each
 /// entry of the vertices whose numbers fell in the round before, and, if at least one vertex in 32 fell, for each
 /// vertex. The rest is the algorithm of Dijkstra (1959) with a heap: it costs the entries of the vertices that it
 /// reaches, and for each number that falls the logarithm of how many wait.
 pub fn distances(
     alloc: Global,
-    graph: Block<MinPlus>,
+    graph: &Block<MinPlus>,
     source: u32,
 ) -> Result<Matrix<MinPlus>, AllocError>
-    requires square { graph.shape.rows ≡ graph.shape.cols }
-    requires source { source < graph.shape.rows }
-    ensures distances { IfOk result (AreDistances graph source) }
+    requires square { graph.now.shape.rows ≡ graph.now.shape.cols }
+    requires source { source < graph.now.shape.rows }
+    ensures distances { IfOk result (AreDistances graph.now source) }
     ensures matrix { IfOk result (IsMatrix min_plus) }
 {
-    let shape = graph.shape();
-    prove_eq!(shape.rows(), shape.cols());
-    let edges = turned(alloc, graph)?;
+    let edges = weighted_edges(alloc, graph)?;
     let column = nearest_by_edges(alloc, &edges, source)?;
-    prove_eq!(column.shape(), column_shape(shape));
+    prove_eq!(column.shape(), column_shape(graph.shape()));
     Ok(column)
 }
 
 /// The level of each vertex from a source, in the graph of a square block: the least number of entries of a walk. The
 /// result is a column; unreachable vertices aren't stored. A level is a distance in which each entry weighs 1, as each
-/// stored value already does: no entry is copied, and the cost is that of [`distances`]. This is the breadth-first
+/// stored value already does, so the cost is that of [`distances`]. This is the breadth-first
 /// search of Buluç and Gilbert, The Combinatorial BLAS (IJHPCA 2011), section 5.
 pub fn levels(
     alloc: Global,
-    graph: Block<OrAnd>,
+    graph: &Block<OrAnd>,
     source: u32,
 ) -> Result<Matrix<MinPlus>, AllocError>
-    requires square { graph.shape.rows ≡ graph.shape.cols }
-    requires source { source < graph.shape.rows }
-    ensures levels { IfOk result (AreLevels graph source) }
+    requires square { graph.now.shape.rows ≡ graph.now.shape.cols }
+    requires source { source < graph.now.shape.rows }
+    ensures levels { IfOk result (AreLevels graph.now source) }
     ensures matrix { IfOk result (IsMatrix min_plus) }
 {
     let shape = graph.shape();
     prove_eq!(shape.rows(), shape.cols());
-    distances(alloc, graph.recast(), source)
+    let edges = unit_edges(alloc, graph)?;
+    nearest_by_edges(alloc, &edges, source)
 }
 
-/// The transposed block. The block is dropped.
-pub(crate) fn turned(alloc: Global, graph: Block<MinPlus>) -> Result<Block<MinPlus>, AllocError>
-    ensures { IfOk result (λ edges. edges ≡ transposed min_plus graph) }
+/// The edges of a graph: the transposed block.
+pub(crate) fn weighted_edges(
+    alloc: Global,
+    graph: &Block<MinPlus>,
+) -> Result<Block<MinPlus>, AllocError>
+    requires { graph.now.shape.rows ≡ graph.now.shape.cols }
+    ensures { IfOk result (λ edges. HasEdges edges graph.now) }
 {
-    cb_reshape::transpose(alloc, &graph)
+    let shape = graph.shape();
+    prove_eq!(shape.rows(), shape.cols());
+    cb_reshape::transpose(alloc, graph)
+}
+
+/// The edges of a graph, of which each weighs 1, as each stored value already does: the transposed block.
+pub(crate) fn unit_edges(alloc: Global, graph: &Block<OrAnd>) -> Result<Block<MinPlus>, AllocError>
+    requires { graph.now.shape.rows ≡ graph.now.shape.cols }
+    ensures { IfOk result (λ edges. HasEdges edges graph.now) }
+{
+    let shape = graph.shape();
+    prove_eq!(shape.rows(), shape.cols());
+    let turned = cb_reshape::transpose(alloc, graph)?;
+    Ok(turned.recast())
 }
 
 /// The distance of each vertex from the source, given the transposed matrix of the graph as one block.

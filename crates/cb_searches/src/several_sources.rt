@@ -7,7 +7,7 @@ ghost use Rattle.cb_matrix.specs.Sparse.{Sparse, IsMatrix};
 ghost use Rattle.cb_searches.specs.Searches.{HasEdges};
 ghost use Rattle.cb_searches.specs.SeveralSources.{AreDistancesFrom, AreLevelsFrom, in_column_of};
 
-use crate::one_block::{nearest_by_edges, turned};
+use crate::one_block::{nearest_by_edges, unit_edges, weighted_edges};
 use cb_dcsc::Block;
 use cb_matrix::{Entry, LIMIT, Matrix, Shape};
 use cb_semirings::{MinPlus, OrAnd};
@@ -19,20 +19,18 @@ use std::alloc::{AllocError, Global};
 /// Costs one transpose, and for each source a search as in [`distances`](crate::distances).
 pub fn distances_from(
     alloc: Global,
-    graph: Block<MinPlus>,
+    graph: &Block<MinPlus>,
     sources: &[u32],
 ) -> Result<Matrix<MinPlus>, AllocError>
-    requires square { graph.shape.rows ≡ graph.shape.cols }
-    requires sources { All (λ v. v < graph.shape.rows) sources.now }
+    requires square { graph.now.shape.rows ≡ graph.now.shape.cols }
+    requires sources { All (λ v. v < graph.now.shape.rows) sources.now }
     requires limit { length sources.now ≤ LIMIT }
-    ensures distances { IfOk result (AreDistancesFrom graph sources.now) }
+    ensures distances { IfOk result (AreDistancesFrom graph.now sources.now) }
     ensures matrix { IfOk result (IsMatrix min_plus) }
 {
-    let shape = graph.shape();
-    prove_eq!(shape.rows(), shape.cols());
-    let edges = turned(alloc, graph)?;
+    let edges = weighted_edges(alloc, graph)?;
     let columns = columns_from(alloc, &edges, sources)?;
-    prove_eq!(columns.shape().rows(), shape.rows());
+    prove_eq!(columns.shape().rows(), graph.shape().rows());
     Ok(columns)
 }
 
@@ -40,18 +38,19 @@ pub fn distances_from(
 /// jth source. The cost is that of [`distances_from`].
 pub fn levels_from(
     alloc: Global,
-    graph: Block<OrAnd>,
+    graph: &Block<OrAnd>,
     sources: &[u32],
 ) -> Result<Matrix<MinPlus>, AllocError>
-    requires square { graph.shape.rows ≡ graph.shape.cols }
-    requires sources { All (λ v. v < graph.shape.rows) sources.now }
+    requires square { graph.now.shape.rows ≡ graph.now.shape.cols }
+    requires sources { All (λ v. v < graph.now.shape.rows) sources.now }
     requires limit { length sources.now ≤ LIMIT }
-    ensures levels { IfOk result (AreLevelsFrom graph sources.now) }
+    ensures levels { IfOk result (AreLevelsFrom graph.now sources.now) }
     ensures matrix { IfOk result (IsMatrix min_plus) }
 {
     let shape = graph.shape();
     prove_eq!(shape.rows(), shape.cols());
-    distances_from(alloc, graph.recast(), sources)
+    let edges = unit_edges(alloc, graph)?;
+    columns_from(alloc, &edges, sources)
 }
 
 /// The distances from each source, side by side, given the transposed matrix of the graph.

@@ -2,10 +2,10 @@ use Rattle.cb_graph_tasks.proofs.GraphTaskEnds.{of_task}
 use Rattle.cb_graph_tasks.proofs.graph_tasks.execute_graph_task.Goals as goal
 
 pub returns-in-Levels : goal.returns-in-Levels
-returns-in-Levels g c = of_task c.args.texts.items _ _ _ _ _ _ c.in-Levels.is c.put_levels.ensures
+returns-in-Levels g c = of_task c.args.texts.items _ _ _ _ _ _ c.in-Levels.is c.put_numbers.ensures
 
 pub returns-in-Distances : goal.returns-in-Distances
-returns-in-Distances g c = of_task c.args.texts.items _ _ _ _ _ _ c.in-Distances.is c.put_distances.ensures
+returns-in-Distances g c = of_task c.args.texts.items _ _ _ _ _ _ c.in-Distances.is c.put_numbers-in-Distances.ensures
 
 pub returns-in-Parents : goal.returns-in-Parents
 returns-in-Parents g c = of_task c.args.texts.items _ _ _ _ _ _ c.in-Parents.is c.put_parents.ensures
@@ -26,13 +26,13 @@ pub returns-in-ColumnDegrees : goal.returns-in-ColumnDegrees
 returns-in-ColumnDegrees g c = of_task c.args.texts.items _ _ _ _ _ _ c.in-ColumnDegrees.is c.put_column_degrees.ensures
 
 pub returns-in-LevelsFrom : goal.returns-in-LevelsFrom
-returns-in-LevelsFrom g c = of_task c.args.texts.items _ _ _ _ _ _ c.in-LevelsFrom.is c.put_levels_from.ensures
+returns-in-LevelsFrom g c = of_task c.args.texts.items _ _ _ _ _ _ c.in-LevelsFrom.is c.put_numbers_from.ensures
 
 pub returns-in-DistancesFrom : goal.returns-in-DistancesFrom
-returns-in-DistancesFrom g c = of_task c.args.texts.items _ _ _ _ _ _ c.in-DistancesFrom.is c.put_distances_from.ensures
+returns-in-DistancesFrom g c = of_task c.args.texts.items _ _ _ _ _ _ c.in-DistancesFrom.is c.put_numbers_from-in-DistancesFrom.ensures
 
 pub returns-in-LevelsGiven : goal.returns-in-LevelsGiven
-returns-in-LevelsGiven g c = of_task c.args.texts.items _ _ _ _ _ _ c.in-LevelsGiven.is c.put_levels_given.ensures
+returns-in-LevelsGiven g c = of_task c.args.texts.items _ _ _ _ _ _ c.in-LevelsGiven.is c.put_numbers_given.ensures
 
 pub returns-in-DistancesGiven : goal.returns-in-DistancesGiven
-returns-in-DistancesGiven g c = of_task c.args.texts.items _ _ _ _ _ _ c.in-DistancesGiven.is c.put_distances_given.ensures
+returns-in-DistancesGiven g c = of_task c.args.texts.items _ _ _ _ _ _ c.in-DistancesGiven.is c.put_numbers_given-in-DistancesGiven.ensures

@@ -3,12 +3,12 @@ use Rattle.cb_matrix.specs.Sparse.{Sparse}
 use Rattle.cb_searches.proofs.one_block.distances.Goals as goal
 
 pub nearest_by_edges-requires-clause-graph : goal.nearest_by_edges-requires-clause-graph
-nearest_by_edges-requires-clause-graph c = (c.args.graph, record { matrix = c.shape-shape.ensures.matrix; square = c.requires.square; turned = c.in_ok-edges.ensures })
+nearest_by_edges-requires-clause-graph c = (c.args.graph.now, c.in_ok-edges.ensures)
 
 pub nearest_by_edges-requires-clause-source : goal.nearest_by_edges-requires-clause-source
 nearest_by_edges-requires-clause-source c =
-    let cols : c.in_ok-edges.edges.shape.cols ≡ c.args.graph.shape.rows = ap (λ (m : Sparse). m.shape.cols) c.in_ok-edges.ensures in
+    let cols : c.in_ok-edges.edges.shape.cols ≡ c.args.graph.now.shape.rows = ap (λ (m : Sparse). m.shape.cols) c.in_ok-edges.ensures.turned in
     omega (arith, cols, c.requires.source)
 
 pub returns-clause-distances : goal.returns-clause-distances
-returns-clause-distances c = c.in_ok-column.ensures c.args.graph (record { matrix = c.shape-shape.ensures.matrix; square = c.requires.square; turned = c.in_ok-edges.ensures })
+returns-clause-distances c = c.in_ok-column.ensures c.args.graph.now c.in_ok-edges.ensures

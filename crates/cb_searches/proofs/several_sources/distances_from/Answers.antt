@@ -4,10 +4,10 @@ use Rattle.cb_matrix.specs.Sparse.{Sparse}
 use Rattle.cb_searches.proofs.several_sources.distances_from.Goals as goal
 
 pub columns_from-requires-clause-graph : goal.columns_from-requires-clause-graph
-columns_from-requires-clause-graph c = (c.args.graph, record { matrix = c.shape-shape.ensures.matrix; square = c.requires.square; turned = c.in_ok-edges.ensures })
+columns_from-requires-clause-graph c = (c.args.graph.now, c.in_ok-edges.ensures)
 
 pub columns_from-requires-clause-sources : goal.columns_from-requires-clause-sources
-columns_from-requires-clause-sources c = subst (λ n. All (λ v. v < n) c.args.sources.now) (sym (ap (λ (m : Sparse). m.shape.cols) c.in_ok-edges.ensures)) c.requires.sources
+columns_from-requires-clause-sources c = subst (λ n. All (λ v. v < n) c.args.sources.now) (sym (ap (λ (m : Sparse). m.shape.cols) c.in_ok-edges.ensures.turned)) c.requires.sources
 
 pub returns-clause-distances : goal.returns-clause-distances
-returns-clause-distances c = c.in_ok-columns.ensures c.args.graph (record { matrix = c.shape-shape.ensures.matrix; square = c.requires.square; turned = c.in_ok-edges.ensures })
+returns-clause-distances c = c.in_ok-columns.ensures c.args.graph.now c.in_ok-edges.ensures
