@@ -18,6 +18,7 @@ grep -qx "version = \"$version\"" ../python/pyproject.toml || fail "the Python p
 "$out/check_panels"
 
 "$out/example" | cmp - example.out || fail "the example prints something else than example.out"
+"$out/roads" | cmp - roads.out || fail "roads prints something else than roads.out"
 
 # The shared library shows the names of cbgrid.map and no others, and needs libc alone.
 sed -n 's/^ *\(cbgrid_[a-z0-9_]*\);$/\1/p' cbgrid.map | sort >"$out/names.map"
@@ -71,6 +72,8 @@ if command -v valgrind >/dev/null; then
         fail "valgrind finds a fault in panels"
     valgrind --quiet --error-exitcode=9 --leak-check=full --show-leak-kinds=all "$out/example" >/dev/null ||
         fail "valgrind finds a fault in the example"
+    valgrind --quiet --error-exitcode=9 --leak-check=full --show-leak-kinds=all "$out/roads" >/dev/null ||
+        fail "valgrind finds a fault in roads"
 else
     echo "valgrind isn't there: leaks are counted by the tests alone" >&2
 fi
