@@ -502,7 +502,7 @@ int cbgrid_matrix_distances_from(const struct cbgrid_matrix *a, const uint32_t *
  * u. The result has for each vertex the least sum of an initial value and the level or distance from its vertex, over
  * all vertices that have an initial value; sums stop at 2^64 - 1, which isn't stored. CBGRID_MIXED, then
  * CBGRID_NOT_SQUARE, as above; then CBGRID_MIXED if `given` isn't over MIN_PLUS, then CBGRID_SHAPES if it isn't a column
- * with a place for each vertex. Copies `given`, transposes the graph, and then searches once. */
+ * with a place for each vertex. Transposes the graph, and then searches once. */
 int cbgrid_matrix_levels_given(const struct cbgrid_matrix *a, const struct cbgrid_matrix *given,
                                struct cbgrid_matrix **out);
 int cbgrid_matrix_distances_given(const struct cbgrid_matrix *a, const struct cbgrid_matrix *given,

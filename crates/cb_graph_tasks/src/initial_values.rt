@@ -12,7 +12,7 @@ use cb_job_texts::inputs::read_pair;
 use cb_job_texts::sinks::Sink;
 use cb_matrix::{Matrix, Shape};
 use cb_operations::Refusal;
-use cb_searches::{Walks, as_matrix, column_shape};
+use cb_searches::{Walks, column_shape};
 use cb_semirings::{MinPlus, Semiring};
 use std::alloc::Global;
 use std::thread::Threads;
@@ -37,15 +37,14 @@ fn graph_with_numbers<S: Semiring + Send + Sync, R: Threads + Sync>(
     alloc: Global,
     threads: u32,
     texts: Vec<Vec<u8>>,
-) -> Result<(Block<S>, Matrix<MinPlus>), JobFault>
+) -> Result<(Block<S>, Block<MinPlus>), JobFault>
     requires { vec_len texts ≡ 2 }
     ensures ok { IfOk result (λ p. IsGraphWithNumbers S.arithmetic (bytes_of texts.items) p.0 p.1) }
     ensures fault { IfErr result (IsGivenFault S.arithmetic (bytes_of texts.items)) }
     ensures unwritten { IfErr result (λ f. f ≢ JobFault.Output) }
 {
-    let (graph, column) = read_pair::<S, MinPlus, R>(rt, alloc, threads, texts)?;
-    check_numbers(graph.shape(), column.shape())?;
-    let given = as_matrix(&column)?;
+    let (graph, given) = read_pair::<S, MinPlus, R>(rt, alloc, threads, texts)?;
+    check_numbers(graph.shape(), given.shape())?;
     Ok((graph, given))
 }
 

@@ -12,7 +12,7 @@ use crate::kept_checks::square_in;
 use crate::kept_walks::keep_column;
 use cb_dcsc::Block;
 use cb_matrix::Shape;
-use cb_searches::{Walks, as_matrix, column_shape};
+use cb_searches::{Walks, column_shape};
 use cb_semirings::MinPlus;
 use std::alloc::{AllocError, Global};
 
@@ -59,14 +59,12 @@ fn number_column<S: Walks>(
     requires column { given.now.shape ≡ column_shape graph.now }
     ensures { IfOk result (IsKeptColumn (S.are_given graph.now given.now)) }
 {
-    let first = as_matrix(given)?;
-    let column = S::numbers_given(alloc, graph, &first)?;
+    let column = S::numbers_given(alloc, graph, given)?;
     keep_column(alloc, &column)
 }
 
 /// Returns the column of numbers from initial values: levels in a graph over or-and, distances in a graph over min-plus. The
-/// initial values are a column over min-plus, and so is the result. The graph is transposed, and the initial values are
-/// copied.
+/// initial values are a column over min-plus, and so is the result. The graph is transposed.
 pub fn kept_numbers_given<S: Walks + Keep>(
     alloc: Global,
     graph: &Kept,

@@ -13,7 +13,8 @@ pub mod VertexColumns
 -- round. TurnedProducts: a round is the product of the turned matrix. TakenNumbers, LowerEntries, NumberColumns,
 -- FallenNumbers: the numbers known so far, those that fall, and their column. RelaxedEdges: the edges from one vertex.
 -- TurnedUnits: levels on the transposed matrix. LeastNearer: parents are nearer vertices. ParentFacts: who has a parent.
--- ColumnsBesides: columns of distances, side by side. NearestGiven: what is nearest from initial values.
+-- ColumnsBesides: columns of distances, side by side. NearestGiven: what is nearest from initial values. GivenEntries: these
+-- are taken one after another.
 pub mod ShortWalks
 pub mod NumbersByRound
 pub mod TurnedProducts
@@ -27,3 +28,4 @@ pub mod LeastNearer
 pub mod ParentFacts
 pub mod ColumnsBesides
 pub mod NearestGiven
+pub mod GivenEntries

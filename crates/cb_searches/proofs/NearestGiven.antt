@@ -2,7 +2,6 @@
 use Rattle.std.proofs.Common.{◌≡◌, ◌≢◌, ℕ, ◌+◌, ◌<◌, ◌≤◌, ⊎_elim, List, [], ◌∷◌, map, subst, sym, refl, ◌∙◌, arith}
 use Rattle.std.proofs.lemmas.Bool.{cases_lt}
 use Rattle.cb_semirings.specs.Tables.{min_plus, or_and}
-use Rattle.cb_matrix.specs.declared.Entry.{Entry}
 use Rattle.cb_matrix.specs.Sparse.{Sparse, IsMatrix}
 use Rattle.cb_matrix.proofs.Made.{at-outside}
 use Rattle.cb_searches.specs.Walks.{IsWalk, steps, cost, infinite, column_shape}
@@ -50,12 +49,11 @@ module _ (a given : Sparse) (d : ℕ → ℕ) (fits : (v : ℕ) → d v ≤ infi
       }
 
 -- a search finds the distances, if its numbers begin with the first ones, all of them wait, and in the end none waits
-pub given_found : (edges a given : Sparse) (n m : ℕ) (old new : Numbers) (es : List Entry) → HasEdges edges a → es ≡ given.entries → AreNumbers n old → ((v : ℕ) → number_at old v ≡ number_in given v)
-    → AreNumbers m new → KeepSettling edges old (map tentative es) new [] → (column : Sparse) → column.shape ≡ column_shape a → ((v : ℕ) → number_in column v ≡ number_at new v) → AreDistancesGiven a given column
-given_found edges a given n m old new es has same first begins last keep column shape values =
+pub given_found : (edges a given : Sparse) (n m : ℕ) (old new : Numbers) → HasEdges edges a → AreNumbers n old → ((v : ℕ) → number_at old v ≡ number_in given v)
+    → AreNumbers m new → KeepSettling edges old (map tentative given.entries) new [] → (column : Sparse) → column.shape ≡ column_shape a → ((v : ℕ) → number_in column v ≡ number_at new v) → AreDistancesGiven a given column
+given_found edges a given n m old new has first begins last keep column shape values =
     let turned : AreEdges edges a = subst (λ (x : Sparse). AreEdges x a) (sym has.turned) (edges_turned a has.matrix) in
-    let begun : IsSettling a (number_in given) (number_at old) (map tentative es) = subst (λ (xs : List Entry). IsSettling a (number_in given) (number_at old) (map tentative xs)) (sym same) (given_begun a given (number_at old) (number_fits n old first) begins) in
-    given_ended a given (number_at new) (number_fits m new last) column shape values (keep a (number_in given) turned begun)
+    given_ended a given (number_at new) (number_fits m new last) column shape values (keep a (number_in given) turned (given_begun a given (number_at old) (number_fits n old first) begins))
 
 -- in the graph of a matrix of bits
 module _ (a : Sparse) (is : IsMatrix or_and a) (square : a.shape.rows ≡ a.shape.cols) (fits : a.shape.rows < infinite) (given : Sparse) (column_is : IsMatrix min_plus given) (rows : given.shape.rows ≡ a.shape.rows) where

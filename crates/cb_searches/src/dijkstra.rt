@@ -73,6 +73,18 @@ ghost use Rattle.cb_dcsc.specs.Columns.{in_column, rows_of, values_of};
 ghost use Rattle.cb_searches.specs.Numbers.{number_at, AreNumbers};
 ghost use Rattle.cb_searches.specs.Settling.{KeepSettling, IsNoMoreWork, tentative};
 
+impl Tentative {
+    /// The row of an entry as a vertex, and its value as the number that the vertex fell to.
+    pub(crate) fn of(entry: Entry) -> Self
+        ensures { result ≡ tentative entry }
+    {
+        Tentative {
+            number: entry.value,
+            vertex: entry.row,
+        }
+    }
+}
+
 /// Settles every vertex, given the vertices that may still lower others: the numbers become distances. The edges are
 /// the entries of the transposed matrix.
 ///
@@ -98,16 +110,13 @@ fn waiting_of(alloc: Global, fell: &[Entry]) -> Result<BinaryHeap<Tentative>, Al
 {
     let mut waiting = BinaryHeap::with_capacity(alloc, fell.len())?;
     for entry in fell {
-        waiting.push(Tentative {
-            number: entry.value,
-            vertex: entry.row,
-        })?;
+        waiting.push(Tentative::of(*entry))?;
     }
     Ok(waiting)
 }
 
 /// Settles vertices until none waits.
-fn settle_waiting(
+pub(crate) fn settle_waiting(
     known: &mut Numbers,
     waiting: &mut BinaryHeap<Tentative>,
     edges: &Block<MinPlus>,

@@ -2,22 +2,24 @@
 //!
 //! All vertices with an initial value wait at the start, and then vertices [settle](crate::dijkstra) one after another.
 //! A search from one source is the case in which the source alone has an initial value: 0.
-ghost use Rattle.std.specs.Prelude.{◌≡◌, ℕ, IfOk};
+ghost use Rattle.std.specs.Prelude.{◌≡◌, ℕ, All, Contains, IfOk};
+ghost use Rattle.std.specs.BinaryHeap.{heap_items};
 ghost use Rattle.cb_semirings.specs.Tables.{min_plus};
 ghost use Rattle.cb_matrix.specs.Sparse.{Sparse, IsMatrix};
 ghost use Rattle.cb_searches.specs.Walks.{column_shape};
 ghost use Rattle.cb_searches.specs.Numbers.{number_at, number_in, AreNumbers};
 ghost use Rattle.cb_searches.specs.Searches.{HasEdges};
+ghost use Rattle.cb_searches.specs.Settling.{tentative};
 ghost use Rattle.cb_searches.specs.GivenNumbers.{AreDistancesGiven, AreLevelsGiven};
 
-use crate::dijkstra::settle;
+use crate::dijkstra::{Tentative, settle_waiting};
 use crate::numbers::Numbers;
 use crate::one_block::{unit_edges, weighted_edges};
-use crate::searches::take_over;
 use cb_dcsc::Block;
 use cb_matrix::Matrix;
 use cb_semirings::{MinPlus, OrAnd};
 use std::alloc::{AllocError, Global};
+use std::collections::BinaryHeap;
 
 /// The distance of each vertex from initial values, in the graph of a square block: the least sum of an initial value and
 /// the weight of a walk from its vertex, over all vertices that have an initial value. Initial values and distances are
@@ -30,7 +32,7 @@ use std::alloc::{AllocError, Global};
 pub fn distances_given(
     alloc: Global,
     graph: &Block<MinPlus>,
-    given: &Matrix<MinPlus>,
+    given: &Block<MinPlus>,
 ) -> Result<Matrix<MinPlus>, AllocError>
     requires square { graph.now.shape.rows ≡ graph.now.shape.cols }
     requires column { given.now.shape ≡ column_shape graph.now }
@@ -49,7 +51,7 @@ pub fn distances_given(
 pub fn levels_given(
     alloc: Global,
     graph: &Block<OrAnd>,
-    given: &Matrix<MinPlus>,
+    given: &Block<MinPlus>,
 ) -> Result<Matrix<MinPlus>, AllocError>
     requires square { graph.now.shape.rows ≡ graph.now.shape.cols }
     requires column { given.now.shape ≡ column_shape graph.now }
@@ -68,14 +70,15 @@ pub fn levels_given(
 fn given_by_edges(
     alloc: Global,
     edges: &Block<MinPlus>,
-    given: &Matrix<MinPlus>,
+    given: &Block<MinPlus>,
 ) -> Result<Matrix<MinPlus>, AllocError>
     requires graph { (a : Sparse) × HasEdges edges.now a × (given.now.shape ≡ column_shape a) }
     ensures shape { IfOk result (λ column. column.shape ≡ given.now.shape) }
     ensures distances { IfOk result (λ column. (a : Sparse) → HasEdges edges.now a → given.now.shape ≡ column_shape a → AreDistancesGiven a given.now column) }
 {
     let mut known = first_numbers(alloc, edges.len(), given)?;
-    settle(alloc, &mut known, edges, given.entries())?;
+    let mut waiting = all_waiting(alloc, given)?;
+    settle_waiting(&mut known, &mut waiting, edges)?;
     known.column(alloc, given.shape())
 }
 
@@ -83,7 +86,7 @@ fn given_by_edges(
 fn first_numbers(
     alloc: Global,
     entries: usize,
-    given: &Matrix<MinPlus>,
+    given: &Block<MinPlus>,
 ) -> Result<Numbers, AllocError>
     requires column { given.now.shape.cols ≡ 1 }
     ensures values { IfOk result (λ known. (v : ℕ) → number_at known v ≡ number_in given.now v) }
@@ -91,6 +94,20 @@ fn first_numbers(
 {
     let shape = given.shape();
     let mut known = Numbers::unknown(alloc, shape.rows(), entries.max(given.len()))?;
-    take_over(&mut known, given.entries())?;
+    for n in 0..given.len() {
+        let entry = given.entry_at(n);
+        known.set(entry.row, entry.value)?;
+    }
     Ok(known)
+}
+
+/// A heap of the vertices that have an initial value, each with it.
+fn all_waiting(alloc: Global, given: &Block<MinPlus>) -> Result<BinaryHeap<Tentative>, AllocError>
+    ensures { IfOk result (λ waiting. All (λ e. Contains (heap_items waiting) (tentative e)) given.now.entries) }
+{
+    let mut waiting = BinaryHeap::with_capacity(alloc, given.len())?;
+    for n in 0..given.len() {
+        waiting.push(Tentative::of(given.entry_at(n)))?;
+    }
+    Ok(waiting)
 }

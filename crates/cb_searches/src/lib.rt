@@ -24,6 +24,6 @@ pub use given_numbers::{distances_given, levels_given};
 pub use least_parents::parents;
 pub use numbers::Numbers;
 pub use one_block::{distances, levels};
-pub use searches::{Search, as_matrix, column_shape, vector_product};
+pub use searches::{Search, column_shape, vector_product};
 pub use several_sources::{distances_from, levels_from};
 pub use walks::Walks;

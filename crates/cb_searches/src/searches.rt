@@ -148,7 +148,7 @@ fn lower_entries(
 }
 
 /// Takes over the values of the entries.
-pub(crate) fn take_over(known: &mut Numbers, entries: &[Entry]) -> Result<(), AllocError>
+fn take_over(known: &mut Numbers, entries: &[Entry]) -> Result<(), AllocError>
     requires numbers { (n : ℕ) × AreNumbers n known.old × All (λ e. (e.row < n) × (e.value < infinite)) entries.now }
     requires rows { AllPairs (λ d e. d.row ≢ e.row) entries.now }
     requires column { All (λ e. e.column ≡ 0) entries.now }
@@ -221,7 +221,7 @@ pub fn vector_product<S: Semiring>(
 }
 
 /// A block as a matrix. Copies its entries.
-pub fn as_matrix<S: Semiring>(block: &Block<S>) -> Result<Matrix<S>, AllocError>
+fn as_matrix<S: Semiring>(block: &Block<S>) -> Result<Matrix<S>, AllocError>
     ensures { IfOk result (λ m. m ≡ block.now) }
 {
     let shape = block.shape();

@@ -58,7 +58,7 @@ pub trait Walks: Semiring {
     fn numbers_given(
         alloc: Global,
         graph: &Block<Self>,
-        given: &Matrix<MinPlus>,
+        given: &Block<MinPlus>,
     ) -> Result<Matrix<MinPlus>, AllocError>
         requires square { graph.now.shape.rows ≡ graph.now.shape.cols }
         requires column { given.now.shape ≡ column_shape graph.now }
@@ -93,7 +93,7 @@ impl Walks for OrAnd {
     fn numbers_given(
         alloc: Global,
         graph: &Block<OrAnd>,
-        given: &Matrix<MinPlus>,
+        given: &Block<MinPlus>,
     ) -> Result<Matrix<MinPlus>, AllocError> {
         levels_given(alloc, graph, given)
     }
@@ -125,7 +125,7 @@ impl Walks for MinPlus {
     fn numbers_given(
         alloc: Global,
         graph: &Block<MinPlus>,
-        given: &Matrix<MinPlus>,
+        given: &Block<MinPlus>,
     ) -> Result<Matrix<MinPlus>, AllocError> {
         distances_given(alloc, graph, given)
     }
