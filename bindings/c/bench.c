@@ -1,8 +1,10 @@
 /*
- * Times the product of a matrix by itself over the semiring plus-times, on lists and kept: bench FILE [RUNS]
+ * Times calls on a file: bench FILE [RUNS]
  *
- * FILE is a Matrix Market text. Prints the entries of the matrix and of the product, and the medians of RUNS
- * products (10 by default) and of freeing their results, in microseconds of the clock.
+ * FILE is a Matrix Market text of a square matrix. Prints the entries of the matrix and of its square over plus-times,
+ * and the medians of RUNS calls (10 by default), in microseconds of the clock: the square on lists and of a kept matrix,
+ * and freeing it; and, of the kept matrix as a graph over or-and, the transpose, and the levels and the parents from the
+ * first vertex.
  */
 #include <stdio.h>
 #include <stdlib.h>
@@ -56,6 +58,42 @@ static int time_kept(const struct cbgrid_columns *lists, size_t runs, double *pr
     return code;
 }
 
+typedef int call(const struct cbgrid_matrix *graph, struct cbgrid_matrix **out);
+
+static int levels(const struct cbgrid_matrix *graph, struct cbgrid_matrix **out) {
+    return cbgrid_matrix_levels(graph, 0, out);
+}
+
+static int parents(const struct cbgrid_matrix *graph, struct cbgrid_matrix **out) {
+    return cbgrid_matrix_parents(graph, 0, out);
+}
+
+/* Times a call on a graph. Returns the code. */
+static int time_call(const struct cbgrid_matrix *graph, const char *name, call *made, size_t runs, double *times) {
+    struct cbgrid_matrix *out;
+    int code = 0;
+    for (size_t n = 0; n < runs && !code; n++) {
+        double start = now();
+        code = made(graph, &out);
+        times[n] = now() - start;
+        if (!code) cbgrid_matrix_free(out);
+    }
+    if (!code) printf("%.1f us %s\n", median(times, runs), name);
+    return code;
+}
+
+/* Times the calls on the graph of a text. Returns the code. */
+static int time_graph(const char *text, size_t len, size_t runs, double *times) {
+    struct cbgrid_matrix *graph;
+    int code = cbgrid_matrix_read(CBGRID_OR_AND, text, len, NULL, &graph);
+    if (code) return code;
+    code = time_call(graph, "a transpose", cbgrid_matrix_transpose, runs, times);
+    if (!code) code = time_call(graph, "the levels from the first vertex", levels, runs, times);
+    if (!code) code = time_call(graph, "the parents from the first vertex", parents, runs, times);
+    cbgrid_matrix_free(graph);
+    return code;
+}
+
 int main(int argc, char **argv) {
     size_t runs = argc > 2 ? strtoul(argv[2], NULL, 10) : 10, len = 0;
     char *text = argc > 1 ? contents(argv[1], &len) : NULL;
@@ -64,7 +102,6 @@ int main(int argc, char **argv) {
 
     struct cbgrid_columns matrix, product;
     int code = cbgrid_read(CBGRID_PLUS_TIMES, text, len, NULL, &matrix);
-    free(text);
     size_t made = 0;
     for (size_t n = 0; n < runs && !code; n++) {
         double start = now();
@@ -82,6 +119,8 @@ int main(int argc, char **argv) {
     if (code) return fprintf(stderr, "%s\n", cbgrid_message(code)), 1;
     printf("%.1f us a product of kept matrices, %.1f us to free it\n", median(products, runs), median(frees, runs));
     cbgrid_free_columns(&matrix);
-    free(products), free(frees);
+    code = time_graph(text, len, runs, products);
+    if (code) return fprintf(stderr, "%s\n", cbgrid_message(code)), 1;
+    free(text), free(products), free(frees);
     return 0;
 }
