@@ -16,9 +16,9 @@ use Rattle.cb_matrix.proofs.Made.{at-matrix_of, same_matrix_of}
 use Rattle.cb_matrix.proofs.Equal.{matrix_is}
 use Rattle.cb_matrix.proofs.Totals.{add_zero, value_at-value}
 use Rattle.cb_matrix.proofs.Split.{total_parts}
-use Rattle.cb_layout.specs.Parts.{part, part_start, part_length}
-use Rattle.cb_layout.specs.Blocks.{block_of}
-use Rattle.cb_layout.specs.Vectors.{piece_of, piece_start}
+use Rattle.cb_grid.specs.Parts.{part, part_start, part_length}
+use Rattle.cb_grid.specs.Blocks.{block_of}
+use Rattle.cb_grid.specs.Pieces.{piece_of, piece_start}
 use Rattle.cb_plan.specs.Algebras.{matrices}
 use Rattle.cb_plan.proofs.Effects.{split}
 use Rattle.cb_plan_parts.proofs.PartStarts.{start_zero, start_rises, start_within, start_last, map_below}

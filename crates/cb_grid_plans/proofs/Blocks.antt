@@ -6,8 +6,8 @@ use Rattle.cb_matrix.specs.Sparse.{Sparse, Extent, at}
 use Rattle.cb_matrix.specs.Values.{matrix_of}
 use Rattle.cb_matrix.specs.Operations.{transposed, sum_of, times_of, pruned, cut}
 use Rattle.cb_matrix.proofs.Made.{at-matrix_of, same_matrix_of}
-use Rattle.cb_layout.specs.Parts.{part, part_start, part_shape}
-use Rattle.cb_layout.specs.Blocks.{block_of}
+use Rattle.cb_grid.specs.Parts.{part, part_start, part_shape}
+use Rattle.cb_grid.specs.Blocks.{block_of}
 use Rattle.cb_plan_parts.proofs.PartStarts.{start_within}
 
 module _ (s : Arithmetic) (q : ℕ) where

@@ -8,8 +8,8 @@ use Rattle.cb_plan.specs.declared.acts.Op.{Op}
 use Rattle.cb_plan.specs.declared.acts.Op.TheVariants as op_is
 use Rattle.cb_plan.specs.Meaning.{Algebra, State, meaning, one}
 use Rattle.cb_plan.proofs.Effects.{split, meaning-append}
-use Rattle.cb_layout.specs.Parts.{part, part_length}
-use Rattle.cb_layout.proofs.Parts.{rank_below}
+use Rattle.cb_grid.specs.Parts.{part, part_length}
+use Rattle.cb_grid.proofs.Parts.{rank_below}
 use Rattle.cb_plan_parts.specs.PlanParts.{each_rank}
 use Rattle.cb_plan_parts.proofs.Everywhere.{each_here, each_elsewhere}
 use Rattle.cb_plan_parts.proofs.Grid.{at_place}

@@ -12,8 +12,8 @@ use Rattle.cb_plan.specs.Meaning.{Algebra, State, act, meaning, one}
 use Rattle.cb_plan.specs.Algebras.{matrices, shapes}
 use Rattle.cb_plan.specs.Checks.{started, none_shut}
 use Rattle.cb_plan.proofs.Effects.{split, meaning-append}
-use Rattle.cb_layout.specs.Parts.{part_shape}
-use Rattle.cb_layout.proofs.Parts.{rank_of, row_below, rank_below}
+use Rattle.cb_grid.specs.Parts.{part_shape}
+use Rattle.cb_grid.proofs.Parts.{rank_of, row_below, rank_below}
 use Rattle.cb_collectives.specs.Collectives.{sent, shut_acts}
 use Rattle.cb_collectives.proofs.SendMeaning.{act_sent}
 use Rattle.cb_collectives.proofs.SendCheck.{sends_keep_lanes, sends_pass}

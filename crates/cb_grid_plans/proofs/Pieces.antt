@@ -9,7 +9,7 @@ use Rattle.cb_plan.specs.declared.acts.Op.{Op}
 use Rattle.cb_plan.specs.declared.acts.Op.TheVariants as op_is
 use Rattle.cb_plan.specs.Meaning.{Algebra, State, meaning, one, two}
 use Rattle.cb_plan.proofs.Effects.{split}
-use Rattle.cb_layout.specs.Parts.{row_group, column_group, part, part_start}
+use Rattle.cb_grid.specs.Parts.{row_group, column_group, part, part_start}
 use Rattle.cb_collectives.specs.Collectives.{is_member, member, place_of, exchanged}
 use Rattle.cb_collectives.proofs.Places.{place_of-member}
 use Rattle.cb_collectives.proofs.Spread.{broadcast_spreads}

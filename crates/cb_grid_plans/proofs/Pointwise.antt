@@ -13,9 +13,9 @@ use Rattle.cb_plan.specs.Meaning.{State, meaning, one, two, target_of, result_of
 use Rattle.cb_plan.specs.Algebras.{matrices}
 use Rattle.cb_plan.specs.Checks.{started, none_shut}
 use Rattle.cb_plan.proofs.Effects.{meaning-append}
-use Rattle.cb_layout.specs.Parts.{part_shape, part_length}
-use Rattle.cb_layout.specs.Blocks.{block_of}
-use Rattle.cb_layout.proofs.Parts.{rank_below}
+use Rattle.cb_grid.specs.Parts.{part_shape, part_length}
+use Rattle.cb_grid.specs.Blocks.{block_of}
+use Rattle.cb_grid.proofs.Parts.{rank_below}
 use Rattle.cb_collectives.specs.Collectives.{shut_acts}
 use Rattle.cb_collectives.proofs.ShutMeaning.{shut_nothing}
 use Rattle.cb_plan_parts.specs.PlanParts.{each_rank, operand_starts}

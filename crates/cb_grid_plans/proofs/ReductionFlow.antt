@@ -11,8 +11,8 @@ use Rattle.cb_plan.specs.declared.acts.Act.{Act}
 use Rattle.cb_plan.specs.Meaning.{State, meaning, one}
 use Rattle.cb_plan.specs.Algebras.{shapes}
 use Rattle.cb_plan.specs.Checks.{started, none_shut}
-use Rattle.cb_layout.specs.Parts.{part, part_start, part_length, part_shape}
-use Rattle.cb_layout.proofs.Parts.{rank_of, row_below, rank_below}
+use Rattle.cb_grid.specs.Parts.{part, part_start, part_length, part_shape}
+use Rattle.cb_grid.proofs.Parts.{rank_of, row_below, rank_below}
 use Rattle.cb_plan_parts.specs.PlanParts.{each_rank, operand_starts}
 use Rattle.cb_plan_parts.specs.Flows.{Flows}
 use Rattle.cb_plan_parts.proofs.Flows.{flows-append, each_flows}

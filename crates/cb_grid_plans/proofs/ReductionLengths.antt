@@ -3,7 +3,7 @@ use Rattle.std.proofs.Common.{ℕ, ◌+◌, ◌-◌, ◌*◌, ◌/◌, ◌%◌, 
 use Rattle.std.proofs.lemmas.List.FromFn.{length-map-range_with_len}
 use Rattle.cb_matrix.specs.Sparse.{Extent}
 use Rattle.cb_plan.specs.declared.acts.Op.TheVariants as op_is
-use Rattle.cb_layout.specs.Parts.{part, part_length}
+use Rattle.cb_grid.specs.Parts.{part, part_length}
 use Rattle.cb_collectives.specs.Collectives.{sent, shut_acts}
 use Rattle.cb_plan_parts.specs.PlanParts.{tagged, each_rank}
 use Rattle.cb_plan_parts.proofs.Lengths.{squared, each_rank_at_most, shut_at_most}

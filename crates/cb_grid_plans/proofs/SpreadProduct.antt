@@ -7,10 +7,10 @@ use Rattle.cb_matrix.specs.Operations.{cut}
 use Rattle.cb_plan.specs.Meaning.{Algebra, State, meaning, one}
 use Rattle.cb_plan.specs.Algebras.{matrices}
 use Rattle.cb_plan.proofs.Effects.{meaning-append}
-use Rattle.cb_layout.specs.Parts.{part, part_length}
-use Rattle.cb_layout.specs.Blocks.{block_of}
-use Rattle.cb_layout.specs.Vectors.{piece_of}
-use Rattle.cb_layout.proofs.Parts.{rank_below}
+use Rattle.cb_grid.specs.Parts.{part, part_length}
+use Rattle.cb_grid.specs.Blocks.{block_of}
+use Rattle.cb_grid.specs.Pieces.{piece_of}
+use Rattle.cb_grid.proofs.Parts.{rank_below}
 use Rattle.cb_collectives.specs.Collectives.{shut_acts}
 use Rattle.cb_collectives.proofs.ShutMeaning.{shut_nothing}
 use Rattle.cb_plan_parts.proofs.Grid.{at_place}

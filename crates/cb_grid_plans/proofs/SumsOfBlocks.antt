@@ -9,8 +9,8 @@ use Rattle.cb_matrix.specs.Operations.{cut, sum_of, transposed, column_sums, row
 use Rattle.cb_matrix.proofs.Made.{at-matrix_of, same_matrix_of, IsMatrix-matrix_of}
 use Rattle.cb_matrix.proofs.Totals.{value_at-value}
 use Rattle.cb_matrix.proofs.Split.{total_parts}
-use Rattle.cb_layout.specs.Parts.{part, part_start, part_length, part_shape}
-use Rattle.cb_layout.specs.Blocks.{block_of}
+use Rattle.cb_grid.specs.Parts.{part, part_start, part_length, part_shape}
+use Rattle.cb_grid.specs.Blocks.{block_of}
 use Rattle.cb_plan.specs.Meaning.{State, meaning}
 use Rattle.cb_plan.specs.Algebras.{matrices}
 use Rattle.cb_plan.proofs.Effects.{meaning-append}

@@ -13,9 +13,9 @@ use Rattle.cb_plan.specs.Meaning.{State}
 use Rattle.cb_plan.specs.Algebras.{shapes}
 use Rattle.cb_plan.specs.Checks.{none_shut, lanes_after}
 use Rattle.cb_plan.proofs.PassingActs.{lanes_after-append}
-use Rattle.cb_layout.specs.Parts.{row_group, column_group, part, part_start, part_length, part_shape}
-use Rattle.cb_layout.specs.Vectors.{piece_shape}
-use Rattle.cb_layout.proofs.Parts.{rank_of, row_below}
+use Rattle.cb_grid.specs.Parts.{row_group, column_group, part, part_start, part_length, part_shape}
+use Rattle.cb_grid.specs.Pieces.{piece_shape}
+use Rattle.cb_grid.proofs.Parts.{rank_of, row_below}
 use Rattle.cb_collectives.specs.Collectives.{member, sent_from}
 use Rattle.cb_collectives.proofs.BroadcastCheck.{broadcast_passes, broadcast_keeps_lanes}
 use Rattle.cb_collectives.proofs.SendCheck.{sends_keep_lanes, all_to_all_passes}

@@ -8,7 +8,7 @@ use Rattle.cb_matrix.specs.Sparse.{Extent}
 use Rattle.cb_plan.specs.declared.acts.Op.{Op}
 use Rattle.cb_plan.specs.declared.acts.Op.TheVariants as op_is
 use Rattle.cb_plan.specs.declared.acts.Act.TheVariants as act_is
-use Rattle.cb_layout.specs.Parts.{row_group, column_group, part_length}
+use Rattle.cb_grid.specs.Parts.{row_group, column_group, part_length}
 use Rattle.cb_collectives.specs.Collectives.{shut_acts}
 use Rattle.cb_collectives.proofs.Counts.{count_all_to_all}
 use Rattle.cb_plan_parts.specs.PlanParts.{tagged}

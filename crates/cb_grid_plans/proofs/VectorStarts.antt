@@ -9,9 +9,9 @@ use Rattle.cb_plan.specs.declared.acts.Start.{Start}
 use Rattle.cb_plan.specs.Meaning.{State}
 use Rattle.cb_plan.specs.Checks.{none_shut, started, started_from}
 use Rattle.cb_plan.specs.Plans.{IsElsewhere}
-use Rattle.cb_layout.specs.Parts.{part_shape}
-use Rattle.cb_layout.specs.Vectors.{piece_shape}
-use Rattle.cb_layout.proofs.Parts.{rank_below}
+use Rattle.cb_grid.specs.Parts.{part_shape}
+use Rattle.cb_grid.specs.Pieces.{piece_shape}
+use Rattle.cb_grid.proofs.Parts.{rank_below}
 use Rattle.cb_plan_parts.specs.PlanParts.{part_start_at}
 use Rattle.cb_plan_parts.specs.Flows.{Flows}
 use Rattle.cb_plan_parts.proofs.Grid.{at_place}

@@ -8,7 +8,7 @@ use Rattle.cb_plan.specs.declared.acts.Op.{Op}
 use Rattle.cb_plan.specs.declared.acts.Op.TheVariants as op_is
 use Rattle.cb_plan.specs.declared.acts.Act.{Act}
 use Rattle.cb_plan.specs.Meaning.{State}
-use Rattle.cb_layout.specs.Parts.{part, part_length}
+use Rattle.cb_grid.specs.Parts.{part, part_length}
 use Rattle.cb_collectives.specs.Collectives.{shut_acts}
 use Rattle.cb_plan_parts.specs.PlanParts.{each_rank, HasParts}
 use Rattle.cb_grid_plans.specs.GridPlans.{mirror_acts, Leaves}

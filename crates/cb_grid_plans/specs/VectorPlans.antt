@@ -11,8 +11,8 @@ use Rattle.cb_plan.specs.declared.acts.Act.TheVariants as act_is
 use Rattle.cb_plan.specs.declared.acts.Start.{Start}
 use Rattle.cb_plan.specs.Meaning.{State, meaning}
 use Rattle.cb_plan.specs.Algebras.{matrices}
-use Rattle.cb_layout.specs.Parts.{row_group, column_group, part, part_start, part_length}
-use Rattle.cb_layout.specs.Vectors.{piece_shape, piece_of}
+use Rattle.cb_grid.specs.Parts.{row_group, column_group, part, part_start, part_length}
+use Rattle.cb_grid.specs.Pieces.{piece_shape, piece_of}
 use Rattle.cb_collectives.specs.Collectives.{broadcast_acts, all_to_all_acts, shut_acts}
 use Rattle.cb_plan_parts.specs.PlanParts.{tagged, part_start_at, HasParts}
 

@@ -7,7 +7,7 @@ ghost use Rattle.cb_plan_parts.specs.Growth.{no_memory};
 ghost use Rattle.cb_grid_plans.specs.GridPlans.{one_operand, two_operands, placewise_acts, IsSumPlan, IsTimesPlan, IsPrunePlan};
 
 use crate::{LEFT, RESULT, RIGHT};
-use cb_layout::Grid;
+use cb_grid::Grid;
 use cb_matrix::{Shape, Test};
 use cb_plan::{Op, Plan, PlanFault, Planned};
 use cb_plan_parts::{Operand, finish, operand_starts, work_everywhere};

@@ -8,7 +8,7 @@ ghost use Rattle.cb_grid_plans.specs.GridPlans.{one_operand, mirrored, mirror_ac
 use crate::placewise::one_operand;
 use crate::{LEFT, RESULT};
 use cb_collectives::send;
-use cb_layout::Grid;
+use cb_grid::Grid;
 use cb_letters::Tag;
 use cb_matrix::Shape;
 use cb_plan::{Op, Plan, PlanFault, Planned};

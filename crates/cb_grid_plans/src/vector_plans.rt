@@ -8,8 +8,8 @@ ghost use Rattle.std.specs.List.{range_with_len};
 ghost use Rattle.cb_plan.specs.Runnable.{IsRunnable};
 ghost use Rattle.cb_plan.specs.Plans.{IsElsewhere};
 ghost use Rattle.cb_plan.specs.declared.stores.TheConstants.{SLOTS};
-ghost use Rattle.cb_layout.specs.Parts.{part_length};
-ghost use Rattle.cb_layout.specs.Vectors.{piece_shape};
+ghost use Rattle.cb_grid.specs.Parts.{part_length};
+ghost use Rattle.cb_grid.specs.Pieces.{piece_shape};
 ghost use Rattle.cb_plan_parts.specs.Growth.{IsWithinLimit, Grew, no_memory};
 ghost use Rattle.cb_grid_plans.specs.VectorPlans.{column, vector_starts_at, vector_starts, works, each_works, vector_acts, IsVectorPlan};
 ghost use Rattle.cb_grid_plans.specs.VectorPlans.{piece_broadcast, part_broadcasts, piece_broadcasts, add_piece, product_ops, products_at};
@@ -17,7 +17,7 @@ ghost use Rattle.cb_grid_plans.specs.VectorPlans.{piece_cut, cut_ops, cuts_at, e
 
 use crate::{LEFT, RESULT, RIGHT};
 use cb_collectives::{all_to_all, broadcast};
-use cb_layout::Grid;
+use cb_grid::Grid;
 use cb_letters::Tag;
 use cb_matrix::Shape;
 use cb_plan::{Act, Op, Plan, PlanFault, Planned, Start};

@@ -7,12 +7,12 @@ use Rattle.cb_matrix.specs.declared.Entry.{Entry}
 use Rattle.cb_matrix.specs.Sparse.{Extent, Sparse, IsMatrix, IsBefore}
 use Rattle.cb_dcsc.specs.Columns.{with_entries}
 use Rattle.cb_dcsc.proofs.Appended.{matrix_append}
-use Rattle.cb_layout.specs.Blocks.{block_at}
-use Rattle.cb_layout.specs.Distributed.{Distributed, AreBlocks, glued_blocks}
-use Rattle.cb_layout.specs.Tiles.{Tiles, block_tiles}
-use Rattle.cb_layout.proofs.Tiles.{owner_of, moved, tile_of, entries_of, tile_matrix}
-use Rattle.cb_layout.proofs.EntriesByTile.{IsScattered}
-use Rattle.cb_layout.proofs.Cuts.{block_tiling}
+use Rattle.cb_grid.specs.Blocks.{block_at, glued_blocks}
+use Rattle.cb_layout.specs.Distributed.{Distributed, AreBlocks}
+use Rattle.cb_grid.specs.Tiles.{Tiles, block_tiles}
+use Rattle.cb_grid.proofs.Tiles.{owner_of, moved, tile_of, entries_of, tile_matrix}
+use Rattle.cb_grid.proofs.EntriesByTile.{IsScattered}
+use Rattle.cb_grid.proofs.Cuts.{block_tiling}
 use Rattle.cb_layout.proofs.BlockColumns.{whole_is_matrix, are_scattered}
 use Rattle.cb_layout.proofs.GrownBlocks.{blocks_of}
 

@@ -13,16 +13,16 @@ use Rattle.cb_matrix.specs.Values.{empty_matrix}
 use Rattle.cb_dcsc.specs.Columns.{in_column, columns_with_entries, rows_of, values_of}
 use Rattle.cb_dcsc.specs.Compressed.{entries_in}
 use Rattle.cb_dcsc.proofs.Numbers.{columns_all, entries_all}
-use Rattle.cb_layout.specs.Parts.{part_start, part_length, part_shape}
-use Rattle.cb_layout.specs.Blocks.{block_at, block_of, place_in_part}
-use Rattle.cb_layout.specs.Distributed.{AreBlocks, glued_blocks}
+use Rattle.cb_grid.specs.Parts.{part_start, part_length, part_shape}
+use Rattle.cb_grid.specs.Blocks.{block_at, block_of, place_in_part, glued_blocks}
+use Rattle.cb_layout.specs.Distributed.{AreBlocks}
 use Rattle.cb_layout.specs.Fronts.{columns_in}
 use Rattle.cb_layout.specs.Segments.{shifted}
-use Rattle.cb_layout.specs.Tiles.{Tiles, block_tiles}
-use Rattle.cb_layout.proofs.Parts.{row_of_rank, column_of_rank, rank_below, rank_of, row_below, own_below}
-use Rattle.cb_layout.proofs.Tiles.{IsTiling, owner_of, moved, tile_of, entries_of, entries_of_back}
-use Rattle.cb_layout.proofs.EntriesByTile.{IsScattered}
-use Rattle.cb_layout.proofs.Cuts.{block_tiling}
+use Rattle.cb_grid.specs.Tiles.{Tiles, block_tiles}
+use Rattle.cb_grid.proofs.Parts.{row_of_rank, column_of_rank, rank_below, rank_of, row_below, own_below}
+use Rattle.cb_grid.proofs.Tiles.{IsTiling, owner_of, moved, tile_of, entries_of, entries_of_back}
+use Rattle.cb_grid.proofs.EntriesByTile.{IsScattered}
+use Rattle.cb_grid.proofs.Cuts.{block_tiling}
 use Rattle.cb_layout.proofs.GluedTiles.{glued_is_matrix, tile_is_cut, tile_is_part}
 use Rattle.cb_layout.proofs.EntryCounts.{before, before_none, before_more, before_all, entries_below}
 use Rattle.cb_layout.proofs.ColumnNumbers.{columns_ascend}

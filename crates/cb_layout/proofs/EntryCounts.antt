@@ -8,8 +8,8 @@ use Rattle.std.proofs.Math.Nat.{mul-le-mul_left}
 use Rattle.cb_matrix.specs.declared.Entry.{Entry}
 use Rattle.cb_matrix.specs.Sparse.{Extent, IsBefore, IsInside}
 use Rattle.cb_matrix.proofs.Places.{AllPairs-head, AllPairs-tail}
-use Rattle.cb_layout.specs.Tiles.{Tiles}
-use Rattle.cb_layout.proofs.Tiles.{owner_of, entries_of}
+use Rattle.cb_grid.specs.Tiles.{Tiles}
+use Rattle.cb_grid.proofs.Tiles.{owner_of, entries_of}
 
 -- the entries of the tiles below the nth
 abbrev pub before : Tiles → ℕ → List Entry → List Entry

@@ -6,8 +6,8 @@ use Rattle.cb_matrix.specs.Values.{matrix_of}
 use Rattle.cb_matrix.proofs.Made.{at-matrix_of, IsMatrix-matrix_of}
 use Rattle.cb_matrix.proofs.Equal.{matrix_is}
 use Rattle.cb_matrix.proofs.Totals.{value_at-value}
-use Rattle.cb_layout.specs.Tiles.{Tiles}
-use Rattle.cb_layout.proofs.Tiles.{IsTiling, tile_of, tile_matrix, tile_value}
+use Rattle.cb_grid.specs.Tiles.{Tiles}
+use Rattle.cb_grid.proofs.Tiles.{IsTiling, tile_of, tile_matrix, tile_value}
 
 -- the matrix that tiles glue to
 abbrev pub glued_tiles : Arithmetic → Extent → Tiles → (ℕ → Sparse) → Sparse

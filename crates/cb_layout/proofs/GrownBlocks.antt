@@ -10,14 +10,14 @@ use Rattle.cb_matrix.specs.Values.{empty_matrix}
 use Rattle.cb_matrix.proofs.Made.{AllPairs-nil}
 use Rattle.cb_dcsc.specs.Columns.{with_entry}
 use Rattle.cb_dcsc.proofs.Pushed.{matrix_push}
-use Rattle.cb_layout.specs.declared.TheConstants.{LARGEST_SIDE}
-use Rattle.cb_layout.specs.Parts.{part_shape}
-use Rattle.cb_layout.specs.Blocks.{block_at}
-use Rattle.cb_layout.specs.Distributed.{AreBlocks, glued_blocks}
-use Rattle.cb_layout.specs.Tiles.{Tiles, block_tiles}
-use Rattle.cb_layout.proofs.Tiles.{owner_of, moved}
-use Rattle.cb_layout.proofs.EntriesByTile.{IsScattered, scattered_none, tile_is, rank_of_one, inside_of_one, order_of_one, scattered_one}
-use Rattle.cb_layout.proofs.Cuts.{block_tiling, block_is, glued_cut}
+use Rattle.cb_grid.specs.declared.TheConstants.{LARGEST_SIDE}
+use Rattle.cb_grid.specs.Parts.{part_shape}
+use Rattle.cb_grid.specs.Blocks.{block_at, glued_blocks}
+use Rattle.cb_layout.specs.Distributed.{AreBlocks}
+use Rattle.cb_grid.specs.Tiles.{Tiles, block_tiles}
+use Rattle.cb_grid.proofs.Tiles.{owner_of, moved}
+use Rattle.cb_grid.proofs.EntriesByTile.{IsScattered, scattered_none, tile_is, rank_of_one, inside_of_one, order_of_one, scattered_one}
+use Rattle.cb_grid.proofs.Cuts.{block_tiling, block_is, glued_cut}
 use Rattle.cb_layout.proofs.BlockColumns.{whole_is_matrix, are_scattered}
 
 -- lists of entries that stand in the tiles of a matrix are its blocks, and glue to it

@@ -1,25 +1,14 @@
 -- The toolbox of lemmas on layouts, by topic. Crates above cite what is named here; each lemma's own sentence
 -- stands over it.
 --
--- Parts: the ranks of a grid by row and column: `row_of_rank`, `column_of_rank`, `rank_of`, `rank_below`,
---   `row_below`; and the part of a dimension that has a place: `part_below`, `start_there`, `place_below`,
---   `own_below`, `own_part`, `part_order`.
--- Cuts: the blocks of a matrix: `block_tiling`, `block_is`, and `glued_cut`, that they glue to it.
 -- VectorPieces: the pieces of a vector: `input_tiling`, `result_tiling`, `piece_is`, and `glued_pieces_cut`, that they
 --   glue to it; a grid that has ranks has a side: `some_side`.
 -- GrownBlocks: a matrix without entries is one: `empty_is_matrix`. The rest, on blocks that grow entry by entry, is for
 --   this crate.
-pub mod Parts
-pub mod Cuts
 pub mod VectorPieces
 pub mod GrownBlocks
--- For this crate alone. SmallCases: what the definitions give in a few cases. Tiles: a shape cut into tiles, each
--- place in one of them. EntriesByTile: a matrix in a list of entries for each tile. PlacedEntries: entries of tiles
--- with their places in the whole. GluedTiles: the matrix of which tiles are the cuts. EntryCounts: the entries of a
--- matrix, tile by tile.
-pub mod SmallCases
-pub mod Tiles
-pub mod EntriesByTile
+-- For this crate alone. PlacedEntries: entries of tiles with their places in the whole. GluedTiles: the matrix of
+-- which tiles are the cuts. EntryCounts: the entries of a matrix, tile by tile.
 pub mod PlacedEntries
 pub mod GluedTiles
 pub mod EntryCounts

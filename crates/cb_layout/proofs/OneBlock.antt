@@ -5,10 +5,9 @@ use Rattle.cb_semirings.specs.Arithmetic.{Arithmetic, IsSemiring}
 use Rattle.cb_matrix.specs.Sparse.{Sparse, Extent, IsMatrix, at}
 use Rattle.cb_matrix.specs.Operations.{cut}
 use Rattle.cb_matrix.proofs.Equal.{matrix_is}
-use Rattle.cb_layout.specs.Parts.{part_start, part_shape}
-use Rattle.cb_layout.specs.Blocks.{block_at, block_of}
-use Rattle.cb_layout.specs.Distributed.{glued_blocks}
-use Rattle.cb_layout.proofs.Cuts.{glued_cut}
+use Rattle.cb_grid.specs.Parts.{part_start, part_shape}
+use Rattle.cb_grid.specs.Blocks.{block_at, block_of, glued_blocks}
+use Rattle.cb_grid.proofs.Cuts.{glued_cut}
 
 part_of_one : (d : ℕ) → div_ceil d 1 ≡ d
 part_of_one d = omega arith

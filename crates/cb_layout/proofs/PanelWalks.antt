@@ -2,9 +2,9 @@
 use Rattle.std.proofs.Common.{◌≡◌, ℕ, ◌+◌, ◌*◌, ◌<◌, List, [], ◌∷◌, length, get_or, append-nil, refl, sym, ap, subst, ◌∙◌, arith}
 use Rattle.cb_semirings.specs.Arithmetic.{Arithmetic, IsSemiring}
 use Rattle.cb_matrix.specs.Sparse.{Extent, Sparse, IsMatrix}
-use Rattle.cb_layout.specs.Parts.{part_shape}
-use Rattle.cb_layout.specs.Blocks.{block_at}
-use Rattle.cb_layout.specs.Distributed.{AreBlocks, glued_blocks}
+use Rattle.cb_grid.specs.Parts.{part_shape}
+use Rattle.cb_grid.specs.Blocks.{block_at, glued_blocks}
+use Rattle.cb_layout.specs.Distributed.{AreBlocks}
 use Rattle.cb_layout.specs.Panels.{entries_of_panels}
 use Rattle.cb_layout.proofs.OneBlock.{one_shape, one_glued}
 

@@ -13,10 +13,11 @@ use Rattle.cb_matrix.proofs.Totals.{values_at-append, total-one}
 use Rattle.cb_matrix.proofs.Made.{same_matrix_of}
 use Rattle.cb_dcsc.specs.Columns.{rows_of, values_of}
 use Rattle.cb_dcsc.specs.Compressed.{entries_in}
-use Rattle.cb_layout.specs.Tiles.{Tiles, IsGathered}
+use Rattle.cb_grid.specs.Tiles.{Tiles}
+use Rattle.cb_layout.specs.PieceTiles.{IsGathered}
 use Rattle.cb_layout.specs.Segments.{shifted}
 use Rattle.std.proofs.lemmas.List.{take_more}
-use Rattle.cb_layout.proofs.Tiles.{IsTiling}
+use Rattle.cb_grid.proofs.Tiles.{IsTiling}
 
 -- an entry of tile r, with its place in the whole shape
 abbrev pub placed_entry : Tiles → ℕ → Entry → Entry

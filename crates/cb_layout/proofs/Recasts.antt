@@ -7,7 +7,8 @@ use Rattle.cb_semirings.specs.Arithmetic.{Arithmetic, IsSemiring, IsValue}
 use Rattle.cb_matrix.specs.declared.Entry.{Entry}
 use Rattle.cb_matrix.specs.Sparse.{Extent, Sparse, IsMatrix}
 use Rattle.cb_matrix.specs.Values.{empty_matrix}
-use Rattle.cb_layout.specs.Distributed.{AreBlocks, glued_blocks}
+use Rattle.cb_layout.specs.Distributed.{AreBlocks}
+use Rattle.cb_grid.specs.Blocks.{glued_blocks}
 use Rattle.cb_layout.proofs.BlockColumns.{whole_is_matrix, are_scattered}
 use Rattle.cb_layout.proofs.GrownBlocks.{blocks_of}
 

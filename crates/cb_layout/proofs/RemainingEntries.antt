@@ -6,13 +6,13 @@ use Rattle.std.proofs.lemmas.Bool.Decides.{nat_tests}
 use Rattle.cb_semirings.specs.Arithmetic.{Arithmetic, IsSemiring}
 use Rattle.cb_matrix.specs.declared.Entry.{Entry}
 use Rattle.cb_matrix.specs.Sparse.{Extent, Sparse, IsBefore, IsInside}
-use Rattle.cb_layout.specs.Parts.{part_start, part_length}
-use Rattle.cb_layout.specs.Blocks.{part_with, place_in_part}
-use Rattle.cb_layout.specs.Distributed.{AreBlocks, glued_blocks}
+use Rattle.cb_grid.specs.Parts.{part_start, part_length}
+use Rattle.cb_grid.specs.Blocks.{part_with, place_in_part, glued_blocks}
+use Rattle.cb_layout.specs.Distributed.{AreBlocks}
 use Rattle.cb_layout.specs.Fronts.{columns_in, IsLeast, IsFront}
 use Rattle.cb_layout.specs.Segments.{is_left, entries_left}
 use Rattle.cb_layout.specs.declared.front.Front.{Front}
-use Rattle.cb_layout.proofs.Parts.{row_of_rank, column_of_rank, part_below, start_there, place_below, part_order}
+use Rattle.cb_grid.proofs.Parts.{row_of_rank, column_of_rank, part_below, start_there, place_below, part_order}
 use Rattle.cb_layout.proofs.Fronts.{first_is_least, none_between, next_above, least_row, least_known, least_is, next_own, next_other}
 use Rattle.cb_layout.proofs.Splits.{filter_none, filter_all, filter_same, filter_split}
 use Rattle.cb_layout.proofs.BlockColumns.{whole_is_matrix, columns_up, of_columns}

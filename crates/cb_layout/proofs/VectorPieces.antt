@@ -10,15 +10,16 @@ use Rattle.cb_matrix.specs.Values.{matrix_of, collected}
 use Rattle.cb_matrix.proofs.Made.{at-matrix_of}
 use Rattle.cb_matrix.proofs.Equal.{matrix_is}
 use Rattle.cb_dcsc.specs.Columns.{rows_of, values_of}
-use Rattle.cb_layout.specs.Parts.{part_start, part_length}
-use Rattle.cb_layout.specs.Blocks.{block_at, part_with, place_in_part}
-use Rattle.cb_layout.specs.Vectors.{piece_start, piece_shape, piece_of, piece_with, place_in_piece, glued_pieces}
-use Rattle.cb_layout.specs.Tiles.{input_tiles, result_tiles, IsGathered, before_rank}
+use Rattle.cb_grid.specs.Parts.{part_start, part_length}
+use Rattle.cb_grid.specs.Blocks.{block_at, part_with, place_in_part}
+use Rattle.cb_grid.specs.Pieces.{piece_start, piece_shape, piece_of}
+use Rattle.cb_layout.specs.Vectors.{piece_with, place_in_piece, glued_pieces}
+use Rattle.cb_layout.specs.PieceTiles.{input_tiles, result_tiles, IsGathered, before_rank}
 use Rattle.cb_layout.specs.Segments.{shifted}
-use Rattle.cb_layout.proofs.Parts.{row_of_rank, column_of_rank, rank_below, rank_of, row_below, part_below, start_there, place_below, own_below, own_part}
-use Rattle.cb_layout.proofs.Tiles.{IsTiling}
+use Rattle.cb_grid.proofs.Parts.{row_of_rank, column_of_rank, rank_below, rank_of, row_below, part_below, start_there, place_below, own_below, own_part}
+use Rattle.cb_grid.proofs.Tiles.{IsTiling}
 use Rattle.cb_layout.proofs.GluedTiles.{tile_is_cut}
-use Rattle.cb_layout.proofs.EntriesByTile.{IsScattered, tile_is}
+use Rattle.cb_grid.proofs.EntriesByTile.{IsScattered, tile_is}
 use Rattle.cb_layout.proofs.PlacedEntries.{placed_column, gathered_more, gathered_same, gathered_all}
 use Rattle.std.proofs.lemmas.Nat.{mod_below}
 

@@ -3,8 +3,8 @@ use Rattle.std.specs.Prelude.{◌≡◌, ℕ, ◌+◌, ◌*◌, ◌<◌, ◌≤�
 use Rattle.cb_matrix.specs.declared.TheConstants.{LIMIT}
 use Rattle.cb_matrix.specs.Sparse.{Extent, Sparse}
 use Rattle.cb_dcsc.specs.Columns.{columns_with_entries}
-use Rattle.cb_layout.specs.Parts.{part_start}
-use Rattle.cb_layout.specs.Blocks.{block_at}
+use Rattle.cb_grid.specs.Parts.{part_start}
+use Rattle.cb_grid.specs.Blocks.{block_at}
 use Rattle.cb_layout.specs.declared.front.Front.{Front}
 use Rattle.cb_layout.specs.declared.front.TheConstants.{NO_COLUMN}
 

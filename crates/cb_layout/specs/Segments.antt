@@ -5,9 +5,9 @@ use Rattle.cb_matrix.specs.declared.Entry.{Entry}
 use Rattle.cb_matrix.specs.declared.TheConstants.{LIMIT}
 use Rattle.cb_matrix.specs.Sparse.{Extent, Sparse}
 use Rattle.cb_dcsc.specs.Compressed.{entries_in}
-use Rattle.cb_layout.specs.Parts.{part_start}
-use Rattle.cb_layout.specs.Blocks.{part_with, place_in_part}
-use Rattle.cb_layout.specs.Distributed.{AreBlocks, glued_blocks}
+use Rattle.cb_grid.specs.Parts.{part_start}
+use Rattle.cb_grid.specs.Blocks.{part_with, place_in_part, glued_blocks}
+use Rattle.cb_layout.specs.Distributed.{AreBlocks}
 use Rattle.cb_layout.specs.Fronts.{IsFront}
 use Rattle.cb_layout.specs.declared.front.Front.{Front}
 use Rattle.cb_layout.specs.declared.traversal.Segment.{Segment}

@@ -1,27 +1,12 @@
--- A vector, which is a matrix of one column, spread over all ranks: each part is cut again into q pieces.
+-- Vectors spread over all ranks: the piece that a row is in, and pieces glued together again.
 use Rattle.std.specs.Prelude.{◌≡◌, ℕ, ◌+◌, ◌*◌, ◌<◌, ◌/◌, ◌%◌, List, map}
 use Rattle.std.specs.List.{range_with_len}
 use Rattle.cb_semirings.specs.Arithmetic.{Arithmetic}
 use Rattle.cb_matrix.specs.Sparse.{Extent, Sparse, at}
 use Rattle.cb_matrix.specs.Values.{matrix_of, empty_matrix}
-use Rattle.cb_matrix.specs.Operations.{cut}
-use Rattle.cb_layout.specs.Parts.{part_start, part_length}
-use Rattle.cb_layout.specs.Blocks.{block_at, part_with, place_in_part}
-
--- where piece t of part i begins, and where the one before it ends
-abbrev pub piece_start : ℕ → ℕ → ℕ → ℕ → ℕ
-piece_start q d i t = part_start q d i + part_start q (part_length q d i) t
-
--- piece t of part i: where it begins and where it ends, the end excluded
-abbrev pub piece : ℕ → ℕ → ℕ → ℕ → ℕ × ℕ
-piece q d i t = (piece_start q d i t, piece_start q d i (t + 1))
-
-abbrev pub piece_shape : ℕ → Extent → ℕ → ℕ → Extent
-piece_shape q shape i t = record { rows = part_length q (part_length q shape.rows i) t; cols = shape.cols }
-
--- piece t of part i of a vector
-abbrev pub piece_of : Arithmetic → ℕ → Sparse → ℕ → ℕ → Sparse
-piece_of s q m i t = cut s (piece q m.shape.rows i t) (0, m.shape.cols) m
+use Rattle.cb_grid.specs.Parts.{part_length}
+use Rattle.cb_grid.specs.Blocks.{block_at, part_with, place_in_part}
+use Rattle.cb_grid.specs.Pieces.{piece_shape, piece_of}
 
 -- which piece of its part row r of a dimension d is in
 abbrev pub piece_with : ℕ → ℕ → ℕ → ℕ

@@ -4,13 +4,13 @@ ghost use Rattle.cb_semirings.specs.Arithmetic.{IsValue};
 ghost use Rattle.cb_matrix.specs.Sparse.{IsMatrix, IsInside, IsBefore};
 ghost use Rattle.cb_matrix.specs.Values.{empty_matrix};
 ghost use Rattle.cb_dcsc.specs.Columns.{with_entry, with_entries};
-ghost use Rattle.cb_layout.specs.Blocks.{AreBlocksOf, HavePartShapes, block_at, joined_block};
-ghost use Rattle.cb_layout.specs.Distributed.{glued_blocks};
+ghost use Rattle.cb_grid.specs.Blocks.{AreBlocksOf, block_at, glued_blocks};
+ghost use Rattle.cb_layout.specs.Distributed.{HavePartShapes, joined_block};
 
-use crate::gather::stored;
-use crate::scatter::deliver;
-use crate::{Grid, LARGEST_SIDE, Segments};
+use crate::Segments;
+use crate::glue::{gather, stored};
 use cb_dcsc::Block;
+use cb_grid::{Grid, LARGEST_SIDE, deliver};
 use cb_matrix::{Entry, LIMIT, Matrix, Shape};
 use cb_semirings::Semiring;
 use std::alloc::{AllocError, Global};
@@ -29,7 +29,8 @@ pub struct DistributedMatrix<S: Semiring> {
 }
 
 impl<S: Semiring> Model for DistributedMatrix<S> {
-    ghost use Rattle.cb_layout.specs.Distributed.{Distributed, HaveEntries, glued_blocks};
+    ghost use Rattle.cb_layout.specs.Distributed.{Distributed, HaveEntries};
+    ghost use Rattle.cb_grid.specs.Blocks.{glued_blocks};
 
     ghost Value = { Distributed };
 
@@ -77,7 +78,7 @@ impl<S: Semiring> DistributedMatrix<S> {
         ensures { IfOk result (λ m. m ≡ record { side = grid.side; matrix = empty_matrix shape }) }
     {
         prove!(grid.side() <= LARGEST_SIDE);
-        let blocks = grid.empty_blocks(alloc, shape, grid.room(entries))?;
+        let blocks = grid.empty_blocks(alloc, shape, entries)?;
         Ok(Self::from_blocks(grid, shape, blocks))
     }
 
@@ -124,7 +125,7 @@ impl<S: Semiring> DistributedMatrix<S> {
     pub fn gather(&self, alloc: Global) -> Result<Matrix<S>, AllocError>
         ensures { IfOk result (λ m. m ≡ self.now.matrix) }
     {
-        self.grid.gather(alloc, &self.blocks, self.shape)
+        gather(alloc, &self.grid, &self.blocks, self.shape)
     }
 
     /// Its grid.

@@ -1,10 +1,10 @@
 //! How far a walk over the blocks in one column of the grid has come, column by column.
 ghost use Rattle.std.specs.Prelude.{◌≡◌, ℕ, List, ◌<◌, ◌≤◌, ◌+◌, ◌*◌, length, IfSome, IfNone, ◌⊎◌, slice_index, slice_index_or, slice_set};
-ghost use Rattle.cb_layout.specs.Blocks.{block_at};
+ghost use Rattle.cb_grid.specs.Blocks.{block_at};
 ghost use Rattle.cb_layout.specs.Fronts.{IsFront, IsLeast, IsLesser, AreNext};
 
-use crate::Grid;
 use cb_dcsc::Block;
+use cb_grid::Grid;
 use cb_matrix::Shape;
 use cb_semirings::Semiring;
 

@@ -1,19 +1,11 @@
 //! Matrices over the grid of one rank: the only block is the whole matrix.
 ghost use Rattle.std.specs.Prelude.{◌≡◌, IfOk};
 
-use crate::{DistributedMatrix, Grid};
+use crate::DistributedMatrix;
 use cb_dcsc::Block;
+use cb_grid::Grid;
 use cb_semirings::Semiring;
 use std::alloc::{AllocError, Global};
-
-impl Grid {
-    /// The grid of one rank.
-    pub fn single() -> Grid
-        ensures { result ≡ record { side = 1 } }
-    {
-        Grid { side: 1 }
-    }
-}
 
 impl<S: Semiring> DistributedMatrix<S> {
     /// This block, as a matrix over the grid of one rank. No entry is copied.

@@ -1,13 +1,15 @@
 //! Walks over a matrix in its order: column by column, and by row in each column. A matrix stands over a grid or in panels.
-ghost use Rattle.std.specs.Prelude.{◌≡◌, ℕ, ◌<◌, ◌≤◌, ◌+◌, ◌*◌, [], ◌++◌, length, All, IfSome, IfNone};
-ghost use Rattle.cb_layout.specs.Distributed.{AreBlocks, glued_blocks};
+ghost use Rattle.std.specs.Prelude.{◌≡◌, ℕ, ◌<◌, ◌≤◌, ◌+◌, ◌*◌, [], ◌++◌, length, All, IfSome, IfNone, slice_index};
+ghost use Rattle.cb_grid.specs.Parts.{part_start};
+ghost use Rattle.cb_grid.specs.Blocks.{glued_blocks};
+ghost use Rattle.cb_layout.specs.Distributed.{AreBlocks};
 ghost use Rattle.cb_layout.specs.Fronts.{IsFront};
 ghost use Rattle.cb_layout.specs.Panels.{entries_of_panels};
 ghost use Rattle.cb_layout.specs.Segments.{shifted, entries_left};
 
-use crate::Grid;
 use crate::front::{Front, block_in};
 use cb_dcsc::Block;
+use cb_grid::Grid;
 use cb_matrix::{Entry, LIMIT, Shape};
 use cb_semirings::Semiring;
 use std::alloc::AllocError;
@@ -136,7 +138,7 @@ impl<'a, S: Semiring> GridSegments<'a, S> {
             grid,
             shape,
             blocks,
-            tops: grid.tops(shape.rows()),
+            tops: tops(grid, shape.rows()),
             front: Front::start(grid, shape, blocks, 0),
         }
     }
@@ -188,6 +190,19 @@ impl<'a, S: Semiring> GridSegments<'a, S> {
             values,
         })
     }
+}
+
+/// The first row of each row part.
+fn tops(grid: Grid, rows: u32) -> [u32; 6]
+    ensures six { length result ≡ 6 }
+    ensures tops { (i : ℕ) → i < grid.side → slice_index result i ≡ part_start grid.side rows i }
+{
+    let mut tops = [0; 6];
+    for part in 0..grid.side() {
+        let (top, _) = grid.range(rows, part);
+        tops[part as usize] = top;
+    }
+    tops
 }
 
 /// If the front is done, moves it to the next column of the grid that has entries, or to the last column if none has.

@@ -1,6 +1,6 @@
 //! The slots of the ranks: filled with blocks before a plan, and drained after it.
 ghost use Rattle.std.specs.Prelude.{◌≡◌, ◌≢◌, ◌<◌, ◌*◌, ℕ, length, replicate, Some, All, IfOk, IfErr, OnOk};
-ghost use Rattle.cb_layout.specs.Blocks.{block_at};
+ghost use Rattle.cb_grid.specs.Blocks.{block_at};
 ghost use Rattle.cb_plan.specs.declared.stores.Slot.TheVariants.{Empty};
 ghost use Rattle.cb_matrix.specs.Sparse.{Sparse};
 ghost use Rattle.cb_plan.specs.Meaning.{State};

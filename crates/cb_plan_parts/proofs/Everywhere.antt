@@ -5,7 +5,7 @@ use Rattle.std.proofs.lemmas.Bool.Decides.{nat_tests}
 use Rattle.cb_plan.specs.declared.acts.Op.{Op}
 use Rattle.cb_plan.specs.Meaning.{Algebra, State, meaning, target_of, result_of}
 use Rattle.cb_plan.proofs.Effects.{split, each_works}
-use Rattle.cb_layout.proofs.Parts.{rank_below}
+use Rattle.cb_grid.proofs.Parts.{rank_below}
 use Rattle.cb_plan_parts.specs.PlanParts.{each_rank}
 
 same : (n : ℕ) → (n == n) ≡ true

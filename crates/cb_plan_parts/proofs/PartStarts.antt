@@ -4,7 +4,7 @@ use Rattle.std.specs.List.{range_with_len}
 use Rattle.std.specs.Int.{div_ceil}
 use Rattle.std.proofs.lemmas.Nat.{mod_below}
 use Rattle.std.proofs.Math.Nat.{add-mul, one-mul, div-add-mod, mul-add}
-use Rattle.cb_layout.specs.Parts.{part_start}
+use Rattle.cb_grid.specs.Parts.{part_start}
 
 -- the first part begins at 0
 pub start_zero : (q d : ℕ) → part_start q d 0 ≡ 0

@@ -12,8 +12,8 @@ use Rattle.cb_plan.specs.Checks.{with_start, started_from, started, all_below}
 use Rattle.cb_plan.specs.Plans.{IsElsewhere}
 use Rattle.cb_plan.proofs.Effects.{split}
 use Rattle.cb_collectives.specs.Collectives.{is_member, are_distinct}
-use Rattle.cb_layout.specs.Parts.{part_shape}
-use Rattle.cb_layout.proofs.Parts.{rank_below}
+use Rattle.cb_grid.specs.Parts.{part_shape}
+use Rattle.cb_grid.proofs.Parts.{rank_below}
 use Rattle.cb_plan_parts.specs.declared.first_slots.Operand.{Operand}
 use Rattle.cb_plan_parts.specs.PlanParts.{part_start_at, starts_at, operand_starts, NamesSlots}
 use Rattle.cb_plan_parts.proofs.Grid.{at_place}

@@ -8,7 +8,7 @@ ghost use Rattle.cb_plan_parts.specs.Flows.{Flows};
 ghost use Rattle.cb_plan_parts.specs.Growth.{IsWithinLimit, no_memory};
 
 use cb_collectives::shut_all;
-use cb_layout::Grid;
+use cb_grid::Grid;
 use cb_plan::{Plan, PlanFault, Planned, SLOTS, Start};
 
 /// Ends a plan: all lanes are shut after its acts. Before the first act the slots are as the starts say; after the last

@@ -3,7 +3,7 @@ ghost use Rattle.std.specs.Prelude.{◌≡◌, ◌<◌, ◌≤◌, ◌+◌, ◌*
 ghost use Rattle.cb_plan.specs.Plans.{IsElsewhere};
 ghost use Rattle.cb_plan_parts.specs.PlanParts.{part_start_at, starts_at, operand_starts, NamesSlots};
 
-use cb_layout::Grid;
+use cb_grid::Grid;
 use cb_matrix::Shape;
 use cb_plan::{SLOTS, Start};
 use std::alloc::{AllocError, Global};

@@ -3,7 +3,7 @@ ghost use Rattle.std.specs.Prelude.{◌≡◌, OnOk, OnErr, IfErr};
 ghost use Rattle.cb_plan_parts.specs.PlanParts.{each_rank, zero_op};
 ghost use Rattle.cb_plan_parts.specs.Growth.{IsWithinLimit, Grew, no_memory};
 
-use cb_layout::Grid;
+use cb_grid::Grid;
 use cb_matrix::Shape;
 use cb_plan::{Act, Op, Plan, PlanFault};
 

@@ -8,7 +8,7 @@ use cb_grid_plans::{
     LEFT, RESULT, RIGHT, grid_add, grid_column_sums, grid_prune, grid_row_sums, grid_times,
     grid_transpose, grid_vector,
 };
-use cb_layout::Grid;
+use cb_layout::{Grid, scatter_input};
 use cb_local::run_plain;
 use cb_matrix::{Shape, Test};
 use cb_plan::{CheckedPlan, PlanFault, PlanFaultKind, Planned, RankStore, SLOTS, Slot};
@@ -100,7 +100,7 @@ fn lay_vector(
     if operand.cols() != 1 {
         return Err(SampleFault::Shape);
     }
-    fill(stores, slot, grid.scatter_input(alloc, &operand)?);
+    fill(stores, slot, scatter_input(alloc, grid, &operand)?);
     Ok(())
 }
 

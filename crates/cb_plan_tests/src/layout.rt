@@ -3,7 +3,8 @@ ghost use Rattle.std.specs.Prelude.{◌≡◌, ◌*◌, IfOk};
 
 use crate::samples::{Given, entries, grid_of, matrix};
 use cb_dcsc::{Block, BlockFault};
-use cb_layout::{DistributedMatrix, Grid, Segments, Side};
+use cb_grid::{Grid, Side};
+use cb_layout::{DistributedMatrix, Segments, gather, gather_result, scatter_input};
 use cb_matrix::{Entry, LIMIT, Matrix};
 use cb_samples::{SampleFault, entry};
 use cb_semirings::PlusTimes;
@@ -95,7 +96,7 @@ fn cut_and_glued(
     whole: &Matrix<PlusTimes>,
 ) -> Result<Matrix<PlusTimes>, AllocError> {
     let blocks = grid.scatter(alloc, whole)?;
-    grid.gather(alloc, &blocks, whole.shape())
+    gather(alloc, grid, &blocks, whole.shape())
 }
 
 /// A matrix built over a grid entry by entry, with room for this many.
@@ -124,8 +125,8 @@ fn turned(
     requires rows { vector.now.shape.rows ≡ grid.now.side * grid.now.side }
     requires column { vector.now.shape.cols ≡ 1 }
 {
-    let pieces = grid.scatter_input(alloc, vector)?;
-    grid.gather_result(alloc, &pieces, vector.shape())
+    let pieces = scatter_input(alloc, grid, vector)?;
+    gather_result(alloc, grid, &pieces, vector.shape())
 }
 
 /// Whether a scattered matrix has these blocks.
@@ -203,7 +204,7 @@ fn has_pieces(
 ) -> Result<bool, AllocError>
     requires { vector.now.shape.cols ≡ 1 }
 {
-    let pieces = grid.scatter_input(alloc, vector)?;
+    let pieces = scatter_input(alloc, grid, vector)?;
     Ok(are(&pieces, wanted))
 }
 
@@ -216,7 +217,7 @@ fn has_rows(
 ) -> Result<bool, AllocError>
     requires { vector.now.shape.cols ≡ 1 }
 {
-    let pieces = grid.scatter_input(alloc, vector)?;
+    let pieces = scatter_input(alloc, grid, vector)?;
     Ok(are_of_rows(&pieces, wanted) && stored(&pieces) == vector.len())
 }
 

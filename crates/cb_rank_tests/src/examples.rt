@@ -4,7 +4,7 @@ ghost use Rattle.cb_plan.specs.Runnable.{IsRunnable};
 ghost use Rattle.cb_plan.specs.Stores.{Fits};
 
 use cb_dcsc::Block;
-use cb_layout::Grid;
+use cb_grid::Grid;
 use cb_matrix::{Entry, Matrix};
 use cb_plan::{CheckedPlan, Planned, RankStore, SLOTS, Slot};
 use cb_samples::{are_values, shape};

@@ -6,7 +6,7 @@ use Rattle.std.proofs.lemmas.List.FromFn.{length-map-range_with_len}
 use Rattle.cb_matrix.specs.Sparse.{Extent}
 use Rattle.cb_plan.proofs.Effects.{split}
 use Rattle.cb_collectives.specs.Collectives.{shut_acts}
-use Rattle.cb_layout.specs.Parts.{row_group, column_group}
+use Rattle.cb_grid.specs.Parts.{row_group, column_group}
 use Rattle.cb_plan_parts.specs.PlanParts.{zero_op, each_rank}
 use Rattle.cb_plan_parts.proofs.Lengths.{each_at_most, broadcast_at_most, each_rank_at_most, shut_at_most}
 use Rattle.cb_summa.specs.Summa.{row_broadcast, column_broadcast, broadcasts, next_broadcasts, stage, product_op, mask_op, product_acts, summa_acts, summa_masked_acts, result_shape}

@@ -5,8 +5,8 @@ use Rattle.cb_semirings.specs.Arithmetic.{Arithmetic}
 use Rattle.cb_matrix.specs.Sparse.{Sparse, Extent, at}
 use Rattle.cb_matrix.specs.Operations.{masked, has_entry, cut}
 use Rattle.cb_matrix.proofs.Made.{at-matrix_of, same_matrix_of}
-use Rattle.cb_layout.specs.Parts.{part, part_start, part_shape}
-use Rattle.cb_layout.specs.Blocks.{block_of}
+use Rattle.cb_grid.specs.Parts.{part, part_start, part_shape}
+use Rattle.cb_grid.specs.Blocks.{block_of}
 use Rattle.cb_plan_parts.proofs.PartStarts.{start_within}
 
 module _ (s : Arithmetic) (q : ℕ) (p m : Sparse) (e : m.shape ≡ p.shape) (i j : ℕ) where

@@ -9,8 +9,8 @@ use Rattle.cb_matrix.specs.Values.{total, column_of, columns_of, matrix_of, empt
 use Rattle.cb_matrix.proofs.Made.{at-matrix_of, same_matrix_of}
 use Rattle.cb_matrix.proofs.Totals.{value_at-value}
 use Rattle.cb_matrix.proofs.Split.{total_parts}
-use Rattle.cb_layout.specs.Parts.{part_start, part_length, part_shape}
-use Rattle.cb_layout.specs.Blocks.{block_of}
+use Rattle.cb_grid.specs.Parts.{part_start, part_length, part_shape}
+use Rattle.cb_grid.specs.Blocks.{block_of}
 use Rattle.cb_plan.specs.Algebras.{matrices}
 use Rattle.cb_plan_parts.proofs.PartStarts.{start_zero, start_rises, start_within, start_last, map_below}
 use Rattle.cb_summa.specs.Summa.{result_shape, stages_sum}

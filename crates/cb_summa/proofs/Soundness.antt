@@ -9,8 +9,8 @@ use Rattle.cb_plan.specs.Meaning.{State, meaning}
 use Rattle.cb_plan.specs.Algebras.{shapes}
 use Rattle.cb_plan.specs.Checks.{none_shut, started}
 use Rattle.cb_plan.proofs.Effects.{split}
-use Rattle.cb_layout.specs.Parts.{row_group, column_group, part_shape, part_length}
-use Rattle.cb_layout.proofs.Parts.{rank_below}
+use Rattle.cb_grid.specs.Parts.{row_group, column_group, part_shape, part_length}
+use Rattle.cb_grid.proofs.Parts.{rank_below}
 use Rattle.cb_plan_parts.specs.PlanParts.{tagged, zero_op, each_rank, operand_starts}
 use Rattle.cb_plan_parts.specs.Flows.{Flows}
 use Rattle.cb_plan_parts.proofs.Grid.{row_exists, row_distinct, column_exists, column_distinct}

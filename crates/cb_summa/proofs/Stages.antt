@@ -6,7 +6,7 @@ use Rattle.std.proofs.lemmas.Bool.Decides.{nat_tests}
 use Rattle.cb_matrix.specs.Sparse.{Extent}
 use Rattle.cb_plan.specs.declared.acts.Act.{Act}
 use Rattle.cb_plan.specs.Meaning.{Algebra, State, meaning, three}
-use Rattle.cb_layout.specs.Parts.{row_group, column_group, part_shape}
+use Rattle.cb_grid.specs.Parts.{row_group, column_group, part_shape}
 use Rattle.cb_collectives.specs.Collectives.{is_member, broadcast_acts}
 use Rattle.cb_summa.specs.Summa.{left_slot, right_slot, product_op, broadcasts, stage, result_shape, product_acts, stages_sum}
 use Rattle.cb_plan.proofs.Effects.{split, meaning-append}

@@ -4,7 +4,7 @@ use Rattle.std.specs.Prelude.{Some}
 use Rattle.cb_semirings.specs.Arithmetic.{Arithmetic, IsSemiring}
 use Rattle.cb_matrix.specs.Sparse.{Sparse, Extent, IsMatrix}
 use Rattle.cb_matrix.specs.Values.{product}
-use Rattle.cb_layout.specs.Blocks.{block_of}
+use Rattle.cb_grid.specs.Blocks.{block_of}
 use Rattle.cb_plan.specs.Meaning.{meaning, two}
 use Rattle.cb_plan.specs.Algebras.{matrices}
 use Rattle.cb_plan.proofs.Effects.{meaning-append}

@@ -10,7 +10,7 @@ use Rattle.cb_plan.specs.Algebras.{matrices}
 use Rattle.cb_semirings.specs.Arithmetic.{Arithmetic, IsSemiring}
 use Rattle.cb_matrix.specs.Values.{product}
 use Rattle.cb_matrix.specs.Operations.{masked}
-use Rattle.cb_layout.specs.Parts.{row_group, column_group}
+use Rattle.cb_grid.specs.Parts.{row_group, column_group}
 use Rattle.cb_collectives.specs.Collectives.{broadcast_acts, shut_acts}
 use Rattle.cb_plan_parts.specs.declared.first_slots.Operand.{Operand}
 use Rattle.cb_plan_parts.specs.PlanParts.{tagged, each_rank, zero_op, HasParts}

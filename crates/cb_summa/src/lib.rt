@@ -23,7 +23,7 @@ ghost use Rattle.cb_summa.specs.Summa.{summa_acts, factors, IsProductPlan};
 mod masked;
 mod products;
 
-use cb_layout::{Grid, LARGEST_SIDE};
+use cb_grid::{Grid, LARGEST_SIDE};
 use cb_matrix::Shape;
 use cb_plan::{Plan, PlanFault, Planned};
 use cb_plan_parts::{Operand, finish, operand_starts};

@@ -7,7 +7,7 @@ ghost use Rattle.cb_summa.specs.Summa.{summa_masked_acts, masked_factors, IsMask
 
 use crate::products::multiply;
 use crate::{LEFT, MASK, RESULT, RIGHT};
-use cb_layout::{Grid, LARGEST_SIDE};
+use cb_grid::{Grid, LARGEST_SIDE};
 use cb_matrix::Shape;
 use cb_plan::{Op, Plan, PlanFault, Planned};
 use cb_plan_parts::{Operand, finish, operand_starts, work_everywhere};

@@ -6,7 +6,7 @@ ghost use Rattle.cb_summa.specs.Summa.{left_slot, right_slot, row_broadcast, col
 
 use crate::{LEFT, RESULT, RIGHT};
 use cb_collectives::broadcast;
-use cb_layout::Grid;
+use cb_grid::Grid;
 use cb_letters::Tag;
 use cb_matrix::Shape;
 use cb_plan::{Op, Plan, PlanFault};

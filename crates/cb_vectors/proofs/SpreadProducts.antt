@@ -8,11 +8,12 @@ use Rattle.std.proofs.lemmas.Option.{same_Some}
 use Rattle.cb_semirings.specs.Arithmetic.{Arithmetic, IsSemiring}
 use Rattle.cb_matrix.specs.Sparse.{Sparse, Extent, IsMatrix}
 use Rattle.cb_matrix.specs.Values.{product}
-use Rattle.cb_layout.specs.Parts.{part_length, part_shape}
-use Rattle.cb_layout.specs.Blocks.{block_at, block_of, glued}
-use Rattle.cb_layout.specs.Vectors.{piece_start, piece_shape, piece_of, glued_pieces}
-use Rattle.cb_layout.proofs.Parts.{rank_of, row_below, rank_below}
-use Rattle.cb_layout.proofs.Cuts.{glued_cut}
+use Rattle.cb_grid.specs.Parts.{part_length, part_shape}
+use Rattle.cb_grid.specs.Blocks.{block_at, block_of, glued}
+use Rattle.cb_grid.specs.Pieces.{piece_start, piece_shape, piece_of}
+use Rattle.cb_layout.specs.Vectors.{glued_pieces}
+use Rattle.cb_grid.proofs.Parts.{rank_of, row_below, rank_below}
+use Rattle.cb_grid.proofs.Cuts.{glued_cut}
 use Rattle.cb_layout.proofs.VectorPieces.{glued_pieces_cut}
 use Rattle.cb_plan.specs.declared.acts.Act.{Act}
 use Rattle.cb_plan.specs.declared.stores.Slot.{Slot}

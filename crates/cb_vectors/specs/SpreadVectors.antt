@@ -2,8 +2,8 @@
 use Rattle.std.specs.Prelude.{◌≡◌, ◌<◌, ℕ, ◌+◌, ◌*◌, ◌⊎◌, ◌==◌, if◌then◌else◌, List, Some}
 use Rattle.cb_semirings.specs.Arithmetic.{Arithmetic}
 use Rattle.cb_matrix.specs.Sparse.{Sparse, Extent, IsMatrix}
-use Rattle.cb_layout.specs.Blocks.{block_of}
-use Rattle.cb_layout.specs.Vectors.{piece_of}
+use Rattle.cb_grid.specs.Blocks.{block_of}
+use Rattle.cb_grid.specs.Pieces.{piece_of}
 use Rattle.cb_plan.specs.declared.stores.Slot.{Slot}
 use Rattle.cb_plan.specs.declared.stores.Slot.TheVariants as slot_is
 use Rattle.cb_plan.specs.Plans.{CheckedView}

@@ -12,7 +12,7 @@ ghost use Rattle.cb_placement.specs.Answers.{over_grid};
 ghost use Rattle.cb_vectors.specs.SpreadVectors.{HasBoth, HasSpread, IsSpreadLoss, MultipliesVectors};
 
 use cb_grid_plans::{LEFT, RESULT, RIGHT, grid_vector};
-use cb_layout::{DistributedMatrix, Grid};
+use cb_layout::{DistributedMatrix, Grid, gather_result, scatter_input};
 use cb_matrix::{Matrix, Shape};
 use cb_placement::{DrainFault, blank, drain, fill};
 use cb_plan::{CheckedPlan, RankStore};
@@ -42,7 +42,7 @@ pub fn spread<S: Semiring>(
     requires vector { vector.now.shape.cols ≡ 1 }
     ensures { IfOk result (λ v. HasSpread S.arithmetic grid.now.side matrix.matrix vector.now v.items) }
 {
-    let pieces = grid.scatter_input(alloc, vector)?;
+    let pieces = scatter_input(alloc, grid, vector)?;
     let mut stores = blank(alloc, grid.ranks())?;
     fill(&mut stores, LEFT, matrix.into_blocks());
     fill(&mut stores, RIGHT, pieces);
@@ -69,7 +69,7 @@ pub fn collect<S: Semiring>(
     let mut stores = stores;
     let blocks = drain(alloc, &mut stores, LEFT)?;
     let pieces = drain(alloc, &mut stores, RESULT)?;
-    let product = grid.gather_result(alloc, &pieces, made)?;
+    let product = gather_result(alloc, grid, &pieces, made)?;
     Ok((
         DistributedMatrix::from_blocks(*grid, shape, blocks),
         product,

@@ -1,7 +1,7 @@
 use Rattle.std.proofs.Common.{◌≡◌, ℕ, ◌+◌, ◌*◌, ◌<◌, List, length, replicate, ap, subst, ◌∙◌, arith}
 use Rattle.std.proofs.lemmas.List.{length-replicate}
 use Rattle.cb_matrix.specs.Sparse.{Sparse}
-use Rattle.cb_layout.specs.Blocks.{block_at, block_of}
+use Rattle.cb_grid.specs.Blocks.{block_at, block_of}
 use Rattle.cb_layout.proofs.VectorPieces.{some_side}
 use Rattle.cb_plan.specs.declared.stores.Slot.{Slot}
 use Rattle.cb_plan.specs.declared.stores.Slot.TheVariants as slot_is

@@ -1,6 +1,6 @@
 use Rattle.std.proofs.Common.{◌≡◌, ℕ, ◌+◌, ◌/◌, ◌%◌, ap, ◌∙◌, arith}
 use Rattle.cb_matrix.specs.Sparse.{Extent}
-use Rattle.cb_layout.specs.Parts.{part_start, part_length}
+use Rattle.cb_grid.specs.Parts.{part_start, part_length}
 use Rattle.cb_grid_plans.specs.VectorPlans.{works}
 use Rattle.cb_grid_plans.specs.ReductionPlans.{own_ops, own_sums}
 use Rattle.cb_grid_plans.proofs.Loops.{next_within, next_grew}

@@ -3,7 +3,7 @@ use Rattle.std.specs.List.{range_with_len, flat_map}
 use Rattle.cb_matrix.specs.Sparse.{Extent}
 use Rattle.cb_plan.specs.declared.acts.Act.{Act}
 use Rattle.cb_plan.specs.declared.acts.Op.TheVariants as op_is
-use Rattle.cb_layout.specs.Parts.{part_start}
+use Rattle.cb_grid.specs.Parts.{part_start}
 use Rattle.cb_plan_parts.specs.Growth.{IsWithinLimit, Grew}
 use Rattle.cb_grid_plans.specs.VectorPlans.{works, add_piece}
 use Rattle.cb_grid_plans.proofs.Loops.{next_within, next_grew, works_lists}

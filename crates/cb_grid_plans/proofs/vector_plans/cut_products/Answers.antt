@@ -1,5 +1,5 @@
 use Rattle.std.proofs.Common.{◌≡◌, ℕ, ◌/◌, ap, ◌∙◌, arith}
-use Rattle.cb_layout.specs.Parts.{part_length}
+use Rattle.cb_grid.specs.Parts.{part_length}
 use Rattle.cb_matrix.specs.Sparse.{Extent}
 use Rattle.cb_grid_plans.specs.VectorPlans.{works, cut_ops, cuts_at}
 use Rattle.cb_grid_plans.proofs.Loops.{next_within, next_grew}

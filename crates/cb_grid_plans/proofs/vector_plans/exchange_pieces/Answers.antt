@@ -1,7 +1,7 @@
 use Rattle.std.proofs.Common.{rules, ◌≡◌, ℕ, ◌+◌, ◌*◌, ◌≤◌, List, length, inl, sym, ap, subst, ◌∙◌, arith}
 use Rattle.std.proofs.lemmas.List.FromFn.{length-map-range_with_len}
 use Rattle.cb_collectives.specs.Collectives.{all_to_all_acts, AreDistinct}
-use Rattle.cb_layout.specs.Parts.{row_group}
+use Rattle.cb_grid.specs.Parts.{row_group}
 use Rattle.cb_plan_parts.specs.PlanParts.{tagged}
 use Rattle.cb_plan_parts.proofs.Grid.{row_distinct}
 use Rattle.cb_plan_parts.proofs.LoopGrowth.{refused_next, appended_next}

@@ -3,7 +3,7 @@ use Rattle.std.proofs.lemmas.List.{get_or_default}
 use Rattle.cb_matrix.specs.Sparse.{Sparse, IsMatrix}
 use Rattle.cb_matrix.specs.Values.{empty_matrix}
 use Rattle.cb_dcsc.specs.Columns.{with_entries}
-use Rattle.cb_layout.specs.Blocks.{block_at}
+use Rattle.cb_grid.specs.Blocks.{block_at}
 use Rattle.cb_layout.proofs.distributed.append_blocks.Given as given
 use Rattle.cb_layout.proofs.distributed.append_blocks.Goals.{After-index_mut-in-loop-rank}
 use Rattle.cb_layout.proofs.distributed.append_blocks.Goals as goal

@@ -2,8 +2,8 @@ use Rattle.std.proofs.Common.{◌≡◌, ◌+◌, ◌*◌, ◌<◌, length, ap, 
 use Rattle.std.proofs.lemmas.List.{get_or_read}
 use Rattle.cb_matrix.specs.Sparse.{Sparse}
 use Rattle.cb_matrix.specs.Values.{empty_matrix}
-use Rattle.cb_layout.specs.Blocks.{block_at}
-use Rattle.cb_layout.proofs.Parts.{rank_below}
+use Rattle.cb_grid.specs.Blocks.{block_at}
+use Rattle.cb_grid.proofs.Parts.{rank_below}
 use Rattle.cb_layout.proofs.front.block_in.Goals as goal
 
 pub bounds-blocks-from : goal.bounds-blocks-from

@@ -1,5 +1,5 @@
 use Rattle.std.proofs.Common.{◌*◌}
-use Rattle.cb_layout.specs.Blocks.{block_at}
+use Rattle.cb_grid.specs.Blocks.{block_at}
 use Rattle.cb_placement.specs.Slots.{block_of_rank}
 use Rattle.cb_placement.proofs.FilledSlots.{filled_with, of_ranks}
 use Rattle.cb_placement.proofs.placed_stores.distribute.Goals as goal

@@ -2,7 +2,7 @@ use Rattle.std.proofs.Common.{◌≡◌, ◌-◌, length, vec_len, refl, arith}
 use Rattle.std.specs.Prelude.{IsSome}
 use Rattle.cb_matrix.specs.Sparse.{Sparse}
 use Rattle.cb_matrix.specs.Values.{empty_matrix}
-use Rattle.cb_layout.specs.Blocks.{block_at}
+use Rattle.cb_grid.specs.Blocks.{block_at}
 use Rattle.cb_placement.proofs.FilledSlots.{filling_next}
 use Rattle.cb_placement.proofs.placed_stores.fill.Goals as goal
 

@@ -1,7 +1,7 @@
 use Rattle.std.proofs.Common.{◌+◌, ◌*◌, ap, sym, ◌∙◌}
 use Rattle.cb_matrix.specs.Sparse.{Sparse}
-use Rattle.cb_layout.specs.Parts.{part_shape}
-use Rattle.cb_layout.specs.Blocks.{block_at}
+use Rattle.cb_grid.specs.Parts.{part_shape}
+use Rattle.cb_grid.specs.Blocks.{block_at}
 use Rattle.cb_plan_tests.proofs.layout.cut_and_glued.Goals as goal
 
 pub gather-requires-clause-shapes : goal.gather-requires-clause-shapes

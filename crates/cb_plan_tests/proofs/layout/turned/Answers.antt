@@ -4,9 +4,9 @@ use Rattle.std.proofs.lemmas.Bool.{cases_order}
 use Rattle.std.proofs.lemmas.Grind.{div_ceil_times}
 use Rattle.std.proofs.Math.Nat.{mul-le-mul_left}
 use Rattle.cb_matrix.specs.Sparse.{Sparse, Extent}
-use Rattle.cb_layout.specs.Parts.{part_length}
-use Rattle.cb_layout.specs.Blocks.{block_at}
-use Rattle.cb_layout.specs.Vectors.{piece_start, piece_shape}
+use Rattle.cb_grid.specs.Parts.{part_length}
+use Rattle.cb_grid.specs.Blocks.{block_at}
+use Rattle.cb_grid.specs.Pieces.{piece_start, piece_shape}
 use Rattle.cb_plan_tests.proofs.layout.turned.Goals as goal
 
 only_multiple : (q b d : ℕ) → 0 < q → d * q ≤ b * q → b * q < d * q + q → b ≡ d

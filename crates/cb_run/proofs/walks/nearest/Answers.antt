@@ -2,7 +2,7 @@ use Rattle.std.proofs.Common.{rules, ◌≡◌, ℕ, sym, ap, arith, subst}
 use Rattle.cb_semirings.specs.Tables.{min_plus}
 use Rattle.cb_matrix.specs.Sparse.{Sparse, Extent, IsMatrix}
 use Rattle.cb_matrix.specs.Operations.{transposed}
-use Rattle.cb_layout.specs.Parts.{Square}
+use Rattle.cb_grid.specs.Parts.{Square}
 use Rattle.cb_layout.specs.Distributed.{Distributed}
 use Rattle.cb_vectors.specs.SpreadVectors.{MultipliesVectors}
 use Rattle.cb_placement.specs.Answers.{over_grid}

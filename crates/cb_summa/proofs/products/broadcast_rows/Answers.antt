@@ -1,7 +1,7 @@
 use Rattle.std.proofs.Common.{rules, ◌≡◌, ℕ, ◌+◌, ◌*◌, List, refl, ap, ◌∙◌, arith}
 use Rattle.std.proofs.lemmas.Bool.{eq-eqb}
 use Rattle.cb_collectives.specs.Collectives.{broadcast_acts, is_member}
-use Rattle.cb_layout.specs.Parts.{row_group}
+use Rattle.cb_grid.specs.Parts.{row_group}
 use Rattle.cb_plan_parts.specs.PlanParts.{tagged}
 use Rattle.cb_summa.specs.Summa.{left_slot, row_broadcast}
 use Rattle.cb_plan_parts.proofs.Grid.{in_row}

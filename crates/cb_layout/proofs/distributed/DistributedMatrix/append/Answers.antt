@@ -2,7 +2,8 @@ use Rattle.std.proofs.Common.{◌≡◌, ◌≤◌, length, ap, sym, ◌∙◌, 
 use Rattle.std.proofs.lemmas.List.{length-append}
 use Rattle.cb_matrix.specs.Sparse.{Sparse}
 use Rattle.cb_dcsc.specs.Columns.{with_entries}
-use Rattle.cb_layout.specs.Distributed.{AreBlocks, Distributed, glued_blocks}
+use Rattle.cb_layout.specs.Distributed.{AreBlocks, Distributed}
+use Rattle.cb_grid.specs.Blocks.{glued_blocks}
 use Rattle.cb_layout.proofs.BlockColumns.{counted_below}
 use Rattle.cb_layout.proofs.AppendedBlocks.{AreJoined, counted, joined_blocks, joined_is_matrix, joined_shapes, blocks_joined}
 use Rattle.cb_layout.proofs.distributed.DistributedMatrix.append.Given as given

@@ -1,6 +1,6 @@
 use Rattle.std.proofs.Common.{◌≡◌, ℕ, ◌+◌, ◌*◌, ◌<◌, List, ap, subst, ◌∙◌}
 use Rattle.cb_matrix.specs.Sparse.{Sparse}
-use Rattle.cb_layout.specs.Blocks.{block_at, block_of}
+use Rattle.cb_grid.specs.Blocks.{block_at, block_of}
 use Rattle.cb_layout.specs.Distributed.{Distributed}
 use Rattle.cb_layout.proofs.BlockColumns.{blocks_are_cuts}
 use Rattle.cb_layout.proofs.distributed.DistributedMatrix.blocks.Goals as goal

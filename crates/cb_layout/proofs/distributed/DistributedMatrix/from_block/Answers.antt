@@ -1,5 +1,5 @@
 use Rattle.std.proofs.Common.{◌≡◌, ◌∙◌}
-use Rattle.cb_layout.specs.Distributed.{glued_blocks}
+use Rattle.cb_grid.specs.Blocks.{glued_blocks}
 use Rattle.cb_layout.proofs.OneBlock.{one_glued}
 use Rattle.cb_layout.proofs.distributed.DistributedMatrix.from_block.Goals as goal
 

@@ -1,7 +1,7 @@
 use Rattle.std.proofs.Common.{◌≡◌, ℕ, ◌<◌, ◌≤◌, List, length, min, ap, subst, ◌∙◌, arith}
 use Rattle.std.specs.Prelude.{sum_by}
 use Rattle.cb_matrix.specs.Sparse.{Sparse, IsMatrix}
-use Rattle.cb_layout.specs.Blocks.{block_at}
+use Rattle.cb_grid.specs.Blocks.{block_at}
 use Rattle.cb_layout.specs.Distributed.{AreBlocks}
 use Rattle.cb_layout.proofs.BlockColumns.{counted_all, counted_below}
 use Rattle.cb_layout.proofs.distributed.DistributedMatrix.from_blocks.Goals as goal

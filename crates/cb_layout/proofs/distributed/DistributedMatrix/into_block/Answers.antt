@@ -5,7 +5,7 @@ use Rattle.std.proofs.lemmas.List.{get_or_default}
 use Rattle.cb_semirings.specs.Arithmetic.{Arithmetic, IsSemiring}
 use Rattle.cb_matrix.specs.Sparse.{Sparse, Extent, IsMatrix}
 use Rattle.cb_matrix.specs.Values.{empty_matrix}
-use Rattle.cb_layout.specs.Blocks.{block_at, block_of, AreBlocksOf}
+use Rattle.cb_grid.specs.Blocks.{block_at, block_of, AreBlocksOf}
 use Rattle.cb_layout.proofs.OneBlock.{one_block}
 use Rattle.cb_layout.proofs.distributed.DistributedMatrix.into_block.Goals as goal
 

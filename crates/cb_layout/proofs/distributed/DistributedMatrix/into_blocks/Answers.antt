@@ -1,5 +1,5 @@
 use Rattle.std.proofs.Common.{◌≡◌, ℕ, ◌+◌, ◌*◌, ◌<◌, subst}
-use Rattle.cb_layout.specs.Blocks.{block_at, block_of}
+use Rattle.cb_grid.specs.Blocks.{block_at, block_of}
 use Rattle.cb_layout.specs.Distributed.{Distributed}
 use Rattle.cb_layout.proofs.BlockColumns.{blocks_are_cuts}
 use Rattle.cb_layout.proofs.distributed.DistributedMatrix.into_blocks.Goals as goal

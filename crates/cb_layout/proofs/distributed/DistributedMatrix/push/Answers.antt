@@ -1,7 +1,8 @@
 use Rattle.std.proofs.Common.{◌≡◌, ◌≤◌, length, ap, arith, subst, sym}
 use Rattle.std.proofs.lemmas.List.{length_push}
 use Rattle.cb_matrix.specs.Sparse.{Sparse}
-use Rattle.cb_layout.specs.Distributed.{AreBlocks, Distributed, glued_blocks}
+use Rattle.cb_layout.specs.Distributed.{AreBlocks, Distributed}
+use Rattle.cb_grid.specs.Blocks.{glued_blocks}
 use Rattle.cb_layout.proofs.BlockColumns.{counted_below}
 use Rattle.cb_layout.proofs.GrownBlocks.{rank_grown, inside_grown, order_grown, blocks_grown}
 use Rattle.cb_layout.proofs.distributed.DistributedMatrix.push.Goals as goal

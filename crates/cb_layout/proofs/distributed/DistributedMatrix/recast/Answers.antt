@@ -1,7 +1,8 @@
 use Rattle.std.proofs.Common.{◌≡◌, List, length, sym, ap, subst, ◌∙◌}
 use Rattle.std.specs.Prelude.{All}
 use Rattle.cb_matrix.specs.Sparse.{Sparse}
-use Rattle.cb_layout.specs.Distributed.{Distributed, AreBlocks, glued_blocks}
+use Rattle.cb_layout.specs.Distributed.{Distributed, AreBlocks}
+use Rattle.cb_grid.specs.Blocks.{glued_blocks}
 use Rattle.cb_layout.proofs.Recasts.{IsStored, blocks_there, values_there}
 use Rattle.cb_layout.proofs.distributed.DistributedMatrix.recast.Goals as goal
 

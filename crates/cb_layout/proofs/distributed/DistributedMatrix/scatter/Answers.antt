@@ -1,6 +1,6 @@
 use Rattle.std.proofs.Common.{ap, ◌∙◌}
 use Rattle.cb_matrix.specs.Sparse.{Extent}
-use Rattle.cb_layout.specs.Distributed.{glued_blocks}
+use Rattle.cb_grid.specs.Blocks.{glued_blocks}
 use Rattle.cb_layout.proofs.distributed.DistributedMatrix.scatter.Goals as goal
 
 pub returns : goal.returns

@@ -1,5 +1,5 @@
 use Rattle.std.proofs.Common.{◌≡◌, ℕ, zero, suc, List, [], ◌∷◌, get_or, refl, ap, ◌∙◌, arith}
-use Rattle.cb_layout.specs.Parts.{part_start}
+use Rattle.cb_grid.specs.Parts.{part_start}
 use Rattle.cb_layout.proofs.front.Front.start.Goals as goal
 
 abbrev six_zeros : List ℕ

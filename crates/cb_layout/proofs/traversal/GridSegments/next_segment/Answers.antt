@@ -5,8 +5,8 @@ use Rattle.std.proofs.lemmas.List.Elements.{All-weaker}
 use Rattle.cb_matrix.specs.declared.Entry.{Entry}
 use Rattle.cb_matrix.specs.Sparse.{Sparse}
 use Rattle.cb_dcsc.specs.Columns.{in_column, columns_with_entries, rows_of, values_of}
-use Rattle.cb_layout.specs.Parts.{part_start}
-use Rattle.cb_layout.specs.Blocks.{block_at}
+use Rattle.cb_grid.specs.Parts.{part_start}
+use Rattle.cb_grid.specs.Blocks.{block_at}
 use Rattle.cb_layout.specs.Fronts.{IsLeast, columns_in}
 use Rattle.cb_layout.specs.Segments.{entries_left}
 use Rattle.cb_layout.proofs.Fronts.{least_row, least_known, least_is, are_next}
