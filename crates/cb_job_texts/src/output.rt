@@ -1,5 +1,6 @@
-//! Writes the text of a matrix. One thread writes it page by page, several write it in rounds of sheets.
-ghost use Rattle.std.specs.Prelude.{◌≡◌, ◌++◌, [], true, false, OnOk, OnErr};
+//! Writes the text of a matrix. One thread writes it page by page. Several write it in rounds of sheets: while one round is
+//! written to the sink, the next is made.
+ghost use Rattle.std.specs.Prelude.{◌≡◌, ◌<◌, ◌++◌, [], length, true, false, IfOk, OnOk, OnErr};
 ghost use Rattle.std.specs.Io.KnownBytes.{Appends};
 ghost use Rattle.cb_market.specs.Text.{text_of};
 ghost use Rattle.cb_job_texts.specs.Rounds.{written_on};
@@ -14,6 +15,7 @@ use cb_market::{Page, Sheet, TextPages};
 use cb_semirings::Semiring;
 use std::alloc::{AllocError, Global};
 use std::thread::Threads;
+use std::{mem, thread};
 
 /// Writes the sheets, one after the other. At `PutFault` a beginning of their text has been written.
 fn put_sheets<S: Semiring, K: Sink>(sheets: &[Sheet<'_, S>], out: &mut K) -> Result<(), PutFault>
@@ -29,23 +31,96 @@ fn put_sheets<S: Semiring, K: Sink>(sheets: &[Sheet<'_, S>], out: &mut K) -> Res
     Ok(())
 }
 
-/// Writes a text in rounds. At `PutFault` a beginning of it has been written.
+/// The rest of a text, and the sheets for its next round.
+#[derive(Drop)]
+struct Ahead<'a, S: Semiring> {
+    text: TextPages<'a, S>,
+    round: Round<'a, S>,
+    /// Whether another thread fills the round.
+    is_shared: bool,
+}
+
+impl<'a, S: Semiring + Send + Sync> Ahead<'a, S> {
+    /// Fills the next round, and returns whether anything was left for it.
+    fn fill<R: Threads + Sync>(&mut self, rt: &R) -> bool
+        ensures text { self.old.text ≡ self.new.round ++ self.new.text }
+        ensures some { result ≡ true → 0 < length self.new.round }
+        ensures none { result ≡ false → self.old.text ≡ [] }
+    {
+        self.round.fill(rt, &mut self.text)
+    }
+}
+
+/// Writes a round, and fills the next one, in another thread if the text is long. Returns whether anything was left for
+/// the next. At `PutFault` a beginning of the round has been written.
+fn put_and_fill<'a, S: Semiring + Send + Sync, R: Threads + Sync, K: Sink>(
+    rt: &R,
+    round: &Round<'a, S>,
+    ahead: &mut Ahead<'a, S>,
+    out: &mut K,
+) -> Result<bool, PutFault>
+    requires { K.has_failed out.old ≡ false }
+    ensures text { OnOk result (ahead.old.text ≡ ahead.new.round ++ ahead.new.text) }
+    ensures some { IfOk result (λ is_left. is_left ≡ true → 0 < length ahead.new.round) }
+    ensures none { IfOk result (λ is_left. is_left ≡ false → ahead.old.text ≡ []) }
+    ensures whole { OnOk result (Appends (K.written out.old) (K.written out.new) round.now) }
+    ensures works { OnOk result (K.has_failed out.new ≡ false) }
+    ensures prefix { OnErr result (AppendsPrefix (K.written out.old) (K.written out.new) round.now) }
+    ensures fails { OnErr result (K.has_failed out.new ≡ true) }
+{
+    if !ahead.is_shared {
+        put_sheets(round.sheets(), out)?;
+        return Ok(ahead.fill(rt));
+    }
+    let (is_left, put) = thread::join_mut(
+        rt,
+        &mut || ahead.fill(rt),
+        &mut ||
+            requires { K.has_failed out.now ≡ false }
+        { put_sheets(round.sheets(), out) },
+    );
+    put?;
+    Ok(is_left)
+}
+
+/// Writes a text in rounds, each on the sheets that the one before isn't on. At `PutFault` a beginning of it has been
+/// written.
 fn put_rounds<'a, S: Semiring + Send + Sync, R: Threads + Sync, K: Sink>(
     rt: &R,
-    mut text: TextPages<'a, S>,
     round: &mut Round<'a, S>,
+    ahead: &mut Ahead<'a, S>,
     out: &mut K,
 ) -> Result<(), PutFault>
     requires { K.has_failed out.old ≡ false }
-    ensures whole { OnOk result (Appends (K.written out.old) (K.written out.new) text.entry) }
+    ensures whole { OnOk result (Appends (K.written out.old) (K.written out.new) ahead.old.text) }
     ensures works { OnOk result (K.has_failed out.new ≡ false) }
-    ensures prefix { OnErr result (AppendsPrefix (K.written out.old) (K.written out.new) text.entry) }
+    ensures prefix { OnErr result (AppendsPrefix (K.written out.old) (K.written out.new) ahead.old.text) }
     ensures fails { OnErr result (K.has_failed out.new ≡ true) }
 {
-    while round.fill(rt, &mut text) {
-        put_sheets(round.sheets(), out)?;
+    let mut is_left = round.fill(rt, &mut ahead.text);
+    while is_left {
+        is_left = put_and_fill(rt, round, ahead, out)?;
+        mem::swap(round, &mut ahead.round);
     }
     Ok(())
+}
+
+/// Writes a text in rounds, and then some lines. At `PutFault` a beginning of both has been written.
+fn put_rounds_then_lines<'a, S: Semiring + Send + Sync, R: Threads + Sync, K: Sink>(
+    rt: &R,
+    round: &mut Round<'a, S>,
+    ahead: &mut Ahead<'a, S>,
+    lines: &[u8],
+    out: &mut K,
+) -> Result<(), PutFault>
+    requires { K.has_failed out.old ≡ false }
+    ensures whole { OnOk result (Appends (K.written out.old) (K.written out.new) (ahead.old.text ++ lines.now)) }
+    ensures works { OnOk result (K.has_failed out.new ≡ false) }
+    ensures prefix { OnErr result (AppendsPrefix (K.written out.old) (K.written out.new) (ahead.old.text ++ lines.now)) }
+    ensures fails { OnErr result (K.has_failed out.new ≡ true) }
+{
+    put_rounds(rt, round, ahead, out)?;
+    put_all(out, lines)
 }
 
 /// Writes a text page by page. At `PutFault` a beginning of it has been written.
@@ -66,49 +141,10 @@ fn put_pages<S: Semiring, K: Sink>(
     Ok(())
 }
 
-/// What the text of a matrix is written on: one page by a single thread, for which it is fastest, or the sheets of a round
-/// by several.
-#[derive(Drop)]
-enum Paper<'a, S: Semiring> {
-    Page(Page),
-    Round(Round<'a, S>),
-}
-
-impl<'a, S: Semiring> Paper<'a, S> {
-    /// Takes the memory to write a text with this many threads.
-    fn new(alloc: Global, threads: u32, text: &TextPages<'a, S>) -> Result<Self, AllocError> {
-        if threads < 2 {
-            Ok(Paper::Page(Page::new(alloc)?))
-        } else {
-            Ok(Paper::Round(Round::new(alloc, threads as usize, text)?))
-        }
-    }
-}
-
-/// Writes a text. At `PutFault` a beginning of it has been written.
-fn put_text<'a, S: Semiring + Send + Sync, R: Threads + Sync, K: Sink>(
-    rt: &R,
-    text: TextPages<'a, S>,
-    paper: &mut Paper<'a, S>,
-    out: &mut K,
-) -> Result<(), PutFault>
-    requires { K.has_failed out.old ≡ false }
-    ensures whole { OnOk result (Appends (K.written out.old) (K.written out.new) text.entry) }
-    ensures works { OnOk result (K.has_failed out.new ≡ false) }
-    ensures prefix { OnErr result (AppendsPrefix (K.written out.old) (K.written out.new) text.entry) }
-    ensures fails { OnErr result (K.has_failed out.new ≡ true) }
-{
-    match paper {
-        Paper::Page(page) => put_pages(text, page, out),
-        Paper::Round(round) => put_rounds(rt, text, round, out),
-    }
-}
-
-/// Writes a text, and then some lines. At `PutFault` a beginning of both has been written.
-fn put_text_then_lines<'a, S: Semiring + Send + Sync, R: Threads + Sync, K: Sink>(
-    rt: &R,
-    text: TextPages<'a, S>,
-    paper: &mut Paper<'a, S>,
+/// Writes a text page by page, and then some lines. At `PutFault` a beginning of both has been written.
+fn put_pages_then_lines<S: Semiring, K: Sink>(
+    text: TextPages<'_, S>,
+    page: &mut Page,
     lines: &[u8],
     out: &mut K,
 ) -> Result<(), PutFault>
@@ -118,12 +154,76 @@ fn put_text_then_lines<'a, S: Semiring + Send + Sync, R: Threads + Sync, K: Sink
     ensures prefix { OnErr result (AppendsPrefix (K.written out.old) (K.written out.new) (text.entry ++ lines.now)) }
     ensures fails { OnErr result (K.has_failed out.new ≡ true) }
 {
-    put_text(rt, text, paper, out)?;
+    put_pages(text, page, out)?;
     put_all(out, lines)
 }
 
-/// Writes the text of a matrix and some lines after it, with at most this many threads. All memory is taken first: at
-/// `Memory` nothing has been written, and at `Output` a beginning of the whole.
+/// Takes the memory to write a text in rounds.
+fn begin_rounds<'a, S: Semiring>(
+    alloc: Global,
+    threads: u32,
+    text: TextPages<'a, S>,
+) -> Result<(Round<'a, S>, Ahead<'a, S>), AllocError>
+    ensures { IfOk result (λ begun. begun.1.text ≡ text.entry) }
+{
+    let round = Round::new(alloc, threads as usize, &text)?;
+    let is_shared = !round.holds(&text);
+    let next = if is_shared {
+        round.another(alloc, &text)?
+    } else {
+        Round::with_lines(alloc, 1, 1, &text)?
+    };
+    let ahead = Ahead {
+        text,
+        round: next,
+        is_shared,
+    };
+    Ok((round, ahead))
+}
+
+/// Writes a text and some lines on this thread, page by page.
+fn put_by_pages<S: Semiring, K: Sink>(
+    alloc: Global,
+    text: TextPages<'_, S>,
+    lines: &[u8],
+    out: &mut K,
+) -> Result<(), JobFault>
+    requires { K.has_failed out.old ≡ false }
+    ensures { IsTextEnd (text.entry ++ lines.now) (K.written out.old) (K.written out.new) (K.has_failed out.new) result }
+{
+    let Ok(mut page) = Page::new(alloc) else {
+        return Err(JobFault::Memory);
+    };
+    match put_pages_then_lines(text, &mut page, lines, out) {
+        Ok(()) => Ok(()),
+        Err(_) => Err(JobFault::Output),
+    }
+}
+
+/// Writes a text and some lines in rounds.
+fn put_by_rounds<S: Semiring + Send + Sync, R: Threads + Sync, K: Sink>(
+    rt: &R,
+    alloc: Global,
+    threads: u32,
+    text: TextPages<'_, S>,
+    lines: &[u8],
+    out: &mut K,
+) -> Result<(), JobFault>
+    requires { K.has_failed out.old ≡ false }
+    ensures { IsTextEnd (text.entry ++ lines.now) (K.written out.old) (K.written out.new) (K.has_failed out.new) result }
+{
+    let Ok((mut round, mut ahead)) = begin_rounds(alloc, threads, text) else {
+        return Err(JobFault::Memory);
+    };
+    match put_rounds_then_lines(rt, &mut round, &mut ahead, lines, out) {
+        Ok(()) => Ok(()),
+        Err(_) => Err(JobFault::Output),
+    }
+}
+
+/// Writes the text of a matrix and some lines after it. At most this many threads make the lines, while the caller's
+/// writes them; or, if it is 1, the caller's does both. All memory is taken first: at `Memory` nothing has been written,
+/// and at `Output` a beginning of the whole.
 pub fn put_text_and_lines<S: Semiring + Send + Sync, R: Threads + Sync, K: Sink>(
     rt: &R,
     alloc: Global,
@@ -135,12 +235,10 @@ pub fn put_text_and_lines<S: Semiring + Send + Sync, R: Threads + Sync, K: Sink>
     requires { K.has_failed out.old ≡ false }
     ensures { IsTextEnd (text.entry ++ lines.now) (K.written out.old) (K.written out.new) (K.has_failed out.new) result }
 {
-    let Ok(mut paper) = Paper::new(alloc, threads, &text) else {
-        return Err(JobFault::Memory);
-    };
-    match put_text_then_lines(rt, text, &mut paper, lines, out) {
-        Ok(()) => Ok(()),
-        Err(_) => Err(JobFault::Output),
+    if threads < 2 {
+        put_by_pages(alloc, text, lines, out)
+    } else {
+        put_by_rounds(rt, alloc, threads, text, lines, out)
     }
 }
 

@@ -12,7 +12,7 @@ use std::thread;
 use std::thread::Threads;
 
 /// The most lines that [`Round::new`] makes room for on a sheet.
-const LINES: usize = 65_536;
+const LINES: usize = 32_768;
 
 /// The fewest lines that it makes room for: fewer aren't worth a thread.
 const FEW: usize = 16_384;
@@ -21,22 +21,25 @@ const FEW: usize = 16_384;
 #[derive(Drop)]
 pub struct Round<'a, S: Semiring> {
     sheets: Vec<Sheet<'a, S>>,
+    /// How many lines each has room for.
+    lines: usize,
 }
 
 impl<'a, S: Semiring> Model for Round<'a, S> {
-    ghost use Rattle.std.specs.Prelude.{ℕ, ◌<◌, List, length};
+    ghost use Rattle.std.specs.Prelude.{ℕ, ◌<◌, ◌≤◌, List, length};
+    ghost use Rattle.cb_market.specs.declared.sheets.TheConstants.{MOST_LINES};
     ghost use Rattle.cb_job_texts.specs.Rounds.{written_on};
 
     ghost Value = { List ℕ };
 
     ghost view = { λ r. written_on r.sheets.items };
 
-    ghost invariant = { λ r. 0 < length r.sheets.items };
+    ghost invariant = { λ r. (0 < length r.sheets.items) × (0 < r.lines) × (r.lines ≤ MOST_LINES) };
 }
 
 impl<'a, S: Semiring> Round<'a, S> {
     /// Makes empty sheets for a text: one per thread, or fewer if the matrix has too few entries. Each takes at most
-    /// 2.9 MB.
+    /// 1.5 MB.
     pub fn new(
         alloc: Global,
         threads: usize,
@@ -49,6 +52,22 @@ impl<'a, S: Semiring> Round<'a, S> {
         let lines = entries.div_ceil(threads).clamp(FEW, LINES);
         let sheets = entries.div_ceil(lines).clamp(1, threads);
         Round::with_lines(alloc, sheets, lines, text)
+    }
+
+    /// Returns whether there is room for all entries of a text.
+    pub fn holds(&self, text: &TextPages<'a, S>) -> bool {
+        text.entry_count() <= self.sheets.len().saturating_mul(self.lines)
+    }
+
+    /// Makes as many empty sheets again, for the round after this one.
+    pub fn another(
+        &self,
+        alloc: Global,
+        text: &TextPages<'a, S>,
+    ) -> Result<Round<'a, S>, AllocError>
+        ensures { IfOk result (λ round. round ≡ []) }
+    {
+        Round::with_lines(alloc, self.sheets.len(), self.lines, text)
     }
 
     /// Makes this many empty sheets for a text, with room for this many lines each. A line takes 43 bytes.
@@ -66,7 +85,10 @@ impl<'a, S: Semiring> Round<'a, S> {
         for _ in 0..sheets {
             blank.push_reserved(Sheet::new(alloc, lines, text)?);
         }
-        Ok(Round { sheets: blank })
+        Ok(Round {
+            sheets: blank,
+            lines,
+        })
     }
 
     /// Returns the sheets in order, which hold the bytes of the round.

@@ -1,4 +1,5 @@
 //! Texts read in pieces of one line or several.
+use cb_dcsc::Block;
 use cb_job_texts::reading::{Pieces, read_in_pieces, read_side_by_side};
 use cb_layout::{DistributedMatrix, Grid};
 use cb_market::{Kind, ReadFault, read, text};
@@ -19,10 +20,9 @@ fn short(most: u32) -> Pieces {
 
 /// The text of a matrix over a grid.
 fn written(alloc: Global, matrix: &DistributedMatrix<PlusTimes>) -> Option<Vec<u8>> {
-    let Ok(whole) = matrix.gather(alloc) else {
-        return None;
-    };
-    text(alloc, &whole).ok()
+    let whole = matrix.gather(alloc).ok()?;
+    let block = Block::<PlusTimes>::from_ordered(alloc, whole.shape(), whole.entries()).ok()?;
+    text(alloc, &block).ok()
 }
 
 /// Reads a text on one thread, and writes the matrix again.

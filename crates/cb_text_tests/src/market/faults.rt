@@ -187,7 +187,7 @@ fn of_other_semirings(rt: HostRuntime) {
 fn value(alloc: Global, text: &[u8]) -> Result<Option<u64>, (u64, Kind)> {
     match read::<PlusTimes>(alloc, text) {
         Ok(matrix) => {
-            if matrix.rows() != 1 || matrix.cols() != 1 {
+            if matrix.shape().rows() != 1 || matrix.shape().cols() != 1 {
                 return Ok(None);
             }
             Ok(Some(matrix.get(0, 0)))

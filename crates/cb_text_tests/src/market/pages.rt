@@ -1,4 +1,5 @@
 //! Texts of matrices over a grid, page by page.
+use cb_dcsc::Block;
 use cb_layout::{DistributedMatrix, Grid};
 use cb_market::{Kind, Page, TextPages, read_distributed, text};
 use cb_matrix::{Entry, Matrix, Shape};
@@ -130,7 +131,8 @@ fn are_two_pages(
 fn are_two_long_pages(alloc: Global, side: u32) -> Option<bool> {
     let grid = Grid::new(side).ok()?;
     let matrix = long_matrix(alloc)?;
-    let whole = text(alloc, &matrix).ok()?;
+    let block = Block::<PlusTimes>::from_ordered(alloc, matrix.shape(), matrix.entries()).ok()?;
+    let whole = text(alloc, &block).ok()?;
     are_two_pages(alloc, grid, &matrix, &whole).ok()
 }
 

@@ -3,6 +3,7 @@ ghost use Rattle.std.specs.Prelude.{◌≤◌, ◌<◌};
 ghost use Rattle.cb_market.specs.declared.sheets.TheConstants.{MOST_LINES};
 
 use crate::market::pages::{EMPTY, FAR, GIVEN};
+use cb_dcsc::Block;
 use cb_job_texts::rounds::Round;
 use cb_layout::{DistributedMatrix, Grid};
 use cb_market::{Kind, MOST_LINES, TextPages, read_distributed, text};
@@ -143,7 +144,8 @@ fn are_rounds<R: Threads + Sync>(
 fn are_long_rounds<R: Threads + Sync>(rt: &R, alloc: Global, side: u32) -> Option<bool> {
     let grid = Grid::new(side).ok()?;
     let matrix = long_column(alloc, 9_000)?;
-    let whole = text(alloc, &matrix).ok()?;
+    let block = Block::<PlusTimes>::from_ordered(alloc, matrix.shape(), matrix.entries()).ok()?;
+    let whole = text(alloc, &block).ok()?;
     let blocks = DistributedMatrix::scatter(alloc, grid, &matrix).ok()?;
     let many = are_rounds(rt, alloc, &blocks, &whole, 1_000, 5).ok()?;
     let one = are_rounds(rt, alloc, &blocks, &whole, 4_501, 1).ok()?;
