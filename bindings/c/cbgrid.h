@@ -526,7 +526,8 @@ int cbgrid_matrix_components(const struct cbgrid_matrix *a, struct cbgrid_matrix
 int cbgrid_matrix_triangles(const struct cbgrid_matrix *a, uint64_t *out);
 
 /* Read a text into a kept matrix, and write the text of one, as cbgrid_read and cbgrid_text do. Free the text with
- * cbgrid_free_text. Each takes memory for a list of the entries, 16 bytes for each, until it returns. */
+ * cbgrid_free_text. If the entries of a text don't ascend by column and then by row, reading takes memory for a list of
+ * them, 16 bytes for each, until it returns. */
 int cbgrid_matrix_read(uint32_t semiring, const void *text, size_t len, uint64_t *line, struct cbgrid_matrix **out);
 int cbgrid_matrix_text(const struct cbgrid_matrix *a, struct cbgrid_text *out);
 

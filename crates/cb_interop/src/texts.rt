@@ -8,12 +8,10 @@ ghost use Rattle.cb_interop.specs.Refusals.{IsMemory, first_over, read_faults};
 ghost use Rattle.cb_interop.specs.Answers.{IsAnswer, IsAnswerOver, IsRead, IsFaultLine};
 
 use crate::faults::Fault;
-use crate::incoming::matrix_block;
 use crate::lists::Columns;
 use crate::outgoing::block_lists;
 use cb_dcsc::Block;
 use cb_market::{Kind, read, text};
-use cb_matrix::Matrix;
 use cb_semirings::{Semiring, SemiringName, over_semiring};
 use std::alloc::Global;
 
@@ -28,8 +26,7 @@ pub struct Text {
 pub(crate) fn block_text<S: Semiring>(alloc: Global, block: &Block<S>) -> Result<Text, Fault>
     ensures { IsAnswer IsMemory (λ t. t.bytes.now ≡ text_of S.arithmetic block.now) result }
 {
-    let matrix = Matrix::<S>::from_ordered(block.shape(), block.entries()?);
-    let bytes = text(alloc, &matrix)?;
+    let bytes = text(alloc, block)?;
     Ok(Text {
         bytes: bytes.leak(),
     })
@@ -45,7 +42,7 @@ pub(crate) fn read_block<S: Semiring>(
     ensures line { IsFaultLine (first_fault S.arithmetic text.now) result line.old line.new }
 {
     match read::<S>(alloc, text) {
-        Ok(matrix) => Ok(matrix_block(alloc, &matrix)?),
+        Ok(block) => Ok(block),
         Err(fault) => match fault.kind {
             Kind::Memory => Err(Fault::Memory),
             _ => {

@@ -14,6 +14,7 @@ use cb_matrix::{Entry, LIMIT, Shape};
 use cb_semirings::Semiring;
 use std::alloc::AllocError;
 use std::marker::Model;
+use std::slice;
 
 /// The entries of one column in one block.
 #[derive(Clone, Copy)]
@@ -58,6 +59,13 @@ impl<'a, S: Semiring> Segments<'a, S> {
             current: GridSegments::new(grid, shape, blocks),
             panels: &[],
         }
+    }
+
+    /// All segments of a block, one for each stored column.
+    pub fn of_block(block: &'a Block<S>) -> Segments<'a, S>
+        ensures { result ≡ block.now.entries }
+    {
+        Segments::over_panels(slice::from_ref(block))
     }
 
     /// All segments of some panels, at least one.

@@ -1,9 +1,8 @@
 -- Gathered entries, appended to others.
-use Rattle.std.proofs.Common.{◌≡◌, ℕ, Bool, true, false, subst, ◌∙◌, ◌+◌, ◌^◌, ◌<◌, ◌≤◌, min, max, List, [], ◌∷◌, ◌++◌, get_or, inl, inr, ⊎_elim, sym, arith, refl}
+use Rattle.std.proofs.Common.{◌≡◌, ℕ, Bool, true, false, subst, ◌∙◌, ◌+◌, ◌^◌, ◌<◌, ◌≤◌, min, max, List, [], ◌∷◌, ◌++◌, get_or, inl, inr, ⊎_elim, sym, arith}
 use Rattle.std.specs.Prelude.{All}
 use Rattle.std.proofs.lemmas.Bool.{cases_lt, false≢true}
 use Rattle.cb_semirings.specs.Arithmetic.{Arithmetic, IsValue}
-use Rattle.std.proofs.lemmas.List.{append-nil}
 use Rattle.std.proofs.lemmas.List.Elements.{All-append, All-push, All-weaker}
 use Rattle.cb_matrix.specs.declared.Entry.{Entry}
 use Rattle.cb_matrix.specs.Sparse.{Extent, Sparse, IsInside, IsBefore}
@@ -36,10 +35,6 @@ below_both es fs f g a b =
     All-append (λ e. place_number e < max f g) es fs
     (All-weaker (λ e. place_number e < f) (λ e. place_number e < max f g) (λ e h. omega (arith, h)) es a)
     (All-weaker (λ e. place_number e < g) (λ e. place_number e < max f g) (λ e h. omega (arith, h)) fs b)
-
--- if both lists are empty, all entries are in the two blocks
-pub blocks_of_both : (es fs vs ws : List Entry) → vs ≡ [] → ws ≡ [] → (es ++ fs) ++ vs ≡ (es ++ vs) ++ (fs ++ ws)
-blocks_of_both es fs vs ws v w = rw (v, w) (rw (append-nil es, append-nil fs, append-nil (es ++ fs)) refl)
 
 -- blocks with the entries of others appended, from the lesser first number up to below the greater bound
 pub gathered_both : (s : Arithmetic) (m n both : Sparse) (list others : List Entry) (ascends more : Bool) (f g first b d bound : ℕ) → IsGathered s m list ascends f b → IsGathered s n others more g d → ascends ≡ true

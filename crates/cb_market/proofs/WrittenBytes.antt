@@ -1,9 +1,7 @@
 -- What is written on a page.
-use Rattle.std.proofs.Common.{◌≡◌, ℕ, zero, suc, ◌+◌, ◌<◌, ◌≤◌, Bool, true, false, List, [], ◌∷◌, ◌++◌, length, take, drop, set, Vec, arith, ap, sym, refl, ◌∙◌, append_assoc, length-append, length-drop}
+use Rattle.std.proofs.Common.{◌≡◌, ℕ, zero, suc, ◌+◌, ◌<◌, ◌≤◌, Bool, true, false, List, [], ◌∷◌, ◌++◌, length, take, drop, set, arith, ap, sym, refl, ◌∙◌, append_assoc, length-append, length-drop}
 use Rattle.std.specs.Prelude.{decimal}
 use Rattle.std.proofs.lemmas.List.{take-append-drop, take_at, take_more_set, length-take-le}
-use Rattle.std.proofs.lemmas.List.{with_items_is}
-use Rattle.std.specs.Vec.{with_items}
 use Rattle.std.proofs.lemmas.Slice.{take-put_mid}
 use borrow.Rule.Slice.PartMut.{put_mid}
 use Rattle.cb_market.specs.Text.{entry_line, line_with}
@@ -44,10 +42,6 @@ bytes_put bytes part some old start count end last after p m e l k o =
 pub same_line : (b : Bool) (row top i column value : ℕ) (digits : List ℕ) → row ≡ top + i + 1 → digits ≡ decimal (column + 1) → line_with b row digits value ≡ entry_line b (record { row = top + i; column = column; value = value })
 same_line true row top i column value digits r d = rw (r, d) refl
 same_line false row top i column value digits r d = rw (r, d) refl
-
--- a page keeps its whole buffer when it is written to
-pub page_with : {Z : Type 0} (v : Vec ℕ Z) (buffer : List ℕ) (end : ℕ) (some : List ℕ) → length buffer ≡ v.len → take end buffer ≡ some → take end (with_items v buffer).items ≡ some
-page_with v buffer end some l e = ap (take end) (with_items_is v buffer l) ∙ e
 
 -- a page that had room has it until a line is written
 pub first_line : (n : ℕ) (page old : List ℕ) → (n ≡ 0 → page ≡ old) → length old + 63 ≤ 65536 → (length page + 63 ≤ 65536 → ⊥) → 0 < n

@@ -5,8 +5,6 @@ use Rattle.cb_matrix.specs.declared.Entry.{Entry}
 use Rattle.cb_matrix.specs.Sparse.{Extent, Sparse}
 use Rattle.cb_layout.specs.Segments.{shifted, entries_of}
 use Rattle.cb_layout.specs.declared.traversal.Segment.{Segment}
-use Rattle.cb_market.specs.declared.writing.Line.{Line}
-use Rattle.cb_market.specs.declared.writing.Line.TheVariants.{Place, PlaceAndValue, RowAndValue}
 
 -- numbers in decimal, with a space between each two and a line feed at the end
 abbrev pub number_line : List ℕ → List ℕ
@@ -72,9 +70,3 @@ with_value_from_one e = record { row = e.row; column = e.column; value = e.value
 -- a line for each entry of a vector whose values are vertices: two vertices, counted from 1
 unfoldable pub vertex_pairs_text_of : Sparse → List ℕ
 vertex_pairs_text_of m = flat_map vertex_line (map with_value_from_one m.entries)
-
--- the line of an entry, by which of its numbers are written
-abbrev pub line_of : Line → Entry → List ℕ
-line_of Place = entry_line true
-line_of PlaceAndValue = entry_line false
-line_of RowAndValue = vertex_line

@@ -103,23 +103,15 @@ fn move_to_list<S: Semiring>(
 }
 
 impl<S: Semiring> Gathered<S> {
-    /// Starts without entries and takes room for this many, in the blocks of a grid or in a list.
-    pub fn start(
-        alloc: Global,
-        grid: Grid,
-        shape: Shape,
-        room: usize,
-        in_blocks: bool,
-    ) -> Result<Self, AllocError>
+    /// Starts without entries, in the blocks of a grid, and takes room for this many.
+    pub fn start(alloc: Global, grid: Grid, shape: Shape, room: usize) -> Result<Self, AllocError>
         ensures { IfOk result (λ g. g ≡ record { side = grid.side; shape = shape; room = room; entries = [] }) }
     {
-        let (in_grid, in_list) = if in_blocks { (room, 0) } else { (0, room) };
-        let blocks = DistributedMatrix::with_room(alloc, grid, shape, in_grid)?;
-        let list = Vec::with_capacity(alloc, in_list)?;
+        let blocks = DistributedMatrix::with_room(alloc, grid, shape, room)?;
         Ok(Gathered {
             blocks,
-            list,
-            ascends: in_blocks,
+            list: Vec::new(alloc),
+            ascends: true,
             first: u64::MAX,
             bound: 0,
             room,
@@ -237,19 +229,7 @@ impl<S: Semiring> Gathered<S> {
         }
     }
 
-    /// Adds up the entries of each place, and returns the matrix.
-    pub fn into_matrix(self, alloc: Global) -> Result<Matrix<S>, AllocError>
-        ensures { IfOk result (λ m. m ≡ collected S.arithmetic self.shape self.entries) }
-    {
-        let shape = self.blocks.shape();
-        if self.ascends {
-            self.blocks.gather(alloc)
-        } else {
-            Matrix::collect(shape, self.list)
-        }
-    }
-
-    /// The same, in the blocks of the grid.
+    /// Adds up the entries of each place, and returns the matrix in the blocks of the grid.
     pub fn into_blocks(self, alloc: Global) -> Result<DistributedMatrix<S>, AllocError>
         ensures { IfOk result (λ m. m ≡ record { side = self.side; matrix = collected S.arithmetic self.shape self.entries }) }
     {

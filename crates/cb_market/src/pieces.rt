@@ -67,7 +67,7 @@ pub fn read_piece<S: Semiring>(
     ensures { IfSome result (λ p. IsPart S.arithmetic header size.shape grid.side piece.now p) }
 {
     let room = room_for_entries(header, size.count, text);
-    let Ok(mut entries) = Gathered::start(alloc, grid, size.shape, room, true) else {
+    let Ok(mut entries) = Gathered::start(alloc, grid, size.shape, room) else {
         return None;
     };
     let Some(lines) = read_lines::<S>(alloc, &mut entries, header, size, piece) else {

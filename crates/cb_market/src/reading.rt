@@ -9,10 +9,10 @@ ghost use Rattle.cb_market_lines.specs.Reads.{Reads, IsFaultOrMatrix};
 
 use crate::entries::{entries_of, room_for_entries};
 use crate::gathered::Gathered;
+use cb_dcsc::Block;
 use cb_layout::{DistributedMatrix, Grid};
 use cb_market_lines::scanner::Scanner;
 use cb_market_lines::{Header, Kind, ReadFault, Size};
-use cb_matrix::Matrix;
 use cb_semirings::Semiring;
 use std::alloc::Global;
 
@@ -21,7 +21,6 @@ fn body<S: Semiring>(
     scanner: &mut Scanner<'_>,
     alloc: Global,
     grid: Grid,
-    in_blocks: bool,
     header: Header,
 ) -> Result<Gathered<S>, ReadFault>
     requires { past_last scanner.old.line scanner.old.rest.now < 2 ^ 64 }
@@ -36,7 +35,7 @@ fn body<S: Semiring>(
         return Err(scanner.fault(Kind::BadSize));
     };
     let size = scanner.size_line(header, &first)?;
-    after_size(scanner, alloc, grid, in_blocks, header, size)
+    after_size(scanner, alloc, grid, header, size)
 }
 
 /// Reads the entries, from the end of the size line on.
@@ -44,7 +43,6 @@ fn after_size<S: Semiring>(
     scanner: &mut Scanner<'_>,
     alloc: Global,
     grid: Grid,
-    in_blocks: bool,
     header: Header,
     size: Size,
 ) -> Result<Gathered<S>, ReadFault>
@@ -61,19 +59,17 @@ fn after_size<S: Semiring>(
     let refused = scanner.fault(Kind::Memory);
     scanner.next_line();
     let room = room_for_entries(header, size.count, scanner.rest);
-    let Ok(mut entries) = Gathered::start(alloc, grid, size.shape, room, in_blocks) else {
+    let Ok(mut entries) = Gathered::start(alloc, grid, size.shape, room) else {
         return Err(refused);
     };
     entries_of::<S>(scanner, alloc, &mut entries, header, size)?;
     Ok(entries)
 }
 
-/// Reads the entries of a text into the blocks of a grid or into a list. Returns them and the number of the line past the
-/// last, or the first fault.
+/// Reads the entries of a text. Returns them and the number of the line past the last, or the first fault.
 fn gathered<S: Semiring>(
     alloc: Global,
     grid: Grid,
-    in_blocks: bool,
     text: &[u8],
 ) -> Result<(Gathered<S>, u64), ReadFault>
     ensures ok { IfOk result (λ p. Reads S.arithmetic text.now (collected S.arithmetic p.0.shape p.0.entries)) }
@@ -94,39 +90,28 @@ fn gathered<S: Semiring>(
         Err(kind) => return Err(ReadFault { line: 1, kind }),
     };
     scanner.next_line();
-    let entries = body::<S>(&mut scanner, alloc, grid, in_blocks, header)?;
+    let entries = body::<S>(&mut scanner, alloc, grid, header)?;
     Ok((entries, scanner.line))
 }
 
-/// Reads a text as a matrix, or returns its first fault. Entries of the same place are added up; sums that are zero
-/// aren't stored.
-///
-/// If memory is refused, the fault names the line that was being read, or the line past the last if all were read. It is
-/// returned only if no line up to that one has a fault. The text is read in one pass; then the entries are sorted and
-/// added up in place.
-pub fn read<S: Semiring>(alloc: Global, text: &[u8]) -> Result<Matrix<S>, ReadFault>
-    ensures ok { IfOk result (λ m. Reads S.arithmetic text.now m) }
+/// Reads a text as a matrix in one block, or returns its first fault, as [`read_distributed`] does.
+pub fn read<S: Semiring>(alloc: Global, text: &[u8]) -> Result<Block<S>, ReadFault>
+    ensures ok { IfOk result (Reads S.arithmetic text.now) }
     ensures fault { IfErr result (IsAnswer (first_fault S.arithmetic text.now)) }
     ensures line { IfErr result (IsLineOf 1 text.now) }
     ensures law { IsFaultOrMatrix S.arithmetic text.now }
 {
-    let Ok(grid) = Grid::new(1) else {
-        unreachable!();
-    };
-    let (entries, line) = gathered::<S>(alloc, grid, false, text)?;
-    match entries.into_matrix(alloc) {
-        Ok(matrix) => Ok(matrix),
-        Err(_refused) => Err(ReadFault {
-            line,
-            kind: Kind::Memory,
-        }),
-    }
+    let matrix = read_distributed::<S>(alloc, &Grid::single(), text)?;
+    Ok(matrix.into_block())
 }
 
-/// Reads a text as a matrix in the blocks of a grid, or returns its first fault. In all else it is as [`read`].
+/// Reads a text as a matrix in the blocks of a grid, or returns its first fault. Entries of the same place are added up;
+/// sums that are zero aren't stored.
 ///
-/// If the entries ascend by column and then row and none is zero, they go straight into the blocks. Otherwise they are
-/// collected in a list, sorted and added up as in [`read`], and then moved to the blocks.
+/// If memory is refused, the fault names the line that was being read, or the line past the last if all were read. It is
+/// returned only if no line up to that one has a fault. The text is read in one pass. If the entries ascend by column and
+/// then row and none is zero, they go straight into the blocks. Otherwise they are collected in a list, sorted and added up
+/// in place, and then moved to the blocks.
 pub fn read_distributed<S: Semiring>(
     alloc: Global,
     grid: &Grid,
@@ -138,7 +123,7 @@ pub fn read_distributed<S: Semiring>(
     ensures line { IfErr result (IsLineOf 1 text.now) }
     ensures law { IsFaultOrMatrix S.arithmetic text.now }
 {
-    let (entries, line) = gathered::<S>(alloc, *grid, true, text)?;
+    let (entries, line) = gathered::<S>(alloc, *grid, text)?;
     match entries.into_blocks(alloc) {
         Ok(blocks) => Ok(blocks),
         Err(_refused) => Err(ReadFault {

@@ -1,4 +1,4 @@
-//! The text of a matrix over a grid or in panels, page by page, without gathering the matrix.
+//! The text of a matrix over a grid, in panels or in a block, page by page, without gathering the matrix.
 ghost use Rattle.std.specs.Prelude.{◌≡◌, ◌+◌, ◌≤◌, ◌<◌, [], ◌++◌, length, take, drop, true, false, IfSome, IfNone};
 ghost use Rattle.cb_layout.specs.Segments.{entries_of};
 ghost use Rattle.cb_market.specs.Sheets.{lines_of};
@@ -6,13 +6,15 @@ ghost use Rattle.cb_market.specs.Text.{text_of, column_lines, first_lines, line_
 
 use crate::pages::{LINE, Page, SIZE};
 use crate::writing::put_head;
+use cb_dcsc::Block;
 use cb_layout::{DistributedMatrix, PanelledMatrix, Segment, Segments};
 use cb_matrix::Shape;
 use cb_semirings::Semiring;
 use itoa::Buffer;
 use std::marker::Model;
 
-/// The rest of the text of a matrix over a grid or in panels, still to be written. In contracts it is these bytes.
+/// The rest of the text of a matrix over a grid, in panels or in a block, still to be written. In contracts it is these
+/// bytes.
 ///
 /// The entries are read from the blocks in place, column by column. The digits of a column are computed once per block.
 /// The cost is proportional to the stored entries, and no call takes memory.
@@ -45,6 +47,18 @@ impl<'a, S: Semiring> TextPages<'a, S> {
             len: matrix.len(),
             has_head: true,
             entries: EntriesLeft::new(matrix.segments()),
+        }
+    }
+
+    /// Starts the text of a block, the same that [`text`](crate::text) makes of it.
+    pub fn of_block(matrix: &'a Block<S>) -> TextPages<'a, S>
+        ensures { result ≡ text_of S.arithmetic matrix.now }
+    {
+        TextPages {
+            shape: matrix.shape(),
+            len: matrix.len(),
+            has_head: true,
+            entries: EntriesLeft::new(Segments::of_block(matrix)),
         }
     }
 

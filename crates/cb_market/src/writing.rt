@@ -3,39 +3,17 @@ ghost use Rattle.std.specs.Prelude.{◌≡◌, ◌+◌, ◌≤◌, ◌++◌, IfO
 ghost use Rattle.cb_semirings.specs.Tables.{min_plus};
 ghost use Rattle.cb_matrix.specs.Sparse.{IsMatrix};
 ghost use Rattle.cb_market_lines.specs.Reads.{Reads};
-ghost use Rattle.cb_market.specs.Text.{text_of, entry_line, head_of, header_line, vertex_text_of, vertex_pairs_text_of, with_value_from_one, line_of};
+ghost use Rattle.cb_market.specs.Text.{text_of, entry_line, head_of, header_line, vertex_line, vertex_text_of, vertex_pairs_text_of, with_value_from_one};
 
+use crate::TextPages;
 use crate::pages::{LINE, Page, SIZE, digits};
+use cb_dcsc::Block;
 use cb_matrix::{Entry, LIMIT, Matrix, Shape};
 use cb_semirings::{MinPlus, Semiring};
 use std::alloc::{AllocError, Global};
 
 /// The number of lines that are appended at a time. A page has room for them.
 const LINES: usize = 1_024;
-
-/// Which numbers of an entry are written on its line. Rows and columns count from 1.
-#[derive(Clone, Copy)]
-enum Line {
-    /// The row and the column.
-    Place,
-    /// The row, the column and the value.
-    PlaceAndValue,
-    /// The row and the value.
-    RowAndValue,
-}
-
-impl Line {
-    /// The line of an entry of a matrix. A pattern has no values.
-    fn of_entry(is_pattern: bool) -> Line
-        ensures { line_of result ≡ entry_line is_pattern }
-    {
-        if is_pattern {
-            Line::Place
-        } else {
-            Line::PlaceAndValue
-        }
-    }
-}
 
 /// Makes an empty text with room for a header and this many lines. A line is taken to have the last row, the last column
 /// and a value of two digits.
@@ -46,84 +24,48 @@ fn text_of_lines(alloc: Global, shape: Shape, lines: usize) -> Result<Vec<u8>, A
     Vec::with_capacity(alloc, lines.saturating_mul(line).saturating_add(80))
 }
 
-/// Writes the line of an entry.
-fn put_line(page: &mut Page, line: Line, entry: Entry)
-    requires room { length page.old + LINE ≤ SIZE }
-    ensures written { page.new ≡ page.old ++ line_of line entry }
+/// Writes the line of a vertex.
+fn put_line(page: &mut Page, entry: Entry)
+    requires { length page.old + LINE ≤ SIZE }
+    ensures written { page.new ≡ page.old ++ vertex_line entry }
     ensures length { length page.new ≤ length page.old + LINE }
 {
     page.put(entry.row as u64 + 1, b' ');
-    match line {
-        Line::Place => page.put(entry.column as u64 + 1, b'\n'),
-        Line::PlaceAndValue => {
-            page.put(entry.column as u64 + 1, b' ');
-            page.put(entry.value, b'\n');
-        }
-        Line::RowAndValue => page.put(entry.value, b'\n'),
-    }
+    page.put(entry.value, b'\n');
 }
 
 /// Writes the lines of at most 1,024 entries on the page, and appends the page to the text.
-fn put_page(
-    text: &mut Vec<u8>,
-    page: &mut Page,
-    line: Line,
-    entries: &[Entry],
-) -> Result<(), AllocError>
+fn put_page(text: &mut Vec<u8>, page: &mut Page, entries: &[Entry]) -> Result<(), AllocError>
     requires { length entries.now ≤ LINES }
-    ensures { OnOk result (text.new.items ≡ text.old.items ++ flat_map (line_of line) entries.now) }
+    ensures { OnOk result (text.new.items ≡ text.old.items ++ flat_map vertex_line entries.now) }
 {
     page.clear();
     for entry in entries {
-        put_line(page, line, *entry);
+        put_line(page, *entry);
     }
     text.extend_from_slice(page.written())
 }
 
 /// Appends the lines of entries.
-fn put_lines(
-    text: &mut Vec<u8>,
-    page: &mut Page,
-    line: Line,
-    entries: &[Entry],
-) -> Result<(), AllocError>
-    ensures { OnOk result (text.new.items ≡ text.old.items ++ flat_map (line_of line) entries.now) }
+fn put_lines(text: &mut Vec<u8>, page: &mut Page, entries: &[Entry]) -> Result<(), AllocError>
+    ensures { OnOk result (text.new.items ≡ text.old.items ++ flat_map vertex_line entries.now) }
 {
     let mut left = entries;
     while !left.is_empty() {
         let count = left.len().min(LINES);
-        put_page(text, page, line, &left[..count])?;
+        put_page(text, page, &left[..count])?;
         left = &left[count..];
     }
     Ok(())
 }
 
-/// Appends the page to the text, and then the lines of entries.
-fn put_all(
-    text: &mut Vec<u8>,
-    page: &mut Page,
-    line: Line,
-    entries: &[Entry],
-) -> Result<(), AllocError>
-    ensures { OnOk result (text.new.items ≡ text.old.items ++ page.old ++ flat_map (line_of line) entries.now) }
+/// Makes a text of the lines of entries.
+fn vertex_lines(alloc: Global, shape: Shape, entries: &[Entry]) -> Result<Vec<u8>, AllocError>
+    ensures { IfOk result (λ text. text.items ≡ flat_map vertex_line entries.now) }
 {
-    text.extend_from_slice(page.written())?;
-    put_lines(text, page, line, entries)
-}
-
-/// Makes a text of what a page has and the lines of entries.
-fn text_after(
-    alloc: Global,
-    head: Page,
-    shape: Shape,
-    line: Line,
-    entries: &[Entry],
-) -> Result<Vec<u8>, AllocError>
-    ensures { IfOk result (λ text. text.items ≡ head ++ flat_map (line_of line) entries.now) }
-{
-    let mut page = head;
+    let mut page = Page::new(alloc)?;
     let mut text = text_of_lines(alloc, shape, entries.len())?;
-    put_all(&mut text, &mut page, line, entries)?;
+    put_lines(&mut text, &mut page, entries)?;
     Ok(text)
 }
 
@@ -150,18 +92,31 @@ pub(crate) fn put_head(page: &mut Page, is_pattern: bool, shape: Shape, entries:
     page.put(entries as u64, b'\n');
 }
 
+/// Appends the pages of a text.
+fn put_pages<S: Semiring>(
+    text: &mut Vec<u8>,
+    page: &mut Page,
+    pages: TextPages<'_, S>,
+) -> Result<(), AllocError>
+    ensures { OnOk result (text.new.items ≡ text.old.items ++ pages.entry) }
+{
+    let mut pages = pages;
+    while pages.next_page(page) {
+        text.extend_from_slice(page.written())?;
+    }
+    Ok(())
+}
+
 /// Writes the text of a matrix: the header, the size line, and a line for each entry, by column and then by row. It reads
-/// back as the same matrix if there are at most 2,147,483,647 entries.
-pub fn text<S: Semiring>(alloc: Global, matrix: &Matrix<S>) -> Result<Vec<u8>, AllocError>
+/// back as the same matrix if there are at most 2,147,483,647 entries. No entry is copied.
+pub fn text<S: Semiring>(alloc: Global, matrix: &Block<S>) -> Result<Vec<u8>, AllocError>
     ensures text { IfOk result (λ bytes. bytes.items ≡ text_of S.arithmetic matrix.now) }
     ensures law { IfOk result (λ bytes. length matrix.now.entries ≤ LIMIT → Reads S.arithmetic bytes.items matrix.now) }
 {
-    let shape = matrix.shape();
-    let is_pattern = S::writes_pattern();
     let mut page = Page::new(alloc)?;
-    put_head(&mut page, is_pattern, shape, matrix.len());
-    let line = Line::of_entry(is_pattern);
-    text_after(alloc, page, shape, line, matrix.entries())
+    let mut text = text_of_lines(alloc, matrix.shape(), matrix.len())?;
+    put_pages(&mut text, &mut page, TextPages::of_block(matrix))?;
+    Ok(text)
 }
 
 /// Writes the stored entries of a vector, one line each: the number of the vertex, counted from 1, and its value. There
@@ -170,14 +125,7 @@ pub fn vertex_text(alloc: Global, vector: &Matrix<MinPlus>) -> Result<Vec<u8>, A
     requires { vector.now.shape.cols ≡ 1 }
     ensures { IfOk result (λ bytes. bytes.items ≡ vertex_text_of vector.now) }
 {
-    let page = Page::new(alloc)?;
-    text_after(
-        alloc,
-        page,
-        vector.shape(),
-        Line::RowAndValue,
-        vector.entries(),
-    )
+    vertex_lines(alloc, vector.shape(), vector.entries())
 }
 
 /// Copies the entries of a vector whose values are vertices, with the values counted from 1.
@@ -203,6 +151,5 @@ pub fn vertex_pairs_text(alloc: Global, vector: &Matrix<MinPlus>) -> Result<Vec<
 {
     let shape = vector.shape();
     let counted = counted_from_one(alloc, vector)?;
-    let page = Page::new(alloc)?;
-    text_after(alloc, page, shape, Line::RowAndValue, &counted)
+    vertex_lines(alloc, shape, &counted)
 }

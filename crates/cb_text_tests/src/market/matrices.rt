@@ -1,5 +1,9 @@
 //! Texts that read as a matrix.
+ghost use Rattle.std.specs.Prelude.{◌≡◌};
+
+use cb_dcsc::Block;
 use cb_market::{Kind, ReadFault, read, text, vertex_text};
+use cb_matrix::Matrix;
 use cb_semirings::{MinPlus, OrAnd, PlusTimes, Semiring};
 use std::alloc::{AllocError, Global};
 
@@ -156,14 +160,23 @@ fn have_long_numbers(rt: HostRuntime) {
     assert!(rt; reads_a_long_value(rt.alloc()) == Ok(true));
 }
 
+/// Writes a column as a list of vertices.
+fn list_of(alloc: Global, column: &Block<MinPlus>) -> Result<Vec<u8>, AllocError>
+    requires { column.now.shape.cols ≡ 1 }
+{
+    let vector = Matrix::<MinPlus>::from_ordered(column.shape(), column.entries()?);
+    vertex_text(alloc, &vector)
+}
+
 /// Reads a text of one column, and writes it as a list of vertices.
 fn of_vertices(alloc: Global, given: &[u8]) -> Result<Vec<u8>, Kind> {
     match read::<MinPlus>(alloc, given) {
         Ok(levels) => {
-            if levels.cols() != 1 {
+            let shape = levels.shape();
+            if shape.cols() != 1 {
                 return Err(Kind::TooLarge);
             }
-            vertex_text(alloc, &levels).map_err(|_| Kind::Memory)
+            list_of(alloc, &levels).map_err(|_| Kind::Memory)
         }
         Err(fault) => Err(fault.kind),
     }

@@ -3,7 +3,7 @@ use Rattle.std.specs.Prelude.{flat_map}
 use Rattle.std.proofs.lemmas.List.{take-append-drop, take_rest}
 use Rattle.std.proofs.lemmas.List.Concat.{flat_map-append}
 use Rattle.cb_matrix.specs.declared.Entry.{Entry}
-use Rattle.cb_market.specs.Text.{line_of}
+use Rattle.cb_market.specs.Text.{vertex_line}
 use Rattle.cb_market.proofs.writing.put_lines.Goals as goal
 
 -- some more lines are put, and the others are left
@@ -21,7 +21,7 @@ all_put line text all [] none e = sym (append-nil text) ∙ e
 all_put line text all (x ∷ left) none e = absurd (omega arith)
 
 pub loop-left-preserved : goal.loop-left-preserved
-loop-left-preserved c = some_put (line_of c.args.line) c.loop-left.text.items c.put_page.new.text.items _ c.min-count.result c.loop-left.left.now c.loop-left.invariant c.in_ok-put_page.ensures
+loop-left-preserved c = some_put vertex_line c.loop-left.text.items c.put_page.new.text.items _ c.min-count.result c.loop-left.left.now c.loop-left.invariant c.in_ok-put_page.ensures
 
 pub returns : goal.returns
-returns c = all_put (line_of c.args.line) c.loop-left.text.items _ c.loop-left.left.now (search arith) c.loop-left.invariant
+returns c = all_put vertex_line c.loop-left.text.items _ c.loop-left.left.now (search arith) c.loop-left.invariant
