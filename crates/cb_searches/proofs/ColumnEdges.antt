@@ -1,9 +1,9 @@
 -- The rows of a vertex's column are the vertices from which an edge leads to it.
-use Rattle.std.proofs.Common.{◌≡◌, ◌≢◌, ℕ, ◌<◌, ⊎_elim, List, [], ◌∷◌, length, subst, sym, refl, ◌∙◌, arith}
+use Rattle.std.proofs.Common.{◌≡◌, ◌≢◌, ℕ, ◌<◌, true, ⊎_elim, List, [], ◌∷◌, length, subst, sym, refl, ◌∙◌, arith}
 use Rattle.std.specs.Prelude.{All, Contains, ◌==◌}
-use Rattle.std.proofs.lemmas.Bool.{cases_eq, cond-false}
+use Rattle.std.proofs.lemmas.Bool.{cases_eq, cond-false, eqb-true}
 use Rattle.std.proofs.lemmas.List.{get_or_default}
-use Rattle.std.proofs.lemmas.List.Elements.{All-map, All-filter, All-get_or, Contains-get_or, Contains-append_right}
+use Rattle.std.proofs.lemmas.List.Elements.{All-head, All-map, All-filter, All-get_or, Contains-get_or, Contains-append_right, filter_passes}
 use Rattle.cb_semirings.specs.Tables.{or_and}
 use Rattle.cb_matrix.specs.declared.Entry.{Entry}
 use Rattle.cb_matrix.specs.Sparse.{Sparse, IsMatrix, at}
@@ -36,3 +36,16 @@ module _ (a : Sparse) (is : IsMatrix or_and a) (u v : ℕ) where
       let l : there.0 < length rs = there.1 in
       All-get_or (λ x. x ≢ 0) vs there.0 0 (omega (arith, long, l)) some
       (sym (row_value-found 0 rs vs there.0 u long (column_ascends v a.entries is.ascending) l (get_or_default rs there.0 0 u l ∙ there.2)) ∙ column_value 0 a.entries u v ∙ none)
+
+own_listed : (v : ℕ) (cs : List ℕ) (es : List Entry) → All (λ e. Contains cs e.column) es → All (λ e. (e.column == v) ≡ true) es → es ≢ [] → Contains cs v
+own_listed v cs [] held own some = absurd (some refl)
+own_listed v cs (e ∷ es) held own some = subst (Contains cs) (eqb-true e.column v (All-head (λ e. (e.column == v) ≡ true) e es own)) (All-head (λ e. Contains cs e.column) e es held)
+
+-- a column that has entries is listed, if the column of each entry is
+pub column_listed : (v : ℕ) (cs : List ℕ) (es : List Entry) → All (λ e. Contains cs e.column) es → in_column v es ≢ [] → Contains cs v
+column_listed v cs es held some = own_listed v cs (in_column v es) (All-filter (λ e. e.column == v) (λ e. Contains cs e.column) es held) (filter_passes (λ e. e.column == v) es) some
+
+-- and so is the column of each edge
+pub edge_listed : (a : Sparse) → IsMatrix or_and a → (cs : List ℕ) → All (λ e. Contains cs e.column) a.entries → (u v : ℕ) → at or_and a u v ≢ 0 → Contains cs v
+edge_listed a is cs held u v edge =
+    column_listed v cs a.entries held (λ none. let h = subst (λ (es : List Entry). Contains (rows_of es) u) none (edge_row a is u v edge) in omega (arith, h.1))

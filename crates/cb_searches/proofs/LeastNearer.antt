@@ -1,21 +1,18 @@
 -- A vertex's parents are the vertices nearer to the source from which an edge leads to it.
-use Rattle.std.proofs.Common.{◌≡◌, ◌≢◌, ℕ, ◌+◌, ◌<◌, ◌≤◌, true, ⊎_elim, List, [], ◌∷◌, ◌++◌, subst, sym, refl, ap, ◌∙◌, arith}
-use Rattle.std.specs.Prelude.{All, AllPairs, Contains, ◌==◌}
-use Rattle.std.proofs.lemmas.Bool.{cases_lt, cond-true, cond-false, lt-ltb, le-ltb, eqb-true}
-use Rattle.std.proofs.lemmas.List.Elements.{All-nil, All-cons, All-head, All-tail, All-filter, All-weaker, All-contains, Contains-get_or, Contains-append_right, filter_passes}
+use Rattle.std.proofs.Common.{◌≡◌, ◌≢◌, ℕ, ◌+◌, ◌<◌, ◌≤◌, ⊎_elim, List, [], ◌∷◌, ◌++◌, subst, sym, refl, ap, ◌∙◌, arith}
+use Rattle.std.specs.Prelude.{All, AllPairs, Contains}
+use Rattle.std.proofs.lemmas.Bool.{cases_lt, cond-true, cond-false, lt-ltb, le-ltb}
+use Rattle.std.proofs.lemmas.List.Elements.{All-nil, All-cons, All-head, All-tail, All-weaker, All-contains, Contains-get_or, Contains-append_right}
 use Rattle.cb_semirings.specs.Tables.{min_plus, or_and}
 use Rattle.cb_matrix.specs.declared.Entry.{Entry}
 use Rattle.cb_matrix.specs.Sparse.{Sparse, IsMatrix, at}
 use Rattle.cb_matrix.proofs.Pairs.{AllPairs-head, AllPairs-tail}
 use Rattle.cb_dcsc.specs.Columns.{in_column, rows_of}
 use Rattle.cb_dcsc.proofs.Lookup.{rows_inside, column_ascends}
-use Rattle.cb_searches.specs.Walks.{IsWalk, IsLeast, steps, cost, infinite, column_shape}
+use Rattle.cb_searches.specs.Walks.{IsLeast, steps, infinite, column_shape}
+use Rattle.cb_searches.specs.BottomUp.{AreLevelNumbers}
 use Rattle.cb_searches.specs.Parents.{IsParent, IsLeastParent, AreParents, first_below, first_nearer}
-use Rattle.cb_searches.proofs.ColumnEdges.{edge_row, row_edge}
-use Rattle.cb_searches.proofs.NumbersByRound.{IsNearest}
-use Rattle.cb_searches.proofs.ShortWalks.{short_walk}
-use Rattle.cb_searches.proofs.TurnedProducts.{inside_square}
-use Rattle.cb_searches.proofs.UnitWeights.{weights_there, to_unit, from_unit, unit_cost}
+use Rattle.cb_searches.proofs.ColumnEdges.{edge_row, row_edge, column_listed}
 use Rattle.cb_searches.proofs.WalkCosts.{walk_more, steps_more}
 
 -- ---- the first of a list that is below n
@@ -69,14 +66,10 @@ below_some d n (u ∷ us) up some =
     }))
     (cases_lt (d u) n)
 
-listed_by : (d : ℕ → ℕ) (n v : ℕ) (cs : List ℕ) (es : List Entry) → All (λ e. Contains cs e.column) es → All (λ e. (e.column == v) ≡ true) es → first_below d n (rows_of es) ≢ infinite → Contains cs v
-unfolding first_below
-listed_by d n v cs [] held own some = absurd (some refl)
-listed_by d n v cs (e ∷ es) held own some = subst (Contains cs) (eqb-true e.column v (All-head (λ e. (e.column == v) ≡ true) e es own)) (All-head (λ e. Contains cs e.column) e es held)
-
 -- what is found for a vertex shows that its column has entries
 pub nearer_listed : (d : ℕ → ℕ) (n v : ℕ) (cs : List ℕ) (es : List Entry) → All (λ e. Contains cs e.column) es → first_below d n (rows_of (in_column v es)) ≢ infinite → Contains cs v
-nearer_listed d n v cs es held some = listed_by d n v cs (in_column v es) (All-filter (λ e. e.column == v) (λ e. Contains cs e.column) es held) (filter_passes (λ e. e.column == v) es) some
+unfolding first_below
+nearer_listed d n v cs es held some = column_listed v cs es held (λ none. some (ap (λ (es : List Entry). first_below d n (rows_of es)) none))
 
 rows_fit : (a : Sparse) → IsMatrix or_and a → a.shape.rows < infinite → (v : ℕ) → All (λ u. u < infinite) (rows_of (in_column v a.entries))
 rows_fit a is fits v = All-weaker (λ u. u < a.shape.rows) (λ u. u < infinite) (λ u l. omega (arith, fits, l)) (rows_of (in_column v a.entries)) (rows_inside or_and a v (rows_of (in_column v a.entries)) is refl)
@@ -85,34 +78,18 @@ rows_fit a is fits v = All-weaker (λ u. u < a.shape.rows) (λ u. u < infinite) 
 pub nearer_fits : (a : Sparse) → IsMatrix or_and a → a.shape.rows < infinite → (d : ℕ → ℕ) (v : ℕ) → first_nearer a d v ≤ infinite
 nearer_fits a is fits d v = below_fits d (d v) (rows_of (in_column v a.entries)) (rows_fit a is fits v)
 
-module _ (a : Sparse) (is : IsMatrix or_and a) (square : a.shape.rows ≡ a.shape.cols) (fits : a.shape.rows < infinite) (source : ℕ) (inside : source < a.shape.rows) (d : ℕ → ℕ) (near : IsNearest a source d) where
-  -- the number of a vertex that is reached is its level
-  level_of : (v : ℕ) → d v ≢ infinite → IsLeast or_and a source v steps (d v)
-  level_of v some =
-      let w : (walk : List ℕ) × IsWalk min_plus a source v walk × (cost a walk ≡ d v) = near.reached v some in
-      let walk : IsWalk or_and a source v w.0 = from_unit a is square fits source inside v w.0 w.1 in
-      record {
-        reached = (w.0, walk, sym (unit_cost a is square fits source inside v w.0 walk) ∙ w.2);
-        least = λ k other. omega (arith, unit_cost a is square fits source inside v k other, near.least v k (to_unit a is square fits source inside v k other));
-      }
-
+module _ (a : Sparse) (is : IsMatrix or_and a) (fits : a.shape.rows < infinite) (source : ℕ) (d : ℕ → ℕ) (are : AreLevelNumbers a source d) where
   -- a level is the number of its vertex
   number_of : (v n : ℕ) → IsLeast or_and a source v steps n → d v ≡ n
   number_of v n least =
       let w = least.reached in
-      let above : d v ≤ cost a w.0 = near.least v w.0 (to_unit a is square fits source inside v w.0 w.1) in
-      let short : (us : List ℕ) × IsWalk min_plus a source v us × (steps us < a.shape.rows) × (cost a us ≤ cost a w.0) = short_walk a a.shape.rows (inside_square a (weights_there a is) square) source v w.0 inside (to_unit a is square fits source inside v w.0 w.1) in
-      let brief : n ≤ steps short.0 = least.least short.0 (from_unit a is square fits source inside v short.0 short.1) in
-      let some : d v ≢ infinite = λ e. omega (arith, e, above, unit_cost a is square fits source inside v w.0 w.1, w.2, brief, short.2, fits) in
-      let own = level_of v some in
-      let low : n ≤ d v = omega (arith, least.least own.reached.0 own.reached.1, own.reached.2) in
-      omega (arith, low, above, unit_cost a is square fits source inside v w.0 w.1, w.2)
+      let own = are.levels v (λ e. are.none v e w.0 w.1) in
+      omega (arith, own.least w.0 w.1, w.2, least.least own.reached.0 own.reached.1, own.reached.2)
 
   -- a nearer vertex with an edge to a vertex is a parent
   pub nearer_is_parent : (u v : ℕ) → at or_and a u v ≢ 0 → d u < d v → IsParent a source u v
   nearer_is_parent u v edge nearer =
-      let some : d u ≢ infinite = λ e. omega (arith, e, nearer, near.fits v) in
-      let own : IsLeast or_and a source u steps (d u) = level_of u some in
+      let own : IsLeast or_and a source u steps (d u) = are.levels u (λ e. omega (arith, e, nearer, are.fits v)) in
       let w = own.reached in
       record {
         edge = edge;
@@ -120,7 +97,7 @@ module _ (a : Sparse) (is : IsMatrix or_and a) (square : a.shape.rows ≡ a.shap
         near = own;
         far = record {
           reached = (w.0 ++ v ∷ [], walk_more or_and a source u v w.0 w.1 edge, steps_more w.0 u v w.1.ends ∙ ap (λ (n : ℕ). n + 1) w.2);
-          least = λ k other. omega (arith, nearer, unit_cost a is square fits source inside v k other, near.least v k (to_unit a is square fits source inside v k other));
+          least = λ k other. omega (arith, nearer, (are.levels v (λ e. are.none v e k other)).least k other);
         };
       }
 

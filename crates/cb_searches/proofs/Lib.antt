@@ -12,7 +12,8 @@ pub mod VertexColumns
 -- ShortWalks: for each walk a short one that costs no more. NumbersByRound: numbers that near the least costs, round by
 -- round. TurnedProducts: a round is the product of the turned matrix. TakenNumbers, LowerEntries, NumberColumns,
 -- FallenNumbers: the numbers known so far, those that fall, and their column. RelaxedEdges: the edges from one vertex.
--- TurnedUnits: levels on the transposed matrix. LeastNearer: parents are nearer vertices. ParentFacts: who has a parent.
+-- TurnedUnits: levels on the transposed matrix. BottomUpRounds: rounds from the bottom up. LevelNumbers: numbers that are
+-- levels. LeastNearer: parents are nearer vertices. ParentFacts: who has a parent.
 -- ColumnsBesides: columns of distances, side by side. NearestGiven: what is nearest from initial values. GivenEntries: these
 -- are taken one after another.
 pub mod ShortWalks
@@ -24,6 +25,8 @@ pub mod NumberColumns
 pub mod FallenNumbers
 pub mod RelaxedEdges
 pub mod TurnedUnits
+pub mod BottomUpRounds
+pub mod LevelNumbers
 pub mod LeastNearer
 pub mod ParentFacts
 pub mod ColumnsBesides

@@ -8,12 +8,11 @@ ghost use Rattle.cb_semirings.specs.Tables.{min_plus};
 ghost use Rattle.cb_matrix.specs.Sparse.{IsMatrix, at};
 ghost use Rattle.cb_searches.specs.Walks.{column_shape};
 ghost use Rattle.cb_searches.specs.Numbers.{number_at};
-ghost use Rattle.cb_searches.specs.Searches.{IsWholeSearch};
 ghost use Rattle.cb_searches.specs.Parents.{AreParents, first_below, first_nearer};
 
 use crate::numbers::Numbers;
-use crate::one_block::search_by_edges;
-use crate::searches::{Search, column_shape};
+use crate::one_block::level_numbers;
+use crate::searches::column_shape;
 use cb_dcsc::Block;
 use cb_matrix::{Entry, Matrix};
 use cb_semirings::{MinPlus, OrAnd};
@@ -23,8 +22,8 @@ use std::alloc::{AllocError, Global};
 /// vertex that is one level nearer and has an edge to it. The result is a column of parents, counted from 0; the source
 /// and unreachable vertices aren't stored.
 ///
-/// The search costs what [`levels`](crate::levels) does, and holds the transposed block until it ends. Then each column
-/// that has entries is read up to the first row that is nearer, with one look-up a row.
+/// The levels cost what [`levels`](crate::levels) does. Then each column that has entries is read up to the first row that
+/// is nearer, with one look-up a row.
 pub fn parents(
     alloc: Global,
     graph: &Block<OrAnd>,
@@ -37,23 +36,10 @@ pub fn parents(
 {
     let shape = graph.shape();
     prove_eq!(shape.rows(), shape.cols());
-    let search = whole_search(alloc, graph, source)?;
-    let column = parent_column(alloc, graph, search.known())?;
+    let known = level_numbers(alloc, graph, source)?;
+    let column = parent_column(alloc, graph, &known)?;
     prove_eq!(column.shape(), column_shape(shape));
     Ok(column)
-}
-
-/// The finished search in which each entry weighs 1.
-fn whole_search(alloc: Global, graph: &Block<OrAnd>, source: u32) -> Result<Search, AllocError>
-    requires square { graph.now.shape.rows ≡ graph.now.shape.cols }
-    requires source { source < graph.now.shape.rows }
-    ensures { IfOk result (λ search. (k : ℕ) × IsWholeSearch graph.now source k search) }
-{
-    let shape = graph.shape();
-    prove_eq!(shape.rows(), shape.cols());
-    let turned = cb_reshape::transpose(alloc, graph)?;
-    let edges = turned.recast();
-    search_by_edges(alloc, &edges, source)
 }
 
 /// For each vertex the first nearer one with an edge to it, as a column.

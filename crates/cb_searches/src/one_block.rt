@@ -1,14 +1,21 @@
 //! The search in the graph of one block.
 //!
-//! The block is transposed once. A few rounds, each by [`Search::round`], use the transposed block: they
+//! For distances the block is transposed once. A few rounds, each by [`Search::round`], use the transposed block: they
 //! read the edges in order, which is fastest while most vertices are a few edges away. Then the remaining vertices
 //! [settle](crate::dijkstra) one after another, so long walks take no further rounds.
+//!
+//! Levels are found [from the bottom up](crate::bottom_up), in the block as it is. If that takes many rounds, they are
+//! found as distances are.
 ghost use Rattle.std.specs.Prelude.{◌≡◌, ℕ, ◌<◌, IfOk};
 ghost use Rattle.cb_semirings.specs.Tables.{min_plus};
 ghost use Rattle.cb_matrix.specs.Sparse.{Sparse, IsMatrix};
 ghost use Rattle.cb_searches.specs.Walks.{AreDistances, AreLevels};
+ghost use Rattle.cb_searches.specs.Numbers.{number_at, AreNumbers};
 ghost use Rattle.cb_searches.specs.Searches.{HasEdges, IsWholeSearch};
+ghost use Rattle.cb_searches.specs.BottomUp.{AreLevelNumbers};
 
+use crate::bottom_up::bottom_up;
+use crate::numbers::Numbers;
 use crate::searches::{Search, column_shape};
 use cb_dcsc::Block;
 use cb_matrix::Matrix;
@@ -43,9 +50,14 @@ pub fn distances(
 }
 
 /// The level of each vertex from a source, in the graph of a square block: the least number of entries of a walk. The
-/// result is a column; unreachable vertices aren't stored. A level is a distance in which each entry weighs 1, as each
-/// stored value already does, so the cost is that of [`distances`]. This is the breadth-first
-/// search of Buluç and Gilbert, The Combinatorial BLAS (IJHPCA 2011), section 5.
+/// result is a column; unreachable vertices aren't stored. This is the breadth-first search of Buluç and Gilbert, The
+/// Combinatorial BLAS (IJHPCA 2011), section 5.
+///
+/// The search goes [from the bottom up](crate::bottom_up), without a transpose. A round costs a look at each column that
+/// has entries, and at the rows of each column without a level, up to the first that a round before reached. It gives up
+/// after two looks for each entry in rounds that reach fewer than four times as many vertices as the one before, or at
+/// once if there are more than four vertices for each entry. Then the levels are found as [`distances`] are, with edges
+/// that weigh 1 each, at the cost given there.
 pub fn levels(
     alloc: Global,
     graph: &Block<OrAnd>,
@@ -56,10 +68,29 @@ pub fn levels(
     ensures levels { IfOk result (AreLevels graph.now source) }
     ensures matrix { IfOk result (IsMatrix min_plus) }
 {
+    let known = level_numbers(alloc, graph, source)?;
+    known.column(alloc, column_shape(graph.shape()))
+}
+
+/// The level of each vertex, from the bottom up or, if that is given up, by edges that weigh 1 each.
+pub(crate) fn level_numbers(
+    alloc: Global,
+    graph: &Block<OrAnd>,
+    source: u32,
+) -> Result<Numbers, AllocError>
+    requires square { graph.now.shape.rows ≡ graph.now.shape.cols }
+    requires source { source < graph.now.shape.rows }
+    ensures numbers { IfOk result (AreNumbers graph.now.shape.rows) }
+    ensures levels { IfOk result (λ known. AreLevelNumbers graph.now source (number_at known)) }
+{
+    if let Some(known) = bottom_up(alloc, graph, source)? {
+        return Ok(known);
+    }
     let shape = graph.shape();
     prove_eq!(shape.rows(), shape.cols());
     let edges = unit_edges(alloc, graph)?;
-    nearest_by_edges(alloc, &edges, source)
+    let search = search_by_edges(alloc, &edges, source)?;
+    Ok(search.into_numbers())
 }
 
 /// The edges of a graph: the transposed block.

@@ -60,10 +60,10 @@ impl Search {
     }
 
     /// The numbers so far.
-    pub(crate) fn known(&self) -> &Numbers
-        ensures { result.now ≡ self.now.known }
+    pub(crate) fn into_numbers(self) -> Numbers
+        ensures { result ≡ self.known }
     {
-        &self.known
+        self.known
     }
 
     /// One more round, given what it reaches: lower numbers are taken over.

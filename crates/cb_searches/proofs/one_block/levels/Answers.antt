@@ -1,23 +1,18 @@
-use Rattle.std.proofs.Common.{◌≡◌, ◌<◌, ap, ◌∙◌, arith}
+use Rattle.std.proofs.Common.{◌≡◌, ℕ, ◌∙◌}
 use Rattle.std.proofs.lemmas.Result.{IfOk-weaker}
-use Rattle.cb_matrix.specs.Sparse.{Sparse, Extent}
-use Rattle.cb_searches.specs.Walks.{infinite, AreLevels, AreDistances}
-use Rattle.cb_searches.specs.Searches.{HasEdges}
-use Rattle.cb_searches.proofs.UnitWeights.{levels_are}
+use Rattle.cb_semirings.specs.Tables.{min_plus}
+use Rattle.cb_matrix.specs.Sparse.{Sparse, at}
+use Rattle.cb_searches.specs.Walks.{AreLevels, column_shape}
+use Rattle.cb_searches.specs.Numbers.{number_at}
+use Rattle.cb_searches.proofs.LevelNumbers.{levels_in_column}
+use Rattle.cb_searches.proofs.NearestRounds.{both}
 use Rattle.cb_searches.proofs.one_block.levels.Goals as goal
-
-pub nearest_by_edges-requires-clause-graph : goal.nearest_by_edges-requires-clause-graph
-nearest_by_edges-requires-clause-graph c = (c.args.graph.now, c.in_ok-edges.ensures)
-
-pub nearest_by_edges-requires-clause-source : goal.nearest_by_edges-requires-clause-source
-nearest_by_edges-requires-clause-source c =
-    let cols : c.in_ok-edges.edges.shape.cols ≡ c.args.graph.now.shape.rows = ap (λ (m : Sparse). m.shape.cols) c.in_ok-edges.ensures.turned in
-    omega (arith, cols, c.requires.source)
 
 pub returns-clause-levels : goal.returns-clause-levels
 returns-clause-levels c =
     let a = c.args.graph.now in
-    let rows : c.rows.result ≡ a.shape.rows = c.rows.ensures.value ∙ ap (λ (e : Extent). e.rows) c.shape-shape.ensures.shape in
-    let fits : a.shape.rows < infinite = omega (arith, c.rows.ensures.limit) in
-    IfOk-weaker c.nearest_by_edges.result (λ (column : Sparse). (g : Sparse) → HasEdges c.in_ok-edges.edges g → AreDistances g c.args.source column) (AreLevels a c.args.source)
-    (λ column h. levels_are a c.shape-shape.ensures.matrix c.requires.square fits c.args.source c.requires.source column (h a c.in_ok-edges.ensures)) c.nearest_by_edges.ensures
+    let d = number_at c.in_ok-known.known in
+    let shape : c.column_shape.result ≡ column_shape a = c.column_shape.ensures ∙ (λ t. record { rows = (c.shape.ensures.shape t).rows; cols = 1 }) in
+    IfOk-weaker c.column.result (λ (m : Sparse). (m.shape ≡ c.column_shape.result) × ((v : ℕ) → at min_plus m v 0 ≡ d v)) (AreLevels a c.args.source)
+    (λ m h. levels_in_column a c.args.source d c.in_ok-known.ensures.levels m (h.0 ∙ shape) h.1)
+    (both c.column.result (λ (m : Sparse). m.shape ≡ c.column_shape.result) (λ (m : Sparse). (v : ℕ) → at min_plus m v 0 ≡ d v) c.column.ensures.shape c.column.ensures.values)
