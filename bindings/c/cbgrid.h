@@ -279,13 +279,14 @@ int cbgrid_prune(uint32_t semiring, uint32_t grid, const struct cbgrid_columns *
 /* Breadth-first search: finds the least number of edges from the source to each vertex of a graph. a is over OR_AND. An
  * entry at row i and column j is an edge from i to j. CBGRID_NOT_SQUARE if a isn't square, CBGRID_SOURCE if the source
  * isn't below nrows. The result is one column over MIN_PLUS with an entry for each vertex that the source reaches. The
- * source has level 0, which is stored: the zero of MIN_PLUS is 2^64 - 1. Costs a transpose of a, then at most 16 rounds
- * over the edges of the vertices whose level fell, and for the rest Dijkstra's algorithm with a heap. */
+ * source has level 0, which is stored: the zero of MIN_PLUS is 2^64 - 1. Costs a few looks for each entry if most vertices
+ * are a few edges away, and otherwise what cbgrid_distances costs. */
 int cbgrid_levels(uint32_t grid, const struct cbgrid_columns *a, uint32_t source, struct cbgrid_columns *out);
 
 /* Shortest paths: finds the least sum of edge lengths from the source to each vertex of a graph. Like cbgrid_levels,
  * but a is over MIN_PLUS, and the value of an entry is the length of its edge. A vertex at a distance of 2^64 - 1 or
- * more has no entry. */
+ * more has no entry. Costs a transpose of a, then at most 16 rounds over the edges of the vertices whose distance fell,
+ * and for the rest Dijkstra's algorithm with a heap. */
 int cbgrid_distances(uint32_t grid, const struct cbgrid_columns *a, uint32_t source, struct cbgrid_columns *out);
 
 /* Reads the matrix of a Matrix Market text of `len` bytes, in the profile of docs/FORMAT.md. CBGRID_FORMAT if the text
