@@ -1,6 +1,6 @@
 -- Faults of ranks, as faults of a run.
-use Rattle.cb_ranks.specs.declared.faults.RunFault.{RunFault}
-use Rattle.cb_ranks.specs.declared.faults.RunFault.TheVariants as run_is
+use Rattle.cb_threads.specs.declared.faults.RunFault.{RunFault}
+use Rattle.cb_threads.specs.declared.faults.RunFault.TheVariants as run_is
 use Rattle.cb_engines.specs.declared.engine_faults.EngineFault.{EngineFault}
 use Rattle.cb_engines.specs.declared.engine_faults.EngineFault.TheVariants.{Memory, NotStarted, Gone, TraceTorn}
 

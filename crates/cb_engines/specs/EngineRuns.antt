@@ -10,7 +10,7 @@ use Rattle.cb_plan.specs.Plans.{CheckedView}
 use Rattle.cb_plan.specs.PlanTables.{cell}
 use Rattle.cb_placement.specs.Answers.{Makes, over_grid}
 use Rattle.cb_placement.specs.Losses.{IsFirstLoss}
-use Rattle.cb_ranks.specs.Traced.{HasProgram}
+use Rattle.cb_threads.specs.Traced.{HasProgram}
 use Rattle.cb_trace.specs.Traces.{TraceView, AreLegalEvents, AreOnLanes}
 use Rattle.cb_engines.specs.declared.engines.Engine.{Engine}
 use Rattle.cb_engines.specs.declared.engines.Engine.TheVariants.{Threads, Traced, InOrder}

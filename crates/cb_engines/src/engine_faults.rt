@@ -3,7 +3,7 @@ ghost use Rattle.std.specs.Prelude.{◌≡◌, ◌<◌, length, get_or};
 ghost use Rattle.cb_engines.specs.declared.engine_faults.EngineFault.TheVariants.{Memory, Lost};
 ghost use Rattle.cb_engines.specs.EngineFaults.{fault_of_ranks};
 
-use cb_ranks::RunFault;
+use cb_threads::RunFault;
 use std::alloc::AllocError;
 use thiserror::Error;
 

@@ -12,10 +12,9 @@ use cb_lanes::{Desk, Gone};
 use cb_letters::Capacity;
 use cb_plan::SLOTS;
 use cb_rank::{Moved, Rank, Supply};
-use cb_ranks::{
-    Finished, Gate, Member, OpenGate, RunFault, assemble, run_rank, run_threads, run_traced,
-};
+use cb_ranks::{Finished, Gate, Member, OpenGate, assemble, run_rank};
 use cb_semirings::{PlusTimes, Semiring};
+use cb_threads::{RunFault, run_threads, run_traced};
 use cb_trace::{Trace, TraceEvent};
 use std::alloc::Global;
 use std::sync::Wait;

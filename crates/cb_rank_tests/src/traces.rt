@@ -2,8 +2,9 @@
 use crate::examples::two_by_two;
 use cb_letters::Capacity;
 use cb_rank::{Rank, Want};
-use cb_ranks::{Gate, run_traced};
+use cb_ranks::Gate;
 use cb_semirings::Semiring;
+use cb_threads::run_traced;
 use cb_trace::Trace;
 use std::alloc::Global;
 use std::sync::{Mutex, Wait};

@@ -31,8 +31,6 @@ use Rattle.cb_plan.proofs.PassingActs.{checked_passes}
 use Rattle.cb_plan.proofs.ActOnStores.{first_below}
 use Rattle.cb_lanes.specs.declared.desk.Desk.{Desk}
 use Rattle.cb_lanes.specs.Desks.{identity, posted_to, taken_from, posted_in, taken_in, AreOfOneOpening, IsNewDesk, IsSettledLane}
-use Rattle.cb_lanes.specs.declared.settled.Settled.{Settled}
-use Rattle.cb_lanes.specs.Lanes.{posted_on, taken_on}
 use Rattle.cb_rank.specs.Agreement.{IsSlotOf, AreLettersOf}
 use Rattle.cb_rank.specs.Halves.{Course, RunsTo}
 use Rattle.cb_rank.specs.Ranks.{RankView, new_rank}
@@ -255,12 +253,3 @@ is_crew c p first crew desks count same opening new ranks =
 pub are_new : (crew : List Member) → ((k : ℕ) (d : Member) → k < length crew → IsNewRun (get_or crew k d).0 (get_or crew k d).1) → AreNew crew
 are_new [] new = tt
 are_new (m ∷ ms) new = (new 0 m (omega arith), are_new ms (λ k d l. new (suc k) d (omega arith)))
-
--- the lanes after `settle` are those of the desks
-settled_by : (done : List Member) (w : Settled Sparse) → ((from to : ℕ) → posted_on w from to ≡ posted_in (desks_of done) from to) → ((from to : ℕ) → taken_on w from to ≡ taken_in (desks_of done) from to) → finished_by done ≡ record { stores = stores_of done; refusals = counts_of done; posted = posted_on w; taken = taken_on w }
-settled_by done w posted taken = λ i. record { stores = stores_of done; refusals = counts_of done; posted = λ f t. sym (posted f t) i; taken = λ f t. sym (taken f t) i }
-
--- so the stores, the counts and these lanes hold what the plan means
-pub finishes_with : (s : Arithmetic) (p : CheckedView) (first : List (List (Slot Sparse))) (done : List Member) (w : Settled Sparse) → ((from to : ℕ) → posted_on w from to ≡ posted_in (desks_of done) from to) → ((from to : ℕ) → taken_on w from to ≡ taken_in (desks_of done) from to)
-    → FinishesPlan s p first (finished_by done) → FinishesPlan s p first (record { stores = stores_of done; refusals = counts_of done; posted = posted_on w; taken = taken_on w })
-finishes_with s p first done w posted taken h = subst (λ f. FinishesPlan s p first f) (settled_by done w posted taken) h

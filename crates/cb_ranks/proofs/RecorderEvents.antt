@@ -1,8 +1,7 @@
--- What recorders are told of: a rank's events, half by half, and those of a crew.
-use Rattle.std.proofs.Common.{◌≡◌, ℕ, zero, suc, ◌+◌, ◌<◌, ◌≤◌, List, [], ◌∷◌, ◌++◌, length, map, refl, sym, ◌∙◌, ap, subst, arith, length-append, append_assoc, append-nil, Option, Some, None, IfNone, inl, inr}
-use Rattle.std.specs.Prelude.{drop, get_or, slice_get, ◌==◌}
+-- What a recorder is told of: a rank's events, half by half.
+use Rattle.std.proofs.Common.{◌≡◌, ℕ, zero, suc, ◌+◌, ◌≤◌, List, [], ◌∷◌, length, refl, sym, ◌∙◌, ap, subst, arith, length-append, Some, None, inl, inr}
+use Rattle.std.specs.Prelude.{drop, slice_get, ◌==◌}
 use Rattle.std.specs.List.{FoldsTo}
-use Rattle.std.proofs.lemmas.Option.{get_or_from_slice_get}
 use Rattle.cb_semirings.specs.Arithmetic.{Arithmetic}
 use Rattle.cb_matrix.specs.Sparse.{Sparse}
 use Rattle.cb_letters.specs.declared.Body.{Body}
@@ -13,8 +12,6 @@ use Rattle.cb_lanes.specs.declared.desk.Desk.{Desk}
 use Rattle.cb_lanes.specs.Desks.{posted_to, taken_from}
 use Rattle.cb_plan.specs.declared.acts.Half.{Half}
 use Rattle.cb_plan.specs.declared.acts.Half.TheVariants as half_is
-use Rattle.cb_plan.specs.declared.stores.Slot.{Slot}
-use Rattle.cb_plan.specs.Plans.{CheckedView}
 use Rattle.cb_rank.specs.Halves.{Course, DoesHalf, with_letter}
 use Rattle.cb_plan.specs.declared.acts.Op.{Op}
 use Rattle.cb_rank.specs.declared.wants.Arrival.{Arrival}
@@ -28,9 +25,7 @@ use Rattle.cb_trace.specs.declared.events.TraceEvent.{TraceEvent}
 use Rattle.cb_trace.specs.declared.events.TraceEvent.TheVariants.{Posted, Took, Closed, Ended}
 use Rattle.cb_ranks.specs.Runs.{IsNewRun}
 use Rattle.cb_ranks.specs.UnderWay.{IsUnderWay, DoesNext, TellsNext, arrival_event}
-use Rattle.cb_ranks.specs.Traced.{lengths, one_more, events_after, program_events}
-use Rattle.cb_ranks.specs.Crews.{Member, IsCrew}
-use Rattle.cb_ranks.specs.Told.{HaveTold, HaveToldPlan}
+use Rattle.cb_ranks.specs.ProgramEvents.{lengths, one_more, events_after, program_events}
 use Rattle.cb_ranks.proofs.Crews.{none_posted, none_taken}
 use Rattle.cb_ranks.proofs.HalfOverDesk.{WaitsOn}
 use Rattle.cb_ranks.proofs.RunSoFar.{HasRun, none_past}
@@ -169,58 +164,3 @@ module _ {T : Type 0} (tells : T → TraceEvent → T → Type 0) where
   pub ends_told : (t : T) (x : RankView) (u : T) (y : RankView) (e : Desk Sparse) → HasTold t x u y e → next_half y ≡ None → FoldsTo tells t (program_events x.me x.program) u
   ends_told t x u y e told none =
       told u (subst (λ hs. FoldsTo tells u (events_after y.me (lengths (posted_to e)) (lengths (taken_from e)) hs) u) (sym (drop-past y.program y.done (none_past y.program y.done none))) refl)
-
-  module _ {H : Type 0} (f : H → Member) (g : H → T) where
-    -- the loop over threads: recorders that were returned, followed by those of the rest, were told of all programs
-    abbrev pub Tell : List H → List H → List T → Type 0
-    Tell all rest done = (ys : List T) → HaveTold tells (map f rest) (map g rest) ys → HaveTold tells (map f all) (map g all) (done ++ ys)
-
-    -- one more recorder was returned, if no rank was lost
-    pub told_more : (lost : Option ℕ) (all : List H) (done done' : List T) (rest rest' : List H) (x : H) (y : T)
-        → rest ≡ x ∷ rest' → done' ≡ done ++ y ∷ [] → FoldsTo tells (g x) (program_events (f x).0.me (f x).0.program) y
-        → IfNone lost (Tell all rest done) → IfNone lost (Tell all rest' done')
-    told_more (Some n) all done done' rest rest' x y e d r h = tt
-    told_more None all done done' rest rest' x y e d r h = λ ys z. rw (d, append_assoc) (h (y ∷ ys) (rw e (r, z)))
-
-    -- all recorders were returned
-    pub told_all : (lost : Option ℕ) (all : List H) (done : List T) (rest : List H)
-        → lost ≡ None → length rest ≡ 0 → IfNone lost (Tell all rest done) → HaveTold tells (map f all) (map g all) done
-    told_all (Some n) all done rest is none h = cc
-    told_all None all done [] is none h = rw append-nil at (h [] tt)
-    told_all None all done (x ∷ xs) is none h = absurd (omega arith)
-
-  told_count : (ms : List Member) (olds news : List T) → HaveTold tells ms olds news → length news ≡ length ms
-  told_count [] [] [] h = refl
-  told_count (m ∷ ms) (o ∷ olds) (n ∷ news) h = ap suc (told_count ms olds news h.1)
-  told_count _ _ _ h = absurd h
-
-  -- the k-th recorder, before and after
-  record ToldAt (ms : List Member) (olds news : List T) (k : ℕ) : Type 0 where
-    member : Member
-    old : T
-    new : T
-    member_is : slice_get ms k ≡ Some member
-    old_is : slice_get olds k ≡ Some old
-    new_is : slice_get news k ≡ Some new
-    told : FoldsTo tells old (program_events member.0.me member.0.program) new
-
-  told_at : (ms : List Member) (olds news : List T) (k : ℕ) → HaveTold tells ms olds news → k < length ms → ToldAt ms olds news k
-  told_at [] [] [] k h l = absurd (omega arith)
-  told_at (m ∷ ms) (o ∷ olds) (n ∷ news) zero h l = record { member = m; old = o; new = n; member_is = refl; old_is = refl; new_is = refl; told = h.0 }
-  told_at (m ∷ ms) (o ∷ olds) (n ∷ news) (suc k) h l =
-      let it = told_at ms olds news k h.1 (omega arith) in
-      record { member = it.member; old = it.old; new = it.new; member_is = it.member_is; old_is = it.old_is; new_is = it.new_is; told = it.told }
-  told_at _ _ _ k h l = absurd h
-
-  -- the recorders of a plan's crew were told of its programs
-  pub tells_plan : (p : CheckedView) (first : List (List (Slot Sparse))) (crew : List Member) (olds news : List T) → IsCrew p first crew → HaveTold tells crew olds news → HaveToldPlan tells p olds news
-  tells_plan p first crew olds news is told = record {
-    count = told_count crew olds news told ∙ is.count;
-    each = λ r below.
-        let size = is.count in
-        let inside : r < length crew = omega arith in
-        let it = told_at crew olds news r told inside in
-        let here : get_or crew r it.member ≡ it.member = get_or_from_slice_get crew r it.member it.member it.member_is in
-        let rank = ap (λ (m : Member). m.0) (sym here) ∙ is.ranks r it.member inside in
-        record { old = it.old; new = it.new; old_is = it.old_is; new_is = it.new_is; told = subst (λ (x : RankView). FoldsTo tells it.old (program_events x.me x.program) it.new) rank it.told };
-  }

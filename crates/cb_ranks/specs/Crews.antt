@@ -1,5 +1,5 @@
 -- A crew: all ranks of a plan, each with its desk, before they run and after.
-use Rattle.std.specs.Prelude.{◌≡◌, ℕ, ◌<◌, ◌⊎◌, List, [], ◌∷◌, length, map, get_or}
+use Rattle.std.specs.Prelude.{◌≡◌, ℕ, ◌<◌, List, [], ◌∷◌, length, map, get_or}
 use Rattle.cb_semirings.specs.Arithmetic.{Arithmetic}
 use Rattle.cb_matrix.specs.Sparse.{Sparse}
 use Rattle.cb_plan.specs.declared.stores.Slot.{Slot}
@@ -27,15 +27,6 @@ counts_of crew = map (λ m. m.0.refusals) crew
 abbrev pub AreNew : List Member → Type 0
 AreNew [] = Unit {0}
 AreNew (m ∷ ms) = IsNewRun m.0 m.1 × AreNew ms
-
--- one of them has the desk of this rank
-abbrev pub IsOneOf : List Member → ℕ → Type 0
-IsOneOf [] r = ⊥
-IsOneOf (m ∷ ms) r = (m.1.me ≡ r) ⊎ IsOneOf ms r
-
--- this rank comes after the first n of them
-abbrev pub ComesAfter : List Member → ℕ → ℕ → Type 0
-ComesAfter crew n r = (d : Member) → (get_or crew n d).1.me ≡ r
 
 -- the second member is what a run of the first leaves
 abbrev pub Ran : Arithmetic → Member → Member → Type 0

@@ -1,5 +1,5 @@
 -- The lists of events that the ranks of a traced run keep.
-use Rattle.std.specs.Prelude.{◌≡◌, false, List, [], ◌∷◌, ◌++◌}
+use Rattle.std.specs.Prelude.{◌≡◌, false, List, [], ◌∷◌, ◌++◌, map}
 use Rattle.cb_trace.specs.declared.events.TraceEvent.{TraceEvent}
 use Rattle.cb_ranks.specs.declared.logs.Log.{Log}
 
@@ -17,3 +17,7 @@ module _ {S G : Type 0} where
   abbrev pub AreWhole : List (Log S G) → Type 0
   AreWhole [] = Unit {0}
   AreWhole (log ∷ logs) = (log.is_torn ≡ false) × AreWhole logs
+
+  -- their lists of events
+  abbrev pub lists_in : List (Log S G) → List (List TraceEvent)
+  lists_in logs = map (λ log. log.events.items) logs

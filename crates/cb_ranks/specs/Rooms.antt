@@ -1,20 +1,8 @@
--- Room for a crew's threads.
+-- Room for as many elements as a loop appends.
 use Rattle.std.specs.Prelude.{◌≡◌, ℕ, ◌≤◌, [], vec_capacity}
 use Rattle.std.specs.declared.vec.Vec.{Vec}
 use Rattle.std.specs.declared.alloc.Global.{Global}
-use Rattle.cb_ranks.specs.declared.rooms.Room.{Room}
 
 -- the list is empty, and has room for this many
 abbrev pub HasRoomFor : {X : Type 0} → ℕ → Vec X Global → Type 0
 HasRoomFor n v = (v.items ≡ []) × (n ≤ vec_capacity v)
-
--- these three lists are empty, and have room for this many
-abbrev pub HaveRoomFor : {X Y Z : Type 0} → ℕ → Vec X Global → Vec Y Global → Vec Z Global → Type 0
-HaveRoomFor n x y z = HasRoomFor n x × HasRoomFor n y × HasRoomFor n z
-
-module _ {S T : Type 0} where
-  -- the lists are empty, with room for this many ranks
-  pub record IsRoomFor (n : ℕ) (room : Room S T) : Type 0 where
-    pub threads : HasRoomFor n room.threads
-    pub members : HasRoomFor n room.members
-    pub told : HasRoomFor n room.told

@@ -18,7 +18,7 @@ use Rattle.cb_trace.specs.declared.events.TraceEvent.TheVariants.{Took, Ended}
 use Rattle.cb_rank.specs.Halves.{DoesHalf}
 use Rattle.cb_rank.specs.Ranks.{RankView, next_half, onward}
 use Rattle.cb_ranks.specs.Runs.{course_of}
-use Rattle.cb_ranks.specs.Traced.{events_after, lengths}
+use Rattle.cb_ranks.specs.ProgramEvents.{events_after, lengths}
 
 -- the desk is the rank's own among the ranks of its plan. The lanes to the rank whose close marks were taken are exactly those
 -- that the acts before the rank's next half shut

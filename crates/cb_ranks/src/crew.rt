@@ -1,7 +1,7 @@
 //! A crew: all ranks of a plan, each with its desk.
-ghost use Rattle.std.specs.Prelude.{◌≡◌, ◌≤◌, length, IfOk, vec_len, vec_capacity};
+ghost use Rattle.std.specs.Prelude.{◌≡◌, ◌≤◌, length, IfOk};
 ghost use Rattle.cb_plan.specs.Stores.{Fits};
-ghost use Rattle.cb_ranks.specs.Crews.{AreNew, AreNewRanks, IsCrew, desks_of, stores_of, counts_of};
+ghost use Rattle.cb_ranks.specs.Crews.{AreNew, AreNewRanks, IsCrew, desks_of};
 
 use cb_dcsc::Block;
 use cb_lanes::{Desk, open};
@@ -53,53 +53,4 @@ fn pair_up<S: Semiring>(
         }
     }
     Ok(crew)
-}
-
-/// What ranks leave, in order: their stores, their counts of refusals, and their desks.
-#[derive(Drop)]
-pub(crate) struct Remains<S: Semiring> {
-    pub(crate) stores: Vec<RankStore<S>>,
-    pub(crate) refusals: Vec<u64>,
-    pub(crate) desks: Vec<Desk<Block<S>>>,
-}
-
-impl<S: Semiring> Remains<S> {
-    ghost use Rattle.cb_ranks.specs.Remains.{AreNone, HaveRoom};
-
-    /// Empty lists, with room for this many ranks.
-    pub(crate) fn with_room(alloc: Global, ranks: usize) -> Result<Remains<S>, AllocError>
-        ensures none { IfOk result (λ remains. AreNone remains) }
-        ensures room { IfOk result (λ remains. HaveRoom remains ranks) }
-    {
-        Ok(Remains {
-            stores: Vec::with_capacity(alloc, ranks)?,
-            refusals: Vec::with_capacity(alloc, ranks)?,
-            desks: Vec::with_capacity(alloc, ranks)?,
-        })
-    }
-
-    /// Takes what these ranks leave. There must be room for it.
-    pub(crate) fn take_from(self, crew: Vec<Member<S>>) -> Remains<S>
-        requires none { AreNone self }
-        requires room { HaveRoom self (vec_len crew) }
-        ensures stores { result.stores.items ≡ stores_of crew.items }
-        ensures refusals { result.refusals.items ≡ counts_of crew.items }
-        ensures desks { result.desks.items ≡ desks_of crew.items }
-    {
-        let Remains {
-            mut stores,
-            mut refusals,
-            mut desks,
-        } = self;
-        for (rank, desk) in crew {
-            refusals.push_reserved(rank.refusals());
-            stores.push_reserved(rank.into_store());
-            desks.push_reserved(desk);
-        }
-        Remains {
-            stores,
-            refusals,
-            desks,
-        }
-    }
 }

@@ -1,6 +1,6 @@
 //! The list that each rank of a traced run keeps of its own events, beside the shared trace.
 ghost use Rattle.std.specs.Prelude.{◌≡◌, length, map, IfOk, IfSome, vec_len};
-ghost use Rattle.cb_ranks.specs.Logs.{Keeps, AreNewLogs, AreWhole};
+ghost use Rattle.cb_ranks.specs.Logs.{Keeps, AreNewLogs, AreWhole, lists_in};
 ghost use Rattle.cb_ranks.specs.Rooms.{HasRoomFor};
 
 use crate::gates::Gate;
@@ -15,7 +15,7 @@ use std::sync::Wait;
 /// One rank's own list of its events. Each is also recorded in the shared trace. If an event isn't recorded in both, the
 /// log is torn.
 #[derive(Drop)]
-pub(crate) struct Log<'a, S: Semiring, G: Gate<S>> {
+pub struct Log<'a, S: Semiring, G: Gate<S>> {
     rank: u16,
     trace: &'a SharedTrace,
     gate: &'a G,
@@ -41,7 +41,7 @@ impl<'a, S: Semiring + Send, G: Gate<S>> Recorder for Log<'a, S, G> {
 
 impl<'a, S: Semiring, G: Gate<S>> Log<'a, S, G> {
     /// A new log for each rank of a plan, with exactly the room that its program needs.
-    pub(crate) fn open(
+    pub fn open(
         alloc: Global,
         plan: &CheckedPlan,
         trace: &'a SharedTrace,
@@ -66,7 +66,7 @@ impl<'a, S: Semiring, G: Gate<S>> Log<'a, S, G> {
 }
 
 /// The number of events of a plan's ranks: two for each act, except for work, which has none.
-pub(crate) fn events_of(plan: &CheckedPlan) -> usize {
+pub fn events_of(plan: &CheckedPlan) -> usize {
     let halves = plan
         .acts()
         .iter()
@@ -85,12 +85,12 @@ fn is_told(act: &Act, rank: u16) -> bool {
 }
 
 /// The lists of these logs, in the room for them. None if a log is torn.
-pub(crate) fn lists_of<S: Semiring, G: Gate<S>>(
+pub fn lists_of<S: Semiring, G: Gate<S>>(
     logs: Vec<Log<'_, S, G>>,
     room: Vec<Vec<TraceEvent>>,
 ) -> Option<Vec<Vec<TraceEvent>>>
     requires room { HasRoomFor (vec_len logs) room }
-    ensures lists { IfSome result (λ lists. map (λ list. list.items) lists.items ≡ map (λ log. log.events.items) logs.entry.items) }
+    ensures lists { IfSome result (λ lists. map (λ list. list.items) lists.items ≡ lists_in logs.entry.items) }
     ensures whole { IfSome result (λ _. AreWhole logs.entry.items) }
 {
     let mut lists = room;

@@ -6,7 +6,7 @@ use cb_trace::TraceEvent;
 use std::sync::Wait;
 
 /// Is told of each post and close of a rank before it is done, and of each take and end after it is done.
-pub(crate) trait Recorder: Drop + Send {
+pub trait Recorder: Drop + Send {
     /// How a recorder may change when it is told of an event.
     ghost tells: { Self → TraceEvent → Self → Type 0 };
 
@@ -17,7 +17,7 @@ pub(crate) trait Recorder: Drop + Send {
 
 /// A recorder that keeps nothing.
 #[derive(Clone, Copy, Drop)]
-pub(crate) struct Silent;
+pub struct Silent;
 
 impl Recorder for Silent {
     ghost tells = { λ _ _ _. ⊤ };

@@ -31,12 +31,12 @@ pub fn run_rank<S: Semiring, R: Wait, G: Gate<S>>(
     ensures runs { IfOk result (λ r. Runs S.arithmetic rank desk r.0 r.1) }
     ensures gone { IfErr result (λ e. IsOther rank e.0) }
 {
-    let (rank, desk, Silent) = run(rt, rank, desk, gate, Silent)?;
+    let (rank, desk, Silent) = run_recorded(rt, rank, desk, gate, Silent)?;
     Ok((rank, desk))
 }
 
-/// The same, with a recorder that is told of each event. It is returned too.
-pub(crate) fn run<S: Semiring, R: Wait, G: Gate<S>, T: Recorder>(
+/// Does the same as [`run_rank`], and tells a recorder of each event of the rank's program, in order. The recorder is returned too.
+pub fn run_recorded<S: Semiring, R: Wait, G: Gate<S>, T: Recorder>(
     rt: &R,
     rank: Rank<S>,
     desk: Desk<Block<S>>,

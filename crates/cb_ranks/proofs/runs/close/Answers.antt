@@ -1,6 +1,6 @@
 use Rattle.cb_rank.proofs.WantedHalf.{wants_shut_to}
 use Rattle.cb_ranks.proofs.HalfOverDesk.{is_lane, does_shut}
-use Rattle.cb_ranks.proofs.RanksInFaults.{shuts_to_other}
+use Rattle.cb_ranks.proofs.OtherRanks.{shuts_to_other}
 use Rattle.cb_ranks.proofs.RecorderEvents.{tells_shut}
 use Rattle.cb_ranks.proofs.runs.close.Goals as goal
 

@@ -1,6 +1,6 @@
 use Rattle.cb_rank.proofs.WantedHalf.{wants_post_to}
 use Rattle.cb_ranks.proofs.HalfOverDesk.{is_lane, does_post}
-use Rattle.cb_ranks.proofs.RanksInFaults.{posts_to_other}
+use Rattle.cb_ranks.proofs.OtherRanks.{posts_to_other}
 use Rattle.cb_ranks.proofs.RecorderEvents.{tells_post}
 use Rattle.cb_ranks.proofs.runs.post.Goals as goal
 

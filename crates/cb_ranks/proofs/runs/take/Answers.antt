@@ -4,7 +4,7 @@ use Rattle.cb_rank.proofs.Ports.{waits_for}
 use Rattle.cb_lanes.specs.Desks.{Takes}
 use Rattle.cb_ranks.specs.Runs.{IsOther}
 use Rattle.cb_ranks.proofs.HalfOverDesk.{is_lane, is_waiting, does_letter, does_mark}
-use Rattle.cb_ranks.proofs.RanksInFaults.{err_is}
+use Rattle.cb_ranks.proofs.OtherRanks.{err_is}
 use Rattle.cb_ranks.proofs.RecorderEvents.{tells_arrival}
 use Rattle.cb_ranks.proofs.runs.take.Goals.{in-Letter, in-End}
 use Rattle.cb_ranks.proofs.runs.take.Goals as goal

@@ -1,5 +1,5 @@
 use Rattle.std.proofs.Common.{rules, refl}
-use Rattle.cb_ranks.proofs.TracedLogs.{new_more}
+use Rattle.cb_ranks.proofs.LoggedEvents.{new_more}
 use Rattle.cb_ranks.proofs.logs.Log.open.Goals as goal
 
 pub loop-rank-preserved : goal.loop-rank-preserved

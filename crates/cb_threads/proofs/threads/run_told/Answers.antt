@@ -1,0 +1,38 @@
+use Rattle.std.proofs.Common.{rules, ◌<◌, ◌^◌}
+use Rattle.std.proofs.lemmas.List.Elements.{length_all_zip}
+use Rattle.cb_ranks.specs.Crews.{Ran}
+use Rattle.cb_ranks.proofs.Crews.{still_opening}
+use Rattle.cb_ranks.proofs.FinishedCrew.{ends_all, few_refused}
+use Rattle.cb_ranks.proofs.OtherRanks.{err_is}
+use Rattle.cb_threads.specs.Faults.{IsFaultOf}
+use Rattle.cb_threads.proofs.RanksInFaults.{is_fault_of}
+use Rattle.cb_threads.proofs.ToldThreads.{tells_plan}
+use Rattle.cb_threads.proofs.threads.run_told.Goals as goal
+
+pub finish-requires-clause-room : goal.finish-requires-clause-room
+finish-requires-clause-room g c =
+    let same = length_all_zip (Ran g.S.Semiring.arithmetic) _ _ c.in_ok-done.ensures.ran in
+    let count = c.in_ok-crew.ensures.crew.count in
+    (search rules, search rules, search rules)
+
+pub finish-requires-clause-opening : goal.finish-requires-clause-opening
+finish-requires-clause-opening g c = still_opening g.S.Semiring.arithmetic c.args.plan.now c.args.stores.items c.in_ok-crew.crew.items c.in_ok-done.done.items c.in_ok-crew.ensures.crew c.in_ok-done.ensures.ran
+
+pub finish-requires-clause-few : goal.finish-requires-clause-few
+finish-requires-clause-few g c =
+    let few : c.args.plan.now.ranks < 2 ^ 16 = search rules in
+    few_refused g.S.Semiring.arithmetic c.args.plan.now c.args.stores.items c.in_ok-crew.crew.items c.in_ok-done.done.items c.in_ok-crew.ensures.crew c.in_ok-done.ensures.ran few
+
+pub returns-clause-meaning : goal.returns-clause-meaning
+returns-clause-meaning g c =
+    let few : c.args.plan.now.ranks < 2 ^ 16 = search rules in
+    ends_all g.S.Semiring.arithmetic c.args.plan.now c.args.stores.items c.in_ok-crew.crew.items c.in_ok-done.done.items c.in_ok-crew.ensures.crew c.in_ok-done.ensures.ran _ c.ranks-ranks.ensures.checked few c.requires.fits c.finish.ensures
+
+pub returns-clause-told : goal.returns-clause-told
+returns-clause-told g c = tells_plan g.T.Recorder.tells c.args.plan.now c.args.stores.items c.in_ok-crew.crew.items c.args.recorders.items _ c.in_ok-crew.ensures.crew c.in_ok-done.ensures.told
+
+pub returns-in_err-done-clause-fault : goal.returns-in_err-done-clause-fault
+returns-in_err-done-clause-fault g c =
+    let p = c.args.plan.now in
+    let fault = is_fault_of p c.args.stores.items c.in_ok-crew.crew.items c.in_err-done.field-0.0 c.in_ok-crew.ensures.crew c.in_err-done.ensures.fault in
+    err_is (IsFaultOf p.ranks) c.in_err-done.field-0.0 c.from_residual-in_err-done.result c.from_residual-in_err-done.ensures.1 fault

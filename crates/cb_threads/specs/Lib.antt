@@ -1,0 +1,5 @@
+pub mod Faults
+pub mod Started
+pub mod ThreadRooms
+pub mod ToldCrews
+pub mod Traced
