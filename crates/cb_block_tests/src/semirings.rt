@@ -1,4 +1,7 @@
 //! The tables of the semirings, at values worked out by hand.
+ghost use Rattle.std.specs.Prelude.{◌≡◌, IfSome, is_some};
+ghost use Rattle.cb_semirings.specs.Arithmetic.{IsValue, IsDistributive, has_negatives};
+
 use cb_semirings::{
     DistributiveSemiring, MaxFirst, MaxMin, MaxPlus, MaxSecond, MinFirst, MinMax, MinPlus,
     MinSecond, OrAnd, PlusFirst, PlusMin, PlusPair, PlusSecond, PlusTimes, Semiring,
@@ -70,10 +73,19 @@ fn has_numbers<S: Semiring>(wanted: &Numbers) -> bool {
         && S::accept(false, TOP) == top
 }
 
+/// The negative of a value. That the two add up to zero is proved, and that all values have one or none has.
+fn negative<S: Semiring>(value: u64) -> Option<u64>
+    requires { IsValue S.arithmetic value }
+    ensures adds { IfSome result (λ y. IsValue S.arithmetic y × (S.arithmetic.add value y ≡ S.arithmetic.zero)) }
+    ensures all_or_none { is_some result ≡ has_negatives S.arithmetic }
+{
+    S::negative(value)
+}
+
 /// Whether 0 and 1 have these negatives.
 fn has_negatives<S: Semiring>(wanted: &Numbers) -> bool {
     let [of_zero, of_one] = wanted.negatives;
-    S::is_value(0) && S::is_value(1) && S::negative(0) == of_zero && S::negative(1) == of_one
+    S::is_value(0) && S::is_value(1) && negative::<S>(0) == of_zero && negative::<S>(1) == of_one
 }
 
 /// Whether a semiring has these numbers, sums and products.
@@ -143,9 +155,19 @@ fn binary_operators_take_the_place_of_products(rt: HostRuntime) {
     assert!(rt; are_of_max());
 }
 
+/// The one of a semiring. That the product is associative, has this one and distributes over the sum is proved.
+fn one<S: DistributiveSemiring>() -> u64
+    ensures { IsDistributive S.arithmetic result }
+{
+    S::one()
+}
+
 /// Whether this is the one of a semiring, and multiplying a value by it changes nothing.
-fn has_one<S: DistributiveSemiring>(one: u64, value: u64) -> bool {
-    S::is_value(one) && S::is_value(value) && S::one() == one && S::mul(one, value) == value
+fn has_one<S: DistributiveSemiring>(wanted: u64, value: u64) -> bool {
+    S::is_value(wanted)
+        && S::is_value(value)
+        && one::<S>() == wanted
+        && S::mul(wanted, value) == value
 }
 
 #[test]

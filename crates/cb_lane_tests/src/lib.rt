@@ -2,6 +2,8 @@
 #![tactic(auto)]
 
 #[cfg(test)]
+mod capacities;
+#[cfg(test)]
 mod lanes;
 #[cfg(test)]
 mod mailbox;

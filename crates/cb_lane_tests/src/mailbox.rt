@@ -1,5 +1,6 @@
 //! Worked examples of a mailbox.
-ghost use Rattle.std.specs.Prelude.{◌≡◌, ◌<◌, All, IfErr, IfSome, false};
+ghost use Rattle.std.specs.Prelude.{◌≡◌, ◌<◌, All, IfOk, IfErr, IfSome, false};
+ghost use Rattle.cb_mailbox.specs.Exchanges.{AreTakenOnce, AreForAddressee, AreInPostingOrder, NothingAcceptedAfterClose, HasGivenOutAll};
 ghost use Rattle.cb_mailbox.specs.Inbox.{is_stranger};
 ghost use Rattle.cb_mailbox.specs.Run.{IsPostable};
 
@@ -37,14 +38,19 @@ macro_rules! refused {
     };
 }
 
-/// The answers to these calls. That calls which are refused memory come back is proved.
+/// The answers to these calls. What becomes of the letters is proved, and that calls which are refused memory come back.
 fn answered(
     alloc: Global,
     mailbox: &mut Mailbox<u64>,
     calls: Vec<Call<u64>>,
 ) -> Result<Vec<Answer<u64>>, Vec<Call<u64>>>
     requires { All IsPostable calls.items }
-    ensures { IfErr result (λ back. back ≡ calls) }
+    ensures once { IfOk result (λ answers. AreTakenOnce mailbox.old mailbox.new calls.items answers.items) }
+    ensures addressee { IfOk result (λ answers. AreForAddressee mailbox.old calls.items answers.items) }
+    ensures order { IfOk result (λ answers. AreInPostingOrder mailbox.old mailbox.new calls.items answers.items) }
+    ensures closed { IfOk result (λ answers. NothingAcceptedAfterClose mailbox.old calls.items answers.items) }
+    ensures drained { IfOk result (λ answers. HasGivenOutAll mailbox.old mailbox.new calls.items answers.items) }
+    ensures back { IfErr result (λ back. back ≡ calls) }
 {
     match mailbox.run(alloc, calls) {
         Ok(answers) => Ok(answers),

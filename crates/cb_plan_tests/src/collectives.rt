@@ -1,7 +1,13 @@
-//! The acts that collectives append. Their effect on the slots is stated in the contracts.
+//! The acts that collectives append. What these acts do to the slots is proved, and that a refused call appends none.
+ghost use Rattle.std.specs.Prelude.{◌≡◌, ◌≤◌, ◌+◌, length, true, OnErr};
+ghost use Rattle.cb_collectives.specs.Collectives.{is_member, AreDistinct, Means, Reduces, MembersAddUp};
+ghost use Rattle.cb_collectives.specs.Collectives.{broadcast_acts, spread_from, gather_acts, gathered, reduce_acts, all_to_all_acts, exchanged, shut_acts};
+ghost use Rattle.cb_plan.specs.declared.stores.TheConstants.{SLOTS};
+ghost use Rattle.cb_plan_tests.specs.declared.collectives.TheConstants.{TAG};
+
 use cb_collectives::{all_to_all, broadcast, gather, reduce, shut_all};
 use cb_letters::Tag;
-use cb_plan::{Act, Op, Plan};
+use cb_plan::{Act, Op, Plan, PlanFault};
 
 const TAG: Tag = Tag(4);
 
@@ -69,10 +75,25 @@ fn has(plan: &Plan, copied: &[Copied], moved: &[Moved]) -> bool {
     are_copies(plan.acts(), copied) && are_moves(plan.acts(), moved)
 }
 
+/// Appends a broadcast. What its acts do is proved, and that the plan is as it was if they are refused.
+fn broadcasts(
+    plan: &mut Plan,
+    members: &[u16],
+    root: u16,
+    slot: u16,
+    into: u16,
+) -> Result<(), PlanFault>
+    requires { is_member members.now root ≡ true }
+    ensures unchanged { OnErr result ((plan.new.ranks ≡ plan.old.ranks) × (plan.new.acts ≡ plan.old.acts)) }
+    ensures means { Means (broadcast_acts members.now root TAG slot into) (spread_from members.now root slot into) }
+{
+    broadcast(plan, members, root, TAG, slot, into)
+}
+
 #[test]
 fn broadcasts_by_a_tree(rt: HostRuntime) {
     let mut plan = Plan::new(rt.alloc(), 4);
-    let is_appended = broadcast(&mut plan, &[0, 1, 2, 3], 2, TAG, 0, 1).is_ok();
+    let is_appended = broadcasts(&mut plan, &[0, 1, 2, 3], 2, 0, 1).is_ok();
     let moved: &[Moved] = &[(2, 3, 0, 1), (2, 0, 0, 1), (3, 1, 1, 1)];
     assert!(rt; is_appended && has(&plan, &[(2, 0, 1)], moved));
 }
@@ -80,7 +101,7 @@ fn broadcasts_by_a_tree(rt: HostRuntime) {
 #[test]
 fn broadcasts_to_six(rt: HostRuntime) {
     let mut plan = Plan::new(rt.alloc(), 6);
-    let is_appended = broadcast(&mut plan, &[0, 1, 2, 3, 4, 5], 0, TAG, 1, 1).is_ok();
+    let is_appended = broadcasts(&mut plan, &[0, 1, 2, 3, 4, 5], 0, 1, 1).is_ok();
     let moved: &[Moved] = &[
         (0, 1, 1, 1),
         (0, 2, 1, 1),
@@ -91,26 +112,56 @@ fn broadcasts_to_six(rt: HostRuntime) {
     assert!(rt; is_appended && has(&plan, &[], moved));
 }
 
+/// The same for a gather of slot 0 into slot 10 and those after it.
+fn gathers(plan: &mut Plan, members: &[u16], root: u16) -> Result<(), PlanFault>
+    requires { 10 + length members.now ≤ SLOTS }
+    ensures unchanged { OnErr result ((plan.new.ranks ≡ plan.old.ranks) × (plan.new.acts ≡ plan.old.acts)) }
+    ensures means { Means (gather_acts members.now root TAG 0 10) (gathered members.now root 0 10) }
+{
+    gather(plan, members, root, TAG, 0, 10)
+}
+
 #[test]
 fn gathers_in_list_order(rt: HostRuntime) {
     let mut plan = Plan::new(rt.alloc(), 3);
-    let is_appended = gather(&mut plan, &[0, 1, 2], 0, TAG, 0, 10).is_ok();
+    let is_appended = gathers(&mut plan, &[0, 1, 2], 0).is_ok();
     let moved: &[Moved] = &[(1, 0, 0, 11), (2, 0, 0, 12)];
     assert!(rt; is_appended && has(&plan, &[(0, 0, 10)], moved));
+}
+
+/// The same for a reduce of slot 0 into slot 2, with slot 3 as scratch.
+fn reduces(plan: &mut Plan, members: &[u16], root: u16) -> Result<(), PlanFault>
+    requires root { is_member members.now root ≡ true }
+    requires distinct { AreDistinct members.now }
+    ensures unchanged { OnErr result ((plan.new.ranks ≡ plan.old.ranks) × (plan.new.acts ≡ plan.old.acts)) }
+    ensures means { Reduces (reduce_acts members.now root TAG 0 2 3) members.now root 0 2 3 }
+    ensures sums { MembersAddUp members.now root 0 }
+{
+    reduce(plan, members, root, TAG, 0, 2, 3)
 }
 
 #[test]
 fn reduces_by_two_sums(rt: HostRuntime) {
     let mut plan = Plan::new(rt.alloc(), 3);
-    let is_appended = reduce(&mut plan, &[0, 1, 2], 2, TAG, 0, 2, 3).is_ok();
+    let is_appended = reduces(&mut plan, &[0, 1, 2], 2).is_ok();
     let moved: &[Moved] = &[(0, 2, 0, 3), (1, 2, 0, 3)];
     assert!(rt; is_appended && plan.len() == 5 && has(&plan, &[(2, 0, 2)], moved));
+}
+
+/// The same for an all-to-all from slot 20 on into slot 30 and those after it.
+fn exchanges(plan: &mut Plan, members: &[u16]) -> Result<(), PlanFault>
+    requires distinct { AreDistinct members.now }
+    requires count { length members.now ≤ 10 }
+    ensures unchanged { OnErr result ((plan.new.ranks ≡ plan.old.ranks) × (plan.new.acts ≡ plan.old.acts)) }
+    ensures means { Means (all_to_all_acts members.now TAG 20 30) (exchanged members.now 20 30) }
+{
+    all_to_all(plan, members, TAG, 20, 30)
 }
 
 #[test]
 fn exchanges_among_three(rt: HostRuntime) {
     let mut plan = Plan::new(rt.alloc(), 3);
-    let is_appended = all_to_all(&mut plan, &[0, 1, 2], TAG, 20, 30).is_ok();
+    let is_appended = exchanges(&mut plan, &[0, 1, 2]).is_ok();
     let copied: &[Copied] = &[(0, 20, 30), (1, 21, 31), (2, 22, 32)];
     let moved: &[Moved] = &[
         (0, 1, 21, 30),
@@ -123,10 +174,18 @@ fn exchanges_among_three(rt: HostRuntime) {
     assert!(rt; is_appended && has(&plan, copied, moved));
 }
 
+/// The same for shutting all lanes, which changes no slot.
+fn shuts(plan: &mut Plan) -> Result<(), PlanFault>
+    ensures unchanged { OnErr result ((plan.new.ranks ≡ plan.old.ranks) × (plan.new.acts ≡ plan.old.acts)) }
+    ensures means { Means (shut_acts plan.old.ranks) (λ state. state) }
+{
+    shut_all(plan)
+}
+
 #[test]
 fn shuts_each_lane_once(rt: HostRuntime) {
     let mut plan = Plan::new(rt.alloc(), 3);
-    let is_appended = shut_all(&mut plan).is_ok();
+    let is_appended = shuts(&mut plan).is_ok();
     let lanes: &[(u16, u16)] = &[(0, 1), (0, 2), (1, 0), (1, 2), (2, 0), (2, 1)];
     assert!(rt; is_appended && are_closed(plan.acts(), lanes));
 }

@@ -1,6 +1,12 @@
 //! The acts and starts that plans over a grid are made of. With ample memory the calls succeed.
+ghost use Rattle.std.specs.Prelude.{◌≡◌, OnOk, OnErr};
+ghost use Rattle.cb_plan_parts.specs.Growth.{IsWithinLimit, Grew};
+ghost use Rattle.cb_plan_parts.specs.PlanParts.{each_rank, zero_op};
+
 use crate::samples::grid_of;
-use cb_plan::{Act, Op, Plan, Start};
+use cb_layout::Grid;
+use cb_matrix::Shape;
+use cb_plan::{Act, Op, Plan, PlanFault, Start};
 use cb_plan_parts::{Operand, finish, operand_starts, work_everywhere, zero_everywhere};
 use cb_samples::{SampleFault, shape};
 use std::alloc::Global;
@@ -58,13 +64,30 @@ fn starts_by_ranks(rt: HostRuntime) -> Result<(), Fail> {
     Ok(())
 }
 
+/// Every rank does an operation. That the plan is as it was if memory is refused is proved.
+fn works_everywhere(plan: &mut Plan, grid: &Grid, op: &Op) -> Result<(), PlanFault>
+    requires { IsWithinLimit plan.now (each_rank grid.now.side (λ _. op.now)) }
+    ensures acts { OnOk result (Grew (each_rank grid.now.side (λ _. op.now)) plan.old plan.new) }
+    ensures unchanged { OnErr result ((plan.new.ranks ≡ plan.old.ranks) × (plan.new.acts ≡ plan.old.acts)) }
+{
+    work_everywhere(plan, grid, op)
+}
+
+/// The same for a slot of every rank that becomes its part of a matrix without entries.
+fn zeros_everywhere(plan: &mut Plan, grid: &Grid, slot: u16, shape: Shape) -> Result<(), PlanFault>
+    requires { IsWithinLimit plan.now (each_rank grid.now.side (zero_op grid.now.side slot shape)) }
+    ensures { OnErr result ((plan.new.ranks ≡ plan.old.ranks) × (plan.new.acts ≡ plan.old.acts)) }
+{
+    zero_everywhere(plan, grid, slot, shape)
+}
+
 /// A plan in which each rank in turn copies slot 0 to slot 1 and then puts an empty 3 by 3 block into slot 2.
 fn works(alloc: Global) -> Result<Plan, SampleFault> {
     let grid = grid_of(2)?;
     let mut plan = Plan::new(alloc, grid.ranks());
     let shape = shape(3, 3)?;
-    let copies = work_everywhere(&mut plan, &grid, &Op::Copy { a: 0, into: 1 }).is_ok();
-    if !copies || zero_everywhere(&mut plan, &grid, 2, shape).is_err() {
+    let copies = works_everywhere(&mut plan, &grid, &Op::Copy { a: 0, into: 1 }).is_ok();
+    if !copies || zeros_everywhere(&mut plan, &grid, 2, shape).is_err() {
         return Err(SampleFault::Shape);
     }
     Ok(plan)

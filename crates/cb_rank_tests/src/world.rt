@@ -1,10 +1,13 @@
 //! Worlds of two ranks with events in several orders, with ample memory, and with a post and an operation refused memory.
+ghost use Rattle.std.specs.Prelude.{List};
+ghost use Rattle.cb_world.specs.LaneCalls.{Exchange, AreCallsOf, AreTakenOnce, AreForAddressee, AreInPostingOrder, NothingAcceptedAfterClose, HasGivenOutAll};
+
 use crate::events::answers;
 use crate::plans::{Held, contents_at, doubling, plan_from_0, send, stores_from_0};
 use cb_letters::Capacity;
 use cb_plan::{Act, CheckedPlan, RankStore};
 use cb_rank::Moved;
-use cb_semirings::PlusTimes;
+use cb_semirings::{PlusTimes, Semiring};
 use cb_world::{Event, World};
 use std::alloc::Global;
 
@@ -109,6 +112,18 @@ fn a_full_lane_holds_up_its_sender(rt: HostRuntime) {
     assert!(rt; sends_when_there_is_room(rt.alloc()) == Some(true));
 }
 
+/// Does these events. What becomes of the letters is proved, whatever the events are.
+fn run<S: Semiring>(world: &mut World<S>, events: &[Event])
+    ensures calls { (calls : List Exchange) × AreCallsOf S.arithmetic events.now calls world.old world.new }
+    ensures once { (calls : List Exchange) → AreCallsOf S.arithmetic events.now calls world.old world.new → AreTakenOnce world.old world.new calls }
+    ensures addressee { (calls : List Exchange) → AreCallsOf S.arithmetic events.now calls world.old world.new → AreForAddressee world.old calls }
+    ensures order { (calls : List Exchange) → AreCallsOf S.arithmetic events.now calls world.old world.new → AreInPostingOrder world.old world.new calls }
+    ensures closed { (calls : List Exchange) → AreCallsOf S.arithmetic events.now calls world.old world.new → NothingAcceptedAfterClose world.old calls }
+    ensures drained { (calls : List Exchange) → AreCallsOf S.arithmetic events.now calls world.old world.new → HasGivenOutAll world.old world.new calls }
+{
+    world.run(events);
+}
+
 /// What the ranks hold if one of them is starved after these steps, moves as expected and is refused memory once.
 fn starved_after(
     alloc: Global,
@@ -117,7 +132,7 @@ fn starved_after(
     moved: Moved,
 ) -> Option<[(Held, u64); 2]> {
     let mut world = world(alloc)?;
-    world.run(steps);
+    run(&mut world, steps);
     let as_expected = world.step(Event::Starve(rank)) == moved;
     world.finish();
     if !as_expected || world.refusals() != 1 {

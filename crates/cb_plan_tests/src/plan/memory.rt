@@ -1,5 +1,7 @@
 //! Memory that was reserved, and memory that is refused.
-ghost use Rattle.std.specs.Prelude.{◌≡◌};
+ghost use Rattle.std.specs.Prelude.{◌≡◌, ◌<◌, None};
+ghost use Rattle.cb_plan.specs.declared.stores.TheConstants.{SLOTS};
+ghost use Rattle.cb_plan.specs.Stores.{sheets_in};
 
 use crate::plan::{checked, plan_of, row_at_0, small, two_stores};
 use cb_dcsc::Block;
@@ -11,10 +13,38 @@ use cb_semirings::PlusTimes;
 use std::alloc::{AllocError, Global};
 use std::test::Fail;
 
+/// Whether there is memory for this many acts. That room for no act, or room that is there, isn't refused is proved.
+fn reserves(plan: &mut Plan, count: usize) -> bool {
+    if plan.reserve(0).is_err() {
+        unreachable!()
+    }
+    if plan.reserve(count).is_err() {
+        return false;
+    }
+    if plan.reserve(count).is_err() {
+        unreachable!()
+    }
+    true
+}
+
+/// The same for the call that also refuses too many acts.
+fn makes_room(plan: &mut Plan, count: usize) -> bool {
+    if plan.make_room(0).is_err() {
+        unreachable!()
+    }
+    if plan.make_room(count).is_err() {
+        return false;
+    }
+    if plan.make_room(count).is_err() {
+        unreachable!()
+    }
+    true
+}
+
 /// Whether the small plan grows after room for it is reserved.
 fn grows(alloc: Global) -> bool {
     let mut plan = Plan::new(alloc, 2);
-    let has_room = plan.reserve(2).is_ok() && plan.make_room(3).is_ok();
+    let has_room = reserves(&mut plan, 2) && makes_room(&mut plan, 3);
     for act in small() {
         if plan.push(act).is_err() {
             return false;
@@ -86,11 +116,31 @@ fn blank(alloc: Global, store: &mut RankStore<PlusTimes>, shape: Shape) {
     }
 }
 
+/// A copy of a slot without a block. That it isn't refused, whatever memory there is, is proved.
+fn copied(store: &RankStore<PlusTimes>, n: u16) -> Slot<Block<PlusTimes>>
+    requires slot { n < SLOTS }
+    requires none { sheets_in store.now n ≡ None }
+{
+    match store.try_copy(n) {
+        Ok(slot) => slot,
+        Err(AllocError) => unreachable!(),
+    }
+}
+
+/// Whether an empty and a lost slot are copied as such.
+fn copies_without_blocks(store: &mut RankStore<PlusTimes>) -> bool {
+    store.put_lost(3, 1);
+    let is_lost = matches!(copied(store, 3), Slot::Lost(1));
+    store.clear(3);
+    is_lost & matches!(copied(store, 3), Slot::Empty)
+}
+
 #[test]
-fn a_block_without_entries_takes_no_memory(rt: HostRuntime) -> Result<(), Fail> {
+fn what_has_no_entries_takes_no_memory(rt: HostRuntime) -> Result<(), Fail> {
     let mut store = RankStore::new(rt.alloc())?;
     blank(rt.alloc(), &mut store, shape(2, 2)?);
     assert!(rt; store.filled() == 1);
+    assert!(rt; copies_without_blocks(&mut store));
     Ok(())
 }
 
