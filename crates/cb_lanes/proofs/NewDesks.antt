@@ -6,10 +6,10 @@ use Rattle.std.proofs.Math.Seq.{get_or-append_seam}
 use Rattle.std.proofs.lemmas.Bool.{cases_lt}
 use Rattle.std.specs.declared.vec.Vec.{Vec}
 use Rattle.std.specs.declared.alloc.Global.{Global}
-use Rattle.cb_lanes.specs.declared.ring_ends.Poster.{Poster}
-use Rattle.cb_lanes.specs.declared.ring_ends.Taker.{Taker}
+use Rattle.cb_rings.specs.declared.ring_ends.Poster.{Poster}
+use Rattle.cb_rings.specs.declared.ring_ends.Taker.{Taker}
 use Rattle.cb_lanes.specs.declared.desk.Desk.{Desk}
-use Rattle.cb_lanes.specs.Ends.{AreNewLanes, AreRows, AreColumns, outgoing_ring, incoming_ring, sent_by, received_by, room_of, capacity_of, out_at, in_at}
+use Rattle.cb_rings.specs.Ends.{AreNewLanes, AreRows, AreColumns, outgoing_ring, incoming_ring, sent_by, received_by, room_of, capacity_of, out_at, in_at}
 use Rattle.cb_lanes.specs.Desks.{Identity, identity, identity_at, AreOfOneOpening, IsNewDesk, HaveLanes}
 
 module _ {P : Type 0} (c : ℕ) (rows : List (Vec (Option (Poster P)) Global)) (columns : List (Vec (Option (Taker P)) Global)) (desks : List (Desk P))

@@ -9,8 +9,8 @@ use Rattle.std.proofs.Math.Seq.{map-set_same, take-append_seam, take-length}
 use Rattle.std.proofs.lemmas.List.{map-append}
 use Rattle.cb_lanes.specs.declared.desk.Desk.{Desk}
 use Rattle.cb_lanes.specs.Desks.{Identity, identity, identity_at, AreOfOneOpening, AreLinked, Keeps, SameDesks, IsSettled, IsPairSettled, IsSettledLane, posted_to, taken_from, posted_in, taken_in}
-use Rattle.cb_lanes.specs.declared.ring_ends.Poster.{Poster}
-use Rattle.cb_lanes.specs.Ends.{sent_by, outgoing_ring}
+use Rattle.cb_rings.specs.declared.ring_ends.Poster.{Poster}
+use Rattle.cb_rings.specs.Ends.{sent_by, outgoing_ring}
 use Rattle.cb_letters.specs.declared.Letter.{Letter}
 use Rattle.cb_letters.specs.Posted.{ends_closed, NothingAfterClose}
 use mathlib.Core.List.{IsPrefix}

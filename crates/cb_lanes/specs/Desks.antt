@@ -9,11 +9,11 @@ use Rattle.cb_letters.specs.Posted.{standing_by, GrowsBy, is_end, ends_closed}
 use mathlib.Core.List.{IsPrefix}
 use Rattle.std.specs.declared.vec.Vec.{Vec}
 use Rattle.std.specs.declared.alloc.Global.{Global}
-use Rattle.cb_lanes.specs.declared.ring_ends.Poster.{Poster}
-use Rattle.cb_lanes.specs.declared.ring_ends.Taker.{Taker}
+use Rattle.cb_rings.specs.declared.ring_ends.Poster.{Poster}
+use Rattle.cb_rings.specs.declared.ring_ends.Taker.{Taker}
 use Rattle.cb_lanes.specs.declared.desk.Desk.{Desk}
-use Rattle.cb_lanes.specs.Numbers.{AreNumbered}
-use Rattle.cb_lanes.specs.Ends.{RingName, sent_by, room_of, capacity_of, received_by, known_by, outgoing_ring, incoming_ring}
+use Rattle.cb_rings.specs.Numbers.{AreNumbered}
+use Rattle.cb_rings.specs.Ends.{RingName, sent_by, room_of, capacity_of, received_by, known_by, outgoing_ring, incoming_ring}
 
 -- whose desk it is, and which rings it has ends of
 pub record Identity : Type 0 where

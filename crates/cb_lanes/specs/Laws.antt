@@ -11,7 +11,7 @@ use Rattle.cb_letters.specs.Standing.{standing_refusal, stands_after, KeepsLane,
 use Rattle.cb_letters.proofs.Standings.{same_standing}
 use Rattle.cb_letters.proofs.Marks.{ends_closed-append}
 use Rattle.cb_lanes.specs.declared.desk.Desk.{Desk}
-use Rattle.cb_lanes.specs.Ends.{outgoing_ring}
+use Rattle.cb_rings.specs.Ends.{outgoing_ring}
 use Rattle.cb_lanes.specs.Desks.{identity, posted_to, taken_from, room_to, capacity_to, is_stranger, standing, has_room, Keeps, Posts, Takes}
 
 module _ {P : Type 0} where

@@ -1,5 +1,3 @@
-pub mod Numbers
-pub mod Ends
 pub mod Desks
 pub mod Lanes
 pub mod Waiting

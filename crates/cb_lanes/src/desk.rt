@@ -1,8 +1,8 @@
 //! A rank's desk: the ends of its lanes to and from every other rank.
 ghost use Rattle.std.specs.Prelude.{ℕ, ◌≡◌, ◌<◌, ◌^◌, ◌==◌, None, not, length, is_some, slice_index_or};
 
-use crate::ring_ends::{Poster, Taker};
 use cb_letters::{Body, Letter, PostRefusal, Tag, Taken};
+use cb_rings::{Poster, Taker};
 use std::alloc::{AllocError, Global};
 use std::sync::Wait;
 
@@ -25,7 +25,7 @@ impl<P: Drop> Desk<P> {
     ghost use Rattle.cb_letters.specs.Letters.{is_close, mark_tag};
     ghost use Rattle.cb_letters.specs.Posted.{is_end, ends_closed};
     ghost use Rattle.cb_letters.specs.Standing.{standing_refusal, IsAccepted};
-    ghost use Rattle.cb_lanes.specs.Numbers.{AreNumbered};
+    ghost use Rattle.cb_rings.specs.Numbers.{AreNumbered};
     ghost use Rattle.cb_lanes.specs.Desks.{identity, is_stranger, posted_to, taken_from, standing, has_room, has_letter, may_be_full, MayRefusePost};
     ghost use Rattle.cb_lanes.specs.Desks.{Keeps, KeepsPosted, KeepsTaken, AddsPosted, AddsTaken, ring_to, ring_from, AreLinked, IsSettled};
 

@@ -22,7 +22,6 @@
 mod desk;
 mod opening;
 mod ports;
-mod ring_ends;
 mod settled;
 mod settling;
 mod waiting;

@@ -1,9 +1,9 @@
 //! Writing a text. Lines are written on a page, which is then appended to the text.
-ghost use Rattle.std.specs.Prelude.{◌≡◌, ◌+◌, ◌≤◌, ◌++◌, IfOk, OnOk, [], ◌∷◌, length, map, decimal, flat_map};
+ghost use Rattle.std.specs.Prelude.{◌≡◌, ◌+◌, ◌≤◌, ◌++◌, IfOk, OnOk, [], ◌∷◌, length, map, flat_map};
 ghost use Rattle.cb_semirings.specs.Tables.{min_plus};
 ghost use Rattle.cb_matrix.specs.Sparse.{IsMatrix};
 ghost use Rattle.cb_market_lines.specs.Reads.{Reads};
-ghost use Rattle.cb_market.specs.Text.{text_of, entry_line, head_of, header_line, vertex_line, vertex_text_of, vertex_pairs_text_of, with_value_from_one};
+ghost use Rattle.cb_market.specs.Text.{text_of, head_of, header_line, vertex_line, vertex_text_of, vertex_pairs_text_of, with_value_from_one};
 
 use crate::TextPages;
 use crate::pages::{LINE, Page, SIZE, digits};

@@ -17,8 +17,8 @@ use Rattle.cb_letters.specs.Standing.{next_letter}
 use Rattle.cb_letters.proofs.Marks.{ends_closed-append}
 use Rattle.cb_lanes.specs.declared.desk.Desk.{Desk}
 use Rattle.cb_lanes.specs.Desks.{identity, posted_to, taken_from, is_stranger, standing, Posts, Takes}
-use Rattle.cb_lanes.specs.Ends.{outgoing_ring}
-use Rattle.cb_lanes.specs.Numbers.{AreNumbered}
+use Rattle.cb_rings.specs.Ends.{outgoing_ring}
+use Rattle.cb_rings.specs.Numbers.{AreNumbered}
 use Rattle.cb_plan.specs.declared.acts.Half.TheVariants as half_is
 use Rattle.cb_plan.specs.declared.stores.Slot.{Slot}
 use Rattle.cb_plan.specs.Meaning.{target_of}

@@ -7,7 +7,7 @@ use Rattle.cb_matrix.specs.Sparse.{Sparse}
 use Rattle.cb_letters.specs.Posted.{ends_closed}
 use Rattle.cb_lanes.specs.declared.desk.Desk.{Desk}
 use Rattle.cb_lanes.specs.Desks.{identity}
-use Rattle.cb_lanes.specs.Numbers.{AreNumbered}
+use Rattle.cb_rings.specs.Numbers.{AreNumbered}
 use Rattle.cb_plan.specs.declared.acts.Half.{Half}
 use Rattle.cb_plan.specs.Checks.{none_shut, lanes_after}
 use Rattle.cb_plan.specs.PlanLetters.{before}

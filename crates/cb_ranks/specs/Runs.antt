@@ -5,7 +5,7 @@ use Rattle.cb_matrix.specs.Sparse.{Sparse}
 use Rattle.cb_plan.specs.declared.stores.Slot.{Slot}
 use Rattle.cb_lanes.specs.declared.desk.Desk.{Desk}
 use Rattle.cb_lanes.specs.Desks.{identity, posted_to, taken_from, IsNewDesk}
-use Rattle.cb_lanes.specs.Numbers.{AreNumbered}
+use Rattle.cb_rings.specs.Numbers.{AreNumbered}
 use Rattle.cb_rank.specs.Halves.{Course, RunsTo}
 use Rattle.cb_rank.specs.Ranks.{RankView, IsRank}
 

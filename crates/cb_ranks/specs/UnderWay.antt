@@ -9,7 +9,7 @@ use Rattle.cb_plan.specs.Checks.{lanes_after, none_shut}
 use Rattle.cb_plan.specs.PlanLetters.{before}
 use Rattle.cb_lanes.specs.declared.desk.Desk.{Desk}
 use Rattle.cb_lanes.specs.Desks.{identity, posted_to, taken_from}
-use Rattle.cb_lanes.specs.Numbers.{AreNumbered}
+use Rattle.cb_rings.specs.Numbers.{AreNumbered}
 use Rattle.cb_rank.specs.declared.wants.Arrival.{Arrival}
 use Rattle.cb_rank.specs.declared.wants.Arrival.TheVariants as arrival_is
 use Rattle.cb_trace.specs.declared.events.Envelope.{Envelope}

@@ -1,6 +1,6 @@
 use Rattle.std.proofs.Common.{◌≡◌, Some, slice_index_or, rules}
 use Rattle.std.proofs.Math.Seq.{map-set_same}
-use Rattle.cb_lanes.specs.Ends.{outgoing_ring}
+use Rattle.cb_rings.specs.Ends.{outgoing_ring}
 use Rattle.cb_lanes.proofs.desk.Desk.await_room.Goals as goal
 
 pub returns-clause-identity : goal.returns-clause-identity

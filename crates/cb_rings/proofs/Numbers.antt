@@ -5,7 +5,7 @@ use Rattle.std.proofs.lemmas.List.{get_or_append_left}
 use Rattle.std.proofs.Math.Seq.{get_or-append_seam}
 use Rattle.cb_letters.specs.declared.Letter.{Letter}
 use Rattle.cb_letters.specs.Letters.{is_close}
-use Rattle.cb_lanes.specs.Numbers.{IsNext, AreNumbered}
+use Rattle.cb_rings.specs.Numbers.{IsNext, AreNumbered}
 
 module _ {P : Type 0} where
   -- numbered letters, followed by one that may follow them, are numbered

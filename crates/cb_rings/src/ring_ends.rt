@@ -2,7 +2,7 @@
 ghost use Rattle.std.specs.Prelude.{ℕ, ◌≡◌, ◌-◌, ◌^◌, ◌<◌, length};
 ghost use Rattle.cb_letters.specs.Posted.{ends_closed, NothingAfterClose};
 ghost use Rattle.rtrb.specs.Ring.{sent, received};
-ghost use Rattle.cb_lanes.specs.Numbers.{IsNext, AreNumbered};
+ghost use Rattle.cb_rings.specs.Numbers.{IsNext, AreNumbered};
 
 use cb_bells::{Bell, wait_at};
 use cb_letters::{Body, Letter, PostRefusal, Tag, Taken};
@@ -46,7 +46,7 @@ impl<P: Drop> Poster<P> {
     ghost use Rattle.rtrb.specs.Ring.{known_free, SameProducer, ProducerLooked};
     ghost use Rattle.cb_letters.specs.Letters.{is_close};
     ghost use Rattle.cb_letters.specs.Standing.{standing_refusal, MayRefuse, IsAccepted};
-    ghost use Rattle.cb_lanes.specs.Ends.{standing_at, MayBeFull, Sends, KeepsSent};
+    ghost use Rattle.cb_rings.specs.Ends.{standing_at, MayBeFull, Sends, KeepsSent};
 
     pub(crate) fn new(ring: Producer<Letter<P>, Global, Numbered>, bell: Bell) -> Poster<P>
         requires { sent ring ≡ [] }
@@ -62,7 +62,7 @@ impl<P: Drop> Poster<P> {
 
     /// Posts a letter or a close mark, and returns its number. A refusal hands the body back.
     #[tactic(auto, using(cb_letters::proofs::Marks::marks))]
-    pub(crate) fn post(
+    pub fn post(
         &mut self,
         from: u16,
         to: u16,
@@ -101,7 +101,7 @@ impl<P: Drop> Poster<P> {
     }
 
     /// Whether there is room for a letter.
-    pub(crate) fn has_room(&mut self) -> bool
+    pub fn has_room(&mut self) -> bool
         ensures looked { ProducerLooked self.old.ring self.new.ring }
         ensures value { IsTrue result → 0 < known_free self.new.ring }
         ensures full { result ≡ false → MayBeFull self.old }
@@ -110,14 +110,15 @@ impl<P: Drop> Poster<P> {
     }
 
     /// Waits for room. Returns false if the other end is gone.
-    pub(crate) fn await_room(&mut self, rt: &impl Wait) -> bool
+    pub fn await_room(&mut self, rt: &impl Wait) -> bool
         ensures looked { ProducerLooked self.old.ring self.new.ring }
         ensures room { IsTrue result → 0 < known_free self.new.ring }
     {
         wait_at(rt, &mut self.ring, &self.bell)
     }
 
-    pub(crate) fn posted(&self) -> u64
+    /// The number of letters posted, the close mark included.
+    pub fn posted(&self) -> u64
         ensures { result ≡ length (sent self.now.ring) }
     {
         self.posted
@@ -145,7 +146,7 @@ impl<P: Drop> Taker<P> {
 
     /// Takes the oldest available letter. Returns `End` at the close mark and ever after.
     #[tactic(auto, using(cb_letters::proofs::Marks::marks))]
-    pub(crate) fn take(&mut self) -> Taken<P>
+    pub fn take(&mut self) -> Taken<P>
         ensures ring { SameConsumer self.old.ring self.new.ring }
         ensures taken { GrowsBy (received self.old.ring) (received self.new.ring) result }
         ensures end { is_end result ≡ ends_closed (received self.new.ring) }
@@ -169,7 +170,7 @@ impl<P: Drop> Taker<P> {
     }
 
     /// Waits for a letter. Returns false if the other end is gone.
-    pub(crate) fn await_letter(&mut self, rt: &impl Wait) -> bool
+    pub fn await_letter(&mut self, rt: &impl Wait) -> bool
         ensures ring { SameConsumer self.old.ring self.new.ring }
         ensures received { received self.new.ring ≡ received self.old.ring }
         ensures letter { IsTrue result → 0 < length (known_items self.new.ring) }
@@ -177,14 +178,15 @@ impl<P: Drop> Taker<P> {
         wait_at(rt, &mut self.ring, &self.bell)
     }
 
-    pub(crate) fn taken(&self) -> u64
+    /// The number of letters taken, the close mark included.
+    pub fn taken(&self) -> u64
         ensures { result ≡ length (received self.now.ring) }
     {
         self.taken
     }
 
     /// Compares both ends of the lane: what was taken is a prefix of what was posted.
-    pub(crate) fn settle(&mut self, outgoing: &mut Poster<P>)
+    pub fn settle(&mut self, outgoing: &mut Poster<P>)
         requires { IsPair outgoing.old.ring self.old.ring }
         ensures incoming { ConsumerLooked self.old.ring self.new.ring }
         ensures outgoing { ProducerLooked outgoing.old.ring outgoing.new.ring }

@@ -9,8 +9,8 @@ use Rattle.rtrb.specs.declared.end.End.{End}
 use Rattle.cb_letters.specs.declared.Letter.{Letter}
 use Rattle.cb_letters.specs.Posted.{standing_by}
 use Rattle.cb_letters.specs.Standing.{Standing}
-use Rattle.cb_lanes.specs.declared.ring_ends.Poster.{Poster}
-use Rattle.cb_lanes.specs.declared.ring_ends.Taker.{Taker}
+use Rattle.cb_rings.specs.declared.ring_ends.Poster.{Poster}
+use Rattle.cb_rings.specs.declared.ring_ends.Taker.{Taker}
 
 -- what distinguishes a ring from every other
 abbrev pub RingName : Type 0

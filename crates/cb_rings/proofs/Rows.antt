@@ -6,9 +6,9 @@ use Rattle.std.proofs.Math.Seq.{get_or-append_seam}
 use Rattle.std.proofs.lemmas.Grind.{get_or-set_at}
 use Rattle.std.specs.declared.vec.Vec.{Vec}
 use Rattle.std.specs.declared.alloc.Global.{Global}
-use Rattle.cb_lanes.specs.declared.ring_ends.Poster.{Poster}
-use Rattle.cb_lanes.specs.declared.ring_ends.Taker.{Taker}
-use Rattle.cb_lanes.specs.Ends.{IsNewLane, AreRows, AreNewLanes, IsRow, out_at, in_at, row_at, column_at}
+use Rattle.cb_rings.specs.declared.ring_ends.Poster.{Poster}
+use Rattle.cb_rings.specs.declared.ring_ends.Taker.{Taker}
+use Rattle.cb_rings.specs.Ends.{IsNewLane, AreRows, AreNewLanes, IsRow, out_at, in_at, row_at, column_at}
 
 module _ {P : Type 0} where
   -- the lanes that were opened before are kept

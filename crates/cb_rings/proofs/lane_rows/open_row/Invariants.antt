@@ -1,6 +1,6 @@
 use Rattle.std.proofs.Common.{◌≡◌, ◌≤◌, ℕ, length, slice_index_or}
-use Rattle.cb_lanes.specs.Ends.{IsRow}
-use Rattle.cb_lanes.proofs.opening.open_row.Given as goal
+use Rattle.cb_rings.specs.Ends.{IsRow}
+use Rattle.cb_rings.proofs.lane_rows.open_row.Given as goal
 
 abbrev pub invariant-loop-to : goal.invariant-loop-to
 invariant-loop-to g l =

@@ -1,6 +1,6 @@
 use Rattle.std.proofs.Common.{◌≡◌, length}
-use Rattle.cb_lanes.specs.Ends.{AreRows, AreColumns, AreNewLanes}
-use Rattle.cb_lanes.proofs.opening.open_lanes.Given as goal
+use Rattle.cb_rings.specs.Ends.{AreRows, AreColumns, AreNewLanes}
+use Rattle.cb_rings.proofs.lane_rows.open_lanes.Given as goal
 
 abbrev pub invariant-loop : goal.invariant-loop
 invariant-loop g l = (length l.columns.items ≡ l.counter) × AreColumns l.columns.items 0
