@@ -486,7 +486,7 @@ int cbgrid_matrix_column_degrees(const struct cbgrid_matrix *a, struct cbgrid_ma
 int cbgrid_matrix_reduce_all(const struct cbgrid_matrix *a, uint64_t *out);
 
 /* Do what cbgrid_levels does in a graph over OR_AND, and cbgrid_distances in a graph over MIN_PLUS; CBGRID_MIXED if the
- * graph is over another semiring. The result is over MIN_PLUS. Each call transposes the graph. */
+ * graph is over another semiring. The result is over MIN_PLUS. The costs are those of these calls. */
 int cbgrid_matrix_levels(const struct cbgrid_matrix *a, uint32_t source, struct cbgrid_matrix **out);
 int cbgrid_matrix_distances(const struct cbgrid_matrix *a, uint32_t source, struct cbgrid_matrix **out);
 

@@ -761,7 +761,7 @@ pub extern "C" fn cbgrid_kernel_kept_total(a: Lent) -> u64
     kept_total(borrowed(a))
 }
 
-/// The column of levels from a source, over min-plus, in a graph that is kept over or-and. Transposes the graph.
+/// The column of levels from a source, over min-plus, in a graph that is kept over or-and.
 #[unsafe(no_mangle)]
 pub extern "C" fn cbgrid_kernel_kept_levels(
     alloc: Global,
