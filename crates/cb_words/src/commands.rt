@@ -1,22 +1,12 @@
 //! The commands of the program and their options, as `clap` builds them.
 
 use cb_semirings::NAMES;
-use clap::{Arg, ArgAction, Command, value_parser};
+use clap::builder::ValueParser;
+use clap::{Arg, ArgAction, Command};
 use std::alloc::{AllocError, Global};
 
 /// The version of the program, and of the libraries for C and Python, which take it from here.
 const VERSION: &str = "0.1.0";
-
-/// The end of a command's help text: an example, and if the command has reasons of its own for status 5, these. The help
-/// text of the program has the other reasons, and all statuses.
-macro_rules! after_help {
-    ($example:literal) => {
-        concat!("Example:\n  cbgrid ", $example)
-    };
-    ($example:literal, $refused:literal) => {
-        concat!("Example:\n  cbgrid ", $example, "\n\nExit status 5: ", $refused)
-    };
-}
 
 /// The end of the program's help text.
 const AFTER_HELP: &str = "Example:
@@ -31,588 +21,279 @@ Exit status:
   6  out of memory, or a thread couldn't be started
   7  the answer can't be written";
 
-/// What stands after the name of an option.
+/// An option of a command. A flag has no name for a value.
 #[derive(Clone, Copy)]
-enum Takes<'a> {
-    /// Nothing: the option is there or not.
-    Nothing,
-    /// Nothing: the option asks for help.
-    Help,
-    /// A word, such as the name of a file.
-    Text,
-    /// The name of a semiring.
-    Semiring,
-    /// One of these words.
-    OneOf(&'a [&'a str]),
-    /// A whole number of at most 64 bits.
-    Number,
-    /// A whole number from the first to the second.
-    Count(i64, i64),
-    /// A whole number, possibly negative, from the first to the second.
-    Distance(i64, i64),
+struct Choice {
+    name: &'static str,
+    help: &'static str,
+    action: ArgAction,
+    value: &'static [&'static str],
+    parser: ValueParser<'static>,
+    default: &'static [&'static str],
+    is_required: bool,
 }
 
-/// What is so if an option isn't given.
-#[derive(Clone, Copy)]
-enum Absent<'a> {
-    /// Nothing is chosen.
-    Nothing,
-    /// That is a usage error.
-    Refused,
-    /// It has this value.
-    Means(&'a str),
+/// An option as help shows it: whether it is optional or required, or its default value; what the value has to be; and its
+/// help text. A flag has its action in place of a value.
+macro_rules! choice {
+    (--$name:ident <$value:ident> optional, $parser:expr; $help:literal) => {
+        choice!(@ $name [stringify!($value)] Set [] false $parser, $help)
+    };
+    (--$name:ident <$value:ident> required, $parser:expr; $help:literal) => {
+        choice!(@ $name [stringify!($value)] Set [] true $parser, $help)
+    };
+    (--$name:ident <$value:ident> = $default:literal, $parser:expr; $help:literal) => {
+        choice!(@ $name [stringify!($value)] Set [$default] false $parser, $help)
+    };
+    (--$name:ident $action:ident, $parser:expr; $help:literal) => {
+        choice!(@ $name [] $action [] false $parser, $help)
+    };
+    (@ $name:ident $value:tt $action:ident $default:tt $is_required:literal $parser:expr, $help:literal) => {
+        Choice {
+            name: stringify!($name),
+            help: $help,
+            action: ArgAction::$action,
+            value: &$value,
+            parser: $parser,
+            default: &$default,
+            is_required: $is_required,
+        }
+    };
 }
 
-/// The words of an option: `--NAME`, what help prints for its value if it takes one, its help text, what it takes, and
-/// what is so without it.
-struct Words<'a> {
-    name: &'a str,
-    value: &'a str,
-    help: &'a str,
-    takes: Takes<'a>,
-    absent: Absent<'a>,
-}
+/// A whole number of 64 bits.
+const NUMBER: ValueParser<'static> = ValueParser::Unsigned(0, u64::MAX);
 
-/// An option of a command.
-#[derive(Clone, Copy)]
-enum Choice {
-    Semiring,
-    Mask,
-    Trace,
-    By,
-    Test,
-    Value,
-    Region,
-    Diagonal,
-    Function,
-    Number,
-    Form,
-    Exponent,
-    Rows,
-    Columns,
-    Row,
-    Column,
-    Counts,
-    Lines,
-    Source,
-    Grid,
-    Engine,
-    Lane,
-    Help,
-}
+/// The number of a row, a column or a vertex.
+const PLACE: ValueParser<'static> = ValueParser::Unsigned(1, 2_147_483_647);
 
-/// The shared options of the commands that ranks can compute.
-const BY_RANKS: [Choice; 4] = [Choice::Grid, Choice::Engine, Choice::Lane, Choice::Help];
-
-/// The shared options of the commands that one thread computes.
-const ALONE: [Choice; 1] = [Choice::Help];
-
-/// A command: its name, its help texts, the names of its file arguments, its own options, and the options that it shares
-/// with other commands.
+/// A command: its name, its help texts, the names of its file arguments, and its own options.
 struct Outline {
     name: &'static str,
     about: &'static str,
     after_help: &'static str,
     files: &'static [&'static str],
     options: &'static [Choice],
-    common: &'static [Choice],
 }
 
-const MULTIPLY: Outline = Outline {
-    name: "multiply",
-    about: "Write the product of two matrices",
-    after_help: after_help!("multiply --semiring min-plus roads.mtx roads.mtx > two-roads.mtx"),
-    files: &["A", "B"],
-    options: &[Choice::Semiring, Choice::Mask, Choice::Trace],
-    common: &BY_RANKS,
-};
+/// A command with its files and options, what it does, an example, and if the command has reasons of its own for status 5,
+/// these. The help text of the program has the other reasons, and all statuses.
+macro_rules! command {
+    ($name:literal $files:tt $options:tt: $about:literal; $example:literal) => {
+        command!(@ $name $files $options $about, concat!("Example:\n  cbgrid ", $name, " ", $example))
+    };
+    ($name:literal $files:tt $options:tt: $about:literal; $example:literal; $refused:literal) => {
+        command!(@ $name $files $options $about,
+            concat!("Example:\n  cbgrid ", $name, " ", $example, "\n\nExit status 5: ", $refused))
+    };
+    (@ $name:literal $files:tt $options:tt $about:literal, $after_help:expr) => {
+        Outline {
+            name: $name,
+            about: $about,
+            after_help: $after_help,
+            files: &$files,
+            options: &$options,
+        }
+    };
+}
 
-const SPMV: Outline = Outline {
-    name: "spmv",
-    about: "Write the product of a matrix and a vector, a matrix of one column",
-    after_help: after_help!("spmv links.mtx ranks.mtx > next-ranks.mtx"),
-    files: &["A", "x"],
-    options: &[Choice::Semiring],
-    common: &BY_RANKS,
-};
-
-const TRANSPOSE: Outline = Outline {
-    name: "transpose",
-    about: "Write the transpose of a matrix",
-    after_help: after_help!("transpose links.mtx > linked-from.mtx"),
-    files: &["A"],
-    options: &[Choice::Semiring],
-    common: &BY_RANKS,
-};
-
-const REDUCE: Outline = Outline {
-    name: "reduce",
-    about: "Write the sum of each row of a matrix, or of each column",
-    after_help: after_help!("reduce links.mtx --by columns > linked.mtx"),
-    files: &["A"],
-    options: &[Choice::Semiring, Choice::By],
-    common: &BY_RANKS,
-};
-
-const ADD: Outline = Outline {
-    name: "add",
-    about: "Write the sum of two matrices",
-    after_help: after_help!("add --semiring min-plus roads.mtx tracks.mtx > ways.mtx"),
-    files: &["A", "B"],
-    options: &[Choice::Semiring],
-    common: &BY_RANKS,
-};
-
-const TIMES: Outline = Outline {
-    name: "times",
-    about: "Write the product of two matrices place by place",
-    after_help: after_help!("times --semiring or-and roads.mtx tracks.mtx > both.mtx"),
-    files: &["A", "B"],
-    options: &[Choice::Semiring],
-    common: &BY_RANKS,
-};
-
-const PRUNE: Outline = Outline {
-    name: "prune",
-    about: "Write a matrix without the entries whose value passes a test",
-    after_help: after_help!("prune roads.mtx --test above --value 100 > short-roads.mtx"),
-    files: &["A"],
-    options: &[Choice::Semiring, Choice::Test, Choice::Value],
-    common: &BY_RANKS,
-};
-
-const SELECT: Outline = Outline {
-    name: "select",
-    about: "Write the entries of a matrix on one side of a diagonal, on it, or off it",
-    after_help: after_help!("select links.mtx --region lower --diagonal -1 > below.mtx"),
-    files: &["A"],
-    options: &[Choice::Semiring, Choice::Region, Choice::Diagonal],
-    common: &ALONE,
-};
-
-const APPLY: Outline = Outline {
-    name: "apply",
-    about: "Apply a function to the value of each entry of a matrix",
-    after_help: after_help!(
-        "apply roads.mtx --semiring min-plus --function times --value 5 > longer-roads.mtx",
-        "a number that the function takes isn't a value of the semiring"
-    ),
-    files: &["A"],
-    options: &[Choice::Semiring, Choice::Function, Choice::Number],
-    common: &ALONE,
-};
-
-const DIAGONAL: Outline = Outline {
-    name: "diagonal",
-    about: "Write the diagonal of a matrix as a column, or a column as the diagonal of a matrix",
-    after_help: after_help!(
-        "diagonal links.mtx > loops.mtx",
-        "with --as matrix, the matrix isn't a column"
-    ),
-    files: &["A"],
-    options: &[Choice::Semiring, Choice::Form],
-    common: &ALONE,
-};
-
-const KRON: Outline = Outline {
-    name: "kron",
-    about: "Write the Kronecker product of two matrices",
-    after_help: after_help!(
-        "kron pattern.mtx tile.mtx > tiles.mtx",
-        "the product has more than 2147483647 rows or columns"
-    ),
-    files: &["A", "B"],
-    options: &[Choice::Semiring],
-    common: &ALONE,
-};
-
-const POWER: Outline = Outline {
-    name: "power",
-    about: "Write the power of a square matrix",
-    after_help: after_help!(
-        "power links.mtx --exponent 3 > three-links.mtx",
-        "the matrix isn't square"
-    ),
-    files: &["A"],
-    options: &[Choice::Semiring, Choice::Exponent],
-    common: &ALONE,
-};
-
-const EXTRACT: Outline = Outline {
-    name: "extract",
-    about: "Write rows and columns of a matrix by their numbers, in any order",
-    after_help: after_help!(
-        "extract links.mtx --rows people.mtx --columns people.mtx > among-them.mtx",
-        "a list isn't a column, or the matrix has no such row or column"
-    ),
-    files: &["A"],
-    options: &[Choice::Semiring, Choice::Rows, Choice::Columns],
-    common: &ALONE,
-};
-
-const ASSIGN: Outline = Outline {
-    name: "assign",
-    about: "Write a matrix with another in place of a part of it",
-    after_help: after_help!(
-        "assign links.mtx corner.mtx --row 1 --column 1 > new-links.mtx",
-        "the part ends beyond the matrix"
-    ),
-    files: &["A", "B"],
-    options: &[Choice::Semiring, Choice::Row, Choice::Column],
-    common: &ALONE,
-};
-
-const BFS: Outline = Outline {
-    name: "bfs",
-    about: "Write how many edges lead from a source to each vertex, by breadth-first search",
-    after_help: after_help!("bfs roads.mtx --source 1 > steps.txt"),
-    files: &["A"],
-    options: &[Choice::Source],
-    common: &BY_RANKS,
-};
-
-const RELAX: Outline = Outline {
-    name: "relax",
-    about: "Write the distance of each vertex from a source, where edges have lengths",
-    after_help: after_help!("relax roads.mtx --source 1 > distances.txt"),
-    files: &["A"],
-    options: &[Choice::Source],
-    common: &BY_RANKS,
-};
-
-const BFS_FROM: Outline = Outline {
-    name: "bfs-from",
-    about: "Write how many edges lead from each of several sources to each vertex, as a matrix",
-    after_help: after_help!(
-        "bfs-from roads.mtx depots.mtx > steps.mtx",
-        "the matrix isn't square, the list of sources isn't a column, or a source is no vertex"
-    ),
-    files: &["A", "s"],
-    options: &[],
-    common: &ALONE,
-};
-
-const RELAX_FROM: Outline = Outline {
-    name: "relax-from",
-    about: "Write the distance of each vertex from each of several sources, as a matrix",
-    after_help: after_help!(
-        "relax-from roads.mtx depots.mtx > distances.mtx",
-        "the matrix isn't square, the list of sources isn't a column, or a source is no vertex"
-    ),
-    files: &["A", "s"],
-    options: &[],
-    common: &ALONE,
-};
-
-const BFS_GIVEN: Outline = Outline {
-    name: "bfs-given",
-    about: "Write the level of each vertex from initial values of some vertices",
-    after_help: after_help!(
-        "bfs-given roads.mtx starts.mtx > levels.txt",
-        "the matrix isn't square, or the initial values aren't a column with a place for each vertex"
-    ),
-    files: &["A", "x"],
-    options: &[],
-    common: &ALONE,
-};
-
-const RELAX_GIVEN: Outline = Outline {
-    name: "relax-given",
-    about: "Write the distance of each vertex from initial values of some vertices",
-    after_help: after_help!(
-        "relax-given roads.mtx starts.mtx > distances.txt",
-        "the matrix isn't square, or the initial values aren't a column with a place for each vertex"
-    ),
-    files: &["A", "x"],
-    options: &[],
-    common: &ALONE,
-};
-
-const PARENTS: Outline = Outline {
-    name: "parents",
-    about: "Write the vertex before each vertex on a shortest path from a source, by breadth-first search",
-    after_help: after_help!("parents roads.mtx --source 1 > tree.txt"),
-    files: &["A"],
-    options: &[Choice::Source],
-    common: &ALONE,
-};
-
-const COMPONENTS: Outline = Outline {
-    name: "components",
-    about: "Write the connected component of each vertex, named by its least vertex",
-    after_help: after_help!("components roads.mtx > islands.txt"),
-    files: &["A"],
-    options: &[],
-    common: &ALONE,
-};
-
-const TRIANGLES: Outline = Outline {
-    name: "triangles",
-    about: "Count the triangles of a graph, or of each vertex; edges count in both directions",
-    after_help: after_help!("triangles friends.mtx"),
-    files: &["A"],
-    options: &[Choice::Counts],
-    common: &ALONE,
-};
-
-const DEGREES: Outline = Outline {
-    name: "degrees",
-    about: "Write how many entries each row of a matrix has, or each column",
-    after_help: after_help!("degrees links.mtx > links-of-each.txt"),
-    files: &["A"],
-    options: &[Choice::Lines],
-    common: &ALONE,
-};
-
-/// The commands, in the order in which help shows them.
-static OUTLINES: [&Outline; 24] = [
-    &MULTIPLY,
-    &SPMV,
-    &TRANSPOSE,
-    &REDUCE,
-    &ADD,
-    &TIMES,
-    &PRUNE,
-    &SELECT,
-    &APPLY,
-    &DIAGONAL,
-    &KRON,
-    &POWER,
-    &EXTRACT,
-    &ASSIGN,
-    &BFS,
-    &RELAX,
-    &BFS_FROM,
-    &RELAX_FROM,
-    &BFS_GIVEN,
-    &RELAX_GIVEN,
-    &PARENTS,
-    &COMPONENTS,
-    &TRIANGLES,
-    &DEGREES,
+/// The operations, in the order in which help shows them.
+const OPERATIONS: &[Outline] = &[
+    command!("multiply" ["A", "B"] [MASK, TRACE]: "Write the product of two matrices";
+        "--semiring min-plus roads.mtx roads.mtx > two-roads.mtx"),
+    command!("spmv" ["A", "x"] []: "Write the product of a matrix and a vector, a matrix of one column";
+        "links.mtx ranks.mtx > next-ranks.mtx"),
+    command!("transpose" ["A"] []: "Write the transpose of a matrix"; "links.mtx > linked-from.mtx"),
+    command!("reduce" ["A"] [BY]: "Write the sum of each row of a matrix, or of each column";
+        "links.mtx --by columns > linked.mtx"),
+    command!("add" ["A", "B"] []: "Write the sum of two matrices";
+        "--semiring min-plus roads.mtx tracks.mtx > ways.mtx"),
+    command!("times" ["A", "B"] []: "Write the product of two matrices place by place";
+        "--semiring or-and roads.mtx tracks.mtx > both.mtx"),
+    command!("prune" ["A"] [TEST, VALUE]: "Write a matrix without the entries whose value passes a test";
+        "roads.mtx --test above --value 100 > short-roads.mtx"),
 ];
 
-/// The words of an option.
-fn words_of<'a>(choice: Choice) -> Words<'a> {
-    match choice {
-        Choice::Semiring => Words {
-            name: "semiring",
-            value: "NAME",
-            help: "What adds and multiplies values",
-            takes: Takes::Semiring,
-            absent: Absent::Means("plus-times"),
-        },
-        Choice::Mask => Words {
-            name: "mask",
-            value: "FILE",
-            help: "Keep the entries at the places where this matrix has one",
-            takes: Takes::Text,
-            absent: Absent::Nothing,
-        },
-        Choice::Trace => Words {
-            name: "trace",
-            value: "",
-            help: "Print after the product what every rank did",
-            takes: Takes::Nothing,
-            absent: Absent::Nothing,
-        },
-        Choice::By => Words {
-            name: "by",
-            value: "SIDE",
-            help: "What to add up: rows or columns",
-            takes: Takes::OneOf(&["rows", "columns"]),
-            absent: Absent::Means("rows"),
-        },
-        Choice::Test => Words {
-            name: "test",
-            value: "TEST",
-            help: "How the values that are dropped compare to the number of --value",
-            takes: Takes::OneOf(&["below", "above", "equal"]),
-            absent: Absent::Refused,
-        },
-        Choice::Value => Words {
-            name: "value",
-            value: "N",
-            help: "The number that values are compared to",
-            takes: Takes::Number,
-            absent: Absent::Refused,
-        },
-        Choice::Region => Words {
-            name: "region",
-            value: "REGION",
-            help: "Which entries to keep, relative to the diagonal of --diagonal",
-            takes: Takes::OneOf(&["lower", "upper", "diagonal", "off-diagonal"]),
-            absent: Absent::Refused,
-        },
-        Choice::Diagonal => Words {
-            name: "diagonal",
-            value: "K",
-            help: "How many columns the diagonal is right of the main one; if negative, left of it",
-            takes: Takes::Distance(-2_147_483_647, 2_147_483_647),
-            absent: Absent::Means("0"),
-        },
-        Choice::Function => Words {
-            name: "function",
-            value: "FUNCTION",
-            help: "The new value: the number of --value, the sum or product with it, or the number of the row or column",
-            takes: Takes::OneOf(&["constant", "plus", "times", "row", "column"]),
-            absent: Absent::Refused,
-        },
-        Choice::Number => Words {
-            name: "value",
-            value: "N",
-            help: "The number that constant, plus and times take",
-            takes: Takes::Number,
-            absent: Absent::Nothing,
-        },
-        Choice::Form => Words {
-            name: "as",
-            value: "FORM",
-            help: "What is written: the diagonal as a column, or a square matrix with the column on its diagonal",
-            takes: Takes::OneOf(&["column", "matrix"]),
-            absent: Absent::Means("column"),
-        },
-        Choice::Exponent => Words {
-            name: "exponent",
-            value: "N",
-            help: "The number of factors, each of them the matrix",
-            takes: Takes::Count(1, 4_294_967_295),
-            absent: Absent::Refused,
-        },
-        Choice::Rows => Words {
-            name: "rows",
-            value: "FILE",
-            help: "A column that lists the numbers of rows, from 1 [default: all rows]",
-            takes: Takes::Text,
-            absent: Absent::Nothing,
-        },
-        Choice::Columns => Words {
-            name: "columns",
-            value: "FILE",
-            help: "A column that lists the numbers of columns, from 1 [default: all columns]",
-            takes: Takes::Text,
-            absent: Absent::Nothing,
-        },
-        Choice::Row => Words {
-            name: "row",
-            value: "N",
-            help: "The row of A where B begins, counted from 1",
-            takes: Takes::Count(1, 2_147_483_647),
-            absent: Absent::Refused,
-        },
-        Choice::Column => Words {
-            name: "column",
-            value: "N",
-            help: "The column of A where B begins, counted from 1",
-            takes: Takes::Count(1, 2_147_483_647),
-            absent: Absent::Refused,
-        },
-        Choice::Counts => Words {
-            name: "by",
-            value: "WHAT",
-            help: "What to count triangles of: the graph, or each vertex",
-            takes: Takes::OneOf(&["graph", "vertex"]),
-            absent: Absent::Means("graph"),
-        },
-        Choice::Lines => Words {
-            name: "by",
-            value: "SIDE",
-            help: "What to count the entries of: each row, or each column",
-            takes: Takes::OneOf(&["row", "column"]),
-            absent: Absent::Means("row"),
-        },
-        Choice::Source => Words {
-            name: "source",
-            value: "N",
-            help: "The vertex to start from, counted from 1",
-            takes: Takes::Count(1, 2_147_483_647),
-            absent: Absent::Refused,
-        },
-        Choice::Grid => Words {
-            name: "grid",
-            value: "N",
-            help: "The side of the grid of ranks, 1 to 6 [default: by the number of processors]",
-            takes: Takes::Count(1, 6),
-            absent: Absent::Nothing,
-        },
-        Choice::Engine => Words {
-            name: "engine",
-            value: "ENGINE",
-            help: "What computes: plain (one thread) or ranks (a thread for each rank) [default: threads that share the matrices]",
-            takes: Takes::OneOf(&["plain", "ranks"]),
-            absent: Absent::Nothing,
-        },
-        Choice::Lane => Words {
-            name: "lane",
-            value: "N",
-            help: "How many blocks may be in transit from one rank to another, 1 to 64 [default: 2]",
-            takes: Takes::Count(1, 64),
-            absent: Absent::Nothing,
-        },
-        Choice::Help => Words {
-            name: "help",
-            value: "",
-            help: "Print help",
-            takes: Takes::Help,
-            absent: Absent::Nothing,
-        },
-    }
+const MASK: Choice = choice!(--mask <FILE> optional, ValueParser::String;
+    "Keep the entries at the places where this matrix has one");
+
+const TRACE: Choice =
+    choice!(--trace SetTrue, ValueParser::Bool; "Print after the product what every rank did");
+
+const BY: Choice = choice!(--by <SIDE> = "rows", ValueParser::Names(&["rows", "columns"]);
+    "What to add up: rows or columns");
+
+const TEST: Choice =
+    choice!(--test <TEST> required, ValueParser::Names(&["below", "above", "equal"]);
+    "How the values that are dropped compare to the number of --value");
+
+const VALUE: Choice =
+    choice!(--value <N> required, NUMBER; "The number that values are compared to");
+
+/// The selections, in the order in which help shows them.
+const SELECTIONS: &[Outline] = &[
+    command!("select" ["A"] [REGION, DIAGONAL]:
+        "Write the entries of a matrix on one side of a diagonal, on it, or off it";
+        "links.mtx --region lower --diagonal -1 > below.mtx"),
+    command!("apply" ["A"] [FUNCTION, OPERAND]: "Apply a function to the value of each entry of a matrix";
+        "roads.mtx --semiring min-plus --function times --value 5 > longer-roads.mtx";
+        "a number that the function takes isn't a value of the semiring"),
+    command!("diagonal" ["A"] [FORM]:
+        "Write the diagonal of a matrix as a column, or a column as the diagonal of a matrix";
+        "links.mtx > loops.mtx"; "with --as matrix, the matrix isn't a column"),
+    command!("kron" ["A", "B"] []: "Write the Kronecker product of two matrices";
+        "pattern.mtx tile.mtx > tiles.mtx"; "the product has more than 2147483647 rows or columns"),
+    command!("power" ["A"] [EXPONENT]: "Write the power of a square matrix";
+        "links.mtx --exponent 3 > three-links.mtx"; "the matrix isn't square"),
+    command!("extract" ["A"] [ROWS, COLUMNS]: "Write rows and columns of a matrix by their numbers, in any order";
+        "links.mtx --rows people.mtx --columns people.mtx > among-them.mtx";
+        "a list isn't a column, or the matrix has no such row or column"),
+    command!("assign" ["A", "B"] [ROW, COLUMN]: "Write a matrix with another in place of a part of it";
+        "links.mtx corner.mtx --row 1 --column 1 > new-links.mtx"; "the part ends beyond the matrix"),
+];
+
+const REGION: Choice =
+    choice!(--region <REGION> required, ValueParser::Names(&["lower", "upper", "diagonal", "off-diagonal"]);
+    "Which entries to keep, relative to the diagonal of --diagonal");
+
+const DIAGONAL: Choice =
+    choice!(--diagonal <K> = "0", ValueParser::Signed(-2_147_483_647, 2_147_483_647);
+    "How many columns the diagonal is right of the main one; if negative, left of it");
+
+const FUNCTION: Choice = choice!(--function <FUNCTION> required,
+    ValueParser::Names(&["constant", "plus", "times", "row", "column"]);
+    "The new value: the number of --value, the sum or product with it, or the number of the row or column");
+
+const OPERAND: Choice =
+    choice!(--value <N> optional, NUMBER; "The number that constant, plus and times take");
+
+const FORM: Choice = choice!(--as <FORM> = "column", ValueParser::Names(&["column", "matrix"]);
+    "What is written: the diagonal as a column, or a square matrix with the column on its diagonal");
+
+const EXPONENT: Choice = choice!(--exponent <N> required, ValueParser::Unsigned(1, 4_294_967_295);
+    "The number of factors, each of them the matrix");
+
+const ROWS: Choice = choice!(--rows <FILE> optional, ValueParser::String;
+    "A column that lists the numbers of rows, from 1 [default: all rows]");
+
+const COLUMNS: Choice = choice!(--columns <FILE> optional, ValueParser::String;
+    "A column that lists the numbers of columns, from 1 [default: all columns]");
+
+const ROW: Choice =
+    choice!(--row <N> required, PLACE; "The row of A where B begins, counted from 1");
+
+const COLUMN: Choice =
+    choice!(--column <N> required, PLACE; "The column of A where B begins, counted from 1");
+
+/// The searches that ranks can do, in the order in which help shows them.
+const SEARCHES: &[Outline] = &[
+    command!("bfs" ["A"] [SOURCE]:
+        "Write how many edges lead from a source to each vertex, by breadth-first search";
+        "roads.mtx --source 1 > steps.txt"),
+    command!("relax" ["A"] [SOURCE]: "Write the distance of each vertex from a source, where edges have lengths";
+        "roads.mtx --source 1 > distances.txt"),
+];
+
+/// The other tasks on graphs, in the order in which help shows them.
+const GRAPHS: &[Outline] = &[
+    command!("bfs-from" ["A", "s"] []:
+        "Write how many edges lead from each of several sources to each vertex, as a matrix";
+        "roads.mtx depots.mtx > steps.mtx";
+        "the matrix isn't square, the list of sources isn't a column, or a source is no vertex"),
+    command!("relax-from" ["A", "s"] []:
+        "Write the distance of each vertex from each of several sources, as a matrix";
+        "roads.mtx depots.mtx > distances.mtx";
+        "the matrix isn't square, the list of sources isn't a column, or a source is no vertex"),
+    command!("bfs-given" ["A", "x"] []: "Write the level of each vertex from initial values of some vertices";
+        "roads.mtx starts.mtx > levels.txt";
+        "the matrix isn't square, or the initial values aren't a column with a place for each vertex"),
+    command!("relax-given" ["A", "x"] []: "Write the distance of each vertex from initial values of some vertices";
+        "roads.mtx starts.mtx > distances.txt";
+        "the matrix isn't square, or the initial values aren't a column with a place for each vertex"),
+    command!("parents" ["A"] [SOURCE]:
+        "Write the vertex before each vertex on a shortest path from a source, by breadth-first search";
+        "roads.mtx --source 1 > tree.txt"),
+    command!("components" ["A"] []: "Write the connected component of each vertex, named by its least vertex";
+        "roads.mtx > islands.txt"),
+    command!("triangles" ["A"] [COUNTS]:
+        "Count the triangles of a graph, or of each vertex; edges count in both directions"; "friends.mtx"),
+    command!("degrees" ["A"] [LINES]: "Write how many entries each row of a matrix has, or each column";
+        "links.mtx > links-of-each.txt"),
+];
+
+const SOURCE: Choice =
+    choice!(--source <N> required, PLACE; "The vertex to start from, counted from 1");
+
+const COUNTS: Choice = choice!(--by <WHAT> = "graph", ValueParser::Names(&["graph", "vertex"]);
+    "What to count triangles of: the graph, or each vertex");
+
+const LINES: Choice = choice!(--by <SIDE> = "row", ValueParser::Names(&["row", "column"]);
+    "What to count the entries of: each row, or each column");
+
+/// The last options of the commands that ranks can compute.
+const BY_RANKS: &[Choice] = &[
+    choice!(--grid <N> optional, ValueParser::Unsigned(1, 6);
+        "The side of the grid of ranks, 1 to 6 [default: by the number of processors]"),
+    choice!(--engine <ENGINE> optional, ValueParser::Names(&["plain", "ranks"]);
+        "What computes: plain (one thread) or ranks (a thread for each rank) [default: threads that share the matrices]"),
+    choice!(--lane <N> optional, ValueParser::Unsigned(1, 64);
+        "How many blocks may be in transit from one rank to another, 1 to 64 [default: 2]"),
+];
+
+// Each table is read by a function of its own: a proof that has several long texts before it costs more than each alone.
+fn operations() -> &'static [Outline] {
+    OPERATIONS
 }
 
-/// Adds to an option what it takes, and what help prints for its value.
-fn taking<'a>(option: Arg<'a>, value: &'a str, takes: Takes<'a>) -> Arg<'a> {
-    match takes {
-        Takes::Nothing => option.action(ArgAction::SetTrue),
-        Takes::Help => option.action(ArgAction::Help).short('h'),
-        Takes::Text => option.value_name(value),
-        Takes::Semiring => option.value_name(value).value_parser(NAMES.as_slice()),
-        Takes::OneOf(words) => option.value_name(value).value_parser(words),
-        Takes::Number => option.value_name(value).value_parser(value_parser!(u64)),
-        Takes::Count(least, most) => option
-            .value_name(value)
-            .value_parser(value_parser!(u32).range(least..=most)),
-        Takes::Distance(least, most) => option
-            .value_name(value)
-            .allow_negative_numbers(true)
-            .value_parser(value_parser!(i64).range(least..=most)),
-    }
+fn selections() -> &'static [Outline] {
+    SELECTIONS
 }
 
-/// Adds to an option what is so without it.
-fn or_absent<'a>(option: Arg<'a>, absent: Absent<'a>) -> Arg<'a> {
-    match absent {
-        Absent::Nothing => option,
-        Absent::Refused => option.required(true),
-        Absent::Means(value) => option.default_value(value),
-    }
+fn searches() -> &'static [Outline] {
+    SEARCHES
 }
 
-/// Builds an option of a command.
-fn option_of<'a>(alloc: Global, choice: Choice) -> Arg<'a> {
-    let Words {
-        name,
-        value,
-        help,
-        takes,
-        absent,
-    } = words_of(choice);
-    let option = Arg::new(alloc, name).long(name).help(help);
-    or_absent(taking(option, value, takes), absent)
+fn graphs() -> &'static [Outline] {
+    GRAPHS
 }
 
-fn version<'a>(alloc: Global) -> Arg<'a> {
-    Arg::new(alloc, "version")
-        .long("version")
-        .action(ArgAction::Version)
-        .help("Print the version")
-        .short('V')
+fn by_ranks() -> &'static [Choice] {
+    BY_RANKS
+}
+
+/// The first option of the commands over a semiring.
+fn semiring() -> Choice {
+    choice!(--semiring <NAME> = "plus-times", ValueParser::Names(NAMES.as_slice()); "What adds and multiplies values")
+}
+
+fn takes_negative_numbers(parser: ValueParser<'static>) -> bool {
+    matches!(parser, ValueParser::Signed(..))
+}
+
+/// Builds an option.
+fn option_of<'a>(alloc: Global, choice: &Choice) -> Arg<'a> {
+    let takes_negative_numbers = takes_negative_numbers(choice.parser);
+    Arg::new(alloc, choice.name)
+        .long(choice.name)
+        .help(choice.help)
+        .action(choice.action)
+        .value_names(choice.value)
+        .value_parser(choice.parser)
+        .allow_negative_numbers(takes_negative_numbers)
+        .default_values(choice.default)
+        .required(choice.is_required)
 }
 
 fn file<'a>(alloc: Global, name: &'a str) -> Arg<'a> {
     Arg::new(alloc, name)
         .required(true)
-        .action(ArgAction::Set)
         .help("A Matrix Market file")
+}
+
+/// `--version`, which help shows after `--help`.
+fn version<'a>(alloc: Global) -> Arg<'a> {
+    let version = choice!(--version Version, ValueParser::String; "Print the version");
+    option_of(alloc, &version).short('V').display_order(1000)
 }
 
 /// Appends file arguments to a list.
@@ -634,84 +315,80 @@ fn push_options<'a>(
     choices: &[Choice],
 ) -> Result<(), AllocError> {
     for choice in choices {
-        arguments.push(option_of(alloc, *choice))?;
+        arguments.push(option_of(alloc, choice))?;
     }
     Ok(())
 }
 
-/// Builds a command from its outline, without its arguments.
-fn bare_command<'a>(alloc: Global, outline: &Outline) -> Command<'a> {
+/// Appends the arguments of a command to a list: its files, and its options between those that it shares.
+fn push_arguments<'a>(
+    alloc: Global,
+    arguments: &mut Vec<Arg<'a>>,
+    outline: &Outline,
+    first: &[Choice],
+    last: &[Choice],
+) -> Result<(), AllocError> {
+    push_files(alloc, arguments, outline.files)?;
+    push_options(alloc, arguments, first)?;
+    push_options(alloc, arguments, outline.options)?;
+    push_options(alloc, arguments, last)
+}
+
+/// Builds a command from its outline, with options that it shares with others before and after its own.
+fn command<'a>(
+    alloc: Global,
+    outline: &Outline,
+    first: &[Choice],
+    last: &[Choice],
+) -> Result<Command<'a>, AllocError> {
+    let mut arguments = Vec::new(alloc);
+    push_arguments(alloc, &mut arguments, outline, first, last)?;
     Command::new(alloc, outline.name)
         .about(outline.about)
         .after_help(outline.after_help)
-        .disable_help_flag(true)
-}
-
-/// Builds a command from its outline.
-fn command<'a>(alloc: Global, outline: &Outline) -> Result<Command<'a>, AllocError> {
-    let mut arguments = Vec::new(alloc);
-    push_files(alloc, &mut arguments, outline.files)?;
-    push_options(alloc, &mut arguments, outline.options)?;
-    push_options(alloc, &mut arguments, outline.common)?;
-    bare_command(alloc, outline).args(arguments)
-}
-
-/// Builds `multiply` on its own, for the usage error of a conflict between its options.
-pub fn multiply_alone<'a>(alloc: Global) -> Result<Command<'a>, AllocError> {
-    command(alloc, &MULTIPLY)?.bin_name("cbgrid multiply")
-}
-
-/// Builds `apply` on its own, for the same purpose.
-pub fn apply_alone<'a>(alloc: Global) -> Result<Command<'a>, AllocError> {
-    command(alloc, &APPLY)?.bin_name("cbgrid apply")
-}
-
-/// Builds `extract` on its own, for the same purpose.
-pub fn extract_alone<'a>(alloc: Global) -> Result<Command<'a>, AllocError> {
-    command(alloc, &EXTRACT)?.bin_name("cbgrid extract")
-}
-
-/// The program, without its options and commands.
-fn bare_program<'a>(alloc: Global) -> Command<'a> {
-    Command::new(alloc, "cbgrid")
-        .about("Sparse matrices over semirings, read and written as Matrix Market files")
-        .after_help(AFTER_HELP)
-        .version(VERSION)
-        .subcommand_required(true)
-        .disable_help_flag(true)
-        .disable_version_flag(true)
-        .disable_help_subcommand(true)
-}
-
-/// Builds the program with the options that stand before its command.
-fn program_alone<'a>(alloc: Global) -> Result<Command<'a>, AllocError> {
-    let mut options = Vec::new(alloc);
-    options.push(option_of(alloc, Choice::Help))?;
-    options.push(version(alloc))?;
-    bare_program(alloc).args(options)
+        .args(arguments)
 }
 
 /// Appends the commands with these outlines to a list.
 fn push_commands<'a>(
     alloc: Global,
     commands: &mut Vec<Command<'a>>,
-    outlines: &[&Outline],
+    outlines: &[Outline],
+    first: &[Choice],
+    last: &[Choice],
 ) -> Result<(), AllocError> {
     for outline in outlines {
-        let made = command(alloc, outline)?;
+        let made = command(alloc, outline, first, last)?;
         commands.push(made)?;
     }
     Ok(())
 }
 
-/// The commands, in the order in which help shows them.
-fn outlines() -> &'static [&'static Outline] {
-    &OUTLINES
+/// Appends all commands to a list.
+fn push_all_commands<'a>(alloc: Global, commands: &mut Vec<Command<'a>>) -> Result<(), AllocError> {
+    let semiring = [semiring()];
+    push_commands(alloc, commands, operations(), &semiring, by_ranks())?;
+    push_commands(alloc, commands, selections(), &semiring, &[])?;
+    push_commands(alloc, commands, searches(), &[], by_ranks())?;
+    push_commands(alloc, commands, graphs(), &[], &[])
+}
+
+/// The program, without its option and its commands.
+fn program_alone<'a>(alloc: Global) -> Command<'a> {
+    Command::new(alloc, "cbgrid")
+        .about("Sparse matrices over semirings, read and written as Matrix Market files")
+        .after_help(AFTER_HELP)
+        .version(VERSION)
+        .subcommand_required(true)
+        .disable_version_flag(true)
+        .disable_help_subcommand(true)
 }
 
 /// Builds the program with all its commands.
 pub fn program<'a>(alloc: Global) -> Result<Command<'a>, AllocError> {
     let mut commands = Vec::new(alloc);
-    push_commands(alloc, &mut commands, outlines())?;
-    program_alone(alloc)?.subcommands(commands)
+    push_all_commands(alloc, &mut commands)?;
+    program_alone(alloc)
+        .subcommands(commands)?
+        .arg(version(alloc))
 }

@@ -1,66 +1,58 @@
 //! Conflicts between options that `clap` accepts one by one.
-use crate::commands::{apply_alone, extract_alone, multiply_alone};
-use crate::list_words::lists_of;
-use crate::selection_words::takes_number;
-use clap::error::ErrorKind;
-use clap::{ArgMatches, Command};
-use std::alloc::{AllocError, Global};
+use crate::selection_words::{has_word, lists_of, takes_number};
+use clap::ArgMatches;
 
-/// Options that can't be combined, or that are missing.
-#[derive(Clone, Copy)]
-pub enum Conflict {
-    /// `--trace` with `--engine plain`, which runs no ranks.
-    TraceOfOneThread,
-    /// No `--value` for a function that takes a number.
-    NoNumber,
-    /// A `--value` for a function that takes no number.
-    NumberTooMany,
-    /// Neither `--rows` nor `--columns`.
-    NoList,
+/// A usage error as `clap` writes its own: what is wrong, and the usage of the command.
+macro_rules! usage_error {
+    ($wrong:literal, $usage:literal) => {
+        concat!("error: ", $wrong, "\n\nUsage: cbgrid ", $usage, "\n\nFor more information, try '--help'.\n")
+    };
 }
 
-/// The conflict between the options of a command line, if there is one.
-pub fn conflict_in(matches: &ArgMatches<'_>) -> Option<Conflict> {
-    match matches.subcommand()? {
-        ("multiply", found) => {
-            let is_traced = found.get_flag("trace") && found.get_str("engine") == Some("plain");
-            is_traced.then_some(Conflict::TraceOfOneThread)
-        }
-        ("apply", found) => match (takes_number(found), found.contains_id("value")) {
-            (true, false) => Some(Conflict::NoNumber),
-            (false, true) => Some(Conflict::NumberTooMany),
-            _ => None,
-        },
-        ("extract", found) if lists_of(found).is_none() => Some(Conflict::NoList),
+/// A function that takes a number without `--value`.
+const NO_NUMBER: &str = usage_error!(
+    "the argument '--value <N>' is required unless '--function' is row or column",
+    "apply [OPTIONS] --function <FUNCTION> <A>"
+);
+
+/// A function that takes no number with `--value`.
+const NUMBER_TOO_MANY: &str = usage_error!(
+    "the argument '--value <N>' cannot be used if '--function' is row or column",
+    "apply [OPTIONS] --function <FUNCTION> <A>"
+);
+
+/// The usage error of `--function` with `--value`, or without it.
+fn number_conflict(found: &ArgMatches<'_>) -> Option<&'static str> {
+    match (takes_number(found), found.contains_id("value")) {
+        (true, false) => Some(NO_NUMBER),
+        (false, true) => Some(NUMBER_TOO_MANY),
         _ => None,
     }
 }
 
-/// The command whose options conflict.
-fn command_of<'a>(alloc: Global, conflict: Conflict) -> Result<Command<'a>, AllocError> {
-    match conflict {
-        Conflict::TraceOfOneThread => multiply_alone(alloc),
-        Conflict::NoNumber | Conflict::NumberTooMany => apply_alone(alloc),
-        Conflict::NoList => extract_alone(alloc),
-    }
+/// The usage error of `--trace` with `--engine plain`, which runs no ranks.
+fn trace_conflict(found: &ArgMatches<'_>) -> Option<&'static str> {
+    let is_plain = found.get_flag("trace") && has_word(found, "engine", "plain");
+    is_plain.then_some(usage_error!(
+        "the argument '--trace' cannot be used with '--engine plain'",
+        "multiply [OPTIONS] <A> <B>"
+    ))
 }
 
-/// The message of a conflict.
-fn message_of(conflict: Conflict) -> &'static str {
-    match conflict {
-        Conflict::TraceOfOneThread => "the argument '--trace' cannot be used with '--engine plain'",
-        Conflict::NoNumber => {
-            "the argument '--value <N>' is required unless '--function' is row or column"
-        }
-        Conflict::NumberTooMany => {
-            "the argument '--value <N>' cannot be used if '--function' is row or column"
-        }
-        Conflict::NoList => "the argument '--rows <FILE>' or '--columns <FILE>' is required",
-    }
+/// The usage error of neither `--rows` nor `--columns`.
+fn list_conflict(found: &ArgMatches<'_>) -> Option<&'static str> {
+    lists_of(found).is_none().then_some(usage_error!(
+        "the argument '--rows <FILE>' or '--columns <FILE>' is required",
+        "extract [OPTIONS] <A>"
+    ))
 }
 
-/// The usage error of a conflict.
-pub fn conflict_error(alloc: Global, conflict: Conflict) -> Result<clap::Error, AllocError> {
-    let mut command = command_of(alloc, conflict)?;
-    command.error(ErrorKind::ArgumentConflict, message_of(conflict))
+/// The usage error of options that can't be combined, or that are missing, if there is one.
+pub fn conflict_in(matches: &ArgMatches<'_>) -> Option<&'static str> {
+    match matches.subcommand()? {
+        ("multiply", found) => trace_conflict(found),
+        ("apply", found) => number_conflict(found),
+        ("extract", found) => list_conflict(found),
+        _ => None,
+    }
 }

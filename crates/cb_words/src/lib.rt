@@ -9,9 +9,7 @@
 
 mod commands;
 mod conflicts;
-mod corner_words;
 mod jobs;
-mod list_words;
 mod lists;
 mod selection_names;
 mod selection_words;

@@ -1,7 +1,35 @@
 //! Reads the selection of a command line.
+use crate::lists::Lists;
 use crate::selection_names::{FunctionName, RegionName, Selection};
 use clap::ArgMatches;
 use std::num::NonZeroU32;
+
+/// Whether an option has this value.
+pub fn has_word(found: &ArgMatches<'_>, option: &str, word: &str) -> bool {
+    found.get_str(option) == Some(word)
+}
+
+/// The row, the column or the vertex that an option names, counted from 0.
+pub fn number_of(found: &ArgMatches<'_>, option: &str) -> Option<u32> {
+    found.get_one::<u32>(option)?.checked_sub(1)
+}
+
+/// The corner of `--row` and `--column`, a row and a column, counted from 0.
+pub fn corner_of(found: &ArgMatches<'_>) -> Option<(u32, u32)> {
+    let row = number_of(found, "row")?;
+    let column = number_of(found, "column")?;
+    Some((row, column))
+}
+
+/// The lists of `extract`, or None if there is no list.
+pub fn lists_of(found: &ArgMatches<'_>) -> Option<Lists> {
+    match (found.contains_id("rows"), found.contains_id("columns")) {
+        (true, true) => Some(Lists::Both),
+        (true, false) => Some(Lists::Rows),
+        (false, true) => Some(Lists::Columns),
+        (false, false) => None,
+    }
+}
 
 /// How many columns the diagonal of `--diagonal` is right of the main one, and how many rows below it. One of them is 0.
 fn diagonal_of(found: &ArgMatches<'_>) -> Option<(u32, u32)> {
@@ -63,7 +91,7 @@ pub fn selection_of(command: &str, found: &ArgMatches<'_>) -> Option<Selection> 
     match command {
         "select" => kept_of(found),
         "apply" => Some(Selection::Apply(function_of(found)?)),
-        "diagonal" if found.get_str("as") == Some("matrix") => Some(Selection::DiagonalMatrix),
+        "diagonal" if has_word(found, "as", "matrix") => Some(Selection::DiagonalMatrix),
         "diagonal" => Some(Selection::Diagonal),
         "power" => power_of(found),
         _ => None,

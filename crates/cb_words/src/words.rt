@@ -7,12 +7,10 @@ ghost use Rattle.cb_operations.specs.OperationAnswers.{operand_count_of};
 ghost use Rattle.cb_words.specs.Jobs.{AsksForText, file_count_of, graph_file_count_of, list_count_of, selection_file_count_of};
 
 use crate::commands::program;
-use crate::conflicts::{Conflict, conflict_error, conflict_in};
-use crate::corner_words::{corner_of, number_of};
+use crate::conflicts::conflict_in;
 use crate::jobs::{EngineName, Job, UsageFault};
-use crate::list_words::lists_of;
 use crate::lists::Lists;
-use crate::selection_words::selection_of;
+use crate::selection_words::{corner_of, has_word, lists_of, number_of, selection_of};
 use crate::tasks::{GraphTask, SelectionTask, Task};
 use cb_matrix::Test;
 use cb_operations::Operation;
@@ -226,7 +224,7 @@ fn operation_of(command: &str, found: &ArgMatches<'_>) -> Option<Operation> {
         "multiply" => Some(Operation::Multiply),
         "spmv" => Some(Operation::MultiplyVector),
         "transpose" => Some(Operation::Transpose),
-        "reduce" if found.get_str("by") == Some("columns") => Some(Operation::ColumnSums),
+        "reduce" if has_word(found, "by", "columns") => Some(Operation::ColumnSums),
         "reduce" => Some(Operation::RowSums),
         "add" => Some(Operation::Add),
         "times" => Some(Operation::Times),
@@ -235,29 +233,21 @@ fn operation_of(command: &str, found: &ArgMatches<'_>) -> Option<Operation> {
     }
 }
 
-/// The task of a command that starts from a source.
-fn walk_of(command: &str, found: &ArgMatches<'_>) -> Option<GraphTask> {
-    let source = number_of(found, "source")?;
-    match command {
-        "bfs" => Some(GraphTask::Levels { source }),
-        "relax" => Some(GraphTask::Distances { source }),
-        "parents" => Some(GraphTask::Parents { source }),
-        _ => None,
-    }
-}
-
 /// The task of a command on a graph.
 fn graph_task_of(command: &str, found: &ArgMatches<'_>) -> Option<GraphTask> {
+    let source = number_of(found, "source");
     match command {
-        "bfs" | "relax" | "parents" => walk_of(command, found),
+        "bfs" => Some(GraphTask::Levels { source: source? }),
+        "relax" => Some(GraphTask::Distances { source: source? }),
+        "parents" => Some(GraphTask::Parents { source: source? }),
         "bfs-from" => Some(GraphTask::LevelsFrom),
         "relax-from" => Some(GraphTask::DistancesFrom),
         "bfs-given" => Some(GraphTask::LevelsGiven),
         "relax-given" => Some(GraphTask::DistancesGiven),
         "components" => Some(GraphTask::Components),
-        "triangles" if found.get_str("by") == Some("vertex") => Some(GraphTask::TriangleCounts),
+        "triangles" if has_word(found, "by", "vertex") => Some(GraphTask::TriangleCounts),
         "triangles" => Some(GraphTask::Triangles),
-        "degrees" if found.get_str("by") == Some("column") => Some(GraphTask::ColumnDegrees),
+        "degrees" if has_word(found, "by", "column") => Some(GraphTask::ColumnDegrees),
         "degrees" => Some(GraphTask::RowDegrees),
         _ => None,
     }
@@ -275,29 +265,15 @@ fn selection_task_of(command: &str, found: &ArgMatches<'_>) -> Option<SelectionT
 
 /// The task of a command.
 fn task_of(command: &str, found: &ArgMatches<'_>) -> Option<Task> {
-    match command {
-        "bfs"
-        | "relax"
-        | "parents"
-        | "bfs-from"
-        | "relax-from"
-        | "bfs-given"
-        | "relax-given"
-        | "components"
-        | "triangles"
-        | "degrees" => {
-            let task = graph_task_of(command, found)?;
-            Some(Task::Graph(task))
-        }
-        "select" | "apply" | "diagonal" | "power" | "kron" | "assign" | "extract" => {
-            let task = selection_task_of(command, found)?;
-            Some(Task::Selection(task, semiring_of(found)?))
-        }
-        _ => {
-            let operation = operation_of(command, found)?;
-            Some(Task::Operation(operation, semiring_of(found)?))
-        }
+    if let Some(task) = graph_task_of(command, found) {
+        return Some(Task::Graph(task));
     }
+    let semiring = semiring_of(found)?;
+    if let Some(operation) = operation_of(command, found) {
+        return Some(Task::Operation(operation, semiring));
+    }
+    let task = selection_task_of(command, found)?;
+    Some(Task::Selection(task, semiring))
 }
 
 fn job_of(
@@ -325,12 +301,6 @@ fn job_of(
         threads: threads_of(command, found, side, processors),
         files,
     }))
-}
-
-/// The fault of options that can't be combined.
-fn conflict_fault(alloc: Global, conflict: Conflict) -> Result<UsageFault, AllocError> {
-    let error = conflict_error(alloc, conflict)?;
-    Ok(fault_of(alloc, &error))
 }
 
 /// The fault of words that can't be taken from the system: memory was refused, or a word isn't valid UTF-8.
@@ -368,20 +338,12 @@ pub fn asked<R: Env + AllocGlobal + Threads>(rt: &R) -> Result<Job, UsageFault> 
     }
 }
 
-/// What `clap` finds in the words of a command line, or the fault of its error.
-fn matches_of(alloc: Global, words: &[String]) -> Result<ArgMatches<'_>, UsageFault> {
-    match program(alloc)?.try_get_matches_from(words) {
-        Ok(matches) => Ok(matches),
-        Err(error) => Err(fault_of(alloc, &error)),
-    }
-}
-
 /// Reads what `clap` found in a command line.
 fn job_in(alloc: Global, matches: &ArgMatches<'_>, processors: usize) -> Result<Job, UsageFault>
     ensures { IfOk result (λ job. vec_len job.files ≡ file_count_of job.task) }
 {
     if let Some(conflict) = conflict_in(matches) {
-        return Err(conflict_fault(alloc, conflict)?);
+        return Err(usage(alloc, conflict));
     }
     match job_of(alloc, matches, processors)? {
         Some(job) => Ok(job),
@@ -396,6 +358,8 @@ fn job_in(alloc: Global, matches: &ArgMatches<'_>, processors: usize) -> Result<
 pub fn read_job(alloc: Global, words: &[String], processors: usize) -> Result<Job, UsageFault>
     ensures { IfOk result (λ job. vec_len job.files ≡ file_count_of job.task) }
 {
-    let matches = matches_of(alloc, words)?;
-    job_in(alloc, &matches, processors)
+    match program(alloc)?.try_get_matches_from(words) {
+        Ok(matches) => job_in(alloc, &matches, processors),
+        Err(error) => Err(fault_of(alloc, &error)),
+    }
 }
