@@ -1,5 +1,5 @@
 -- How a call that writes a text ends.
-use Rattle.std.specs.Prelude.{ℕ, ◌≡◌, ◌≢◌, ◌⊎◌, List, ◌↔◌, Bool, true, Option, Result, Vec, OnOk, IfErr, IsErrOf}
+use Rattle.std.specs.Prelude.{ℕ, ◌≡◌, ◌≢◌, ◌⊎◌, List, ◌↔◌, Bool, true, Option, Result, Ok, Err, Vec, OnOk, IfErr, IsErrOf}
 use Rattle.cb_job_texts.specs.declared.faults.JobFault.{JobFault}
 use Rattle.cb_job_texts.specs.declared.faults.JobFault.TheVariants.{Memory, Output}
 use Rattle.cb_job_texts.specs.Texts.{bytes_of}
@@ -21,6 +21,11 @@ pub record IsEnd {T : Type 0} (IsText : List ℕ → Type 0) (IsFault : JobFault
   -- at Output a beginning has been written, and the sink has failed, as it has in no other case
   pub output : IsErrOf result Output → (t : List ℕ) × IsText t × AppendsPrefix before after t
   pub failed : IsErrOf result Output ↔ (has_failed ≡ true)
+
+-- what a call returns for its last put
+abbrev pub end_of_put : {T E : Type 0} → Result T E → Result T JobFault
+end_of_put (Ok x) = Ok x
+end_of_put (Err e) = Err Output
 
 -- the end of a call that writes this text
 abbrev pub IsTextEnd : {T : Type 0} → List ℕ → Option (List ℕ) → Option (List ℕ) → Bool → Result T JobFault → Type 0

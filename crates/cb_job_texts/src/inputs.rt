@@ -1,6 +1,6 @@
 //! Reads the texts of a job in the job's order. Each text is read in pieces, by at most `threads` threads, and dropped
 //! once it is read.
-ghost use Rattle.std.specs.Prelude.{◌≡◌, ◌∷◌, [], vec_len, IfOk, IfErr};
+ghost use Rattle.std.specs.Prelude.{◌≡◌, ◌≤◌, ◌∷◌, [], drop, vec_len, IfOk, IfErr, OnOk};
 ghost use Rattle.cb_market_lines.specs.Reads.{Reads};
 ghost use Rattle.cb_job_texts.specs.Inputs.{AreMatrices, IsFirstReadFault, IsReadFault, IsTextFault, arithmetic_at};
 ghost use Rattle.cb_job_texts.specs.Texts.{bytes_of, text_at};
@@ -57,6 +57,28 @@ pub fn read_one<S: Semiring + Send + Sync, R: Threads + Sync>(
     read_text(rt, alloc, grid, threads, 0, text)
 }
 
+/// Reads the first two texts of a list, each over its own semiring, into the blocks of a grid. Both are taken out.
+fn read_both<S: Semiring + Send + Sync, T: Semiring + Send + Sync, R: Threads + Sync>(
+    rt: &R,
+    alloc: Global,
+    grid: &Grid,
+    threads: u32,
+    texts: &mut Vec<Vec<u8>>,
+) -> Result<(DistributedMatrix<S>, DistributedMatrix<T>), JobFault>
+    requires { 2 ≤ vec_len texts.old }
+    ensures first { IfOk result (λ p. Reads S.arithmetic (text_at (bytes_of texts.old.items) 0) p.0.matrix) }
+    ensures second { IfOk result (λ p. Reads T.arithmetic (text_at (bytes_of texts.old.items) 1) p.1.matrix) }
+    ensures sides { IfOk result (λ p. (p.0.side ≡ grid.now.side) × (p.1.side ≡ grid.now.side)) }
+    ensures rest { OnOk result (texts.new.items ≡ drop 2 texts.old.items) }
+    ensures fault { IfErr result (IsFirstReadFault (arithmetic_at S.arithmetic T.arithmetic) (bytes_of texts.old.items)) }
+{
+    let first = texts.remove(0);
+    let left = read_text::<S, R>(rt, alloc, grid, threads, 0, first)?;
+    let second = texts.remove(0);
+    let right = read_text::<T, R>(rt, alloc, grid, threads, 1, second)?;
+    Ok((left, right))
+}
+
 /// Reads two texts into the blocks of a grid.
 pub fn read_two<S: Semiring + Send + Sync, R: Threads + Sync>(
     rt: &R,
@@ -70,11 +92,7 @@ pub fn read_two<S: Semiring + Send + Sync, R: Threads + Sync>(
     ensures sides { IfOk result (λ p. (p.0.side ≡ grid.now.side) × (p.1.side ≡ grid.now.side)) }
     ensures fault { IfErr result (IsReadFault S.arithmetic (bytes_of texts.items)) }
 {
-    let first = texts.remove(0);
-    let second = texts.remove(0);
-    let left = read_text(rt, alloc, grid, threads, 0, first)?;
-    let right = read_text(rt, alloc, grid, threads, 1, second)?;
-    Ok((left, right))
+    read_both(rt, alloc, grid, threads, &mut texts)
 }
 
 /// Reads three texts into the blocks of a grid.
@@ -97,11 +115,8 @@ pub fn read_three<S: Semiring + Send + Sync, R: Threads + Sync>(
     ensures sides { IfOk result (λ p. (p.0.side ≡ grid.now.side) × (p.1.side ≡ grid.now.side) × (p.2.side ≡ grid.now.side)) }
     ensures fault { IfErr result (IsReadFault S.arithmetic (bytes_of texts.items)) }
 {
-    let first = texts.remove(0);
-    let second = texts.remove(0);
+    let (left, right) = read_both::<S, S, R>(rt, alloc, grid, threads, &mut texts)?;
     let third = texts.remove(0);
-    let left = read_text(rt, alloc, grid, threads, 0, first)?;
-    let right = read_text(rt, alloc, grid, threads, 1, second)?;
     let mask = read_text(rt, alloc, grid, threads, 2, third)?;
     Ok((left, right, mask))
 }
@@ -119,9 +134,6 @@ pub fn read_pair<S: Semiring + Send + Sync, T: Semiring + Send + Sync, R: Thread
     ensures fault { IfErr result (IsFirstReadFault (arithmetic_at S.arithmetic T.arithmetic) (bytes_of texts.items)) }
 {
     let grid = Grid::single();
-    let first = texts.remove(0);
-    let second = texts.remove(0);
-    let left = read_text::<S, R>(rt, alloc, &grid, threads, 0, first)?;
-    let right = read_text::<T, R>(rt, alloc, &grid, threads, 1, second)?;
+    let (left, right) = read_both::<S, T, R>(rt, alloc, &grid, threads, &mut texts)?;
     Ok((left.into_block(), right.into_block()))
 }

@@ -46,7 +46,7 @@ fn less_one(alloc: Global, values: &[u64], limit: u32) -> Result<Vec<u32>, Alloc
 {
     let mut numbers = Vec::with_capacity(alloc, values.len())?;
     for value in values {
-        numbers.push((*value - 1) as u32)?;
+        numbers.push_reserved((*value - 1) as u32);
     }
     Ok(numbers)
 }

@@ -5,7 +5,7 @@ ghost use Rattle.std.specs.Io.KnownBytes.{Appends};
 ghost use Rattle.cb_market.specs.Text.{text_of};
 ghost use Rattle.cb_job_texts.specs.Rounds.{written_on};
 ghost use Rattle.cb_job_texts.specs.Sinks.{AppendsPrefix};
-ghost use Rattle.cb_job_texts.specs.WriteEnds.{IsTextEnd};
+ghost use Rattle.cb_job_texts.specs.WriteEnds.{IsTextEnd, end_of_put};
 
 use crate::faults::JobFault;
 use crate::rounds::Round;
@@ -105,34 +105,16 @@ fn put_rounds<'a, S: Semiring + Send + Sync, R: Threads + Sync, K: Sink>(
     Ok(())
 }
 
-/// Writes a text in rounds, and then some lines. At `PutFault` a beginning of both has been written.
-fn put_rounds_then_lines<'a, S: Semiring + Send + Sync, R: Threads + Sync, K: Sink>(
-    rt: &R,
-    round: &mut Round<'a, S>,
-    ahead: &mut Ahead<'a, S>,
-    lines: &[u8],
-    out: &mut K,
-) -> Result<(), PutFault>
-    requires { K.has_failed out.old ≡ false }
-    ensures whole { OnOk result (Appends (K.written out.old) (K.written out.new) (ahead.old.text ++ lines.now)) }
-    ensures works { OnOk result (K.has_failed out.new ≡ false) }
-    ensures prefix { OnErr result (AppendsPrefix (K.written out.old) (K.written out.new) (ahead.old.text ++ lines.now)) }
-    ensures fails { OnErr result (K.has_failed out.new ≡ true) }
-{
-    put_rounds(rt, round, ahead, out)?;
-    put_all(out, lines)
-}
-
 /// Writes a text page by page. At `PutFault` a beginning of it has been written.
 fn put_pages<S: Semiring, K: Sink>(
-    mut text: TextPages<'_, S>,
+    text: &mut TextPages<'_, S>,
     page: &mut Page,
     out: &mut K,
 ) -> Result<(), PutFault>
     requires { K.has_failed out.old ≡ false }
-    ensures whole { OnOk result (Appends (K.written out.old) (K.written out.new) text.entry) }
+    ensures whole { OnOk result (Appends (K.written out.old) (K.written out.new) text.old) }
     ensures works { OnOk result (K.has_failed out.new ≡ false) }
-    ensures prefix { OnErr result (AppendsPrefix (K.written out.old) (K.written out.new) text.entry) }
+    ensures prefix { OnErr result (AppendsPrefix (K.written out.old) (K.written out.new) text.old) }
     ensures fails { OnErr result (K.has_failed out.new ≡ true) }
 {
     while text.next_page(page) {
@@ -141,21 +123,30 @@ fn put_pages<S: Semiring, K: Sink>(
     Ok(())
 }
 
-/// Writes a text page by page, and then some lines. At `PutFault` a beginning of both has been written.
-fn put_pages_then_lines<S: Semiring, K: Sink>(
-    text: TextPages<'_, S>,
-    page: &mut Page,
-    lines: &[u8],
-    out: &mut K,
-) -> Result<(), PutFault>
-    requires { K.has_failed out.old ≡ false }
-    ensures whole { OnOk result (Appends (K.written out.old) (K.written out.new) (text.entry ++ lines.now)) }
-    ensures works { OnOk result (K.has_failed out.new ≡ false) }
-    ensures prefix { OnErr result (AppendsPrefix (K.written out.old) (K.written out.new) (text.entry ++ lines.now)) }
-    ensures fails { OnErr result (K.has_failed out.new ≡ true) }
+/// The fault of a job for a put that failed.
+fn put_end(put: Result<(), PutFault>) -> Result<(), JobFault>
+    ensures { result ≡ end_of_put put }
 {
-    put_pages(text, page, out)?;
-    put_all(out, lines)
+    match put {
+        Ok(()) => Ok(()),
+        Err(_) => Err(JobFault::Output),
+    }
+}
+
+/// Makes the sheets of the round after the first: as many again or, if the first has the whole text, a single one.
+fn second_round<'a, S: Semiring>(
+    alloc: Global,
+    first: &Round<'a, S>,
+    is_shared: bool,
+    text: &TextPages<'a, S>,
+) -> Result<Round<'a, S>, AllocError>
+    ensures { IfOk result (λ round. round ≡ []) }
+{
+    if is_shared {
+        first.another(alloc, text)
+    } else {
+        Round::with_lines(alloc, 1, 1, text)
+    }
 }
 
 /// Takes the memory to write a text in rounds.
@@ -166,58 +157,61 @@ fn begin_rounds<'a, S: Semiring>(
 ) -> Result<(Round<'a, S>, Ahead<'a, S>), AllocError>
     ensures { IfOk result (λ begun. begun.1.text ≡ text.entry) }
 {
-    let round = Round::new(alloc, threads as usize, &text)?;
-    let is_shared = !round.holds(&text);
-    let next = if is_shared {
-        round.another(alloc, &text)?
-    } else {
-        Round::with_lines(alloc, 1, 1, &text)?
-    };
+    let first = Round::new(alloc, threads as usize, &text)?;
+    let is_shared = !first.holds(&text);
+    let round = second_round(alloc, &first, is_shared, &text)?;
     let ahead = Ahead {
         text,
-        round: next,
+        round,
         is_shared,
     };
-    Ok((round, ahead))
+    Ok((first, ahead))
 }
 
-/// Writes a text and some lines on this thread, page by page.
+/// Writes a text on this thread, page by page.
 fn put_by_pages<S: Semiring, K: Sink>(
     alloc: Global,
-    text: TextPages<'_, S>,
-    lines: &[u8],
+    mut text: TextPages<'_, S>,
     out: &mut K,
 ) -> Result<(), JobFault>
     requires { K.has_failed out.old ≡ false }
-    ensures { IsTextEnd (text.entry ++ lines.now) (K.written out.old) (K.written out.new) (K.has_failed out.new) result }
+    ensures { IsTextEnd text.entry (K.written out.old) (K.written out.new) (K.has_failed out.new) result }
 {
-    let Ok(mut page) = Page::new(alloc) else {
-        return Err(JobFault::Memory);
-    };
-    match put_pages_then_lines(text, &mut page, lines, out) {
-        Ok(()) => Ok(()),
-        Err(_) => Err(JobFault::Output),
-    }
+    let mut page = Page::new(alloc)?;
+    put_end(put_pages(&mut text, &mut page, out))
 }
 
-/// Writes a text and some lines in rounds.
+/// Writes a text in rounds.
 fn put_by_rounds<S: Semiring + Send + Sync, R: Threads + Sync, K: Sink>(
     rt: &R,
     alloc: Global,
     threads: u32,
     text: TextPages<'_, S>,
-    lines: &[u8],
     out: &mut K,
 ) -> Result<(), JobFault>
     requires { K.has_failed out.old ≡ false }
-    ensures { IsTextEnd (text.entry ++ lines.now) (K.written out.old) (K.written out.new) (K.has_failed out.new) result }
+    ensures { IsTextEnd text.entry (K.written out.old) (K.written out.new) (K.has_failed out.new) result }
 {
-    let Ok((mut round, mut ahead)) = begin_rounds(alloc, threads, text) else {
-        return Err(JobFault::Memory);
-    };
-    match put_rounds_then_lines(rt, &mut round, &mut ahead, lines, out) {
-        Ok(()) => Ok(()),
-        Err(_) => Err(JobFault::Output),
+    let (mut round, mut ahead) = begin_rounds(alloc, threads, text)?;
+    put_end(put_rounds(rt, &mut round, &mut ahead, out))
+}
+
+/// Writes a text. At most this many threads make the lines, while the caller's writes them; or, if it is 1, the caller's does
+/// both.
+fn put_text<S: Semiring + Send + Sync, R: Threads + Sync, K: Sink>(
+    rt: &R,
+    alloc: Global,
+    threads: u32,
+    text: TextPages<'_, S>,
+    out: &mut K,
+) -> Result<(), JobFault>
+    requires { K.has_failed out.old ≡ false }
+    ensures { IsTextEnd text.entry (K.written out.old) (K.written out.new) (K.has_failed out.new) result }
+{
+    if threads < 2 {
+        put_by_pages(alloc, text, out)
+    } else {
+        put_by_rounds(rt, alloc, threads, text, out)
     }
 }
 
@@ -235,10 +229,9 @@ pub fn put_text_and_lines<S: Semiring + Send + Sync, R: Threads + Sync, K: Sink>
     requires { K.has_failed out.old ≡ false }
     ensures { IsTextEnd (text.entry ++ lines.now) (K.written out.old) (K.written out.new) (K.has_failed out.new) result }
 {
-    if threads < 2 {
-        put_by_pages(alloc, text, lines, out)
-    } else {
-        put_by_rounds(rt, alloc, threads, text, lines, out)
+    match put_text(rt, alloc, threads, text, out) {
+        Ok(()) => put_end(put_all(out, lines)),
+        Err(fault) => Err(fault),
     }
 }
 
@@ -253,6 +246,5 @@ pub fn put_matrix<S: Semiring + Send + Sync, R: Threads + Sync, K: Sink>(
     requires { K.has_failed out.old ≡ false }
     ensures { IsTextEnd (text_of S.arithmetic matrix.now) (K.written out.old) (K.written out.new) (K.has_failed out.new) result }
 {
-    let text = TextPages::of_panels(matrix);
-    put_text_and_lines(rt, alloc, threads, text, &[], out)
+    put_text(rt, alloc, threads, TextPages::of_panels(matrix), out)
 }

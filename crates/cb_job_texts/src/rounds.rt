@@ -1,5 +1,5 @@
 //! Rounds of sheets, which are dealt out in order and written in parallel.
-ghost use Rattle.std.specs.Prelude.{◌≡◌, ◌≤◌, ◌<◌, [], ◌++◌, length, true, false, IfOk};
+ghost use Rattle.std.specs.Prelude.{◌≡◌, ◌≤◌, ◌<◌, ◌+◌, [], ◌++◌, length, true, false, vec_len, vec_capacity, IfOk, OnOk};
 ghost use Rattle.cb_market.specs.Sheets.{share_of};
 ghost use Rattle.cb_job_texts.specs.Rounds.{written_on, dealt_to};
 
@@ -82,9 +82,7 @@ impl<'a, S: Semiring> Round<'a, S> {
         ensures { IfOk result (λ round. round ≡ []) }
     {
         let mut blank = Vec::with_capacity(alloc, sheets)?;
-        for _ in 0..sheets {
-            blank.push_reserved(Sheet::new(alloc, lines, text)?);
-        }
+        add_sheets(alloc, &mut blank, sheets, lines, text)?;
         Ok(Round {
             sheets: blank,
             lines,
@@ -129,6 +127,26 @@ impl<'a, S: Semiring + Send + Sync> Round<'a, S> {
         write_all(rt, &mut self.sheets, threads, gate);
         dealt > 0
     }
+}
+
+/// Adds this many empty sheets for a text to a list that has room for them. Each has room for this many lines.
+fn add_sheets<'a, S: Semiring>(
+    alloc: Global,
+    sheets: &mut Vec<Sheet<'a, S>>,
+    count: usize,
+    lines: usize,
+    text: &TextPages<'a, S>,
+) -> Result<(), AllocError>
+    requires lines { (0 < lines) × (lines ≤ MOST_LINES) }
+    requires room { vec_len sheets.old + count ≤ vec_capacity sheets.old }
+    ensures count { OnOk result (vec_len sheets.new ≡ vec_len sheets.old + count) }
+    ensures blank { OnOk result (written_on sheets.new.items ≡ written_on sheets.old.items) }
+{
+    for _ in 0..count {
+        let sheet = Sheet::new(alloc, lines, text)?;
+        sheets.push_reserved(sheet);
+    }
+    Ok(())
 }
 
 /// Gives each sheet in order the next part of a text, and returns how many got some of it.

@@ -7,7 +7,7 @@ ghost use Rattle.cb_job_texts.specs.Sinks.{put_failed, AppendsPrefix};
 use std::io::Write;
 
 /// A put that failed, or that accepted none of its bytes.
-#[derive(Clone, Copy, Debug, PartialEq, Eq)]
+#[derive(Clone, Copy)]
 pub struct PutFault;
 
 /// Accepts bytes, some at a time. If a put fails, or accepts none of the bytes, the sink has failed for good: `failed` is

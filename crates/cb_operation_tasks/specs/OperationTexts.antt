@@ -38,6 +38,12 @@ IsFaultOver operation s texts Absent = ⊥
 IsFaultOver operation s texts Memory = AreOperands operation s texts
 IsFaultOver operation s texts Output = AreOperands operation s texts
 
+-- why an operation on these matrices has no answer: their shapes don't agree, or they do and memory was refused
+abbrev pub IsBlocksFault : Operation → List Sparse → JobFault → Type 0
+IsBlocksFault operation ms (Refused refusal_is.Shapes) = ¬ Agree operation (shapes_in ms)
+IsBlocksFault operation ms Memory = Agree operation (shapes_in ms)
+IsBlocksFault operation ms _ = ⊥
+
 -- the fault of a job for a fault of an operation on blocks
 abbrev pub job_fault_of : SerialFault → JobFault
 job_fault_of (serial_is.Refused refusal) = Refused refusal

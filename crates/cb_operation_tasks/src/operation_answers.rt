@@ -2,7 +2,7 @@
 ghost use Rattle.std.specs.Prelude.{◌≡◌, ◌≢◌, vec_len, false, IfOk, IfErr};
 ghost use Rattle.cb_operations.specs.OperationAnswers.{operand_count_of};
 ghost use Rattle.cb_job_texts.specs.Texts.{bytes_of};
-ghost use Rattle.cb_operation_tasks.specs.OperationTexts.{IsEndOver, IsFaultOver, IsResultOf, job_fault_of};
+ghost use Rattle.cb_operation_tasks.specs.OperationTexts.{IsEndOver, IsFaultOver, IsResultOf};
 
 use crate::alone::compute_alone;
 use crate::operand_blocks::read_blocks;
@@ -12,19 +12,8 @@ use cb_job_texts::sinks::Sink;
 use cb_layout::PanelledMatrix;
 use cb_operations::Operation;
 use cb_semirings::Semiring;
-use cb_serial::SerialFault;
 use std::alloc::Global;
 use std::thread::Threads;
-
-/// The fault of a job for a fault of an operation on blocks.
-fn job_fault(fault: SerialFault) -> JobFault
-    ensures { result ≡ job_fault_of fault }
-{
-    match fault {
-        SerialFault::Refused(refusal) => JobFault::Refused(refusal),
-        SerialFault::Memory => JobFault::Memory,
-    }
-}
 
 /// Reads the operands of an operation, and computes it.
 fn result_of<S: Semiring + Send + Sync, R: Threads + Sync>(
@@ -40,10 +29,7 @@ fn result_of<S: Semiring + Send + Sync, R: Threads + Sync>(
     ensures unwritten { IfErr result (λ f. f ≢ JobFault.Output) }
 {
     let operands = read_blocks::<S, R>(rt, alloc, threads, operation, texts)?;
-    match compute_alone(rt, alloc, threads, operation, &operands) {
-        Ok(matrix) => Ok(matrix),
-        Err(fault) => Err(job_fault(fault)),
-    }
+    compute_alone(rt, alloc, threads, operation, &operands)
 }
 
 /// Writes the result of an operation over a semiring.

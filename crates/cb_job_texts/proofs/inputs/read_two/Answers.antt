@@ -1,14 +1,16 @@
-use Rattle.std.proofs.Common.{[]}
-use Rattle.std.proofs.lemmas.Result.{err_from_is_err_and}
+use Rattle.std.proofs.Common.{subst}
+use Rattle.std.specs.Prelude.{IfErr}
+use Rattle.cb_layout.specs.Distributed.{Distributed}
+use Rattle.cb_job_texts.specs.Inputs.{IsFirstReadFault}
 use Rattle.cb_job_texts.specs.Texts.{bytes_of}
-use Rattle.cb_job_texts.proofs.OperandLemmas.{two_texts}
-use Rattle.cb_job_texts.proofs.ReadFaults.{second_fault_by}
+use Rattle.cb_job_texts.proofs.OperandLemmas.{both_are, bytes_count}
+use Rattle.cb_job_texts.proofs.ReadFaults.{same_by}
 use Rattle.cb_job_texts.proofs.inputs.read_two.Goals as goal
 
-pub returns-in_err-right-clause-fault : goal.returns-in_err-right-clause-fault
-returns-in_err-right-clause-fault g c =
-    let first = c.remove-first in
-    let second = c.remove-second in
-    let are = two_texts c.args.texts first.new.self first.result second.result c.requires first.ensures.value first.ensures.items second.ensures.value in
-    let p = err_from_is_err_and c.from_residual-in_err-right.result c.from_residual-in_err-right.ensures.1 in
-    rw (p.1, p.2) (second_fault_by (λ _. g.S.Semiring.arithmetic) (bytes_of c.args.texts.items) first.result.items second.result.items [] are (c.in_ok-left.left.matrix, c.in_ok-left.ensures.ok) c.in_err-right.field-0.0 c.in_err-right.ensures.fault)
+pub returns-clause-ok : goal.returns-clause-ok
+returns-clause-ok g c =
+    both_are g.S.Semiring.arithmetic (bytes_of c.args.texts.items) (bytes_count c.args.texts 2 c.requires) (λ (p : Distributed × Distributed). p.0.matrix) (λ (p : Distributed × Distributed). p.1.matrix)
+    c.read_both.result c.read_both.ensures.first c.read_both.ensures.second
+
+pub returns-clause-fault : goal.returns-clause-fault
+returns-clause-fault g c = subst (λ by. IfErr c.read_both.result (IsFirstReadFault by (bytes_of c.args.texts.items))) (same_by g.S.Semiring.arithmetic) c.read_both.ensures.fault

@@ -3,10 +3,10 @@ use Rattle.std.specs.Io.KnownBytes.{Appends}
 use Rattle.cb_job_texts.proofs.output.put_pages.Given as goal
 
 -- what was written and what is left are the text, and nothing failed
-abbrev pub invariant-loop-text : goal.invariant-loop-text
-invariant-loop-text g l =
+abbrev pub invariant-loop-out : goal.invariant-loop-out
+invariant-loop-out g l =
     ((done : List ℕ) × Appends (g.K.Sink.written l.initial.out) (g.K.Sink.written l.out) done × (done ++ l.text ≡ l.initial.text))
     × (g.K.Sink.has_failed l.out ≡ false)
 
-abbrev pub decreases-loop-text : goal.decreases-loop-text
-decreases-loop-text g l = length l.text
+abbrev pub decreases-loop-out : goal.decreases-loop-out
+decreases-loop-out g l = length l.text
