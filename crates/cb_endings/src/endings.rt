@@ -15,7 +15,7 @@ use std::alloc::{AllocError, Global};
 use std::process::{ExitCode, Termination};
 
 /// How a run ended.
-#[derive(Debug, Drop)]
+#[derive(Drop)]
 pub enum Ending {
     /// The answer, or the help that was asked for, has been written.
     Done,
@@ -58,7 +58,7 @@ impl Ending {
 }
 
 /// The exit status of a run. Only [`finish`] makes one, so a program whose `main` returns it ends as its run did.
-#[derive(Clone, Copy, Debug, PartialEq, Eq)]
+#[derive(Clone, Copy)]
 pub struct Status {
     code: u8,
 }

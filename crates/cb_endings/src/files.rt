@@ -1,15 +1,17 @@
 //! The files of a job, and the texts that are loaded from them.
-ghost use Rattle.std.specs.Prelude.{◌≡◌, ℕ, List, IfOk, IfErr, OnErr};
+ghost use Rattle.std.specs.Prelude.{◌≡◌, ◌≤◌, ℕ, List, length, vec_len, vec_capacity, IfOk, IfErr, OnOk, OnErr};
 ghost use Rattle.cb_job_texts.specs.Texts.{bytes_of};
 ghost use Rattle.cb_endings.specs.Files.{AreTexts, IsUnloaded};
 
 use crate::fault_lines::name_at;
 use std::alloc::{AllocError, Global};
-use std::fs;
+use std::fs::{File, OpenFile};
+use std::io;
+use std::io::Read;
 use std::rt::Files;
 
 /// A file can't be opened, or can't be read to its end.
-#[derive(Clone, Copy, Debug, PartialEq, Eq)]
+#[derive(Clone, Copy)]
 pub struct Unreadable;
 
 /// A set of files, found by name.
@@ -45,15 +47,26 @@ impl<R: Files + AllocGlobal> FileSource for SystemFiles<'_, R> {
     ghost refuses = { λ _ _. Unit {0} };
 
     fn load(&self, name: &str) -> Result<Vec<u8>, Unreadable> {
-        match fs::read(self.rt, name) {
+        match bytes_of_file(self.rt, name) {
             Ok(bytes) => Ok(bytes),
             Err(_) => Err(Unreadable),
         }
     }
 }
 
+/// Reads a file to its end. Room for as many bytes as it says it has is taken first, so that the list needn't grow. If this
+/// room is refused, or there are more bytes, it grows.
+fn bytes_of_file<R: Files + AllocGlobal>(rt: &R, name: &str) -> io::Result<Vec<u8>> {
+    let mut file = File::open(rt, name)?;
+    let length = file.metadata().map_or(0, |about| about.len());
+    let room = usize::try_from(length).unwrap_or(0).saturating_add(1);
+    let mut bytes = Vec::with_capacity(rt.alloc(), room).unwrap_or(Vec::new(rt.alloc()));
+    file.read_to_end(&mut bytes)?;
+    Ok(bytes)
+}
+
 /// Why the texts of a job can't all be loaded.
-#[derive(Clone, Copy, Debug, PartialEq, Eq)]
+#[derive(Clone, Copy)]
 pub enum LoadFault {
     /// The file at this position in the list of names can't be read.
     Unreadable(usize),
@@ -71,6 +84,27 @@ impl From<AllocError> for LoadFault {
     }
 }
 
+/// Loads the files in the order of their names into a list that is empty and has room for their texts. The first file that
+/// can't be read ends it.
+fn load_all<F: FileSource>(
+    files: &F,
+    names: &[String],
+    texts: &mut Vec<Vec<u8>>,
+) -> Result<(), LoadFault>
+    requires empty { vec_len texts.old ≡ 0 }
+    requires room { length names.now ≤ vec_capacity texts.old }
+    ensures texts { OnOk result (AreTexts (F.holds files.now) names.now (bytes_of texts.new.items)) }
+    ensures fault { IfErr result (IsUnloaded (F.holds files.now) (F.refuses files.now) names.now) }
+{
+    for which in 0..names.len() {
+        match files.load(name_at(names, which)) {
+            Ok(text) => texts.push_reserved(text),
+            Err(_) => return Err(LoadFault::Unreadable(which)),
+        }
+    }
+    Ok(())
+}
+
 /// Loads the files in the order of their names. The first file that can't be read ends it.
 pub fn texts_of<F: FileSource>(
     alloc: Global,
@@ -81,15 +115,6 @@ pub fn texts_of<F: FileSource>(
     ensures fault { IfErr result (IsUnloaded (F.holds files.now) (F.refuses files.now) names.now) }
 {
     let mut texts = Vec::with_capacity(alloc, names.len())?;
-    for which in 0..names.len() {
-        match files.load(name_at(names, which)) {
-            Ok(text) => {
-                if texts.push(text).is_err() {
-                    return Err(LoadFault::Memory);
-                }
-            }
-            Err(_) => return Err(LoadFault::Unreadable(which)),
-        }
-    }
+    load_all(files, names, &mut texts)?;
     Ok(texts)
 }
