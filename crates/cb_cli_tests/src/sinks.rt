@@ -73,7 +73,8 @@ fn gets_its_part<R: Threads + Sync + AllocGlobal>(
     has_ended_so && are_first(&out.into_inner().bytes, count)
 }
 
-/// Whether writers with this room do, which accept few bytes at a time or many, from one thread and from two.
+/// Whether each writer with this room gets its part: writers that accept one byte at a time, a few, or any number, by one
+/// thread and by two.
 fn get_their_part<R: Threads + Sync + AllocGlobal>(rt: &R, room: usize) -> Result<bool, ReadFault> {
     let product = read_distributed(rt.alloc(), &Grid::single(), PRODUCT.as_bytes())?;
     for (step, stops) in [(1, true), (7, false), (usize::MAX, false)] {
