@@ -1,4 +1,3 @@
-mod SelectionEnds
 mod ProductFaults
 mod ListFaults
 mod PartFaults
