@@ -30,18 +30,6 @@ use Rattle.cb_job_texts.specs.declared.faults.JobFault.{JobFault}
 use Rattle.cb_cli.specs.Engines.{engine_of, fault_of_engine}
 use Rattle.cb_cli.specs.TraceTexts.{trace_lines}
 
--- the answer of a task without ranks, over the semiring that it names
-abbrev pub IsAnswer : Task → List (List ℕ) → List ℕ → Type 0
-IsAnswer (task_is.Operation operation semiring) = IsAnswerOver operation (arithmetic_of semiring)
-IsAnswer (task_is.Selection task semiring) = IsSelectionAnswer task (arithmetic_of semiring)
-IsAnswer (task_is.Graph task) = IsGraphAnswer task
-
--- why it has no answer, or why the answer wasn't written
-abbrev pub IsFault : Task → List (List ℕ) → JobFault → Type 0
-IsFault (task_is.Operation operation semiring) = IsFaultOver operation (arithmetic_of semiring)
-IsFault (task_is.Selection task semiring) = IsSelectionFault task (arithmetic_of semiring)
-IsFault (task_is.Graph task) = IsGraphFault task
-
 -- the text that is written: that of the matrix, and then, if there is a trace, a line for each of its events
 abbrev pub text_and_trace : Arithmetic → Sparse → Option TraceView → List ℕ
 text_and_trace s m trace = text_of s m ++ trace_lines trace
@@ -82,37 +70,39 @@ IsWalkFailure s source engine side texts fault =
 abbrev pub IsRanksWalkFault : Arithmetic → ℕ → Engine → ℕ → List (List ℕ) → JobFault → Type 0
 IsRanksWalkFault s source engine side texts fault = IsWalkFault s source texts fault ⊎ IsWalkFailure s source engine side texts fault
 
--- The answer of a task, by an engine on a grid of this side. Only an operation may have a trace.
-abbrev pub IsAnswerBy : Engine → ℕ → Task → List (List ℕ) → List ℕ → Type 0
-IsAnswerBy engine side (task_is.Operation operation semiring) = IsRanksAnswer operation (arithmetic_of semiring) engine side
-IsAnswerBy engine side task = IsAnswer task
-
--- why a task on a graph has no answer, or why the answer wasn't written
-abbrev pub IsGraphFaultBy : Engine → ℕ → GraphTask → List (List ℕ) → JobFault → Type 0
-IsGraphFaultBy engine side (Levels source) = IsRanksWalkFault or_and source engine side
-IsGraphFaultBy engine side (Distances source) = IsRanksWalkFault min_plus source engine side
-IsGraphFaultBy engine side task = IsGraphFault task
-
--- the same of any task
-abbrev pub IsFaultBy : Engine → ℕ → Task → List (List ℕ) → JobFault → Type 0
-IsFaultBy engine side (task_is.Operation operation semiring) = IsRanksFaultOver operation (arithmetic_of semiring) engine side
-IsFaultBy engine side (task_is.Selection task semiring) = IsSelectionFault task (arithmetic_of semiring)
-IsFaultBy engine side (task_is.Graph task) = IsGraphFaultBy engine side task
-
--- the same by an engine or, without one, by threads that share whole blocks
-abbrev pub IsAnswerFor : Option Engine → ℕ → Task → List (List ℕ) → List ℕ → Type 0
-IsAnswerFor None side task = IsAnswer task
-IsAnswerFor (Some engine) side task = IsAnswerBy engine side task
+-- the answer of an operation over a semiring, by an engine or without one
+abbrev pub IsOperationAnswer : Option Engine → ℕ → Operation → Arithmetic → List (List ℕ) → List ℕ → Type 0
+IsOperationAnswer None side operation s = IsAnswerOver operation s
+IsOperationAnswer (Some engine) side operation s = IsRanksAnswer operation s engine side
 
 -- why there is none
-abbrev pub IsFaultFor : Option Engine → ℕ → Task → List (List ℕ) → JobFault → Type 0
-IsFaultFor None side task = IsFault task
-IsFaultFor (Some engine) side task = IsFaultBy engine side task
+abbrev pub IsOperationFault : Option Engine → ℕ → Operation → Arithmetic → List (List ℕ) → JobFault → Type 0
+IsOperationFault None side operation s = IsFaultOver operation s
+IsOperationFault (Some engine) side operation s = IsRanksFaultOver operation s engine side
+
+-- why a task on a graph has no answer, or why the answer wasn't written
+abbrev pub IsGraphFaultBy : Option Engine → ℕ → GraphTask → List (List ℕ) → JobFault → Type 0
+IsGraphFaultBy (Some engine) side (Levels source) = IsRanksWalkFault or_and source engine side
+IsGraphFaultBy (Some engine) side (Distances source) = IsRanksWalkFault min_plus source engine side
+IsGraphFaultBy _ side task = IsGraphFault task
+
+-- The answer of a task: by an engine on a grid of this side or, without one, by threads that share whole blocks. Only an
+-- operation may have a trace.
+abbrev pub IsAnswer : Option Engine → ℕ → Task → List (List ℕ) → List ℕ → Type 0
+IsAnswer engine side (task_is.Operation operation semiring) = IsOperationAnswer engine side operation (arithmetic_of semiring)
+IsAnswer engine side (task_is.Selection task semiring) = IsSelectionAnswer task (arithmetic_of semiring)
+IsAnswer engine side (task_is.Graph task) = IsGraphAnswer task
+
+-- why it has no answer, or why the answer wasn't written
+abbrev pub IsFault : Option Engine → ℕ → Task → List (List ℕ) → JobFault → Type 0
+IsFault engine side (task_is.Operation operation semiring) = IsOperationFault engine side operation (arithmetic_of semiring)
+IsFault engine side (task_is.Selection task semiring) = IsSelectionFault task (arithmetic_of semiring)
+IsFault engine side (task_is.Graph task) = IsGraphFaultBy engine side task
 
 -- the answer of a job: of its task, by the engine that it names
 abbrev pub IsJobAnswer : Job → List (List ℕ) → List ℕ → Type 0
-IsJobAnswer job = IsAnswerFor (engine_of job.engine) job.side job.task
+IsJobAnswer job = IsAnswer (engine_of job.engine) job.side job.task
 
 -- why it has no answer, or why the answer wasn't written
 abbrev pub IsJobFault : Job → List (List ℕ) → JobFault → Type 0
-IsJobFault job = IsFaultFor (engine_of job.engine) job.side job.task
+IsJobFault job = IsFault (engine_of job.engine) job.side job.task

@@ -1,45 +1,19 @@
 //! Does a job on the texts of its files.
 ghost use Rattle.std.specs.Prelude.{◌≡◌, vec_len, false};
-ghost use Rattle.cb_words.specs.Jobs.{file_count_of, graph_file_count_of};
-ghost use Rattle.cb_cli.specs.Ends.{IsEndBy, IsGraphEndBy, IsJobEnd, IsTaskEnd};
+ghost use Rattle.cb_words.specs.Jobs.{graph_file_count_of};
+ghost use Rattle.cb_cli.specs.Ends.{IsGraphEndBy, IsJobEnd, IsSearchEnd};
 
-use crate::operations::put_operation;
-use crate::ranks::{Ranks, engine_of};
+use crate::operations::execute_operation;
+use crate::ranks::{Ranks, ranks_of};
 use crate::walks::{put_distances, put_levels};
 use cb_graph_tasks::graph_tasks::execute_graph_task;
 use cb_job_texts::faults::JobFault;
 use cb_job_texts::sinks::Sink;
-use cb_layout::Grid;
-use cb_operation_tasks::named_operations::execute_operation;
 use cb_selection_tasks::named_selections::execute_selection;
 use cb_words::{GraphTask, Job, Task};
 use std::alloc::Global;
 use std::sync::Wait;
 use std::thread::Threads;
-
-/// Does a task without ranks.
-fn execute_alone<R: Threads + Sync, K: Sink>(
-    rt: &R,
-    alloc: Global,
-    threads: u32,
-    task: Task,
-    texts: Vec<Vec<u8>>,
-    out: &mut K,
-) -> Result<(), JobFault>
-    requires texts { vec_len texts ≡ file_count_of task }
-    requires works { K.has_failed out.old ≡ false }
-    ensures { IsTaskEnd task texts.items (K.written out.old) (K.written out.new) (K.has_failed out.new) result }
-{
-    match task {
-        Task::Operation(operation, semiring) => {
-            execute_operation(rt, alloc, threads, operation, semiring, texts, out)
-        }
-        Task::Selection(task, semiring) => {
-            execute_selection(rt, alloc, threads, task, semiring, texts, out)
-        }
-        Task::Graph(task) => execute_graph_task(rt, alloc, threads, task, texts, out),
-    }
-}
 
 /// Does a task on a graph: ranks compute levels and distances from one source; the caller's thread computes everything else.
 fn search_by<R: Threads + Wait + Sync, K: Sink>(
@@ -61,36 +35,23 @@ fn search_by<R: Threads + Wait + Sync, K: Sink>(
     }
 }
 
-/// Does a task: ranks compute operations, and levels and distances from one source; the caller's thread computes everything
-/// else.
-fn execute_by<R: Threads + Wait + Sync, K: Sink>(
+/// Does a task on a graph, by the ranks of a job or without any.
+fn search<R: Threads + Wait + Sync, K: Sink>(
     rt: &R,
     alloc: Global,
-    ranks: &Ranks<'_>,
-    task: Task,
+    job: &Job,
+    task: GraphTask,
     texts: Vec<Vec<u8>>,
     out: &mut K,
 ) -> Result<(), JobFault>
-    requires texts { vec_len texts ≡ file_count_of task }
+    requires texts { vec_len texts ≡ graph_file_count_of task }
     requires works { K.has_failed out.old ≡ false }
-    ensures { IsEndBy ranks.now task texts.items (K.written out.old) (K.written out.new) (K.has_failed out.new) result }
+    ensures { IsSearchEnd job.now task texts.items (K.written out.old) (K.written out.new) (K.has_failed out.new) result }
 {
-    match task {
-        Task::Operation(operation, semiring) => {
-            put_operation(rt, alloc, ranks, operation, semiring, texts, out)
-        }
-        Task::Selection(task, semiring) => {
-            execute_selection(rt, alloc, ranks.threads, task, semiring, texts, out)
-        }
-        Task::Graph(task) => search_by(rt, alloc, ranks, task, texts, out),
+    match ranks_of(job) {
+        Some(ranks) => search_by(rt, alloc, &ranks, task, texts, out),
+        None => execute_graph_task(rt, alloc, job.threads, task, texts, out),
     }
-}
-
-/// The grid of the ranks that compute a job.
-fn grid_of(job: &Job) -> Grid
-    ensures { result.side ≡ job.now.side }
-{
-    Grid::new(job.side).unwrap()
 }
 
 /// Reads the texts of a job's files in the job's order, computes the answer by what the job names, and writes its text. If
@@ -113,13 +74,13 @@ pub fn execute<R: Threads + Wait + Sync, K: Sink>(
     requires works { K.has_failed out.old ≡ false }
     ensures { IsJobEnd job.now texts.items (K.written out.old) (K.written out.new) (K.has_failed out.new) result }
 {
-    let Some(engine) = engine_of(job.engine) else {
-        return execute_alone(rt, alloc, job.threads, job.task, texts, out);
-    };
-    let ranks = Ranks {
-        engine,
-        grid: grid_of(job),
-        threads: job.threads,
-    };
-    execute_by(rt, alloc, &ranks, job.task, texts, out)
+    match job.task {
+        Task::Operation(operation, semiring) => {
+            execute_operation(rt, alloc, job, operation, semiring, texts, out)
+        }
+        Task::Selection(task, semiring) => {
+            execute_selection(rt, alloc, job.threads, task, semiring, texts, out)
+        }
+        Task::Graph(task) => search(rt, alloc, job, task, texts, out),
+    }
 }

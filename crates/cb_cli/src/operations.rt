@@ -1,4 +1,4 @@
-//! Operations by ranks on the matrices of texts.
+//! Operations on the matrices of texts, by ranks or without any.
 ghost use Rattle.std.specs.Prelude.{◌≡◌, ◌≢◌, length, vec_len, false, IfOk, IfErr};
 ghost use Rattle.cb_operations.specs.Operands.{list_of};
 ghost use Rattle.cb_operations.specs.OperationAnswers.{operand_count_of};
@@ -7,9 +7,9 @@ ghost use Rattle.cb_semirings.specs.Names.{arithmetic_of};
 ghost use Rattle.cb_job_texts.specs.Inputs.{AreMatrices, IsReadFault};
 ghost use Rattle.cb_job_texts.specs.Texts.{bytes_of};
 ghost use Rattle.cb_cli.specs.Answers.{IsOutcomeOver, IsRanksFaultOver};
-ghost use Rattle.cb_cli.specs.Ends.{IsRanksEnd};
+ghost use Rattle.cb_cli.specs.Ends.{IsOperationEnd, IsRanksEnd};
 
-use crate::ranks::{Ranks, job_fault};
+use crate::ranks::{Ranks, job_fault, ranks_of};
 use crate::trace_lines::lines_of;
 use cb_engines::Outcome;
 use cb_job_texts::faults::JobFault;
@@ -18,9 +18,11 @@ use cb_job_texts::output::put_text_and_lines;
 use cb_job_texts::sinks::Sink;
 use cb_layout::DistributedMatrix;
 use cb_market::TextPages;
+use cb_operation_tasks::operation_answers::put_operation;
 use cb_operations::{Operands, Operation};
 use cb_run::run;
 use cb_semirings::{Semiring, SemiringName, over_semiring};
+use cb_words::Job;
 use std::alloc::Global;
 use std::sync::Wait;
 use std::thread::Threads;
@@ -94,11 +96,30 @@ fn put_outcome<S: Semiring + Send + Sync, R: Threads + Wait + Sync, K: Sink>(
     put_text_and_lines(rt, alloc, ranks.threads, text, lines.as_bytes(), out)
 }
 
-/// Writes the result of an operation over the semiring of a name, and then the lines of the trace.
-pub fn put_operation<R: Threads + Wait + Sync, K: Sink>(
+/// Writes the result of an operation over a semiring, and then the lines of the trace, by the ranks of a job or without any.
+fn put_operation_by<S: Semiring + Send + Sync, R: Threads + Wait + Sync, K: Sink>(
     rt: &R,
     alloc: Global,
-    ranks: &Ranks<'_>,
+    job: &Job,
+    operation: Operation,
+    texts: Vec<Vec<u8>>,
+    out: &mut K,
+) -> Result<(), JobFault>
+    requires texts { vec_len texts ≡ operand_count_of operation }
+    requires works { K.has_failed out.old ≡ false }
+    ensures { IsOperationEnd job.now operation S.arithmetic texts.items (K.written out.old) (K.written out.new) (K.has_failed out.new) result }
+{
+    match ranks_of(job) {
+        Some(ranks) => put_outcome::<S, R, K>(rt, alloc, &ranks, operation, texts, out),
+        None => put_operation::<S, R, K>(rt, alloc, job.threads, operation, texts, out),
+    }
+}
+
+/// Writes the result of an operation over the semiring of a name.
+pub fn execute_operation<R: Threads + Wait + Sync, K: Sink>(
+    rt: &R,
+    alloc: Global,
+    job: &Job,
     operation: Operation,
     semiring: SemiringName,
     texts: Vec<Vec<u8>>,
@@ -106,10 +127,10 @@ pub fn put_operation<R: Threads + Wait + Sync, K: Sink>(
 ) -> Result<(), JobFault>
     requires texts { vec_len texts ≡ operand_count_of operation }
     requires works { K.has_failed out.old ≡ false }
-    ensures { IsRanksEnd operation (arithmetic_of semiring) ranks.now texts.items (K.written out.old) (K.written out.new) (K.has_failed out.new) result }
+    ensures { IsOperationEnd job.now operation (arithmetic_of semiring) texts.items (K.written out.old) (K.written out.new) (K.has_failed out.new) result }
 {
     over_semiring!(
         semiring,
-        put_outcome::<_, R, K>(rt, alloc, ranks, operation, texts, out)
+        put_operation_by::<_, R, K>(rt, alloc, job, operation, texts, out)
     )
 }

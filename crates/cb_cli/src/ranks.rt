@@ -1,5 +1,5 @@
 //! The ranks that compute a job, and their faults.
-ghost use Rattle.std.specs.Prelude.{◌≡◌, ◌≢◌};
+ghost use Rattle.std.specs.Prelude.{◌≡◌, ◌≢◌, IfSome, option_map};
 ghost use Rattle.cb_job_texts.specs.declared.faults.JobFault.TheVariants.{Output};
 ghost use Rattle.cb_cli.specs.Engines.{engine_of, fault_of_engine, fault_of_operation};
 
@@ -7,7 +7,7 @@ use cb_engines::{Engine, EngineFault};
 use cb_job_texts::faults::{JobFault, RanksFault};
 use cb_layout::Grid;
 use cb_run::OperationFault;
-use cb_words::EngineName;
+use cb_words::{EngineName, Job};
 
 /// The ranks that compute a job: an engine over the ranks of a grid; and how many threads read and write.
 #[derive(Clone, Copy)]
@@ -17,15 +17,21 @@ pub struct Ranks<'o> {
     pub threads: u32,
 }
 
-/// The engine of a name, or none where no ranks compute.
-pub fn engine_of(name: EngineName) -> Option<Engine<'static>>
-    ensures { result ≡ engine_of name }
+/// The ranks that compute a job, or none if threads compute it that share whole blocks.
+pub fn ranks_of(job: &Job) -> Option<Ranks<'static>>
+    ensures engine { option_map (λ ranks. ranks.engine) result ≡ engine_of job.now.engine }
+    ensures side { IfSome result (λ ranks. ranks.grid.side ≡ job.now.side) }
 {
-    match name {
-        EngineName::Plain => None,
-        EngineName::Ranks(letters) => Some(Engine::Threads(letters)),
-        EngineName::Traced(letters) => Some(Engine::Traced(letters)),
-    }
+    let engine = match job.engine {
+        EngineName::Plain => return None,
+        EngineName::Ranks(letters) => Engine::Threads(letters),
+        EngineName::Traced(letters) => Engine::Traced(letters),
+    };
+    Some(Ranks {
+        engine,
+        grid: Grid::new(job.side).unwrap(),
+        threads: job.threads,
+    })
 }
 
 /// The fault of a job for a fault of an engine.

@@ -1,2 +1,1 @@
 mod OperationFaults
-mod NamedOperations

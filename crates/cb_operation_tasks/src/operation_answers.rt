@@ -1,19 +1,53 @@
 //! Operations on the matrices of texts.
-ghost use Rattle.std.specs.Prelude.{◌≡◌, ◌≢◌, vec_len, false, IfOk, IfErr};
+ghost use Rattle.std.specs.Prelude.{◌≡◌, ◌≢◌, length, vec_len, false, IfOk, IfErr};
+ghost use Rattle.cb_operations.specs.Operands.{list_of};
 ghost use Rattle.cb_operations.specs.OperationAnswers.{operand_count_of};
+ghost use Rattle.cb_job_texts.specs.Inputs.{AreMatrices, IsReadFault};
 ghost use Rattle.cb_job_texts.specs.Texts.{bytes_of};
 ghost use Rattle.cb_operation_tasks.specs.OperationTexts.{IsEndOver, IsFaultOver, IsResultOf};
 
 use crate::alone::compute_alone;
-use crate::operand_blocks::read_blocks;
+use cb_dcsc::Block;
 use cb_job_texts::faults::JobFault;
+use cb_job_texts::inputs::{read_one, read_three, read_two};
 use cb_job_texts::output::put_matrix;
 use cb_job_texts::sinks::Sink;
-use cb_layout::PanelledMatrix;
-use cb_operations::Operation;
+use cb_layout::{Grid, PanelledMatrix};
+use cb_operations::{Operands, Operation};
 use cb_semirings::Semiring;
 use std::alloc::Global;
 use std::thread::Threads;
+
+/// Reads the operands of an operation, each into one block.
+fn read_operands<S: Semiring + Send + Sync, R: Threads + Sync>(
+    rt: &R,
+    alloc: Global,
+    threads: u32,
+    operation: Operation,
+    texts: Vec<Vec<u8>>,
+) -> Result<Operands<Block<S>>, JobFault>
+    requires { vec_len texts ≡ operand_count_of operation }
+    ensures count { IfOk result (λ o. operand_count_of operation ≡ length (list_of o)) }
+    ensures ok { IfOk result (λ o. AreMatrices S.arithmetic (bytes_of texts.items) (list_of o)) }
+    ensures fault { IfErr result (IsReadFault S.arithmetic (bytes_of texts.items)) }
+{
+    let grid = Grid::single();
+    match operation.operand_count() {
+        1 => {
+            let matrix = read_one(rt, alloc, &grid, threads, texts)?;
+            Ok(Operands::One(matrix.into_block()))
+        }
+        2 => {
+            let (left, right) = read_two(rt, alloc, &grid, threads, texts)?;
+            Ok(Operands::Two(left.into_block(), right.into_block()))
+        }
+        _ => {
+            let (left, right, mask) = read_three(rt, alloc, &grid, threads, texts)?;
+            let mask = mask.into_block();
+            Ok(Operands::Three(left.into_block(), right.into_block(), mask))
+        }
+    }
+}
 
 /// Reads the operands of an operation, and computes it.
 fn result_of<S: Semiring + Send + Sync, R: Threads + Sync>(
@@ -28,11 +62,18 @@ fn result_of<S: Semiring + Send + Sync, R: Threads + Sync>(
     ensures fault { IfErr result (IsFaultOver operation S.arithmetic (bytes_of texts.items)) }
     ensures unwritten { IfErr result (λ f. f ≢ JobFault.Output) }
 {
-    let operands = read_blocks::<S, R>(rt, alloc, threads, operation, texts)?;
+    let operands = read_operands::<S, R>(rt, alloc, threads, operation, texts)?;
     compute_alone(rt, alloc, threads, operation, &operands)
 }
 
-/// Writes the result of an operation over a semiring.
+/// Writes the result of an operation on the matrices of texts over a semiring. At most `threads` threads read, compute a
+/// product and write; the caller's thread does everything else.
+///
+/// All memory is taken before the first byte is written: at a fault other than `Output` nothing has been written. At
+/// `Output` the sink has failed, which it has in no other case, and a beginning of the text has been written.
+///
+/// The first fault in this order is returned: a text that isn't a matrix; shapes that don't agree; want of memory; `Output`.
+/// Each text is dropped once it is read, so that its memory is free for the computation.
 pub fn put_operation<S: Semiring + Send + Sync, R: Threads + Sync, K: Sink>(
     rt: &R,
     alloc: Global,
