@@ -1,16 +1,14 @@
 -- The toolbox of lemmas on layouts, by topic. Crates above cite what is named here; each lemma's own sentence
 -- stands over it.
 --
--- VectorPieces: the pieces of a vector: `input_tiling`, `result_tiling`, `piece_is`, and `glued_pieces_cut`, that they
---   glue to it; a grid that has ranks has a side: `some_side`.
+-- GluedTiles: the matrix of which tiles are the cuts: `tile_is_cut`.
 -- GrownBlocks: a matrix without entries is one: `empty_is_matrix`. The rest, on blocks that grow entry by entry, is for
 --   this crate.
-pub mod VectorPieces
-pub mod GrownBlocks
--- For this crate alone. PlacedEntries: entries of tiles with their places in the whole. GluedTiles: the matrix of
--- which tiles are the cuts. EntryCounts: the entries of a matrix, tile by tile.
-pub mod PlacedEntries
 pub mod GluedTiles
+pub mod GrownBlocks
+-- For this crate alone. ShiftedColumns: the entries of one column, with rows counted from a top row. EntryCounts: the
+-- entries of a matrix, tile by tile.
+pub mod ShiftedColumns
 pub mod EntryCounts
 -- A matrix walked where it stands, column by column. ColumnNumbers: the columns that have entries ascend. Splits: a
 -- list of which a front is taken by one test. Fronts: the next column of each block. BlockColumns: the columns of the

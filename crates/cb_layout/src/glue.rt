@@ -3,7 +3,7 @@ ghost use Rattle.std.specs.Prelude.{◌≡◌, ℕ, ◌<◌, ◌+◌, ◌*◌, �
 ghost use Rattle.cb_matrix.specs.Sparse.{IsMatrix};
 ghost use Rattle.cb_grid.specs.Blocks.{AreBlocksOf, block_at, glued_blocks};
 ghost use Rattle.cb_layout.specs.Distributed.{HavePartShapes};
-ghost use Rattle.cb_layout.specs.Segments.{shifted, entries_of};
+ghost use Rattle.cb_layout.specs.Segments.{entries_of};
 
 use crate::Segment;
 use crate::traversal::GridSegments;
@@ -42,7 +42,7 @@ pub fn gather<S: Semiring>(
 }
 
 /// The number of entries that all blocks store.
-pub(crate) fn stored<S: Semiring>(blocks: &[Block<S>]) -> usize
+pub fn stored<S: Semiring>(blocks: &[Block<S>]) -> usize
     ensures count { result ≡ min (sum_by (λ block. length block.entries) blocks.now) usize.MAX }
     ensures matrices { (r : ℕ) → r < length blocks.now → IsMatrix S.arithmetic (block_at blocks.now r) }
 {
@@ -55,32 +55,17 @@ pub(crate) fn stored<S: Semiring>(blocks: &[Block<S>]) -> usize
     count
 }
 
-/// Adds the entries of one segment.
-fn append_segment(entries: &mut Vec<Entry>, segment: Segment<'_>) -> Result<(), AllocError>
+/// Appends the entries of a segment.
+pub fn append_segment(entries: &mut Vec<Entry>, segment: Segment<'_>) -> Result<(), AllocError>
     requires lengths { length segment.values.now ≡ length segment.rows.now }
     requires fits { All (λ i. segment.top + i < 2 ^ 32) segment.rows.now }
     ensures { OnOk result (entries.new.items ≡ entries.old.items ++ entries_of segment.entry) }
 {
     let (rows, values) = (segment.rows, segment.values);
-    append_column(entries, segment.top, segment.column, rows, values)
-}
-
-/// Adds the entries of one column, with rows counted from `top`.
-pub(crate) fn append_column(
-    entries: &mut Vec<Entry>,
-    top: u32,
-    column: u32,
-    rows: &[u32],
-    values: &[u64],
-) -> Result<(), AllocError>
-    requires lengths { length values.now ≡ length rows.now }
-    requires fits { All (λ i. top + i < 2 ^ 32) rows.now }
-    ensures { OnOk result (entries.new.items ≡ entries.old.items ++ shifted top column rows.now values.now) }
-{
     for n in 0..rows.len() {
         entries.push(Entry {
-            row: top + rows[n],
-            column,
+            row: segment.top + rows[n],
+            column: segment.column,
             value: values[n],
         })?;
     }

@@ -11,10 +11,10 @@ use Rattle.cb_matrix.specs.Values.{product}
 use Rattle.cb_grid.specs.Parts.{part_length, part_shape}
 use Rattle.cb_grid.specs.Blocks.{block_at, block_of, glued}
 use Rattle.cb_grid.specs.Pieces.{piece_start, piece_shape, piece_of}
-use Rattle.cb_layout.specs.Vectors.{glued_pieces}
+use Rattle.cb_vector_pieces.specs.Vectors.{glued_pieces}
 use Rattle.cb_grid.proofs.Parts.{rank_of, row_below, rank_below}
 use Rattle.cb_grid.proofs.Cuts.{glued_cut}
-use Rattle.cb_layout.proofs.VectorPieces.{glued_pieces_cut}
+use Rattle.cb_vector_pieces.proofs.VectorPieces.{glued_pieces_cut}
 use Rattle.cb_plan.specs.declared.acts.Act.{Act}
 use Rattle.cb_plan.specs.declared.stores.Slot.{Slot}
 use Rattle.cb_plan.specs.declared.stores.Slot.TheVariants as slot_is

@@ -12,11 +12,12 @@ ghost use Rattle.cb_placement.specs.Answers.{over_grid};
 ghost use Rattle.cb_vectors.specs.SpreadVectors.{HasBoth, HasSpread, IsSpreadLoss, MultipliesVectors};
 
 use cb_grid_plans::{LEFT, RESULT, RIGHT, grid_vector};
-use cb_layout::{DistributedMatrix, Grid, gather_result, scatter_input};
+use cb_layout::{DistributedMatrix, Grid};
 use cb_matrix::{Matrix, Shape};
 use cb_placement::{DrainFault, blank, drain, fill};
 use cb_plan::{CheckedPlan, RankStore};
 use cb_semirings::Semiring;
+use cb_vector_pieces::{gather_result, scatter_input};
 use std::alloc::{AllocError, Global};
 
 /// Returns a plan by which matrices of this shape are multiplied by vectors.

@@ -3,7 +3,7 @@ use Rattle.cb_matrix.specs.Sparse.{Sparse, Extent}
 use Rattle.cb_grid.specs.Parts.{part_shape}
 use Rattle.cb_grid.specs.Blocks.{block_at, glued}
 use Rattle.cb_grid.specs.Pieces.{piece_shape}
-use Rattle.cb_layout.specs.Vectors.{glued_pieces}
+use Rattle.cb_vector_pieces.specs.Vectors.{glued_pieces}
 use Rattle.cb_placement.specs.Answers.{over_grid}
 use Rattle.cb_vectors.proofs.SpreadProducts.{parts_filled, pieces_filled, blocks_shaped, blocks_glued, pieces_shaped, pieces_glued}
 use Rattle.cb_vectors.proofs.collect.Goals as goal

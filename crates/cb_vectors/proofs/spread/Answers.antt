@@ -2,7 +2,7 @@ use Rattle.std.proofs.Common.{◌≡◌, ℕ, ◌+◌, ◌*◌, ◌<◌, List, l
 use Rattle.std.proofs.lemmas.List.{length-replicate}
 use Rattle.cb_matrix.specs.Sparse.{Sparse}
 use Rattle.cb_grid.specs.Blocks.{block_at, block_of}
-use Rattle.cb_layout.proofs.VectorPieces.{some_side}
+use Rattle.cb_vector_pieces.proofs.VectorPieces.{some_side}
 use Rattle.cb_plan.specs.declared.stores.Slot.{Slot}
 use Rattle.cb_plan.specs.declared.stores.Slot.TheVariants as slot_is
 use Rattle.cb_placement.specs.Slots.{Filled}

@@ -5,7 +5,7 @@ use Rattle.cb_matrix.specs.Sparse.{Sparse, IsMatrix}
 use Rattle.cb_grid.specs.Blocks.{block_of, glued_blocks}
 use Rattle.cb_layout.specs.Distributed.{AreBlocks}
 use Rattle.cb_layout.specs.Segments.{shifted}
-use Rattle.cb_layout.proofs.PlacedEntries.{length-shifted}
+use Rattle.cb_layout.proofs.ShiftedColumns.{length-shifted}
 use Rattle.cb_layout.proofs.BlockColumns.{whole_is_matrix, blocks_are_cuts}
 use Rattle.cb_layout.proofs.glue.gather.Given as given
 use Rattle.cb_layout.proofs.glue.gather.Goals.{After-stored, In-None}

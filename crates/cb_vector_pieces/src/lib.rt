@@ -1,15 +1,19 @@
-//! Vectors spread over all ranks. A vector is a matrix of one column.
-ghost use Rattle.std.specs.Prelude.{◌≡◌, ℕ, ◌<◌, ◌≤◌, ◌+◌, ◌*◌, ◌/◌, ◌%◌, List, map, length, IfOk, OnOk};
-ghost use Rattle.cb_matrix.specs.Sparse.{IsInside};
-ghost use Rattle.cb_grid.specs.Parts.{part_length};
-ghost use Rattle.cb_grid.specs.Blocks.{AreRankMatrices, block_at, part_with};
-ghost use Rattle.cb_grid.specs.Pieces.{piece_start, piece_shape};
-ghost use Rattle.cb_layout.specs.Vectors.{piece_with, place_in_piece, blank_pieces, glued_input, glued_result, AreInputPieces, AreResultPieces, HavePieceShapes};
-ghost use Rattle.cb_layout.specs.PieceTiles.{result_tiles, IsGathered, before_rank};
+//! Vectors spread over all ranks of a grid.
+//!
+//! A vector is a matrix of one column. Each of its parts (`cb_grid`) is cut again into q pieces in the same way. Rank
+//! (t, j) keeps piece t of part j of an input ([`scatter_input`]), and rank (i, t) keeps piece t of part i of a result
+//! ([`gather_result`]).
+#![tactic(auto)]
 
-use crate::glue::{append_column, stored};
+ghost use Rattle.std.specs.Prelude.{◌≡◌, ◌<◌, ◌≤◌, ◌+◌, ◌*◌, ◌/◌, ◌%◌, length, IfOk};
+ghost use Rattle.cb_matrix.specs.Sparse.{IsInside};
+ghost use Rattle.cb_grid.specs.Blocks.{AreRankMatrices, part_with};
+ghost use Rattle.cb_grid.specs.Pieces.{piece_start, piece_shape};
+ghost use Rattle.cb_vector_pieces.specs.Vectors.{piece_with, place_in_piece, blank_pieces, glued_input, glued_result, AreInputPieces, AreResultPieces, HavePieceShapes};
+
 use cb_dcsc::Block;
 use cb_grid::{Grid, deliver};
+use cb_layout::{Segment, append_segment, stored};
 use cb_matrix::{Entry, Matrix, Shape};
 use cb_semirings::Semiring;
 use std::alloc::{AllocError, Global};
@@ -98,8 +102,14 @@ pub fn gather_result<S: Semiring>(
     entries.reserve(stored(blocks))?;
     for rank in 0..grid.ranks() {
         let block = &blocks[usize::from(rank)];
-        let start = result_start(grid, shape.rows(), rank);
-        append_column(&mut entries, start, 0, block.row_numbers(), block.values())?;
+        let top = result_start(grid, shape.rows(), rank);
+        let piece = Segment {
+            column: 0,
+            top,
+            rows: block.row_numbers(),
+            values: block.values(),
+        };
+        append_segment(&mut entries, piece)?;
     }
     let vector = Matrix::collect(shape, entries)?;
     Ok(vector)

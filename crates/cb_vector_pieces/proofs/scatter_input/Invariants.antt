@@ -1,7 +1,7 @@
 use Rattle.std.proofs.Common.{take}
 use Rattle.cb_grid.proofs.EntriesByTile.{IsScattered}
-use Rattle.cb_layout.specs.PieceTiles.{input_tiles}
-use Rattle.cb_layout.proofs.vectors.scatter_input.Given as goal
+use Rattle.cb_vector_pieces.specs.PieceTiles.{input_tiles}
+use Rattle.cb_vector_pieces.proofs.scatter_input.Given as goal
 
 -- the blocks of the entries so far
 abbrev pub invariant-loop-entry : goal.invariant-loop-entry

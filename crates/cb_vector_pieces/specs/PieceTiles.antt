@@ -7,7 +7,7 @@ use Rattle.cb_matrix.specs.Values.{values_at}
 use Rattle.cb_grid.specs.Blocks.{block_at, part_with}
 use Rattle.cb_grid.specs.Pieces.{piece_start, piece_shape}
 use Rattle.cb_grid.specs.Tiles.{Tiles}
-use Rattle.cb_layout.specs.Vectors.{piece_with, place_in_piece}
+use Rattle.cb_vector_pieces.specs.Vectors.{piece_with, place_in_piece}
 
 -- the pieces of an input vector, by the numbers of their ranks: rank (t, j) has piece t of part j
 abbrev pub input_tiles : ℕ → Extent → Tiles

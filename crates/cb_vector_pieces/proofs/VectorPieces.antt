@@ -13,14 +13,14 @@ use Rattle.cb_dcsc.specs.Columns.{rows_of, values_of}
 use Rattle.cb_grid.specs.Parts.{part_start, part_length}
 use Rattle.cb_grid.specs.Blocks.{block_at, part_with, place_in_part}
 use Rattle.cb_grid.specs.Pieces.{piece_start, piece_shape, piece_of}
-use Rattle.cb_layout.specs.Vectors.{piece_with, place_in_piece, glued_pieces}
-use Rattle.cb_layout.specs.PieceTiles.{input_tiles, result_tiles, IsGathered, before_rank}
+use Rattle.cb_vector_pieces.specs.Vectors.{piece_with, place_in_piece, glued_pieces}
+use Rattle.cb_vector_pieces.specs.PieceTiles.{input_tiles, result_tiles, IsGathered, before_rank}
 use Rattle.cb_layout.specs.Segments.{shifted}
 use Rattle.cb_grid.proofs.Parts.{row_of_rank, column_of_rank, rank_below, rank_of, row_below, part_below, start_there, place_below, own_below, own_part}
 use Rattle.cb_grid.proofs.Tiles.{IsTiling}
 use Rattle.cb_layout.proofs.GluedTiles.{tile_is_cut}
 use Rattle.cb_grid.proofs.EntriesByTile.{IsScattered, tile_is}
-use Rattle.cb_layout.proofs.PlacedEntries.{placed_column, gathered_more, gathered_same, gathered_all}
+use Rattle.cb_vector_pieces.proofs.PlacedEntries.{placed_column, gathered_more, gathered_same, gathered_all}
 use Rattle.std.proofs.lemmas.Nat.{mod_below}
 
 module _ (q d : ℕ) (pos : 0 < q) where

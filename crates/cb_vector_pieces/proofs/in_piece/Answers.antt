@@ -2,7 +2,7 @@ use Rattle.std.proofs.Common.{◌≡◌, ◌<◌, ap, ◌∙◌, arith}
 use Rattle.cb_grid.specs.Parts.{part_length}
 use Rattle.cb_grid.specs.Blocks.{part_with, place_in_part}
 use Rattle.cb_grid.proofs.Parts.{place_below}
-use Rattle.cb_layout.proofs.vectors.in_piece.Goals as goal
+use Rattle.cb_vector_pieces.proofs.in_piece.Goals as goal
 
 pub in_part-t-requires : goal.in_part-t-requires
 in_part-t-requires c =

@@ -7,17 +7,17 @@ use Rattle.cb_matrix.specs.Sparse.{Sparse}
 use Rattle.cb_matrix.specs.Values.{empty_matrix}
 use Rattle.cb_grid.specs.Blocks.{block_at}
 use Rattle.cb_grid.specs.Pieces.{piece_start, piece_of}
-use Rattle.cb_layout.specs.Vectors.{glued_pieces}
-use Rattle.cb_layout.proofs.VectorPieces.{piece_fits, piece_more, pieces_all, pieces_are_cuts, some_side}
-use Rattle.cb_layout.proofs.vectors.gather_result.Given as given
-use Rattle.cb_layout.proofs.vectors.gather_result.Goals.{After-result_start-start, In_ok-vector}
-use Rattle.cb_layout.proofs.vectors.gather_result.Goals as goal
+use Rattle.cb_vector_pieces.specs.Vectors.{glued_pieces}
+use Rattle.cb_vector_pieces.proofs.VectorPieces.{piece_fits, piece_more, pieces_all, pieces_are_cuts, some_side}
+use Rattle.cb_vector_pieces.proofs.gather_result.Given as given
+use Rattle.cb_vector_pieces.proofs.gather_result.Goals.{After-result_start-top, In_ok-vector}
+use Rattle.cb_vector_pieces.proofs.gather_result.Goals as goal
 
 -- the rank, its block and the first row of its piece
-piece : (g : given.Over) (c : After-result_start-start g) →
+piece : (g : given.Over) (c : After-result_start-top g) →
     let q = c.args.grid.now.side in
     let r = c.loop-rank.rank in
-    (r < q * q) × (c.index-blocks-from.result ≡ block_at c.args.blocks.now r) × (c.result_start-start.result ≡ piece_start q c.args.shape.rows (r / q) (r % q))
+    (r < q * q) × (c.index-blocks-from.result ≡ block_at c.args.blocks.now r) × (c.result_start-top.result ≡ piece_start q c.args.shape.rows (r / q) (r % q))
 piece g c =
     let q = c.args.grid.now.side in
     let bs = c.args.blocks.now in
@@ -29,29 +29,29 @@ piece g c =
     let below : c.from.result < length bs = let k = c.requires.count in omega arith in (
       known,
       get_or_read bs c.from.result c.index-blocks-from.result below c.index-blocks-from.is (empty_matrix (record { rows = 0; cols = 0 })) ∙ ap (block_at bs) rank,
-      c.result_start-start.ensures.value ∙ ap (λ d. piece_start q d (r / q) (r % q)) c.rows.ensures.value,
+      c.result_start-top.ensures.value ∙ ap (λ d. piece_start q d (r / q) (r % q)) c.rows.ensures.value,
     )
 
-pub append_column-requires-clause-fits : goal.append_column-requires-clause-fits
-append_column-requires-clause-fits g c =
+pub append_segment-requires-clause-fits : goal.append_segment-requires-clause-fits
+append_segment-requires-clause-fits g c =
     let q = c.args.grid.now.side in
     let shape = c.args.shape in
     let r = c.loop-rank.rank in
-    let own = piece g (goal.at.append_column-requires-clause-fits g c).After-result_start-start in
+    let own = piece g (goal.at.append_segment-requires-clause-fits g c).After-result_start-top in
     let start = own.2 in
     let height = c.rows.ensures.value in
     let limit = c.rows.ensures.limit in
-    subst (λ xs. All (λ x. c.result_start-start.result + x < 4294967296) xs) (sym (rw own.1 at c.row_numbers.ensures))
-    (All-weaker (λ x. piece_start q shape.rows (r / q) (r % q) + x < shape.rows) (λ x. c.result_start-start.result + x < 4294967296) (λ x h. omega arith) _
+    subst (λ xs. All (λ x. c.result_start-top.result + x < 4294967296) xs) (sym (rw own.1 at c.row_numbers.ensures))
+    (All-weaker (λ x. piece_start q shape.rows (r / q) (r % q) + x < shape.rows) (λ x. c.result_start-top.result + x < 4294967296) (λ x h. omega arith) _
     (piece_fits g.S.Semiring.arithmetic q (some_side q r own.0) shape c.requires.column c.args.blocks.now c.requires.count c.requires.shapes c.stored.ensures.matrices r own.0))
 
 pub loop-rank-preserved : goal.loop-rank-preserved
 loop-rank-preserved g c =
     let q = c.args.grid.now.side in
     let r = c.loop-rank.rank in
-    let own = piece g (goal.at.loop-rank-preserved g c).After-result_start-start in
-    piece_more g.S.Semiring.arithmetic q (some_side q r own.0) c.args.shape c.requires.column c.args.blocks.now c.requires.count c.requires.shapes c.stored.ensures.matrices r own.0 c.loop-rank.entries.items c.append_column.new.entries.items
-    c.result_start-start.result own.2 (rw (rw own.1 at c.row_numbers.ensures, rw own.1 at c.values.ensures) at c.in_ok-append_column.ensures) c.loop-rank.invariant
+    let own = piece g (goal.at.loop-rank-preserved g c).After-result_start-top in
+    piece_more g.S.Semiring.arithmetic q (some_side q r own.0) c.args.shape c.requires.column c.args.blocks.now c.requires.count c.requires.shapes c.stored.ensures.matrices r own.0 c.loop-rank.entries.items c.append_segment.new.entries.items
+    c.result_start-top.result own.2 (rw (rw own.1 at c.row_numbers.ensures, rw own.1 at c.values.ensures) at c.in_ok-append_segment.ensures) c.loop-rank.invariant
 
 -- the vector is the one that the pieces make
 whole : (g : given.Over) (c : In_ok-vector g) →
@@ -82,8 +82,8 @@ returns-clause-cuts g c i t l k =
     pieces_are_cuts s q is.0 c.args.shape c.requires.column c.args.blocks.now c.requires.count c.requires.shapes c.stored.ensures.matrices g.met.S.Semiring.is_semiring i t l k
     ∙ ap (λ (m : Sparse). piece_of s q m i t) (sym is.1)
 
-pub append_column-requires-clause-lengths : goal.append_column-requires-clause-lengths
-append_column-requires-clause-lengths g c =
+pub append_segment-requires-clause-lengths : goal.append_segment-requires-clause-lengths
+append_segment-requires-clause-lengths g c =
     let es = c.index-blocks-from.result.entries in
     ap length c.values.ensures ∙ length-map es (λ (e : Entry). e.value) ∙ sym (length-map es (λ (e : Entry). e.row)) ∙ sym (ap length c.row_numbers.ensures)
 

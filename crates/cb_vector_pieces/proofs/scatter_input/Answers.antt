@@ -1,9 +1,9 @@
 use Rattle.std.proofs.Common.{◌+◌, ◌*◌}
 use Rattle.cb_grid.specs.Blocks.{block_at}
 use Rattle.cb_grid.proofs.EntriesByTile.{scattered_none, scattered_all, next_is_owed, next_is_scattered}
-use Rattle.cb_layout.specs.PieceTiles.{input_tiles}
-use Rattle.cb_layout.proofs.VectorPieces.{input_tiling, piece_is, glued_pieces_cut}
-use Rattle.cb_layout.proofs.vectors.scatter_input.Goals as goal
+use Rattle.cb_vector_pieces.specs.PieceTiles.{input_tiles}
+use Rattle.cb_vector_pieces.proofs.VectorPieces.{input_tiling, piece_is, glued_pieces_cut}
+use Rattle.cb_vector_pieces.proofs.scatter_input.Goals as goal
 
 pub loop-entry-init : goal.loop-entry-init
 loop-entry-init g c =

@@ -2,7 +2,7 @@ use Rattle.std.proofs.Common.{◌≡◌, ◌*◌, ◌/◌, ◌%◌, ◌≤◌, m
 use Rattle.std.specs.List.{range_with_len}
 use Rattle.cb_matrix.specs.Values.{empty_matrix}
 use Rattle.cb_grid.specs.Pieces.{piece_shape}
-use Rattle.cb_layout.proofs.vectors.empty_pieces.Given as goal
+use Rattle.cb_vector_pieces.proofs.empty_pieces.Given as goal
 
 -- the blocks of the ranks so far, and room for all
 abbrev pub invariant-loop-rank : goal.invariant-loop-rank

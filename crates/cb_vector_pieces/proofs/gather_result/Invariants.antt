@@ -1,5 +1,5 @@
-use Rattle.cb_layout.specs.PieceTiles.{result_tiles, IsGathered, before_rank}
-use Rattle.cb_layout.proofs.vectors.gather_result.Given as goal
+use Rattle.cb_vector_pieces.specs.PieceTiles.{result_tiles, IsGathered, before_rank}
+use Rattle.cb_vector_pieces.proofs.gather_result.Given as goal
 
 -- the pieces of the ranks so far
 abbrev pub invariant-loop-rank : goal.invariant-loop-rank

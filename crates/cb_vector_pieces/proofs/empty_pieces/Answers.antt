@@ -2,7 +2,7 @@ use Rattle.std.proofs.Common.{◌/◌, ◌%◌, ◌++◌, [], ◌∷◌, ap, sym
 use Rattle.std.proofs.lemmas.List.FromFn.{map-range_with_len_more}
 use Rattle.cb_matrix.specs.Values.{empty_matrix}
 use Rattle.cb_grid.specs.Pieces.{piece_shape}
-use Rattle.cb_layout.proofs.vectors.empty_pieces.Goals as goal
+use Rattle.cb_vector_pieces.proofs.empty_pieces.Goals as goal
 
 pub loop-rank-preserved : goal.loop-rank-preserved
 loop-rank-preserved g c =

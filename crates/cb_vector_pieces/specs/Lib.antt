@@ -1,0 +1,3 @@
+-- Vectors: cut and glue for vectors spread over all ranks. PieceTiles: what the steps of scatter and gather keep.
+pub mod Vectors
+pub mod PieceTiles
