@@ -95,13 +95,41 @@ pub fn read_two<S: Semiring + Send + Sync, R: Threads + Sync>(
     read_both(rt, alloc, grid, threads, &mut texts)
 }
 
+/// Reads three texts into the blocks of a grid, the first over a semiring of its own.
+pub fn read_triple<S: Semiring + Send + Sync, T: Semiring + Send + Sync, R: Threads + Sync>(
+    rt: &R,
+    alloc: Global,
+    grid: &Grid,
+    threads: u32,
+    mut texts: Vec<Vec<u8>>,
+) -> Result<
+    (
+        DistributedMatrix<S>,
+        DistributedMatrix<T>,
+        DistributedMatrix<T>,
+    ),
+    JobFault,
+>
+    requires { vec_len texts ≡ 3 }
+    ensures first { IfOk result (λ p. Reads S.arithmetic (text_at (bytes_of texts.items) 0) p.0.matrix) }
+    ensures second { IfOk result (λ p. Reads T.arithmetic (text_at (bytes_of texts.items) 1) p.1.matrix) }
+    ensures third { IfOk result (λ p. Reads T.arithmetic (text_at (bytes_of texts.items) 2) p.2.matrix) }
+    ensures sides { IfOk result (λ p. (p.0.side ≡ grid.now.side) × (p.1.side ≡ grid.now.side) × (p.2.side ≡ grid.now.side)) }
+    ensures fault { IfErr result (IsFirstReadFault (arithmetic_at S.arithmetic T.arithmetic) (bytes_of texts.items)) }
+{
+    let (first, second) = read_both::<S, T, R>(rt, alloc, grid, threads, &mut texts)?;
+    let text = texts.remove(0);
+    let third = read_text(rt, alloc, grid, threads, 2, text)?;
+    Ok((first, second, third))
+}
+
 /// Reads three texts into the blocks of a grid.
 pub fn read_three<S: Semiring + Send + Sync, R: Threads + Sync>(
     rt: &R,
     alloc: Global,
     grid: &Grid,
     threads: u32,
-    mut texts: Vec<Vec<u8>>,
+    texts: Vec<Vec<u8>>,
 ) -> Result<
     (
         DistributedMatrix<S>,
@@ -115,10 +143,7 @@ pub fn read_three<S: Semiring + Send + Sync, R: Threads + Sync>(
     ensures sides { IfOk result (λ p. (p.0.side ≡ grid.now.side) × (p.1.side ≡ grid.now.side) × (p.2.side ≡ grid.now.side)) }
     ensures fault { IfErr result (IsReadFault S.arithmetic (bytes_of texts.items)) }
 {
-    let (left, right) = read_both::<S, S, R>(rt, alloc, grid, threads, &mut texts)?;
-    let third = texts.remove(0);
-    let mask = read_text(rt, alloc, grid, threads, 2, third)?;
-    Ok((left, right, mask))
+    read_triple(rt, alloc, grid, threads, texts)
 }
 
 /// Reads two texts, each over its own semiring.

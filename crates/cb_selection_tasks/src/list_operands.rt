@@ -7,7 +7,7 @@ ghost use Rattle.cb_selection_tasks.specs.Extracts.{AreWithLists};
 
 use cb_dcsc::Block;
 use cb_job_texts::faults::JobFault;
-use cb_job_texts::inputs::read_text;
+use cb_job_texts::inputs::read_triple;
 use cb_layout::Grid;
 use cb_semirings::{PlusTimes, Semiring};
 use std::alloc::Global;
@@ -18,18 +18,13 @@ pub fn read_with_lists<S: Semiring + Send + Sync, R: Threads + Sync>(
     rt: &R,
     alloc: Global,
     threads: u32,
-    mut texts: Vec<Vec<u8>>,
+    texts: Vec<Vec<u8>>,
 ) -> Result<(Block<S>, Block<PlusTimes>, Block<PlusTimes>), JobFault>
     requires { vec_len texts ≡ 3 }
     ensures ok { IfOk result (λ p. AreWithLists S.arithmetic (bytes_of texts.items) p.0 p.1 p.2) }
     ensures fault { IfErr result (IsFirstReadFault (arithmetic_at S.arithmetic plus_times) (bytes_of texts.items)) }
 {
     let grid = Grid::single();
-    let first = texts.remove(0);
-    let second = texts.remove(0);
-    let third = texts.remove(0);
-    let matrix = read_text::<S, R>(rt, alloc, &grid, threads, 0, first)?;
-    let rows = read_text::<PlusTimes, R>(rt, alloc, &grid, threads, 1, second)?;
-    let columns = read_text::<PlusTimes, R>(rt, alloc, &grid, threads, 2, third)?;
+    let (matrix, rows, columns) = read_triple::<S, PlusTimes, R>(rt, alloc, &grid, threads, texts)?;
     Ok((matrix.into_block(), rows.into_block(), columns.into_block()))
 }
