@@ -17,3 +17,7 @@ pub record AreLevelNumbers (a : Sparse) (source : ℕ) (d : ℕ → ℕ) : Type 
   pub fits : (v : ℕ) → d v ≤ infinite
   pub levels : (v : ℕ) → d v ≢ infinite → IsLeast or_and a source v steps (d v)
   pub none : (v : ℕ) → d v ≡ infinite → (walk : List ℕ) → ¬ IsWalk or_and a source v walk
+
+-- whatever the source: if the first numbers are those before any round, the second are the levels
+abbrev pub ComesToLevels : Sparse → (ℕ → ℕ) → (ℕ → ℕ) → Type 0
+ComesToLevels a before after = (source : ℕ) → IsBottomUp a source 0 before → AreLevelNumbers a source after

@@ -10,7 +10,7 @@
 //! each round then reaches many times as many as the one before, until few are left to look at. Otherwise it gives up.
 ghost use Rattle.std.specs.Prelude.{◌≡◌, ℕ, ◌+◌, ◌<◌, ◌≤◌, true, length, slice_index, take, All, IfOk, IfSome};
 ghost use Rattle.cb_searches.specs.Numbers.{number_at, listed_at, AreNumbers};
-ghost use Rattle.cb_searches.specs.BottomUp.{IsBottomUp, AreLevelNumbers};
+ghost use Rattle.cb_searches.specs.BottomUp.{IsBottomUp, AreLevelNumbers, ComesToLevels};
 
 use crate::numbers::Numbers;
 use cb_dcsc::Block;
@@ -53,7 +53,7 @@ fn finish(list: &mut [u64], graph: &Block<OrAnd>) -> bool
     requires square { graph.now.shape.rows ≡ graph.now.shape.cols }
     requires length { length list.old ≡ graph.now.shape.rows }
     ensures length { length list.new ≡ length list.old }
-    ensures levels { result ≡ true → (source : ℕ) → IsBottomUp graph.now source 0 (listed_at list.old) → AreLevelNumbers graph.now source (listed_at list.new) }
+    ensures levels { result ≡ true → ComesToLevels graph.now (listed_at list.old) (listed_at list.new) }
 {
     let mut looks_left = graph.len().saturating_mul(LOOKS_PER_ENTRY);
     let mut reached_before = 0;
