@@ -1,6 +1,6 @@
 -- How many entries a column has, as a count over all rows and as a list.
-use Rattle.std.proofs.Common.{◌≡◌, ◌≢◌, ℕ, ◌+◌, ◌-◌, ◌<◌, ◌≤◌, true, false, cond, inr, ⊎_elim, List, [], ◌∷◌, length, take, drop, map, get_or, sym, refl, ap, subst, ◌∙◌, arith, length-drop, true≢false}
-use Rattle.std.specs.Prelude.{All, AllPairs, Contains, not, ◌&&◌, ◌==◌, slice_range}
+use Rattle.std.proofs.Common.{◌≡◌, ◌≢◌, ℕ, ◌+◌, ◌<◌, ◌≤◌, true, false, cond, inr, ⊎_elim, List, [], ◌∷◌, length, take, map, get_or, sym, refl, ap, subst, ◌∙◌, arith, true≢false}
+use Rattle.std.specs.Prelude.{All, AllPairs, Contains, not, ◌&&◌, ◌==◌}
 use Rattle.std.specs.List.{sum_by}
 use Rattle.std.proofs.lemmas.Bool.{cases_Bool, eq-eqb, ne_eqb, eqb-true, eqb-false}
 use Rattle.std.proofs.lemmas.List.{get_or-take, get_or_default, length-take-le, length-map}
@@ -100,12 +100,6 @@ module _ (es : List Entry) where
       let size = length-take-le n cs (omega arith) in
       let below : k < n = omega arith in
       inr (refl, subst (λ c. c < get_or cs n 0) (sym (get_or-take n cs k 0 below)) (up k n 0 below l))))
-
--- the number of a column's entries by where they start and end
-pub degree_of_range : (es : List Entry) (c start end : ℕ) → start < end → end ≤ length es → slice_range es start end ≡ in_column c es → end - start ≡ length (in_column c es)
-degree_of_range es c start end some within range =
-    let size : end - start ≤ length (drop start es) = simp length-drop (omega arith) in
-    sym (length-take-le (end - start) (drop start es) size) ∙ ap length range
 
 -- the degrees of all columns with entries are those of the matrix
 pub degrees_are : (s : Arithmetic) (a degrees : Sparse) (cs : List ℕ) → IsMatrix s a → IsMatrix plus_times degrees → cs ≡ columns_with_entries a.entries →

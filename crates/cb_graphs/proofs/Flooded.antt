@@ -62,15 +62,6 @@ spread_kept s d e keeps v some h x q = keeps x (λ z. some (sym (h x q) ∙ z)) 
 pub kept_twice : (d e f : ℕ → ℕ) → KeepLabels d e → KeepLabels e f → KeepLabels d f
 kept_twice d e f p q v some = q v (λ z. some (sym (p v some) ∙ z)) ∙ p v some
 
--- if no vertex has a label, none needs to wait
-pub none_labelled : (s : Sparse) (d : ℕ → ℕ) → ((v : ℕ) → d v ≡ infinite) → IsLabelling s d []
-none_labelled s d none = record {
-  joined = λ v some. absurd (some (none v));
-  low = λ v some. absurd (some (none v));
-  entered = λ v some. absurd (some (none v));
-  spread = λ v some. absurd (some (none v));
-}
-
 -- a flood begins at a vertex that has entries: if it has no label, it becomes its own
 module _ (s : Sparse) (d e : ℕ → ℕ) (w u : ℕ) (finite : w < infinite) (edge : at or_and s u w ≢ 0) (next : IsNext s d w) (is : IsLabelling s d []) (ys : List ℕ) (set : (v : ℕ) → e v ≡ with_label d w w v) (waits : ys ≡ with_waiting d w []) where
   begun_old : d w ≢ infinite → IsFlooding s w e ys
@@ -116,13 +107,6 @@ module _ (s : Sparse) (d e : ℕ → ℕ) (w u : ℕ) (finite : w < infinite) (e
 
   pub flooding_begun : IsFlooding s w e ys
   flooding_begun = ⊎_elim begun_new begun_old (cases_eq (d w) infinite)
-
-  -- then it has a label
-  pub begun_here : e w ≢ infinite
-  begun_here q = ⊎_elim
-      (λ (none : d w ≡ infinite). omega (arith, q, set_here d e w w finite set none))
-      (λ (some : d w ≡ infinite → ⊥). some (sym (set_not d e w w finite set some w) ∙ q))
-      (cases_eq (d w) infinite)
 
 module _ (s : Sparse) (c : ℕ) (d : ℕ → ℕ) where
   -- the order of the waiting vertices doesn't matter

@@ -1,7 +1,7 @@
 -- For this crate alone. Undirected: the sum of a matrix and its transpose. Flooded: a label that spreads. Joined: labels
 -- that have spread are the least vertices of components. Counting: sums over ranges and over lists. AnyOrder: joined
--- triples are counted alike in every order. Listed: numbers that lists have in common. Later: orders of places. Marked:
--- marks, and lists one after another. Beside: lists of the places of neighbours. Apexes: all triangles, and those of one
+-- triples are counted alike in every order. Listed: numbers that lists have in common. Later: orders of places. GrownLists:
+-- one more list after others. Beside: lists of the places of neighbours. Apexes: all triangles, and those of one
 -- vertex, by the places of their vertices. DegreeCounts: how many entries a column has.
 pub mod Undirected
 pub mod Flooded
@@ -10,7 +10,7 @@ pub mod Counting
 pub mod AnyOrder
 pub mod Listed
 pub mod Later
-pub mod Marked
+pub mod GrownLists
 pub mod Beside
 pub mod Apexes
 pub mod DegreeCounts

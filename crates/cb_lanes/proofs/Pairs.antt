@@ -58,10 +58,6 @@ module _ {P : Type 0} where
   pub Keeps-trans : (a b c : Desk P) → Keeps a b → Keeps b c → Keeps a c
   Keeps-trans a b c p q = (q.0 ∙ p.0, (λ j. let first = p.1 j in let then = q.1 j in (then.0 ∙ first.0, (let l = first.1 in let m = then.1 in omega arith), then.2 ∙ first.2)), λ j. q.2 j ∙ p.2 j)
 
-  -- desks are the same as themselves
-  pub SameDesks-refl : (xs : List (Desk P)) → SameDesks xs xs
-  SameDesks-refl xs = record { count = refl; identities = refl; each = (λ k a below. Keeps-refl (slice_index_or xs k a)) }
-
   -- and the same as desks that are the same as those
   pub SameDesks-trans : (xs ys zs : List (Desk P)) → SameDesks xs ys → SameDesks ys zs → SameDesks xs zs
   SameDesks-trans xs ys zs p q = record { count = q.count ∙ p.count; identities = q.identities ∙ p.identities; each = (λ k a below. Keeps-trans (slice_index_or xs k a) (slice_index_or ys k a) (slice_index_or zs k a) (p.each k a below) (q.each k a (rw p.count below))) }

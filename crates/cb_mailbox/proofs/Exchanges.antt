@@ -17,10 +17,6 @@ use Rattle.cb_mailbox.specs.Exchanges.{accepted_on, taken_on, without_marks, Are
 use Rattle.cb_mailbox.proofs.Balance.{after_keeps, still_inside}
 use Rattle.cb_mailbox.proofs.LaneSteps.{LaneStep, Stays, Accepts, HandsOut, lane_step}
 
-or_false : (a b : Bool) → a ≡ false → (a || b) ≡ b
-or_false true b e = absurd (let wrong : true ≡ false = e in cc)
-or_false false b e = refl
-
 or_none : (b : Bool) → b ≡ (b || false)
 or_none true = refl
 or_none false = refl

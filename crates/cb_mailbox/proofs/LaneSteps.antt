@@ -116,9 +116,6 @@ module _ {P : Type 0} where
   nothing_of from f Answers.Empty apart = refl
   nothing_of from f Answers.Stranger apart = refl
 
-  no_accept_take : (from to f : ℕ) (a : Taken P) → accepted_by from to (Take f) (Took a) ≡ []
-  no_accept_take from to f a = refl
-
   take_step : (box : Inbox P) (from f : ℕ) (b : Bool) → is_stranger box f ≡ b → is_stranger box from ≡ false
       → LaneStep from box.me (lane_from box from) (lane_from (if b then box else with_lane box f (after_take (lane_from box f))) from) [] (taken_by from (Take f) (Took (if b then Answers.Stranger else take_answer (lane_from box f))))
   take_step box from f true e inside = inl (record { lane = refl; none = refl; kept = refl })

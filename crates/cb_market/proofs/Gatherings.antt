@@ -1,5 +1,5 @@
 -- Gathered entries, appended to others.
-use Rattle.std.proofs.Common.{◌≡◌, ℕ, Bool, true, false, subst, ◌∙◌, ◌+◌, ◌^◌, ◌<◌, ◌≤◌, min, max, List, [], ◌∷◌, ◌++◌, get_or, inl, inr, ⊎_elim, sym, arith}
+use Rattle.std.proofs.Common.{◌≡◌, ℕ, Bool, true, false, subst, ◌∙◌, ◌+◌, ◌^◌, ◌<◌, ◌≤◌, min, max, List, [], ◌∷◌, ◌++◌, inl, inr, ⊎_elim, sym, arith}
 use Rattle.std.specs.Prelude.{All}
 use Rattle.std.proofs.lemmas.Bool.{cases_lt, false≢true}
 use Rattle.cb_semirings.specs.Arithmetic.{Arithmetic, IsValue}
@@ -12,15 +12,6 @@ use Rattle.cb_market.specs.Gathered.{place_number, IsGathered}
 -- an entry with a smaller number comes before one with a row below 2^32
 before_by_number : (d e : Entry) → e.row < 2 ^ 32 → place_number d < place_number e → IsBefore d e
 before_by_number d e l h = ⊎_elim (λ (k : d.column < e.column). inl k) (λ (k : e.column ≤ d.column). inr (omega arith, omega arith)) (cases_lt d.column e.column)
-
--- entries below a bound come before those from it on
-pub all_before : (shape : Extent) (es fs : List Entry) (bound first : ℕ) → shape.rows ≤ 2147483647 → All (λ e. place_number e < bound) es → All (λ e. first ≤ place_number e) fs → All (IsInside shape) fs → bound ≤ first → All (λ d. All (IsBefore d) fs) es
-all_before shape es fs bound first low below above inside order =
-    All-weaker (λ e. place_number e < bound) (λ d. All (IsBefore d) fs) (λ d less k x l.
-    let here = inside k x l in
-    let there : first ≤ place_number (get_or fs k x) = above k x l in
-    let small : (get_or fs k x).row < 2 ^ 32 = omega (arith, here.0, low) in
-    before_by_number d (get_or fs k x) small (omega (arith, less, order, there))) es below
 
 -- all have at least the lesser first number
 pub above_both : (es fs : List Entry) (f g : ℕ) → All (λ e. f ≤ place_number e) es → All (λ e. g ≤ place_number e) fs → All (λ e. min f g ≤ place_number e) (es ++ fs)

@@ -2,11 +2,9 @@
 use Rattle.std.proofs.Common.{◌≡◌, ℕ, zero, suc, not, ◌+◌, ◌-◌, ◌≤◌, ◌<◌, List, [], ◌∷◌, ◌++◌, arith, cond, true, false, Bool, length, take, sym, ap, ◌∙◌, refl, length-append, ⊎_elim}
 use Rattle.std.specs.Prelude.{◌==◌, ◌||◌, ◌&&◌}
 use Rattle.std.proofs.lemmas.Bool.Decides.{nat_tests}
-use Rattle.std.specs.List.{count_by, filter}
-use Rattle.std.proofs.lemmas.List.Sums.{length-filter}
-use Rattle.std.proofs.lemmas.List.{take_at, length-map}
+use Rattle.std.proofs.lemmas.List.{take_at}
 use Rattle.std.proofs.lemmas.Bool.{cases_Bool, or_parts}
-use Rattle.cb_market_lines.specs.Lines.{lines, cut_lines, onto_first, without_return, words, is_blank, begins_blank, is_comment, is_skipped, kept_from}
+use Rattle.cb_market_lines.specs.Lines.{lines, cut_lines, without_return, words, is_blank, begins_blank, is_comment, is_skipped, kept_from}
 use Rattle.cb_market_lines.specs.Cursor.{is_line_end, line_at, after_line, is_word_end, front_word, after_word, after_blanks, number_of}
 use Rattle.cb_market_lines.specs.declared.words.Number.{Number}
 
@@ -69,31 +67,6 @@ line_is (c ∷ d ∷ rest) =
 pub lines_step : (c : ℕ) (rest : List ℕ) → lines (c ∷ rest) ≡ line_at (c ∷ rest) ∷ lines (after_line (c ∷ rest))
 unfolding lines
 lines_step c rest = rw (cut_step c rest, line_is (c ∷ rest)) refl
-
--- a byte in front of some lines leaves no fewer
-onto_first-le : (c : ℕ) (ls : List (List ℕ)) → length ls ≤ length (onto_first c ls)
-onto_first-le c [] = omega arith
-onto_first-le c (l ∷ ls) = omega arith
-
-abbrev is_feed : ℕ → Bool
-is_feed c = c == 10
-
-feeds_step : (c : ℕ) (rest : List ℕ) → length (filter is_feed rest) ≤ length (cut_lines rest) → length (filter is_feed (c ∷ rest)) ≤ length (cut_lines (c ∷ rest))
-unfolding cut_lines
-feeds_step c rest h = ⊎_elim (λ e. rw e (omega (arith, h))) (λ e. rw e (omega (arith, h, onto_first-le c (cut_lines rest)))) (cases_Bool (c == 10))
-
-feeds_cut : (text : List ℕ) → length (filter is_feed text) ≤ length (cut_lines text)
-unfolding cut_lines
-feeds_cut [] = omega arith
-feeds_cut (c ∷ rest) = feeds_step c rest (feeds_cut rest)
-
--- each line feed ends a line
-pub feeds-le : (text : List ℕ) → count_by (λ c. c == 10) text ≤ length (lines text)
-unfolding lines
-feeds-le text =
-    let count = length-filter is_feed text in
-    let same = length-map (cut_lines text) without_return in
-    omega (arith, count, same, feeds_cut text)
 
 -- words
 

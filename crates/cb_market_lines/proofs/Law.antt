@@ -205,10 +205,6 @@ words_of ls = map (λ l. l.1) ls
 abbrev entries_of : Arithmetic → Header → List (ℕ × List (List ℕ)) → List Entry
 entries_of s header ls = map (λ l. entry_of s header l.1) ls
 
-entries_count : (s : Arithmetic) (header : Header) (ls : List (ℕ × List (List ℕ))) → length (entries_of s header ls) ≡ length ls
-entries_count s header [] = refl
-entries_count s header (l ∷ ls) = ap suc (entries_count s header ls)
-
 entries_say : (s : Arithmetic) (header : Header) (shape : Extent) (n count : ℕ) (ls : List (ℕ × List (List ℕ))) → entries_fault s header shape n count ls ≡ None → (length (entries_of s header ls) ≡ count) × AreEntries s header shape (words_of ls) (entries_of s header ls)
 unfolding entries_fault
 entries_say s header shape n zero [] e = (refl, tt)

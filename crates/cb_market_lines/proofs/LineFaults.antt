@@ -22,10 +22,6 @@ abbrev pub From : ℕ → List (ℕ × List (List ℕ)) → Type 0
 From k [] = Unit {0}
 From k (l ∷ ls) = (k ≤ l.0) × From k ls
 
-from_weaker : (k m : ℕ) (ls : List (ℕ × List (List ℕ))) → m ≤ k → From k ls → From m ls
-from_weaker k m [] h f = tt
-from_weaker k m (l ∷ ls) h f = (omega (arith, h, f.0), from_weaker k m ls h f.1)
-
 from_filter : (k : ℕ) (n : ℕ) (ws : List (List (List ℕ))) → k ≤ n → From k (filter (λ l. not (is_skipped l.1)) (enumerate_from n ws))
 from_filter k n [] h = tt
 from_filter k n (w ∷ ws) h =

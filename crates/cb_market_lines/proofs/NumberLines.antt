@@ -1,5 +1,5 @@
 -- Lines of numbers with single blanks between them and a line feed at the end.
-use Rattle.std.proofs.Common.{◌≡◌, ℕ, ◌+◌, ◌-◌, ◌<◌, ◌≤◌, ◌^◌, List, [], ◌∷◌, ◌++◌, arith, true, false, length, take, drop, get_or, sym, ap, ◌∙◌, refl, length-append, ⊎_elim, subst}
+use Rattle.std.proofs.Common.{◌≡◌, ℕ, ◌+◌, ◌-◌, ◌<◌, ◌≤◌, ◌^◌, List, [], ◌∷◌, ◌++◌, arith, true, false, length, take, drop, get_or, sym, ap, ◌∙◌, refl, length-append, ⊎_elim}
 use Rattle.std.specs.Prelude.{◌==◌}
 use Rattle.std.proofs.lemmas.Bool.Decides.{nat_tests}
 use Rattle.std.proofs.lemmas.List.{take_at, take_rest}
@@ -8,7 +8,7 @@ use Rattle.cb_market_lines.specs.declared.words.Number.TheVariants.{Whole}
 use Rattle.cb_market_lines.specs.Lines.{lines, words, is_digit, is_number, is_comment, is_skipped, number, number_from, kept_from}
 use Rattle.cb_market_lines.specs.Cursor.{line_at, after_line, is_word_end, after_word, front_digits, after_digits, number_of, IsNumberBefore, IsPlainLine}
 use Rattle.std.specs.Prelude.{Result, Ok, Err, IfOk, IfErr, None, Some}
-use Rattle.cb_semirings.specs.Arithmetic.{Arithmetic, IsValue, ReadsNumbers}
+use Rattle.cb_semirings.specs.Arithmetic.{Arithmetic}
 use Rattle.cb_matrix.specs.declared.Entry.{Entry}
 use Rattle.cb_matrix.specs.Sparse.{Extent}
 use Rattle.cb_market_lines.specs.declared.Kind.{Kind}
@@ -17,7 +17,6 @@ use Rattle.cb_market_lines.specs.declared.header.Field.{Field}
 use Rattle.cb_market_lines.specs.declared.header.Field.TheVariants.{Integer}
 use Rattle.cb_market_lines.specs.Checks.{entry_fault, entry_of}
 use Rattle.cb_market_lines.specs.Faults.{IsEntryOf, IsNextEntry}
-use Rattle.cb_market_lines.proofs.Bodies.{entry_value}
 use Rattle.cb_market_lines.proofs.DigitByDigit.{if_small_fits}
 use Rattle.cb_market_lines.proofs.WordNumbers.{number_magnitude}
 use Rattle.cb_market_lines.proofs.FrontWords.{digit_no_end, after_digits_word, front_digits_word, number_front, ended}
@@ -123,10 +122,6 @@ plain_lines text row column value rest h = lines_more text h.some ∙ ap (λ l. 
 pub entry_found : (s : Arithmetic) (header : Header) (shape : Extent) (ws : List (List ℕ)) (found : Result Entry Kind) → IfOk found (λ e. (entry_fault s header shape ws ≡ None) × (e ≡ entry_of s header ws)) → IfErr found (λ k. entry_fault s header shape ws ≡ Some k) → IsEntryOf s header shape ws found
 entry_found s header shape ws (Ok e) a b = a
 entry_found s header shape ws (Err k) a b = b
-
--- an entry without a fault has a value of the semiring
-pub found_value : (s : Arithmetic) (numbers : ReadsNumbers s) (header : Header) (shape : Extent) (ws : List (List ℕ)) (e : Entry) → IsEntryOf s header shape ws (Ok e) → IsValue s e.value
-found_value s numbers header shape ws e h = subst (λ (d : Entry). IsValue s d.value) (sym h.1) (entry_value s numbers header shape ws h.0)
 
 -- a header of whole numbers
 pub integer_header : (header : Header) → header.field ≡ Integer → record { field = Integer; symmetry = header.symmetry } ≡ header

@@ -17,12 +17,6 @@ by_cases w P a b c =
     (λ (e : is_value_word w ≡ true). ⊎_elim (λ (f : nat_lt (magnitude w) (2 ^ 64) ≡ true). rw (e, f) (b e f)) (λ (f : nat_lt (magnitude w) (2 ^ 64) ≡ false). rw (e, f) (c e f)) (cases_Bool (nat_lt (magnitude w) (2 ^ 64))))
     (λ (e : is_value_word w ≡ false). rw e (a e)) (cases_Bool (is_value_word w))
 
-pub not_whole : (w : List ℕ) (n : Number) → n ≡ number_of w → n ≡ NotWhole → is_value_word w ≡ false
-not_whole w n e f = by_cases w (λ b m. m ≡ NotWhole → b ≡ false) (λ _ _. refl) (λ _ _ g. cc) (λ _ _ g. cc) (sym e ∙ f)
-
-pub too_large : (w : List ℕ) (n : Number) → n ≡ number_of w → n ≡ TooLarge → (is_value_word w ≡ true) × (nat_lt (magnitude w) (2 ^ 64) ≡ false)
-too_large w n e f = by_cases w (λ b m. m ≡ TooLarge → (b ≡ true) × (nat_lt (magnitude w) (2 ^ 64) ≡ false)) (λ _ g. cc) (λ _ _ g. cc) (λ _ h _. (refl, h)) (sym e ∙ f)
-
 not_small : (w : List ℕ) (n : Number) → n ≡ number_of w → ((x : ℕ) → n ≡ Whole x → ⊥) → is_value_word w ≡ true → nat_lt (magnitude w) (2 ^ 64) ≡ false
 not_small w n e f g = by_cases w (λ b m. b ≡ true → ((x : ℕ) → m ≡ Whole x → ⊥) → nat_lt (magnitude w) (2 ^ 64) ≡ false) (λ _ h _. cc) (λ _ _ _ k. absurd (k (magnitude w) refl)) (λ _ h _ _. h) g (λ x h. f x (e ∙ h))
 

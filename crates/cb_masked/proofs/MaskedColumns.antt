@@ -1,5 +1,5 @@
 -- What a mask leaves of a product, column by column.
-use Rattle.std.proofs.Common.{◌≡◌, ◌≢◌, ℕ, suc, ◌<◌, ◌≤◌, cond, List, [], ◌∷◌, length, map, get_or, sym, refl, ap, ◌∙◌, ⊎_elim, arith, subst}
+use Rattle.std.proofs.Common.{◌≡◌, ◌≢◌, ℕ, suc, ◌<◌, cond, List, [], ◌∷◌, length, map, get_or, sym, refl, ap, ◌∙◌, ⊎_elim, arith, subst}
 use Rattle.std.specs.Prelude.{All, ◌==◌, not}
 use Rattle.std.specs.List.{range_with_len}
 use Rattle.std.proofs.lemmas.Bool.{cases_eq, eq-eqb, ne_eqb}
@@ -16,7 +16,6 @@ use Rattle.cb_product.specs.Terms.{column_sum}
 use Rattle.cb_product.proofs.AbsentColumns.{nothing_there}
 use Rattle.cb_product.proofs.OwnColumn.{own_sparse}
 use Rattle.cb_product.proofs.ProductColumns.{column_total, own_column}
-use Rattle.cb_product.proofs.RowValues.{absent_above}
 use Rattle.cb_masked.specs.RowSums.{HaveEach}
 
 -- a column with f at the rows of another column, whose values aren't z: its value is f where the other has an entry, and z elsewhere
@@ -69,7 +68,3 @@ module _ (s : Arithmetic) (laws : IsSemiring s) (a b m : Sparse) (is_a : IsMatri
         masked_value s.zero (λ i. at s (product s a b) i j) rows values sums i own.same_length same own.not_zero
         (λ k l. have k l ∙ column_product (get_or rows k 0) j ks vs (subst (λ (e : Extent). get_or rows k 0 < e.rows) shape (All-get_or (λ i. i < m.shape.rows) rows k 0 l inside)) (subst (λ (e : Extent). j < e.cols) shape lj) ks_are vs_are)
         ∙ ap (λ x. cond (not (x == s.zero)) (at s (product s a b) i j) s.zero) (own_column s m j rows values rows_are values_are i)
-
-    -- past all rows they are zero
-    pub left_past : (i : ℕ) → m.shape.rows ≤ i → row_value s.zero rows sums i ≡ s.zero
-    left_past i l = absent_above s.zero m.shape.rows rows sums i (rows_inside s m j rows is_m rows_are) l

@@ -18,7 +18,7 @@
 -- OnlyColumns: a matrix without its entries outside given columns: `only_in`, `only_matrix`, `only_column`, `only_value`,
 --   `only_all`; which numbers are among given ones: `among_from`, `among_holds`.
 -- Panels: products with some columns, one after another: `panels_matrix`, `panels_joined`, `both_matrix`, `both_joined`;
---   `front_factors`, `back_factors`; with all columns they are the product, `whole_panel`.
+--   with all columns they are the product, `whole_panel`.
 -- EmptyFactors: a product with a matrix without entries has none: `product_vanishes`.
 -- Outside: a column without its entries in excluded rows; `among_none`.
 pub mod RowValues

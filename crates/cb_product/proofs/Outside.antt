@@ -47,13 +47,6 @@ module _ (rows : List ℕ) (up : AllPairs (λ i j. i < j) rows) (n row : ℕ) (p
       (λ (e : get_or rows n 0 ≡ row → ⊥). let ne : get_or rows n 0 ≢ row = e in ne_eqb (get_or rows n 0) row ne ∙ sym (past_row l (omega arith)))
       (cases_eq (get_or rows n 0) row)
 
-  -- with one more row
-  pub passed_more : get_or rows n 0 < row → ArePassed rows (n + 1) row
-  passed_more less k l = ⊎_elim
-      (λ (b : k < n). passed k b)
-      (λ (b : n ≤ k). let e : k ≡ n = omega arith in let same = ap (λ m. get_or rows m 0) e in omega arith)
-      (cases_lt k n)
-
 -- the value at row i of a column's entries from the n-th on, times a factor, without the rows that p excludes
 abbrev pub left_outside : Arithmetic → List ℕ → List ℕ → Option ℕ → (ℕ → Bool) → ℕ → ℕ → ℕ
 left_outside s rows values scale p n i = cond (p i) s.zero (scaled s (rest_value s.zero rows values n i) scale)

@@ -9,15 +9,12 @@ use Rattle.cb_semirings.specs.Arithmetic.{Arithmetic, IsSemiring}
 use Rattle.cb_matrix.specs.declared.Entry.{Entry}
 use Rattle.cb_matrix.specs.Sparse.{Sparse, IsMatrix, IsBefore, is_at, at}
 use Rattle.cb_matrix.specs.Values.{product, product_shape}
-use Rattle.cb_matrix.proofs.Pairs.{AllPairs-front, All-front}
 use Rattle.cb_matrix.proofs.Places.{is_at-parts, value_at-append_left, value_at-append_right}
 use Rattle.cb_matrix.proofs.Made.{columns_all, at-matrix_of, IsMatrix-matrix_of, NoneAt}
 use Rattle.cb_matrix.proofs.Equal.{matrix_is}
 use Rattle.cb_matrix.proofs.Totals.{total-same}
 use Rattle.cb_dcsc.specs.Columns.{in_column, rows_of, values_of, with_entries}
 use Rattle.cb_dcsc.proofs.Appended.{matrix_append}
-use Rattle.cb_product.specs.declared.column_index.ColumnIndex.{ColumnIndex}
-use Rattle.cb_product.specs.Factors.{AreFactors}
 use Rattle.cb_product.specs.InColumns.{AreInColumns, is_among, only_columns}
 use Rattle.cb_product.specs.Terms.{column_sum}
 use Rattle.cb_product.proofs.AbsentColumns.{nothing_there}
@@ -115,35 +112,6 @@ module _ (s : Arithmetic) (laws : IsSemiring s) (a b : Sparse) (p : IsMatrix s a
 
       pub both_joined : with_entries front back.entries ≡ panel zs
       both_joined = (λ t. with_entries (first t) (last t).entries) ∙ panels_joined ∙ ap panel (sym all)
-
--- the first columns, and the others, are factors too
-module _ (index : ColumnIndex) (a b : Sparse) (xs ys zs : List ℕ) (all : zs ≡ xs ++ ys) (h : AreFactors index a b zs) where
-  pub front_factors : AreFactors index a b xs
-  front_factors = record {
-    agree = h.agree;
-    told = h.told;
-    ascending = AllPairs-front (λ c d. c < d) xs ys (subst (AllPairs (λ c d. c < d)) all h.ascending);
-    within = All-front (λ c. c < b.shape.cols) xs ys (subst (All (λ c. c < b.shape.cols)) all h.within);
-  }
-
-  pub back_factors : AreFactors index a b ys
-  back_factors =
-      let up : AllPairs (λ c d. c < d) (xs ++ ys) = subst (AllPairs (λ c d. c < d)) all h.ascending in
-      let inside : All (λ c. c < b.shape.cols) (xs ++ ys) = subst (All (λ c. c < b.shape.cols)) all h.within in
-      let long = length-append xs ys in
-      record {
-        agree = h.agree;
-        told = h.told;
-        ascending = λ i j d l m.
-            let e = get_or-append-add xs ys i d in
-            let f = get_or-append-add xs ys j d in
-            let w : get_or (xs ++ ys) (length xs + i) d < get_or (xs ++ ys) (length xs + j) d = up (length xs + i) (length xs + j) d (omega arith) (omega arith) in
-            omega arith;
-        within = λ k d l.
-            let e = get_or-append-add xs ys k d in
-            let w : get_or (xs ++ ys) (length xs + k) d < b.shape.cols = inside (length xs + k) d (omega arith) in
-            omega arith;
-      }
 
 -- with all nonempty columns listed, it is the whole product
 pub whole_panel : {E : Type 0} (s : Arithmetic) (a b : Sparse) (cs : List ℕ) (result : Result Sparse E) → AreInColumns cs b.entries → IfOk result (λ m. m ≡ product s a (only_columns cs b)) → IfOk result (λ m. m ≡ product s a b)

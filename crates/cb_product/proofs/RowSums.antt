@@ -1,8 +1,8 @@
 -- Dense sums of rows: a column is added entry by entry, and sums are taken row by row.
-use Rattle.std.proofs.Common.{◌≡◌, ◌≢◌, ℕ, ◌+◌, ◌-◌, ◌<◌, ◌≤◌, Option, List, [], ◌++◌, length, take, get_or, set, replicate, sym, refl, ap, ◌∙◌, ⊎_elim, arith, length-append}
+use Rattle.std.proofs.Common.{◌≡◌, ◌≢◌, ℕ, ◌+◌, ◌-◌, ◌<◌, ◌≤◌, Option, List, [], ◌++◌, length, take, get_or, set, replicate, sym, refl, ap, ◌∙◌, ⊎_elim, arith}
 use Rattle.std.specs.Prelude.{All, AllPairs, IfSome}
 use Rattle.std.proofs.lemmas.Bool.{cases_eq, cases_lt, eq-eqb, ne_eqb, cond-true, cond-false}
-use Rattle.std.proofs.lemmas.List.{get_or_default, get_or-set_same, get_or-set_other, get_or_past, length-take, length-replicate}
+use Rattle.std.proofs.lemmas.List.{get_or_default, get_or-set_same, get_or-set_other, get_or_past}
 use Rattle.std.proofs.lemmas.List.Elements.{All-get_or, All-append, All-take, All-nil, All-replicate, All-weaker}
 use Rattle.cb_semirings.specs.Arithmetic.{Arithmetic, IsValue, IsSemiring}
 use Rattle.cb_matrix.proofs.Totals.{add_zero}
@@ -85,16 +85,6 @@ zero_stays z sums row i l h = ⊎_elim
 -- a list extended by copies of one element
 pub filled : (z n m : ℕ) (old xs : List ℕ) → old ≡ [] → xs ≡ take n old ++ replicate (n - m) z → All (λ x. x ≡ z) xs
 filled z n m old xs none e = rw e (All-append (λ x. x ≡ z) (take n old) (replicate (n - m) z) (All-take (λ x. x ≡ z) n old (rw none (All-nil (λ x. x ≡ z)))) (All-replicate (λ x. x ≡ z) (n - m) z refl))
-
--- a list that is extended to n elements has n
-pub filled_length : (z n m : ℕ) (old xs : List ℕ) → old ≡ [] → m ≡ 0 → xs ≡ take n old ++ replicate (n - m) z → length xs ≡ n
-filled_length z n m old xs none e f =
-    let empty : length old ≡ 0 = ap length none in
-    let a = length-take n old in
-    let b = length-replicate (n - m) z in
-    let c = length-append (take n old) (replicate (n - m) z) in
-    let d = ap length f in
-    omega arith
 
 -- ---- the sums after a column of the accumulator and all terms are added
 module _ (s : Arithmetic) (laws : IsSemiring s) (a : Sparse) (is : IsMatrix s a) (own_rows own_values : List ℕ) (own : AreEntries s a.shape.rows own_rows own_values) (ts : List Term) (terms : All (IsTerm s (rows_of a.entries)) ts) where

@@ -7,11 +7,7 @@ use Rattle.cb_plan.specs.declared.acts.Op.{Op}
 use Rattle.cb_plan.specs.declared.acts.Half.{Half}
 use Rattle.cb_plan.specs.declared.acts.Half.TheVariants as half_is
 use Rattle.cb_rank.specs.declared.wants.Want.TheVariants as want_is
-use Rattle.cb_rank.specs.Ranks.{want_of, IsPost, IsShut}
-
-pub wants_post : (h : Option Half) → IsPost (want_of h) → (to : ℕ) × (tag : Tag) × (slot : ℕ) × (h ≡ Some (half_is.Post to tag slot))
-wants_post (Some (half_is.Post to tag slot)) w = (to, tag, slot, refl)
-wants_post _ w = absurd w
+use Rattle.cb_rank.specs.Ranks.{want_of, IsShut}
 
 -- a rank that wants to post to k has a Post to k next
 pub wants_post_to : (h : Option Half) (k : ℕ) → want_of h ≡ want_is.Post k → (tag : Tag) × (slot : ℕ) × (h ≡ Some (half_is.Post k tag slot))

@@ -29,11 +29,6 @@ lanes-before_next (a ∷ acts) shut s r =
     (λ t. rw t refl)
     (λ f. rw f (let e : count_of a r ≡ 0 = grind (arith, nat_tests) in rw e (lanes-before_next acts (shut_after a shut) s r ∙ quiet_shut a shut s r e)))
 
-shut_same : (a : Act) (shut other : Lanes) (s r : ℕ) → shut s r ≡ other s r → shut_after a shut s r ≡ shut_after a other s r
-shut_same (act_is.Move from to tag slot into) shut other s r h = h
-shut_same (act_is.Work rank op) shut other s r h = h
-shut_same (act_is.Shut from to) shut other s r h = ap (λ b. if from == s && to == r then true else b) h
-
 -- the act of one more half counts too
 lanes-next : (acts : List Act) (shut : Lanes) (s r k : ℕ) (a : Act) → next_act acts r k ≡ Some a → lanes_after (before acts r (k + 1)) shut s r ≡ shut_after a (lanes_after (before acts r k) shut) s r
 lanes-next [] shut s r k a is = grind arith

@@ -76,17 +76,6 @@ in_one : (extent : Extent) (es : List Entry) → extent.cols ≡ 1 → All (IsIn
 in_one extent es one h = All-weaker (IsInside extent) (λ e. e.column ≡ 0) (λ e k. let b = k.1 in omega arith) es h
 
 module _ (a : Sparse) (extent : Extent) (source : ℕ → ℕ) where
-  -- no column yet
-  pub no_columns : (es : List Entry) → es ≡ [] → HasColumns a extent source 0 es
-  no_columns es none = record {
-    ascending = subst (AllPairs IsBefore) (sym none) (AllPairs-nil IsBefore);
-    inside = subst (All (IsInside extent)) (sym none) (All-nil (IsInside extent));
-    values = subst (All (λ e. IsValue min_plus e.value)) (sym none) (All-nil (λ e. IsValue min_plus e.value));
-    not_zero = subst (All IsStored) (sym none) (All-nil IsStored);
-    before = subst (All (λ e. e.column < 0)) (sym none) (All-nil (λ e. e.column < 0));
-    done = λ j l. absurd (omega arith);
-  }
-
   -- one more column
   pub column_more : (c : ℕ) (old new : List Entry) (column : Sparse) → c < extent.cols → extent.rows ≡ a.shape.rows → new ≡ old ++ map (in_column_of c) column.entries → IsMatrix min_plus column
       → AreDistances a (source c) column → HasColumns a extent source c old → HasColumns a extent source (c + 1) new

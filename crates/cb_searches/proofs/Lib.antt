@@ -1,10 +1,9 @@
 -- The toolbox. Searches: NearestRounds, a search, from its start to its end. UnitWeights: levels are distances if each
--- entry weighs 1. OneColumn: there is one column of distances. WalkCosts: how walks begin, grow and end, and what they
--- cost. ColumnEdges: the rows of a column are where edges come from. SettledVertices: vertices that settle one after another,
--- and a bound for the work that is left. VertexColumns: a column with an entry for each of some vertices.
+-- entry weighs 1. WalkCosts: how walks begin, grow and end, and what they cost. ColumnEdges: the rows of a column are
+-- where edges come from. SettledVertices: vertices that settle one after another, and a bound for the work that is
+-- left. VertexColumns: a column with an entry for each of some vertices.
 pub mod NearestRounds
 pub mod UnitWeights
-pub mod OneColumn
 pub mod WalkCosts
 pub mod ColumnEdges
 pub mod SettledVertices

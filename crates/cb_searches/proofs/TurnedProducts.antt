@@ -4,11 +4,9 @@ use Rattle.std.specs.Prelude.{min}
 use Rattle.std.specs.List.{range_with_len}
 use Rattle.std.proofs.lemmas.Bool.{cases_eq, cases_lt}
 use Rattle.cb_semirings.specs.Tables.{min_plus}
-use Rattle.cb_semirings.specs.Laws.{min_plus_is_semiring}
 use Rattle.cb_matrix.specs.Sparse.{Sparse, at, IsMatrix}
 use Rattle.cb_matrix.specs.Values.{total, product, product_shape}
 use Rattle.cb_matrix.proofs.Made.{at-matrix_of, at-outside, IsMatrix-matrix_of}
-use Rattle.cb_matrix.proofs.Totals.{value_at-value}
 use Rattle.cb_searches.specs.Walks.{infinite}
 use Rattle.cb_matrix.specs.Operations.{transposed}
 use Rattle.cb_searches.proofs.NumbersByRound.{IsRound}
@@ -46,12 +44,6 @@ pub inside_square : (a : Sparse) → IsMatrix min_plus a → a.shape.rows ≡ a.
 inside_square a is_a square i j h = ⊎_elim (λ (l : j < a.shape.rows). l) (λ (l : a.shape.rows ≤ j). absurd (h (at-outside infinite a.shape a.entries i j is_a.inside (λ _ m. omega arith)))) (cases_lt j a.shape.rows)
 
 module _ (a x : Sparse) (is_a : IsMatrix min_plus a) (is_x : IsMatrix min_plus x) (square : a.shape.rows ≡ a.shape.cols) (rows : x.shape.rows ≡ a.shape.rows) (column : x.shape.cols ≡ 1) where
-  at_stops : (m : Sparse) (i j : ℕ) → IsMatrix min_plus m → at min_plus m i j ≤ infinite
-  at_stops m i j is = let h = value_at-value min_plus min_plus_is_semiring m.entries i j is.values in omega arith
-
-  turned : Sparse
-  turned = transposed min_plus a
-
   y : ℕ → ℕ
   y v = at min_plus (product min_plus (transposed min_plus a) x) v 0
 

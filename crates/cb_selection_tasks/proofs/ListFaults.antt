@@ -1,24 +1,17 @@
 -- Faults of lists.
 use Rattle.std.proofs.Common.{ℕ, List, refl}
 use Rattle.cb_semirings.specs.Arithmetic.{Arithmetic}
-use Rattle.cb_semirings.specs.Tables.{plus_times}
 use Rattle.cb_matrix.specs.Sparse.{Sparse}
 use Rattle.cb_selections.specs.Selections.{extracted, rows_by, columns_by}
-use Rattle.cb_words.specs.declared.lists.Lists.{Lists}
 use Rattle.cb_words.specs.declared.lists.Lists.TheVariants.{Rows, Columns, Both}
-use Rattle.cb_job_texts.specs.Inputs.{AreWithList, IsFirstReadFault, arithmetic_at}
+use Rattle.cb_job_texts.specs.Inputs.{AreWithList}
 use Rattle.cb_job_texts.specs.Lists.{numbers_in}
 use Rattle.cb_job_texts.specs.declared.faults.SelectionRefusal.TheVariants.{NoRow, NoColumn}
 use Rattle.cb_job_texts.specs.declared.faults.JobFault.{JobFault}
-use Rattle.cb_job_texts.specs.declared.faults.JobFault.TheVariants.{Read, Unselected, Memory}
+use Rattle.cb_job_texts.specs.declared.faults.JobFault.TheVariants.{Unselected, Memory}
 use Rattle.cb_selection_tasks.specs.Extracts.{AreWithLists, AreListsFault, IsExtractFault, IsListFault}
 
 module _ (s : Arithmetic) (texts : List (List ℕ)) where
-  -- a fault of reading
-  pub of_reading : (lists : Lists) (f : JobFault) → IsFirstReadFault (arithmetic_at s plus_times) texts f → IsExtractFault lists s texts f
-  of_reading lists (Read which fault) h = h
-  of_reading lists _ h = absurd h
-
   -- a fault of a list of rows, of a list of columns, and of both lists
   pub of_rows : (a l : Sparse) (f : JobFault) → AreWithList s texts a l → IsListFault NoRow a.shape.rows l f → IsExtractFault Rows s texts f
   of_rows a l (Unselected refusal) w h = (a, l, w, h)

@@ -99,10 +99,6 @@ module _ (s : Arithmetic) (a : Sparse) (is : IsMatrix s a) (cs : List ℕ) (up :
     so_far : IsColumnTo s (side_of a) (own s a) (get_or cs n 0) old
     so_far = subst (λ c. IsColumnTo s (side_of a) (own s a) c old) (get_or_default cs n a.shape.cols 0 l) h
 
-    -- what is stored comes before the next
-    pub diagonal_before : (v : ℕ) → All (λ x. IsBefore x (column_entry (get_or cs n 0) v)) old.entries
-    diagonal_before v = entries_before s (side_of a) (own s a) old (get_or cs n 0) v so_far
-
     -- a value on the diagonal is inside
     pub diagonal_inside : (v : ℕ) → v ≡ own s a (get_or cs n 0) → v ≢ s.zero → get_or cs n 0 < old.shape.rows
     diagonal_inside v v_is some =

@@ -1,5 +1,5 @@
 -- The mailbox of a rank, read by its number, and the loop that opens the mailboxes.
-use Rattle.std.proofs.Common.{ℕ, ◌≡◌, ◌≢◌, ◌<◌, ◌+◌, ◌-◌, Bool, true, false, List, [], ◌∷◌, ◌++◌, length, refl, ◌∙◌, ap, arith, if◌then◌else◌, length-append}
+use Rattle.std.proofs.Common.{ℕ, ◌≡◌, ◌≢◌, ◌<◌, ◌+◌, ◌-◌, Bool, true, false, List, [], ◌∷◌, ◌++◌, length, ◌∙◌, ap, arith, if◌then◌else◌, length-append}
 use Rattle.std.specs.Prelude.{slice_index_or, ◌==◌}
 use Rattle.std.proofs.lemmas.List.{get_or_append_left}
 use Rattle.std.proofs.Math.Seq.{get_or-append_right}
@@ -12,7 +12,6 @@ use Rattle.cb_mailbox.specs.Inbox.{Inbox, lane_from, is_stranger}
 use Rattle.cb_plan.proofs.Effects.{split}
 use Rattle.cb_world.specs.Ends.{EndsView, IsEnds, box_in, is_out}
 use Rattle.cb_world.specs.EndLaws.{known_there}
-use Rattle.cb_world.specs.Starting.{AreNewBoxes}
 
 module _ {P : Type 0} where
   -- a rank is no stranger in the mailbox of another, read by its number
@@ -59,15 +58,3 @@ module _ {P : Type 0} where
             let there : box_in (boxes ++ b ∷ []) t ≡ box_in boxes t = get_or_append_left boxes (b ∷ []) (record { me = t; lanes = [] }) t (omega arith) in
             rw there (are.each t below));
       }
-
-  pub are_new : (ranks capacity : ℕ) (boxes : List (Inbox P)) → AreFirstBoxes ranks capacity ranks boxes → AreNewBoxes ranks capacity boxes
-  are_new ranks capacity boxes are = record {
-    size = are.size;
-    owners = λ t l. let b = are.each t l in (b.owner, b.lanes);
-    lanes = λ f t lf lt n.
-        let b = are.each t lt in
-        let owner = b.owner in
-        let lanes = b.lanes in
-        let known : is_stranger (box_in boxes t) f ≡ false = rw (owner, lanes) (grind (arith, nat_tests, lf, n)) in
-        b.new f ∙ rw known refl;
-  }

@@ -13,14 +13,14 @@ use Rattle.cb_rank.specs.declared.wants.Moved.{Moved}
 use Rattle.cb_rank.specs.declared.wants.Moved.TheVariants as moved_is
 use Rattle.cb_rank.specs.Steps.{Answer}
 use Rattle.cb_rank.specs.Ranks.{RankView, next_half, want_of}
-use Rattle.cb_rank.proofs.WantedHalf.{wants_post_to, wants_shut_to, wants_take, wants_work, wants_end, wants_nothing}
+use Rattle.cb_rank.proofs.WantedHalf.{wants_post_to, wants_shut_to, wants_take, wants_end}
 use Rattle.cb_world.specs.Worlds.{WorldView, IsWorld, no_rank, rank_of, next_of, lane_between, CanDo, CanAct, remaining}
-use Rattle.cb_world.specs.WorldSteps.{DoesIn, Steps, StepsBy, RunsBy, rank_in}
+use Rattle.cb_world.specs.WorldSteps.{DoesIn, Steps, StepsBy, RunsBy}
 use Rattle.cb_world.specs.declared.events.Event.{Event}
 use Rattle.cb_world.specs.declared.events.Event.TheVariants as event_is
 use Rattle.cb_plan.proofs.Effects.{split}
 use Rattle.cb_world.proofs.NoDeadlock.{no_next}
-use Rattle.cb_world.proofs.Changes.{does_lower, steps_stay, runs_stay}
+use Rattle.cb_world.proofs.Changes.{does_lower, runs_stay}
 use Rattle.cb_world.proofs.NextHalf.{finds_half}
 use Rattle.cb_world.proofs.OneStep.{Came}
 
@@ -100,12 +100,6 @@ module _ (s : Arithmetic) (w : WorldView) (sound : IsWorld s w) (r : ℕ) (x : R
       let f = finds_half s w r half sound inside is in
       (two from f.0 (λ z. f.1 (sym z)), can (Some half) is)
 
-  pub at_work : want_of (next_half x) ≡ want_is.Work → CanAct w r
-  at_work e = let it = wants_work (next_half x) e in (can (Some (half_is.Work it.0)) (next (Some (half_is.Work it.0)) it.1)).0 tt
-
-  pub at_done : want_of (next_half x) ≡ want_is.Done → ¬ CanAct w r
-  at_done e c = (can None (next None (wants_nothing (next_half x) e))).1 c
-
 -- a number passes the test for zero exactly if it is zero
 pub zero_test : (n : ℕ) → IsTrue (n == 0) ↔ (n ≡ 0)
 zero_test n = (λ t. grind (arith, nat_tests), λ e. grind (arith, nat_tests))
@@ -149,11 +143,6 @@ falls s w after r (Some h) m sound next (inr did) waits idles = lowers s w after
 -- no step changes the plan and the first stores
 abbrev pub Keeps : WorldView → WorldView → Type 0
 Keeps w after = (after.plan ≡ w.plan) × (after.first ≡ w.first)
-
-pub step_keeps : (s : Arithmetic) (event : Event) (m : Moved) (w after : WorldView) → Steps s event m w after → Keeps w after
-step_keeps s event m w after steps =
-    let stay = steps_stay s w after (rank_in event) (next_of w (rank_in event)) m steps.half in
-    (stay.plan, stay.first)
 
 -- no run of events changes them
 pub run_keeps : (s : Arithmetic) (events : List Event) (w after : WorldView) → RunsBy s events w after → Keeps w after

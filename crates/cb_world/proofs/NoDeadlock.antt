@@ -71,12 +71,6 @@ all_done_by w none r =
     (λ t. let left = none_of_sum (λ x. length x.program - x.done) no_rank w.ranks none r (grind (arith, nat_tests)) in done_next (rank_of w r) (omega arith))
     (λ f. no_next w r (grind (arith, nat_tests)))
 
--- the sums over all ranks are small
-pub few_remain : (s : Arithmetic) (w : WorldView) → IsWorld s w → remaining w ≤ length w.ranks * 4294967295
-few_remain s w sound =
-    sum_is_below (λ x. length x.program - x.done) no_rank 4294967295 w.ranks (λ r l.
-    let few = few_halves (rank_of w r) (sound.ranks r (let size = sound.sizes.0 in omega arith)).sound in omega arith)
-
 -- each rank was refused memory at most 2^32 - 1 times
 pub few_refused : (s : Arithmetic) (w : WorldView) → IsWorld s w → refusals_in w ≤ length w.ranks * 4294967295
 few_refused s w sound =

@@ -1,5 +1,5 @@
 -- What the events of a world change.
-use Rattle.std.specs.Prelude.{◌≡◌, ℕ, ◌+◌, ◌⊎◌, true, List, [], ◌∷◌, Option, Some, None, IfSome, slice_get, slice_set}
+use Rattle.std.specs.Prelude.{◌≡◌, ℕ, ◌⊎◌, List, [], ◌∷◌, Option, Some, None, slice_get, slice_set}
 use Rattle.cb_semirings.specs.Arithmetic.{Arithmetic}
 use Rattle.cb_matrix.specs.Sparse.{Sparse}
 use Rattle.cb_letters.specs.declared.Tag.{Tag}
