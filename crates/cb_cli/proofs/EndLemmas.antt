@@ -4,7 +4,7 @@ use Rattle.std.specs.Prelude.{Option, Result, Vec}
 use Rattle.cb_words.specs.declared.tasks.GraphTask.{GraphTask}
 use Rattle.cb_words.specs.declared.tasks.GraphTask.TheVariants.{Levels, Distances}
 use Rattle.cb_graph_tasks.specs.GraphTasks.{IsGraphEnd}
-use Rattle.cb_job_texts.specs.declared.faults.JobFault.{JobFault}
+use Rattle.cb_outcomes.specs.declared.faults.JobFault.{JobFault}
 use Rattle.cb_cli.specs.Ends.{IsGraphEndBy}
 use Rattle.cb_cli.specs.declared.ranks.Ranks.{Ranks}
 

@@ -14,11 +14,11 @@ use Rattle.cb_run.specs.declared.operation_faults.OperationFault.{OperationFault
 use Rattle.cb_run.specs.declared.operation_faults.OperationFault.TheVariants as operation_is
 use Rattle.cb_run.specs.Outcomes.{IsLossFor, IsRefusal}
 use Rattle.cb_run.specs.Searched.{IsWalkLoss, IsWalkRefusal}
-use Rattle.cb_job_texts.specs.Inputs.{AreMatrices}
-use Rattle.cb_job_texts.specs.Texts.{text_at}
-use Rattle.cb_job_texts.specs.WriteEnds.{IsEnd}
-use Rattle.cb_job_texts.specs.declared.faults.JobFault.{JobFault}
-use Rattle.cb_job_texts.specs.declared.faults.JobFault.TheVariants.{Output}
+use Rattle.cb_job_inputs.specs.Inputs.{AreMatrices}
+use Rattle.cb_outcomes.specs.Texts.{text_at}
+use Rattle.cb_outcomes.specs.WriteEnds.{IsEnd}
+use Rattle.cb_outcomes.specs.declared.faults.JobFault.{JobFault}
+use Rattle.cb_outcomes.specs.declared.faults.JobFault.TheVariants.{Output}
 use Rattle.cb_cli.specs.Answers.{IsRanksFaultOver, IsRanksWalkFault}
 use Rattle.cb_cli.specs.Engines.{fault_of_operation}
 

@@ -5,7 +5,7 @@ use Rattle.cb_semirings.specs.Names.{arithmetic_of}
 use Rattle.cb_semirings.specs.Tables.{min_plus, or_and}
 use Rattle.cb_matrix.specs.Sparse.{Sparse}
 use Rattle.cb_market_lines.specs.Reads.{Reads}
-use Rattle.cb_market.specs.Text.{text_of}
+use Rattle.cb_market_pages.specs.Text.{text_of}
 use Rattle.cb_trace.specs.Traces.{TraceView}
 use Rattle.cb_operations.specs.declared.operations.Operation.{Operation}
 use Rattle.cb_operations.specs.OperationAnswers.{Agree, answer_of, shapes_in}
@@ -20,13 +20,13 @@ use Rattle.cb_words.specs.declared.tasks.Task.{Task}
 use Rattle.cb_words.specs.declared.tasks.Task.TheVariants as task_is
 use Rattle.cb_words.specs.declared.tasks.GraphTask.{GraphTask}
 use Rattle.cb_words.specs.declared.tasks.GraphTask.TheVariants.{Levels, Distances}
-use Rattle.cb_job_texts.specs.Inputs.{AreMatrices}
+use Rattle.cb_job_inputs.specs.Inputs.{AreMatrices}
 use Rattle.cb_operation_tasks.specs.OperationTexts.{IsAnswerOver, IsFaultOver}
 use Rattle.cb_selection_tasks.specs.SelectionAnswers.{IsSelectionAnswer, IsSelectionFault}
 use Rattle.cb_graph_tasks.specs.GraphAnswers.{IsWalkFault}
 use Rattle.cb_graph_tasks.specs.GraphTasks.{IsGraphAnswer, IsGraphFault}
-use Rattle.cb_job_texts.specs.Texts.{text_at}
-use Rattle.cb_job_texts.specs.declared.faults.JobFault.{JobFault}
+use Rattle.cb_outcomes.specs.Texts.{text_at}
+use Rattle.cb_outcomes.specs.declared.faults.JobFault.{JobFault}
 use Rattle.cb_cli.specs.Engines.{engine_of, fault_of_engine}
 use Rattle.cb_cli.specs.TraceTexts.{trace_lines}
 

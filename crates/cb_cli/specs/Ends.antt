@@ -4,8 +4,8 @@ use Rattle.cb_semirings.specs.Arithmetic.{Arithmetic}
 use Rattle.cb_operations.specs.declared.operations.Operation.{Operation}
 use Rattle.cb_words.specs.declared.jobs.Job.{Job}
 use Rattle.cb_words.specs.declared.tasks.GraphTask.{GraphTask}
-use Rattle.cb_job_texts.specs.WriteEnds.{IsEndOn}
-use Rattle.cb_job_texts.specs.declared.faults.JobFault.{JobFault}
+use Rattle.cb_outcomes.specs.WriteEnds.{IsEndOn}
+use Rattle.cb_outcomes.specs.declared.faults.JobFault.{JobFault}
 use Rattle.cb_graph_tasks.specs.GraphTasks.{IsGraphAnswer}
 use Rattle.cb_cli.specs.Answers.{IsGraphFaultBy, IsJobAnswer, IsJobFault, IsOperationAnswer, IsOperationFault, IsRanksAnswer, IsRanksFaultOver}
 use Rattle.cb_cli.specs.Engines.{engine_of}

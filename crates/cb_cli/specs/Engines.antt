@@ -8,9 +8,9 @@ use Rattle.cb_engines.specs.declared.engine_faults.EngineFault.{EngineFault}
 use Rattle.cb_engines.specs.declared.engine_faults.EngineFault.TheVariants as engine_is
 use Rattle.cb_run.specs.declared.operation_faults.OperationFault.{OperationFault}
 use Rattle.cb_run.specs.declared.operation_faults.OperationFault.TheVariants as operation_is
-use Rattle.cb_job_texts.specs.declared.faults.JobFault.{JobFault}
-use Rattle.cb_job_texts.specs.declared.faults.JobFault.TheVariants.{Refused, Ranks, Memory}
-use Rattle.cb_job_texts.specs.declared.faults.RanksFault.TheVariants.{NotStarted, Gone, TraceTorn, Lost}
+use Rattle.cb_outcomes.specs.declared.faults.JobFault.{JobFault}
+use Rattle.cb_outcomes.specs.declared.faults.JobFault.TheVariants.{Refused, Ranks, Memory}
+use Rattle.cb_outcomes.specs.declared.faults.RanksFault.TheVariants.{NotStarted, Gone, TraceTorn, Lost}
 
 -- the engine of a name, or none where no ranks compute
 abbrev pub engine_of : EngineName → Option Engine

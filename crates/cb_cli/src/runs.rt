@@ -3,8 +3,8 @@ ghost use Rattle.cb_cli.specs.Answers.{IsJobAnswer, IsJobFault};
 
 use crate::execution::execute;
 use cb_endings::runs::Program;
-use cb_job_texts::faults::JobFault;
-use cb_job_texts::sinks::Sink;
+use cb_outcomes::faults::JobFault;
+use cb_outcomes::sinks::Sink;
 use cb_words::Job;
 use std::alloc::Global;
 use std::sync::Wait;

@@ -5,9 +5,9 @@ ghost use Rattle.cb_cli.specs.Ends.{IsGraphEndBy};
 
 use crate::ranks::{Ranks, job_fault};
 use cb_graph_tasks::column_output::put_column;
-use cb_job_texts::faults::JobFault;
-use cb_job_texts::inputs::read_one;
-use cb_job_texts::sinks::Sink;
+use cb_outcomes::faults::JobFault;
+use cb_job_inputs::inputs::read_one;
+use cb_outcomes::sinks::Sink;
 use cb_run::{distances, levels};
 use cb_semirings::{MinPlus, OrAnd};
 use std::alloc::Global;

@@ -1,7 +1,7 @@
 //! Command lines, and the lines of faults.
 use cb_endings::fault_lines::fault_line;
 use cb_endings::statuses::status;
-use cb_job_texts::faults::{JobFault, RanksFault, SelectionRefusal};
+use cb_outcomes::faults::{JobFault, RanksFault, SelectionRefusal};
 use cb_market::{Kind, ReadFault};
 use cb_matrix::Test;
 use cb_operations::{Operation, Refusal};

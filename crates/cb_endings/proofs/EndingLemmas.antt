@@ -4,14 +4,14 @@ use Rattle.std.specs.Prelude.{Result, Ok, Err, String}
 use Rattle.std.specs.declared.alloc.Global.{Global}
 use Rattle.std.specs.Io.KnownBytes.{Keeps}
 use Rattle.cb_endings.specs.Files.{IsUnloaded}
-use Rattle.cb_job_texts.specs.Sinks.{AppendsPrefix}
+use Rattle.cb_outcomes.specs.Sinks.{AppendsPrefix}
 use Rattle.cb_endings.specs.Statuses.{status_code}
 use Rattle.cb_endings.specs.Endings.{IsEnding, IsJobEnding, IsRun, IsUsageEnding, ending_status, message_of, names_of, unloaded_ending}
 use Rattle.cb_words.specs.declared.jobs.Job.{Job}
 use Rattle.cb_words.specs.declared.jobs.UsageFault.{UsageFault}
 use Rattle.cb_endings.specs.declared.endings.Ending.{Ending}
 use Rattle.cb_endings.specs.declared.endings.Status.{Status}
-use Rattle.cb_job_texts.specs.declared.faults.JobFault.{JobFault}
+use Rattle.cb_outcomes.specs.declared.faults.JobFault.{JobFault}
 use Rattle.cb_endings.specs.declared.files.LoadFault.{LoadFault}
 use Rattle.cb_endings.specs.declared.files.LoadFault.TheVariants.{Unreadable, Memory}
 

@@ -3,7 +3,7 @@ use Rattle.std.proofs.Common.{◌≡◌, ℕ, zero, suc, ◌+◌, ◌<◌, List,
 use borrow.Author.Count.{below_more}
 use Rattle.std.specs.Prelude.{Vec, String}
 use Rattle.cb_endings.specs.FaultLines.{name_at}
-use Rattle.cb_job_texts.specs.Texts.{bytes_of, text_at}
+use Rattle.cb_outcomes.specs.Texts.{bytes_of, text_at}
 use Rattle.cb_endings.specs.Files.{HoldsBelow, IsHeld}
 
 -- the files before one that is refused were read

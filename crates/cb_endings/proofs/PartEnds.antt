@@ -2,8 +2,8 @@
 use Rattle.std.proofs.Common.{ℕ, List, Bool, inl}
 use Rattle.std.specs.Prelude.{Option, Result, Ok, Err, Vec}
 use Rattle.cb_words.specs.declared.jobs.Job.{Job}
-use Rattle.cb_job_texts.specs.WriteEnds.{IsEnd, IsEndOn}
-use Rattle.cb_job_texts.specs.declared.faults.JobFault.{JobFault}
+use Rattle.cb_outcomes.specs.WriteEnds.{IsEnd, IsEndOn}
+use Rattle.cb_outcomes.specs.declared.faults.JobFault.{JobFault}
 use Rattle.cb_endings.specs.Parts.{IsPartAnswer, IsPartFault}
 
 module _ {T : Type 0} {P Q : List ℕ → Type 0} {F G : JobFault → Type 0} (texts : (t : List ℕ) → P t → Q t) (faults : (f : JobFault) → F f → G f) (old new : Option (List ℕ)) (failed : Bool) where

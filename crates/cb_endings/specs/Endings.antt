@@ -2,7 +2,7 @@
 use Rattle.std.specs.Prelude.{◌≡◌, ◌≢◌, ℕ, List, [], codes, Option, Result, Ok, Err, String, string_bytes}
 use Rattle.std.specs.declared.alloc.Global.{Global}
 use Rattle.std.specs.Io.KnownBytes.{Appends, Keeps}
-use Rattle.cb_job_texts.specs.Sinks.{AppendsPrefix}
+use Rattle.cb_outcomes.specs.Sinks.{AppendsPrefix}
 use Rattle.cb_endings.specs.Files.{AreTexts, IsUnloaded}
 use Rattle.cb_endings.specs.FaultLines.{name_at, line_of, unreadable_line_of}
 use Rattle.cb_endings.specs.Statuses.{status_of, status_code}
@@ -11,8 +11,8 @@ use Rattle.cb_words.specs.declared.jobs.UsageFault.{UsageFault}
 use Rattle.cb_words.specs.declared.jobs.UsageFault.TheVariants as asked_is
 use Rattle.cb_endings.specs.declared.files.LoadFault.{LoadFault}
 use Rattle.cb_endings.specs.declared.files.LoadFault.TheVariants as load_is
-use Rattle.cb_job_texts.specs.declared.faults.JobFault.{JobFault}
-use Rattle.cb_job_texts.specs.declared.faults.JobFault.TheVariants as job_is
+use Rattle.cb_outcomes.specs.declared.faults.JobFault.{JobFault}
+use Rattle.cb_outcomes.specs.declared.faults.JobFault.TheVariants as job_is
 use Rattle.cb_endings.specs.declared.endings.Ending.{Ending}
 use Rattle.cb_endings.specs.declared.endings.Status.{Status}
 use Rattle.cb_endings.specs.declared.endings.Ending.TheVariants.{Done, Usage, Memory, Unreadable, Fault}

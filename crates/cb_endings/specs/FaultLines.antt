@@ -1,12 +1,12 @@
 -- The lines that report faults.
 use Rattle.std.specs.Prelude.{ℕ, List, [], ◌++◌, codes, decimal, String, string_bytes, unwrap_or, option_map, slice_get}
-use Rattle.cb_job_texts.specs.declared.faults.RanksFault.{RanksFault}
-use Rattle.cb_job_texts.specs.declared.faults.JobFault.{JobFault}
-use Rattle.cb_job_texts.specs.declared.faults.JobFault.TheVariants.{Read, Refused, Unselected, Ranks, Memory, Output, Absent}
+use Rattle.cb_outcomes.specs.declared.faults.RanksFault.{RanksFault}
+use Rattle.cb_outcomes.specs.declared.faults.JobFault.{JobFault}
+use Rattle.cb_outcomes.specs.declared.faults.JobFault.TheVariants.{Read, Refused, Unselected, Ranks, Memory, Output, Absent}
 use Rattle.cb_market_lines.specs.Kinds.{kind_text}
 use Rattle.cb_operations.specs.declared.refusals.Refusal.TheVariants as refusal_is
-use Rattle.cb_job_texts.specs.declared.faults.SelectionRefusal.TheVariants as selection_is
-use Rattle.cb_job_texts.specs.declared.faults.RanksFault.TheVariants as ranks_is
+use Rattle.cb_outcomes.specs.declared.faults.SelectionRefusal.TheVariants as selection_is
+use Rattle.cb_outcomes.specs.declared.faults.RanksFault.TheVariants as ranks_is
 
 -- the name at a position, or an empty one
 abbrev pub name_at : {A : Type 0} → List (String A) → ℕ → List ℕ

@@ -1,6 +1,6 @@
 -- The texts that files hold, and why they can't be loaded.
 use Rattle.std.specs.Prelude.{ℕ, ◌≡◌, ◌<◌, List, length, String}
-use Rattle.cb_job_texts.specs.Texts.{text_at}
+use Rattle.cb_outcomes.specs.Texts.{text_at}
 use Rattle.cb_endings.specs.FaultLines.{name_at}
 use Rattle.cb_endings.specs.declared.files.LoadFault.{LoadFault}
 use Rattle.cb_endings.specs.declared.files.LoadFault.TheVariants.{Unreadable, Memory}

@@ -1,8 +1,8 @@
 -- Programs that have some of the jobs that a command line can ask for.
 use Rattle.std.specs.Prelude.{ℕ, ◌≡◌, ◌⊎◌, List}
 use Rattle.cb_words.specs.declared.jobs.Job.{Job}
-use Rattle.cb_job_texts.specs.declared.faults.JobFault.{JobFault}
-use Rattle.cb_job_texts.specs.declared.faults.JobFault.TheVariants.{Absent}
+use Rattle.cb_outcomes.specs.declared.faults.JobFault.{JobFault}
+use Rattle.cb_outcomes.specs.declared.faults.JobFault.TheVariants.{Absent}
 
 -- By what a program can do, and which of it a job asks for: the answer of a job is the answer of what it asks for.
 abbrev pub IsPartAnswer : {X : Type 0} → (Job → X → Type 0) → (X → List (List ℕ) → List ℕ → Type 0) → Job → List (List ℕ) → List ℕ → Type 0

@@ -2,8 +2,8 @@
 use Rattle.std.specs.Prelude.{ℕ}
 use Rattle.cb_market_lines.specs.declared.Kind.{Kind}
 use Rattle.cb_market_lines.specs.declared.Kind.TheVariants as kind_is
-use Rattle.cb_job_texts.specs.declared.faults.JobFault.{JobFault}
-use Rattle.cb_job_texts.specs.declared.faults.JobFault.TheVariants.{Read, Refused, Unselected, Ranks, Memory, Output, Absent}
+use Rattle.cb_outcomes.specs.declared.faults.JobFault.{JobFault}
+use Rattle.cb_outcomes.specs.declared.faults.JobFault.TheVariants.{Read, Refused, Unselected, Ranks, Memory, Output, Absent}
 use Rattle.cb_endings.specs.declared.endings.Status.{Status}
 
 -- 6 for want of memory, and 4 for a text that isn't a matrix

@@ -1,15 +1,15 @@
 //! How a run of the program ends: what goes to standard output, the text for standard error, and the exit status.
 ghost use Rattle.std.specs.Prelude.{◌≡◌, IfOk, false};
 ghost use Rattle.std.specs.Process.{exit_status};
-ghost use Rattle.cb_job_texts.specs.Sinks.{AppendsPrefix};
+ghost use Rattle.cb_outcomes.specs.Sinks.{AppendsPrefix};
 ghost use Rattle.cb_endings.specs.Endings.{message_of, ending_status, unloaded_ending, IsUsageEnding};
 ghost use Rattle.cb_endings.specs.Statuses.{status_code};
 
 use crate::fault_lines::{fault_line, name_at, unreadable_line};
 use crate::files::LoadFault;
 use crate::statuses::status;
-use cb_job_texts::faults::JobFault;
-use cb_job_texts::sinks::{Sink, put_all};
+use cb_outcomes::faults::JobFault;
+use cb_outcomes::sinks::{Sink, put_all};
 use cb_words::UsageFault;
 use std::alloc::{AllocError, Global};
 use std::process::{ExitCode, Termination};

@@ -1,6 +1,6 @@
 //! The files of a job, and the texts that are loaded from them.
 ghost use Rattle.std.specs.Prelude.{◌≡◌, ◌≤◌, ℕ, List, length, vec_len, vec_capacity, IfOk, IfErr, OnOk, OnErr};
-ghost use Rattle.cb_job_texts.specs.Texts.{bytes_of};
+ghost use Rattle.cb_outcomes.specs.Texts.{bytes_of};
 ghost use Rattle.cb_endings.specs.Files.{AreTexts, IsUnloaded};
 
 use crate::fault_lines::name_at;

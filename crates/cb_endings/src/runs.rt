@@ -1,15 +1,15 @@
 //! A run of a program, from a command line that was read to the exit status.
 ghost use Rattle.std.specs.Prelude.{◌≡◌, ℕ, List, vec_len, false};
 ghost use Rattle.std.specs.Thread.{IsSync};
-ghost use Rattle.cb_job_texts.specs.WriteEnds.{IsEndOn};
-ghost use Rattle.cb_job_texts.specs.declared.faults.JobFault.{JobFault};
+ghost use Rattle.cb_outcomes.specs.WriteEnds.{IsEndOn};
+ghost use Rattle.cb_outcomes.specs.declared.faults.JobFault.{JobFault};
 ghost use Rattle.cb_words.specs.declared.jobs.Job.{Job};
 ghost use Rattle.cb_endings.specs.Endings.{IsEnding, IsJobEnding, IsRun, names_of};
 
 use crate::endings::{Ending, Status, finish, unloaded, usage_ending};
 use crate::files::{FileSource, texts_of};
-use cb_job_texts::faults::JobFault;
-use cb_job_texts::sinks::Sink;
+use cb_outcomes::faults::JobFault;
+use cb_outcomes::sinks::Sink;
 use cb_words::{Job, UsageFault};
 use std::alloc::Global;
 use std::thread::Threads;

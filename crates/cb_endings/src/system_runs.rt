@@ -2,7 +2,7 @@
 use crate::endings::Status;
 use crate::files::SystemFiles;
 use crate::runs::{Program, run};
-use cb_job_texts::sinks::WriterSink;
+use cb_outcomes::sinks::WriterSink;
 use cb_words::asked;
 use std::io;
 use std::io::Write;

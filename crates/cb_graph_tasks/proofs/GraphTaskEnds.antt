@@ -2,7 +2,7 @@
 use Rattle.std.proofs.Common.{◌≡◌, ℕ, List, Bool, sym, subst}
 use Rattle.std.specs.Prelude.{Option, Result, Vec}
 use Rattle.cb_words.specs.declared.tasks.GraphTask.{GraphTask}
-use Rattle.cb_job_texts.specs.declared.faults.JobFault.{JobFault}
+use Rattle.cb_outcomes.specs.declared.faults.JobFault.{JobFault}
 use Rattle.cb_graph_tasks.specs.GraphTasks.{IsGraphEnd}
 
 -- a task that is known ends as that task does

@@ -2,11 +2,11 @@
 use Rattle.std.proofs.Common.{ℕ, List, refl}
 use Rattle.cb_semirings.specs.Arithmetic.{Arithmetic}
 use Rattle.cb_matrix.specs.Sparse.{Sparse}
-use Rattle.cb_job_texts.specs.Inputs.{AreWithList}
+use Rattle.cb_job_inputs.specs.Inputs.{AreWithList}
 use Rattle.cb_graph_tasks.specs.ListedSources.{IsSourcesFault, IsWalksFault}
-use Rattle.cb_job_texts.specs.Lists.{numbers_in}
-use Rattle.cb_job_texts.specs.declared.faults.JobFault.{JobFault}
-use Rattle.cb_job_texts.specs.declared.faults.JobFault.TheVariants.{Read, Refused, Unselected, Ranks, Memory, Output, Absent}
+use Rattle.cb_job_inputs.specs.Lists.{numbers_in}
+use Rattle.cb_outcomes.specs.declared.faults.JobFault.{JobFault}
+use Rattle.cb_outcomes.specs.declared.faults.JobFault.TheVariants.{Read, Refused, Unselected, Ranks, Memory, Output, Absent}
 
 -- a fault of the sources of a list is a fault of the texts that read as it and its graph
 pub of_sources : (s : Arithmetic) (texts : List (List ℕ)) (a l : Sparse) (f : JobFault) → AreWithList s texts a l → IsSourcesFault a.shape l f → IsWalksFault s texts f

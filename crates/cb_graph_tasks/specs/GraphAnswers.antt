@@ -4,16 +4,16 @@ use Rattle.cb_semirings.specs.Arithmetic.{Arithmetic}
 use Rattle.cb_semirings.specs.Tables.{min_plus, or_and, plus_times}
 use Rattle.cb_matrix.specs.Sparse.{Sparse, IsMatrix}
 use Rattle.cb_market_lines.specs.Reads.{Reads}
-use Rattle.cb_market.specs.Text.{number_line, vertex_text_of, vertex_pairs_text_of}
+use Rattle.cb_market_pages.specs.Text.{number_line, vertex_text_of, vertex_pairs_text_of}
 use Rattle.cb_operations.specs.declared.refusals.Refusal.TheVariants as refusal_is
 use Rattle.cb_operations.specs.Graphs.{HasSource, IsGraphRefusal}
 use Rattle.cb_searches.specs.Parents.{AreParents}
 use Rattle.cb_graphs.specs.Components.{AreComponents}
 use Rattle.cb_graphs.specs.Triangles.{AreTriangleCounts, triangle_count, stopped}
-use Rattle.cb_job_texts.specs.Texts.{text_at}
-use Rattle.cb_job_texts.specs.declared.faults.JobFault.{JobFault}
-use Rattle.cb_job_texts.specs.declared.faults.JobFault.TheVariants.{Read, Refused, Unselected, Ranks, Memory, Output, Absent}
-use Rattle.cb_job_texts.specs.Inputs.{IsMatrixText, IsReadFault}
+use Rattle.cb_outcomes.specs.Texts.{text_at}
+use Rattle.cb_outcomes.specs.declared.faults.JobFault.{JobFault}
+use Rattle.cb_outcomes.specs.declared.faults.JobFault.TheVariants.{Read, Refused, Unselected, Ranks, Memory, Output, Absent}
+use Rattle.cb_job_inputs.specs.Inputs.{IsMatrixText, IsReadFault}
 
 -- the answer is the vertex text of a column with this property
 abbrev pub IsVertexText : (Sparse → Type 0) → List ℕ → Type 0

@@ -2,8 +2,8 @@
 use Rattle.std.specs.Prelude.{ℕ, Bool, List, Option, Result, Vec}
 use Rattle.cb_semirings.specs.Arithmetic.{Arithmetic}
 use Rattle.cb_matrix.specs.Sparse.{Sparse}
-use Rattle.cb_job_texts.specs.WriteEnds.{IsEndOn}
-use Rattle.cb_job_texts.specs.declared.faults.JobFault.{JobFault}
+use Rattle.cb_outcomes.specs.WriteEnds.{IsEndOn}
+use Rattle.cb_outcomes.specs.declared.faults.JobFault.{JobFault}
 use Rattle.cb_graph_tasks.specs.GraphAnswers.{IsDegreesAnswer, IsDegreesFault, IsWalkAnswer, IsWalkFault}
 use Rattle.cb_graph_tasks.specs.InitialValues.{IsGivenAnswer, IsGivenFault}
 use Rattle.cb_graph_tasks.specs.ListedSources.{IsWalksAnswer, IsWalksFault}

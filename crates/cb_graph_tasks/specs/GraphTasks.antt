@@ -8,8 +8,8 @@ use Rattle.cb_graphs.specs.Degrees.{row_degrees, column_degrees}
 use Rattle.cb_words.specs.declared.tasks.GraphTask.{GraphTask}
 use Rattle.cb_words.specs.declared.tasks.GraphTask.TheVariants.{Levels, Distances, LevelsFrom, DistancesFrom, LevelsGiven, DistancesGiven}
 use Rattle.cb_words.specs.declared.tasks.GraphTask.TheVariants.{Parents, Components, Triangles, TriangleCounts, RowDegrees, ColumnDegrees}
-use Rattle.cb_job_texts.specs.WriteEnds.{IsEndOn}
-use Rattle.cb_job_texts.specs.declared.faults.JobFault.{JobFault}
+use Rattle.cb_outcomes.specs.WriteEnds.{IsEndOn}
+use Rattle.cb_outcomes.specs.declared.faults.JobFault.{JobFault}
 use Rattle.cb_graph_tasks.specs.ListedSources.{IsWalksAnswer, IsWalksFault}
 use Rattle.cb_graph_tasks.specs.InitialValues.{IsGivenAnswer, IsGivenFault}
 use Rattle.cb_graph_tasks.specs.GraphAnswers.{IsWalkAnswer, IsWalkFault, IsParentsAnswer, IsComponentsAnswer, IsSquareFault, IsTrianglesAnswer, IsTriangleCountsAnswer, IsDegreesAnswer, IsDegreesFault}

@@ -4,13 +4,13 @@ use Rattle.cb_semirings.specs.Arithmetic.{Arithmetic}
 use Rattle.cb_semirings.specs.Tables.{min_plus}
 use Rattle.cb_matrix.specs.Sparse.{Sparse, Extent, IsMatrix}
 use Rattle.cb_market_lines.specs.Reads.{Reads}
-use Rattle.cb_market.specs.Text.{vertex_text_of}
+use Rattle.cb_market_pages.specs.Text.{vertex_text_of}
 use Rattle.cb_operations.specs.declared.refusals.Refusal.{Refusal}
 use Rattle.cb_operations.specs.declared.refusals.Refusal.TheVariants as refusal_is
-use Rattle.cb_job_texts.specs.Texts.{text_at}
-use Rattle.cb_job_texts.specs.Inputs.{IsFirstReadFault, arithmetic_at}
-use Rattle.cb_job_texts.specs.declared.faults.JobFault.{JobFault}
-use Rattle.cb_job_texts.specs.declared.faults.JobFault.TheVariants.{Read, Refused, Unselected, Ranks, Memory, Output, Absent}
+use Rattle.cb_outcomes.specs.Texts.{text_at}
+use Rattle.cb_job_inputs.specs.Inputs.{IsFirstReadFault, arithmetic_at}
+use Rattle.cb_outcomes.specs.declared.faults.JobFault.{JobFault}
+use Rattle.cb_outcomes.specs.declared.faults.JobFault.TheVariants.{Read, Refused, Unselected, Ranks, Memory, Output, Absent}
 
 -- the texts read as these two matrices, the second of them in min-plus
 abbrev pub AreWithNumbers : Arithmetic → List (List ℕ) → Sparse → Sparse → Type 0

@@ -3,13 +3,13 @@ use Rattle.std.specs.Prelude.{ℕ, ◌≡◌, ◌≢◌, List}
 use Rattle.cb_semirings.specs.Arithmetic.{Arithmetic}
 use Rattle.cb_semirings.specs.Tables.{min_plus, plus_times}
 use Rattle.cb_matrix.specs.Sparse.{Sparse, Extent, IsMatrix}
-use Rattle.cb_market.specs.Text.{text_of}
+use Rattle.cb_market_pages.specs.Text.{text_of}
 use Rattle.cb_operations.specs.declared.refusals.Refusal.TheVariants as refusal_is
-use Rattle.cb_job_texts.specs.Inputs.{AreWithList, IsFirstReadFault, arithmetic_at}
-use Rattle.cb_job_texts.specs.Lists.{AreNumbersTo, IsList, numbers_in}
-use Rattle.cb_job_texts.specs.declared.faults.SelectionRefusal.TheVariants.{NotColumn}
-use Rattle.cb_job_texts.specs.declared.faults.JobFault.{JobFault}
-use Rattle.cb_job_texts.specs.declared.faults.JobFault.TheVariants.{Read, Refused, Unselected, Ranks, Memory, Output, Absent}
+use Rattle.cb_job_inputs.specs.Inputs.{AreWithList, IsFirstReadFault, arithmetic_at}
+use Rattle.cb_job_inputs.specs.Lists.{AreNumbersTo, IsList, numbers_in}
+use Rattle.cb_outcomes.specs.declared.faults.SelectionRefusal.TheVariants.{NotColumn}
+use Rattle.cb_outcomes.specs.declared.faults.JobFault.{JobFault}
+use Rattle.cb_outcomes.specs.declared.faults.JobFault.TheVariants.{Read, Refused, Unselected, Ranks, Memory, Output, Absent}
 
 -- a shape is that of a graph, and a matrix lists vertices of the graph
 abbrev pub AreSources : Extent → Sparse → Type 0

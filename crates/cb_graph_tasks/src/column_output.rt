@@ -1,13 +1,13 @@
 //! Writes the text of a column, or of a number. It is made whole and then written.
 ghost use Rattle.std.specs.Prelude.{◌≡◌, [], ◌∷◌, false};
-ghost use Rattle.cb_market.specs.Text.{number_line, vertex_text_of, vertex_pairs_text_of};
-ghost use Rattle.cb_job_texts.specs.WriteEnds.{IsTextEnd};
+ghost use Rattle.cb_market_pages.specs.Text.{number_line, vertex_text_of, vertex_pairs_text_of};
+ghost use Rattle.cb_outcomes.specs.WriteEnds.{IsTextEnd};
 
 use crate::count_lines::{block_counts_text, counts_text};
 use cb_dcsc::Block;
-use cb_job_texts::faults::JobFault;
-use cb_job_texts::sinks::{Sink, put_all};
-use cb_market::{vertex_pairs_text, vertex_text};
+use cb_outcomes::faults::JobFault;
+use cb_outcomes::sinks::{Sink, put_all};
+use cb_market_pages::{vertex_pairs_text, vertex_text};
 use cb_matrix::Matrix;
 use cb_semirings::{MinPlus, PlusTimes};
 use std::alloc::Global;

@@ -1,6 +1,6 @@
 //! The text of counts of vertices, rows or columns.
 ghost use Rattle.std.specs.Prelude.{◌≡◌, ◌++◌, OnOk, IfOk, flat_map, string_bytes};
-ghost use Rattle.cb_market.specs.Text.{vertex_line, vertex_text_of};
+ghost use Rattle.cb_market_pages.specs.Text.{vertex_line, vertex_text_of};
 
 use cb_dcsc::Block;
 use cb_matrix::{Entry, Matrix};

@@ -3,16 +3,16 @@ ghost use Rattle.std.specs.Prelude.{◌≡◌, ◌≢◌, vec_len, false, IfOk, 
 ghost use Rattle.cb_graphs.specs.Degrees.{row_degrees, column_degrees};
 ghost use Rattle.cb_market_lines.specs.Reads.{Reads};
 ghost use Rattle.cb_semirings.specs.Tables.{or_and};
-ghost use Rattle.cb_job_texts.specs.Texts.{bytes_of, text_at};
+ghost use Rattle.cb_outcomes.specs.Texts.{bytes_of, text_at};
 ghost use Rattle.cb_graph_tasks.specs.GraphAnswers.{IsDegreesFault};
 ghost use Rattle.cb_graph_tasks.specs.GraphEnds.{IsDegreesEnd};
 
 use crate::column_output::put_degrees;
 use cb_dcsc::Block;
 use cb_graphs::{column_degrees, row_degrees};
-use cb_job_texts::faults::JobFault;
-use cb_job_texts::inputs::read_one;
-use cb_job_texts::sinks::Sink;
+use cb_outcomes::faults::JobFault;
+use cb_job_inputs::inputs::read_one;
+use cb_outcomes::sinks::Sink;
 use cb_layout::Grid;
 use cb_semirings::OrAnd;
 use std::alloc::Global;

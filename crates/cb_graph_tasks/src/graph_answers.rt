@@ -2,14 +2,14 @@
 ghost use Rattle.std.specs.Prelude.{◌≡◌, vec_len, false};
 ghost use Rattle.cb_semirings.specs.Tables.{or_and};
 ghost use Rattle.cb_searches.specs.Parents.{AreParents};
-ghost use Rattle.cb_job_texts.specs.WriteEnds.{IsEndOn};
+ghost use Rattle.cb_outcomes.specs.WriteEnds.{IsEndOn};
 ghost use Rattle.cb_graph_tasks.specs.GraphAnswers.{IsComponentsAnswer, IsParentsAnswer, IsSquareFault, IsTriangleCountsAnswer, IsTrianglesAnswer, IsWalkFault};
 
 use crate::column_output::{put_counts, put_number, put_pairs};
 use crate::graph_inputs::{graph_with_source, square_graph};
 use cb_graphs::{components, triangles, triangles_of};
-use cb_job_texts::faults::JobFault;
-use cb_job_texts::sinks::Sink;
+use cb_outcomes::faults::JobFault;
+use cb_outcomes::sinks::Sink;
 use cb_searches::parents;
 use cb_semirings::OrAnd;
 use std::alloc::Global;

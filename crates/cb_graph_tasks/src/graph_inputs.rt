@@ -1,11 +1,11 @@
 //! Reads the graph of a text into one block, for searches and counts by one thread. Several threads read a large text.
 ghost use Rattle.std.specs.Prelude.{◌≡◌, ◌≢◌, vec_len, IfOk, IfErr};
-ghost use Rattle.cb_job_texts.specs.Texts.{bytes_of};
+ghost use Rattle.cb_outcomes.specs.Texts.{bytes_of};
 ghost use Rattle.cb_graph_tasks.specs.GraphAnswers.{IsSquareFault, IsSquareGraph, IsWalkFault, IsWalkGraph};
 
 use cb_dcsc::Block;
-use cb_job_texts::faults::JobFault;
-use cb_job_texts::inputs::read_one;
+use cb_outcomes::faults::JobFault;
+use cb_job_inputs::inputs::read_one;
 use cb_layout::Grid;
 use cb_operations::{Refusal, check_graph};
 use cb_semirings::{OrAnd, Semiring};

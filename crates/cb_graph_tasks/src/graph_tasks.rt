@@ -8,8 +8,8 @@ use crate::graph_answers::{put_components, put_parents, put_triangle_counts, put
 use crate::initial_values::put_numbers_given;
 use crate::listed_sources::put_numbers_from;
 use crate::walks::put_numbers;
-use cb_job_texts::faults::JobFault;
-use cb_job_texts::sinks::Sink;
+use cb_outcomes::faults::JobFault;
+use cb_outcomes::sinks::Sink;
 use cb_semirings::{MinPlus, OrAnd};
 use cb_words::GraphTask;
 use std::alloc::Global;

@@ -1,15 +1,15 @@
 //! Levels and distances from initial values of some vertices: a column in a text of its own has them. The caller's
 //! thread computes them.
 ghost use Rattle.std.specs.Prelude.{◌≡◌, ◌≢◌, vec_len, false, IfOk, IfErr, OnOk};
-ghost use Rattle.cb_job_texts.specs.Texts.{bytes_of};
+ghost use Rattle.cb_outcomes.specs.Texts.{bytes_of};
 ghost use Rattle.cb_graph_tasks.specs.InitialValues.{IsGivenFault, IsGivenOf, IsGraphWithNumbers, IsNumbersRefusal, IsPlaceForEach};
 ghost use Rattle.cb_graph_tasks.specs.GraphEnds.{IsGivenEnd};
 
 use crate::column_output::put_column;
 use cb_dcsc::Block;
-use cb_job_texts::faults::JobFault;
-use cb_job_texts::inputs::read_pair;
-use cb_job_texts::sinks::Sink;
+use cb_outcomes::faults::JobFault;
+use cb_job_inputs::inputs::read_pair;
+use cb_outcomes::sinks::Sink;
 use cb_matrix::{Matrix, Shape};
 use cb_operations::Refusal;
 use cb_searches::{Walks, column_shape};

@@ -1,17 +1,17 @@
 //! Levels and distances from several sources, which are listed in a text. The caller's thread computes them.
 ghost use Rattle.std.specs.Prelude.{◌≡◌, ◌≢◌, ◌<◌, ◌≤◌, vec_len, length, All, false, IfOk, IfErr, OnOk};
 ghost use Rattle.cb_matrix.specs.declared.TheConstants.{LIMIT};
-ghost use Rattle.cb_job_texts.specs.Texts.{bytes_of};
-ghost use Rattle.cb_job_texts.specs.Lists.{numbers_in};
+ghost use Rattle.cb_outcomes.specs.Texts.{bytes_of};
+ghost use Rattle.cb_job_inputs.specs.Lists.{numbers_in};
 ghost use Rattle.cb_graph_tasks.specs.ListedSources.{AreSources, AreSourcesRefused, IsGraphWithSources, IsSourcesFault, IsWalksFault, IsWalksOf};
 ghost use Rattle.cb_graph_tasks.specs.GraphEnds.{IsWalksEnd};
 
 use cb_dcsc::Block;
-use cb_job_texts::faults::{JobFault, SelectionRefusal};
-use cb_job_texts::inputs::read_pair;
-use cb_job_texts::lists::{is_full, listed};
-use cb_job_texts::output::put_matrix;
-use cb_job_texts::sinks::Sink;
+use cb_outcomes::faults::{JobFault, SelectionRefusal};
+use cb_job_inputs::inputs::read_pair;
+use cb_job_inputs::lists::{is_full, listed};
+use cb_job_output::output::put_matrix;
+use cb_outcomes::sinks::Sink;
 use cb_layout::PanelledMatrix;
 use cb_matrix::{Matrix, Shape};
 use cb_operations::Refusal;

@@ -4,8 +4,8 @@ ghost use Rattle.cb_graph_tasks.specs.GraphEnds.{IsWalkEnd};
 
 use crate::column_output::put_column;
 use crate::graph_inputs::graph_with_source;
-use cb_job_texts::faults::JobFault;
-use cb_job_texts::sinks::Sink;
+use cb_outcomes::faults::JobFault;
+use cb_outcomes::sinks::Sink;
 use cb_searches::Walks;
 use std::alloc::Global;
 use std::thread::Threads;

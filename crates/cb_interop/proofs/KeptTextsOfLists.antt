@@ -3,7 +3,7 @@ use Rattle.std.proofs.Common.{◌∙◌}
 use Rattle.std.specs.Prelude.{Option, Some, None}
 use Rattle.cb_semirings.specs.declared.names.SemiringName.{SemiringName}
 use Rattle.cb_semirings.specs.Names.{arithmetic_of}
-use Rattle.cb_market.specs.Text.{text_of}
+use Rattle.cb_market_pages.specs.Text.{text_of}
 use Rattle.cb_interop.specs.declared.lists.Columns.{Columns}
 use Rattle.cb_interop.specs.declared.texts.Text.{Text as Bytes}
 use Rattle.cb_interop.specs.declared.kept.Kept.{Kept}

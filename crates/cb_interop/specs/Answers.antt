@@ -10,7 +10,7 @@ use Rattle.cb_operations.specs.declared.operations.Operation.TheVariants.{Prune}
 use Rattle.cb_operations.specs.OperationAnswers.{answer_of}
 use Rattle.cb_market_lines.specs.declared.ReadFault.{ReadFault}
 use Rattle.cb_market_lines.specs.Reads.{Reads}
-use Rattle.cb_market.specs.Text.{text_of}
+use Rattle.cb_market_pages.specs.Text.{text_of}
 use Rattle.cb_interop.specs.declared.lists.Columns.{Columns}
 use Rattle.cb_interop.specs.declared.texts.Text.{Text as Bytes}
 use Rattle.cb_interop.specs.Lists.{matrix_of, matrices, HasLists}

@@ -2,7 +2,7 @@
 ghost use Rattle.std.specs.Prelude.{◌≡◌};
 ghost use Rattle.cb_market_lines.specs.Faults.{first_fault};
 ghost use Rattle.cb_market_lines.specs.Reads.{Reads};
-ghost use Rattle.cb_market.specs.Text.{text_of};
+ghost use Rattle.cb_market_pages.specs.Text.{text_of};
 ghost use Rattle.cb_semirings.specs.Names.{numbered};
 ghost use Rattle.cb_interop.specs.Refusals.{IsMemory, first_over, read_faults};
 ghost use Rattle.cb_interop.specs.Answers.{IsAnswer, IsAnswerOver, IsRead, IsFaultLine};
@@ -11,7 +11,8 @@ use crate::faults::Fault;
 use crate::lists::Columns;
 use crate::outgoing::block_lists;
 use cb_dcsc::Block;
-use cb_market::{Kind, read, text};
+use cb_market::{Kind, read};
+use cb_market_pages::text;
 use cb_semirings::{Semiring, SemiringName, over_semiring};
 use std::alloc::Global;
 

@@ -6,7 +6,7 @@ use Rattle.cb_matrix.specs.declared.Entry.{Entry}
 use Rattle.cb_matrix.specs.Sparse.{Sparse, IsMatrix}
 use Rattle.cb_matrix.specs.Values.{collected}
 use Rattle.cb_market.specs.Gathered.{Listed}
-use Rattle.cb_market.proofs.EntryRoundTrip.{own_entries}
+use Rattle.cb_market_lines.proofs.OwnEntries.{own_entries}
 
 -- if the list is empty, the blocks have the matrix of the entries
 pub all_in_blocks : (s : Arithmetic) (laws : IsSemiring s) (side room : ℕ) (m : Sparse) (list : List Entry) (g : Listed) → IsMatrix s m → record { side = side; shape = m.shape; room = room; entries = m.entries ++ list } ≡ g → list ≡ [] → (side ≡ g.side) × (m ≡ collected s g.shape g.entries)

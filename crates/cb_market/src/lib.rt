@@ -1,4 +1,4 @@
-//! Sparse matrices as Matrix Market texts, read and written.
+//! Sparse matrices read from Matrix Market texts.
 //!
 //! A text consists of lines of words. The first line, the header, names a coordinate matrix. It states whether entries
 //! have values (`integer`) or not (`pattern`), and whether each entry also gives the mirrored one (`symmetric`,
@@ -7,8 +7,8 @@
 //! Market Exchange Formats (NISTIR 5935).
 //!
 //! `cb_market_lines` reads lines, and defines when a text reads as a matrix and which of its faults is the first. Every text
-//! either has a first fault or reads as exactly one matrix; `read` returns the fault or the matrix. `text` writes a matrix as
-//! a text that reads back as the same matrix.
+//! either has a first fault or reads as exactly one matrix; `read` returns the fault or the matrix. `cb_market_pages` writes
+//! matrices as texts.
 //!
 //! The reader visits each byte at most twice. It keeps only the entries. A size line that announces more
 //! entries than the text can hold doesn't make it allocate more.
@@ -17,19 +17,10 @@
 mod entries;
 mod gathered;
 mod openings;
-mod pages;
 mod pieces;
 mod reading;
-mod runs;
-mod sheets;
-mod text_pages;
-mod writing;
 
 pub use cb_market_lines::{Field, Header, Kind, ReadFault, Size, Symmetry};
 pub use openings::Opening;
-pub use pages::Page;
 pub use pieces::{Piece, parted, read_piece};
 pub use reading::{read, read_distributed};
-pub use sheets::{MOST_LINES, Sheet};
-pub use text_pages::TextPages;
-pub use writing::{text, vertex_pairs_text, vertex_text};

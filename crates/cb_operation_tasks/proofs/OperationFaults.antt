@@ -9,9 +9,9 @@ use Rattle.cb_operations.specs.OperationAnswers.{Agree, answer_of, shapes_in}
 use Rattle.cb_serial.specs.SerialFaults.{IsFaultOf}
 use Rattle.cb_serial.specs.declared.checked.SerialFault.{SerialFault}
 use Rattle.cb_serial.specs.declared.checked.SerialFault.TheVariants as serial_is
-use Rattle.cb_job_texts.specs.Inputs.{AreMatrices}
-use Rattle.cb_job_texts.specs.declared.faults.JobFault.{JobFault}
-use Rattle.cb_job_texts.specs.declared.faults.JobFault.TheVariants.{Refused, Memory, Output}
+use Rattle.cb_job_inputs.specs.Inputs.{AreMatrices}
+use Rattle.cb_outcomes.specs.declared.faults.JobFault.{JobFault}
+use Rattle.cb_outcomes.specs.declared.faults.JobFault.TheVariants.{Refused, Memory, Output}
 use Rattle.cb_operation_tasks.specs.OperationTexts.{IsBlocksFault, IsFaultOver, IsResultOf, job_fault_of}
 
 module _ (operation : Operation) (ms : List Sparse) where

@@ -2,16 +2,16 @@
 use Rattle.std.specs.Prelude.{ℕ, ◌≡◌, List, Bool, Option, Result, Vec}
 use Rattle.cb_semirings.specs.Arithmetic.{Arithmetic}
 use Rattle.cb_matrix.specs.Sparse.{Sparse}
-use Rattle.cb_market.specs.Text.{text_of}
+use Rattle.cb_market_pages.specs.Text.{text_of}
 use Rattle.cb_operations.specs.declared.operations.Operation.{Operation}
 use Rattle.cb_operations.specs.declared.refusals.Refusal.TheVariants as refusal_is
 use Rattle.cb_operations.specs.OperationAnswers.{Agree, answer_of, shapes_in}
 use Rattle.cb_serial.specs.declared.checked.SerialFault.{SerialFault}
 use Rattle.cb_serial.specs.declared.checked.SerialFault.TheVariants as serial_is
-use Rattle.cb_job_texts.specs.declared.faults.JobFault.{JobFault}
-use Rattle.cb_job_texts.specs.declared.faults.JobFault.TheVariants.{Read, Refused, Unselected, Ranks, Memory, Output, Absent}
-use Rattle.cb_job_texts.specs.Inputs.{AreMatrices, IsReadFault}
-use Rattle.cb_job_texts.specs.WriteEnds.{IsEndOn}
+use Rattle.cb_outcomes.specs.declared.faults.JobFault.{JobFault}
+use Rattle.cb_outcomes.specs.declared.faults.JobFault.TheVariants.{Read, Refused, Unselected, Ranks, Memory, Output, Absent}
+use Rattle.cb_job_inputs.specs.Inputs.{AreMatrices, IsReadFault}
+use Rattle.cb_outcomes.specs.WriteEnds.{IsEndOn}
 
 -- a matrix is what an operation over a semiring makes of the matrices that the texts read as
 abbrev pub IsResultOf : Operation → Arithmetic → List (List ℕ) → Sparse → Type 0

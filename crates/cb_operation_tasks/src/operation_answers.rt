@@ -2,16 +2,16 @@
 ghost use Rattle.std.specs.Prelude.{◌≡◌, ◌≢◌, length, vec_len, false, IfOk, IfErr};
 ghost use Rattle.cb_operations.specs.Operands.{list_of};
 ghost use Rattle.cb_operations.specs.OperationAnswers.{operand_count_of};
-ghost use Rattle.cb_job_texts.specs.Inputs.{AreMatrices, IsReadFault};
-ghost use Rattle.cb_job_texts.specs.Texts.{bytes_of};
+ghost use Rattle.cb_job_inputs.specs.Inputs.{AreMatrices, IsReadFault};
+ghost use Rattle.cb_outcomes.specs.Texts.{bytes_of};
 ghost use Rattle.cb_operation_tasks.specs.OperationTexts.{IsEndOver, IsFaultOver, IsResultOf};
 
 use crate::alone::compute_alone;
 use cb_dcsc::Block;
-use cb_job_texts::faults::JobFault;
-use cb_job_texts::inputs::{read_one, read_three, read_two};
-use cb_job_texts::output::put_matrix;
-use cb_job_texts::sinks::Sink;
+use cb_outcomes::faults::JobFault;
+use cb_job_inputs::inputs::{read_one, read_three, read_two};
+use cb_job_output::output::put_matrix;
+use cb_outcomes::sinks::Sink;
 use cb_layout::{Grid, PanelledMatrix};
 use cb_operations::{Operands, Operation};
 use cb_semirings::Semiring;

@@ -4,11 +4,11 @@ use Rattle.cb_semirings.specs.Arithmetic.{Arithmetic}
 use Rattle.cb_matrix.specs.Sparse.{Sparse}
 use Rattle.cb_selections.specs.Selections.{extracted, rows_by, columns_by}
 use Rattle.cb_words.specs.declared.lists.Lists.TheVariants.{Rows, Columns, Both}
-use Rattle.cb_job_texts.specs.Inputs.{AreWithList}
-use Rattle.cb_job_texts.specs.Lists.{numbers_in}
-use Rattle.cb_job_texts.specs.declared.faults.SelectionRefusal.TheVariants.{NoRow, NoColumn}
-use Rattle.cb_job_texts.specs.declared.faults.JobFault.{JobFault}
-use Rattle.cb_job_texts.specs.declared.faults.JobFault.TheVariants.{Unselected, Memory}
+use Rattle.cb_job_inputs.specs.Inputs.{AreWithList}
+use Rattle.cb_job_inputs.specs.Lists.{numbers_in}
+use Rattle.cb_outcomes.specs.declared.faults.SelectionRefusal.TheVariants.{NoRow, NoColumn}
+use Rattle.cb_outcomes.specs.declared.faults.JobFault.{JobFault}
+use Rattle.cb_outcomes.specs.declared.faults.JobFault.TheVariants.{Unselected, Memory}
 use Rattle.cb_selection_tasks.specs.Extracts.{AreWithLists, AreListsFault, IsExtractFault, IsListFault}
 
 module _ (s : Arithmetic) (texts : List (List ℕ)) where

@@ -3,8 +3,8 @@ use Rattle.std.proofs.Common.{ℕ, List}
 use Rattle.cb_semirings.specs.Arithmetic.{Arithmetic}
 use Rattle.cb_matrix.specs.Sparse.{Sparse}
 use Rattle.cb_selection_tasks.specs.Assignments.{AreWithPart, IsAssignedFault, IsPartFault}
-use Rattle.cb_job_texts.specs.declared.faults.JobFault.{JobFault}
-use Rattle.cb_job_texts.specs.declared.faults.JobFault.TheVariants.{Read, Refused, Unselected, Ranks, Memory, Output, Absent}
+use Rattle.cb_outcomes.specs.declared.faults.JobFault.{JobFault}
+use Rattle.cb_outcomes.specs.declared.faults.JobFault.TheVariants.{Read, Refused, Unselected, Ranks, Memory, Output, Absent}
 
 -- a fault of putting one matrix in place of a part of another is a fault of the texts that read as them
 pub of_part : (corner : ℕ × ℕ) (s : Arithmetic) (texts : List (List ℕ)) (a b : Sparse) (f : JobFault) → AreWithPart s texts a b → IsPartFault corner b.shape a.shape f → IsAssignedFault corner s texts f

@@ -2,11 +2,11 @@
 use Rattle.std.proofs.Common.{ℕ, List, [], ◌∷◌}
 use Rattle.cb_semirings.specs.Arithmetic.{Arithmetic}
 use Rattle.cb_matrix.specs.Sparse.{Sparse}
-use Rattle.cb_job_texts.specs.Inputs.{AreMatrices}
+use Rattle.cb_job_inputs.specs.Inputs.{AreMatrices}
 use Rattle.cb_selection_tasks.specs.SelectionAnswers.{IsKroneckerFault, IsProductFault}
-use Rattle.cb_job_texts.specs.declared.faults.SelectionRefusal.TheVariants.{TooLarge}
-use Rattle.cb_job_texts.specs.declared.faults.JobFault.{JobFault}
-use Rattle.cb_job_texts.specs.declared.faults.JobFault.TheVariants.{Unselected, Memory}
+use Rattle.cb_outcomes.specs.declared.faults.SelectionRefusal.TheVariants.{TooLarge}
+use Rattle.cb_outcomes.specs.declared.faults.JobFault.{JobFault}
+use Rattle.cb_outcomes.specs.declared.faults.JobFault.TheVariants.{Unselected, Memory}
 
 -- a fault of the product of two matrices is a fault of the texts that read as them
 pub of_factors : (s : Arithmetic) (texts : List (List ℕ)) (a b : Sparse) (f : JobFault) → AreMatrices s texts (a ∷ b ∷ []) → IsProductFault a.shape b.shape f → IsKroneckerFault s texts f

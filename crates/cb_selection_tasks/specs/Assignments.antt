@@ -3,14 +3,14 @@ use Rattle.std.specs.Prelude.{ℕ, ◌≡◌, ◌+◌, ◌≤◌, List}
 use Rattle.cb_semirings.specs.Arithmetic.{Arithmetic}
 use Rattle.cb_matrix.specs.Sparse.{Sparse, Extent}
 use Rattle.cb_market_lines.specs.Reads.{Reads}
-use Rattle.cb_market.specs.Text.{text_of}
+use Rattle.cb_market_pages.specs.Text.{text_of}
 use Rattle.cb_selections.specs.Selections.{assigned}
-use Rattle.cb_job_texts.specs.Texts.{text_at}
-use Rattle.cb_job_texts.specs.Inputs.{IsFirstReadFault, arithmetic_at}
-use Rattle.cb_job_texts.specs.declared.faults.SelectionRefusal.{SelectionRefusal}
-use Rattle.cb_job_texts.specs.declared.faults.SelectionRefusal.TheVariants.{Place}
-use Rattle.cb_job_texts.specs.declared.faults.JobFault.{JobFault}
-use Rattle.cb_job_texts.specs.declared.faults.JobFault.TheVariants.{Read, Refused, Unselected, Ranks, Memory, Output, Absent}
+use Rattle.cb_outcomes.specs.Texts.{text_at}
+use Rattle.cb_job_inputs.specs.Inputs.{IsFirstReadFault, arithmetic_at}
+use Rattle.cb_outcomes.specs.declared.faults.SelectionRefusal.{SelectionRefusal}
+use Rattle.cb_outcomes.specs.declared.faults.SelectionRefusal.TheVariants.{Place}
+use Rattle.cb_outcomes.specs.declared.faults.JobFault.{JobFault}
+use Rattle.cb_outcomes.specs.declared.faults.JobFault.TheVariants.{Read, Refused, Unselected, Ranks, Memory, Output, Absent}
 
 -- a part of one shape that begins at a corner, a row and a column, ends within a matrix of another shape
 abbrev pub FitsAt : ℕ × ℕ → Extent → Extent → Type 0

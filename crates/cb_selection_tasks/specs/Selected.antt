@@ -17,8 +17,8 @@ use Rattle.cb_words.specs.declared.selection_names.FunctionName.{FunctionName}
 use Rattle.cb_words.specs.declared.selection_names.FunctionName.TheVariants.{Constant, Plus, Times, Row, Column}
 use Rattle.cb_words.specs.declared.selection_names.Selection.{Selection}
 use Rattle.cb_words.specs.declared.selection_names.Selection.TheVariants.{Select, Apply, Diagonal, DiagonalMatrix, Power}
-use Rattle.cb_job_texts.specs.declared.faults.SelectionRefusal.{SelectionRefusal}
-use Rattle.cb_job_texts.specs.declared.faults.SelectionRefusal.TheVariants.{NoValue, NotColumn, NotSquare}
+use Rattle.cb_outcomes.specs.declared.faults.SelectionRefusal.{SelectionRefusal}
+use Rattle.cb_outcomes.specs.declared.faults.SelectionRefusal.TheVariants.{NoValue, NotColumn, NotSquare}
 
 -- the region of a name, by the diagonal that is this many columns right of the main one, or this many rows below it
 abbrev pub region_of : RegionName → ℕ → ℕ → Region

@@ -3,20 +3,20 @@ use Rattle.std.specs.Prelude.{ℕ, ◌≡◌, List, [], ◌∷◌, Bool, Option,
 use Rattle.cb_semirings.specs.Arithmetic.{Arithmetic}
 use Rattle.cb_matrix.specs.Sparse.{Sparse, Extent}
 use Rattle.cb_market_lines.specs.Reads.{Reads}
-use Rattle.cb_market.specs.Text.{text_of}
+use Rattle.cb_market_pages.specs.Text.{text_of}
 use Rattle.cb_selections.specs.Selections.{kronecker}
 use Rattle.cb_words.specs.declared.selection_names.Selection.{Selection}
 use Rattle.cb_selection_tasks.specs.Assignments.{IsAssignedAnswer, IsAssignedFault}
 use Rattle.cb_selection_tasks.specs.Extracts.{IsExtractAnswer, IsExtractFault}
 use Rattle.cb_selection_tasks.specs.Selected.{Fits, FitsInShape, IsSelectionRefusal, selection_of}
-use Rattle.cb_job_texts.specs.declared.faults.SelectionRefusal.TheVariants.{NoValue, NotColumn, NotSquare, TooLarge, Place, NoRow, NoColumn}
-use Rattle.cb_job_texts.specs.Texts.{text_at}
+use Rattle.cb_outcomes.specs.declared.faults.SelectionRefusal.TheVariants.{NoValue, NotColumn, NotSquare, TooLarge, Place, NoRow, NoColumn}
+use Rattle.cb_outcomes.specs.Texts.{text_at}
 use Rattle.cb_words.specs.declared.tasks.SelectionTask.{SelectionTask}
 use Rattle.cb_words.specs.declared.tasks.SelectionTask.TheVariants as task_is
-use Rattle.cb_job_texts.specs.declared.faults.JobFault.{JobFault}
-use Rattle.cb_job_texts.specs.declared.faults.JobFault.TheVariants.{Read, Refused, Unselected, Ranks, Memory, Output, Absent}
-use Rattle.cb_job_texts.specs.Inputs.{AreMatrices, IsReadFault}
-use Rattle.cb_job_texts.specs.WriteEnds.{IsEndOn}
+use Rattle.cb_outcomes.specs.declared.faults.JobFault.{JobFault}
+use Rattle.cb_outcomes.specs.declared.faults.JobFault.TheVariants.{Read, Refused, Unselected, Ranks, Memory, Output, Absent}
+use Rattle.cb_job_inputs.specs.Inputs.{AreMatrices, IsReadFault}
+use Rattle.cb_outcomes.specs.WriteEnds.{IsEndOn}
 
 -- ---- of a selection
 -- the text reads as this matrix, from which the selection can be made

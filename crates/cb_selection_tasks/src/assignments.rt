@@ -1,16 +1,16 @@
 //! The matrix of a text with that of another in place of a part. The caller's thread makes it.
 ghost use Rattle.std.specs.Prelude.{◌≡◌, ◌≢◌, ◌↔◌, vec_len, false, IsTrue, IfOk, IfErr, OnOk};
 ghost use Rattle.cb_selections.specs.Selections.{assigned};
-ghost use Rattle.cb_job_texts.specs.Texts.{bytes_of};
+ghost use Rattle.cb_outcomes.specs.Texts.{bytes_of};
 ghost use Rattle.cb_selection_tasks.specs.Assignments.{FitsAt, IsAssignedFault, IsAssignedOf, IsPartFault, IsPartRefusal};
 ghost use Rattle.cb_selection_tasks.specs.SelectionAnswers.{IsSelectionEnd};
 ghost use Rattle.cb_words.specs.declared.tasks.SelectionTask.TheVariants as task_is;
 
 use cb_dcsc::Block;
-use cb_job_texts::faults::{JobFault, SelectionRefusal};
-use cb_job_texts::inputs::read_pair;
-use cb_job_texts::output::put_matrix;
-use cb_job_texts::sinks::Sink;
+use cb_outcomes::faults::{JobFault, SelectionRefusal};
+use cb_job_inputs::inputs::read_pair;
+use cb_job_output::output::put_matrix;
+use cb_outcomes::sinks::Sink;
 use cb_layout::PanelledMatrix;
 use cb_matrix::Shape;
 use cb_selections::assign;

@@ -1,12 +1,12 @@
 //! Checks of lists of numbers of rows or of columns.
 ghost use Rattle.std.specs.Prelude.{◌≡◌, ◌<◌, ◌≤◌, All, IfOk, IfErr, OnOk, length};
 ghost use Rattle.cb_matrix.specs.declared.TheConstants.{LIMIT};
-ghost use Rattle.cb_job_texts.specs.Lists.{IsList, numbers_in};
+ghost use Rattle.cb_job_inputs.specs.Lists.{IsList, numbers_in};
 ghost use Rattle.cb_selection_tasks.specs.Extracts.{IsListFault, IsListRefusal};
 
 use cb_dcsc::Block;
-use cb_job_texts::faults::{JobFault, SelectionRefusal};
-use cb_job_texts::lists::{is_full, listed};
+use cb_outcomes::faults::{JobFault, SelectionRefusal};
+use cb_job_inputs::lists::{is_full, listed};
 use cb_semirings::PlusTimes;
 use std::alloc::Global;
 

@@ -1,13 +1,13 @@
 //! Reads a matrix and two lists, in the job's order.
 ghost use Rattle.std.specs.Prelude.{◌≡◌, vec_len, IfOk, IfErr};
 ghost use Rattle.cb_semirings.specs.Tables.{plus_times};
-ghost use Rattle.cb_job_texts.specs.Inputs.{IsFirstReadFault, arithmetic_at};
-ghost use Rattle.cb_job_texts.specs.Texts.{bytes_of};
+ghost use Rattle.cb_job_inputs.specs.Inputs.{IsFirstReadFault, arithmetic_at};
+ghost use Rattle.cb_outcomes.specs.Texts.{bytes_of};
 ghost use Rattle.cb_selection_tasks.specs.Extracts.{AreWithLists};
 
 use cb_dcsc::Block;
-use cb_job_texts::faults::JobFault;
-use cb_job_texts::inputs::read_triple;
+use cb_outcomes::faults::JobFault;
+use cb_job_inputs::inputs::read_triple;
 use cb_layout::Grid;
 use cb_semirings::{PlusTimes, Semiring};
 use std::alloc::Global;

@@ -1,17 +1,17 @@
 //! Selections and Kronecker products of the matrices of texts, which the caller's thread computes.
 ghost use Rattle.std.specs.Prelude.{◌≡◌, ◌≢◌, vec_len, false, IfOk, IfErr};
 ghost use Rattle.cb_selections.specs.Selections.{kronecker};
-ghost use Rattle.cb_job_texts.specs.Texts.{bytes_of};
+ghost use Rattle.cb_outcomes.specs.Texts.{bytes_of};
 ghost use Rattle.cb_selection_tasks.specs.SelectionAnswers.{IsKroneckerFault, IsKroneckerOf, IsProductFault, IsSelectedFault, IsSelectedOf, IsSelectionEnd};
 ghost use Rattle.cb_selection_tasks.specs.Selected.{Fits, FitsInShape, selection_of};
 ghost use Rattle.cb_words.specs.declared.tasks.SelectionTask.TheVariants as task_is;
 
 use crate::selection_refusals::{check_product, check_selection, function_of, region_of};
 use cb_dcsc::Block;
-use cb_job_texts::faults::JobFault;
-use cb_job_texts::inputs::{read_one, read_two};
-use cb_job_texts::output::put_matrix;
-use cb_job_texts::sinks::Sink;
+use cb_outcomes::faults::JobFault;
+use cb_job_inputs::inputs::{read_one, read_two};
+use cb_job_output::output::put_matrix;
+use cb_outcomes::sinks::Sink;
 use cb_layout::{Grid, PanelledMatrix};
 use cb_selections::{apply, diagonal, diagonal_matrix, kronecker, power, select};
 use cb_semirings::Semiring;

@@ -1,9 +1,9 @@
 //! The refusals of selections, parts and Kronecker products.
 ghost use Rattle.std.specs.Prelude.{◌≡◌, ◌≢◌, ◌↔◌, ◌*◌, ◌≤◌, IsTrue, IfErr, OnOk};
-ghost use Rattle.cb_job_texts.specs.declared.faults.SelectionRefusal.TheVariants.{NotColumn, NotSquare, TooLarge};
+ghost use Rattle.cb_outcomes.specs.declared.faults.SelectionRefusal.TheVariants.{NotColumn, NotSquare, TooLarge};
 ghost use Rattle.cb_selection_tasks.specs.Selected.{Fits, FitsInShape, IsSelectionRefusal, region_of, function_of};
 
-use cb_job_texts::faults::SelectionRefusal;
+use cb_outcomes::faults::SelectionRefusal;
 use cb_matrix::{LIMIT, Shape};
 use cb_selections::{Diagonal, Function, Region};
 use cb_semirings::Semiring;

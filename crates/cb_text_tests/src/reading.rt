@@ -1,8 +1,9 @@
 //! Texts read in pieces of one line or several.
 use cb_dcsc::Block;
-use cb_job_texts::reading::{Pieces, read_in_pieces, read_side_by_side};
+use cb_job_inputs::reading::{Pieces, read_in_pieces, read_side_by_side};
 use cb_layout::{DistributedMatrix, Grid};
-use cb_market::{Kind, ReadFault, read, text};
+use cb_market::{Kind, ReadFault, read};
+use cb_market_pages::text;
 use cb_semirings::PlusTimes;
 use std::alloc::{AllocError, Global};
 use std::thread::Threads;

@@ -4,7 +4,7 @@ use Rattle.cb_words.specs.declared.jobs.EngineName.TheVariants.{Plain}
 use Rattle.cb_words.specs.declared.jobs.Job.{Job}
 use Rattle.cb_words.specs.declared.tasks.GraphTask.{GraphTask}
 use Rattle.cb_words.specs.declared.tasks.Task.TheVariants.{Graph}
-use Rattle.cb_job_texts.specs.declared.faults.JobFault.{JobFault}
+use Rattle.cb_outcomes.specs.declared.faults.JobFault.{JobFault}
 use Rattle.cb_graph_tasks.specs.GraphTasks.{IsGraphAnswer, IsGraphFault}
 use Rattle.cb_endings.specs.Parts.{IsPartAnswer, IsPartFault}
 

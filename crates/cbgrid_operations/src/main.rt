@@ -8,8 +8,8 @@ ghost use Rattle.cbgrid_operations.specs.OperationJobs.{Asks, Done, IsJobAnswer,
 use cb_endings::endings::Status;
 use cb_endings::runs::Program;
 use cb_endings::system_runs::run_on_system;
-use cb_job_texts::faults::JobFault;
-use cb_job_texts::sinks::Sink;
+use cb_outcomes::faults::JobFault;
+use cb_outcomes::sinks::Sink;
 use cb_operation_tasks::named_operations::execute_distributive_operation;
 use cb_operations::Operation;
 use cb_semirings::SemiringName;

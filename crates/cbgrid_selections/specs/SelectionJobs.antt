@@ -7,7 +7,7 @@ use Rattle.cb_words.specs.declared.jobs.EngineName.TheVariants.{Plain}
 use Rattle.cb_words.specs.declared.jobs.Job.{Job}
 use Rattle.cb_words.specs.declared.tasks.SelectionTask.{SelectionTask}
 use Rattle.cb_words.specs.declared.tasks.Task.TheVariants as task_is
-use Rattle.cb_job_texts.specs.declared.faults.JobFault.{JobFault}
+use Rattle.cb_outcomes.specs.declared.faults.JobFault.{JobFault}
 use Rattle.cb_selection_tasks.specs.SelectionAnswers.{IsSelectionAnswer, IsSelectionFault}
 use Rattle.cb_endings.specs.Parts.{IsPartAnswer, IsPartFault}
 

@@ -8,8 +8,8 @@ ghost use Rattle.cbgrid_selections.specs.SelectionJobs.{Asks, Done, IsJobAnswer,
 use cb_endings::endings::Status;
 use cb_endings::runs::Program;
 use cb_endings::system_runs::run_on_system;
-use cb_job_texts::faults::JobFault;
-use cb_job_texts::sinks::Sink;
+use cb_outcomes::faults::JobFault;
+use cb_outcomes::sinks::Sink;
 use cb_selection_tasks::named_selections::execute_distributive_selection;
 use cb_semirings::SemiringName;
 use cb_words::{EngineName, Job, SelectionTask, Task, is_distributive};

@@ -2,7 +2,8 @@
 ghost use Rattle.std.specs.Prelude.{◌≡◌};
 
 use cb_dcsc::Block;
-use cb_market::{Kind, ReadFault, read, text, vertex_text};
+use cb_market::{Kind, ReadFault, read};
+use cb_market_pages::{text, vertex_text};
 use cb_matrix::Matrix;
 use cb_semirings::{MinPlus, OrAnd, PlusTimes, Semiring};
 use std::alloc::{AllocError, Global};

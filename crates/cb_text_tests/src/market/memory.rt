@@ -1,7 +1,8 @@
 //! If memory is refused, the calls say so; otherwise their results are right. These tests are also run with each
 //! allocation refused in turn.
 use super::matrices::{LEVELS, is_list};
-use cb_market::{Kind, ReadFault, read, text};
+use cb_market::{Kind, ReadFault, read};
+use cb_market_pages::text;
 use cb_semirings::{OrAnd, PlusTimes, Semiring};
 use std::alloc::Global;
 

@@ -1,7 +1,8 @@
 //! Texts of matrices over a grid, page by page.
 use cb_dcsc::Block;
 use cb_layout::{DistributedMatrix, Grid};
-use cb_market::{Kind, Page, TextPages, read_distributed, text};
+use cb_market::{Kind, read_distributed};
+use cb_market_pages::{Page, TextPages, text};
 use cb_matrix::{Entry, Matrix, Shape};
 use cb_samples::are_values;
 use cb_semirings::{OrAnd, PlusTimes, Semiring};

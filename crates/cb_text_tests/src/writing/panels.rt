@@ -1,12 +1,13 @@
 //! The text of a product in panels is that of the whole product.
 ghost use Rattle.std.specs.Prelude.{◌≤◌, ◌<◌};
-ghost use Rattle.cb_market.specs.declared.sheets.TheConstants.{MOST_LINES};
+ghost use Rattle.cb_market_pages.specs.declared.sheets.TheConstants.{MOST_LINES};
 
 use crate::market::pages;
 use crate::writing::rounds;
 use cb_dcsc::Block;
 use cb_layout::{Grid, PanelledMatrix};
-use cb_market::{Kind, TextPages, read_distributed};
+use cb_market::{Kind, read_distributed};
+use cb_market_pages::TextPages;
 use cb_panels::{Panels, multiply_panels};
 use cb_semirings::PlusTimes;
 use std::alloc::{AllocError, Global};

@@ -1,12 +1,13 @@
 //! The rounds of a text: together they are the whole text.
 ghost use Rattle.std.specs.Prelude.{◌≤◌, ◌<◌};
-ghost use Rattle.cb_market.specs.declared.sheets.TheConstants.{MOST_LINES};
+ghost use Rattle.cb_market_pages.specs.declared.sheets.TheConstants.{MOST_LINES};
 
 use crate::market::pages::{EMPTY, FAR, GIVEN};
 use cb_dcsc::Block;
-use cb_job_texts::rounds::Round;
+use cb_job_output::rounds::Round;
 use cb_layout::{DistributedMatrix, Grid};
-use cb_market::{Kind, MOST_LINES, TextPages, read_distributed, text};
+use cb_market::{Kind, read_distributed};
+use cb_market_pages::{MOST_LINES, TextPages, text};
 use cb_matrix::{Entry, Matrix, Shape};
 use cb_samples::are_values;
 use cb_semirings::PlusTimes;

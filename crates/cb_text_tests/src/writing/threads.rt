@@ -1,8 +1,9 @@
 //! Sheets are written at the same time.
-use cb_job_texts::gates::Gate;
-use cb_job_texts::rounds::Round;
+use cb_job_output::gates::Gate;
+use cb_job_output::rounds::Round;
 use cb_layout::{DistributedMatrix, Grid};
-use cb_market::{Kind, TextPages, read_distributed};
+use cb_market::{Kind, read_distributed};
+use cb_market_pages::TextPages;
 use cb_semirings::PlusTimes;
 use std::alloc::Global;
 use std::sync::atomic::{AtomicBool, AtomicUsize, Ordering};

@@ -1,5 +1,5 @@
 use Rattle.std.proofs.Common.{Some, subst}
-use Rattle.cb_job_texts.specs.WriteEnds.{IsEndOn}
+use Rattle.cb_outcomes.specs.WriteEnds.{IsEndOn}
 use Rattle.cb_graph_tasks.specs.GraphTasks.{IsGraphAnswer}
 use Rattle.cb_cli.specs.Answers.{IsGraphFaultBy}
 use Rattle.cb_cli.proofs.execution.search.Goals as goal

@@ -1,7 +1,7 @@
 use Rattle.std.proofs.Common.{sym, subst}
 use Rattle.cb_operations.specs.Operands.{list_of}
 use Rattle.cb_run.specs.Outcomes.{wholes}
-use Rattle.cb_job_texts.specs.Texts.{bytes_of}
+use Rattle.cb_outcomes.specs.Texts.{bytes_of}
 use Rattle.cb_cli.specs.Answers.{IsRanksFaultOver}
 use Rattle.cb_cli.proofs.Faults.{of_run}
 use Rattle.cb_cli.proofs.operations.outcome_of.Goals as goal

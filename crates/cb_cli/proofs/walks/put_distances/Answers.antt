@@ -1,5 +1,5 @@
 use Rattle.cb_semirings.specs.Tables.{min_plus}
-use Rattle.cb_job_texts.specs.Texts.{bytes_of}
+use Rattle.cb_outcomes.specs.Texts.{bytes_of}
 use Rattle.cb_cli.proofs.Faults.{end_of_search}
 use Rattle.cb_cli.proofs.walks.put_distances.Goals as goal
 

@@ -1,5 +1,5 @@
 use Rattle.std.proofs.Common.{◌≡◌, ◌≤◌, length, vec_capacity}
-use Rattle.cb_job_texts.specs.Texts.{bytes_of}
+use Rattle.cb_outcomes.specs.Texts.{bytes_of}
 use Rattle.cb_endings.specs.Files.{HoldsBelow}
 use Rattle.cb_endings.proofs.files.load_all.Given as goal
 

@@ -1,6 +1,6 @@
 use Rattle.std.proofs.Common.{sym, subst, ap, Err}
 use Rattle.cb_endings.specs.Files.{AreTexts, IsUnloaded}
-use Rattle.cb_job_texts.specs.Texts.{bytes_of}
+use Rattle.cb_outcomes.specs.Texts.{bytes_of}
 use Rattle.cb_endings.specs.Endings.{IsJobEnding}
 use Rattle.cb_endings.proofs.EndingLemmas.{job_unloaded}
 use Rattle.cb_endings.proofs.runs.job_ending.Goals as goal

@@ -1,7 +1,7 @@
 use Rattle.std.proofs.Common.{◌≤◌, ◌∙◌, ap, subst, length}
 use Rattle.std.specs.Prelude.{flat_map}
 use Rattle.std.proofs.lemmas.List.{take_all}
-use Rattle.cb_market.specs.Text.{vertex_line, vertex_text_of}
+use Rattle.cb_market_pages.specs.Text.{vertex_line, vertex_text_of}
 use Rattle.cb_graph_tasks.proofs.count_lines.block_counts_text.Goals as goal
 
 pub returns : goal.returns

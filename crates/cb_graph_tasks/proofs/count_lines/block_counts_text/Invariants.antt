@@ -1,6 +1,6 @@
 use Rattle.std.proofs.Common.{◌≡◌, take}
 use Rattle.std.specs.Prelude.{flat_map, string_bytes}
-use Rattle.cb_market.specs.Text.{vertex_line}
+use Rattle.cb_market_pages.specs.Text.{vertex_line}
 use Rattle.cb_graph_tasks.proofs.count_lines.block_counts_text.Given as goal
 
 -- the lines of the entries so far

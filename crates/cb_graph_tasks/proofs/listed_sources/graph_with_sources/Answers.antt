@@ -1,6 +1,6 @@
 use Rattle.std.proofs.Common.{subst}
 use Rattle.std.proofs.lemmas.Result.{err_from_is_err_and}
-use Rattle.cb_job_texts.specs.Texts.{bytes_of}
+use Rattle.cb_outcomes.specs.Texts.{bytes_of}
 use Rattle.cb_graph_tasks.specs.ListedSources.{IsSourcesFault}
 use Rattle.cb_graph_tasks.proofs.SourceLemmas.{of_sources}
 use Rattle.cb_graph_tasks.proofs.listed_sources.graph_with_sources.Goals as goal

@@ -1,8 +1,8 @@
 use Rattle.std.proofs.Common.{◌≢◌}
 use Rattle.std.proofs.lemmas.Result.{IfErr-weaker}
 use Rattle.cb_operations.specs.Operands.{list_of}
-use Rattle.cb_job_texts.specs.Texts.{bytes_of}
-use Rattle.cb_job_texts.specs.declared.faults.JobFault.TheVariants.{Output}
+use Rattle.cb_outcomes.specs.Texts.{bytes_of}
+use Rattle.cb_outcomes.specs.declared.faults.JobFault.TheVariants.{Output}
 use Rattle.cb_operation_tasks.specs.OperationTexts.{IsBlocksFault, IsFaultOver}
 use Rattle.cb_operation_tasks.proofs.OperationFaults.{not_output, of_blocks, result_on_blocks}
 use Rattle.cb_operation_tasks.proofs.operation_answers.result_of.Goals as goal

@@ -2,8 +2,8 @@ use Rattle.std.proofs.Common.{◌≡◌, ◌≢◌, subst}
 use Rattle.std.proofs.lemmas.Result.{IfOk-weaker, IfErr-weaker}
 use Rattle.cb_selections.specs.Selections.{assigned}
 use Rattle.cb_selection_tasks.specs.Assignments.{FitsAt, IsAssignedFault, IsAssignedOf, IsPartFault}
-use Rattle.cb_job_texts.specs.Texts.{bytes_of}
-use Rattle.cb_job_texts.specs.declared.faults.JobFault.TheVariants.{Output}
+use Rattle.cb_outcomes.specs.Texts.{bytes_of}
+use Rattle.cb_outcomes.specs.declared.faults.JobFault.TheVariants.{Output}
 use Rattle.cb_selection_tasks.proofs.PartFaults.{of_part}
 use Rattle.cb_selection_tasks.proofs.assignments.assigned_matrix.Goals as goal
 

@@ -3,11 +3,11 @@ use Rattle.std.proofs.lemmas.Result.{IfOk-weaker, IfErr-weaker}
 use Rattle.cb_selections.specs.Selections.{columns_by}
 use Rattle.cb_words.specs.declared.lists.Lists.TheVariants.{Columns}
 use Rattle.cb_selection_tasks.specs.Extracts.{IsExtractOf, IsExtractFault}
-use Rattle.cb_job_texts.specs.Texts.{bytes_of}
-use Rattle.cb_job_texts.specs.Lists.{IsList, numbers_in}
+use Rattle.cb_outcomes.specs.Texts.{bytes_of}
+use Rattle.cb_job_inputs.specs.Lists.{IsList, numbers_in}
 use Rattle.cb_selection_tasks.specs.Extracts.{IsListFault}
-use Rattle.cb_job_texts.specs.declared.faults.SelectionRefusal.TheVariants.{NoColumn}
-use Rattle.cb_job_texts.specs.declared.faults.JobFault.TheVariants.{Output}
+use Rattle.cb_outcomes.specs.declared.faults.SelectionRefusal.TheVariants.{NoColumn}
+use Rattle.cb_outcomes.specs.declared.faults.JobFault.TheVariants.{Output}
 use Rattle.cb_selection_tasks.proofs.ListFaults.{of_columns}
 use Rattle.cb_selection_tasks.proofs.extracts.some_columns.Goals as goal
 

@@ -2,8 +2,8 @@ use Rattle.std.proofs.Common.{◌≢◌, subst}
 use Rattle.std.proofs.lemmas.Result.{IfOk-weaker, IfErr-weaker}
 use Rattle.cb_words.specs.declared.lists.Lists.TheVariants.{Both}
 use Rattle.cb_selection_tasks.specs.Extracts.{AreListsFault, IsExtractOf, IsExtractFault, IsPartOf}
-use Rattle.cb_job_texts.specs.Texts.{bytes_of}
-use Rattle.cb_job_texts.specs.declared.faults.JobFault.TheVariants.{Output}
+use Rattle.cb_outcomes.specs.Texts.{bytes_of}
+use Rattle.cb_outcomes.specs.declared.faults.JobFault.TheVariants.{Output}
 use Rattle.cb_selection_tasks.proofs.ListFaults.{of_both}
 use Rattle.cb_selection_tasks.proofs.extracts.some_part.Goals as goal
 

@@ -3,7 +3,7 @@ use Rattle.std.proofs.lemmas.Result.{err_from_is_err_and}
 use Rattle.cb_matrix.specs.Sparse.{Sparse}
 use Rattle.cb_selections.specs.Selections.{kronecker}
 use Rattle.cb_selection_tasks.specs.SelectionAnswers.{IsProductFault}
-use Rattle.cb_job_texts.specs.Texts.{bytes_of}
+use Rattle.cb_outcomes.specs.Texts.{bytes_of}
 use Rattle.cb_selection_tasks.specs.Selected.{FitsInShape}
 use Rattle.cb_selection_tasks.proofs.ProductFaults.{of_factors}
 use Rattle.cb_selection_tasks.proofs.selection_answers.kronecker_matrix.Goals as goal

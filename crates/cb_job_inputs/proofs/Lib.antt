@@ -1,0 +1,4 @@
+-- The toolbox of lemmas on the texts of a job. OperandLemmas: texts that are taken out of a list one after the other, and
+-- read. ReadFaults: the first text that isn't a matrix.
+pub mod OperandLemmas
+pub mod ReadFaults

@@ -1,0 +1,49 @@
+-- Texts that are taken out of a list one after the other, and read.
+use Rattle.std.proofs.Common.{◌≡◌, ℕ, ◌+◌, ◌<◌, ◌≤◌, List, [], ◌∷◌, length, drop, vec_len, get_or, ap, sym, ◌∙◌, subst, ⊎_elim, arith}
+use Rattle.std.specs.Prelude.{Vec, Result, Ok, Err, IfOk}
+use Rattle.std.proofs.lemmas.Bool.{cases_lt}
+use Rattle.std.proofs.lemmas.List.{length-map, get_or-map, get_or-drop}
+use Rattle.cb_semirings.specs.Arithmetic.{Arithmetic}
+use Rattle.cb_matrix.specs.Sparse.{Sparse}
+use Rattle.cb_market_lines.specs.Reads.{Reads}
+use Rattle.cb_outcomes.specs.Texts.{bytes_of, text_at}
+use Rattle.cb_operations.specs.OperationAnswers.{matrix_at}
+use Rattle.cb_job_inputs.specs.Inputs.{AreMatrices}
+
+module _ {A B : Type 0} (xs : Vec (Vec ℕ A) B) where
+  -- a list has as many texts as bytes of texts
+  pub bytes_count : (n : ℕ) → vec_len xs ≡ n → length (bytes_of xs.items) ≡ n
+  bytes_count n e = length-map xs.items (λ (v : Vec ℕ A). v.items) ∙ sym xs.ok.0 ∙ e
+
+  -- the text at a position is the first one after those before it
+  pub text_taken : (n : ℕ) (left : List (Vec ℕ A)) (v : Vec ℕ A) → n < vec_len xs → left ≡ drop n xs.items → v ≡ get_or left 0 v → text_at (bytes_of xs.items) n ≡ v.items
+  text_taken n left v l rest first =
+      let own : v ≡ get_or xs.items (n + 0) v = first ∙ ap (λ ys. get_or ys 0 v) rest ∙ get_or-drop n xs.items 0 v in
+      let same : n + 0 ≡ n = omega arith in
+      get_or-map (λ (w : Vec ℕ A). w.items) xs.items n v [] (subst (λ k. n < k) xs.ok.0 l) ∙ ap (λ (w : Vec ℕ A). w.items) (sym (own ∙ ap (λ k. get_or xs.items k v) same))
+
+module _ (P : ℕ → Type 0) where
+  -- what holds at each position below n, and at n
+  pub up_to : (n : ℕ) → ((i : ℕ) → i < n → P i) → P n → (i : ℕ) → i < n + 1 → P i
+  up_to n below here i l = ⊎_elim (below i) (λ (m : n ≤ i). let e : n ≡ i = omega arith in subst P e here) (cases_lt i n)
+
+  -- at the first position
+  pub at_first : P 0 → (i : ℕ) → i < 1 → P i
+  at_first = up_to 0 (λ i l. absurd (omega arith))
+
+module _ (s : Arithmetic) (ts : List (List ℕ)) where
+  -- two texts, by the reading of both
+  pub both_are : {T E : Type 0} → length ts ≡ 2 → (left right : T → Sparse) (r : Result T E) → IfOk r (λ p. Reads s (text_at ts 0) (left p)) → IfOk r (λ p. Reads s (text_at ts 1) (right p))
+      → IfOk r (λ p. AreMatrices s ts (left p ∷ right p ∷ []))
+  both_are n left right (Ok p) a b =
+      let each : ℕ → Type 0 = λ i. Reads s (text_at ts i) (matrix_at (left p ∷ right p ∷ []) i) in
+      (sym n, rw n (up_to each 1 (at_first each a) b))
+  both_are n left right (Err e) a b = tt
+
+  -- three
+  pub three_are : {T E : Type 0} → length ts ≡ 3 → (first second third : T → Sparse) (r : Result T E) → IfOk r (λ p. Reads s (text_at ts 0) (first p)) → IfOk r (λ p. Reads s (text_at ts 1) (second p))
+      → IfOk r (λ p. Reads s (text_at ts 2) (third p)) → IfOk r (λ p. AreMatrices s ts (first p ∷ second p ∷ third p ∷ []))
+  three_are n first second third (Ok p) a b m =
+      let each : ℕ → Type 0 = λ i. Reads s (text_at ts i) (matrix_at (first p ∷ second p ∷ third p ∷ []) i) in
+      (sym n, rw n (up_to each 2 (up_to each 1 (at_first each a) b) m))
+  three_are n first second third (Err e) a b m = tt

@@ -1,0 +1,164 @@
+//! Reads the texts of a job in the job's order. Each text is read in pieces, by at most `threads` threads, and dropped
+//! once it is read.
+ghost use Rattle.std.specs.Prelude.{◌≡◌, ◌≤◌, ◌∷◌, [], drop, vec_len, IfOk, IfErr, OnOk};
+ghost use Rattle.cb_market_lines.specs.Reads.{Reads};
+ghost use Rattle.cb_job_inputs.specs.Inputs.{AreMatrices, IsFirstReadFault, IsReadFault, IsTextFault, arithmetic_at};
+ghost use Rattle.cb_outcomes.specs.Texts.{bytes_of, text_at};
+
+use cb_outcomes::faults::JobFault;
+use crate::reading::{Pieces, read_side_by_side};
+use cb_dcsc::Block;
+use cb_layout::{DistributedMatrix, Grid};
+use cb_semirings::Semiring;
+use std::alloc::Global;
+use std::thread::Threads;
+
+/// The fewest bytes that get a thread of their own.
+const LEAST_BYTES: usize = 262_144;
+
+/// Reads the text at position `which` into the blocks of a grid.
+pub fn read_text<S: Semiring + Send + Sync, R: Threads + Sync>(
+    rt: &R,
+    alloc: Global,
+    grid: &Grid,
+    threads: u32,
+    which: usize,
+    text: Vec<u8>,
+) -> Result<DistributedMatrix<S>, JobFault>
+    ensures ok { IfOk result (λ m. Reads S.arithmetic text.items m.matrix) }
+    ensures side { IfOk result (λ m. m.side ≡ grid.now.side) }
+    ensures fault { IfErr result (IsTextFault S.arithmetic which text.items) }
+{
+    let pieces = Pieces {
+        most: threads,
+        least_bytes: LEAST_BYTES,
+    };
+    match read_side_by_side::<S, R>(rt, alloc, grid, pieces, &text) {
+        Ok(matrix) => Ok(matrix),
+        Err(fault) => Err(JobFault::Read { which, fault }),
+    }
+}
+
+/// Reads the only text into the blocks of a grid.
+pub fn read_one<S: Semiring + Send + Sync, R: Threads + Sync>(
+    rt: &R,
+    alloc: Global,
+    grid: &Grid,
+    threads: u32,
+    mut texts: Vec<Vec<u8>>,
+) -> Result<DistributedMatrix<S>, JobFault>
+    requires { vec_len texts ≡ 1 }
+    ensures ok { IfOk result (λ m. AreMatrices S.arithmetic (bytes_of texts.items) (m.matrix ∷ [])) }
+    ensures only { IfOk result (λ m. Reads S.arithmetic (text_at (bytes_of texts.items) 0) m.matrix) }
+    ensures side { IfOk result (λ m. m.side ≡ grid.now.side) }
+    ensures fault { IfErr result (IsReadFault S.arithmetic (bytes_of texts.items)) }
+{
+    let text = texts.remove(0);
+    read_text(rt, alloc, grid, threads, 0, text)
+}
+
+/// Reads the first two texts of a list, each over its own semiring, into the blocks of a grid. Both are taken out.
+fn read_both<S: Semiring + Send + Sync, T: Semiring + Send + Sync, R: Threads + Sync>(
+    rt: &R,
+    alloc: Global,
+    grid: &Grid,
+    threads: u32,
+    texts: &mut Vec<Vec<u8>>,
+) -> Result<(DistributedMatrix<S>, DistributedMatrix<T>), JobFault>
+    requires { 2 ≤ vec_len texts.old }
+    ensures first { IfOk result (λ p. Reads S.arithmetic (text_at (bytes_of texts.old.items) 0) p.0.matrix) }
+    ensures second { IfOk result (λ p. Reads T.arithmetic (text_at (bytes_of texts.old.items) 1) p.1.matrix) }
+    ensures sides { IfOk result (λ p. (p.0.side ≡ grid.now.side) × (p.1.side ≡ grid.now.side)) }
+    ensures rest { OnOk result (texts.new.items ≡ drop 2 texts.old.items) }
+    ensures fault { IfErr result (IsFirstReadFault (arithmetic_at S.arithmetic T.arithmetic) (bytes_of texts.old.items)) }
+{
+    let first = texts.remove(0);
+    let left = read_text::<S, R>(rt, alloc, grid, threads, 0, first)?;
+    let second = texts.remove(0);
+    let right = read_text::<T, R>(rt, alloc, grid, threads, 1, second)?;
+    Ok((left, right))
+}
+
+/// Reads two texts into the blocks of a grid.
+pub fn read_two<S: Semiring + Send + Sync, R: Threads + Sync>(
+    rt: &R,
+    alloc: Global,
+    grid: &Grid,
+    threads: u32,
+    mut texts: Vec<Vec<u8>>,
+) -> Result<(DistributedMatrix<S>, DistributedMatrix<S>), JobFault>
+    requires { vec_len texts ≡ 2 }
+    ensures ok { IfOk result (λ p. AreMatrices S.arithmetic (bytes_of texts.items) (p.0.matrix ∷ p.1.matrix ∷ [])) }
+    ensures sides { IfOk result (λ p. (p.0.side ≡ grid.now.side) × (p.1.side ≡ grid.now.side)) }
+    ensures fault { IfErr result (IsReadFault S.arithmetic (bytes_of texts.items)) }
+{
+    read_both(rt, alloc, grid, threads, &mut texts)
+}
+
+/// Reads three texts into the blocks of a grid, the first over a semiring of its own.
+pub fn read_triple<S: Semiring + Send + Sync, T: Semiring + Send + Sync, R: Threads + Sync>(
+    rt: &R,
+    alloc: Global,
+    grid: &Grid,
+    threads: u32,
+    mut texts: Vec<Vec<u8>>,
+) -> Result<
+    (
+        DistributedMatrix<S>,
+        DistributedMatrix<T>,
+        DistributedMatrix<T>,
+    ),
+    JobFault,
+>
+    requires { vec_len texts ≡ 3 }
+    ensures first { IfOk result (λ p. Reads S.arithmetic (text_at (bytes_of texts.items) 0) p.0.matrix) }
+    ensures second { IfOk result (λ p. Reads T.arithmetic (text_at (bytes_of texts.items) 1) p.1.matrix) }
+    ensures third { IfOk result (λ p. Reads T.arithmetic (text_at (bytes_of texts.items) 2) p.2.matrix) }
+    ensures sides { IfOk result (λ p. (p.0.side ≡ grid.now.side) × (p.1.side ≡ grid.now.side) × (p.2.side ≡ grid.now.side)) }
+    ensures fault { IfErr result (IsFirstReadFault (arithmetic_at S.arithmetic T.arithmetic) (bytes_of texts.items)) }
+{
+    let (first, second) = read_both::<S, T, R>(rt, alloc, grid, threads, &mut texts)?;
+    let text = texts.remove(0);
+    let third = read_text(rt, alloc, grid, threads, 2, text)?;
+    Ok((first, second, third))
+}
+
+/// Reads three texts into the blocks of a grid.
+pub fn read_three<S: Semiring + Send + Sync, R: Threads + Sync>(
+    rt: &R,
+    alloc: Global,
+    grid: &Grid,
+    threads: u32,
+    texts: Vec<Vec<u8>>,
+) -> Result<
+    (
+        DistributedMatrix<S>,
+        DistributedMatrix<S>,
+        DistributedMatrix<S>,
+    ),
+    JobFault,
+>
+    requires { vec_len texts ≡ 3 }
+    ensures ok { IfOk result (λ p. AreMatrices S.arithmetic (bytes_of texts.items) (p.0.matrix ∷ p.1.matrix ∷ p.2.matrix ∷ [])) }
+    ensures sides { IfOk result (λ p. (p.0.side ≡ grid.now.side) × (p.1.side ≡ grid.now.side) × (p.2.side ≡ grid.now.side)) }
+    ensures fault { IfErr result (IsReadFault S.arithmetic (bytes_of texts.items)) }
+{
+    read_triple(rt, alloc, grid, threads, texts)
+}
+
+/// Reads two texts, each over its own semiring.
+pub fn read_pair<S: Semiring + Send + Sync, T: Semiring + Send + Sync, R: Threads + Sync>(
+    rt: &R,
+    alloc: Global,
+    threads: u32,
+    mut texts: Vec<Vec<u8>>,
+) -> Result<(Block<S>, Block<T>), JobFault>
+    requires { vec_len texts ≡ 2 }
+    ensures first { IfOk result (λ p. Reads S.arithmetic (text_at (bytes_of texts.items) 0) p.0) }
+    ensures second { IfOk result (λ p. Reads T.arithmetic (text_at (bytes_of texts.items) 1) p.1) }
+    ensures fault { IfErr result (IsFirstReadFault (arithmetic_at S.arithmetic T.arithmetic) (bytes_of texts.items)) }
+{
+    let grid = Grid::single();
+    let (left, right) = read_both::<S, T, R>(rt, alloc, &grid, threads, &mut texts)?;
+    Ok((left.into_block(), right.into_block()))
+}

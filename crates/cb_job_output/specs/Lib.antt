@@ -1,0 +1,2 @@
+-- Rounds: what the sheets of a round have of a text.
+pub mod Rounds

@@ -1,9 +1,0 @@
--- The toolbox of lemmas on the texts of a job. OperandLemmas: texts that are taken out of a list one after the other, and
--- read. ReadFaults: the first text that isn't a matrix.
-pub mod OperandLemmas
-pub mod ReadFaults
--- For this crate alone. SinkLemmas: what puts append. LineLemmas: lines that are written after a text. Sheets: what is on
--- sheets that are written independently.
-mod SinkLemmas
-mod LineLemmas
-mod Sheets

@@ -1,6 +1,0 @@
-use Rattle.std.proofs.Common.{[], ◌++◌, refl, ap}
-use Rattle.cb_market.proofs.Segments.{shifted_done}
-use Rattle.cb_market.proofs.text_pages.EntriesLeft.new.Goals as goal
-
-pub returns : goal.returns
-returns g c = ap (λ es. es ++ c.args.segments) (shifted_done 0 0 [] [] refl)

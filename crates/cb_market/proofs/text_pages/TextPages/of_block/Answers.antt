@@ -1,7 +1,0 @@
-use Rattle.std.proofs.Common.{refl}
-use Rattle.cb_market.specs.Text.{text_of}
-use Rattle.cb_market.proofs.text_pages.TextPages.of_block.Goals as goal
-
-pub returns : goal.returns
-unfolding text_of
-returns g c = rw (c.shape.ensures.shape, c.len.ensures, c.new.ensures, c.of_block.ensures) refl

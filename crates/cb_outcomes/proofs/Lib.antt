@@ -1,0 +1,2 @@
+-- The toolbox of lemmas on outcomes. SinkLemmas: what puts append.
+pub mod SinkLemmas

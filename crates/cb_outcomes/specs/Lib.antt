@@ -1,0 +1,4 @@
+pub mod Sinks
+pub mod Writers
+pub mod Texts
+pub mod WriteEnds
