@@ -1,4 +1,5 @@
-//! Worked texts, through the public calls of `cb_market`, and of `cb_job_texts`, which reads and writes with several threads.
+//! Worked texts, through the public calls of `cb_market` and `cb_market_pages`, and of `cb_job_inputs` and `cb_job_output`, which read and
+//! write with several threads.
 #![tactic(auto)]
 
 #[cfg(test)]
