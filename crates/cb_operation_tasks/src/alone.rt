@@ -12,9 +12,9 @@ use cb_outcomes::faults::JobFault;
 use cb_layout::PanelledMatrix;
 use cb_operations::{Operands, Operation, Refusal};
 use cb_panels::{Panels, multiply_panels};
+use cb_product::LEAST_PRODUCTS;
 use cb_semirings::Semiring;
 use cb_serial::{SerialFault, run};
-use cb_shares::LEAST_PRODUCTS;
 use std::alloc::Global;
 use std::thread::Threads;
 

@@ -1,7 +1,7 @@
 //! Products of blocks by several threads, which share the operands.
 //!
 //! Each thread makes a panel of the product: the product of the left block and some columns of the right. The columns
-//! are divided so that all panels take about the same number of products of two values (`cb_shares`). No operand is
+//! are divided so that all panels take about the same number of products of two values, as in `cb_shares`. No operand is
 //! copied, and one index of the left block's columns serves all threads.
 //!
 //! Panels are made by halves: a thread makes the first half, another one the second. If no thread is available, the
@@ -17,9 +17,8 @@ ghost use Rattle.cb_product.specs.InColumns.{only_columns};
 
 use cb_dcsc::Block;
 use cb_layout::PanelledMatrix;
-use cb_product::{ColumnIndex, multiply_columns};
+use cb_product::{ColumnIndex, multiply_columns, products_of_columns, total_products};
 use cb_semirings::Semiring;
-use cb_shares::{products_of_columns, total};
 use std::alloc::{AllocError, Global};
 use std::thread::{Threads, join};
 
@@ -77,7 +76,7 @@ pub fn multiply_panels<S: Semiring + Send + Sync, R: Threads + Sync>(
     }
     let index = ColumnIndex::new(alloc, left, right.len())?;
     let counts = products_of_columns(alloc, left, &index, right)?;
-    let count = panels.of(total(&counts));
+    let count = panels.of(total_products(&counts));
     let columns = right.column_numbers();
     make_panels::<S, R>(rt, alloc, left, &index, right, columns, &counts, count)
 }
@@ -87,7 +86,7 @@ fn place_of(counts: &[usize], low: u32, count: u32) -> usize
     requires { 0 < count }
     ensures { result ≤ length counts.now }
 {
-    let share = (total(counts) / count as usize).saturating_mul(low as usize);
+    let share = (total_products(counts) / count as usize).saturating_mul(low as usize);
     let mut sum = 0usize;
     for n in 0..counts.len() {
         if sum >= share {

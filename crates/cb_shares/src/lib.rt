@@ -19,55 +19,9 @@ ghost use Rattle.cb_shares.specs.Shares.{panel, AreEnds, AreBefore, JoinsPanels}
 
 use cb_dcsc::Block;
 use cb_masked::{entries_between, multiply_masked_columns, multiply_outside_columns};
-use cb_product::{ColumnIndex, multiply_columns};
+use cb_product::{ColumnIndex, multiply_columns, products_of_column, products_of_columns, total_products};
 use cb_semirings::Semiring;
 use std::alloc::{AllocError, Global};
-
-/// The fewest products of two values in a share. For fewer, a thread takes longer to start than to multiply.
-pub const LEAST_PRODUCTS: usize = 65_536;
-
-/// How many products each column of the right block that has entries takes. Costs a pass over the right block's entries.
-pub fn products_of_columns<S: Semiring>(
-    alloc: Global,
-    left: &Block<S>,
-    index: &ColumnIndex,
-    right: &Block<S>,
-) -> Result<Vec<usize>, AllocError>
-    requires agree { left.now.shape.cols ≡ right.now.shape.rows }
-    requires told { Tells index.now left.now }
-{
-    let mut counts = Vec::new(alloc);
-    counts.reserve(right.columns())?;
-    for n in 0..right.columns() {
-        counts.push(products_of(left, index, right, n))?;
-    }
-    Ok(counts)
-}
-
-/// How many products the nth column of the right block that has entries takes.
-fn products_of<S: Semiring>(
-    left: &Block<S>,
-    index: &ColumnIndex,
-    right: &Block<S>,
-    n: usize,
-) -> usize
-    requires agree { left.now.shape.cols ≡ right.now.shape.rows }
-    requires told { Tells index.now left.now }
-    requires within { n < length (columns_with_entries right.now.entries) }
-{
-    let right_shape = right.shape();
-    let (rows, _) = right.nth_column(n);
-    index.products(left, rows)
-}
-
-/// The sum of these counts, saturating.
-pub fn total(counts: &[usize]) -> usize {
-    let mut sum = 0usize;
-    for count in counts {
-        sum = sum.saturating_add(*count);
-    }
-    sum
-}
 
 /// Returns where each of `count` shares of a product's columns ends. All shares take about the same number of products of
 /// two values, and about `least` or more: if there are too few products, the last shares have no columns. Columns stay
@@ -86,7 +40,7 @@ pub fn ends_of<S: Semiring>(
 {
     let index = ColumnIndex::new(alloc, left, right.len())?;
     let counts = products_of_columns(alloc, left, &index, right)?;
-    let share = (total(&counts) / count.max(1)).saturating_add(1).max(least);
+    let share = (total_products(&counts) / count.max(1)).saturating_add(1).max(least);
     let cols = right.shape().cols();
     ends_by(alloc, right.column_numbers(), cols, &counts, share, count)
 }
@@ -240,7 +194,7 @@ fn most_entries<S: Semiring>(
     let rows = left.shape().rows() as usize;
     let mut sum = 0usize;
     for n in low..high {
-        sum = sum.saturating_add(products_of(left, index, right, n).min(rows));
+        sum = sum.saturating_add(products_of_column(left, index, right, n).min(rows));
     }
     sum
 }

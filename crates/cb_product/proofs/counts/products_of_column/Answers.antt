@@ -1,7 +1,7 @@
 use Rattle.std.proofs.Common.{◌<◌, sym, subst}
 use Rattle.std.specs.Prelude.{All}
 use Rattle.cb_dcsc.proofs.Lookup.{rows_inside}
-use Rattle.cb_shares.proofs.products_of.Goals as goal
+use Rattle.cb_product.proofs.counts.products_of_column.Goals as goal
 
 pub products-requires-clause-inside : goal.products-requires-clause-inside
 products-requires-clause-inside g c =
