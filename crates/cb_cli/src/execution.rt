@@ -3,9 +3,9 @@ ghost use Rattle.std.specs.Prelude.{◌≡◌, vec_len, false};
 ghost use Rattle.cb_words.specs.Jobs.{graph_file_count_of};
 ghost use Rattle.cb_cli.specs.Ends.{IsGraphEndBy, IsJobEnd, IsSearchEnd};
 
-use crate::operations::execute_operation;
+use crate::operations_by_ranks::execute_operation;
 use crate::ranks::{Ranks, ranks_of};
-use crate::walks::{put_distances, put_levels};
+use crate::searches_by_ranks::{put_distances, put_levels};
 use cb_graph_tasks::graph_tasks::execute_graph_task;
 use cb_outcomes::faults::JobFault;
 use cb_outcomes::sinks::Sink;

@@ -7,8 +7,8 @@
 #![tactic(auto)]
 
 pub mod execution;
-mod operations;
+mod operations_by_ranks;
+pub mod program;
 mod ranks;
-pub mod runs;
+mod searches_by_ranks;
 mod trace_lines;
-mod walks;

@@ -4,8 +4,8 @@ ghost use Rattle.cb_outcomes.specs.declared.faults.JobFault.TheVariants.{Output}
 ghost use Rattle.cb_cli.specs.Engines.{engine_of, fault_of_engine, fault_of_operation};
 
 use cb_engines::{Engine, EngineFault};
-use cb_outcomes::faults::{JobFault, RanksFault};
 use cb_layout::Grid;
+use cb_outcomes::faults::{JobFault, RanksFault};
 use cb_run::OperationFault;
 use cb_words::{EngineName, Job};
 

@@ -1,10 +1,10 @@
 //! Command lines, and the lines of faults.
 use cb_endings::fault_lines::fault_line;
 use cb_endings::statuses::status;
-use cb_outcomes::faults::{JobFault, RanksFault, SelectionRefusal};
 use cb_market::{Kind, ReadFault};
 use cb_matrix::Test;
 use cb_operations::{Operation, Refusal};
+use cb_outcomes::faults::{JobFault, RanksFault, SelectionRefusal};
 use cb_semirings::SemiringName;
 use cb_semirings::SemiringName::{MaxMin, MaxPlus, MinPlus, OrAnd, PlusTimes};
 use cb_words::EngineName::{Plain, Ranks, Traced};

@@ -1,10 +1,10 @@
 //! Writers that accept a few bytes at a time, that fail, and that accept no more.
-use cb_outcomes::faults::JobFault;
 use cb_job_output::output::put_text_and_lines;
-use cb_outcomes::sinks::{Sink, WriterSink};
 use cb_layout::{DistributedMatrix, Grid};
 use cb_market::{ReadFault, read_distributed};
 use cb_market_pages::TextPages;
+use cb_outcomes::faults::JobFault;
+use cb_outcomes::sinks::{Sink, WriterSink};
 use cb_semirings::PlusTimes;
 use std::io::{self, Write};
 use std::thread::Threads;

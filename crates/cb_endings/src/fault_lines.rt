@@ -2,8 +2,8 @@
 ghost use Rattle.std.specs.Prelude.{◌≡◌, IfOk, string_bytes};
 ghost use Rattle.cb_endings.specs.FaultLines.{line_of, name_at, plain_line_of, ranks_line_of, read_line_of, unreadable_line_of};
 
-use cb_outcomes::faults::{JobFault, RanksFault, SelectionRefusal};
 use cb_operations::Refusal;
+use cb_outcomes::faults::{JobFault, RanksFault, SelectionRefusal};
 use std::alloc::{AllocError, Global};
 
 /// The name at this position, or an empty one.

@@ -2,8 +2,8 @@
 ghost use Rattle.std.specs.Prelude.{◌≡◌};
 ghost use Rattle.cb_endings.specs.Statuses.{status_of};
 
-use cb_outcomes::faults::JobFault;
 use cb_market_lines::Kind;
+use cb_outcomes::faults::JobFault;
 
 /// The exit status of a fault: 4 for a text that isn't a matrix; 5 for shapes that don't agree, a matrix that isn't
 /// square, a source that isn't a vertex or a selection that can't be made; 6 for want of memory and for ranks that failed;

@@ -5,10 +5,10 @@ ghost use Rattle.cb_outcomes.specs.WriteEnds.{IsTextEnd};
 
 use crate::count_lines::{block_counts_text, counts_text};
 use cb_dcsc::Block;
-use cb_outcomes::faults::JobFault;
-use cb_outcomes::sinks::{Sink, put_all};
 use cb_market_pages::{vertex_pairs_text, vertex_text};
 use cb_matrix::Matrix;
+use cb_outcomes::faults::JobFault;
+use cb_outcomes::sinks::{Sink, put_all};
 use cb_semirings::{MinPlus, PlusTimes};
 use std::alloc::Global;
 

@@ -4,10 +4,10 @@ ghost use Rattle.cb_outcomes.specs.Texts.{bytes_of};
 ghost use Rattle.cb_graph_tasks.specs.GraphAnswers.{IsSquareFault, IsSquareGraph, IsWalkFault, IsWalkGraph};
 
 use cb_dcsc::Block;
-use cb_outcomes::faults::JobFault;
 use cb_job_inputs::inputs::read_one;
 use cb_layout::Grid;
 use cb_operations::{Refusal, check_graph};
+use cb_outcomes::faults::JobFault;
 use cb_semirings::{OrAnd, Semiring};
 use std::alloc::Global;
 use std::thread::Threads;

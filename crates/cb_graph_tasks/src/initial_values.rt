@@ -7,11 +7,11 @@ ghost use Rattle.cb_graph_tasks.specs.GraphEnds.{IsGivenEnd};
 
 use crate::column_output::put_column;
 use cb_dcsc::Block;
-use cb_outcomes::faults::JobFault;
 use cb_job_inputs::inputs::read_pair;
-use cb_outcomes::sinks::Sink;
 use cb_matrix::{Matrix, Shape};
 use cb_operations::Refusal;
+use cb_outcomes::faults::JobFault;
+use cb_outcomes::sinks::Sink;
 use cb_searches::{Walks, column_shape};
 use cb_semirings::{MinPlus, Semiring};
 use std::alloc::Global;

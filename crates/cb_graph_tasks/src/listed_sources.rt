@@ -7,14 +7,14 @@ ghost use Rattle.cb_graph_tasks.specs.ListedSources.{AreSources, AreSourcesRefus
 ghost use Rattle.cb_graph_tasks.specs.GraphEnds.{IsWalksEnd};
 
 use cb_dcsc::Block;
-use cb_outcomes::faults::{JobFault, SelectionRefusal};
 use cb_job_inputs::inputs::read_pair;
 use cb_job_inputs::lists::{is_full, listed};
 use cb_job_output::output::put_matrix;
-use cb_outcomes::sinks::Sink;
 use cb_layout::PanelledMatrix;
 use cb_matrix::{Matrix, Shape};
 use cb_operations::Refusal;
+use cb_outcomes::faults::{JobFault, SelectionRefusal};
+use cb_outcomes::sinks::Sink;
 use cb_searches::Walks;
 use cb_semirings::{MinPlus, PlusTimes, Semiring};
 use std::alloc::{AllocError, Global};

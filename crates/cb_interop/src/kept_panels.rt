@@ -14,8 +14,8 @@ use crate::keeping::Keep;
 use crate::kept::Kept;
 use crate::kept_operations::block_in;
 use cb_dcsc::Block;
-use cb_semirings::{Semiring, SemiringName, over_semiring};
 use cb_product::LEAST_PRODUCTS;
+use cb_semirings::{Semiring, SemiringName, over_semiring};
 use cb_shares::{are_before, ends_of, joined, multiply_panel};
 use std::alloc::{AllocError, Global};
 

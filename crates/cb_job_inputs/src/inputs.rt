@@ -5,10 +5,10 @@ ghost use Rattle.cb_market_lines.specs.Reads.{Reads};
 ghost use Rattle.cb_job_inputs.specs.Inputs.{AreMatrices, IsFirstReadFault, IsReadFault, IsTextFault, arithmetic_at};
 ghost use Rattle.cb_outcomes.specs.Texts.{bytes_of, text_at};
 
-use cb_outcomes::faults::JobFault;
 use crate::reading::{Pieces, read_side_by_side};
 use cb_dcsc::Block;
 use cb_layout::{DistributedMatrix, Grid};
+use cb_outcomes::faults::JobFault;
 use cb_semirings::Semiring;
 use std::alloc::Global;
 use std::thread::Threads;

@@ -7,11 +7,11 @@ ghost use Rattle.cb_job_output.specs.Rounds.{written_on};
 ghost use Rattle.cb_outcomes.specs.Sinks.{AppendsPrefix};
 ghost use Rattle.cb_outcomes.specs.WriteEnds.{IsTextEnd, end_of_put};
 
-use cb_outcomes::faults::JobFault;
 use crate::rounds::Round;
-use cb_outcomes::sinks::{PutFault, Sink, put_all};
 use cb_layout::PanelledMatrix;
 use cb_market_pages::{Page, Sheet, TextPages};
+use cb_outcomes::faults::JobFault;
+use cb_outcomes::sinks::{PutFault, Sink, put_all};
 use cb_semirings::Semiring;
 use std::alloc::{AllocError, Global};
 use std::thread::Threads;

@@ -18,9 +18,9 @@ mod entries;
 mod gathered;
 mod openings;
 mod pieces;
-mod reading;
+mod whole_texts;
 
 pub use cb_market_lines::{Field, Header, Kind, ReadFault, Size, Symmetry};
 pub use openings::Opening;
 pub use pieces::{Piece, parted, read_piece};
-pub use reading::{read, read_distributed};
+pub use whole_texts::{read, read_distributed};

@@ -29,14 +29,14 @@ ghost use Rattle.cb_masked.specs.declared.places.TheConstants.{NONE};
 ghost use Rattle.cb_masked.specs.Places.{AreNoted};
 ghost use Rattle.cb_masked.specs.SomeColumns.{only_places};
 
-mod kept;
 mod outside;
 mod places;
+mod stored_sums;
 mod sums;
 
-use crate::kept::keep_nonzero;
 pub use crate::outside::{multiply_outside, multiply_outside_columns};
 use crate::places::{cleared, noted};
+use crate::stored_sums::keep_nonzero;
 use crate::sums::sum_column;
 use cb_dcsc::Block;
 use cb_semirings::Semiring;

@@ -8,9 +8,9 @@ ghost use Rattle.cb_serial.specs.Lent.{lent_in};
 ghost use Rattle.cb_operation_tasks.specs.OperationTexts.{IsBlocksFault, job_fault_of};
 
 use cb_dcsc::Block;
-use cb_outcomes::faults::JobFault;
 use cb_layout::PanelledMatrix;
 use cb_operations::{Operands, Operation, Refusal};
+use cb_outcomes::faults::JobFault;
 use cb_panels::{Panels, multiply_panels};
 use cb_product::LEAST_PRODUCTS;
 use cb_semirings::Semiring;

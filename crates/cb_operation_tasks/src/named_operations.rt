@@ -6,9 +6,9 @@ ghost use Rattle.cb_words.specs.Jobs.{is_distributive};
 ghost use Rattle.cb_operation_tasks.specs.OperationTexts.{IsEndOver};
 
 use crate::operation_answers::put_operation;
+use cb_operations::Operation;
 use cb_outcomes::faults::JobFault;
 use cb_outcomes::sinks::Sink;
-use cb_operations::Operation;
 use cb_semirings::{MaxMin, MinPlus, OrAnd, PlusTimes, SemiringName};
 use std::alloc::Global;
 use std::thread::Threads;

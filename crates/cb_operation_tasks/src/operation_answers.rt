@@ -8,12 +8,12 @@ ghost use Rattle.cb_operation_tasks.specs.OperationTexts.{IsEndOver, IsFaultOver
 
 use crate::alone::compute_alone;
 use cb_dcsc::Block;
-use cb_outcomes::faults::JobFault;
 use cb_job_inputs::inputs::{read_one, read_three, read_two};
 use cb_job_output::output::put_matrix;
-use cb_outcomes::sinks::Sink;
 use cb_layout::{Grid, PanelledMatrix};
 use cb_operations::{Operands, Operation};
+use cb_outcomes::faults::JobFault;
+use cb_outcomes::sinks::Sink;
 use cb_semirings::Semiring;
 use std::alloc::Global;
 use std::thread::Threads;

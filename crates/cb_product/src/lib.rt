@@ -28,9 +28,7 @@ ghost use Rattle.cb_product.specs.Factors.{AreFactors};
 ghost use Rattle.cb_product.specs.InColumns.{AreInColumns, only_columns};
 
 pub use crate::column_index::ColumnIndex;
-pub use crate::counts::{
-    LEAST_PRODUCTS, products_of_column, products_of_columns, total_products,
-};
+pub use crate::counts::{LEAST_PRODUCTS, products_of_column, products_of_columns, total_products};
 pub use crate::product_column::ProductColumn;
 use crate::terms::{Term, gather};
 use crate::workspace::Workspace;

@@ -20,7 +20,7 @@ mod one_block;
 mod relaxations;
 mod searches;
 mod several_sources;
-mod walks;
+mod walk_weights;
 
 pub use given_numbers::{distances_given, levels_given};
 pub use least_parents::parents;
@@ -28,4 +28,4 @@ pub use numbers::Numbers;
 pub use one_block::{distances, levels};
 pub use searches::{Search, column_shape, vector_product};
 pub use several_sources::{distances_from, levels_from};
-pub use walks::Walks;
+pub use walk_weights::Walks;

@@ -6,8 +6,8 @@
 //! everything else.
 #![tactic(auto)]
 
-mod assignments;
-mod extracts;
+mod assignment_texts;
+mod extract_texts;
 mod list_checks;
 mod list_operands;
 pub mod named_selections;

@@ -5,8 +5,8 @@ ghost use Rattle.cb_job_inputs.specs.Lists.{IsList, numbers_in};
 ghost use Rattle.cb_selection_tasks.specs.Extracts.{IsListFault, IsListRefusal};
 
 use cb_dcsc::Block;
-use cb_outcomes::faults::{JobFault, SelectionRefusal};
 use cb_job_inputs::lists::{is_full, listed};
+use cb_outcomes::faults::{JobFault, SelectionRefusal};
 use cb_semirings::PlusTimes;
 use std::alloc::Global;
 

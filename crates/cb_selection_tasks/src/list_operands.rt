@@ -6,9 +6,9 @@ ghost use Rattle.cb_outcomes.specs.Texts.{bytes_of};
 ghost use Rattle.cb_selection_tasks.specs.Extracts.{AreWithLists};
 
 use cb_dcsc::Block;
-use cb_outcomes::faults::JobFault;
 use cb_job_inputs::inputs::read_triple;
 use cb_layout::Grid;
+use cb_outcomes::faults::JobFault;
 use cb_semirings::{PlusTimes, Semiring};
 use std::alloc::Global;
 use std::thread::Threads;

@@ -4,8 +4,8 @@ ghost use Rattle.cb_semirings.specs.Names.{arithmetic_of};
 ghost use Rattle.cb_words.specs.Jobs.{is_distributive, selection_file_count_of};
 ghost use Rattle.cb_selection_tasks.specs.SelectionAnswers.{IsSelectionEnd};
 
-use crate::assignments::put_assigned;
-use crate::extracts::put_extract;
+use crate::assignment_texts::put_assigned;
+use crate::extract_texts::put_extract;
 use crate::selection_answers::{put_kronecker, put_selected};
 use cb_outcomes::faults::JobFault;
 use cb_outcomes::sinks::Sink;

@@ -8,11 +8,11 @@ ghost use Rattle.cb_words.specs.declared.tasks.SelectionTask.TheVariants as task
 
 use crate::selection_refusals::{check_product, check_selection, function_of, region_of};
 use cb_dcsc::Block;
-use cb_outcomes::faults::JobFault;
 use cb_job_inputs::inputs::{read_one, read_two};
 use cb_job_output::output::put_matrix;
-use cb_outcomes::sinks::Sink;
 use cb_layout::{Grid, PanelledMatrix};
+use cb_outcomes::faults::JobFault;
+use cb_outcomes::sinks::Sink;
 use cb_selections::{apply, diagonal, diagonal_matrix, kronecker, power, select};
 use cb_semirings::Semiring;
 use cb_words::Selection;

@@ -3,8 +3,8 @@ ghost use Rattle.std.specs.Prelude.{◌≡◌, ◌≢◌, ◌↔◌, ◌*◌, �
 ghost use Rattle.cb_outcomes.specs.declared.faults.SelectionRefusal.TheVariants.{NotColumn, NotSquare, TooLarge};
 ghost use Rattle.cb_selection_tasks.specs.Selected.{Fits, FitsInShape, IsSelectionRefusal, region_of, function_of};
 
-use cb_outcomes::faults::SelectionRefusal;
 use cb_matrix::{LIMIT, Shape};
+use cb_outcomes::faults::SelectionRefusal;
 use cb_selections::{Diagonal, Function, Region};
 use cb_semirings::Semiring;
 use cb_words::{FunctionName, RegionName, Selection};

@@ -7,7 +7,7 @@ ghost use Rattle.cb_selections.specs.RuleLaws.{where_true-value};
 ghost use Rattle.cb_selections.specs.Selections.{assigned};
 
 use crate::replacements::replaced;
-use crate::rules::Rule;
+use crate::value_rules::Rule;
 use cb_dcsc::Block;
 use cb_elementwise::add;
 use cb_matrix::Shape;

@@ -23,9 +23,9 @@ mod kronecker_products;
 mod powers;
 mod regions;
 mod replacements;
-mod rules;
 mod turned_products;
 mod updates;
+mod value_rules;
 
 use crate::replacements::replaced;
 pub use assignments::assign;

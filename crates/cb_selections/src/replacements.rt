@@ -6,7 +6,7 @@ ghost use Rattle.cb_matrix.specs.Values.{empty_matrix};
 ghost use Rattle.cb_product.specs.SparseColumn.{IsSparseColumn};
 ghost use Rattle.cb_selections.specs.Replaced.{replaced, IsReplaced};
 
-use crate::rules::Rule;
+use crate::value_rules::Rule;
 use cb_dcsc::Block;
 use cb_semirings::Semiring;
 use std::alloc::{AllocError, Global};

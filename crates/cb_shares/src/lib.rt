@@ -19,7 +19,9 @@ ghost use Rattle.cb_shares.specs.Shares.{panel, AreEnds, AreBefore, JoinsPanels}
 
 use cb_dcsc::Block;
 use cb_masked::{entries_between, multiply_masked_columns, multiply_outside_columns};
-use cb_product::{ColumnIndex, multiply_columns, products_of_column, products_of_columns, total_products};
+use cb_product::{
+    ColumnIndex, multiply_columns, products_of_column, products_of_columns, total_products,
+};
 use cb_semirings::Semiring;
 use std::alloc::{AllocError, Global};
 
@@ -40,7 +42,9 @@ pub fn ends_of<S: Semiring>(
 {
     let index = ColumnIndex::new(alloc, left, right.len())?;
     let counts = products_of_columns(alloc, left, &index, right)?;
-    let share = (total_products(&counts) / count.max(1)).saturating_add(1).max(least);
+    let share = (total_products(&counts) / count.max(1))
+        .saturating_add(1)
+        .max(least);
     let cols = right.shape().cols();
     ends_by(alloc, right.column_numbers(), cols, &counts, share, count)
 }

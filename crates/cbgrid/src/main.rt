@@ -2,7 +2,7 @@
 //! run. `cb_cli` does the rest.
 #![tactic(auto)]
 
-use cb_cli::runs::Cbgrid;
+use cb_cli::program::Cbgrid;
 use cb_endings::endings::Status;
 use cb_endings::system_runs::run_on_system;
 

@@ -8,10 +8,10 @@ ghost use Rattle.cbgrid_operations.specs.OperationJobs.{Asks, Done, IsJobAnswer,
 use cb_endings::endings::Status;
 use cb_endings::runs::Program;
 use cb_endings::system_runs::run_on_system;
-use cb_outcomes::faults::JobFault;
-use cb_outcomes::sinks::Sink;
 use cb_operation_tasks::named_operations::execute_distributive_operation;
 use cb_operations::Operation;
+use cb_outcomes::faults::JobFault;
+use cb_outcomes::sinks::Sink;
 use cb_semirings::SemiringName;
 use cb_words::{EngineName, Job, Task, is_distributive};
 use std::alloc::Global;
