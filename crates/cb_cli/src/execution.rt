@@ -3,7 +3,7 @@ ghost use Rattle.std.specs.Prelude.{◌≡◌, vec_len, false};
 ghost use Rattle.cb_words.specs.Jobs.{graph_file_count_of};
 ghost use Rattle.cb_cli.specs.Ends.{IsGraphEndBy, IsJobEnd, IsSearchEnd};
 
-use crate::operations_by_ranks::execute_operation;
+use crate::job_operations::execute_operation;
 use crate::ranks::{Ranks, ranks_of};
 use crate::searches_by_ranks::{put_distances, put_levels};
 use cb_graph_tasks::graph_tasks::execute_graph_task;

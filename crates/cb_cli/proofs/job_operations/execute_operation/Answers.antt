@@ -1,4 +1,4 @@
-use Rattle.cb_cli.proofs.operations_by_ranks.execute_operation.Goals as goal
+use Rattle.cb_cli.proofs.job_operations.execute_operation.Goals as goal
 
 pub returns-in-PlusTimes-over_semiring : goal.returns-in-PlusTimes-over_semiring
 returns-in-PlusTimes-over_semiring g c = rw c.in-PlusTimes-over_semiring.is c.over_semiring-put_operation_by.ensures

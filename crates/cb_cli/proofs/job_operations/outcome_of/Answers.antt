@@ -4,7 +4,7 @@ use Rattle.cb_run.specs.Outcomes.{wholes}
 use Rattle.cb_outcomes.specs.Texts.{bytes_of}
 use Rattle.cb_cli.specs.Answers.{IsRanksFaultOver}
 use Rattle.cb_cli.proofs.Faults.{of_run}
-use Rattle.cb_cli.proofs.operations_by_ranks.outcome_of.Goals as goal
+use Rattle.cb_cli.proofs.job_operations.outcome_of.Goals as goal
 
 pub returns-in-Err-clause-fault : goal.returns-in-Err-clause-fault
 returns-in-Err-clause-fault g c =
