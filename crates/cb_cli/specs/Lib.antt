@@ -1,4 +1,4 @@
 pub mod Engines
 pub mod TraceTexts
 pub mod Answers
-pub mod Ends
+pub mod JobEnds

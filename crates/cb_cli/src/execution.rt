@@ -1,7 +1,7 @@
 //! Does a job on the texts of its files.
 ghost use Rattle.std.specs.Prelude.{◌≡◌, vec_len, false};
 ghost use Rattle.cb_words.specs.Jobs.{graph_file_count_of};
-ghost use Rattle.cb_cli.specs.Ends.{IsGraphEndBy, IsJobEnd, IsSearchEnd};
+ghost use Rattle.cb_cli.specs.JobEnds.{IsGraphEndBy, IsJobEnd, IsSearchEnd};
 
 use crate::job_operations::execute_operation;
 use crate::ranks::{Ranks, ranks_of};

@@ -7,7 +7,7 @@ ghost use Rattle.cb_semirings.specs.Names.{arithmetic_of};
 ghost use Rattle.cb_job_inputs.specs.Inputs.{AreMatrices, IsReadFault};
 ghost use Rattle.cb_outcomes.specs.Texts.{bytes_of};
 ghost use Rattle.cb_cli.specs.Answers.{IsOutcomeOver, IsRanksFaultOver};
-ghost use Rattle.cb_cli.specs.Ends.{IsOperationEnd, IsRanksEnd};
+ghost use Rattle.cb_cli.specs.JobEnds.{IsOperationEnd, IsRanksEnd};
 
 use crate::ranks::{Ranks, job_fault, ranks_of};
 use crate::trace_lines::lines_of;

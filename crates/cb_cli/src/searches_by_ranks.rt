@@ -1,7 +1,7 @@
 //! Levels and distances of the vertices of a graph from a source, by ranks.
 ghost use Rattle.std.specs.Prelude.{◌≡◌, vec_len, false};
 ghost use Rattle.cb_words.specs.declared.tasks.GraphTask.TheVariants as task_is;
-ghost use Rattle.cb_cli.specs.Ends.{IsGraphEndBy};
+ghost use Rattle.cb_cli.specs.JobEnds.{IsGraphEndBy};
 
 use crate::ranks::{Ranks, job_fault};
 use cb_graph_tasks::column_output::put_column;

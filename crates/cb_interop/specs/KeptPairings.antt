@@ -6,7 +6,7 @@ use Rattle.cb_matrix.specs.declared.TheConstants.{LIMIT}
 use Rattle.cb_matrix.specs.Sparse.{Sparse, Extent}
 use Rattle.cb_elementwise.specs.Complements.{excluded}
 use Rattle.cb_selections.specs.Selections.{assigned, kronecker}
-use Rattle.cb_selections.specs.Products.{turned_shape, turned_product}
+use Rattle.cb_selections.specs.TurnedProducts.{turned_shape, turned_product}
 use Rattle.cb_interop.specs.declared.pairings.Pairing.{Pairing}
 use Rattle.cb_interop.specs.declared.pairings.Pairing.TheVariants.{Kronecker, Assign, Exclude, Multiply}
 use Rattle.cb_interop.specs.declared.faults.Fault.{Fault}

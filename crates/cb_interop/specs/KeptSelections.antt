@@ -13,7 +13,7 @@ use Rattle.cb_selections.specs.declared.functions.Function.{Function}
 use Rattle.cb_selections.specs.declared.functions.Function.TheVariants.{Constant, Sum, LeftProduct, RightProduct, Row, Column}
 use Rattle.cb_selections.specs.Functions.{operand_of}
 use Rattle.cb_selections.specs.Selections.{selected, applied, diagonal_of, diagonal_matrix, extracted}
-use Rattle.cb_selections.specs.Products.{power}
+use Rattle.cb_selections.specs.TurnedProducts.{power}
 use Rattle.cb_interop.specs.declared.selections.Selection.{Selection}
 use Rattle.cb_interop.specs.declared.selections.Selection.TheVariants.{Select, Apply, Diagonal, DiagonalMatrix, Part, Power}
 use Rattle.cb_interop.specs.declared.faults.Fault.{Fault}

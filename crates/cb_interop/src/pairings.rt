@@ -1,6 +1,6 @@
 //! Operations on two kept matrices over one semiring, as values.
 ghost use Rattle.std.specs.Prelude.{◌≡◌, ◌↔◌, ◌*◌, IsTrue};
-ghost use Rattle.cb_selections.specs.Products.{turned_shape};
+ghost use Rattle.cb_selections.specs.TurnedProducts.{turned_shape};
 ghost use Rattle.cb_interop.specs.KeptPairings.{FitsLimit, HasPart, Suits, misfit_of};
 
 use crate::faults::Fault;

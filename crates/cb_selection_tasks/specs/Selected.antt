@@ -5,7 +5,7 @@ use Rattle.cb_semirings.specs.Arithmetic.{Arithmetic, IsValue}
 use Rattle.cb_matrix.specs.Sparse.{Sparse, Extent}
 use Rattle.cb_matrix.specs.declared.TheConstants.{LIMIT}
 use Rattle.cb_selections.specs.Functions.{operand_of}
-use Rattle.cb_selections.specs.Products.{power}
+use Rattle.cb_selections.specs.TurnedProducts.{power}
 use Rattle.cb_selections.specs.Selections.{selected, applied, diagonal_of, diagonal_matrix}
 use Rattle.cb_selections.specs.declared.regions.Region.{Region}
 use Rattle.cb_selections.specs.declared.regions.Region.TheVariants as region_is

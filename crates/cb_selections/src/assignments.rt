@@ -3,7 +3,7 @@ ghost use Rattle.std.specs.Prelude.{◌≡◌, ℕ, ◌≤◌, ◌+◌, not, IfO
 ghost use Rattle.cb_semirings.specs.Arithmetic.{IsValue};
 ghost use Rattle.cb_matrix.specs.Operations.{is_covered};
 ghost use Rattle.cb_selections.specs.Replaced.{where_true};
-ghost use Rattle.cb_selections.specs.RuleLaws.{where_true-value};
+ghost use Rattle.cb_selections.specs.FunctionLaws.{where_true-value};
 ghost use Rattle.cb_selections.specs.Selections.{assigned};
 
 use crate::replacements::replaced;

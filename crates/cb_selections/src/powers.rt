@@ -1,6 +1,6 @@
 //! Powers of a square block.
 ghost use Rattle.std.specs.Prelude.{◌≡◌, ◌≤◌, IfOk};
-ghost use Rattle.cb_selections.specs.Products.{power};
+ghost use Rattle.cb_selections.specs.TurnedProducts.{power};
 
 use cb_dcsc::Block;
 use cb_product::multiply;

@@ -1,7 +1,7 @@
 //! The product of two blocks, of which each may be transposed first.
 ghost use Rattle.std.specs.Prelude.{◌≡◌, IfOk};
 ghost use Rattle.cb_matrix.specs.Values.{product};
-ghost use Rattle.cb_selections.specs.Products.{turned_if, turned_shape, turned_product};
+ghost use Rattle.cb_selections.specs.TurnedProducts.{turned_if, turned_shape, turned_product};
 
 use cb_dcsc::Block;
 use cb_product::multiply;

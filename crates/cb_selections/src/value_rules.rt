@@ -4,7 +4,7 @@ ghost use Rattle.cb_semirings.specs.Arithmetic.{IsValue};
 ghost use Rattle.cb_selections.specs.Regions.{is_in};
 ghost use Rattle.cb_selections.specs.Functions.{operand_of, function_value};
 ghost use Rattle.cb_selections.specs.Replaced.{where_true};
-ghost use Rattle.cb_selections.specs.RuleLaws.{where_true-value, function_value-value};
+ghost use Rattle.cb_selections.specs.FunctionLaws.{where_true-value, function_value-value};
 
 use crate::functions::Function;
 use crate::regions::Region;

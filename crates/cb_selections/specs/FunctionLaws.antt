@@ -1,4 +1,4 @@
--- Rules make values from values.
+-- Functions make values from values.
 use Rattle.std.specs.Prelude.{ℕ, Bool, true, false}
 use Rattle.cb_semirings.specs.Arithmetic.{Arithmetic, IsValue, IsSemiring}
 use Rattle.cb_selections.specs.declared.functions.Function.{Function}
