@@ -1,6 +1,6 @@
 -- How jobs end by a program that has some of them.
 use Rattle.std.proofs.Common.{ℕ, List, Bool, inl}
-use Rattle.std.specs.Prelude.{Option, Result, Ok, Err, Vec}
+use Rattle.std.specs.Prelude.{Option, Result, Ok, Err}
 use Rattle.cb_words.specs.declared.jobs.Job.{Job}
 use Rattle.cb_outcomes.specs.WriteEnds.{IsEnd, IsEndOn}
 use Rattle.cb_outcomes.specs.declared.faults.JobFault.{JobFault}

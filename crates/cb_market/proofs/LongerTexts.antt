@@ -1,6 +1,6 @@
 -- What follows a text that ends with a line changes nothing before it.
-use Rattle.std.proofs.Common.{◌≡◌, ℕ, zero, suc, ◌+◌, ◌<◌, true, false, not, List, [], ◌∷◌, ◌++◌, arith, length, map, filter, sym, ap, ◌∙◌, refl, subst, append_assoc, None, ⊎_elim, inl, inr, Bool, cond, length-append}
-use Rattle.std.specs.Prelude.{◌==◌, ◌||◌, ◌⊎◌}
+use Rattle.std.proofs.Common.{◌≡◌, ℕ, suc, ◌+◌, ◌<◌, true, false, not, List, [], ◌∷◌, ◌++◌, arith, length, map, filter, sym, ap, ◌∙◌, refl, subst, None, ⊎_elim, inl, inr, Bool, cond, length-append}
+use Rattle.std.specs.Prelude.{◌==◌}
 use Rattle.std.specs.List.{enumerate_from}
 use Rattle.std.proofs.lemmas.Bool.{cases_Bool}
 use Rattle.std.proofs.lemmas.List.{map-append, append-nil, length-map}

@@ -12,13 +12,11 @@ use Rattle.cb_matrix.specs.Values.{collected, matrix_of, total}
 use Rattle.cb_market.specs.Gathered.{AreSamePlaces}
 use Rattle.cb_market_lines.specs.declared.header.Header.{Header}
 use Rattle.cb_market_lines.specs.declared.size.Size.{Size}
-use Rattle.cb_market_lines.specs.Lines.{lines, cut_lines, onto_first, without_return, words, kept, kept_from, is_skipped, begins_blank}
-use Rattle.cb_market_lines.specs.Cursor.{line_at, after_line}
-use Rattle.cb_market_lines.specs.Checks.{is_shape, header_fault, header_of, entry_of, given_by}
-use Rattle.cb_market_lines.specs.Faults.{at_line, entries_fault, given, matrix_in, body_fault, body_matrix, IsNextEntry}
+use Rattle.cb_market_lines.specs.Lines.{lines, cut_lines, onto_first, without_return, words, kept, kept_from, is_skipped}
+use Rattle.cb_market_lines.specs.Checks.{entry_of, given_by}
+use Rattle.cb_market_lines.specs.Faults.{at_line, entries_fault, given, matrix_in, IsNextEntry}
 use Rattle.cb_market_lines.specs.Reads.{Reads}
 use Rattle.cb_market.specs.Pieces.{is_whole, AreFaultless, given_in, Part, IsPart, MayFollow, IsOpening}
-use Rattle.cb_market_lines.proofs.Bodies.{body_first, matrix_first}
 use Rattle.cb_market_lines.proofs.Law.{words_of, kept_words, text_says}
 
 -- ---- lines

@@ -1,5 +1,5 @@
 -- How a call that writes a text ends.
-use Rattle.std.specs.Prelude.{ℕ, ◌≡◌, ◌≢◌, ◌⊎◌, List, ◌↔◌, Bool, true, Option, Result, Ok, Err, Vec, OnOk, IfErr, IsErrOf}
+use Rattle.std.specs.Prelude.{ℕ, ◌≡◌, ◌≢◌, ◌⊎◌, List, ◌↔◌, Bool, true, Option, Result, Ok, Err, OnOk, IfErr, IsErrOf}
 use Rattle.cb_outcomes.specs.declared.faults.JobFault.{JobFault}
 use Rattle.cb_outcomes.specs.declared.faults.JobFault.TheVariants.{Memory, Output}
 use Rattle.std.specs.Io.KnownBytes.{Appends, Keeps}

@@ -1,5 +1,4 @@
-use Rattle.std.proofs.Common.{rules, ◌≡◌, ◌++◌, ◌∷◌, ap, ◌∙◌, take, drop}
-use Rattle.std.proofs.lemmas.List.{take-append-drop}
+use Rattle.std.proofs.Common.{rules, ◌≡◌, ◌++◌, ◌∷◌}
 use Rattle.cb_market.specs.Pieces.{IsPart}
 use Rattle.cb_market.proofs.PartedTexts.{some_joined}
 use Rattle.cb_outcomes.specs.Texts.{joined}

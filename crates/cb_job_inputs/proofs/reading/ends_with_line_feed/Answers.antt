@@ -1,4 +1,4 @@
-use Rattle.std.proofs.Common.{rules, arith, ◌≡◌, ◌+◌, length}
+use Rattle.std.proofs.Common.{rules}
 use Rattle.std.proofs.lemmas.Bool.{eqb-true}
 use Rattle.cb_job_inputs.proofs.TextParts.{whole_by_last}
 use Rattle.cb_job_inputs.proofs.reading.ends_with_line_feed.Goals as goal

@@ -1,4 +1,4 @@
-use Rattle.std.proofs.Common.{rules, arith, ◌≡◌, ◌+◌, length}
+use Rattle.std.proofs.Common.{rules}
 use Rattle.cb_job_inputs.proofs.TextParts.{whole_by_part}
 use Rattle.cb_job_inputs.proofs.reading.parts_end_with_line.Goals as goal
 
