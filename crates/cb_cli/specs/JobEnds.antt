@@ -12,24 +12,24 @@ use Rattle.cb_cli.specs.Engines.{engine_of}
 use Rattle.cb_cli.specs.declared.ranks.Ranks.{Ranks}
 
 -- the end of an operation over a semiring by ranks
-abbrev pub IsRanksEnd : {T A : Type 0} → Operation → Arithmetic → Ranks → List (Vec ℕ A)
+abbrev pub IsRanksEnd : {T : Type 0} → Operation → Arithmetic → Ranks → List (List ℕ)
     → Option (List ℕ) → Option (List ℕ) → Bool → Result T JobFault → Type 0
 IsRanksEnd operation s ranks = IsEndOn (IsRanksAnswer operation s ranks.engine ranks.grid.side) (IsRanksFaultOver operation s ranks.engine ranks.grid.side)
 
 -- the end of an operation over a semiring, by the engine that a job names
-abbrev pub IsOperationEnd : {T A : Type 0} → Job → Operation → Arithmetic → List (Vec ℕ A)
+abbrev pub IsOperationEnd : {T : Type 0} → Job → Operation → Arithmetic → List (List ℕ)
     → Option (List ℕ) → Option (List ℕ) → Bool → Result T JobFault → Type 0
 IsOperationEnd job operation s =
     IsEndOn (IsOperationAnswer (engine_of job.engine) job.side operation s) (IsOperationFault (engine_of job.engine) job.side operation s)
 
 -- the end of a task on a graph by ranks
-abbrev pub IsGraphEndBy : {T A : Type 0} → Ranks → GraphTask → List (Vec ℕ A) → Option (List ℕ) → Option (List ℕ) → Bool → Result T JobFault → Type 0
+abbrev pub IsGraphEndBy : {T : Type 0} → Ranks → GraphTask → List (List ℕ) → Option (List ℕ) → Option (List ℕ) → Bool → Result T JobFault → Type 0
 IsGraphEndBy ranks task = IsEndOn (IsGraphAnswer task) (IsGraphFaultBy (Some ranks.engine) ranks.grid.side task)
 
 -- the end of a task on a graph, by the engine that a job names
-abbrev pub IsSearchEnd : {T A : Type 0} → Job → GraphTask → List (Vec ℕ A) → Option (List ℕ) → Option (List ℕ) → Bool → Result T JobFault → Type 0
+abbrev pub IsSearchEnd : {T : Type 0} → Job → GraphTask → List (List ℕ) → Option (List ℕ) → Option (List ℕ) → Bool → Result T JobFault → Type 0
 IsSearchEnd job task = IsEndOn (IsGraphAnswer task) (IsGraphFaultBy (engine_of job.engine) job.side task)
 
 -- the end of a job
-abbrev pub IsJobEnd : {T A : Type 0} → Job → List (Vec ℕ A) → Option (List ℕ) → Option (List ℕ) → Bool → Result T JobFault → Type 0
+abbrev pub IsJobEnd : {T : Type 0} → Job → List (List ℕ) → Option (List ℕ) → Option (List ℕ) → Bool → Result T JobFault → Type 0
 IsJobEnd job = IsEndOn (IsJobAnswer job) (IsJobFault job)

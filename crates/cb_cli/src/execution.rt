@@ -9,6 +9,7 @@ use crate::searches_by_ranks::{put_distances, put_levels};
 use cb_graph_tasks::graph_tasks::execute_graph_task;
 use cb_outcomes::faults::JobFault;
 use cb_outcomes::sinks::Sink;
+use cb_outcomes::texts::Text;
 use cb_selection_tasks::named_selections::execute_selection;
 use cb_words::{GraphTask, Job, Task};
 use std::alloc::Global;
@@ -21,7 +22,7 @@ fn search_by<R: Threads + Wait + Sync, K: Sink>(
     alloc: Global,
     ranks: &Ranks<'_>,
     task: GraphTask,
-    texts: Vec<Vec<u8>>,
+    texts: Vec<Text>,
     out: &mut K,
 ) -> Result<(), JobFault>
     requires texts { vec_len texts ≡ graph_file_count_of task }
@@ -41,7 +42,7 @@ fn search<R: Threads + Wait + Sync, K: Sink>(
     alloc: Global,
     job: &Job,
     task: GraphTask,
-    texts: Vec<Vec<u8>>,
+    texts: Vec<Text>,
     out: &mut K,
 ) -> Result<(), JobFault>
     requires texts { vec_len texts ≡ graph_file_count_of task }
@@ -67,7 +68,7 @@ pub fn execute<R: Threads + Wait + Sync, K: Sink>(
     rt: &R,
     alloc: Global,
     job: &Job,
-    texts: Vec<Vec<u8>>,
+    texts: Vec<Text>,
     out: &mut K,
 ) -> Result<(), JobFault>
     requires texts { vec_len texts ≡ vec_len job.now.files }

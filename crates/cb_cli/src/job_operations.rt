@@ -5,7 +5,6 @@ ghost use Rattle.cb_operations.specs.OperationAnswers.{operand_count_of};
 ghost use Rattle.cb_run.specs.Outcomes.{LieOver, wholes};
 ghost use Rattle.cb_semirings.specs.Names.{arithmetic_of};
 ghost use Rattle.cb_job_inputs.specs.Inputs.{AreMatrices, IsReadFault};
-ghost use Rattle.cb_outcomes.specs.Texts.{bytes_of};
 ghost use Rattle.cb_cli.specs.Answers.{IsOutcomeOver, IsRanksFaultOver};
 ghost use Rattle.cb_cli.specs.JobEnds.{IsOperationEnd, IsRanksEnd};
 
@@ -20,6 +19,7 @@ use cb_operation_tasks::operation_answers::put_operation;
 use cb_operations::{Operands, Operation};
 use cb_outcomes::faults::JobFault;
 use cb_outcomes::sinks::Sink;
+use cb_outcomes::texts::Text;
 use cb_run::run;
 use cb_semirings::{Semiring, SemiringName, over_semiring};
 use cb_words::Job;
@@ -33,13 +33,13 @@ fn read_operands<S: Semiring + Send + Sync, R: Threads + Sync>(
     alloc: Global,
     ranks: &Ranks<'_>,
     operation: Operation,
-    texts: Vec<Vec<u8>>,
+    texts: Vec<Text>,
 ) -> Result<Operands<DistributedMatrix<S>>, JobFault>
     requires { vec_len texts ≡ operand_count_of operation }
     ensures count { IfOk result (λ o. operand_count_of operation ≡ length (list_of o)) }
-    ensures ok { IfOk result (λ o. AreMatrices S.arithmetic (bytes_of texts.items) (wholes (list_of o))) }
+    ensures ok { IfOk result (λ o. AreMatrices S.arithmetic texts.items (wholes (list_of o))) }
     ensures sides { IfOk result (LieOver ranks.now.grid.side) }
-    ensures fault { IfErr result (IsReadFault S.arithmetic (bytes_of texts.items)) }
+    ensures fault { IfErr result (IsReadFault S.arithmetic texts.items) }
 {
     let (grid, threads) = (&ranks.grid, ranks.threads);
     match operation.operand_count() {
@@ -61,11 +61,11 @@ fn outcome_of<S: Semiring + Send + Sync, R: Threads + Wait + Sync>(
     alloc: Global,
     ranks: &Ranks<'_>,
     operation: Operation,
-    texts: Vec<Vec<u8>>,
+    texts: Vec<Text>,
 ) -> Result<Outcome<S>, JobFault>
     requires { vec_len texts ≡ operand_count_of operation }
-    ensures ok { IfOk result (IsOutcomeOver operation S.arithmetic ranks.now.engine ranks.now.grid.side (bytes_of texts.items)) }
-    ensures fault { IfErr result (IsRanksFaultOver operation S.arithmetic ranks.now.engine ranks.now.grid.side (bytes_of texts.items)) }
+    ensures ok { IfOk result (IsOutcomeOver operation S.arithmetic ranks.now.engine ranks.now.grid.side texts.items) }
+    ensures fault { IfErr result (IsRanksFaultOver operation S.arithmetic ranks.now.engine ranks.now.grid.side texts.items) }
     ensures unwritten { IfErr result (λ f. f ≢ JobFault.Output) }
 {
     let operands = read_operands::<S, R>(rt, alloc, ranks, operation, texts)?;
@@ -81,7 +81,7 @@ fn put_outcome<S: Semiring + Send + Sync, R: Threads + Wait + Sync, K: Sink>(
     alloc: Global,
     ranks: &Ranks<'_>,
     operation: Operation,
-    texts: Vec<Vec<u8>>,
+    texts: Vec<Text>,
     out: &mut K,
 ) -> Result<(), JobFault>
     requires texts { vec_len texts ≡ operand_count_of operation }
@@ -102,7 +102,7 @@ fn put_operation_by<S: Semiring + Send + Sync, R: Threads + Wait + Sync, K: Sink
     alloc: Global,
     job: &Job,
     operation: Operation,
-    texts: Vec<Vec<u8>>,
+    texts: Vec<Text>,
     out: &mut K,
 ) -> Result<(), JobFault>
     requires texts { vec_len texts ≡ operand_count_of operation }
@@ -122,7 +122,7 @@ pub fn execute_operation<R: Threads + Wait + Sync, K: Sink>(
     job: &Job,
     operation: Operation,
     semiring: SemiringName,
-    texts: Vec<Vec<u8>>,
+    texts: Vec<Text>,
     out: &mut K,
 ) -> Result<(), JobFault>
     requires texts { vec_len texts ≡ operand_count_of operation }

@@ -5,6 +5,7 @@ use crate::execution::execute;
 use cb_endings::runs::Program;
 use cb_outcomes::faults::JobFault;
 use cb_outcomes::sinks::Sink;
+use cb_outcomes::texts::Text;
 use cb_words::Job;
 use std::alloc::Global;
 use std::sync::Wait;
@@ -22,7 +23,7 @@ impl<R: Threads + Wait + Sync> Program<R> for Cbgrid {
         rt: &R,
         alloc: Global,
         job: &Job,
-        texts: Vec<Vec<u8>>,
+        texts: Vec<Text>,
         out: &mut K,
     ) -> Result<(), JobFault> {
         execute(rt, alloc, job, texts, out)

@@ -8,6 +8,7 @@ use cb_graph_tasks::column_output::put_column;
 use cb_job_inputs::inputs::read_one;
 use cb_outcomes::faults::JobFault;
 use cb_outcomes::sinks::Sink;
+use cb_outcomes::texts::Text;
 use cb_run::{distances, levels};
 use cb_semirings::{MinPlus, OrAnd};
 use std::alloc::Global;
@@ -20,7 +21,7 @@ pub fn put_levels<R: Threads + Wait + Sync, K: Sink>(
     alloc: Global,
     ranks: &Ranks<'_>,
     source: u32,
-    texts: Vec<Vec<u8>>,
+    texts: Vec<Text>,
     out: &mut K,
 ) -> Result<(), JobFault>
     requires texts { vec_len texts ≡ 1 }
@@ -40,7 +41,7 @@ pub fn put_distances<R: Threads + Wait + Sync, K: Sink>(
     alloc: Global,
     ranks: &Ranks<'_>,
     source: u32,
-    texts: Vec<Vec<u8>>,
+    texts: Vec<Text>,
     out: &mut K,
 ) -> Result<(), JobFault>
     requires texts { vec_len texts ≡ 1 }

@@ -13,7 +13,7 @@ use Rattle.cb_plan.specs.Checks.{Lanes, IsSound, Passes, lanes_after}
 use Rattle.cb_plan.proofs.Effects.{split}
 use Rattle.cb_plan.proofs.PassingActs.{move_is_sound}
 use Rattle.cb_collectives.specs.Collectives.{is_member, AreDistinct, member, place_of, turned, tree_move, tree_moves, broadcast_acts}
-use Rattle.cb_collectives.proofs.Places.{place-below, member-place_of, turned-begins, turned_at-length, turned-below, turned-differ}
+use Rattle.cb_collectives.proofs.MemberPlaces.{place-below, member-place_of, turned-begins, turned_at-length, turned-below, turned-differ}
 use Rattle.cb_collectives.proofs.Spread.{moved}
 
 -- a copy of a slot that is filled

@@ -7,7 +7,7 @@ use Rattle.std.proofs.lemmas.List.FromFn.{length-map-range_with_len}
 use Rattle.cb_letters.specs.declared.Tag.{Tag}
 use Rattle.cb_plan.proofs.Effects.{split}
 use Rattle.cb_collectives.specs.Collectives.{is_member, place_of, turned, tree_move, tree_moves, copied_at, broadcast_acts, shut_lane, shut_from, shut_acts, member, AreDistinct, sent, gather_acts, sent_from, all_to_all_acts, added_from, reduce_acts}
-use Rattle.cb_collectives.proofs.Places.{place-below, turned_at-length, not_member, distinct_tail}
+use Rattle.cb_collectives.proofs.MemberPlaces.{place-below, turned_at-length, not_member, distinct_tail}
 
 -- a broadcast has a move to each member but the root, and a copy at the root if it is to another slot
 pub count_broadcast : (members : List ℕ) (root : ℕ) (tag : Tag) (slot into : ℕ) → is_member members root ≡ true → length (broadcast_acts members root tag slot into) ≡ length members - (if slot == into then 1 else 0)

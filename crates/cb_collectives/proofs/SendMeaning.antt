@@ -9,7 +9,7 @@ use Rattle.cb_plan.specs.declared.acts.Act.{Act}
 use Rattle.cb_plan.specs.Meaning.{Algebra, State, act, meaning}
 use Rattle.cb_plan.proofs.Effects.{split, same_state, meaning-append}
 use Rattle.cb_collectives.specs.Collectives.{is_member, member, place_of, AreDistinct, sent, gather_acts, gathered, sent_from, all_to_all_acts, exchanged}
-use Rattle.cb_collectives.proofs.Places.{place-below, at_place}
+use Rattle.cb_collectives.proofs.MemberPlaces.{place-below, at_place}
 
 -- a slot of one rank goes to a slot of another, or of the same rank
 pub act_sent : {M : Type 0} (ops : Algebra M) (from to : ℕ) (tag : Tag) (slot into : ℕ) (state : State M) (r n : ℕ) → act ops (sent from to tag slot into) state r n ≡ (if to == r && into == n then state from slot else state r n)

@@ -7,7 +7,7 @@ use Rattle.cb_letters.specs.declared.Tag.{Tag}
 use Rattle.cb_plan.specs.Meaning.{Algebra, State, act, meaning}
 use Rattle.cb_collectives.specs.Collectives.{is_member, spread, turned, copied_at, tree_move, tree_moves, broadcast_acts}
 use Rattle.cb_plan.proofs.Effects.{split, same_state, meaning-append}
-use Rattle.cb_collectives.proofs.Places.{turned-begins, turned-members}
+use Rattle.cb_collectives.proofs.MemberPlaces.{turned-begins, turned-members}
 
 -- the members from number a on that get it
 abbrev reached : List ℕ → ℕ → ℕ → List ℕ

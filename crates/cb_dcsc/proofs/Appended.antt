@@ -9,7 +9,7 @@ use Rattle.cb_matrix.specs.Sparse.{Extent, Sparse, IsMatrix, IsBefore, IsInside}
 use Rattle.cb_matrix.proofs.Pairs.{AllPairs-append, AllPairs-front, AllPairs-last, All-front, All-last}
 use Rattle.cb_dcsc.specs.Compressed.{entries_in, pieces, with_column}
 use Rattle.cb_dcsc.specs.Columns.{in_column, rows_of, values_of, columns_with_entries, with_entries}
-use Rattle.cb_dcsc.proofs.Pieces.{entries_in-push, entries_in-column}
+use Rattle.cb_dcsc.proofs.ColumnEntries.{entries_in-push, entries_in-column}
 
 -- ---- matrices
 -- entries of two matrices of a shape, of which each of the first comes before each of the second, are one matrix
@@ -84,7 +84,7 @@ next_in_column s m now j is vs n e l matrix shapes was =
 
 -- ---- all columns
 -- the entries of the first columns are the first entries
-pieces_front : (f : ℕ → List Entry) (n k count : ℕ) → count ≡ k + n → (rest : List Entry) × (pieces f count ≡ pieces f n ++ rest)
+pub pieces_front : (f : ℕ → List Entry) (n k count : ℕ) → count ≡ k + n → (rest : List Entry) × (pieces f count ≡ pieces f n ++ rest)
 unfolding pieces
 pieces_front f n zero count e = let same : count ≡ n = omega arith in ([], ap (pieces f) same ∙ sym (append-nil (pieces f n)))
 pieces_front f n (suc k) count e =
@@ -110,20 +110,6 @@ next_column_is_matrix s m now es n count c rs vs l whole matrix shapes was p q r
 -- a column has as many values as rows
 pub same_lengths : (es : List Entry) (rs vs : List ℕ) → rs ≡ rows_of es → vs ≡ values_of es → length vs ≡ length rs
 same_lengths es rs vs q r = ap length r ∙ length-map es (λ e. e.value) ∙ sym (length-map es (λ e. e.row)) ∙ ap length (sym q)
-
--- column n was added
-pub columns_more : (m now new : Sparse) (es : List Entry) (n c : ℕ) (rs vs : List ℕ) → now.entries ≡ m.entries ++ pieces (λ k. in_column (get_or (columns_with_entries es) k 0) es) n
-    → c ≡ get_or (columns_with_entries es) n 0 → rs ≡ rows_of (in_column (get_or (columns_with_entries es) n 0) es) → vs ≡ values_of (in_column (get_or (columns_with_entries es) n 0) es)
-    → new ≡ with_column now c rs vs → new.entries ≡ m.entries ++ pieces (λ k. in_column (get_or (columns_with_entries es) k 0) es) (n + 1)
-unfolding pieces
-columns_more m now new es n c rs vs was p q r is =
-    let f : ℕ → List Entry = λ k. in_column (get_or (columns_with_entries es) k 0) es in
-    let e : n + 1 ≡ suc n = omega arith in
-    ap (λ (x : Sparse). x.entries) is
-    ∙ (λ t. was t ++ entries_in (p t) (q t) (r t))
-    ∙ ap (λ xs. (m.entries ++ pieces f n) ++ xs) (entries_in-column (get_or (columns_with_entries es) n 0) es)
-    ∙ append_assoc m.entries (pieces f n) (f n)
-    ∙ ap (λ k. m.entries ++ pieces f k) (sym e)
 
 -- no column is added yet
 pub columns_none : (es : List Entry) (f : ℕ → List Entry) → es ≡ es ++ pieces f 0

@@ -17,9 +17,9 @@ use Rattle.cb_matrix.specs.Values.{empty_matrix}
 use Rattle.cb_matrix.proofs.Pairs.{AllPairs-nil}
 use Rattle.cb_dcsc.specs.Compressed.{part, piece, pieces, all_entries, AreColumns, IsBlock, block_of}
 use Rattle.cb_dcsc.specs.Columns.{in_column, rows_of, values_of, columns_with_entries}
-use Rattle.cb_dcsc.proofs.Pieces.{length-entries_in, rows-entries_in, values-entries_in, entries_in-columns, pieces_same, no_piece, its_piece, columns_with_entries-pieces}
+use Rattle.cb_dcsc.proofs.ColumnEntries.{length-entries_in, rows-entries_in, values-entries_in, entries_in-columns, pieces_same, no_piece, its_piece, columns_with_entries-pieces}
 
-take_split : {X : Type 0} (a k : ℕ) (xs : List X) → take a xs ++ take k (drop a xs) ≡ take (a + k) xs
+pub take_split : {X : Type 0} (a k : ℕ) (xs : List X) → take a xs ++ take k (drop a xs) ≡ take (a + k) xs
 take_split zero k xs = let e : k ≡ 0 + k = omega arith in ap (λ n. take n xs) e
 take_split (suc a) zero [] = let e : suc a ≡ suc a + zero = omega arith in ap (λ n. take n []) e
 take_split (suc a) (suc k) [] = let e : suc (a + suc k) ≡ suc a + suc k = omega arith in ap (λ n. take n []) e
@@ -36,7 +36,7 @@ range_back a b xs ys e f = ap (take (b - a)) (drop_at xs ys a e) ∙ take_all (b
 
 module _ (columns starts rows values : List ℕ) (are : AreColumns columns starts rows values) where
   -- starts rise, from nothing to all
-  up_to : (k m : ℕ) → k + m ≤ length columns → get_or starts k 0 ≤ get_or starts (k + m) 0
+  pub up_to : (k m : ℕ) → k + m ≤ length columns → get_or starts k 0 ≤ get_or starts (k + m) 0
   up_to k zero l = let e : k + 0 ≡ k = omega arith in rw e (omega arith)
   up_to k (suc m) l =
       let h = up_to k m (omega arith) in

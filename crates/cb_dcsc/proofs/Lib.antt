@@ -1,13 +1,13 @@
 -- The toolbox of lemmas on blocks, by topic. Crates above cite what is named here; each lemma's own sentence
 -- stands over it.
 --
--- Pieces: the entries of one column by its rows and values: `length-entries_in`, `entries_in-columns`,
+-- ColumnEntries: the entries of one column by its rows and values: `length-entries_in`, `entries_in-columns`,
 --   `entries_in-column`, `entries_in_more`; a filter by the column: `in_column-all`, `in_column-none`; and the entries
 --   of all columns: `pieces-all`, `pieces_same`.
 -- Lookup: the value at a place by its column: `column_value`, `row_value-found`, `row_value-absent`,
 --   `column_ascends`, `ascending_rows`; rows inside the shape and values of the semiring: `rows_inside`,
 --   `column_values`, `all_rows_inside`, `all_values`; a column has as many values as rows: `as_long`.
--- Numbers: the columns that have entries: `columns_all`, `entries_all`, `columns_inside`.
+-- NumbersOfColumns: the columns that have entries: `columns_all`, `entries_all`, `columns_inside`.
 -- WholeColumn: a column stored after all others comes after them: `column_before`.
 -- Held: what a binary search tells: `same_number`, `not_found`; the block of four empty lists: `no_lists`, `no_block`;
 --   what the four lists say of the entries: `count_is`, `columns_are`, `rows_are`, `values_are`, `start_within`,
@@ -15,15 +15,16 @@
 -- Pushed: one more entry after all others: `matrix_push`, and in the lists `pushed_same`, `pushed_new`.
 -- Faultless: an entry in order comes after those of the block: `next_after`.
 -- Appended: entries added after all those of a block: `matrix_append`; without them it is a block: `matrix_front`.
-pub mod Pieces
+pub mod ColumnEntries
 pub mod Lookup
-pub mod Numbers
+pub mod NumbersOfColumns
 pub mod WholeColumn
 pub mod Held
 pub mod Pushed
 pub mod Faultless
 pub mod Appended
 -- For this crate alone, beside the rest of those above. Csc: compressed columns without the empty ones. NextColumn: what a
--- push of a column requires, from a matrix that ends with the column.
+-- push of a column requires, from a matrix that ends with the column. LaterColumns: the columns of another block, from one on.
 pub mod Csc
 pub mod NextColumn
+mod LaterColumns

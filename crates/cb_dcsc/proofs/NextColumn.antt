@@ -9,8 +9,8 @@ use Rattle.cb_matrix.proofs.Pairs.{AllPairs-head, AllPairs-tail, AllPairs-nil, A
 use Rattle.cb_dcsc.specs.Compressed.{all_entries, block_of, entries_in, with_column, IsBlock}
 use Rattle.cb_dcsc.proofs.Appended.{next_in_column}
 use Rattle.cb_dcsc.proofs.Held.{columns_are}
-use Rattle.cb_dcsc.proofs.Numbers.{entries_all}
-use Rattle.cb_dcsc.proofs.Pieces.{entries_in_none}
+use Rattle.cb_dcsc.proofs.NumbersOfColumns.{entries_all}
+use Rattle.cb_dcsc.proofs.ColumnEntries.{entries_in_none}
 use Rattle.cb_dcsc.proofs.Pushed.{All-back, all_columns_before}
 
 -- what holds of the row, or of the value, of each entry of a column holds of its rows, or its values

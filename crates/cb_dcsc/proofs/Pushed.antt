@@ -11,7 +11,7 @@ use Rattle.cb_matrix.specs.Sparse.{Sparse, Extent, IsMatrix, IsBefore, IsInside}
 use Rattle.cb_matrix.proofs.Pairs.{AllPairs-push}
 use Rattle.cb_dcsc.specs.Compressed.{entries_in, part, piece, pieces, all_entries, AreColumns, IsBlock, block_of, opened}
 use Rattle.cb_dcsc.specs.Columns.{with_entry}
-use Rattle.cb_dcsc.proofs.Pieces.{entries_in-push, pieces_same}
+use Rattle.cb_dcsc.proofs.ColumnEntries.{entries_in-push, pieces_same}
 use Rattle.cb_dcsc.proofs.Held.{same_parts, own_columns, some_entry, start_within}
 
 range-append : (xs ys : List ℕ) (a b : ℕ) → a ≤ b → b ≤ length xs → slice_range (xs ++ ys) a b ≡ slice_range xs a b

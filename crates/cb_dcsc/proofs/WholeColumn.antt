@@ -9,7 +9,7 @@ use Rattle.cb_matrix.proofs.Pairs.{AllPairs-head, AllPairs-tail}
 use Rattle.cb_matrix.specs.Sparse.{Sparse, Extent, IsBefore}
 use Rattle.cb_dcsc.specs.Compressed.{entries_in, piece, pieces, IsBlock, block_of, opened, with_column}
 use Rattle.cb_dcsc.specs.Columns.{with_entry}
-use Rattle.cb_dcsc.proofs.Pieces.{entries_in-columns}
+use Rattle.cb_dcsc.proofs.ColumnEntries.{entries_in-columns}
 use Rattle.cb_dcsc.proofs.Held.{own_columns, some_entry}
 use Rattle.cb_dcsc.proofs.Pushed.{pushed_same, pushed_new, length-opened, All-back}
 

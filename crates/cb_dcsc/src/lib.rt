@@ -13,10 +13,10 @@
 //! `cb_matrix`, and iterate over its columns, each borrowed as two slices.
 #![tactic(auto)]
 
-ghost use Rattle.std.specs.Prelude.{◌≡◌, ◌≢◌, ◌↔◌, ℕ, ◌<◌, ◌≤◌, ◌+◌, ◌-◌, IsTrue, List, [], ◌∷◌, ◌++◌, length, All, AllPairs, Contains};
-ghost use Rattle.std.specs.Prelude.{IfOk, IsErrOf, OnOk, OnErr, Some, vec_len, vec_capacity, slice_index, slice_index_or, slice_range};
+ghost use Rattle.std.specs.Prelude.{◌≡◌, ◌≢◌, ◌↔◌, ℕ, ◌<◌, ◌≤◌, ◌+◌, ◌-◌, ◌^◌, IsTrue, List, [], ◌∷◌, ◌++◌, length, All, AllPairs, Contains};
+ghost use Rattle.std.specs.Prelude.{IfOk, IsErrOf, OnOk, OnErr, Some, vec_len, vec_capacity, slice_index, slice_index_or, slice_range, drop};
 ghost use Rattle.cb_semirings.specs.Arithmetic.{IsValue};
-ghost use Rattle.cb_dcsc.specs.Compressed.{opened, entries_in, with_column, csc_matrix, AreStarts, AreNonempty};
+ghost use Rattle.cb_dcsc.specs.Compressed.{opened, continued, later_entries, entries_in, with_column, csc_matrix, AreStarts, AreNonempty};
 
 mod block_faults;
 
@@ -421,33 +421,50 @@ impl<S: Semiring> Block<S> {
         self.append_columns(other)
     }
 
-    /// Stores all entries of another block after all the others, column by column.
+    /// Stores all entries of another block after all the others.
     fn append_columns(&mut self, other: &Block<S>) -> Result<(), AllocError>
         requires { IsMatrix S.arithmetic (with_entries self.old other.now.entries) }
         ensures { OnOk result (self.new ≡ with_entries self.old other.now.entries) }
     {
-        self.reserve(other.rows.len())?;
-        for n in 0..other.columns() {
-            let (rows, values) = other.nth_column(n);
-            self.push_part(other.column_number(n), rows, values)?;
-        }
-        Ok(())
-    }
-
-    /// Stores entries of one column after all the others, by their rows and values: one by one if they continue the last
-    /// column, and otherwise as a whole column. If memory is refused, some are stored.
-    fn push_part(&mut self, column: u32, rows: &[u32], values: &[u64]) -> Result<(), AllocError>
-        requires lengths { length values.now ≡ length rows.now }
-        requires matrix { IsMatrix S.arithmetic (with_column self.old column rows.now values.now) }
-        ensures { OnOk result (self.new ≡ with_column self.old column rows.now values.now) }
-    {
-        if rows.is_empty() {
+        if other.columns.is_empty() {
             return Ok(());
         }
-        if ends_with(&self.columns, column) {
-            return self.push_rows(column, rows, values);
+        let first = other.column_number(0);
+        if !ends_with(&self.columns, first) {
+            return self.append_from(other, 0);
         }
-        self.push_column(column, rows, values)
+        let (rows, values) = other.nth_column(0);
+        self.push_rows(first, rows, values)?;
+        self.append_from(other, 1)
+    }
+
+    /// Stores the entries of another block after all the others, but for those of its first columns. This block's last column
+    /// is none of the other columns. If memory is refused, the block stays as it was.
+    fn append_from(&mut self, other: &Block<S>, from: usize) -> Result<(), AllocError>
+        requires some { from ≤ length (columns_with_entries other.now.entries) }
+        requires matrix { IsMatrix S.arithmetic (with_entries self.old (later_entries from other.now.entries)) }
+        requires new { from < length (columns_with_entries other.now.entries) → All (λ e. e.column ≢ slice_index (columns_with_entries other.now.entries) from) self.old.entries }
+        ensures { OnOk result (self.new ≡ with_entries self.old (later_entries from other.now.entries)) }
+    {
+        if from == other.columns() {
+            return Ok(());
+        }
+        let len = self.rows.len();
+        let (start, _end) = bounds(&other.starts, from);
+        let (columns, ends) = (rest(&other.columns, from), rest(&other.starts, from + 1));
+        let (rows, values) = (rest(&other.rows, start), rest(&other.values, start));
+        reserve_both(
+            &mut self.columns,
+            &mut self.starts,
+            columns.len(),
+            ends.len() + 1,
+        )?;
+        reserve_both(&mut self.rows, &mut self.values, rows.len(), values.len())?;
+        append_ends(&mut self.starts, ends, start, len);
+        extend_reserved(&mut self.columns, columns);
+        extend_reserved(&mut self.rows, rows);
+        extend_reserved(&mut self.values, values);
+        Ok(())
     }
 
     /// Stores entries of one column after all the others, by their rows and values. If memory is refused, some are
@@ -576,6 +593,38 @@ fn reserve_both<T: Copy, U: Copy>(
     left.reserve(more_left)?;
     right.reserve(more_right)?;
     Ok(())
+}
+
+/// The items from a place on.
+fn rest<T: Copy>(items: &[T], place: usize) -> &[T]
+    requires { place ≤ length items.now }
+    ensures { result.now ≡ drop place items.now }
+{
+    &items[place..]
+}
+
+/// Appends where parts end, each moved from one place to another.
+fn append_ends(starts: &mut Vec<usize>, ends: &[usize], from: usize, to: usize)
+    requires room { length (opened starts.old.items) + length ends.now ≤ vec_capacity starts.old }
+    requires ends { All (λ e. (from ≤ e) × (e - from + to < 2 ^ 64)) ends.now }
+    ensures { starts.new.items ≡ continued starts.old.items (λ n. slice_index ends.now n - from + to) (length ends.now) }
+{
+    for n in 0..ends.len() {
+        open(starts);
+        starts.push_reserved(ends[n] - from + to);
+    }
+}
+
+/// Makes starts begin with 0.
+#[inline(always)]
+fn open(starts: &mut Vec<usize>)
+    requires { length (opened starts.old.items) ≤ vec_capacity starts.old }
+    ensures starts { starts.new.items ≡ opened starts.old.items }
+    ensures room { vec_capacity starts.new ≡ vec_capacity starts.old }
+{
+    if starts.is_empty() {
+        starts.push_reserved(0);
+    }
 }
 
 /// Appends items to a list that has room for them.

@@ -13,7 +13,7 @@ use Rattle.cb_matrix.proofs.Made.{at-matrix_of}
 use Rattle.cb_matrix.proofs.Totals.{add_zero, value_at-value}
 use Rattle.cb_dcsc.specs.Columns.{in_column, rows_of, values_of, row_value}
 use Rattle.cb_dcsc.proofs.Lookup.{column_value}
-use Rattle.cb_dcsc.proofs.Pieces.{in_column-all}
+use Rattle.cb_dcsc.proofs.ColumnEntries.{in_column-all}
 use Rattle.cb_product.specs.Terms.{column_sum}
 use Rattle.cb_product.proofs.ProductColumns.{column_total}
 

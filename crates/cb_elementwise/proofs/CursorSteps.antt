@@ -7,7 +7,7 @@ use Rattle.std.proofs.lemmas.List.Elements.{All-nil, All-cons, All-head, All-get
 use Rattle.cb_matrix.specs.declared.Entry.{Entry}
 use Rattle.cb_matrix.proofs.Places.{is_at-own}
 use Rattle.cb_dcsc.specs.Columns.{in_column, rows_of, values_of, with_front, columns_with_entries}
-use Rattle.cb_dcsc.proofs.Pieces.{in_column-all}
+use Rattle.cb_dcsc.proofs.ColumnEntries.{in_column-all}
 use Rattle.cb_elementwise.specs.declared.cursors.Cursor.{Cursor}
 use Rattle.cb_elementwise.specs.Walks.{first_of, past, IsEnd, Stands}
 

@@ -1,6 +1,6 @@
 -- How jobs end by a program that has some of them.
 use Rattle.std.proofs.Common.{ℕ, List, Bool, inl}
-use Rattle.std.specs.Prelude.{Option, Result, Ok, Err, Vec}
+use Rattle.std.specs.Prelude.{Option, Result, Ok, Err}
 use Rattle.cb_words.specs.declared.jobs.Job.{Job}
 use Rattle.cb_outcomes.specs.WriteEnds.{IsEnd, IsEndOn}
 use Rattle.cb_outcomes.specs.declared.faults.JobFault.{JobFault}
@@ -25,7 +25,7 @@ module _ {T : Type 0} {P Q : List ℕ → Type 0} {F G : JobFault → Type 0} (t
   }
 
 -- a job ends as what it asks for
-pub part_end : {X T A : Type 0} (asks : Job → X → Type 0) (answers : X → List (List ℕ) → List ℕ → Type 0) (faults : X → List (List ℕ) → JobFault → Type 0)
-    (job : Job) (x : X) → asks job x → (texts : List (Vec ℕ A)) (old new : Option (List ℕ)) (failed : Bool) (r : Result T JobFault)
+pub part_end : {X T : Type 0} (asks : Job → X → Type 0) (answers : X → List (List ℕ) → List ℕ → Type 0) (faults : X → List (List ℕ) → JobFault → Type 0)
+    (job : Job) (x : X) → asks job x → (texts : List (List ℕ)) (old new : Option (List ℕ)) (failed : Bool) (r : Result T JobFault)
     → IsEndOn (answers x) (faults x) texts old new failed r → IsEndOn (IsPartAnswer asks answers job) (IsPartFault asks faults job) texts old new failed r
 part_end asks answers faults job x h texts old new failed r e = end_by (λ t a. (x, h, a)) (λ f b. inl (x, h, b)) old new failed r e

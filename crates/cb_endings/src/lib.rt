@@ -13,6 +13,7 @@
 pub mod endings;
 pub mod fault_lines;
 pub mod files;
+mod loading;
 pub mod runs;
 pub mod statuses;
 pub mod system_runs;

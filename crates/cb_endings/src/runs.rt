@@ -10,6 +10,7 @@ use crate::endings::{Ending, Status, finish, unloaded, usage_ending};
 use crate::files::{FileSource, texts_of};
 use cb_outcomes::faults::JobFault;
 use cb_outcomes::sinks::Sink;
+use cb_outcomes::texts::Text;
 use cb_words::{Job, UsageFault};
 use std::alloc::Global;
 use std::thread::Threads;
@@ -27,7 +28,7 @@ pub trait Program<R: Threads + Sync> {
         rt: &R,
         alloc: Global,
         job: &Job,
-        texts: Vec<Vec<u8>>,
+        texts: Vec<Text>,
         out: &mut K,
     ) -> Result<(), JobFault>
         requires sync { IsSync R.row }
@@ -37,7 +38,7 @@ pub trait Program<R: Threads + Sync> {
 }
 
 /// Loads the files of a job, and writes its answer.
-fn job_ending<P: Program<R>, R: Threads + Sync, F: FileSource, K: Sink>(
+fn job_ending<P: Program<R>, R: Threads + Sync, F: FileSource<R>, K: Sink>(
     rt: &R,
     alloc: Global,
     job: &Job,
@@ -47,7 +48,7 @@ fn job_ending<P: Program<R>, R: Threads + Sync, F: FileSource, K: Sink>(
     requires { K.has_failed out.old ≡ false }
     ensures { IsJobEnding P.answers P.faults (F.holds files.now) (F.refuses files.now) job.now (K.written out.old) (K.written out.new) result }
 {
-    let texts = match texts_of(alloc, files, job.files()) {
+    let texts = match texts_of(rt, alloc, files, job.files(), job.threads) {
         Ok(texts) => texts,
         Err(fault) => return unloaded(fault),
     };
@@ -62,7 +63,7 @@ fn job_ending<P: Program<R>, R: Threads + Sync, F: FileSource, K: Sink>(
 /// The files are loaded in the job's order before any text is parsed, and the first fault ends the run. The status and
 /// the text on `err` are those of the ending. If memory for that text is refused, or `err` fails, only a beginning of it
 /// may be printed.
-pub fn run<P: Program<R>, R: Threads + Sync, F: FileSource, K: Sink, E: Sink>(
+pub fn run<P: Program<R>, R: Threads + Sync, F: FileSource<R>, K: Sink, E: Sink>(
     rt: &R,
     alloc: Global,
     asked: Result<Job, UsageFault>,

@@ -6,6 +6,6 @@ use Rattle.cb_outcomes.specs.declared.faults.JobFault.{JobFault}
 use Rattle.cb_graph_tasks.specs.GraphTasks.{IsGraphEnd}
 
 -- a task that is known ends as that task does
-pub of_task : {T A : Type 0} (texts : List (Vec ℕ A)) (old new : Option (List ℕ)) (failed : Bool) (r : Result T JobFault)
+pub of_task : {T : Type 0} (texts : List (List ℕ)) (old new : Option (List ℕ)) (failed : Bool) (r : Result T JobFault)
     → (task known : GraphTask) → task ≡ known → IsGraphEnd known texts old new failed r → IsGraphEnd task texts old new failed r
 of_task texts old new failed r task known e h = subst (λ t. IsGraphEnd t texts old new failed r) (sym e) h

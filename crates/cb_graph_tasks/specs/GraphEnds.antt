@@ -8,19 +8,19 @@ use Rattle.cb_graph_tasks.specs.GraphAnswers.{IsDegreesAnswer, IsDegreesFault, I
 use Rattle.cb_graph_tasks.specs.InitialValues.{IsGivenAnswer, IsGivenFault}
 use Rattle.cb_graph_tasks.specs.ListedSources.{IsWalksAnswer, IsWalksFault}
 
-module _ {T A : Type 0} where
+module _ {T : Type 0} where
   -- the end of a search from a source
-  abbrev pub IsWalkEnd : (Sparse → ℕ → Sparse → Type 0) → Arithmetic → ℕ → List (Vec ℕ A) → Option (List ℕ) → Option (List ℕ) → Bool → Result T JobFault → Type 0
+  abbrev pub IsWalkEnd : (Sparse → ℕ → Sparse → Type 0) → Arithmetic → ℕ → List (List ℕ) → Option (List ℕ) → Option (List ℕ) → Bool → Result T JobFault → Type 0
   IsWalkEnd are s source = IsEndOn (IsWalkAnswer are s source) (IsWalkFault s source)
 
   -- of one from several sources
-  abbrev pub IsWalksEnd : (Sparse → List ℕ → Sparse → Type 0) → Arithmetic → List (Vec ℕ A) → Option (List ℕ) → Option (List ℕ) → Bool → Result T JobFault → Type 0
+  abbrev pub IsWalksEnd : (Sparse → List ℕ → Sparse → Type 0) → Arithmetic → List (List ℕ) → Option (List ℕ) → Option (List ℕ) → Bool → Result T JobFault → Type 0
   IsWalksEnd are s = IsEndOn (IsWalksAnswer are s) (IsWalksFault s)
 
   -- of one from initial values
-  abbrev pub IsGivenEnd : (Sparse → Sparse → Sparse → Type 0) → Arithmetic → List (Vec ℕ A) → Option (List ℕ) → Option (List ℕ) → Bool → Result T JobFault → Type 0
+  abbrev pub IsGivenEnd : (Sparse → Sparse → Sparse → Type 0) → Arithmetic → List (List ℕ) → Option (List ℕ) → Option (List ℕ) → Bool → Result T JobFault → Type 0
   IsGivenEnd are s = IsEndOn (IsGivenAnswer are s) (IsGivenFault s)
 
   -- of a count of the entries in each row or column
-  abbrev pub IsDegreesEnd : (Sparse → Sparse) → List (Vec ℕ A) → Option (List ℕ) → Option (List ℕ) → Bool → Result T JobFault → Type 0
+  abbrev pub IsDegreesEnd : (Sparse → Sparse) → List (List ℕ) → Option (List ℕ) → Option (List ℕ) → Bool → Result T JobFault → Type 0
   IsDegreesEnd degrees = IsEndOn (IsDegreesAnswer degrees) IsDegreesFault

@@ -45,5 +45,5 @@ IsGraphFault RowDegrees = IsDegreesFault
 IsGraphFault ColumnDegrees = IsDegreesFault
 
 -- how a call ends that writes the answer of a task
-abbrev pub IsGraphEnd : {T A : Type 0} → GraphTask → List (Vec ℕ A) → Option (List ℕ) → Option (List ℕ) → Bool → Result T JobFault → Type 0
+abbrev pub IsGraphEnd : {T : Type 0} → GraphTask → List (List ℕ) → Option (List ℕ) → Option (List ℕ) → Bool → Result T JobFault → Type 0
 IsGraphEnd task = IsEndOn (IsGraphAnswer task) (IsGraphFault task)

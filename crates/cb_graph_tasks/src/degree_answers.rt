@@ -3,7 +3,7 @@ ghost use Rattle.std.specs.Prelude.{◌≡◌, ◌≢◌, vec_len, false, IfOk, 
 ghost use Rattle.cb_graphs.specs.Degrees.{row_degrees, column_degrees};
 ghost use Rattle.cb_market_lines.specs.Reads.{Reads};
 ghost use Rattle.cb_semirings.specs.Tables.{or_and};
-ghost use Rattle.cb_outcomes.specs.Texts.{bytes_of, text_at};
+ghost use Rattle.cb_outcomes.specs.Texts.{text_at};
 ghost use Rattle.cb_graph_tasks.specs.GraphAnswers.{IsDegreesFault};
 ghost use Rattle.cb_graph_tasks.specs.GraphEnds.{IsDegreesEnd};
 
@@ -14,6 +14,7 @@ use cb_job_inputs::inputs::read_one;
 use cb_layout::Grid;
 use cb_outcomes::faults::JobFault;
 use cb_outcomes::sinks::Sink;
+use cb_outcomes::texts::Text;
 use cb_semirings::OrAnd;
 use std::alloc::Global;
 use std::thread::Threads;
@@ -23,11 +24,11 @@ fn pattern<R: Threads + Sync>(
     rt: &R,
     alloc: Global,
     threads: u32,
-    texts: Vec<Vec<u8>>,
+    texts: Vec<Text>,
 ) -> Result<Block<OrAnd>, JobFault>
     requires { vec_len texts ≡ 1 }
-    ensures ok { IfOk result (Reads or_and (text_at (bytes_of texts.items) 0)) }
-    ensures fault { IfErr result (IsDegreesFault (bytes_of texts.items)) }
+    ensures ok { IfOk result (Reads or_and (text_at texts.items 0)) }
+    ensures fault { IfErr result (IsDegreesFault texts.items) }
     ensures unwritten { IfErr result (λ f. f ≢ JobFault.Output) }
 {
     let matrix = read_one::<OrAnd, R>(rt, alloc, &Grid::single(), threads, texts)?;
@@ -39,7 +40,7 @@ pub fn put_row_degrees<R: Threads + Sync, K: Sink>(
     rt: &R,
     alloc: Global,
     threads: u32,
-    texts: Vec<Vec<u8>>,
+    texts: Vec<Text>,
     out: &mut K,
 ) -> Result<(), JobFault>
     requires texts { vec_len texts ≡ 1 }
@@ -56,7 +57,7 @@ pub fn put_column_degrees<R: Threads + Sync, K: Sink>(
     rt: &R,
     alloc: Global,
     threads: u32,
-    texts: Vec<Vec<u8>>,
+    texts: Vec<Text>,
     out: &mut K,
 ) -> Result<(), JobFault>
     requires texts { vec_len texts ≡ 1 }

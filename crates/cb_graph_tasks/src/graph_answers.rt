@@ -10,6 +10,7 @@ use crate::graph_inputs::{graph_with_source, square_graph};
 use cb_graphs::{components, triangles, triangles_of};
 use cb_outcomes::faults::JobFault;
 use cb_outcomes::sinks::Sink;
+use cb_outcomes::texts::Text;
 use cb_searches::parents;
 use cb_semirings::OrAnd;
 use std::alloc::Global;
@@ -21,7 +22,7 @@ pub fn put_parents<R: Threads + Sync, K: Sink>(
     alloc: Global,
     threads: u32,
     source: u32,
-    texts: Vec<Vec<u8>>,
+    texts: Vec<Text>,
     out: &mut K,
 ) -> Result<(), JobFault>
     requires texts { vec_len texts ≡ 1 }
@@ -38,7 +39,7 @@ pub fn put_components<R: Threads + Sync, K: Sink>(
     rt: &R,
     alloc: Global,
     threads: u32,
-    texts: Vec<Vec<u8>>,
+    texts: Vec<Text>,
     out: &mut K,
 ) -> Result<(), JobFault>
     requires texts { vec_len texts ≡ 1 }
@@ -55,7 +56,7 @@ pub fn put_triangles<R: Threads + Sync, K: Sink>(
     rt: &R,
     alloc: Global,
     threads: u32,
-    texts: Vec<Vec<u8>>,
+    texts: Vec<Text>,
     out: &mut K,
 ) -> Result<(), JobFault>
     requires texts { vec_len texts ≡ 1 }
@@ -72,7 +73,7 @@ pub fn put_triangle_counts<R: Threads + Sync, K: Sink>(
     rt: &R,
     alloc: Global,
     threads: u32,
-    texts: Vec<Vec<u8>>,
+    texts: Vec<Text>,
     out: &mut K,
 ) -> Result<(), JobFault>
     requires texts { vec_len texts ≡ 1 }

@@ -1,6 +1,5 @@
 //! Reads the graph of a text into one block, for searches and counts by one thread. Several threads read a large text.
 ghost use Rattle.std.specs.Prelude.{◌≡◌, ◌≢◌, vec_len, IfOk, IfErr};
-ghost use Rattle.cb_outcomes.specs.Texts.{bytes_of};
 ghost use Rattle.cb_graph_tasks.specs.GraphAnswers.{IsSquareFault, IsSquareGraph, IsWalkFault, IsWalkGraph};
 
 use cb_dcsc::Block;
@@ -8,6 +7,7 @@ use cb_job_inputs::inputs::read_one;
 use cb_layout::Grid;
 use cb_operations::{Refusal, check_graph};
 use cb_outcomes::faults::JobFault;
+use cb_outcomes::texts::Text;
 use cb_semirings::{OrAnd, Semiring};
 use std::alloc::Global;
 use std::thread::Threads;
@@ -18,11 +18,11 @@ pub fn graph_with_source<S: Semiring + Send + Sync, R: Threads + Sync>(
     alloc: Global,
     threads: u32,
     source: u32,
-    texts: Vec<Vec<u8>>,
+    texts: Vec<Text>,
 ) -> Result<Block<S>, JobFault>
     requires { vec_len texts ≡ 1 }
-    ensures ok { IfOk result (IsWalkGraph S.arithmetic source (bytes_of texts.items)) }
-    ensures fault { IfErr result (IsWalkFault S.arithmetic source (bytes_of texts.items)) }
+    ensures ok { IfOk result (IsWalkGraph S.arithmetic source texts.items) }
+    ensures fault { IfErr result (IsWalkFault S.arithmetic source texts.items) }
     ensures unwritten { IfErr result (λ f. f ≢ JobFault.Output) }
 {
     let graph = read_one::<S, R>(rt, alloc, &Grid::single(), threads, texts)?;
@@ -35,11 +35,11 @@ pub fn square_graph<R: Threads + Sync>(
     rt: &R,
     alloc: Global,
     threads: u32,
-    texts: Vec<Vec<u8>>,
+    texts: Vec<Text>,
 ) -> Result<Block<OrAnd>, JobFault>
     requires { vec_len texts ≡ 1 }
-    ensures ok { IfOk result (IsSquareGraph (bytes_of texts.items)) }
-    ensures fault { IfErr result (IsSquareFault (bytes_of texts.items)) }
+    ensures ok { IfOk result (IsSquareGraph texts.items) }
+    ensures fault { IfErr result (IsSquareFault texts.items) }
     ensures unwritten { IfErr result (λ f. f ≢ JobFault.Output) }
 {
     let graph = read_one::<OrAnd, R>(rt, alloc, &Grid::single(), threads, texts)?;

@@ -10,6 +10,7 @@ use crate::listed_sources::put_numbers_from;
 use crate::walks::put_numbers;
 use cb_outcomes::faults::JobFault;
 use cb_outcomes::sinks::Sink;
+use cb_outcomes::texts::Text;
 use cb_semirings::{MinPlus, OrAnd};
 use cb_words::GraphTask;
 use std::alloc::Global;
@@ -32,7 +33,7 @@ pub fn execute_graph_task<R: Threads + Sync, K: Sink>(
     alloc: Global,
     threads: u32,
     task: GraphTask,
-    texts: Vec<Vec<u8>>,
+    texts: Vec<Text>,
     out: &mut K,
 ) -> Result<(), JobFault>
     requires texts { vec_len texts ≡ graph_file_count_of task }

@@ -1,7 +1,6 @@
 //! Levels and distances from initial values of some vertices: a column in a text of its own has them. The caller's
 //! thread computes them.
 ghost use Rattle.std.specs.Prelude.{◌≡◌, ◌≢◌, vec_len, false, IfOk, IfErr, OnOk};
-ghost use Rattle.cb_outcomes.specs.Texts.{bytes_of};
 ghost use Rattle.cb_graph_tasks.specs.InitialValues.{IsGivenFault, IsGivenOf, IsGraphWithNumbers, IsNumbersRefusal, IsPlaceForEach};
 ghost use Rattle.cb_graph_tasks.specs.GraphEnds.{IsGivenEnd};
 
@@ -12,6 +11,7 @@ use cb_matrix::{Matrix, Shape};
 use cb_operations::Refusal;
 use cb_outcomes::faults::JobFault;
 use cb_outcomes::sinks::Sink;
+use cb_outcomes::texts::Text;
 use cb_searches::{Walks, column_shape};
 use cb_semirings::{MinPlus, Semiring};
 use std::alloc::Global;
@@ -36,11 +36,11 @@ fn graph_with_numbers<S: Semiring + Send + Sync, R: Threads + Sync>(
     rt: &R,
     alloc: Global,
     threads: u32,
-    texts: Vec<Vec<u8>>,
+    texts: Vec<Text>,
 ) -> Result<(Block<S>, Block<MinPlus>), JobFault>
     requires { vec_len texts ≡ 2 }
-    ensures ok { IfOk result (λ p. IsGraphWithNumbers S.arithmetic (bytes_of texts.items) p.0 p.1) }
-    ensures fault { IfErr result (IsGivenFault S.arithmetic (bytes_of texts.items)) }
+    ensures ok { IfOk result (λ p. IsGraphWithNumbers S.arithmetic texts.items p.0 p.1) }
+    ensures fault { IfErr result (IsGivenFault S.arithmetic texts.items) }
     ensures unwritten { IfErr result (λ f. f ≢ JobFault.Output) }
 {
     let (graph, given) = read_pair::<S, MinPlus, R>(rt, alloc, threads, texts)?;
@@ -53,12 +53,12 @@ fn column_given<S: Walks + Send + Sync, R: Threads + Sync>(
     rt: &R,
     alloc: Global,
     threads: u32,
-    texts: Vec<Vec<u8>>,
+    texts: Vec<Text>,
 ) -> Result<Matrix<MinPlus>, JobFault>
     requires { vec_len texts ≡ 2 }
-    ensures ok { IfOk result (IsGivenOf S.are_given S.arithmetic (bytes_of texts.items)) }
+    ensures ok { IfOk result (IsGivenOf S.are_given S.arithmetic texts.items) }
     ensures column { IfOk result (λ column. column.shape.cols ≡ 1) }
-    ensures fault { IfErr result (IsGivenFault S.arithmetic (bytes_of texts.items)) }
+    ensures fault { IfErr result (IsGivenFault S.arithmetic texts.items) }
     ensures unwritten { IfErr result (λ f. f ≢ JobFault.Output) }
 {
     let (graph, given) = graph_with_numbers::<S, R>(rt, alloc, threads, texts)?;
@@ -72,7 +72,7 @@ pub fn put_numbers_given<S: Walks + Send + Sync, R: Threads + Sync, K: Sink>(
     rt: &R,
     alloc: Global,
     threads: u32,
-    texts: Vec<Vec<u8>>,
+    texts: Vec<Text>,
     out: &mut K,
 ) -> Result<(), JobFault>
     requires texts { vec_len texts ≡ 2 }

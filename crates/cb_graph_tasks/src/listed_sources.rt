@@ -1,7 +1,6 @@
 //! Levels and distances from several sources, which are listed in a text. The caller's thread computes them.
 ghost use Rattle.std.specs.Prelude.{◌≡◌, ◌≢◌, ◌<◌, ◌≤◌, vec_len, length, All, false, IfOk, IfErr, OnOk};
 ghost use Rattle.cb_matrix.specs.declared.TheConstants.{LIMIT};
-ghost use Rattle.cb_outcomes.specs.Texts.{bytes_of};
 ghost use Rattle.cb_job_inputs.specs.Lists.{numbers_in};
 ghost use Rattle.cb_graph_tasks.specs.ListedSources.{AreSources, AreSourcesRefused, IsGraphWithSources, IsSourcesFault, IsWalksFault, IsWalksOf};
 ghost use Rattle.cb_graph_tasks.specs.GraphEnds.{IsWalksEnd};
@@ -15,6 +14,7 @@ use cb_matrix::{Matrix, Shape};
 use cb_operations::Refusal;
 use cb_outcomes::faults::{JobFault, SelectionRefusal};
 use cb_outcomes::sinks::Sink;
+use cb_outcomes::texts::Text;
 use cb_searches::Walks;
 use cb_semirings::{MinPlus, PlusTimes, Semiring};
 use std::alloc::{AllocError, Global};
@@ -55,14 +55,14 @@ fn graph_with_sources<S: Semiring + Send + Sync, R: Threads + Sync>(
     rt: &R,
     alloc: Global,
     threads: u32,
-    texts: Vec<Vec<u8>>,
+    texts: Vec<Text>,
 ) -> Result<(Block<S>, Vec<u32>), JobFault>
     requires { vec_len texts ≡ 2 }
-    ensures ok { IfOk result (λ p. IsGraphWithSources S.arithmetic (bytes_of texts.items) p.0 p.1.items) }
+    ensures ok { IfOk result (λ p. IsGraphWithSources S.arithmetic texts.items p.0 p.1.items) }
     ensures square { IfOk result (λ p. p.0.shape.rows ≡ p.0.shape.cols) }
     ensures vertices { IfOk result (λ p. All (λ v. v < p.0.shape.rows) p.1.items) }
     ensures count { IfOk result (λ p. length p.1.items ≤ LIMIT) }
-    ensures fault { IfErr result (IsWalksFault S.arithmetic (bytes_of texts.items)) }
+    ensures fault { IfErr result (IsWalksFault S.arithmetic texts.items) }
     ensures unwritten { IfErr result (λ f. f ≢ JobFault.Output) }
 {
     let (graph, list) = read_pair::<S, PlusTimes, R>(rt, alloc, threads, texts)?;
@@ -83,11 +83,11 @@ fn columns_from<S: Walks + Send + Sync, R: Threads + Sync>(
     rt: &R,
     alloc: Global,
     threads: u32,
-    texts: Vec<Vec<u8>>,
+    texts: Vec<Text>,
 ) -> Result<PanelledMatrix<MinPlus>, JobFault>
     requires { vec_len texts ≡ 2 }
-    ensures ok { IfOk result (IsWalksOf S.are_from S.arithmetic (bytes_of texts.items)) }
-    ensures fault { IfErr result (IsWalksFault S.arithmetic (bytes_of texts.items)) }
+    ensures ok { IfOk result (IsWalksOf S.are_from S.arithmetic texts.items) }
+    ensures fault { IfErr result (IsWalksFault S.arithmetic texts.items) }
     ensures unwritten { IfErr result (λ f. f ≢ JobFault.Output) }
 {
     let (graph, sources) = graph_with_sources::<S, R>(rt, alloc, threads, texts)?;
@@ -101,7 +101,7 @@ pub fn put_numbers_from<S: Walks + Send + Sync, R: Threads + Sync, K: Sink>(
     rt: &R,
     alloc: Global,
     threads: u32,
-    texts: Vec<Vec<u8>>,
+    texts: Vec<Text>,
     out: &mut K,
 ) -> Result<(), JobFault>
     requires texts { vec_len texts ≡ 2 }

@@ -6,6 +6,7 @@ use crate::column_output::put_column;
 use crate::graph_inputs::graph_with_source;
 use cb_outcomes::faults::JobFault;
 use cb_outcomes::sinks::Sink;
+use cb_outcomes::texts::Text;
 use cb_searches::Walks;
 use std::alloc::Global;
 use std::thread::Threads;
@@ -17,7 +18,7 @@ pub fn put_numbers<S: Walks + Send + Sync, R: Threads + Sync, K: Sink>(
     alloc: Global,
     threads: u32,
     source: u32,
-    texts: Vec<Vec<u8>>,
+    texts: Vec<Text>,
     out: &mut K,
 ) -> Result<(), JobFault>
     requires texts { vec_len texts ≡ 1 }

@@ -16,8 +16,8 @@ use Rattle.cb_matrix.proofs.Made.{at-matrix_of, same_matrix_of}
 use Rattle.cb_matrix.proofs.Equal.{matrix_is}
 use Rattle.cb_dcsc.specs.Columns.{in_column, rows_of, values_of, row_value, columns_with_entries}
 use Rattle.cb_dcsc.proofs.Lookup.{column_value, row_value-found, row_value-absent, ascending_rows, rows_inside, as_long}
-use Rattle.cb_dcsc.proofs.Pieces.{in_column-none}
-use Rattle.cb_dcsc.proofs.Numbers.{entries_all}
+use Rattle.cb_dcsc.proofs.ColumnEntries.{in_column-none}
+use Rattle.cb_dcsc.proofs.NumbersOfColumns.{entries_all}
 use Rattle.cb_graphs.specs.Degrees.{column_degree, row_degree, column_degrees, row_degrees}
 use Rattle.cb_graphs.specs.Triangles.{is_listed}
 use Rattle.cb_graphs.proofs.Counting.{sum_listed, listed_from, listed_true}

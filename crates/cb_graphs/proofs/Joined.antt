@@ -9,7 +9,7 @@ use Rattle.cb_semirings.specs.Tables.{min_plus, or_and}
 use Rattle.cb_matrix.specs.declared.Entry.{Entry}
 use Rattle.cb_matrix.specs.Sparse.{Sparse, IsMatrix, at}
 use Rattle.cb_dcsc.specs.Columns.{in_column, rows_of, columns_with_entries}
-use Rattle.cb_dcsc.proofs.Numbers.{columns_all}
+use Rattle.cb_dcsc.proofs.NumbersOfColumns.{columns_all}
 use Rattle.cb_searches.specs.Walks.{IsWalk, infinite, column_shape}
 use Rattle.cb_searches.proofs.ColumnEdges.{edge_row, row_edge}
 use Rattle.cb_searches.proofs.WalkCosts.{walk_edge, walk_rest, walk_first}

@@ -23,7 +23,7 @@ use Rattle.cb_plan.specs.Algebras.{matrices}
 use Rattle.cb_plan.proofs.Effects.{split}
 use Rattle.cb_plan_parts.proofs.PartStarts.{start_zero, start_rises, start_within, start_last, map_below}
 use Rattle.cb_grid_plans.specs.VectorPlans.{column}
-use Rattle.cb_grid_plans.proofs.Pieces.{assembled, summed}
+use Rattle.cb_grid_plans.proofs.VectorSteps.{assembled, summed}
 
 -- part j of a vector
 abbrev pub vector_part : Arithmetic → ℕ → Sparse → ℕ → Sparse

@@ -16,8 +16,8 @@ use Rattle.cb_plan_parts.proofs.Grid.{at_place}
 use Rattle.cb_grid_plans.specs.GridPlans.{mirror_acts}
 use Rattle.cb_grid_plans.specs.VectorPlans.{each_works, piece_broadcasts, sum_ops}
 use Rattle.cb_grid_plans.specs.ReductionPlans.{own_cut, own_cuts, own_ops, own_sums, gathered_sums, column_sums_acts, turned_sums_acts, turn_back_acts, row_sums_acts, turned}
-use Rattle.cb_grid_plans.proofs.Programs.{after_op, after_ops, after_ops-append, ops_skip, each_works_here, each_works_skip}
-use Rattle.cb_grid_plans.proofs.Pieces.{yes, no, summed, pieces_come, pieces_skip, sum_made, sums_skip}
+use Rattle.cb_grid_plans.proofs.RankPrograms.{after_op, after_ops, after_ops-append, ops_skip, each_works_here, each_works_skip}
+use Rattle.cb_grid_plans.proofs.VectorSteps.{yes, no, summed, pieces_come, pieces_skip, sum_made, sums_skip}
 use Rattle.cb_grid_plans.proofs.Mirror.{mirror_keeps, mirror_brings}
 
 module _ {M : Type 0} (ops : Algebra M) (q : ℕ) (few : q ≤ 6) where

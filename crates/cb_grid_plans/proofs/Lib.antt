@@ -3,20 +3,20 @@
 -- VectorStarts: the slots with which the ranks start: `vector_starts_there`, the matrix's part and the vector's piece in
 --   their slots; `vector_starts_elsewhere`, nothing in any other.
 pub mod VectorStarts
--- For this crate alone. Blocks: element-wise operations on the blocks of matrices make the blocks of the result, and so
--- does the transpose. Pointwise: what one operation of each rank leaves. Mirror: blocks that cross the diagonal. Lengths:
--- the plans are short. Sides: the side of a grid, by its number of ranks.
-pub mod Blocks
+-- For this crate alone. ResultBlocks: element-wise operations on the blocks of matrices make the blocks of the result, and
+-- so does the transpose. Pointwise: what one operation of each rank leaves. Mirror: blocks that cross the diagonal.
+-- PlacewiseLengths: the plans are short. Sides: the side of a grid, by its number of ranks.
+pub mod ResultBlocks
 pub mod Pointwise
 pub mod Mirror
-pub mod Lengths
+pub mod PlacewiseLengths
 pub mod Sides
--- The product by a spread vector. Programs: operations of each rank, one after the other. Pieces: what each step
--- does to the slots. Assembly: the pieces make the parts of a vector, and the pieces of the products those of the
+-- The product by a spread vector. RankPrograms: operations of each rank, one after the other. VectorSteps: what each
+-- step does to the slots. Assembly: the pieces make the parts of a vector, and the pieces of the products those of the
 -- result. SpreadProduct: the plan makes the product. VectorFlow: it passes the check. Loops: how its acts are appended.
 -- VectorLengths: it is short.
-pub mod Programs
-pub mod Pieces
+pub mod RankPrograms
+pub mod VectorSteps
 pub mod Assembly
 pub mod SpreadProduct
 pub mod VectorFlow

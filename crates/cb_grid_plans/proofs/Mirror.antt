@@ -25,7 +25,7 @@ use Rattle.cb_plan_parts.proofs.Flows.{flows-append, each_flows}
 use Rattle.cb_plan_parts.proofs.Grid.{at_place}
 use Rattle.cb_plan_parts.proofs.Starts.{operand_parts}
 use Rattle.cb_grid_plans.specs.GridPlans.{one_operand, mirrored, mirror_acts, transpose_acts, IsTransposePlan}
-use Rattle.cb_grid_plans.proofs.Blocks.{transposed_block}
+use Rattle.cb_grid_plans.proofs.ResultBlocks.{transposed_block}
 
 -- the rank on the other side, by row and column
 mirrored_place : (q i j : ℕ) → j < q → mirrored q (i * q + j) ≡ j * q + i

@@ -24,7 +24,7 @@ use Rattle.cb_plan_parts.proofs.Everywhere.{each_here, each_elsewhere}
 use Rattle.cb_plan_parts.proofs.Flows.{each_flows}
 use Rattle.cb_plan_parts.proofs.Starts.{operand_parts}
 use Rattle.cb_grid_plans.specs.GridPlans.{one_operand, two_operands, placewise_acts, Leaves, IsSumPlan, IsTimesPlan, IsPrunePlan}
-use Rattle.cb_grid_plans.proofs.Blocks.{sum_of_blocks, times_of_blocks, pruned_block}
+use Rattle.cb_grid_plans.proofs.ResultBlocks.{sum_of_blocks, times_of_blocks, pruned_block}
 
 -- what the plan leaves in a slot
 pub placewise_means : (s : Arithmetic) (q : ℕ) (op : Op) (state : State Sparse) → meaning (matrices s) (placewise_acts q op) state ≡ meaning (matrices s) (each_rank q (λ _. op)) state

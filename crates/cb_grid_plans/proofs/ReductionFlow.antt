@@ -22,8 +22,8 @@ use Rattle.cb_plan_parts.proofs.Starts.{operand_parts}
 use Rattle.cb_grid_plans.specs.GridPlans.{one_operand, mirror_acts}
 use Rattle.cb_grid_plans.specs.VectorPlans.{each_works, piece_broadcasts, sum_ops}
 use Rattle.cb_grid_plans.specs.ReductionPlans.{own_cut, own_cuts, own_ops, own_sums, gathered_sums, column_sums_acts, turned_sums_acts, turn_back_acts, row_sums_acts, turned}
-use Rattle.cb_grid_plans.proofs.Programs.{after_op, after_ops, CanDo, can_do_both, each_works_flow}
-use Rattle.cb_grid_plans.proofs.Pieces.{no, pieces_come}
+use Rattle.cb_grid_plans.proofs.RankPrograms.{after_op, after_ops, CanDo, can_do_both, each_works_flow}
+use Rattle.cb_grid_plans.proofs.VectorSteps.{no, pieces_come}
 use Rattle.cb_grid_plans.proofs.VectorFlow.{below, pieces_flow, can_sum}
 use Rattle.cb_grid_plans.proofs.Mirror.{mirror_flow}
 use Rattle.cb_grid_plans.proofs.GatheredSums.{own_rows, after_broadcasts, sums_gathered, has_sums, after_turns, has_turns, after_turned_sums, has_turned_sums, after_mirror, has_mirrored, after_copies, has_copies, turned_means}

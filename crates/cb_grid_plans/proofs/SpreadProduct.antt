@@ -15,8 +15,8 @@ use Rattle.cb_collectives.specs.Collectives.{shut_acts}
 use Rattle.cb_collectives.proofs.ShutMeaning.{shut_nothing}
 use Rattle.cb_plan_parts.proofs.Grid.{at_place}
 use Rattle.cb_grid_plans.specs.VectorPlans.{column, each_works, piece_broadcasts, product_ops, cut_ops, exchanges, sum_ops, products_at, cuts_at, spread_product_acts, vector_acts, IsVectorPlan}
-use Rattle.cb_grid_plans.proofs.Programs.{after_ops, each_works_here, each_works_skip}
-use Rattle.cb_grid_plans.proofs.Pieces.{assembled, summed, pieces_come, pieces_skip, product_made, products_skip, pieces_cut, cuts_skip, pieces_exchanged, exchanges_skip, sum_made, sums_skip}
+use Rattle.cb_grid_plans.proofs.RankPrograms.{after_ops, each_works_here, each_works_skip}
+use Rattle.cb_grid_plans.proofs.VectorSteps.{assembled, summed, pieces_come, pieces_skip, product_made, products_skip, pieces_cut, cuts_skip, pieces_exchanged, exchanges_skip, sum_made, sums_skip}
 use Rattle.cb_grid_plans.proofs.Assembly.{vector_part, part_assembled, pieces_make_product}
 
 -- the slots after each step

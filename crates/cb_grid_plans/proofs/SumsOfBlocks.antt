@@ -22,8 +22,8 @@ use Rattle.cb_collectives.specs.Collectives.{shut_acts}
 use Rattle.cb_collectives.proofs.ShutMeaning.{shut_nothing}
 use Rattle.cb_grid_plans.specs.GridPlans.{Leaves}
 use Rattle.cb_grid_plans.specs.ReductionPlans.{gathered_sums, column_sums_acts, turned_sums_acts, turn_back_acts, row_sums_acts, turned, IsColumnSumsPlan, IsRowSumsPlan}
-use Rattle.cb_grid_plans.proofs.Blocks.{at-block, transposed_block}
-use Rattle.cb_grid_plans.proofs.Pieces.{summed}
+use Rattle.cb_grid_plans.proofs.ResultBlocks.{at-block, transposed_block}
+use Rattle.cb_grid_plans.proofs.VectorSteps.{summed}
 use Rattle.cb_grid_plans.proofs.GatheredSums.{sums_gathered, gathered_keeps, after_sums, has_sums, after_copies, has_copies, turned_means, copies_keep, turned_back, turn_back_keeps}
 
 -- block (i, j) of the sums of the columns

@@ -25,8 +25,8 @@ use Rattle.cb_plan_parts.proofs.Flows.{flows-append, flows_each}
 use Rattle.cb_plan_parts.proofs.Grid.{in_column, column_exists, column_distinct, row_exists}
 use Rattle.cb_plan_parts.proofs.PartStarts.{start_rises, start_within}
 use Rattle.cb_grid_plans.specs.VectorPlans.{column, each_works, piece_broadcast, part_broadcasts, piece_broadcasts, add_piece, product_ops, piece_cut, exchange, exchanges, next_summand, sum_ops, products_at, cuts_at, spread_product_acts}
-use Rattle.cb_grid_plans.proofs.Programs.{after_op, after_ops, CanDo, can_do_both, each_works_flow, lists_skip}
-use Rattle.cb_grid_plans.proofs.Pieces.{yes, no, assembled, broadcast_skips, part_skips, pieces_add, adds_skip, exchange_skips}
+use Rattle.cb_grid_plans.proofs.RankPrograms.{after_op, after_ops, CanDo, can_do_both, each_works_flow, lists_skip}
+use Rattle.cb_grid_plans.proofs.VectorSteps.{yes, no, assembled, broadcast_skips, part_skips, pieces_add, adds_skip, exchange_skips}
 use Rattle.cb_grid_plans.proofs.SpreadProduct.{after_pieces, after_products, after_cuts, after_exchanges, has_left, has_pieces, has_product, has_cuts, has_summands}
 
 -- the test of a slot that exists holds

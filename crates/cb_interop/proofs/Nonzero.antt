@@ -9,7 +9,7 @@ use Rattle.cb_matrix.specs.declared.Entry.{Entry}
 use Rattle.cb_matrix.specs.Sparse.{Sparse, IsBefore}
 use Rattle.cb_dcsc.specs.Compressed.{entries_in}
 use Rattle.cb_dcsc.specs.Columns.{with_entry}
-use Rattle.cb_dcsc.proofs.Pieces.{entries_in_more}
+use Rattle.cb_dcsc.proofs.ColumnEntries.{entries_in_more}
 use Rattle.cb_interop.specs.Lists.{nonzero, with_nonzero}
 
 -- where no value is zero, all entries are kept

@@ -9,7 +9,7 @@ use Rattle.cb_matrix.specs.declared.Entry.{Entry}
 use Rattle.cb_matrix.specs.Sparse.{Sparse, Extent}
 use Rattle.cb_matrix.specs.Values.{empty_matrix}
 use Rattle.cb_dcsc.specs.Compressed.{entries_in, pieces}
-use Rattle.cb_dcsc.proofs.Pieces.{entries_in-columns, pieces-all}
+use Rattle.cb_dcsc.proofs.ColumnEntries.{entries_in-columns, pieces-all}
 use Rattle.cb_interop.specs.declared.lists.Columns.{Columns}
 use Rattle.cb_operations.specs.OperationAnswers.{shapes_in}
 use Rattle.cb_interop.specs.Lists.{count, column, starts, rows_in, values_in, listed_in, nonzero, with_nonzero, shape_of, matrix_of, matrices, AreLists}

@@ -2,3 +2,5 @@
 -- read. ReadFaults: the first text that isn't a matrix.
 pub mod OperandLemmas
 pub mod ReadFaults
+-- For this crate alone. TextParts: texts in parts that end with lines.
+mod TextParts

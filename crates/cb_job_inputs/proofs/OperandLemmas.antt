@@ -2,25 +2,25 @@
 use Rattle.std.proofs.Common.{◌≡◌, ℕ, ◌+◌, ◌<◌, ◌≤◌, List, [], ◌∷◌, length, drop, vec_len, get_or, ap, sym, ◌∙◌, subst, ⊎_elim, arith}
 use Rattle.std.specs.Prelude.{Vec, Result, Ok, Err, IfOk}
 use Rattle.std.proofs.lemmas.Bool.{cases_lt}
-use Rattle.std.proofs.lemmas.List.{length-map, get_or-map, get_or-drop}
+use Rattle.std.proofs.lemmas.List.{get_or-drop, get_or_read}
 use Rattle.cb_semirings.specs.Arithmetic.{Arithmetic}
 use Rattle.cb_matrix.specs.Sparse.{Sparse}
 use Rattle.cb_market_lines.specs.Reads.{Reads}
-use Rattle.cb_outcomes.specs.Texts.{bytes_of, text_at}
+use Rattle.cb_outcomes.specs.Texts.{text_at}
 use Rattle.cb_operations.specs.OperationAnswers.{matrix_at}
 use Rattle.cb_job_inputs.specs.Inputs.{AreMatrices}
 
-module _ {A B : Type 0} (xs : Vec (Vec ℕ A) B) where
-  -- a list has as many texts as bytes of texts
-  pub bytes_count : (n : ℕ) → vec_len xs ≡ n → length (bytes_of xs.items) ≡ n
-  bytes_count n e = length-map xs.items (λ (v : Vec ℕ A). v.items) ∙ sym xs.ok.0 ∙ e
+module _ {B : Type 0} (xs : Vec (List ℕ) B) where
+  -- how many texts a list has
+  pub text_count : (n : ℕ) → vec_len xs ≡ n → length xs.items ≡ n
+  text_count n e = sym xs.ok.0 ∙ e
 
   -- the text at a position is the first one after those before it
-  pub text_taken : (n : ℕ) (left : List (Vec ℕ A)) (v : Vec ℕ A) → n < vec_len xs → left ≡ drop n xs.items → v ≡ get_or left 0 v → text_at (bytes_of xs.items) n ≡ v.items
+  pub text_taken : (n : ℕ) (left : List (List ℕ)) (v : List ℕ) → n < vec_len xs → left ≡ drop n xs.items → v ≡ get_or left 0 v → text_at xs.items n ≡ v
   text_taken n left v l rest first =
       let own : v ≡ get_or xs.items (n + 0) v = first ∙ ap (λ ys. get_or ys 0 v) rest ∙ get_or-drop n xs.items 0 v in
       let same : n + 0 ≡ n = omega arith in
-      get_or-map (λ (w : Vec ℕ A). w.items) xs.items n v [] (subst (λ k. n < k) xs.ok.0 l) ∙ ap (λ (w : Vec ℕ A). w.items) (sym (own ∙ ap (λ k. get_or xs.items k v) same))
+      sym (get_or_read xs.items n v (subst (λ k. n < k) xs.ok.0 l) (own ∙ ap (λ k. get_or xs.items k v) same) [])
 
 module _ (P : ℕ → Type 0) where
   -- what holds at each position below n, and at n

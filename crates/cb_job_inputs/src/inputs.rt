@@ -3,12 +3,13 @@
 ghost use Rattle.std.specs.Prelude.{◌≡◌, ◌≤◌, ◌∷◌, [], drop, vec_len, IfOk, IfErr, OnOk};
 ghost use Rattle.cb_market_lines.specs.Reads.{Reads};
 ghost use Rattle.cb_job_inputs.specs.Inputs.{AreMatrices, IsFirstReadFault, IsReadFault, IsTextFault, arithmetic_at};
-ghost use Rattle.cb_outcomes.specs.Texts.{bytes_of, text_at};
+ghost use Rattle.cb_outcomes.specs.Texts.{text_at};
 
 use crate::reading::{Pieces, read_side_by_side};
 use cb_dcsc::Block;
 use cb_layout::{DistributedMatrix, Grid};
 use cb_outcomes::faults::JobFault;
+use cb_outcomes::texts::Text;
 use cb_semirings::Semiring;
 use std::alloc::Global;
 use std::thread::Threads;
@@ -23,17 +24,17 @@ pub fn read_text<S: Semiring + Send + Sync, R: Threads + Sync>(
     grid: &Grid,
     threads: u32,
     which: usize,
-    text: Vec<u8>,
+    text: Text,
 ) -> Result<DistributedMatrix<S>, JobFault>
-    ensures ok { IfOk result (λ m. Reads S.arithmetic text.items m.matrix) }
+    ensures ok { IfOk result (λ m. Reads S.arithmetic text m.matrix) }
     ensures side { IfOk result (λ m. m.side ≡ grid.now.side) }
-    ensures fault { IfErr result (IsTextFault S.arithmetic which text.items) }
+    ensures fault { IfErr result (IsTextFault S.arithmetic which text) }
 {
     let pieces = Pieces {
         most: threads,
         least_bytes: LEAST_BYTES,
     };
-    match read_side_by_side::<S, R>(rt, alloc, grid, pieces, &text) {
+    match read_side_by_side::<S, R>(rt, alloc, grid, pieces, text) {
         Ok(matrix) => Ok(matrix),
         Err(fault) => Err(JobFault::Read { which, fault }),
     }
@@ -45,13 +46,13 @@ pub fn read_one<S: Semiring + Send + Sync, R: Threads + Sync>(
     alloc: Global,
     grid: &Grid,
     threads: u32,
-    mut texts: Vec<Vec<u8>>,
+    mut texts: Vec<Text>,
 ) -> Result<DistributedMatrix<S>, JobFault>
     requires { vec_len texts ≡ 1 }
-    ensures ok { IfOk result (λ m. AreMatrices S.arithmetic (bytes_of texts.items) (m.matrix ∷ [])) }
-    ensures only { IfOk result (λ m. Reads S.arithmetic (text_at (bytes_of texts.items) 0) m.matrix) }
+    ensures ok { IfOk result (λ m. AreMatrices S.arithmetic texts.items (m.matrix ∷ [])) }
+    ensures only { IfOk result (λ m. Reads S.arithmetic (text_at texts.items 0) m.matrix) }
     ensures side { IfOk result (λ m. m.side ≡ grid.now.side) }
-    ensures fault { IfErr result (IsReadFault S.arithmetic (bytes_of texts.items)) }
+    ensures fault { IfErr result (IsReadFault S.arithmetic texts.items) }
 {
     let text = texts.remove(0);
     read_text(rt, alloc, grid, threads, 0, text)
@@ -63,14 +64,14 @@ fn read_both<S: Semiring + Send + Sync, T: Semiring + Send + Sync, R: Threads + 
     alloc: Global,
     grid: &Grid,
     threads: u32,
-    texts: &mut Vec<Vec<u8>>,
+    texts: &mut Vec<Text>,
 ) -> Result<(DistributedMatrix<S>, DistributedMatrix<T>), JobFault>
     requires { 2 ≤ vec_len texts.old }
-    ensures first { IfOk result (λ p. Reads S.arithmetic (text_at (bytes_of texts.old.items) 0) p.0.matrix) }
-    ensures second { IfOk result (λ p. Reads T.arithmetic (text_at (bytes_of texts.old.items) 1) p.1.matrix) }
+    ensures first { IfOk result (λ p. Reads S.arithmetic (text_at texts.old.items 0) p.0.matrix) }
+    ensures second { IfOk result (λ p. Reads T.arithmetic (text_at texts.old.items 1) p.1.matrix) }
     ensures sides { IfOk result (λ p. (p.0.side ≡ grid.now.side) × (p.1.side ≡ grid.now.side)) }
     ensures rest { OnOk result (texts.new.items ≡ drop 2 texts.old.items) }
-    ensures fault { IfErr result (IsFirstReadFault (arithmetic_at S.arithmetic T.arithmetic) (bytes_of texts.old.items)) }
+    ensures fault { IfErr result (IsFirstReadFault (arithmetic_at S.arithmetic T.arithmetic) texts.old.items) }
 {
     let first = texts.remove(0);
     let left = read_text::<S, R>(rt, alloc, grid, threads, 0, first)?;
@@ -85,12 +86,12 @@ pub fn read_two<S: Semiring + Send + Sync, R: Threads + Sync>(
     alloc: Global,
     grid: &Grid,
     threads: u32,
-    mut texts: Vec<Vec<u8>>,
+    mut texts: Vec<Text>,
 ) -> Result<(DistributedMatrix<S>, DistributedMatrix<S>), JobFault>
     requires { vec_len texts ≡ 2 }
-    ensures ok { IfOk result (λ p. AreMatrices S.arithmetic (bytes_of texts.items) (p.0.matrix ∷ p.1.matrix ∷ [])) }
+    ensures ok { IfOk result (λ p. AreMatrices S.arithmetic texts.items (p.0.matrix ∷ p.1.matrix ∷ [])) }
     ensures sides { IfOk result (λ p. (p.0.side ≡ grid.now.side) × (p.1.side ≡ grid.now.side)) }
-    ensures fault { IfErr result (IsReadFault S.arithmetic (bytes_of texts.items)) }
+    ensures fault { IfErr result (IsReadFault S.arithmetic texts.items) }
 {
     read_both(rt, alloc, grid, threads, &mut texts)
 }
@@ -101,7 +102,7 @@ pub fn read_triple<S: Semiring + Send + Sync, T: Semiring + Send + Sync, R: Thre
     alloc: Global,
     grid: &Grid,
     threads: u32,
-    mut texts: Vec<Vec<u8>>,
+    mut texts: Vec<Text>,
 ) -> Result<
     (
         DistributedMatrix<S>,
@@ -111,11 +112,11 @@ pub fn read_triple<S: Semiring + Send + Sync, T: Semiring + Send + Sync, R: Thre
     JobFault,
 >
     requires { vec_len texts ≡ 3 }
-    ensures first { IfOk result (λ p. Reads S.arithmetic (text_at (bytes_of texts.items) 0) p.0.matrix) }
-    ensures second { IfOk result (λ p. Reads T.arithmetic (text_at (bytes_of texts.items) 1) p.1.matrix) }
-    ensures third { IfOk result (λ p. Reads T.arithmetic (text_at (bytes_of texts.items) 2) p.2.matrix) }
+    ensures first { IfOk result (λ p. Reads S.arithmetic (text_at texts.items 0) p.0.matrix) }
+    ensures second { IfOk result (λ p. Reads T.arithmetic (text_at texts.items 1) p.1.matrix) }
+    ensures third { IfOk result (λ p. Reads T.arithmetic (text_at texts.items 2) p.2.matrix) }
     ensures sides { IfOk result (λ p. (p.0.side ≡ grid.now.side) × (p.1.side ≡ grid.now.side) × (p.2.side ≡ grid.now.side)) }
-    ensures fault { IfErr result (IsFirstReadFault (arithmetic_at S.arithmetic T.arithmetic) (bytes_of texts.items)) }
+    ensures fault { IfErr result (IsFirstReadFault (arithmetic_at S.arithmetic T.arithmetic) texts.items) }
 {
     let (first, second) = read_both::<S, T, R>(rt, alloc, grid, threads, &mut texts)?;
     let text = texts.remove(0);
@@ -129,7 +130,7 @@ pub fn read_three<S: Semiring + Send + Sync, R: Threads + Sync>(
     alloc: Global,
     grid: &Grid,
     threads: u32,
-    texts: Vec<Vec<u8>>,
+    texts: Vec<Text>,
 ) -> Result<
     (
         DistributedMatrix<S>,
@@ -139,9 +140,9 @@ pub fn read_three<S: Semiring + Send + Sync, R: Threads + Sync>(
     JobFault,
 >
     requires { vec_len texts ≡ 3 }
-    ensures ok { IfOk result (λ p. AreMatrices S.arithmetic (bytes_of texts.items) (p.0.matrix ∷ p.1.matrix ∷ p.2.matrix ∷ [])) }
+    ensures ok { IfOk result (λ p. AreMatrices S.arithmetic texts.items (p.0.matrix ∷ p.1.matrix ∷ p.2.matrix ∷ [])) }
     ensures sides { IfOk result (λ p. (p.0.side ≡ grid.now.side) × (p.1.side ≡ grid.now.side) × (p.2.side ≡ grid.now.side)) }
-    ensures fault { IfErr result (IsReadFault S.arithmetic (bytes_of texts.items)) }
+    ensures fault { IfErr result (IsReadFault S.arithmetic texts.items) }
 {
     read_triple(rt, alloc, grid, threads, texts)
 }
@@ -151,12 +152,12 @@ pub fn read_pair<S: Semiring + Send + Sync, T: Semiring + Send + Sync, R: Thread
     rt: &R,
     alloc: Global,
     threads: u32,
-    mut texts: Vec<Vec<u8>>,
+    mut texts: Vec<Text>,
 ) -> Result<(Block<S>, Block<T>), JobFault>
     requires { vec_len texts ≡ 2 }
-    ensures first { IfOk result (λ p. Reads S.arithmetic (text_at (bytes_of texts.items) 0) p.0) }
-    ensures second { IfOk result (λ p. Reads T.arithmetic (text_at (bytes_of texts.items) 1) p.1) }
-    ensures fault { IfErr result (IsFirstReadFault (arithmetic_at S.arithmetic T.arithmetic) (bytes_of texts.items)) }
+    ensures first { IfOk result (λ p. Reads S.arithmetic (text_at texts.items 0) p.0) }
+    ensures second { IfOk result (λ p. Reads T.arithmetic (text_at texts.items 1) p.1) }
+    ensures fault { IfErr result (IsFirstReadFault (arithmetic_at S.arithmetic T.arithmetic) texts.items) }
 {
     let grid = Grid::single();
     let (left, right) = read_both::<S, T, R>(rt, alloc, &grid, threads, &mut texts)?;

@@ -1,23 +1,27 @@
 //! Matrix Market texts, read by several threads.
 //!
-//! A text is cut in two where a line ends, and each part again, until there are as many pieces as wanted. Each piece is read
-//! by its own thread, straight into the blocks of a grid as long as its entries ascend. Neighbouring pieces are then
-//! joined, block by block, until one is left. If no piece has a fault and all announced entries are there, it has the
-//! matrix. Otherwise, and if memory is refused, [`cb_market::read_distributed`] reads the text again on one thread and
-//! reports the first fault.
+//! A text that was loaded in parts is read part by part. A text in one part is cut in two where a line ends, and each half
+//! again, until there are as many pieces as wanted. Each piece is read by its own thread, straight into the blocks of a grid
+//! as long as its entries ascend. Neighbouring pieces are then joined, block by block, until one is left. If no piece has a
+//! fault and all announced entries are there, it has the matrix. Otherwise, and if memory is refused,
+//! [`cb_market::read_distributed`] reads the text again on one thread and reports the first fault.
 //!
 //! If a thread isn't available, the caller's thread reads its piece. Besides the text, the memory is that of the blocks
 //! and, while two pieces are joined, a second copy of the later one.
-ghost use Rattle.std.specs.Prelude.{◌≡◌, ◌<◌, ◌≤◌, IsTrue, IfOk, IfErr, IfSome, length};
+ghost use Rattle.std.specs.Prelude.{◌≡◌, ◌<◌, ◌≤◌, ◌++◌, true, IsTrue, IfOk, IfErr, IfSome, length};
 ghost use Rattle.std.specs.Thread.{IsSync};
 ghost use Rattle.cb_matrix.specs.Values.{collected};
 ghost use Rattle.cb_market_lines.specs.Checks.{is_shape};
 ghost use Rattle.cb_market_lines.specs.Faults.{first_fault, IsAnswer, IsLineOf};
 ghost use Rattle.cb_market_lines.specs.Reads.{Reads, IsFaultOrMatrix};
-ghost use Rattle.cb_market.specs.Pieces.{IsPart};
+ghost use Rattle.cb_market.specs.Pieces.{IsPart, MayFollow, is_whole};
+ghost use Rattle.cb_outcomes.specs.Texts.{joined};
 
 use cb_layout::{DistributedMatrix, Grid};
-use cb_market::{Header, Opening, Piece, ReadFault, Size, parted, read_distributed, read_piece};
+use cb_market::{
+    Header, Opening, Piece, ReadFault, Size, parted, read_distributed, read_piece, room_for_entries,
+};
+use cb_outcomes::texts::Text;
 use cb_semirings::Semiring;
 use std::alloc::Global;
 use std::thread::{Threads, join};
@@ -49,50 +53,109 @@ pub fn read_side_by_side<S: Semiring + Send + Sync, R: Threads + Sync>(
     alloc: Global,
     grid: &Grid,
     pieces: Pieces,
-    text: &[u8],
+    text: Text,
 ) -> Result<DistributedMatrix<S>, ReadFault>
-    ensures ok { IfOk result (λ m. Reads S.arithmetic text.now m.matrix) }
+    ensures ok { IfOk result (λ m. Reads S.arithmetic text m.matrix) }
     ensures side { IfOk result (λ m. m.side ≡ grid.now.side) }
-    ensures fault { IfErr result (IsAnswer (first_fault S.arithmetic text.now)) }
-    ensures line { IfErr result (IsLineOf 1 text.now) }
-    ensures law { IsFaultOrMatrix S.arithmetic text.now }
+    ensures fault { IfErr result (IsAnswer (first_fault S.arithmetic text)) }
+    ensures line { IfErr result (IsLineOf 1 text) }
+    ensures law { IsFaultOrMatrix S.arithmetic text }
 {
-    if let Some(matrix) = read_in_pieces::<S, R>(rt, alloc, grid, pieces, text) {
+    if let Some(matrix) = read_in_pieces::<S, R>(rt, alloc, grid, pieces, &text) {
         return Ok(matrix);
     }
-    read_distributed::<S>(alloc, grid, text)
+    let bytes = text.into_bytes();
+    read_distributed::<S>(alloc, grid, &bytes)
 }
 
 /// Reads a text as a matrix in the blocks of a grid, in two pieces or more. None if there would be fewer pieces, if the
-/// text has a fault, or if memory is refused.
+/// text has a fault, or if memory is refused; and if a part of the text but the last doesn't end with a line.
 pub fn read_in_pieces<S: Semiring + Send + Sync, R: Threads + Sync>(
     rt: &R,
     alloc: Global,
     grid: &Grid,
     pieces: Pieces,
-    text: &[u8],
+    text: &Text,
 ) -> Option<DistributedMatrix<S>>
     ensures reads { IfSome result (λ m. Reads S.arithmetic text.now m.matrix) }
     ensures side { IfSome result (λ m. m.side ≡ grid.now.side) }
 {
-    let Some(opening) = Opening::of::<S>(text) else {
+    let (first, rest) = text.parts();
+    let Some(opening) = Opening::of::<S>(first) else {
         return None;
     };
-    let entries = opening.entries;
-    let count = pieces.of(entries.len());
-    if count < 2 {
-        return None;
-    }
     let plan = Plan {
         alloc,
         grid: *grid,
         header: opening.header,
         size: opening.size,
     };
-    let Some(whole) = read_part::<S, R>(rt, &plan, count, entries, entries) else {
+    let entries = opening.entries;
+    if !may_follow(first, entries, rest) {
+        return None;
+    }
+    let Some(whole) = read_entries::<S, R>(rt, &plan, pieces, entries, rest) else {
         return None;
     };
     complete(&plan, whole)
+}
+
+/// Whether more parts may follow a text and its end: there are none, or both end with a line.
+fn may_follow(text: &[u8], end: &[u8], rest: &[Vec<u8>]) -> bool
+    ensures { result ≡ true → MayFollow text.now end.now (joined rest.now) }
+{
+    rest.is_empty() || ends_with_line(text) && ends_with_line(end)
+}
+
+/// Whether a text is empty or ends with a line feed.
+fn ends_with_line(text: &[u8]) -> bool
+    ensures { result ≡ true → is_whole text.now ≡ true }
+{
+    text.is_empty() || ends_with_line_feed(text)
+}
+
+/// Whether the last byte of a text is a line feed.
+fn ends_with_line_feed(text: &[u8]) -> bool
+    ensures some { result ≡ true → 0 < length text.now }
+    ensures whole { result ≡ true → is_whole text.now ≡ true }
+{
+    match text.len().checked_sub(1) {
+        Some(last) => text[last] == b'\n',
+        None => false,
+    }
+}
+
+/// Whether a text in parts is empty or ends with a line.
+fn parts_end_with_line(first: &[u8], rest: &[Vec<u8>]) -> bool
+    ensures { result ≡ true → is_whole (first.now ++ joined rest.now) ≡ true }
+{
+    match rest.len().checked_sub(1) {
+        Some(last) => ends_with_line_feed(&rest[last]),
+        None => ends_with_line(first),
+    }
+}
+
+/// Reads all entries of a text: part by part if it is in several, and otherwise in pieces, of which there are two at
+/// least.
+fn read_entries<S: Semiring + Send + Sync, R: Threads + Sync>(
+    rt: &R,
+    plan: &Plan,
+    pieces: Pieces,
+    entries: &[u8],
+    rest: &[Vec<u8>],
+) -> Option<Piece<S>>
+    requires { IsTrue (is_shape plan.now.header.symmetry plan.now.size.shape) }
+    ensures { IfSome result (λ p. IsPart S.arithmetic plan.now.header plan.now.size.shape plan.now.grid.side (entries.now ++ joined rest.now) p) }
+{
+    let room = plan.room_for(entries, rest);
+    if !rest.is_empty() {
+        return read_parts::<S, R>(rt, plan, room, entries, rest);
+    }
+    let count = pieces.of(entries.len());
+    if count < 2 {
+        return None;
+    }
+    read_part::<S, R>(rt, plan, count, room, entries)
 }
 
 /// Returns the matrix of all entries of a text, if there are as many as announced.
@@ -119,6 +182,17 @@ struct Plan {
     size: Size,
 }
 
+impl Plan {
+    /// Returns how many entries to take room for: as many as are announced, but no more than these parts can hold.
+    fn room_for(&self, first: &[u8], rest: &[Vec<u8>]) -> usize {
+        let mut bytes = first.len();
+        for part in rest {
+            bytes = bytes.saturating_add(part.len());
+        }
+        room_for_entries(self.header, self.size.count, bytes.min(usize::MAX - 1))
+    }
+}
+
 /// Returns how many of this many bytes the first `low` of `count` pieces have.
 fn share(bytes: usize, low: u32, count: u32) -> usize
     requires some { 0 < count }
@@ -128,13 +202,13 @@ fn share(bytes: usize, low: u32, count: u32) -> usize
     bytes / count as usize * low as usize
 }
 
-/// Reads a part of the entries of a text in this many pieces. It takes room for the entries of the bytes of `room`: this
-/// part and those that will be appended to it.
+/// Reads a part of the entries of a text in this many pieces. It takes room for `room` entries: those of this part, and of
+/// those that will be appended to it.
 fn read_part<S: Semiring + Send + Sync, R: Threads + Sync>(
     rt: &R,
     plan: &Plan,
     count: u32,
-    room: &[u8],
+    room: usize,
     text: &[u8],
 ) -> Option<Piece<S>>
     requires { IsTrue (is_shape plan.now.header.symmetry plan.now.size.shape) }
@@ -154,7 +228,43 @@ fn read_part<S: Semiring + Send + Sync, R: Threads + Sync>(
         || -> Option<Piece<S>>
             requires { IsSync R.row × IsTrue (is_shape plan.now.header.symmetry plan.now.size.shape) }
             ensures { IfSome result (λ p. IsPart S.arithmetic plan.entry.now.header plan.entry.now.size.shape plan.entry.now.grid.side last.entry.now p) }
-        { read_part::<S, R>(rt, plan, high, last, last) },
+        { read_part::<S, R>(rt, plan, high, plan.room_for(last, &[]), last) },
+    );
+    let (Some(front), Some(back)) = (front, back) else {
+        return None;
+    };
+    front.append(plan.alloc, back)
+}
+
+/// Reads the entries of a text in parts, each part by its own thread. It takes room for `room` entries: those of these
+/// parts, and of those that will be appended to them. None also if a part but the last doesn't end with a line.
+fn read_parts<S: Semiring + Send + Sync, R: Threads + Sync>(
+    rt: &R,
+    plan: &Plan,
+    room: usize,
+    first: &[u8],
+    rest: &[Vec<u8>],
+) -> Option<Piece<S>>
+    requires { IsTrue (is_shape plan.now.header.symmetry plan.now.size.shape) }
+    ensures { IfSome result (λ p. IsPart S.arithmetic plan.now.header plan.now.size.shape plan.now.grid.side (first.now ++ joined rest.now) p) }
+{
+    let (low, high) = rest.split_at(rest.len() / 2);
+    let Some((next, last)) = high.split_first() else {
+        return read_piece::<S>(plan.alloc, plan.grid, plan.header, plan.size, room, first);
+    };
+    if !parts_end_with_line(first, low) {
+        return None;
+    }
+    let (front, back) = join(
+        rt,
+        || -> Option<Piece<S>>
+            requires { IsSync R.row × IsTrue (is_shape plan.now.header.symmetry plan.now.size.shape) }
+            ensures { IfSome result (λ p. IsPart S.arithmetic plan.entry.now.header plan.entry.now.size.shape plan.entry.now.grid.side (first.entry.now ++ joined low.entry.now) p) }
+        { read_parts::<S, R>(rt, plan, room, first, low) },
+        || -> Option<Piece<S>>
+            requires { IsSync R.row × IsTrue (is_shape plan.now.header.symmetry plan.now.size.shape) }
+            ensures { IfSome result (λ p. IsPart S.arithmetic plan.entry.now.header plan.entry.now.size.shape plan.entry.now.grid.side (next.entry.now.items ++ joined last.entry.now) p) }
+        { read_parts::<S, R>(rt, plan, plan.room_for(next, last), next, last) },
     );
     let (Some(front), Some(back)) = (front, back) else {
         return None;

@@ -12,7 +12,7 @@ use Rattle.cb_matrix.specs.Sparse.{Extent, Sparse, IsMatrix, IsInside}
 use Rattle.cb_matrix.specs.Values.{empty_matrix}
 use Rattle.cb_dcsc.specs.Columns.{in_column, columns_with_entries, rows_of, values_of}
 use Rattle.cb_dcsc.specs.Compressed.{entries_in}
-use Rattle.cb_dcsc.proofs.Numbers.{columns_all, entries_all}
+use Rattle.cb_dcsc.proofs.NumbersOfColumns.{columns_all, entries_all}
 use Rattle.cb_grid.specs.Parts.{part_start, part_length, part_shape}
 use Rattle.cb_grid.specs.Blocks.{block_at, block_of, place_in_part, glued_blocks}
 use Rattle.cb_layout.specs.Distributed.{AreBlocks}

@@ -8,7 +8,7 @@ use Rattle.cb_matrix.specs.Sparse.{IsBefore}
 use Rattle.cb_matrix.proofs.Places.{AllPairs-head, AllPairs-tail}
 use Rattle.cb_matrix.proofs.Made.{AllPairs-nil, AllPairs-cons}
 use Rattle.cb_dcsc.specs.Columns.{columns_with_entries, with_front}
-use Rattle.cb_dcsc.proofs.Numbers.{columns_all}
+use Rattle.cb_dcsc.proofs.NumbersOfColumns.{columns_all}
 
 -- the columns that have entries ascend
 pub columns_ascend : (es : List Entry) → AllPairs IsBefore es → AllPairs (λ c d. c < d) (columns_with_entries es)

@@ -4,9 +4,9 @@
 --   the lane is closed; `NothingAfterClose-append`, an open lane accepts one more letter.
 -- Standings: `same_standing`, lanes that agree in every field stand the same; `not_stranger` and
 --   `not_closed`, if nothing refuses a post, there is such a lane, and it is open.
--- Lanes: a lane stays one: `IsLane-new` when it is new, `IsLane-append` as a letter is posted,
+-- LaneLetters: a lane stays one: `IsLane-new` when it is new, `IsLane-append` as a letter is posted,
 --   `IsLane-take` as one is taken; `IsAddressed-take`, a letter that a take returns has the lane's two
 --   ends, and the number of those taken before it.
 pub mod Marks
 pub mod Standings
-pub mod Lanes
+pub mod LaneLetters

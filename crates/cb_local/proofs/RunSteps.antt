@@ -10,7 +10,7 @@ use Rattle.cb_plan.specs.Algebras.{matrices, shapes}
 use Rattle.cb_plan.specs.Checks.{Lanes, IsSound, fault_from, shut_after}
 use Rattle.cb_plan.specs.Stores.{state_of, shapes_of, NoneLost}
 use Rattle.cb_plan.specs.PlanTables.{IsTable}
-use Rattle.cb_plan.proofs.Faults.{next_element}
+use Rattle.cb_plan.proofs.CheckSteps.{next_element}
 use Rattle.cb_plan.proofs.Effects.{same_state}
 use Rattle.cb_plan.proofs.PassingActs.{no_fault_next}
 use Rattle.cb_plan.proofs.ShapesOfMeaning.{act_turns, shape_turns}

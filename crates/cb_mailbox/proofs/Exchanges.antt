@@ -9,7 +9,7 @@ use Rattle.cb_letters.specs.declared.Letter.{Letter}
 use Rattle.cb_letters.specs.Letters.{is_close}
 use Rattle.cb_letters.specs.Posted.{ends_closed, NothingAfterClose}
 use Rattle.cb_letters.specs.Lane.{Lane, IsLane, IsAddressed, refusal, append, after_take, posted}
-use Rattle.cb_letters.proofs.Lanes.{IsLane-append, IsLane-take}
+use Rattle.cb_letters.proofs.LaneLetters.{IsLane-append, IsLane-take}
 use Rattle.cb_mailbox.specs.declared.calls.Call.{Call}
 use Rattle.cb_mailbox.specs.Inbox.{Inbox, is_stranger, lane_from, HasLanes}
 use Rattle.cb_mailbox.specs.Run.{after, answers_to, after_all}

@@ -8,7 +8,7 @@ use Rattle.cb_letters.specs.declared.Body.{Body}
 use Rattle.cb_letters.specs.declared.PostRefusal.{PostRefusal}
 use Rattle.cb_letters.specs.declared.PostRefusal.TheVariants.{Stranger}
 use Rattle.cb_letters.specs.Lane.{Lane, IsLane, Accepts, new_lane, append, after_take, posted, refusal}
-use Rattle.cb_letters.proofs.Lanes.{IsLane-new, IsLane-append, IsLane-take}
+use Rattle.cb_letters.proofs.LaneLetters.{IsLane-new, IsLane-append, IsLane-take}
 use Rattle.cb_mailbox.specs.Inbox.{Inbox, is_stranger, lane_from, with_lane, next_letter, post_refusal, AcceptsFrom, HasLanes}
 
 -- a fact for each of two equal numbers, and for two that differ

@@ -1,5 +1,6 @@
--- The toolbox of lemmas on texts that are read. PartedTexts: a text in parts.
+-- The toolbox of lemmas on texts that are read. PartedTexts: a text in parts. LongerTexts: a text that goes on.
 pub mod PartedTexts
+pub mod LongerTexts
 -- For this crate alone. Listed, Gatherings: the entries of a text, as they are gathered.
 mod Listed
 mod Gatherings

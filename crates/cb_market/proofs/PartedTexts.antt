@@ -12,13 +12,11 @@ use Rattle.cb_matrix.specs.Values.{collected, matrix_of, total}
 use Rattle.cb_market.specs.Gathered.{AreSamePlaces}
 use Rattle.cb_market_lines.specs.declared.header.Header.{Header}
 use Rattle.cb_market_lines.specs.declared.size.Size.{Size}
-use Rattle.cb_market_lines.specs.Lines.{lines, cut_lines, onto_first, without_return, words, kept, kept_from, is_skipped, begins_blank}
-use Rattle.cb_market_lines.specs.Cursor.{line_at, after_line}
-use Rattle.cb_market_lines.specs.Checks.{is_shape, header_fault, header_of, entry_of, given_by}
-use Rattle.cb_market_lines.specs.Faults.{at_line, entries_fault, given, matrix_in, body_fault, body_matrix, IsNextEntry}
+use Rattle.cb_market_lines.specs.Lines.{lines, cut_lines, onto_first, without_return, words, kept, kept_from, is_skipped}
+use Rattle.cb_market_lines.specs.Checks.{entry_of, given_by}
+use Rattle.cb_market_lines.specs.Faults.{at_line, entries_fault, given, matrix_in, IsNextEntry}
 use Rattle.cb_market_lines.specs.Reads.{Reads}
-use Rattle.cb_market.specs.Pieces.{is_whole, AreFaultless, given_in, Part, IsPart, IsOpening}
-use Rattle.cb_market_lines.proofs.Bodies.{body_first, matrix_first}
+use Rattle.cb_market.specs.Pieces.{is_whole, AreFaultless, given_in, Part, IsPart, MayFollow, IsOpening}
 use Rattle.cb_market_lines.proofs.Law.{words_of, kept_words, text_says}
 
 -- ---- lines
@@ -216,34 +214,23 @@ same_collected : (s : Arithmetic) (shape : Extent) (es fs : List Entry) → AreS
 same_collected s shape es fs h = λ t. matrix_of s shape (λ i j. total s (map (λ (e : Entry). e.value) (h i j t)))
 
 -- A text whose entries are one part, with as many lines as are announced, reads as the matrix of what they give.
-pub part_reads : (s : Arithmetic) (text : List ℕ) (header : Header) (size : Size) (line : ℕ) (entries : List ℕ) (side : ℕ) (p : Part) → IsOpening s text header size line entries → IsPart s header size.shape side entries p → p.lines ≡ size.count
-    → Reads s text (collected s p.shape p.entries)
+pub part_reads : (s : Arithmetic) (text : List ℕ) (header : Header) (size : Size) (line : ℕ) (entries more : List ℕ) (side : ℕ) (p : Part) → IsOpening s text header size line entries → MayFollow text entries more
+    → IsPart s header size.shape side (entries ++ more) p → p.lines ≡ size.count → Reads s (text ++ more) (collected s p.shape p.entries)
 unfolding kept_from
-part_reads s text header size line entries side p o h c =
-    let all : words_of (kept_from line entries) ≡ kept (lines entries) = kept_words line (lines entries) in
-    let count : length (words_of (kept_from line entries)) ≡ size.count = ap length all ∙ sym h.count ∙ c in
-    let n = line + length (lines entries) in
-    let none : entries_fault s header size.shape n size.count (kept_from line entries) ≡ None =
-    ap (λ k. entries_fault s header size.shape n k (kept_from line entries)) (sym count)
-    ∙ faultless_none s header size.shape n (kept_from line entries) (subst (λ (l : List (List (List ℕ))). AreFaultless s header size.shape l) (sym all) h.faultless) in
-    let matrix : collected s p.shape p.entries ≡ matrix_in s text =
+part_reads s text header size line entries more side p o follows h c =
+    let all : words_of (kept_from line (entries ++ more)) ≡ kept (lines (entries ++ more)) = kept_words line (lines (entries ++ more)) in
+    let count : length (words_of (kept_from line (entries ++ more))) ≡ size.count = ap length all ∙ sym h.count ∙ c in
+    let n = line + length (lines (entries ++ more)) in
+    let none : entries_fault s header size.shape n size.count (kept_from line (entries ++ more)) ≡ None =
+    ap (λ k. entries_fault s header size.shape n k (kept_from line (entries ++ more))) (sym count)
+    ∙ faultless_none s header size.shape n (kept_from line (entries ++ more)) (subst (λ (l : List (List (List ℕ))). AreFaultless s header size.shape l) (sym all) h.faultless) in
+    let matrix : collected s p.shape p.entries ≡ matrix_in s (text ++ more) =
     (λ t. collected s (h.in_shape t) p.entries)
-    ∙ same_collected s size.shape p.entries (given_in s header (kept (lines entries))) h.given
+    ∙ same_collected s size.shape p.entries (given_in s header (kept (lines (entries ++ more)))) h.given
     ∙ ap (λ l. collected s size.shape (given_in s header l)) (sym all)
-    ∙ ap (collected s size.shape) (sym (given_words s header (kept_from line entries)))
-    ∙ sym o.matrix in
-    text_says s text (collected s p.shape p.entries) (record { no_fault = o.fault ∙ none; matrix = matrix })
-
--- a text whose first line is a header and whose body begins with a size has this opening
-pub opens : (s : Arithmetic) (text start rest : List ℕ) (header : Header) (n : ℕ) (size : Size) (line : ℕ) (entries : List ℕ) → 0 < length text → start ≡ text → n ≡ 2 → rest ≡ after_line start
-    → header_fault s (begins_blank (line_at start)) (words (line_at start)) ≡ None → header ≡ header_of (words (line_at start)) → is_shape header.symmetry size.shape ≡ true
-    → body_fault s header (n + length (lines rest)) (kept_from n rest) ≡ entries_fault s header size.shape (line + length (lines entries)) size.count (kept_from line entries)
-    → body_matrix s header (kept_from n rest) ≡ collected s size.shape (given s header (kept_from line entries)) → IsOpening s text header size line entries
-opens s text start rest header n size line entries h e f g k l shape a b = record {
-  shape = shape;
-  fault = body_first s text start rest header n h e f g k l ∙ a;
-  matrix = matrix_first s text start rest header n h e f g l ∙ b;
-}
+    ∙ ap (collected s size.shape) (sym (given_words s header (kept_from line (entries ++ more))))
+    ∙ sym (o.matrix more follows) in
+    text_says s (text ++ more) (collected s p.shape p.entries) (record { no_fault = o.fault more follows ∙ none; matrix = matrix })
 
 -- ---- where a text is parted
 -- a place after a line feed, or at the start

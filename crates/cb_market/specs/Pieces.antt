@@ -1,5 +1,5 @@
 -- What the lines of a piece of a text give, wherever the piece is in the text.
-use Rattle.std.specs.Prelude.{◌≡◌, ℕ, ◌+◌, Bool, true, ◌==◌, List, [], ◌∷◌, ◌++◌, length, flat_map, None}
+use Rattle.std.specs.Prelude.{◌≡◌, ℕ, ◌+◌, ◌⊎◌, Bool, true, ◌==◌, List, [], ◌∷◌, ◌++◌, length, flat_map, None}
 use Rattle.cb_semirings.specs.Arithmetic.{Arithmetic}
 use Rattle.cb_matrix.specs.declared.Entry.{Entry}
 use Rattle.cb_matrix.specs.Sparse.{Extent}
@@ -47,15 +47,19 @@ pub record IsPart (s : Arithmetic) (header : Header) (shape : Extent) (side : �
   pub count : p.lines ≡ length (kept (lines text))
   pub given : AreSamePlaces p.entries (given_in s header (kept (lines text)))
 
+-- More bytes may follow a text and its end: either there are none, or both end with a line.
+abbrev pub MayFollow : List ℕ → List ℕ → List ℕ → Type 0
+MayFollow text end more = (more ≡ []) ⊎ ((is_whole text ≡ true) × (is_whole end ≡ true))
+
 -- The lines after a header, of which the first has the number n, begin with a size: their first fault and what they
--- give are those of the entries, which begin at a line.
+-- give are those of the entries, which begin at a line. It is so whatever follows them.
 pub record IsBody (s : Arithmetic) (header : Header) (n : ℕ) (text : List ℕ) (size : Size) (line : ℕ) (entries : List ℕ) : Type 0 where
-  pub fault : body_fault_from s header n text ≡ entries_fault_from s header size line entries
-  pub matrix : body_matrix_from s header n text ≡ collected s size.shape (given s header (kept_from line entries))
+  pub fault : (more : List ℕ) → MayFollow text entries more → body_fault_from s header n (text ++ more) ≡ entries_fault_from s header size line (entries ++ more)
+  pub matrix : (more : List ℕ) → MayFollow text entries more → body_matrix_from s header n (text ++ more) ≡ collected s size.shape (given s header (kept_from line (entries ++ more)))
 
 -- A text that begins with a header and a size: its first fault is that of its entries, which begin at a line, and its
--- matrix has what they give.
+-- matrix has what they give. It is so whatever follows the text.
 pub record IsOpening (s : Arithmetic) (text : List ℕ) (header : Header) (size : Size) (line : ℕ) (entries : List ℕ) : Type 0 where
   pub shape : is_shape header.symmetry size.shape ≡ true
-  pub fault : first_fault s text ≡ entries_fault_from s header size line entries
-  pub matrix : matrix_in s text ≡ collected s size.shape (given s header (kept_from line entries))
+  pub fault : (more : List ℕ) → MayFollow text entries more → first_fault s (text ++ more) ≡ entries_fault_from s header size line (entries ++ more)
+  pub matrix : (more : List ℕ) → MayFollow text entries more → matrix_in s (text ++ more) ≡ collected s size.shape (given s header (kept_from line (entries ++ more)))

@@ -67,12 +67,13 @@ fn most_given(symmetry: Symmetry) -> usize
     }
 }
 
-/// Returns the number of entries to take room for: as many as are announced, but no more than the rest of the text can
-/// hold. So a short text that announces many entries takes little memory.
-pub fn room_for_entries(header: Header, count: u32, text: &[u8]) -> usize
-    ensures { result ≡ room_of header count (length text.now) }
+/// Returns the number of entries to take room for: as many as are announced, but no more than this many bytes can hold. So a
+/// short text that announces many entries takes little memory.
+pub fn room_for_entries(header: Header, count: u32, bytes: usize) -> usize
+    requires { bytes + 1 < 2 ^ 64 }
+    ensures { result ≡ room_of header count bytes }
 {
-    let lines = (text.len() + 1) / shortest_line(header.field);
+    let lines = (bytes + 1) / shortest_line(header.field);
     most_given(header.symmetry) * lines.min(count as usize)
 }
 

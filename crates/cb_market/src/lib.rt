@@ -21,6 +21,7 @@ mod pieces;
 mod whole_texts;
 
 pub use cb_market_lines::{Field, Header, Kind, ReadFault, Size, Symmetry};
+pub use entries::room_for_entries;
 pub use openings::Opening;
 pub use pieces::{Piece, parted, read_piece};
 pub use whole_texts::{read, read_distributed};

@@ -10,7 +10,7 @@ ghost use Rattle.cb_market_lines.specs.Checks.{is_shape};
 ghost use Rattle.cb_market.specs.Gathered.{AreSamePlaces};
 ghost use Rattle.cb_market.specs.Pieces.{joined, is_whole, AreFaultless, given_in, IsPart};
 
-use crate::entries::{remaining_entries, room_for_entries};
+use crate::entries::remaining_entries;
 use crate::gathered::Gathered;
 use cb_layout::{DistributedMatrix, Grid};
 use cb_market_lines::scanner::Scanner;
@@ -51,22 +51,21 @@ pub fn parted<'a>(text: &'a [u8], place: usize) -> (&'a [u8], &'a [u8])
     (&text[..end], &text[end..])
 }
 
-/// Reads the entries of a piece of a text. It takes room for as many entries as `text` can have: the piece, or a longer
-/// text if other pieces are to be appended. None if a line has a fault, if there are more entries than are announced, or
-/// if memory is refused. The piece is read in one pass. Entries that don't ascend are then sorted, so that the final sort
-/// finds sorted runs.
+/// Reads the entries of a piece of a text. It takes room for `room` entries, which may be more than the piece has if other
+/// pieces are to be appended. None if a line has a fault, if there are more entries than are announced, or if memory is
+/// refused. The piece is read in one pass. Entries that don't ascend are then sorted, so that the final sort finds sorted
+/// runs.
 pub fn read_piece<S: Semiring>(
     alloc: Global,
     grid: Grid,
     header: Header,
     size: Size,
-    text: &[u8],
+    room: usize,
     piece: &[u8],
 ) -> Option<Piece<S>>
     requires { IsTrue (is_shape header.symmetry size.shape) }
     ensures { IfSome result (λ p. IsPart S.arithmetic header size.shape grid.side piece.now p) }
 {
-    let room = room_for_entries(header, size.count, text);
     let Ok(mut entries) = Gathered::start(alloc, grid, size.shape, room) else {
         return None;
     };

@@ -58,7 +58,7 @@ fn after_size<S: Semiring>(
 {
     let refused = scanner.fault(Kind::Memory);
     scanner.next_line();
-    let room = room_for_entries(header, size.count, scanner.rest);
+    let room = room_for_entries(header, size.count, scanner.rest.len());
     let Ok(mut entries) = Gathered::start(alloc, grid, size.shape, room) else {
         return Err(refused);
     };

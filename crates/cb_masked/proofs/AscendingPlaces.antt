@@ -4,7 +4,7 @@ use Rattle.std.specs.Prelude.{All, AllPairs}
 use Rattle.std.proofs.lemmas.Bool.{cases_eq, cases_lt}
 use Rattle.std.proofs.lemmas.List.Elements.{All-get_or, All-from_get_or}
 use Rattle.cb_masked.specs.declared.places.TheConstants.{NONE}
-use Rattle.cb_masked.specs.Places.{AreNoted}
+use Rattle.cb_masked.specs.PlaceTables.{AreNoted}
 
 -- each number has one place
 pub same_place : (xs : List ℕ) (n m : ℕ) → AllPairs (λ a b. a < b) xs → n < length xs → m < length xs → get_or xs n 0 ≡ get_or xs m 0 → n ≡ m

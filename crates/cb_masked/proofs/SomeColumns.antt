@@ -6,7 +6,7 @@ use Rattle.std.proofs.lemmas.List.Elements.{All-take, All-drop}
 use Rattle.std.proofs.lemmas.Slice.{between_to_end}
 use Rattle.cb_matrix.specs.Sparse.{Sparse}
 use Rattle.cb_dcsc.specs.Columns.{in_column, columns_with_entries}
-use Rattle.cb_dcsc.proofs.Numbers.{columns_hold}
+use Rattle.cb_dcsc.proofs.NumbersOfColumns.{columns_hold}
 use Rattle.cb_product.specs.InColumns.{AreInColumns, is_among}
 use Rattle.cb_product.proofs.OnlyColumns.{among_at, only_in, only_column, only_all}
 use Rattle.cb_masked.specs.SomeColumns.{only_places}

@@ -26,7 +26,7 @@ ghost use Rattle.cb_matrix.specs.Values.{product, product_shape, empty_matrix};
 ghost use Rattle.cb_matrix.specs.Operations.{masked};
 ghost use Rattle.cb_dcsc.specs.Columns.{columns_with_entries};
 ghost use Rattle.cb_masked.specs.declared.places.TheConstants.{NONE};
-ghost use Rattle.cb_masked.specs.Places.{AreNoted};
+ghost use Rattle.cb_masked.specs.PlaceTables.{AreNoted};
 ghost use Rattle.cb_masked.specs.SomeColumns.{only_places};
 
 mod outside;

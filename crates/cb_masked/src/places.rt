@@ -3,7 +3,7 @@
 //! The table has a slot for each number below a bound. The slot of a number in the list holds the number's place there,
 //! and all others hold [`NONE`]. Before the table serves another list, only the slots of this list's numbers are cleared.
 ghost use Rattle.std.specs.Prelude.{◌≡◌, ◌≢◌, ℕ, ◌<◌, ◌≤◌, ◌^◌, length, All, AllPairs, IfOk, slice_index};
-ghost use Rattle.cb_masked.specs.Places.{AreNoted};
+ghost use Rattle.cb_masked.specs.PlaceTables.{AreNoted};
 
 use std::alloc::{AllocError, Global};
 

@@ -7,7 +7,7 @@ ghost use Rattle.cb_dcsc.specs.Columns.{row_value, columns_with_entries};
 ghost use Rattle.cb_product.specs.SparseColumn.{one_value};
 ghost use Rattle.cb_product.specs.Terms.{column_sum};
 ghost use Rattle.cb_masked.specs.declared.places.TheConstants.{NONE};
-ghost use Rattle.cb_masked.specs.Places.{AreNoted};
+ghost use Rattle.cb_masked.specs.PlaceTables.{AreNoted};
 ghost use Rattle.cb_masked.specs.RowSums.{AreSums, AddsEach, HaveEach};
 
 use crate::places::{clear, note, place_of};

@@ -50,5 +50,5 @@ job_fault_of (serial_is.Refused refusal) = Refused refusal
 job_fault_of serial_is.Memory = Memory
 
 -- how a call ends that writes the answer of an operation over a semiring
-abbrev pub IsEndOver : {T A : Type 0} → Operation → Arithmetic → List (Vec ℕ A) → Option (List ℕ) → Option (List ℕ) → Bool → Result T JobFault → Type 0
+abbrev pub IsEndOver : {T : Type 0} → Operation → Arithmetic → List (List ℕ) → Option (List ℕ) → Option (List ℕ) → Bool → Result T JobFault → Type 0
 IsEndOver operation s = IsEndOn (IsAnswerOver operation s) (IsFaultOver operation s)

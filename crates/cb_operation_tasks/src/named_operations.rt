@@ -9,6 +9,7 @@ use crate::operation_answers::put_operation;
 use cb_operations::Operation;
 use cb_outcomes::faults::JobFault;
 use cb_outcomes::sinks::Sink;
+use cb_outcomes::texts::Text;
 use cb_semirings::{MaxMin, MinPlus, OrAnd, PlusTimes, SemiringName};
 use std::alloc::Global;
 use std::thread::Threads;
@@ -21,7 +22,7 @@ pub fn execute_distributive_operation<R: Threads + Sync, K: Sink>(
     threads: u32,
     operation: Operation,
     semiring: SemiringName,
-    texts: Vec<Vec<u8>>,
+    texts: Vec<Text>,
     out: &mut K,
 ) -> Result<(), JobFault>
     requires distributive { is_distributive semiring ≡ true }

@@ -3,7 +3,6 @@ ghost use Rattle.std.specs.Prelude.{◌≡◌, ◌≢◌, length, vec_len, false
 ghost use Rattle.cb_operations.specs.Operands.{list_of};
 ghost use Rattle.cb_operations.specs.OperationAnswers.{operand_count_of};
 ghost use Rattle.cb_job_inputs.specs.Inputs.{AreMatrices, IsReadFault};
-ghost use Rattle.cb_outcomes.specs.Texts.{bytes_of};
 ghost use Rattle.cb_operation_tasks.specs.OperationTexts.{IsEndOver, IsFaultOver, IsResultOf};
 
 use crate::alone::compute_alone;
@@ -14,6 +13,7 @@ use cb_layout::{Grid, PanelledMatrix};
 use cb_operations::{Operands, Operation};
 use cb_outcomes::faults::JobFault;
 use cb_outcomes::sinks::Sink;
+use cb_outcomes::texts::Text;
 use cb_semirings::Semiring;
 use std::alloc::Global;
 use std::thread::Threads;
@@ -24,12 +24,12 @@ fn read_operands<S: Semiring + Send + Sync, R: Threads + Sync>(
     alloc: Global,
     threads: u32,
     operation: Operation,
-    texts: Vec<Vec<u8>>,
+    texts: Vec<Text>,
 ) -> Result<Operands<Block<S>>, JobFault>
     requires { vec_len texts ≡ operand_count_of operation }
     ensures count { IfOk result (λ o. operand_count_of operation ≡ length (list_of o)) }
-    ensures ok { IfOk result (λ o. AreMatrices S.arithmetic (bytes_of texts.items) (list_of o)) }
-    ensures fault { IfErr result (IsReadFault S.arithmetic (bytes_of texts.items)) }
+    ensures ok { IfOk result (λ o. AreMatrices S.arithmetic texts.items (list_of o)) }
+    ensures fault { IfErr result (IsReadFault S.arithmetic texts.items) }
 {
     let grid = Grid::single();
     match operation.operand_count() {
@@ -55,11 +55,11 @@ fn result_of<S: Semiring + Send + Sync, R: Threads + Sync>(
     alloc: Global,
     threads: u32,
     operation: Operation,
-    texts: Vec<Vec<u8>>,
+    texts: Vec<Text>,
 ) -> Result<PanelledMatrix<S>, JobFault>
     requires { vec_len texts ≡ operand_count_of operation }
-    ensures ok { IfOk result (IsResultOf operation S.arithmetic (bytes_of texts.items)) }
-    ensures fault { IfErr result (IsFaultOver operation S.arithmetic (bytes_of texts.items)) }
+    ensures ok { IfOk result (IsResultOf operation S.arithmetic texts.items) }
+    ensures fault { IfErr result (IsFaultOver operation S.arithmetic texts.items) }
     ensures unwritten { IfErr result (λ f. f ≢ JobFault.Output) }
 {
     let operands = read_operands::<S, R>(rt, alloc, threads, operation, texts)?;
@@ -79,7 +79,7 @@ pub fn put_operation<S: Semiring + Send + Sync, R: Threads + Sync, K: Sink>(
     alloc: Global,
     threads: u32,
     operation: Operation,
-    texts: Vec<Vec<u8>>,
+    texts: Vec<Text>,
     out: &mut K,
 ) -> Result<(), JobFault>
     requires texts { vec_len texts ≡ operand_count_of operation }

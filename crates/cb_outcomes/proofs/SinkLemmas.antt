@@ -1,5 +1,5 @@
 -- Lemmas on what puts append.
-use Rattle.std.proofs.Common.{◌≡◌, ℕ, ◌+◌, ◌<◌, List, ◌++◌, ◌∷◌, None, Some, Option, refl, ap, sym, ◌∙◌, append_assoc, take, drop, subst, length, get_or, ◌-◌, [], min, arith, append-nil}
+use Rattle.std.proofs.Common.{◌≡◌, ℕ, ◌+◌, List, ◌++◌, None, Some, Option, ap, sym, ◌∙◌, append_assoc, take, drop, subst, length, ◌-◌, [], min, arith, append-nil}
 use Rattle.std.proofs.lemmas.List.{take_rest, take_min, take-append-le}
 use Rattle.std.proofs.Math.Seq.{take-add, take-append-add}
 use Rattle.std.specs.Prelude.{Result, Ok, Err, OnErr}

@@ -1,8 +1,7 @@
 -- How a call that writes a text ends.
-use Rattle.std.specs.Prelude.{ℕ, ◌≡◌, ◌≢◌, ◌⊎◌, List, ◌↔◌, Bool, true, Option, Result, Ok, Err, Vec, OnOk, IfErr, IsErrOf}
+use Rattle.std.specs.Prelude.{ℕ, ◌≡◌, ◌≢◌, ◌⊎◌, List, ◌↔◌, Bool, true, Option, Result, Ok, Err, OnOk, IfErr, IsErrOf}
 use Rattle.cb_outcomes.specs.declared.faults.JobFault.{JobFault}
 use Rattle.cb_outcomes.specs.declared.faults.JobFault.TheVariants.{Memory, Output}
-use Rattle.cb_outcomes.specs.Texts.{bytes_of}
 use Rattle.std.specs.Io.KnownBytes.{Appends, Keeps}
 use Rattle.cb_outcomes.specs.Sinks.{AppendsPrefix}
 
@@ -32,6 +31,6 @@ abbrev pub IsTextEnd : {T : Type 0} → List ℕ → Option (List ℕ) → Optio
 IsTextEnd text = IsEnd (λ t. t ≡ text) IsUnwritten
 
 -- the end of a call on texts, with these answers and these faults
-abbrev pub IsEndOn : {T A : Type 0} → (List (List ℕ) → List ℕ → Type 0) → (List (List ℕ) → JobFault → Type 0) → List (Vec ℕ A)
+abbrev pub IsEndOn : {T : Type 0} → (List (List ℕ) → List ℕ → Type 0) → (List (List ℕ) → JobFault → Type 0) → List (List ℕ)
     → Option (List ℕ) → Option (List ℕ) → Bool → Result T JobFault → Type 0
-IsEndOn answers faults texts = IsEnd (answers (bytes_of texts)) (faults (bytes_of texts))
+IsEndOn answers faults texts = IsEnd (answers texts) (faults texts)

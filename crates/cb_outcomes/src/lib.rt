@@ -8,3 +8,4 @@
 
 pub mod faults;
 pub mod sinks;
+pub mod texts;

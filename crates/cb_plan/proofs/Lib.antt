@@ -9,7 +9,7 @@
 -- PassingActs: acts that pass: `no_fault_next`, the next act if there is no fault; `passes-append` and
 --   `lanes_after-append`, of two lists; `move_is_sound` and `shut_is_sound`, of one act; `passes_check`, acts that
 --   pass and shut each lane have no fault, and conversely `checked_passes` and `checked_shuts`.
--- Faults: `next_element`, the rest of a list from the next element on.
+-- CheckSteps: `next_element`, the rest of a list from the next element on.
 -- Ranges: lists over a range of numbers that grows, by an element (`pushed`) or by a list (`extended`).
 -- Cells: tables: `set_is_table` and `cell_after_set`, one place set; `blank_is_table` and `blank_cell`, one
 --   value everywhere.
@@ -22,7 +22,7 @@ pub mod PassingActs
 pub mod Ranges
 pub mod Cells
 pub mod ActOnStores
-pub mod Faults
+pub mod CheckSteps
 -- The steps of this crate's own proofs. AllOfRange: loops over ranges. ProjectionSteps: a projection. SlotCounts:
 -- slots that are not empty. FittingStores: stores that fit a plan, by their count.
 pub mod AllOfRange

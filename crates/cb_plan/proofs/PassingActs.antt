@@ -12,7 +12,7 @@ use Rattle.cb_plan.specs.Meaning.{State, act, meaning}
 use Rattle.cb_plan.specs.Algebras.{shapes}
 use Rattle.cb_plan.specs.Checks.{Lanes, IsSound, Passes, lanes_after, shut_after, act_fault, fault_from, fault_or, are_all_shut}
 use Rattle.cb_plan.proofs.SoundActs.{is_no_fault, no_fault}
-use Rattle.cb_plan.proofs.Faults.{next_element, fault_here}
+use Rattle.cb_plan.proofs.CheckSteps.{next_element, fault_here}
 
 -- no fault here, and none later
 pub both_none : (n : ℕ) (k : Option PlanFaultKind) (later : Option PlanFault) → fault_or n k later ≡ None → (k ≡ None) × (later ≡ None)

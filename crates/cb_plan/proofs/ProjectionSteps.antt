@@ -9,7 +9,7 @@ use Rattle.cb_plan.specs.Meaning.{act}
 use Rattle.cb_plan.specs.Plans.{CheckedView, IsChecked}
 use Rattle.cb_plan.specs.Checks.{CheckState, IsSound, IsStarted, DidAct, fault_from, shut_after, slots_in, lanes_in}
 use Rattle.cb_plan.specs.Programs.{Projects, half_list, halves_of, project_from}
-use Rattle.cb_plan.proofs.Faults.{next_element, from_start}
+use Rattle.cb_plan.proofs.CheckSteps.{next_element, from_start}
 use Rattle.cb_plan.proofs.PassingActs.{no_fault_next}
 
 -- before the first act of a checked plan, none of its acts has a fault

@@ -6,7 +6,7 @@ use Rattle.std.proofs.lemmas.Bool.Decides.{nat_tests}
 use Rattle.std.proofs.lemmas.Nat.{div-mul-add, mod-mul-add}
 use Rattle.std.proofs.lemmas.List.FromFn.{get_or-map-range_with_len, length-map-range_with_len}
 use Rattle.cb_collectives.specs.Collectives.{is_member, AreDistinct}
-use Rattle.cb_collectives.proofs.Places.{distinct_from_apart}
+use Rattle.cb_collectives.proofs.MemberPlaces.{distinct_from_apart}
 use Rattle.cb_grid.specs.Parts.{row_group, column_group}
 use Rattle.cb_grid.proofs.Parts.{rank_below}
 use Rattle.cb_plan.proofs.Effects.{split}

@@ -4,7 +4,7 @@ use Rattle.std.specs.Prelude.{All, Contains}
 use Rattle.std.proofs.lemmas.List.Elements.{All-weaker}
 use Rattle.cb_matrix.specs.declared.Entry.{Entry}
 use Rattle.cb_dcsc.specs.Columns.{in_column}
-use Rattle.cb_dcsc.proofs.Pieces.{in_column-none}
+use Rattle.cb_dcsc.proofs.ColumnEntries.{in_column-none}
 use Rattle.cb_product.specs.declared.column_index.TheConstants.{NONE}
 use Rattle.cb_product.specs.ColumnStarts.{IsNoted, slot_of}
 use Rattle.cb_product.specs.InColumns.{AreInColumns}

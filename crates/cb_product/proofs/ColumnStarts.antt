@@ -7,7 +7,7 @@ use Rattle.std.proofs.lemmas.List.Elements.{All-nil, All-cons, All-weaker, Conta
 use Rattle.cb_matrix.specs.declared.Entry.{Entry}
 use Rattle.cb_matrix.specs.Sparse.{Sparse, IsBefore}
 use Rattle.cb_dcsc.specs.Columns.{in_column}
-use Rattle.cb_dcsc.proofs.Pieces.{in_column-all, in_column-none}
+use Rattle.cb_dcsc.proofs.ColumnEntries.{in_column-all, in_column-none}
 use Rattle.cb_product.specs.ColumnStarts.{AreColumnStarts}
 
 -- the entries before a place are those in columns before j

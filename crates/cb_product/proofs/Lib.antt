@@ -6,7 +6,7 @@
 --   n-th on, times a factor: `nth_product`, `scaled_value`, `scaled_split`, `scaled_end`.
 -- ColumnSoFar: a column that is built entry by entry, `IsColumnSoFar`: `so_far_start`, `so_far_more`, `so_far_all`; and an
 --   appended entry: `kept_none`, `kept_column`, `kept_sum`, `kept_rows`.
--- RowSums: a column added to dense sums entry by entry: `entry_added`, `all_added`.
+-- DenseRowSums: a column added to dense sums entry by entry: `entry_added`, `all_added`.
 -- StoredColumn: a column stored after all others, `AddsColumn`: `column_adds`, `column_inside`, `none_of_column`.
 -- ColumnsMade: a matrix that is built column by column, `IsMadeTo`: `made_none`, `made_past`, `made_more`, `made_all`; by
 --   an ascending list of columns: `walk_none`, `walk_more`, `walk_all`, `before_column`; and which numbers such a list
@@ -23,7 +23,7 @@
 -- Outside: a column without its entries in excluded rows; `among_none`.
 pub mod RowValues
 pub mod ColumnSoFar
-pub mod RowSums
+pub mod DenseRowSums
 pub mod StoredColumn
 pub mod ColumnsMade
 pub mod ProductColumns

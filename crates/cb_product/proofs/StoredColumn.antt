@@ -11,7 +11,7 @@ use Rattle.cb_matrix.proofs.Places.{is_at-parts, value_at-append_left, value_at-
 use Rattle.cb_dcsc.specs.Columns.{row_value}
 use Rattle.cb_dcsc.specs.Compressed.{entries_in, with_column}
 use Rattle.cb_dcsc.proofs.Lookup.{row_value-found}
-use Rattle.cb_dcsc.proofs.Pieces.{entries_in-columns}
+use Rattle.cb_dcsc.proofs.ColumnEntries.{entries_in-columns}
 use Rattle.cb_product.specs.SparseColumn.{IsSparseColumn}
 
 -- `new` has the values of f in column j, and those of `old` elsewhere

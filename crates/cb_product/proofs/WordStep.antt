@@ -9,7 +9,7 @@ use Rattle.std.proofs.lemmas.List.Elements.{All-set, All-get_or}
 use Rattle.cb_semirings.specs.Arithmetic.{Arithmetic, IsValue, IsSemiring}
 use Rattle.cb_product.specs.SparseColumn.{SparseColumn, value_in, one_value}
 use Rattle.cb_product.proofs.RowValues.{one_value-value}
-use Rattle.cb_product.proofs.RowSums.{moved, zero_stays}
+use Rattle.cb_product.proofs.DenseRowSums.{moved, zero_stays}
 use Rattle.cb_product.proofs.MarkBits.{low_within, without_low, left_bit, gone_bit}
 
 -- while the sums of the n-th word's rows are moved: `rest` marks the rows that are left

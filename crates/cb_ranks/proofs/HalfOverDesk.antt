@@ -32,7 +32,7 @@ use Rattle.cb_rank.proofs.WantedHalf.{wants_take, wants_end}
 use Rattle.cb_ranks.specs.Runs.{course_of}
 use Rattle.cb_ranks.specs.UnderWay.{IsUnderWay, DoesNext}
 use Rattle.cb_ranks.proofs.Courses.{same_course}
-use Rattle.cb_ranks.proofs.Lanes.{lanes_to, lanes_then, lanes_post, lanes_work, lanes_shut, lanes_take, lanes_end}
+use Rattle.cb_ranks.proofs.ShutLanes.{lanes_to, lanes_then, lanes_post, lanes_work, lanes_shut, lanes_take, lanes_end}
 
 -- a desk keeps its rank
 pub same_me : (d e : Desk Sparse) → identity e ≡ identity d → e.me ≡ d.me

@@ -10,7 +10,7 @@
 --
 -- The steps of this crate's own proofs:
 --
--- Lanes: which lanes to a rank are shut before each of its halves.
+-- ShutLanes: which lanes to a rank are shut before each of its halves.
 -- HalfOverDesk: a rank and its desk after each half.
 -- RunSoFar: the loop over a rank's halves.
 -- Results: what a rank leaves in a slot, or posts, agrees with what the plan means.
@@ -25,7 +25,7 @@ pub mod FinishedCrew
 pub mod LoggedEvents
 pub mod CrewSoFar
 pub mod OtherRanks
-pub mod Lanes
+pub mod ShutLanes
 pub mod HalfOverDesk
 pub mod RunSoFar
 pub mod Results

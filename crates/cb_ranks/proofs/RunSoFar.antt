@@ -17,7 +17,7 @@ use Rattle.cb_rank.proofs.LanesByHalves.{take-next}
 use Rattle.cb_ranks.specs.Runs.{course_of, IsNewRun, Runs}
 use Rattle.cb_ranks.specs.UnderWay.{IsUnderWay, DoesNext}
 use Rattle.cb_ranks.proofs.Crews.{none_taken}
-use Rattle.cb_ranks.proofs.Lanes.{lanes-before_next}
+use Rattle.cb_ranks.proofs.ShutLanes.{lanes-before_next}
 
 -- a rank has done a part of its program over its desk, from x and d to y and e
 pub record HasRun (s : Arithmetic) (x : RankView) (d : Desk Sparse) (y : RankView) (e : Desk Sparse) : Type 0 where

@@ -17,8 +17,8 @@ use Rattle.cb_matrix.proofs.Stored.{stored_all, stored_value, value_at-one}
 use Rattle.cb_matrix.proofs.Totals.{total-nil}
 use Rattle.cb_matrix.proofs.Equal.{matrix_is}
 use Rattle.cb_dcsc.specs.Columns.{in_column, values_of, columns_with_entries}
-use Rattle.cb_dcsc.proofs.Pieces.{in_column-none}
-use Rattle.cb_dcsc.proofs.Numbers.{entries_all}
+use Rattle.cb_dcsc.proofs.ColumnEntries.{in_column-none}
+use Rattle.cb_dcsc.proofs.NumbersOfColumns.{entries_all}
 use Rattle.cb_reductions.specs.Sums.{sum_at, with_sum}
 use Rattle.cb_reductions.proofs.StoredSums.{column_total}
 

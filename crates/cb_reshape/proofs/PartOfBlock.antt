@@ -12,8 +12,8 @@ use Rattle.cb_matrix.proofs.Pairs.{AllPairs-nil, AllPairs-cons, AllPairs-head, A
 use Rattle.cb_dcsc.specs.Columns.{in_column, rows_of, values_of, with_front, columns_with_entries, with_entries}
 use Rattle.cb_matrix.specs.Values.{empty_matrix}
 use Rattle.cb_dcsc.specs.Compressed.{entries_in}
-use Rattle.cb_dcsc.proofs.Pieces.{in_column-none, entries_in-column}
-use Rattle.cb_dcsc.proofs.Numbers.{columns_all, entries_all}
+use Rattle.cb_dcsc.proofs.ColumnEntries.{in_column-none, entries_in-column}
+use Rattle.cb_dcsc.proofs.NumbersOfColumns.{columns_all, entries_all}
 use Rattle.cb_reshape.specs.declared.parts.Part.{Part}
 use Rattle.cb_reshape.specs.Moving.{Fits, is_in, moved_entries}
 use Rattle.cb_reshape.proofs.PartOfColumn.{moved_none, moved_append, moved_all, column_below, column_past}

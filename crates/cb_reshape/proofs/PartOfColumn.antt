@@ -9,7 +9,7 @@ use Rattle.cb_matrix.specs.declared.Entry.{Entry}
 use Rattle.cb_matrix.specs.Sparse.{Sparse, IsBefore}
 use Rattle.cb_dcsc.specs.Compressed.{entries_in}
 use Rattle.cb_dcsc.specs.Columns.{with_entry, with_entries}
-use Rattle.cb_dcsc.proofs.Pieces.{length-entries_in}
+use Rattle.cb_dcsc.proofs.ColumnEntries.{length-entries_in}
 use Rattle.cb_reshape.specs.declared.parts.Part.{Part}
 use Rattle.cb_reshape.specs.Moving.{is_in, moved_entry, moved_entries}
 

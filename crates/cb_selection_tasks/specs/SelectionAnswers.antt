@@ -94,5 +94,5 @@ IsSelectionFault (task_is.Assign corner) s = IsAssignedFault corner s
 IsSelectionFault (task_is.Extract lists) s = IsExtractFault lists s
 
 -- how a call ends that writes the answer of such a task over a semiring
-abbrev pub IsSelectionEnd : {T A : Type 0} → SelectionTask → Arithmetic → List (Vec ℕ A) → Option (List ℕ) → Option (List ℕ) → Bool → Result T JobFault → Type 0
+abbrev pub IsSelectionEnd : {T : Type 0} → SelectionTask → Arithmetic → List (List ℕ) → Option (List ℕ) → Option (List ℕ) → Bool → Result T JobFault → Type 0
 IsSelectionEnd task s = IsEndOn (IsSelectionAnswer task s) (IsSelectionFault task s)

@@ -1,7 +1,6 @@
 //! The matrix of a text with that of another in place of a part. The caller's thread makes it.
 ghost use Rattle.std.specs.Prelude.{◌≡◌, ◌≢◌, ◌↔◌, vec_len, false, IsTrue, IfOk, IfErr, OnOk};
 ghost use Rattle.cb_selections.specs.Selections.{assigned};
-ghost use Rattle.cb_outcomes.specs.Texts.{bytes_of};
 ghost use Rattle.cb_selection_tasks.specs.Assignments.{FitsAt, IsAssignedFault, IsAssignedOf, IsPartFault, IsPartRefusal};
 ghost use Rattle.cb_selection_tasks.specs.SelectionAnswers.{IsSelectionEnd};
 ghost use Rattle.cb_words.specs.declared.tasks.SelectionTask.TheVariants as task_is;
@@ -13,6 +12,7 @@ use cb_layout::PanelledMatrix;
 use cb_matrix::Shape;
 use cb_outcomes::faults::{JobFault, SelectionRefusal};
 use cb_outcomes::sinks::Sink;
+use cb_outcomes::texts::Text;
 use cb_selections::assign;
 use cb_semirings::Semiring;
 use std::alloc::Global;
@@ -61,11 +61,11 @@ fn assigned_matrix<S: Semiring + Send + Sync, R: Threads + Sync>(
     alloc: Global,
     threads: u32,
     corner: (u32, u32),
-    texts: Vec<Vec<u8>>,
+    texts: Vec<Text>,
 ) -> Result<PanelledMatrix<S>, JobFault>
     requires { vec_len texts ≡ 2 }
-    ensures ok { IfOk result (IsAssignedOf corner S.arithmetic (bytes_of texts.items)) }
-    ensures fault { IfErr result (IsAssignedFault corner S.arithmetic (bytes_of texts.items)) }
+    ensures ok { IfOk result (IsAssignedOf corner S.arithmetic texts.items) }
+    ensures fault { IfErr result (IsAssignedFault corner S.arithmetic texts.items) }
     ensures unwritten { IfErr result (λ f. f ≢ JobFault.Output) }
 {
     let (whole, part) = read_pair::<S, S, R>(rt, alloc, threads, texts)?;
@@ -78,7 +78,7 @@ pub fn put_assigned<S: Semiring + Send + Sync, R: Threads + Sync, K: Sink>(
     alloc: Global,
     threads: u32,
     corner: (u32, u32),
-    texts: Vec<Vec<u8>>,
+    texts: Vec<Text>,
     out: &mut K,
 ) -> Result<(), JobFault>
     requires texts { vec_len texts ≡ 2 }

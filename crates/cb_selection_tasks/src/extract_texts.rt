@@ -3,7 +3,6 @@ ghost use Rattle.std.specs.Prelude.{◌≡◌, ◌≢◌, ◌+◌, vec_len, fals
 ghost use Rattle.cb_selections.specs.Selections.{rows_by, columns_by};
 ghost use Rattle.cb_words.specs.Jobs.{list_count_of};
 ghost use Rattle.cb_words.specs.declared.lists.Lists.TheVariants as lists_are;
-ghost use Rattle.cb_outcomes.specs.Texts.{bytes_of};
 ghost use Rattle.cb_job_inputs.specs.Lists.{IsList, numbers_in};
 ghost use Rattle.cb_outcomes.specs.declared.faults.SelectionRefusal.TheVariants.{NoRow, NoColumn};
 ghost use Rattle.cb_selection_tasks.specs.Extracts.{AreLists, AreListsFault, AreListsRefused, IsExtractFault, IsExtractOf, IsPartOf, IsListFault};
@@ -20,6 +19,7 @@ use cb_layout::PanelledMatrix;
 use cb_matrix::Shape;
 use cb_outcomes::faults::{JobFault, SelectionRefusal};
 use cb_outcomes::sinks::Sink;
+use cb_outcomes::texts::Text;
 use cb_selections::{extract, extract_columns, extract_rows};
 use cb_semirings::{PlusTimes, Semiring};
 use cb_words::Lists;
@@ -99,11 +99,11 @@ fn some_rows<S: Semiring + Send + Sync, R: Threads + Sync>(
     rt: &R,
     alloc: Global,
     threads: u32,
-    texts: Vec<Vec<u8>>,
+    texts: Vec<Text>,
 ) -> Result<PanelledMatrix<S>, JobFault>
     requires { vec_len texts ≡ 2 }
-    ensures ok { IfOk result (IsExtractOf lists_are.Rows S.arithmetic (bytes_of texts.items)) }
-    ensures fault { IfErr result (IsExtractFault lists_are.Rows S.arithmetic (bytes_of texts.items)) }
+    ensures ok { IfOk result (IsExtractOf lists_are.Rows S.arithmetic texts.items) }
+    ensures fault { IfErr result (IsExtractFault lists_are.Rows S.arithmetic texts.items) }
     ensures unwritten { IfErr result (λ f. f ≢ JobFault.Output) }
 {
     let (matrix, rows) = read_pair::<S, PlusTimes, R>(rt, alloc, threads, texts)?;
@@ -115,11 +115,11 @@ fn some_columns<S: Semiring + Send + Sync, R: Threads + Sync>(
     rt: &R,
     alloc: Global,
     threads: u32,
-    texts: Vec<Vec<u8>>,
+    texts: Vec<Text>,
 ) -> Result<PanelledMatrix<S>, JobFault>
     requires { vec_len texts ≡ 2 }
-    ensures ok { IfOk result (IsExtractOf lists_are.Columns S.arithmetic (bytes_of texts.items)) }
-    ensures fault { IfErr result (IsExtractFault lists_are.Columns S.arithmetic (bytes_of texts.items)) }
+    ensures ok { IfOk result (IsExtractOf lists_are.Columns S.arithmetic texts.items) }
+    ensures fault { IfErr result (IsExtractFault lists_are.Columns S.arithmetic texts.items) }
     ensures unwritten { IfErr result (λ f. f ≢ JobFault.Output) }
 {
     let (matrix, columns) = read_pair::<S, PlusTimes, R>(rt, alloc, threads, texts)?;
@@ -131,11 +131,11 @@ fn some_part<S: Semiring + Send + Sync, R: Threads + Sync>(
     rt: &R,
     alloc: Global,
     threads: u32,
-    texts: Vec<Vec<u8>>,
+    texts: Vec<Text>,
 ) -> Result<PanelledMatrix<S>, JobFault>
     requires { vec_len texts ≡ 3 }
-    ensures ok { IfOk result (IsExtractOf lists_are.Both S.arithmetic (bytes_of texts.items)) }
-    ensures fault { IfErr result (IsExtractFault lists_are.Both S.arithmetic (bytes_of texts.items)) }
+    ensures ok { IfOk result (IsExtractOf lists_are.Both S.arithmetic texts.items) }
+    ensures fault { IfErr result (IsExtractFault lists_are.Both S.arithmetic texts.items) }
     ensures unwritten { IfErr result (λ f. f ≢ JobFault.Output) }
 {
     let (matrix, rows, columns) = read_with_lists::<S, R>(rt, alloc, threads, texts)?;
@@ -148,11 +148,11 @@ fn extract_matrix<S: Semiring + Send + Sync, R: Threads + Sync>(
     alloc: Global,
     threads: u32,
     lists: Lists,
-    texts: Vec<Vec<u8>>,
+    texts: Vec<Text>,
 ) -> Result<PanelledMatrix<S>, JobFault>
     requires { vec_len texts ≡ 1 + list_count_of lists }
-    ensures ok { IfOk result (IsExtractOf lists S.arithmetic (bytes_of texts.items)) }
-    ensures fault { IfErr result (IsExtractFault lists S.arithmetic (bytes_of texts.items)) }
+    ensures ok { IfOk result (IsExtractOf lists S.arithmetic texts.items) }
+    ensures fault { IfErr result (IsExtractFault lists S.arithmetic texts.items) }
     ensures unwritten { IfErr result (λ f. f ≢ JobFault.Output) }
 {
     match lists {
@@ -168,7 +168,7 @@ pub fn put_extract<S: Semiring + Send + Sync, R: Threads + Sync, K: Sink>(
     alloc: Global,
     threads: u32,
     lists: Lists,
-    texts: Vec<Vec<u8>>,
+    texts: Vec<Text>,
     out: &mut K,
 ) -> Result<(), JobFault>
     requires texts { vec_len texts ≡ 1 + list_count_of lists }

@@ -2,13 +2,13 @@
 ghost use Rattle.std.specs.Prelude.{◌≡◌, vec_len, IfOk, IfErr};
 ghost use Rattle.cb_semirings.specs.Tables.{plus_times};
 ghost use Rattle.cb_job_inputs.specs.Inputs.{IsFirstReadFault, arithmetic_at};
-ghost use Rattle.cb_outcomes.specs.Texts.{bytes_of};
 ghost use Rattle.cb_selection_tasks.specs.Extracts.{AreWithLists};
 
 use cb_dcsc::Block;
 use cb_job_inputs::inputs::read_triple;
 use cb_layout::Grid;
 use cb_outcomes::faults::JobFault;
+use cb_outcomes::texts::Text;
 use cb_semirings::{PlusTimes, Semiring};
 use std::alloc::Global;
 use std::thread::Threads;
@@ -18,11 +18,11 @@ pub fn read_with_lists<S: Semiring + Send + Sync, R: Threads + Sync>(
     rt: &R,
     alloc: Global,
     threads: u32,
-    texts: Vec<Vec<u8>>,
+    texts: Vec<Text>,
 ) -> Result<(Block<S>, Block<PlusTimes>, Block<PlusTimes>), JobFault>
     requires { vec_len texts ≡ 3 }
-    ensures ok { IfOk result (λ p. AreWithLists S.arithmetic (bytes_of texts.items) p.0 p.1 p.2) }
-    ensures fault { IfErr result (IsFirstReadFault (arithmetic_at S.arithmetic plus_times) (bytes_of texts.items)) }
+    ensures ok { IfOk result (λ p. AreWithLists S.arithmetic texts.items p.0 p.1 p.2) }
+    ensures fault { IfErr result (IsFirstReadFault (arithmetic_at S.arithmetic plus_times) texts.items) }
 {
     let grid = Grid::single();
     let (matrix, rows, columns) = read_triple::<S, PlusTimes, R>(rt, alloc, &grid, threads, texts)?;

@@ -9,6 +9,7 @@ use crate::extract_texts::put_extract;
 use crate::selection_answers::{put_kronecker, put_selected};
 use cb_outcomes::faults::JobFault;
 use cb_outcomes::sinks::Sink;
+use cb_outcomes::texts::Text;
 use cb_semirings::{MaxMin, MinPlus, OrAnd, PlusTimes, Semiring, SemiringName, over_semiring};
 use cb_words::SelectionTask;
 use std::alloc::Global;
@@ -20,7 +21,7 @@ fn put_selection<S: Semiring + Send + Sync, R: Threads + Sync, K: Sink>(
     alloc: Global,
     threads: u32,
     task: SelectionTask,
-    texts: Vec<Vec<u8>>,
+    texts: Vec<Text>,
     out: &mut K,
 ) -> Result<(), JobFault>
     requires texts { vec_len texts ≡ selection_file_count_of task }
@@ -55,7 +56,7 @@ pub fn execute_selection<R: Threads + Sync, K: Sink>(
     threads: u32,
     task: SelectionTask,
     semiring: SemiringName,
-    texts: Vec<Vec<u8>>,
+    texts: Vec<Text>,
     out: &mut K,
 ) -> Result<(), JobFault>
     requires texts { vec_len texts ≡ selection_file_count_of task }
@@ -76,7 +77,7 @@ pub fn execute_distributive_selection<R: Threads + Sync, K: Sink>(
     threads: u32,
     task: SelectionTask,
     semiring: SemiringName,
-    texts: Vec<Vec<u8>>,
+    texts: Vec<Text>,
     out: &mut K,
 ) -> Result<(), JobFault>
     requires distributive { is_distributive semiring ≡ true }

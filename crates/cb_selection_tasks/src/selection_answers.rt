@@ -1,7 +1,6 @@
 //! Selections and Kronecker products of the matrices of texts, which the caller's thread computes.
 ghost use Rattle.std.specs.Prelude.{◌≡◌, ◌≢◌, vec_len, false, IfOk, IfErr};
 ghost use Rattle.cb_selections.specs.Selections.{kronecker};
-ghost use Rattle.cb_outcomes.specs.Texts.{bytes_of};
 ghost use Rattle.cb_selection_tasks.specs.SelectionAnswers.{IsKroneckerFault, IsKroneckerOf, IsProductFault, IsSelectedFault, IsSelectedOf, IsSelectionEnd};
 ghost use Rattle.cb_selection_tasks.specs.Selected.{Fits, FitsInShape, selection_of};
 ghost use Rattle.cb_words.specs.declared.tasks.SelectionTask.TheVariants as task_is;
@@ -13,6 +12,7 @@ use cb_job_output::output::put_matrix;
 use cb_layout::{Grid, PanelledMatrix};
 use cb_outcomes::faults::JobFault;
 use cb_outcomes::sinks::Sink;
+use cb_outcomes::texts::Text;
 use cb_selections::{apply, diagonal, diagonal_matrix, kronecker, power, select};
 use cb_semirings::Semiring;
 use cb_words::Selection;
@@ -47,11 +47,11 @@ fn selected_matrix<S: Semiring + Send + Sync, R: Threads + Sync>(
     alloc: Global,
     threads: u32,
     selection: Selection,
-    texts: Vec<Vec<u8>>,
+    texts: Vec<Text>,
 ) -> Result<PanelledMatrix<S>, JobFault>
     requires { vec_len texts ≡ 1 }
-    ensures ok { IfOk result (IsSelectedOf selection S.arithmetic (bytes_of texts.items)) }
-    ensures fault { IfErr result (IsSelectedFault selection S.arithmetic (bytes_of texts.items)) }
+    ensures ok { IfOk result (IsSelectedOf selection S.arithmetic texts.items) }
+    ensures fault { IfErr result (IsSelectedFault selection S.arithmetic texts.items) }
     ensures unwritten { IfErr result (λ f. f ≢ JobFault.Output) }
 {
     let matrix = read_one::<S, R>(rt, alloc, &Grid::single(), threads, texts)?;
@@ -81,11 +81,11 @@ fn kronecker_matrix<S: Semiring + Send + Sync, R: Threads + Sync>(
     rt: &R,
     alloc: Global,
     threads: u32,
-    texts: Vec<Vec<u8>>,
+    texts: Vec<Text>,
 ) -> Result<PanelledMatrix<S>, JobFault>
     requires { vec_len texts ≡ 2 }
-    ensures ok { IfOk result (IsKroneckerOf S.arithmetic (bytes_of texts.items)) }
-    ensures fault { IfErr result (IsKroneckerFault S.arithmetic (bytes_of texts.items)) }
+    ensures ok { IfOk result (IsKroneckerOf S.arithmetic texts.items) }
+    ensures fault { IfErr result (IsKroneckerFault S.arithmetic texts.items) }
     ensures unwritten { IfErr result (λ f. f ≢ JobFault.Output) }
 {
     let (left, right) = read_two::<S, R>(rt, alloc, &Grid::single(), threads, texts)?;
@@ -100,7 +100,7 @@ pub fn put_selected<S: Semiring + Send + Sync, R: Threads + Sync, K: Sink>(
     alloc: Global,
     threads: u32,
     selection: Selection,
-    texts: Vec<Vec<u8>>,
+    texts: Vec<Text>,
     out: &mut K,
 ) -> Result<(), JobFault>
     requires texts { vec_len texts ≡ 1 }
@@ -116,7 +116,7 @@ pub fn put_kronecker<S: Semiring + Send + Sync, R: Threads + Sync, K: Sink>(
     rt: &R,
     alloc: Global,
     threads: u32,
-    texts: Vec<Vec<u8>>,
+    texts: Vec<Text>,
     out: &mut K,
 ) -> Result<(), JobFault>
     requires texts { vec_len texts ≡ 2 }

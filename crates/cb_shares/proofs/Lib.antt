@@ -7,8 +7,8 @@
 --   others are a matrix with these, `before_matrix`.
 pub mod Ranges
 pub mod Neighbours
--- For this crate alone. Places: where the columns of a range are among those that have entries. ColumnValues: products with
--- some columns are some columns of products. Ends: where ranges end.
-mod Places
+-- For this crate alone. ColumnPlaces: where the columns of a range are among those that have entries. ColumnValues:
+-- products with some columns are some columns of products. Ends: where ranges end.
+mod ColumnPlaces
 mod ColumnValues
 mod Ends

@@ -9,7 +9,7 @@ use Rattle.cb_matrix.specs.Sparse.{Sparse, Extent, IsMatrix, IsBefore}
 use Rattle.cb_matrix.proofs.Pairs.{AllPairs-head, AllPairs-tail}
 use Rattle.cb_dcsc.specs.Columns.{columns_with_entries, with_entries}
 use Rattle.cb_dcsc.proofs.Appended.{matrix_append}
-use Rattle.cb_dcsc.proofs.Numbers.{entries_all}
+use Rattle.cb_dcsc.proofs.NumbersOfColumns.{entries_all}
 use Rattle.cb_product.specs.InColumns.{is_among}
 use Rattle.cb_shares.specs.Shares.{columns_from, panel, AreBefore, JoinsPanels}
 use Rattle.cb_shares.proofs.Ranges.{range_holds, range_has, same_answer, kept_same, all_columns}

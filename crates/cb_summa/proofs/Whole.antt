@@ -14,7 +14,7 @@ use Rattle.cb_plan_parts.specs.PlanParts.{each_rank}
 use Rattle.cb_plan_parts.proofs.Everywhere.{each_here}
 use Rattle.cb_summa.specs.Summa.{product_acts, summa_acts, summa_masked_acts, mask_op, MakesProduct, MakesMaskedProduct, IsProductPlan, IsMaskedPlan, result_shape}
 use Rattle.cb_summa.proofs.Stages.{after_products, products_leave}
-use Rattle.cb_summa.proofs.Parts.{stages_make_product}
+use Rattle.cb_summa.proofs.ProductParts.{stages_make_product}
 use Rattle.cb_summa.proofs.Masks.{masked_blocks}
 
 module _ (s : Arithmetic) (laws : IsSemiring s) (q : ℕ) (pos : 0 < q) (a b : Sparse) (is_a : IsMatrix s a) (is_b : IsMatrix s b) (agree : a.shape.cols ≡ b.shape.rows) where

@@ -1,9 +1,10 @@
-//! Texts read in pieces of one line or several.
+//! Texts read in pieces of one line or several, and texts that were loaded in parts.
 use cb_dcsc::Block;
 use cb_job_inputs::reading::{Pieces, read_in_pieces, read_side_by_side};
 use cb_layout::{DistributedMatrix, Grid};
-use cb_market::{Kind, ReadFault, read};
+use cb_market::{Kind, ReadFault, parted, read};
 use cb_market_pages::text;
+use cb_outcomes::texts::Text;
 use cb_semirings::PlusTimes;
 use std::alloc::{AllocError, Global};
 use std::thread::Threads;
@@ -17,6 +18,30 @@ fn short(most: u32) -> Pieces {
         most,
         least_bytes: 1,
     }
+}
+
+/// These bytes as a text in one part.
+fn whole(alloc: Global, given: &[u8]) -> Option<Text> {
+    let bytes = Vec::from_slice(alloc, given).ok()?;
+    Some(Text::whole(alloc, bytes))
+}
+
+/// These bytes as a text in this many parts, at least two. Each but the last ends with a line.
+fn in_parts(alloc: Global, count: u32, given: &[u8]) -> Option<Text> {
+    let mut first = Vec::with_capacity(alloc, given.len()).ok()?;
+    let mut rest = Vec::new(alloc);
+    let mut left = given;
+    for after in (1..count).rev() {
+        let (part, others) = parted(left, left.len() / (after as usize + 1));
+        if after + 1 == count {
+            first.extend_from_slice(part).ok()?;
+        } else {
+            rest.push(Vec::from_slice(alloc, part).ok()?).ok()?;
+        }
+        left = others;
+    }
+    rest.push(Vec::from_slice(alloc, left).ok()?).ok()?;
+    Text::of_parts(first, rest)
 }
 
 /// The text of a matrix over a grid.
@@ -34,18 +59,18 @@ fn on_one_thread(alloc: Global, given: &[u8]) -> Option<Vec<u8>> {
     text(alloc, &matrix).ok()
 }
 
-/// Reads a text in this many pieces over a grid of this side, and writes the matrix again.
+/// Reads a text in at most this many pieces, or in its parts, over a grid of this side, and writes the matrix again.
 fn in_pieces<R: Threads + Sync>(
     rt: &R,
     alloc: Global,
     side: u32,
     most: u32,
-    given: &[u8],
+    given: Option<Text>,
 ) -> Option<Vec<u8>> {
     let Ok(grid) = Grid::new(side) else {
         return None;
     };
-    let Some(matrix) = read_in_pieces::<PlusTimes, R>(rt, alloc, &grid, short(most), given) else {
+    let Some(matrix) = read_in_pieces::<PlusTimes, R>(rt, alloc, &grid, short(most), &given?) else {
         return None;
     };
     written(alloc, &matrix)
@@ -58,10 +83,24 @@ fn is_read_in_pieces<R: Threads + Sync>(rt: &R, alloc: Global, given: &[u8]) -> 
     };
     for side in [1, 2, 5] {
         for most in COUNTS {
-            match in_pieces(rt, alloc, side, most, given) {
+            match in_pieces(rt, alloc, side, most, whole(alloc, given)) {
                 Some(bytes) if bytes.as_slice() == wanted.as_slice() => {}
                 _ => return false,
             }
+        }
+    }
+    true
+}
+
+/// Whether a text is read as loaded in parts, without being cut, with the same result as on one thread.
+fn is_read_in_parts<R: Threads + Sync>(rt: &R, alloc: Global, given: &[u8]) -> bool {
+    let Some(wanted) = on_one_thread(alloc, given) else {
+        return false;
+    };
+    for count in COUNTS {
+        match in_pieces(rt, alloc, 2, 1, in_parts(alloc, count, given)) {
+            Some(bytes) if bytes.as_slice() == wanted.as_slice() => {}
+            _ => return false,
         }
     }
     true
@@ -120,14 +159,14 @@ fn long_text(alloc: Global, step: u32) -> Result<Vec<u8>, AllocError> {
     Ok(text)
 }
 
-/// Whether a long text is read in pieces.
+/// Whether a long text is read in pieces, and in parts.
 fn is_long_text_read<R: Threads + Sync>(
     rt: &R,
     alloc: Global,
     step: u32,
 ) -> Result<bool, AllocError> {
     let given = long_text(alloc, step)?;
-    Ok(is_read_in_pieces(rt, alloc, &given))
+    Ok(is_read_in_pieces(rt, alloc, &given) && is_read_in_parts(rt, alloc, &given))
 }
 
 /// Entries that ascend, and entries that start over in the same column.
@@ -138,12 +177,17 @@ fn may_be_long(rt: HostRuntime) {
     }
 }
 
-/// The line and the kind of the first fault of a text that is read in this many pieces.
-fn fault<R: Threads + Sync>(rt: &R, alloc: Global, most: u32, given: &[u8]) -> Option<(u64, Kind)> {
+/// The line and the kind of the first fault of a text that is read in at most this many pieces, or in its parts.
+fn fault<R: Threads + Sync>(
+    rt: &R,
+    alloc: Global,
+    most: u32,
+    given: Option<Text>,
+) -> Option<(u64, Kind)> {
     let Ok(grid) = Grid::new(2) else {
         return None;
     };
-    match read_side_by_side::<PlusTimes, R>(rt, alloc, &grid, short(most), given) {
+    match read_side_by_side::<PlusTimes, R>(rt, alloc, &grid, short(most), given?) {
         Ok(_) => None,
         Err(ReadFault { line, kind }) => Some((line, kind)),
     }
@@ -184,11 +228,14 @@ const FAULTS: &[(&[u8], u64, Kind)] = &[
     ),
 ];
 
-/// Whether each text has its fault, in as many pieces as are tried.
+/// Whether each text has its fault, in as many pieces and in as many parts as are tried.
 fn have_faults<R: Threads + Sync>(rt: &R, alloc: Global, rows: &[(&[u8], u64, Kind)]) -> bool {
     for (given, line, kind) in rows {
         for most in COUNTS {
-            if fault(rt, alloc, most, given) != Some((*line, *kind)) {
+            let wanted = Some((*line, *kind));
+            if fault(rt, alloc, most, whole(alloc, given)) != wanted
+                || fault(rt, alloc, 1, in_parts(alloc, most, given)) != wanted
+            {
                 return false;
             }
         }
@@ -201,10 +248,15 @@ fn have_their_first_fault(rt: HostRuntime) {
     assert!(&rt; have_faults(&rt, rt.alloc(), FAULTS));
 }
 
-/// Whether a text is read correctly in three pieces, or memory is refused.
-fn right_or_memory<R: Threads + Sync>(rt: &R, alloc: Global, given: &[u8], wanted: &[u8]) -> bool {
-    let Ok(grid) = Grid::new(2) else {
-        return false;
+/// Whether a text is read correctly in three pieces or in its parts, or memory is refused.
+fn right_or_memory<R: Threads + Sync>(
+    rt: &R,
+    alloc: Global,
+    given: Option<Text>,
+    wanted: &[u8],
+) -> bool {
+    let (Ok(grid), Some(given)) = (Grid::new(2), given) else {
+        return true;
     };
     match read_side_by_side::<PlusTimes, R>(rt, alloc, &grid, short(3), given) {
         Ok(matrix) => match written(alloc, &matrix) {
@@ -219,7 +271,9 @@ fn right_or_memory<R: Threads + Sync>(rt: &R, alloc: Global, given: &[u8], wante
 #[test]
 fn are_refused_or_read(rt: HostRuntime) {
     let sorted = b"%%MatrixMarket matrix coordinate integer general\n2 2 3\n1 1 1\n1 2 2\n2 2 3\n";
-    assert!(&rt; right_or_memory(&rt, rt.alloc(), sorted, sorted));
+    assert!(&rt; right_or_memory(&rt, rt.alloc(), whole(rt.alloc(), sorted), sorted));
+    assert!(&rt; right_or_memory(&rt, rt.alloc(), in_parts(rt.alloc(), 2, sorted), sorted));
     let mixed = b"%%MatrixMarket matrix coordinate integer general\n2 2 3\n1 1 1\n2 2 3\n1 2 2\n";
-    assert!(&rt; right_or_memory(&rt, rt.alloc(), mixed, sorted));
+    assert!(&rt; right_or_memory(&rt, rt.alloc(), whole(rt.alloc(), mixed), sorted));
+    assert!(&rt; right_or_memory(&rt, rt.alloc(), in_parts(rt.alloc(), 2, mixed), sorted));
 }

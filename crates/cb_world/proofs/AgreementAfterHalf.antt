@@ -24,7 +24,7 @@ use Rattle.cb_rank.proofs.OwnActs.{meaning-next, letters-next}
 use Rattle.cb_rank.proofs.ByOperation.{AllSome}
 use Rattle.cb_rank.proofs.Halves.{is_post, is_take, is_work, is_shut, is_end, copied, arrived_slot, some_by_shape, all_some, worked}
 use Rattle.cb_rank.proofs.NextAct.{act_of_half, next_sound, apart_of, apart_of_shut, not_true}
-use Rattle.cb_world.proofs.Lanes.{slot_later, lane_still, lane_posts, lane_takes}
+use Rattle.cb_world.proofs.LaneAfterHalf.{slot_later, lane_still, lane_posts, lane_takes}
 use Rattle.cb_world.proofs.SystemHalf.{Did, Moves}
 
 -- what a rank has posted or taken is a prefix of the letters of the lane

@@ -5,7 +5,7 @@ use Rattle.std.proofs.lemmas.Bool.Decides.{nat_tests}
 use Rattle.std.proofs.lemmas.List.{get_or_past}
 use Rattle.cb_semirings.specs.Arithmetic.{Arithmetic}
 use Rattle.cb_letters.specs.Lane.{Lane, IsLane, new_lane}
-use Rattle.cb_letters.proofs.Lanes.{IsLane-new}
+use Rattle.cb_letters.proofs.LaneLetters.{IsLane-new}
 use Rattle.cb_matrix.specs.Sparse.{Sparse}
 use Rattle.cb_plan.specs.declared.stores.Slot.{Slot}
 use Rattle.cb_plan.specs.declared.stores.Slot.TheVariants as slot_is

@@ -16,7 +16,7 @@ pub mod FirstState
 pub mod NewWorlds
 -- The steps of this crate's own proofs.
 --
--- Lanes: one lane at a post, at a take, and at a step elsewhere.
+-- LaneAfterHalf: one lane at a post, at a take, and at a step elsewhere.
 -- SystemHalf: one half of one rank, as a running system sees it.
 -- AgreementAfterHalf: one half of one rank preserves the agreement of the whole system.
 -- Progress: if some rank isn't done, some rank can act, by the acts of the plan alone.
@@ -29,7 +29,7 @@ pub mod NewWorlds
 -- NewRanks: the ranks of a new world, made from their stores, the last first.
 -- LaneNeeds: what a rank's next half needs of its lanes; a step as `World::step` leaves it.
 -- LaneCalls: a run calls mailboxes, and what becomes of the letters in each.
-pub mod Lanes
+pub mod LaneAfterHalf
 pub mod SystemHalf
 pub mod AgreementAfterHalf
 pub mod Progress

@@ -31,7 +31,7 @@ use Rattle.cb_rank.proofs.OwnActs.{letters-next}
 use Rattle.cb_rank.proofs.Halves.{is_post, is_take, is_work, is_shut, is_end}
 use Rattle.cb_rank.proofs.NextAct.{act_of_half, next_sound, apart_of, apart_of_shut, both_below, not_true}
 use Rattle.cb_world.specs.Worlds.{WorldView, IsWorld, HasRank, rank_of, next_of, lane_between, system_of}
-use Rattle.cb_world.proofs.Lanes.{first_waiting}
+use Rattle.cb_world.proofs.LaneAfterHalf.{first_waiting}
 use Rattle.cb_world.proofs.AgreementAfterHalf.{letters_begin, letters_unmarked, unmarked}
 
 -- a rank's program is the plan's

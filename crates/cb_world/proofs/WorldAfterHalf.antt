@@ -13,7 +13,7 @@ use Rattle.cb_letters.specs.declared.Body.{Body}
 use Rattle.cb_letters.specs.declared.Body.TheVariants as body_is
 use Rattle.cb_letters.specs.Letters.{mark_tag}
 use Rattle.cb_letters.specs.Lane.{Lane, IsLane, append, after_take}
-use Rattle.cb_letters.proofs.Lanes.{IsLane-append, IsLane-take}
+use Rattle.cb_letters.proofs.LaneLetters.{IsLane-append, IsLane-take}
 use Rattle.cb_mailbox.specs.Inbox.{Inbox}
 use Rattle.cb_plan.specs.declared.acts.Op.{Op}
 use Rattle.cb_plan.specs.declared.acts.Half.{Half}

@@ -4,8 +4,9 @@
 
 use cb_cli::program::Cbgrid;
 use cb_endings::endings::Status;
+use cb_endings::files::SystemFiles;
 use cb_endings::system_runs::run_on_system;
 
 fn main(rt: HostRuntime) -> Status {
-    run_on_system::<Cbgrid, _, _>(&rt, rt.stderr())
+    run_on_system::<Cbgrid, _, _, _>(&rt, &SystemFiles::new(&rt), rt.stderr())
 }

@@ -8,10 +8,12 @@ ghost use Rattle.cbgrid_graphs.specs.GraphJobs.{Asks, IsJobAnswer, IsJobFault};
 
 use cb_endings::endings::Status;
 use cb_endings::runs::Program;
+use cb_endings::files::SystemFiles;
 use cb_endings::system_runs::run_on_system;
 use cb_graph_tasks::graph_tasks::execute_graph_task;
 use cb_outcomes::faults::JobFault;
 use cb_outcomes::sinks::Sink;
+use cb_outcomes::texts::Text;
 use cb_words::{EngineName, GraphTask, Job, Task};
 use std::alloc::Global;
 use std::thread::Threads;
@@ -39,7 +41,7 @@ impl<R: Threads + Sync> Program<R> for Graphs {
         rt: &R,
         alloc: Global,
         job: &Job,
-        texts: Vec<Vec<u8>>,
+        texts: Vec<Text>,
         out: &mut K,
     ) -> Result<(), JobFault> {
         match graph_task_of(job) {
@@ -50,5 +52,5 @@ impl<R: Threads + Sync> Program<R> for Graphs {
 }
 
 fn main(rt: HostRuntime) -> Status {
-    run_on_system::<Graphs, _, _>(&rt, rt.stderr())
+    run_on_system::<Graphs, _, _, _>(&rt, &SystemFiles::new(&rt), rt.stderr())
 }

@@ -6,12 +6,14 @@ ghost use Rattle.std.specs.Prelude.{◌≡◌, IfSome, None};
 ghost use Rattle.cbgrid_operations.specs.OperationJobs.{Asks, Done, IsJobAnswer, IsJobFault};
 
 use cb_endings::endings::Status;
+use cb_endings::files::SystemFiles;
 use cb_endings::runs::Program;
 use cb_endings::system_runs::run_on_system;
 use cb_operation_tasks::named_operations::execute_distributive_operation;
 use cb_operations::Operation;
 use cb_outcomes::faults::JobFault;
 use cb_outcomes::sinks::Sink;
+use cb_outcomes::texts::Text;
 use cb_semirings::SemiringName;
 use cb_words::{EngineName, Job, Task, is_distributive};
 use std::alloc::Global;
@@ -41,7 +43,7 @@ impl<R: Threads + Sync> Program<R> for Operations {
         rt: &R,
         alloc: Global,
         job: &Job,
-        texts: Vec<Vec<u8>>,
+        texts: Vec<Text>,
         out: &mut K,
     ) -> Result<(), JobFault> {
         match operation_of(job) {
@@ -60,5 +62,5 @@ impl<R: Threads + Sync> Program<R> for Operations {
 }
 
 fn main(rt: HostRuntime) -> Status {
-    run_on_system::<Operations, _, _>(&rt, rt.stderr())
+    run_on_system::<Operations, _, _, _>(&rt, &SystemFiles::new(&rt), rt.stderr())
 }

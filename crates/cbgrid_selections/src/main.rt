@@ -7,9 +7,11 @@ ghost use Rattle.cbgrid_selections.specs.SelectionJobs.{Asks, Done, IsJobAnswer,
 
 use cb_endings::endings::Status;
 use cb_endings::runs::Program;
+use cb_endings::files::SystemFiles;
 use cb_endings::system_runs::run_on_system;
 use cb_outcomes::faults::JobFault;
 use cb_outcomes::sinks::Sink;
+use cb_outcomes::texts::Text;
 use cb_selection_tasks::named_selections::execute_distributive_selection;
 use cb_semirings::SemiringName;
 use cb_words::{EngineName, Job, SelectionTask, Task, is_distributive};
@@ -40,7 +42,7 @@ impl<R: Threads + Sync> Program<R> for Selections {
         rt: &R,
         alloc: Global,
         job: &Job,
-        texts: Vec<Vec<u8>>,
+        texts: Vec<Text>,
         out: &mut K,
     ) -> Result<(), JobFault> {
         match selection_of(job) {
@@ -59,5 +61,5 @@ impl<R: Threads + Sync> Program<R> for Selections {
 }
 
 fn main(rt: HostRuntime) -> Status {
-    run_on_system::<Selections, _, _>(&rt, rt.stderr())
+    run_on_system::<Selections, _, _, _>(&rt, &SystemFiles::new(&rt), rt.stderr())
 }

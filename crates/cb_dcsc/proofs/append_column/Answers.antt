@@ -1,4 +1,4 @@
-use Rattle.cb_dcsc.proofs.Pieces.{entries_in_none, entries_in_more, entries_in_all}
+use Rattle.cb_dcsc.proofs.ColumnEntries.{entries_in_none, entries_in_more, entries_in_all}
 use Rattle.cb_dcsc.proofs.append_column.Goals as goal
 
 pub loop-n-init : goal.loop-n-init

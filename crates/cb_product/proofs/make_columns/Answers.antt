@@ -9,7 +9,7 @@ use Rattle.cb_product.proofs.ColumnsMade.{before_column}
 use Rattle.cb_product.proofs.ProductColumns.{sum_start, sum_more, sum_all, own_column}
 use Rattle.cb_product.proofs.TermSums.{matrix_values, terms_value-end}
 use Rattle.cb_product.proofs.OwnColumn.{own_sparse, own_alone}
-use Rattle.cb_product.proofs.RowSums.{sum_past}
+use Rattle.cb_product.proofs.DenseRowSums.{sum_past}
 use Rattle.cb_product.proofs.StoredColumn.{column_inside, column_adds}
 use Rattle.cb_product.proofs.make_columns.Goals as goal
 

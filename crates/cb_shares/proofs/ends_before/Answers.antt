@@ -1,5 +1,5 @@
 use Rattle.std.proofs.Common.{sym}
-use Rattle.cb_shares.proofs.Places.{last_before}
+use Rattle.cb_shares.proofs.ColumnPlaces.{last_before}
 use Rattle.cb_shares.proofs.ends_before.Goals as goal
 
 pub returns : goal.returns

@@ -1,4 +1,4 @@
-use Rattle.cb_shares.proofs.Places.{found_below, found_from, missed_below, missed_from}
+use Rattle.cb_shares.proofs.ColumnPlaces.{found_below, found_from, missed_below, missed_from}
 use Rattle.cb_shares.proofs.first_from.Goals as goal
 
 pub returns-in-Ok-clause-below : goal.returns-in-Ok-clause-below

@@ -6,7 +6,7 @@ use Rattle.cb_matrix.specs.Operations.{masked}
 use Rattle.cb_product.specs.InColumns.{only_columns}
 use Rattle.cb_shares.specs.Shares.{columns_from}
 use Rattle.cb_shares.proofs.ColumnValues.{only_masked}
-use Rattle.cb_shares.proofs.Places.{some_columns}
+use Rattle.cb_shares.proofs.ColumnPlaces.{some_columns}
 use Rattle.cb_shares.proofs.masked_panel.Goals as goal
 
 pub returns : goal.returns

@@ -4,7 +4,7 @@ use Rattle.cb_matrix.specs.Sparse.{Sparse}
 use Rattle.cb_matrix.specs.Values.{product}
 use Rattle.cb_shares.specs.Shares.{columns_from}
 use Rattle.cb_shares.proofs.ColumnValues.{only_product}
-use Rattle.cb_shares.proofs.Places.{some_columns}
+use Rattle.cb_shares.proofs.ColumnPlaces.{some_columns}
 use Rattle.cb_shares.proofs.multiply_panel.Goals as goal
 
 pub returns : goal.returns

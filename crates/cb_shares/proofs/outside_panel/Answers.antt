@@ -6,7 +6,7 @@ use Rattle.cb_elementwise.specs.Complements.{excluded}
 use Rattle.cb_product.specs.InColumns.{only_columns}
 use Rattle.cb_shares.specs.Shares.{columns_from}
 use Rattle.cb_shares.proofs.ColumnValues.{only_excluded}
-use Rattle.cb_shares.proofs.Places.{some_columns}
+use Rattle.cb_shares.proofs.ColumnPlaces.{some_columns}
 use Rattle.cb_shares.proofs.outside_panel.Goals as goal
 
 pub returns : goal.returns

@@ -4,7 +4,7 @@ use Rattle.cb_plan_parts.specs.PlanParts.{operand_starts}
 use Rattle.cb_plan_parts.specs.Growth.{IsWithinLimit}
 use Rattle.cb_plan_parts.proofs.LoopGrowth.{ended, grown_flows, within_new, within_first, within_rest}
 use Rattle.cb_summa.specs.Summa.{product_acts, summa_acts, factors, IsProductPlan}
-use Rattle.cb_summa.proofs.Lengths.{summa_at_most}
+use Rattle.cb_summa.proofs.SummaLengths.{summa_at_most}
 use Rattle.cb_summa.proofs.Soundness.{product_flow}
 use Rattle.cb_summa.proofs.Whole.{is_product_plan}
 use Rattle.cb_summa.proofs.summa.Goals.{After-new-plan}

@@ -3,7 +3,7 @@ use Rattle.cb_collectives.specs.Appends.{HasRoom}
 use Rattle.cb_collectives.specs.Collectives.{turned, copied_at, tree_moves, broadcast_acts}
 use Rattle.cb_collectives.proofs.PlanGrowth.{room_left}
 use Rattle.cb_collectives.proofs.Counts.{count_broadcast}
-use Rattle.cb_collectives.proofs.Places.{place-below}
+use Rattle.cb_collectives.proofs.MemberPlaces.{place-below}
 use Rattle.cb_collectives.proofs.Spread.{broadcast_spreads}
 use Rattle.cb_collectives.proofs.broadcasts.broadcast.Goals as goal
 

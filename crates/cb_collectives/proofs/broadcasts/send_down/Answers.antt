@@ -3,7 +3,7 @@ use Rattle.std.specs.Prelude.{◌==◌, if◌then◌else◌}
 use Rattle.std.proofs.lemmas.Bool.Decides.{nat_tests}
 use Rattle.cb_collectives.specs.Collectives.{turned_at, tree_move}
 use Rattle.cb_collectives.proofs.PlanGrowth.{appended_none, next_has_room, next_appended}
-use Rattle.cb_collectives.proofs.Places.{turned_at-length, is_tree_move}
+use Rattle.cb_collectives.proofs.MemberPlaces.{turned_at-length, is_tree_move}
 use Rattle.cb_collectives.proofs.broadcasts.send_down.Goals as goal
 use Rattle.cb_collectives.proofs.broadcasts.send_down.Goals.{then-parent-eq0, else-parent-eq0}
 

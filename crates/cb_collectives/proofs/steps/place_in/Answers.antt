@@ -2,7 +2,7 @@ use Rattle.std.proofs.Common.{◌≡◌, ◌<◌, ℕ, true, length, refl, ◌�
 use Rattle.std.specs.Prelude.{Some, nat_lt}
 use Rattle.std.proofs.lemmas.Bool.Decides.{nat_tests}
 use Rattle.cb_collectives.specs.Collectives.{place_of}
-use Rattle.cb_collectives.proofs.Places.{place-below}
+use Rattle.cb_collectives.proofs.MemberPlaces.{place-below}
 use Rattle.cb_collectives.proofs.steps.place_in.Goals as goal
 
 pub returns-in-None : goal.returns-in-None

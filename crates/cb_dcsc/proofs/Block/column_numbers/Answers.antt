@@ -1,7 +1,7 @@
 use Rattle.std.proofs.Common.{ap, ◌∙◌, subst}
 use Rattle.cb_matrix.specs.Sparse.{Sparse, IsMatrix}
 use Rattle.cb_dcsc.proofs.Held.{columns_are}
-use Rattle.cb_dcsc.proofs.Numbers.{columns_inside, columns_hold}
+use Rattle.cb_dcsc.proofs.NumbersOfColumns.{columns_inside, columns_hold}
 use Rattle.cb_dcsc.proofs.Block.column_numbers.Goals as goal
 
 pub returns-clause-numbers : goal.returns-clause-numbers

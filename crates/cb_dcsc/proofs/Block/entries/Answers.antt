@@ -1,7 +1,7 @@
 use Rattle.std.proofs.Common.{◌≡◌, ap, ◌∙◌, arith}
 use Rattle.cb_matrix.specs.Sparse.{Sparse}
 use Rattle.cb_dcsc.specs.Compressed.{all_entries}
-use Rattle.cb_dcsc.proofs.Pieces.{next_column}
+use Rattle.cb_dcsc.proofs.ColumnEntries.{next_column}
 use Rattle.cb_dcsc.proofs.Held.{all_columns, no_pieces}
 use Rattle.cb_dcsc.proofs.Block.entries.Goals as goal
 

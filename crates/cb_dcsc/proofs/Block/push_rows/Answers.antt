@@ -1,6 +1,6 @@
 use Rattle.std.proofs.Common.{ap, ◌∙◌, refl}
 use Rattle.cb_matrix.specs.Sparse.{Sparse}
-use Rattle.cb_dcsc.proofs.Pieces.{entries_in_more, entries_in_all, entries_in_none}
+use Rattle.cb_dcsc.proofs.ColumnEntries.{entries_in_more, entries_in_all, entries_in_none}
 use Rattle.cb_dcsc.proofs.Appended.{next_in_column}
 use Rattle.cb_dcsc.proofs.Block.push_rows.Goals as goal
 

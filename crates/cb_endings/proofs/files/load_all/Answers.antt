@@ -6,7 +6,7 @@ pub loop-which-preserved : goal.loop-which-preserved
 loop-which-preserved g c =
     let holds = g.F.FileSource.holds c.args.files.now in
     let so_far = c.loop-which in
-    let here = subst (λ name. holds name c.in-Ok.text.items) c.name_at.ensures c.in-Ok.ensures.bytes in record {
+    let here = subst (λ name. holds name c.in-Ok.text) c.name_at.ensures c.in-Ok.ensures.bytes in record {
       held = rw c.push_reserved.ensures.items (held_more holds c.args.names.now so_far.texts.items c.in-Ok.text so_far.which so_far.invariant.count so_far.invariant.held here);
       count = search rules;
       room = search rules;

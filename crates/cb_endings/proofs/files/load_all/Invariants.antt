@@ -1,12 +1,11 @@
 use Rattle.std.proofs.Common.{◌≡◌, ◌≤◌, length, vec_capacity}
-use Rattle.cb_outcomes.specs.Texts.{bytes_of}
 use Rattle.cb_endings.specs.Files.{HoldsBelow}
 use Rattle.cb_endings.proofs.files.load_all.Given as goal
 
 -- one text for each name so far, what its file holds, and room for all
 abbrev pub invariant-loop-which : goal.invariant-loop-which
 invariant-loop-which g l = record {
-  held : HoldsBelow (g.F.FileSource.holds l.files) l.names (bytes_of l.texts.items) l.which;
+  held : HoldsBelow (g.F.FileSource.holds l.files) l.names l.texts.items l.which;
   count : length l.texts.items ≡ l.which;
   room : length l.names ≤ vec_capacity l.texts;
 }

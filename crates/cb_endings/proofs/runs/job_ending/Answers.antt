@@ -1,6 +1,5 @@
 use Rattle.std.proofs.Common.{sym, subst, ap, Err}
 use Rattle.cb_endings.specs.Files.{AreTexts, IsUnloaded}
-use Rattle.cb_outcomes.specs.Texts.{bytes_of}
 use Rattle.cb_endings.specs.Endings.{IsJobEnding}
 use Rattle.cb_endings.proofs.EndingLemmas.{job_unloaded}
 use Rattle.cb_endings.proofs.runs.job_ending.Goals as goal
@@ -16,6 +15,6 @@ returns-in-Err g c =
 pub returns-in-Err-answer : goal.returns-in-Err-answer
 returns-in-Err-answer g c =
     let holds = g.F.FileSource.holds c.args.files.now in
-    let loaded = subst (λ names. AreTexts holds names (bytes_of c.in-Ok.texts.items)) c.files.ensures c.in-Ok.ensures.texts in
+    let loaded = subst (λ names. AreTexts holds names c.in-Ok.texts.items) c.files.ensures c.in-Ok.ensures.texts in
     let told = c.in-Err-answer.ensures in
-    (bytes_of c.in-Ok.texts.items, loaded, told.fault, told.nothing, λ e. told.output (ap Err e))
+    (c.in-Ok.texts.items, loaded, told.fault, told.nothing, λ e. told.output (ap Err e))

@@ -1,6 +1,5 @@
 use Rattle.std.proofs.Common.{subst}
 use Rattle.std.proofs.lemmas.Result.{err_from_is_err_and}
-use Rattle.cb_outcomes.specs.Texts.{bytes_of}
 use Rattle.cb_graph_tasks.specs.ListedSources.{IsSourcesFault}
 use Rattle.cb_graph_tasks.proofs.SourceLemmas.{of_sources}
 use Rattle.cb_graph_tasks.proofs.listed_sources.graph_with_sources.Goals as goal
@@ -13,4 +12,4 @@ returns-in_err-sources-clause-fault g c =
     let read = c.in_ok-graph.ensures in
     let refused = subst (λ d. IsSourcesFault d l f) c.shape.ensures.shape c.in_err-sources.ensures.fault in
     let p = err_from_is_err_and c.from_residual-in_err-sources.result c.from_residual-in_err-sources.ensures.1 in
-    rw (p.1, p.2) (of_sources g.S.Semiring.arithmetic (bytes_of c.args.texts.items) a l f (read.first, read.second) refused)
+    rw (p.1, p.2) (of_sources g.S.Semiring.arithmetic c.args.texts.items a l f (read.first, read.second) refused)

@@ -5,7 +5,7 @@ use Rattle.cb_plan_parts.specs.Growth.{IsWithinLimit}
 use Rattle.cb_plan_parts.proofs.LoopGrowth.{ended, grown_flows, within_new, within_first, within_rest}
 use Rattle.cb_grid_plans.specs.GridPlans.{placewise_acts}
 use Rattle.cb_grid_plans.proofs.Sides.{side_above, side_within}
-use Rattle.cb_grid_plans.proofs.Lengths.{placewise_at_most}
+use Rattle.cb_grid_plans.proofs.PlacewiseLengths.{placewise_at_most}
 use Rattle.cb_grid_plans.proofs.placewise.placewise.Goals.{After-new-plan}
 use Rattle.cb_grid_plans.proofs.placewise.placewise.Goals as goal
 

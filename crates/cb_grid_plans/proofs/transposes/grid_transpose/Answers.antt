@@ -7,7 +7,7 @@ use Rattle.cb_plan_parts.specs.Growth.{IsWithinLimit, Grew}
 use Rattle.cb_plan_parts.proofs.LoopGrowth.{ended, grew_both, grown_flows, within_new, within_first, within_rest}
 use Rattle.cb_grid_plans.specs.GridPlans.{one_operand, mirror_acts, transpose_acts, IsTransposePlan}
 use Rattle.cb_grid_plans.proofs.Sides.{side_above, side_within}
-use Rattle.cb_grid_plans.proofs.Lengths.{transpose_at_most}
+use Rattle.cb_grid_plans.proofs.PlacewiseLengths.{transpose_at_most}
 use Rattle.cb_grid_plans.proofs.Mirror.{transpose_flow, is_transpose_plan}
 use Rattle.cb_grid_plans.proofs.transposes.grid_transpose.Goals.{After-new-plan, In_ok-send_across}
 use Rattle.cb_grid_plans.proofs.transposes.grid_transpose.Goals as goal

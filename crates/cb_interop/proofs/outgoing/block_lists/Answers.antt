@@ -1,6 +1,6 @@
 use Rattle.std.proofs.Common.{◌∙◌, refl, ap}
 use Rattle.cb_matrix.specs.Sparse.{Extent}
-use Rattle.cb_interop.proofs.Held.{lists_are}
+use Rattle.cb_interop.proofs.HeldLists.{lists_are}
 use Rattle.cb_interop.proofs.outgoing.block_lists.Goals as goal
 
 pub returns : goal.returns

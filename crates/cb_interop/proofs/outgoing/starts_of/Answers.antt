@@ -2,7 +2,7 @@ use Rattle.std.proofs.Common.{rules, ◌≡◌, ◌+◌, ◌<◌, ◌≤◌, [],
 use Rattle.std.proofs.lemmas.List.{nil_from_length, take_more, take_all}
 use Rattle.cb_dcsc.specs.Columns.{columns_with_entries}
 use Rattle.cb_dcsc.proofs.Held.{columns_are}
-use Rattle.cb_interop.proofs.Held.{held, next_start}
+use Rattle.cb_interop.proofs.HeldLists.{held, next_start}
 use Rattle.cb_interop.proofs.outgoing.starts_of.Goals as goal
 
 pub returns-then-columns-eq0 : goal.returns-then-columns-eq0

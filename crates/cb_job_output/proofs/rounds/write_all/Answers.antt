@@ -1,5 +1,5 @@
 use Rattle.std.proofs.Common.{rules, arith}
-use Rattle.cb_job_output.proofs.Sheets.{all_written}
+use Rattle.cb_job_output.proofs.IndependentSheets.{all_written}
 use Rattle.cb_job_output.proofs.rounds.write_all.Goals as goal
 
 pub returns : goal.returns

@@ -2,7 +2,7 @@ use Rattle.std.proofs.Common.{◌≡◌, false, ap, sym, ◌∙◌, arith}
 use Rattle.std.proofs.lemmas.Grind.{common_steps}
 use Rattle.std.proofs.lemmas.List.{length-set}
 use Rattle.cb_letters.specs.Lane.{take_answer}
-use Rattle.cb_letters.proofs.Lanes.{IsAddressed-take}
+use Rattle.cb_letters.proofs.LaneLetters.{IsAddressed-take}
 use Rattle.cb_mailbox.specs.Inbox.{is_stranger, lane_from}
 use Rattle.cb_mailbox.proofs.Inboxes.{box_of, HasLanes-take}
 use Rattle.cb_mailbox.proofs.Mailbox.take.Goals as goal

@@ -5,7 +5,7 @@ use Rattle.std.specs.Prelude.{flat_map}
 use Rattle.cb_matrix.specs.declared.Entry.{Entry}
 use Rattle.cb_layout.specs.Segments.{shifted}
 use Rattle.cb_market_pages.specs.Text.{entry_line}
-use Rattle.cb_market_pages.proofs.Segments.{shifted_next, shifted_done}
+use Rattle.cb_market_pages.proofs.SegmentRests.{shifted_next, shifted_done}
 use Rattle.cb_market_pages.proofs.WrittenBytes.{same_line}
 use Rattle.cb_market_pages.proofs.runs.put_rows.Goals as goal
 

@@ -1,6 +1,6 @@
 use Rattle.std.proofs.Common.{◌≡◌, arith, length}
 use Rattle.cb_layout.specs.Segments.{shifted}
-use Rattle.cb_market_pages.proofs.Segments.{shifted_done, next_first, nothing_left}
+use Rattle.cb_market_pages.proofs.SegmentRests.{shifted_done, next_first, nothing_left}
 use Rattle.cb_market_pages.proofs.text_pages.begun.Goals as goal
 
 pub returns-then-is_empty-clause-some : goal.returns-then-is_empty-clause-some

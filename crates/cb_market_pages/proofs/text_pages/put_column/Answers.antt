@@ -1,7 +1,7 @@
 use Rattle.std.proofs.Common.{[], ◌++◌, get_or, ap, sym, refl, ◌∙◌, arith, append-nil}
 use Rattle.std.specs.Prelude.{flat_map}
 use Rattle.cb_market_pages.specs.Text.{entry_line}
-use Rattle.cb_market_pages.proofs.Segments.{shifted_done}
+use Rattle.cb_market_pages.proofs.SegmentRests.{shifted_done}
 use Rattle.cb_market_pages.proofs.EntryRuns.{one_line_more}
 use Rattle.cb_market_pages.proofs.WrittenBytes.{same_line, first_line}
 use Rattle.cb_market_pages.proofs.text_pages.put_column.Goals as goal

@@ -1,7 +1,6 @@
 use Rattle.std.proofs.Common.{◌≢◌}
 use Rattle.std.proofs.lemmas.Result.{IfErr-weaker}
 use Rattle.cb_operations.specs.Operands.{list_of}
-use Rattle.cb_outcomes.specs.Texts.{bytes_of}
 use Rattle.cb_outcomes.specs.declared.faults.JobFault.TheVariants.{Output}
 use Rattle.cb_operation_tasks.specs.OperationTexts.{IsBlocksFault, IsFaultOver}
 use Rattle.cb_operation_tasks.proofs.OperationFaults.{not_output, of_blocks, result_on_blocks}
@@ -10,12 +9,12 @@ use Rattle.cb_operation_tasks.proofs.operation_answers.result_of.Goals as goal
 pub returns-clause-ok : goal.returns-clause-ok
 returns-clause-ok g c =
     let ms = list_of c.in_ok-operands.operands in
-    result_on_blocks c.args.operation ms g.S.Semiring.arithmetic (bytes_of c.args.texts.items) c.in_ok-operands.ensures.ok c.compute_alone.result c.compute_alone.ensures.ok c.compute_alone.ensures.agree
+    result_on_blocks c.args.operation ms g.S.Semiring.arithmetic c.args.texts.items c.in_ok-operands.ensures.ok c.compute_alone.result c.compute_alone.ensures.ok c.compute_alone.ensures.agree
 
 pub returns-clause-fault : goal.returns-clause-fault
 returns-clause-fault g c =
     let s = g.S.Semiring.arithmetic in
-    let bytes = bytes_of c.args.texts.items in
+    let bytes = c.args.texts.items in
     let ms = list_of c.in_ok-operands.operands in
     IfErr-weaker c.compute_alone.result (IsBlocksFault c.args.operation ms) (IsFaultOver c.args.operation s bytes) (of_blocks c.args.operation ms s bytes c.in_ok-operands.ensures.ok) c.compute_alone.ensures.fault
 

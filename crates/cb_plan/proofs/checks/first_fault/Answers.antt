@@ -1,4 +1,4 @@
-use Rattle.cb_plan.proofs.Faults.{from_start}
+use Rattle.cb_plan.proofs.CheckSteps.{from_start}
 use Rattle.cb_plan.proofs.checks.first_fault.Goals as goal
 
 pub returns : goal.returns

@@ -3,7 +3,7 @@ use Rattle.std.proofs.lemmas.List.{length-set}
 use Rattle.std.proofs.lemmas.List.Elements.{All-get_or, All-set}
 use Rattle.cb_semirings.specs.Arithmetic.{IsValue}
 use Rattle.cb_product.proofs.RowValues.{nth_product}
-use Rattle.cb_product.proofs.RowSums.{entry_added, all_added}
+use Rattle.cb_product.proofs.DenseRowSums.{entry_added, all_added}
 use Rattle.cb_product.proofs.MarkBits.{marked_more}
 use Rattle.cb_product.proofs.sparse_accumulator.add_entries.Goals as goal
 

@@ -5,7 +5,7 @@ use Rattle.std.proofs.lemmas.List.Elements.{All-nil, All-weaker}
 use Rattle.cb_matrix.proofs.Totals.{add_zero}
 use Rattle.cb_product.proofs.RowValues.{row_value-none}
 use Rattle.cb_product.proofs.ColumnSoFar.{column_value}
-use Rattle.cb_product.proofs.RowSums.{values_or_zero}
+use Rattle.cb_product.proofs.DenseRowSums.{values_or_zero}
 use Rattle.cb_product.proofs.MarkBits.{bit_inside, group_inside, marked_fewer, marked_without, all_taken, marked_cleared}
 use Rattle.cb_product.proofs.sparse_accumulator.take_rows.Goals as goal
 

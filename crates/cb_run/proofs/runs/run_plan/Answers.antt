@@ -3,8 +3,8 @@ use Rattle.cb_operations.specs.Operands.{list_of}
 use Rattle.cb_operations.specs.OperationAnswers.{answer_of, shapes_in}
 use Rattle.cb_placement.specs.Slots.{whole_operands}
 use Rattle.cb_planner.specs.ScatteredOperands.{wholes}
-use Rattle.cb_run.proofs.Operations.{made_there, trace_for}
-use Rattle.cb_run.proofs.Orders.{lost_for, ordered_for}
+use Rattle.cb_run.proofs.PlannedOperations.{made_there, trace_for}
+use Rattle.cb_run.proofs.SteppedOrders.{lost_for, ordered_for}
 use Rattle.cb_run.proofs.runs.run_plan.Goals as goal
 
 pub compute-requires-clause-sides : goal.compute-requires-clause-sides

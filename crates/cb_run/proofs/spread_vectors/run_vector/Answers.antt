@@ -13,8 +13,8 @@ use Rattle.cb_vectors.specs.SpreadVectors.{MultipliesVectors}
 use Rattle.cb_run.specs.VectorOrders.{IsOrderedProduct}
 use Rattle.cb_planner.specs.ScatteredOperands.{wholes}
 use Rattle.cb_run.specs.Outcomes.{IsOrderedFor, IsTraceFor}
-use Rattle.cb_run.proofs.Operations.{vector_trace}
-use Rattle.cb_run.proofs.Orders.{ordered_vector}
+use Rattle.cb_run.proofs.PlannedOperations.{vector_trace}
+use Rattle.cb_run.proofs.SteppedOrders.{ordered_vector}
 use Rattle.cb_run.proofs.spread_vectors.run_vector.Goals as goal
 
 pub returns-clause-ok : goal.returns-clause-ok

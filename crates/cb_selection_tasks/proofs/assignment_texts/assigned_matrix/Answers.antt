@@ -2,7 +2,6 @@ use Rattle.std.proofs.Common.{◌≡◌, ◌≢◌, subst}
 use Rattle.std.proofs.lemmas.Result.{IfOk-weaker, IfErr-weaker}
 use Rattle.cb_selections.specs.Selections.{assigned}
 use Rattle.cb_selection_tasks.specs.Assignments.{FitsAt, IsAssignedFault, IsAssignedOf, IsPartFault}
-use Rattle.cb_outcomes.specs.Texts.{bytes_of}
 use Rattle.cb_outcomes.specs.declared.faults.JobFault.TheVariants.{Output}
 use Rattle.cb_selection_tasks.proofs.PartFaults.{of_part}
 use Rattle.cb_selection_tasks.proofs.assignment_texts.assigned_matrix.Goals as goal
@@ -14,7 +13,7 @@ returns-clause-ok g c =
     let a = c.in_ok-whole.whole in
     let b = c.in_ok-whole.part in
     let read = c.in_ok-whole.ensures in
-    IfOk-weaker c.assigned_part.result (λ m. FitsAt corner b.shape a.shape × (m ≡ assigned s corner b a)) (IsAssignedOf corner s (bytes_of c.args.texts.items))
+    IfOk-weaker c.assigned_part.result (λ m. FitsAt corner b.shape a.shape × (m ≡ assigned s corner b a)) (IsAssignedOf corner s c.args.texts.items)
     (λ m h. (a, b, ((read.first, read.second), h.0), h.1)) c.assigned_part.ensures.ok
 
 pub returns-clause-fault : goal.returns-clause-fault
@@ -24,8 +23,8 @@ returns-clause-fault g c =
     let a = c.in_ok-whole.whole in
     let b = c.in_ok-whole.part in
     let read = c.in_ok-whole.ensures in
-    IfErr-weaker c.assigned_part.result (IsPartFault corner b.shape a.shape) (IsAssignedFault corner s (bytes_of c.args.texts.items))
-    (λ f h. of_part corner s (bytes_of c.args.texts.items) a b f (read.first, read.second) h) c.assigned_part.ensures.fault
+    IfErr-weaker c.assigned_part.result (IsPartFault corner b.shape a.shape) (IsAssignedFault corner s c.args.texts.items)
+    (λ f h. of_part corner s c.args.texts.items a b f (read.first, read.second) h) c.assigned_part.ensures.fault
 
 pub returns-clause-unwritten : goal.returns-clause-unwritten
 returns-clause-unwritten g c =

@@ -3,7 +3,6 @@ use Rattle.std.proofs.lemmas.Result.{IfOk-weaker, IfErr-weaker}
 use Rattle.cb_selections.specs.Selections.{columns_by}
 use Rattle.cb_words.specs.declared.lists.Lists.TheVariants.{Columns}
 use Rattle.cb_selection_tasks.specs.Extracts.{IsExtractOf, IsExtractFault}
-use Rattle.cb_outcomes.specs.Texts.{bytes_of}
 use Rattle.cb_job_inputs.specs.Lists.{IsList, numbers_in}
 use Rattle.cb_selection_tasks.specs.Extracts.{IsListFault}
 use Rattle.cb_outcomes.specs.declared.faults.SelectionRefusal.TheVariants.{NoColumn}
@@ -17,7 +16,7 @@ returns-clause-ok g c =
     let a = c.in_ok-matrix.matrix in
     let l = c.in_ok-matrix.columns in
     let read = c.in_ok-matrix.ensures in
-    IfOk-weaker c.columns_of.result (λ m. IsList a.shape.cols l × (m ≡ columns_by s (numbers_in l) a)) (IsExtractOf Columns s (bytes_of c.args.texts.items))
+    IfOk-weaker c.columns_of.result (λ m. IsList a.shape.cols l × (m ≡ columns_by s (numbers_in l) a)) (IsExtractOf Columns s c.args.texts.items)
     (λ m h. (a, l, (read.first, read.second), h.0, h.1)) c.columns_of.ensures.ok
 
 pub returns-clause-fault : goal.returns-clause-fault
@@ -26,8 +25,8 @@ returns-clause-fault g c =
     let a = c.in_ok-matrix.matrix in
     let l = c.in_ok-matrix.columns in
     let read = c.in_ok-matrix.ensures in
-    IfErr-weaker c.columns_of.result (IsListFault NoColumn a.shape.cols l) (IsExtractFault Columns s (bytes_of c.args.texts.items))
-    (λ f h. of_columns s (bytes_of c.args.texts.items) a l f (read.first, read.second) h) c.columns_of.ensures.fault
+    IfErr-weaker c.columns_of.result (IsListFault NoColumn a.shape.cols l) (IsExtractFault Columns s c.args.texts.items)
+    (λ f h. of_columns s c.args.texts.items a l f (read.first, read.second) h) c.columns_of.ensures.fault
 
 pub returns-clause-unwritten : goal.returns-clause-unwritten
 returns-clause-unwritten g c =

@@ -2,7 +2,6 @@ use Rattle.std.proofs.Common.{◌≢◌, subst}
 use Rattle.std.proofs.lemmas.Result.{IfOk-weaker, IfErr-weaker}
 use Rattle.cb_words.specs.declared.lists.Lists.TheVariants.{Both}
 use Rattle.cb_selection_tasks.specs.Extracts.{AreListsFault, IsExtractOf, IsExtractFault, IsPartOf}
-use Rattle.cb_outcomes.specs.Texts.{bytes_of}
 use Rattle.cb_outcomes.specs.declared.faults.JobFault.TheVariants.{Output}
 use Rattle.cb_selection_tasks.proofs.ListFaults.{of_both}
 use Rattle.cb_selection_tasks.proofs.extract_texts.some_part.Goals as goal
@@ -13,7 +12,7 @@ returns-clause-ok g c =
     let a = c.in_ok-matrix.matrix in
     let k = c.in_ok-matrix.rows in
     let l = c.in_ok-matrix.columns in
-    IfOk-weaker c.part_of.result (IsPartOf s a k l) (IsExtractOf Both s (bytes_of c.args.texts.items))
+    IfOk-weaker c.part_of.result (IsPartOf s a k l) (IsExtractOf Both s c.args.texts.items)
     (λ m h. (a, k, l, c.in_ok-matrix.ensures.ok, h)) c.part_of.ensures.ok
 
 pub returns-clause-fault : goal.returns-clause-fault
@@ -22,8 +21,8 @@ returns-clause-fault g c =
     let a = c.in_ok-matrix.matrix in
     let k = c.in_ok-matrix.rows in
     let l = c.in_ok-matrix.columns in
-    IfErr-weaker c.part_of.result (AreListsFault a k l) (IsExtractFault Both s (bytes_of c.args.texts.items))
-    (λ f h. of_both s (bytes_of c.args.texts.items) a k l f c.in_ok-matrix.ensures.ok h) c.part_of.ensures.fault
+    IfErr-weaker c.part_of.result (AreListsFault a k l) (IsExtractFault Both s c.args.texts.items)
+    (λ f h. of_both s c.args.texts.items a k l f c.in_ok-matrix.ensures.ok h) c.part_of.ensures.fault
 
 pub returns-clause-unwritten : goal.returns-clause-unwritten
 returns-clause-unwritten g c =

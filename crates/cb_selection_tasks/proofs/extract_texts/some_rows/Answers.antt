@@ -3,7 +3,6 @@ use Rattle.std.proofs.lemmas.Result.{IfOk-weaker, IfErr-weaker}
 use Rattle.cb_selections.specs.Selections.{rows_by}
 use Rattle.cb_words.specs.declared.lists.Lists.TheVariants.{Rows}
 use Rattle.cb_selection_tasks.specs.Extracts.{IsExtractOf, IsExtractFault}
-use Rattle.cb_outcomes.specs.Texts.{bytes_of}
 use Rattle.cb_job_inputs.specs.Lists.{IsList, numbers_in}
 use Rattle.cb_selection_tasks.specs.Extracts.{IsListFault}
 use Rattle.cb_outcomes.specs.declared.faults.SelectionRefusal.TheVariants.{NoRow}
@@ -17,7 +16,7 @@ returns-clause-ok g c =
     let a = c.in_ok-matrix.matrix in
     let l = c.in_ok-matrix.rows in
     let read = c.in_ok-matrix.ensures in
-    IfOk-weaker c.rows_of.result (λ m. IsList a.shape.rows l × (m ≡ rows_by s (numbers_in l) a)) (IsExtractOf Rows s (bytes_of c.args.texts.items))
+    IfOk-weaker c.rows_of.result (λ m. IsList a.shape.rows l × (m ≡ rows_by s (numbers_in l) a)) (IsExtractOf Rows s c.args.texts.items)
     (λ m h. (a, l, (read.first, read.second), h.0, h.1)) c.rows_of.ensures.ok
 
 pub returns-clause-fault : goal.returns-clause-fault
@@ -26,8 +25,8 @@ returns-clause-fault g c =
     let a = c.in_ok-matrix.matrix in
     let l = c.in_ok-matrix.rows in
     let read = c.in_ok-matrix.ensures in
-    IfErr-weaker c.rows_of.result (IsListFault NoRow a.shape.rows l) (IsExtractFault Rows s (bytes_of c.args.texts.items))
-    (λ f h. of_rows s (bytes_of c.args.texts.items) a l f (read.first, read.second) h) c.rows_of.ensures.fault
+    IfErr-weaker c.rows_of.result (IsListFault NoRow a.shape.rows l) (IsExtractFault Rows s c.args.texts.items)
+    (λ f h. of_rows s c.args.texts.items a l f (read.first, read.second) h) c.rows_of.ensures.fault
 
 pub returns-clause-unwritten : goal.returns-clause-unwritten
 returns-clause-unwritten g c =

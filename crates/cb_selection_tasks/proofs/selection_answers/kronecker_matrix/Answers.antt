@@ -3,7 +3,6 @@ use Rattle.std.proofs.lemmas.Result.{err_from_is_err_and}
 use Rattle.cb_matrix.specs.Sparse.{Sparse}
 use Rattle.cb_selections.specs.Selections.{kronecker}
 use Rattle.cb_selection_tasks.specs.SelectionAnswers.{IsProductFault}
-use Rattle.cb_outcomes.specs.Texts.{bytes_of}
 use Rattle.cb_selection_tasks.specs.Selected.{FitsInShape}
 use Rattle.cb_selection_tasks.proofs.ProductFaults.{of_factors}
 use Rattle.cb_selection_tasks.proofs.selection_answers.kronecker_matrix.Goals as goal
@@ -15,7 +14,7 @@ returns-in_err-block-clause-fault g c =
     let f = c.in_err-block.field-0.0 in
     let fault : IsProductFault left.shape right.shape f = subst (λ (m : Sparse). IsProductFault left.shape m.shape f) c.into_block-2.ensures (subst (λ (m : Sparse). IsProductFault m.shape c.into_block-2.result.shape f) c.into_block.ensures c.in_err-block.ensures.fault) in
     let p = err_from_is_err_and c.from_residual-in_err-block.result c.from_residual-in_err-block.ensures.1 in
-    rw (p.1, p.2) (of_factors g.S.Semiring.arithmetic (bytes_of c.args.texts.items) left right f c.in_ok-left.ensures.ok fault)
+    rw (p.1, p.2) (of_factors g.S.Semiring.arithmetic c.args.texts.items left right f c.in_ok-left.ensures.ok fault)
 
 pub returns-in_err-answer-clause-fault : goal.returns-in_err-answer-clause-fault
 returns-in_err-answer-clause-fault g c =

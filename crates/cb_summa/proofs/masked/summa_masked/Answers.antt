@@ -6,7 +6,7 @@ use Rattle.cb_plan_parts.specs.PlanParts.{each_rank, operand_starts}
 use Rattle.cb_plan_parts.specs.Growth.{IsWithinLimit, Grew}
 use Rattle.cb_plan_parts.proofs.LoopGrowth.{ended, grew_both, grown_flows, within_new, within_first, within_rest}
 use Rattle.cb_summa.specs.Summa.{product_acts, summa_masked_acts, mask_op, masked_factors, IsMaskedPlan}
-use Rattle.cb_summa.proofs.Lengths.{summa_masked_at_most}
+use Rattle.cb_summa.proofs.SummaLengths.{summa_masked_at_most}
 use Rattle.cb_summa.proofs.Soundness.{masked_flow}
 use Rattle.cb_summa.proofs.Whole.{is_masked_plan}
 use Rattle.cb_summa.proofs.masked.summa_masked.Goals.{After-new-plan, In_ok-work_everywhere}

@@ -1,5 +1,5 @@
 use Rattle.std.proofs.Common.{[], ◌++◌, refl, ap}
-use Rattle.cb_market_pages.proofs.Segments.{shifted_done}
+use Rattle.cb_market_pages.proofs.SegmentRests.{shifted_done}
 use Rattle.cb_market_pages.proofs.text_pages.EntriesLeft.new.Goals as goal
 
 pub returns : goal.returns

@@ -2,7 +2,7 @@ use Rattle.std.proofs.Common.{◌≡◌, ◌+◌, ◌-◌, ◌++◌, length, tak
 use Rattle.std.specs.Prelude.{flat_map}
 use Rattle.cb_layout.specs.Segments.{shifted}
 use Rattle.cb_market_pages.specs.Text.{entry_line}
-use Rattle.cb_market_pages.proofs.Segments.{length-shifted}
+use Rattle.cb_market_pages.proofs.SegmentRests.{length-shifted}
 use Rattle.cb_market_pages.proofs.EntryRuns.{write_run}
 use Rattle.cb_market_pages.proofs.text_pages.EntriesLeft.put_first.Goals as goal
 

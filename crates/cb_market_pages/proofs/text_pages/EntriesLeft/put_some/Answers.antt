@@ -2,7 +2,7 @@ use Rattle.std.proofs.Common.{◌++◌, take, refl, ap, sym, ◌∙◌}
 use Rattle.cb_layout.specs.Segments.{shifted}
 use Rattle.cb_market_pages.specs.Text.{first_lines}
 use Rattle.cb_market_pages.proofs.EntryRuns.{first_run, append_run}
-use Rattle.cb_market_pages.proofs.Segments.{shorter_at}
+use Rattle.cb_market_pages.proofs.SegmentRests.{shorter_at}
 use Rattle.cb_market_pages.proofs.text_pages.EntriesLeft.put_some.Goals as goal
 
 pub returns-clause-lines : goal.returns-clause-lines

@@ -1,6 +1,6 @@
 use Rattle.std.proofs.Common.{◌≡◌, ◌+◌, ◌-◌, length, ◌∙◌, arith}
 use Rattle.cb_layout.specs.Segments.{shifted}
-use Rattle.cb_market_pages.proofs.Segments.{length-shifted}
+use Rattle.cb_market_pages.proofs.SegmentRests.{length-shifted}
 use Rattle.cb_market_pages.proofs.EntryRuns.{skip_run, length_run}
 use Rattle.cb_market_pages.proofs.text_pages.EntriesLeft.skip.Goals as goal
 

@@ -1,6 +1,6 @@
 use Rattle.std.proofs.Common.{◌≡◌, ◌+◌, ◌∙◌, ap, sym, true, false, arith}
 use Rattle.cb_plan.specs.Checks.{are_all_shut, lanes_in}
-use Rattle.cb_plan.proofs.Faults.{found, next, at_end}
+use Rattle.cb_plan.proofs.CheckSteps.{found, next, at_end}
 use Rattle.cb_plan.proofs.check_states.CheckState.fault_among.Goals as goal
 
 pub returns-in-Some : goal.returns-in-Some

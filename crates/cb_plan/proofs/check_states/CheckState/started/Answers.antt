@@ -1,6 +1,6 @@
 use Rattle.std.proofs.Common.{◌∙◌, ap, arith}
 use Rattle.cb_plan.specs.Checks.{lanes_in}
-use Rattle.cb_plan.proofs.Faults.{start_next}
+use Rattle.cb_plan.proofs.CheckSteps.{start_next}
 use Rattle.cb_plan.proofs.check_states.CheckState.started.Goals as goal
 
 pub loop-start-preserved : goal.loop-start-preserved

@@ -2,7 +2,7 @@ use Rattle.std.proofs.Common.{◌≡◌, ◌+◌, ◌/◌, ◌∙◌, length, ap
 use Rattle.std.specs.Prelude.{All}
 use Rattle.std.proofs.lemmas.List.{length-replicate}
 use Rattle.std.proofs.lemmas.List.Elements.{All-replicate}
-use Rattle.cb_product.proofs.RowSums.{values_filled}
+use Rattle.cb_product.proofs.DenseRowSums.{values_filled}
 use Rattle.cb_product.proofs.MarkBits.{marked_none}
 use Rattle.cb_product.proofs.sparse_accumulator.SparseAccumulator.new.Goals as goal
 

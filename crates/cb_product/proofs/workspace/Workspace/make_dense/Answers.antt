@@ -3,7 +3,7 @@ use Rattle.std.specs.Prelude.{All}
 use Rattle.std.proofs.lemmas.Result.{on_ok_weaker}
 use Rattle.cb_matrix.specs.Sparse.{Extent}
 use Rattle.cb_dcsc.proofs.Lookup.{all_rows_inside, all_values}
-use Rattle.cb_product.proofs.RowSums.{dense_sums}
+use Rattle.cb_product.proofs.DenseRowSums.{dense_sums}
 use Rattle.cb_product.proofs.TermSums.{lengths}
 use Rattle.cb_product.proofs.workspace.Workspace.make_dense.Goals as goal
 

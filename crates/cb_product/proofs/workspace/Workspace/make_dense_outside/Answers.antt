@@ -5,7 +5,7 @@ use Rattle.cb_matrix.specs.Sparse.{Extent}
 use Rattle.cb_dcsc.proofs.Lookup.{all_rows_inside, all_values}
 use Rattle.cb_product.specs.Marks.{mark_of}
 use Rattle.cb_product.proofs.MarkedRows.{dense_outside}
-use Rattle.cb_product.proofs.RowSums.{values_filled}
+use Rattle.cb_product.proofs.DenseRowSums.{values_filled}
 use Rattle.cb_product.proofs.TermSums.{lengths}
 use Rattle.cb_product.proofs.workspace.Workspace.make_dense_outside.Goals as goal
 

@@ -20,7 +20,7 @@ use Rattle.cb_vectors.specs.SpreadVectors.{MultipliesVectors}
 use Rattle.cb_run.specs.VectorOrders.{IsSteppedProduct, IsSteppedProductLoss, IsOrderedProduct}
 use Rattle.cb_run.specs.declared.operation_faults.OperationFault.TheVariants.{Failed}
 use Rattle.cb_run.specs.Outcomes.{IsSteppedFor, IsOrderedFor, IsSteppedLossFor, IsLossFor}
-use Rattle.cb_run.proofs.Operations.{by_plan}
+use Rattle.cb_run.proofs.PlannedOperations.{by_plan}
 
 module _ (s : Arithmetic) (q : ℕ) (ms : List Sparse) where
   -- a run on these operands in these slots, with an answer of this shape, is one of the operation

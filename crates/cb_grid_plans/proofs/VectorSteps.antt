@@ -11,13 +11,13 @@ use Rattle.cb_plan.specs.Meaning.{Algebra, State, meaning, one, two}
 use Rattle.cb_plan.proofs.Effects.{split}
 use Rattle.cb_grid.specs.Parts.{row_group, column_group, part, part_start}
 use Rattle.cb_collectives.specs.Collectives.{is_member, member, place_of, exchanged}
-use Rattle.cb_collectives.proofs.Places.{place_of-member}
+use Rattle.cb_collectives.proofs.MemberPlaces.{place_of-member}
 use Rattle.cb_collectives.proofs.Spread.{broadcast_spreads}
 use Rattle.cb_collectives.proofs.SendMeaning.{all_to_all_exchanges}
 use Rattle.cb_plan_parts.specs.PlanParts.{tagged}
 use Rattle.cb_plan_parts.proofs.Grid.{in_row, in_column, row_distinct}
 use Rattle.cb_grid_plans.specs.VectorPlans.{piece_broadcast, part_broadcasts, piece_broadcasts, add_piece, product_ops, piece_cut, cut_ops, exchange, exchanges, next_summand, sum_ops}
-use Rattle.cb_grid_plans.proofs.Programs.{each_skips, each_sets, after_op, after_ops, after_ops-append, lists_skip, ops_skip}
+use Rattle.cb_grid_plans.proofs.RankPrograms.{each_skips, each_sets, after_op, after_ops, after_ops-append, lists_skip, ops_skip}
 
 -- the pieces before number k, each in its place of the whole
 abbrev pub assembled : {M : Type 0} → Algebra M → ℕ → Extent → (ℕ → M) → ℕ → M

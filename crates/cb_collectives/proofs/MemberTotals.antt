@@ -12,7 +12,7 @@ use Rattle.cb_plan.specs.Meaning.{State, two}
 use Rattle.cb_plan.specs.Algebras.{matrices}
 use Rattle.cb_plan.proofs.Effects.{split}
 use Rattle.cb_collectives.specs.Collectives.{is_member, AreDistinct, others, sum_with, sum_of_members, HasBlocks, AddsUp}
-use Rattle.cb_collectives.proofs.Places.{not_member, distinct_tail}
+use Rattle.cb_collectives.proofs.MemberPlaces.{not_member, distinct_tail}
 
 -- the first is a member, and so are those of the rest
 first_member : (m : ℕ) (ms : List ℕ) → is_member (m ∷ ms) m ≡ true
