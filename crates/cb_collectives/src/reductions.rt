@@ -11,7 +11,7 @@ use cb_plan::{Act, Op, Plan, PlanFault};
 /// Sums the `slot` of all members into slot `into` of the root: the root's own first, and then the others in list order.
 /// Slot `scratch` of the root may be left with anything. Over a semiring, each place of the sum has the sum of the
 /// members' values there. Appends 2n - 1 acts for n members.
-#[tactic(auto, using(crate::proofs::ReduceMeaning::reduce_sums, crate::proofs::Totals::members_add_up, crate::proofs::Counts::count_reduce))]
+#[tactic(auto, using(crate::proofs::ReduceMeaning::reduce_sums, crate::proofs::MemberTotals::members_add_up, crate::proofs::Counts::count_reduce))]
 pub fn reduce(
     plan: &mut Plan,
     members: &[u16],
