@@ -1,5 +1,5 @@
 //! The operations of a plan, done on the slots of one rank by the block kernels.
-ghost use Rattle.std.specs.Prelude.{◌≡◌, ◌≢◌, ◌<◌, ℕ, true, false, length, get_or, slice_set, IfOk, OnOk, OnErr, IsOk, IsSome, Some, ◌∷◌, []};
+ghost use Rattle.std.specs.Prelude.{◌≡◌, ◌≢◌, ◌<◌, ℕ, true, false, length, get_or, slice_set, IfOk, IfErr, OnOk, OnErr, IsOk, IsSome, Some, ◌∷◌, []};
 ghost use Rattle.cb_matrix.specs.Values.{product, product_shape};
 ghost use Rattle.cb_matrix.specs.Operations.{sum_of};
 ghost use Rattle.cb_plan.specs.Meaning.{result_of, target_of, needs_memory};
@@ -9,7 +9,7 @@ ghost use Rattle.cb_plan.specs.Stores.{sheets_in, shapes_in, slot_of};
 
 use cb_dcsc::Block;
 use cb_elementwise::{add, mask, prune, times};
-use cb_plan::{Op, RankStore, SLOTS, Slot};
+use cb_plan::{Op, RankStore, SLOTS, SharedBlock, Slot};
 use cb_product::{multiply, multiply_into};
 use cb_reductions::column_sums;
 use cb_reshape::{cut, place, transpose};
@@ -36,14 +36,21 @@ pub fn work<S: Semiring>(alloc: Global, store: &mut RankStore<S>, op: &Op) -> Re
         store.clear(*slot);
         return Ok(());
     }
+    if let Op::Copy { a, into } = op {
+        let copy = store.try_copy(*a)?;
+        store.set(*into, copy);
+        return Ok(());
+    }
     let made = made_by(alloc, store, *op)?;
     store.put(op.target(), made);
     Ok(())
 }
 
-/// The block that an operation makes. It may be any operation but `Clear`, which makes none.
+/// The block that an operation makes. It may be any operation but `Clear`, which makes none, and `Copy`, whose block may be
+/// shared.
 fn made_by<S: Semiring>(alloc: Global, store: &RankStore<S>, op: Op) -> Result<Block<S>, AllocError>
     requires makes { (slot : ℕ) → op ≢ Op.Clear slot }
+    requires alone { (a into : ℕ) → op ≢ Op.Copy a into }
     requires slots { all_below SLOTS (operands_of op) ≡ true }
     requires filled { all_filled (shapes_in store.now) (operands_of op) ≡ true }
     requires agree { shapes_agree (shapes_in store.now) op ≡ true }
@@ -63,8 +70,7 @@ fn made_by<S: Semiring>(alloc: Global, store: &RankStore<S>, op: Op) -> Result<B
         Op::Place { a, shape, at, .. } => place(alloc, store.sheet(a), shape, at),
         Op::MulVec { a, x, .. } => multiply(alloc, store.sheet(a), store.sheet(x)),
         Op::Prune { a, test, .. } => prune(alloc, store.sheet(a), test),
-        Op::Copy { a, .. } => store.sheet(a).try_clone(),
-        Op::Clear { .. } => unreachable!(),
+        Op::Copy { .. } | Op::Clear { .. } => unreachable!(),
         Op::Mask { a, m, .. } => mask(alloc, store.sheet(a), store.sheet(m)),
     }
 }
@@ -103,14 +109,36 @@ fn accumulate<S: Semiring>(
     let Slot::Sheet(sum) = store.take(acc) else {
         unreachable!()
     };
-    match multiply_into(alloc, store.sheet(a), store.sheet(b), sum) {
+    match added_to(alloc, store.sheet(a), store.sheet(b), sum) {
         Ok(sum) => {
             store.put(acc, sum);
             Ok(())
         }
         Err((sum, error)) => {
-            store.put(acc, sum);
+            store.put_shared(acc, sum);
             Err(error)
         }
+    }
+}
+
+/// Adds the product of two blocks to a third. If memory is refused, the third comes back as it was.
+fn added_to<S: Semiring>(
+    alloc: Global,
+    left: &Block<S>,
+    right: &Block<S>,
+    sum: SharedBlock<S>,
+) -> Result<Block<S>, (SharedBlock<S>, AllocError)>
+    requires agree { left.now.shape.cols ≡ right.now.shape.rows }
+    requires shape { sum.shape ≡ product_shape left.now right.now }
+    ensures ok { IfOk result (λ m. m ≡ sum_of S.arithmetic sum (product S.arithmetic left.now right.now)) }
+    ensures err { IfErr result (λ e. e.0 ≡ sum) }
+{
+    let sum = match sum.into_block() {
+        Ok(sum) => sum,
+        Err(refused) => return Err(refused),
+    };
+    match multiply_into(alloc, left, right, sum) {
+        Ok(sum) => Ok(sum),
+        Err((sum, error)) => Err((SharedBlock::new(sum), error)),
     }
 }

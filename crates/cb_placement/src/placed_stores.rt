@@ -29,8 +29,8 @@ pub fn blank<S: Semiring>(alloc: Global, ranks: u16) -> Result<Vec<RankStore<S>>
     Ok(stores)
 }
 
-/// The stores of the ranks of a grid, with the blocks of each matrix in its slot, and nothing else. The blocks are
-/// moved, not copied.
+/// The stores of the ranks of a grid, with the blocks of each matrix in its slot, and nothing else. The blocks are moved,
+/// not copied, and lent: a rank that is sent one shares it.
 pub fn laid_out<S: Semiring>(
     alloc: Global,
     grid: &Grid,
@@ -43,6 +43,7 @@ pub fn laid_out<S: Semiring>(
     let mut stores = blank(alloc, grid.ranks())?;
     for (slot, matrix) in operands {
         distribute(&mut stores, slot, matrix);
+        lend_slot(alloc, &mut stores, slot)?;
     }
     Ok(stores)
 }
@@ -54,6 +55,21 @@ fn distribute<S: Semiring>(stores: &mut Vec<RankStore<S>>, slot: u16, matrix: Di
     ensures { Filled (matrix.side * matrix.side) slot (block_of_rank S.arithmetic matrix.side matrix.matrix) stores.old.items stores.new.items }
 {
     fill(stores, slot, matrix.into_blocks());
+}
+
+/// Lends the block in a slot of each rank: copies of it are shared from now on. Takes memory for a few words per rank.
+fn lend_slot<S: Semiring>(
+    alloc: Global,
+    stores: &mut Vec<RankStore<S>>,
+    slot: u16,
+) -> Result<(), AllocError>
+    requires { slot < SLOTS }
+    ensures { stores.new.items ≡ stores.old.items }
+{
+    for rank in 0..stores.len() {
+        stores[rank].lend(alloc, slot)?;
+    }
+    Ok(())
 }
 
 /// Moves one of the blocks into a slot of each rank.
@@ -72,8 +88,8 @@ pub fn fill<S: Semiring>(stores: &mut Vec<RankStore<S>>, slot: u16, blocks: Vec<
 
 /// Moves the blocks out of a slot of the ranks. Other slots don't change.
 ///
-/// `Memory` is reported before any block is moved. `Lost` names the origin of the loss at the least rank whose slot is
-/// lost; the blocks of the ranks before it are dropped.
+/// `Lost` names the origin of the loss at the least rank whose slot is lost. `Memory` is reported before any block is moved,
+/// or where a block is lent to other slots, so that it has to be copied. The blocks of the ranks before are then dropped.
 #[tactic(auto, using(crate::proofs::DrainedSlots::taken, crate::proofs::DrainedSlots::never_empty, crate::proofs::DrainedSlots::first_loss))]
 pub fn drain<S: Semiring>(
     alloc: Global,
@@ -92,7 +108,10 @@ pub fn drain<S: Semiring>(
     let mut blocks = Vec::with_capacity(alloc, stores.len())?;
     for rank in 0..stores.len() {
         match stores[rank].take(slot) {
-            Slot::Sheet(block) => blocks.push_reserved(block),
+            Slot::Sheet(block) => match block.into_block() {
+                Ok(block) => blocks.push_reserved(block),
+                Err(_) => return Err(DrainFault::Memory),
+            },
             Slot::Lost(origin) => return Err(DrainFault::Lost(origin)),
             Slot::Empty => unreachable!(),
         }

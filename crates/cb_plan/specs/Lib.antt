@@ -1,7 +1,7 @@
 -- Meaning: what acts do, over blocks of any kind. Algebras: on matrices, and on shapes alone.
 -- Plans: plans as contracts see them. Checks: the first fault of a plan. Programs: the halves of each rank.
 -- PlanLetters: what a plan posts on each lane. PlanTables: rows of equal length. Stores: the slots of the ranks.
--- Runnable: a plan that can run as it is. PlanRows: worked plans.
+-- Runnable: a plan that can run as it is. SharedBlocks: blocks that are owned or lent. PlanRows: worked plans.
 pub mod Meaning
 pub mod Algebras
 pub mod Plans
@@ -11,4 +11,5 @@ pub mod Programs
 pub mod PlanLetters
 pub mod Stores
 pub mod Runnable
+pub mod SharedBlocks
 pub mod PlanRows

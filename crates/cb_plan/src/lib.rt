@@ -19,6 +19,7 @@ mod fits;
 mod operands;
 mod plans;
 mod programs;
+mod shared_blocks;
 mod stores;
 mod tables;
 
@@ -26,4 +27,5 @@ pub use acts::{Act, Half, Op, Start};
 pub use checks::CheckedPlan;
 pub use operands::Operands;
 pub use plans::{MOST_ACTS, Plan, PlanFault, PlanFaultKind, Planned};
+pub use shared_blocks::SharedBlock;
 pub use stores::{RankStore, SLOTS, Slot};

@@ -6,6 +6,7 @@ ghost use Rattle.cb_plan.specs.declared.stores.Slot.TheVariants.{Empty, Sheet, L
 ghost use Rattle.cb_plan.specs.declared.stores.TheConstants.{SLOTS};
 ghost use Rattle.cb_plan.specs.Stores.{is_filled, sheets_in};
 
+use crate::shared_blocks::SharedBlock;
 use cb_dcsc::Block;
 use cb_semirings::Semiring;
 use std::alloc::{AllocError, Global};
@@ -38,7 +39,7 @@ impl<B> Slot<B> {
 /// The slots of a rank, `SLOTS` of them.
 #[derive(Drop)]
 pub struct RankStore<S: Semiring> {
-    slots: Vec<Slot<Block<S>>>,
+    slots: Vec<Slot<SharedBlock<S>>>,
 }
 
 impl<S: Semiring> Model for RankStore<S> {
@@ -62,7 +63,7 @@ impl<S: Semiring> RankStore<S> {
     }
 
     /// What is in a slot.
-    pub fn slot(&self, n: u16) -> &Slot<Block<S>>
+    pub fn slot(&self, n: u16) -> &Slot<SharedBlock<S>>
         requires { n < SLOTS }
         ensures value { result.now ≡ get_or self.now n Empty }
         ensures size { length self.now ≡ SLOTS }
@@ -71,7 +72,7 @@ impl<S: Semiring> RankStore<S> {
     }
 
     /// Puts anything into a slot.
-    pub fn set(&mut self, n: u16, slot: Slot<Block<S>>)
+    pub fn set(&mut self, n: u16, slot: Slot<SharedBlock<S>>)
         requires { n < SLOTS }
         ensures value { self.new ≡ slice_set self.old n slot }
         ensures size { length self.old ≡ SLOTS }
@@ -85,7 +86,30 @@ impl<S: Semiring> RankStore<S> {
         ensures value { self.new ≡ slice_set self.old n (Sheet block) }
         ensures size { length self.old ≡ SLOTS }
     {
+        self.put_shared(n, SharedBlock::new(block));
+    }
+
+    /// Puts a block into a slot, which may be shared.
+    pub fn put_shared(&mut self, n: u16, block: SharedBlock<S>)
+        requires { n < SLOTS }
+        ensures value { self.new ≡ slice_set self.old n (Sheet block) }
+        ensures size { length self.old ≡ SLOTS }
+    {
         self.set(n, Slot::Sheet(block));
+    }
+
+    /// Lends the block in a slot, if there is one: copies of the slot share it from now on. If memory is refused, nothing
+    /// changes.
+    ///
+    /// Takes memory for a few words.
+    pub fn lend(&mut self, alloc: Global, n: u16) -> Result<(), AllocError>
+        requires { n < SLOTS }
+        ensures { self.new ≡ self.old }
+    {
+        match &mut self.slots[n as usize] {
+            Slot::Sheet(block) => block.lend(alloc),
+            _ => Ok(()),
+        }
     }
 
     /// Marks a slot as lost at a rank.
@@ -107,7 +131,7 @@ impl<S: Semiring> RankStore<S> {
     }
 
     /// Takes what is in a slot, and leaves it empty.
-    pub fn take(&mut self, n: u16) -> Slot<Block<S>>
+    pub fn take(&mut self, n: u16) -> Slot<SharedBlock<S>>
         requires { n < SLOTS }
         ensures value { result ≡ get_or self.old n Empty }
         ensures left { self.new ≡ slice_set self.old n Empty }
@@ -116,8 +140,8 @@ impl<S: Semiring> RankStore<S> {
         mem::replace(&mut self.slots[n as usize], Slot::Empty)
     }
 
-    /// A copy of a slot. If the slot has no block, this takes no memory.
-    pub fn try_copy(&self, n: u16) -> Result<Slot<Block<S>>, AllocError>
+    /// A copy of a slot. If the slot has no block, or a block that was lent, this takes no memory.
+    pub fn try_copy(&self, n: u16) -> Result<Slot<SharedBlock<S>>, AllocError>
         requires { n < SLOTS }
         ensures copy { IfOk result (λ slot. slot ≡ get_or self.now n Empty) }
         ensures granted { sheets_in self.now n ≡ None → IsOk result }

@@ -8,10 +8,9 @@ ghost use Rattle.cb_rank.specs.Steps.{HandsOut, Works, CountsRefusal};
 
 use crate::operations::operate;
 use crate::wants::{Arrival, Stray, Supply, Want};
-use cb_dcsc::Block;
 use cb_letters::{Body, Letter, Tag};
 use cb_matrix::Shape;
-use cb_plan::{CheckedPlan, Half, MOST_ACTS, Op, RankStore, SLOTS, Slot};
+use cb_plan::{CheckedPlan, Half, MOST_ACTS, Op, RankStore, SLOTS, SharedBlock, Slot};
 use cb_semirings::Semiring;
 use std::alloc::{AllocError, Global};
 use std::marker::Model;
@@ -123,7 +122,7 @@ impl<S: Semiring> Rank<S> {
 
     /// Does a Post except for the posting itself: returns the tag and the body of the letter. The body is a copy of the
     /// half's slot; for a lost slot it is the slot's origin, and if memory is refused it is this rank.
-    pub fn outgoing(&mut self, supply: Supply) -> (Tag, Body<Block<S>>)
+    pub fn outgoing(&mut self, supply: Supply) -> (Tag, Body<SharedBlock<S>>)
         requires { IsPost (want_of (next_half self.old)) }
         ensures half { HandsOut self.old (next_half self.old) result.0 result.1 self.new }
         ensures starved { supply ≡ Supply.Refused → CountsRefusal self.old self.new }
@@ -163,7 +162,7 @@ impl<S: Semiring> Rank<S> {
     /// Does a Take or an End with what has arrived, if that is what the half waits for. For a Take this is a letter from
     /// its sender to this rank, with its tag, that carries a sheet of the shape that the check gives it, or the news that
     /// the sheet was lost; for an End it is the end of its lane. Anything else comes back.
-    pub fn accept(&mut self, arrival: Arrival<Block<S>>) -> Result<(), Stray<Block<S>>>
+    pub fn accept(&mut self, arrival: Arrival<SharedBlock<S>>) -> Result<(), Stray<SharedBlock<S>>>
         requires { IsTakeOrEnd (want_of (next_half self.old)) }
         ensures awaited { IsOk result ↔ IsAwaited (next_half self.old) self.old.me arrival }
         ensures taken { OnOk result (self.new ≡ onward self.old (slots_with (next_half self.old) arrival self.old.slots) self.old.refusals) }
@@ -183,7 +182,7 @@ impl<S: Semiring> Rank<S> {
 }
 
 /// Whether this is what the next half of rank `me` waits for.
-fn is_awaited<S: Semiring>(half: &Half, me: u16, arrival: &Arrival<Block<S>>) -> bool
+fn is_awaited<S: Semiring>(half: &Half, me: u16, arrival: &Arrival<SharedBlock<S>>) -> bool
     ensures { IsTrue result ↔ IsAwaited (Some half.now) me arrival.now }
 {
     match half {
@@ -210,7 +209,7 @@ fn is_awaited<S: Semiring>(half: &Half, me: u16, arrival: &Arrival<Block<S>>) ->
 }
 
 /// Puts what has arrived, which is what the half waits for, into its slot.
-fn fill<S: Semiring>(store: &mut RankStore<S>, half: &Half, arrival: Arrival<Block<S>>)
+fn fill<S: Semiring>(store: &mut RankStore<S>, half: &Half, arrival: Arrival<SharedBlock<S>>)
     requires inside { HasSlot half.now }
     requires awaited { (me : ℕ) × IsAwaited (Some half.now) me arrival }
     ensures { store.new ≡ slots_with (Some half.now) arrival store.old }
@@ -219,7 +218,7 @@ fn fill<S: Semiring>(store: &mut RankStore<S>, half: &Half, arrival: Arrival<Blo
         && let Arrival::Letter(letter) = arrival
     {
         match letter.body {
-            Body::Sheet(block) => store.put(*into, block),
+            Body::Sheet(block) => store.put_shared(*into, block),
             Body::Lost(origin) => store.put_lost(*into, origin),
             Body::Close => unreachable!(),
         }
@@ -232,7 +231,7 @@ fn copy_of<S: Semiring>(
     me: u16,
     slot: u16,
     supply: Supply,
-) -> (Body<Block<S>>, bool)
+) -> (Body<SharedBlock<S>>, bool)
     requires inside { slot < SLOTS }
     requires filled { is_filled (slot_at store.now slot) ≡ true }
     ensures copy { IsCopy me (slot_at store.now slot) result.0 0 (from_bool result.1) }
@@ -252,7 +251,7 @@ fn copy_of<S: Semiring>(
 }
 
 /// Whether a Take of this shape accepts this body.
-fn has_kind<S: Semiring>(shape: Shape, body: &Body<Block<S>>) -> bool
+fn has_kind<S: Semiring>(shape: Shape, body: &Body<SharedBlock<S>>) -> bool
     ensures { IsTrue result ↔ HasKind shape body.now }
 {
     match body {

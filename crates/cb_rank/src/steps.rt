@@ -5,8 +5,8 @@ ghost use Rattle.cb_rank.specs.Steps.{StepPosts, StepTakes, StepWorks, CountsRef
 
 use crate::ranks::Rank;
 use crate::wants::{Arrival, Moved, Stray, Supply, Want};
-use cb_dcsc::Block;
 use cb_letters::{Ports, Taken};
+use cb_plan::SharedBlock;
 use cb_semirings::Semiring;
 
 impl<S: Semiring> Rank<S> {
@@ -15,11 +15,11 @@ impl<S: Semiring> Rank<S> {
     /// letter that the half doesn't wait for comes back as a [`Stray`], and only the ports change.
     ///
     /// The cost is that of the half, whatever the length of the program.
-    pub fn step<Q: Ports<Block<S>>>(
+    pub fn step<Q: Ports<SharedBlock<S>>>(
         &mut self,
         ports: &mut Q,
         supply: Supply,
-    ) -> Result<Moved, Stray<Block<S>>>
+    ) -> Result<Moved, Stray<SharedBlock<S>>>
         requires { ArePortsOf self.old (Q.standing ports.old) }
         ensures posts { StepPosts Q.standing Q.has_room Q.may_be_full Q.keeps Q.posts (next_half self.old) result self.old ports.old self.new ports.new }
         ensures takes { StepTakes Q.takes (next_half self.old) result self.old ports.old self.new ports.new }
@@ -41,7 +41,7 @@ impl<S: Semiring> Rank<S> {
     }
 
     /// A step at a Post. It makes the copy only if there is room.
-    fn post<Q: Ports<Block<S>>>(&mut self, ports: &mut Q, to: u16, supply: Supply) -> Moved
+    fn post<Q: Ports<SharedBlock<S>>>(&mut self, ports: &mut Q, to: u16, supply: Supply) -> Moved
         requires rank { IsRank self.old }
         requires want { want_of (next_half self.old) ≡ Want.Post to }
         requires ports { ArePortsOf self.old (Q.standing ports.old) }
@@ -60,7 +60,7 @@ impl<S: Semiring> Rank<S> {
     }
 
     /// A step at a Shut.
-    fn close<Q: Ports<Block<S>>>(&mut self, ports: &mut Q, to: u16) -> Moved
+    fn close<Q: Ports<SharedBlock<S>>>(&mut self, ports: &mut Q, to: u16) -> Moved
         requires rank { IsRank self.old }
         requires want { want_of (next_half self.old) ≡ Want.Shut to }
         requires ports { ArePortsOf self.old (Q.standing ports.old) }
@@ -78,11 +78,11 @@ impl<S: Semiring> Rank<S> {
     }
 
     /// A step at a Take or an End: one take.
-    fn take<Q: Ports<Block<S>>>(
+    fn take<Q: Ports<SharedBlock<S>>>(
         &mut self,
         ports: &mut Q,
         from: u16,
-    ) -> Result<Moved, Stray<Block<S>>>
+    ) -> Result<Moved, Stray<SharedBlock<S>>>
         requires rank { IsRank self.old }
         requires want { (want_of (next_half self.old) ≡ Want.Take from) ⊎ (want_of (next_half self.old) ≡ Want.End from) }
         requires ports { ArePortsOf self.old (Q.standing ports.old) }

@@ -6,7 +6,7 @@ ghost use Rattle.cb_plan.specs.Stores.{Fits};
 use cb_dcsc::Block;
 use cb_grid::Grid;
 use cb_matrix::{Entry, Matrix};
-use cb_plan::{CheckedPlan, Planned, RankStore, SLOTS, Slot};
+use cb_plan::{CheckedPlan, Planned, RankStore, SLOTS, SharedBlock, Slot};
 use cb_samples::{are_values, shape};
 use cb_semirings::PlusTimes;
 use cb_summa::{LEFT, RESULT, RIGHT, summa};
@@ -191,7 +191,7 @@ fn are_same(found: &Block<PlusTimes>, wanted: &Block<PlusTimes>) -> bool {
 }
 
 /// Whether two slots hold the same and neither is lost.
-fn hold_same(found: &Slot<Block<PlusTimes>>, wanted: &Slot<Block<PlusTimes>>) -> bool {
+fn hold_same(found: &Slot<SharedBlock<PlusTimes>>, wanted: &Slot<SharedBlock<PlusTimes>>) -> bool {
     match (found, wanted) {
         (Slot::Empty, Slot::Empty) => true,
         (Slot::Sheet(found), Slot::Sheet(wanted)) => are_same(found, wanted),

@@ -4,7 +4,7 @@ ghost use Rattle.std.specs.Prelude.{◌<◌};
 use crate::plans::{plan_of, send};
 use cb_dcsc::Block;
 use cb_letters::{Body, Letter, Tag};
-use cb_plan::{Act, CheckedPlan, Op, RankStore, SLOTS, Slot};
+use cb_plan::{Act, CheckedPlan, Op, RankStore, SLOTS, SharedBlock, Slot};
 use cb_rank::{Arrival, Rank, Supply, Want};
 use cb_samples::{block, entry, shape};
 use cb_semirings::PlusTimes;
@@ -14,7 +14,11 @@ mod letters;
 mod operations;
 
 /// A letter from rank 1 to rank 0.
-fn letter(number: u64, tag: u32, body: Body<Block<PlusTimes>>) -> Arrival<Block<PlusTimes>> {
+fn letter(
+    number: u64,
+    tag: u32,
+    body: Body<SharedBlock<PlusTimes>>,
+) -> Arrival<SharedBlock<PlusTimes>> {
     Arrival::Letter(Letter {
         from: 1,
         to: 0,
@@ -62,7 +66,7 @@ fn rank_0(alloc: Global, op: Op, slot: u16) -> Option<Rank<PlusTimes>> {
 }
 
 /// Whether a Take or an End accepts this arrival.
-fn accepts(rank: &mut Rank<PlusTimes>, arrival: Arrival<Block<PlusTimes>>) -> bool {
+fn accepts(rank: &mut Rank<PlusTimes>, arrival: Arrival<SharedBlock<PlusTimes>>) -> bool {
     match rank.want() {
         Want::Take(_) => rank.accept(arrival).is_ok(),
         Want::End(_) => rank.accept(arrival).is_ok(),
@@ -71,14 +75,15 @@ fn accepts(rank: &mut Rank<PlusTimes>, arrival: Arrival<Block<PlusTimes>>) -> bo
 }
 
 /// The letter for slot 0, 1 or 2: the number 2, 3 or 5, or the mark that it was lost at rank 10, 11 or 12.
-fn operand(alloc: Global, slot: u16, lost: bool) -> Option<Body<Block<PlusTimes>>>
+fn operand(alloc: Global, slot: u16, lost: bool) -> Option<Body<SharedBlock<PlusTimes>>>
     requires { slot < 3 }
 {
     if lost {
         return Some(Body::Lost(10 + slot));
     }
     let number = [2, 3, 5][slot as usize];
-    Some(Body::Sheet(block(alloc, 1, 1, &[entry(0, 0, number)]).ok()?))
+    let sheet = block(alloc, 1, 1, &[entry(0, 0, number)]).ok()?;
+    Some(Body::Sheet(SharedBlock::new(sheet)))
 }
 
 /// Whether a rank takes its operands, some of them lost.

@@ -7,10 +7,9 @@ ghost use Rattle.cb_ranks.specs.Crews.{AreNew};
 ghost use Rattle.cb_ranks.specs.Runs.{IsNewRun};
 
 use crate::plans::{Held, contents_at, contents_of, doubling, rally};
-use cb_dcsc::Block;
 use cb_lanes::{Desk, Gone};
 use cb_letters::Capacity;
-use cb_plan::SLOTS;
+use cb_plan::{SLOTS, SharedBlock};
 use cb_rank::{Moved, Rank, Supply};
 use cb_ranks::{Finished, Gate, Member, OpenGate, assemble, run_rank};
 use cb_semirings::{PlusTimes, Semiring};
@@ -43,7 +42,7 @@ fn pair(alloc: Global) -> Option<(Member<PlusTimes>, Member<PlusTimes>)>
 /// Whether a rank's step over its desk is answered as expected.
 fn steps_as_expected(
     rank: &mut Rank<PlusTimes>,
-    desk: &mut Desk<Block<PlusTimes>>,
+    desk: &mut Desk<SharedBlock<PlusTimes>>,
     wanted: Moved,
 ) -> bool
     requires { ArePortsOf rank.old (standing desk.old) }

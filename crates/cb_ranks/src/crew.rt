@@ -3,16 +3,15 @@ ghost use Rattle.std.specs.Prelude.{◌≡◌, ◌≤◌, length, IfOk};
 ghost use Rattle.cb_plan.specs.Stores.{Fits};
 ghost use Rattle.cb_ranks.specs.Crews.{AreNew, AreNewRanks, IsCrew, desks_of};
 
-use cb_dcsc::Block;
 use cb_lanes::{Desk, open};
 use cb_letters::Capacity;
-use cb_plan::{CheckedPlan, RankStore};
+use cb_plan::{CheckedPlan, RankStore, SharedBlock};
 use cb_rank::Rank;
 use cb_semirings::Semiring;
 use std::alloc::{AllocError, Global};
 
 /// A rank with its desk.
-pub type Member<S> = (Rank<S>, Desk<Block<S>>);
+pub type Member<S> = (Rank<S>, Desk<SharedBlock<S>>);
 
 /// Makes the ranks of a plan in order, each new, with its store and a new desk, over lanes of `capacity` letters. For
 /// callers that run each rank by [`run_rank`](crate::run_rank) on a thread of their own.
@@ -37,7 +36,7 @@ fn pair_up<S: Semiring>(
     alloc: Global,
     plan: &CheckedPlan,
     stores: Vec<RankStore<S>>,
-    desks: Vec<Desk<Block<S>>>,
+    desks: Vec<Desk<SharedBlock<S>>>,
 ) -> Result<Vec<Member<S>>, AllocError>
     requires fits { Fits plan.now.ranks plan.now.starts stores.items }
     requires desks { (length desks.items ≡ plan.now.ranks) × (length desks.items ≤ 65535) }

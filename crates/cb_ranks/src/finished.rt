@@ -3,9 +3,8 @@ ghost use Rattle.std.specs.Prelude.{◌≡◌, ◌≢◌, ◌<◌, ◌^◌, leng
 ghost use Rattle.cb_lanes.specs.Lanes.{rank_count};
 
 use crate::crew::Member;
-use cb_dcsc::Block;
 use cb_lanes::{Desk, Settled, settle};
-use cb_plan::RankStore;
+use cb_plan::{RankStore, SharedBlock};
 use cb_semirings::Semiring;
 use std::alloc::{AllocError, Global};
 
@@ -14,7 +13,7 @@ use std::alloc::{AllocError, Global};
 pub struct Finished<S: Semiring> {
     pub(crate) stores: Vec<RankStore<S>>,
     pub(crate) refusals: Vec<u64>,
-    pub(crate) lanes: Settled<Block<S>>,
+    pub(crate) lanes: Settled<SharedBlock<S>>,
     ghost ranks: { (length refusals.items ≡ length stores.items) × (rank_count lanes ≡ length stores.items) },
     ghost fits: { sum refusals.items < 2 ^ 64 },
 }
@@ -60,7 +59,7 @@ impl<S: Semiring> Finished<S> {
 pub struct Remains<S: Semiring> {
     pub(crate) stores: Vec<RankStore<S>>,
     pub(crate) refusals: Vec<u64>,
-    pub(crate) desks: Vec<Desk<Block<S>>>,
+    pub(crate) desks: Vec<Desk<SharedBlock<S>>>,
 }
 
 impl<S: Semiring> Remains<S> {

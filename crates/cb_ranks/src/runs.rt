@@ -8,9 +8,9 @@ ghost use Rattle.cb_ranks.specs.UnderWay.{IsUnderWay, DoesNext, TellsNext, arriv
 
 use crate::gates::Gate;
 use crate::recorders::{Recorder, Silent};
-use cb_dcsc::Block;
 use cb_lanes::{Desk, Gone};
 use cb_letters::{Tag, Taken};
+use cb_plan::SharedBlock;
 use cb_rank::{Arrival, Rank, Supply, Want};
 use cb_semirings::Semiring;
 use cb_trace::{Envelope, TraceEvent};
@@ -24,9 +24,9 @@ use std::sync::Wait;
 pub fn run_rank<S: Semiring, R: Wait, G: Gate<S>>(
     rt: &R,
     rank: Rank<S>,
-    desk: Desk<Block<S>>,
+    desk: Desk<SharedBlock<S>>,
     gate: &G,
-) -> Result<(Rank<S>, Desk<Block<S>>), Gone>
+) -> Result<(Rank<S>, Desk<SharedBlock<S>>), Gone>
     requires { IsNewRun rank desk }
     ensures runs { IfOk result (λ r. Runs S.arithmetic rank desk r.0 r.1) }
     ensures gone { IfErr result (λ e. IsOther rank e.0) }
@@ -39,10 +39,10 @@ pub fn run_rank<S: Semiring, R: Wait, G: Gate<S>>(
 pub fn run_recorded<S: Semiring, R: Wait, G: Gate<S>, T: Recorder>(
     rt: &R,
     rank: Rank<S>,
-    desk: Desk<Block<S>>,
+    desk: Desk<SharedBlock<S>>,
     gate: &G,
     recorder: T,
-) -> Result<(Rank<S>, Desk<Block<S>>, T), Gone>
+) -> Result<(Rank<S>, Desk<SharedBlock<S>>, T), Gone>
     requires { IsNewRun rank desk }
     ensures runs { IfOk result (λ r. Runs S.arithmetic rank desk r.0 r.1) }
     ensures told { IfOk result (λ r. TellsProgram T.tells rank recorder r.2) }
@@ -62,7 +62,7 @@ pub fn run_recorded<S: Semiring, R: Wait, G: Gate<S>, T: Recorder>(
 fn do_half<S: Semiring, R: Wait, T: Recorder>(
     rt: &R,
     rank: &mut Rank<S>,
-    desk: &mut Desk<Block<S>>,
+    desk: &mut Desk<SharedBlock<S>>,
     recorder: &mut T,
 ) -> Result<(), Gone>
     requires more { next_half rank.old ≢ None }
@@ -88,7 +88,7 @@ fn do_half<S: Semiring, R: Wait, T: Recorder>(
 fn post<S: Semiring, R: Wait, T: Recorder>(
     rt: &R,
     rank: &mut Rank<S>,
-    desk: &mut Desk<Block<S>>,
+    desk: &mut Desk<SharedBlock<S>>,
     recorder: &mut T,
     to: u16,
 ) -> Result<(), Gone>
@@ -111,7 +111,7 @@ fn post<S: Semiring, R: Wait, T: Recorder>(
 fn close<S: Semiring, R: Wait, T: Recorder>(
     rt: &R,
     rank: &mut Rank<S>,
-    desk: &mut Desk<Block<S>>,
+    desk: &mut Desk<SharedBlock<S>>,
     recorder: &mut T,
     to: u16,
 ) -> Result<(), Gone>
@@ -173,7 +173,7 @@ fn event_of<P: Drop>(mark: Envelope, arrival: &Arrival<P>) -> TraceEvent
 fn take<S: Semiring, R: Wait, T: Recorder>(
     rt: &R,
     rank: &mut Rank<S>,
-    desk: &mut Desk<Block<S>>,
+    desk: &mut Desk<SharedBlock<S>>,
     recorder: &mut T,
     from: u16,
 ) -> Result<(), Gone>

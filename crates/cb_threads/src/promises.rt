@@ -3,8 +3,8 @@ ghost use Rattle.std.specs.Prelude.{◌≡◌, IfOk};
 ghost use Rattle.cb_ranks.specs.Runs.{Runs};
 ghost use Rattle.cb_ranks.specs.Told.{TellsProgram};
 
-use cb_dcsc::Block;
 use cb_lanes::{Desk, Gone};
+use cb_plan::SharedBlock;
 use cb_rank::Rank;
 use cb_ranks::Recorder;
 use cb_semirings::Semiring;
@@ -16,11 +16,12 @@ use std::thread::{Promise, PromisedHandle};
 #[derive(Drop)]
 pub(crate) struct RunOf<S: Semiring, T: Recorder> {
     pub(crate) rank: Snapshot<Rank<S>>,
-    pub(crate) desk: Snapshot<Desk<Block<S>>>,
+    pub(crate) desk: Snapshot<Desk<SharedBlock<S>>>,
     pub(crate) recorder: Snapshot<T>,
 }
 
-impl<S: Semiring, T: Recorder> Promise<Result<(Rank<S>, Desk<Block<S>>, T), Gone>> for RunOf<S, T> {
+impl<S: Semiring, T: Recorder> Promise<Result<(Rank<S>, Desk<SharedBlock<S>>, T), Gone>>
+    for RunOf<S, T> {
     ghost kept_by = { λ p r. IfOk r (λ done. Runs S.arithmetic p.rank.value p.desk.value done.0 done.1
         × TellsProgram T.tells p.rank.value p.recorder.value done.2) };
 }
@@ -29,6 +30,9 @@ impl<S: Semiring, T: Recorder> Promise<Result<(Rank<S>, Desk<Block<S>>, T), Gone
 #[derive(Drop)]
 pub(crate) struct Running<S: Semiring, T: Recorder> {
     pub(crate) rank: u16,
-    pub(crate) thread: PromisedHandle<Result<(Rank<S>, Desk<Block<S>>, T), Gone>, RunOf<S, T>>,
+    pub(crate) thread: PromisedHandle<
+        Result<(Rank<S>, Desk<SharedBlock<S>>, T), Gone>,
+        RunOf<S, T>,
+    >,
     ghost own: { rank ≡ thread.promise.desk.value.me },
 }

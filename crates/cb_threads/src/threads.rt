@@ -1,4 +1,5 @@
 //! A thread for each rank, in one scope. The threads are started in order, and all are joined before the scope ends.
+ghost use denote.Param.Send.{IsSend};
 ghost use Rattle.std.specs.Prelude.{◌≡◌, ◌≤◌, length, map, IfOk, IfErr, IfSome, IfNone, vec_len};
 ghost use Rattle.std.specs.List.{AllZip};
 ghost use Rattle.cb_plan.specs.Stores.{Fits};
@@ -16,10 +17,9 @@ ghost use mathlib.Core.List.{IsPrefix};
 use crate::faults::RunFault;
 use crate::promises::{RunOf, Running};
 use crate::rooms::Room;
-use cb_dcsc::Block;
 use cb_lanes::{Desk, Gone};
 use cb_letters::Capacity;
-use cb_plan::{CheckedPlan, RankStore};
+use cb_plan::{CheckedPlan, RankStore, SharedBlock};
 use cb_rank::Rank;
 use cb_ranks::{Finished, Gate, Member, Recorder, Remains, Silent, assemble, run_recorded};
 use cb_semirings::Semiring;
@@ -81,18 +81,28 @@ pub(crate) fn run_told<
     Ok((remains.finish(done), recorders))
 }
 
+/// Tells a proof that values of a type may go to other threads.
+#[inline(always)]
+fn may_be_sent<T: Send>()
+    ensures { IsSend T.row }
+{}
+
 /// Starts a thread for one rank. If no thread can be started, the rank and its desk are dropped.
 fn start_one<'s, E, S: Semiring + Send + Sync + 's, R: Wait + Sync, G: Gate<S>, T: Recorder + 's>(
     scope: &Scope<'s, E>,
     rt: &'s R,
     rank: Rank<S>,
-    desk: Desk<Block<S>>,
+    desk: Desk<SharedBlock<S>>,
     recorder: T,
     gate: &'s G,
 ) -> Option<Running<S, T>>
     requires { IsNewRun rank desk }
     ensures { IfSome result (λ running. (started running ≡ (rank, desk)) × (started_recorder running ≡ recorder)) }
 {
+    // The prover finds this for each of them, but not for all at once.
+    may_be_sent::<SharedBlock<S>>();
+    may_be_sent::<Rank<S>>();
+    may_be_sent::<Desk<SharedBlock<S>>>();
     let number = desk.rank();
     let promise = RunOf {
         rank: Snapshot::of(&rank),
@@ -101,7 +111,7 @@ fn start_one<'s, E, S: Semiring + Send + Sync + 's, R: Wait + Sync, G: Gate<S>, 
     };
     let started = scope.spawn_with(
         promise,
-        move || -> Result<(Rank<S>, Desk<Block<S>>, T), Gone>
+        move || -> Result<(Rank<S>, Desk<SharedBlock<S>>, T), Gone>
             requires { IsNewRun rank desk }
         { run_recorded(rt, rank, desk, gate, recorder) },
     );

@@ -12,9 +12,8 @@ ghost use Rattle.cb_world.specs.declared.events.Event.TheVariants.{Starve};
 use crate::ends::Ends;
 use crate::events::Event;
 use crate::starting::{parts_of, start_ranks};
-use cb_dcsc::Block;
 use cb_letters::Capacity;
-use cb_plan::{CheckedPlan, RankStore};
+use cb_plan::{CheckedPlan, RankStore, SharedBlock};
 use cb_rank::{Moved, Rank, Supply, Want};
 use cb_semirings::Semiring;
 use std::alloc::{AllocError, Global};
@@ -28,7 +27,7 @@ pub struct World<S: Semiring> {
     first: Snapshot<Vec<RankStore<S>>>,
     capacity: usize,
     ranks: Vec<Rank<S>>,
-    ends: Ends<Block<S>>,
+    ends: Ends<SharedBlock<S>>,
     // Both are empty, with room for the store of each rank and for its count of refusals.
     stores: Vec<RankStore<S>>,
     counts: Vec<u64>,

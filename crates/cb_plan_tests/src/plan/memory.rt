@@ -7,7 +7,7 @@ use crate::plan::{checked, plan_of, row_at_0, small, two_stores};
 use cb_dcsc::Block;
 use cb_local::{run_plain, work};
 use cb_matrix::{Entry, Shape};
-use cb_plan::{CheckedPlan, Op, Plan, PlanFaultKind, RankStore, Slot, Start};
+use cb_plan::{CheckedPlan, Op, Plan, PlanFaultKind, RankStore, SharedBlock, Slot, Start};
 use cb_samples::{entry, shape};
 use cb_semirings::PlusTimes;
 use std::alloc::{AllocError, Global};
@@ -67,7 +67,7 @@ fn a_plan_grows_with_ample_memory(rt: HostRuntime) {
 }
 
 /// The entries of the block that a slot holds.
-fn entries_in(slot: &Slot<Block<PlusTimes>>) -> Option<Vec<Entry>> {
+fn entries_in(slot: &Slot<SharedBlock<PlusTimes>>) -> Option<Vec<Entry>> {
     match slot {
         Slot::Sheet(block) => block.entries().ok(),
         _ => None,
@@ -75,7 +75,7 @@ fn entries_in(slot: &Slot<Block<PlusTimes>>) -> Option<Vec<Entry>> {
 }
 
 /// Whether a slot holds the block that rank 0 starts with.
-fn is_block(slot: &Slot<Block<PlusTimes>>) -> bool {
+fn is_block(slot: &Slot<SharedBlock<PlusTimes>>) -> bool {
     match entries_in(slot) {
         Some(entries) => entries.as_slice() == [entry(0, 1, 6)].as_slice(),
         None => false,
@@ -100,10 +100,31 @@ fn is_sent(alloc: Global) -> Option<bool> {
     Some(is_block(after[1].slot(3)))
 }
 
+/// Whether the block of rank 0 is lent, and a copy too, and each of the two is handed out alone.
+fn is_lent(alloc: Global) -> Option<bool> {
+    let mut stores = two_stores(alloc)?;
+    stores[0].lend(alloc, 0).ok()?;
+    stores[0].lend(alloc, 0).ok()?;
+    let copy = stores[0].try_copy(0).ok()?;
+    let are_blocks = is_block(&copy) && is_block(stores[0].slot(0));
+    let is_shared = is_block(&Slot::Sheet(SharedBlock::new(alone(copy)?)));
+    let lent = alone(stores[0].take(0))?;
+    Some(are_blocks && is_shared && is_block(&Slot::Sheet(SharedBlock::new(lent))))
+}
+
+/// The block of a slot alone. It is copied if it has other owners.
+fn alone(slot: Slot<SharedBlock<PlusTimes>>) -> Option<Block<PlusTimes>> {
+    match slot {
+        Slot::Sheet(block) => block.into_block().ok(),
+        _ => None,
+    }
+}
+
 /// The same for the calls on stores.
 #[test]
-fn a_block_is_copied_and_sent_with_ample_memory(rt: HostRuntime) {
+fn a_block_is_copied_lent_and_sent_with_ample_memory(rt: HostRuntime) {
     assert!(rt; is_copied(rt.alloc()) == Some(true));
+    assert!(rt; is_lent(rt.alloc()) == Some(true));
     assert!(rt; is_sent(rt.alloc()) == Some(true));
 }
 
@@ -117,7 +138,7 @@ fn blank(alloc: Global, store: &mut RankStore<PlusTimes>, shape: Shape) {
 }
 
 /// A copy of a slot without a block. That it isn't refused, whatever memory there is, is proved.
-fn copied(store: &RankStore<PlusTimes>, n: u16) -> Slot<Block<PlusTimes>>
+fn copied(store: &RankStore<PlusTimes>, n: u16) -> Slot<SharedBlock<PlusTimes>>
     requires slot { n < SLOTS }
     requires none { sheets_in store.now n ≡ None }
 {

@@ -2,7 +2,7 @@
 use super::{Held, accepts, contents_of, letter, rank_0, worked};
 use cb_dcsc::Block;
 use cb_letters::{Body, Letter, Tag};
-use cb_plan::Op;
+use cb_plan::{Op, SharedBlock};
 use cb_rank::{Arrival, Rank, Supply, Want};
 use cb_samples::shape;
 use cb_semirings::PlusTimes;
@@ -17,7 +17,10 @@ fn copied(alloc: Global, lost: bool) -> Option<Rank<PlusTimes>> {
 }
 
 /// The letter of a Post, if the next half is one.
-fn posted(rank: &mut Rank<PlusTimes>, supply: Supply) -> Option<(Tag, Body<Block<PlusTimes>>)> {
+fn posted(
+    rank: &mut Rank<PlusTimes>,
+    supply: Supply,
+) -> Option<(Tag, Body<SharedBlock<PlusTimes>>)> {
     match rank.want() {
         Want::Post(_) => Some(rank.outgoing(supply)),
         _ => None,
@@ -67,7 +70,7 @@ fn a_program_is_done_half_by_half(rt: HostRuntime) {
 }
 
 /// The rank at which a body was lost.
-fn origin_of(body: &Body<Block<PlusTimes>>) -> Option<u16> {
+fn origin_of(body: &Body<SharedBlock<PlusTimes>>) -> Option<u16> {
     match body {
         Body::Lost(origin) => Some(*origin),
         _ => None,
@@ -110,11 +113,14 @@ const STRAYS: [Stray; 5] = [
 ];
 
 /// What such a letter has in it.
-fn body_of(alloc: Global, carried: Carried) -> Option<Body<Block<PlusTimes>>> {
+fn body_of(alloc: Global, carried: Carried) -> Option<Body<SharedBlock<PlusTimes>>> {
     match carried {
         Carried::Lost => Some(Body::Lost(4)),
         Carried::Mark => Some(Body::Close),
-        Carried::Wide => Some(Body::Sheet(Block::empty(alloc, shape(1, 2).ok()?))),
+        Carried::Wide => {
+            let sheet = Block::empty(alloc, shape(1, 2).ok()?);
+            Some(Body::Sheet(SharedBlock::new(sheet)))
+        }
     }
 }
 

@@ -8,4 +8,4 @@ returns-in-Ok-clause-ok g c =
 
 pub returns-in-Err-clause-err : goal.returns-in-Err-clause-err
 returns-in-Err-clause-err g c =
-    put_back c.args.store.now c.take.new.self c.put-in-Err.new.self c.args.acc _ _ (sym c.in-Sheet.is ∙ c.take.ensures.value) c.take.ensures.left c.put-in-Err.ensures.value (Rattle.std.proofs.Common.ap Rattle.cb_plan.specs.declared.stores.Slot.TheVariants.Sheet c.in-Err.ensures.err)
+    put_back c.args.store.now c.take.new.self c.put_shared.new.self c.args.acc _ _ (sym c.in-Sheet.is ∙ c.take.ensures.value) c.take.ensures.left c.put_shared.ensures.value (Rattle.std.proofs.Common.ap Rattle.cb_plan.specs.declared.stores.Slot.TheVariants.Sheet c.in-Err.ensures.err)

@@ -16,6 +16,10 @@ pub distribute-requires-clause-slot : goal.distribute-requires-clause-slot
 distribute-requires-clause-slot g c =
     next_slot g.S.Semiring.arithmetic c.args.grid.now.side c.args.operands.items (into_iter_items c.loop-slot.slot-iterator) (into_iter_items c.next.new.self) (c.in-Some.slot, c.in-Some.matrix) c.loop-slot.stores.items c.loop-slot.invariant c.in-Some.ensures.steps.0
 
+pub lend_slot-requires : goal.lend_slot-requires
+lend_slot-requires g c =
+    next_slot g.S.Semiring.arithmetic c.args.grid.now.side c.args.operands.items (into_iter_items c.loop-slot.slot-iterator) (into_iter_items c.next.new.self) (c.in-Some.slot, c.in-Some.matrix) c.loop-slot.stores.items c.loop-slot.invariant c.in-Some.ensures.steps.0
+
 pub distribute-requires-clause-table : goal.distribute-requires-clause-table
 distribute-requires-clause-table g c =
     let side = next_side g.S.Semiring.arithmetic c.args.grid.now.side c.args.operands.items (into_iter_items c.loop-slot.slot-iterator) (into_iter_items c.next.new.self) (c.in-Some.slot, c.in-Some.matrix) c.loop-slot.stores.items c.loop-slot.invariant c.in-Some.ensures.steps.0 in
@@ -23,7 +27,7 @@ distribute-requires-clause-table g c =
 
 pub loop-slot-preserved : goal.loop-slot-preserved
 loop-slot-preserved g c =
-    next_laid_out g.S.Semiring.arithmetic c.args.grid.now.side c.args.operands.items (into_iter_items c.loop-slot.slot-iterator) (into_iter_items c.next.new.self) (c.in-Some.slot, c.in-Some.matrix) c.loop-slot.stores.items c.loop-slot.invariant c.in-Some.ensures.steps.0 c.distribute.new.stores.items c.distribute.ensures
+    next_laid_out g.S.Semiring.arithmetic c.args.grid.now.side c.args.operands.items (into_iter_items c.loop-slot.slot-iterator) (into_iter_items c.next.new.self) (c.in-Some.slot, c.in-Some.matrix) c.loop-slot.stores.items c.loop-slot.invariant c.in-Some.ensures.steps.0 c.lend_slot.new.stores.items (rw c.lend_slot.ensures c.distribute.ensures)
 
 pub returns : goal.returns
 returns g c =
