@@ -4,14 +4,15 @@
 //! touch. If anything is unexpected (a line is very long, a read fails, memory is refused, or the file changes its length),
 //! nothing is kept of the parts, and the caller loads the file from its start.
 ghost use Rattle.std.specs.Prelude.{◌<◌};
+ghost use Rattle.std.specs.Thread.{IsSync};
 
 use cb_outcomes::texts::Text;
 use std::alloc::Global;
 use std::fs::{File, OpenFile};
+use std::io;
 use std::io::{Read, Seek, SeekFrom};
 use std::rt::Files;
-use std::thread::Threads;
-use std::{io, thread};
+use std::thread::{Threads, join_mut};
 
 /// The fewest bytes that get a thread of their own.
 const LEAST_BYTES: u64 = 262_144;
@@ -182,11 +183,26 @@ fn has_ended(alloc: Global, file: &mut File) -> bool {
     }
 }
 
+/// Loads each part by its own thread, while this one waits.
+///
+/// All are started by the caller's thread: the system may keep a thread on the processor of the one that started it for
+/// a while.
+fn load_each<R: Threads + Sync>(rt: &R, parts: &mut [Part]) {
+    if let Some((last, front)) = parts.split_last_mut() {
+        join_mut(
+            rt,
+            &mut || last.load(),
+            &mut ||
+                requires { IsSync R.row }
+            { load_each(rt, front) },
+        );
+    }
+}
+
 /// Loads parts, each by its own thread. None if there are none, or if one can't be loaded.
 fn load_parts<R: Threads + Sync>(rt: &R, alloc: Global, parts: Option<Vec<Part>>) -> Option<Text> {
     let mut parts = parts?;
-    let count = parts.len().max(1);
-    thread::for_each_mut(rt, &mut parts, count, &|_, part| part.load());
+    load_each(rt, &mut parts);
     let last = parts.last_mut()?;
     if !has_ended(alloc, &mut last.file) {
         return None;

@@ -1,10 +1,10 @@
 //! Matrix Market texts, read by several threads.
 //!
-//! A text that was loaded in parts is read part by part. A text in one part is cut in two where a line ends, and each half
-//! again, until there are as many pieces as wanted. Each piece is read by its own thread, straight into the blocks of a grid
-//! as long as its entries ascend. Neighbouring pieces are then joined, block by block, until one is left. If no piece has a
-//! fault and all announced entries are there, it has the matrix. Otherwise, and if memory is refused,
-//! [`cb_market::read_distributed`] reads the text again on one thread and reports the first fault.
+//! A text that was loaded in parts is read part by part. Of a text in one part, pieces are cut off where lines end. The
+//! caller's thread starts a thread for each piece but the first, and reads that one itself. Each is read straight into the
+//! blocks of a grid as long as its entries ascend. The pieces are then joined, one after the other, block by block. If no
+//! piece has a fault and all announced entries are there, the joined piece has the matrix. Otherwise, and if memory is
+//! refused, [`cb_market::read_distributed`] reads the text again on one thread and reports the first fault.
 //!
 //! If a thread isn't available, the caller's thread reads its piece. Besides the text, the memory is that of the blocks
 //! and, while two pieces are joined, a second copy of the later one.
@@ -46,8 +46,8 @@ impl Pieces {
 /// Reads a text as a matrix in the blocks of a grid, or returns its first fault, as [`cb_market::read_distributed`] does.
 /// Each piece of the text is read by its own thread.
 ///
-/// Each thread reads its piece once. Then entries are copied to join those before them, at most once per level of
-/// the halving. A text with a fault is read twice.
+/// Each thread reads its piece once. Then the entries of all pieces except the first are copied once, to join those before
+/// them. A text with a fault is read twice.
 pub fn read_side_by_side<S: Semiring + Send + Sync, R: Threads + Sync>(
     rt: &R,
     alloc: Global,
@@ -217,18 +217,18 @@ fn read_part<S: Semiring + Send + Sync, R: Threads + Sync>(
     if count < 2 {
         return read_piece::<S>(plan.alloc, plan.grid, plan.header, plan.size, room, text);
     }
-    let (low, high) = (count / 2, count - count / 2);
+    let (low, high) = (count - 1, 1);
     let (first, last) = parted(text, share(text.len(), low, count));
-    let (front, back) = join(
+    let (back, front) = join(
         rt,
-        || -> Option<Piece<S>>
-            requires { IsSync R.row × IsTrue (is_shape plan.now.header.symmetry plan.now.size.shape) }
-            ensures { IfSome result (λ p. IsPart S.arithmetic plan.entry.now.header plan.entry.now.size.shape plan.entry.now.grid.side first.entry.now p) }
-        { read_part::<S, R>(rt, plan, low, room, first) },
         || -> Option<Piece<S>>
             requires { IsSync R.row × IsTrue (is_shape plan.now.header.symmetry plan.now.size.shape) }
             ensures { IfSome result (λ p. IsPart S.arithmetic plan.entry.now.header plan.entry.now.size.shape plan.entry.now.grid.side last.entry.now p) }
         { read_part::<S, R>(rt, plan, high, plan.room_for(last, &[]), last) },
+        || -> Option<Piece<S>>
+            requires { IsSync R.row × IsTrue (is_shape plan.now.header.symmetry plan.now.size.shape) }
+            ensures { IfSome result (λ p. IsPart S.arithmetic plan.entry.now.header plan.entry.now.size.shape plan.entry.now.grid.side first.entry.now p) }
+        { read_part::<S, R>(rt, plan, low, room, first) },
     );
     let (Some(front), Some(back)) = (front, back) else {
         return None;
@@ -248,23 +248,23 @@ fn read_parts<S: Semiring + Send + Sync, R: Threads + Sync>(
     requires { IsTrue (is_shape plan.now.header.symmetry plan.now.size.shape) }
     ensures { IfSome result (λ p. IsPart S.arithmetic plan.now.header plan.now.size.shape plan.now.grid.side (first.now ++ joined rest.now) p) }
 {
-    let (low, high) = rest.split_at(rest.len() / 2);
+    let (low, high) = rest.split_at(rest.len().saturating_sub(1));
     let Some((next, last)) = high.split_first() else {
         return read_piece::<S>(plan.alloc, plan.grid, plan.header, plan.size, room, first);
     };
     if !parts_end_with_line(first, low) {
         return None;
     }
-    let (front, back) = join(
+    let (back, front) = join(
         rt,
-        || -> Option<Piece<S>>
-            requires { IsSync R.row × IsTrue (is_shape plan.now.header.symmetry plan.now.size.shape) }
-            ensures { IfSome result (λ p. IsPart S.arithmetic plan.entry.now.header plan.entry.now.size.shape plan.entry.now.grid.side (first.entry.now ++ joined low.entry.now) p) }
-        { read_parts::<S, R>(rt, plan, room, first, low) },
         || -> Option<Piece<S>>
             requires { IsSync R.row × IsTrue (is_shape plan.now.header.symmetry plan.now.size.shape) }
             ensures { IfSome result (λ p. IsPart S.arithmetic plan.entry.now.header plan.entry.now.size.shape plan.entry.now.grid.side (next.entry.now.items ++ joined last.entry.now) p) }
         { read_parts::<S, R>(rt, plan, plan.room_for(next, last), next, last) },
+        || -> Option<Piece<S>>
+            requires { IsSync R.row × IsTrue (is_shape plan.now.header.symmetry plan.now.size.shape) }
+            ensures { IfSome result (λ p. IsPart S.arithmetic plan.entry.now.header plan.entry.now.size.shape plan.entry.now.grid.side (first.entry.now ++ joined low.entry.now) p) }
+        { read_parts::<S, R>(rt, plan, room, first, low) },
     );
     let (Some(front), Some(back)) = (front, back) else {
         return None;

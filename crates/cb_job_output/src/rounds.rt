@@ -38,8 +38,8 @@ impl<'a, S: Semiring> Model for Round<'a, S> {
 }
 
 impl<'a, S: Semiring> Round<'a, S> {
-    /// Makes empty sheets for a text: one per thread, or fewer if the matrix has too few entries. Each takes at most
-    /// 1.5 MB.
+    /// Makes empty sheets for a text: one per thread except the caller's, which writes the round before to a sink; or fewer
+    /// if the matrix has too few entries. Each takes at most 1.5 MB.
     pub fn new(
         alloc: Global,
         threads: usize,
@@ -47,7 +47,7 @@ impl<'a, S: Semiring> Round<'a, S> {
     ) -> Result<Round<'a, S>, AllocError>
         ensures { IfOk result (λ round. round ≡ []) }
     {
-        let threads = threads.max(1);
+        let threads = threads.saturating_sub(1).max(1);
         let entries = text.entry_count();
         let lines = entries.div_ceil(threads).clamp(FEW, LINES);
         let sheets = entries.div_ceil(lines).clamp(1, threads);

@@ -4,9 +4,9 @@
 //! are divided so that all panels take about the same number of products of two values, as in `cb_shares`. No operand is
 //! copied, and one index of the left block's columns serves all threads.
 //!
-//! Panels are made by halves: a thread makes the first half, another one the second. If no thread is available, the
-//! caller's thread makes the panel. The panels stand side by side, and no entry is copied; [`multiply`] copies them into
-//! one block, for callers that need one.
+//! The caller's thread starts a thread for each panel but the last, and makes that one itself. If no thread is available, it
+//! makes the others too. The panels stand side by side, and no entry is copied; [`multiply`] copies them into one block, for
+//! callers that need one.
 #![tactic(auto)]
 
 ghost use Rattle.std.specs.Prelude.{◌≡◌, ◌<◌, ◌≤◌, IfOk, length};
@@ -106,7 +106,8 @@ fn most_entries(counts: &[usize], rows: u32) -> usize {
     sum
 }
 
-/// Makes these columns of the product in this many panels. Each takes room for the entries that its columns can have.
+/// Makes these columns of the product in this many panels: the first in another thread, and the others beside it. Each takes
+/// room for the entries that its columns can have.
 fn make_panels<S: Semiring + Send + Sync, R: Threads + Sync>(
     rt: &R,
     alloc: Global,
@@ -124,7 +125,7 @@ fn make_panels<S: Semiring + Send + Sync, R: Threads + Sync>(
         return make_panel(alloc, left, index, right, columns, counts);
     }
     prove_eq!(left.shape().cols(), right.shape().rows());
-    let (low, high) = (count / 2, count - count / 2);
+    let (low, high) = (1, count - 1);
     let place = place_of(counts, low, count);
     let (first, last) = columns.split_at(place.min(columns.len()));
     let (first_counts, last_counts) = counts.split_at(place);
