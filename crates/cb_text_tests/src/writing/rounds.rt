@@ -179,14 +179,16 @@ fn sheets_of(alloc: Global, threads: usize, entries: u32) -> usize {
 const SHEETS: &[(usize, u32, usize)] = &[
     (0, 3, 1),
     (1, 20_000, 1),
-    (2, 20_000, 2),
+    (2, 20_000, 1),
+    (3, 20_000, 2),
     (4, 20_000, 2),
+    (4, 50_000, 3),
     (4, 5_000, 1),
 ];
 
-/// There is a sheet for each thread with enough work, and at least one.
+/// There is a sheet for each thread with enough work, except the caller's, and at least one.
 #[test]
-fn have_a_sheet_for_each_thread(rt: HostRuntime) {
+fn have_a_sheet_for_each_thread_but_one(rt: HostRuntime) {
     for (threads, entries, wanted) in SHEETS {
         assert!(rt; sheets_of(rt.alloc(), *threads, *entries) == *wanted);
     }
