@@ -3,6 +3,7 @@ ghost use Rattle.std.specs.Prelude.{◌≡◌, ◌≤◌, ◌<◌, ◌+◌, [], 
 ghost use Rattle.cb_market_pages.specs.Sheets.{share_of};
 ghost use Rattle.cb_job_output.specs.Rounds.{written_on, dealt_to};
 
+use crate::apart::each_apart;
 use crate::gates::{Gate, OpenGate};
 use cb_market_pages::{MOST_LINES, Sheet, TextPages};
 use cb_semirings::Semiring;
@@ -38,8 +39,8 @@ impl<'a, S: Semiring> Model for Round<'a, S> {
 }
 
 impl<'a, S: Semiring> Round<'a, S> {
-    /// Makes empty sheets for a text: one per thread except the caller's, which writes the round before to a sink; or fewer
-    /// if the matrix has too few entries. Each takes at most 1.5 MB.
+    /// Makes empty sheets for a text: one per thread except the one that writes the round before to a sink; or fewer if the
+    /// matrix has too few entries. Each takes at most 1.5 MB.
     pub fn new(
         alloc: Global,
         threads: usize,
@@ -123,8 +124,11 @@ impl<'a, S: Semiring + Send + Sync> Round<'a, S> {
         ensures none { result ≡ false → text.old ≡ [] }
     {
         let dealt = deal(&mut self.sheets, text);
-        let threads = if dealt > 1 { self.sheets.len() } else { 1 };
-        write_all(rt, &mut self.sheets, threads, gate);
+        if dealt > 1 {
+            write_each(rt, &mut self.sheets, gate);
+        } else {
+            write_here(rt, &mut self.sheets, gate);
+        }
         dealt > 0
     }
 }
@@ -164,17 +168,26 @@ fn deal<'a, S: Semiring>(sheets: &mut [Sheet<'a, S>], text: &mut TextPages<'a, S
     dealt
 }
 
-/// Writes each sheet, on at most this many threads.
-fn write_all<'a, S: Semiring + Send + Sync, R: Threads + Sync, G: Gate>(
+/// Writes each sheet, by a thread of its own.
+fn write_each<'a, S: Semiring + Send + Sync, R: Threads + Sync, G: Gate>(
     rt: &R,
     sheets: &mut [Sheet<'a, S>],
-    threads: usize,
     gate: &G,
 )
-    requires { 0 < threads }
     ensures { written_on sheets.new ≡ dealt_to sheets.old }
 {
-    thread::for_each_mut(rt, sheets, threads, &|n, sheet| write_one(gate, n, sheet));
+    each_apart(rt, &|n, sheet| write_one(gate, n, sheet), sheets);
+}
+
+/// Writes each sheet, on this thread.
+fn write_here<'a, S: Semiring + Send + Sync, R: Threads + Sync, G: Gate>(
+    rt: &R,
+    sheets: &mut [Sheet<'a, S>],
+    gate: &G,
+)
+    ensures { written_on sheets.new ≡ dealt_to sheets.old }
+{
+    thread::for_each_mut(rt, sheets, 1, &|n, sheet| write_one(gate, n, sheet));
 }
 
 /// Writes a sheet after the gate is passed.

@@ -122,7 +122,7 @@ fn long_column(alloc: Global, count: u32) -> Option<Matrix<PlusTimes>> {
     if !are_values::<PlusTimes>(&entries) {
         return None;
     }
-    Matrix::from_entries(alloc, Shape::new(20_000, 2)?, &entries).ok()
+    Matrix::from_entries(alloc, Shape::new(50_000, 2)?, &entries).ok()
 }
 
 /// Whether the text of a matrix over a grid is written in this many rounds of two sheets of this many lines.
@@ -186,7 +186,7 @@ const SHEETS: &[(usize, u32, usize)] = &[
     (4, 5_000, 1),
 ];
 
-/// There is a sheet for each thread with enough work, except the caller's, and at least one.
+/// There is a sheet for each thread with enough work, except the one that writes the round before, and at least one.
 #[test]
 fn have_a_sheet_for_each_thread_but_one(rt: HostRuntime) {
     for (threads, entries, wanted) in SHEETS {
