@@ -1,5 +1,5 @@
 -- How a call that writes the answer of a job ends.
-use Rattle.std.specs.Prelude.{ℕ, Bool, List, Option, Some, Result, Vec}
+use Rattle.std.specs.Prelude.{ℕ, Bool, List, Option, Some, Result}
 use Rattle.cb_semirings.specs.Arithmetic.{Arithmetic}
 use Rattle.cb_operations.specs.declared.operations.Operation.{Operation}
 use Rattle.cb_words.specs.declared.jobs.Job.{Job}

@@ -1,6 +1,6 @@
 -- How tasks on graphs end, from how the calls that they make end.
 use Rattle.std.proofs.Common.{◌≡◌, ℕ, List, Bool, sym, subst}
-use Rattle.std.specs.Prelude.{Option, Result, Vec}
+use Rattle.std.specs.Prelude.{Option, Result}
 use Rattle.cb_words.specs.declared.tasks.GraphTask.{GraphTask}
 use Rattle.cb_outcomes.specs.declared.faults.JobFault.{JobFault}
 use Rattle.cb_graph_tasks.specs.GraphTasks.{IsGraphEnd}

@@ -1,5 +1,5 @@
 -- How a search, or a count of entries, that writes its answer ends.
-use Rattle.std.specs.Prelude.{ℕ, Bool, List, Option, Result, Vec}
+use Rattle.std.specs.Prelude.{ℕ, Bool, List, Option, Result}
 use Rattle.cb_semirings.specs.Arithmetic.{Arithmetic}
 use Rattle.cb_matrix.specs.Sparse.{Sparse}
 use Rattle.cb_outcomes.specs.WriteEnds.{IsEndOn}

@@ -1,5 +1,5 @@
 -- The answers of tasks on graphs, and the reasons why there is none.
-use Rattle.std.specs.Prelude.{ℕ, Bool, List, Option, Result, Vec}
+use Rattle.std.specs.Prelude.{ℕ, Bool, List, Option, Result}
 use Rattle.cb_semirings.specs.Tables.{min_plus, or_and}
 use Rattle.cb_searches.specs.Walks.{AreLevels, AreDistances}
 use Rattle.cb_searches.specs.SeveralSources.{AreLevelsFrom, AreDistancesFrom}

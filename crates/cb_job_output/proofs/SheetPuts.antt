@@ -6,7 +6,7 @@ use Rattle.std.specs.Io.KnownBytes.{Appends}
 use Rattle.cb_market_pages.specs.Sheets.{SheetText}
 use Rattle.cb_job_output.specs.Rounds.{written_on}
 use Rattle.cb_outcomes.specs.Sinks.{AppendsPrefix}
-use Rattle.cb_outcomes.proofs.SinkLemmas.{Appends-trans, prefix_page}
+use Rattle.cb_outcomes.proofs.SinkLemmas.{prefix_page}
 
 -- one more sheet is written
 sheets_more : (sheets : List SheetText) (i : ℕ) (d : SheetText) → i < length sheets → written_on (take (i + 1) sheets) ≡ written_on (take i sheets) ++ (get_or sheets i d).written

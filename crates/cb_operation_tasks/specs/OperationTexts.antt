@@ -1,5 +1,5 @@
 -- What an operation answers on the matrices of texts, and why it may have no answer.
-use Rattle.std.specs.Prelude.{ℕ, ◌≡◌, List, Bool, Option, Result, Vec}
+use Rattle.std.specs.Prelude.{ℕ, ◌≡◌, List, Bool, Option, Result}
 use Rattle.cb_semirings.specs.Arithmetic.{Arithmetic}
 use Rattle.cb_matrix.specs.Sparse.{Sparse}
 use Rattle.cb_market_pages.specs.Text.{text_of}

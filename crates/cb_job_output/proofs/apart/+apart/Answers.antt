@@ -1,4 +1,4 @@
-use Rattle.std.proofs.Common.{rules, ◌≡◌, length, arith}
+use Rattle.std.proofs.Common.{rules, ◌≡◌, length}
 use Rattle.std.specs.Fork.{ChangesAt}
 use Rattle.cb_job_output.proofs.ChangedItems.{all_changed}
 use Rattle.cb_job_output.proofs.apart.+apart.Goals as goal
