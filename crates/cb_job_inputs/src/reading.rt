@@ -14,7 +14,8 @@ ghost use Rattle.cb_matrix.specs.Values.{collected};
 ghost use Rattle.cb_market_lines.specs.Checks.{is_shape};
 ghost use Rattle.cb_market_lines.specs.Faults.{first_fault, IsAnswer, IsLineOf};
 ghost use Rattle.cb_market_lines.specs.Reads.{Reads, IsFaultOrMatrix};
-ghost use Rattle.cb_market.specs.Pieces.{IsPart, MayFollow, is_whole};
+ghost use Rattle.cb_market.specs.Pieces.{MayFollow, is_whole};
+ghost use Rattle.cb_job_inputs.specs.TextPieces.{IsRead};
 ghost use Rattle.cb_outcomes.specs.Texts.{joined};
 
 use cb_layout::{DistributedMatrix, Grid};
@@ -145,7 +146,7 @@ fn read_entries<S: Semiring + Send + Sync, R: Threads + Sync>(
     rest: &[Vec<u8>],
 ) -> Option<Piece<S>>
     requires { IsTrue (is_shape plan.now.header.symmetry plan.now.size.shape) }
-    ensures { IfSome result (λ p. IsPart S.arithmetic plan.now.header plan.now.size.shape plan.now.grid.side (entries.now ++ joined rest.now) p) }
+    ensures { IfSome result (IsRead S.arithmetic plan.now (entries.now ++ joined rest.now)) }
 {
     let room = plan.room_for(entries, rest);
     if !rest.is_empty() {
@@ -212,7 +213,7 @@ fn read_part<S: Semiring + Send + Sync, R: Threads + Sync>(
     text: &[u8],
 ) -> Option<Piece<S>>
     requires { IsTrue (is_shape plan.now.header.symmetry plan.now.size.shape) }
-    ensures { IfSome result (λ p. IsPart S.arithmetic plan.now.header plan.now.size.shape plan.now.grid.side text.now p) }
+    ensures { IfSome result (IsRead S.arithmetic plan.now text.now) }
 {
     if count < 2 {
         return read_piece::<S>(plan.alloc, plan.grid, plan.header, plan.size, room, text);
@@ -223,11 +224,11 @@ fn read_part<S: Semiring + Send + Sync, R: Threads + Sync>(
         rt,
         || -> Option<Piece<S>>
             requires { IsSync R.row × IsTrue (is_shape plan.now.header.symmetry plan.now.size.shape) }
-            ensures { IfSome result (λ p. IsPart S.arithmetic plan.entry.now.header plan.entry.now.size.shape plan.entry.now.grid.side last.entry.now p) }
+            ensures { IfSome result (IsRead S.arithmetic plan.entry.now last.entry.now) }
         { read_part::<S, R>(rt, plan, high, plan.room_for(last, &[]), last) },
         || -> Option<Piece<S>>
             requires { IsSync R.row × IsTrue (is_shape plan.now.header.symmetry plan.now.size.shape) }
-            ensures { IfSome result (λ p. IsPart S.arithmetic plan.entry.now.header plan.entry.now.size.shape plan.entry.now.grid.side first.entry.now p) }
+            ensures { IfSome result (IsRead S.arithmetic plan.entry.now first.entry.now) }
         { read_part::<S, R>(rt, plan, low, room, first) },
     );
     let (Some(front), Some(back)) = (front, back) else {
@@ -246,7 +247,7 @@ fn read_parts<S: Semiring + Send + Sync, R: Threads + Sync>(
     rest: &[Vec<u8>],
 ) -> Option<Piece<S>>
     requires { IsTrue (is_shape plan.now.header.symmetry plan.now.size.shape) }
-    ensures { IfSome result (λ p. IsPart S.arithmetic plan.now.header plan.now.size.shape plan.now.grid.side (first.now ++ joined rest.now) p) }
+    ensures { IfSome result (IsRead S.arithmetic plan.now (first.now ++ joined rest.now)) }
 {
     let (low, high) = rest.split_at(rest.len().saturating_sub(1));
     let Some((next, last)) = high.split_first() else {
@@ -259,11 +260,11 @@ fn read_parts<S: Semiring + Send + Sync, R: Threads + Sync>(
         rt,
         || -> Option<Piece<S>>
             requires { IsSync R.row × IsTrue (is_shape plan.now.header.symmetry plan.now.size.shape) }
-            ensures { IfSome result (λ p. IsPart S.arithmetic plan.entry.now.header plan.entry.now.size.shape plan.entry.now.grid.side (next.entry.now.items ++ joined last.entry.now) p) }
+            ensures { IfSome result (IsRead S.arithmetic plan.entry.now (next.entry.now.items ++ joined last.entry.now)) }
         { read_parts::<S, R>(rt, plan, plan.room_for(next, last), next, last) },
         || -> Option<Piece<S>>
             requires { IsSync R.row × IsTrue (is_shape plan.now.header.symmetry plan.now.size.shape) }
-            ensures { IfSome result (λ p. IsPart S.arithmetic plan.entry.now.header plan.entry.now.size.shape plan.entry.now.grid.side (first.entry.now ++ joined low.entry.now) p) }
+            ensures { IfSome result (IsRead S.arithmetic plan.entry.now (first.entry.now ++ joined low.entry.now)) }
         { read_parts::<S, R>(rt, plan, room, first, low) },
     );
     let (Some(front), Some(back)) = (front, back) else {
