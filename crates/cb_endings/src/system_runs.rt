@@ -15,7 +15,7 @@ pub fn run_on_system<
     P: Program<R>,
     R: Threads + Sync + Env + Print + AllocGlobal,
     F: FileSource<R>,
-    W: Write + Drop + Send,
+    W: Write + Drop,
 >(rt: &R, files: &F, errors: W) -> Status {
     let mut out = WriterSink::new(io::writer(rt));
     let mut errors = WriterSink::new(errors);

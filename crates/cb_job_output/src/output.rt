@@ -51,7 +51,7 @@ impl<'a, S: Semiring + Send + Sync> Ahead<'a, S> {
     }
 }
 
-/// Writes a round, in another thread if the text is long, and fills the next one. Returns whether anything was left for
+/// Writes a round, and fills the next one, in another thread if the text is long. Returns whether anything was left for
 /// the next. At `PutFault` a beginning of the round has been written.
 fn put_and_fill<'a, S: Semiring + Send + Sync, R: Threads + Sync, K: Sink>(
     rt: &R,
@@ -72,12 +72,12 @@ fn put_and_fill<'a, S: Semiring + Send + Sync, R: Threads + Sync, K: Sink>(
         put_sheets(round.sheets(), out)?;
         return Ok(ahead.fill(rt));
     }
-    let (put, is_left) = thread::join_mut(
+    let (is_left, put) = thread::join_mut(
         rt,
+        &mut || ahead.fill(rt),
         &mut ||
             requires { K.has_failed out.now ≡ false }
         { put_sheets(round.sheets(), out) },
-        &mut || ahead.fill(rt),
     );
     put?;
     Ok(is_left)
@@ -196,8 +196,8 @@ fn put_by_rounds<S: Semiring + Send + Sync, R: Threads + Sync, K: Sink>(
     put_end(put_rounds(rt, &mut round, &mut ahead, out))
 }
 
-/// Writes a text by at most this many threads: one writes the lines that the others have made. If it is 1, the caller's
-/// thread makes and writes them.
+/// Writes a text. Fewer than this many threads make the lines, while the caller's writes them; or, if it is 1, the caller's
+/// does both.
 fn put_text<S: Semiring + Send + Sync, R: Threads + Sync, K: Sink>(
     rt: &R,
     alloc: Global,
@@ -215,9 +215,9 @@ fn put_text<S: Semiring + Send + Sync, R: Threads + Sync, K: Sink>(
     }
 }
 
-/// Writes the text of a matrix and some lines after it, by at most this many threads: one writes the lines of the matrix
-/// that the others have made. If it is 1, the caller's thread makes and writes them. All memory is taken first: at `Memory`
-/// nothing has been written, and at `Output` a beginning of the whole.
+/// Writes the text of a matrix and some lines after it. Fewer than this many threads make the lines, while the caller's
+/// writes them; or, if it is 1, the caller's does both. All memory is taken first: at `Memory` nothing has been written,
+/// and at `Output` a beginning of the whole.
 pub fn put_text_and_lines<S: Semiring + Send + Sync, R: Threads + Sync, K: Sink>(
     rt: &R,
     alloc: Global,

@@ -11,8 +11,8 @@ use std::io::Write;
 pub struct PutFault;
 
 /// Accepts bytes, some at a time. If a put fails, or accepts none of the bytes, the sink has failed for good: `failed` is
-/// true from then on, and never becomes true otherwise. Another thread may write to it than the one that made it.
-pub trait Sink: Send {
+/// true from then on, and never becomes true otherwise.
+pub trait Sink {
     /// The bytes written so far, if they are known.
     ghost written: { Self → Option (List ℕ) };
 
@@ -59,7 +59,7 @@ impl<W: Write + Drop> WriterSink<W> {
     }
 }
 
-impl<W: Write + Drop + Send> Sink for WriterSink<W> {
+impl<W: Write + Drop> Sink for WriterSink<W> {
     ghost written = { λ s. W.contents s.inner };
 
     ghost has_failed = { λ s. s.has_failed };
