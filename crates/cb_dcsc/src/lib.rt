@@ -58,7 +58,7 @@ impl<S: Semiring> Block<S> {
     ghost use Rattle.cb_matrix.specs.Values.{empty_matrix};
     ghost use Rattle.cb_dcsc.specs.declared.block_faults.BlockFault.TheVariants.{Place, Order, Zero};
     ghost use Rattle.cb_dcsc.specs.BlockFaults.{first_fault};
-    ghost use Rattle.cb_dcsc.specs.Columns.{in_column, rows_of, values_of, columns_with_entries, with_entry, with_entries};
+    ghost use Rattle.cb_dcsc.specs.Columns.{in_column, rows_of, values_of, columns_with_entries, with_entry, with_entries, AreOutside};
 
     /// The block without entries.
     pub fn empty(alloc: Global, shape: Shape) -> Self
@@ -443,7 +443,7 @@ impl<S: Semiring> Block<S> {
     fn append_from(&mut self, other: &Block<S>, from: usize) -> Result<(), AllocError>
         requires some { from ≤ length (columns_with_entries other.now.entries) }
         requires matrix { IsMatrix S.arithmetic (with_entries self.old (later_entries from other.now.entries)) }
-        requires new { from < length (columns_with_entries other.now.entries) → All (λ e. e.column ≢ slice_index (columns_with_entries other.now.entries) from) self.old.entries }
+        requires new { AreOutside self.old.entries other.now.entries from }
         ensures { OnOk result (self.new ≡ with_entries self.old (later_entries from other.now.entries)) }
     {
         if from == other.columns() {

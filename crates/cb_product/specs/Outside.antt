@@ -6,7 +6,7 @@ use Rattle.cb_product.specs.declared.terms.Term.{Term}
 use Rattle.cb_product.specs.InColumns.{is_among}
 use Rattle.cb_product.specs.Marks.{mark_of}
 use Rattle.cb_product.specs.SparseColumn.{scaled_at}
-use Rattle.cb_product.specs.Terms.{terms_at, terms_value}
+use Rattle.cb_product.specs.Terms.{terms_at, terms_value, column_sum}
 
 -- f at the rows that aren't excluded, and z at those that are
 abbrev pub outside : ℕ → List ℕ → (ℕ → ℕ) → ℕ → ℕ
@@ -15,6 +15,14 @@ outside z excluded f i = cond (is_among excluded i) z (f i)
 -- f at the rows that words of marks don't mark, and z at those that they mark
 abbrev pub unmarked : ℕ → List ℕ → (ℕ → ℕ) → ℕ → ℕ
 unmarked z words f i = cond (mark_of words i == 1) z (f i)
+
+-- the sum of these columns of a matrix, each times its factor, at the rows that aren't excluded
+abbrev pub sum_outside : Arithmetic → Sparse → List ℕ → List ℕ → List ℕ → ℕ → ℕ
+sum_outside s a excluded inner factors = outside s.zero excluded (λ i. column_sum s a i inner factors)
+
+-- the sum of terms of a matrix at the rows that words of marks don't mark
+abbrev pub sum_unmarked : Arithmetic → Sparse → List ℕ → List Term → ℕ → ℕ
+sum_unmarked s a words ts = unmarked s.zero words (λ i. terms_at s a i ts)
 
 -- the sum of terms of a matrix at the rows that aren't excluded
 abbrev pub terms_outside : Arithmetic → Sparse → List ℕ → List Term → ℕ → ℕ

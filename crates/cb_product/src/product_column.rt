@@ -5,9 +5,9 @@ ghost use Rattle.cb_dcsc.specs.Columns.{rows_of};
 ghost use Rattle.cb_semirings.specs.Arithmetic.{IsValue};
 ghost use Rattle.cb_product.specs.ColumnStarts.{Tells};
 ghost use Rattle.cb_product.specs.SparseColumn.{IsSparseColumn, IsColumnOf};
-ghost use Rattle.cb_product.specs.Terms.{IsTerm, column_sum};
+ghost use Rattle.cb_product.specs.Terms.{IsTerm};
 ghost use Rattle.cb_product.specs.Marks.{MarksNone};
-ghost use Rattle.cb_product.specs.Outside.{outside, terms_outside};
+ghost use Rattle.cb_product.specs.Outside.{sum_outside, terms_outside};
 
 use crate::column_index::ColumnIndex;
 use crate::is_dense;
@@ -76,7 +76,7 @@ impl<S: Semiring> ProductColumn<S> {
         requires inside { All (λ k. k < left.now.shape.cols) inner.now }
         requires excluded { AllPairs (λ i j. i < j) excluded.now }
         requires excluded_inside { All (λ i. i < left.now.shape.rows) excluded.now }
-        ensures { OnOk result (IsColumnOf S.arithmetic (outside S.arithmetic.zero excluded.now (λ i. column_sum S.arithmetic left.now i inner.now factors.now)) self.new) }
+        ensures { OnOk result (IsColumnOf S.arithmetic (sum_outside S.arithmetic left.now excluded.now inner.now factors.now) self.new) }
     {
         let left_rows = left.shape().rows();
         if !self.complete {

@@ -3,8 +3,8 @@ ghost use Rattle.std.specs.Prelude.{◌≡◌, ◌<◌, ◌≤◌, ◌*◌, leng
 ghost use Rattle.cb_matrix.specs.Sparse.{IsMatrix};
 ghost use Rattle.cb_dcsc.specs.Columns.{rows_of};
 ghost use Rattle.cb_product.specs.SparseColumn.{AreEntries, IsColumnOf};
-ghost use Rattle.cb_product.specs.Terms.{IsTerm, terms_at, sum_with};
-ghost use Rattle.cb_product.specs.Outside.{terms_outside, unmarked};
+ghost use Rattle.cb_product.specs.Terms.{IsTerm, sum_with};
+ghost use Rattle.cb_product.specs.Outside.{sum_unmarked, terms_outside};
 
 use crate::columns::Column;
 use crate::heads::merge;
@@ -111,7 +111,7 @@ impl<S: Semiring> Workspace<S> {
         requires room { left.now.shape.rows ≤ 64 * length excluded.now }
         requires zeros { All (λ x. x ≡ S.arithmetic.zero) self.old.sums }
         ensures zeros { OnOk result (All (λ x. x ≡ S.arithmetic.zero) self.new.sums) }
-        ensures column { OnOk result (IsColumnOf S.arithmetic (unmarked S.arithmetic.zero excluded.now (λ i. terms_at S.arithmetic left.now i terms.now)) self.new.made) }
+        ensures column { OnOk result (IsColumnOf S.arithmetic (sum_unmarked S.arithmetic left.now excluded.now terms.now) self.new.made) }
     {
         let rows = left.shape().rows();
         self.sums.make_room(self.alloc, rows)?;
