@@ -42,3 +42,7 @@ IsWholeSearch a source k search = IsSearch a source k search × HasEnded a k sea
 abbrev pub IsNextRound : (Sparse → Type 0) → Search → Search → Type 0
 IsNextRound fits search next =
     (a : Sparse) (source k : ℕ) → IsSearch a source k search → fits a → IsSearch a source (k + 1) next
+
+-- some rounds of a search are made, in the graph of a matrix that fits
+abbrev pub HasMadeRounds : (Sparse → Type 0) → Search → Type 0
+HasMadeRounds fits search = (a : Sparse) × (source : ℕ) × (k : ℕ) × IsSearch a source k search × fits a

@@ -13,7 +13,7 @@ ghost use Rattle.cb_matrix.specs.Values.{product, product_shape};
 ghost use Rattle.cb_matrix.specs.Operations.{transposed};
 ghost use Rattle.cb_searches.specs.Walks.{infinite, AreDistances};
 ghost use Rattle.cb_searches.specs.Numbers.{number_at, number_in, reached_by, AreLeast, HaveFallen, HaveStayed, AreNumbers, is_lower};
-ghost use Rattle.cb_searches.specs.Searches.{HasEnded, IsSearch, IsWholeSearch, IsNextRound};
+ghost use Rattle.cb_searches.specs.Searches.{HasEnded, IsSearch, IsWholeSearch, IsNextRound, HasMadeRounds};
 
 use crate::dijkstra::settle;
 use crate::numbers::Numbers;
@@ -68,7 +68,7 @@ impl Search {
 
     /// One more round, given what it reaches: lower numbers are taken over.
     pub fn advance(self, alloc: Global, reached: &Matrix<MinPlus>) -> Result<Self, AllocError>
-        requires round { (a : Sparse) × (source : ℕ) × (k : ℕ) × IsSearch a source k self × (reached.now ≡ product min_plus (transposed min_plus a) self.fell) }
+        requires round { HasMadeRounds (λ a. reached.now ≡ product min_plus (transposed min_plus a) self.fell) self }
         ensures { IfOk result (IsNextRound (λ a. reached.now ≡ product min_plus (transposed min_plus a) self.fell) self) }
     {
         let shape = self.fell.shape();
@@ -82,7 +82,7 @@ impl Search {
     /// in 32 fell, the edges are relaxed in the list, at a few instructions for each vertex. Otherwise the round makes
     /// a product.
     pub fn round(self, alloc: Global, edges: &Block<MinPlus>) -> Result<Self, AllocError>
-        requires round { (a : Sparse) × (source : ℕ) × (k : ℕ) × IsSearch a source k self × (edges.now ≡ transposed min_plus a) }
+        requires round { HasMadeRounds (λ a. edges.now ≡ transposed min_plus a) self }
         ensures { IfOk result (IsNextRound (λ a. edges.now ≡ transposed min_plus a) self) }
     {
         let shape = self.fell.shape();
@@ -95,7 +95,7 @@ impl Search {
     /// Replaces all remaining rounds, given the transposed matrix as one block: vertices [settle](crate::dijkstra) one
     /// after another, until no number can fall.
     pub(crate) fn settle(self, alloc: Global, edges: &Block<MinPlus>) -> Result<Self, AllocError>
-        requires round { (a : Sparse) × (source : ℕ) × (k : ℕ) × IsSearch a source k self × (edges.now ≡ transposed min_plus a) }
+        requires round { HasMadeRounds (λ a. edges.now ≡ transposed min_plus a) self }
         ensures { IfOk result (λ s. (a : Sparse) (source k : ℕ) → IsSearch a source k self → edges.now ≡ transposed min_plus a → IsWholeSearch a source k s) }
     {
         let shape = self.fell.shape();
