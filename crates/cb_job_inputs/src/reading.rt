@@ -1,8 +1,8 @@
 //! Matrix Market texts, read by several threads.
 //!
 //! A text that was loaded in parts is read part by part. Of a text in one part, pieces are cut off where lines end. The
-//! caller's thread starts a thread for each piece but the first, and reads that one itself. Each is read straight into the
-//! blocks of a grid as long as its entries ascend. The pieces are then joined, one after the other, block by block. If no
+//! caller's thread starts a thread for each piece, and waits. Each is read straight into the blocks of a grid as long as its
+//! entries ascend. The pieces are then joined, one after the other, block by block. If no
 //! piece has a fault and all announced entries are there, the joined piece has the matrix. Otherwise, and if memory is
 //! refused, [`cb_market::read_distributed`] reads the text again on one thread and reports the first fault.
 //!
@@ -192,6 +192,14 @@ impl Plan {
         }
         room_for_entries(self.header, self.size.count, bytes.min(usize::MAX - 1))
     }
+
+    /// Reads a piece of the entries of a text, with room for this many.
+    fn read<S: Semiring>(&self, room: usize, text: &[u8]) -> Option<Piece<S>>
+        requires { IsTrue (is_shape self.now.header.symmetry self.now.size.shape) }
+        ensures { IfSome result (IsRead S.arithmetic self.now text.now) }
+    {
+        read_piece::<S>(self.alloc, self.grid, self.header, self.size, room, text)
+    }
 }
 
 /// Returns how many of this many bytes the first `low` of `count` pieces have.
@@ -203,8 +211,30 @@ fn share(bytes: usize, low: u32, count: u32) -> usize
     bytes / count as usize * low as usize
 }
 
-/// Reads a part of the entries of a text in this many pieces. It takes room for `room` entries: those of this part, and of
-/// those that will be appended to it.
+/// Reads a piece of the entries of a text by another thread, while this one waits.
+fn read_apart<S: Semiring + Send + Sync, R: Threads + Sync>(
+    rt: &R,
+    plan: &Plan,
+    room: usize,
+    text: &[u8],
+) -> Option<Piece<S>>
+    requires { IsTrue (is_shape plan.now.header.symmetry plan.now.size.shape) }
+    ensures { IfSome result (IsRead S.arithmetic plan.now text.now) }
+{
+    let (piece, ()) = join(
+        rt,
+        || -> Option<Piece<S>>
+            requires { IsTrue (is_shape plan.now.header.symmetry plan.now.size.shape) }
+            ensures { IfSome result (IsRead S.arithmetic plan.entry.now text.entry.now) }
+        { plan.read::<S>(room, text) },
+        || {},
+    );
+    piece
+}
+
+/// Reads a part of the entries of a text in this many pieces, each by its own thread, while this one waits. It takes room
+/// for `room` entries: those of this part, and of those that will be appended to it.
+#[cycle(pieces)]
 fn read_part<S: Semiring + Send + Sync, R: Threads + Sync>(
     rt: &R,
     plan: &Plan,
@@ -216,29 +246,30 @@ fn read_part<S: Semiring + Send + Sync, R: Threads + Sync>(
     ensures { IfSome result (IsRead S.arithmetic plan.now text.now) }
 {
     if count < 2 {
-        return read_piece::<S>(plan.alloc, plan.grid, plan.header, plan.size, room, text);
+        return read_apart::<S, R>(rt, plan, room, text);
     }
-    let (low, high) = (count - 1, 1);
+    let low = count - 1;
     let (first, last) = parted(text, share(text.len(), low, count));
     let (back, front) = join(
         rt,
         || -> Option<Piece<S>>
-            requires { IsSync R.row × IsTrue (is_shape plan.now.header.symmetry plan.now.size.shape) }
+            requires { IsTrue (is_shape plan.now.header.symmetry plan.now.size.shape) }
             ensures { IfSome result (IsRead S.arithmetic plan.entry.now last.entry.now) }
-        { read_part::<S, R>(rt, plan, high, plan.room_for(last, &[]), last) },
+        { plan.read::<S>(plan.room_for(last, &[]), last) },
         || -> Option<Piece<S>>
             requires { IsSync R.row × IsTrue (is_shape plan.now.header.symmetry plan.now.size.shape) }
             ensures { IfSome result (IsRead S.arithmetic plan.entry.now first.entry.now) }
         { read_part::<S, R>(rt, plan, low, room, first) },
     );
-    let (Some(front), Some(back)) = (front, back) else {
-        return None;
-    };
+    let front = front?;
+    let back = back?;
     front.append(plan.alloc, back)
 }
 
-/// Reads the entries of a text in parts, each part by its own thread. It takes room for `room` entries: those of these
-/// parts, and of those that will be appended to them. None also if a part but the last doesn't end with a line.
+/// Reads the entries of a text in parts, each by its own thread, while this one waits. It takes room for `room` entries:
+/// those of these parts, and of those that will be appended to them. None also if a part but the last doesn't end with a
+/// line.
+#[cycle(parts)]
 fn read_parts<S: Semiring + Send + Sync, R: Threads + Sync>(
     rt: &R,
     plan: &Plan,
@@ -249,9 +280,8 @@ fn read_parts<S: Semiring + Send + Sync, R: Threads + Sync>(
     requires { IsTrue (is_shape plan.now.header.symmetry plan.now.size.shape) }
     ensures { IfSome result (IsRead S.arithmetic plan.now (first.now ++ joined rest.now)) }
 {
-    let (low, high) = rest.split_at(rest.len().saturating_sub(1));
-    let Some((next, last)) = high.split_first() else {
-        return read_piece::<S>(plan.alloc, plan.grid, plan.header, plan.size, room, first);
+    let Some((last, low)) = rest.split_last() else {
+        return read_apart::<S, R>(rt, plan, room, first);
     };
     if !parts_end_with_line(first, low) {
         return None;
@@ -259,16 +289,15 @@ fn read_parts<S: Semiring + Send + Sync, R: Threads + Sync>(
     let (back, front) = join(
         rt,
         || -> Option<Piece<S>>
-            requires { IsSync R.row × IsTrue (is_shape plan.now.header.symmetry plan.now.size.shape) }
-            ensures { IfSome result (IsRead S.arithmetic plan.entry.now (next.entry.now.items ++ joined last.entry.now)) }
-        { read_parts::<S, R>(rt, plan, plan.room_for(next, last), next, last) },
+            requires { IsTrue (is_shape plan.now.header.symmetry plan.now.size.shape) }
+            ensures { IfSome result (IsRead S.arithmetic plan.entry.now last.entry.now.items) }
+        { plan.read::<S>(plan.room_for(last, &[]), last) },
         || -> Option<Piece<S>>
             requires { IsSync R.row × IsTrue (is_shape plan.now.header.symmetry plan.now.size.shape) }
             ensures { IfSome result (IsRead S.arithmetic plan.entry.now (first.entry.now ++ joined low.entry.now)) }
         { read_parts::<S, R>(rt, plan, room, first, low) },
     );
-    let (Some(front), Some(back)) = (front, back) else {
-        return None;
-    };
+    let front = front?;
+    let back = back?;
     front.append(plan.alloc, back)
 }

@@ -51,6 +51,19 @@ impl<'a, S: Semiring + Send + Sync> Ahead<'a, S> {
     }
 }
 
+/// The same, once a thread that was just started has had a chance to begin: a system may keep it on this processor until this
+/// thread yields.
+fn put_later<S: Semiring, K: Sink>(sheets: &[Sheet<'_, S>], out: &mut K) -> Result<(), PutFault>
+    requires { K.has_failed out.old ≡ false }
+    ensures whole { OnOk result (Appends (K.written out.old) (K.written out.new) (written_on sheets.now)) }
+    ensures works { OnOk result (K.has_failed out.new ≡ false) }
+    ensures prefix { OnErr result (AppendsPrefix (K.written out.old) (K.written out.new) (written_on sheets.now)) }
+    ensures fails { OnErr result (K.has_failed out.new ≡ true) }
+{
+    thread::yield_now();
+    put_sheets(sheets, out)
+}
+
 /// Writes a round, and fills the next one, in another thread if the text is long. Returns whether anything was left for
 /// the next. At `PutFault` a beginning of the round has been written.
 fn put_and_fill<'a, S: Semiring + Send + Sync, R: Threads + Sync, K: Sink>(
@@ -77,7 +90,7 @@ fn put_and_fill<'a, S: Semiring + Send + Sync, R: Threads + Sync, K: Sink>(
         &mut || ahead.fill(rt),
         &mut ||
             requires { K.has_failed out.now ≡ false }
-        { put_sheets(round.sheets(), out) },
+        { put_later(round.sheets(), out) },
     );
     put?;
     Ok(is_left)

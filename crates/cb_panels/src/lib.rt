@@ -4,9 +4,8 @@
 //! are divided so that all panels take about the same number of products of two values, as in `cb_shares`. No operand is
 //! copied, and one index of the left block's columns serves all threads.
 //!
-//! The caller's thread starts a thread for each panel but the last, and makes that one itself. If no thread is available, it
-//! makes the others too. The panels stand side by side, and no entry is copied; [`multiply`] copies them into one block, for
-//! callers that need one.
+//! The caller's thread starts a thread for each panel, and waits. If no thread is available, it makes the panel itself. The
+//! panels stand side by side, and no entry is copied; [`multiply`] copies them into one block, for callers that need one.
 #![tactic(auto)]
 
 ghost use Rattle.std.specs.Prelude.{◌≡◌, ◌<◌, ◌≤◌, IfOk, length};
@@ -78,15 +77,18 @@ pub fn multiply_panels<S: Semiring + Send + Sync, R: Threads + Sync>(
     let counts = products_of_columns(alloc, left, &index, right)?;
     let count = panels.of(total_products(&counts));
     let columns = right.column_numbers();
+    if count < 2 {
+        return make_panel(alloc, left, &index, right, columns, &counts);
+    }
     make_panels::<S, R>(rt, alloc, left, &index, right, columns, &counts, count)
 }
 
-/// How many of these columns make up the first `low` of `count` panels: those with that share of the products.
-fn place_of(counts: &[usize], low: u32, count: u32) -> usize
+/// How many of these columns make up the first of `count` panels: those with that share of the products.
+fn place_of(counts: &[usize], count: u32) -> usize
     requires { 0 < count }
     ensures { result ≤ length counts.now }
 {
-    let share = (total_products(counts) / count as usize).saturating_mul(low as usize);
+    let share = total_products(counts) / count as usize;
     let mut sum = 0usize;
     for n in 0..counts.len() {
         if sum >= share {
@@ -106,8 +108,9 @@ fn most_entries(counts: &[usize], rows: u32) -> usize {
     sum
 }
 
-/// Makes these columns of the product in this many panels: the first in another thread, and the others beside it. Each takes
-/// room for the entries that its columns can have.
+/// Makes these columns of the product in this many panels, each in another thread, while this one waits. Each takes room for
+/// the entries that its columns can have.
+#[cycle(panels)]
 fn make_panels<S: Semiring + Send + Sync, R: Threads + Sync>(
     rt: &R,
     alloc: Global,
@@ -122,27 +125,51 @@ fn make_panels<S: Semiring + Send + Sync, R: Threads + Sync>(
     ensures { IfOk result (λ m. m ≡ product S.arithmetic left.now (only_columns columns.now right.now)) }
 {
     if count < 2 {
-        return make_panel(alloc, left, index, right, columns, counts);
+        return make_apart(rt, alloc, left, index, right, columns, counts);
     }
     prove_eq!(left.shape().cols(), right.shape().rows());
-    let (low, high) = (1, count - 1);
-    let place = place_of(counts, low, count);
+    let rest = count - 1;
+    let place = place_of(counts, count);
     let (first, last) = columns.split_at(place.min(columns.len()));
     let (first_counts, last_counts) = counts.split_at(place);
     let (front, back) = join(
         rt,
         || -> Result<PanelledMatrix<S>, AllocError>
-            requires { IsSync R.row × AreFactors index.now left.now right.now first.now }
+            requires { AreFactors index.now left.now right.now first.now }
             ensures { IfOk result (λ m. m ≡ product S.arithmetic left.entry.now (only_columns first.entry.now right.entry.now)) }
-        { make_panels::<S, R>(rt, alloc, left, index, right, first, first_counts, low) },
+        { make_panel(alloc, left, index, right, first, first_counts) },
         || -> Result<PanelledMatrix<S>, AllocError>
             requires { IsSync R.row × AreFactors index.now left.now right.now last.now }
             ensures { IfOk result (λ m. m ≡ product S.arithmetic left.entry.now (only_columns last.entry.now right.entry.now)) }
-        { make_panels::<S, R>(rt, alloc, left, index, right, last, last_counts, high) },
+        { make_panels::<S, R>(rt, alloc, left, index, right, last, last_counts, rest) },
     );
     let front = front?;
     let back = back?;
     front.append(back)
+}
+
+/// Makes these columns of the product in one panel, in another thread, while this one waits.
+fn make_apart<S: Semiring + Send + Sync, R: Threads + Sync>(
+    rt: &R,
+    alloc: Global,
+    left: &Block<S>,
+    index: &ColumnIndex,
+    right: &Block<S>,
+    columns: &[u32],
+    counts: &[usize],
+) -> Result<PanelledMatrix<S>, AllocError>
+    requires { AreFactors index.now left.now right.now columns.now }
+    ensures { IfOk result (λ m. m ≡ product S.arithmetic left.now (only_columns columns.now right.now)) }
+{
+    let (panel, ()) = join(
+        rt,
+        || -> Result<PanelledMatrix<S>, AllocError>
+            requires { AreFactors index.now left.now right.now columns.now }
+            ensures { IfOk result (λ m. m ≡ product S.arithmetic left.entry.now (only_columns columns.entry.now right.entry.now)) }
+        { make_panel(alloc, left, index, right, columns, counts) },
+        || {},
+    );
+    panel
 }
 
 /// Makes these columns of the product in one panel, with room for the entries that they can have.

@@ -4,7 +4,7 @@ use Rattle.cb_matrix.specs.Sparse.{Sparse}
 use Rattle.cb_matrix.specs.Values.{product}
 use Rattle.cb_product.specs.InColumns.{only_columns}
 use Rattle.cb_product.proofs.Panels.{both_matrix, both_joined}
-use Rattle.cb_panels.proofs.+fn-make_panels-join+arg2+fn-make_panels-join+arg3+make_panels.Goals as goal
+use Rattle.cb_panels.proofs.+panels.Goals as goal
 
 pub append-requires-clause-matrix : goal.append-requires-clause-matrix
 append-requires-clause-matrix g t c =
