@@ -263,7 +263,7 @@ fn read_part<S: Semiring + Send + Sync, R: Threads + Sync>(
     );
     let front = front?;
     let back = back?;
-    front.append(plan.alloc, back)
+    front.append(rt, plan.alloc, back)
 }
 
 /// Reads the entries of a text in parts, each by its own thread, while this one waits. It takes room for `room` entries:
@@ -299,5 +299,5 @@ fn read_parts<S: Semiring + Send + Sync, R: Threads + Sync>(
     );
     let front = front?;
     let back = back?;
-    front.append(plan.alloc, back)
+    front.append(rt, plan.alloc, back)
 }

@@ -18,8 +18,10 @@ pub mod Splits
 pub mod Fronts
 pub mod BlockColumns
 pub mod RemainingEntries
--- AppendedBlocks: blocks that grow by those of another matrix. Recasts: blocks taken over to another semiring.
+-- AppendedBlocks: blocks that grow by those of another matrix. CutBlocks: the same of lists of blocks that are cut.
+-- Recasts: blocks taken over to another semiring.
 pub mod AppendedBlocks
+pub mod CutBlocks
 pub mod Recasts
 -- OneBlock: a grid of side 1 has the whole matrix as its only block.
 pub mod OneBlock

@@ -31,3 +31,14 @@ HaveEntries s q shape blocks n = AreBlocks s q shape blocks × (n ≡ length (gl
 -- the block with number n in a list, followed by the entries of the one with this number in another list
 abbrev pub joined_block : List Sparse → List Sparse → ℕ → Sparse
 joined_block blocks others n = with_entries (block_at blocks n) (block_at others n).entries
+
+-- each block of a list may be followed by the entries of the one with its number in another list
+pub record MayBeAppended (s : Arithmetic) (blocks others : List Sparse) : Type 0 where
+  pub count : length others ≡ length blocks
+  pub shapes : (r : ℕ) → r < length others → (block_at others r).shape ≡ (block_at blocks r).shape
+  pub matrices : (r : ℕ) → r < length others → IsMatrix s (joined_block blocks others r)
+
+-- the blocks of a list, each followed by the entries of the one with its number in another list
+pub record AreAppended (blocks others new : List Sparse) : Type 0 where
+  pub count : length new ≡ length blocks
+  pub each : (r : ℕ) → r < length others → block_at new r ≡ joined_block blocks others r

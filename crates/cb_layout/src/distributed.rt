@@ -5,7 +5,8 @@ ghost use Rattle.cb_matrix.specs.Sparse.{IsMatrix, IsInside, IsBefore};
 ghost use Rattle.cb_matrix.specs.Values.{empty_matrix};
 ghost use Rattle.cb_dcsc.specs.Columns.{with_entry, with_entries};
 ghost use Rattle.cb_grid.specs.Blocks.{AreBlocksOf, block_at, glued_blocks};
-ghost use Rattle.cb_layout.specs.Distributed.{HavePartShapes, joined_block};
+ghost use Rattle.std.specs.Thread.{IsSync};
+ghost use Rattle.cb_layout.specs.Distributed.{HavePartShapes, MayBeAppended, AreAppended};
 
 use crate::Segments;
 use crate::glue::{gather, stored};
@@ -15,6 +16,7 @@ use cb_matrix::{Entry, LIMIT, Matrix, Shape};
 use cb_semirings::Semiring;
 use std::alloc::{AllocError, Global};
 use std::marker::Model;
+use std::thread::{Threads, join_mut};
 
 /// A matrix whose blocks are kept by the ranks of a grid: the distributed sparse matrix of The Combinatorial BLAS.
 /// Contracts see the side of its grid and the whole matrix, which its blocks are glued to.
@@ -100,27 +102,6 @@ impl<S: Semiring> DistributedMatrix<S> {
         Ok(())
     }
 
-    /// The matrix with the entries of another one of the same grid and shape appended. They must all come after its own.
-    /// If memory is refused, both are dropped. The cost is that of one block for each rank, and of the other's entries in
-    /// blocks where both have entries.
-    pub fn append(self, other: Self) -> Result<Self, AllocError>
-        requires side { other.side ≡ self.side }
-        requires shape { other.matrix.shape ≡ self.matrix.shape }
-        requires order { All (λ d. All (IsBefore d) other.matrix.entries) self.matrix.entries }
-        ensures { IfOk result (λ m. m ≡ record { side = self.side; matrix = with_entries self.matrix other.matrix.entries }) }
-    {
-        prove!(self.shape.rows() <= LIMIT);
-        prove!(self.shape.cols() <= LIMIT);
-        let (mut blocks, mut others) = (self.blocks, other.blocks);
-        append_blocks(&mut blocks, &mut others)?;
-        Ok(DistributedMatrix {
-            grid: self.grid,
-            shape: self.shape,
-            len: self.len + other.len,
-            blocks,
-        })
-    }
-
     /// The whole matrix, as a copy. The cost is that of the stored entries.
     pub fn gather(&self, alloc: Global) -> Result<Matrix<S>, AllocError>
         ensures { IfOk result (λ m. m ≡ self.now.matrix) }
@@ -196,21 +177,121 @@ impl<S: Semiring> DistributedMatrix<S> {
     }
 }
 
-/// Appends the entries of each of the other blocks to the block of the same rank.
-fn append_blocks<S: Semiring>(
+impl<S: Semiring + Send + Sync> DistributedMatrix<S> {
+    /// The matrix with the entries of another one of the same grid and shape appended. They must all come after its own.
+    /// If memory is refused, both are dropped. The cost is that of one block for each rank, and of the other's entries in
+    /// blocks where both have entries. If these are many, each block gets them from a thread of its own, while this one waits.
+    pub fn append<R: Threads + Sync>(self, rt: &R, other: Self) -> Result<Self, AllocError>
+        requires side { other.side ≡ self.side }
+        requires shape { other.matrix.shape ≡ self.matrix.shape }
+        requires order { All (λ d. All (IsBefore d) other.matrix.entries) self.matrix.entries }
+        ensures { IfOk result (λ m. m ≡ record { side = self.side; matrix = with_entries self.matrix other.matrix.entries }) }
+    {
+        prove!(self.shape.rows() <= LIMIT);
+        prove!(self.shape.cols() <= LIMIT);
+        let (mut blocks, mut others) = (self.blocks, other.blocks);
+        append_each(rt, &mut blocks, &mut others, other.len)?;
+        Ok(DistributedMatrix {
+            grid: self.grid,
+            shape: self.shape,
+            len: self.len + other.len,
+            blocks,
+        })
+    }
+}
+
+/// The fewest entries that are appended by several threads: fewer aren't worth a thread.
+const FEW: usize = 65_536;
+
+/// Appends the entries of each of the other blocks to the block of the same rank: each in a thread of its own if there are
+/// many entries to append.
+fn append_each<S: Semiring + Send + Sync, R: Threads + Sync>(
+    rt: &R,
+    blocks: &mut Vec<Block<S>>,
+    others: &mut Vec<Block<S>>,
+    entries: usize,
+) -> Result<(), AllocError>
+    requires { MayBeAppended S.arithmetic blocks.old.items others.old.items }
+    ensures { OnOk result (AreAppended blocks.old.items others.old.items blocks.new.items) }
+{
+    if entries < FEW {
+        append_in_turn(blocks, others)
+    } else {
+        append_apart(rt, blocks, others)
+    }
+}
+
+/// Appends the entries of each of the other blocks to the block of the same rank, on this thread.
+fn append_in_turn<S: Semiring>(
     blocks: &mut Vec<Block<S>>,
     others: &mut Vec<Block<S>>,
 ) -> Result<(), AllocError>
-    requires count { length others.old.items ≡ length blocks.old.items }
-    requires shapes { (r : ℕ) → r < length others.old.items → (block_at others.old.items r).shape ≡ (block_at blocks.old.items r).shape }
-    requires matrices { (r : ℕ) → r < length others.old.items → IsMatrix S.arithmetic (joined_block blocks.old.items others.old.items r) }
-    ensures count { OnOk result (length blocks.new.items ≡ length blocks.old.items) }
-    ensures blocks { OnOk result ((r : ℕ) → r < length others.old.items → block_at blocks.new.items r ≡ joined_block blocks.old.items others.old.items r) }
+    requires { MayBeAppended S.arithmetic blocks.old.items others.old.items }
+    ensures { OnOk result (AreAppended blocks.old.items others.old.items blocks.new.items) }
 {
     for rank in 0..others.len() {
         blocks[rank].append(&mut others[rank])?;
     }
     Ok(())
+}
+
+/// Appends the entries of each of the other blocks to the block of the same rank, each in a thread of its own, while this one
+/// waits.
+#[cycle(ranks)]
+fn append_apart<S: Semiring + Send + Sync, R: Threads + Sync>(
+    rt: &R,
+    blocks: &mut [Block<S>],
+    others: &mut [Block<S>],
+) -> Result<(), AllocError>
+    requires { MayBeAppended S.arithmetic blocks.old others.old }
+    ensures { OnOk result (AreAppended blocks.old others.old blocks.new) }
+{
+    let Some(last) = blocks.len().checked_sub(1) else {
+        return Ok(());
+    };
+    let (front, back) = blocks.split_at_mut(last);
+    let (front_others, back_others) = others.split_at_mut(last);
+    append_both(rt, front, front_others, back, back_others)
+}
+
+/// The same for the blocks of some ranks and for that of the rank after them.
+#[cycle(ranks)]
+fn append_both<S: Semiring + Send + Sync, R: Threads + Sync>(
+    rt: &R,
+    front: &mut [Block<S>],
+    front_others: &mut [Block<S>],
+    back: &mut [Block<S>],
+    back_others: &mut [Block<S>],
+) -> Result<(), AllocError>
+    requires one { length back.old ≡ 1 }
+    requires front { MayBeAppended S.arithmetic front.old front_others.old }
+    requires back { MayBeAppended S.arithmetic back.old back_others.old }
+    ensures front { OnOk result (AreAppended front.old front_others.old front.new) }
+    ensures back { OnOk result (AreAppended back.old back_others.old back.new) }
+{
+    let mut there = || -> Result<(), AllocError>
+        requires { (length back.now ≡ 1) × MayBeAppended S.arithmetic back.now back_others.now }
+        ensures { OnOk result (AreAppended back.entry.now back_others.entry.now back.exit.now) }
+    { append_first(back, back_others) };
+    let mut here = || -> Result<(), AllocError>
+        requires { IsSync R.row × MayBeAppended S.arithmetic front.now front_others.now }
+        ensures { OnOk result (AreAppended front.entry.now front_others.entry.now front.exit.now) }
+    { append_apart(rt, front, front_others) };
+    let (there, here) = join_mut(rt, &mut there, &mut here);
+    there?;
+    here
+}
+
+/// Appends the entries of the only other block to the only block.
+fn append_first<S: Semiring>(
+    blocks: &mut [Block<S>],
+    others: &mut [Block<S>],
+) -> Result<(), AllocError>
+    requires one { length blocks.old ≡ 1 }
+    requires fits { MayBeAppended S.arithmetic blocks.old others.old }
+    ensures { OnOk result (AreAppended blocks.old others.old blocks.new) }
+{
+    blocks[0].append(&mut others[0])
 }
 
 /// The same blocks over another semiring. Their stored values must be nonzero values of that semiring too.

@@ -10,6 +10,7 @@ use cb_matrix::{Entry, Matrix, Shape, in_order};
 use cb_semirings::Semiring;
 use std::alloc::{AllocError, Global};
 use std::marker::Model;
+use std::thread::Threads;
 
 /// The entries of a text. They are in the blocks of a grid as long as they ascend by column and then row and none is
 /// zero, and otherwise in a list.
@@ -145,34 +146,6 @@ impl<S: Semiring> Gathered<S> {
         Ok(())
     }
 
-    /// Appends all entries of another. They stay in blocks if both are in blocks and the other's come after these. If
-    /// memory is refused, both are dropped. The cost is proportional to the other's entries, or to all entries if they
-    /// don't ascend.
-    pub fn append(self, alloc: Global, other: Self) -> Result<Self, AllocError>
-        requires side { other.side ≡ self.side }
-        requires shape { other.shape ≡ self.shape }
-        ensures entries { IfOk result (λ g. g.entries ≡ self.entries ++ other.entries) }
-        ensures side { IfOk result (λ g. g.side ≡ self.side) }
-        ensures shape { IfOk result (λ g. g.shape ≡ self.shape) }
-    {
-        if !self.ascends || !other.ascends || self.bound > other.first {
-            return self.append_list(alloc, other);
-        }
-        let shape = self.blocks.shape();
-        prove_eq!(other.blocks.shape(), shape);
-        let first = self.first.min(other.first);
-        let bound = self.bound.max(other.bound);
-        let blocks = self.blocks.append(other.blocks)?;
-        Ok(Gathered {
-            blocks,
-            list: self.list,
-            ascends: true,
-            first,
-            bound,
-            room: self.room,
-        })
-    }
-
     /// The same, to a list.
     fn append_list(self, alloc: Global, other: Self) -> Result<Self, AllocError>
         requires shape { other.shape ≡ self.shape }
@@ -240,5 +213,40 @@ impl<S: Semiring> Gathered<S> {
         let grid = self.blocks.grid();
         let matrix = Matrix::collect(shape, self.list)?;
         DistributedMatrix::scatter(alloc, grid, &matrix)
+    }
+}
+
+impl<S: Semiring + Send + Sync> Gathered<S> {
+    /// Appends all entries of another. They stay in blocks if both are in blocks and the other's come after these. If
+    /// memory is refused, both are dropped. The cost is proportional to the other's entries, or to all entries if they
+    /// don't ascend. Many entries in blocks are appended by several threads.
+    pub fn append<R: Threads + Sync>(
+        self,
+        rt: &R,
+        alloc: Global,
+        other: Self,
+    ) -> Result<Self, AllocError>
+        requires side { other.side ≡ self.side }
+        requires shape { other.shape ≡ self.shape }
+        ensures entries { IfOk result (λ g. g.entries ≡ self.entries ++ other.entries) }
+        ensures side { IfOk result (λ g. g.side ≡ self.side) }
+        ensures shape { IfOk result (λ g. g.shape ≡ self.shape) }
+    {
+        if !self.ascends || !other.ascends || self.bound > other.first {
+            return self.append_list(alloc, other);
+        }
+        let shape = self.blocks.shape();
+        prove_eq!(other.blocks.shape(), shape);
+        let first = self.first.min(other.first);
+        let bound = self.bound.max(other.bound);
+        let blocks = self.blocks.append(rt, other.blocks)?;
+        Ok(Gathered {
+            blocks,
+            list: self.list,
+            ascends: true,
+            first,
+            bound,
+            room: self.room,
+        })
     }
 }

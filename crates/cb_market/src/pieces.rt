@@ -19,6 +19,7 @@ use cb_matrix::Shape;
 use cb_semirings::Semiring;
 use std::alloc::{AllocError, Global};
 use std::marker::Model;
+use std::thread::Threads;
 
 /// The entries of a piece of a text, in blocks as long as they ascend, and the number of lines that had one.
 #[derive(Drop)]
@@ -119,9 +120,18 @@ impl<S: Semiring> Piece<S> {
         self.lines
     }
 
+    /// Adds up the entries of each place, and returns the matrix in the blocks of the grid.
+    pub fn into_blocks(self, alloc: Global) -> Result<DistributedMatrix<S>, AllocError>
+        ensures { IfOk result (λ m. m ≡ record { side = self.side; matrix = collected S.arithmetic self.shape self.entries }) }
+    {
+        self.entries.into_blocks(alloc)
+    }
+}
+
+impl<S: Semiring + Send + Sync> Piece<S> {
     /// Appends the next piece. If memory is refused, or if there are 2^32 lines or more, both are dropped. The cost is
     /// proportional to the entries of the second piece, or to those of both if they don't ascend.
-    pub fn append(self, alloc: Global, next: Self) -> Option<Self>
+    pub fn append<R: Threads + Sync>(self, rt: &R, alloc: Global, next: Self) -> Option<Self>
         requires side { next.side ≡ self.side }
         requires shape { next.shape ≡ self.shape }
         ensures { IfSome result (λ p. p ≡ joined self next) }
@@ -129,16 +139,9 @@ impl<S: Semiring> Piece<S> {
         let Some(lines) = self.lines.checked_add(next.lines) else {
             return None;
         };
-        match self.entries.append(alloc, next.entries) {
+        match self.entries.append(rt, alloc, next.entries) {
             Ok(entries) => Some(Piece { entries, lines }),
             Err(_) => None,
         }
-    }
-
-    /// Adds up the entries of each place, and returns the matrix in the blocks of the grid.
-    pub fn into_blocks(self, alloc: Global) -> Result<DistributedMatrix<S>, AllocError>
-        ensures { IfOk result (λ m. m ≡ record { side = self.side; matrix = collected S.arithmetic self.shape self.entries }) }
-    {
-        self.entries.into_blocks(alloc)
     }
 }

@@ -4,9 +4,9 @@ use Rattle.cb_matrix.specs.Sparse.{Sparse, IsMatrix}
 use Rattle.cb_matrix.specs.Values.{empty_matrix}
 use Rattle.cb_dcsc.specs.Columns.{with_entries}
 use Rattle.cb_grid.specs.Blocks.{block_at}
-use Rattle.cb_layout.proofs.distributed.append_blocks.Given as given
-use Rattle.cb_layout.proofs.distributed.append_blocks.Goals.{After-index_mut-in-loop-rank}
-use Rattle.cb_layout.proofs.distributed.append_blocks.Goals as goal
+use Rattle.cb_layout.proofs.distributed.append_in_turn.Given as given
+use Rattle.cb_layout.proofs.distributed.append_in_turn.Goals.{After-index_mut-in-loop-rank}
+use Rattle.cb_layout.proofs.distributed.append_in_turn.Goals as goal
 
 -- the two blocks of the rank
 own : (g : given.Over) (c : After-index_mut-in-loop-rank g) →

@@ -1,7 +1,7 @@
 use Rattle.std.proofs.Common.{◌≡◌, ℕ, ◌<◌, ◌≤◌, length}
 use Rattle.cb_dcsc.specs.Columns.{with_entries}
 use Rattle.cb_grid.specs.Blocks.{block_at}
-use Rattle.cb_layout.proofs.distributed.append_blocks.Given as goal
+use Rattle.cb_layout.proofs.distributed.append_in_turn.Given as goal
 
 abbrev pub invariant-loop-rank : goal.invariant-loop-rank
 invariant-loop-rank g l = record {
