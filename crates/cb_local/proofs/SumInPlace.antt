@@ -12,7 +12,8 @@ use Rattle.cb_plan.specs.declared.stores.Slot.TheVariants.{Empty, Sheet}
 use Rattle.cb_plan.specs.Meaning.{three}
 use Rattle.cb_plan.specs.Algebras.{matrices}
 use Rattle.cb_plan.specs.Stores.{sheet_of, slot_of, sheets_in}
-use Rattle.cb_local.specs.Slots.{after, sum_of_both}
+use Rattle.cb_product.specs.TwoProducts.{plus_both}
+use Rattle.cb_local.specs.Slots.{after}
 
 others_stay : {M : Type 0} (xs : List (Slot M)) (n k : ℕ) (x : Slot M) → n ≢ k → sheets_in (slice_set xs n x) k ≡ sheets_in xs k
 others_stay xs n k x ne = ap sheet_of (get_or-set_other xs n k x Empty (λ e. ne (sym e)))
@@ -34,7 +35,7 @@ accumulated s xs ys zs a b acc left right sum new ne_left ne_right was left_out 
 
 -- the sum of two products and what was taken out is put back
 pub both_accumulated : (s : Arithmetic) (xs ys zs : List (Slot Sparse)) (a b c d acc : ℕ) (left right other_left other_right sum new : Sparse) → acc < length xs → acc ≢ a → acc ≢ b → acc ≢ c → acc ≢ d → Sheet sum ≡ get_or xs acc Empty → ys ≡ slice_set xs acc Empty
-    → sheets_in ys a ≡ Some left → sheets_in ys b ≡ Some right → sheets_in ys c ≡ Some other_left → sheets_in ys d ≡ Some other_right → new ≡ sum_of_both s sum left right other_left other_right → zs ≡ slice_set ys acc (Sheet new)
+    → sheets_in ys a ≡ Some left → sheets_in ys b ≡ Some right → sheets_in ys c ≡ Some other_left → sheets_in ys d ≡ Some other_right → new ≡ plus_both s sum left right other_left other_right → zs ≡ slice_set ys acc (Sheet new)
     → zs ≡ after s (MulAdd c d acc) (after s (MulAdd a b acc) xs)
 both_accumulated s xs ys zs a b c d acc left right other_left other_right sum new inside ne_a ne_b ne_c ne_d was left_out is_a is_b is_c is_d is_new put =
     let first = sum_of s sum (product s left right) in

@@ -2,10 +2,11 @@
 ghost use Rattle.std.specs.Prelude.{◌≡◌, ◌≢◌, ◌<◌, ℕ, true, false, length, get_or, slice_set, IfOk, IfErr, OnOk, OnErr, IsOk, IsSome, Some, ◌∷◌, []};
 ghost use Rattle.cb_matrix.specs.Values.{product, product_shape};
 ghost use Rattle.cb_matrix.specs.Operations.{sum_of};
+ghost use Rattle.cb_product.specs.TwoProducts.{plus_both};
 ghost use Rattle.cb_plan.specs.Meaning.{result_of, target_of, needs_memory};
 ghost use Rattle.cb_plan.specs.Algebras.{matrices};
 ghost use Rattle.cb_plan.specs.Checks.{operands_of, all_below, all_filled, shapes_agree};
-ghost use Rattle.cb_local.specs.Slots.{MayBeDone, after, sum_of_both};
+ghost use Rattle.cb_local.specs.Slots.{MayBeDone, after_two};
 ghost use Rattle.cb_plan.specs.Stores.{sheets_in, shapes_in, slot_of};
 
 use cb_dcsc::Block;
@@ -158,7 +159,7 @@ pub fn accumulate_both<S: Semiring>(
     requires second_apart { (acc ≢ second.0) × (acc ≢ second.1) }
     requires first { MayBeDone (Op.MulAdd first.0 first.1 acc) store.old }
     requires second { MayBeDone (Op.MulAdd second.0 second.1 acc) store.old }
-    ensures ok { OnOk result (store.new ≡ after S.arithmetic (Op.MulAdd second.0 second.1 acc) (after S.arithmetic (Op.MulAdd first.0 first.1 acc) store.old)) }
+    ensures ok { OnOk result (store.new ≡ after_two S.arithmetic (Op.MulAdd first.0 first.1 acc) (Op.MulAdd second.0 second.1 acc) store.old) }
     ensures err { OnErr result (store.new ≡ store.old) }
 {
     let Slot::Sheet(sum) = store.take(acc) else {
@@ -191,7 +192,7 @@ fn both_added_to<S: Semiring>(
     requires shape { sum.shape ≡ product_shape left.now right.now }
     requires other_agree { other_left.now.shape.cols ≡ other_right.now.shape.rows }
     requires other_shape { sum.shape ≡ product_shape other_left.now other_right.now }
-    ensures ok { IfOk result (λ m. m ≡ sum_of_both S.arithmetic sum left.now right.now other_left.now other_right.now) }
+    ensures ok { IfOk result (λ m. m ≡ plus_both S.arithmetic sum left.now right.now other_left.now other_right.now) }
     ensures err { IfErr result (λ e. e.0 ≡ sum) }
 {
     let sum = match sum.into_block() {
