@@ -522,8 +522,10 @@ struct BothAdded<'a> {
     cols: u32,
     /// The columns of each left factor.
     inner: [u32; 2],
-    lefts: [&'a [Entry]; 2],
-    rights: [&'a [Entry]; 2],
+    left: &'a [Entry],
+    right: &'a [Entry],
+    other_left: &'a [Entry],
+    other_right: &'a [Entry],
     own: &'a [Entry],
     sum: &'a [Entry],
 }
@@ -532,16 +534,18 @@ struct BothAdded<'a> {
 /// back unchanged.
 fn adds_both(
     alloc: Global,
-    lefts: [&Block<PlusTimes>; 2],
-    rights: [&Block<PlusTimes>; 2],
+    (left, right): (&Block<PlusTimes>, &Block<PlusTimes>),
+    (other_left, other_right): (&Block<PlusTimes>, &Block<PlusTimes>),
     own: Block<PlusTimes>,
     added: &BothAdded<'_>,
 ) -> Result<bool, bool> {
-    let ([left, other_left], [right, other_right]) = (lefts, rights);
-    if left.shape().cols() != right.shape().rows()
-        || other_left.shape().cols() != other_right.shape().rows()
-        || own.shape() != left.shape().with_columns_of(right.shape())
-        || own.shape() != other_left.shape().with_columns_of(other_right.shape())
+    let (outer, inner) = (left.shape(), right.shape());
+    let (other_outer, other_inner) = (other_left.shape(), other_right.shape());
+    if outer.cols() != inner.rows() || own.shape() != outer.with_columns_of(inner) {
+        return Ok(false);
+    }
+    if other_outer.cols() != other_inner.rows()
+        || own.shape() != other_outer.with_columns_of(other_inner)
     {
         return Ok(false);
     }
@@ -555,24 +559,28 @@ fn adds_both(
 fn is_sum_of_both(alloc: Global, added: &BothAdded<'_>) -> Result<Result<bool, bool>, SampleFault> {
     let (rows, cols) = (added.rows, added.cols);
     let [inner, other_inner] = added.inner;
-    let left = block(alloc, rows, inner, added.lefts[0])?;
-    let other_left = block(alloc, rows, other_inner, added.lefts[1])?;
-    let right = block(alloc, inner, cols, added.rights[0])?;
-    let other_right = block(alloc, other_inner, cols, added.rights[1])?;
+    let left = block(alloc, rows, inner, added.left)?;
+    let right = block(alloc, inner, cols, added.right)?;
+    let other_left = block(alloc, rows, other_inner, added.other_left)?;
+    let other_right = block(alloc, other_inner, cols, added.other_right)?;
     let own = block(alloc, rows, cols, added.own)?;
-    let (lefts, rights) = ([&left, &other_left], [&right, &other_right]);
-    Ok(adds_both(alloc, lefts, rights, own, added))
+    Ok(adds_both(
+        alloc,
+        (&left, &right),
+        (&other_left, &other_right),
+        own,
+        added,
+    ))
 }
 
 const SMALL_PAIRS: BothAdded<'static> = BothAdded {
     rows: 2,
     cols: 2,
     inner: [2, 1],
-    lefts: [
-        entries![(0, 0, 1), (0, 1, 2), (1, 1, 3)],
-        entries![(0, 0, 1), (1, 0, 5)],
-    ],
-    rights: [entries![(1, 0, 4), (0, 1, 1)], entries![(0, 0, 2)]],
+    left: entries![(0, 0, 1), (0, 1, 2), (1, 1, 3)],
+    right: entries![(1, 0, 4), (0, 1, 1)],
+    other_left: entries![(0, 0, 1), (1, 0, 5)],
+    other_right: entries![(0, 0, 2)],
     own: entries![(0, 1, u64::MAX), (1, 1, 5)],
     sum: entries![(0, 0, 10), (1, 0, 22), (1, 1, 5)],
 };
@@ -581,19 +589,20 @@ const BOTH_SUMS: &[BothAdded<'static>] = &[
     SMALL_PAIRS,
     // the first pair has a factor without entries
     BothAdded {
-        rights: [&[], entries![(0, 0, 2)]],
+        right: &[],
         sum: entries![(0, 0, 2), (1, 0, 10), (0, 1, u64::MAX), (1, 1, 5)],
         ..SMALL_PAIRS
     },
     // the second one has
     BothAdded {
-        rights: [entries![(1, 0, 4), (0, 1, 1)], &[]],
+        other_right: &[],
         sum: entries![(0, 0, 8), (1, 0, 12), (1, 1, 5)],
         ..SMALL_PAIRS
     },
     // both have
     BothAdded {
-        rights: [&[], &[]],
+        right: &[],
+        other_right: &[],
         sum: entries![(0, 1, u64::MAX), (1, 1, 5)],
         ..SMALL_PAIRS
     },
@@ -622,8 +631,10 @@ fn are_both_plain_among(alloc: Global, rows: u32) -> Result<bool, SampleFault> {
         rows,
         cols: 4,
         inner: [30, 1],
-        lefts: [&left, OTHER_LEFT],
-        rights: [&right, OTHER_RIGHT],
+        left: &left,
+        right: &right,
+        other_left: OTHER_LEFT,
+        other_right: OTHER_RIGHT,
         own: FEW,
         sum: sum.entries(),
     };

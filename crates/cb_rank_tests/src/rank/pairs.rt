@@ -76,19 +76,26 @@ fn two_products_are_added_at_once(rt: HostRuntime) {
     assert!(rt; does_both(rt.alloc(), &[SIX, NINE, SIX]) == Some((true, 2, Held::Entries(1, 20))));
 }
 
+/// 2 + 3 in slot 2.
+const SUM: Op = Op::Add {
+    a: 0,
+    b: 1,
+    into: 2,
+};
+
+/// Adds 3 * 3 to slot 0.
+const ELSEWHERE: Op = Op::MulAdd { a: 1, b: 1, acc: 0 };
+
+/// Adds 3 times slot 2 to slot 2.
+const ONTO_A_FACTOR: Op = Op::MulAdd { a: 1, b: 2, acc: 2 };
+
+/// One operation isn't a product, or they add to two slots, or to a factor, or there is only one.
 #[test]
 fn other_operations_are_done_by_themselves(rt: HostRuntime) {
-    let sum = Op::Add {
-        a: 0,
-        b: 1,
-        into: 2,
-    };
-    let elsewhere = Op::MulAdd { a: 1, b: 1, acc: 0 };
-    let onto_a_factor = Op::MulAdd { a: 1, b: 2, acc: 2 };
-    for second in [sum, elsewhere, onto_a_factor] {
-        assert!(rt; does_both(rt.alloc(), &[SIX, second]) == Some(NOTHING));
-    }
-    assert!(rt; does_both(rt.alloc(), &[onto_a_factor, SIX]) == Some(NOTHING));
-    assert!(rt; does_both(rt.alloc(), &[sum, SIX]) == Some(NOTHING));
+    assert!(rt; does_both(rt.alloc(), &[SIX, SUM]) == Some(NOTHING));
+    assert!(rt; does_both(rt.alloc(), &[SUM, SIX]) == Some(NOTHING));
+    assert!(rt; does_both(rt.alloc(), &[SIX, ELSEWHERE]) == Some(NOTHING));
+    assert!(rt; does_both(rt.alloc(), &[SIX, ONTO_A_FACTOR]) == Some(NOTHING));
+    assert!(rt; does_both(rt.alloc(), &[ONTO_A_FACTOR, SIX]) == Some(NOTHING));
     assert!(rt; does_both(rt.alloc(), &[SIX]) == Some(NOTHING));
 }
