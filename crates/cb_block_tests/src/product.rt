@@ -4,7 +4,7 @@ use crate::matrix::matrix;
 use crate::samples::{entries, has_entries};
 use cb_dcsc::{Block, BlockFault};
 use cb_matrix::{Entry, LIMIT, Matrix};
-use cb_product::multiply_into;
+use cb_product::{multiply_both_into, multiply_into};
 use cb_samples::{SampleFault, block, entry};
 use cb_semirings::PlusTimes;
 use std::alloc::{AllocError, Global};
@@ -513,6 +513,158 @@ fn is_plain_among(alloc: Global, rows: u32) -> Result<bool, SampleFault> {
     let left = spread(alloc, rows)?;
     let right = named(alloc)?;
     are_plain(alloc, [rows, 30, 4], [&left, &right, FEW])
+}
+
+/// Two pairs of factors, a block, and the sum of both products and the block.
+#[derive(Clone, Copy)]
+struct BothAdded<'a> {
+    rows: u32,
+    cols: u32,
+    /// The columns of each left factor.
+    inner: [u32; 2],
+    left: &'a [Entry],
+    right: &'a [Entry],
+    other_left: &'a [Entry],
+    other_right: &'a [Entry],
+    own: &'a [Entry],
+    sum: &'a [Entry],
+}
+
+/// Whether the products of two pairs of blocks are added to a block; or, if memory is refused, whether the block is handed
+/// back unchanged.
+fn adds_both(
+    alloc: Global,
+    (left, right): (&Block<PlusTimes>, &Block<PlusTimes>),
+    (other_left, other_right): (&Block<PlusTimes>, &Block<PlusTimes>),
+    own: Block<PlusTimes>,
+    added: &BothAdded<'_>,
+) -> Result<bool, bool> {
+    let (outer, inner) = (left.shape(), right.shape());
+    let (other_outer, other_inner) = (other_left.shape(), other_right.shape());
+    if outer.cols() != inner.rows() || own.shape() != outer.with_columns_of(inner) {
+        return Ok(false);
+    }
+    if other_outer.cols() != other_inner.rows()
+        || own.shape() != other_outer.with_columns_of(other_inner)
+    {
+        return Ok(false);
+    }
+    match multiply_both_into(alloc, left, right, other_left, other_right, own) {
+        Ok(sum) => Ok(has_entries(&sum, added.sum)),
+        Err((same, _)) => Err(has_entries(&same, added.own)),
+    }
+}
+
+/// The same for a row.
+fn is_sum_of_both(alloc: Global, added: &BothAdded<'_>) -> Result<Result<bool, bool>, SampleFault> {
+    let (rows, cols) = (added.rows, added.cols);
+    let [inner, other_inner] = added.inner;
+    let left = block(alloc, rows, inner, added.left)?;
+    let right = block(alloc, inner, cols, added.right)?;
+    let other_left = block(alloc, rows, other_inner, added.other_left)?;
+    let other_right = block(alloc, other_inner, cols, added.other_right)?;
+    let own = block(alloc, rows, cols, added.own)?;
+    Ok(adds_both(
+        alloc,
+        (&left, &right),
+        (&other_left, &other_right),
+        own,
+        added,
+    ))
+}
+
+const SMALL_PAIRS: BothAdded<'static> = BothAdded {
+    rows: 2,
+    cols: 2,
+    inner: [2, 1],
+    left: entries![(0, 0, 1), (0, 1, 2), (1, 1, 3)],
+    right: entries![(1, 0, 4), (0, 1, 1)],
+    other_left: entries![(0, 0, 1), (1, 0, 5)],
+    other_right: entries![(0, 0, 2)],
+    own: entries![(0, 1, u64::MAX), (1, 1, 5)],
+    sum: entries![(0, 0, 10), (1, 0, 22), (1, 1, 5)],
+};
+
+const BOTH_SUMS: &[BothAdded<'static>] = &[
+    SMALL_PAIRS,
+    // the first pair has a factor without entries
+    BothAdded {
+        right: &[],
+        sum: entries![(0, 0, 2), (1, 0, 10), (0, 1, u64::MAX), (1, 1, 5)],
+        ..SMALL_PAIRS
+    },
+    // the second one has
+    BothAdded {
+        other_right: &[],
+        sum: entries![(0, 0, 8), (1, 0, 12), (1, 1, 5)],
+        ..SMALL_PAIRS
+    },
+    // both have
+    BothAdded {
+        right: &[],
+        other_right: &[],
+        sum: entries![(0, 1, u64::MAX), (1, 1, 5)],
+        ..SMALL_PAIRS
+    },
+];
+
+#[test]
+fn two_products_that_are_added(rt: HostRuntime) {
+    for added in BOTH_SUMS {
+        assert!(rt; is_sum_of_both(rt.alloc(), added) == Ok(Ok(true)));
+    }
+}
+
+const OTHER_LEFT: &[Entry] = entries![(3, 0, 4), (45, 0, 9)];
+
+const OTHER_RIGHT: &[Entry] = entries![(0, 1, 6), (0, 3, 1)];
+
+/// Whether two products that are added to a block with this many rows agree with the definition.
+fn are_both_plain_among(alloc: Global, rows: u32) -> Result<bool, SampleFault> {
+    let left = spread(alloc, rows)?;
+    let right = named(alloc)?;
+    let first = plain_product(alloc, [rows, 30, 4], &left, &right)?;
+    let second = plain_product(alloc, [rows, 1, 4], OTHER_LEFT, OTHER_RIGHT)?;
+    let once = plain_sum(alloc, rows, 4, first.entries(), FEW)?;
+    let sum = plain_sum(alloc, rows, 4, second.entries(), once.entries())?;
+    let added = BothAdded {
+        rows,
+        cols: 4,
+        inner: [30, 1],
+        left: &left,
+        right: &right,
+        other_left: OTHER_LEFT,
+        other_right: OTHER_RIGHT,
+        own: FEW,
+        sum: sum.entries(),
+    };
+    Ok(is_sum_of_both(alloc, &added)? == Ok(true))
+}
+
+/// The first and the third column have terms of the first product, the last has terms of the second, and one has terms of
+/// both. With 5,000 rows both are added up in the sparse accumulator; with 2,147,483,647 the second is joined to the first.
+#[test]
+fn two_products_at_once_are_the_plain_ones(rt: HostRuntime) {
+    for rows in [5000, LIMIT] {
+        assert!(rt; are_both_plain_among(rt.alloc(), rows) == Ok(true));
+    }
+}
+
+/// Whether both products are added; or, if memory is refused, whether the block is handed back unchanged.
+fn is_sum_of_both_or_refused(alloc: Global, added: &BothAdded<'_>) -> bool {
+    match is_sum_of_both(alloc, added) {
+        Ok(Ok(is_right)) => is_right,
+        Ok(Err(is_back)) => is_back,
+        Err(fault) => fault == SampleFault::Block(BlockFault::Memory),
+    }
+}
+
+/// Passes whichever single allocation is refused.
+#[test]
+fn a_refused_sum_of_two_products_hands_the_block_back(rt: HostRuntime) {
+    for added in BOTH_SUMS {
+        assert!(rt; is_sum_of_both_or_refused(rt.alloc(), added));
+    }
 }
 
 /// With 5,000 rows the first two columns are computed by the sparse accumulator; with 2,147,483,647 one is computed by the

@@ -1,7 +1,8 @@
 -- Texts in parts that end with lines.
-use Rattle.std.proofs.Common.{◌≡◌, ℕ, ◌+◌, ◌-◌, ◌<◌, true, List, [], ◌∷◌, ◌++◌, length, take, get_or, arith, sym, ap, subst, ◌∙◌}
+use Rattle.std.proofs.Common.{◌≡◌, ℕ, ◌+◌, ◌-◌, ◌<◌, true, List, [], ◌∷◌, ◌++◌, length, take, get_or, arith, sym, ap, subst, ◌∙◌, append_assoc}
 use Rattle.std.specs.Prelude.{Vec}
 use Rattle.std.proofs.lemmas.List.{take_all, take_more, flat_map_more}
+use Rattle.std.proofs.lemmas.List.Concat.{flat_map-append}
 use Rattle.cb_market.specs.Pieces.{is_whole}
 use Rattle.cb_market.proofs.PartedTexts.{whole_end}
 use Rattle.cb_market.proofs.LongerTexts.{whole_last}
@@ -21,6 +22,8 @@ whole_by_part {A = A} first rest last part h is some whole =
     let more = flat_map_more (λ (p : Vec ℕ A). p.items) first (take last rest) part ∙ ap (λ ps. first ++ joined ps) all in
     subst (λ t. is_whole t ≡ true) more (whole_last (first ++ joined (take last rest)) part.items some whole)
 
--- parts, and one after them
-pub last_joined : {A : Type 0} (first : List ℕ) (rest low : List (Vec ℕ A)) (last : Vec ℕ A) → rest ≡ low ++ last ∷ [] → (first ++ joined low) ++ last.items ≡ first ++ joined rest
-last_joined {A = A} first rest low last all = flat_map_more (λ (p : Vec ℕ A). p.items) first low last ∙ ap (λ parts. first ++ joined parts) (sym all)
+-- two halves of a list of parts, where the second begins with a part
+pub halves_joined : {A : Type 0} (first : List ℕ) (rest low high last : List (Vec ℕ A)) (next : Vec ℕ A) → low ++ high ≡ rest → high ≡ next ∷ last → (first ++ joined low) ++ (next.items ++ joined last) ≡ first ++ joined rest
+halves_joined {A = A} first rest low high last next both begins =
+    append_assoc first (joined low) (next.items ++ joined last)
+    ∙ ap (λ t. first ++ t) (sym (flat_map-append (λ (p : Vec ℕ A). p.items) low (next ∷ last)) ∙ ap joined (ap (λ h. low ++ h) (sym begins) ∙ both))

@@ -1,8 +1,8 @@
 //! Matrix Market texts, read by several threads.
 //!
-//! A text that was loaded in parts is read part by part. Of a text in one part, pieces are cut off where lines end. The
-//! caller's thread starts a thread for each piece, and waits. Each is read straight into the blocks of a grid as long as its
-//! entries ascend. The pieces are then joined, one after the other, block by block. If no
+//! A text that was loaded in parts is read part by part. Of a text in one part, pieces are cut off where lines end. Each is
+//! read by a thread of its own, straight into the blocks of a grid as long as its entries ascend; threads that start others
+//! wait. Neighbours are then joined block by block, and what they make with its neighbours, until one piece is left. If no
 //! piece has a fault and all announced entries are there, the joined piece has the matrix. Otherwise, and if memory is
 //! refused, [`cb_market::read_distributed`] reads the text again on one thread and reports the first fault.
 //!
@@ -211,29 +211,9 @@ fn share(bytes: usize, low: u32, count: u32) -> usize
     bytes / count as usize * low as usize
 }
 
-/// Reads a piece of the entries of a text by another thread, while this one waits.
-fn read_apart<S: Semiring + Send + Sync, R: Threads + Sync>(
-    rt: &R,
-    plan: &Plan,
-    room: usize,
-    text: &[u8],
-) -> Option<Piece<S>>
-    requires { IsTrue (is_shape plan.now.header.symmetry plan.now.size.shape) }
-    ensures { IfSome result (IsRead S.arithmetic plan.now text.now) }
-{
-    let (piece, ()) = join(
-        rt,
-        || -> Option<Piece<S>>
-            requires { IsTrue (is_shape plan.now.header.symmetry plan.now.size.shape) }
-            ensures { IfSome result (IsRead S.arithmetic plan.entry.now text.entry.now) }
-        { plan.read::<S>(room, text) },
-        || {},
-    );
-    piece
-}
-
-/// Reads a part of the entries of a text in this many pieces, each by its own thread, while this one waits. It takes room
-/// for `room` entries: those of this part, and of those that will be appended to it.
+/// Reads a part of the entries of a text in this many pieces: one piece by this thread, and more by halves, each half by a
+/// thread of its own, while this one waits. So halves are joined side by side. It takes room for `room` entries: those of
+/// this part, and of those that will be appended to it.
 #[cycle(pieces)]
 fn read_part<S: Semiring + Send + Sync, R: Threads + Sync>(
     rt: &R,
@@ -246,29 +226,53 @@ fn read_part<S: Semiring + Send + Sync, R: Threads + Sync>(
     ensures { IfSome result (IsRead S.arithmetic plan.now text.now) }
 {
     if count < 2 {
-        return read_apart::<S, R>(rt, plan, room, text);
+        return plan.read::<S>(room, text);
     }
-    let low = count - 1;
+    let low = count / 2;
+    let high = count - low;
     let (first, last) = parted(text, share(text.len(), low, count));
     let (back, front) = join(
         rt,
         || -> Option<Piece<S>>
-            requires { IsTrue (is_shape plan.now.header.symmetry plan.now.size.shape) }
+            requires { IsSync R.row × IsTrue (is_shape plan.now.header.symmetry plan.now.size.shape) }
             ensures { IfSome result (IsRead S.arithmetic plan.entry.now last.entry.now) }
-        { plan.read::<S>(plan.room_for(last, &[]), last) },
+        { read_part::<S, R>(rt, plan, high, plan.room_for(last, &[]), last) },
         || -> Option<Piece<S>>
             requires { IsSync R.row × IsTrue (is_shape plan.now.header.symmetry plan.now.size.shape) }
             ensures { IfSome result (IsRead S.arithmetic plan.entry.now first.entry.now) }
-        { read_part::<S, R>(rt, plan, low, room, first) },
+        { read_part_apart::<S, R>(rt, plan, low, room, first) },
     );
     let front = front?;
     let back = back?;
     front.append(rt, plan.alloc, back)
 }
 
-/// Reads the entries of a text in parts, each by its own thread, while this one waits. It takes room for `room` entries:
-/// those of these parts, and of those that will be appended to them. None also if a part but the last doesn't end with a
-/// line.
+/// The same in a thread of its own, while this one waits.
+#[cycle(pieces)]
+fn read_part_apart<S: Semiring + Send + Sync, R: Threads + Sync>(
+    rt: &R,
+    plan: &Plan,
+    count: u32,
+    room: usize,
+    text: &[u8],
+) -> Option<Piece<S>>
+    requires { IsTrue (is_shape plan.now.header.symmetry plan.now.size.shape) }
+    ensures { IfSome result (IsRead S.arithmetic plan.now text.now) }
+{
+    let (piece, ()) = join(
+        rt,
+        || -> Option<Piece<S>>
+            requires { IsSync R.row × IsTrue (is_shape plan.now.header.symmetry plan.now.size.shape) }
+            ensures { IfSome result (IsRead S.arithmetic plan.entry.now text.entry.now) }
+        { read_part::<S, R>(rt, plan, count, room, text) },
+        || {},
+    );
+    piece
+}
+
+/// Reads the entries of a text in parts: one part by this thread, and more by halves, as [`read_part`] does. It takes room for
+/// `room` entries: those of these parts, and of those that will be appended to them. None also if a part but the last
+/// doesn't end with a line.
 #[cycle(parts)]
 fn read_parts<S: Semiring + Send + Sync, R: Threads + Sync>(
     rt: &R,
@@ -280,8 +284,9 @@ fn read_parts<S: Semiring + Send + Sync, R: Threads + Sync>(
     requires { IsTrue (is_shape plan.now.header.symmetry plan.now.size.shape) }
     ensures { IfSome result (IsRead S.arithmetic plan.now (first.now ++ joined rest.now)) }
 {
-    let Some((last, low)) = rest.split_last() else {
-        return read_apart::<S, R>(rt, plan, room, first);
+    let (low, high) = rest.split_at(rest.len() / 2);
+    let Some((next, last)) = high.split_first() else {
+        return plan.read::<S>(room, first);
     };
     if !parts_end_with_line(first, low) {
         return None;
@@ -289,15 +294,38 @@ fn read_parts<S: Semiring + Send + Sync, R: Threads + Sync>(
     let (back, front) = join(
         rt,
         || -> Option<Piece<S>>
-            requires { IsTrue (is_shape plan.now.header.symmetry plan.now.size.shape) }
-            ensures { IfSome result (IsRead S.arithmetic plan.entry.now last.entry.now.items) }
-        { plan.read::<S>(plan.room_for(last, &[]), last) },
+            requires { IsSync R.row × IsTrue (is_shape plan.now.header.symmetry plan.now.size.shape) }
+            ensures { IfSome result (IsRead S.arithmetic plan.entry.now (next.entry.now.items ++ joined last.entry.now)) }
+        { read_parts::<S, R>(rt, plan, plan.room_for(next, last), next, last) },
         || -> Option<Piece<S>>
             requires { IsSync R.row × IsTrue (is_shape plan.now.header.symmetry plan.now.size.shape) }
             ensures { IfSome result (IsRead S.arithmetic plan.entry.now (first.entry.now ++ joined low.entry.now)) }
-        { read_parts::<S, R>(rt, plan, room, first, low) },
+        { read_parts_apart::<S, R>(rt, plan, room, first, low) },
     );
     let front = front?;
     let back = back?;
     front.append(rt, plan.alloc, back)
+}
+
+/// The same in a thread of its own, while this one waits.
+#[cycle(parts)]
+fn read_parts_apart<S: Semiring + Send + Sync, R: Threads + Sync>(
+    rt: &R,
+    plan: &Plan,
+    room: usize,
+    first: &[u8],
+    rest: &[Vec<u8>],
+) -> Option<Piece<S>>
+    requires { IsTrue (is_shape plan.now.header.symmetry plan.now.size.shape) }
+    ensures { IfSome result (IsRead S.arithmetic plan.now (first.now ++ joined rest.now)) }
+{
+    let (piece, ()) = join(
+        rt,
+        || -> Option<Piece<S>>
+            requires { IsSync R.row × IsTrue (is_shape plan.now.header.symmetry plan.now.size.shape) }
+            ensures { IfSome result (IsRead S.arithmetic plan.entry.now (first.entry.now ++ joined rest.entry.now)) }
+        { read_parts::<S, R>(rt, plan, room, first, rest) },
+        || {},
+    );
+    piece
 }

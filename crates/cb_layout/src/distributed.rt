@@ -204,7 +204,7 @@ impl<S: Semiring + Send + Sync> DistributedMatrix<S> {
 const FEW: usize = 65_536;
 
 /// Appends the entries of each of the other blocks to the block of the same rank: each in a thread of its own if there are
-/// many entries to append.
+/// several blocks and many entries to append.
 fn append_each<S: Semiring + Send + Sync, R: Threads + Sync>(
     rt: &R,
     blocks: &mut Vec<Block<S>>,
@@ -214,7 +214,7 @@ fn append_each<S: Semiring + Send + Sync, R: Threads + Sync>(
     requires { MayBeAppended S.arithmetic blocks.old.items others.old.items }
     ensures { OnOk result (AreAppended blocks.old.items others.old.items blocks.new.items) }
 {
-    if entries < FEW {
+    if entries < FEW || blocks.len() < 2 {
         append_in_turn(blocks, others)
     } else {
         append_apart(rt, blocks, others)

@@ -1,2 +1,4 @@
 -- Running: a plan that runs on one thread.
 pub mod Running
+-- Slots: operations on the slots of one rank.
+pub mod Slots

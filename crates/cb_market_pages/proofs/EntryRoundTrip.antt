@@ -1,16 +1,11 @@
 -- A matrix, written and read again.
-use Rattle.std.proofs.Common.{◌≡◌, ◌≢◌, ℕ, ◌+◌, ◌-◌, ◌<◌, ◌^◌, Bool, true, false, Some, None, List, [], ◌∷◌, arith, sym, ◌∙◌, refl, decimal, nat_lt, ⊎_elim, inl, inr}
-use Rattle.std.specs.Prelude.{◌==◌, All, AllPairs}
+use Rattle.std.proofs.Common.{◌≡◌, ◌≢◌, ℕ, ◌+◌, ◌-◌, ◌<◌, ◌^◌, Bool, true, false, Some, None, List, [], ◌∷◌, arith, ◌∙◌, refl, decimal, nat_lt, ⊎_elim}
+use Rattle.std.specs.Prelude.{◌==◌}
 use Rattle.std.proofs.lemmas.Bool.{cases_Bool}
 use Rattle.std.proofs.lemmas.Bool.Decides.{nat_tests}
-use Rattle.std.proofs.lemmas.List.Elements.{All-head, All-tail}
-use Rattle.cb_semirings.specs.Arithmetic.{Arithmetic, IsValue, IsSemiring, ReadsNumbers}
+use Rattle.cb_semirings.specs.Arithmetic.{Arithmetic, IsValue, ReadsNumbers}
 use Rattle.cb_matrix.specs.declared.Entry.{Entry}
-use Rattle.cb_matrix.specs.Sparse.{Extent, Sparse, IsMatrix, IsBefore, is_at, value_at}
-use Rattle.cb_matrix.specs.Values.{total, values_at, collected}
-use Rattle.cb_matrix.proofs.Places.{is_at-before, is_at-parts, AllPairs-head, AllPairs-tail, IsPlaceBefore}
-use Rattle.cb_matrix.proofs.Totals.{total-one}
-use Rattle.cb_matrix.proofs.Equal.{matrix_is}
+use Rattle.cb_matrix.specs.Sparse.{Extent}
 use Rattle.cb_market_lines.specs.declared.header.Header.{Header}
 use Rattle.cb_market_lines.specs.declared.header.Field.TheVariants.{Integer, Pattern}
 use Rattle.cb_market_lines.specs.declared.header.Symmetry.TheVariants.{General}

@@ -15,12 +15,17 @@ pub record SheetText : Type 0 where
   pub written : List ℕ
   pub left : List ℕ
 
--- A buffer of this many bytes has room for a head and this many lines, at least one, and after its written bytes for
+-- A buffer with room for this many bytes has room for a head and this many lines, at least one, and after its written bytes for
 -- the lines that are left.
 pub record HasRoom (bytes lines written left : ℕ) : Type 0 where
   pub some : 0 < lines
   pub all : LONGEST_HEAD + lines * LONGEST_LINE ≤ bytes
   pub rest : written + left * LONGEST_LINE ≤ bytes
+
+-- A buffer of this length has a head's bytes at least, and those that are written.
+pub record IsBegun (bytes written : ℕ) : Type 0 where
+  pub head : LONGEST_HEAD ≤ bytes
+  pub begun : written ≤ bytes
 
 -- all that a sheet has of the text
 abbrev pub share_of : SheetText → List ℕ

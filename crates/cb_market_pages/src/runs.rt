@@ -1,5 +1,5 @@
 //! Runs of entries of one column, and their lines in a buffer.
-ghost use Rattle.std.specs.Prelude.{◌≡◌, ◌+◌, ◌*◌, ◌^◌, ◌≤◌, ◌<◌, [], ◌++◌, length, take, drop, min, IfSome, IfNone};
+ghost use Rattle.std.specs.Prelude.{◌≡◌, ℕ, ◌+◌, ◌*◌, ◌^◌, ◌≤◌, ◌<◌, [], ◌++◌, length, take, drop, min, vec_len, vec_capacity, IfSome, IfNone};
 ghost use Rattle.cb_layout.specs.Segments.{entries_of};
 ghost use Rattle.cb_market_pages.specs.Sheets.{lines_of};
 ghost use Rattle.cb_market_pages.specs.Text.{column_lines, segment_lines, line_with};
@@ -57,11 +57,14 @@ impl<'a, S: Semiring> EntriesLeft<'a, S> {
     }
 
     /// Writes the lines of the next entries, at most this many, at an offset of the buffer, and returns the offset after
-    /// them.
-    pub(crate) fn put_first(&mut self, buffer: &mut [u8], start: usize, most: usize) -> usize
-        requires { start + most * LONGEST_LINE ≤ length buffer.old }
-        ensures lines { take result buffer.new ≡ take start buffer.old ++ lines_of S.arithmetic (take most self.old) }
+    /// them. The buffer has room for these lines, and gets longer as they are written.
+    pub(crate) fn put_first(&mut self, buffer: &mut Vec<u8>, start: usize, most: usize) -> usize
+        requires start { start ≤ vec_len buffer.old }
+        requires room { start + most * LONGEST_LINE ≤ vec_capacity buffer.old }
+        ensures lines { take result buffer.new.items ≡ take start buffer.old.items ++ lines_of S.arithmetic (take most self.old) }
         ensures limit { result ≤ start + most * LONGEST_LINE }
+        ensures length { (result ≤ vec_len buffer.new) × (vec_len buffer.old ≤ vec_len buffer.new) }
+        ensures capacity { vec_capacity buffer.old ≤ vec_capacity buffer.new }
     {
         let mut end = start;
         let mut left = most;
@@ -70,9 +73,33 @@ impl<'a, S: Semiring> EntriesLeft<'a, S> {
                 break;
             };
             left -= run.rows.len();
+            lengthen(buffer, end + run.rows.len() * LONGEST_LINE);
             end = put_run(buffer, end, S::writes_pattern(), run);
         }
         end
+    }
+}
+
+/// How many bytes a buffer gets longer by at least, if it has room for them.
+const SLACK: usize = 65_536;
+
+/// Appends zeros to a list, which has room for this many bytes, until it has as many. So memory for what isn't written is
+/// never touched.
+fn lengthen(list: &mut Vec<u8>, least: usize)
+    requires { least ≤ vec_capacity list.old }
+    ensures enough { least ≤ vec_len list.new }
+    ensures longer { vec_len list.old ≤ vec_len list.new }
+    ensures same { (n : ℕ) → n ≤ vec_len list.old → take n list.new.items ≡ take n list.old.items }
+    ensures capacity { vec_capacity list.old ≤ vec_capacity list.new }
+{
+    let len = list.len();
+    if least <= len {
+        return;
+    }
+    let wanted = least.max(len.saturating_add(SLACK)).min(list.capacity());
+    match list.resize(wanted, 0) {
+        Ok(()) => {}
+        Err(_) => unreachable!(),
     }
 }
 

@@ -26,7 +26,7 @@ const LONGEST_HEAD: usize = 112;
 /// A part of the text of a matrix over a grid or in panels. In contracts a sheet is what is written on it and what is left to write.
 #[derive(Drop)]
 pub struct Sheet<'a, S: Semiring> {
-    /// The buffer, of which the first `end` bytes are written.
+    /// The buffer, of which the first `end` bytes are written. It has room for a whole sheet, and is as long as was needed.
     bytes: Vec<u8>,
     end: usize,
     /// How many lines there is room for, besides the head.
@@ -37,14 +37,14 @@ pub struct Sheet<'a, S: Semiring> {
 }
 
 impl<'a, S: Semiring> Model for Sheet<'a, S> {
-    ghost use Rattle.std.specs.Prelude.{take, length};
-    ghost use Rattle.cb_market_pages.specs.Sheets.{SheetText, HasRoom, lines_of};
+    ghost use Rattle.std.specs.Prelude.{take, length, vec_capacity};
+    ghost use Rattle.cb_market_pages.specs.Sheets.{SheetText, HasRoom, IsBegun, lines_of};
 
     ghost Value = { SheetText };
 
     ghost view = { λ t. record { written = take t.end t.bytes.items; left = lines_of S.arithmetic (take t.count t.entries) } };
 
-    ghost invariant = { λ t. HasRoom (length t.bytes.items) t.lines t.end t.count };
+    ghost invariant = { λ t. HasRoom (vec_capacity t.bytes) t.lines t.end t.count × IsBegun (length t.bytes.items) t.end };
 }
 
 impl<'a, S: Semiring> Sheet<'a, S> {
@@ -58,7 +58,8 @@ impl<'a, S: Semiring> Sheet<'a, S> {
         requires few { lines ≤ MOST_LINES }
         ensures { IfOk result (λ sheet. sheet ≡ record { written = []; left = [] }) }
     {
-        let bytes = vec![in alloc; 0; LONGEST_HEAD + lines * LONGEST_LINE]?;
+        let mut bytes = Vec::with_capacity(alloc, LONGEST_HEAD + lines * LONGEST_LINE)?;
+        bytes.resize(LONGEST_HEAD, 0)?;
         Ok(Sheet {
             bytes,
             end: 0,

@@ -118,7 +118,8 @@ module _ (s : Arithmetic) (laws : IsSemiring s) (acc a b : Sparse) (r : IsMatrix
   stored_sum i j =
       column_total s laws a p i j a.shape.cols b.entries q.values q.ascending (All-weaker (IsInside b.shape) (λ e. e.row < a.shape.cols) (λ e k. let l = k.0 in rw agree l) b.entries q.inside)
 
-  absent_sum : (columns : List ℕ) (i j : ℕ) → AreInColumns columns acc.entries → AreInColumns columns b.entries → All (λ c. c ≢ j) columns → accumulated s acc a b i j ≡ s.zero
+  -- in a column without entries of either, the sum is zero
+  pub absent_sum : (columns : List ℕ) (i j : ℕ) → AreInColumns columns acc.entries → AreInColumns columns b.entries → All (λ c. c ≢ j) columns → accumulated s acc a b i j ≡ s.zero
   unfolding column_sum
   absent_sum columns i j acc_in b_in h =
       let none : in_column j b.entries ≡ [] = sym (nothing_there j b.entries columns b_in h) in

@@ -3,7 +3,7 @@ use Rattle.std.specs.Prelude.{◌≡◌, ℕ, ◌<◌, ◌≤◌, List, [], ◌�
 use Rattle.cb_semirings.specs.Arithmetic.{Arithmetic, IsValue}
 use Rattle.cb_matrix.specs.Sparse.{Sparse, at}
 use Rattle.cb_matrix.specs.Values.{total}
-use Rattle.cb_dcsc.specs.Columns.{row_value, rows_of, values_of}
+use Rattle.cb_dcsc.specs.Columns.{in_column, row_value, rows_of, values_of}
 use Rattle.cb_product.specs.declared.terms.Term.{Term}
 
 -- the value of a term at row i, given the rows and values of all entries
@@ -35,3 +35,7 @@ terms_at s a i ts = terms_value s (rows_of a.entries) (values_of a.entries) i ts
 -- the sum at row i of a column of the accumulator and of terms of the left block
 abbrev pub sum_with : Arithmetic → Sparse → List ℕ → List ℕ → List Term → ℕ → ℕ
 sum_with s a own_rows own_values ts i = s.add (row_value s.zero own_rows own_values i) (terms_at s a i ts)
+
+-- these terms of `a` have, at each row, the sum over the entries of column j of `b`
+abbrev pub AreTermsOf : Arithmetic → Sparse → Sparse → ℕ → List Term → Type 0
+AreTermsOf s a b j ts = (i : ℕ) → terms_at s a i ts ≡ column_sum s a i (rows_of (in_column j b.entries)) (values_of (in_column j b.entries))

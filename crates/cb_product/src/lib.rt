@@ -10,7 +10,8 @@
 //! - a few terms are joined one after another: O(products * terms);
 //! - many terms are merged by a heap: O(products * log terms).
 //!
-//! Sums of zero aren't stored. An index finds the left block's columns.
+//! Sums of zero aren't stored. An index finds the left block's columns. The terms of two products can be added to one
+//! accumulator.
 //!
 //! No list is longer than a few times the products or entries that it serves, so a block of side 2,147,483,647 costs what
 //! its entries cost. Of the left block, only the columns that the right block's entries name are read.
@@ -27,6 +28,7 @@ ghost use Rattle.cb_product.specs.ColumnStarts.{Tells};
 ghost use Rattle.cb_product.specs.Factors.{AreFactors};
 ghost use Rattle.cb_product.specs.InColumns.{AreInColumns, only_columns};
 
+pub use crate::both::multiply_both_into;
 pub use crate::column_index::ColumnIndex;
 pub use crate::counts::{LEAST_PRODUCTS, products_of_column, products_of_columns, total_products};
 pub use crate::product_column::ProductColumn;
@@ -36,6 +38,7 @@ use cb_dcsc::Block;
 use cb_semirings::Semiring;
 use std::alloc::{AllocError, Global};
 
+mod both;
 mod column_index;
 mod columns;
 mod counts;
@@ -164,7 +167,8 @@ fn accumulate_columns<S: Semiring>(
 {
     let mut work = Workspace::new(alloc)?;
     let mut terms = Vec::new(alloc);
-    let mut out = with_room(alloc, left, right, accumulator, room);
+    let room = room_for(left.len(), right.len(), accumulator.len(), room);
+    let mut out = with_room(alloc, accumulator, room);
     make_columns(
         left,
         right,
@@ -248,26 +252,20 @@ fn most_entries<S: Semiring>(
     products.min(columns.saturating_mul(left.shape().rows() as usize))
 }
 
-/// Returns a block without entries, of the accumulator's shape, with room for this many entries and those of the accumulator.
-fn with_room<S: Semiring>(
-    alloc: Global,
-    left: &Block<S>,
-    right: &Block<S>,
-    accumulator: &Block<S>,
-    most: usize,
-) -> Block<S>
+/// Returns a block without entries, of the accumulator's shape, with room for this many entries.
+fn with_room<S: Semiring>(alloc: Global, accumulator: &Block<S>, room: usize) -> Block<S>
     ensures value { result ≡ empty_matrix accumulator.now.shape }
     ensures matrix { IsMatrix S.arithmetic result }
 {
     let mut out = Block::empty(alloc, accumulator.shape());
     // A refusal isn't an error here: there can still be enough memory for the entries that are stored.
-    let _ = out.reserve(room(left.len(), right.len(), accumulator.len(), most));
+    let _ = out.reserve(room);
     out
 }
 
 /// Returns for how many entries room is taken at once: for the accumulator's entries and for all products, but for at most
 /// 32 times the entries of the two blocks, since many products may add up to few entries.
-fn room(left: usize, right: usize, accumulator: usize, products: usize) -> usize {
+fn room_for(left: usize, right: usize, accumulator: usize, products: usize) -> usize {
     let given = left.saturating_add(right);
     products
         .min(given.saturating_mul(32))

@@ -108,6 +108,7 @@ impl<S: Semiring> SparseAccumulator<S> {
         requires inside { All (λ i. i < length self.old) rows.now }
         requires sums { All (IsValue S.arithmetic) self.old }
         ensures length { length self.new ≡ length self.old }
+        ensures values { All (IsValue S.arithmetic) self.new }
         ensures sums { AddsToSums S.arithmetic (length self.old) (λ i. terms_value S.arithmetic rows.now values.now i terms.now) self.old self.new }
     {
         for term in terms {

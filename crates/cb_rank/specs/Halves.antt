@@ -45,6 +45,10 @@ loss_or_result s op slots None = slot_of (result_of (matrices s) op (sheets_in s
 abbrev pub work_result : Arithmetic → Op → List (Slot Sparse) → Slot Sparse
 work_result s op slots = loss_or_result s op slots (first_lost slots (reads_of op))
 
+-- the slots after an operation for which there is memory
+abbrev pub worked : Arithmetic → Op → List (Slot Sparse) → List (Slot Sparse)
+worked s op slots = slice_set slots (target_of op) (work_result s op slots)
+
 -- what rank `me` posts for a slot: a copy of its sheet, or, if memory for that is refused, the loss at `me`, whose count of
 -- refusals rises by one; for a lost slot, its origin
 abbrev pub IsCopy : ℕ → Slot Sparse → Body Sparse → ℕ → ℕ → Type 0

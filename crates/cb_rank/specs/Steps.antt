@@ -20,7 +20,7 @@ use Rattle.cb_rank.specs.declared.wants.Moved.{Moved}
 use Rattle.cb_rank.specs.declared.wants.Moved.TheVariants as moved_is
 use Rattle.cb_rank.specs.declared.wants.Stray.{Stray}
 use Rattle.cb_rank.specs.Halves.{slot_at, asks_memory, IsCopy, IsWork}
-use Rattle.cb_rank.specs.Ranks.{RankView, next_half, onward, IsAwaited, slots_with}
+use Rattle.cb_rank.specs.Ranks.{RankView, IsRank, next_half, onward, IsAwaited, slots_with}
 
 -- at a Post a rank hands out the half's tag and a copy of its slot
 abbrev pub HandsOut : RankView → Option Half → Tag → Body Sparse → RankView → Type 0
@@ -33,6 +33,10 @@ abbrev pub Works : Arithmetic → RankView → Option Half → RankView → Type
 Works s old (Some (half_is.Work op)) new =
     (x : Slot Sparse) × IsWork s old.me op old.slots x old.refusals new.refusals × (new ≡ onward old (slice_set old.slots (target_of op) x) new.refusals)
 Works s old half new = ⊥
+
+-- at two Works a rank does both operations, one after the other
+abbrev pub WorksTwice : Arithmetic → RankView → RankView → Type 0
+WorksTwice s old new = (between : RankView) × IsRank between × Works s old (next_half old) between × Works s between (next_half between) new
 
 -- if the next half asks for memory, the rank counts one more refusal
 abbrev pub CountsRefusal : RankView → RankView → Type 0

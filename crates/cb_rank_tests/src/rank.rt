@@ -12,6 +12,7 @@ use std::alloc::Global;
 
 mod letters;
 mod operations;
+mod pairs;
 
 /// A letter from rank 1 to rank 0.
 fn letter(

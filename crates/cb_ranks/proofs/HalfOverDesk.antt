@@ -1,6 +1,6 @@
 -- A rank and its desk after each half of the rank's program.
 use Rattle.std.proofs.Common.{◌≡◌, ◌≢◌, ℕ, ◌<◌, true, false, List, [], ◌∷◌, ◌++◌, length, refl, sym, ◌∙◌, ap, subst, arith, length-append, inl, inr}
-use Rattle.std.specs.Prelude.{Some, ◌==◌, ◌⊎◌, nat_le, slice_set, slice_index_or}
+use Rattle.std.specs.Prelude.{Option, Some, ◌==◌, ◌⊎◌, nat_le, slice_set, slice_index_or}
 use Rattle.std.proofs.lemmas.Bool.Decides.{nat_tests}
 use Rattle.std.proofs.lemmas.List.{length-map}
 use Rattle.std.proofs.Math.Seq.{get_or-append_seam}
@@ -19,14 +19,16 @@ use Rattle.cb_lanes.specs.declared.desk.Desk.{Desk}
 use Rattle.cb_lanes.specs.Desks.{identity, posted_to, taken_from, is_stranger, standing, Posts, Takes}
 use Rattle.cb_rings.specs.Ends.{outgoing_ring}
 use Rattle.cb_rings.specs.Numbers.{AreNumbered}
+use Rattle.cb_plan.specs.declared.acts.Half.{Half}
 use Rattle.cb_plan.specs.declared.acts.Half.TheVariants as half_is
+use Rattle.cb_plan.specs.declared.acts.Op.{Op}
 use Rattle.cb_plan.specs.declared.stores.Slot.{Slot}
 use Rattle.cb_plan.specs.Meaning.{target_of}
 use Rattle.cb_rank.specs.declared.wants.Arrival.TheVariants as arrival_is
 use Rattle.cb_rank.specs.Halves.{with_letter, slot_of_body}
 use Rattle.cb_rank.specs.declared.wants.Want.TheVariants as want_is
 use Rattle.cb_rank.specs.Ranks.{RankView, IsRank, next_half, want_of, onward, IsTakeOrEnd, IsAwaited, slots_with}
-use Rattle.cb_rank.specs.Steps.{HandsOut, Works}
+use Rattle.cb_rank.specs.Steps.{HandsOut, Works, WorksTwice}
 use Rattle.cb_plan.proofs.Effects.{split}
 use Rattle.cb_rank.proofs.WantedHalf.{wants_take, wants_end}
 use Rattle.cb_ranks.specs.Runs.{course_of}
@@ -112,6 +114,19 @@ does_work s x y d op is was next works =
       rings = refl;
       under_way = still_under_way x y d d set y.refusals was w.2 refl (λ k. refl) (lanes_work x op is next);
     }
+
+-- a rank that does an operation has it as its next half
+pub works_next : (s : Arithmetic) (x : RankView) (h : Option Half) (y : RankView) → Works s x h y → (op : Op) × (h ≡ Some (half_is.Work op))
+works_next s x (Some (half_is.Work op)) y works = (op, refl)
+works_next s x _ y works = absurd works
+
+-- a rank that does two operations does two halves, one after the other
+pub does_both : (s : Arithmetic) (x y : RankView) (d : Desk Sparse) → IsRank x → IsUnderWay x d → (both : WorksTwice s x y) → DoesNext s x d both.0 d × DoesNext s both.0 d y d
+does_both s x y d is was both =
+    let first = works_next s x (next_half x) both.0 both.2 in
+    let second = works_next s both.0 (next_half both.0) y both.3 in
+    let one = does_work s x both.0 d first.0 is was first.1 both.2 in
+    (one, does_work s both.0 y d second.0 both.1 one.under_way second.1 both.3)
 
 -- what was taken on each lane is numbered, if it is on the one that grew
 numbered_then : (d e : Desk Sparse) (from : ℕ) → ((k : ℕ) → AreNumbered (taken_from d k)) → AreNumbered (taken_from e from) → ((k : ℕ) → k ≢ from → taken_from e k ≡ taken_from d k) → (k : ℕ) → AreNumbered (taken_from e k)

@@ -4,8 +4,14 @@ use cb_semirings::Semiring;
 
 /// Called by each rank's thread. It may look, count and wait, but can't change the rank.
 pub trait Gate<S: Semiring>: Sync {
-    /// Called before each half, with the rank as it is then.
+    /// Called before each half, with the rank as it is then; and once before two halves that are done at once.
     fn pass(&self, rank: u16, state: &Rank<S>);
+
+    /// Whether each half is done by itself, as by default. Otherwise two halves that add products to the same slot may be
+    /// done at once, which costs less ([`Rank::work_both`]).
+    fn parts_halves(&self) -> bool {
+        true
+    }
 
     /// Called in a traced run once the rank has recorded an event, with the event's place in the trace, from 0. It does
     /// nothing by default.
@@ -18,4 +24,8 @@ pub struct OpenGate;
 
 impl<S: Semiring> Gate<S> for OpenGate {
     fn pass(&self, _rank: u16, _state: &Rank<S>) {}
+
+    fn parts_halves(&self) -> bool {
+        false
+    }
 }

@@ -136,10 +136,11 @@ fn are_read_in_pieces(rt: HostRuntime) {
     assert!(&rt; all_are_read_in_pieces(&rt, rt.alloc(), TEXTS));
 }
 
-/// Appends the last two digits of a number and a byte.
+/// Appends the last three digits of a number and a byte.
 fn put(text: &mut Vec<u8>, number: u32, end: u8) -> Result<(), AllocError> {
-    let below = number % 100;
-    text.push(b'0' + (below / 10) as u8)?;
+    let below = number % 1000;
+    text.push(b'0' + (below / 100) as u8)?;
+    text.push(b'0' + (below / 10 % 10) as u8)?;
     text.push(b'0' + (below % 10) as u8)?;
     text.push(end)?;
     Ok(())
@@ -175,6 +176,26 @@ fn may_be_long(rt: HostRuntime) {
     for step in [1, 7, 0] {
         assert!(&rt; is_long_text_read(&rt, rt.alloc(), step) == Ok(true));
     }
+}
+
+/// A text of 143,360 entries, 512 of each column: if it is cut in two, the second piece has more than 65,536 of them.
+fn full_text(alloc: Global) -> Result<Vec<u8>, AllocError> {
+    let mut text = Vec::from_slice(
+        alloc,
+        b"%%MatrixMarket matrix coordinate pattern general\n512 280 143360\n",
+    )?;
+    for number in 0u32..143_360 {
+        put(&mut text, number % 512 + 1, b' ')?;
+        put(&mut text, number / 512 + 1, b'\n')?;
+    }
+    Ok(text)
+}
+
+/// Pieces with so many entries that a thread for each block appends them.
+#[test]
+fn may_have_many_entries(rt: HostRuntime) {
+    let given = full_text(rt.alloc());
+    assert!(&rt; matches!(&given, Ok(text) if is_read_in_pieces(&rt, rt.alloc(), text)));
 }
 
 /// The line and the kind of the first fault of a text that is read in at most this many pieces, or in its parts.

@@ -15,14 +15,20 @@ returns-clause-some g c =
 
 pub invariant_of-self : goal.invariant_of-self
 invariant_of-self g c =
-    let i = c.self.invariant in
+    let i = c.self.invariant.0 in
+    let begun = c.self.invariant.1 in
     let size = ap length (with_items_is c.self.inside.bytes c.next_part-end.new.buffer (search rules)) in
-    let fit = c.next_part-end.auto.buffer ∙ ap length c.deref_mut.ensures.value in
-    record {
-      some = i.some;
-      all = omega (arith, size, fit, i.all);
-      rest = omega (arith, size, fit, i.all, c.next_part-end.ensures.head, c.next_part-end.ensures.most);
-    }
+    let fit = c.next_part-end.auto.buffer ∙ ap length c.deref_mut.ensures.value in (
+      record {
+        some = i.some;
+        all = i.all;
+        rest = omega (arith, i.all, c.next_part-end.ensures.head, c.next_part-end.ensures.most);
+      },
+      record {
+        head = omega (arith, size, fit, begun.head);
+        begun = omega (arith, size, fit, begun.head, c.next_part-end.ensures.head);
+      },
+    )
 
 pub returns-clause-text : goal.returns-clause-text
 returns-clause-text g c =

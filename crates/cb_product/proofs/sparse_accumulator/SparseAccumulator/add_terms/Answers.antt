@@ -45,3 +45,6 @@ add-requires-clause-inside g c =
 
 pub returns-clause-length : goal.returns-clause-length
 returns-clause-length g c = c.loop-term.invariant.long
+
+pub returns-clause-values : goal.returns-clause-values
+returns-clause-values g c = c.loop-term.invariant.values

@@ -1,0 +1,101 @@
+//! Two products that are added to one slot at once.
+use super::{Held, contents_of};
+use crate::plans::plan_of;
+use cb_plan::{Act, Op, RankStore, Start};
+use cb_rank::Rank;
+use cb_samples::{block, entry, shape};
+use cb_semirings::PlusTimes;
+use std::alloc::Global;
+
+/// Slots 0, 1 and 2 with the numbers 2, 3 and 5.
+fn numbers(alloc: Global) -> Option<RankStore<PlusTimes>> {
+    let mut store = RankStore::new(alloc).ok()?;
+    store.put(0, block(alloc, 1, 1, &[entry(0, 0, 2)]).ok()?);
+    store.put(1, block(alloc, 1, 1, &[entry(0, 0, 3)]).ok()?);
+    store.put(2, block(alloc, 1, 1, &[entry(0, 0, 5)]).ok()?);
+    Some(store)
+}
+
+/// A rank that has those numbers and does these operations.
+fn rank_of(alloc: Global, ops: &[Op]) -> Option<Rank<PlusTimes>> {
+    let shape = shape(1, 1).ok()?;
+    let starts = [
+        Start {
+            rank: 0,
+            slot: 0,
+            shape,
+        },
+        Start {
+            rank: 0,
+            slot: 1,
+            shape,
+        },
+        Start {
+            rank: 0,
+            slot: 2,
+            shape,
+        },
+    ];
+    let mut acts = Vec::new(alloc);
+    for op in ops {
+        acts.push(Act::Work { rank: 0, op: *op }).ok()?;
+    }
+    acts.push(Act::Shut { from: 0, to: 1 }).ok()?;
+    acts.push(Act::Shut { from: 1, to: 0 }).ok()?;
+    let plan = plan_of(alloc, &starts, &acts)?;
+    let other = RankStore::new(alloc).ok()?;
+    let mut stores = vec![in alloc; numbers(alloc)?, other].ok()?;
+    if plan.ranks() == 0 || !plan.fits(&stores) {
+        return None;
+    }
+    let store = stores.swap_remove(0);
+    Rank::start(alloc, &plan, 0, store).ok()
+}
+
+/// Whether a rank does the first two of these operations at once, how many halves it does, and what slot 2 then holds.
+fn does_both(alloc: Global, ops: &[Op]) -> Option<(bool, u64, Held)> {
+    let mut rank = rank_of(alloc, ops)?;
+    let all = rank.remaining();
+    let does = rank.work_both();
+    let done = all.saturating_sub(rank.remaining());
+    Some((does, done, contents_of(&rank.into_store(), 2)))
+}
+
+/// Adds 2 * 3 to slot 2.
+const SIX: Op = Op::MulAdd { a: 0, b: 1, acc: 2 };
+
+/// Adds 3 * 3 to slot 2.
+const NINE: Op = Op::MulAdd { a: 1, b: 1, acc: 2 };
+
+/// What is found where nothing is done.
+const NOTHING: (bool, u64, Held) = (false, 0, Held::Entries(1, 5));
+
+#[test]
+fn two_products_are_added_at_once(rt: HostRuntime) {
+    assert!(rt; does_both(rt.alloc(), &[SIX, NINE]) == Some((true, 2, Held::Entries(1, 20))));
+    assert!(rt; does_both(rt.alloc(), &[SIX, NINE, SIX]) == Some((true, 2, Held::Entries(1, 20))));
+}
+
+/// 2 + 3 in slot 2.
+const SUM: Op = Op::Add {
+    a: 0,
+    b: 1,
+    into: 2,
+};
+
+/// Adds 3 * 3 to slot 0.
+const ELSEWHERE: Op = Op::MulAdd { a: 1, b: 1, acc: 0 };
+
+/// Adds 3 times slot 2 to slot 2.
+const ONTO_A_FACTOR: Op = Op::MulAdd { a: 1, b: 2, acc: 2 };
+
+/// One operation isn't a product, or they add to two slots, or to a factor, or there is only one.
+#[test]
+fn other_operations_are_done_by_themselves(rt: HostRuntime) {
+    assert!(rt; does_both(rt.alloc(), &[SIX, SUM]) == Some(NOTHING));
+    assert!(rt; does_both(rt.alloc(), &[SUM, SIX]) == Some(NOTHING));
+    assert!(rt; does_both(rt.alloc(), &[SIX, ELSEWHERE]) == Some(NOTHING));
+    assert!(rt; does_both(rt.alloc(), &[SIX, ONTO_A_FACTOR]) == Some(NOTHING));
+    assert!(rt; does_both(rt.alloc(), &[ONTO_A_FACTOR, SIX]) == Some(NOTHING));
+    assert!(rt; does_both(rt.alloc(), &[SIX]) == Some(NOTHING));
+}
