@@ -1,9 +1,11 @@
 /* Loaded before a program (LD_PRELOAD), it refuses one allocation, or one thread: the one whose number, from 1,
- * REFUSED_ALLOCATION or REFUSED_THREAD names. Where it came to that it makes the file that REFUSED_MARK names. */
+ * REFUSED_ALLOCATION or REFUSED_THREAD names. With REFUSED_ROW it refuses so many allocations, one after another. Where it
+ * came to that it makes the file that REFUSED_MARK names. */
 #define _GNU_SOURCE
 #include <dlfcn.h>
 #include <errno.h>
 #include <fcntl.h>
+#include <limits.h>
 #include <pthread.h>
 #include <stdatomic.h>
 #include <stddef.h>
@@ -17,24 +19,31 @@ extern void *__libc_memalign(size_t, size_t);
 
 typedef int starter(pthread_t *, const pthread_attr_t *, void *(*)(void *), void *);
 
-static atomic_long allocations = -1, threads = -1;
+static atomic_long allocations = LONG_MIN, threads = LONG_MIN;
+static long row = 1;
 static const char *mark;
 static starter *start_thread;
 
-static long number_in(const char *name) {
+static long number_in(const char *name, long otherwise) {
     const char *number = getenv(name);
-    return number ? atol(number) : -1;
+    return number ? atol(number) : otherwise;
 }
 
 __attribute__((constructor)) static void begin(void) {
     start_thread = (starter *)dlsym(RTLD_NEXT, "pthread_create");
     mark = getenv("REFUSED_MARK");
-    threads = number_in("REFUSED_THREAD");
-    allocations = number_in("REFUSED_ALLOCATION");
+    threads = number_in("REFUSED_THREAD", LONG_MIN);
+    allocations = number_in("REFUSED_ALLOCATION", LONG_MIN);
+    row = number_in("REFUSED_ROW", 1);
 }
 
-static int comes_to(atomic_long *left) {
-    if (*left < 0 || atomic_fetch_sub(left, 1) != 1) {
+/* Whether it has come to the one that is `left` calls away, or to one of the `many` from there on. */
+static int comes_to(atomic_long *left, long many) {
+    if (*left <= -many) {
+        return 0;
+    }
+    long now = atomic_fetch_sub(left, 1);
+    if (now > 1 || now <= 1 - many) {
         return 0;
     }
     if (mark) {
@@ -47,7 +56,7 @@ static int comes_to(atomic_long *left) {
 }
 
 static int is_refused(void) {
-    if (!comes_to(&allocations)) {
+    if (!comes_to(&allocations, row)) {
         return 0;
     }
     errno = ENOMEM;
@@ -55,7 +64,7 @@ static int is_refused(void) {
 }
 
 int pthread_create(pthread_t *thread, const pthread_attr_t *attributes, void *(*start)(void *), void *given) {
-    return comes_to(&threads) ? EAGAIN : start_thread(thread, attributes, start, given);
+    return comes_to(&threads, 1) ? EAGAIN : start_thread(thread, attributes, start, given);
 }
 
 void *malloc(size_t size) {
