@@ -1,6 +1,7 @@
-//! Reads the texts of a job in the job's order. Each text is read in pieces, by at most `threads` threads, and dropped
-//! once it is read.
+//! Reads the texts of a job. Each text is read in pieces, by at most `threads` threads, and dropped once it is read. Two long
+//! texts are read at once, so that while one is joined the other's pieces have the processors.
 ghost use Rattle.std.specs.Prelude.{◌≡◌, ◌≤◌, ◌∷◌, [], drop, vec_len, IfOk, IfErr, OnOk};
+ghost use Rattle.std.specs.Thread.{IsSync};
 ghost use Rattle.cb_market_lines.specs.Reads.{Reads};
 ghost use Rattle.cb_job_inputs.specs.Inputs.{AreMatrices, IsFirstReadFault, IsReadFault, IsTextFault, arithmetic_at};
 ghost use Rattle.cb_outcomes.specs.Texts.{text_at};
@@ -12,7 +13,7 @@ use cb_outcomes::faults::JobFault;
 use cb_outcomes::texts::Text;
 use cb_semirings::Semiring;
 use std::alloc::Global;
-use std::thread::Threads;
+use std::thread::{Threads, join};
 
 /// The fewest bytes that get a thread of their own.
 const LEAST_BYTES: usize = 262_144;
@@ -74,10 +75,57 @@ fn read_both<S: Semiring + Send + Sync, T: Semiring + Send + Sync, R: Threads + 
     ensures fault { IfErr result (IsFirstReadFault (arithmetic_at S.arithmetic T.arithmetic) texts.old.items) }
 {
     let first = texts.remove(0);
-    let left = read_text::<S, R>(rt, alloc, grid, threads, 0, first)?;
     let second = texts.remove(0);
+    if threads > 1 && is_long(&first) && is_long(&second) {
+        let (left, right) = read_at_once::<S, T, R>(rt, alloc, grid, threads, first, second);
+        return Ok((left?, right?));
+    }
+    let left = read_text::<S, R>(rt, alloc, grid, threads, 0, first)?;
     let right = read_text::<T, R>(rt, alloc, grid, threads, 1, second)?;
     Ok((left, right))
+}
+
+/// Whether a text has the bytes of two pieces, or more.
+fn is_long(text: &Text) -> bool {
+    let (first, rest) = text.parts();
+    !rest.is_empty() || first.len() >= 2 * LEAST_BYTES
+}
+
+/// Reads the first two texts of a job, the second in a thread of its own. Each is read in pieces.
+fn read_at_once<S: Semiring + Send + Sync, T: Semiring + Send + Sync, R: Threads + Sync>(
+    rt: &R,
+    alloc: Global,
+    grid: &Grid,
+    threads: u32,
+    first: Text,
+    second: Text,
+) -> (
+    Result<DistributedMatrix<S>, JobFault>,
+    Result<DistributedMatrix<T>, JobFault>,
+)
+    ensures first { IfOk result.0 (λ m. Reads S.arithmetic first m.matrix) }
+    ensures second { IfOk result.1 (λ m. Reads T.arithmetic second m.matrix) }
+    ensures first_side { IfOk result.0 (λ m. m.side ≡ grid.now.side) }
+    ensures second_side { IfOk result.1 (λ m. m.side ≡ grid.now.side) }
+    ensures first_fault { IfErr result.0 (IsTextFault S.arithmetic 0 first) }
+    ensures second_fault { IfErr result.1 (IsTextFault T.arithmetic 1 second) }
+{
+    let (right, left) = join(
+        rt,
+        || -> Result<DistributedMatrix<T>, JobFault>
+            requires { IsSync R.row }
+            ensures ok { IfOk result (λ m. Reads T.arithmetic second m.matrix) }
+            ensures side { IfOk result (λ m. m.side ≡ grid.entry.now.side) }
+            ensures fault { IfErr result (IsTextFault T.arithmetic 1 second) }
+        { read_text::<T, R>(rt, alloc, grid, threads, 1, second) },
+        || -> Result<DistributedMatrix<S>, JobFault>
+            requires { IsSync R.row }
+            ensures ok { IfOk result (λ m. Reads S.arithmetic first m.matrix) }
+            ensures side { IfOk result (λ m. m.side ≡ grid.entry.now.side) }
+            ensures fault { IfErr result (IsTextFault S.arithmetic 0 first) }
+        { read_text::<S, R>(rt, alloc, grid, threads, 0, first) },
+    );
+    (left, right)
 }
 
 /// Reads two texts into the blocks of a grid.

@@ -191,16 +191,17 @@ fn side_of(command: &str, found: &ArgMatches<'_>, processors: usize) -> Option<u
     (1..=LARGEST_SIDE).contains(&side).then_some(side)
 }
 
-/// How many threads may work on a command: one with `--engine plain`, as many as ranks if ranks compute it, and otherwise
-/// as many as processors, up to `MOST_THREADS`.
+/// How many threads may read and write for a command, and compute it without ranks: one with `--engine plain`, and otherwise
+/// as many as processors, up to as many as ranks if ranks compute it, and else up to `MOST_THREADS`.
 fn threads_of(command: &str, found: &ArgMatches<'_>, side: u32, processors: usize) -> u32
     requires { side ≤ 6 }
 {
-    match found.get_str("engine") {
+    let most = match found.get_str("engine") {
         Some("plain") => 1,
-        None if !asks_for_ranks(command, found) => processors.clamp(1, MOST_THREADS) as u32,
-        _ => side * side,
-    }
+        None if !asks_for_ranks(command, found) => MOST_THREADS,
+        _ => (side * side) as usize,
+    };
+    processors.min(most).max(1) as u32
 }
 
 fn semiring_of(found: &ArgMatches<'_>) -> Option<SemiringName> {
