@@ -1,0 +1,3 @@
+pub mod LastItems
+pub mod NewRings
+pub mod Sent

@@ -1,0 +1,16 @@
+-- What a contract sees of a crew.
+use Rattle.std.specs.Prelude.{ℕ, length}
+use Rattle.cb_semirings.specs.declared.Semiring.{Ghosts as SemiringGhosts}
+use Rattle.cb_ranks.specs.Crews.{Member}
+use Rattle.cb_crews.specs.declared.messages.Naming.{Ghosts as NamingGhosts}
+use Rattle.cb_crews.specs.declared.crew.Crew.{Crew}
+use Rattle.cb_crews.specs.declared.workers.Busy.{Busy}
+
+module _ {S J : Type 0} {A : SemiringGhosts S} {N : NamingGhosts J} where
+  -- how many workers it has
+  abbrev pub size : Crew S J A N → ℕ
+  size c = length c.idle.items
+
+  -- the rank and the desk that a worker has
+  abbrev pub given : Busy S J A N → Member
+  given b = b.errand.value
