@@ -1,5 +1,8 @@
 //! Texts read in pieces of one line or several, and texts that were loaded in parts.
+ghost use Rattle.std.specs.Prelude.{◌≡◌, IfSome, vec_len};
+
 use cb_dcsc::Block;
+use cb_job_inputs::inputs::read_two;
 use cb_job_inputs::reading::{Pieces, read_in_pieces, read_side_by_side};
 use cb_layout::{DistributedMatrix, Grid};
 use cb_market::{Kind, ReadFault, parted, read};
@@ -196,6 +199,42 @@ fn full_text(alloc: Global) -> Result<Vec<u8>, AllocError> {
 fn may_have_many_entries(rt: HostRuntime) {
     let given = full_text(rt.alloc());
     assert!(&rt; matches!(&given, Ok(text) if is_read_in_pieces(&rt, rt.alloc(), text)));
+}
+
+/// Whether two long texts are read, each with the same result as on one thread.
+fn are_both_read<R: Threads + Sync>(rt: &R, alloc: Global, given: &[u8]) -> bool {
+    let (Some(wanted), Some(texts)) = (on_one_thread(alloc, given), twice(alloc, given)) else {
+        return false;
+    };
+    match read_two::<PlusTimes, R>(rt, alloc, &Grid::single(), 2, texts) {
+        Ok((left, right)) => { has_text(alloc, &left, &wanted) && has_text(alloc, &right, &wanted) }
+        Err(_) => false,
+    }
+}
+
+/// These bytes as two texts.
+fn twice(alloc: Global, given: &[u8]) -> Option<Vec<Text>>
+    ensures { IfSome result (λ texts. vec_len texts ≡ 2) }
+{
+    let mut texts = Vec::new(alloc);
+    texts.push(whole(alloc, given)?).ok()?;
+    texts.push(whole(alloc, given)?).ok()?;
+    Some(texts)
+}
+
+/// Whether a matrix has this text.
+fn has_text(alloc: Global, matrix: &DistributedMatrix<PlusTimes>, wanted: &[u8]) -> bool {
+    match written(alloc, matrix) {
+        Some(bytes) => bytes.as_slice() == wanted,
+        None => false,
+    }
+}
+
+/// Two texts that are long enough to be read at once.
+#[test]
+fn may_be_two(rt: HostRuntime) {
+    let given = full_text(rt.alloc());
+    assert!(&rt; matches!(&given, Ok(text) if are_both_read(&rt, rt.alloc(), text)));
 }
 
 /// The line and the kind of the first fault of a text that is read in at most this many pieces, or in its parts.

@@ -1,4 +1,4 @@
-use Rattle.std.proofs.Common.{◌≡◌, sym, subst, refl, arith, IfOk, IfErr}
+use Rattle.std.proofs.Common.{sym, subst, refl, arith, IfOk, IfErr}
 use Rattle.std.proofs.lemmas.Result.{err_from_is_err_and}
 use Rattle.cb_market_lines.specs.Reads.{Reads}
 use Rattle.cb_job_inputs.specs.Inputs.{IsMatrixText, IsTextFault, arithmetic_at}
