@@ -11,6 +11,7 @@ use Rattle.cb_world.specs.declared.events.Event.{Event}
 use Rattle.cb_engines.specs.declared.engines.Engine.{Engine}
 use Rattle.cb_engines.specs.declared.engine_faults.EngineFault.{EngineFault}
 use Rattle.cb_engines.specs.declared.engine_faults.EngineFault.TheVariants.{Lost}
+use Rattle.cb_engines.specs.EngineRuns.{IsNoLoss}
 use Rattle.cb_engines.proofs.SteppedRuns.{of_its_order}
 use Rattle.cb_vectors.specs.SpreadVectors.{MultipliesVectors}
 use Rattle.cb_run.specs.declared.operation_faults.OperationFault.TheVariants.{Failed}
@@ -19,6 +20,11 @@ use Rattle.cb_run.specs.Searched.{IsSteppedRoundLoss, IsSteppedWalkLoss, IsWalkL
 use Rattle.cb_run.specs.VectorOrders.{IsSteppedProductLoss, IsOrderedProductLoss}
 
 module _ (engine : Engine) (q : ℕ) (graph : Sparse) (source : ℕ) where
+  -- a fault without a loss is none in a search
+  pub no_walk_loss : (e : EngineFault) → IsNoLoss e → IsWalkLoss engine q graph source (Failed e)
+  no_walk_loss (Lost r count) none = absurd none
+  no_walk_loss _ none = tt
+
   -- a loss in the transpose is one in the search
   pub transpose_loss : (e : EngineFault) → IsLossFor min_plus engine Transpose q (graph ∷ []) (Failed e) → IsWalkLoss engine q graph source (Failed e)
   transpose_loss (Lost r count) loss =

@@ -8,6 +8,7 @@ ghost use Rattle.cb_engines.specs.EngineRuns.{IsEngineFault, IsTraceOf, LostWher
 ghost use Rattle.cb_vectors.specs.SpreadVectors.{HasBoth, MultipliesVectors};
 ghost use Rattle.cb_run.specs.VectorOrders.{IsOrderedProduct, IsOrderedProductLoss, IsProductLoss};
 
+use cb_crews::{Crew, Naming};
 use cb_engines::{Engine, EngineFault, Left};
 use cb_layout::{DistributedMatrix, Grid};
 use cb_matrix::{Matrix, Shape};
@@ -17,6 +18,7 @@ use cb_semirings::Semiring;
 use cb_trace::Trace;
 use cb_vectors::{collect, spread};
 use std::alloc::Global;
+use std::marker::Brand;
 use std::sync::Wait;
 use std::thread::Threads;
 
@@ -56,13 +58,38 @@ pub fn multiply_vector<S: Semiring + Send + Sync, R: Threads + Wait + Sync>(
     ensures fault { IfErr result (IsEngineFault engine.entry (grid.now.side * grid.now.side)) }
     ensures lost { IfErr result (IsOrderedProductLoss S.arithmetic engine.entry grid.now.side plan.now matrix.matrix vector.now) }
 {
+    let mut no_crew: Option<Crew<S, Brand>> = None;
+    multiply_vector_by(rt, alloc, engine, &mut no_crew, grid, plan, matrix, vector)
+}
+
+/// Does the same by a crew, if there is one with a worker for each rank and the engine is one of threads without a trace.
+pub(crate) fn multiply_vector_by<S: Semiring + Send + Sync, J: Naming, R: Threads + Wait + Sync>(
+    rt: &R,
+    alloc: Global,
+    engine: Engine,
+    crew: &mut Option<Crew<S, J>>,
+    grid: &Grid,
+    plan: &CheckedPlan,
+    matrix: DistributedMatrix<S>,
+    vector: &Matrix<S>,
+) -> Result<Multiplied<S>, EngineFault>
+    requires side { matrix.side ≡ grid.now.side }
+    requires plan { MultipliesVectors grid.now.side matrix.matrix.shape plan.now }
+    requires vector { vector.now.shape ≡ column matrix.matrix.shape.cols }
+    ensures product { IfOk result (λ m. m.product ≡ product S.arithmetic matrix.matrix vector.now) }
+    ensures same { IfOk result (λ m. m.matrix ≡ matrix) }
+    ensures order { IfOk result (λ m. IsOrderedProduct S.arithmetic engine.entry grid.now.side plan.now matrix.matrix vector.now m.product m.refusals.items) }
+    ensures trace { IfOk result (λ m. IsTraceOf engine.entry plan.now m.trace) }
+    ensures fault { IfErr result (IsEngineFault engine.entry (grid.now.side * grid.now.side)) }
+    ensures lost { IfErr result (IsOrderedProductLoss S.arithmetic engine.entry grid.now.side plan.now matrix.matrix vector.now) }
+{
     let (a, x) = (matrix.shape(), vector.shape());
     let stores = spread(alloc, grid, matrix, vector)?;
     let Left {
         stores,
         refusals,
         trace,
-    } = engine.run(rt, alloc, plan, stores)?;
+    } = engine.run_by(rt, alloc, crew, plan, stores)?;
     let (matrix, product) = collected(alloc, grid, stores, &refusals, a, a.with_columns_of(x))?;
     Ok(Multiplied {
         matrix,

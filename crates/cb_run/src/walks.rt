@@ -2,7 +2,7 @@
 //!
 //! A square matrix is a graph: a stored entry (i, j) is an edge from i to j. Both are one [search](cb_searches::Search);
 //! for levels each edge weighs 1.
-ghost use Rattle.std.specs.Prelude.{◌≡◌, ℕ, ◌<◌, ◌*◌, [], ◌∷◌, IfOk, IfErr};
+ghost use Rattle.std.specs.Prelude.{◌≡◌, ℕ, ◌<◌, ◌*◌, [], ◌∷◌, length, slice_get, IfOk, IfErr};
 ghost use Rattle.cb_semirings.specs.Tables.{min_plus};
 ghost use Rattle.cb_matrix.specs.Sparse.{Sparse};
 ghost use Rattle.cb_matrix.specs.Operations.{transposed};
@@ -10,25 +10,31 @@ ghost use Rattle.cb_searches.specs.Walks.{AreLevels, AreDistances};
 ghost use Rattle.cb_searches.specs.Searches.{HasEdges, IsNextRound, IsSearch, IsWholeSearch};
 ghost use Rattle.cb_vectors.specs.SpreadVectors.{MultipliesVectors};
 ghost use Rattle.cb_placement.specs.Answers.{over_grid};
-ghost use Rattle.cb_engines.specs.EngineRuns.{IsEngineFault};
+ghost use Rattle.cb_engines.specs.EngineRuns.{IsEngineFault, IsNoLoss};
+ghost use Rattle.cb_engines.specs.declared.engines.Engine.TheVariants.{Threads};
 ghost use Rattle.cb_operations.specs.Graphs.{HasSource};
 ghost use Rattle.cb_run.specs.Outcomes.{IsLossFor};
 ghost use Rattle.cb_run.specs.Searched.{DistancesAreLevels, IsWalkLoss, IsWalkRefusal, OfEachSearch};
 ghost use Rattle.cb_run.specs.VectorOrders.{IsOrderedProductLoss};
 ghost use Rattle.cb_run.specs.declared.operation_faults.OperationFault.TheVariants.{Failed};
 
-use crate::{OperationFault, multiply_vector, run};
+use crate::products::multiply_vector_by;
+use crate::{OperationFault, run};
+use cb_crews::{Crew, Naming, Rings, hire};
 use cb_engines::{Engine, EngineFault};
 use cb_layout::{DistributedMatrix, Grid};
 use cb_matrix::{LIMIT, Matrix};
 use cb_operations::{Operands, Operation, check_graph};
 use cb_plan::CheckedPlan;
+use cb_ranks::OpenGate;
 use cb_searches::Search;
 use cb_semirings::{MinPlus, OrAnd, Semiring};
 use cb_vectors::vector_plan;
 use std::alloc::{AllocError, Global};
+use std::marker::Brand;
 use std::sync::Wait;
-use std::thread::Threads;
+use std::thread;
+use std::thread::{Scope, Threads};
 
 /// Returns the transpose of a matrix over a grid.
 fn transposed<S: Semiring + Send + Sync, R: Threads + Wait + Sync>(
@@ -75,16 +81,101 @@ fn nearest<R: Threads + Wait + Sync>(
     let begun = Search::begin(alloc, shape, graph.len(), source)?;
     let turned = transposed(rt, alloc, engine, &grid, graph)?;
     let plan = vector_plan(alloc, &grid, turned.shape())?;
-    let ended = search_on(rt, alloc, engine, &grid, &plan, turned, begun)?;
+    let ended = search_by_ranks(rt, alloc, engine, &grid, &plan, turned, begun)?;
     let column = ended.column(alloc)?;
     Ok(column)
 }
 
-/// Makes the rounds of a search by the transposed matrix, until no number falls.
-fn search_on<R: Threads + Wait + Sync>(
+/// Makes the rounds of a search by the transposed matrix, until no number falls. If the engine is one of threads without a
+/// trace, they are started once.
+fn search_by_ranks<R: Threads + Wait + Sync>(
     rt: &R,
     alloc: Global,
     engine: Engine,
+    grid: &Grid,
+    plan: &CheckedPlan,
+    edges: DistributedMatrix<MinPlus>,
+    begun: Search,
+) -> Result<Search, EngineFault>
+    requires side { edges.side ≡ grid.now.side }
+    requires plan { MultipliesVectors grid.now.side edges.matrix.shape plan.now }
+    requires search { (a : Sparse) × (source : ℕ) × HasEdges edges.matrix a × IsSearch a source 0 begun }
+    ensures ended { IfOk result (λ search. OfEachSearch edges.matrix begun (λ a source. (k : ℕ) × IsWholeSearch a source k search)) }
+    ensures fault { IfErr result (IsEngineFault engine.entry (grid.now.side * grid.now.side)) }
+    ensures lost { IfErr result (λ e. OfEachSearch edges.matrix begun (λ a source. IsWalkLoss engine.entry grid.now.side a source (Failed e))) }
+{
+    let Engine::Threads(letters) = engine else {
+        let mut no_crew: Option<Crew<MinPlus, Brand>> = None;
+        return search_on(rt, alloc, engine, &mut no_crew, grid, plan, edges, begun);
+    };
+    let rings = Rings::open(alloc, plan.ranks())?;
+    search_over::<Brand, R>(
+        rt, alloc, letters, rings, &OpenGate, grid, plan, edges, begun,
+    )
+}
+
+/// The same, by a crew over these rings, and lanes of this many letters.
+fn search_over<J: Naming + Send + Sync, R: Threads + Wait + Sync>(
+    rt: &R,
+    alloc: Global,
+    letters: usize,
+    rings: Rings<MinPlus>,
+    gate: &OpenGate,
+    grid: &Grid,
+    plan: &CheckedPlan,
+    edges: DistributedMatrix<MinPlus>,
+    begun: Search,
+) -> Result<Search, EngineFault>
+    requires names { (k : ℕ) → J.ring k ≡ slice_get rings k }
+    requires count { length rings ≡ grid.now.side * grid.now.side }
+    requires side { edges.side ≡ grid.now.side }
+    requires plan { MultipliesVectors grid.now.side edges.matrix.shape plan.now }
+    requires search { (a : Sparse) × (source : ℕ) × HasEdges edges.matrix a × IsSearch a source 0 begun }
+    ensures ended { IfOk result (λ search. OfEachSearch edges.matrix begun (λ a source. (k : ℕ) × IsWholeSearch a source k search)) }
+    ensures fault { IfErr result (IsEngineFault (Threads letters) (grid.now.side * grid.now.side)) }
+    ensures lost { IfErr result (λ e. OfEachSearch edges.matrix begun (λ a source. IsWalkLoss (Threads letters) grid.now.side a source (Failed e))) }
+{
+    thread::scope(
+        thread::scope_env(),
+        rt,
+        move |scope| -> Result<Search, EngineFault>
+            requires names { (k : ℕ) → J.ring k ≡ slice_get rings k }
+            requires count { length rings ≡ grid.now.side * grid.now.side }
+            requires side { edges.side ≡ grid.now.side }
+            requires plan { MultipliesVectors grid.now.side edges.matrix.shape plan.now }
+            requires search { (a : Sparse) × (source : ℕ) × HasEdges edges.matrix a × IsSearch a source 0 begun }
+            ensures ended { IfOk result (λ search. OfEachSearch edges.matrix begun (λ a source. (k : ℕ) × IsWholeSearch a source k search)) }
+            ensures fault { IfErr result (IsEngineFault (Threads letters) (grid.entry.now.side * grid.entry.now.side)) }
+            ensures lost { IfErr result (λ e. OfEachSearch edges.matrix begun (λ a source. IsWalkLoss (Threads letters) grid.entry.now.side a source (Failed e))) }
+        {
+            let mut crew = Some(hired::<_, J, R>(scope, rt, alloc, rings, gate)?);
+            let engine = Engine::Threads(letters);
+            search_on(rt, alloc, engine, &mut crew, grid, plan, edges, begun)
+        },
+    )
+}
+
+/// Starts a thread for each of these rings.
+fn hired<'s, E, J: Naming + Send + Sync + 's, R: Wait + Sync>(
+    scope: &Scope<'s, E>,
+    rt: &'s R,
+    alloc: Global,
+    rings: Rings<MinPlus>,
+    gate: &'s OpenGate,
+) -> Result<Crew<MinPlus, J>, EngineFault>
+    requires names { (k : ℕ) → J.ring k ≡ slice_get rings k }
+    ensures fault { IfErr result (λ e. (letters : ℕ) → IsEngineFault (Threads letters) (length rings) e) }
+    ensures whole { IfErr result IsNoLoss }
+{
+    Ok(hire(scope, rt, alloc, rings, gate)?)
+}
+
+/// The same, by a crew if there is one.
+fn search_on<J: Naming, R: Threads + Wait + Sync>(
+    rt: &R,
+    alloc: Global,
+    engine: Engine,
+    crew: &mut Option<Crew<MinPlus, J>>,
     grid: &Grid,
     plan: &CheckedPlan,
     edges: DistributedMatrix<MinPlus>,
@@ -105,7 +196,7 @@ fn search_on<R: Threads + Wait + Sync>(
         if fell.is_empty() {
             break;
         }
-        let (matrix, next) = search_round(rt, alloc, engine, grid, plan, turned, search)?;
+        let (matrix, next) = search_round(rt, alloc, engine, crew, grid, plan, turned, search)?;
         turned = matrix;
         search = next;
     }
@@ -113,10 +204,11 @@ fn search_on<R: Threads + Wait + Sync>(
 }
 
 /// Makes one round of a search by the transposed matrix, and returns that matrix too.
-fn search_round<R: Threads + Wait + Sync>(
+fn search_round<J: Naming, R: Threads + Wait + Sync>(
     rt: &R,
     alloc: Global,
     engine: Engine,
+    crew: &mut Option<Crew<MinPlus, J>>,
     grid: &Grid,
     plan: &CheckedPlan,
     edges: DistributedMatrix<MinPlus>,
@@ -131,7 +223,7 @@ fn search_round<R: Threads + Wait + Sync>(
     ensures lost { IfErr result (IsOrderedProductLoss min_plus engine.entry grid.now.side plan.now edges.matrix search.fell) }
 {
     let fell = search.fell();
-    let reached = multiply_vector(rt, alloc, engine, grid, plan, edges, fell)?;
+    let reached = multiply_vector_by(rt, alloc, engine, crew, grid, plan, edges, fell)?;
     let next = search.advance(alloc, &reached.product)?;
     Ok((reached.matrix, next))
 }

@@ -19,15 +19,15 @@ edges_over a side turned matrix square is = record { matrix = matrix; square = s
 pub begin-requires : goal.begin-requires
 begin-requires g c = omega (arith, ap (λ (e : Extent). e.rows) c.shape-shape.ensures.shape, c.requires.vertex)
 
-pub search_on-requires-clause-side : goal.search_on-requires-clause-side
-search_on-requires-clause-side g c κs lives = ap (λ (m : Distributed). m.side) c.in_ok-turned.ensures.ok
+pub search_by_ranks-requires-clause-side : goal.search_by_ranks-requires-clause-side
+search_by_ranks-requires-clause-side g c κs lives = ap (λ (m : Distributed). m.side) c.in_ok-turned.ensures.ok
 
-pub search_on-requires-clause-plan : goal.search_on-requires-clause-plan
-search_on-requires-clause-plan g c κs lives =
+pub search_by_ranks-requires-clause-plan : goal.search_by_ranks-requires-clause-plan
+search_by_ranks-requires-clause-plan g c κs lives =
     subst (λ (d : Extent). MultipliesVectors c.grid-grid.result.side d c.in_ok-plan.plan) c.shape.ensures.shape c.in_ok-plan.ensures
 
-pub search_on-requires-clause-search : goal.search_on-requires-clause-search
-search_on-requires-clause-search g c κs lives =
+pub search_by_ranks-requires-clause-search : goal.search_by_ranks-requires-clause-search
+search_by_ranks-requires-clause-search g c κs lives =
     let a = c.args.graph.matrix in (
       a,
       c.args.source,

@@ -11,8 +11,8 @@ use Rattle.cb_run.proofs.walks.search_round.Goals as goal
 reached_by : (a edges x fell reached : Sparse) → edges ≡ transposed min_plus a → x ≡ fell → reached ≡ product min_plus edges x → reached ≡ product min_plus (transposed min_plus a) fell
 reached_by a edges x fell reached t e r = r ∙ (λ k. product min_plus (t k) (e k))
 
-pub multiply_vector-requires-clause-vector : goal.multiply_vector-requires-clause-vector
-multiply_vector-requires-clause-vector g c κs lives =
+pub multiply_vector_by-requires-clause-vector : goal.multiply_vector_by-requires-clause-vector
+multiply_vector_by-requires-clause-vector g c κs lives =
     ap (λ (m : Sparse). m.shape) c.fell-fell.ensures ∙ c.requires.search.4.shape ∙ ap (λ (m : Sparse). column m.shape.cols) (sym c.requires.search.3.turned)
 
 pub advance-requires : goal.advance-requires

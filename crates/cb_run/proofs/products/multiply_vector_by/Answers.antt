@@ -7,10 +7,10 @@ use Rattle.cb_vectors.specs.SpreadVectors.{HasProduct}
 use Rattle.cb_vectors.proofs.SpreadProducts.{spread_fits}
 use Rattle.cb_run.specs.VectorOrders.{IsProductLoss}
 use Rattle.cb_run.proofs.SteppedProducts.{left_product, ordered_product, ordered_product_loss}
-use Rattle.cb_run.proofs.products.multiply_vector.Goals as goal
+use Rattle.cb_run.proofs.products.multiply_vector_by.Goals as goal
 
-pub run-requires-clause-fits : goal.run-requires-clause-fits
-run-requires-clause-fits g c κs lives =
+pub run_by-requires-clause-fits : goal.run_by-requires-clause-fits
+run_by-requires-clause-fits g c κs lives =
     rw (c.requires.plan.ranks, c.requires.plan.starts) (spread_fits g.S.Semiring.arithmetic c.args.grid.now.side c.args.matrix.matrix c.args.vector.now c.in_ok-stores.stores.items c.in_ok-stores.ensures c.requires.vector)
 
 pub collected-requires-clause-lost : goal.collected-requires-clause-lost
