@@ -146,7 +146,7 @@ fn search_over<J: Naming + Send + Sync, R: Threads + Wait + Sync>(
             requires search { (a : Sparse) × (source : ℕ) × HasEdges edges.matrix a × IsSearch a source 0 begun }
             ensures ended { IfOk result (λ search. OfEachSearch edges.matrix begun (λ a source. (k : ℕ) × IsWholeSearch a source k search)) }
             ensures fault { IfErr result (IsEngineFault (Threads letters) (grid.entry.now.side * grid.entry.now.side)) }
-            ensures lost { IfErr result (λ e. OfEachSearch edges.matrix begun (λ a source. IsWalkLoss (Threads letters) grid.entry.now.side a source (Failed e))) }
+            ensures lost { IfErr result (λ e. OfEachSearch edges.matrix begun (λ a s. IsWalkLoss (Threads letters) grid.entry.now.side a s (Failed e))) }
         {
             let mut crew = Some(hired::<_, J, R>(scope, rt, alloc, rings, gate)?);
             let engine = Engine::Threads(letters);
