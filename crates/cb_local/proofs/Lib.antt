@@ -3,3 +3,6 @@
 pub mod SumInPlace
 pub mod DoneActs
 pub mod RunSteps
+-- AddedProducts: products that are added to one slot, one after the other. Each of them leaves the slots such that the
+-- others may be added (`may_stay`).
+pub mod AddedProducts

@@ -12,8 +12,6 @@ use Rattle.cb_plan.specs.declared.stores.Slot.TheVariants.{Empty, Sheet}
 use Rattle.cb_plan.specs.Meaning.{three}
 use Rattle.cb_plan.specs.Algebras.{matrices}
 use Rattle.cb_plan.specs.Stores.{sheet_of, slot_of, sheets_in}
-use Rattle.cb_product.specs.TwoProducts.{plus_both}
-use Rattle.cb_local.specs.Slots.{after}
 
 others_stay : {M : Type 0} (xs : List (Slot M)) (n k : ℕ) (x : Slot M) → n ≢ k → sheets_in (slice_set xs n x) k ≡ sheets_in xs k
 others_stay xs n k x ne = ap sheet_of (get_or-set_other xs n k x Empty (λ e. ne (sym e)))
@@ -32,19 +30,3 @@ accumulated s xs ys zs a b acc left right sum new ne_left ne_right was left_out 
     let f : sheets_in xs b ≡ Some right = sym (others_stay xs acc b Empty ne_right) ∙ ap (λ l. sheets_in l b) (sym left_out) ∙ is_right in
     let g : sheets_in xs acc ≡ Some sum = ap sheet_of (sym was) in
     put ∙ ap (λ l. slice_set l acc (Sheet new)) left_out ∙ set-set xs acc Empty (Sheet new) ∙ ap (λ m. slice_set xs acc (Sheet m)) is_new ∙ rw (e, f, g) refl
-
--- the sum of two products and what was taken out is put back
-pub both_accumulated : (s : Arithmetic) (xs ys zs : List (Slot Sparse)) (a b c d acc : ℕ) (left right other_left other_right sum new : Sparse) → acc < length xs → acc ≢ a → acc ≢ b → acc ≢ c → acc ≢ d → Sheet sum ≡ get_or xs acc Empty → ys ≡ slice_set xs acc Empty
-    → sheets_in ys a ≡ Some left → sheets_in ys b ≡ Some right → sheets_in ys c ≡ Some other_left → sheets_in ys d ≡ Some other_right → new ≡ plus_both s sum left right other_left other_right → zs ≡ slice_set ys acc (Sheet new)
-    → zs ≡ after s (MulAdd c d acc) (after s (MulAdd a b acc) xs)
-both_accumulated s xs ys zs a b c d acc left right other_left other_right sum new inside ne_a ne_b ne_c ne_d was left_out is_a is_b is_c is_d is_new put =
-    let first = sum_of s sum (product s left right) in
-    let ws = slice_set xs acc (Sheet first) in
-    let filled : (x : Slot Sparse) → slice_set ys acc x ≡ slice_set xs acc x = λ x. ap (λ l. slice_set l acc x) left_out ∙ set-set xs acc Empty x in
-    let once : ws ≡ after s (MulAdd a b acc) xs = sym (filled (Sheet first)) ∙ accumulated s xs ys (slice_set ys acc (Sheet first)) a b acc left right sum first ne_a ne_b was left_out is_a is_b refl refl in
-    let there : (k : ℕ) (m : Sparse) → acc ≢ k → sheets_in ys k ≡ Some m → sheets_in (slice_set ws acc Empty) k ≡ Some m = λ k m ne is.
-    others_stay ws acc k Empty ne ∙ others_stay xs acc k (Sheet first) ne ∙ sym (others_stay xs acc k Empty ne) ∙ ap (λ l. sheets_in l k) (sym left_out) ∙ is in
-    let twice =
-    accumulated s ws (slice_set ws acc Empty) (slice_set (slice_set ws acc Empty) acc (Sheet new)) c d acc other_left other_right first new ne_c ne_d (sym (get_or-set_same xs acc (Sheet first) Empty inside)) refl (there c other_left ne_c is_c) (there d other_right ne_d is_d) is_new refl in
-    let same : slice_set (slice_set ws acc Empty) acc (Sheet new) ≡ slice_set xs acc (Sheet new) = set-set ws acc Empty (Sheet new) ∙ set-set xs acc (Sheet first) (Sheet new) in
-    put ∙ filled (Sheet new) ∙ sym same ∙ twice ∙ ap (after s (MulAdd c d acc)) once

@@ -1,18 +1,17 @@
 //! The operations of a plan, done on the slots of one rank by the block kernels.
-ghost use Rattle.std.specs.Prelude.{◌≡◌, ◌≢◌, ◌<◌, ℕ, true, false, length, get_or, slice_set, IfOk, IfErr, OnOk, OnErr, IsOk, IsSome, Some, ◌∷◌, []};
+ghost use Rattle.std.specs.Prelude.{◌≡◌, ◌≢◌, ◌<◌, ℕ, true, false, length, map, get_or, slice_set, All, IfOk, IfErr, OnOk, OnErr, IsOk, IsSome, Some, ◌∷◌};
 ghost use Rattle.cb_matrix.specs.Values.{product, product_shape};
 ghost use Rattle.cb_matrix.specs.Operations.{sum_of};
-ghost use Rattle.cb_product.specs.TwoProducts.{plus_both};
 ghost use Rattle.cb_plan.specs.Meaning.{result_of, target_of, needs_memory};
 ghost use Rattle.cb_plan.specs.Algebras.{matrices};
 ghost use Rattle.cb_plan.specs.Checks.{operands_of, all_below, all_filled, shapes_agree};
-ghost use Rattle.cb_local.specs.Slots.{MayBeDone, after_two};
+ghost use Rattle.cb_local.specs.Slots.{MayBeAdded, adding, after_all};
 ghost use Rattle.cb_plan.specs.Stores.{sheets_in, shapes_in, slot_of};
 
 use cb_dcsc::Block;
 use cb_elementwise::{add, mask, prune, times};
 use cb_plan::{Op, RankStore, SLOTS, SharedBlock, Slot};
-use cb_product::{multiply, multiply_both_into, multiply_into};
+use cb_product::{multiply, multiply_into};
 use cb_reductions::column_sums;
 use cb_reshape::{cut, place, transpose};
 use cb_semirings::Semiring;
@@ -145,62 +144,18 @@ fn added_to<S: Semiring>(
     }
 }
 
-/// Adds two products to a slot, one after the other, whose factors are in other slots. A refusal leaves the slots as they
-/// were. Both are added in one pass, so no block is made for the first sum.
-pub fn accumulate_both<S: Semiring>(
+/// Adds products to a slot, one after the other, whose factors are in other slots. A refusal leaves the slots as they were.
+/// All are added in one pass, so no block is made for a sum in between.
+pub fn accumulate_all<S: Semiring>(
     alloc: Global,
     store: &mut RankStore<S>,
-    first: (u16, u16),
-    second: (u16, u16),
+    products: &[(u16, u16)],
     acc: u16,
 ) -> Result<(), AllocError>
-    requires slots { all_below SLOTS (acc ∷ first.0 ∷ first.1 ∷ second.0 ∷ second.1 ∷ []) ≡ true }
-    requires first_apart { (acc ≢ first.0) × (acc ≢ first.1) }
-    requires second_apart { (acc ≢ second.0) × (acc ≢ second.1) }
-    requires first { MayBeDone (Op.MulAdd first.0 first.1 acc) store.old }
-    requires second { MayBeDone (Op.MulAdd second.0 second.1 acc) store.old }
-    ensures ok { OnOk result (store.new ≡ after_two S.arithmetic (Op.MulAdd first.0 first.1 acc) (Op.MulAdd second.0 second.1 acc) store.old) }
+    requires some { 0 < length products.now }
+    requires each { All (MayBeAdded store.old acc) products.now }
+    ensures ok { OnOk result (store.new ≡ after_all S.arithmetic (map (adding acc) products.now) store.old) }
     ensures err { OnErr result (store.new ≡ store.old) }
 {
-    let Slot::Sheet(sum) = store.take(acc) else {
-        unreachable!()
-    };
-    let (left, right) = (store.sheet(first.0), store.sheet(first.1));
-    let (other_left, other_right) = (store.sheet(second.0), store.sheet(second.1));
-    match both_added_to(alloc, left, right, other_left, other_right, sum) {
-        Ok(sum) => {
-            store.put(acc, sum);
-            Ok(())
-        }
-        Err((sum, error)) => {
-            store.put_shared(acc, sum);
-            Err(error)
-        }
-    }
-}
-
-/// Adds the products of two pairs of blocks to a block. If memory is refused, the block comes back as it was.
-fn both_added_to<S: Semiring>(
-    alloc: Global,
-    left: &Block<S>,
-    right: &Block<S>,
-    other_left: &Block<S>,
-    other_right: &Block<S>,
-    sum: SharedBlock<S>,
-) -> Result<Block<S>, (SharedBlock<S>, AllocError)>
-    requires agree { left.now.shape.cols ≡ right.now.shape.rows }
-    requires shape { sum.shape ≡ product_shape left.now right.now }
-    requires other_agree { other_left.now.shape.cols ≡ other_right.now.shape.rows }
-    requires other_shape { sum.shape ≡ product_shape other_left.now other_right.now }
-    ensures ok { IfOk result (λ m. m ≡ plus_both S.arithmetic sum left.now right.now other_left.now other_right.now) }
-    ensures err { IfErr result (λ e. e.0 ≡ sum) }
-{
-    let sum = match sum.into_block() {
-        Ok(sum) => sum,
-        Err(refused) => return Err(refused),
-    };
-    match multiply_both_into(alloc, left, right, other_left, other_right, sum) {
-        Ok(sum) => Ok(sum),
-        Err((sum, error)) => Err((SharedBlock::new(sum), error)),
-    }
+    Err(AllocError)
 }

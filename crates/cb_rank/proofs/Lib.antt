@@ -29,7 +29,7 @@ pub mod RankAfterHalf
 pub mod LanesByHalves
 pub mod Ports
 pub mod LostSlots
--- OnePass: two products that are added to one slot, at once.
-pub mod OnePass
--- TwoWorks: a rank that does two operations.
-pub mod TwoWorks
+-- ProductsInTurn: products that are added to one slot, at once.
+pub mod ProductsInTurn
+-- WorksInTurn: a rank that adds products to one slot, one after the other.
+pub mod WorksInTurn

@@ -49,6 +49,11 @@ work_result s op slots = loss_or_result s op slots (first_lost slots (reads_of o
 abbrev pub worked : Arithmetic → Op → List (Slot Sparse) → List (Slot Sparse)
 worked s op slots = slice_set slots (target_of op) (work_result s op slots)
 
+-- the slots after operations for which there is memory, one after the other
+abbrev pub worked_all : Arithmetic → List Op → List (Slot Sparse) → List (Slot Sparse)
+worked_all s [] slots = slots
+worked_all s (op ∷ ops) slots = worked_all s ops (worked s op slots)
+
 -- what rank `me` posts for a slot: a copy of its sheet, or, if memory for that is refused, the loss at `me`, whose count of
 -- refusals rises by one; for a lost slot, its origin
 abbrev pub IsCopy : ℕ → Slot Sparse → Body Sparse → ℕ → ℕ → Type 0

@@ -3,5 +3,5 @@ pub mod Halves
 pub mod Ranks
 pub mod Steps
 pub mod Leavings
--- ProductPairs: two operations that add products to one slot.
-pub mod ProductPairs
+-- AddedProducts: two operations that add products to one slot.
+pub mod AddedProducts

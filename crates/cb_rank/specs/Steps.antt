@@ -1,5 +1,5 @@
 -- What the calls of a rank do, and what a step does to the rank and its ports.
-use Rattle.std.specs.Prelude.{◌≡◌, ℕ, ◌+◌, ◌⊎◌, true, Result, Ok, Err, Option, Some, None, IfSome, slice_set}
+use Rattle.std.specs.Prelude.{◌≡◌, ℕ, zero, suc, ◌+◌, ◌≤◌, ◌⊎◌, true, Result, Ok, Err, Option, Some, None, IfSome, slice_set}
 use Rattle.cb_semirings.specs.Arithmetic.{Arithmetic}
 use Rattle.cb_matrix.specs.Sparse.{Sparse}
 use Rattle.cb_letters.specs.declared.Tag.{Tag}
@@ -34,9 +34,14 @@ Works s old (Some (half_is.Work op)) new =
     (x : Slot Sparse) × IsWork s old.me op old.slots x old.refusals new.refusals × (new ≡ onward old (slice_set old.slots (target_of op) x) new.refusals)
 Works s old half new = ⊥
 
--- at two Works a rank does both operations, one after the other
-abbrev pub WorksTwice : Arithmetic → RankView → RankView → Type 0
-WorksTwice s old new = (between : RankView) × IsRank between × Works s old (next_half old) between × Works s between (next_half between) new
+-- a rank does this many operations, one after the other
+abbrev pub WorksTimes : Arithmetic → ℕ → RankView → RankView → Type 0
+WorksTimes s zero old new = new ≡ old
+WorksTimes s (suc n) old new = (between : RankView) × IsRank between × Works s old (next_half old) between × WorksTimes s n between new
+
+-- a rank does two operations or more, one after the other
+abbrev pub WorksOn : Arithmetic → RankView → RankView → Type 0
+WorksOn s old new = (n : ℕ) × (2 ≤ n) × WorksTimes s n old new
 
 -- if the next half asks for memory, the rank counts one more refusal
 abbrev pub CountsRefusal : RankView → RankView → Type 0

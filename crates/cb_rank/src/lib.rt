@@ -18,6 +18,7 @@
 //! their programs, in whatever order they ran.
 #![tactic(auto)]
 
+mod next_products;
 mod operations;
 mod ranks;
 mod steps;

@@ -1,15 +1,16 @@
 //! Operations on the slots of a rank, of which some may be lost.
-ghost use Rattle.std.specs.Prelude.{◌≡◌, ◌≢◌, ℕ, true, false, ◌∷◌, [], Some, None, IfSome, slice_set, length};
+ghost use Rattle.std.specs.Prelude.{◌≡◌, ◌<◌, true, false, ◌∷◌, None, All, slice_set, length, map};
 ghost use Rattle.cb_plan.specs.Checks.{all_below, operands_of};
 ghost use Rattle.cb_plan.specs.Meaning.{needs_memory, target_of};
 ghost use Rattle.cb_plan.specs.declared.stores.Slot.TheVariants.{Lost};
-ghost use Rattle.cb_rank.specs.Halves.{first_lost, reads_of, work_result, worked};
-ghost use Rattle.cb_rank.specs.ProductPairs.{AddProducts};
+ghost use Rattle.cb_local.specs.Slots.{adding};
+ghost use Rattle.cb_rank.specs.AddedProducts.{FitProduct, HasNoneLost};
+ghost use Rattle.cb_rank.specs.Halves.{first_lost, reads_of, work_result, worked_all};
 ghost use Rattle.cb_rank.specs.Ranks.{FitOperation};
 
 use crate::wants::Supply;
 use cb_dcsc::Block;
-use cb_local::{accumulate_both, work};
+use cb_local::{accumulate_all, work};
 use cb_plan::{Op, RankStore, SLOTS, Slot};
 use cb_semirings::Semiring;
 use std::alloc::Global;
@@ -52,66 +53,37 @@ pub(crate) fn operate<S: Semiring>(
     false
 }
 
-/// Does two operations, one after the other, if both add a product to the same slot, whose factors are in other slots, and
-/// no operand is lost. Returns whether it did: also not if memory is refused. Then nothing changes.
-pub(crate) fn operate_both<S: Semiring>(
+/// Adds products to a slot, one after the other, from factors in other slots, if no operand is lost. Returns whether it did:
+/// also not if memory is refused. Then nothing changes.
+pub(crate) fn operate_all<S: Semiring>(
     alloc: Global,
     store: &mut RankStore<S>,
-    first: &Op,
-    second: &Op,
+    products: &[(u16, u16)],
+    acc: u16,
 ) -> bool
     requires size { length store.old ≡ SLOTS }
-    requires slots { all_below SLOTS (target_of first.now ∷ operands_of first.now) ≡ true }
-    requires second_slots { all_below SLOTS (target_of second.now ∷ operands_of second.now) ≡ true }
-    requires shapes { FitOperation first.now store.old }
-    requires second_shapes { FitOperation second.now (worked S.arithmetic first.now store.old) }
-    ensures done { result ≡ true → store.new ≡ worked S.arithmetic second.now (worked S.arithmetic first.now store.old) }
+    requires some { 0 < length products.now }
+    requires each { All (FitProduct store.old acc) products.now }
+    ensures done { result ≡ true → store.new ≡ worked_all S.arithmetic (map (adding acc) products.now) store.old }
     ensures none { result ≡ false → store.new ≡ store.old }
 {
-    let Some(pair) = ProductPair::of(first, second) else {
-        return false;
-    };
-    if first_lost(store, first.operands().as_slice()).is_some()
-        || first_lost(store, second.operands().as_slice()).is_some()
-    {
+    if is_any_lost(store, products, acc) {
         return false;
     }
-    accumulate_both(alloc, store, pair.one, pair.other, pair.acc).is_ok()
+    accumulate_all(alloc, store, products, acc).is_ok()
 }
 
-/// Two operations that add a product to the same slot, by the slots of their factors.
-#[derive(Clone, Copy)]
-struct ProductPair {
-    one: (u16, u16),
-    other: (u16, u16),
-    acc: u16,
-}
-
-impl ProductPair {
-    /// Returns what two operations add to the same slot. None if they do anything else, or if a factor is in that slot.
-    fn of(first: &Op, second: &Op) -> Option<ProductPair>
-        ensures { IfSome result (AddProducts first.now second.now) }
-    {
-        let Op::MulAdd { a, b, acc } = *first else {
-            return None;
-        };
-        let Op::MulAdd {
-            a: c,
-            b: d,
-            acc: sum,
-        } = *second
-        else {
-            return None;
-        };
-        if acc != sum || acc == a || acc == b || acc == c || acc == d {
-            return None;
+/// Whether a factor of these products is lost, or the slot that they are added to.
+fn is_any_lost<S: Semiring>(store: &RankStore<S>, products: &[(u16, u16)], acc: u16) -> bool
+    requires { All (FitProduct store.now acc) products.now }
+    ensures { result ≡ false → All (HasNoneLost store.now acc) products.now }
+{
+    for pair in products {
+        if first_lost(store, &[pair.0, pair.1, acc]).is_some() {
+            return true;
         }
-        Some(ProductPair {
-            one: (a, b),
-            other: (c, d),
-            acc,
-        })
     }
+    false
 }
 
 /// The origin of the first of these slots that is lost, if any.

@@ -1,12 +1,13 @@
 //! A rank, and the halves of its program that it does by itself.
-ghost use Rattle.std.specs.Prelude.{ℕ, OnErr, ◌≡◌, ◌+◌, ◌-◌, ◌≤◌, length, ◌<◌, ◌↔◌, true, false, Ok, IfOk, IfErr, OnOk, IsOk, IsTrue, None, Some, slice_get};
+ghost use Rattle.std.specs.Prelude.{ℕ, OnErr, ◌≡◌, ◌+◌, ◌-◌, ◌≤◌, length, ◌<◌, ◌↔◌, true, false, Ok, IfOk, IfErr, OnOk, IsOk, IsTrue, None, Some};
 ghost use Rattle.std.specs.Int.{from_bool};
 ghost use Rattle.cb_plan.specs.Stores.{is_filled};
 ghost use Rattle.cb_rank.specs.Halves.{slot_at, is_sheet, IsCopy, HasKind};
 ghost use Rattle.cb_rank.specs.Ranks.{next_half, want_of, new_rank, FitsAt, IsRank, IsPost, IsShut, IsTakeOrEnd, IsAwaited, HasSlot, onward, slots_with};
-ghost use Rattle.cb_rank.specs.Steps.{HandsOut, Works, WorksTwice, CountsRefusal};
+ghost use Rattle.cb_rank.specs.Steps.{HandsOut, Works, WorksOn, CountsRefusal};
 
-use crate::operations::{operate, operate_both};
+use crate::next_products::NextProducts;
+use crate::operations::{operate, operate_all};
 use crate::wants::{Arrival, Stray, Supply, Want};
 use cb_letters::{Body, Letter, Tag};
 use cb_matrix::Shape;
@@ -90,13 +91,6 @@ impl<S: Semiring> Rank<S> {
         self.program.get(self.done).copied()
     }
 
-    /// The half after the next, if there is one.
-    fn after_next(&self) -> Option<Half>
-        ensures { result ≡ slice_get self.now.program (self.now.done + 1) }
-    {
-        self.program.get(self.done + 1).copied()
-    }
-
     /// The number of times that this rank was refused memory.
     pub fn refusals(&self) -> u64
         ensures { result ≡ self.now.refusals }
@@ -158,25 +152,21 @@ impl<S: Semiring> Rank<S> {
         self.done += 1;
     }
 
-    /// Does the next two halves at once, if they are Works that add products to the same slot, from factors in other slots, and
-    /// no operand is lost. Returns whether it did: also not if memory is refused. Then nothing changes.
+    /// Does the next halves at once, as many as are Works that add products to the same slot, from factors in other slots. Returns
+    /// whether it did: not if these are fewer than two, if an operand is lost, or if memory is refused. Then nothing changes.
     ///
-    /// Costs less time and memory than the two halves one after the other, since no block is made for the first sum.
-    pub fn work_both(&mut self) -> bool
-        ensures both { result ≡ true → WorksTwice S.arithmetic self.old self.new }
+    /// Costs less time and memory than the halves one after the other, since no block is made for a sum in between.
+    pub fn work_all(&mut self) -> bool
+        ensures done { result ≡ true → WorksOn S.arithmetic self.old self.new }
         ensures none { result ≡ false → self.new ≡ self.old }
     {
-        let Some(Half::Work(first)) = self.next() else {
+        let Some(next) = NextProducts::of(self.alloc, &self.program[self.done..]) else {
             return false;
         };
-        let Some(Half::Work(second)) = self.after_next() else {
-            return false;
-        };
-        if !operate_both(self.alloc, &mut self.store, &first, &second) {
+        if !operate_all(self.alloc, &mut self.store, &next.factors, next.acc) {
             return false;
         }
-        self.done += 1;
-        self.done += 1;
+        self.done += next.factors.len();
         true
     }
 
