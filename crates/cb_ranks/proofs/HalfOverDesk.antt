@@ -1,8 +1,9 @@
 -- A rank and its desk after each half of the rank's program.
-use Rattle.std.proofs.Common.{◌≡◌, ◌≢◌, ℕ, ◌<◌, true, false, List, [], ◌∷◌, ◌++◌, length, refl, sym, ◌∙◌, ap, subst, arith, length-append, inl, inr}
+use Rattle.std.proofs.Common.{◌≡◌, ◌≢◌, ℕ, zero, suc, ◌+◌, ◌-◌, ◌<◌, true, false, List, [], ◌∷◌, ◌++◌, length, refl, sym, ◌∙◌, ap, subst, arith, length-append, inl, inr}
 use Rattle.std.specs.Prelude.{Option, Some, ◌==◌, ◌⊎◌, nat_le, slice_set, slice_index_or}
 use Rattle.std.proofs.lemmas.Bool.Decides.{nat_tests}
 use Rattle.std.proofs.lemmas.List.{length-map}
+use Rattle.std.proofs.lemmas.Option.{slice_get_within}
 use Rattle.std.proofs.Math.Seq.{get_or-append_seam}
 use Rattle.cb_semirings.specs.Arithmetic.{Arithmetic}
 use Rattle.cb_matrix.specs.Sparse.{Sparse}
@@ -28,7 +29,7 @@ use Rattle.cb_rank.specs.declared.wants.Arrival.TheVariants as arrival_is
 use Rattle.cb_rank.specs.Halves.{with_letter, slot_of_body}
 use Rattle.cb_rank.specs.declared.wants.Want.TheVariants as want_is
 use Rattle.cb_rank.specs.Ranks.{RankView, IsRank, next_half, want_of, onward, IsTakeOrEnd, IsAwaited, slots_with}
-use Rattle.cb_rank.specs.Steps.{HandsOut, Works, WorksTwice}
+use Rattle.cb_rank.specs.Steps.{HandsOut, Works, WorksTimes}
 use Rattle.cb_plan.proofs.Effects.{split}
 use Rattle.cb_rank.proofs.WantedHalf.{wants_take, wants_end}
 use Rattle.cb_ranks.specs.Runs.{course_of}
@@ -120,13 +121,27 @@ pub works_next : (s : Arithmetic) (x : RankView) (h : Option Half) (y : RankView
 works_next s x (Some (half_is.Work op)) y works = (op, refl)
 works_next s x _ y works = absurd works
 
--- a rank that does two operations does two halves, one after the other
-pub does_both : (s : Arithmetic) (x y : RankView) (d : Desk Sparse) → IsRank x → IsUnderWay x d → (both : WorksTwice s x y) → DoesNext s x d both.0 d × DoesNext s both.0 d y d
-does_both s x y d is was both =
-    let first = works_next s x (next_half x) both.0 both.2 in
-    let second = works_next s both.0 (next_half both.0) y both.3 in
-    let one = does_work s x both.0 d first.0 is was first.1 both.2 in
-    (one, does_work s both.0 y d second.0 both.1 one.under_way second.1 both.3)
+-- a rank that does this many operations has done as many halves more of its program
+pub works_further : (s : Arithmetic) (n : ℕ) (x y : RankView) → WorksTimes s n x y → (y.done ≡ x.done + n) × (y.program ≡ x.program)
+works_further s zero x y same = (ap (λ (z : RankView). z.done) same ∙ (let e : x.done ≡ x.done + 0 = omega arith in e), ap (λ (z : RankView). z.program) same)
+works_further s (suc n) x y times =
+    let op = works_next s x (next_half x) times.0 times.2 in
+    let w = rw op.1 at times.2 in
+    let rest = works_further s n times.0 y times.3 in
+    let one : times.0.done ≡ x.done + 1 = ap (λ (z : RankView). z.done) w.2 in
+    let more : y.done ≡ times.0.done + n = rest.0 in
+    ((let e : y.done ≡ x.done + suc n = omega arith in e), rest.1 ∙ ap (λ (z : RankView). z.program) w.2)
+
+-- so fewer halves are left, if it does any
+pub fewer_left : (s : Arithmetic) (n : ℕ) (x y : RankView) → 0 < n → WorksTimes s n x y → length y.program - y.done < length x.program - x.done
+fewer_left s zero x y some times = absurd (omega arith)
+fewer_left s (suc n) x y some times =
+    let op = works_next s x (next_half x) times.0 times.2 in
+    let inside = slice_get_within x.program x.done (half_is.Work op.0) op.1 in
+    let further = works_further s (suc n) x y times in
+    let done = further.0 in
+    let size = ap length further.1 in
+    omega arith
 
 -- what was taken on each lane is numbered, if it is on the one that grew
 numbered_then : (d e : Desk Sparse) (from : ℕ) → ((k : ℕ) → AreNumbered (taken_from d k)) → AreNumbered (taken_from e from) → ((k : ℕ) → k ≢ from → taken_from e k ≡ taken_from d k) → (k : ℕ) → AreNumbered (taken_from e k)

@@ -16,8 +16,8 @@ use Rattle.cb_rank.specs.Halves.{Course, DoesHalf, with_letter}
 use Rattle.cb_plan.specs.declared.acts.Op.{Op}
 use Rattle.cb_rank.specs.declared.wants.Arrival.{Arrival}
 use Rattle.cb_rank.specs.declared.wants.Arrival.TheVariants as arrival_is
-use Rattle.cb_rank.specs.Ranks.{RankView, next_half, IsAwaited}
-use Rattle.cb_rank.specs.Steps.{HandsOut}
+use Rattle.cb_rank.specs.Ranks.{RankView, IsRank, next_half, IsAwaited}
+use Rattle.cb_rank.specs.Steps.{HandsOut, WorksTimes}
 use Rattle.cb_rank.proofs.WantedHalf.{wants_take, wants_end}
 use Rattle.cb_plan.proofs.Effects.{split}
 use Rattle.cb_trace.specs.declared.events.Envelope.{Envelope}
@@ -27,8 +27,8 @@ use Rattle.cb_ranks.specs.Runs.{IsNewRun}
 use Rattle.cb_ranks.specs.UnderWay.{IsUnderWay, DoesNext, TellsNext, arrival_event}
 use Rattle.cb_ranks.specs.ProgramEvents.{lengths, one_more, events_after, program_events}
 use Rattle.cb_ranks.proofs.Crews.{none_posted, none_taken}
-use Rattle.cb_ranks.proofs.HalfOverDesk.{WaitsOn}
-use Rattle.cb_ranks.proofs.RunSoFar.{HasRun, none_past}
+use Rattle.cb_ranks.proofs.HalfOverDesk.{WaitsOn, does_work, works_next}
+use Rattle.cb_ranks.proofs.RunSoFar.{HasRun, goes_on, none_past}
 
 -- the rest of a list from its next element on
 pub drop-next : {X : Type 0} (xs : List X) (k : ℕ) (x : X) → slice_get xs k ≡ Some x → drop k xs ≡ x ∷ drop (k + 1) xs
@@ -164,3 +164,12 @@ module _ {T : Type 0} (tells : T → TraceEvent → T → Type 0) where
   pub ends_told : (t : T) (x : RankView) (u : T) (y : RankView) (e : Desk Sparse) → HasTold t x u y e → next_half y ≡ None → FoldsTo tells t (program_events x.me x.program) u
   ends_told t x u y e told none =
       told u (subst (λ hs. FoldsTo tells u (events_after y.me (lengths (posted_to e)) (lengths (taken_from e)) hs) u) (sym (drop-past y.program y.done (none_past y.program y.done none))) refl)
+
+  -- a rank that does operations one after the other runs on, and its recorder is told of nothing
+  pub works_on_told : (s : Arithmetic) (t : T) (x : RankView) (d : Desk Sparse) (u : T) (e : Desk Sparse) (n : ℕ) (y z : RankView) → IsRank y → WorksTimes s n y z → HasRun s x d y e → HasTold t x u y e → HasRun s x d z e × HasTold t x u z e
+  works_on_told s t x d u e zero y z is same run told = (subst (λ v. HasRun s x d v e) (sym same) run, subst (λ v. HasTold t x u v e) (sym same) told)
+  works_on_told s t x d u e (suc n) y z is times run told =
+      let mid : RankView = times.0 in
+      let op = works_next s y (next_half y) mid times.2 in
+      let next = does_work s y mid e op.0 is run.under_way op.1 times.2 in
+      works_on_told s t x d u e n mid z times.1 times.3 (goes_on s x d y e mid e run next) (goes_on_told s t x d u y e u mid e run told next (tells_work y e op.0 u op.1))

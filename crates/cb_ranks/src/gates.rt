@@ -4,11 +4,11 @@ use cb_semirings::Semiring;
 
 /// Called by each rank's thread. It may look, count and wait, but can't change the rank.
 pub trait Gate<S: Semiring>: Sync {
-    /// Called before each half, with the rank as it is then; and once before two halves that are done at once.
+    /// Called before each half, with the rank as it is then; and once before halves that are done at once.
     fn pass(&self, rank: u16, state: &Rank<S>);
 
-    /// Whether each half is done by itself, as by default. Otherwise two halves that add products to the same slot may be
-    /// done at once, which costs less ([`Rank::work_both`]).
+    /// Whether each half is done by itself, as by default. Otherwise several halves that add products to the same slot may be
+    /// done at once, which costs less ([`Rank::work_all`]).
     fn parts_halves(&self) -> bool {
         true
     }

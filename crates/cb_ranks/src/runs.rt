@@ -2,7 +2,7 @@
 ghost use Rattle.std.specs.Prelude.{◌≡◌, ◌≢◌, ◌⊎◌, None, true, false, length, IfOk, IfErr, OnOk};
 ghost use Rattle.cb_lanes.specs.Desks.{is_stranger, posted_to, taken_from};
 ghost use Rattle.cb_rank.specs.Ranks.{IsRank, next_half, want_of};
-ghost use Rattle.cb_rank.specs.Steps.{WorksTwice};
+ghost use Rattle.cb_rank.specs.Steps.{WorksOn};
 ghost use Rattle.cb_ranks.specs.Runs.{IsNewRun, IsOther, Runs};
 ghost use Rattle.cb_ranks.specs.Told.{TellsProgram};
 ghost use Rattle.cb_ranks.specs.UnderWay.{IsUnderWay, DoesNext, TellsNext, arrival_event};
@@ -18,8 +18,8 @@ use cb_trace::{Envelope, TraceEvent};
 use std::sync::Wait;
 
 /// Does all halves of one rank, in order, on its caller's thread, and returns the rank and its desk. It calls the gate
-/// before each half, and waits until the half can be done. Two halves that add products to the same slot are done at once
-/// where the gate allows it.
+/// before each half, and waits until the half can be done. Halves that add products to the same slot, one directly after the
+/// other, are done at once where the gate allows it.
 ///
 /// `Gone` names the rank at the other end of a lane, if its desk is gone, or if something arrived from it that the half
 /// doesn't wait for. The rank and its desk are dropped then, so that a rank that waits for this one finds it gone too.
@@ -55,7 +55,7 @@ pub fn run_recorded<S: Semiring, R: Wait, G: Gate<S>, T: Recorder>(
     let mut recorder = recorder;
     while rank.want() != Want::Done {
         gate.pass(desk.rank(), &rank);
-        if does_both(&mut rank, gate.parts_halves()) {
+        if does_all(&mut rank, gate.parts_halves()) {
             continue;
         }
         do_half(rt, &mut rank, &mut desk, &mut recorder)?;
@@ -63,15 +63,16 @@ pub fn run_recorded<S: Semiring, R: Wait, G: Gate<S>, T: Recorder>(
     Ok((rank, desk, recorder))
 }
 
-/// Does the next two halves, if they add products to the same slot and needn't be parted, and returns whether it did.
-fn does_both<S: Semiring>(rank: &mut Rank<S>, are_parted: bool) -> bool
-    ensures both { result ≡ true → WorksTwice S.arithmetic rank.old rank.new }
+/// Does the next halves that add products to the same slot, if there are several and they needn't be parted, and returns
+/// whether it did.
+fn does_all<S: Semiring>(rank: &mut Rank<S>, are_parted: bool) -> bool
+    ensures done { result ≡ true → WorksOn S.arithmetic rank.old rank.new }
     ensures none { result ≡ false → rank.new ≡ rank.old }
 {
     if are_parted {
         return false;
     }
-    rank.work_both()
+    rank.work_all()
 }
 
 /// Does the next half, as soon as it can be done, and tells the recorder of it.
