@@ -1,10 +1,13 @@
 //! Worked examples, with ample memory and with each allocation refused in turn.
+ghost use Rattle.std.specs.Prelude.{◌≡◌, true};
+ghost use Rattle.cb_product.specs.SeveralProducts.{MakeShape};
+
 use crate::calls::{Call, Case, are_right, are_right_or_refused, is_right};
 use crate::matrix::matrix;
 use crate::samples::{entries, has_entries};
 use cb_dcsc::{Block, BlockFault};
-use cb_matrix::{Entry, LIMIT, Matrix};
-use cb_product::{multiply_both_into, multiply_into};
+use cb_matrix::{Entry, LIMIT, Matrix, Shape};
+use cb_product::{Factors, multiply_all_into, multiply_into};
 use cb_samples::{SampleFault, block, entry};
 use cb_semirings::PlusTimes;
 use std::alloc::{AllocError, Global};
@@ -515,144 +518,225 @@ fn is_plain_among(alloc: Global, rows: u32) -> Result<bool, SampleFault> {
     are_plain(alloc, [rows, 30, 4], [&left, &right, FEW])
 }
 
-/// Two pairs of factors, a block, and the sum of both products and the block.
+/// Two factors: the left one has this many columns.
 #[derive(Clone, Copy)]
-struct BothAdded<'a> {
-    rows: u32,
-    cols: u32,
-    /// The columns of each left factor.
-    inner: [u32; 2],
+struct Pair<'a> {
+    inner: u32,
     left: &'a [Entry],
     right: &'a [Entry],
-    other_left: &'a [Entry],
-    other_right: &'a [Entry],
+}
+
+/// Three pairs of factors, a block, and the sum of their products and the block.
+#[derive(Clone, Copy)]
+struct AllAdded<'a> {
+    rows: u32,
+    cols: u32,
+    pairs: [Pair<'a>; 3],
     own: &'a [Entry],
     sum: &'a [Entry],
 }
 
-/// Whether the products of two pairs of blocks are added to a block; or, if memory is refused, whether the block is handed
+/// The two blocks of a pair.
+type Blocks = (Block<PlusTimes>, Block<PlusTimes>);
+
+/// Whether two blocks have a product of this shape.
+fn make_shape(shape: Shape, blocks: &Blocks) -> bool
+    ensures { result ≡ true → MakeShape shape (blocks.now.0, blocks.now.1) }
+{
+    let (outer, inner) = (blocks.0.shape(), blocks.1.shape());
+    outer.cols() == inner.rows() && shape == outer.with_columns_of(inner)
+}
+
+/// Whether the products of three pairs of blocks are added to a block; or, if memory is refused, whether the block is handed
 /// back unchanged.
-fn adds_both(
+fn adds_all(
     alloc: Global,
-    (left, right): (&Block<PlusTimes>, &Block<PlusTimes>),
-    (other_left, other_right): (&Block<PlusTimes>, &Block<PlusTimes>),
+    (first, second, third): (&Blocks, &Blocks, &Blocks),
     own: Block<PlusTimes>,
-    added: &BothAdded<'_>,
+    added: &AllAdded<'_>,
 ) -> Result<bool, bool> {
-    let (outer, inner) = (left.shape(), right.shape());
-    let (other_outer, other_inner) = (other_left.shape(), other_right.shape());
-    if outer.cols() != inner.rows() || own.shape() != outer.with_columns_of(inner) {
+    let shape = own.shape();
+    if !make_shape(shape, first) || !make_shape(shape, second) || !make_shape(shape, third) {
         return Ok(false);
     }
-    if other_outer.cols() != other_inner.rows()
-        || own.shape() != other_outer.with_columns_of(other_inner)
-    {
-        return Ok(false);
-    }
-    match multiply_both_into(alloc, left, right, other_left, other_right, own) {
+    let products = [
+        Factors {
+            left: &first.0,
+            right: &first.1,
+        },
+        Factors {
+            left: &second.0,
+            right: &second.1,
+        },
+        Factors {
+            left: &third.0,
+            right: &third.1,
+        },
+    ];
+    match multiply_all_into(alloc, &products, own) {
         Ok(sum) => Ok(has_entries(&sum, added.sum)),
         Err((same, _)) => Err(has_entries(&same, added.own)),
     }
 }
 
-/// The same for a row.
-fn is_sum_of_both(alloc: Global, added: &BothAdded<'_>) -> Result<Result<bool, bool>, SampleFault> {
-    let (rows, cols) = (added.rows, added.cols);
-    let [inner, other_inner] = added.inner;
-    let left = block(alloc, rows, inner, added.left)?;
-    let right = block(alloc, inner, cols, added.right)?;
-    let other_left = block(alloc, rows, other_inner, added.other_left)?;
-    let other_right = block(alloc, other_inner, cols, added.other_right)?;
-    let own = block(alloc, rows, cols, added.own)?;
-    Ok(adds_both(
-        alloc,
-        (&left, &right),
-        (&other_left, &other_right),
-        own,
-        added,
-    ))
+/// The blocks of a pair in a sum with this many rows and columns.
+fn blocks_of(
+    alloc: Global,
+    rows: u32,
+    cols: u32,
+    pair: Pair<'_>,
+) -> Result<Blocks, SampleFault> {
+    let left = block(alloc, rows, pair.inner, pair.left)?;
+    let right = block(alloc, pair.inner, cols, pair.right)?;
+    Ok((left, right))
 }
 
-const SMALL_PAIRS: BothAdded<'static> = BothAdded {
-    rows: 2,
-    cols: 2,
-    inner: [2, 1],
-    left: entries![(0, 0, 1), (0, 1, 2), (1, 1, 3)],
-    right: entries![(1, 0, 4), (0, 1, 1)],
-    other_left: entries![(0, 0, 1), (1, 0, 5)],
-    other_right: entries![(0, 0, 2)],
-    own: entries![(0, 1, u64::MAX), (1, 1, 5)],
-    sum: entries![(0, 0, 10), (1, 0, 22), (1, 1, 5)],
+/// The same for a row.
+fn is_sum_of_all(alloc: Global, added: &AllAdded<'_>) -> Result<Result<bool, bool>, SampleFault> {
+    let (rows, cols) = (added.rows, added.cols);
+    let [first, second, third] = added.pairs;
+    let first = blocks_of(alloc, rows, cols, first)?;
+    let second = blocks_of(alloc, rows, cols, second)?;
+    let third = blocks_of(alloc, rows, cols, third)?;
+    let own = block(alloc, rows, cols, added.own)?;
+    Ok(adds_all(alloc, (&first, &second, &third), own, added))
+}
+
+const NO_TERMS: Pair<'static> = Pair {
+    inner: 1,
+    left: &[],
+    right: &[],
 };
 
-const BOTH_SUMS: &[BothAdded<'static>] = &[
+const SMALL_FIRST: Pair<'static> = Pair {
+    inner: 2,
+    left: entries![(0, 0, 1), (0, 1, 2), (1, 1, 3)],
+    right: entries![(1, 0, 4), (0, 1, 1)],
+};
+
+const SMALL_SECOND: Pair<'static> = Pair {
+    inner: 1,
+    left: entries![(0, 0, 1), (1, 0, 5)],
+    right: entries![(0, 0, 2)],
+};
+
+const SMALL_THIRD: Pair<'static> = Pair {
+    inner: 1,
+    left: entries![(0, 0, 3)],
+    right: entries![(0, 1, 2)],
+};
+
+const SMALL_PAIRS: AllAdded<'static> = AllAdded {
+    rows: 2,
+    cols: 2,
+    pairs: [SMALL_FIRST, SMALL_SECOND, SMALL_THIRD],
+    own: entries![(0, 1, u64::MAX), (1, 1, 5)],
+    sum: entries![(0, 0, 10), (1, 0, 22), (0, 1, 6), (1, 1, 5)],
+};
+
+const SUMS_OF_ALL: &[AllAdded<'static>] = &[
     SMALL_PAIRS,
-    // the first pair has a factor without entries
-    BothAdded {
-        right: &[],
+    // one product has no terms
+    AllAdded {
+        pairs: [SMALL_FIRST, SMALL_SECOND, NO_TERMS],
+        sum: entries![(0, 0, 10), (1, 0, 22), (1, 1, 5)],
+        ..SMALL_PAIRS
+    },
+    // two have none
+    AllAdded {
+        pairs: [NO_TERMS, SMALL_SECOND, NO_TERMS],
         sum: entries![(0, 0, 2), (1, 0, 10), (0, 1, u64::MAX), (1, 1, 5)],
         ..SMALL_PAIRS
     },
-    // the second one has
-    BothAdded {
-        other_right: &[],
-        sum: entries![(0, 0, 8), (1, 0, 12), (1, 1, 5)],
+    // a left factor has no entries, and a right one
+    AllAdded {
+        pairs: [
+            Pair {
+                left: &[],
+                ..SMALL_FIRST
+            },
+            Pair {
+                right: &[],
+                ..SMALL_SECOND
+            },
+            SMALL_THIRD,
+        ],
+        sum: entries![(0, 1, 5), (1, 1, 5)],
         ..SMALL_PAIRS
     },
-    // both have
-    BothAdded {
-        right: &[],
-        other_right: &[],
+    // none has terms
+    AllAdded {
+        pairs: [NO_TERMS, NO_TERMS, NO_TERMS],
         sum: entries![(0, 1, u64::MAX), (1, 1, 5)],
         ..SMALL_PAIRS
     },
 ];
 
 #[test]
-fn two_products_that_are_added(rt: HostRuntime) {
-    for added in BOTH_SUMS {
-        assert!(rt; is_sum_of_both(rt.alloc(), added) == Ok(Ok(true)));
+fn several_products_that_are_added(rt: HostRuntime) {
+    for added in SUMS_OF_ALL {
+        assert!(rt; is_sum_of_all(rt.alloc(), added) == Ok(Ok(true)));
     }
 }
 
-const OTHER_LEFT: &[Entry] = entries![(3, 0, 4), (45, 0, 9)];
+const SECOND: Pair<'static> = Pair {
+    inner: 1,
+    left: entries![(3, 0, 4), (45, 0, 9)],
+    right: entries![(0, 1, 6), (0, 3, 1)],
+};
 
-const OTHER_RIGHT: &[Entry] = entries![(0, 1, 6), (0, 3, 1)];
+const THIRD: Pair<'static> = Pair {
+    inner: 1,
+    left: entries![(45, 0, 2), (46, 0, 1)],
+    right: entries![(0, 3, 5)],
+};
 
-/// Whether two products that are added to a block with this many rows agree with the definition.
-fn are_both_plain_among(alloc: Global, rows: u32) -> Result<bool, SampleFault> {
+/// A list of entries plus the product of a pair, by the definition.
+fn plain_sum_with(
+    alloc: Global,
+    rows: u32,
+    own: &[Entry],
+    pair: Pair<'_>,
+) -> Result<Matrix<PlusTimes>, SampleFault> {
+    let product = plain_product(alloc, [rows, pair.inner, 4], pair.left, pair.right)?;
+    plain_sum(alloc, rows, 4, product.entries(), own)
+}
+
+/// Whether three products that are added to a block with this many rows agree with the definition.
+fn are_all_plain_among(alloc: Global, rows: u32) -> Result<bool, SampleFault> {
     let left = spread(alloc, rows)?;
     let right = named(alloc)?;
-    let first = plain_product(alloc, [rows, 30, 4], &left, &right)?;
-    let second = plain_product(alloc, [rows, 1, 4], OTHER_LEFT, OTHER_RIGHT)?;
-    let once = plain_sum(alloc, rows, 4, first.entries(), FEW)?;
-    let sum = plain_sum(alloc, rows, 4, second.entries(), once.entries())?;
-    let added = BothAdded {
-        rows,
-        cols: 4,
-        inner: [30, 1],
+    let first = Pair {
+        inner: 30,
         left: &left,
         right: &right,
-        other_left: OTHER_LEFT,
-        other_right: OTHER_RIGHT,
+    };
+    let once = plain_sum_with(alloc, rows, FEW, first)?;
+    let twice = plain_sum_with(alloc, rows, once.entries(), SECOND)?;
+    let sum = plain_sum_with(alloc, rows, twice.entries(), THIRD)?;
+    let added = AllAdded {
+        rows,
+        cols: 4,
+        pairs: [first, SECOND, THIRD],
         own: FEW,
         sum: sum.entries(),
     };
-    Ok(is_sum_of_both(alloc, &added)? == Ok(true))
+    Ok(is_sum_of_all(alloc, &added)? == Ok(true))
 }
 
-/// The first and the third column have terms of the first product, the last has terms of the second, and one has terms of
-/// both. With 5,000 rows both are added up in the sparse accumulator; with 2,147,483,647 the second is joined to the first.
+/// The first and the third column have terms of the first product, one has terms of the first two, and the last has terms of
+/// the last two. With 5,000 rows all are added up in the sparse accumulator; with 2,147,483,647 each product is joined to
+/// those before it.
 #[test]
-fn two_products_at_once_are_the_plain_ones(rt: HostRuntime) {
+fn several_products_at_once_are_the_plain_ones(rt: HostRuntime) {
     for rows in [5000, LIMIT] {
-        assert!(rt; are_both_plain_among(rt.alloc(), rows) == Ok(true));
+        assert!(rt; are_all_plain_among(rt.alloc(), rows) == Ok(true));
     }
 }
 
-/// Whether both products are added; or, if memory is refused, whether the block is handed back unchanged.
-fn is_sum_of_both_or_refused(alloc: Global, added: &BothAdded<'_>) -> bool {
-    match is_sum_of_both(alloc, added) {
+/// Whether all products are added; or, if memory is refused, whether the block is handed back unchanged.
+fn is_sum_of_all_or_refused(alloc: Global, added: &AllAdded<'_>) -> bool {
+    match is_sum_of_all(alloc, added) {
         Ok(Ok(is_right)) => is_right,
         Ok(Err(is_back)) => is_back,
         Err(fault) => fault == SampleFault::Block(BlockFault::Memory),
@@ -661,9 +745,9 @@ fn is_sum_of_both_or_refused(alloc: Global, added: &BothAdded<'_>) -> bool {
 
 /// Passes whichever single allocation is refused.
 #[test]
-fn a_refused_sum_of_two_products_hands_the_block_back(rt: HostRuntime) {
-    for added in BOTH_SUMS {
-        assert!(rt; is_sum_of_both_or_refused(rt.alloc(), added));
+fn a_refused_sum_of_several_products_hands_the_block_back(rt: HostRuntime) {
+    for added in SUMS_OF_ALL {
+        assert!(rt; is_sum_of_all_or_refused(rt.alloc(), added));
     }
 }
 

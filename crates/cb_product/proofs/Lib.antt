@@ -19,9 +19,10 @@
 --   `only_all`; which numbers are among given ones: `among_from`, `among_holds`.
 -- Panels: products with some columns, one after another: `panels_matrix`, `panels_joined`, `both_matrix`, `both_joined`;
 --   with all columns they are the product, `whole_panel`.
--- TwoProducts: a matrix plus a product is a matrix, `sum_matrix`, whose columns are `sum_at`, inside columns `sum_in`; and a
---   second product is added to it: `first_alone`, `second_alone`; a column of the sum: `first_none`, `second_none`,
---   `both_past`, `dense_both`.
+-- SeveralProducts: a matrix plus a product is a matrix, `sum_matrix`, whose columns are `sum_at`, inside columns `sum_in`; so
+--   is a matrix plus several products: `plus_matrix`, `plus_shape`, `plus_at`, `plus_in`; built column by column: `plus_start`,
+--   `plus_more`, `plus_all`; products that add nothing: `one_nothing`; a column of the sum: `terms_step`, `terms_end`,
+--   `terms_all_past`; and the element at hand of a list: `item_has`, `mapped_has`.
 -- EmptyFactors: a product with a matrix without entries has none: `product_vanishes`.
 -- Outside: a column without its entries in excluded rows; `among_none`.
 pub mod RowValues
@@ -35,7 +36,7 @@ pub mod AbsentColumns
 pub mod OnlyColumns
 pub mod Panels
 pub mod EmptyFactors
-pub mod TwoProducts
+pub mod SeveralProducts
 pub mod Outside
 -- For this crate alone, beside the rest of those above. ScaledSum: two columns joined. TermSums: sums of terms. HeapStep: a
 -- step of the merge by a heap. MarkBits, WordStep: marks, and the rows of a word of them. Union: two ascending lists

@@ -10,8 +10,8 @@
 //! - a few terms are joined one after another: O(products * terms);
 //! - many terms are merged by a heap: O(products * log terms).
 //!
-//! Sums of zero aren't stored. An index finds the left block's columns. The terms of two products can be added to one
-//! accumulator.
+//! Sums of zero aren't stored. An index finds the left block's columns. The terms of several products can be added
+//! to one accumulator in one pass.
 //!
 //! No list is longer than a few times the products or entries that it serves, so a block of side 2,147,483,647 costs what
 //! its entries cost. Of the left block, only the columns that the right block's entries name are read.
@@ -28,23 +28,24 @@ ghost use Rattle.cb_product.specs.ColumnStarts.{Tells};
 ghost use Rattle.cb_product.specs.Factors.{AreFactors};
 ghost use Rattle.cb_product.specs.InColumns.{AreInColumns, only_columns};
 
-pub use crate::both::multiply_both_into;
 pub use crate::column_index::ColumnIndex;
 pub use crate::counts::{LEAST_PRODUCTS, products_of_column, products_of_columns, total_products};
 pub use crate::product_column::ProductColumn;
+pub use crate::several::{Factors, multiply_all_into};
 use crate::terms::{Term, gather};
 use crate::workspace::Workspace;
 use cb_dcsc::Block;
 use cb_semirings::Semiring;
 use std::alloc::{AllocError, Global};
 
-mod both;
 mod column_index;
 mod columns;
 mod counts;
 mod heads;
 mod marks;
 mod product_column;
+mod several;
+mod sources;
 mod sparse_accumulator;
 mod terms;
 mod workspace;

@@ -4,11 +4,12 @@ ghost use Rattle.cb_matrix.specs.Sparse.{IsMatrix};
 ghost use Rattle.cb_dcsc.specs.Columns.{rows_of};
 ghost use Rattle.cb_product.specs.SparseColumn.{AreEntries, IsColumnOf};
 ghost use Rattle.cb_product.specs.Terms.{IsTerm, sum_with};
-ghost use Rattle.cb_product.specs.TwoProducts.{IsColumnWithBoth};
+ghost use Rattle.cb_product.specs.Sources.{IsSource, HasTerms, IsColumnWithAll};
 ghost use Rattle.cb_product.specs.Outside.{sum_unmarked, terms_outside};
 
 use crate::columns::Column;
 use crate::heads::merge;
+use crate::sources::Source;
 use crate::sparse_accumulator::SparseAccumulator;
 use crate::terms::Term;
 use cb_dcsc::Block;
@@ -75,42 +76,30 @@ impl<S: Semiring> Workspace<S> {
             .join(own_rows, own_values, merged_rows, merged_values, None)
     }
 
-    /// Computes the sum of a column of the accumulator and of the terms of two left blocks: in the sparse accumulator if
-    /// `dense`; otherwise the first block's terms are added first, and `half` holds that sum.
-    pub fn make_both(
+    /// Computes the sum of a column of the accumulator and of the terms of several products in the sparse accumulator. Their
+    /// columns have this many rows.
+    pub fn make_all_dense(
         &mut self,
-        half: &mut Column<S>,
-        left: &Block<S>,
-        terms: &[Term],
-        other: &Block<S>,
-        more: &[Term],
+        sources: &[Source<'_, S>],
+        rows: u32,
         own_rows: &[u32],
         own_values: &[u64],
-        dense: bool,
     ) -> Result<(), AllocError>
-        requires left { IsMatrix S.arithmetic left.now }
-        requires terms { All (IsTerm S.arithmetic (rows_of left.now.entries)) terms.now }
-        requires other { IsMatrix S.arithmetic other.now }
-        requires more { All (IsTerm S.arithmetic (rows_of other.now.entries)) more.now }
-        requires rows { left.now.shape.rows ≡ other.now.shape.rows }
-        requires own { AreEntries S.arithmetic left.now.shape.rows own_rows.now own_values.now }
+        requires sources { All (IsSource S.arithmetic) sources.now }
+        requires terms { All (HasTerms S.arithmetic) sources.now }
+        requires rows { All (λ x. x.left.now.shape.rows ≡ rows) sources.now }
+        requires own { AreEntries S.arithmetic rows own_rows.now own_values.now }
         requires zeros { All (λ x. x ≡ S.arithmetic.zero) self.old.sums }
         ensures zeros { OnOk result (All (λ x. x ≡ S.arithmetic.zero) self.new.sums) }
-        ensures column { OnOk result (IsColumnWithBoth S.arithmetic left.now terms.now other.now more.now own_rows.now own_values.now self.new.made) }
+        ensures column { OnOk result (IsColumnWithAll S.arithmetic sources.now own_rows.now own_values.now self.new.made) }
     {
-        if terms.is_empty() {
-            return self.make(other, more, own_rows, own_values, dense);
+        self.sums.make_room(self.alloc, rows)?;
+        self.sums.add(own_rows, own_values, None);
+        for source in sources {
+            let (rows, values) = (source.left.row_numbers(), source.left.values());
+            self.sums.add_terms(rows, values, &source.terms);
         }
-        if more.is_empty() {
-            return self.make(left, terms, own_rows, own_values, dense);
-        }
-        if dense {
-            return self.make_both_dense(left, terms, other, more, own_rows, own_values);
-        }
-        self.make(left, terms, own_rows, own_values, false)?;
-        swap(&mut self.made, half);
-        let (half_rows, half_values) = half.entries();
-        self.make(other, more, half_rows, half_values, false)
+        self.sums.take(&mut self.made)
     }
 
     /// Computes the sum of terms, without its entries in the excluded rows, which ascend.
@@ -205,36 +194,6 @@ impl<S: Semiring> Workspace<S> {
         self.sums.add(own_rows, own_values, None);
         self.sums
             .add_terms(left.row_numbers(), left.values(), terms);
-        self.sums.take(&mut self.made)
-    }
-
-    /// Computes the sum with the terms of two left blocks in the sparse accumulator.
-    fn make_both_dense(
-        &mut self,
-        left: &Block<S>,
-        terms: &[Term],
-        other: &Block<S>,
-        more: &[Term],
-        own_rows: &[u32],
-        own_values: &[u64],
-    ) -> Result<(), AllocError>
-        requires left { IsMatrix S.arithmetic left.now }
-        requires terms { All (IsTerm S.arithmetic (rows_of left.now.entries)) terms.now }
-        requires other { IsMatrix S.arithmetic other.now }
-        requires more { All (IsTerm S.arithmetic (rows_of other.now.entries)) more.now }
-        requires rows { left.now.shape.rows ≡ other.now.shape.rows }
-        requires own { AreEntries S.arithmetic left.now.shape.rows own_rows.now own_values.now }
-        requires zeros { All (λ x. x ≡ S.arithmetic.zero) self.old.sums }
-        ensures zeros { OnOk result (All (λ x. x ≡ S.arithmetic.zero) self.new.sums) }
-        ensures column { OnOk result (IsColumnWithBoth S.arithmetic left.now terms.now other.now more.now own_rows.now own_values.now self.new.made) }
-    {
-        let rows = left.shape().rows();
-        self.sums.make_room(self.alloc, rows)?;
-        self.sums.add(own_rows, own_values, None);
-        self.sums
-            .add_terms(left.row_numbers(), left.values(), terms);
-        self.sums
-            .add_terms(other.row_numbers(), other.values(), more);
         self.sums.take(&mut self.made)
     }
 

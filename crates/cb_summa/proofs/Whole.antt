@@ -1,5 +1,5 @@
 -- The plans make the product, and the product under a mask.
-use Rattle.std.proofs.Common.{◌≡◌, ℕ, ◌+◌, ◌*◌, ◌<◌, sym, ap, subst, arith, ◌∙◌, ◌++◌}
+use Rattle.std.proofs.Common.{◌≡◌, ℕ, ◌+◌, ◌*◌, ◌<◌, sym, ap, subst, ◌∙◌, ◌++◌}
 use Rattle.std.specs.Prelude.{Some}
 use Rattle.cb_semirings.specs.Arithmetic.{Arithmetic, IsSemiring}
 use Rattle.cb_matrix.specs.Sparse.{Sparse, Extent, IsMatrix}
@@ -21,7 +21,7 @@ module _ (s : Arithmetic) (laws : IsSemiring s) (q : ℕ) (pos : 0 < q) (a b : S
   -- before the lanes are shut the product is there
   products : MakesProduct (product_acts q a.shape b.shape) q s a b
   products state has_a has_b i j l m =
-      (after_products (matrices s) q a.shape b.shape (block_of s q a) (block_of s q b) state pos has_a has_b).total i j l m
+      (after_products (matrices s) q a.shape b.shape (block_of s q a) (block_of s q b) state has_a has_b).total i j l m
       ∙ ap Some (stages_make_product s laws q pos a b is_a is_b agree i j)
 
   pub summa_makes_product : MakesProduct (summa_acts q a.shape b.shape) q s a b
@@ -33,7 +33,7 @@ module _ (s : Arithmetic) (laws : IsSemiring s) (q : ℕ) (pos : 0 < q) (a b : S
   pub summa_makes_masked : (m : Sparse) → m.shape ≡ result_shape a.shape b.shape → MakesMaskedProduct (summa_masked_acts q a.shape b.shape) q s a b m
   summa_makes_masked m e state has_a has_b has_m i j k l =
       let after = meaning (matrices s) (product_acts q a.shape b.shape) state in
-      let mask : after (i * q + j) 7 ≡ Some (block_of s q m i j) = products_leave (matrices s) q a.shape b.shape state pos (i * q + j) 7 (omega arith) ∙ has_m i j k l in
+      let mask : after (i * q + j) 7 ≡ Some (block_of s q m i j) = products_leave (matrices s) q a.shape b.shape state (i * q + j) ∙ has_m i j k l in
       ap (λ x. x (i * q + j) 2) (meaning-append (matrices s) (product_acts q a.shape b.shape ++ each_rank q mask_op) (shut_acts (q * q)) state ∙ shut_nothing (matrices s) (q * q) (meaning (matrices s) (product_acts q a.shape b.shape ++ each_rank q mask_op) state) ∙ meaning-append (matrices s) (product_acts q a.shape b.shape) (each_rank q mask_op) state)
       ∙ each_here (matrices s) q mask_op after i j k l
       ∙ ap (λ x. two ((matrices s).mask) x (after (i * q + j) 7)) (products state has_a has_b i j k l)

@@ -1,4 +1,4 @@
--- Worked plans, computed: the product of two matrices of 2 by 2.
+-- Worked plans, computed: the product of two matrices of 2 by 2, and the slots of the stages.
 use Rattle.std.specs.Prelude.{◌≡◌, ℕ, ◌+◌, List, [], ◌∷◌, length, map, None, sum, refl}
 use Rattle.std.specs.List.{range_with_len}
 use Rattle.cb_matrix.specs.Sparse.{Extent}
@@ -8,10 +8,17 @@ use Rattle.cb_plan.specs.declared.acts.Act.TheVariants as act_is
 use Rattle.cb_plan.specs.Checks.{plan_fault, fault_from}
 use Rattle.cb_plan.specs.Programs.{project}
 use Rattle.cb_plan_parts.specs.PlanParts.{operand_starts}
-use Rattle.cb_summa.specs.Summa.{summa_acts, summa_masked_acts, factors, masked_factors}
+use Rattle.cb_summa.specs.Summa.{left_slot, right_slot, summa_acts, summa_masked_acts, factors, masked_factors}
 
 abbrev two_by_two : Extent
 two_by_two = record { rows = 2; cols = 2 }
+
+-- the slots of the stages on the largest grid: none is another's, and none is the mask's slot 7
+left_slots : map left_slot (range_with_len 0 6) ≡ 3 ∷ 5 ∷ 8 ∷ 10 ∷ 12 ∷ 14 ∷ []
+left_slots = refl
+
+right_slots : map right_slot (range_with_len 0 6) ≡ 4 ∷ 6 ∷ 9 ∷ 11 ∷ 13 ∷ 15 ∷ []
+right_slots = refl
 
 -- how many acts there are on a grid of a side
 abbrev acts_on : ℕ → ℕ

@@ -1,5 +1,5 @@
--- The plan of the product by stages.
-use Rattle.std.specs.Prelude.{◌≡◌, ℕ, suc, zero, ◌+◌, ◌*◌, ◌%◌, ◌==◌, if◌then◌else◌, List, [], ◌∷◌, ◌++◌, flat_map}
+-- The plan of the product: the blocks of all stages, and then the products.
+use Rattle.std.specs.Prelude.{◌≡◌, ℕ, suc, zero, ◌+◌, ◌*◌, nat_lt, if◌then◌else◌, List, [], ◌∷◌, ◌++◌, flat_map}
 use Rattle.std.specs.List.{range_with_len}
 use Rattle.cb_matrix.specs.Sparse.{Extent, Sparse, IsMatrix}
 use Rattle.cb_plan.specs.declared.acts.Op.{Op}
@@ -15,12 +15,13 @@ use Rattle.cb_collectives.specs.Collectives.{broadcast_acts, shut_acts}
 use Rattle.cb_plan_parts.specs.declared.first_slots.Operand.{Operand}
 use Rattle.cb_plan_parts.specs.PlanParts.{tagged, each_rank, zero_op, HasParts}
 
--- the slots that a stage's blocks arrive in: successive stages have different ones
+-- the slot for a block of the first matrix in stage k: 3, 5, and then, beyond the mask's slot 7, 8, 10 and so on
 abbrev pub left_slot : ℕ → ℕ
-left_slot k = 3 + 2 * (k % 2)
+left_slot k = if nat_lt k 2 then 3 + 2 * k else 4 + 2 * k
 
+-- the slot for a block of the second matrix in stage k: the next one
 abbrev pub right_slot : ℕ → ℕ
-right_slot k = 4 + 2 * (k % 2)
+right_slot k = left_slot k + 1
 
 -- in stage k, the block of the first matrix in row i and column k goes along its row
 abbrev pub row_broadcast : ℕ → ℕ → ℕ → List Act
@@ -34,17 +35,21 @@ column_broadcast q k j = broadcast_acts (column_group q j) (k * q + j) (tagged (
 abbrev pub broadcasts : ℕ → ℕ → List Act
 broadcasts q k = flat_map (row_broadcast q k) (range_with_len 0 q) ++ flat_map (column_broadcast q k) (range_with_len 0 q)
 
+-- the blocks of all stages come, one stage after another
+abbrev pub all_broadcasts : ℕ → List Act
+all_broadcasts q = flat_map (broadcasts q) (range_with_len 0 q)
+
 -- the product of the two blocks of stage k is added to slot 2
 abbrev pub product_op : ℕ → ℕ → Op
 product_op k r = op_is.MulAdd (left_slot k) (right_slot k) 2
 
--- the blocks of the stage after stage k come, if there is one
-abbrev pub next_broadcasts : ℕ → ℕ → List Act
-next_broadcasts q k = if k + 1 == q then [] else broadcasts q (k + 1)
+-- each rank adds the product of its two blocks of stage k
+abbrev pub products : ℕ → ℕ → List Act
+products q k = each_rank q (product_op k)
 
--- stage k, while the blocks of the next one come
-abbrev pub stage : ℕ → ℕ → List Act
-stage q k = next_broadcasts q k ++ each_rank q (product_op k)
+-- each rank adds the products of all stages, one stage after another
+abbrev pub all_products : ℕ → List Act
+all_products q = flat_map (products q) (range_with_len 0 q)
 
 -- the shape of the product
 abbrev pub result_shape : Extent → Extent → Extent
@@ -54,17 +59,16 @@ result_shape a b = record { rows = a.rows; cols = b.cols }
 abbrev pub mask_op : ℕ → Op
 mask_op r = op_is.Mask 2 7 2
 
--- slot 2 of each rank gets its part of the product: nothing at first, and then the product of one stage after another,
--- while the blocks of the next one come
+-- slot 2 of each rank gets its part of the product: nothing at first, and, once the blocks of all stages have come,
+-- the product of one stage after another
 abbrev pub product_acts : ℕ → Extent → Extent → List Act
-product_acts q a b =
-    each_rank q (zero_op q 2 (result_shape a b))
-    ++ (broadcasts q 0 ++ flat_map (stage q) (range_with_len 0 q))
+product_acts q a b = each_rank q (zero_op q 2 (result_shape a b)) ++ (all_broadcasts q ++ all_products q)
 
+-- the acts of the product, and then each lane is shut
 abbrev pub summa_acts : ℕ → Extent → Extent → List Act
 summa_acts q a b = product_acts q a b ++ shut_acts (q * q)
 
--- the acts of the product, and then each rank keeps what the mask in its slot 7 covers
+-- the acts of the product, then each rank keeps what the mask in its slot 7 covers, and then each lane is shut
 abbrev pub summa_masked_acts : ℕ → Extent → Extent → List Act
 summa_masked_acts q a b = (product_acts q a b ++ each_rank q mask_op) ++ shut_acts (q * q)
 

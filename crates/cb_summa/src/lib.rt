@@ -1,13 +1,16 @@
 //! Sparse SUMMA: the plan of a matrix product over a square grid of ranks.
 //!
-//! Rank (i, j) keeps the block of the first matrix in row part i and column part j in its slot 0, that of the second in
-//! slot 1, and that of the product in slot 2. In stage k the blocks of column k of the first matrix go along their rows
-//! of ranks, those of row k of the second along their columns, and each rank adds the product of the two that it got to
-//! slot 2. The blocks of a stage arrive while the stage before is at work, so successive stages alternate between two
-//! pairs of slots: 3 and 4, 5 and 6.
+//! Rank (i, j) keeps the block of the first matrix in row part i and column part j in its slot 0, that of the second
+//! in slot 1, and that of the product in slot 2. In stage k the blocks of column k of the first matrix go along their
+//! rows of ranks, and those of row k of the second along their columns. Each stage has a pair of slots for them: 3
+//! and 4, 5 and 6, and then, beyond the mask's slot 7, 8 and 9 and so on. Once the blocks of all stages have come,
+//! each rank adds the products of its pairs to slot 2, one directly after another. So it can make them in one pass
+//! over its columns.
 //!
-//! On a grid of side q each rank gets 2(q-1) blocks and keeps at most seven at a time, eight with a mask, whatever the
-//! matrices are. A plan for the largest grid has 1,944 acts, 1,980 with a mask, far below a plan's limit.
+//! On a grid of side q each rank gets 2(q-1) blocks, and keeps 2q + 3 in the end, one more with a mask, whatever the
+//! matrices are: its own of the two matrices and of the product, and a pair per stage. Those of the stages share the
+//! memory of the operands' blocks if these are lent. A plan for the largest grid has 1,944 acts, 1,980 with a mask,
+//! far below a plan's limit.
 //!
 //! SUMMA is by van de Geijn and Watts (Concurrency: Practice and Experience, 1997); over sparse blocks it is in
 //! Buluç and Gilbert, Parallel sparse matrix-matrix multiplication and indexing (SIAM Journal on Scientific

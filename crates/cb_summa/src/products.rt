@@ -2,7 +2,8 @@
 ghost use Rattle.std.specs.Prelude.{◌≡◌, ◌<◌, ◌≤◌, ◌+◌, ◌*◌, ◌/◌, ◌%◌, ◌==◌, ℕ, List, [], ◌++◌, map, flat_map, if◌then◌else◌, OnOk, IfErr};
 ghost use Rattle.std.specs.List.{range_with_len};
 ghost use Rattle.cb_plan_parts.specs.Growth.{IsWithinLimit, Grew, no_memory};
-ghost use Rattle.cb_summa.specs.Summa.{left_slot, right_slot, row_broadcast, column_broadcast, broadcasts, next_broadcasts, stage, result_shape, product_acts};
+ghost use Rattle.cb_grid.specs.declared.TheConstants.{LARGEST_SIDE};
+ghost use Rattle.cb_summa.specs.Summa.{left_slot, right_slot, row_broadcast, column_broadcast, broadcasts, all_broadcasts, all_products, product_acts};
 
 use crate::{LEFT, RESULT, RIGHT};
 use cb_collectives::broadcast;
@@ -13,8 +14,7 @@ use cb_plan::{Op, Plan, PlanFault};
 use cb_plan_parts::{work_everywhere, zero_everywhere};
 use std::alloc::Global;
 
-/// Slot 2 of each rank gets its block of the product. From the second stage on, the blocks of a stage come before the
-/// products of the stage before it.
+/// Slot 2 of each rank gets its block of the product. The blocks of all stages come before the first product.
 pub fn multiply(
     plan: &mut Plan,
     alloc: Global,
@@ -26,52 +26,38 @@ pub fn multiply(
     ensures acts { OnOk result (Grew (product_acts grid.now.side a b) plan.old plan.new) }
     ensures fault { IfErr result (λ e. e ≡ no_memory) }
 {
-    prove!(grid.side() > 0);
     zero_everywhere(plan, grid, RESULT, a.with_columns_of(b))?;
-    broadcast_blocks(plan, alloc, grid, 0)?;
-    multiply_stages(plan, alloc, grid)
+    broadcast_all(plan, alloc, grid)?;
+    multiply_all(plan, grid)
 }
 
-/// All stages, one after another.
-fn multiply_stages(plan: &mut Plan, alloc: Global, grid: &Grid) -> Result<(), PlanFault>
-    requires { IsWithinLimit plan.now (flat_map (stage grid.now.side) (range_with_len 0 grid.now.side)) }
-    ensures acts { OnOk result (Grew (flat_map (stage grid.now.side) (range_with_len 0 grid.now.side)) plan.old plan.new) }
+/// The blocks of all stages come to all ranks, one stage after another.
+fn broadcast_all(plan: &mut Plan, alloc: Global, grid: &Grid) -> Result<(), PlanFault>
+    requires { IsWithinLimit plan.now (all_broadcasts grid.now.side) }
+    ensures acts { OnOk result (Grew (all_broadcasts grid.now.side) plan.old plan.new) }
     ensures fault { IfErr result (λ e. e ≡ no_memory) }
 {
     for k in 0..grid.side() {
-        multiply_stage(plan, alloc, grid, k)?;
+        broadcast_blocks(plan, alloc, grid, k)?;
     }
     Ok(())
 }
 
-/// The blocks of the next stage come, if there is one, and each rank adds the product of its blocks of stage k.
-fn multiply_stage(plan: &mut Plan, alloc: Global, grid: &Grid, k: u32) -> Result<(), PlanFault>
-    requires stage { k < grid.now.side }
-    requires limit { IsWithinLimit plan.now (stage grid.now.side k) }
-    ensures acts { OnOk result (Grew (stage grid.now.side k) plan.old plan.new) }
+/// Each rank adds the products of all stages, one stage after another.
+fn multiply_all(plan: &mut Plan, grid: &Grid) -> Result<(), PlanFault>
+    requires { IsWithinLimit plan.now (all_products grid.now.side) }
+    ensures acts { OnOk result (Grew (all_products grid.now.side) plan.old plan.new) }
     ensures fault { IfErr result (λ e. e ≡ no_memory) }
 {
-    broadcast_next(plan, alloc, grid, k)?;
-    let product = Op::MulAdd {
-        a: left_slot(k),
-        b: right_slot(k),
-        acc: RESULT,
-    };
-    work_everywhere(plan, grid, &product)
-}
-
-/// The blocks of the stage after stage k come, if there is one.
-fn broadcast_next(plan: &mut Plan, alloc: Global, grid: &Grid, k: u32) -> Result<(), PlanFault>
-    requires stage { k < grid.now.side }
-    requires limit { IsWithinLimit plan.now (next_broadcasts grid.now.side k) }
-    ensures acts { OnOk result (Grew (next_broadcasts grid.now.side k) plan.old plan.new) }
-    ensures fault { IfErr result (λ e. e ≡ no_memory) }
-{
-    let side = grid.side();
-    if k + 1 == side {
-        return Ok(());
+    for k in 0..grid.side() {
+        let product = Op::MulAdd {
+            a: left_slot(k),
+            b: right_slot(k),
+            acc: RESULT,
+        };
+        work_everywhere(plan, grid, &product)?;
     }
-    broadcast_blocks(plan, alloc, grid, k + 1)
+    Ok(())
 }
 
 /// The blocks of stage k come to all ranks.
@@ -122,16 +108,19 @@ fn broadcast_columns(plan: &mut Plan, alloc: Global, grid: &Grid, k: u32) -> Res
     Ok(())
 }
 
-/// The slot into which a block of the first matrix comes in stage k.
+/// The slot for a block of the first matrix in stage k: 3, 5, and then, beyond the mask's, 8, 10 and so on.
 fn left_slot(k: u32) -> u16
+    requires { k < LARGEST_SIDE }
     ensures { result ≡ left_slot k }
 {
-    (3 + 2 * (k % 2)) as u16
+    let slot = if k < 2 { 3 + 2 * k } else { 4 + 2 * k };
+    slot as u16
 }
 
-/// The slot into which a block of the second matrix comes in stage k.
+/// The slot for a block of the second matrix in stage k: the next one.
 fn right_slot(k: u32) -> u16
+    requires { k < LARGEST_SIDE }
     ensures { result ≡ right_slot k }
 {
-    (4 + 2 * (k % 2)) as u16
+    left_slot(k) + 1
 }

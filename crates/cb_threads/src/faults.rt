@@ -8,7 +8,7 @@ use thiserror::Error;
 /// Why a run in threads failed, in the order in which the reasons are checked.
 #[derive(Clone, Copy, Debug, PartialEq, Eq, Error)]
 pub enum RunFault {
-    /// Memory was refused. No thread was started.
+    /// Memory was refused. No rank ran.
     #[error("out of memory")]
     Memory,
     /// No thread could be started for this rank, the first such. The ranks before it were started, and those after it

@@ -34,8 +34,9 @@ pub finish-requires-clause-flows : goal.finish-requires-clause-flows
 finish-requires-clause-flows c =
     let q = c.args.grid.now.side in
     let pos : 0 < q = (let a = c.side.ensures.value in let b = c.side.ensures.some in omega arith) in
+    let few : q ≤ 6 = (let a = c.side.ensures.value in let b = c.side.ensures.limit in omega arith) in
     grown_flows (q * q) (operand_starts q (factors c.args.a c.args.b)) c.in-Ok.starts.items (product_acts q c.args.a c.args.b) c.new-plan.result c.multiply.new.plan
-    c.new-plan.ensures.acts c.in_ok-multiply.ensures.acts c.in-Ok.ensures.starts (product_flow q pos c.args.a c.args.b c.requires)
+    c.new-plan.ensures.acts c.in_ok-multiply.ensures.acts c.in-Ok.ensures.starts (product_flow q pos few c.args.a c.args.b c.requires)
 
 pub returns-clause-starts : goal.returns-clause-starts
 returns-clause-starts c = rw c.in-Ok.ensures.starts at c.finish.ensures.starts

@@ -58,8 +58,9 @@ pub finish-requires-clause-flows : goal.finish-requires-clause-flows
 finish-requires-clause-flows c =
     let q = c.args.grid.now.side in
     let pos : 0 < q = (let a = c.side.ensures.value in let b = c.side.ensures.some in omega arith) in
+    let few : q ≤ 6 = (let a = c.side.ensures.value in let b = c.side.ensures.limit in omega arith) in
     grown_flows (q * q) (operand_starts q (masked_factors c.args.a c.args.b)) c.in-Ok.starts.items (open_acts q c.args.a c.args.b) c.new-plan.result c.work_everywhere.new.plan
-    c.new-plan.ensures.acts (grown (goal.at.finish-requires-clause-flows c).In_ok-work_everywhere) (rw c.with_columns_of.ensures at c.in-Ok.ensures.starts) (masked_flow q pos c.args.a c.args.b c.requires)
+    c.new-plan.ensures.acts (grown (goal.at.finish-requires-clause-flows c).In_ok-work_everywhere) (rw c.with_columns_of.ensures at c.in-Ok.ensures.starts) (masked_flow q pos few c.args.a c.args.b c.requires)
 
 pub returns-clause-starts : goal.returns-clause-starts
 returns-clause-starts c = rw (c.in-Ok.ensures.starts, c.with_columns_of.ensures) at c.finish.ensures.starts
