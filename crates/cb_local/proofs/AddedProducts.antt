@@ -1,8 +1,9 @@
 -- Products that are added to one slot, one after the other.
-use Rattle.std.proofs.Common.{◌≡◌, ◌≢◌, ℕ, ◌<◌, Bool, true, false, List, length, refl, sym, ap, subst, ◌∙◌, arith}
-use Rattle.std.specs.Prelude.{Option, Some, None, is_some, ◌==◌, ◌&&◌, slice_set}
+use Rattle.std.proofs.Common.{◌≡◌, ◌≢◌, ℕ, ◌<◌, Bool, true, false, List, [], ◌∷◌, length, refl, sym, ap, subst, ◌∙◌, arith}
+use Rattle.std.specs.Prelude.{Option, Some, None, All, is_some, ◌==◌, ◌&&◌, slice_set}
 use Rattle.std.proofs.lemmas.Bool.Decides.{nat_tests}
 use Rattle.std.proofs.lemmas.List.{get_or-set_same, get_or-set_other}
+use Rattle.std.proofs.lemmas.List.Elements.{All-head}
 use Rattle.cb_semirings.specs.Arithmetic.{Arithmetic}
 use Rattle.cb_matrix.specs.Sparse.{Sparse, Extent}
 use Rattle.cb_matrix.specs.Values.{product}
@@ -13,11 +14,12 @@ use Rattle.cb_plan.specs.Meaning.{one, three}
 use Rattle.cb_plan.specs.Algebras.{matrices}
 use Rattle.cb_plan.specs.Checks.{all_filled, operands_of, shapes_agree}
 use Rattle.cb_plan.specs.Stores.{sheet_of, sheets_in, shapes_in, slot_of}
+use Rattle.cb_plan.proofs.ActOnStores.{first_below}
 use Rattle.cb_plan.proofs.Effects.{split}
 use Rattle.cb_local.specs.Slots.{MayBeDone, MayBeAdded, adding, after}
 
 -- the shape of a block, if there is one
-abbrev shape_of : Option Sparse → Option Extent
+abbrev pub shape_of : Option Sparse → Option Extent
 shape_of = one (λ (m : Sparse). m.shape)
 
 -- a block that has a shape is there
@@ -81,3 +83,9 @@ module _ (slots : List (Slot Sparse)) (acc : ℕ) (p : ℕ × ℕ) (may : MayBeD
           agree = subst (λ v. shapes_agree v (adding acc q) ≡ true) same other.done.agree;
         };
       }
+
+-- the slot that products may be added to exists
+pub sum_inside : (slots : List (Slot Sparse)) (acc : ℕ) (products : List (ℕ × ℕ)) → length slots ≡ 256 → 0 < length products → All (MayBeAdded slots acc) products → acc < length slots
+sum_inside slots acc [] size some may = absurd (omega arith)
+sum_inside slots acc (p ∷ ps) size some may =
+    let l = (first_below 256 acc (p.0 ∷ p.1 ∷ []) (All-head (MayBeAdded slots acc) p ps may).exist).0 in omega arith

@@ -1,12 +1,11 @@
 -- A product added in place: the slot of the sum is emptied, and filled again.
-use Rattle.std.proofs.Common.{◌≡◌, ◌≢◌, ℕ, ◌<◌, List, length, get_or, refl, sym, ap, ◌∙◌}
+use Rattle.std.proofs.Common.{◌≡◌, ◌≢◌, ℕ, List, get_or, refl, sym, ap, ◌∙◌}
 use Rattle.std.specs.Prelude.{Some, slice_set}
-use Rattle.std.proofs.lemmas.List.{get_or-set_same, get_or-set_other, set-set, set-get_or}
+use Rattle.std.proofs.lemmas.List.{get_or-set_other, set-set, set-get_or}
 use Rattle.cb_semirings.specs.Arithmetic.{Arithmetic}
 use Rattle.cb_matrix.specs.Sparse.{Sparse}
 use Rattle.cb_matrix.specs.Values.{product}
 use Rattle.cb_matrix.specs.Operations.{sum_of}
-use Rattle.cb_plan.specs.declared.acts.Op.TheVariants.{MulAdd}
 use Rattle.cb_plan.specs.declared.stores.Slot.{Slot}
 use Rattle.cb_plan.specs.declared.stores.Slot.TheVariants.{Empty, Sheet}
 use Rattle.cb_plan.specs.Meaning.{three}

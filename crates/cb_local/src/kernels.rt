@@ -1,17 +1,21 @@
 //! The operations of a plan, done on the slots of one rank by the block kernels.
 ghost use Rattle.std.specs.Prelude.{◌≡◌, ◌≢◌, ◌<◌, ℕ, true, false, length, map, get_or, slice_set, All, IfOk, IfErr, OnOk, OnErr, IsOk, IsSome, Some, ◌∷◌};
+ghost use Rattle.std.specs.List.{AllZip};
+ghost use Rattle.cb_matrix.specs.Sparse.{Extent};
 ghost use Rattle.cb_matrix.specs.Values.{product, product_shape};
 ghost use Rattle.cb_matrix.specs.Operations.{sum_of};
 ghost use Rattle.cb_plan.specs.Meaning.{result_of, target_of, needs_memory};
 ghost use Rattle.cb_plan.specs.Algebras.{matrices};
 ghost use Rattle.cb_plan.specs.Checks.{operands_of, all_below, all_filled, shapes_agree};
+ghost use Rattle.cb_product.specs.SeveralProducts.{pairs_in};
+ghost use Rattle.cb_local.specs.FactorSlots.{HoldPair, HoldProduct, IsSumWith};
 ghost use Rattle.cb_local.specs.Slots.{MayBeAdded, adding, after_all};
 ghost use Rattle.cb_plan.specs.Stores.{sheets_in, shapes_in, slot_of};
 
 use cb_dcsc::Block;
 use cb_elementwise::{add, mask, prune, times};
 use cb_plan::{Op, RankStore, SLOTS, SharedBlock, Slot};
-use cb_product::{multiply, multiply_into};
+use cb_product::{Factors, multiply, multiply_all_into, multiply_into};
 use cb_reductions::column_sums;
 use cb_reshape::{cut, place, transpose};
 use cb_semirings::Semiring;
@@ -157,5 +161,61 @@ pub fn accumulate_all<S: Semiring>(
     ensures ok { OnOk result (store.new ≡ after_all S.arithmetic (map (adding acc) products.now) store.old) }
     ensures err { OnErr result (store.new ≡ store.old) }
 {
-    Err(AllocError)
+    let Slot::Sheet(sum) = store.take(acc) else {
+        unreachable!()
+    };
+    match all_added_to(alloc, store, products, sum) {
+        Ok(sum) => {
+            store.put(acc, sum);
+            Ok(())
+        }
+        Err((sum, error)) => {
+            store.put_shared(acc, sum);
+            Err(error)
+        }
+    }
+}
+
+/// Adds products to a block, one after the other, whose factors are in these slots. If memory is refused, the block comes back
+/// as it was.
+fn all_added_to<S: Semiring>(
+    alloc: Global,
+    store: &RankStore<S>,
+    products: &[(u16, u16)],
+    sum: SharedBlock<S>,
+) -> Result<Block<S>, (SharedBlock<S>, AllocError)>
+    requires { All (HoldProduct store.now sum.shape) products.now }
+    ensures ok { IfOk result (IsSumWith S.arithmetic store.now sum products.now) }
+    ensures err { IfErr result (λ e. e.0 ≡ sum) }
+{
+    let factors = match factors_in(alloc, store, products) {
+        Ok(factors) => factors,
+        Err(error) => return Err((sum, error)),
+    };
+    let sum = match sum.into_block() {
+        Ok(sum) => sum,
+        Err(refused) => return Err(refused),
+    };
+    match multiply_all_into(alloc, &factors, sum) {
+        Ok(sum) => Ok(sum),
+        Err((sum, error)) => Err((SharedBlock::new(sum), error)),
+    }
+}
+
+/// The blocks in these slots, by pairs.
+fn factors_in<'a, S: Semiring>(
+    alloc: Global,
+    store: &'a RankStore<S>,
+    products: &[(u16, u16)],
+) -> Result<Vec<Factors<'a, S>>, AllocError>
+    requires { (shape : Extent) × All (HoldProduct store.now shape) products.now }
+    ensures { IfOk result (λ factors. AllZip (HoldPair store.now) products.now (pairs_in factors.items)) }
+{
+    let mut factors = Vec::with_capacity(alloc, products.len())?;
+    for pair in products {
+        let left = store.sheet(pair.0);
+        let right = store.sheet(pair.1);
+        factors.push(Factors { left, right })?;
+    }
+    Ok(factors)
 }
