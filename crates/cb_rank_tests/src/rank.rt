@@ -10,9 +10,9 @@ use cb_samples::{block, entry, shape};
 use cb_semirings::PlusTimes;
 use std::alloc::Global;
 
+mod at_once;
 mod letters;
 mod operations;
-mod pairs;
 
 /// A letter from rank 1 to rank 0.
 fn letter(

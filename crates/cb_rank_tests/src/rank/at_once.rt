@@ -1,4 +1,4 @@
-//! Two products that are added to one slot at once.
+//! Products that are added to one slot at once.
 use super::{Held, contents_of};
 use crate::plans::plan_of;
 use cb_plan::{Act, Op, RankStore, Start};
@@ -52,11 +52,11 @@ fn rank_of(alloc: Global, ops: &[Op]) -> Option<Rank<PlusTimes>> {
     Rank::start(alloc, &plan, 0, store).ok()
 }
 
-/// Whether a rank does the first two of these operations at once, how many halves it does, and what slot 2 then holds.
-fn does_both(alloc: Global, ops: &[Op]) -> Option<(bool, u64, Held)> {
+/// Whether a rank does the first of these operations at once, how many halves it does, and what slot 2 then holds.
+fn does_all(alloc: Global, ops: &[Op]) -> Option<(bool, u64, Held)> {
     let mut rank = rank_of(alloc, ops)?;
     let all = rank.remaining();
-    let does = rank.work_both();
+    let does = rank.work_all();
     let done = all.saturating_sub(rank.remaining());
     Some((does, done, contents_of(&rank.into_store(), 2)))
 }
@@ -69,12 +69,6 @@ const NINE: Op = Op::MulAdd { a: 1, b: 1, acc: 2 };
 
 /// What is found where nothing is done.
 const NOTHING: (bool, u64, Held) = (false, 0, Held::Entries(1, 5));
-
-#[test]
-fn two_products_are_added_at_once(rt: HostRuntime) {
-    assert!(rt; does_both(rt.alloc(), &[SIX, NINE]) == Some((true, 2, Held::Entries(1, 20))));
-    assert!(rt; does_both(rt.alloc(), &[SIX, NINE, SIX]) == Some((true, 2, Held::Entries(1, 20))));
-}
 
 /// 2 + 3 in slot 2.
 const SUM: Op = Op::Add {
@@ -89,13 +83,26 @@ const ELSEWHERE: Op = Op::MulAdd { a: 1, b: 1, acc: 0 };
 /// Adds 3 times slot 2 to slot 2.
 const ONTO_A_FACTOR: Op = Op::MulAdd { a: 1, b: 2, acc: 2 };
 
+/// As many are as follow one another.
+#[test]
+fn several_products_are_added_at_once(rt: HostRuntime) {
+    assert!(rt; does_all(rt.alloc(), &[SIX, NINE]) == Some((true, 2, Held::Entries(1, 20))));
+    assert!(rt; does_all(rt.alloc(), &[SIX, NINE, SIX]) == Some((true, 3, Held::Entries(1, 26))));
+    assert!(rt;
+        does_all(rt.alloc(), &[SIX, NINE, SUM, SIX]) == Some((true, 2, Held::Entries(1, 20)))
+    );
+    assert!(rt;
+        does_all(rt.alloc(), &[SIX, NINE, ELSEWHERE]) == Some((true, 2, Held::Entries(1, 20)))
+    );
+}
+
 /// One operation isn't a product, or they add to two slots, or to a factor, or there is only one.
 #[test]
 fn other_operations_are_done_by_themselves(rt: HostRuntime) {
-    assert!(rt; does_both(rt.alloc(), &[SIX, SUM]) == Some(NOTHING));
-    assert!(rt; does_both(rt.alloc(), &[SUM, SIX]) == Some(NOTHING));
-    assert!(rt; does_both(rt.alloc(), &[SIX, ELSEWHERE]) == Some(NOTHING));
-    assert!(rt; does_both(rt.alloc(), &[SIX, ONTO_A_FACTOR]) == Some(NOTHING));
-    assert!(rt; does_both(rt.alloc(), &[ONTO_A_FACTOR, SIX]) == Some(NOTHING));
-    assert!(rt; does_both(rt.alloc(), &[SIX]) == Some(NOTHING));
+    assert!(rt; does_all(rt.alloc(), &[SIX, SUM]) == Some(NOTHING));
+    assert!(rt; does_all(rt.alloc(), &[SUM, SIX]) == Some(NOTHING));
+    assert!(rt; does_all(rt.alloc(), &[SIX, ELSEWHERE]) == Some(NOTHING));
+    assert!(rt; does_all(rt.alloc(), &[SIX, ONTO_A_FACTOR]) == Some(NOTHING));
+    assert!(rt; does_all(rt.alloc(), &[ONTO_A_FACTOR, SIX]) == Some(NOTHING));
+    assert!(rt; does_all(rt.alloc(), &[SIX]) == Some(NOTHING));
 }
