@@ -580,12 +580,7 @@ fn adds_all(
 }
 
 /// The blocks of a pair in a sum with this many rows and columns.
-fn blocks_of(
-    alloc: Global,
-    rows: u32,
-    cols: u32,
-    pair: Pair<'_>,
-) -> Result<Blocks, SampleFault> {
+fn blocks_of(alloc: Global, rows: u32, cols: u32, pair: Pair<'_>) -> Result<Blocks, SampleFault> {
     let left = block(alloc, rows, pair.inner, pair.left)?;
     let right = block(alloc, pair.inner, cols, pair.right)?;
     Ok((left, right))
