@@ -115,9 +115,9 @@ module _ (s : Arithmetic) (acc : ℕ) where
   all_fit x ps is add =
       All-weaker (HasFound acc (shapes_at x.plan x.me x.done)) (FitProduct x.slots acc)
       (λ p f. record { exist = three_below acc p.0 p.1 f.exist; apart = f.apart; fits = (shapes_at x.plan x.me x.done, f.filled, f.agree, is.shapes) }) ps (found_all x ps is add)
-      where
-        three_below : (a b c : ℕ) → all_below 256 (a ∷ b ∷ c ∷ a ∷ []) ≡ true → all_below 256 (a ∷ b ∷ c ∷ []) ≡ true
-        three_below a b c e = grind (arith, nat_tests)
+    where
+      three_below : (a b c : ℕ) → all_below 256 (a ∷ b ∷ c ∷ a ∷ []) ≡ true → all_below 256 (a ∷ b ∷ c ∷ []) ≡ true
+      three_below a b c e = grind (arith, nat_tests)
 
   -- so a rank that has done two or more of them at once is one, and has done them one after the other
   pub worked_on : (x : RankView) (ps qs : List (ℕ × ℕ)) (slots : List (Slot Sparse)) (n : ℕ) → IsRank x → AddProducts (drop x.done x.program) acc ps → 2 ≤ length ps → qs ≡ ps → slots ≡ worked_all s (map (adding acc) qs) x.slots → n ≡ length qs

@@ -32,11 +32,7 @@ impl NextProducts {
 }
 
 /// The factors of the products that these halves add to a slot, up to the first half that doesn't.
-fn first_factors(
-    alloc: Global,
-    halves: &[Half],
-    acc: u16,
-) -> Result<Vec<(u16, u16)>, AllocError>
+fn first_factors(alloc: Global, halves: &[Half], acc: u16) -> Result<Vec<(u16, u16)>, AllocError>
     ensures { IfOk result (λ factors. AddProducts halves.now acc factors.items) }
 {
     let mut factors = Vec::new(alloc);

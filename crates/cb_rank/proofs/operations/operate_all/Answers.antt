@@ -11,5 +11,5 @@ returns-clause-done g c =
     let products = c.args.products.now in
     let may = may_be_added slots acc products c.requires.each (c.is_any_lost.ensures c.if-is_any_lost.false) in
     λ yes.
-        let done : c.accumulate_all.new.store ≡ after_all s (map (adding acc) products) slots = search rules in
-        done ∙ added_in_turn s acc products slots (sum_inside slots acc products c.requires.size c.requires.some may) may
+    let done : c.accumulate_all.new.store ≡ after_all s (map (adding acc) products) slots = search rules in
+    done ∙ added_in_turn s acc products slots (sum_inside slots acc products c.requires.size c.requires.some may) may
