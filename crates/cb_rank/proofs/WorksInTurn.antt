@@ -1,7 +1,6 @@
 -- A rank that adds products to one slot, one after the other.
-use Rattle.std.proofs.Common.{◌≡◌, ◌≢◌, ℕ, zero, suc, ◌+◌, ◌-◌, ◌≤◌, true, false, List, [], ◌∷◌, length, length-drop, map, take, drop, refl, sym, ap, subst, ◌∙◌, arith, inl}
+use Rattle.std.proofs.Common.{◌≡◌, ◌≢◌, ℕ, zero, suc, ◌+◌, ◌-◌, ◌≤◌, true, List, [], ◌∷◌, length, length-drop, map, take, drop, refl, sym, ap, subst, ◌∙◌, arith, inl}
 use Rattle.std.specs.Prelude.{Option, Some, None, All, is_some, slice_get, ◌==◌, ◌&&◌}
-use Rattle.std.specs.List.{AllZip}
 use Rattle.std.proofs.lemmas.Bool.Decides.{nat_tests}
 use Rattle.std.proofs.lemmas.List.{take_all}
 use Rattle.std.proofs.lemmas.List.Elements.{All-nil, All-cons, All-weaker}
@@ -10,11 +9,10 @@ use Rattle.cb_matrix.specs.Sparse.{Sparse, Extent}
 use Rattle.cb_plan.specs.declared.acts.Act.{Act}
 use Rattle.cb_plan.specs.declared.acts.Half.{Half}
 use Rattle.cb_plan.specs.declared.acts.Half.TheVariants as half_is
-use Rattle.cb_plan.specs.declared.acts.Op.{Op}
 use Rattle.cb_plan.specs.declared.stores.Slot.{Slot}
 use Rattle.cb_plan.specs.Algebras.{shapes}
 use Rattle.cb_plan.specs.Checks.{all_below, all_filled, operands_of, shapes_agree}
-use Rattle.cb_plan.specs.Meaning.{State, act, three, target_of}
+use Rattle.cb_plan.specs.Meaning.{State, act, three}
 use Rattle.cb_plan.proofs.Effects.{split}
 use Rattle.cb_local.specs.Slots.{adding}
 use Rattle.cb_rank.specs.Halves.{work_result, worked, worked_all}
@@ -115,9 +113,9 @@ module _ (s : Arithmetic) (acc : ℕ) where
   all_fit x ps is add =
       All-weaker (HasFound acc (shapes_at x.plan x.me x.done)) (FitProduct x.slots acc)
       (λ p f. record { exist = three_below acc p.0 p.1 f.exist; apart = f.apart; fits = (shapes_at x.plan x.me x.done, f.filled, f.agree, is.shapes) }) ps (found_all x ps is add)
-      where
-        three_below : (a b c : ℕ) → all_below 256 (a ∷ b ∷ c ∷ a ∷ []) ≡ true → all_below 256 (a ∷ b ∷ c ∷ []) ≡ true
-        three_below a b c e = grind (arith, nat_tests)
+    where
+      three_below : (a b c : ℕ) → all_below 256 (a ∷ b ∷ c ∷ a ∷ []) ≡ true → all_below 256 (a ∷ b ∷ c ∷ []) ≡ true
+      three_below a b c e = grind (arith, nat_tests)
 
   -- so a rank that has done two or more of them at once is one, and has done them one after the other
   pub worked_on : (x : RankView) (ps qs : List (ℕ × ℕ)) (slots : List (Slot Sparse)) (n : ℕ) → IsRank x → AddProducts (drop x.done x.program) acc ps → 2 ≤ length ps → qs ≡ ps → slots ≡ worked_all s (map (adding acc) qs) x.slots → n ≡ length qs

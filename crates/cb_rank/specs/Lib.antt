@@ -3,5 +3,5 @@ pub mod Halves
 pub mod Ranks
 pub mod Steps
 pub mod Leavings
--- AddedProducts: two operations that add products to one slot.
+-- AddedProducts: products that halves add to one slot.
 pub mod AddedProducts

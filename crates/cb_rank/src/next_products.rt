@@ -22,6 +22,7 @@ impl NextProducts {
         let [Half::Work(Op::MulAdd { acc, .. }), second, ..] = halves else {
             return None;
         };
+        // For a product that is alone no list is made.
         factors_of(second, *acc)?;
         let factors = first_factors(alloc, halves, *acc).ok()?;
         if factors.len() < 2 {
@@ -32,11 +33,7 @@ impl NextProducts {
 }
 
 /// The factors of the products that these halves add to a slot, up to the first half that doesn't.
-fn first_factors(
-    alloc: Global,
-    halves: &[Half],
-    acc: u16,
-) -> Result<Vec<(u16, u16)>, AllocError>
+fn first_factors(alloc: Global, halves: &[Half], acc: u16) -> Result<Vec<(u16, u16)>, AllocError>
     ensures { IfOk result (λ factors. AddProducts halves.now acc factors.items) }
 {
     let mut factors = Vec::new(alloc);

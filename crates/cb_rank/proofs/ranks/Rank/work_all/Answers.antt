@@ -24,5 +24,5 @@ returns-clause-done g c =
     let products = c.in-Some.next.factors.items in
     let add = left_over acc c.deref.result.now c.self.inside.program.items c.self.inside.done products c.deref.ensures.value c.in-Some.ensures.products in
     λ yes.
-        rw (← c.self.view_is)
-        (worked_on g.S.Semiring.arithmetic acc _ products c.deref-2.result.now c.operate_all.new.store c.len.result c.self.invariant add c.in-Some.ensures.several c.deref-2.ensures.value (c.if-not-operate_all.ensures.done refl) (c.len.ensures ∙ sym c.deref-2.ensures.len)).1
+    rw (← c.self.view_is)
+    (worked_on g.S.Semiring.arithmetic acc _ products c.deref-2.result.now c.operate_all.new.store c.len.result c.self.invariant add c.in-Some.ensures.several c.deref-2.ensures.value (c.if-not-operate_all.ensures.done refl) (c.len.ensures ∙ sym c.deref-2.ensures.len)).1
