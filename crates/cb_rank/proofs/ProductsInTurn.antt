@@ -1,17 +1,16 @@
 -- Products that are added to one slot at once: as if they were added one after the other.
-use Rattle.std.proofs.Common.{◌≡◌, ℕ, ◌<◌, arith, true, List, [], ◌∷◌, length, map, refl, sym, ap, ◌∙◌}
+use Rattle.std.proofs.Common.{◌≡◌, ℕ, ◌<◌, arith, List, [], ◌∷◌, length, map, refl, sym, ap, ◌∙◌}
 use Rattle.std.specs.Prelude.{Option, None, IsSome, is_some, false, Some, All, slice_set}
 use Rattle.std.proofs.lemmas.List.Elements.{All-head, All-tail, All-weaker}
 use Rattle.std.proofs.Math.ListN.{length-set}
 use Rattle.cb_semirings.specs.Arithmetic.{Arithmetic}
-use Rattle.cb_matrix.specs.Sparse.{Sparse, Extent}
+use Rattle.cb_matrix.specs.Sparse.{Sparse}
 use Rattle.cb_plan.specs.declared.acts.Op.{Op}
 use Rattle.cb_plan.specs.declared.stores.Slot.{Slot}
 use Rattle.cb_plan.specs.declared.stores.Slot.TheVariants as slot_is
 use Rattle.cb_plan.specs.Meaning.{one}
 use Rattle.cb_plan.specs.Checks.{operands_of}
 use Rattle.cb_plan.specs.Stores.{sheet_of, shapes_in}
-use Rattle.cb_plan.proofs.ActOnStores.{first_below}
 use Rattle.cb_local.specs.Slots.{MayBeDone, MayBeAdded, adding, after, after_all}
 use Rattle.cb_local.proofs.AddedProducts.{may_stay}
 use Rattle.cb_rank.specs.Halves.{slot_at, origin_of, first_lost, loss_or_result, worked, worked_all}
@@ -58,9 +57,3 @@ added_in_turn s acc (p ∷ ps) slots inside may =
     let size : length next ≡ length slots = length-set slots acc _ in
     let rest : All (MayBeAdded next acc) ps = All-weaker (MayBeAdded slots acc) (MayBeAdded next acc) (λ q m. may_stay slots acc p first.done s q inside m) ps (All-tail (MayBeAdded slots acc) p ps may) in
     added_in_turn s acc ps next (omega arith) rest ∙ ap (worked_all s (map (adding acc) ps)) same
-
--- a slot that products may be added to is there
-pub sum_inside : (slots : List (Slot Sparse)) (acc : ℕ) (products : List (ℕ × ℕ)) → length slots ≡ 256 → 0 < length products → All (MayBeAdded slots acc) products → acc < length slots
-sum_inside slots acc [] size some may = absurd (omega arith)
-sum_inside slots acc (p ∷ ps) size some may =
-    let l = (first_below 256 acc (p.0 ∷ p.1 ∷ []) (All-head (MayBeAdded slots acc) p ps may).exist).0 in omega arith

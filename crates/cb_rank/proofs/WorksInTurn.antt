@@ -1,7 +1,6 @@
 -- A rank that adds products to one slot, one after the other.
-use Rattle.std.proofs.Common.{◌≡◌, ◌≢◌, ℕ, zero, suc, ◌+◌, ◌-◌, ◌≤◌, true, false, List, [], ◌∷◌, length, length-drop, map, take, drop, refl, sym, ap, subst, ◌∙◌, arith, inl}
+use Rattle.std.proofs.Common.{◌≡◌, ◌≢◌, ℕ, zero, suc, ◌+◌, ◌-◌, ◌≤◌, true, List, [], ◌∷◌, length, length-drop, map, take, drop, refl, sym, ap, subst, ◌∙◌, arith, inl}
 use Rattle.std.specs.Prelude.{Option, Some, None, All, is_some, slice_get, ◌==◌, ◌&&◌}
-use Rattle.std.specs.List.{AllZip}
 use Rattle.std.proofs.lemmas.Bool.Decides.{nat_tests}
 use Rattle.std.proofs.lemmas.List.{take_all}
 use Rattle.std.proofs.lemmas.List.Elements.{All-nil, All-cons, All-weaker}
@@ -10,11 +9,10 @@ use Rattle.cb_matrix.specs.Sparse.{Sparse, Extent}
 use Rattle.cb_plan.specs.declared.acts.Act.{Act}
 use Rattle.cb_plan.specs.declared.acts.Half.{Half}
 use Rattle.cb_plan.specs.declared.acts.Half.TheVariants as half_is
-use Rattle.cb_plan.specs.declared.acts.Op.{Op}
 use Rattle.cb_plan.specs.declared.stores.Slot.{Slot}
 use Rattle.cb_plan.specs.Algebras.{shapes}
 use Rattle.cb_plan.specs.Checks.{all_below, all_filled, operands_of, shapes_agree}
-use Rattle.cb_plan.specs.Meaning.{State, act, three, target_of}
+use Rattle.cb_plan.specs.Meaning.{State, act, three}
 use Rattle.cb_plan.proofs.Effects.{split}
 use Rattle.cb_local.specs.Slots.{adding}
 use Rattle.cb_rank.specs.Halves.{work_result, worked, worked_all}

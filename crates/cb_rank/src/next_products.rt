@@ -22,6 +22,7 @@ impl NextProducts {
         let [Half::Work(Op::MulAdd { acc, .. }), second, ..] = halves else {
             return None;
         };
+        // For a product that is alone no list is made.
         factors_of(second, *acc)?;
         let factors = first_factors(alloc, halves, *acc).ok()?;
         if factors.len() < 2 {

@@ -152,8 +152,9 @@ impl<S: Semiring> Rank<S> {
         self.done += 1;
     }
 
-    /// Does the next halves at once, as many as are Works that add products to the same slot, from factors in other slots. Returns
-    /// whether it did: not if these are fewer than two, if an operand is lost, or if memory is refused. Then nothing changes.
+    /// Does the next halves at once, as many as are Works that add products to the same slot, from factors in other slots.
+    /// Returns whether it did: not if these are fewer than two, if an operand is lost, or if memory is refused. Then nothing
+    /// changes.
     ///
     /// Costs less time and memory than the halves one after the other, since no block is made for a sum in between.
     pub fn work_all(&mut self) -> bool

@@ -1,7 +1,8 @@
-use Rattle.std.proofs.Common.{rules, ◌≡◌, sym, subst, ◌∙◌}
+use Rattle.std.proofs.Common.{rules, ◌≡◌, sym, subst, ◌∙◌, arith}
 use Rattle.cb_rank.specs.declared.wants.Want.TheVariants as want_is
 use Rattle.cb_rank.proofs.WantedHalf.{wants_nothing}
 use Rattle.cb_ranks.specs.UnderWay.{DoesNext, TellsNext}
+use Rattle.cb_ranks.proofs.HalfOverDesk.{fewer_left}
 use Rattle.cb_ranks.proofs.RunSoFar.{begins, goes_on, ends}
 use Rattle.cb_ranks.proofs.RecorderEvents.{begins_told, goes_on_told, ends_told, works_on_told}
 use Rattle.cb_ranks.proofs.runs.run_recorded.Goals as goal
@@ -27,6 +28,12 @@ loop-desk-preserved-then-does_all g c =
     let both =
     works_on_told g.T.Recorder.tells g.S.Semiring.arithmetic c.args.recorder c.args.rank c.args.desk c.loop-desk.recorder c.loop-desk.desk works.0 c.loop-desk.rank c.does_all.new.rank c.want.ensures.rank works.2 ran told in
     record { ran = both.0; told = both.1 }
+
+pub loop-desk-smaller-then-does_all : goal.loop-desk-smaller-then-does_all
+loop-desk-smaller-then-does_all g c =
+    let works = c.does_all.ensures.done c.if-does_all.true in
+    let two = works.1 in
+    fewer_left g.S.Semiring.arithmetic works.0 c.loop-desk.rank c.does_all.new.rank (omega arith) works.2
 
 pub returns-clause-runs : goal.returns-clause-runs
 returns-clause-runs g c =
