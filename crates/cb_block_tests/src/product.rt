@@ -531,7 +531,9 @@ struct Pair<'a> {
 struct AllAdded<'a> {
     rows: u32,
     cols: u32,
-    pairs: [Pair<'a>; 3],
+    first: Pair<'a>,
+    second: Pair<'a>,
+    third: Pair<'a>,
     own: &'a [Entry],
     sum: &'a [Entry],
 }
@@ -589,10 +591,9 @@ fn blocks_of(alloc: Global, rows: u32, cols: u32, pair: Pair<'_>) -> Result<Bloc
 /// The same for a row.
 fn is_sum_of_all(alloc: Global, added: &AllAdded<'_>) -> Result<Result<bool, bool>, SampleFault> {
     let (rows, cols) = (added.rows, added.cols);
-    let [first, second, third] = added.pairs;
-    let first = blocks_of(alloc, rows, cols, first)?;
-    let second = blocks_of(alloc, rows, cols, second)?;
-    let third = blocks_of(alloc, rows, cols, third)?;
+    let first = blocks_of(alloc, rows, cols, added.first)?;
+    let second = blocks_of(alloc, rows, cols, added.second)?;
+    let third = blocks_of(alloc, rows, cols, added.third)?;
     let own = block(alloc, rows, cols, added.own)?;
     Ok(adds_all(alloc, (&first, &second, &third), own, added))
 }
@@ -624,7 +625,9 @@ const SMALL_THIRD: Pair<'static> = Pair {
 const SMALL_PAIRS: AllAdded<'static> = AllAdded {
     rows: 2,
     cols: 2,
-    pairs: [SMALL_FIRST, SMALL_SECOND, SMALL_THIRD],
+    first: SMALL_FIRST,
+    second: SMALL_SECOND,
+    third: SMALL_THIRD,
     own: entries![(0, 1, u64::MAX), (1, 1, 5)],
     sum: entries![(0, 0, 10), (1, 0, 22), (0, 1, 6), (1, 1, 5)],
 };
@@ -633,35 +636,35 @@ const SUMS_OF_ALL: &[AllAdded<'static>] = &[
     SMALL_PAIRS,
     // one product has no terms
     AllAdded {
-        pairs: [SMALL_FIRST, SMALL_SECOND, NO_TERMS],
+        third: NO_TERMS,
         sum: entries![(0, 0, 10), (1, 0, 22), (1, 1, 5)],
         ..SMALL_PAIRS
     },
     // two have none
     AllAdded {
-        pairs: [NO_TERMS, SMALL_SECOND, NO_TERMS],
+        first: NO_TERMS,
+        third: NO_TERMS,
         sum: entries![(0, 0, 2), (1, 0, 10), (0, 1, u64::MAX), (1, 1, 5)],
         ..SMALL_PAIRS
     },
     // a left factor has no entries, and a right one
     AllAdded {
-        pairs: [
-            Pair {
-                left: &[],
-                ..SMALL_FIRST
-            },
-            Pair {
-                right: &[],
-                ..SMALL_SECOND
-            },
-            SMALL_THIRD,
-        ],
+        first: Pair {
+            left: &[],
+            ..SMALL_FIRST
+        },
+        second: Pair {
+            right: &[],
+            ..SMALL_SECOND
+        },
         sum: entries![(0, 1, 5), (1, 1, 5)],
         ..SMALL_PAIRS
     },
     // none has terms
     AllAdded {
-        pairs: [NO_TERMS, NO_TERMS, NO_TERMS],
+        first: NO_TERMS,
+        second: NO_TERMS,
+        third: NO_TERMS,
         sum: entries![(0, 1, u64::MAX), (1, 1, 5)],
         ..SMALL_PAIRS
     },
@@ -712,7 +715,9 @@ fn are_all_plain_among(alloc: Global, rows: u32) -> Result<bool, SampleFault> {
     let added = AllAdded {
         rows,
         cols: 4,
-        pairs: [first, SECOND, THIRD],
+        first,
+        second: SECOND,
+        third: THIRD,
         own: FEW,
         sum: sum.entries(),
     };
