@@ -4,6 +4,7 @@ ghost use Rattle.cb_semirings.specs.Arithmetic.{IsValue};
 ghost use Rattle.cb_matrix.specs.Sparse.{IsMatrix, IsInside, IsBefore};
 ghost use Rattle.cb_matrix.specs.Values.{empty_matrix};
 ghost use Rattle.cb_dcsc.specs.Columns.{with_entry};
+ghost use Rattle.std.specs.Int.{div_ceil};
 ghost use Rattle.cb_grid.specs.Parts.{part_length, part_shape};
 ghost use Rattle.cb_grid.specs.Blocks.{AreBlocksOf, AreRankMatrices, block_at, blank_blocks, part_with, place_in_part, placed_in_block, glued_blocks};
 
@@ -99,18 +100,42 @@ impl Grid {
         (usize::from(self.rank(i, j)), local)
     }
 
-    /// The part of a dimension that a place is in, and its place in that part. Avoids a division in the first part.
+    /// The part of a dimension that a place is in, and its place in that part. Divides by a part's length only from the third
+    /// part on.
+    #[inline(always)]
     pub fn in_part(&self, d: u32, place: u32) -> (u32, u32)
         requires { place < d }
         ensures part { result.0 ≡ part_with self.now.side d place }
         ensures place { result.1 ≡ place_in_part self.now.side d place }
         ensures within { result.0 < self.now.side }
     {
-        let length = d.div_ceil(self.side());
+        let length = self.whole_part(d);
         if place < length {
             return (0, place);
         }
+        let next = place - length;
+        if next < length {
+            return (1, next);
+        }
         (place / length, place % length)
+    }
+
+    /// The number of places of the first part of a dimension, and of each part that isn't cut short. To divide by a number
+    /// that the compiler knows takes a few cycles, by any other some 25.
+    #[inline(always)]
+    fn whole_part(&self, d: u32) -> u32
+        ensures value { result ≡ div_ceil d self.now.side }
+        ensures side { 0 < self.now.side }
+    {
+        match self.side() {
+            1 => d,
+            2 => d.div_ceil(2),
+            3 => d.div_ceil(3),
+            4 => d.div_ceil(4),
+            5 => d.div_ceil(5),
+            6 => d.div_ceil(6),
+            side => d.div_ceil(side),
+        }
     }
 }
 

@@ -180,7 +180,7 @@ impl<S: Semiring> DistributedMatrix<S> {
 impl<S: Semiring + Send + Sync> DistributedMatrix<S> {
     /// The matrix with the entries of another one of the same grid and shape appended. They must all come after its own.
     /// If memory is refused, both are dropped. The cost is that of one block for each rank, and of the other's entries in
-    /// blocks where both have entries. If these are many, each block gets them from a thread of its own, while this one waits.
+    /// blocks where both have entries. If these are many, blocks get them side by side, from threads of their own.
     pub fn append<R: Threads + Sync>(self, rt: &R, other: Self) -> Result<Self, AllocError>
         requires side { other.side ≡ self.side }
         requires shape { other.matrix.shape ≡ self.matrix.shape }
@@ -203,8 +203,11 @@ impl<S: Semiring + Send + Sync> DistributedMatrix<S> {
 /// The fewest entries that are appended by several threads: fewer aren't worth a thread.
 const FEW: usize = 65_536;
 
-/// Appends the entries of each of the other blocks to the block of the same rank: each in a thread of its own if there are
-/// several blocks and many entries to append.
+/// The fewest entries of a block that are worth a thread.
+const LONG: usize = 16_384;
+
+/// Appends the entries of each of the other blocks to the block of the same rank: by several threads if there are several
+/// blocks and many entries to append.
 fn append_each<S: Semiring + Send + Sync, R: Threads + Sync>(
     rt: &R,
     blocks: &mut Vec<Block<S>>,
@@ -235,8 +238,8 @@ fn append_in_turn<S: Semiring>(
     Ok(())
 }
 
-/// Appends the entries of each of the other blocks to the block of the same rank, each in a thread of its own, while this one
-/// waits.
+/// Appends the entries of each of the other blocks to the block of the same rank. Of the blocks that get many entries each but
+/// the first gets them from a thread of its own; this thread does the rest.
 #[cycle(ranks)]
 fn append_apart<S: Semiring + Send + Sync, R: Threads + Sync>(
     rt: &R,
@@ -269,6 +272,10 @@ fn append_both<S: Semiring + Send + Sync, R: Threads + Sync>(
     ensures front { OnOk result (AreAppended front.old front_others.old front.new) }
     ensures back { OnOk result (AreAppended back.old back_others.old back.new) }
 {
+    if !get_many(back, back_others) || !get_many(front, front_others) {
+        append_first(back, back_others)?;
+        return append_apart(rt, front, front_others);
+    }
     let mut there = || -> Result<(), AllocError>
         requires { (length back.now ≡ 1) × MayBeAppended S.arithmetic back.now back_others.now }
         ensures { OnOk result (AreAppended back.entry.now back_others.entry.now back.exit.now) }
@@ -280,6 +287,16 @@ fn append_both<S: Semiring + Send + Sync, R: Threads + Sync>(
     let (there, here) = join_mut(rt, &mut there, &mut here);
     there?;
     here
+}
+
+/// Whether one of these blocks gets many entries. A block without entries gets none: it takes over the other's lists.
+fn get_many<S: Semiring>(blocks: &[Block<S>], others: &[Block<S>]) -> bool {
+    for rank in 0..blocks.len().min(others.len()) {
+        if blocks[rank].len() != 0 && others[rank].len() >= LONG {
+            return true;
+        }
+    }
+    false
 }
 
 /// Appends the entries of the only other block to the only block.
