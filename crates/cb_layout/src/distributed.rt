@@ -201,7 +201,7 @@ impl<S: Semiring + Send + Sync> DistributedMatrix<S> {
 }
 
 /// The fewest entries that are worth a thread.
-const LONG: usize = 16_384;
+const LONG: usize = 8_192;
 
 /// Whether a block gets many entries from another one. A block without entries gets none: it takes over the other's lists.
 fn gets_many<S: Semiring>(block: &Block<S>, other: &Block<S>) -> bool {
