@@ -190,7 +190,7 @@ impl<S: Semiring + Send + Sync> DistributedMatrix<S> {
         prove!(self.shape.rows() <= LIMIT);
         prove!(self.shape.cols() <= LIMIT);
         let (mut blocks, mut others) = (self.blocks, other.blocks);
-        append_each(rt, &mut blocks, &mut others, other.len)?;
+        append_each(rt, &mut blocks, &mut others)?;
         Ok(DistributedMatrix {
             grid: self.grid,
             shape: self.shape,
@@ -200,24 +200,36 @@ impl<S: Semiring + Send + Sync> DistributedMatrix<S> {
     }
 }
 
-/// The fewest entries that are appended by several threads: fewer aren't worth a thread.
-const FEW: usize = 65_536;
+/// The fewest entries that are worth a thread.
+const LONG: usize = 8_192;
 
-/// The fewest entries of a block that are worth a thread.
-const LONG: usize = 16_384;
+/// Whether a block gets many entries from another one. A block without entries gets none: it takes over the other's lists.
+fn gets_many<S: Semiring>(block: &Block<S>, other: &Block<S>) -> bool {
+    block.len() != 0 && other.len() >= LONG
+}
 
-/// Appends the entries of each of the other blocks to the block of the same rank: by several threads if there are several
-/// blocks and many entries to append.
+/// How many of these blocks get many entries.
+fn count_of_long<S: Semiring>(blocks: &[Block<S>], others: &[Block<S>]) -> usize {
+    let mut count = 0usize;
+    for rank in 0..blocks.len().min(others.len()) {
+        if gets_many(&blocks[rank], &others[rank]) {
+            count = count.saturating_add(1);
+        }
+    }
+    count
+}
+
+/// Appends the entries of each of the other blocks to the block of the same rank: by several threads if several blocks get
+/// many entries.
 fn append_each<S: Semiring + Send + Sync, R: Threads + Sync>(
     rt: &R,
     blocks: &mut Vec<Block<S>>,
     others: &mut Vec<Block<S>>,
-    entries: usize,
 ) -> Result<(), AllocError>
     requires { MayBeAppended S.arithmetic blocks.old.items others.old.items }
     ensures { OnOk result (AreAppended blocks.old.items others.old.items blocks.new.items) }
 {
-    if entries < FEW || blocks.len() < 2 {
+    if count_of_long(blocks, others) < 2 {
         append_in_turn(blocks, others)
     } else {
         append_apart(rt, blocks, others)
@@ -238,8 +250,8 @@ fn append_in_turn<S: Semiring>(
     Ok(())
 }
 
-/// Appends the entries of each of the other blocks to the block of the same rank. Of the blocks that get many entries each but
-/// the first gets them from a thread of its own; this thread does the rest.
+/// Appends the entries of each of the other blocks to the block of the same rank. A block that gets many gets them from a
+/// thread of its own; this thread does the others, and waits.
 #[cycle(ranks)]
 fn append_apart<S: Semiring + Send + Sync, R: Threads + Sync>(
     rt: &R,
@@ -272,7 +284,7 @@ fn append_both<S: Semiring + Send + Sync, R: Threads + Sync>(
     ensures front { OnOk result (AreAppended front.old front_others.old front.new) }
     ensures back { OnOk result (AreAppended back.old back_others.old back.new) }
 {
-    if !get_many(back, back_others) || !get_many(front, front_others) {
+    if count_of_long(back, back_others) == 0 {
         append_first(back, back_others)?;
         return append_apart(rt, front, front_others);
     }
@@ -287,16 +299,6 @@ fn append_both<S: Semiring + Send + Sync, R: Threads + Sync>(
     let (there, here) = join_mut(rt, &mut there, &mut here);
     there?;
     here
-}
-
-/// Whether one of these blocks gets many entries. A block without entries gets none: it takes over the other's lists.
-fn get_many<S: Semiring>(blocks: &[Block<S>], others: &[Block<S>]) -> bool {
-    for rank in 0..blocks.len().min(others.len()) {
-        if blocks[rank].len() != 0 && others[rank].len() >= LONG {
-            return true;
-        }
-    }
-    false
 }
 
 /// Appends the entries of the only other block to the only block.

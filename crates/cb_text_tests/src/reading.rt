@@ -181,7 +181,8 @@ fn may_be_long(rt: HostRuntime) {
     }
 }
 
-/// A text of 143,360 entries, 512 of each column: if it is cut in two, the second piece has more than 65,536 of them.
+/// A text of 143,360 entries, 512 of each column: if it is cut in three, the second piece has more than 8,192 of them for each of
+/// two blocks on a grid of side 2, in which the first piece has entries too.
 fn full_text(alloc: Global) -> Result<Vec<u8>, AllocError> {
     let mut text = Vec::from_slice(
         alloc,
@@ -194,7 +195,7 @@ fn full_text(alloc: Global) -> Result<Vec<u8>, AllocError> {
     Ok(text)
 }
 
-/// Pieces with so many entries that a thread for each block appends them.
+/// Pieces with so many entries that threads append them, one for each of two blocks.
 #[test]
 fn may_have_many_entries(rt: HostRuntime) {
     let given = full_text(rt.alloc());
