@@ -12,10 +12,8 @@ pub mod Bodies
 pub mod NextEntries
 pub mod Law
 pub mod OwnEntries
--- For this crate alone. NumberLines: lines of numbers. EightBytes, PaddedDigits: numbers of fewer than eight digits.
--- HeaderWords: the words of the header and of the size line. EntryWords: the words of the line of an entry.
+-- For this crate alone. NumberLines: lines of numbers. HeaderWords: the words of the header and of the size line. EntryWords:
+-- the words of the line of an entry.
 mod NumberLines
 mod HeaderWords
-mod EightBytes
-mod PaddedDigits
 mod EntryWords

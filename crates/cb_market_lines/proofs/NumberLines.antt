@@ -1,11 +1,11 @@
 -- Lines of numbers with single blanks between them and a line feed at the end.
-use Rattle.std.proofs.Common.{◌≡◌, ℕ, ◌+◌, ◌-◌, ◌<◌, ◌≤◌, ◌^◌, zero, suc, List, [], ◌∷◌, ◌++◌, arith, true, false, length, take, drop, get_or, sym, ap, ap₂, ◌∙◌, refl, length-append, ⊎_elim}
+use Rattle.std.proofs.Common.{◌≡◌, ℕ, ◌+◌, ◌-◌, ◌<◌, ◌≤◌, ◌^◌, List, [], ◌∷◌, ◌++◌, arith, true, false, length, take, drop, get_or, sym, ap, ◌∙◌, refl, length-append, ⊎_elim}
 use Rattle.std.specs.Prelude.{◌==◌}
 use Rattle.std.proofs.lemmas.Bool.Decides.{nat_tests}
-use Rattle.std.proofs.lemmas.List.{take_at, take_rest, take-take, drop_more, length-drop}
+use Rattle.std.proofs.lemmas.List.{take_at, take_rest}
 use Rattle.std.proofs.lemmas.Bool.{cases_Bool}
 use Rattle.cb_market_lines.specs.declared.words.Number.TheVariants.{Whole}
-use Rattle.cb_market_lines.specs.Lines.{lines, words, is_digit, all_digits, is_number, is_comment, is_skipped, number, number_from, kept_from}
+use Rattle.cb_market_lines.specs.Lines.{lines, words, is_digit, is_number, is_comment, is_skipped, number, number_from, kept_from}
 use Rattle.cb_market_lines.specs.Cursor.{line_at, after_line, is_word_end, after_word, front_digits, after_digits, number_of, IsNumberBefore, IsPlainLine}
 use Rattle.std.specs.Prelude.{Result, Ok, Err, IfOk, IfErr, None, Some}
 use Rattle.cb_semirings.specs.Arithmetic.{Arithmetic}
@@ -65,36 +65,6 @@ short_is text rest n some d h less small k =
     let m = number_magnitude w s.number in
     let is : n ≡ number w = sym (ap (number_from n) (no_digits_front rest some d)) ∙ k ∙ ap number s.front in
     rw (m.1, m.0, ← is, if_small_fits n small) refl
-
--- the digits in front, by their number
-front_counted : (n : ℕ) (text : List ℕ) → n < length text → all_digits (take n text) ≡ true → is_digit (get_or text n 0) ≡ false → (front_digits text ≡ take n text) × (after_digits text ≡ drop n text)
-front_counted n [] h all stop = absurd (omega arith)
-front_counted zero (c ∷ text) h all stop = rw stop (refl, refl)
-front_counted (suc n) (c ∷ text) h all stop = ⊎_elim
-    (λ (d : is_digit c ≡ true). let k = front_counted n text (omega arith) (rw d at all) stop in rw d (ap (λ l. c ∷ l) k.0, k.1))
-    (λ (d : is_digit c ≡ false). cc (rw d at all)) (cases_Bool (is_digit c))
-
--- the first n of eight bytes, as the first of a text
-pub chunk_taken : (text bytes : List ℕ) (n : ℕ) → bytes ≡ take 8 text → n < 8 → take n bytes ≡ take n text
-chunk_taken text bytes n e few = ap (take n) e ∙ take-take n 8 text (omega arith)
-
--- the word of n digits in front
-pub counted_word : (text bytes : List ℕ) (n c : ℕ) → bytes ≡ take 8 text → 8 ≤ length text → (1 ≤ n) × (n < 8) → all_digits (take n bytes) ≡ true → get_or text n 0 ≡ c → is_digit c ≡ false → IsNumberBefore text c (take n text) (take (length text - (n + 1)) (drop (n + 1) text))
-counted_word text bytes n c is long few all at stop =
-    let t = front_counted n text (omega arith) (ap all_digits (sym (chunk_taken text bytes n is few.1)) ∙ all) (ap is_digit at ∙ stop) in
-    let less : length (after_digits text) < length text = omega (arith, ap length t.1, length-drop n text) in
-    record {
-      number = ap is_number (sym t.0) ∙ number_front text less;
-      front = t.0;
-      after = t.1 ∙ drop_more text n 0 (omega arith) ∙ ap₂ (λ d l. d ∷ l) at (sym (take_rest text (n + 1)));
-    }
-
--- and its number
-pub counted_number : (text bytes : List ℕ) (n c m : ℕ) → bytes ≡ take 8 text → 8 ≤ length text → (1 ≤ n) × (n < 8) → all_digits (take n bytes) ≡ true → get_or text n 0 ≡ c → is_digit c ≡ false → m ≡ number (take n bytes) → m < 2 ^ 64 → Whole m ≡ number_of (take n text)
-counted_number text bytes n c m is long few all at stop e small =
-    let k = number_magnitude (take n text) (counted_word text bytes n c is long few all at stop).number in
-    let same : m ≡ number (take n text) = e ∙ ap number (chunk_taken text bytes n is few.1) in
-    rw (k.1, k.0, ← same, if_small_fits m small) refl
 
 -- no word ends at a digit
 digits_begin : (text : List ℕ) → is_number (front_digits text) ≡ true → (is_word_end text ≡ false) × (0 < length text)

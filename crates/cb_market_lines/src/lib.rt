@@ -3,8 +3,8 @@
 //! `specs/Reads.antt` defines line by line when a text reads as a matrix, and `specs/Faults.antt` which fault of a text
 //! is the first. Every text either has a first fault or reads as exactly one matrix.
 //!
-//! The reader is a cursor ([`Scanner`](scanner::Scanner)) that passes over each byte at most twice. It takes no memory.
-//! `cb_market` reads texts with it into matrices.
+//! The reader is a cursor ([`Scanner`](scanner::Scanner)) that visits each byte at most twice. It takes no memory. `cb_market`
+//! reads texts with it into matrices.
 #![tactic(auto)]
 
 ghost use Rattle.std.specs.Prelude.{◌≡◌};
@@ -91,7 +91,6 @@ pub mod entry_lines;
 mod header;
 mod plain_lines;
 pub mod scanner;
-mod short_numbers;
 mod size;
 pub mod words;
 

@@ -3,7 +3,6 @@
 ghost use Rattle.std.specs.Prelude.{◌≡◌, ◌+◌, ◌^◌, ◌<◌, ◌≤◌, IfSome};
 ghost use Rattle.cb_market_lines.specs.Cursor.{IsNumberBefore, IsPlainLine};
 
-use crate::short_numbers::{likely_count, short_number};
 use crate::words::{Number, Word};
 
 /// A number below this one stays below 2^64 with another digit.
@@ -22,36 +21,6 @@ pub struct PlainLine<'a> {
 /// there is no digit, if another byte follows, or if the number has more than 19 digits after its leading zeros.
 #[inline(always)]
 fn number_before<'a>(text: &'a [u8], end: u8) -> Option<(Word<'a>, &'a [u8])>
-    ensures { IfSome result (λ p. IsNumberBefore text.now end p.0.bytes.now p.1.now) }
-{
-    if let Some((word, rest)) = short_number_before(text, end) {
-        return Some((word, rest));
-    }
-    let (word, rest) = long_number_before(text, end)?;
-    Some((word, rest))
-}
-
-/// The same, for a number of fewer than eight digits, where the text has eight bytes. None says nothing of others.
-#[inline(always)]
-fn short_number_before<'a>(text: &'a [u8], end: u8) -> Option<(Word<'a>, &'a [u8])>
-    ensures { IfSome result (λ p. IsNumberBefore text.now end p.0.bytes.now p.1.now) }
-{
-    let bytes = text.first_chunk::<8>()?;
-    let count = likely_count(*bytes)?;
-    let number = short_number(*bytes, count)?;
-    if text[count] != end || end.is_ascii_digit() {
-        return None;
-    }
-    let word = Word {
-        bytes: &text[..count],
-        number: Number::Whole(number),
-    };
-    Some((word, &text[count + 1..]))
-}
-
-/// The same, for a number of any length, digit by digit.
-#[inline(never)]
-fn long_number_before<'a>(text: &'a [u8], end: u8) -> Option<(Word<'a>, &'a [u8])>
     ensures { IfSome result (λ p. IsNumberBefore text.now end p.0.bytes.now p.1.now) }
 {
     let mut rest = text;

@@ -1,4 +1,4 @@
-//! A cursor over the bytes of a text. It passes over each byte once, or twice in a line that isn't plain.
+//! A cursor over the bytes of a text. It visits each byte once, or twice in a line that isn't plain.
 //!
 //! The cursor is the rest of the text. The contract of each step is stated over the lines and words of the rest
 //! (`specs/Cursor.antt`).

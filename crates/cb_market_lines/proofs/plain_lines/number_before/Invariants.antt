@@ -1,7 +1,7 @@
 use Rattle.std.proofs.Common.{length, ◌≡◌, ◌<◌, ◌≤◌, ◌^◌}
 use Rattle.cb_market_lines.specs.Lines.{number, number_from}
 use Rattle.cb_market_lines.specs.Cursor.{after_digits, front_digits}
-use Rattle.cb_market_lines.proofs.plain_lines.long_number_before.Given as goal
+use Rattle.cb_market_lines.proofs.plain_lines.number_before.Given as goal
 
 -- the remaining digits continue the number of the digits before
 abbrev pub invariant-loop-rest : goal.invariant-loop-rest
