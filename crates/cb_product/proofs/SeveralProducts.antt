@@ -17,7 +17,7 @@ use Rattle.cb_product.specs.declared.several.Factors.{Factors}
 use Rattle.cb_product.specs.declared.sources.Source.{Source}
 use Rattle.cb_product.specs.InColumns.{AreInColumns, is_among}
 use Rattle.cb_product.specs.SeveralProducts.{pairs_in, plus_products, MakeShape, AreColumnsOf}
-use Rattle.cb_product.specs.Sources.{IsSource, HasTerms, HasTermsOf, source_pair, source_pairs, plus_terms}
+use Rattle.cb_product.specs.Sources.{IsSource, HasTerms, HasTermsOf, column_terms, source_pair, source_pairs, plus_terms}
 use Rattle.cb_product.specs.SparseColumn.{AreEntries}
 use Rattle.cb_product.specs.Terms.{column_sum, terms_at}
 use Rattle.cb_product.proofs.ColumnsMade.{IsMadeTo, walk_none, walk_more, walk_all, absent_value}
@@ -160,7 +160,7 @@ module _ {T : Type 0} (s : Arithmetic) (laws : IsSemiring s) where
       let shape = fits.shape in
       let cols : acc.shape.cols ≡ x.right.now.shape.cols = ap (λ (e : Extent). e.cols) shape in
       plus_at (sum acc x) xs (one_matrix acc x is source fits) (All-tail (IsSource s) x xs sources) (All-tail (MakeShape acc.shape) (source_pair x) (source_pairs xs) fit) i j l (All-tail (HasTermsOf s j) x xs terms)
-      (s.add v (terms_at s x.left.now i x.terms.items))
+      (s.add v (terms_at s x.left.now i (column_terms x)))
       ((λ t. s.add (same t) (has.sums i t)) ∙ sym (sum_at s laws acc x.left.now x.right.now is source.left source.right fits.agree shape i j (omega arith)))
 
   -- ---- the columns of the sum, one after another
@@ -202,12 +202,12 @@ module _ {T : Type 0} (s : Arithmetic) (laws : IsSemiring s) (rows : ℕ) where
   terms_all_past (x ∷ xs) sources terms same i l v none =
       let source = All-head (IsSource s) x xs sources in
       let e : x.left.now.shape.rows ≡ rows = All-head (λ (x : Source T). x.left.now.shape.rows ≡ rows) x xs same in
-      let past = terms_past s laws (rows_of x.left.now.entries) (values_of x.left.now.entries) x.left.now.shape.rows i (all_rows_inside s x.left.now (rows_of x.left.now.entries) source.left refl) (omega arith) x.terms.items (All-head (HasTerms s) x xs terms) in
+      let past = terms_past s laws (rows_of x.left.now.entries) (values_of x.left.now.entries) x.left.now.shape.rows i (all_rows_inside s x.left.now (rows_of x.left.now.entries) source.left refl) (omega arith) (column_terms x) (All-head (HasTerms s) x xs terms) in
       terms_all_past xs (All-tail (IsSource s) x xs sources) (All-tail (HasTerms s) x xs terms) (All-tail (λ (x : Source T). x.left.now.shape.rows ≡ rows) x xs same) i l
-      (s.add v (terms_at s x.left.now i x.terms.items)) ((λ t. s.add (none t) (past t)) ∙ laws.zero_add s.zero laws.zero_value)
+      (s.add v (terms_at s x.left.now i (column_terms x))) ((λ t. s.add (none t) (past t)) ∙ laws.zero_add s.zero laws.zero_value)
 
   -- with one more source
-  pub terms_step : (xs : List (Source T)) (n : ℕ) (x : Source T) (i v w : ℕ) → n < length xs → x ≡ get_or xs n x → w ≡ s.add v (terms_at s x.left.now i x.terms.items) → plus_terms s i (drop (n + 1) xs) w ≡ plus_terms s i (drop n xs) v
+  pub terms_step : (xs : List (Source T)) (n : ℕ) (x : Source T) (i v w : ℕ) → n < length xs → x ≡ get_or xs n x → w ≡ s.add v (terms_at s x.left.now i (column_terms x)) → plus_terms s i (drop (n + 1) xs) w ≡ plus_terms s i (drop n xs) v
   terms_step xs n x i v w l e same =
       ap (plus_terms s i (drop (n + 1) xs)) same ∙ sym (at_drop_more (λ ys. plus_terms s i ys v) xs n x l ∙ ap (λ y. plus_terms s i (y ∷ drop (n + 1) xs) v) (sym e))
 

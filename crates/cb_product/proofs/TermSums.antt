@@ -1,13 +1,13 @@
 -- The terms of a column, and their sum.
 use Rattle.std.proofs.Common.{◌≡◌, ℕ, ◌+◌, ◌-◌, ◌<◌, ◌≤◌, List, [], ◌∷◌, ◌++◌, length, map, take, drop, get_or, sym, refl, ap, ◌∙◌, arith}
 use Rattle.std.specs.Prelude.{All, slice_range}
-use Rattle.std.proofs.lemmas.List.{take-map, drop-map, drop_more, drop_all, length-map, map_push}
-use Rattle.std.proofs.lemmas.List.Elements.{All-head, All-tail, All-map, All-get_or, All-drop, All-take, All-weaker, All-cons, All-nil}
+use Rattle.std.proofs.lemmas.List.{take-map, drop-map, drop_more, drop_all, length-map, map-append}
+use Rattle.std.proofs.lemmas.List.Elements.{All-head, All-tail, All-map, All-get_or, All-drop, All-take, All-weaker}
 use Rattle.cb_semirings.specs.Arithmetic.{Arithmetic, IsValue, IsSemiring}
 use Rattle.cb_matrix.specs.declared.Entry.{Entry}
 use Rattle.cb_matrix.specs.Sparse.{Sparse, IsMatrix, at}
 use Rattle.cb_matrix.specs.Values.{total}
-use Rattle.cb_matrix.proofs.Totals.{add_zero, total-append, total-one, value_at-value}
+use Rattle.cb_matrix.proofs.Totals.{add_zero, total-append, value_at-value}
 use Rattle.cb_matrix.proofs.Permuted.{sum_value}
 use Rattle.cb_dcsc.specs.Columns.{in_column, rows_of, values_of, row_value}
 use Rattle.cb_dcsc.proofs.Lookup.{column_value, column_ascends}
@@ -31,13 +31,11 @@ module _ (s : Arithmetic) (laws : IsSemiring s) (rows values : List ℕ) (all_va
   pub terms_value-value : (i : ℕ) (ts : List Term) → All (IsTerm s rows) ts → IsValue s (terms_value s rows values i ts)
   terms_value-value i ts is = sum_value s laws (term_value s rows values i) ts (all_terms i ts is)
 
-  -- with one more term
-  pub terms_value-push : (i : ℕ) (ts : List Term) (t : Term) → All (IsTerm s rows) ts → IsValue s t.scale → terms_value s rows values i (ts ++ t ∷ []) ≡ s.add (terms_value s rows values i ts) (term_value s rows values i t)
-  terms_value-push i ts t is v =
-      let here = term_value-value i t v in
-      ap (total s) (map_push (term_value s rows values i) ts t)
-      ∙ total-append s laws (map (term_value s rows values i) ts) (term_value s rows values i t ∷ []) (All-map (IsValue s) (term_value s rows values i) ts (all_terms i ts is)) (All-cons (IsValue s) (term_value s rows values i t) [] here (All-nil (IsValue s)))
-      ∙ ap (s.add (terms_value s rows values i ts)) (total-one s laws (term_value s rows values i t) here)
+  -- of two lists, one after the other
+  pub terms_value-append : (i : ℕ) (ts us : List Term) → All (IsTerm s rows) ts → All (IsTerm s rows) us → terms_value s rows values i (ts ++ us) ≡ s.add (terms_value s rows values i ts) (terms_value s rows values i us)
+  terms_value-append i ts us is js =
+      ap (total s) (map-append (term_value s rows values i) ts us)
+      ∙ total-append s laws (map (term_value s rows values i) ts) (map (term_value s rows values i) us) (All-map (IsValue s) (term_value s rows values i) ts (all_terms i ts is)) (All-map (IsValue s) (term_value s rows values i) us (all_terms i us js))
 
   -- the first term, and the others
   pub terms_value-rest : (i n : ℕ) (ts : List Term) (d : Term) → n < length ts → terms_value s rows values i (drop n ts) ≡ s.add (term_value s rows values i (get_or ts n d)) (terms_value s rows values i (drop (n + 1) ts))
@@ -102,85 +100,41 @@ module _ (s : Arithmetic) (laws : IsSemiring s) (a : Sparse) (is : IsMatrix s a)
   pub matrix_values : All (IsValue s) vs
   matrix_values = All-map (IsValue s) (λ (e : Entry). e.value) a.entries is.values
 
-  column_sum-value : (i : ℕ) (rows values : List ℕ) → All (IsValue s) values → IsValue s (column_sum s a i rows values)
+  pub column_sum-value : (i : ℕ) (rows values : List ℕ) → All (IsValue s) values → IsValue s (column_sum s a i rows values)
   unfolding column_sum
   column_sum-value i [] values h = laws.zero_value
   column_sum-value i (k ∷ rows) [] h = laws.zero_value
   column_sum-value i (k ∷ rows) (v ∷ values) h = laws.add_value _ _ (laws.mul_value _ v (value_at-value s laws a.entries i k is.values) (All-head (IsValue s) v values h)) (column_sum-value i rows values (All-tail (IsValue s) v values h))
 
   module _ (k from to : ℕ) (there : slice_range a.entries from to ≡ in_column k a.entries) where
-    rows_there : slice_range ks from to ≡ rows_of (in_column k a.entries)
+    -- the rows and values of a column between two places
+    pub rows_there : slice_range ks from to ≡ rows_of (in_column k a.entries)
     rows_there = range-map (λ (e : Entry). e.row) from to a.entries ∙ ap rows_of there
 
-    values_there : slice_range vs from to ≡ values_of (in_column k a.entries)
+    pub values_there : slice_range vs from to ≡ values_of (in_column k a.entries)
     values_there = range-map (λ (e : Entry). e.value) from to a.entries ∙ ap values_of there
 
-    scaled_column : (row scale ends i : ℕ) → term_value s ks vs i (record { row = row; at = from; end = to; scale = scale; ends = ends }) ≡ s.mul (at s a i k) scale
-    scaled_column row scale ends i = ap (λ x. s.mul x scale) (ap (λ rs. row_value s.zero rs (slice_range vs from to) i) rows_there ∙ ap (λ ws. row_value s.zero (rows_of (in_column k a.entries)) ws i) values_there ∙ column_value s.zero a.entries i k)
+    module _ (t : Term) (at_is : t.at ≡ from) (end_is : t.end ≡ to) where
+      -- a term that is this column has its values, times the factor
+      pub scaled_column : (i : ℕ) → term_value s ks vs i t ≡ s.mul (at s a i k) t.scale
+      scaled_column i =
+          (λ e. s.mul (row_value s.zero (slice_range ks (at_is e) (end_is e)) (slice_range vs (at_is e) (end_is e)) i) t.scale)
+          ∙ ap (λ x. s.mul x t.scale) (ap (λ rs. row_value s.zero rs (slice_range vs from to) i) rows_there ∙ ap (λ ws. row_value s.zero (rows_of (in_column k a.entries)) ws i) values_there ∙ column_value s.zero a.entries i k)
 
-    -- the column's entries make a term
-    pub new_term : (row scale ends : ℕ) → row ≡ get_or ks from 0 → from < to → to ≤ length a.entries → IsValue s scale → IsTerm s ks (record { row = row; at = from; end = to; scale = scale; ends = ends })
-    new_term row scale ends e l m v = record {
-      some = l;
-      row = e;
-      within = let n = length-map a.entries (λ (e : Entry). e.row) in omega arith;
-      ascending = rw rows_there (column_ascends k a.entries is.ascending);
-      scale = v;
-    }
+      -- and it is a term
+      pub new_term : t.row ≡ get_or ks from 0 → from < to → to ≤ length a.entries → IsValue s t.scale → IsTerm s ks t
+      new_term e l m v = record {
+        some = omega arith;
+        row = e ∙ ap (λ n. get_or ks n 0) (sym at_is);
+        within = let n = length-map a.entries (λ (e : Entry). e.row) in omega arith;
+        ascending = rw (at_is, end_is, rows_there) (column_ascends k a.entries is.ascending);
+        scale = v;
+      }
 
-    no_column : to ≤ from → (i scale : ℕ) → IsValue s scale → s.mul (at s a i k) scale ≡ s.zero
+    -- without entries it adds nothing
+    pub no_column : to ≤ from → (i scale : ℕ) → IsValue s scale → s.mul (at s a i k) scale ≡ s.zero
     unfolding row_value
     no_column l i scale v =
         let n : to - from ≡ 0 = omega arith in
         let none : [] ≡ in_column k a.entries = ap (λ m. take m (drop from a.entries)) (sym n) ∙ there in
         ap (λ x. s.mul x scale) (sym (column_value s.zero a.entries i k) ∙ ap (λ es. row_value s.zero (rows_of es) (values_of es) i) (sym none)) ∙ laws.zero_mul scale v
-
-  -- with one more entry of the right column
-  module _ (rows values : List ℕ) (same : length values ≡ length rows) (values_are : All (IsValue s) values) (n : ℕ) (l : n < length rows) (old : List Term) (terms : All (IsTerm s ks) old) (from to : ℕ) (there : slice_range a.entries from to ≡ in_column (get_or rows n 0) a.entries) where
-    abbrev k : ℕ
-    k = get_or rows n 0
-
-    abbrev v : ℕ
-    v = get_or values n 0
-
-    -- its value is a value of the semiring
-    pub v_value : IsValue s v
-    v_value = All-get_or (IsValue s) values n 0 (omega arith) values_are
-
-    here_value : (i : ℕ) → IsValue s (s.mul (at s a i k) v)
-    here_value i = laws.mul_value _ v (value_at-value s laws a.entries i k is.values) v_value
-
-    rest_value : (i : ℕ) → IsValue s (column_sum s a i (drop (n + 1) rows) (drop (n + 1) values))
-    rest_value i = column_sum-value i (drop (n + 1) rows) (drop (n + 1) values) (All-drop (IsValue s) (n + 1) values values_are)
-
-    sum_split : (i : ℕ) → column_sum s a i (drop n rows) (drop n values) ≡ s.add (s.mul (at s a i k) v) (column_sum s a i (drop (n + 1) rows) (drop (n + 1) values))
-    unfolding column_sum
-    sum_split i = ap (λ rs. column_sum s a i rs (drop n values)) (drop_more rows n 0 l) ∙ ap (column_sum s a i (k ∷ drop (n + 1) rows)) (drop_more values n 0 (omega arith))
-
-    -- if its column has entries
-    pub gathered_more : (row ends : ℕ) (T : ℕ → ℕ) → ((i : ℕ) → s.add (terms_value s ks vs i old) (column_sum s a i (drop n rows) (drop n values)) ≡ T i)
-        → (i : ℕ) → s.add (terms_value s ks vs i (old ++ record { row = row; at = from; end = to; scale = v; ends = ends } ∷ [])) (column_sum s a i (drop (n + 1) rows) (drop (n + 1) values)) ≡ T i
-    gathered_more row ends T so_far i =
-        let rest = column_sum s a i (drop (n + 1) rows) (drop (n + 1) values) in
-        let whole : terms_value s ks vs i (old ++ record { row = row; at = from; end = to; scale = v; ends = ends } ∷ []) ≡ s.add (terms_value s ks vs i old) (s.mul (at s a i k) v) =
-        terms_value-push s laws ks vs matrix_values i old (record { row = row; at = from; end = to; scale = v; ends = ends }) terms v_value ∙ ap (s.add (terms_value s ks vs i old)) (scaled_column k from to there row v ends i) in
-        ap (λ x. s.add x rest) whole
-        ∙ laws.add_assoc (terms_value s ks vs i old) (s.mul (at s a i k) v) rest (terms_value-value s laws ks vs matrix_values i old terms) (here_value i) (rest_value i)
-        ∙ ap (s.add (terms_value s ks vs i old)) (sym (sum_split i)) ∙ so_far i
-
-    -- if its column has none
-    pub gathered_none : to ≤ from → (T : ℕ → ℕ) → ((i : ℕ) → s.add (terms_value s ks vs i old) (column_sum s a i (drop n rows) (drop n values)) ≡ T i)
-        → (i : ℕ) → s.add (terms_value s ks vs i old) (column_sum s a i (drop (n + 1) rows) (drop (n + 1) values)) ≡ T i
-    gathered_none m T so_far i =
-        ap (s.add (terms_value s ks vs i old)) (sym (sum_split i ∙ ap (λ x. s.add x (column_sum s a i (drop (n + 1) rows) (drop (n + 1) values))) (no_column k from to there m i v v_value) ∙ laws.zero_add _ (rest_value i))) ∙ so_far i
-
-  -- before the first entry
-  pub gathered_start : (ts : List Term) (rows values : List ℕ) → All (IsValue s) values → ts ≡ [] → (i : ℕ) → s.add (terms_value s ks vs i ts) (column_sum s a i rows values) ≡ column_sum s a i rows values
-  unfolding total
-  gathered_start ts rows values h e i = ap (λ x. s.add (terms_value s ks vs i x) (column_sum s a i rows values)) e ∙ laws.zero_add _ (column_sum-value i rows values h)
-
-  -- past the last entry
-  pub gathered_all : (ts : List Term) (rows values : List ℕ) (n : ℕ) → All (IsTerm s ks) ts → length rows ≤ n → (T : ℕ → ℕ) → ((i : ℕ) → s.add (terms_value s ks vs i ts) (column_sum s a i (drop n rows) (drop n values)) ≡ T i) → (i : ℕ) → terms_value s ks vs i ts ≡ T i
-  unfolding column_sum
-  gathered_all ts rows values n terms l T so_far i =
-      sym (ap (λ rs. s.add (terms_value s ks vs i ts) (column_sum s a i rs (drop n values))) (drop_all n rows l) ∙ add_zero s laws (terms_value s ks vs i ts) (terms_value-value s laws ks vs matrix_values i ts terms)) ∙ so_far i

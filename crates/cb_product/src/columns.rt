@@ -1,5 +1,5 @@
 //! A column of a product while it is built, and the sum of two columns.
-ghost use Rattle.std.specs.Prelude.{◌≡◌, ◌≢◌, ◌↔◌, IsTrue, ℕ, ◌<◌, ◌≤◌, List, [], length, drop, All, AllPairs, Contains, IfOk, IfSome, OnOk, slice_index};
+ghost use Rattle.std.specs.Prelude.{◌≡◌, ◌≢◌, ◌↔◌, IsTrue, ℕ, ◌<◌, ◌≤◌, List, [], length, drop, All, AllPairs, Contains, IfOk, IfNone, IfSome, OnOk, slice_index, slice_range};
 ghost use Rattle.cb_semirings.specs.Arithmetic.{IsValue};
 ghost use Rattle.cb_dcsc.specs.Columns.{in_column, rows_of, values_of};
 ghost use Rattle.cb_product.specs.SparseColumn.{IsSparseColumn, IsColumnOf, AddsToColumn, one_value, scaled, scaled_at, scaled_rest, joined_value};
@@ -206,8 +206,7 @@ fn is_zero<S: Semiring>(value: u64) -> bool
     value == S::zero()
 }
 
-/// Returns the rows and the values of a column. A caller that asks for columns in ascending order, and keeps `next` from
-/// call to call, gets each in constant time. A column that is out of order is found by a binary search.
+/// Returns the rows and the values of a column, which [`place_of_next`] finds.
 #[inline(always)]
 pub(crate) fn of_next<'a, S: Semiring>(
     block: &'a Block<S>,
@@ -219,16 +218,50 @@ pub(crate) fn of_next<'a, S: Semiring>(
     ensures ascending { AllPairs (λ i j. i < j) result.0.now }
     ensures are_values { All (IsValue S.arithmetic) result.1.now }
 {
+    match place_of_next(block.column_numbers(), next, column) {
+        Some(n) => block.nth_column(n),
+        None => (&[], &[]),
+    }
+}
+
+/// Returns where the entries of a column, which [`place_of_next`] finds, start and end among all.
+#[inline(always)]
+pub(crate) fn range_of_next<S: Semiring>(
+    block: &Block<S>,
+    next: &mut usize,
+    column: u32,
+) -> (usize, usize)
+    ensures order { result.0 ≤ result.1 }
+    ensures within { result.1 ≤ length block.now.entries }
+    ensures entries { slice_range block.now.entries result.0 result.1 ≡ in_column column block.now.entries }
+{
+    match place_of_next(block.column_numbers(), next, column) {
+        Some(n) => block.nth_range(n),
+        None => (0, 0),
+    }
+}
+
+/// Returns the place of a column among columns that ascend. A caller that asks for columns in ascending order, and keeps
+/// `next` from call to call, gets each in constant time. A column that is out of order is found by a binary search.
+#[inline(always)]
+fn place_of_next(columns: &[u32], next: &mut usize, column: u32) -> Option<usize>
+    requires { AllPairs (λ c d. c < d) columns.now }
+    ensures within { IfSome result (λ n. n < length columns.now) }
+    ensures column { IfSome result (λ n. slice_index columns.now n ≡ column) }
+    ensures none { IfNone result (All (λ c. c ≢ column) columns.now) }
+{
     let n = *next;
-    let columns = block.column_numbers();
     if n < columns.len() && columns[n] == column {
         *next = n + 1;
-        return block.nth_column(n);
+        return Some(n);
     }
     if is_missing(columns, n, column) {
-        return (&[], &[]);
+        return None;
     }
-    block.column(column)
+    match columns.binary_search(&column) {
+        Ok(n) => Some(n),
+        Err(_) => None,
+    }
 }
 
 /// Whether a column lies between the nth of these columns, which ascend, and the one before it, and so isn't one of them.

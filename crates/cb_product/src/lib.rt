@@ -25,14 +25,17 @@ ghost use Rattle.cb_matrix.specs.Sparse.{IsMatrix};
 ghost use Rattle.cb_matrix.specs.Values.{product, product_shape, empty_matrix};
 ghost use Rattle.cb_matrix.specs.Operations.{sum_of};
 ghost use Rattle.cb_product.specs.ColumnStarts.{Tells};
+ghost use Rattle.cb_dcsc.specs.Columns.{rows_of, values_of};
 ghost use Rattle.cb_product.specs.Factors.{AreFactors};
+ghost use Rattle.cb_product.specs.Gathered.{AreGathered};
 ghost use Rattle.cb_product.specs.InColumns.{AreInColumns, only_columns};
 
 pub use crate::column_index::ColumnIndex;
 pub use crate::counts::{LEAST_PRODUCTS, products_of_column, products_of_columns, total_products};
+use crate::panel::Panel;
 pub use crate::product_column::ProductColumn;
 pub use crate::several::{Factors, multiply_all_into};
-use crate::terms::{Term, gather};
+use crate::terms::products_of;
 use crate::workspace::Workspace;
 use cb_dcsc::Block;
 use cb_semirings::Semiring;
@@ -43,6 +46,7 @@ mod columns;
 mod counts;
 mod heads;
 mod marks;
+mod panel;
 mod product_column;
 mod several;
 mod sources;
@@ -167,7 +171,7 @@ fn accumulate_columns<S: Semiring>(
     ensures { IfOk result (λ m. m ≡ sum_of S.arithmetic accumulator.now (product S.arithmetic left.now (only_columns columns.now right.now))) }
 {
     let mut work = Workspace::new(alloc)?;
-    let mut terms = Vec::new(alloc);
+    let mut panel = Panel::new(alloc);
     let room = room_for(left.len(), right.len(), accumulator.len(), room);
     let mut out = with_room(alloc, accumulator, room);
     make_columns(
@@ -177,13 +181,13 @@ fn accumulate_columns<S: Semiring>(
         columns,
         index,
         &mut work,
-        &mut terms,
+        &mut panel,
         &mut out,
     )?;
     Ok(out)
 }
 
-/// Computes the given columns of the sum one after another, and stores them in `out`, a block without entries. `terms` and
+/// Computes the given columns of the sum one after another, and stores them in `out`, a block without entries. `panel` and
 /// `work` are reused from column to column.
 fn make_columns<S: Semiring>(
     left: &Block<S>,
@@ -192,13 +196,14 @@ fn make_columns<S: Semiring>(
     columns: &[u32],
     index: &ColumnIndex,
     work: &mut Workspace<S>,
-    terms: &mut Vec<Term>,
+    panel: &mut Panel,
     out: &mut Block<S>,
 ) -> Result<(), AllocError>
     requires factors { AreFactors index.now left.now right.now columns.now }
     requires shape { accumulator.now.shape ≡ product_shape left.now right.now }
     requires accumulator_columns { AreInColumns columns.now accumulator.now.entries }
     requires zeros { All (λ x. x ≡ S.arithmetic.zero) work.old.sums }
+    requires gathered { AreGathered S.arithmetic left.now (rows_of right.now.entries) (values_of right.now.entries) panel.old }
     requires empty { out.old ≡ empty_matrix accumulator.now.shape }
     requires matrix { IsMatrix S.arithmetic out.old }
     ensures { OnOk result (out.new ≡ sum_of S.arithmetic accumulator.now (product S.arithmetic left.now (only_columns columns.now right.now))) }
@@ -210,14 +215,16 @@ fn make_columns<S: Semiring>(
     let mut own_next = 0;
     let mut seen = 0usize;
     for column in columns {
-        let (rows, values) = columns::of_next(right, &mut next, *column);
-        let products = gather(terms, left, index, rows, values)?;
+        let (from, until) = columns::range_of_next(right, &mut next, *column);
+        let (rows, values) = (right.row_numbers(), right.values());
+        let (begin, end) = panel.find(left, index, rows, values, from, until)?;
+        let terms = &panel.terms()[begin..end];
         let (own_rows, own_values) = columns::of_next(accumulator, &mut own_next, *column);
         if terms.is_empty() {
             out.push_column(*column, own_rows, own_values)?;
             continue;
         }
-        let entries = products.saturating_add(own_rows.len());
+        let entries = products_of(terms).saturating_add(own_rows.len());
         seen = seen.saturating_add(entries);
         let dense = is_dense(left_shape.rows(), entries, seen);
         work.make(left, terms, own_rows, own_values, dense)?;

@@ -12,7 +12,8 @@ ghost use Rattle.cb_product.specs.Outside.{sum_outside, terms_outside};
 use crate::column_index::ColumnIndex;
 use crate::is_dense;
 use crate::marks::{make_room, set_marks};
-use crate::terms::{Term, gather};
+use crate::panel::Panel;
+use crate::terms::{Term, products_of};
 use crate::workspace::Workspace;
 use cb_dcsc::Block;
 use cb_semirings::Semiring;
@@ -24,7 +25,7 @@ use std::marker::Model;
 pub struct ProductColumn<S: Semiring> {
     alloc: Global,
     work: Workspace<S>,
-    terms: Vec<Term>,
+    panel: Panel,
     /// A bit for each row, set while the row is excluded.
     excluded: Vec<u64>,
     /// How many products the columns so far had.
@@ -51,7 +52,7 @@ impl<S: Semiring> ProductColumn<S> {
         Ok(ProductColumn {
             alloc,
             work: Workspace::new(alloc)?,
-            terms: Vec::new(alloc),
+            panel: Panel::new(alloc),
             excluded: Vec::new(alloc),
             seen: 0,
             complete: true,
@@ -84,11 +85,15 @@ impl<S: Semiring> ProductColumn<S> {
             self.excluded.clear();
         }
         self.complete = false;
-        let products = gather(&mut self.terms, left, index, inner, factors)?;
+        self.panel.clear();
+        let all = inner.len();
+        let (begin, end) = self.panel.find(left, index, inner, factors, 0, all)?;
+        let terms = &self.panel.terms()[begin..end];
+        let products = products_of(terms);
         self.seen = self.seen.saturating_add(products);
         let dense = is_dense(left_rows, products, self.seen);
         let (work, marks) = (&mut self.work, &mut self.excluded);
-        make_of_terms(work, marks, left, &self.terms, excluded, dense)?;
+        make_of_terms(work, marks, left, terms, excluded, dense)?;
         self.complete = true;
         Ok(())
     }

@@ -10,7 +10,6 @@ ghost use Rattle.cb_product.specs.Sources.{IsSource, HasTerms, source_pairs, IsC
 
 use crate::columns::{Column, of_next, union};
 use crate::sources::{Source, gather_all, sources_of};
-use crate::terms::Term;
 use crate::workspace::Workspace;
 use crate::{is_dense, most_entries, room_for, with_room};
 use cb_dcsc::Block;
@@ -208,7 +207,7 @@ fn make_all_joined<S: Semiring>(
     work.made.clear();
     work.made.append(own_rows, own_values, None, 0)?;
     for source in sources {
-        let terms: &[Term] = &source.terms;
+        let terms = source.terms();
         if terms.is_empty() {
             continue;
         }

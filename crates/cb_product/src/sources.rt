@@ -1,12 +1,13 @@
 //! Products whose sum is computed column by column.
-ghost use Rattle.std.specs.Prelude.{◌≡◌, All, IfOk, OnOk};
+ghost use Rattle.std.specs.Prelude.{◌≡◌, ◌≤◌, length, All, IfOk, OnOk};
 ghost use Rattle.cb_product.specs.SeveralProducts.{pair_of, pairs_in};
-ghost use Rattle.cb_product.specs.Sources.{IsSource, HasTermsOf, source_pair, source_pairs};
+ghost use Rattle.cb_product.specs.Sources.{IsSource, HasTermsOf, column_terms, source_pair, source_pairs};
 
 use crate::column_index::ColumnIndex;
-use crate::columns::of_next;
+use crate::columns::range_of_next;
+use crate::panel::Panel;
 use crate::several::Factors;
-use crate::terms::{Term, gather};
+use crate::terms::{Term, products_of};
 use cb_dcsc::Block;
 use cb_semirings::Semiring;
 use std::alloc::{AllocError, Global};
@@ -19,7 +20,10 @@ pub(crate) struct Source<'a, S: Semiring> {
     pub index: ColumnIndex,
     /// The place at which the right factor's next column is looked for first.
     next: usize,
-    pub terms: Vec<Term>,
+    panel: Panel,
+    /// Where the terms of the column begin and end among those of the panel.
+    begin: usize,
+    end: usize,
 }
 
 impl<'a, S: Semiring> Source<'a, S> {
@@ -36,21 +40,38 @@ impl<'a, S: Semiring> Source<'a, S> {
             right,
             index: ColumnIndex::new(alloc, left, right.len())?,
             next: 0,
-            terms: Vec::new(alloc),
+            panel: Panel::new(alloc),
+            begin: 0,
+            end: 0,
         })
     }
 
-    /// Collects the terms of a column, and returns how many products they have. Columns that are asked for in ascending order
-    /// are found at once.
+    /// Returns the terms of the column.
+    #[inline(always)]
+    pub fn terms(&self) -> &[Term]
+        requires { IsSource S.arithmetic self.now }
+        ensures { result.now ≡ column_terms self.now }
+    {
+        let terms = self.panel.terms();
+        &terms[self.begin..self.end]
+    }
+
+    /// Moves on to a column, and returns how many products its terms have. Columns that are asked for in ascending order are
+    /// found at once.
     fn gather(&mut self, column: u32) -> Result<usize, AllocError>
         requires { IsSource S.arithmetic self.old }
-        ensures source { IsSource S.arithmetic self.new }
-        ensures pair { source_pair self.new ≡ source_pair self.old }
+        ensures source { OnOk result (IsSource S.arithmetic self.new) }
+        ensures pair { OnOk result (source_pair self.new ≡ source_pair self.old) }
         ensures terms { OnOk result (HasTermsOf S.arithmetic column self.new) }
     {
         prove_eq!(self.left.shape().cols(), self.right.shape().rows());
-        let (rows, values) = of_next(self.right, &mut self.next, column);
-        gather(&mut self.terms, self.left, &self.index, rows, values)
+        let (from, until) = range_of_next(self.right, &mut self.next, column);
+        let (rows, values) = (self.right.row_numbers(), self.right.values());
+        let found = self
+            .panel
+            .find(self.left, &self.index, rows, values, from, until)?;
+        (self.begin, self.end) = found;
+        Ok(products_of(self.terms()))
     }
 }
 
@@ -76,8 +97,8 @@ pub(crate) fn gather_all<S: Semiring>(
     column: u32,
 ) -> Result<usize, AllocError>
     requires { All (IsSource S.arithmetic) sources.old }
-    ensures sources { All (IsSource S.arithmetic) sources.new }
-    ensures pairs { source_pairs sources.new ≡ source_pairs sources.old }
+    ensures sources { OnOk result (All (IsSource S.arithmetic) sources.new) }
+    ensures pairs { OnOk result (source_pairs sources.new ≡ source_pairs sources.old) }
     ensures terms { OnOk result (All (HasTermsOf S.arithmetic column) sources.new) }
 {
     let mut products = 0usize;

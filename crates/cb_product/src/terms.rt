@@ -1,15 +1,5 @@
 //! The terms of a column of a product, which is their sum.
-ghost use Rattle.std.specs.Prelude.{◌≡◌, ℕ, ◌<◌, ◌≤◌, length, All, OnOk};
-ghost use Rattle.cb_semirings.specs.Arithmetic.{IsValue};
-ghost use Rattle.cb_matrix.specs.Sparse.{IsMatrix};
-ghost use Rattle.cb_dcsc.specs.Columns.{rows_of};
-ghost use Rattle.cb_product.specs.ColumnStarts.{Tells};
-ghost use Rattle.cb_product.specs.Terms.{IsTerm, terms_at, column_sum};
-
-use crate::column_index::ColumnIndex;
-use cb_dcsc::Block;
-use cb_semirings::Semiring;
-use std::alloc::AllocError;
+ghost use Rattle.std.specs.Prelude.{◌≡◌, ◌<◌, ◌≤◌, length, slice_index};
 
 /// A column of the left block times a factor. The column is given by where its entries start and end among all; `row` is
 /// the row of its first entry.
@@ -19,8 +9,42 @@ pub(crate) struct Term {
     pub at: usize,
     pub end: usize,
     pub scale: u64,
+    /// How many products the terms before it in a list have.
+    before: usize,
     /// The result of [`both_ends`], which isn't used.
-    pub ends: u64,
+    ends: u64,
+}
+
+/// Returns a column of the block that has these rows and values, times a factor. The column is given by where its entries
+/// start and end among all; the terms before it have `before` products.
+///
+/// The columns of the left block are far apart in memory. Here both ends of each are read, and no read waits for another, so
+/// the memory fetches many columns at once.
+#[inline(always)]
+pub(crate) fn term_of(
+    rows: &[u32],
+    values: &[u64],
+    at: usize,
+    end: usize,
+    scale: u64,
+    before: usize,
+) -> Term
+    requires some { at < end }
+    requires within { end ≤ length rows.now }
+    requires lengths { length values.now ≡ length rows.now }
+    ensures row { result.row ≡ slice_index rows.now at }
+    ensures at { result.at ≡ at }
+    ensures end { result.end ≡ end }
+    ensures scale { result.scale ≡ scale }
+{
+    Term {
+        row: rows[at],
+        at,
+        end,
+        scale,
+        before,
+        ends: both_ends(rows, values, at, end),
+    }
 }
 
 /// Reads the last row of a column, and its first and last value. With its first row, which the term stores, this fetches a
@@ -35,41 +59,12 @@ fn both_ends(rows: &[u32], values: &[u64], at: usize, end: usize) -> u64
     u64::from(rows[last]) ^ values[at] ^ values[last]
 }
 
-/// Collects the terms of a column of the product: one for each entry of the right block's column whose row names
-/// a nonempty column of the left block. Returns how many products they have.
-///
-/// The columns of the left block are far apart in memory. Here both ends of each are read, and no read waits for another,
-/// so the memory fetches all columns at once.
-pub(crate) fn gather<S: Semiring>(
-    terms: &mut Vec<Term>,
-    left: &Block<S>,
-    index: &ColumnIndex,
-    rows: &[u32],
-    values: &[u64],
-) -> Result<usize, AllocError>
-    requires lengths { length values.now ≡ length rows.now }
-    requires values { All (IsValue S.arithmetic) values.now }
-    requires matrix { IsMatrix S.arithmetic left.now }
-    requires told { Tells index.now left.now }
-    requires inside { All (λ i. i < left.now.shape.cols) rows.now }
-    ensures terms { OnOk result (All (IsTerm S.arithmetic (rows_of left.now.entries)) terms.new.items) }
-    ensures sums { OnOk result ((i : ℕ) → terms_at S.arithmetic left.now i terms.new.items ≡ column_sum S.arithmetic left.now i rows.now values.now) }
-{
-    terms.clear();
-    let (left_rows, left_values) = (left.row_numbers(), left.values());
-    let mut products = 0usize;
-    for n in 0..rows.len() {
-        let (at, end) = index.range(left, rows[n]);
-        if at < end {
-            terms.push(Term {
-                row: left_rows[at],
-                at,
-                end,
-                scale: values[n],
-                ends: both_ends(left_rows, left_values, at, end),
-            })?;
-            products = products.saturating_add(end - at);
-        }
-    }
-    Ok(products)
+/// Returns how many products terms have that follow one another in a list.
+#[inline(always)]
+pub(crate) fn products_of(terms: &[Term]) -> usize {
+    let (Some(first), Some(last)) = (terms.first(), terms.last()) else {
+        return 0;
+    };
+    let all = last.before.saturating_add(last.end.saturating_sub(last.at));
+    all.saturating_sub(first.before)
 }

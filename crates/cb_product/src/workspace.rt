@@ -97,7 +97,7 @@ impl<S: Semiring> Workspace<S> {
         self.sums.add(own_rows, own_values, None);
         for source in sources {
             let (rows, values) = (source.left.row_numbers(), source.left.values());
-            self.sums.add_terms(rows, values, &source.terms);
+            self.sums.add_terms(rows, values, source.terms());
         }
         self.sums.take(&mut self.made)
     }

@@ -3,10 +3,10 @@ use Rattle.cb_dcsc.specs.Columns.{rows_of, values_of}
 use Rattle.cb_product.proofs.AbsentColumns.{nothing_there}
 use Rattle.cb_product.proofs.columns.of_next.Goals as goal
 
-pub returns-then-is_missing-clause-rows : goal.returns-then-is_missing-clause-rows
-returns-then-is_missing-clause-rows g c =
-    ap rows_of (nothing_there c.args.column c.args.block.now.entries c.column_numbers-columns.result.now c.column_numbers-columns.ensures.all (c.is_missing.ensures c.if-is_missing.true))
+pub returns-in-None-clause-rows : goal.returns-in-None-clause-rows
+returns-in-None-clause-rows g c =
+    ap rows_of (nothing_there c.args.column c.args.block.now.entries c.column_numbers.result.now c.column_numbers.ensures.all c.in-None.ensures.none)
 
-pub returns-then-is_missing-clause-values : goal.returns-then-is_missing-clause-values
-returns-then-is_missing-clause-values g c =
-    ap values_of (nothing_there c.args.column c.args.block.now.entries c.column_numbers-columns.result.now c.column_numbers-columns.ensures.all (c.is_missing.ensures c.if-is_missing.true))
+pub returns-in-None-clause-values : goal.returns-in-None-clause-values
+returns-in-None-clause-values g c =
+    ap values_of (nothing_there c.args.column c.args.block.now.entries c.column_numbers.result.now c.column_numbers.ensures.all c.in-None.ensures.none)

@@ -4,7 +4,7 @@ use Rattle.std.proofs.lemmas.Bool.{eqb-true}
 use Rattle.cb_matrix.proofs.Totals.{add_zero}
 use Rattle.cb_dcsc.specs.Columns.{row_value, rows_of, values_of}
 use Rattle.cb_product.specs.SparseColumn.{value_in}
-use Rattle.cb_product.specs.Sources.{IsSource, HasTerms}
+use Rattle.cb_product.specs.Sources.{IsSource, HasTerms, column_terms}
 use Rattle.cb_product.specs.Terms.{terms_at}
 use Rattle.cb_product.proofs.DenseRowSums.{sum_past}
 use Rattle.cb_product.proofs.RowValues.{row_value-value, row_value-none, absent_above}
@@ -38,8 +38,8 @@ loop-source-preserved-then-is_empty g c =
     let x = c.source-item.result in
     let source = item_has (IsSource s) c.args.sources.now c.loop-source.source-index x c.loop-source-test.true c.source-item.is c.requires.sources in
     let none = eqb-true _ 0 (sym c.is_empty.ensures ∙ c.if-is_empty.true) in
-    let empty : length c.deref-terms.result.now ≤ 0 = omega (arith, none) in
-    let nothing = λ (i : ℕ). terms_value-end s laws (rows_of x.left.now.entries) (values_of x.left.now.entries) (matrix_values s laws x.left.now source.left) i 0 x.terms.items (rw c.deref-terms.ensures.value at empty) in
+    let empty : length c.terms-terms.result.now ≤ 0 = omega (arith, none) in
+    let nothing = λ (i : ℕ). terms_value-end s laws (rows_of x.left.now.entries) (values_of x.left.now.entries) (matrix_values s laws x.left.now source.left) i 0 (column_terms x) (rw c.terms-terms.ensures at empty) in
     record {
       zeros = inv.zeros;
       values = inv.values;
@@ -76,16 +76,16 @@ loop-source-preserved g c =
     let rows = rows_have c.args.rows c.args.sources.now c.loop-source.source-index x c.loop-source-test.true c.source-item.is c.requires.rows in
     let half = rw c.swap.ensures.y_after at c.entries.ensures.column in
     let inside = column_inside s 0 (value_in s.zero c.loop-source.work.made) _ _ half (λ i. refl) c.args.rows inv.past in
-    let column : (i : ℕ) → value_in s.zero c.make.new.self.made i ≡ s.add (value_in s.zero c.loop-source.work.made i) (terms_at s a i x.terms.items) =
-    rw (c.entries.ensures.rows, c.entries.ensures.values, c.swap.ensures.y_after, c.deref-terms.ensures.value) at c.in_ok-make.ensures.column in
+    let column : (i : ℕ) → value_in s.zero c.make.new.self.made i ≡ s.add (value_in s.zero c.loop-source.work.made i) (terms_at s a i (column_terms x)) =
+    rw (c.entries.ensures.rows, c.entries.ensures.values, c.swap.ensures.y_after, c.terms-terms.ensures) at c.in_ok-make.ensures.column in
     record {
       zeros = c.in_ok-make.ensures.zeros;
-      values = λ i. rw (column i) (laws.add_value _ _ (inv.values i) (terms_value-value s laws (rows_of a.entries) (values_of a.entries) (matrix_values s laws a source.left) i x.terms.items terms));
+      values = λ i. rw (column i) (laws.add_value _ _ (inv.values i) (terms_value-value s laws (rows_of a.entries) (values_of a.entries) (matrix_values s laws a source.left) i (column_terms x) terms));
       past = λ i l.
           column i
           ∙ sum_past s laws a source.left c.loop-source.work.made.rows c.loop-source.work.made.values
           (record { same_length = half.same_length; ascending = half.ascending; inside = subst (λ n. All (λ i. i < n) c.loop-source.work.made.rows) (sym rows) inside; are_values = half.are_values })
-          x.terms.items terms i (omega arith);
+          (column_terms x) terms i (omega arith);
       so_far = λ i.
           terms_step s laws c.args.rows c.args.sources.now c.loop-source.source-index x i (value_in s.zero c.loop-source.work.made i) (value_in s.zero c.make.new.self.made i) c.loop-source-test.true c.source-item.is (column i)
           ∙ inv.so_far i;

@@ -12,12 +12,6 @@ gather-requires g c =
     let inside : c.loop-n.n < length c.loop-n.sources = (let same = c.loop-n.auto.sources in let l = c.loop-n-test.true in omega arith) in
     c.loop-n.invariant.sources c.loop-n.n c.index-sources-n.result inside
 
-pub returns-in_err-more-clause-sources : goal.returns-in_err-more-clause-sources
-returns-in_err-more-clause-sources g c = All-set (IsSource g.S.Semiring.arithmetic) c.loop-n.sources c.loop-n.n c.gather.new.self c.in_err-more.ensures.source c.loop-n.invariant.sources
-
-pub returns-in_err-more-clause-pairs : goal.returns-in_err-more-clause-pairs
-returns-in_err-more-clause-pairs g c = map-set_same source_pair c.loop-n.sources c.loop-n.n c.gather.new.self c.index-sources-n.result c.in_err-more.ensures.pair ∙ c.loop-n.invariant.pairs
-
 pub loop-n-preserved : goal.loop-n-preserved
 loop-n-preserved g c =
     let s = g.S.Semiring.arithmetic in

@@ -28,13 +28,13 @@ add-requires-clause-values g c = All-take (IsValue g.S.Semiring.arithmetic) _ _ 
 
 pub add-requires-clause-order : goal.add-requires-clause-order
 add-requires-clause-order g c =
-    let d : Term = record { row = 0; at = 0; end = 0; scale = 0; ends = 0 } in
+    let d : Term = record { row = 0; at = 0; end = 0; scale = 0; before = 0; ends = 0 } in
     let term = All-get_or (IsTerm g.S.Semiring.arithmetic c.args.rows.now) c.args.terms.now c.loop-term.term-index d c.loop-term-test.true c.requires.terms in
     term.ascending
 
 pub add-requires-clause-scale : goal.add-requires-clause-scale
 add-requires-clause-scale g c =
-    let d : Term = record { row = 0; at = 0; end = 0; scale = 0; ends = 0 } in
+    let d : Term = record { row = 0; at = 0; end = 0; scale = 0; before = 0; ends = 0 } in
     let term = All-get_or (IsTerm g.S.Semiring.arithmetic c.args.rows.now) c.args.terms.now c.loop-term.term-index d c.loop-term-test.true c.requires.terms in
     term.scale
 

@@ -29,13 +29,13 @@ add_outside-requires-clause-values g c = All-take (IsValue g.S.Semiring.arithmet
 
 pub add_outside-requires-clause-order : goal.add_outside-requires-clause-order
 add_outside-requires-clause-order g c =
-    let d : Term = record { row = 0; at = 0; end = 0; scale = 0; ends = 0 } in
+    let d : Term = record { row = 0; at = 0; end = 0; scale = 0; before = 0; ends = 0 } in
     let term = All-get_or (IsTerm g.S.Semiring.arithmetic c.args.rows.now) c.args.terms.now c.loop-term.term-index d c.loop-term-test.true c.requires.terms in
     term.ascending
 
 pub add_outside-requires-clause-scale : goal.add_outside-requires-clause-scale
 add_outside-requires-clause-scale g c =
-    let d : Term = record { row = 0; at = 0; end = 0; scale = 0; ends = 0 } in
+    let d : Term = record { row = 0; at = 0; end = 0; scale = 0; before = 0; ends = 0 } in
     let term = All-get_or (IsTerm g.S.Semiring.arithmetic c.args.rows.now) c.args.terms.now c.loop-term.term-index d c.loop-term-test.true c.requires.terms in
     term.scale
 

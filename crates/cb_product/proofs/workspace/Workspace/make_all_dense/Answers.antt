@@ -49,7 +49,7 @@ loop-source-preserved g c =
     let laws = g.met.S.Semiring.is_semiring in
     let x = c.source-item.result in
     let inv = c.loop-source.invariant in
-    let step = rw (c.row_numbers-rows.ensures, c.values-values.ensures, c.deref.ensures.value) at c.add_terms.ensures.sums in
+    let step = rw (c.row_numbers-rows.ensures, c.values-values.ensures, c.terms.ensures) at c.add_terms.ensures.sums in
     record {
       length = c.add_terms.ensures.length ∙ inv.length;
       values = c.add_terms.ensures.values;

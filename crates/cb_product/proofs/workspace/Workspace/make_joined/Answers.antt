@@ -32,7 +32,7 @@ loop-term-preserved g c =
     let l = c.loop-term-test.true in
     let inv = c.loop-term.invariant in
     let all = matrix_values s laws a c.requires.left in
-    let d : Term = record { row = 0; at = 0; end = 0; scale = 0; ends = 0 } in
+    let d : Term = record { row = 0; at = 0; end = 0; scale = 0; before = 0; ends = 0 } in
     let term = All-get_or (IsTerm s (rows_of a.entries)) ts n d l c.requires.terms in
     let step = rw (c.entries.ensures.rows, c.entries.ensures.values, c.swap.ensures.y_after, c.row_numbers-rows.ensures, c.values-values.ensures) at c.in_ok-join.ensures in
     record {
@@ -72,12 +72,12 @@ join-requires-clause-own_order g c = rw c.entries.ensures.rows c.entries.ensures
 
 pub join-requires-clause-order : goal.join-requires-clause-order
 join-requires-clause-order g c =
-    let d : Term = record { row = 0; at = 0; end = 0; scale = 0; ends = 0 } in
+    let d : Term = record { row = 0; at = 0; end = 0; scale = 0; before = 0; ends = 0 } in
     let term = All-get_or (IsTerm g.S.Semiring.arithmetic (rows_of c.args.left.now.entries)) c.args.terms.now c.loop-term.term-index d c.loop-term-test.true c.requires.terms in
     rw c.row_numbers-rows.ensures term.ascending
 
 pub join-requires-clause-scale : goal.join-requires-clause-scale
 join-requires-clause-scale g c =
-    let d : Term = record { row = 0; at = 0; end = 0; scale = 0; ends = 0 } in
+    let d : Term = record { row = 0; at = 0; end = 0; scale = 0; before = 0; ends = 0 } in
     let term = All-get_or (IsTerm g.S.Semiring.arithmetic (rows_of c.args.left.now.entries)) c.args.terms.now c.loop-term.term-index d c.loop-term-test.true c.requires.terms in
     term.scale

@@ -17,7 +17,7 @@ returns-clause-column g c =
     let s = g.S.Semiring.arithmetic in
     let a = c.args.left.now in
     let ts = c.args.terms.now in
-    let d : Term = record { row = 0; at = 0; end = 0; scale = 0; ends = 0 } in
+    let d : Term = record { row = 0; at = 0; end = 0; scale = 0; before = 0; ends = 0 } in
     let one = c.requires.one in
     let term = All-get_or (IsTerm s (rows_of a.entries)) ts 0 d (omega (arith, one)) c.requires.terms in
     let sum = λ (i : ℕ). terms_value-one s g.met.S.Semiring.is_semiring (rows_of a.entries) (values_of a.entries) (matrix_values s g.met.S.Semiring.is_semiring a c.requires.left) i ts d one term.scale in
@@ -35,14 +35,14 @@ join-requires-clause-own_order g c = c.requires.own.ascending
 
 pub join-requires-clause-order : goal.join-requires-clause-order
 join-requires-clause-order g c =
-    let d : Term = record { row = 0; at = 0; end = 0; scale = 0; ends = 0 } in
+    let d : Term = record { row = 0; at = 0; end = 0; scale = 0; before = 0; ends = 0 } in
     let one = c.requires.one in
     let term = All-get_or (IsTerm g.S.Semiring.arithmetic (rows_of c.args.left.now.entries)) c.args.terms.now 0 d (omega (arith, one)) c.requires.terms in
     rw c.row_numbers-rows.ensures term.ascending
 
 pub join-requires-clause-scale : goal.join-requires-clause-scale
 join-requires-clause-scale g c =
-    let d : Term = record { row = 0; at = 0; end = 0; scale = 0; ends = 0 } in
+    let d : Term = record { row = 0; at = 0; end = 0; scale = 0; before = 0; ends = 0 } in
     let one = c.requires.one in
     let term = All-get_or (IsTerm g.S.Semiring.arithmetic (rows_of c.args.left.now.entries)) c.args.terms.now 0 d (omega (arith, one)) c.requires.terms in
     term.scale
