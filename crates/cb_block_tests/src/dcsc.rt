@@ -1,7 +1,7 @@
 //! Worked examples, with ample memory and with each allocation refused in turn.
-ghost use Rattle.std.specs.Prelude.{◌≡◌, []};
+ghost use Rattle.std.specs.Prelude.{◌≡◌, ◌≤◌, [], length};
 
-use crate::samples::{entries, has_entries, is_right_or_refused};
+use crate::samples::{are_same, entries, has_entries, is_right_or_refused};
 use cb_dcsc::{Block, BlockFault};
 use cb_matrix::{Entry, LIMIT, Shape};
 use cb_samples::{SampleFault, block, entry, shape};
@@ -228,6 +228,72 @@ fn has_columns(alloc: Global) -> Result<bool, SampleFault> {
 #[test]
 fn a_column_is_stored_whole(rt: HostRuntime) {
     assert!(rt; has_columns(rt.alloc()) == Ok(true));
+}
+
+/// Entries by column and then by row: two in column 3, and the last of them in column 900.
+const MANY: &[Entry] = entries![
+    (0, 3, 5),
+    (2, 3, 6),
+    (1, 4, 7),
+    (0, 5, 8),
+    (3, 5, 9),
+    (2, 6, 1),
+    (0, 7, 2),
+    (1, 7, 3),
+    (2, 7, 4),
+    (0, 8, 5),
+    (1, 9, 6),
+    (3, 9, 7),
+    (0, 10, 8),
+    (2, 10, 9),
+    (1, 11, 1),
+    (0, 12, 2),
+    (2, 12, 3),
+    (1, 13, 4),
+    (3, 13, 5),
+    (0, 14, 6),
+    (0, 15, 2),
+    (1, 16, 3),
+    (0, 900, 7),
+    (1, 900, 8),
+    (2, 900, 9),
+    (3, 900, 1),
+];
+
+/// Whether the block of the entries before a place, with the block of the others appended, has all of them. The other
+/// block has room for this many more.
+fn is_appended(
+    alloc: Global,
+    entries: &[Entry],
+    place: usize,
+    room: usize,
+) -> Result<bool, SampleFault>
+    requires { place ≤ length entries.now }
+{
+    let whole = block::<PlusTimes>(alloc, 4, 1000, entries)?;
+    let _shape = whole.shape();
+    let mut front = block(alloc, 4, 1000, &entries[..place])?;
+    let mut back = block(alloc, 4, 1000, &entries[place..])?;
+    back.reserve(room)?;
+    front.append(&mut back)?;
+    Ok(are_same(&front, &whole) && back.len() == 0)
+}
+
+/// Whether a block is appended to another, wherever the entries are divided between the two.
+fn is_appended_everywhere(alloc: Global, entries: &[Entry]) -> Result<bool, SampleFault> {
+    for place in 0..entries.len() {
+        if !is_appended(alloc, entries, place, 0)? || !is_appended(alloc, entries, place, 9)? {
+            return Ok(false);
+        }
+    }
+    is_appended(alloc, entries, entries.len(), 0)
+}
+
+/// A short block is put in front of a long one, whose memory has room for it or has none, and a long or a short one behind
+/// a long one. They share a column or don't.
+#[test]
+fn a_block_is_appended_to_one_of_any_length(rt: HostRuntime) {
+    assert!(rt; is_right_or_refused(is_appended_everywhere(rt.alloc(), MANY)));
 }
 
 /// A block over or-and is taken as one over min-plus.

@@ -25,7 +25,10 @@ use cb_matrix::{Entry, Shape};
 use cb_semirings::Semiring;
 use std::alloc::{AllocError, Global};
 use std::marker::{Model, PhantomData};
-use std::mem::swap;
+use std::mem::{replace, swap};
+
+/// How many times as many entries make it worth while to move them within their memory, instead of copying them.
+const FAR_MORE: usize = 8;
 
 /// A sparse matrix, stored by the columns that have entries.
 #[derive(Drop)]
@@ -406,9 +409,12 @@ impl<S: Semiring> Block<S> {
         Ok(())
     }
 
-    /// Stores all entries of another block of the same shape after all the others. The last column of this block may
-    /// continue in the other. If memory is refused, some of the entries are stored. Costs O(entries of the other), or
-    /// nothing if this block has no entries: then it takes over the other's lists.
+    /// Stores all entries of another block of the same shape after all the others, and leaves the other without entries. The
+    /// last column of this block may continue in the other. If memory is refused, some of the entries are stored. Costs
+    /// O(entries of the other), or nothing if this block has no entries: then it takes over the other's lists. Where the
+    /// other has far more entries, it takes over the lists of its rows and values: these move within their memory to make
+    /// room for this block's in front. That is O(entries of the other) too, but touches hardly any new memory for them; the
+    /// columns are still copied.
     pub fn append(&mut self, other: &mut Block<S>) -> Result<(), AllocError>
         requires shape { other.old.shape ≡ self.old.shape }
         requires matrix { IsMatrix S.arithmetic (with_entries self.old other.old.entries) }
@@ -418,13 +424,14 @@ impl<S: Semiring> Block<S> {
             swap(self, other);
             return Ok(());
         }
-        self.append_columns(other)
+        let nothing = Block::empty(*self.rows.allocator(), self.shape);
+        self.append_columns(replace(other, nothing))
     }
 
     /// Stores all entries of another block after all the others.
-    fn append_columns(&mut self, other: &Block<S>) -> Result<(), AllocError>
-        requires { IsMatrix S.arithmetic (with_entries self.old other.now.entries) }
-        ensures { OnOk result (self.new ≡ with_entries self.old other.now.entries) }
+    fn append_columns(&mut self, other: Block<S>) -> Result<(), AllocError>
+        requires { IsMatrix S.arithmetic (with_entries self.old other.entries) }
+        ensures { OnOk result (self.new ≡ with_entries self.old other.entries) }
     {
         if other.columns.is_empty() {
             return Ok(());
@@ -440,30 +447,34 @@ impl<S: Semiring> Block<S> {
 
     /// Stores the entries of another block after all the others, but for those of its first columns. This block's last column
     /// is none of the other columns. If memory is refused, the block stays as it was.
-    fn append_from(&mut self, other: &Block<S>, from: usize) -> Result<(), AllocError>
-        requires some { from ≤ length (columns_with_entries other.now.entries) }
-        requires matrix { IsMatrix S.arithmetic (with_entries self.old (later_entries from other.now.entries)) }
-        requires new { AreOutside self.old.entries other.now.entries from }
-        ensures { OnOk result (self.new ≡ with_entries self.old (later_entries from other.now.entries)) }
+    fn append_from(&mut self, other: Block<S>, from: usize) -> Result<(), AllocError>
+        requires some { from ≤ length (columns_with_entries other.entries) }
+        requires matrix { IsMatrix S.arithmetic (with_entries self.old (later_entries from other.entries)) }
+        requires new { AreOutside self.old.entries other.entries from }
+        ensures { OnOk result (self.new ≡ with_entries self.old (later_entries from other.entries)) }
     {
         if from == other.columns() {
             return Ok(());
         }
+        let Block {
+            columns,
+            starts,
+            rows,
+            values,
+            ..
+        } = other;
         let len = self.rows.len();
-        let (start, _end) = bounds(&other.starts, from);
-        let (columns, ends) = (rest(&other.columns, from), rest(&other.starts, from + 1));
-        let (rows, values) = (rest(&other.rows, start), rest(&other.values, start));
+        let (start, _end) = bounds(&starts, from);
+        let (columns, ends) = (rest(&columns, from), rest(&starts, from + 1));
         reserve_both(
             &mut self.columns,
             &mut self.starts,
             columns.len(),
             ends.len() + 1,
         )?;
-        reserve_both(&mut self.rows, &mut self.values, rows.len(), values.len())?;
+        append_entries(&mut self.rows, &mut self.values, rows, values, start)?;
         append_ends(&mut self.starts, ends, start, len);
         extend_reserved(&mut self.columns, columns);
-        extend_reserved(&mut self.rows, rows);
-        extend_reserved(&mut self.values, values);
         Ok(())
     }
 
@@ -637,6 +648,60 @@ fn extend_reserved<T: Copy>(list: &mut Vec<T>, items: &[T])
         Ok(()) => {}
         Err(_) => unreachable!(),
     }
+}
+
+/// Appends the rows and the values of other entries, from a place on. Where the others are far more, it takes over their
+/// lists, with its own items in front, so that hardly any memory is touched for the first time. If memory is refused, the
+/// lists stay as they were.
+fn append_entries(
+    rows: &mut Vec<u32>,
+    values: &mut Vec<u64>,
+    mut more_rows: Vec<u32>,
+    mut more_values: Vec<u64>,
+    start: usize,
+) -> Result<(), AllocError>
+    requires rows { start ≤ length more_rows.items }
+    requires values { start ≤ length more_values.items }
+    ensures rows { OnOk result (rows.new.items ≡ rows.old.items ++ drop start more_rows.items) }
+    ensures values { OnOk result (values.new.items ≡ values.old.items ++ drop start more_values.items) }
+    ensures rows_stay { OnErr result (rows.new.items ≡ rows.old.items) }
+    ensures values_stay { OnErr result (values.new.items ≡ values.old.items) }
+{
+    if rows.len() < more_rows.len() / FAR_MORE {
+        reserve_both(&mut more_rows, &mut more_values, rows.len(), values.len())?;
+        put_before(&mut more_rows, start, rows);
+        put_before(&mut more_values, start, values);
+        swap(rows, &mut more_rows);
+        swap(values, &mut more_values);
+        return Ok(());
+    }
+    let (more_rows, more_values) = (rest(&more_rows, start), rest(&more_values, start));
+    reserve_both(rows, values, more_rows.len(), more_values.len())?;
+    extend_reserved(rows, more_rows);
+    extend_reserved(values, more_values);
+    Ok(())
+}
+
+/// Puts items in place of the first `start` items of a list that has room for them. The rest of the list moves within its
+/// memory.
+fn put_before<T: Copy>(list: &mut Vec<T>, start: usize, items: &[T])
+    requires place { start ≤ length list.old.items }
+    requires room { vec_len list.old + length items.now ≤ vec_capacity list.old }
+    ensures { list.new.items ≡ items.now ++ drop start list.old.items }
+{
+    let len = list.len();
+    extend_reserved(list, items);
+    list.copy_within(start..len, items.len());
+    list.truncate(items.len() + (len - start));
+    write_front(list, items);
+}
+
+/// Writes items over the first of a slice.
+fn write_front<T: Copy>(slice: &mut [T], items: &[T])
+    requires { length items.now ≤ length slice.old }
+    ensures { slice.new ≡ items.now ++ drop (length items.now) slice.old }
+{
+    slice[..items.len()].copy_from_slice(items);
 }
 
 /// The columns that have entries, and where each starts and the last one ends, given the same for all columns of the

@@ -13,7 +13,7 @@ use Rattle.cb_dcsc.proofs.Block.append_columns.Goals as goal
 pub append_from-requires-clause-matrix : goal.append_from-requires-clause-matrix
 append_from-requires-clause-matrix g c =
     let v = c.other.inside in
-    let es = c.args.other.now.entries in
+    let es = c.args.other.entries in
     let view = ap (λ (m : Sparse). m.entries) c.other.view_is in
     let whole = all_columns v.columns.items v.starts.items v.rows.items v.values.items es c.other.invariant.lists view (length (columns_with_entries es)) _ refl refl in
     subst (λ xs. IsMatrix g.S.Semiring.arithmetic (with_entries c.args.self.now xs)) (sym (later_all es whole)) c.requires
@@ -24,7 +24,7 @@ append_from-requires-clause-new g c some =
     let u = c.self.inside in
     let v = c.other.inside in
     let m = c.args.self.now in
-    let es = c.args.other.now.entries in
+    let es = c.args.other.entries in
     let view = ap (λ (m : Sparse). m.entries) c.other.view_is in
     let whole = all_columns v.columns.items v.starts.items v.rows.items v.values.items es c.other.invariant.lists view (length (columns_with_entries es)) _ refl refl in
     let j = get_or (columns_with_entries es) 0 0 in
@@ -39,7 +39,7 @@ append_from-requires-clause-new g c some =
 pub returns-then-not-ends_with : goal.returns-then-not-ends_with
 returns-then-not-ends_with g c =
     let v = c.other.inside in
-    let es = c.args.other.now.entries in
+    let es = c.args.other.entries in
     let view = ap (λ (m : Sparse). m.entries) c.other.view_is in
     let whole = all_columns v.columns.items v.starts.items v.rows.items v.values.items es c.other.invariant.lists view (length (columns_with_entries es)) _ refl refl in
     subst (λ xs. OnOk c.append_from.result (c.append_from.new.self ≡ with_entries c.args.self.now xs)) (later_all es whole) c.append_from.ensures
@@ -48,7 +48,7 @@ pub push_rows-requires-clause-matrix : goal.push_rows-requires-clause-matrix
 push_rows-requires-clause-matrix g c =
     let v = c.other.inside in
     let m = c.args.self.now in
-    let es = c.args.other.now.entries in
+    let es = c.args.other.entries in
     let view = ap (λ (m : Sparse). m.entries) c.other.view_is in
     let whole = all_columns v.columns.items v.starts.items v.rows.items v.values.items es c.other.invariant.lists view (length (columns_with_entries es)) _ refl refl in
     let named = ap length (columns_are v.columns.items v.starts.items v.rows.items v.values.items es c.other.invariant.lists view) in
@@ -61,7 +61,7 @@ pub append_from-requires-2-clause-matrix : goal.append_from-requires-2-clause-ma
 append_from-requires-2-clause-matrix g c =
     let v = c.other.inside in
     let m = c.args.self.now in
-    let es = c.args.other.now.entries in
+    let es = c.args.other.entries in
     let view = ap (λ (m : Sparse). m.entries) c.other.view_is in
     let whole = all_columns v.columns.items v.starts.items v.rows.items v.values.items es c.other.invariant.lists view (length (columns_with_entries es)) _ refl refl in
     let named = ap length (columns_are v.columns.items v.starts.items v.rows.items v.values.items es c.other.invariant.lists view) in
@@ -76,7 +76,7 @@ append_from-requires-2-clause-new g c more =
     let s = g.S.Semiring.arithmetic in
     let v = c.other.inside in
     let m = c.args.self.now in
-    let es = c.args.other.now.entries in
+    let es = c.args.other.entries in
     let view = ap (λ (m : Sparse). m.entries) c.other.view_is in
     let whole = all_columns v.columns.items v.starts.items v.rows.items v.values.items es c.other.invariant.lists view (length (columns_with_entries es)) _ refl refl in
     let some : 0 < length (columns_with_entries es) = omega (arith, more) in
@@ -93,7 +93,7 @@ pub returns : goal.returns
 returns g c =
     let v = c.other.inside in
     let m = c.args.self.now in
-    let es = c.args.other.now.entries in
+    let es = c.args.other.entries in
     let view = ap (λ (m : Sparse). m.entries) c.other.view_is in
     let whole = all_columns v.columns.items v.starts.items v.rows.items v.values.items es c.other.invariant.lists view (length (columns_with_entries es)) _ refl refl in
     let named = ap length (columns_are v.columns.items v.starts.items v.rows.items v.values.items es c.other.invariant.lists view) in
@@ -106,7 +106,7 @@ returns g c =
 pub returns-then-is_empty : goal.returns-then-is_empty
 returns-then-is_empty g c =
     let v = c.other.inside in
-    let es = c.args.other.now.entries in
+    let es = c.args.other.entries in
     let view = ap (λ (m : Sparse). m.entries) c.other.view_is in
     let whole = all_columns v.columns.items v.starts.items v.rows.items v.values.items es c.other.invariant.lists view (length (columns_with_entries es)) _ refl refl in
     let named = ap length (columns_are v.columns.items v.starts.items v.rows.items v.values.items es c.other.invariant.lists view) in
@@ -117,7 +117,7 @@ returns-then-is_empty g c =
 pub column_number-first-requires : goal.column_number-first-requires
 column_number-first-requires g c =
     let v = c.other.inside in
-    let es = c.args.other.now.entries in
+    let es = c.args.other.entries in
     let view = ap (λ (m : Sparse). m.entries) c.other.view_is in
     let named = ap length (columns_are v.columns.items v.starts.items v.rows.items v.values.items es c.other.invariant.lists view) in
     let none : vec_len v.columns ≢ 0 = λ z. false≢true (sym c.if-is_empty.false ∙ (c.is_empty.ensures ∙ ap (λ n. n == 0) z)) in
@@ -127,7 +127,7 @@ column_number-first-requires g c =
 pub nth_column-requires : goal.nth_column-requires
 nth_column-requires g c =
     let v = c.other.inside in
-    let es = c.args.other.now.entries in
+    let es = c.args.other.entries in
     let view = ap (λ (m : Sparse). m.entries) c.other.view_is in
     let named = ap length (columns_are v.columns.items v.starts.items v.rows.items v.values.items es c.other.invariant.lists view) in
     let none : vec_len v.columns ≢ 0 = λ z. false≢true (sym c.if-is_empty.false ∙ (c.is_empty.ensures ∙ ap (λ n. n == 0) z)) in
@@ -137,7 +137,7 @@ nth_column-requires g c =
 pub append_from-requires-2-clause-some : goal.append_from-requires-2-clause-some
 append_from-requires-2-clause-some g c =
     let v = c.other.inside in
-    let es = c.args.other.now.entries in
+    let es = c.args.other.entries in
     let view = ap (λ (m : Sparse). m.entries) c.other.view_is in
     let named = ap length (columns_are v.columns.items v.starts.items v.rows.items v.values.items es c.other.invariant.lists view) in
     let none : vec_len v.columns ≢ 0 = λ z. false≢true (sym c.if-is_empty.false ∙ (c.is_empty.ensures ∙ ap (λ n. n == 0) z)) in
