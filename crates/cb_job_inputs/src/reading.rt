@@ -25,6 +25,7 @@ use cb_market::{
 use cb_outcomes::texts::Text;
 use cb_semirings::Semiring;
 use std::alloc::Global;
+use std::thread;
 use std::thread::{Threads, join};
 
 /// Into how many pieces a text is cut.
@@ -63,10 +64,28 @@ pub fn read_side_by_side<S: Semiring + Send + Sync, R: Threads + Sync>(
     ensures law { IsFaultOrMatrix S.arithmetic text }
 {
     if let Some(matrix) = read_in_pieces::<S, R>(rt, alloc, grid, pieces, &text) {
+        free(rt, alloc, text);
         return Ok(matrix);
     }
     let bytes = text.into_bytes();
     read_distributed::<S>(alloc, grid, &bytes)
+}
+
+/// The fewest bytes of a text that are freed by several threads.
+const FREED_APART: usize = 4_194_304;
+
+/// Frees the memory of a text: of a long one in parts by a thread for each. To take pages back keeps the system busy for
+/// almost as long as it takes to load them.
+fn free<R: Threads + Sync>(rt: &R, alloc: Global, text: Text) {
+    let (first, mut parts) = text.into_parts();
+    let each = first.len();
+    // If there is no room for it, it is freed here.
+    let _ = parts.push(first);
+    let threads = parts.len();
+    if threads < 2 || each.saturating_mul(threads) < FREED_APART {
+        return;
+    }
+    thread::for_each_mut(rt, &mut parts, threads, &|_, part| *part = Vec::new(alloc));
 }
 
 /// Reads a text as a matrix in the blocks of a grid, in two pieces or more. None if there would be fewer pieces, if the

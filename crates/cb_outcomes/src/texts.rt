@@ -54,6 +54,13 @@ impl Text {
         (&self.first, &self.rest)
     }
 
+    /// The lists of the parts: the first, and those after it.
+    pub fn into_parts(self) -> (Vec<u8>, Vec<Vec<u8>>)
+        ensures { self ≡ result.0.items ++ joined result.1.items }
+    {
+        (self.first, self.rest)
+    }
+
     /// All bytes. It takes no memory.
     pub fn into_bytes(self) -> Vec<u8>
         ensures { result.items ≡ self }
