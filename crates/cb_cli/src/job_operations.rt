@@ -93,7 +93,9 @@ fn put_outcome<S: Semiring + Send + Sync, R: Threads + Wait + Sync, K: Sink>(
         return Err(JobFault::Memory);
     };
     let text = TextPages::new(&done.answer);
-    put_text_and_lines(rt, alloc, ranks.threads, text, lines.as_bytes(), out)
+    let put = put_text_and_lines(rt, alloc, ranks.threads, text, lines.as_bytes(), out);
+    done.answer.free(rt, alloc);
+    put
 }
 
 /// Writes the result of an operation over a semiring, and then the lines of the trace, by the ranks of a job or without any.

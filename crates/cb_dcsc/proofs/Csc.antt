@@ -10,7 +10,7 @@ use Rattle.cb_matrix.specs.Sparse.{Extent, IsMatrix}
 use Rattle.cb_matrix.proofs.Pairs.{AllPairs-nil, AllPairs-push}
 use Rattle.cb_dcsc.specs.Compressed.{entries_in, part, piece, pieces, IsBlock, csc_column, csc_entries, csc_matrix, AreStarts, AreNonempty}
 use Rattle.cb_dcsc.proofs.ColumnEntries.{pieces_same}
-use Rattle.cb_dcsc.proofs.Pushed.{no_range}
+use Rattle.cb_dcsc.proofs.Ranges.{no_range}
 
 -- before the first column there are none
 pub none_nonempty : (all : List ℕ) → get_or all 0 0 ≡ 0 → AreNonempty 0 all [] (0 ∷ [])

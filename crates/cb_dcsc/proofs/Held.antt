@@ -1,8 +1,8 @@
 -- What the four lists of a block say of its entries.
-use Rattle.std.proofs.Common.{◌≡◌, ◌≢◌, ℕ, zero, suc, ◌+◌, ◌-◌, ◌<◌, ◌≤◌, List, [], ◌∷◌, ◌++◌, length, take, drop, get_or, sym, refl, ap, ◌∙◌, ⊎_elim, arith, length-append, length-drop, length-take, subst}
+use Rattle.std.proofs.Common.{◌≡◌, ◌≢◌, ℕ, zero, suc, ◌+◌, ◌-◌, ◌<◌, ◌≤◌, List, [], ◌++◌, length, take, drop, get_or, sym, refl, ap, ◌∙◌, ⊎_elim, arith, length-append, length-drop, length-take, subst}
 use Rattle.std.specs.Prelude.{All, AllPairs, slice_range}
 use Rattle.std.proofs.lemmas.Bool.{cases_eq, cases_lt}
-use Rattle.std.proofs.lemmas.List.{get_or-take, get_or-drop, take-append-le, drop-append-le, take_all, get_or_default, get_or-map, drop_at, map-append}
+use Rattle.std.proofs.lemmas.List.{get_or-take, get_or-drop, take_all, get_or_default, get_or-map, map-append}
 use Rattle.std.proofs.lemmas.List.Elements.{All-nil, All-get_or}
 use Rattle.cb_matrix.specs.declared.Entry.{Entry}
 use Rattle.std.specs.Ordering.{nat_cmp}
@@ -17,22 +17,8 @@ use Rattle.cb_matrix.specs.Values.{empty_matrix}
 use Rattle.cb_matrix.proofs.Pairs.{AllPairs-nil}
 use Rattle.cb_dcsc.specs.Compressed.{part, piece, pieces, all_entries, AreColumns, IsBlock, block_of}
 use Rattle.cb_dcsc.specs.Columns.{in_column, rows_of, values_of, columns_with_entries}
+use Rattle.cb_dcsc.proofs.Ranges.{range_back, range_front, range_join}
 use Rattle.cb_dcsc.proofs.ColumnEntries.{length-entries_in, rows-entries_in, values-entries_in, entries_in-columns, pieces_same, no_piece, its_piece, columns_with_entries-pieces}
-
-pub take_split : {X : Type 0} (a k : ℕ) (xs : List X) → take a xs ++ take k (drop a xs) ≡ take (a + k) xs
-take_split zero k xs = let e : k ≡ 0 + k = omega arith in ap (λ n. take n xs) e
-take_split (suc a) zero [] = let e : suc a ≡ suc a + zero = omega arith in ap (λ n. take n []) e
-take_split (suc a) (suc k) [] = let e : suc (a + suc k) ≡ suc a + suc k = omega arith in ap (λ n. take n []) e
-take_split (suc a) k (x ∷ xs) = let e : suc (a + k) ≡ suc a + k = omega arith in ap (λ ys. x ∷ ys) (take_split a k xs) ∙ ap (λ n. take n (x ∷ xs)) e
-
-range_join : {X : Type 0} (a b : ℕ) (xs : List X) → a ≤ b → take a xs ++ slice_range xs a b ≡ take b xs
-range_join a b xs l = let e : a + (b - a) ≡ b = omega arith in take_split a (b - a) xs ∙ ap (λ n. take n xs) e
-
-range_front : {X : Type 0} (a b : ℕ) (xs ys : List X) → a ≤ b → b ≤ length xs → slice_range (xs ++ ys) a b ≡ slice_range xs a b
-range_front a b xs ys l m = let n : b - a ≤ length (drop a xs) = simp length-drop (omega arith) in ap (take (b - a)) (drop-append-le a xs ys (omega arith)) ∙ take-append-le (b - a) (drop a xs) ys n
-
-range_back : {X : Type 0} (a b : ℕ) (xs ys : List X) → length xs ≡ a → length ys ≡ b - a → slice_range (xs ++ ys) a b ≡ ys
-range_back a b xs ys e f = ap (take (b - a)) (drop_at xs ys a e) ∙ take_all (b - a) ys (omega arith)
 
 module _ (columns starts rows values : List ℕ) (are : AreColumns columns starts rows values) where
   -- starts rise, from nothing to all

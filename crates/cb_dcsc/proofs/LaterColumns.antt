@@ -1,7 +1,7 @@
 -- The columns of another block, from one on, after all others.
 use Rattle.std.proofs.Common.{◌≡◌, ◌≢◌, ℕ, zero, suc, ◌+◌, ◌-◌, ◌<◌, ◌≤◌, List, [], ◌∷◌, ◌++◌, length, take, drop, get_or, sym, refl, ap, ◌∙◌, subst, arith, append_assoc, append-nil, length-take, length-drop, length-append, ⊎_elim}
 use Rattle.std.specs.Prelude.{All, slice_range}
-use Rattle.std.proofs.lemmas.List.{get_or_default, take_all, take_more, drop-drop, get_or-drop, get_or_push, length_push, length-map}
+use Rattle.std.proofs.lemmas.List.{get_or_default, take_all, take_more, get_or-drop, get_or_push, length_push, length-map}
 use Rattle.std.proofs.lemmas.List.Elements.{All-append, All-weaker}
 use Rattle.cb_semirings.specs.Arithmetic.{Arithmetic}
 use Rattle.cb_matrix.specs.declared.Entry.{Entry}
@@ -9,21 +9,12 @@ use Rattle.cb_matrix.specs.Sparse.{Sparse, Extent, IsMatrix, IsBefore}
 use Rattle.cb_dcsc.specs.Compressed.{AreColumns, IsBlock, all_entries, block_of, continued, entries_in, later_entries, opened, part, piece, pieces, with_column}
 use Rattle.cb_dcsc.specs.Columns.{columns_with_entries, in_column, rows_of, values_of, with_entries}
 use Rattle.cb_dcsc.proofs.Appended.{matrix_front, next_in_column, pieces_front}
-use Rattle.cb_dcsc.proofs.Held.{columns_are, take_split, length-part, nth_piece, same_parts, some_entry, start_within, up_to}
+use Rattle.cb_dcsc.proofs.Held.{columns_are, length-part, nth_piece, same_parts, some_entry, start_within, up_to}
 use Rattle.cb_dcsc.proofs.NextColumn.{is_next_column}
 use Rattle.cb_dcsc.proofs.NumbersOfColumns.{columns_all}
 use Rattle.cb_dcsc.proofs.ColumnEntries.{entries_in-column, entries_in-columns, entries_in_none, pieces_same}
-use Rattle.cb_dcsc.proofs.Pushed.{no_range}
+use Rattle.cb_dcsc.proofs.Ranges.{no_range, range_both}
 use Rattle.cb_dcsc.proofs.WholeColumn.{column_pushed}
-
--- two ranges, one after the other
-range_both : (xs : List ℕ) (a b c : ℕ) → a ≤ b → b ≤ c → slice_range xs a b ++ slice_range xs b c ≡ slice_range xs a c
-range_both xs a b c l m =
-    let e : a + (b - a) ≡ b = omega arith in
-    let f : (b - a) + (c - b) ≡ c - a = omega arith in
-    ap (λ ys. slice_range xs a b ++ take (c - b) ys) (sym (drop-drop (b - a) a xs ∙ ap (λ n. drop n xs) e))
-    ∙ take_split (b - a) (c - b) (drop a xs)
-    ∙ ap (λ n. take n (drop a xs)) f
 
 -- ---- starts that go on
 pub opened_some : (xs : List ℕ) → 0 < length xs → opened xs ≡ xs

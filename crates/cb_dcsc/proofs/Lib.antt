@@ -8,6 +8,8 @@
 --   `column_ascends`, `ascending_rows`; rows inside the shape and values of the semiring: `rows_inside`,
 --   `column_values`, `all_rows_inside`, `all_values`; a column has as many values as rows: `as_long`.
 -- NumbersOfColumns: the columns that have entries: `columns_all`, `entries_all`, `columns_inside`.
+-- Ranges: the elements of a list from one place up to another: `no_range`, `range_join`, `range_both`, `range_front`,
+--   `range_back`.
 -- WholeColumn: a column stored after all others comes after them: `column_before`.
 -- Held: what a binary search tells: `same_number`, `not_found`; the block of four empty lists: `no_lists`, `no_block`;
 --   what the four lists say of the entries: `count_is`, `columns_are`, `rows_are`, `values_are`, `start_within`,
@@ -18,6 +20,7 @@
 pub mod ColumnEntries
 pub mod Lookup
 pub mod NumbersOfColumns
+pub mod Ranges
 pub mod WholeColumn
 pub mod Held
 pub mod Pushed

@@ -1,8 +1,8 @@
 -- One entry more, after all the others.
-use Rattle.std.proofs.Common.{◌≡◌, ◌≢◌, ℕ, zero, suc, ◌+◌, ◌-◌, ◌<◌, ◌≤◌, List, [], ◌∷◌, ◌++◌, length, take, drop, get_or, set, sym, refl, ap, ◌∙◌, ⊎_elim, arith, length-drop, subst, append_assoc}
+use Rattle.std.proofs.Common.{◌≡◌, ◌≢◌, ℕ, zero, suc, ◌+◌, ◌-◌, ◌<◌, ◌≤◌, List, [], ◌∷◌, ◌++◌, length, drop, get_or, set, sym, refl, ap, ◌∙◌, ⊎_elim, arith, length-drop, subst, append_assoc}
 use Rattle.std.specs.Prelude.{All, slice_range}
 use Rattle.std.proofs.lemmas.Bool.{cases_lt}
-use Rattle.std.proofs.lemmas.List.{get_or_append_left, take-append-le, drop-append-le, take_all, length-set, get_or-set_same, get_or-set_other, get_or_push, length_push, get_or_default}
+use Rattle.std.proofs.lemmas.List.{get_or_append_left, drop-append-le, take_all, length-set, get_or-set_same, get_or-set_other, get_or_push, length_push, get_or_default}
 use Rattle.std.proofs.lemmas.List.Elements.{All-head, All-tail, All-push}
 use Rattle.std.proofs.lemmas.List.Quantifiers.{all_pairs_push}
 use Rattle.cb_semirings.specs.Arithmetic.{Arithmetic, IsValue}
@@ -12,12 +12,8 @@ use Rattle.cb_matrix.proofs.Pairs.{AllPairs-push}
 use Rattle.cb_dcsc.specs.Compressed.{entries_in, part, piece, pieces, all_entries, AreColumns, IsBlock, block_of, opened}
 use Rattle.cb_dcsc.specs.Columns.{with_entry}
 use Rattle.cb_dcsc.proofs.ColumnEntries.{entries_in-push, pieces_same}
+use Rattle.cb_dcsc.proofs.Ranges.{no_range, range_front}
 use Rattle.cb_dcsc.proofs.Held.{same_parts, own_columns, some_entry, start_within}
-
-range-append : (xs ys : List ℕ) (a b : ℕ) → a ≤ b → b ≤ length xs → slice_range (xs ++ ys) a b ≡ slice_range xs a b
-range-append xs ys a b l m =
-    let n : b - a ≤ length (drop a xs) = simp length-drop (omega arith) in
-    ap (take (b - a)) (drop-append-le a xs ys (omega arith)) ∙ take-append-le (b - a) (drop a xs) ys n
 
 range-end : (xs : List ℕ) (a b : ℕ) → length xs ≡ b → slice_range xs a b ≡ drop a xs
 range-end xs a b e = take_all (b - a) (drop a xs) (simp length-drop (omega arith))
@@ -26,10 +22,6 @@ range-push : (xs : List ℕ) (x a b c : ℕ) → a ≤ length xs → length xs �
 range-push xs x a b c l e f =
     let n = length_push xs x in
     range-end (xs ++ x ∷ []) a c (omega arith) ∙ drop-append-le a xs (x ∷ []) l ∙ ap (λ ys. ys ++ x ∷ []) (sym (range-end xs a b e))
-
--- nothing is between a number and itself
-pub no_range : (xs : List ℕ) (a : ℕ) → slice_range xs a a ≡ []
-no_range xs a = let z : a - a ≡ 0 = omega arith in ap (λ n. take n (drop a xs)) z
 
 -- what holds of each element holds of each of a back of the list
 pub All-back : {X : Type 0} (P : X → Type 0) (xs ys : List X) → All P (xs ++ ys) → All P ys
@@ -61,9 +53,9 @@ module _ (columns starts rows values : List ℕ) (are : AreColumns columns start
   kept_piece columns' starts' k l p q r =
       let a = are.rising k l in
       let b = start_within columns starts rows values are (k + 1) (omega arith) in
-      let f : part starts' (rows ++ i ∷ []) k ≡ part starts rows k = ap (slice_range (rows ++ i ∷ []) (get_or starts' k 0)) r ∙ ap (λ x. slice_range (rows ++ i ∷ []) x (get_or starts (k + 1) 0)) q ∙ range-append rows (i ∷ []) (get_or starts k 0) (get_or starts (k + 1) 0) (omega arith) b in
+      let f : part starts' (rows ++ i ∷ []) k ≡ part starts rows k = ap (slice_range (rows ++ i ∷ []) (get_or starts' k 0)) r ∙ ap (λ x. slice_range (rows ++ i ∷ []) x (get_or starts (k + 1) 0)) q ∙ range_front (get_or starts k 0) (get_or starts (k + 1) 0) rows (i ∷ []) (omega arith) b in
       let s = are.same_length in
-      let g : part starts' (values ++ v ∷ []) k ≡ part starts values k = ap (slice_range (values ++ v ∷ []) (get_or starts' k 0)) r ∙ ap (λ x. slice_range (values ++ v ∷ []) x (get_or starts (k + 1) 0)) q ∙ range-append values (v ∷ []) (get_or starts k 0) (get_or starts (k + 1) 0) (omega arith) (omega arith) in
+      let g : part starts' (values ++ v ∷ []) k ≡ part starts values k = ap (slice_range (values ++ v ∷ []) (get_or starts' k 0)) r ∙ ap (λ x. slice_range (values ++ v ∷ []) x (get_or starts (k + 1) 0)) q ∙ range_front (get_or starts k 0) (get_or starts (k + 1) 0) values (v ∷ []) (omega arith) (omega arith) in
       λ z. entries_in (p z) (f z) (g z)
 
   -- ---- in the last column

@@ -109,5 +109,5 @@ pub fn put_numbers_from<S: Walks + Send + Sync, R: Threads + Sync, K: Sink>(
     ensures { IsWalksEnd S.are_from S.arithmetic texts.items (K.written out.old) (K.written out.new) (K.has_failed out.new) result }
 {
     let answer = columns_from::<S, R>(rt, alloc, threads, texts)?;
-    put_matrix(rt, alloc, threads, &answer, out)
+    put_matrix(rt, alloc, threads, answer, out)
 }

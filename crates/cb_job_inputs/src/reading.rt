@@ -74,8 +74,8 @@ pub fn read_side_by_side<S: Semiring + Send + Sync, R: Threads + Sync>(
 /// The fewest bytes of a text that are freed by several threads.
 const FREED_APART: usize = 4_194_304;
 
-/// Frees the memory of a text: of a long one in parts by a thread for each. To take pages back keeps the system busy for
-/// almost as long as it takes to load them.
+/// Frees the memory of a text: of a long one in parts by a thread for each. To take pages back keeps the system busy for a
+/// fifth of the time that it takes to load them.
 fn free<R: Threads + Sync>(rt: &R, alloc: Global, text: Text) {
     let (first, mut parts) = text.into_parts();
     let each = first.len();

@@ -248,16 +248,18 @@ pub fn put_text_and_lines<S: Semiring + Send + Sync, R: Threads + Sync, K: Sink>
     }
 }
 
-/// Writes the text of a matrix, with the same faults.
+/// Writes the text of a matrix, with the same faults, and then frees the matrix.
 pub fn put_matrix<S: Semiring + Send + Sync, R: Threads + Sync, K: Sink>(
     rt: &R,
     alloc: Global,
     threads: u32,
-    matrix: &PanelledMatrix<S>,
+    matrix: PanelledMatrix<S>,
     out: &mut K,
 ) -> Result<(), JobFault>
     requires { K.has_failed out.old ≡ false }
-    ensures { IsTextEnd (text_of S.arithmetic matrix.now) (K.written out.old) (K.written out.new) (K.has_failed out.new) result }
+    ensures { IsTextEnd (text_of S.arithmetic matrix) (K.written out.old) (K.written out.new) (K.has_failed out.new) result }
 {
-    put_text(rt, alloc, threads, TextPages::of_panels(matrix), out)
+    let put = put_text(rt, alloc, threads, TextPages::of_panels(&matrix), out);
+    matrix.free(rt, alloc);
+    put
 }

@@ -9,6 +9,7 @@ ghost use Rattle.std.specs.Thread.{IsSync};
 ghost use Rattle.cb_layout.specs.Distributed.{HavePartShapes, MayBeAppended, AreAppended};
 
 use crate::Segments;
+use crate::freeing::free_blocks;
 use crate::glue::{gather, stored};
 use cb_dcsc::Block;
 use cb_grid::{Grid, LARGEST_SIDE, deliver};
@@ -197,6 +198,11 @@ impl<S: Semiring + Send + Sync> DistributedMatrix<S> {
             len: self.len + other.len,
             blocks,
         })
+    }
+
+    /// Frees the matrix, as dropping it does. If it has many entries, each block is freed by a thread of its own.
+    pub fn free<R: Threads + Sync>(self, rt: &R, alloc: Global) {
+        free_blocks(rt, alloc, self.len, self.blocks);
     }
 }
 

@@ -8,6 +8,7 @@
 #![tactic(auto)]
 
 mod distributed;
+mod freeing;
 mod front;
 mod glue;
 mod panelled;

@@ -5,11 +5,13 @@ ghost use Rattle.cb_dcsc.specs.Columns.{with_entries};
 ghost use Rattle.cb_layout.specs.Panels.{entries_of_panels, side_by_side};
 
 use crate::Segments;
+use crate::freeing::free_blocks;
 use cb_dcsc::Block;
 use cb_matrix::{LIMIT, Shape};
 use cb_semirings::Semiring;
 use std::alloc::{AllocError, Global};
 use std::marker::Model;
+use std::thread::Threads;
 
 /// A matrix in panels: blocks of the whole shape, of which each has the entries of some columns, after those of the panels
 /// before it. Threads that each make a panel leave such a matrix without a copy. Contracts see the whole matrix.
@@ -111,6 +113,13 @@ impl<S: Semiring> PanelledMatrix<S> {
         ensures { result ≡ self.now.entries }
     {
         Segments::over_panels(&self.panels)
+    }
+}
+
+impl<S: Semiring + Send> PanelledMatrix<S> {
+    /// Frees the matrix, as dropping it does. If it has many entries, each panel is freed by a thread of its own.
+    pub fn free<R: Threads + Sync>(self, rt: &R, alloc: Global) {
+        free_blocks(rt, alloc, self.len, self.panels);
     }
 }
 

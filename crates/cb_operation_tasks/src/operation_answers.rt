@@ -87,5 +87,5 @@ pub fn put_operation<S: Semiring + Send + Sync, R: Threads + Sync, K: Sink>(
     ensures { IsEndOver operation S.arithmetic texts.items (K.written out.old) (K.written out.new) (K.has_failed out.new) result }
 {
     let answer = result_of::<S, R>(rt, alloc, threads, operation, texts)?;
-    put_matrix(rt, alloc, threads, &answer, out)
+    put_matrix(rt, alloc, threads, answer, out)
 }

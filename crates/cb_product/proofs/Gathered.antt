@@ -1,15 +1,15 @@
 -- The terms of entries that follow one another.
-use Rattle.std.proofs.Common.{◌≡◌, ℕ, zero, suc, ◌+◌, ◌-◌, ◌<◌, ◌≤◌, List, [], ◌∷◌, ◌++◌, length, take, drop, get_or, sym, ap, ◌∙◌, ⊎_elim, arith, append-nil, length-drop, length-append}
+use Rattle.std.proofs.Common.{◌≡◌, ℕ, zero, suc, ◌+◌, ◌-◌, ◌<◌, ◌≤◌, List, [], ◌∷◌, ◌++◌, length, take, drop, get_or, sym, refl, ap, ◌∙◌, ⊎_elim, arith, append-nil, length-append}
 use Rattle.std.specs.Prelude.{All, slice_range}
 use Rattle.std.proofs.lemmas.Bool.{cases_lt}
-use Rattle.std.proofs.lemmas.List.{get_or_default, drop_more, drop_all, drop-drop, take_all, take-append-le, drop-append-le, get_or_push, get_or_append_left, length_push}
+use Rattle.std.proofs.lemmas.List.{get_or_default, drop_more, take_all, get_or_push, get_or_append_left, length_push}
 use Rattle.std.proofs.lemmas.List.Elements.{All-append, All-drop, All-get_or, All-nil, All-push, All-take, All-weaker}
 use Rattle.cb_semirings.specs.Arithmetic.{Arithmetic, IsSemiring, IsValue}
 use Rattle.cb_matrix.specs.Sparse.{Sparse, IsMatrix, at}
 use Rattle.cb_matrix.specs.Values.{total}
 use Rattle.cb_matrix.proofs.Totals.{total-one}
 use Rattle.cb_dcsc.specs.Columns.{in_column, rows_of, values_of}
-use Rattle.cb_dcsc.proofs.Held.{take_split}
+use Rattle.cb_dcsc.proofs.Ranges.{no_range, range_back, range_both, range_front}
 use Rattle.cb_product.specs.declared.panel.Panel.{Panel}
 use Rattle.cb_product.specs.declared.terms.Term.{Term}
 use Rattle.cb_product.specs.Gathered.{entry_product, AreGathered, Holds, HasTermsAt}
@@ -18,31 +18,6 @@ use Rattle.cb_product.proofs.TermSums.{matrix_values, new_term, no_column, rows_
 
 -- ---- ranges of a list
 module _ {X : Type 0} (xs : List X) where
-  -- nothing is between a place and itself
-  pub no_range : (a : ℕ) → slice_range xs a a ≡ []
-  no_range a = let z : a - a ≡ 0 = omega arith in ap (λ n. take n (drop a xs)) z
-
-  -- two ranges, one after the other
-  range_both : (a b c : ℕ) → a ≤ b → b ≤ c → slice_range xs a c ≡ slice_range xs a b ++ slice_range xs b c
-  range_both a b c l m =
-      let e : a + (b - a) ≡ b = omega arith in
-      let f : (b - a) + (c - b) ≡ c - a = omega arith in
-      sym (ap (λ ys. slice_range xs a b ++ take (c - b) ys) (sym (drop-drop (b - a) a xs ∙ ap (λ n. drop n xs) e))
-      ∙ take_split (b - a) (c - b) (drop a xs)
-      ∙ ap (λ n. take n (drop a xs)) f)
-
-  -- a range before another list
-  range_before : (ys : List X) (a b : ℕ) → a ≤ b → b ≤ length xs → slice_range (xs ++ ys) a b ≡ slice_range xs a b
-  range_before ys a b l m =
-      let n : b - a ≤ length (drop a xs) = simp length-drop (omega arith) in
-      ap (take (b - a)) (drop-append-le a xs ys (omega arith)) ∙ take-append-le (b - a) (drop a xs) ys n
-
-  -- the range of the list behind it
-  range_behind : (ys : List X) (b : ℕ) → b ≡ length (xs ++ ys) → slice_range (xs ++ ys) (length xs) b ≡ ys
-  range_behind ys b e =
-      let n = length-append xs ys in
-      ap (take (b - length xs)) (drop-append-le (length xs) xs ys (omega arith) ∙ ap (λ zs. zs ++ ys) (drop_all (length xs) xs (omega arith))) ∙ take_all (b - length xs) ys (omega arith)
-
   -- the first element of a range, and the others
   range_more : (a b : ℕ) (d : X) → a < length xs → a < b → slice_range xs a b ≡ get_or xs a d ∷ slice_range xs (a + 1) b
   range_more a b d l m =
@@ -104,7 +79,7 @@ module _ (s : Arithmetic) (laws : IsSemiring s) (a : Sparse) (is : IsMatrix s a)
             let order = h.rising m (omega arith) in
             let fits : place old (m + 1) ≤ length old.terms.items = All-get_or (λ p. p ≤ length old.terms.items) old.places.items (m + 1) 0 (omega arith) h.within in
             (λ t. terms_at s a i (slice_range (terms t) (u t) (v t)))
-            ∙ ap (terms_at s a i) (range_before old.terms.items extra (place old m) (place old (m + 1)) order fits)
+            ∙ ap (terms_at s a i) (range_front (place old m) (place old (m + 1)) old.terms.items extra order fits)
             ∙ h.products m i (omega arith)
             ∙ ap (λ f. entry_product s a rows values (f + m) i) (sym first))
             (λ (k : n ≤ m).
@@ -112,7 +87,7 @@ module _ (s : Arithmetic) (laws : IsSemiring s) (a : Sparse) (is : IsMatrix s a)
             let u = before n (omega arith) ∙ last in
             ap (λ j. terms_at s a i (slice_range new.terms.items (place new j) (place new (j + 1)))) e
             ∙ (λ t. terms_at s a i (slice_range (terms t) (u t) (end t)))
-            ∙ ap (terms_at s a i) (range_behind old.terms.items extra (length new.terms.items) (ap length terms))
+            ∙ ap (terms_at s a i) (range_back (length old.terms.items) (length new.terms.items) old.terms.items extra refl (omega (arith, long)))
             ∙ adds i
             ∙ (λ t. entry_product s a rows values (sym first t + sym e t) i))
             (cases_lt m n);
@@ -184,7 +159,7 @@ module _ (s : Arithmetic) (laws : IsSemiring s) (a : Sparse) (is : IsMatrix s a)
         let split_values = range_more values (p.first + n) c 0 (omega arith) (omega arith) in
         let counted : s.add (entry_product s a rows values (p.first + n) i) (column_sum s a i (slice_range rows (p.first + n + 1) c) (slice_range values (p.first + n + 1) c)) ≡ column_sum s a i (slice_range rows (p.first + n) c) (slice_range values (p.first + n) c) = sym (λ t. column_sum s a i (split t) (split_values t)) in
         ap (λ m. terms_at s a i (slice_range p.terms.items (place p n) (place p m))) e
-        ∙ ap (terms_at s a i) (range_both p.terms.items (place p n) (place p (n + 1)) (place p (n + 1 + d)) here later)
+        ∙ ap (terms_at s a i) (sym (range_both p.terms.items (place p n) (place p (n + 1)) (place p (n + 1 + d)) here later))
         ∙ terms_value-append s laws ks (values_of a.entries) (matrix_values s laws a is) i at_hand rest (all_terms (place p n) (place p (n + 1))) (all_terms (place p (n + 1)) (place p (n + 1 + d)))
         ∙ (λ t. s.add (h.products n i (omega arith) t) (sums d (n + 1) i (omega arith) t))
         ∙ ap (λ b. s.add (entry_product s a rows values (p.first + n) i) (column_sum s a i (slice_range rows b c) (slice_range values b c))) f

@@ -15,9 +15,9 @@ use cb_dcsc::Block;
 use cb_semirings::Semiring;
 use std::alloc::{AllocError, Global};
 
-/// The terms of this many entries are gathered at once, or of more if a column has more. They, and the columns that they
-/// name, stay in the processor's cache until they are used.
-const ENTRIES: usize = 256;
+/// The terms of this many entries are gathered at once, or of more if a column has more: few enough for what is fetched to
+/// stay in the processor's first cache until it is used.
+const ENTRIES: usize = 32;
 
 /// The terms of some entries of a list that follow one another: columns of the left block, times factors.
 #[derive(Drop)]

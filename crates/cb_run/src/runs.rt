@@ -42,6 +42,7 @@ pub fn run<S: Semiring + Send + Sync, R: Threads + Wait + Sync>(
     };
     if let Engine::Threads(_letters) = engine {
         if let Some(answer) = empty_product(alloc, grid, operation, &operands)? {
+            free(rt, alloc, operands);
             return Ok(Outcome {
                 answer,
                 refusals: Vec::new(alloc),
@@ -52,6 +53,26 @@ pub fn run<S: Semiring + Send + Sync, R: Threads + Wait + Sync>(
     match operation {
         Operation::MultiplyVector => Ok(run_vector(rt, alloc, engine, grid, operands)?),
         _ => run_plan(rt, alloc, engine, grid, operation, operands, shape),
+    }
+}
+
+/// Frees the operands of an operation that needs no plan.
+fn free<S: Semiring + Send + Sync, R: Threads + Sync>(
+    rt: &R,
+    alloc: Global,
+    operands: Operands<DistributedMatrix<S>>,
+) {
+    match operands {
+        Operands::One(matrix) => matrix.free(rt, alloc),
+        Operands::Two(left, right) => {
+            left.free(rt, alloc);
+            right.free(rt, alloc);
+        }
+        Operands::Three(left, right, mask) => {
+            left.free(rt, alloc);
+            right.free(rt, alloc);
+            mask.free(rt, alloc);
+        }
     }
 }
 

@@ -86,5 +86,5 @@ pub fn put_assigned<S: Semiring + Send + Sync, R: Threads + Sync, K: Sink>(
     ensures { IsSelectionEnd (task_is.Assign corner) S.arithmetic texts.items (K.written out.old) (K.written out.new) (K.has_failed out.new) result }
 {
     let answer = assigned_matrix::<S, R>(rt, alloc, threads, corner, texts)?;
-    put_matrix(rt, alloc, threads, &answer, out)
+    put_matrix(rt, alloc, threads, answer, out)
 }

@@ -176,5 +176,5 @@ pub fn put_extract<S: Semiring + Send + Sync, R: Threads + Sync, K: Sink>(
     ensures { IsSelectionEnd (task_is.Extract lists) S.arithmetic texts.items (K.written out.old) (K.written out.new) (K.has_failed out.new) result }
 {
     let answer = extract_matrix::<S, R>(rt, alloc, threads, lists, texts)?;
-    put_matrix(rt, alloc, threads, &answer, out)
+    put_matrix(rt, alloc, threads, answer, out)
 }

@@ -108,7 +108,7 @@ pub fn put_selected<S: Semiring + Send + Sync, R: Threads + Sync, K: Sink>(
     ensures { IsSelectionEnd (task_is.Selected selection) S.arithmetic texts.items (K.written out.old) (K.written out.new) (K.has_failed out.new) result }
 {
     let answer = selected_matrix::<S, R>(rt, alloc, threads, selection, texts)?;
-    put_matrix(rt, alloc, threads, &answer, out)
+    put_matrix(rt, alloc, threads, answer, out)
 }
 
 /// Writes the Kronecker product of the matrices of two texts over a semiring.
@@ -124,5 +124,5 @@ pub fn put_kronecker<S: Semiring + Send + Sync, R: Threads + Sync, K: Sink>(
     ensures { IsSelectionEnd task_is.Kronecker S.arithmetic texts.items (K.written out.old) (K.written out.new) (K.has_failed out.new) result }
 {
     let answer = kronecker_matrix::<S, R>(rt, alloc, threads, texts)?;
-    put_matrix(rt, alloc, threads, &answer, out)
+    put_matrix(rt, alloc, threads, answer, out)
 }
