@@ -6,7 +6,7 @@ use std::thread;
 use std::thread::Threads;
 
 /// The fewest entries that are freed by several threads.
-const FREED_APART: usize = 262_144;
+const FREED_APART: usize = 131_072;
 
 /// Frees blocks, which have this many entries: if these are many, each block by a thread of its own. To take pages back
 /// keeps the system busy for a good part of the time that it took to give them.

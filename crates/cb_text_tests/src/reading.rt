@@ -76,7 +76,9 @@ fn in_pieces<R: Threads + Sync>(
     let Some(matrix) = read_in_pieces::<PlusTimes, R>(rt, alloc, &grid, short(most), &given?) else {
         return None;
     };
-    written(alloc, &matrix)
+    let bytes = written(alloc, &matrix);
+    matrix.free(rt, alloc);
+    bytes
 }
 
 /// Whether a text is read in pieces, on several grids, with the same result as on one thread.
@@ -195,7 +197,7 @@ fn full_text(alloc: Global) -> Result<Vec<u8>, AllocError> {
     Ok(text)
 }
 
-/// Pieces with so many entries that threads append them, one for each of two blocks.
+/// Pieces with so many entries that threads append them, one for each of two blocks. The matrix is freed by threads too.
 #[test]
 fn may_have_many_entries(rt: HostRuntime) {
     let given = full_text(rt.alloc());
