@@ -8,12 +8,17 @@ use Rattle.cb_outcomes.specs.declared.faults.JobFault.{JobFault}
 use Rattle.cb_outcomes.proofs.SinkLemmas.{Appends-trans, appends_none, prefix_page}
 
 -- a beginning of a text is one of the text and some lines
-prefix_of_text : (a b : Option (List ℕ)) (text lines : List ℕ) → AppendsPrefix a b text → AppendsPrefix a b (text ++ lines)
+pub prefix_of_text : (a b : Option (List ℕ)) (text lines : List ℕ) → AppendsPrefix a b text → AppendsPrefix a b (text ++ lines)
 prefix_of_text a b text lines p = prefix_page a a b [] text (text ++ lines) lines (text ++ lines) (appends_none a) p refl refl
 
 -- after the text, a beginning of the lines is one of both
-prefix_of_lines : (a b c : Option (List ℕ)) (text lines : List ℕ) → Appends a b text → AppendsPrefix b c lines → AppendsPrefix a c (text ++ lines)
+pub prefix_of_lines : (a b c : Option (List ℕ)) (text lines : List ℕ) → Appends a b text → AppendsPrefix b c lines → AppendsPrefix a c (text ++ lines)
 prefix_of_lines a b c text lines p q = prefix_page a b c text lines lines [] (text ++ lines) p q (sym (append-nil lines)) refl
+
+-- the same of a put that failed
+pub prefix_after : {T E : Type 0} (put : Result T E) (a b c : Option (List ℕ)) (text lines : List ℕ) → Appends a b text → OnErr put (AppendsPrefix b c lines) → OnErr put (AppendsPrefix a c (text ++ lines))
+prefix_after (Ok x) a b c text lines p q = tt
+prefix_after (Err e) a b c text lines p q = prefix_of_lines a b c text lines p q
 
 -- a call that writes a text by puts ends as its last put does
 pub text_end : {T E : Type 0} (text : List ℕ) (a b : Option (List ℕ)) (failed : Bool) (put : Result T E) → OnOk put (Appends a b text) → OnOk put (failed ≡ false)

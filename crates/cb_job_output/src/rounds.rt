@@ -13,7 +13,7 @@ use std::thread;
 use std::thread::Threads;
 
 /// The most lines that [`Round::new`] makes room for on a sheet.
-const LINES: usize = 32_768;
+pub(crate) const LINES: usize = 32_768;
 
 /// The fewest lines that it makes room for: fewer aren't worth a thread.
 const FEW: usize = 16_384;

@@ -77,7 +77,17 @@ impl<'a, S: Semiring> Sheet<'a, S> {
         ensures some { result ≡ true → 0 < length (share_of self.new) }
         ensures none { result ≡ false → text.old ≡ [] }
     {
-        let (end, entries, count) = text.next_part(&mut self.bytes, self.lines);
+        self.take_some(text, MOST_LINES)
+    }
+
+    /// The same with this many lines at most. With none, the sheet gets the head alone, if it is left.
+    pub fn take_some(&mut self, text: &mut TextPages<'a, S>, most: usize) -> bool
+        ensures text { text.old ≡ share_of self.new ++ text.new }
+        ensures some { result ≡ true → 0 < length (share_of self.new) }
+        ensures nothing { result ≡ false → share_of self.new ≡ [] }
+        ensures none { result ≡ false → 0 < most → text.old ≡ [] }
+    {
+        let (end, entries, count) = text.next_part(&mut self.bytes, most.min(self.lines));
         self.end = end;
         self.entries = entries;
         self.count = count;

@@ -4,11 +4,13 @@ ghost use Rattle.cb_market_pages.specs.declared.sheets.TheConstants.{MOST_LINES}
 
 use crate::market::pages::{EMPTY, FAR, GIVEN};
 use cb_dcsc::Block;
+use cb_job_output::output::put_text_and_lines;
 use cb_job_output::rounds::Round;
 use cb_layout::{DistributedMatrix, Grid};
 use cb_market::{Kind, read_distributed};
 use cb_market_pages::{MOST_LINES, TextPages, text};
 use cb_matrix::{Entry, Matrix, Shape};
+use cb_outcomes::sinks::WriterSink;
 use cb_samples::are_values;
 use cb_semirings::PlusTimes;
 use std::alloc::{AllocError, Global};
@@ -159,6 +161,43 @@ fn follow_one_another(rt: HostRuntime) {
     for side in [1, 3] {
         assert!(&rt; are_long_rounds(&rt, rt.alloc(), side) == Some(true));
     }
+}
+
+/// The text of a matrix over a grid and a line after it, as this many threads write them to a sink.
+fn put_by<R: Threads + Sync>(
+    rt: &R,
+    alloc: Global,
+    threads: u32,
+    blocks: &DistributedMatrix<PlusTimes>,
+) -> Option<Vec<u8>> {
+    let mut out = WriterSink::new(Vec::new(alloc));
+    let text = TextPages::new(blocks);
+    put_text_and_lines(rt, alloc, threads, text, LINE, &mut out).ok()?;
+    Some(out.into_inner())
+}
+
+/// A line after a text.
+const LINE: &[u8] = b"% end\n";
+
+/// Whether 50,001 entries and a line after them are written whole by one thread to four. Two make two rounds of them; of the
+/// second, the thread that writes to the sink makes some lines itself.
+fn are_put_whole<R: Threads + Sync>(rt: &R, alloc: Global) -> Option<bool> {
+    let matrix = long_column(alloc, 50_000)?;
+    let block = Block::<PlusTimes>::from_ordered(alloc, matrix.shape(), matrix.entries()).ok()?;
+    let mut whole = text(alloc, &block).ok()?;
+    whole.extend_from_slice(LINE).ok()?;
+    let blocks = DistributedMatrix::scatter(alloc, Grid::single(), &matrix).ok()?;
+    for threads in 1..=4 {
+        if put_by(rt, alloc, threads, &blocks)?.as_slice() != whole.as_slice() {
+            return Some(false);
+        }
+    }
+    Some(true)
+}
+
+#[test]
+fn are_put_in_order(rt: HostRuntime) {
+    assert!(&rt; are_put_whole(&rt, rt.alloc()) == Some(true));
 }
 
 /// How many sheets a round for this many threads has, or 0 if memory is refused.

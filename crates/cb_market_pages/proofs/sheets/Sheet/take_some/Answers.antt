@@ -2,7 +2,7 @@ use Rattle.std.proofs.Common.{rules, ℕ, ◌≤◌, List, ◌++◌, take, lengt
 use Rattle.std.proofs.lemmas.List.{with_items_is}
 use Rattle.cb_market_pages.specs.Sheets.{lines_of}
 use Rattle.cb_market_pages.proofs.EntryRuns.{length-part}
-use Rattle.cb_market_pages.proofs.sheets.Sheet.take_from.Goals as goal
+use Rattle.cb_market_pages.proofs.sheets.Sheet.take_some.Goals as goal
 
 pub returns-clause-some : goal.returns-clause-some
 returns-clause-some g c =
