@@ -75,7 +75,7 @@ impl<'a, S: Semiring + Send + Sync> Ahead<'a, S> {
 }
 
 /// By how many lines the share of the thread that writes to the sink grows or shrinks.
-const STEP: usize = 4_096;
+const STEP: usize = 8_192;
 
 /// How many lines the thread that writes to the sink makes next: more if it was done before the others this time, and fewer
 /// if not. So it isn't idle beside a sink that is fast, and nobody waits for it beside one that is slow.

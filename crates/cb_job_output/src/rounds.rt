@@ -13,7 +13,7 @@ use std::thread;
 use std::thread::Threads;
 
 /// The most lines that [`Round::new`] makes room for on a sheet.
-pub(crate) const LINES: usize = 32_768;
+pub(crate) const LINES: usize = 65_536;
 
 /// The fewest lines that it makes room for: fewer aren't worth a thread.
 const FEW: usize = 16_384;
@@ -40,7 +40,7 @@ impl<'a, S: Semiring> Model for Round<'a, S> {
 
 impl<'a, S: Semiring> Round<'a, S> {
     /// Makes empty sheets for a text: one per thread except the one that writes the round before to a sink; or fewer if the
-    /// matrix has too few entries. Each takes at most 1.5 MB.
+    /// matrix has too few entries. Each takes at most 2.9 MB.
     pub fn new(
         alloc: Global,
         threads: usize,

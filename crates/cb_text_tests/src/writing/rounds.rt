@@ -124,7 +124,7 @@ fn long_column(alloc: Global, count: u32) -> Option<Matrix<PlusTimes>> {
     if !are_values::<PlusTimes>(&entries) {
         return None;
     }
-    Matrix::from_entries(alloc, Shape::new(50_000, 2)?, &entries).ok()
+    Matrix::from_entries(alloc, Shape::new(100_000, 2)?, &entries).ok()
 }
 
 /// Whether the text of a matrix over a grid is written in this many rounds of two sheets of this many lines.
@@ -179,10 +179,10 @@ fn put_by<R: Threads + Sync>(
 /// A line after a text.
 const LINE: &[u8] = b"% end\n";
 
-/// Whether 50,001 entries and a line after them are written whole by one thread to four. Two make two rounds of them; of the
+/// Whether 100,001 entries and a line after them are written whole by one thread to four. Two make two rounds of them; of the
 /// second, the thread that writes to the sink makes some lines itself.
 fn are_put_whole<R: Threads + Sync>(rt: &R, alloc: Global) -> Option<bool> {
-    let matrix = long_column(alloc, 50_000)?;
+    let matrix = long_column(alloc, 100_000)?;
     let block = Block::<PlusTimes>::from_ordered(alloc, matrix.shape(), matrix.entries()).ok()?;
     let mut whole = text(alloc, &block).ok()?;
     whole.extend_from_slice(LINE).ok()?;
