@@ -16,7 +16,7 @@ use rtrb::{Consumer, Producer, RingBuffer};
 use std::alloc::{AllocError, Global};
 use std::marker::{Model, PhantomData};
 use std::sync::Wait;
-use std::thread::Scope;
+use std::thread::{Scope, Threads};
 
 /// The rings of a crew to be, one for each worker. A contract sees their names.
 #[derive(Drop)]
@@ -55,7 +55,7 @@ pub fn hire<
     E,
     S: Semiring + Send + Sync + 's,
     J: Naming + Send + Sync + 's,
-    R: Wait + Sync,
+    R: Threads + Wait + Sync,
     G: Gate<S>,
 >(
     scope: &Scope<'s, E>,
@@ -83,7 +83,7 @@ fn hire_one<
     E,
     S: Semiring + Send + Sync + 's,
     J: Naming + Send + Sync + 's,
-    R: Wait + Sync,
+    R: Threads + Wait + Sync,
     G: Gate<S>,
 >(
     scope: &Scope<'s, E>,

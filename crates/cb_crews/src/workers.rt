@@ -15,6 +15,7 @@ use cb_semirings::Semiring;
 use rtrb::Producer;
 use std::snapshot::Snapshot;
 use std::sync::Wait;
+use std::thread::Threads;
 
 /// The crew's ends of the lines to a worker and from it, and of the worker's ring.
 #[derive(Drop)]
@@ -100,7 +101,7 @@ impl<S: Semiring, J: Naming> Busy<S, J> {
 }
 
 /// What a worker's thread does: one job after the other, until the crew is gone.
-pub(crate) fn serve<S: Semiring, J: Naming, R: Wait, G: Gate<S>>(
+pub(crate) fn serve<S: Semiring + Send + Sync, J: Naming, R: Threads + Wait + Sync, G: Gate<S>>(
     rt: &R,
     jobs: Receiver<Job<S, J>>,
     answers: Sender<Answer<S, J>>,

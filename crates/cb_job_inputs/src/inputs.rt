@@ -1,5 +1,6 @@
-//! Reads the texts of a job. Each text is read in pieces, by at most `threads` threads, and dropped once it is read. Two long
-//! texts are read at once, so that while one is joined the other's pieces have the processors.
+//! Reads the texts of a job. Each text is read in pieces, each by a thread, and dropped once it is read: in at most two for each
+//! of `threads` threads. Two long texts are read at once, each in at most `threads` pieces, so that while one is joined the
+//! other's pieces have the processors.
 ghost use Rattle.std.specs.Prelude.{◌≡◌, ◌≤◌, ◌∷◌, [], drop, vec_len, IfOk, IfErr, OnOk};
 ghost use Rattle.std.specs.Thread.{IsSync};
 ghost use Rattle.cb_market_lines.specs.Reads.{Reads};
@@ -18,7 +19,8 @@ use std::thread::{Threads, join};
 /// The fewest bytes that get a thread of their own.
 const LEAST_BYTES: usize = 262_144;
 
-/// Reads the text at position `which` into the blocks of a grid.
+/// Reads the text at position `which` into the blocks of a grid. It is cut in two pieces for each thread, so that a thread which
+/// gets no processor for a while doesn't keep all others waiting.
 pub fn read_text<S: Semiring + Send + Sync, R: Threads + Sync>(
     rt: &R,
     alloc: Global,
@@ -31,8 +33,29 @@ pub fn read_text<S: Semiring + Send + Sync, R: Threads + Sync>(
     ensures side { IfOk result (λ m. m.side ≡ grid.now.side) }
     ensures fault { IfErr result (IsTextFault S.arithmetic which text) }
 {
+    let most = if threads > 1 {
+        threads.saturating_mul(2)
+    } else {
+        1
+    };
+    read_in_at_most(rt, alloc, grid, most, which, text)
+}
+
+/// The same, in at most this many pieces.
+fn read_in_at_most<S: Semiring + Send + Sync, R: Threads + Sync>(
+    rt: &R,
+    alloc: Global,
+    grid: &Grid,
+    most: u32,
+    which: usize,
+    text: Text,
+) -> Result<DistributedMatrix<S>, JobFault>
+    ensures ok { IfOk result (λ m. Reads S.arithmetic text m.matrix) }
+    ensures side { IfOk result (λ m. m.side ≡ grid.now.side) }
+    ensures fault { IfErr result (IsTextFault S.arithmetic which text) }
+{
     let pieces = Pieces {
-        most: threads,
+        most,
         least_bytes: LEAST_BYTES,
     };
     match read_side_by_side::<S, R>(rt, alloc, grid, pieces, text) {
@@ -117,13 +140,13 @@ fn read_at_once<S: Semiring + Send + Sync, T: Semiring + Send + Sync, R: Threads
             ensures ok { IfOk result (λ m. Reads T.arithmetic second m.matrix) }
             ensures side { IfOk result (λ m. m.side ≡ grid.entry.now.side) }
             ensures fault { IfErr result (IsTextFault T.arithmetic 1 second) }
-        { read_text::<T, R>(rt, alloc, grid, threads, 1, second) },
+        { read_in_at_most::<T, R>(rt, alloc, grid, threads, 1, second) },
         || -> Result<DistributedMatrix<S>, JobFault>
             requires { IsSync R.row }
             ensures ok { IfOk result (λ m. Reads S.arithmetic first m.matrix) }
             ensures side { IfOk result (λ m. m.side ≡ grid.entry.now.side) }
             ensures fault { IfErr result (IsTextFault S.arithmetic 0 first) }
-        { read_text::<S, R>(rt, alloc, grid, threads, 0, first) },
+        { read_in_at_most::<S, R>(rt, alloc, grid, threads, 0, first) },
     );
     (left, right)
 }

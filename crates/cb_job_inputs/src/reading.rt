@@ -1,8 +1,7 @@
 //! Matrix Market texts, read by several threads.
 //!
-//! A text that was loaded in parts is read part by part. Of a text in one part, pieces are cut off where lines end. Each is
-//! read by a thread of its own, straight into the blocks of a grid as long as its entries ascend; threads that start others
-//! wait. Neighbours are then joined block by block, and what they make with its neighbours, until one piece is left. If no
+//! A text, or each part of a text that was loaded in parts, is cut in pieces where lines end. Each piece is read by a thread of
+//! its own, straight into the blocks of a grid as long as its entries ascend; threads that start others wait. Neighbours are then joined block by block, and what they make with its neighbours, until one piece is left. If no
 //! piece has a fault and all announced entries are there, the joined piece has the matrix. Otherwise, and if memory is
 //! refused, [`cb_market::read_distributed`] reads the text again on one thread and reports the first fault.
 //!
@@ -42,6 +41,15 @@ impl Pieces {
     fn of(&self, bytes: usize) -> u32 {
         let fitting = bytes / self.least_bytes.max(1);
         fitting.min(self.most as usize) as u32
+    }
+
+    /// Returns the same for each of this many parts.
+    fn for_each(&self, parts: usize) -> Pieces {
+        let each = self.most as usize / parts.max(1);
+        Pieces {
+            most: each as u32,
+            least_bytes: self.least_bytes,
+        }
     }
 }
 
@@ -169,7 +177,8 @@ fn read_entries<S: Semiring + Send + Sync, R: Threads + Sync>(
 {
     let room = plan.room_for(entries, rest);
     if !rest.is_empty() {
-        return read_parts::<S, R>(rt, plan, room, entries, rest);
+        let each = pieces.for_each(rest.len() + 1);
+        return read_parts::<S, R>(rt, plan, each, room, entries, rest);
     }
     let count = pieces.of(entries.len());
     if count < 2 {
@@ -289,13 +298,14 @@ fn read_part_apart<S: Semiring + Send + Sync, R: Threads + Sync>(
     piece
 }
 
-/// Reads the entries of a text in parts: one part by this thread, and more by halves, as [`read_part`] does. It takes room for
-/// `room` entries: those of these parts, and of those that will be appended to them. None also if a part but the last
-/// doesn't end with a line.
+/// Reads the entries of a text in parts, each in pieces, by halves, as [`read_part`] does. It takes room for `room` entries:
+/// those of these parts, and of those that will be appended to them. None also if a part but the last doesn't end with a
+/// line.
 #[cycle(parts)]
 fn read_parts<S: Semiring + Send + Sync, R: Threads + Sync>(
     rt: &R,
     plan: &Plan,
+    pieces: Pieces,
     room: usize,
     first: &[u8],
     rest: &[Vec<u8>],
@@ -305,7 +315,7 @@ fn read_parts<S: Semiring + Send + Sync, R: Threads + Sync>(
 {
     let (low, high) = rest.split_at(rest.len() / 2);
     let Some((next, last)) = high.split_first() else {
-        return plan.read::<S>(room, first);
+        return read_part::<S, R>(rt, plan, pieces.of(first.len()), room, first);
     };
     if !parts_end_with_line(first, low) {
         return None;
@@ -315,11 +325,11 @@ fn read_parts<S: Semiring + Send + Sync, R: Threads + Sync>(
         || -> Option<Piece<S>>
             requires { IsSync R.row × IsTrue (is_shape plan.now.header.symmetry plan.now.size.shape) }
             ensures { IfSome result (IsRead S.arithmetic plan.entry.now (next.entry.now.items ++ joined last.entry.now)) }
-        { read_parts::<S, R>(rt, plan, plan.room_for(next, last), next, last) },
+        { read_parts::<S, R>(rt, plan, pieces, plan.room_for(next, last), next, last) },
         || -> Option<Piece<S>>
             requires { IsSync R.row × IsTrue (is_shape plan.now.header.symmetry plan.now.size.shape) }
             ensures { IfSome result (IsRead S.arithmetic plan.entry.now (first.entry.now ++ joined low.entry.now)) }
-        { read_parts_apart::<S, R>(rt, plan, room, first, low) },
+        { read_parts_apart::<S, R>(rt, plan, pieces, room, first, low) },
     );
     let front = front?;
     let back = back?;
@@ -331,6 +341,7 @@ fn read_parts<S: Semiring + Send + Sync, R: Threads + Sync>(
 fn read_parts_apart<S: Semiring + Send + Sync, R: Threads + Sync>(
     rt: &R,
     plan: &Plan,
+    pieces: Pieces,
     room: usize,
     first: &[u8],
     rest: &[Vec<u8>],
@@ -343,7 +354,7 @@ fn read_parts_apart<S: Semiring + Send + Sync, R: Threads + Sync>(
         || -> Option<Piece<S>>
             requires { IsSync R.row × IsTrue (is_shape plan.now.header.symmetry plan.now.size.shape) }
             ensures { IfSome result (IsRead S.arithmetic plan.entry.now (first.entry.now ++ joined rest.entry.now)) }
-        { read_parts::<S, R>(rt, plan, room, first, rest) },
+        { read_parts::<S, R>(rt, plan, pieces, room, first, rest) },
         || {},
     );
     piece

@@ -12,14 +12,18 @@ ghost use Rattle.cb_local.specs.FactorSlots.{HoldPair, HoldProduct, IsSumWith};
 ghost use Rattle.cb_local.specs.Slots.{MayBeAdded, adding, after_all};
 ghost use Rattle.cb_plan.specs.Stores.{sheets_in, shapes_in, slot_of};
 
+use crate::parts::all_added_apart;
 use cb_dcsc::Block;
 use cb_elementwise::{add, mask, prune, times};
 use cb_plan::{Op, RankStore, SLOTS, SharedBlock, Slot};
-use cb_product::{Factors, multiply, multiply_all_into, multiply_into};
+use cb_product::{
+    Factors, LEAST_PRODUCTS, estimated_products, multiply, multiply_all_into, multiply_into,
+};
 use cb_reductions::column_sums;
 use cb_reshape::{cut, place, transpose};
 use cb_semirings::Semiring;
 use std::alloc::{AllocError, Global};
+use std::thread::Threads;
 
 /// Does an operation whose operands are there, with the shapes that it requires. A refusal leaves the slots as they
 /// were; an operation that needs no memory isn't refused.
@@ -149,9 +153,12 @@ fn added_to<S: Semiring>(
 }
 
 /// Adds products to a slot, one after the other, whose factors are in other slots. A refusal leaves the slots as they were.
-/// All are added in one pass, so no block is made for a sum in between.
-pub fn accumulate_all<S: Semiring>(
+/// All are added in one pass, so no block is made for a sum in between. At most `threads` threads, this one among them, make
+/// the columns of the sum; fewer if there are few products.
+pub fn accumulate_all<S: Semiring + Send + Sync, R: Threads + Sync>(
+    rt: &R,
     alloc: Global,
+    threads: u32,
     store: &mut RankStore<S>,
     products: &[(u16, u16)],
     acc: u16,
@@ -164,7 +171,7 @@ pub fn accumulate_all<S: Semiring>(
     let Slot::Sheet(sum) = store.take(acc) else {
         unreachable!()
     };
-    match all_added_to(alloc, store, products, sum) {
+    match all_added_to(rt, alloc, threads, store, products, sum) {
         Ok(sum) => {
             store.put(acc, sum);
             Ok(())
@@ -178,13 +185,15 @@ pub fn accumulate_all<S: Semiring>(
 
 /// Adds products to a block, one after the other, whose factors are in these slots. If memory is refused, the block comes back
 /// as it was.
-fn all_added_to<S: Semiring>(
+fn all_added_to<S: Semiring + Send + Sync, R: Threads + Sync>(
+    rt: &R,
     alloc: Global,
+    threads: u32,
     store: &RankStore<S>,
     products: &[(u16, u16)],
     sum: SharedBlock<S>,
 ) -> Result<Block<S>, (SharedBlock<S>, AllocError)>
-    requires { All (HoldProduct store.now sum.shape) products.now }
+    requires hold { All (HoldProduct store.now sum.shape) products.now }
     ensures ok { IfOk result (IsSumWith S.arithmetic store.now sum products.now) }
     ensures err { IfErr result (λ e. e.0 ≡ sum) }
 {
@@ -196,6 +205,13 @@ fn all_added_to<S: Semiring>(
         Ok(sum) => sum,
         Err(refused) => return Err(refused),
     };
+    let parts = (estimated_products(&factors) / LEAST_PRODUCTS).min(threads as usize);
+    if parts > 1 {
+        return match all_added_apart::<S, R>(rt, alloc, parts as u32, store, products, &sum) {
+            Ok(made) => Ok(made),
+            Err(error) => Err((SharedBlock::new(sum), error)),
+        };
+    }
     match multiply_all_into(alloc, &factors, sum) {
         Ok(sum) => Ok(sum),
         Err((sum, error)) => Err((SharedBlock::new(sum), error)),
@@ -203,7 +219,7 @@ fn all_added_to<S: Semiring>(
 }
 
 /// The blocks in these slots, by pairs.
-fn factors_in<'a, S: Semiring>(
+pub(crate) fn factors_in<'a, S: Semiring>(
     alloc: Global,
     store: &'a RankStore<S>,
     products: &[(u16, u16)],

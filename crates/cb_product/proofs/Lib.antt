@@ -17,11 +17,13 @@
 -- AbsentColumns: columns without entries: `all_columns`, `nothing_there`.
 -- OnlyColumns: a matrix without its entries outside given columns: `only_in`, `only_matrix`, `only_column`, `only_value`,
 --   `only_all`; which numbers are among given ones: `among_from`, `among_holds`.
+-- ColumnParts: listed columns of a matrix, one part after another: `parts_matrix`, `parts_joined`, `two_matrix`, `two_joined`;
+--   with all columns they are the matrix, `whole_part`.
 -- Panels: products with some columns, one after another: `panels_matrix`, `panels_joined`, `both_matrix`, `both_joined`;
 --   with all columns they are the product, `whole_panel`.
 -- SeveralProducts: a matrix plus a product is a matrix, `sum_matrix`, whose columns are `sum_at`, inside columns `sum_in`; so
---   is a matrix plus several products: `plus_matrix`, `plus_shape`, `plus_at`, `plus_in`; built column by column: `plus_start`,
---   `plus_more`, `plus_all`; products that add nothing: `one_nothing`; a column of the sum: `terms_step`, `terms_end`,
+--   is a matrix plus several products: `pairs_matrix`, `plus_matrix`, `plus_shape`, `plus_at`, `plus_in`; built column by
+--   column: `plus_start`, `plus_more`, `plus_all`, `sum_here`; products that add nothing: `one_nothing`; a column of the sum: `terms_step`, `terms_end`,
 --   `terms_all_past`; and the element at hand of a list: `item_has`, `mapped_has`.
 -- EmptyFactors: a product with a matrix without entries has none: `product_vanishes`.
 -- Outside: a column without its entries in excluded rows; `among_none`.
@@ -34,6 +36,7 @@ pub mod ProductColumns
 pub mod OwnColumn
 pub mod AbsentColumns
 pub mod OnlyColumns
+pub mod ColumnParts
 pub mod Panels
 pub mod EmptyFactors
 pub mod SeveralProducts

@@ -1,16 +1,14 @@
 -- Products with listed columns of the right matrix, appended to one another.
-use Rattle.std.proofs.Common.{◌≡◌, ℕ, ◌+◌, ◌<◌, true, false, true≢false, inl, Result, Ok, Err, List, [], ◌++◌, length, length-append, get_or, sym, refl, ap, ◌∙◌, ⊎_elim, arith, subst}
-use Rattle.std.specs.Prelude.{IfOk, All, AllPairs, Contains}
-use Rattle.std.proofs.lemmas.Bool.{cases_Bool, false_from_ne_true}
+use Rattle.std.proofs.Common.{◌≡◌, ℕ, ◌<◌, true, false, inl, Result, Ok, Err, List, [], ◌++◌, sym, refl, ap, ◌∙◌, ⊎_elim, subst}
+use Rattle.std.specs.Prelude.{IfOk, All, AllPairs}
+use Rattle.std.proofs.lemmas.Bool.{cases_Bool}
 use Rattle.std.specs.List.{range_with_len}
-use Rattle.std.proofs.lemmas.List.{get_or_append_left, get_or-append-add, get_or_default}
-use Rattle.std.proofs.lemmas.List.Elements.{All-weaker, Contains-append_left, Contains-append_right, Contains-append_cases}
+use Rattle.std.proofs.lemmas.List.Elements.{All-weaker}
 use Rattle.cb_semirings.specs.Arithmetic.{Arithmetic, IsSemiring}
-use Rattle.cb_matrix.specs.declared.Entry.{Entry}
-use Rattle.cb_matrix.specs.Sparse.{Sparse, IsMatrix, IsBefore, is_at, at}
+use Rattle.cb_matrix.specs.Sparse.{Sparse, IsMatrix, IsBefore, at}
 use Rattle.cb_matrix.specs.Values.{product, product_shape}
-use Rattle.cb_matrix.proofs.Places.{is_at-parts, value_at-append_left, value_at-append_right}
-use Rattle.cb_matrix.proofs.Made.{columns_all, at-matrix_of, IsMatrix-matrix_of, NoneAt}
+use Rattle.cb_matrix.proofs.Places.{value_at-append_left, value_at-append_right}
+use Rattle.cb_matrix.proofs.Made.{columns_all, at-matrix_of, IsMatrix-matrix_of}
 use Rattle.cb_matrix.proofs.Equal.{matrix_is}
 use Rattle.cb_matrix.proofs.Totals.{total-same}
 use Rattle.cb_dcsc.specs.Columns.{in_column, rows_of, values_of, with_entries}
@@ -18,38 +16,9 @@ use Rattle.cb_dcsc.proofs.Appended.{matrix_append}
 use Rattle.cb_product.specs.InColumns.{AreInColumns, is_among, only_columns}
 use Rattle.cb_product.specs.Terms.{column_sum}
 use Rattle.cb_product.proofs.AbsentColumns.{nothing_there}
-use Rattle.cb_product.proofs.OnlyColumns.{among_from, among_holds, not_among, only_in, only_matrix, only_value, only_all}
+use Rattle.cb_product.proofs.ColumnParts.{ahead, apart, among_first, among_second, among_neither, none_in}
+use Rattle.cb_product.proofs.OnlyColumns.{not_among, only_in, only_matrix, only_value, only_all}
 use Rattle.cb_product.proofs.ProductColumns.{inner, inner_value, stored_sum}
-
--- each column of the first list is before each of the second
-ahead : (xs ys : List ℕ) (c d : ℕ) → AllPairs (λ c d. c < d) (xs ++ ys) → is_among xs c ≡ true → is_among ys d ≡ true → c < d
-ahead xs ys c d up x y =
-    let k = among_holds xs c x in
-    let m = among_holds ys d y in
-    let kl = k.1 in
-    let ml = m.1 in
-    let long = length-append xs ys in
-    let less : get_or (xs ++ ys) k.0 c < get_or (xs ++ ys) (length xs + m.0) c = up k.0 (length xs + m.0) c (omega arith) (omega arith) in
-    let first : get_or (xs ++ ys) k.0 c ≡ c = get_or_append_left xs ys c k.0 kl ∙ k.2 in
-    let second : get_or (xs ++ ys) (length xs + m.0) c ≡ get_or ys m.0 c = get_or-append-add xs ys m.0 c in
-    let same : get_or ys m.0 c ≡ d = get_or_default ys m.0 c d ml ∙ m.2 in
-    omega arith
-
--- a column of the second list isn't in the first
-apart : (xs ys : List ℕ) (j : ℕ) → AllPairs (λ c d. c < d) (xs ++ ys) → is_among ys j ≡ true → is_among xs j ≡ false
-apart xs ys j up y = false_from_ne_true (is_among xs j) (λ x. let l = ahead xs ys j j up x y in absurd (omega arith))
-
-among_first : (xs ys : List ℕ) (j : ℕ) → is_among xs j ≡ true → is_among (xs ++ ys) j ≡ true
-among_first xs ys j h = among_from (xs ++ ys) j (Contains-append_left xs ys j (among_holds xs j h))
-
-among_second : (xs ys : List ℕ) (j : ℕ) → is_among ys j ≡ true → is_among (xs ++ ys) j ≡ true
-among_second xs ys j h = among_from (xs ++ ys) j (Contains-append_right xs ys j (among_holds ys j h))
-
--- entries in listed columns have no value in another column
-none_in : (cs : List ℕ) (es : List Entry) (i j : ℕ) → All (λ e. is_among cs e.column ≡ true) es → is_among cs j ≡ false → NoneAt i j es
-none_in cs es i j h f =
-    All-weaker (λ e. is_among cs e.column ≡ true) (λ e. is_at i j e ≡ false)
-    (λ e t. false_from_ne_true (is_at i j e) (λ here. let q = is_at-parts e i j here in absurd (true≢false (sym t ∙ ap (is_among cs) (sym q.1) ∙ f)))) es h
 
 module _ (s : Arithmetic) (laws : IsSemiring s) (a b : Sparse) (p : IsMatrix s a) (q : IsMatrix s b) (agree : a.shape.cols ≡ b.shape.rows) where
   -- the product with these columns
@@ -100,8 +69,7 @@ module _ (s : Arithmetic) (laws : IsSemiring s) (a b : Sparse) (p : IsMatrix s a
         ∙ at-matrix_of s (product_shape a b) (inner s a (only_columns xs b)) i j li lj
         ∙ ⊎_elim
         (λ (x : is_among xs j ≡ true). same_sum xs (xs ++ ys) i j x (among_first xs ys j x))
-        (λ (x : is_among xs j ≡ false). no_sum xs i j x ∙ sym (no_sum (xs ++ ys) i j (false_from_ne_true (is_among (xs ++ ys) j) (λ both.
-        ⊎_elim (λ (c : Contains xs j). true≢false (sym (among_from xs j c) ∙ x)) (λ (c : Contains ys j). true≢false (sym (among_from ys j c) ∙ n)) (Contains-append_cases xs ys j (among_holds (xs ++ ys) j both))))))
+        (λ (x : is_among xs j ≡ false). no_sum xs i j x ∙ sym (no_sum (xs ++ ys) i j (among_neither xs ys j x n)))
         (cases_Bool (is_among xs j)))
         (cases_Bool (is_among ys j)))
 

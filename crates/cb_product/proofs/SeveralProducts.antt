@@ -1,9 +1,9 @@
 -- A matrix plus several products, column by column.
 use Rattle.std.proofs.Common.{◌≡◌, ◌≢◌, ℕ, ◌+◌, ◌<◌, ◌≤◌, true, false, List, [], ◌∷◌, length, map, drop, get_or, sym, refl, subst, ap, ◌∙◌, ◌⊎◌, ⊎_elim, arith}
-use Rattle.std.specs.Prelude.{All, Contains}
+use Rattle.std.specs.Prelude.{All, AllPairs, Contains}
 use Rattle.std.proofs.lemmas.Bool.{cases_Bool, cases_lt}
 use Rattle.std.proofs.lemmas.List.{get_or-map, length-map, at_drop_more, drop_all}
-use Rattle.std.proofs.lemmas.List.Elements.{All-head, All-tail}
+use Rattle.std.proofs.lemmas.List.Elements.{All-head, All-tail, All-map, All-weaker}
 use Rattle.cb_semirings.specs.Arithmetic.{Arithmetic, IsSemiring}
 use Rattle.cb_matrix.specs.Sparse.{Sparse, Extent, IsMatrix, at}
 use Rattle.cb_matrix.specs.Values.{product, product_shape, empty_matrix}
@@ -15,14 +15,14 @@ use Rattle.cb_dcsc.specs.Columns.{in_column, rows_of, values_of}
 use Rattle.cb_dcsc.proofs.Lookup.{all_rows_inside, rows_inside}
 use Rattle.cb_product.specs.declared.several.Factors.{Factors}
 use Rattle.cb_product.specs.declared.sources.Source.{Source}
-use Rattle.cb_product.specs.InColumns.{AreInColumns, is_among}
-use Rattle.cb_product.specs.SeveralProducts.{pairs_in, plus_products, MakeShape, AreColumnsOf}
+use Rattle.cb_product.specs.InColumns.{AreInColumns, is_among, only_columns}
+use Rattle.cb_product.specs.SeveralProducts.{pairs_in, plus_products, AreMatrices, MakeShape}
 use Rattle.cb_product.specs.Sources.{IsSource, HasTerms, HasTermsOf, column_terms, source_pair, source_pairs, plus_terms}
 use Rattle.cb_product.specs.SparseColumn.{AreEntries}
 use Rattle.cb_product.specs.Terms.{column_sum, terms_at}
 use Rattle.cb_product.proofs.ColumnsMade.{IsMadeTo, walk_none, walk_more, walk_all, absent_value}
 use Rattle.cb_product.proofs.EmptyFactors.{nothing_added}
-use Rattle.cb_product.proofs.OnlyColumns.{among_holds, not_among}
+use Rattle.cb_product.proofs.OnlyColumns.{among_at, among_holds, not_among, only_in, only_matrix, only_value}
 use Rattle.cb_product.proofs.OwnColumn.{own_sparse}
 use Rattle.cb_product.proofs.ProductColumns.{inner, inner_value, stored_sum, absent_sum}
 use Rattle.cb_product.proofs.StoredColumn.{AddsColumn}
@@ -111,9 +111,31 @@ own_entries s acc is j bound rows rs vs rows_are values_are =
       are_values = column.are_values;
     }
 
+-- ---- a matrix plus the products of pairs
+module _ (s : Arithmetic) (laws : IsSemiring s) where
+  next_matrix : (acc : Sparse) (p : Sparse × Sparse) → IsMatrix s acc → AreMatrices s p → MakeShape acc.shape p → IsMatrix s (sum_of s acc (product s p.0 p.1))
+  next_matrix acc p is both fits = sum_matrix s laws acc p.0 p.1 is both.0 both.1 fits.agree fits.shape
+
+  -- it is a matrix
+  pub pairs_matrix : (acc : Sparse) (ps : List (Sparse × Sparse)) → IsMatrix s acc → All (AreMatrices s) ps → All (MakeShape acc.shape) ps → IsMatrix s (plus_products s acc ps)
+  pairs_matrix acc [] is both fit = is
+  pairs_matrix acc (p ∷ ps) is both fit =
+      pairs_matrix (sum_of s acc (product s p.0 p.1)) ps (next_matrix acc p is (All-head (AreMatrices s) p ps both) (All-head (MakeShape acc.shape) p ps fit)) (All-tail (AreMatrices s) p ps both) (All-tail (MakeShape acc.shape) p ps fit)
+
+  -- its entries are in columns that have all entries of the matrix and of the right factors
+  pub plus_in : (cs : List ℕ) (acc : Sparse) (ps : List (Sparse × Sparse)) → IsMatrix s acc → All (AreMatrices s) ps → All (MakeShape acc.shape) ps → AreInColumns cs acc.entries → All (λ (p : Sparse × Sparse). AreInColumns cs p.1.entries) ps → AreInColumns cs (plus_products s acc ps).entries
+  plus_in cs acc [] is both fit own rights = own
+  plus_in cs acc (p ∷ ps) is both fit own rights =
+      let here = All-head (AreMatrices s) p ps both in
+      let fits = All-head (MakeShape acc.shape) p ps fit in
+      plus_in cs (sum_of s acc (product s p.0 p.1)) ps (next_matrix acc p is here fits) (All-tail (AreMatrices s) p ps both) (All-tail (MakeShape acc.shape) p ps fit)
+      (sum_in s laws acc p.0 p.1 is here.0 here.1 fits.agree fits.shape cs own (All-head (λ (p : Sparse × Sparse). AreInColumns cs p.1.entries) p ps rights))
+      (All-tail (λ (p : Sparse × Sparse). AreInColumns cs p.1.entries) p ps rights)
+
 -- ---- a matrix plus the products of several sources
-abbrev pub sums_at : {T : Type 0} → Arithmetic → Sparse → List (Source T) → ℕ → ℕ → ℕ
-sums_at s acc xs i j = at s (plus_products s acc (source_pairs xs)) i j
+-- what it has in listed columns
+abbrev pub sums_at : {T : Type 0} → Arithmetic → Sparse → List (Source T) → List ℕ → ℕ → ℕ → ℕ
+sums_at s acc xs cs i j = at s (only_columns cs (plus_products s acc (source_pairs xs))) i j
 
 module _ {T : Type 0} (s : Arithmetic) (laws : IsSemiring s) where
   abbrev sum : Sparse → Source T → Sparse
@@ -128,27 +150,18 @@ module _ {T : Type 0} (s : Arithmetic) (laws : IsSemiring s) where
   one_matrix : (acc : Sparse) (x : Source T) → IsMatrix s acc → IsSource s x → MakeShape acc.shape (source_pair x) → IsMatrix s (sum acc x)
   one_matrix acc x is source fits = sum_matrix s laws acc x.left.now x.right.now is source.left source.right fits.agree fits.shape
 
+  -- the factors of sources are matrices
+  pub sources_both : (xs : List (Source T)) → All (IsSource s) xs → All (AreMatrices s) (source_pairs xs)
+  sources_both xs sources = All-map (AreMatrices s) source_pair xs (All-weaker (IsSource s) (λ (x : Source T). AreMatrices s (source_pair x)) (λ x i. (i.left, i.right)) xs sources)
+
   -- it is a matrix
   pub plus_matrix : (acc : Sparse) (xs : List (Source T)) → IsMatrix s acc → All (IsSource s) xs → Shape acc.shape xs → IsMatrix s (all acc xs)
-  plus_matrix acc [] is sources fit = is
-  plus_matrix acc (x ∷ xs) is sources fit =
-      plus_matrix (sum acc x) xs (one_matrix acc x is (All-head (IsSource s) x xs sources) (All-head (MakeShape acc.shape) (source_pair x) (source_pairs xs) fit))
-      (All-tail (IsSource s) x xs sources) (All-tail (MakeShape acc.shape) (source_pair x) (source_pairs xs) fit)
+  plus_matrix acc xs is sources fit = pairs_matrix s laws acc (source_pairs xs) is (sources_both xs sources) fit
 
   -- of the same shape
   pub plus_shape : (acc : Sparse) (xs : List (Source T)) → (all acc xs).shape ≡ acc.shape
   plus_shape acc [] = refl
   plus_shape acc (x ∷ xs) = plus_shape (sum acc x) xs
-
-  -- its entries are in columns that have all entries of the matrix and of the right factors
-  pub plus_in : (cs : List ℕ) (acc : Sparse) (xs : List (Source T)) → IsMatrix s acc → All (IsSource s) xs → Shape acc.shape xs → AreInColumns cs acc.entries → All (λ (p : Sparse × Sparse). AreInColumns cs p.1.entries) (source_pairs xs) → AreInColumns cs (all acc xs).entries
-  plus_in cs acc [] is sources fit own rights = own
-  plus_in cs acc (x ∷ xs) is sources fit own rights =
-      let source = All-head (IsSource s) x xs sources in
-      let fits = All-head (MakeShape acc.shape) (source_pair x) (source_pairs xs) fit in
-      plus_in cs (sum acc x) xs (one_matrix acc x is source fits) (All-tail (IsSource s) x xs sources) (All-tail (MakeShape acc.shape) (source_pair x) (source_pairs xs) fit)
-      (sum_in s laws acc x.left.now x.right.now is source.left source.right fits.agree fits.shape cs own (All-head (λ (p : Sparse × Sparse). AreInColumns cs p.1.entries) (source_pair x) (source_pairs xs) rights))
-      (All-tail (λ (p : Sparse × Sparse). AreInColumns cs p.1.entries) (source_pair x) (source_pairs xs) rights)
 
   -- at each row of a column, it has the matrix's value plus the terms of that column
   pub plus_at : (acc : Sparse) (xs : List (Source T)) → IsMatrix s acc → All (IsSource s) xs → Shape acc.shape xs → (i j : ℕ) → j < acc.shape.cols → All (HasTermsOf s j) xs → (v : ℕ) → v ≡ at s acc i j → plus_terms s i xs v ≡ at s (all acc xs) i j
@@ -163,27 +176,31 @@ module _ {T : Type 0} (s : Arithmetic) (laws : IsSemiring s) where
       (s.add v (terms_at s x.left.now i (column_terms x)))
       ((λ t. s.add (same t) (has.sums i t)) ∙ sym (sum_at s laws acc x.left.now x.right.now is source.left source.right fits.agree shape i j (omega arith)))
 
-  -- ---- the columns of the sum, one after another
-  module _ (acc : Sparse) (xs : List (Source T)) (is : IsMatrix s acc) (sources : All (IsSource s) xs) (fit : Shape acc.shape xs) (cs : List ℕ) (columns : AreColumnsOf cs acc (source_pairs xs)) where
+  -- ---- listed columns of the sum, one after another
+  module _ (acc : Sparse) (xs : List (Source T)) (is : IsMatrix s acc) (sources : All (IsSource s) xs) (fit : Shape acc.shape xs) (cs : List ℕ) (up : AllPairs (λ c d. c < d) cs) (within : All (λ c. c < acc.shape.cols) cs) where
     abbrev sums : ℕ → ℕ → ℕ
-    sums = sums_at s acc xs
+    sums = sums_at s acc xs cs
 
     no_sum : (i j : ℕ) → All (λ c. c ≢ j) cs → sums i j ≡ s.zero
-    no_sum i j h = absent_value s.zero (all acc xs).entries cs i j (plus_in cs acc xs is sources fit columns.own columns.rights) h
+    no_sum i j h = absent_value s.zero (only_columns cs (all acc xs)).entries cs i j (only_in cs (all acc xs)) h
+
+    -- a listed column has the sum's values
+    pub sum_here : (n i : ℕ) → n < length cs → at s (all acc xs) i (get_or cs n 0) ≡ sums i (get_or cs n 0)
+    sum_here n i l = sym (only_value s.zero cs (all acc xs) i (get_or cs n 0) (among_at cs n 0 l))
 
     -- before the first listed column
     pub plus_start : (out : Sparse) → IsMatrix s out → out ≡ empty_matrix acc.shape → IsMadeTo s acc.shape sums (get_or cs 0 acc.shape.cols) out
-    plus_start out is_out e = walk_none s acc.shape sums cs columns.ascending columns.within no_sum out is_out e
+    plus_start out is_out e = walk_none s acc.shape sums cs up within no_sum out is_out e
 
     -- with one more listed column
     pub plus_more : (old new : Sparse) (n : ℕ) (f : ℕ → ℕ) → n < length cs → AddsColumn s (get_or cs n 0) f old new → ((i : ℕ) → f i ≡ sums i (get_or cs n 0)) → IsMadeTo s acc.shape sums (get_or cs n acc.shape.cols) old → IsMadeTo s acc.shape sums (get_or cs (n + 1) acc.shape.cols) new
-    plus_more old new n f l adds same h = walk_more s acc.shape sums cs columns.ascending columns.within no_sum old new n f l adds same h
+    plus_more old new n f l adds same h = walk_more s acc.shape sums cs up within no_sum old new n f l adds same h
 
-    -- with all listed columns, it is the sum
-    pub plus_all : (out : Sparse) (n : ℕ) → length cs ≤ n → IsMadeTo s acc.shape sums (get_or cs n acc.shape.cols) out → out ≡ all acc xs
+    -- with all listed columns, it has these columns of the sum
+    pub plus_all : (out : Sparse) (n : ℕ) → length cs ≤ n → IsMadeTo s acc.shape sums (get_or cs n acc.shape.cols) out → out ≡ only_columns cs (all acc xs)
     plus_all out n l h =
-        walk_all s acc.shape sums cs columns.ascending columns.within no_sum laws out n l h
-        ∙ sym (matrix_is s laws (all acc xs) acc.shape sums (plus_matrix acc xs is sources fit) (plus_shape acc xs) (λ i j _ _. refl))
+        walk_all s acc.shape sums cs up within no_sum laws out n l h
+        ∙ sym (matrix_is s laws (only_columns cs (all acc xs)) acc.shape sums (only_matrix s cs (all acc xs) (plus_matrix acc xs is sources fit)) (plus_shape acc xs) (λ i j _ _. refl))
 
 -- ---- products without terms
 -- a product that adds nothing can be left out

@@ -1,7 +1,7 @@
 -- A matrix plus several products.
 use Rattle.std.specs.Prelude.{◌≡◌, ℕ, ◌<◌, List, [], ◌∷◌, map, All, AllPairs}
 use Rattle.cb_semirings.specs.Arithmetic.{Arithmetic}
-use Rattle.cb_matrix.specs.Sparse.{Sparse, Extent}
+use Rattle.cb_matrix.specs.Sparse.{Sparse, Extent, IsMatrix}
 use Rattle.cb_matrix.specs.Values.{product, product_shape}
 use Rattle.cb_matrix.specs.Operations.{sum_of}
 use Rattle.cb_product.specs.declared.several.Factors.{Factors}
@@ -18,6 +18,10 @@ pairs_in fs = map pair_of fs
 abbrev pub plus_products : Arithmetic → Sparse → List (Sparse × Sparse) → Sparse
 plus_products s acc [] = acc
 plus_products s acc (p ∷ ps) = plus_products s (sum_of s acc (product s p.0 p.1)) ps
+
+-- both of a pair are matrices
+abbrev pub AreMatrices : Arithmetic → Sparse × Sparse → Type 0
+AreMatrices s p = IsMatrix s p.0 × IsMatrix s p.1
 
 -- two matrices have a product, of this shape
 pub record MakeShape (extent : Extent) (p : Sparse × Sparse) : Type 0 where

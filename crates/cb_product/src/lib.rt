@@ -34,7 +34,10 @@ pub use crate::column_index::ColumnIndex;
 pub use crate::counts::{LEAST_PRODUCTS, products_of_column, products_of_columns, total_products};
 use crate::panel::Panel;
 pub use crate::product_column::ProductColumn;
-pub use crate::several::{Factors, multiply_all_into};
+pub use crate::several::{
+    Factors, columns_of_sum, estimated_products, first_columns, multiply_all_columns,
+    multiply_all_into,
+};
 use crate::terms::products_of;
 use crate::workspace::Workspace;
 use cb_dcsc::Block;
@@ -171,7 +174,7 @@ fn accumulate_columns<S: Semiring>(
     ensures { IfOk result (λ m. m ≡ sum_of S.arithmetic accumulator.now (product S.arithmetic left.now (only_columns columns.now right.now))) }
 {
     let mut work = Workspace::new(alloc)?;
-    let mut panel = Panel::new(alloc);
+    let mut panel = Panel::new(alloc, 1);
     let room = room_for(left.len(), right.len(), accumulator.len(), room);
     let mut out = with_room(alloc, accumulator, room);
     make_columns(

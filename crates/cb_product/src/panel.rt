@@ -16,7 +16,7 @@ use cb_semirings::Semiring;
 use std::alloc::{AllocError, Global};
 
 /// The terms of this many entries are gathered at once, or of more if a column has more: few enough for what is fetched to
-/// stay in the processor's first cache until it is used.
+/// stay in the processor's first cache until it is used. The panels of several products share this number.
 const ENTRIES: usize = 32;
 
 /// The terms of some entries of a list that follow one another: columns of the left block, times factors.
@@ -27,11 +27,13 @@ pub(crate) struct Panel {
     places: Vec<usize>,
     /// The place of the first of these entries among all.
     first: usize,
+    /// The terms of this many entries are gathered at once, or of more if a column has more.
+    most: usize,
 }
 
 impl Panel {
-    /// Returns a panel without entries.
-    pub fn new(alloc: Global) -> Self
+    /// Returns a panel without entries. It is one of this many.
+    pub fn new(alloc: Global, count: usize) -> Self
         ensures places { result.places.items ≡ [] }
         ensures first { result.first ≡ 0 }
         ensures terms { result.terms.items ≡ [] }
@@ -40,6 +42,7 @@ impl Panel {
             terms: Vec::new(alloc),
             places: Vec::new(alloc),
             first: 0,
+            most: ENTRIES / count.max(1),
         }
     }
 
@@ -125,7 +128,7 @@ impl Panel {
         ensures gathered { OnOk result (AreGathered S.arithmetic left.now rows.now values.now self.new) }
         ensures holds { OnOk result (Holds self.new from until) }
     {
-        let last = from.saturating_add(ENTRIES).min(rows.len()).max(until);
+        let last = from.saturating_add(self.most).min(rows.len()).max(until);
         let (left_rows, left_values) = (left.row_numbers(), left.values());
         self.first = from;
         self.terms.clear();

@@ -52,7 +52,7 @@ impl<S: Semiring> ProductColumn<S> {
         Ok(ProductColumn {
             alloc,
             work: Workspace::new(alloc)?,
-            panel: Panel::new(alloc),
+            panel: Panel::new(alloc, 1),
             excluded: Vec::new(alloc),
             seen: 0,
             complete: true,

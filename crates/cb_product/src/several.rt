@@ -1,17 +1,20 @@
 //! Several products added to one accumulator, in one pass over the columns.
 //!
 //! Column j of the result is the accumulator's column plus the terms of all products. No block is built for a sum in between.
-ghost use Rattle.std.specs.Prelude.{◌≡◌, ◌⊎◌, true, [], All, IfOk, IfErr, OnOk};
+//! Several threads can each make some of the columns, as parts that are appended to one another.
+ghost use Rattle.std.specs.Prelude.{◌≡◌, ◌⊎◌, ◌<◌, ◌≤◌, true, [], length, All, AllPairs, IfOk, IfErr, OnOk};
 ghost use Rattle.cb_matrix.specs.Sparse.{IsMatrix};
 ghost use Rattle.cb_matrix.specs.Values.{empty_matrix};
-ghost use Rattle.cb_product.specs.SeveralProducts.{pairs_in, plus_products, MakeShape, AreColumnsOf};
+ghost use Rattle.cb_product.specs.SeveralProducts.{pairs_in, plus_products, AreMatrices, MakeShape, AreColumnsOf};
+ghost use Rattle.cb_product.specs.InColumns.{only_columns};
 ghost use Rattle.cb_product.specs.SparseColumn.{AreEntries};
 ghost use Rattle.cb_product.specs.Sources.{IsSource, HasTerms, source_pairs, IsColumnWithAll};
 
 use crate::columns::{Column, of_next, union};
+use crate::counts::products_of_column;
 use crate::sources::{Source, gather_all, sources_of};
 use crate::workspace::Workspace;
-use crate::{is_dense, most_entries, room_for, with_room};
+use crate::{first_place, is_dense, most_entries, room_for, with_room};
 use cb_dcsc::Block;
 use cb_semirings::Semiring;
 use std::alloc::{AllocError, Global};
@@ -81,15 +84,97 @@ fn all_added<S: Semiring>(
     requires { All (MakeShape accumulator.now.shape) (pairs_in products.now) }
     ensures { IfOk result (λ m. m ≡ plus_products S.arithmetic accumulator.now (pairs_in products.now)) }
 {
-    let columns = columns_of(alloc, products, accumulator)?;
+    let columns = columns_of_sum(alloc, products, accumulator)?;
     let mut sources = sources_of(alloc, products)?;
     let mut out = room_of(alloc, &sources, accumulator, columns.len());
     make_all_columns(alloc, &mut sources, accumulator, &columns, &mut out)?;
     Ok(out)
 }
 
+/// Returns some columns of an accumulator plus the products of pairs of blocks, in a block with the shape of the whole sum. Such
+/// parts can be computed by several threads, and appended to one another.
+///
+/// The columns ascend. Each call makes its own index of the left blocks' columns. Room is taken for as many entries as
+/// `parts` parts like this one can have, unless it is refused. Costs the products of these columns, and copies the
+/// accumulator's entries in them.
+pub fn multiply_all_columns<S: Semiring>(
+    alloc: Global,
+    products: &[Factors<'_, S>],
+    accumulator: &Block<S>,
+    columns: &[u32],
+    parts: u32,
+) -> Result<Block<S>, AllocError>
+    requires shapes { All (MakeShape accumulator.now.shape) (pairs_in products.now) }
+    requires ascending { AllPairs (λ c d. c < d) columns.now }
+    requires within { All (λ c. c < accumulator.now.shape.cols) columns.now }
+    ensures columns { IfOk result (λ m. m ≡ only_columns columns.now (plus_products S.arithmetic accumulator.now (pairs_in products.now))) }
+    ensures matrices { OnOk result (All (AreMatrices S.arithmetic) (pairs_in products.now)) }
+{
+    let mut sources = sources_of(alloc, products)?;
+    let room = most_entries_in(&sources, accumulator, columns);
+    let mut out = with_room(alloc, accumulator, room.saturating_mul(parts as usize));
+    make_all_columns(alloc, &mut sources, accumulator, columns, &mut out)?;
+    Ok(out)
+}
+
+/// Returns about how many products of two values these products have: as if each entry of a right block met an average column
+/// of the left one.
+pub fn estimated_products<S: Semiring>(products: &[Factors<'_, S>]) -> usize {
+    let mut count = 0usize;
+    for factors in products {
+        let columns = factors.left.columns().max(1);
+        let average = (factors.left.len() / columns).saturating_add(1);
+        count = count.saturating_add(factors.right.len().saturating_mul(average));
+    }
+    count
+}
+
+/// Returns how many of these columns make up the first `low` of `count` parts: those with that share of the entries of the
+/// accumulator and of the right blocks. The columns ascend.
+pub fn first_columns<S: Semiring>(
+    products: &[Factors<'_, S>],
+    accumulator: &Block<S>,
+    columns: &[u32],
+    low: u32,
+    count: u32,
+) -> usize
+    requires { 0 < count }
+    ensures { result ≤ length columns.now }
+{
+    let (Some(first), Some(last)) = (columns.first(), columns.last()) else {
+        return 0;
+    };
+    let begin = all_before(products, accumulator, *first);
+    let each = all_before(products, accumulator, *last).saturating_sub(begin) / count as usize;
+    let end = begin.saturating_add(each.saturating_mul(low as usize));
+    columns.partition_point(|column| all_before(products, accumulator, *column) < end)
+}
+
+/// Returns how many entries the accumulator and the right blocks have before a column.
+fn all_before<S: Semiring>(
+    products: &[Factors<'_, S>],
+    accumulator: &Block<S>,
+    column: u32,
+) -> usize {
+    let mut entries = before(accumulator, column);
+    for factors in products {
+        entries = entries.saturating_add(before(factors.right, column));
+    }
+    entries
+}
+
+/// Returns how many entries a block has before a column.
+fn before<S: Semiring>(block: &Block<S>, column: u32) -> usize {
+    let place = first_place(block.column_numbers(), &[column]);
+    if place < block.columns() {
+        let (start, _) = block.nth_range(place);
+        return start;
+    }
+    block.len()
+}
+
 /// Returns the columns in which the accumulator or a right block has entries, ascending.
-fn columns_of<S: Semiring>(
+pub fn columns_of_sum<S: Semiring>(
     alloc: Global,
     products: &[Factors<'_, S>],
     accumulator: &Block<S>,
@@ -114,6 +199,7 @@ fn room_of<S: Semiring>(
 ) -> Block<S>
     requires { All (IsSource S.arithmetic) sources.now }
     ensures value { result ≡ empty_matrix accumulator.now.shape }
+    ensures accumulator { IsMatrix S.arithmetic accumulator.now }
     ensures matrix { IsMatrix S.arithmetic result }
 {
     let (mut most, mut left, mut right) = (0usize, 0usize, 0usize);
@@ -128,6 +214,44 @@ fn room_of<S: Semiring>(
     with_room(alloc, accumulator, room)
 }
 
+/// Returns how many entries the given columns of the sum can have.
+fn most_entries_in<S: Semiring>(
+    sources: &[Source<'_, S>],
+    accumulator: &Block<S>,
+    columns: &[u32],
+) -> usize
+    requires { All (IsSource S.arithmetic) sources.now }
+{
+    let (mut most, mut left, mut right) = (0usize, 0usize, 0usize);
+    for source in sources {
+        most = most.saturating_add(products_in(source, columns));
+        left = left.saturating_add(source.left.len());
+        right = right.saturating_add(source.right.len());
+    }
+    let places = columns
+        .len()
+        .saturating_mul(accumulator.shape().rows() as usize);
+    room_for(left, right, accumulator.len(), most.min(places))
+}
+
+/// Returns how many products the columns from the first to the last of the given ones have.
+fn products_in<S: Semiring>(source: &Source<'_, S>, columns: &[u32]) -> usize
+    requires { IsSource S.arithmetic source.now }
+{
+    let Some(last) = columns.last() else {
+        return 0;
+    };
+    let numbers = source.right.column_numbers();
+    let begin = first_place(numbers, columns);
+    let end = first_place(numbers, &[*last]).saturating_add(1);
+    let mut count = 0usize;
+    for n in begin..end.min(source.right.columns()) {
+        let more = products_of_column(source.left, &source.index, source.right, n);
+        count = count.saturating_add(more);
+    }
+    count
+}
+
 /// Computes the given columns of the sum one after another, and stores them in `out`, a block without entries.
 fn make_all_columns<S: Semiring>(
     alloc: Global,
@@ -138,10 +262,11 @@ fn make_all_columns<S: Semiring>(
 ) -> Result<(), AllocError>
     requires sources { All (IsSource S.arithmetic) sources.old }
     requires shapes { All (MakeShape accumulator.now.shape) (source_pairs sources.old) }
-    requires columns { AreColumnsOf columns.now accumulator.now (source_pairs sources.old) }
+    requires ascending { AllPairs (λ c d. c < d) columns.now }
+    requires within { All (λ c. c < accumulator.now.shape.cols) columns.now }
     requires empty { out.old ≡ empty_matrix accumulator.now.shape }
     requires matrix { IsMatrix S.arithmetic out.old }
-    ensures { OnOk result (out.new ≡ plus_products S.arithmetic accumulator.now (source_pairs sources.old)) }
+    ensures { OnOk result (out.new ≡ only_columns columns.now (plus_products S.arithmetic accumulator.now (source_pairs sources.old))) }
 {
     let rows = accumulator.shape().rows();
     let mut work = Workspace::new(alloc)?;

@@ -27,8 +27,8 @@ pub(crate) struct Source<'a, S: Semiring> {
 }
 
 impl<'a, S: Semiring> Source<'a, S> {
-    /// Returns a product, without terms so far.
-    pub fn new(alloc: Global, factors: &Factors<'a, S>) -> Result<Self, AllocError>
+    /// Returns a product, without terms so far. It is one of this many.
+    pub fn new(alloc: Global, factors: &Factors<'a, S>, count: usize) -> Result<Self, AllocError>
         requires { factors.now.left.now.shape.cols ≡ factors.now.right.now.shape.rows }
         ensures source { IfOk result (IsSource S.arithmetic) }
         ensures pair { IfOk result (λ x. source_pair x ≡ pair_of factors.now) }
@@ -40,7 +40,7 @@ impl<'a, S: Semiring> Source<'a, S> {
             right,
             index: ColumnIndex::new(alloc, left, right.len())?,
             next: 0,
-            panel: Panel::new(alloc),
+            panel: Panel::new(alloc, count),
             begin: 0,
             end: 0,
         })
@@ -86,7 +86,7 @@ pub(crate) fn sources_of<'a, S: Semiring>(
 {
     let mut sources = Vec::with_capacity(alloc, products.len())?;
     for factors in products {
-        sources.push(Source::new(alloc, factors)?)?;
+        sources.push(Source::new(alloc, factors, products.len())?)?;
     }
     Ok(sources)
 }

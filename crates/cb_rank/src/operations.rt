@@ -14,6 +14,11 @@ use cb_local::{accumulate_all, work};
 use cb_plan::{Op, RankStore, SLOTS, Slot};
 use cb_semirings::Semiring;
 use std::alloc::Global;
+use std::thread;
+use std::thread::Threads;
+
+/// More processors than this aren't counted.
+const MOST_PROCESSORS: usize = 4096;
 
 /// Does an operation on the slots of a rank, and returns whether memory was refused. The slots must have the shapes that
 /// the operation requires.
@@ -54,9 +59,11 @@ pub(crate) fn operate<S: Semiring>(
 }
 
 /// Adds products to a slot, one after the other, from factors in other slots, if no operand is lost. Returns whether it did:
-/// also not if memory is refused. Then nothing changes.
-pub(crate) fn operate_all<S: Semiring>(
+/// also not if memory is refused. Then nothing changes. At most `threads` threads, this one among them, do the work.
+pub(crate) fn operate_all<S: Semiring + Send + Sync, R: Threads + Sync>(
+    rt: &R,
     alloc: Global,
+    threads: u32,
     store: &mut RankStore<S>,
     products: &[(u16, u16)],
     acc: u16,
@@ -70,7 +77,18 @@ pub(crate) fn operate_all<S: Semiring>(
     if is_any_lost(store, products, acc) {
         return false;
     }
-    accumulate_all(alloc, store, products, acc).is_ok()
+    accumulate_all(rt, alloc, threads, store, products, acc).is_ok()
+}
+
+/// By how many threads each of this many ranks may add products: together twice as many as there are processors, since a rank
+/// with few products leaves its processor to others. Each does so alone if there are fewer processors than ranks, or if the
+/// system doesn't report them.
+pub(crate) fn threads_each<R: Threads>(rt: &R, ranks: u16) -> u32 {
+    match thread::available_parallelism(rt) {
+        Ok(processors) => (processors.get().min(MOST_PROCESSORS) * 2
+            / ranks.max(1) as usize) as u32,
+        Err(_) => 1,
+    }
 }
 
 /// Whether a factor of these products is lost, or the slot that they are added to.

@@ -7,7 +7,7 @@ ghost use Rattle.cb_rank.specs.Ranks.{next_half, want_of, new_rank, FitsAt, IsRa
 ghost use Rattle.cb_rank.specs.Steps.{HandsOut, Works, WorksOn, CountsRefusal};
 
 use crate::next_products::NextProducts;
-use crate::operations::{operate, operate_all};
+use crate::operations::{operate, operate_all, threads_each};
 use crate::wants::{Arrival, Stray, Supply, Want};
 use cb_letters::{Body, Letter, Tag};
 use cb_matrix::Shape;
@@ -16,12 +16,15 @@ use cb_semirings::Semiring;
 use std::alloc::{AllocError, Global};
 use std::marker::Model;
 use std::snapshot::Snapshot;
+use std::thread::Threads;
 
 /// One rank of a checked plan.
 #[derive(Drop)]
 pub struct Rank<S: Semiring> {
     alloc: Global,
     plan: Snapshot<CheckedPlan>,
+    /// How many ranks the plan has.
+    ranks: u16,
     me: u16,
     program: Vec<Half>,
     done: usize,
@@ -60,6 +63,7 @@ impl<S: Semiring> Rank<S> {
         Ok(Rank {
             alloc,
             plan: Snapshot::of(plan),
+            ranks: plan.ranks(),
             me: rank,
             program,
             done: 0,
@@ -152,25 +156,6 @@ impl<S: Semiring> Rank<S> {
         self.done += 1;
     }
 
-    /// Does the next halves at once, as many as are Works that add products to the same slot, from factors in other slots.
-    /// Returns whether it did: not if these are fewer than two, if an operand is lost, or if memory is refused. Then nothing
-    /// changes.
-    ///
-    /// Costs less time and memory than the halves one after the other, since no block is made for a sum in between.
-    pub fn work_all(&mut self) -> bool
-        ensures done { result ≡ true → WorksOn S.arithmetic self.old self.new }
-        ensures none { result ≡ false → self.new ≡ self.old }
-    {
-        let Some(next) = NextProducts::of(self.alloc, &self.program[self.done..]) else {
-            return false;
-        };
-        if !operate_all(self.alloc, &mut self.store, &next.factors, next.acc) {
-            return false;
-        }
-        self.done += next.factors.len();
-        true
-    }
-
     /// Does a Shut except for posting the close mark.
     pub fn shut(&mut self)
         requires { IsShut (want_of (next_half self.old)) }
@@ -198,6 +183,31 @@ impl<S: Semiring> Rank<S> {
         fill(&mut self.store, &half, arrival);
         self.done += 1;
         Ok(())
+    }
+}
+
+impl<S: Semiring + Send + Sync> Rank<S> {
+    /// Does the next halves at once, as many as are Works that add products to the same slot, from factors in other slots.
+    /// Returns whether it did: not if these are fewer than two, if an operand is lost, or if memory is refused. Then nothing
+    /// changes.
+    ///
+    /// Costs less time and memory than the halves one after the other, since no block is made for a sum in between. If there are
+    /// as many processors as ranks, or more, and enough products, other threads help. Each makes some of the columns, which
+    /// are then copied once.
+    pub fn work_all<R: Threads + Sync>(&mut self, rt: &R) -> bool
+        ensures done { result ≡ true → WorksOn S.arithmetic self.old self.new }
+        ensures none { result ≡ false → self.new ≡ self.old }
+    {
+        let Some(next) = NextProducts::of(self.alloc, &self.program[self.done..]) else {
+            return false;
+        };
+        let threads = threads_each(rt, self.ranks);
+        let (alloc, store) = (self.alloc, &mut self.store);
+        if !operate_all(rt, alloc, threads, store, &next.factors, next.acc) {
+            return false;
+        }
+        self.done += next.factors.len();
+        true
     }
 }
 

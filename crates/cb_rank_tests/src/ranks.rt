@@ -1,6 +1,7 @@
 //! Two ranks, stepped in turns and on their own threads: what they leave, what their trace records, and what is returned if
 //! one of them is gone or memory is refused.
 ghost use Rattle.std.specs.Prelude.{◌<◌, IfSome};
+ghost use Rattle.std.specs.Thread.{IsSync};
 ghost use Rattle.cb_lanes.specs.Desks.{standing};
 ghost use Rattle.cb_rank.specs.Ranks.{ArePortsOf};
 ghost use Rattle.cb_ranks.specs.Crews.{AreNew};
@@ -100,7 +101,11 @@ fn two_ranks_step_over_their_desks_in_turns(rt: HostRuntime) {
 }
 
 /// What a slot of a rank holds once the rank has run over its desk, unless it gives up.
-fn held_after<R: Wait>(rt: &R, member: Member<PlusTimes>, slot: u16) -> Option<Held>
+fn held_after<R: Threads + Wait + Sync>(
+    rt: &R,
+    member: Member<PlusTimes>,
+    slot: u16,
+) -> Option<Held>
     requires new { IsNewRun member.0 member.1 }
     requires slot { slot < SLOTS }
 {
@@ -123,10 +128,10 @@ fn held_after_both<R: Threads + Wait + Sync>(
     join(
         rt,
         move || -> Option<Held>
-            requires { IsNewRun first.0 first.1 }
+            requires { IsSync R.row × IsNewRun first.0 first.1 }
         { held_after(rt, first, 2) },
         move || -> Option<Held>
-            requires { IsNewRun second.0 second.1 }
+            requires { IsSync R.row × IsNewRun second.0 second.1 }
         { held_after(rt, second, 1) },
     )
 }
@@ -147,7 +152,7 @@ fn two_ranks_run_on_threads_of_the_test(rt: HostRuntime) {
 }
 
 /// The rank that a rank finds gone, if it gives up.
-fn given_up_by<R: Wait>(rt: &R, member: Member<PlusTimes>) -> Option<Gone>
+fn given_up_by<R: Threads + Wait + Sync>(rt: &R, member: Member<PlusTimes>) -> Option<Gone>
     requires { IsNewRun member.0 member.1 }
 {
     let (rank, desk) = member;
@@ -155,7 +160,7 @@ fn given_up_by<R: Wait>(rt: &R, member: Member<PlusTimes>) -> Option<Gone>
 }
 
 /// The rank that the first of two finds gone if the second is.
-fn given_up_by_first<R: Wait>(rt: &R, alloc: Global) -> Option<Gone> {
+fn given_up_by_first<R: Threads + Wait + Sync>(rt: &R, alloc: Global) -> Option<Gone> {
     let (first, second) = pair(alloc)?;
     drop(second);
     given_up_by(rt, first)

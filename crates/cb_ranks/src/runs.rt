@@ -16,6 +16,7 @@ use cb_rank::{Arrival, Rank, Supply, Want};
 use cb_semirings::Semiring;
 use cb_trace::{Envelope, TraceEvent};
 use std::sync::Wait;
+use std::thread::Threads;
 
 /// Does all halves of one rank, in order, on its caller's thread, and returns the rank and its desk. It calls the gate
 /// before each half, and waits until the half can be done. Halves that add products to the same slot, one directly after the
@@ -23,7 +24,7 @@ use std::sync::Wait;
 ///
 /// `Gone` names the rank at the other end of a lane, if its desk is gone, or if something arrived from it that the half
 /// doesn't wait for. The rank and its desk are dropped then, so that a rank that waits for this one finds it gone too.
-pub fn run_rank<S: Semiring, R: Wait, G: Gate<S>>(
+pub fn run_rank<S: Semiring + Send + Sync, R: Threads + Wait + Sync, G: Gate<S>>(
     rt: &R,
     rank: Rank<S>,
     desk: Desk<SharedBlock<S>>,
@@ -38,7 +39,7 @@ pub fn run_rank<S: Semiring, R: Wait, G: Gate<S>>(
 }
 
 /// Does the same as [`run_rank`], and tells a recorder of each event of the rank's program, in order. The recorder is returned too.
-pub fn run_recorded<S: Semiring, R: Wait, G: Gate<S>, T: Recorder>(
+pub fn run_recorded<S: Semiring + Send + Sync, R: Threads + Wait + Sync, G: Gate<S>, T: Recorder>(
     rt: &R,
     rank: Rank<S>,
     desk: Desk<SharedBlock<S>>,
@@ -55,7 +56,7 @@ pub fn run_recorded<S: Semiring, R: Wait, G: Gate<S>, T: Recorder>(
     let mut recorder = recorder;
     while rank.want() != Want::Done {
         gate.pass(desk.rank(), &rank);
-        if does_all(&mut rank, gate.parts_halves()) {
+        if does_all(rt, &mut rank, gate.parts_halves()) {
             continue;
         }
         do_half(rt, &mut rank, &mut desk, &mut recorder)?;
@@ -65,14 +66,18 @@ pub fn run_recorded<S: Semiring, R: Wait, G: Gate<S>, T: Recorder>(
 
 /// Does the next halves that add products to the same slot, if there are several and they needn't be parted, and returns
 /// whether it did.
-fn does_all<S: Semiring>(rank: &mut Rank<S>, are_parted: bool) -> bool
+fn does_all<S: Semiring + Send + Sync, R: Threads + Sync>(
+    rt: &R,
+    rank: &mut Rank<S>,
+    are_parted: bool,
+) -> bool
     ensures done { result ≡ true → WorksOn S.arithmetic rank.old rank.new }
     ensures none { result ≡ false → rank.new ≡ rank.old }
 {
     if are_parted {
         return false;
     }
-    rank.work_all()
+    rank.work_all(rt)
 }
 
 /// Does the next half, as soon as it can be done, and tells the recorder of it.

@@ -156,7 +156,7 @@ fn search_over<J: Naming + Send + Sync, R: Threads + Wait + Sync>(
 }
 
 /// Starts a thread for each of these rings.
-fn hired<'s, E, J: Naming + Send + Sync + 's, R: Wait + Sync>(
+fn hired<'s, E, J: Naming + Send + Sync + 's, R: Threads + Wait + Sync>(
     scope: &Scope<'s, E>,
     rt: &'s R,
     alloc: Global,

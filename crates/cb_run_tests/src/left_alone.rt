@@ -1,6 +1,7 @@
 //! Four ranks on threads of the test, one of which is never run. Each that waits for it, or for a rank that has given up,
 //! gives up too and names it.
 ghost use Rattle.std.specs.Prelude.{IfSome};
+ghost use Rattle.std.specs.Thread.{IsSync};
 ghost use Rattle.cb_plan.specs.Stores.{Fits};
 ghost use Rattle.cb_ranks.specs.Crews.{AreNew};
 ghost use Rattle.cb_ranks.specs.Runs.{IsNewRun};
@@ -94,7 +95,7 @@ fn crew(alloc: Global, letters: &Letters) -> Option<Vec<Member>>
 }
 
 /// The rank that a rank finds gone, if it gives up.
-fn left_alone<R: Wait>(rt: &R, member: Member) -> Option<u16>
+fn left_alone<R: Threads + Wait + Sync>(rt: &R, member: Member) -> Option<u16>
     requires { IsNewRun member.0 member.1 }
 {
     let (rank, desk) = member;
@@ -116,10 +117,10 @@ fn two_left_alone<R: Threads + Wait + Sync>(
     thread::join(
         rt,
         move || -> Option<u16>
-            requires { IsNewRun first.0 first.1 }
+            requires { IsSync R.row × IsNewRun first.0 first.1 }
         { left_alone(rt, first) },
         move || -> Option<u16>
-            requires { IsNewRun second.0 second.1 }
+            requires { IsSync R.row × IsNewRun second.0 second.1 }
         { left_alone(rt, second) },
     )
 }
@@ -138,9 +139,10 @@ fn three_left_alone<R: Threads + Wait + Sync>(
     let (third, (second, first)) = thread::join(
         rt,
         move || -> Option<u16>
-            requires { IsNewRun third.0 third.1 }
+            requires { IsSync R.row × IsNewRun third.0 third.1 }
         { left_alone(rt, third) },
         move || -> (Option<u16>, Option<u16>)
+            requires sync { IsSync R.row }
             requires first { IsNewRun first.0 first.1 }
             requires second { IsNewRun second.0 second.1 }
         { two_left_alone(rt, second, first) },

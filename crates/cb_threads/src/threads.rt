@@ -2,6 +2,7 @@
 ghost use denote.Param.Send.{IsSend};
 ghost use Rattle.std.specs.Prelude.{◌≡◌, ◌≤◌, length, map, IfOk, IfErr, IfSome, IfNone, vec_len};
 ghost use Rattle.std.specs.List.{AllZip};
+ghost use Rattle.std.specs.Thread.{IsSync};
 ghost use Rattle.cb_plan.specs.Stores.{Fits};
 ghost use Rattle.cb_ranks.specs.Crews.{AreNew, Ran};
 ghost use Rattle.cb_ranks.specs.Finished.{FinishesPlan};
@@ -88,7 +89,14 @@ fn may_be_sent<T: Send>()
 {}
 
 /// Starts a thread for one rank. If no thread can be started, the rank and its desk are dropped.
-fn start_one<'s, E, S: Semiring + Send + Sync + 's, R: Wait + Sync, G: Gate<S>, T: Recorder + 's>(
+fn start_one<
+    's,
+    E,
+    S: Semiring + Send + Sync + 's,
+    R: Threads + Wait + Sync,
+    G: Gate<S>,
+    T: Recorder + 's,
+>(
     scope: &Scope<'s, E>,
     rt: &'s R,
     rank: Rank<S>,
@@ -112,7 +120,7 @@ fn start_one<'s, E, S: Semiring + Send + Sync + 's, R: Wait + Sync, G: Gate<S>, 
     let started = scope.spawn_with(
         promise,
         move || -> Result<(Rank<S>, Desk<SharedBlock<S>>, T), Gone>
-            requires { IsNewRun rank desk }
+            requires { IsSync R.row × IsNewRun rank desk }
         { run_recorded(rt, rank, desk, gate, recorder) },
     );
     let Ok(thread) = started else {
@@ -126,7 +134,14 @@ fn start_one<'s, E, S: Semiring + Send + Sync + 's, R: Wait + Sync, G: Gate<S>, 
 
 /// Starts a thread for each rank, in order. `room` has a place for each. If no thread can be started for a rank, that rank
 /// is returned too. It and the later ones are dropped, so that a rank that waits for one of them finds it gone.
-fn start_all<'s, E, S: Semiring + Send + Sync + 's, R: Wait + Sync, G: Gate<S>, T: Recorder + 's>(
+fn start_all<
+    's,
+    E,
+    S: Semiring + Send + Sync + 's,
+    R: Threads + Wait + Sync,
+    G: Gate<S>,
+    T: Recorder + 's,
+>(
     scope: &Scope<'s, E>,
     rt: &'s R,
     crew: Vec<Member<S>>,

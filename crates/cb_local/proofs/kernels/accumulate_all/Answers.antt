@@ -9,8 +9,8 @@ use Rattle.cb_local.proofs.ProductsAtOnce.{added_at_once, may_make}
 use Rattle.cb_local.proofs.SumInPlace.{put_back}
 use Rattle.cb_local.proofs.kernels.accumulate_all.Goals as goal
 
-pub all_added_to-requires : goal.all_added_to-requires
-all_added_to-requires g c =
+pub all_added_to-requires-clause-hold : goal.all_added_to-requires-clause-hold
+all_added_to-requires-clause-hold g c κs lives =
     let slots = c.args.store.now in
     let acc = c.args.acc in
     let sum = c.in-Sheet.sum in

@@ -7,7 +7,7 @@ use Rattle.cb_product.specs.Sources.{HasTerms, HasTermsOf, sum_with_all}
 use Rattle.cb_product.proofs.ColumnsMade.{before_column}
 use Rattle.cb_product.proofs.ProductColumns.{own_column}
 use Rattle.cb_product.proofs.RowValues.{absent_above}
-use Rattle.cb_product.proofs.SeveralProducts.{all_rows, own_entries, plus_start, plus_more, plus_all, plus_at, sums_at, terms_all_past}
+use Rattle.cb_product.proofs.SeveralProducts.{all_rows, own_entries, plus_start, plus_more, plus_all, plus_at, sum_here, sums_at, terms_all_past}
 use Rattle.cb_product.proofs.StoredColumn.{column_inside, column_adds}
 use Rattle.cb_product.proofs.several.make_all_columns.Goals as goal
 
@@ -18,7 +18,7 @@ loop-column-init g c =
     record {
       sources = r.sources;
       pairs = refl;
-      so_far = plus_start s g.met.S.Semiring.is_semiring c.args.accumulator.now c.args.sources.now c.shape.ensures.matrix r.sources r.shapes c.args.columns.now r.columns _ r.matrix r.empty;
+      so_far = plus_start s g.met.S.Semiring.is_semiring c.args.accumulator.now c.args.sources.now c.shape.ensures.matrix r.sources r.shapes c.args.columns.now r.ascending r.within _ r.matrix r.empty;
       zeros = c.in_ok-work.ensures;
     }
 
@@ -76,18 +76,19 @@ loop-column-preserved g c =
     let inv = c.loop-column.invariant in
     let pairs = c.in_ok-products.ensures.pairs ∙ inv.pairs in
     let fit = subst (All (MakeShape acc.shape)) (sym pairs) r.shapes in
-    let here = r.columns.within n 0 c.loop-column-test.true in
+    let here = r.within n 0 c.loop-column-test.true in
     let own = own_column s acc j _ _ c.of_next.ensures.rows c.of_next.ensures.values in
-    let is : (i : ℕ) → sum_with_all s xs c.of_next.result.0.now c.of_next.result.1.now i ≡ sums_at s acc old i j = λ i.
+    let is : (i : ℕ) → sum_with_all s xs c.of_next.result.0.now c.of_next.result.1.now i ≡ sums_at s acc old c.args.columns.now i j = λ i.
     plus_at s laws acc xs c.shape.ensures.matrix c.in_ok-products.ensures.sources fit i j here c.in_ok-products.ensures.terms _ (own i)
-    ∙ ap (λ ps. at s (plus_products s acc ps) i j) pairs in
+    ∙ ap (λ ps. at s (plus_products s acc ps) i j) pairs
+    ∙ sum_here s laws acc old c.shape.ensures.matrix r.sources r.shapes c.args.columns.now r.ascending r.within n i c.loop-column-test.true in
     let before = before_column s _ _ c.args.columns.now n c.loop-column.out c.loop-column-test.true inv.so_far in
     let stored = rw (c.entries.ensures.rows, c.entries.ensures.values) at c.in_ok-push_column.ensures.ok in
     let adds = column_adds s _ _ _ _ c.entries.ensures.column c.in_ok-make_all.ensures.column c.loop-column.out _ before stored c.in_ok-push_column.ensures.matrix in
     record {
       sources = c.in_ok-products.ensures.sources;
       pairs = pairs;
-      so_far = plus_more s laws acc old c.shape.ensures.matrix r.sources r.shapes c.args.columns.now r.columns c.loop-column.out _ n _ c.loop-column-test.true adds is inv.so_far;
+      so_far = plus_more s laws acc old c.shape.ensures.matrix r.sources r.shapes c.args.columns.now r.ascending r.within c.loop-column.out _ n _ c.loop-column-test.true adds is inv.so_far;
       zeros = c.in_ok-make_all.ensures.zeros;
     }
 
@@ -95,4 +96,4 @@ pub returns : goal.returns
 returns g c =
     let s = g.S.Semiring.arithmetic in
     let r = c.requires in
-    plus_all s g.met.S.Semiring.is_semiring c.args.accumulator.now c.args.sources.now c.shape.ensures.matrix r.sources r.shapes c.args.columns.now r.columns c.loop-column.out c.loop-column.column-index c.loop-column-test.false c.loop-column.invariant.so_far
+    plus_all s g.met.S.Semiring.is_semiring c.args.accumulator.now c.args.sources.now c.shape.ensures.matrix r.sources r.shapes c.args.columns.now r.ascending r.within c.loop-column.out c.loop-column.column-index c.loop-column-test.false c.loop-column.invariant.so_far

@@ -11,6 +11,6 @@ invariant-loop-column g l =
     record {
       sources : All (IsSource s) l.sources;
       pairs : source_pairs l.sources ≡ source_pairs l.fn.sources;
-      so_far : IsMadeTo s l.accumulator.shape (sums_at s l.accumulator l.fn.sources) (get_or l.columns l.column-index l.accumulator.shape.cols) l.out;
+      so_far : IsMadeTo s l.accumulator.shape (sums_at s l.accumulator l.fn.sources l.columns) (get_or l.columns l.column-index l.accumulator.shape.cols) l.out;
       zeros : All (λ x. x ≡ s.zero) l.work.sums;
     }

@@ -16,7 +16,7 @@ loop-n-preserved g c =
     let old : Panel = c.loop-n.self in
     let inv = c.loop-n.invariant in
     let n = c.loop-n.n in
-    let new : Panel = record { terms = c.if-at-end.self.terms; places = c.push-in-loop-n.new.self; first = c.if-at-end.self.first } in
+    let new : Panel = record { terms = c.if-at-end.self.terms; places = c.push-in-loop-n.new.self; first = c.if-at-end.self.first; most = c.if-at-end.self.most } in
     let k : n - c.args.from + 1 ≡ n + 1 - c.args.from = (let l = inv.order in omega arith) in
     let here : old.first + (n - c.args.from) ≡ n = (let l = inv.order in let f = inv.first in omega arith) in
     let inside : n < length rows = (let l = c.loop-n-test.true in omega arith) in

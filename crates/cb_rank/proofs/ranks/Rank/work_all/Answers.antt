@@ -5,7 +5,7 @@ use Rattle.cb_rank.proofs.WorksInTurn.{left_over, all_fit, worked_on}
 use Rattle.cb_rank.proofs.ranks.Rank.work_all.Goals as goal
 
 pub operate_all-requires-clause-each : goal.operate_all-requires-clause-each
-operate_all-requires-clause-each g c =
+operate_all-requires-clause-each g c κs lives =
     let acc = c.in-Some.next.acc in
     let products = c.in-Some.next.factors.items in
     let add = left_over acc c.deref.result.now c.self.inside.program.items c.self.inside.done products c.deref.ensures.value c.in-Some.ensures.products in

@@ -7,7 +7,7 @@ use Rattle.cb_matrix.specs.Sparse.{Sparse, Extent}
 use Rattle.cb_product.specs.InColumns.{AreInColumns}
 use Rattle.cb_product.specs.SeveralProducts.{pair_of, pairs_in, MakeShape}
 use Rattle.cb_product.proofs.SeveralProducts.{mapped_has}
-use Rattle.cb_product.proofs.several.columns_of.Goals as goal
+use Rattle.cb_product.proofs.several.columns_of_sum.Goals as goal
 
 pub loop-factors-preserved : goal.loop-factors-preserved
 loop-factors-preserved g c =
