@@ -167,7 +167,7 @@ fn given_up_by_first<R: Threads + Wait + Sync>(rt: &R, alloc: Global) -> Option<
 }
 
 /// The rank that the second finds gone if the first is.
-fn given_up_by_second<R: Wait>(rt: &R, alloc: Global) -> Option<Gone> {
+fn given_up_by_second<R: Threads + Wait + Sync>(rt: &R, alloc: Global) -> Option<Gone> {
     let (first, second) = pair(alloc)?;
     drop(first);
     given_up_by(rt, second)
