@@ -153,8 +153,8 @@ fn added_to<S: Semiring>(
 }
 
 /// Adds products to a slot, one after the other, whose factors are in other slots. A refusal leaves the slots as they were.
-/// All are added in one pass, so no block is made for a sum in between. At most `threads` threads, this one among them, make
-/// the columns of the sum; fewer if there are few products.
+/// All are added in one pass, so no block is made for a sum in between. About `threads` threads, this one among them, make the
+/// columns of the sum: fewer if there are few products, and more if most are of few pairs of blocks.
 pub fn accumulate_all<S: Semiring + Send + Sync, R: Threads + Sync>(
     rt: &R,
     alloc: Global,
@@ -205,7 +205,7 @@ fn all_added_to<S: Semiring + Send + Sync, R: Threads + Sync>(
         Ok(sum) => sum,
         Err(refused) => return Err(refused),
     };
-    let parts = (estimated_products(&factors) / LEAST_PRODUCTS).min(threads as usize);
+    let parts = (estimated_products(&factors) / LEAST_PRODUCTS).min(helpers(&factors, threads));
     if parts > 1 {
         return match all_added_apart::<S, R>(rt, alloc, parts as u32, store, products, &sum) {
             Ok(made) => Ok(made),
@@ -216,6 +216,22 @@ fn all_added_to<S: Semiring + Send + Sync, R: Threads + Sync>(
         Ok(sum) => Ok(sum),
         Err((sum, error)) => Err((SharedBlock::new(sum), error)),
     }
+}
+
+/// By how many threads these products are added, if there are processors for `threads` of each rank. It is `threads` if all pairs
+/// of blocks have as many entries. If nearly all entries are in one pair of so many, as in a band, it is so many times as many,
+/// since other ranks have few products then.
+fn helpers<S: Semiring>(products: &[Factors<'_, S>], threads: u32) -> usize {
+    let (mut left, mut right, mut both) = (0usize, 0usize, 0usize);
+    for factors in products {
+        let pairs = factors.left.len().saturating_mul(factors.right.len());
+        both = both.saturating_add(pairs);
+        left = left.saturating_add(factors.left.len());
+        right = right.saturating_add(factors.right.len());
+    }
+    let even = left.saturating_mul(right) / products.len().max(1);
+    let twice = both.saturating_mul(2).saturating_mul(threads as usize);
+    twice.saturating_add(even) / even.saturating_mul(2).max(1)
 }
 
 /// The blocks in these slots, by pairs.

@@ -59,7 +59,7 @@ pub(crate) fn operate<S: Semiring>(
 }
 
 /// Adds products to a slot, one after the other, from factors in other slots, if no operand is lost. Returns whether it did:
-/// also not if memory is refused. Then nothing changes. At most `threads` threads, this one among them, do the work.
+/// also not if memory is refused. Then nothing changes. About `threads` threads, this one among them, do the work.
 pub(crate) fn operate_all<S: Semiring + Send + Sync, R: Threads + Sync>(
     rt: &R,
     alloc: Global,
@@ -80,14 +80,12 @@ pub(crate) fn operate_all<S: Semiring + Send + Sync, R: Threads + Sync>(
     accumulate_all(rt, alloc, threads, store, products, acc).is_ok()
 }
 
-/// By how many threads each of this many ranks may add products: together twice as many as there are processors, since a rank
-/// with few products leaves its processor to others. Each does so alone if there are fewer processors than ranks, or if the
-/// system doesn't report them.
+/// For how many threads of each of this many ranks there are processors: none if there are fewer than ranks, or if the system
+/// doesn't report them.
 pub(crate) fn threads_each<R: Threads>(rt: &R, ranks: u16) -> u32 {
     match thread::available_parallelism(rt) {
-        Ok(processors) => (processors.get().min(MOST_PROCESSORS) * 2
-            / ranks.max(1) as usize) as u32,
-        Err(_) => 1,
+        Ok(processors) => (processors.get().min(MOST_PROCESSORS) / ranks.max(1) as usize) as u32,
+        Err(_) => 0,
     }
 }
 
