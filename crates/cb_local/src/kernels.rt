@@ -205,7 +205,9 @@ fn all_added_to<S: Semiring + Send + Sync, R: Threads + Sync>(
         Ok(sum) => sum,
         Err(refused) => return Err(refused),
     };
-    let parts = (estimated_products(&factors) / LEAST_PRODUCTS).min(helpers(&factors, threads));
+    let parts = (estimated_products(&factors) / LEAST_PRODUCTS).min(
+        helpers(&factors, threads) as usize,
+    );
     if parts > 1 {
         return match all_added_apart::<S, R>(rt, alloc, parts as u32, store, products, &sum) {
             Ok(made) => Ok(made),
@@ -221,7 +223,7 @@ fn all_added_to<S: Semiring + Send + Sync, R: Threads + Sync>(
 /// By how many threads these products are added, if there are processors for `threads` of each rank. It is `threads` if all pairs
 /// of blocks have as many entries. If nearly all entries are in one pair of so many, as in a band, it is so many times as many,
 /// since other ranks have few products then.
-fn helpers<S: Semiring>(products: &[Factors<'_, S>], threads: u32) -> usize {
+fn helpers<S: Semiring>(products: &[Factors<'_, S>], threads: u32) -> u32 {
     let (mut left, mut right, mut both) = (0usize, 0usize, 0usize);
     for factors in products {
         let pairs = factors.left.len().saturating_mul(factors.right.len());
@@ -231,7 +233,8 @@ fn helpers<S: Semiring>(products: &[Factors<'_, S>], threads: u32) -> usize {
     }
     let even = left.saturating_mul(right) / products.len().max(1);
     let twice = both.saturating_mul(2).saturating_mul(threads as usize);
-    twice.saturating_add(even) / even.saturating_mul(2).max(1)
+    let count = twice.saturating_add(even) / even.saturating_mul(2).max(1);
+    count.min(u32::MAX as usize) as u32
 }
 
 /// The blocks in these slots, by pairs.
