@@ -153,8 +153,8 @@ fn added_to<S: Semiring>(
 }
 
 /// Adds products to a slot, one after the other, whose factors are in other slots. A refusal leaves the slots as they were.
-/// All are added in one pass, so no block is made for a sum in between. About `threads` threads, this one among them, make the
-/// columns of the sum: fewer if there are few products, and more if most are of few pairs of blocks.
+/// All are added in one pass, so no block is made for a sum in between. At most `threads` threads, this one among them, make
+/// the columns of the sum; fewer if there are few products.
 pub fn accumulate_all<S: Semiring + Send + Sync, R: Threads + Sync>(
     rt: &R,
     alloc: Global,
@@ -220,9 +220,8 @@ fn all_added_to<S: Semiring + Send + Sync, R: Threads + Sync>(
     }
 }
 
-/// By how many threads these products are added, if there are processors for `threads` of each rank. It is `threads` if all pairs
-/// of blocks have as many entries. If nearly all entries are in one pair of so many, as in a band, it is so many times as many,
-/// since other ranks have few products then.
+/// By how many of these threads the products are added: by all if nearly all entries are in one pair of blocks, as in a band,
+/// since other ranks have few products then; by one in two if two pairs have equally many entries, and so on.
 fn helpers<S: Semiring>(products: &[Factors<'_, S>], threads: u32) -> u32 {
     let (mut left, mut right, mut both) = (0usize, 0usize, 0usize);
     for factors in products {
@@ -231,9 +230,9 @@ fn helpers<S: Semiring>(products: &[Factors<'_, S>], threads: u32) -> u32 {
         left = left.saturating_add(factors.left.len());
         right = right.saturating_add(factors.right.len());
     }
-    let even = left.saturating_mul(right) / products.len().max(1);
+    let all = left.saturating_mul(right);
     let twice = both.saturating_mul(2).saturating_mul(threads as usize);
-    let count = twice.saturating_add(even) / even.saturating_mul(2).max(1);
+    let count = twice.saturating_add(all) / all.saturating_mul(2).max(1);
     count.min(u32::MAX as usize) as u32
 }
 

@@ -59,7 +59,8 @@ pub(crate) fn operate<S: Semiring>(
 }
 
 /// Adds products to a slot, one after the other, from factors in other slots, if no operand is lost. Returns whether it did:
-/// also not if memory is refused. Then nothing changes. About `threads` threads, this one among them, do the work.
+/// also not if memory is refused. Then nothing changes. There are processors for `threads` threads of each rank; more may do the
+/// work if most products are of few pairs of blocks.
 pub(crate) fn operate_all<S: Semiring + Send + Sync, R: Threads + Sync>(
     rt: &R,
     alloc: Global,
@@ -77,7 +78,9 @@ pub(crate) fn operate_all<S: Semiring + Send + Sync, R: Threads + Sync>(
     if is_any_lost(store, products, acc) {
         return false;
     }
-    accumulate_all(rt, alloc, threads, store, products, acc).is_ok()
+    let most = (threads as usize).saturating_mul(products.len());
+    let most = most.min(MOST_PROCESSORS) as u32;
+    accumulate_all(rt, alloc, most, store, products, acc).is_ok()
 }
 
 /// For how many threads of each of this many ranks there are processors: none if there are fewer than ranks, or if the system

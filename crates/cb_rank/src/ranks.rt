@@ -192,8 +192,8 @@ impl<S: Semiring + Send + Sync> Rank<S> {
     /// changes.
     ///
     /// Costs less time and memory than the halves one after the other, since no block is made for a sum in between. If there are
-    /// more processors than ranks, or as many and most products are of few pairs of blocks, other threads help. Each makes some
-    /// of the columns, which are then copied once.
+    /// as many processors as ranks, or more, and enough products, other threads help. Each makes some of the columns, which
+    /// are then copied once.
     pub fn work_all<R: Threads + Sync>(&mut self, rt: &R) -> bool
         ensures done { result ≡ true → WorksOn S.arithmetic self.old self.new }
         ensures none { result ≡ false → self.new ≡ self.old }
