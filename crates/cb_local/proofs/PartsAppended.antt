@@ -1,6 +1,6 @@
 -- Products of slots, made in parts of their columns.
 use Rattle.std.proofs.Common.{◌≡◌, ℕ, ◌<◌, Result, Ok, Err, List, [], ◌∷◌, ◌++◌, sym, ap, subst, ◌∙◌}
-use Rattle.std.specs.Prelude.{Some, IfOk, OnOk, All, AllPairs}
+use Rattle.std.specs.Prelude.{IfOk, OnOk, All, AllPairs}
 use Rattle.std.specs.List.{AllZip}
 use Rattle.std.proofs.lemmas.List.Elements.{All-head, All-tail}
 use Rattle.std.proofs.lemmas.Option.{same_Some}

@@ -1,5 +1,4 @@
 use Rattle.std.proofs.Common.{rules, ◌≡◌, ◌++◌, sym, subst}
-use Rattle.cb_matrix.specs.Sparse.{Sparse}
 use Rattle.cb_local.specs.FactorSlots.{HasColumnsOf}
 use Rattle.cb_local.proofs.PartsAppended.{parts_shape, parts_are_matrix, parts_made}
 use Rattle.cb_local.proofs.parts.+parts.Goals as goal

@@ -1,5 +1,5 @@
 use Rattle.std.proofs.Common.{sym, subst}
-use Rattle.std.specs.Prelude.{All, IfOk}
+use Rattle.std.specs.Prelude.{All}
 use Rattle.cb_product.specs.SeveralProducts.{MakeShape, pairs_in}
 use Rattle.cb_local.proofs.PartsAppended.{made_part}
 use Rattle.cb_local.proofs.ProductsAtOnce.{all_make}
