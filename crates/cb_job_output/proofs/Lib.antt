@@ -1,6 +1,5 @@
--- For this crate alone. SheetPuts: sheets that are put one after the other. LineLemmas: lines that are written after a text.
--- IndependentSheets: what is on sheets that are written independently. ChangedItems: items that are changed one by one.
-mod SheetPuts
+-- For this crate alone. SharePuts: shares that are put one after the other. LineLemmas: lines that are written after a text.
+-- ChangedItems: items that are changed one by one.
+mod SharePuts
 mod LineLemmas
-mod IndependentSheets
 mod ChangedItems

@@ -1,9 +1,9 @@
 //! Gates: hooks that a thread passes before it writes a sheet.
 
-/// A hook that runs before each sheet of a round is written, on the thread that writes it. It can observe, count or wait.
+/// A hook that runs before a share is written on a sheet, on the thread that writes it. It can observe, count or wait.
 pub trait Gate: Sync {
-    /// Runs before the sheet with this number is written. Sheets are counted from 0 in each round.
-    fn pass(&self, sheet: usize);
+    /// Runs before the share with this number is written. Shares are counted from 0 in each round.
+    fn pass(&self, share: usize);
 }
 
 /// A gate that does nothing.
@@ -11,7 +11,7 @@ pub trait Gate: Sync {
 pub struct OpenGate;
 
 impl Gate for OpenGate {
-    fn pass(&self, sheet: usize) {
-        let _ = sheet;
+    fn pass(&self, share: usize) {
+        let _ = share;
     }
 }

@@ -1,13 +1,15 @@
 //! The text of a job's answer, written to a sink.
 //!
-//! - `rounds` makes the text of a matrix over a grid or in panels by several threads. The text is written in rounds: the next
-//!   entries are dealt to the sheets of a [`Round`](rounds::Round) in order, and each sheet is written by its own thread. The
-//!   sheets in order are the next part of the text: the same bytes as from one thread, however the threads are scheduled.
-//! - `apart` does work on the items of a list, each in a thread of its own.
-//! - `output` writes the text of a matrix to a sink.
+//! - `output` writes the text of a matrix to a sink, page by page or in rounds.
+//! - `rounds` has the form of a round: the next entries of a text are dealt to shares in order, and several threads write the
+//!   shares on sheets, each the next that nobody has taken. Written in order, the shares are the next part of the text: the
+//!   same bytes as from one thread, however the threads are scheduled.
+//! - `stacks` has the sheets of each thread.
+//! - `apart` does work on the items of a list, each in a thread of its own, beside work of the caller's.
 #![tactic(auto)]
 
 mod apart;
 pub mod gates;
 pub mod output;
 pub mod rounds;
+mod stacks;

@@ -1,223 +1,208 @@
-//! Writes the text of a matrix. One thread writes it page by page. Several write it in rounds of sheets: while one round is
-//! written to the sink, the next is made. The thread that writes to the sink makes lines too, on a sheet of its own, as many
-//! as it has time for.
-ghost use Rattle.std.specs.Prelude.{◌≡◌, ◌<◌, ◌++◌, [], length, true, false, IfOk, OnOk, OnErr};
+//! Writes the text of a matrix. One thread writes it page by page. Several write it in rounds: while one round is written to
+//! the sink, the next is made. The thread that writes to the sink then makes shares too, as many as are left for it.
+ghost use Rattle.std.specs.Prelude.{◌≡◌, ℕ, ◌+◌, ◌<◌, ◌++◌, [], List, length, true, false, All, IfOk, IfSome, OnOk, OnErr};
 ghost use Rattle.std.specs.Io.KnownBytes.{Appends};
-ghost use Rattle.cb_market_pages.specs.Sheets.{share_of};
 ghost use Rattle.cb_market_pages.specs.Text.{text_of};
-ghost use Rattle.cb_job_output.specs.Rounds.{written_on};
+ghost use Rattle.cb_job_output.specs.Rounds.{joined, AreOf, AreAllOf};
 ghost use Rattle.cb_outcomes.specs.Sinks.{AppendsPrefix};
 ghost use Rattle.cb_outcomes.specs.WriteEnds.{IsTextEnd, end_of_put};
 
-use crate::rounds::{LINES, Round};
+use crate::apart::each_beside;
+use crate::gates::{Gate, OpenGate};
+use crate::rounds::{Dealt, FEW, Form, Round};
+use crate::stacks::{Stack, Turns};
 use cb_layout::PanelledMatrix;
-use cb_market_pages::{Page, Sheet, TextPages};
+use cb_market_pages::{Page, Share, Sheet, TextPages};
 use cb_outcomes::faults::JobFault;
 use cb_outcomes::sinks::{PutFault, Sink, put_all};
 use cb_semirings::Semiring;
 use std::alloc::{AllocError, Global};
-use std::sync::atomic::{AtomicBool, Ordering};
 use std::thread::Threads;
 use std::{mem, thread};
 
-/// Writes the sheets, one after the other. At `PutFault` a beginning of their text has been written.
-fn put_sheets<S: Semiring, K: Sink>(sheets: &[Sheet<'_, S>], out: &mut K) -> Result<(), PutFault>
-    requires { K.has_failed out.old ≡ false }
-    ensures whole { OnOk result (Appends (K.written out.old) (K.written out.new) (written_on sheets.now)) }
+/// Writes a share, from the sheet that it is on or else by this thread. At `PutFault` a beginning of it has been written.
+fn put_share<S: Semiring, K: Sink>(
+    share: &Share<'_, S>,
+    written: Option<&[u8]>,
+    spare: &mut Sheet,
+    out: &mut K,
+) -> Result<(), PutFault>
+    requires works { K.has_failed out.old ≡ false }
+    requires same { IfSome written (λ bytes. bytes.now ≡ share.now) }
+    ensures whole { OnOk result (Appends (K.written out.old) (K.written out.new) share.now) }
     ensures works { OnOk result (K.has_failed out.new ≡ false) }
-    ensures prefix { OnErr result (AppendsPrefix (K.written out.old) (K.written out.new) (written_on sheets.now)) }
+    ensures prefix { OnErr result (AppendsPrefix (K.written out.old) (K.written out.new) share.now) }
     ensures fails { OnErr result (K.has_failed out.new ≡ true) }
 {
-    for n in 0..sheets.len() {
-        put_all(out, sheets[n].written())?;
+    if let Some(bytes) = written {
+        return put_all(out, bytes);
+    }
+    spare.write(share);
+    put_all(out, spare.written())
+}
+
+/// Writes the shares of a round. At `PutFault` a beginning of them has been written.
+fn put_round<S: Semiring, K: Sink>(
+    round: &Round<'_, S>,
+    spare: &mut Sheet,
+    out: &mut K,
+) -> Result<(), PutFault>
+    requires works { K.has_failed out.old ≡ false }
+    requires made { AreAllOf round.now.dealt round.now.own round.now.others.items }
+    ensures whole { OnOk result (Appends (K.written out.old) (K.written out.new) (joined round.now.dealt)) }
+    ensures works { OnOk result (K.has_failed out.new ≡ false) }
+    ensures prefix { OnErr result (AppendsPrefix (K.written out.old) (K.written out.new) (joined round.now.dealt)) }
+    ensures fails { OnErr result (K.has_failed out.new ≡ true) }
+{
+    let shares = round.dealt.shares();
+    for n in 0..shares.len() {
+        put_share(&shares[n], round.find(n), spare, out)?;
     }
     Ok(())
 }
 
-/// Writes a sheet and the sheets after it. At `PutFault` a beginning of their text has been written.
-fn put_from<S: Semiring, K: Sink>(
-    own: &Sheet<'_, S>,
-    sheets: &[Sheet<'_, S>],
-    out: &mut K,
-) -> Result<(), PutFault>
-    requires { K.has_failed out.old ≡ false }
-    ensures whole { OnOk result (Appends (K.written out.old) (K.written out.new) (own.now.written ++ written_on sheets.now)) }
-    ensures works { OnOk result (K.has_failed out.new ≡ false) }
-    ensures prefix { OnErr result (AppendsPrefix (K.written out.old) (K.written out.new) (own.now.written ++ written_on sheets.now)) }
-    ensures fails { OnErr result (K.has_failed out.new ≡ true) }
-{
-    put_all(out, own.written())?;
-    put_sheets(sheets, out)
-}
-
-/// The rest of a text, and the sheets for its next round.
+/// What of a text isn't in a round yet, and what only the thread that writes to the sink uses.
 #[derive(Drop)]
-struct Ahead<'a, S: Semiring> {
+struct Rest<'a, S: Semiring> {
     text: TextPages<'a, S>,
-    round: Round<'a, S>,
-    /// How many lines the thread that writes to the sink makes before the round.
-    own_lines: usize,
-    /// Whether another thread fills the round.
-    is_shared: bool,
+    /// The shares of the round after the one that is made.
+    coming: Dealt<'a, S>,
+    spare: Sheet,
 }
 
-impl<'a, S: Semiring + Send + Sync> Ahead<'a, S> {
-    /// Fills the next round, and returns whether anything was left for it. Then the flag is set.
-    fn fill<R: Threads + Sync>(&mut self, rt: &R, is_filled: &AtomicBool) -> bool
-        ensures text { self.old.text ≡ self.new.round ++ self.new.text }
-        ensures some { result ≡ true → 0 < length self.new.round }
-        ensures none { result ≡ false → self.old.text ≡ [] }
-    {
-        let is_left = self.round.fill(rt, &mut self.text);
-        is_filled.store(true, Ordering::Relaxed);
-        is_left
-    }
-}
-
-/// By how many lines the share of the thread that writes to the sink grows or shrinks.
-const STEP: usize = 8_192;
-
-/// How many lines the thread that writes to the sink makes next: more if it was done before the others this time, and fewer
-/// if not. So it isn't idle beside a sink that is fast, and nobody waits for it beside one that is slow.
-fn next_lines(lines: usize, was_first: bool) -> usize {
-    if was_first {
-        lines.saturating_add(STEP).min(LINES)
-    } else {
-        lines.saturating_sub(STEP)
-    }
-}
-
-/// Writes a sheet and the sheets after it to the sink, and then makes the lines of another sheet. Returns whether the flag
-/// isn't set yet. At `PutFault` a beginning of the text has been written.
+/// Writes a round to the sink, deals the shares of a later one, and then makes some of this one. At `PutFault` a beginning of
+/// the round has been written.
 ///
 /// A thread that was just started has a chance to begin first: a system may keep it on this processor until this thread
 /// yields.
-fn put_and_make<S: Semiring, K: Sink>(
-    own: &Sheet<'_, S>,
-    sheets: &[Sheet<'_, S>],
-    next: &mut Sheet<'_, S>,
-    is_filled: &AtomicBool,
+fn put_and_make<'a, S: Semiring, G: Gate, K: Sink>(
+    earlier: &Round<'a, S>,
+    shares: &[Share<'a, S>],
+    turns: &Turns<'_, G>,
+    own: &mut Stack,
+    rest: &mut Rest<'a, S>,
     out: &mut K,
-) -> Result<bool, PutFault>
-    requires { K.has_failed out.old ≡ false }
-    ensures next { OnOk result (next.new.written ≡ share_of next.old) }
-    ensures whole { OnOk result (Appends (K.written out.old) (K.written out.new) (own.now.written ++ written_on sheets.now)) }
+) -> Result<(), PutFault>
+    requires works { K.has_failed out.old ≡ false }
+    requires made { AreAllOf earlier.now.dealt earlier.now.own earlier.now.others.items }
+    ensures made { OnOk result (AreOf shares.now own.new) }
+    ensures text { OnOk result (rest.old.text ≡ joined rest.new.coming ++ rest.new.text) }
+    ensures none { OnOk result (joined rest.new.coming ≡ [] → rest.old.text ≡ []) }
+    ensures whole { OnOk result (Appends (K.written out.old) (K.written out.new) (joined earlier.now.dealt)) }
     ensures works { OnOk result (K.has_failed out.new ≡ false) }
-    ensures prefix { OnErr result (AppendsPrefix (K.written out.old) (K.written out.new) (own.now.written ++ written_on sheets.now)) }
+    ensures prefix { OnErr result (AppendsPrefix (K.written out.old) (K.written out.new) (joined earlier.now.dealt)) }
     ensures fails { OnErr result (K.has_failed out.new ≡ true) }
 {
     thread::yield_now();
-    put_from(own, sheets, out)?;
-    next.write();
-    Ok(!is_filled.load(Ordering::Relaxed))
+    put_round(earlier, &mut rest.spare, out)?;
+    rest.coming.deal(&mut rest.text);
+    own.make(shares, turns);
+    Ok(())
 }
 
-/// Writes a sheet and a round, and makes the lines of the next sheet, while other threads fill the next round. Returns
-/// whether anything was left for the round, and whether this thread was done before the others. At `PutFault` a beginning
-/// of the sheet and the round has been written.
-fn put_while_filled<'a, S: Semiring + Send + Sync, R: Threads + Sync, K: Sink>(
+/// The same, while other threads make shares.
+fn put_beside<'a, S: Semiring + Send + Sync, R: Threads + Sync, G: Gate, K: Sink>(
     rt: &R,
-    own: &Sheet<'a, S>,
-    round: &Round<'a, S>,
-    next: &mut Sheet<'a, S>,
-    ahead: &mut Ahead<'a, S>,
-    is_filled: &AtomicBool,
+    earlier: &Round<'a, S>,
+    shares: &[Share<'a, S>],
+    turns: &Turns<'_, G>,
+    own: &mut Stack,
+    others: &mut [Stack],
+    rest: &mut Rest<'a, S>,
     out: &mut K,
-) -> (bool, Result<bool, PutFault>)
-    requires { K.has_failed out.old ≡ false }
-    ensures next { OnOk result.1 (next.new.written ≡ share_of next.old) }
-    ensures text { ahead.old.text ≡ ahead.new.round ++ ahead.new.text }
-    ensures some { result.0 ≡ true → 0 < length ahead.new.round }
-    ensures none { result.0 ≡ false → ahead.old.text ≡ [] }
-    ensures whole { OnOk result.1 (Appends (K.written out.old) (K.written out.new) (own.now.written ++ round.now)) }
-    ensures works { OnOk result.1 (K.has_failed out.new ≡ false) }
-    ensures prefix { OnErr result.1 (AppendsPrefix (K.written out.old) (K.written out.new) (own.now.written ++ round.now)) }
-    ensures fails { OnErr result.1 (K.has_failed out.new ≡ true) }
+) -> Result<(), PutFault>
+    requires works { K.has_failed out.old ≡ false }
+    requires made { AreAllOf earlier.now.dealt earlier.now.own earlier.now.others.items }
+    ensures made { OnOk result (AreAllOf shares.now own.new others.new) }
+    ensures text { OnOk result (rest.old.text ≡ joined rest.new.coming ++ rest.new.text) }
+    ensures none { OnOk result (joined rest.new.coming ≡ [] → rest.old.text ≡ []) }
+    ensures whole { OnOk result (Appends (K.written out.old) (K.written out.new) (joined earlier.now.dealt)) }
+    ensures works { OnOk result (K.has_failed out.new ≡ false) }
+    ensures prefix { OnErr result (AppendsPrefix (K.written out.old) (K.written out.new) (joined earlier.now.dealt)) }
+    ensures fails { OnErr result (K.has_failed out.new ≡ true) }
 {
-    thread::join_mut(
+    each_beside(
         rt,
-        &mut || ahead.fill(rt, is_filled),
+        &|_, stack: &mut Stack| stack.make(shares, turns),
+        others,
         &mut ||
-            requires { K.has_failed out.now ≡ false }
-        { put_and_make(own, round.sheets(), next, is_filled, out) },
+            requires { (K.has_failed out.now ≡ false) × AreAllOf earlier.now.dealt earlier.now.own earlier.now.others.items }
+        { put_and_make(earlier, shares, turns, own, rest, out) },
     )
 }
 
-/// The same, but this thread fills the round if the work isn't shared.
-fn put_and_fill<'a, S: Semiring + Send + Sync, R: Threads + Sync, K: Sink>(
+/// The same, but this thread makes all shares if there is only one.
+fn put_while_made<'a, S: Semiring + Send + Sync, R: Threads + Sync, G: Gate, K: Sink>(
     rt: &R,
-    own: &Sheet<'a, S>,
-    round: &Round<'a, S>,
-    next: &mut Sheet<'a, S>,
-    ahead: &mut Ahead<'a, S>,
+    earlier: &Round<'a, S>,
+    gate: &G,
+    round: &mut Round<'a, S>,
+    rest: &mut Rest<'a, S>,
     out: &mut K,
-) -> Result<(bool, bool), PutFault>
-    requires { K.has_failed out.old ≡ false }
-    ensures next { OnOk result (next.new.written ≡ share_of next.old) }
-    ensures text { OnOk result (ahead.old.text ≡ ahead.new.round ++ ahead.new.text) }
-    ensures some { IfOk result (λ r. r.0 ≡ true → 0 < length ahead.new.round) }
-    ensures none { IfOk result (λ r. r.0 ≡ false → ahead.old.text ≡ []) }
-    ensures whole { OnOk result (Appends (K.written out.old) (K.written out.new) (own.now.written ++ round.now)) }
+) -> Result<(), PutFault>
+    requires works { K.has_failed out.old ≡ false }
+    requires made { AreAllOf earlier.now.dealt earlier.now.own earlier.now.others.items }
+    ensures same { OnOk result (round.new.dealt ≡ round.old.dealt) }
+    ensures made { OnOk result (AreAllOf round.new.dealt round.new.own round.new.others.items) }
+    ensures text { OnOk result (rest.old.text ≡ joined rest.new.coming ++ rest.new.text) }
+    ensures none { OnOk result (joined rest.new.coming ≡ [] → rest.old.text ≡ []) }
+    ensures whole { OnOk result (Appends (K.written out.old) (K.written out.new) (joined earlier.now.dealt)) }
     ensures works { OnOk result (K.has_failed out.new ≡ false) }
-    ensures prefix { OnErr result (AppendsPrefix (K.written out.old) (K.written out.new) (own.now.written ++ round.now)) }
+    ensures prefix { OnErr result (AppendsPrefix (K.written out.old) (K.written out.new) (joined earlier.now.dealt)) }
     ensures fails { OnErr result (K.has_failed out.new ≡ true) }
 {
-    let is_filled = AtomicBool::new(false);
-    if ahead.is_shared {
-        let (is_left, put) = put_while_filled(rt, own, round, next, ahead, &is_filled, out);
-        return Ok((is_left, put?));
+    let turns = Turns::new(gate);
+    let shares = round.dealt.shares();
+    let (own, others) = (&mut round.own, &mut round.others);
+    if shares.len() > 1 {
+        return put_beside(rt, earlier, shares, &turns, own, others, rest, out);
     }
-    let was_first = put_and_make(own, round.sheets(), next, &is_filled, out)?;
-    Ok((ahead.fill(rt, &is_filled), was_first))
+    put_and_make(earlier, shares, &turns, own, rest, out)?;
+    clear_all(others);
+    Ok(())
 }
 
-/// Writes a sheet and a round, and makes what comes after them. Returns whether anything was left. At `PutFault` a beginning
-/// of the sheet and the round has been written.
-fn put_and_go_on<'a, S: Semiring + Send + Sync, R: Threads + Sync, K: Sink>(
-    rt: &R,
-    own: &Sheet<'a, S>,
-    round: &Round<'a, S>,
-    next: &mut Sheet<'a, S>,
-    ahead: &mut Ahead<'a, S>,
-    out: &mut K,
-) -> Result<bool, PutFault>
-    requires { K.has_failed out.old ≡ false }
-    ensures text { OnOk result (ahead.old.text ≡ (next.new.written ++ ahead.new.round) ++ ahead.new.text) }
-    ensures some { IfOk result (λ is_left. is_left ≡ true → 0 < length (next.new.written ++ ahead.new.round)) }
-    ensures none { IfOk result (λ is_left. is_left ≡ false → ahead.old.text ≡ []) }
-    ensures whole { OnOk result (Appends (K.written out.old) (K.written out.new) (own.now.written ++ round.now)) }
-    ensures works { OnOk result (K.has_failed out.new ≡ false) }
-    ensures prefix { OnErr result (AppendsPrefix (K.written out.old) (K.written out.new) (own.now.written ++ round.now)) }
-    ensures fails { OnErr result (K.has_failed out.new ≡ true) }
+/// Discards what is written on some stacks.
+fn clear_all(stacks: &mut [Stack])
+    ensures { (shares : List (List ℕ)) → All (AreOf shares) stacks.new }
 {
-    let has_own = next.take_some(&mut ahead.text, ahead.own_lines);
-    let (is_left, was_first) = put_and_fill(rt, own, round, next, ahead, out)?;
-    ahead.own_lines = next_lines(ahead.own_lines, was_first);
-    Ok(has_own || is_left)
+    for n in 0..stacks.len() {
+        stacks[n].clear();
+    }
+}
+
+/// Returns whether there is a share among these.
+fn are_left<S: Semiring>(made: &Dealt<'_, S>, coming: &Dealt<'_, S>) -> bool
+    ensures none { result ≡ false → (joined made.now ≡ []) × (joined coming.now ≡ []) }
+    ensures some { result ≡ true → 0 < length (joined made.now) + length (joined coming.now) }
+{
+    !made.is_empty() || !coming.is_empty()
 }
 
 /// Writes a text in rounds, each on the sheets that the one before isn't on. At `PutFault` a beginning of it has been
 /// written.
-fn put_rounds<'a, S: Semiring + Send + Sync, R: Threads + Sync, K: Sink>(
+fn put_rounds<'a, S: Semiring + Send + Sync, R: Threads + Sync, G: Gate, K: Sink>(
     rt: &R,
-    own: &mut Sheet<'a, S>,
+    gate: &G,
     round: &mut Round<'a, S>,
-    next: &mut Sheet<'a, S>,
-    ahead: &mut Ahead<'a, S>,
+    next: &mut Round<'a, S>,
+    rest: &mut Rest<'a, S>,
     out: &mut K,
 ) -> Result<(), PutFault>
     requires works { K.has_failed out.old ≡ false }
-    requires blank { own.old.written ≡ [] }
-    ensures whole { OnOk result (Appends (K.written out.old) (K.written out.new) ahead.old.text) }
+    requires blank { (round.old.dealt ≡ []) × AreAllOf [] round.old.own round.old.others.items }
+    ensures whole { OnOk result (Appends (K.written out.old) (K.written out.new) rest.old.text) }
     ensures works { OnOk result (K.has_failed out.new ≡ false) }
-    ensures prefix { OnErr result (AppendsPrefix (K.written out.old) (K.written out.new) ahead.old.text) }
+    ensures prefix { OnErr result (AppendsPrefix (K.written out.old) (K.written out.new) rest.old.text) }
     ensures fails { OnErr result (K.has_failed out.new ≡ true) }
 {
-    let mut is_left = round.fill(rt, &mut ahead.text);
+    next.dealt.deal(&mut rest.text);
+    let mut is_left = true;
     while is_left {
-        is_left = put_and_go_on(rt, own, round, next, ahead, out)?;
-        mem::swap(own, next);
-        mem::swap(round, &mut ahead.round);
+        put_while_made(rt, round, gate, next, rest, out)?;
+        mem::swap(round, next);
+        mem::swap(&mut next.dealt, &mut rest.coming);
+        is_left = are_left(&round.dealt, &next.dealt);
     }
     Ok(())
 }
@@ -250,52 +235,24 @@ fn put_end(put: Result<(), PutFault>) -> Result<(), JobFault>
     }
 }
 
-/// Makes the sheets of the round after the first: as many again or, if the first has the whole text, a single one.
-fn second_round<'a, S: Semiring>(
-    alloc: Global,
-    first: &Round<'a, S>,
-    is_shared: bool,
-    text: &TextPages<'a, S>,
-) -> Result<Round<'a, S>, AllocError>
-    ensures { IfOk result (λ round. round ≡ []) }
-{
-    if is_shared {
-        first.another(alloc, text)
-    } else {
-        Round::with_lines(alloc, 1, 1, text)
-    }
-}
-
-/// Makes a sheet for the thread that writes to the sink: a small one if nobody else makes lines beside it.
-fn own_sheet<'a, S: Semiring>(
-    alloc: Global,
-    is_shared: bool,
-    text: &TextPages<'a, S>,
-) -> Result<Sheet<'a, S>, AllocError>
-    ensures { IfOk result (λ sheet. sheet.written ≡ []) }
-{
-    let lines = if is_shared { LINES } else { 1 };
-    Sheet::new(alloc, lines, text)
-}
-
-/// Takes the memory to write a text in rounds, besides the sheets of the thread that writes to the sink.
+/// Takes the memory to write a text in rounds of this form.
 fn begin_rounds<'a, S: Semiring>(
     alloc: Global,
-    threads: u32,
+    form: Form,
     text: TextPages<'a, S>,
-) -> Result<(Round<'a, S>, Ahead<'a, S>), AllocError>
-    ensures { IfOk result (λ begun. begun.1.text ≡ text.entry) }
+) -> Result<(Round<'a, S>, Round<'a, S>, Rest<'a, S>), AllocError>
+    ensures none { IfOk result (λ begun. begun.0.dealt ≡ []) }
+    ensures blank { IfOk result (λ begun. AreAllOf [] begun.0.own begun.0.others.items) }
+    ensures text { IfOk result (λ begun. begun.2.text ≡ text.entry) }
 {
-    let first = Round::new(alloc, threads as usize, &text)?;
-    let is_shared = !first.holds(&text);
-    let round = second_round(alloc, &first, is_shared, &text)?;
-    let ahead = Ahead {
+    let first = Round::new(alloc, form)?;
+    let second = Round::new(alloc, form)?;
+    let rest = Rest {
         text,
-        round,
-        own_lines: if is_shared { LINES / 2 } else { 0 },
-        is_shared,
+        coming: Dealt::new(alloc, form)?,
+        spare: Sheet::new(alloc)?,
     };
-    Ok((first, ahead))
+    Ok((first, second, rest))
 }
 
 /// Writes a text on this thread, page by page.
@@ -311,25 +268,25 @@ fn put_by_pages<S: Semiring, K: Sink>(
     put_end(put_pages(&mut text, &mut page, out))
 }
 
-/// Writes a text in rounds.
-fn put_by_rounds<S: Semiring + Send + Sync, R: Threads + Sync, K: Sink>(
+/// Writes a text in rounds of this form. Who takes a share to write it passes the gate. All memory is taken first: at `Memory`
+/// nothing has been written, and at `Output` a beginning of the text.
+pub fn put_in_rounds<S: Semiring + Send + Sync, R: Threads + Sync, G: Gate, K: Sink>(
     rt: &R,
     alloc: Global,
-    threads: u32,
+    form: Form,
     text: TextPages<'_, S>,
+    gate: &G,
     out: &mut K,
 ) -> Result<(), JobFault>
     requires { K.has_failed out.old ≡ false }
     ensures { IsTextEnd text.entry (K.written out.old) (K.written out.new) (K.has_failed out.new) result }
 {
-    let (mut round, mut ahead) = begin_rounds(alloc, threads, text)?;
-    let mut own = own_sheet(alloc, ahead.is_shared, &ahead.text)?;
-    let mut next = own_sheet(alloc, ahead.is_shared, &ahead.text)?;
-    put_end(put_rounds(rt, &mut own, &mut round, &mut next, &mut ahead, out))
+    let (mut round, mut next, mut rest) = begin_rounds(alloc, form, text)?;
+    put_end(put_rounds(rt, gate, &mut round, &mut next, &mut rest, out))
 }
 
-/// Writes a text. Fewer than this many threads make the lines, while the caller's writes them; or, if it is 1, the caller's
-/// does both.
+/// Writes a text. This many threads make the lines, of which the caller's writes them; or the caller's does both, if it is
+/// alone or the entries are few.
 fn put_text<S: Semiring + Send + Sync, R: Threads + Sync, K: Sink>(
     rt: &R,
     alloc: Global,
@@ -340,16 +297,17 @@ fn put_text<S: Semiring + Send + Sync, R: Threads + Sync, K: Sink>(
     requires { K.has_failed out.old ≡ false }
     ensures { IsTextEnd text.entry (K.written out.old) (K.written out.new) (K.has_failed out.new) result }
 {
-    if threads < 2 {
-        put_by_pages(alloc, text, out)
-    } else {
-        put_by_rounds(rt, alloc, threads, text, out)
+    let entries = text.entry_count();
+    if threads < 2 || entries <= FEW {
+        return put_by_pages(alloc, text, out);
     }
+    let form = Form::for_entries(entries, threads as usize);
+    put_in_rounds(rt, alloc, form, text, &OpenGate, out)
 }
 
-/// Writes the text of a matrix and some lines after it. Fewer than this many threads make the lines, while the caller's
-/// writes them; or, if it is 1, the caller's does both. All memory is taken first: at `Memory` nothing has been written,
-/// and at `Output` a beginning of the whole.
+/// Writes the text of a matrix and some lines after it. This many threads make the lines, and the caller's writes them; or it
+/// does both, if it is alone or the entries are few. All memory is taken first: at `Memory` nothing has been written, and at
+/// `Output` a beginning of the whole.
 pub fn put_text_and_lines<S: Semiring + Send + Sync, R: Threads + Sync, K: Sink>(
     rt: &R,
     alloc: Global,

@@ -1,199 +1,155 @@
-//! Rounds of sheets, which are dealt out in order and written in parallel.
-ghost use Rattle.std.specs.Prelude.{◌≡◌, ◌≤◌, ◌<◌, ◌+◌, [], ◌++◌, length, true, false, vec_len, vec_capacity, IfOk, OnOk};
-ghost use Rattle.cb_market_pages.specs.Sheets.{share_of};
-ghost use Rattle.cb_job_output.specs.Rounds.{written_on, dealt_to};
+//! Rounds: the next shares of a text, which are written on sheets by several threads.
+ghost use Rattle.std.specs.Prelude.{◌≡◌, ℕ, ◌<◌, [], ◌++◌, List, length, get_or, true, false, IfOk, IfSome, All};
+ghost use Rattle.cb_job_output.specs.Rounds.{joined, AreOf, AreAllOf};
 
-use crate::apart::each_apart;
-use crate::gates::{Gate, OpenGate};
-use cb_market_pages::{MOST_LINES, Sheet, TextPages};
+use crate::stacks::Stack;
+use cb_market_pages::{MOST_LINES, Share, TextPages};
 use cb_semirings::Semiring;
 use std::alloc::{AllocError, Global};
 use std::marker::Model;
-use std::thread;
-use std::thread::Threads;
 
-/// The most lines that [`Round::new`] makes room for on a sheet.
-pub(crate) const LINES: usize = 65_536;
+/// How many shares a round has for each thread.
+const SHARES_EACH: usize = 4;
 
-/// The fewest lines that it makes room for: fewer aren't worth a thread.
-const FEW: usize = 16_384;
+/// The fewest lines that a share has, unless a text has fewer: fewer aren't worth a thread.
+pub(crate) const FEW: usize = 4_096;
 
-/// The sheets of a round, at least one. In contracts it is what is written on them, in order.
+/// The form of a round: how many threads write it, how many shares it has, and how many lines each.
+#[derive(Clone, Copy, Drop)]
+pub struct Form {
+    pub threads: usize,
+    pub shares: usize,
+    pub lines: usize,
+}
+
+impl Form {
+    /// The form for a matrix with this many entries and for this many threads: with fewer entries, less lines and threads.
+    pub fn for_entries(entries: usize, threads: usize) -> Form {
+        let most = threads.saturating_mul(SHARES_EACH).max(1);
+        let lines = entries.div_ceil(most).clamp(FEW, MOST_LINES);
+        let shares = entries.div_ceil(lines).clamp(1, most);
+        Form {
+            threads: threads.min(shares),
+            shares,
+            lines,
+        }
+    }
+
+    /// Returns how many sheets each thread has: half as many again as its part of the shares, for threads that get on faster
+    /// than others.
+    fn sheets_each(self) -> usize {
+        let threads = self.threads.max(1);
+        self.shares
+            .saturating_mul(3)
+            .div_ceil(threads.saturating_mul(2))
+    }
+}
+
+/// The next shares of a text, in order. In contracts it is their texts.
 #[derive(Drop)]
-pub struct Round<'a, S: Semiring> {
-    sheets: Vec<Sheet<'a, S>>,
-    /// How many lines each has room for.
+pub(crate) struct Dealt<'a, S: Semiring> {
+    shares: Vec<Share<'a, S>>,
+    /// How many lines a share has at most.
     lines: usize,
 }
 
-impl<'a, S: Semiring> Model for Round<'a, S> {
-    ghost use Rattle.std.specs.Prelude.{ℕ, ◌<◌, ◌≤◌, List, length};
-    ghost use Rattle.cb_market_pages.specs.declared.sheets.TheConstants.{MOST_LINES};
-    ghost use Rattle.cb_job_output.specs.Rounds.{written_on};
+impl<'a, S: Semiring> Model for Dealt<'a, S> {
+    ghost use Rattle.std.specs.Prelude.{ℕ, ◌<◌, List, length, vec_capacity, All};
 
-    ghost Value = { List ℕ };
+    ghost Value = { List (List ℕ) };
 
-    ghost view = { λ r. written_on r.sheets.items };
+    ghost view = { λ d. d.shares.items };
 
-    ghost invariant = { λ r. (0 < length r.sheets.items) × (0 < r.lines) × (r.lines ≤ MOST_LINES) };
+    ghost invariant = { λ d. (0 < d.lines) × (0 < vec_capacity d.shares) × All (λ (share : List ℕ). 0 < length share) d.shares.items };
 }
 
-impl<'a, S: Semiring> Round<'a, S> {
-    /// Makes empty sheets for a text: one per thread except the one that writes the round before to a sink; or fewer if the
-    /// matrix has too few entries. Each takes at most 2.9 MB.
-    pub fn new(
-        alloc: Global,
-        threads: usize,
-        text: &TextPages<'a, S>,
-    ) -> Result<Round<'a, S>, AllocError>
-        ensures { IfOk result (λ round. round ≡ []) }
+impl<'a, S: Semiring> Dealt<'a, S> {
+    /// Makes room for the shares of a round of this form.
+    pub(crate) fn new(alloc: Global, form: Form) -> Result<Dealt<'a, S>, AllocError>
+        ensures { IfOk result (λ dealt. dealt ≡ []) }
     {
-        let threads = threads.saturating_sub(1).max(1);
-        let entries = text.entry_count();
-        let lines = entries.div_ceil(threads).clamp(FEW, LINES);
-        let sheets = entries.div_ceil(lines).clamp(1, threads);
-        Round::with_lines(alloc, sheets, lines, text)
-    }
-
-    /// Returns whether there is room for all entries of a text.
-    pub fn holds(&self, text: &TextPages<'a, S>) -> bool {
-        text.entry_count() <= self.sheets.len().saturating_mul(self.lines)
-    }
-
-    /// Makes as many empty sheets again, for the round after this one.
-    pub fn another(
-        &self,
-        alloc: Global,
-        text: &TextPages<'a, S>,
-    ) -> Result<Round<'a, S>, AllocError>
-        ensures { IfOk result (λ round. round ≡ []) }
-    {
-        Round::with_lines(alloc, self.sheets.len(), self.lines, text)
-    }
-
-    /// Makes this many empty sheets for a text, with room for this many lines each. A line takes 43 bytes.
-    pub fn with_lines(
-        alloc: Global,
-        sheets: usize,
-        lines: usize,
-        text: &TextPages<'a, S>,
-    ) -> Result<Round<'a, S>, AllocError>
-        requires sheets { 0 < sheets }
-        requires lines { (0 < lines) × (lines ≤ MOST_LINES) }
-        ensures { IfOk result (λ round. round ≡ []) }
-    {
-        let mut blank = Vec::with_capacity(alloc, sheets)?;
-        add_sheets(alloc, &mut blank, sheets, lines, text)?;
-        Ok(Round {
-            sheets: blank,
-            lines,
+        Ok(Dealt {
+            shares: Vec::with_capacity(alloc, form.shares.max(1))?,
+            lines: form.lines.max(1),
         })
     }
 
-    /// Returns the sheets in order, which hold the bytes of the round.
-    pub fn sheets(&self) -> &[Sheet<'a, S>]
-        ensures { written_on result.now ≡ self.now }
+    /// Replaces the shares by the next ones of a text, as many as there is room for. The cost is one step per segment.
+    pub(crate) fn deal(&mut self, text: &mut TextPages<'a, S>)
+        ensures text { text.old ≡ joined self.new ++ text.new }
+        ensures none { joined self.new ≡ [] → text.old ≡ [] }
     {
-        &self.sheets
-    }
-}
-
-impl<'a, S: Semiring + Send + Sync> Round<'a, S> {
-    /// Replaces what is on the sheets by the next part of a text, as much as there is room for, and returns whether there
-    /// was any. If there was none, the whole text has been written. Each sheet is written by its own thread, or by the
-    /// caller's if only one has work or no other thread is available.
-    ///
-    /// Dealing the entries takes the caller's thread one step per segment.
-    pub fn fill<R: Threads + Sync>(&mut self, rt: &R, text: &mut TextPages<'a, S>) -> bool
-        ensures text { text.old ≡ self.new ++ text.new }
-        ensures some { result ≡ true → 0 < length self.new }
-        ensures none { result ≡ false → text.old ≡ [] }
-    {
-        self.fill_through(rt, text, &OpenGate)
-    }
-
-    /// The same, but each thread passes a gate before it writes a sheet.
-    pub fn fill_through<R: Threads + Sync, G: Gate>(
-        &mut self,
-        rt: &R,
-        text: &mut TextPages<'a, S>,
-        gate: &G,
-    ) -> bool
-        ensures text { text.old ≡ self.new ++ text.new }
-        ensures some { result ≡ true → 0 < length self.new }
-        ensures none { result ≡ false → text.old ≡ [] }
-    {
-        let dealt = deal(&mut self.sheets, text);
-        if dealt > 1 {
-            write_each(rt, &mut self.sheets, gate);
-        } else {
-            write_here(rt, &mut self.sheets, gate);
+        self.shares.clear();
+        while self.shares.len() < self.shares.capacity() {
+            let Some(share) = text.next_share(self.lines) else {
+                return;
+            };
+            self.shares.push_reserved(share);
         }
-        dealt > 0
+    }
+
+    /// Returns the shares.
+    pub(crate) fn shares(&self) -> &[Share<'a, S>]
+        ensures { result.now ≡ self.now }
+    {
+        &self.shares
+    }
+
+    /// Returns whether there is none.
+    pub(crate) fn is_empty(&self) -> bool
+        ensures none { result ≡ true → joined self.now ≡ [] }
+        ensures some { result ≡ false → 0 < length (joined self.now) }
+    {
+        self.shares.is_empty()
     }
 }
 
-/// Adds this many empty sheets for a text to a list that has room for them. Each has room for this many lines.
-fn add_sheets<'a, S: Semiring>(
-    alloc: Global,
-    sheets: &mut Vec<Sheet<'a, S>>,
-    count: usize,
-    lines: usize,
-    text: &TextPages<'a, S>,
-) -> Result<(), AllocError>
-    requires lines { (0 < lines) × (lines ≤ MOST_LINES) }
-    requires room { vec_len sheets.old + count ≤ vec_capacity sheets.old }
-    ensures count { OnOk result (vec_len sheets.new ≡ vec_len sheets.old + count) }
-    ensures blank { OnOk result (written_on sheets.new.items ≡ written_on sheets.old.items) }
+/// Shares, and the stacks on which they are written: that of the thread that writes to the sink, and those of the others.
+#[derive(Drop)]
+pub(crate) struct Round<'a, S: Semiring> {
+    pub(crate) dealt: Dealt<'a, S>,
+    pub(crate) own: Stack,
+    pub(crate) others: Vec<Stack>,
+}
+
+impl<'a, S: Semiring> Round<'a, S> {
+    /// Makes a round of this form, without shares.
+    pub(crate) fn new(alloc: Global, form: Form) -> Result<Round<'a, S>, AllocError>
+        ensures none { IfOk result (λ round. round.dealt ≡ []) }
+        ensures blank { IfOk result (λ round. AreAllOf [] round.own round.others.items) }
+    {
+        let sheets = form.sheets_each();
+        let dealt = Dealt::new(alloc, form)?;
+        let own = Stack::new(alloc, sheets)?;
+        let others = blank(alloc, form.threads.saturating_sub(1), sheets)?;
+        Ok(Round { dealt, own, others })
+    }
+
+    /// Returns the sheet on which the share with a number is written, if it is on one.
+    pub(crate) fn find(&self, number: usize) -> Option<&[u8]>
+        requires { AreAllOf self.now.dealt self.now.own self.now.others.items }
+        ensures { IfSome result (λ bytes. (d : List ℕ) → bytes.now ≡ get_or self.now.dealt number d) }
+    {
+        if let Some(bytes) = self.own.find(number) {
+            return Some(bytes);
+        }
+        for n in 0..self.others.len() {
+            if let Some(bytes) = self.others[n].find(number) {
+                return Some(bytes);
+            }
+        }
+        None
+    }
+}
+
+/// Makes this many stacks with this many sheets each, of which none is written.
+fn blank(alloc: Global, count: usize, sheets: usize) -> Result<Vec<Stack>, AllocError>
+    ensures { IfOk result (λ stacks. All (AreOf []) stacks.items) }
 {
+    let mut stacks = Vec::with_capacity(alloc, count)?;
     for _ in 0..count {
-        let sheet = Sheet::new(alloc, lines, text)?;
-        sheets.push_reserved(sheet);
+        let stack = Stack::new(alloc, sheets)?;
+        stacks.push_reserved(stack);
     }
-    Ok(())
-}
-
-/// Gives each sheet in order the next part of a text, and returns how many got some of it.
-fn deal<'a, S: Semiring>(sheets: &mut [Sheet<'a, S>], text: &mut TextPages<'a, S>) -> usize
-    ensures text { text.old ≡ dealt_to sheets.new ++ text.new }
-    ensures some { 0 < result → 0 < length (dealt_to sheets.new) }
-    ensures none { result ≡ 0 → 0 < length sheets.old → text.old ≡ [] }
-{
-    let mut dealt = 0;
-    for n in 0..sheets.len() {
-        if sheets[n].take_from(text) {
-            dealt += 1;
-        }
-    }
-    dealt
-}
-
-/// Writes each sheet, by a thread of its own.
-fn write_each<'a, S: Semiring + Send + Sync, R: Threads + Sync, G: Gate>(
-    rt: &R,
-    sheets: &mut [Sheet<'a, S>],
-    gate: &G,
-)
-    ensures { written_on sheets.new ≡ dealt_to sheets.old }
-{
-    each_apart(rt, &|n, sheet| write_one(gate, n, sheet), sheets);
-}
-
-/// Writes each sheet, on this thread.
-fn write_here<'a, S: Semiring + Send + Sync, R: Threads + Sync, G: Gate>(
-    rt: &R,
-    sheets: &mut [Sheet<'a, S>],
-    gate: &G,
-)
-    ensures { written_on sheets.new ≡ dealt_to sheets.old }
-{
-    thread::for_each_mut(rt, sheets, 1, &|n, sheet| write_one(gate, n, sheet));
-}
-
-/// Writes a sheet after the gate is passed.
-fn write_one<'a, S: Semiring, G: Gate>(gate: &G, n: usize, sheet: &mut Sheet<'a, S>)
-    ensures { sheet.new ≡ record { written = share_of sheet.old; left = [] } }
-{
-    gate.pass(n);
-    sheet.write();
+    Ok(stacks)
 }

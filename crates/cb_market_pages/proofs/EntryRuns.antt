@@ -1,13 +1,14 @@
 -- Runs of entries that are removed one after the other.
 use Rattle.std.proofs.Common.{◌≡◌, ℕ, zero, suc, Bool, true, false, ◌+◌, ◌<◌, ◌≤◌, List, [], ◌∷◌, ◌++◌, length, min, take, drop, get_or, add-one, append-nil, refl, ap, sym, ◌∙◌, arith, append_assoc, length-append}
-use Rattle.std.specs.Prelude.{decimal, flat_map}
+use Rattle.std.specs.Prelude.{codes, decimal, flat_map}
 use Rattle.std.proofs.lemmas.List.{take-append-drop, drop_min, length-take-le}
 use Rattle.std.proofs.lemmas.List.Concat.{flat_map-append}
 use Rattle.cb_semirings.specs.Arithmetic.{Arithmetic}
 use Rattle.cb_matrix.specs.declared.Entry.{Entry}
+use Rattle.cb_matrix.specs.Sparse.{Extent}
 use Rattle.cb_dcsc.specs.Compressed.{entries_in}
 use Rattle.cb_layout.specs.Segments.{shifted}
-use Rattle.cb_market_pages.specs.Text.{entry_line, column_lines, number_line}
+use Rattle.cb_market_pages.specs.Text.{entry_line, column_lines, number_line, head_of, header_line, text_left}
 use Rattle.cb_market_pages.specs.Sheets.{lines_of}
 
 -- the first entries of a segment and the others are all of it
@@ -98,15 +99,29 @@ length-line : (b : Bool) (e : Entry) → 0 < length (entry_line b e)
 length-line true e = let a = length-append (decimal (e.row + 1)) (32 ∷ number_line ((e.column + 1) ∷ [])) in omega arith
 length-line false e = let a = length-append (decimal (e.row + 1)) (32 ∷ number_line ((e.column + 1) ∷ e.value ∷ [])) in omega arith
 
--- and so has a part of a text that isn't empty
-pub length-part : (s : Arithmetic) (page buffer : List ℕ) (end : ℕ) (entries : List Entry) (count : ℕ) → page ≡ buffer → end ≤ length buffer → count ≤ length entries → 0 < end + count → 0 < length (take end page ++ lines_of s (take count entries))
-length-part s page buffer end entries zero p l c some =
-    let a = length-append (take end page) (lines_of s (take 0 entries)) in
-    let b = length-take-le end page (rw p l) in
-    omega arith
-length-part s page buffer end [] (suc n) p l c some = absurd (omega (arith, c))
-length-part s page buffer end (e ∷ es) (suc n) p l c some =
-    let a = length-append (take end page) (lines_of s (take (suc n) (e ∷ es))) in
+-- a head has some bytes
+length-head : (b : Bool) (shape : Extent) (count : ℕ) → 0 < length (head_of b shape count)
+length-head true shape count =
+    let rest = number_line (shape.rows ∷ shape.cols ∷ count ∷ []) in
+    let a = length-append (header_line true) rest in
+    let b = length-append (codes "%%MatrixMarket matrix coordinate pattern general") (10 ∷ []) in
+    omega (arith, a, b)
+length-head false shape count =
+    let rest = number_line (shape.rows ∷ shape.cols ∷ count ∷ []) in
+    let a = length-append (header_line false) rest in
+    let b = length-append (codes "%%MatrixMarket matrix coordinate integer general") (10 ∷ []) in
+    omega (arith, a, b)
+
+-- and so have a head and the lines of some entries, if there is one or the other
+pub length-share : (s : Arithmetic) (has_head : Bool) (shape : Extent) (len : ℕ) (entries : List Entry) (count : ℕ) → count ≤ length entries → (has_head ≡ false → count ≡ 0 → ⊥)
+    → 0 < length (text_left s has_head shape len (take count entries))
+length-share s true shape len entries count c some =
+    let a = length-append (head_of s.writes_pattern shape len) (lines_of s (take count entries)) in
+    let b = length-head s.writes_pattern shape len in
+    omega (arith, a, b)
+length-share s false shape len entries zero c some = absurd (some refl refl)
+length-share s false shape len [] (suc n) c some = absurd (omega (arith, c))
+length-share s false shape len (e ∷ es) (suc n) c some =
     let b = length-append (entry_line s.writes_pattern e) (lines_of s (take n es)) in
     let d = length-line s.writes_pattern e in
-    omega arith
+    omega (arith, b, d)

@@ -1,7 +1,7 @@
 //! Sparse matrices written as Matrix Market texts.
 //!
 //! [`text`] writes a matrix as a text that reads back as the same matrix. [`TextPages`] has the text of a matrix over a grid or
-//! in panels: it is written page by page, or dealt to [`Sheet`]s that several threads fill. The format is defined in Boisvert,
+//! in panels: it is written page by page, or in [`Share`]s that several threads write on [`Sheet`]s. The format is defined in Boisvert,
 //! Pozo and Remington, The Matrix Market Exchange Formats (NISTIR 5935); `cb_market_lines` says what a text means.
 #![tactic(auto)]
 
@@ -12,6 +12,6 @@ mod text_pages;
 mod writing;
 
 pub use pages::Page;
-pub use sheets::{MOST_LINES, Sheet};
+pub use sheets::{MOST_LINES, Share, Sheet};
 pub use text_pages::TextPages;
 pub use writing::{text, vertex_pairs_text, vertex_text};

@@ -1,13 +1,12 @@
 //! The text of a product in panels is that of the whole product.
-ghost use Rattle.std.specs.Prelude.{◌≤◌, ◌<◌};
-ghost use Rattle.cb_market_pages.specs.declared.sheets.TheConstants.{MOST_LINES};
-
 use crate::market::pages;
 use crate::writing::rounds;
 use cb_dcsc::Block;
+use cb_job_output::rounds::Form;
 use cb_layout::{Grid, PanelledMatrix};
 use cb_market::{Kind, read_distributed};
 use cb_market_pages::TextPages;
+use cb_outcomes::faults::JobFault;
 use cb_panels::{Panels, multiply_panels};
 use cb_semirings::PlusTimes;
 use std::alloc::{AllocError, Global};
@@ -44,33 +43,36 @@ fn are_pages(
     Ok(bytes.as_slice() == wanted)
 }
 
-/// Whether it is written in rounds of three sheets of this many lines as this text.
+/// Whether it is written by three threads in rounds of four shares of this many lines as this text.
 fn are_rounds<R: Threads + Sync>(
     rt: &R,
     alloc: Global,
     lines: usize,
     matrix: &PanelledMatrix<PlusTimes>,
     wanted: &[u8],
-) -> Result<bool, AllocError>
-    requires { (0 < lines) × (lines ≤ MOST_LINES) }
-{
-    let (bytes, _) = rounds::joined(rt, alloc, 3, lines, TextPages::of_panels(matrix))?;
+) -> Result<bool, JobFault> {
+    let form = Form {
+        threads: 3,
+        shares: 4,
+        lines,
+    };
+    let (bytes, _) = rounds::joined(rt, alloc, form, TextPages::of_panels(matrix))?;
     Ok(bytes.as_slice() == wanted)
 }
 
-/// Whether it is written as this text, page by page and in rounds of sheets of a few lines.
+/// Whether it is written as this text, page by page and in rounds of shares of a few lines.
 fn is_text<R: Threads + Sync>(
     rt: &R,
     alloc: Global,
     matrix: &PanelledMatrix<PlusTimes>,
     wanted: &[u8],
-) -> Result<bool, AllocError> {
+) -> Result<bool, JobFault> {
     for lines in [1, 2, 3, 1_000] {
         if !are_rounds(rt, alloc, lines, matrix, wanted)? {
             return Ok(false);
         }
     }
-    are_pages(alloc, matrix, wanted)
+    Ok(are_pages(alloc, matrix, wanted)?)
 }
 
 /// One times a block, made in at most this many panels.

@@ -1,71 +1,63 @@
 //! The rounds of a text: together they are the whole text.
-ghost use Rattle.std.specs.Prelude.{◌≤◌, ◌<◌};
-ghost use Rattle.cb_market_pages.specs.declared.sheets.TheConstants.{MOST_LINES};
-
 use crate::market::pages::{EMPTY, FAR, GIVEN};
 use cb_dcsc::Block;
-use cb_job_output::output::put_text_and_lines;
-use cb_job_output::rounds::Round;
+use cb_job_output::gates::Gate;
+use cb_job_output::output::{put_in_rounds, put_text_and_lines};
+use cb_job_output::rounds::Form;
 use cb_layout::{DistributedMatrix, Grid};
 use cb_market::{Kind, read_distributed};
-use cb_market_pages::{MOST_LINES, TextPages, text};
+use cb_market_pages::{TextPages, text};
 use cb_matrix::{Entry, Matrix, Shape};
+use cb_outcomes::faults::JobFault;
 use cb_outcomes::sinks::WriterSink;
 use cb_samples::are_values;
 use cb_semirings::PlusTimes;
-use std::alloc::{AllocError, Global};
+use std::alloc::Global;
+use std::sync::atomic::{AtomicUsize, Ordering};
 use std::thread::Threads;
 
-/// Appends the sheets of a round.
-fn append(bytes: &mut Vec<u8>, round: &Round<'_, PlusTimes>) -> Result<(), AllocError> {
-    for sheet in round.sheets() {
-        bytes.extend_from_slice(sheet.written())?;
-    }
-    Ok(())
+/// A gate that counts the shares that pass it.
+#[derive(Drop)]
+struct Counter {
+    passed: AtomicUsize,
 }
 
-/// Appends the rounds of what is left of a text, and returns their number.
-fn append_rounds<'a, R: Threads + Sync>(
-    rt: &R,
-    round: &mut Round<'a, PlusTimes>,
-    left: &mut TextPages<'a, PlusTimes>,
-    bytes: &mut Vec<u8>,
-) -> Result<usize, AllocError> {
-    let mut count: usize = 0;
-    while round.fill(rt, left) {
-        append(bytes, round)?;
-        count = count.saturating_add(1);
+impl Gate for Counter {
+    fn pass(&self, _share: usize) {
+        self.passed.fetch_add(1, Ordering::SeqCst);
     }
-    Ok(count)
 }
 
-/// The concatenated rounds of a text, with this many sheets of this many lines each, and the number of rounds.
+/// What is written of a text in rounds of this form, and how many shares threads took.
 pub(crate) fn joined<R: Threads + Sync>(
     rt: &R,
     alloc: Global,
-    sheets: usize,
-    lines: usize,
-    mut left: TextPages<'_, PlusTimes>,
-) -> Result<(Vec<u8>, usize), AllocError>
-    requires sheets { 0 < sheets }
-    requires lines { (0 < lines) × (lines ≤ MOST_LINES) }
-{
-    let mut round = Round::with_lines(alloc, sheets, lines, &left)?;
-    let mut bytes = Vec::new(alloc);
-    let count = append_rounds(rt, &mut round, &mut left, &mut bytes)?;
-    Ok((bytes, count))
+    form: Form,
+    left: TextPages<'_, PlusTimes>,
+) -> Result<(Vec<u8>, usize), JobFault> {
+    let gate = Counter {
+        passed: AtomicUsize::new(0),
+    };
+    let mut out = WriterSink::new(Vec::new(alloc));
+    put_in_rounds(rt, alloc, form, left, &gate, &mut out)?;
+    Ok((out.into_inner(), gate.passed.load(Ordering::SeqCst)))
 }
 
-/// Whether the rounds of a matrix over a grid are this text, with one to five sheets of a few lines each or of many.
+/// Whether the rounds of a matrix over a grid are this text, by one to five threads, with a few lines a share or many.
 fn are_text<R: Threads + Sync>(
     rt: &R,
     alloc: Global,
     matrix: &DistributedMatrix<PlusTimes>,
     wanted: &[u8],
-) -> Result<bool, AllocError> {
-    for sheets in 1..=5 {
+) -> Result<bool, JobFault> {
+    for threads in 1..=5 {
         for lines in [1, 2, 3, 1_000] {
-            let (bytes, _) = joined(rt, alloc, sheets, lines, TextPages::new(matrix))?;
+            let form = Form {
+                threads,
+                shares: 3,
+                lines,
+            };
+            let (bytes, _) = joined(rt, alloc, form, TextPages::new(matrix))?;
             if bytes.as_slice() != wanted {
                 return Ok(false);
             }
@@ -127,39 +119,42 @@ fn long_column(alloc: Global, count: u32) -> Option<Matrix<PlusTimes>> {
     Matrix::from_entries(alloc, Shape::new(100_000, 2)?, &entries).ok()
 }
 
-/// Whether the text of a matrix over a grid is written in this many rounds of two sheets of this many lines.
-fn are_rounds<R: Threads + Sync>(
+/// Whether the text of a matrix over a grid is written in this many shares of this many lines, two a round.
+fn are_shares<R: Threads + Sync>(
     rt: &R,
     alloc: Global,
     blocks: &DistributedMatrix<PlusTimes>,
     whole: &[u8],
     lines: usize,
-    rounds: usize,
-) -> Result<bool, AllocError>
-    requires { (0 < lines) × (lines ≤ MOST_LINES) }
-{
-    let (bytes, count) = joined(rt, alloc, 2, lines, TextPages::new(blocks))?;
-    Ok(count == rounds && bytes.as_slice() == whole)
+    shares: usize,
+) -> Result<bool, JobFault> {
+    let form = Form {
+        threads: 2,
+        shares: 2,
+        lines,
+    };
+    let (bytes, count) = joined(rt, alloc, form, TextPages::new(blocks))?;
+    Ok(count == shares && bytes.as_slice() == whole)
 }
 
-/// Whether the text of 9,001 entries over the grid of this side is written in rounds of two sheets of 1,000 lines, and in
-/// one round of sheets of 4,501.
-fn are_long_rounds<R: Threads + Sync>(rt: &R, alloc: Global, side: u32) -> Option<bool> {
+/// Whether the text of 9,001 entries over the grid of this side is written in shares of 1,000 lines, and of 4,501. Each is
+/// taken by a thread once.
+fn are_long_shares<R: Threads + Sync>(rt: &R, alloc: Global, side: u32) -> Option<bool> {
     let grid = Grid::new(side).ok()?;
     let matrix = long_column(alloc, 9_000)?;
     let block = Block::<PlusTimes>::from_ordered(alloc, matrix.shape(), matrix.entries()).ok()?;
     let whole = text(alloc, &block).ok()?;
     let blocks = DistributedMatrix::scatter(alloc, grid, &matrix).ok()?;
-    let many = are_rounds(rt, alloc, &blocks, &whole, 1_000, 5).ok()?;
-    let one = are_rounds(rt, alloc, &blocks, &whole, 4_501, 1).ok()?;
-    Some(many && one)
+    let many = are_shares(rt, alloc, &blocks, &whole, 1_000, 10).ok()?;
+    let two = are_shares(rt, alloc, &blocks, &whole, 4_501, 2).ok()?;
+    Some(many && two)
 }
 
-/// A column continues on the next sheet and in the next round.
+/// A column continues in the next share and in the next round.
 #[test]
 fn follow_one_another(rt: HostRuntime) {
     for side in [1, 3] {
-        assert!(&rt; are_long_rounds(&rt, rt.alloc(), side) == Some(true));
+        assert!(&rt; are_long_shares(&rt, rt.alloc(), side) == Some(true));
     }
 }
 
@@ -179,8 +174,7 @@ fn put_by<R: Threads + Sync>(
 /// A line after a text.
 const LINE: &[u8] = b"% end\n";
 
-/// Whether 100,001 entries and a line after them are written whole by one thread to four. Two make two rounds of them; of the
-/// second, the thread that writes to the sink makes some lines itself.
+/// Whether 100,001 entries and a line after them are written whole by one thread to four.
 fn are_put_whole<R: Threads + Sync>(rt: &R, alloc: Global) -> Option<bool> {
     let matrix = long_column(alloc, 100_000)?;
     let block = Block::<PlusTimes>::from_ordered(alloc, matrix.shape(), matrix.entries()).ok()?;
@@ -200,36 +194,23 @@ fn are_put_in_order(rt: HostRuntime) {
     assert!(&rt; are_put_whole(&rt, rt.alloc()) == Some(true));
 }
 
-/// How many sheets a round for this many threads has, or 0 if memory is refused.
-fn sheets_of(alloc: Global, threads: usize, entries: u32) -> usize {
-    let Some(matrix) = long_column(alloc, entries) else {
-        return 0;
-    };
-    let Ok(blocks) = DistributedMatrix::scatter(alloc, Grid::single(), &matrix) else {
-        return 0;
-    };
-    let Ok(round) = Round::new(alloc, threads, &TextPages::new(&blocks)) else {
-        return 0;
-    };
-    round.sheets().len()
-}
-
-/// Numbers of threads and of entries, and how many sheets a round then has.
-const SHEETS: &[(usize, u32, usize)] = &[
-    (0, 3, 1),
-    (1, 20_000, 1),
-    (2, 20_000, 1),
-    (3, 20_000, 2),
-    (4, 20_000, 2),
-    (4, 50_000, 3),
-    (4, 5_000, 1),
+/// Numbers of entries and of threads, and the form that a round then has: its threads, its shares, and their lines.
+const FORMS: &[(usize, usize, usize, usize, usize)] = &[
+    (0, 4, 1, 1, 4_096),
+    (3, 0, 0, 1, 4_096),
+    (20_000, 1, 1, 4, 5_000),
+    (5_000, 4, 2, 2, 4_096),
+    (20_000, 4, 4, 5, 4_096),
+    (200_000, 4, 4, 16, 12_500),
+    (1_000_000, 4, 4, 16, 16_384),
 ];
 
-/// There is a sheet for each thread with enough work, except the one that writes the round before, and at least one.
+/// There are four shares for each thread, unless the entries are fewer, and no thread without a share.
 #[test]
-fn have_a_sheet_for_each_thread_but_one(rt: HostRuntime) {
-    for (threads, entries, wanted) in SHEETS {
-        assert!(rt; sheets_of(rt.alloc(), *threads, *entries) == *wanted);
+fn have_shares_for_each_thread(rt: HostRuntime) {
+    for (entries, given, threads, shares, lines) in FORMS {
+        let form = Form::for_entries(*entries, *given);
+        assert!(rt; (form.threads, form.shares, form.lines) == (*threads, *shares, *lines));
     }
 }
 

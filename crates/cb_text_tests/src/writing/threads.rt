@@ -1,9 +1,11 @@
-//! Sheets are written at the same time.
+//! Shares are written at the same time, by whoever is free.
 use cb_job_output::gates::Gate;
-use cb_job_output::rounds::Round;
-use cb_layout::{DistributedMatrix, Grid};
-use cb_market::{Kind, read_distributed};
+use cb_job_output::output::put_in_rounds;
+use cb_job_output::rounds::Form;
+use cb_layout::Grid;
+use cb_market::read_distributed;
 use cb_market_pages::TextPages;
+use cb_outcomes::sinks::WriterSink;
 use cb_semirings::PlusTimes;
 use std::alloc::Global;
 use std::sync::atomic::{AtomicBool, AtomicUsize, Ordering};
@@ -20,7 +22,7 @@ struct Meeting {
 }
 
 impl Gate for Meeting {
-    fn pass(&self, _sheet: usize) {
+    fn pass(&self, _share: usize) {
         self.here.fetch_add(1, Ordering::SeqCst);
         for _ in 0..LOOKS {
             if self.have_met.load(Ordering::SeqCst) {
@@ -34,34 +36,80 @@ impl Gate for Meeting {
     }
 }
 
-/// Whether the two threads that write a round of two sheets of two lines were at the gate at the same time.
-fn meet<R: Threads + Sync>(
+/// A gate at which whoever takes the first share waits a while for the others to be taken.
+#[derive(Drop)]
+struct Delay {
+    others: AtomicUsize,
+    were_taken: AtomicBool,
+}
+
+/// How many shares there are besides the first.
+const OTHERS: usize = 3;
+
+impl Gate for Delay {
+    fn pass(&self, share: usize) {
+        if share > 0 {
+            self.others.fetch_add(1, Ordering::SeqCst);
+            return;
+        }
+        for _ in 0..LOOKS {
+            if self.others.load(Ordering::SeqCst) == OTHERS {
+                self.were_taken.store(true, Ordering::SeqCst);
+                break;
+            }
+        }
+    }
+}
+
+/// The text of a matrix of four entries.
+const FOUR: &[u8] =
+    b"%%MatrixMarket matrix coordinate integer general\n2 2 4\n1 1 1\n2 1 4\n1 2 2\n2 2 3\n";
+
+/// Whether the text of four entries is written by two threads in one round of shares of this many lines, through a gate.
+fn is_written<R: Threads + Sync, G: Gate>(
     rt: &R,
     alloc: Global,
-    matrix: &DistributedMatrix<PlusTimes>,
-) -> Result<bool, Kind> {
+    lines: usize,
+    gate: &G,
+) -> Option<bool> {
+    let matrix = read_distributed::<PlusTimes>(alloc, &Grid::single(), FOUR).ok()?;
+    let form = Form {
+        threads: 2,
+        shares: 4,
+        lines,
+    };
+    let mut out = WriterSink::new(Vec::new(alloc));
+    put_in_rounds(rt, alloc, form, TextPages::new(&matrix), gate, &mut out).ok()?;
+    Some(out.into_inner().as_slice() == FOUR)
+}
+
+/// Whether the two threads that write two shares are at the gate at the same time.
+fn meet<R: Threads + Sync>(rt: &R, alloc: Global) -> Option<bool> {
     let gate = Meeting {
         here: AtomicUsize::new(0),
         have_met: AtomicBool::new(false),
     };
-    let mut left = TextPages::new(matrix);
-    let Ok(mut round) = Round::with_lines(alloc, 2, 2, &left) else {
-        return Err(Kind::Memory);
-    };
-    let _some = round.fill_through(rt, &mut left, &gate);
-    Ok(gate.have_met.load(Ordering::SeqCst))
-}
-
-/// Whether they were for a matrix of three entries.
-fn meet_at_three<R: Threads + Sync>(rt: &R, alloc: Global) -> Result<bool, Kind> {
-    let given = b"%%MatrixMarket matrix coordinate integer general\n2 2 3\n1 1 1\n1 2 2\n2 2 3\n";
-    match read_distributed::<PlusTimes>(alloc, &Grid::single(), given) {
-        Ok(matrix) => meet(rt, alloc, &matrix),
-        Err(fault) => Err(fault.kind),
-    }
+    let is_text = is_written(rt, alloc, 2, &gate)?;
+    Some(is_text && gate.have_met.load(Ordering::SeqCst))
 }
 
 #[test]
-fn two_sheets_are_written_at_once(rt: HostRuntime) {
-    assert!(&rt; meet_at_three(&rt, rt.alloc()) == Ok(true));
+fn two_shares_are_written_at_once(rt: HostRuntime) {
+    assert!(&rt; meet(&rt, rt.alloc()) == Some(true));
+}
+
+/// Whether one thread takes all other shares while the first is delayed.
+fn takes_the_others<R: Threads + Sync>(rt: &R, alloc: Global) -> Option<bool> {
+    let gate = Delay {
+        others: AtomicUsize::new(0),
+        were_taken: AtomicBool::new(false),
+    };
+    let is_text = is_written(rt, alloc, 1, &gate)?;
+    Some(is_text && gate.were_taken.load(Ordering::SeqCst))
+}
+
+/// A thread that is held up doesn't hold up the shares that it didn't take.
+#[test]
+fn a_free_thread_takes_the_shares_of_a_slow_one(rt: HostRuntime) {
+    assert!(&rt; takes_the_others(&rt, rt.alloc()) == Some(true));
 }

@@ -1,26 +1,32 @@
-use Rattle.std.proofs.Common.{◌≡◌, ◌++◌, refl, ap, sym, ◌∙◌}
+use Rattle.std.proofs.Common.{◌≡◌, List, ℕ, [], ◌++◌, refl, ap, sym, ◌∙◌}
 use Rattle.cb_outcomes.proofs.SinkLemmas.{appends_page, prefix_page, on_err}
+use Rattle.cb_job_output.specs.Rounds.{joined}
 use Rattle.cb_job_output.proofs.output.put_rounds.Goals as goal
 
 pub loop-is_left-preserved : goal.loop-is_left-preserved
 loop-is_left-preserved g c =
-    let i = c.loop-is_left.invariant.0 in
-    let put = c.in_ok-is_left.ensures in
-    let part = c.loop-is_left.own.written ++ c.loop-is_left.round in
-    let after = c.put_and_go_on.new.ahead.text in
-    let own = c.swap.ensures.x_after in
-    let round = c.swap-in-loop-is_left.ensures.x_after in
-    let same : c.swap.new.x.written ++ c.swap-in-loop-is_left.new.x ≡ c.put_and_go_on.new.next.written ++ c.put_and_go_on.new.ahead.round = λ t. (own t).written ++ round t in
-    let next = c.swap.new.x.written ++ c.swap-in-loop-is_left.new.x in
-    let left : c.loop-is_left.ahead.text ≡ next ++ after = put.text ∙ ap (λ r. r ++ after) (sym same) in (
-      appends_page _ _ _ i.0 part _ (next ++ after) _ i.1 put.whole (ap (λ l. part ++ l) left) i.2,
-      put.works,
-      (λ e. rw same (put.some e)),
-      λ e. sym left ∙ put.none e,
-    )
+    let i = c.loop-is_left.invariant in
+    let put = c.in_ok-put_while_made.ensures in
+    let made = joined c.loop-is_left.round.dealt in
+    let coming = c.put_while_made.new.rest.coming in
+    let text = c.put_while_made.new.rest.text in
+    let first = joined c.swap.new.x.dealt in
+    let second = joined c.swap-in-loop-is_left.new.x in
+    let round = c.swap.ensures.x_after in
+    let dealt : second ≡ joined coming = ap joined c.swap-in-loop-is_left.ensures.x_after in
+    let same : first ≡ joined c.loop-is_left.next.dealt = (λ t. joined (round t).dealt) ∙ ap joined put.same in
+    let others : second ++ text ≡ c.loop-is_left.rest.text = ap (λ bytes. bytes ++ text) dealt ∙ sym put.text in
+    let left : made ++ (joined c.loop-is_left.next.dealt ++ c.loop-is_left.rest.text) ≡ made ++ (first ++ (second ++ text)) = λ t. made ++ (sym same t ++ sym others t) in
+    record {
+      text = appends_page _ _ _ i.text.0 made _ (first ++ (second ++ text)) _ i.text.1 put.whole left i.text.2;
+      works = put.works;
+      all = rw round put.made;
+      rest = λ e. let none : joined coming ≡ [] = sym dealt ∙ e in sym (ap (λ bytes. bytes ++ text) none) ∙ sym put.text ∙ put.none none;
+      none = c.are_left-is_left.ensures.none;
+    }
 
-pub returns-in_err-is_left-clause-prefix : goal.returns-in_err-is_left-clause-prefix
-returns-in_err-is_left-clause-prefix g c =
-    let i = c.loop-is_left.invariant.0 in
-    let part = c.loop-is_left.own.written ++ c.loop-is_left.round in
-    on_err c.from_residual.result (prefix_page _ _ _ i.0 part _ c.loop-is_left.ahead.text _ i.1 c.in_err-is_left.ensures.prefix refl i.2)
+pub returns-in_err-put_while_made-clause-prefix : goal.returns-in_err-put_while_made-clause-prefix
+returns-in_err-put_while_made-clause-prefix g c =
+    let i = c.loop-is_left.invariant in
+    let rest = joined c.loop-is_left.next.dealt ++ c.loop-is_left.rest.text in
+    on_err c.from_residual.result (prefix_page _ _ _ i.text.0 (joined c.loop-is_left.round.dealt) _ rest _ i.text.1 c.in_err-put_while_made.ensures.prefix refl i.text.2)
