@@ -7,7 +7,7 @@ ghost use Rattle.cb_job_output.specs.Rounds.{joined, AreOf, AreAllOf};
 ghost use Rattle.cb_outcomes.specs.Sinks.{AppendsPrefix};
 ghost use Rattle.cb_outcomes.specs.WriteEnds.{IsTextEnd, end_of_put};
 
-use crate::apart::each_beside;
+use crate::apart::each_apart;
 use crate::gates::{Gate, OpenGate};
 use crate::rounds::{Dealt, FEW, Form, Round};
 use crate::stacks::{Stack, Turns};
@@ -73,8 +73,8 @@ struct Rest<'a, S: Semiring> {
 /// Writes a round to the sink, deals the shares of a later one, and then makes some of this one. At `PutFault` a beginning of
 /// the round has been written.
 ///
-/// A thread that was just started has a chance to begin first: a system may keep it on this processor until this thread
-/// yields.
+/// It yields first, so that a thread that was just started for the others can start them and then wait: a system may keep it on
+/// this processor until this thread yields.
 fn put_and_make<'a, S: Semiring, G: Gate, K: Sink>(
     earlier: &Round<'a, S>,
     shares: &[Share<'a, S>],
@@ -100,7 +100,24 @@ fn put_and_make<'a, S: Semiring, G: Gate, K: Sink>(
     Ok(())
 }
 
-/// The same, while other threads make shares.
+/// Makes shares, each stack in a thread of its own, which this one starts and then waits for.
+fn make_each<'a, S: Semiring + Send + Sync, R: Threads + Sync, G: Gate>(
+    rt: &R,
+    shares: &[Share<'a, S>],
+    turns: &Turns<'_, G>,
+    stacks: &mut [Stack],
+)
+    ensures { All (AreOf shares.now) stacks.new }
+{
+    each_apart(
+        rt,
+        &|_, stack: &mut Stack| stack.make(shares, turns),
+        stacks,
+    );
+}
+
+/// The same, while other threads make shares. One more thread starts them and waits: a system may put the first thread that
+/// one starts on its own processor, where this one writes.
 fn put_beside<'a, S: Semiring + Send + Sync, R: Threads + Sync, G: Gate, K: Sink>(
     rt: &R,
     earlier: &Round<'a, S>,
@@ -121,14 +138,14 @@ fn put_beside<'a, S: Semiring + Send + Sync, R: Threads + Sync, G: Gate, K: Sink
     ensures prefix { OnErr result (AppendsPrefix (K.written out.old) (K.written out.new) (joined earlier.now.dealt)) }
     ensures fails { OnErr result (K.has_failed out.new ≡ true) }
 {
-    each_beside(
+    let (_, put) = thread::join_mut(
         rt,
-        &|_, stack: &mut Stack| stack.make(shares, turns),
-        others,
+        &mut || make_each(rt, shares, turns, others),
         &mut ||
             requires { (K.has_failed out.now ≡ false) × AreAllOf earlier.now.dealt earlier.now.own earlier.now.others.items }
         { put_and_make(earlier, shares, turns, own, rest, out) },
-    )
+    );
+    put
 }
 
 /// The same, but this thread makes all shares if there is only one.
