@@ -214,6 +214,27 @@ fn have_shares_for_each_thread(rt: HostRuntime) {
     }
 }
 
+/// Whether the text of 11 entries is written whole by two threads that have no sheets, and how many shares they took.
+fn is_written_without_sheets<R: Threads + Sync>(rt: &R, alloc: Global) -> Option<(bool, usize)> {
+    let matrix = long_column(alloc, 10)?;
+    let block = Block::<PlusTimes>::from_ordered(alloc, matrix.shape(), matrix.entries()).ok()?;
+    let whole = text(alloc, &block).ok()?;
+    let blocks = DistributedMatrix::scatter(alloc, Grid::single(), &matrix).ok()?;
+    let form = Form {
+        threads: 2,
+        shares: 0,
+        lines: 2,
+    };
+    let (bytes, taken) = joined(rt, alloc, form, TextPages::new(&blocks)).ok()?;
+    Some((bytes.as_slice() == whole.as_slice(), taken))
+}
+
+/// A share that no thread takes is written by the thread that writes to the sink.
+#[test]
+fn a_share_that_nobody_takes_is_written_too(rt: HostRuntime) {
+    assert!(&rt; is_written_without_sheets(&rt, rt.alloc()) == Some((true, 0)));
+}
+
 /// Whether a text is written as itself, or memory is refused.
 fn is_joined_or_refused<R: Threads + Sync>(rt: &R, alloc: Global, given: &[u8]) -> bool {
     match read_and_joined(rt, alloc, 2, given) {
