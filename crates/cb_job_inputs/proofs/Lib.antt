@@ -2,5 +2,6 @@
 -- read. ReadFaults: the first text that isn't a matrix.
 pub mod OperandLemmas
 pub mod ReadFaults
--- For this crate alone. TextParts: texts in parts that end with lines.
-mod TextParts
+-- For this crate alone. CutTexts: texts that are cut where lines end. ReadPieces: what is read of the pieces.
+mod CutTexts
+mod ReadPieces

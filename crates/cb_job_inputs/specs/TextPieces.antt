@@ -1,9 +1,52 @@
--- Pieces of a text that is read by a plan.
-use Rattle.std.specs.Prelude.{ℕ, List}
+-- Pieces of a text, and what is read of them.
+use Rattle.std.specs.Prelude.{ℕ, ◌≡◌, ◌+◌, ◌<◌, true, List, length, flat_map, get_or, Option, All, IfSome}
 use Rattle.cb_semirings.specs.Arithmetic.{Arithmetic}
-use Rattle.cb_market.specs.Pieces.{Part, IsPart}
-use Rattle.cb_job_inputs.specs.declared.reading.Plan.{Plan}
+use Rattle.cb_market_lines.specs.declared.header.Header.{Header}
+use Rattle.cb_market_lines.specs.declared.size.Size.{Size}
+use Rattle.cb_matrix.specs.Values.{collected}
+use Rattle.cb_layout.specs.Distributed.{Distributed}
+use Rattle.cb_market_lines.specs.Reads.{Reads}
+use Rattle.cb_market.specs.Pieces.{Part, IsPart, is_whole}
+use Rattle.cb_job_inputs.specs.declared.stacks.Numbered.{Numbered}
+
+-- How the entries of a text are read: by its header and its size, over a grid of this side.
+pub record Reading : Type 0 where
+  pub header : Header
+  pub size : Size
+  pub side : ℕ
 
 -- what is read of these lines
-abbrev pub IsRead : Arithmetic → Plan → List ℕ → Part → Type 0
-IsRead s plan text p = IsPart s plan.header plan.size.shape plan.grid.side text p
+abbrev pub IsRead : Arithmetic → Reading → List ℕ → Part → Type 0
+IsRead s plan text p = IsPart s plan.header plan.size.shape plan.side text p
+
+-- pieces, one after the other
+abbrev pub in_a_row : List (List ℕ) → List ℕ
+in_a_row pieces = flat_map (λ piece. piece) pieces
+
+-- each piece but the last ends with a line
+abbrev pub AreCut : List (List ℕ) → Type 0
+AreCut pieces = (n : ℕ) (d : List ℕ) → n + 1 < length pieces → is_whole (get_or pieces n d) ≡ true
+
+-- This is the matrix of what is read of some pieces, where as many lines had an entry as are announced.
+abbrev pub IsMatrixOf : Arithmetic → Reading → List (List ℕ) → Distributed → Type 0
+IsMatrixOf s plan pieces m =
+    (p : Part) × IsRead s plan (in_a_row pieces) p × (p.lines ≡ plan.size.count) × (m ≡ record { side = p.side; matrix = collected s p.shape p.entries })
+
+-- A text was cut in pieces: each but the last ends with a line, and a matrix of what is read of them is what the text reads as.
+pub record IsCutOf (s : Arithmetic) (text : List ℕ) (side : ℕ) (plan : Reading) (pieces : List (List ℕ)) : Type 0 where
+  pub ends : AreCut pieces
+  pub reads : (m : Distributed) → IsMatrixOf s plan pieces m → Reads s text m.matrix
+  pub on_grid : (m : Distributed) → IsMatrixOf s plan pieces m → m.side ≡ side
+
+-- what was read with a number is what is read of the piece with this number
+abbrev pub IsReadOf : {A : Type 0} → Arithmetic → Reading → List (List ℕ) → Numbered A → Type 0
+IsReadOf s plan pieces read = (read.number < length pieces) × ((d : List ℕ) → IsRead s plan (get_or pieces read.number d) read.piece)
+
+-- so is each of these
+abbrev pub AreReadOf : {A : Type 0} → Arithmetic → Reading → List (List ℕ) → List (Numbered A) → Type 0
+AreReadOf s plan pieces read = All (IsReadOf s plan pieces) read
+
+-- in each place is what is read of the piece with the same number, or nothing
+pub record AreInOrder (s : Arithmetic) (plan : Reading) (pieces : List (List ℕ)) (places : List (Option Part)) : Type 0 where
+  pub count : length places ≡ length pieces
+  pub each : (n : ℕ) (d : List ℕ) (e : Option Part) → n < length pieces → IfSome (get_or places n e) (IsRead s plan (get_or pieces n d))

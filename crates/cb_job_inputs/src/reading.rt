@@ -1,63 +1,39 @@
 //! Matrix Market texts, read by several threads.
 //!
-//! A text, or each part of a text that was loaded in parts, is cut in pieces where lines end. Each piece is read by a thread of
-//! its own, straight into the blocks of a grid as long as its entries ascend; threads that start others wait. Neighbours are then joined block by block, and what they make with its neighbours, until one piece is left. If no
-//! piece has a fault and all announced entries are there, the joined piece has the matrix. Otherwise, and if memory is
-//! refused, [`cb_market::read_distributed`] reads the text again on one thread and reports the first fault.
+//! A text, or each part of a text that was loaded in parts, is cut in pieces where lines end. Threads take the pieces, each the
+//! next that nobody has taken, and read them straight into blocks of a grid as long as their entries ascend. Neighbours are
+//! then joined block by block, and what they make with its neighbours, until one piece is left. If no piece has a fault and all
+//! announced entries are there, the joined piece has the matrix. Otherwise, and if memory is refused,
+//! [`cb_market::read_distributed`] reads the text again on one thread and reports the first fault.
 //!
-//! If a thread isn't available, the caller's thread reads its piece. Besides the text, the memory is that of the blocks
-//! and, while two pieces are joined, a second copy of the later one.
-ghost use Rattle.std.specs.Prelude.{◌≡◌, ◌<◌, ◌≤◌, ◌++◌, true, IsTrue, IfOk, IfErr, IfSome, length};
+//! If a thread isn't available, the caller's thread does its work. Besides the text, the memory is that of the blocks and,
+//! while two pieces are joined, a second copy of the later one.
+ghost use Rattle.std.specs.Prelude.{◌≡◌, All, IfOk, IfErr, IfSome};
 ghost use Rattle.std.specs.Thread.{IsSync};
-ghost use Rattle.cb_matrix.specs.Values.{collected};
-ghost use Rattle.cb_market_lines.specs.Checks.{is_shape};
 ghost use Rattle.cb_market_lines.specs.Faults.{first_fault, IsAnswer, IsLineOf};
 ghost use Rattle.cb_market_lines.specs.Reads.{Reads, IsFaultOrMatrix};
-ghost use Rattle.cb_market.specs.Pieces.{MayFollow, is_whole};
-ghost use Rattle.cb_job_inputs.specs.TextPieces.{IsRead};
-ghost use Rattle.cb_outcomes.specs.Texts.{joined};
+ghost use Rattle.cb_job_inputs.specs.TextPieces.{AreCut, AreInOrder, AreReadOf, IsMatrixOf};
 
+use crate::joining::{Places, in_order, join_places};
+use crate::pieces::Cut;
+pub use crate::pieces::Pieces;
+use crate::stacks::Stack;
 use cb_layout::{DistributedMatrix, Grid};
-use cb_market::{
-    Header, Opening, Piece, ReadFault, Size, parted, read_distributed, read_piece, room_for_entries,
-};
+use cb_market::{ReadFault, read_distributed};
 use cb_outcomes::texts::Text;
 use cb_semirings::Semiring;
-use std::alloc::Global;
+use cb_turns::apart::each_apart;
+use cb_turns::gates::{Gate, OpenGate};
+use cb_turns::turns::Turns;
+use std::alloc::{AllocError, Global};
 use std::thread;
 use std::thread::{Threads, join};
 
-/// Into how many pieces a text is cut.
-#[derive(Clone, Copy)]
-pub struct Pieces {
-    /// The most pieces.
-    pub most: u32,
-    /// The least bytes of a piece. Lines stay whole, so a piece can have fewer.
-    pub least_bytes: usize,
-}
-
-impl Pieces {
-    /// Returns into how many pieces this many bytes are cut.
-    fn of(&self, bytes: usize) -> u32 {
-        let fitting = bytes / self.least_bytes.max(1);
-        fitting.min(self.most as usize) as u32
-    }
-
-    /// Returns the same for each of this many parts.
-    fn for_each(&self, parts: usize) -> Pieces {
-        let each = self.most as usize / parts.max(1);
-        Pieces {
-            most: each as u32,
-            least_bytes: self.least_bytes,
-        }
-    }
-}
-
 /// Reads a text as a matrix in the blocks of a grid, or returns its first fault, as [`cb_market::read_distributed`] does.
-/// Each piece of the text is read by its own thread.
+/// Several threads read its pieces.
 ///
-/// Each thread reads its piece once. Then the entries of all pieces except the first are copied once, to join those before
-/// them. A text with a fault is read twice.
+/// Each piece is read once. Then the entries of all pieces except the first are copied once, to join those before them. A text
+/// with a fault is read twice.
 pub fn read_side_by_side<S: Semiring + Send + Sync, R: Threads + Sync>(
     rt: &R,
     alloc: Global,
@@ -71,7 +47,58 @@ pub fn read_side_by_side<S: Semiring + Send + Sync, R: Threads + Sync>(
     ensures line { IfErr result (IsLineOf 1 text) }
     ensures law { IsFaultOrMatrix S.arithmetic text }
 {
-    if let Some(matrix) = read_in_pieces::<S, R>(rt, alloc, grid, pieces, &text) {
+    let read = read_in_pieces::<S, R, OpenGate>(rt, alloc, grid, pieces, &OpenGate, &text);
+    or_on_one_thread(rt, alloc, grid, read, text)
+}
+
+/// Reads two texts as matrices in the blocks of a grid, as if one after the other. Threads that are done with the pieces of
+/// the first go on with those of the second, and then the pieces of both are joined at once.
+pub fn read_both_side_by_side<
+    S: Semiring + Send + Sync,
+    T: Semiring + Send + Sync,
+    R: Threads + Sync,
+>(
+    rt: &R,
+    alloc: Global,
+    grid: &Grid,
+    pieces: Pieces,
+    first: Text,
+    second: Text,
+) -> (
+    Result<DistributedMatrix<S>, ReadFault>,
+    Result<DistributedMatrix<T>, ReadFault>,
+)
+    ensures first_ok { IfOk result.0 (λ m. Reads S.arithmetic first m.matrix) }
+    ensures first_side { IfOk result.0 (λ m. m.side ≡ grid.now.side) }
+    ensures first_fault { IfErr result.0 (IsAnswer (first_fault S.arithmetic first)) }
+    ensures second_ok { IfOk result.1 (λ m. Reads T.arithmetic second m.matrix) }
+    ensures second_side { IfOk result.1 (λ m. m.side ≡ grid.now.side) }
+    ensures second_fault { IfErr result.1 (IsAnswer (first_fault T.arithmetic second)) }
+{
+    let (left, right) = read_both_in_pieces::<S, T, R, OpenGate>(
+        rt, alloc, grid, pieces, &OpenGate, &first, &second,
+    );
+    let left = or_on_one_thread(rt, alloc, grid, left, first);
+    (left, or_on_one_thread(rt, alloc, grid, right, second))
+}
+
+/// What was read of a text, or else what one thread reads of it. The text is freed.
+fn or_on_one_thread<S: Semiring + Send + Sync, R: Threads + Sync>(
+    rt: &R,
+    alloc: Global,
+    grid: &Grid,
+    read: Option<DistributedMatrix<S>>,
+    text: Text,
+) -> Result<DistributedMatrix<S>, ReadFault>
+    requires reads { IfSome read (λ m. Reads S.arithmetic text m.matrix) }
+    requires side { IfSome read (λ m. m.side ≡ grid.now.side) }
+    ensures ok { IfOk result (λ m. Reads S.arithmetic text m.matrix) }
+    ensures side { IfOk result (λ m. m.side ≡ grid.now.side) }
+    ensures fault { IfErr result (IsAnswer (first_fault S.arithmetic text)) }
+    ensures line { IfErr result (IsLineOf 1 text) }
+    ensures law { IsFaultOrMatrix S.arithmetic text }
+{
+    if let Some(matrix) = read {
         free(rt, alloc, text);
         return Ok(matrix);
     }
@@ -96,266 +123,154 @@ fn free<R: Threads + Sync>(rt: &R, alloc: Global, text: Text) {
     thread::for_each_mut(rt, &mut parts, threads, &|_, part| *part = Vec::new(alloc));
 }
 
-/// Reads a text as a matrix in the blocks of a grid, in two pieces or more. None if there would be fewer pieces, if the
-/// text has a fault, or if memory is refused; and if a part of the text but the last doesn't end with a line.
-pub fn read_in_pieces<S: Semiring + Send + Sync, R: Threads + Sync>(
+/// Reads a text as a matrix in the blocks of a grid, in two pieces or more. Who takes a piece to read it passes the gate. None
+/// if there would be fewer pieces, if the text has a fault, or if memory is refused; and if a part of the text but the last
+/// doesn't end with a line.
+pub fn read_in_pieces<S: Semiring + Send + Sync, R: Threads + Sync, G: Gate>(
     rt: &R,
     alloc: Global,
     grid: &Grid,
     pieces: Pieces,
+    gate: &G,
     text: &Text,
 ) -> Option<DistributedMatrix<S>>
     ensures reads { IfSome result (λ m. Reads S.arithmetic text.now m.matrix) }
     ensures side { IfSome result (λ m. m.side ≡ grid.now.side) }
 {
-    let (first, rest) = text.parts();
-    let Some(opening) = Opening::of::<S>(first) else {
+    let Some(cut) = Cut::of::<S>(alloc, grid, pieces, text) else {
         return None;
     };
-    let plan = Plan {
-        alloc,
-        grid: *grid,
-        header: opening.header,
-        size: opening.size,
-    };
-    let entries = opening.entries;
-    if !may_follow(first, entries, rest) {
-        return None;
-    }
-    let Some(whole) = read_entries::<S, R>(rt, &plan, pieces, entries, rest) else {
-        return None;
-    };
-    complete(&plan, whole)
+    let none = Cut::none(&cut.plan);
+    let stacks = read_all::<S, S, R, G>(rt, alloc, pieces.threads, gate, &cut, &none)?;
+    let (places, _) = in_order(&cut, &none, stacks)?;
+    matrix_of(rt, &cut, places)
 }
 
-/// Whether more parts may follow a text and its end: there are none, or both end with a line.
-fn may_follow(text: &[u8], end: &[u8], rest: &[Vec<u8>]) -> bool
-    ensures { result ≡ true → MayFollow text.now end.now (joined rest.now) }
-{
-    rest.is_empty() || ends_with_line(text) && ends_with_line(end)
-}
-
-/// Whether a text is empty or ends with a line feed.
-fn ends_with_line(text: &[u8]) -> bool
-    ensures { result ≡ true → is_whole text.now ≡ true }
-{
-    text.is_empty() || ends_with_line_feed(text)
-}
-
-/// Whether the last byte of a text is a line feed.
-fn ends_with_line_feed(text: &[u8]) -> bool
-    ensures some { result ≡ true → 0 < length text.now }
-    ensures whole { result ≡ true → is_whole text.now ≡ true }
-{
-    match text.len().checked_sub(1) {
-        Some(last) => text[last] == b'\n',
-        None => false,
-    }
-}
-
-/// Whether a text in parts is empty or ends with a line.
-fn parts_end_with_line(first: &[u8], rest: &[Vec<u8>]) -> bool
-    ensures { result ≡ true → is_whole (first.now ++ joined rest.now) ≡ true }
-{
-    match rest.len().checked_sub(1) {
-        Some(last) => ends_with_line_feed(&rest[last]),
-        None => ends_with_line(first),
-    }
-}
-
-/// Reads all entries of a text: part by part if it is in several, and otherwise in pieces, of which there are two at
-/// least.
-fn read_entries<S: Semiring + Send + Sync, R: Threads + Sync>(
+/// Reads two texts as [`read_in_pieces`] reads one. Both are None if one of them would be.
+pub fn read_both_in_pieces<
+    S: Semiring + Send + Sync,
+    T: Semiring + Send + Sync,
+    R: Threads + Sync,
+    G: Gate,
+>(
     rt: &R,
-    plan: &Plan,
-    pieces: Pieces,
-    entries: &[u8],
-    rest: &[Vec<u8>],
-) -> Option<Piece<S>>
-    requires { IsTrue (is_shape plan.now.header.symmetry plan.now.size.shape) }
-    ensures { IfSome result (IsRead S.arithmetic plan.now (entries.now ++ joined rest.now)) }
-{
-    let room = plan.room_for(entries, rest);
-    if !rest.is_empty() {
-        let each = pieces.for_each(rest.len() + 1);
-        return read_parts::<S, R>(rt, plan, each, room, entries, rest);
-    }
-    let count = pieces.of(entries.len());
-    if count < 2 {
-        return None;
-    }
-    read_part::<S, R>(rt, plan, count, room, entries)
-}
-
-/// Returns the matrix of all entries of a text, if there are as many as announced.
-fn complete<S: Semiring>(plan: &Plan, whole: Piece<S>) -> Option<DistributedMatrix<S>>
-    ensures count { IfSome result (λ _. whole.lines ≡ plan.now.size.count) }
-    ensures matrix { IfSome result (λ m. m ≡ record { side = whole.side; matrix = collected S.arithmetic whole.shape whole.entries }) }
-{
-    let announced = plan.size.count;
-    if whole.lines() != announced {
-        return None;
-    }
-    match whole.into_blocks(plan.alloc) {
-        Ok(matrix) => Some(matrix),
-        Err(_) => None,
-    }
-}
-
-/// What all pieces of a text have in common.
-#[derive(Drop)]
-struct Plan {
     alloc: Global,
-    grid: Grid,
-    header: Header,
-    size: Size,
-}
-
-impl Plan {
-    /// Returns how many entries to take room for: as many as are announced, but no more than these parts can hold.
-    fn room_for(&self, first: &[u8], rest: &[Vec<u8>]) -> usize {
-        let mut bytes = first.len();
-        for part in rest {
-            bytes = bytes.saturating_add(part.len());
-        }
-        room_for_entries(self.header, self.size.count, bytes.min(usize::MAX - 1))
-    }
-
-    /// Reads a piece of the entries of a text, with room for this many.
-    fn read<S: Semiring>(&self, room: usize, text: &[u8]) -> Option<Piece<S>>
-        requires { IsTrue (is_shape self.now.header.symmetry self.now.size.shape) }
-        ensures { IfSome result (IsRead S.arithmetic self.now text.now) }
-    {
-        read_piece::<S>(self.alloc, self.grid, self.header, self.size, room, text)
-    }
-}
-
-/// Returns how many of this many bytes the first `low` of `count` pieces have.
-fn share(bytes: usize, low: u32, count: u32) -> usize
-    requires some { 0 < count }
-    requires few { low ≤ count }
-    ensures { result ≤ bytes }
-{
-    bytes / count as usize * low as usize
-}
-
-/// Reads a part of the entries of a text in this many pieces: one piece by this thread, and more by halves, each half by a
-/// thread of its own, while this one waits. So halves are joined side by side. It takes room for `room` entries: those of
-/// this part, and of those that will be appended to it.
-#[cycle(pieces)]
-fn read_part<S: Semiring + Send + Sync, R: Threads + Sync>(
-    rt: &R,
-    plan: &Plan,
-    count: u32,
-    room: usize,
-    text: &[u8],
-) -> Option<Piece<S>>
-    requires { IsTrue (is_shape plan.now.header.symmetry plan.now.size.shape) }
-    ensures { IfSome result (IsRead S.arithmetic plan.now text.now) }
-{
-    if count < 2 {
-        return plan.read::<S>(room, text);
-    }
-    let low = count / 2;
-    let high = count - low;
-    let (first, last) = parted(text, share(text.len(), low, count));
-    let (back, front) = join(
-        rt,
-        || -> Option<Piece<S>>
-            requires { IsSync R.row × IsTrue (is_shape plan.now.header.symmetry plan.now.size.shape) }
-            ensures { IfSome result (IsRead S.arithmetic plan.entry.now last.entry.now) }
-        { read_part::<S, R>(rt, plan, high, plan.room_for(last, &[]), last) },
-        || -> Option<Piece<S>>
-            requires { IsSync R.row × IsTrue (is_shape plan.now.header.symmetry plan.now.size.shape) }
-            ensures { IfSome result (IsRead S.arithmetic plan.entry.now first.entry.now) }
-        { read_part_apart::<S, R>(rt, plan, low, room, first) },
-    );
-    let front = front?;
-    let back = back?;
-    front.append(rt, plan.alloc, back)
-}
-
-/// The same in a thread of its own, while this one waits.
-#[cycle(pieces)]
-fn read_part_apart<S: Semiring + Send + Sync, R: Threads + Sync>(
-    rt: &R,
-    plan: &Plan,
-    count: u32,
-    room: usize,
-    text: &[u8],
-) -> Option<Piece<S>>
-    requires { IsTrue (is_shape plan.now.header.symmetry plan.now.size.shape) }
-    ensures { IfSome result (IsRead S.arithmetic plan.now text.now) }
-{
-    let (piece, ()) = join(
-        rt,
-        || -> Option<Piece<S>>
-            requires { IsSync R.row × IsTrue (is_shape plan.now.header.symmetry plan.now.size.shape) }
-            ensures { IfSome result (IsRead S.arithmetic plan.entry.now text.entry.now) }
-        { read_part::<S, R>(rt, plan, count, room, text) },
-        || {},
-    );
-    piece
-}
-
-/// Reads the entries of a text in parts, each in pieces, by halves, as [`read_part`] does. It takes room for `room` entries:
-/// those of these parts, and of those that will be appended to them. None also if a part but the last doesn't end with a
-/// line.
-#[cycle(parts)]
-fn read_parts<S: Semiring + Send + Sync, R: Threads + Sync>(
-    rt: &R,
-    plan: &Plan,
+    grid: &Grid,
     pieces: Pieces,
-    room: usize,
-    first: &[u8],
-    rest: &[Vec<u8>],
-) -> Option<Piece<S>>
-    requires { IsTrue (is_shape plan.now.header.symmetry plan.now.size.shape) }
-    ensures { IfSome result (IsRead S.arithmetic plan.now (first.now ++ joined rest.now)) }
+    gate: &G,
+    first: &Text,
+    second: &Text,
+) -> (Option<DistributedMatrix<S>>, Option<DistributedMatrix<T>>)
+    ensures first { IfSome result.0 (λ m. Reads S.arithmetic first.now m.matrix) }
+    ensures first_side { IfSome result.0 (λ m. m.side ≡ grid.now.side) }
+    ensures second { IfSome result.1 (λ m. Reads T.arithmetic second.now m.matrix) }
+    ensures second_side { IfSome result.1 (λ m. m.side ≡ grid.now.side) }
 {
-    let (low, high) = rest.split_at(rest.len() / 2);
-    let Some((next, last)) = high.split_first() else {
-        return read_part::<S, R>(rt, plan, pieces.of(first.len()), room, first);
+    let Some(first) = Cut::of::<S>(alloc, grid, pieces, first) else {
+        return (None, None);
     };
-    if !parts_end_with_line(first, low) {
+    let Some(second) = Cut::of::<T>(alloc, grid, pieces, second) else {
+        return (None, None);
+    };
+    match read_places::<S, T, R, G>(rt, alloc, pieces.threads, gate, &first, &second) {
+        Some((left, right)) => both_of(rt, &first, left, &second, right),
+        None => (None, None),
+    }
+}
+
+/// Reads the pieces of two texts.
+fn read_places<S: Semiring + Send + Sync, T: Semiring + Send + Sync, R: Threads + Sync, G: Gate>(
+    rt: &R,
+    alloc: Global,
+    threads: u32,
+    gate: &G,
+    first: &Cut<'_>,
+    second: &Cut<'_>,
+) -> Option<(Places<S>, Places<T>)>
+    ensures first { IfSome result (λ p. AreInOrder S.arithmetic first.now.plan first.now.pieces.items p.0.items) }
+    ensures second { IfSome result (λ p. AreInOrder T.arithmetic second.now.plan second.now.pieces.items p.1.items) }
+{
+    let stacks = read_all::<S, T, R, G>(rt, alloc, threads, gate, first, second)?;
+    in_order(first, second, stacks)
+}
+
+/// Reads the pieces of two texts by this many threads, which this one starts and then waits for.
+fn read_all<S: Semiring + Send + Sync, T: Semiring + Send + Sync, R: Threads + Sync, G: Gate>(
+    rt: &R,
+    alloc: Global,
+    threads: u32,
+    gate: &G,
+    first: &Cut<'_>,
+    second: &Cut<'_>,
+) -> Option<Vec<Stack<S, T>>>
+    ensures first { IfSome result (λ v. All (λ x. AreReadOf S.arithmetic first.now.plan first.now.pieces.items x.first.items) v.items) }
+    ensures second { IfSome result (λ v. All (λ x. AreReadOf T.arithmetic second.now.plan second.now.pieces.items x.second.items) v.items) }
+{
+    let all = first.pieces.len().saturating_add(second.pieces.len());
+    let mut stacks = blank(alloc, all.min(threads as usize)).ok()?;
+    let turns = Turns::new(gate);
+    each_apart(
+        rt,
+        &|_, stack: &mut Stack<S, T>| stack.make(first, second, &turns),
+        &mut stacks,
+    );
+    Some(stacks)
+}
+
+/// Makes this many stacks without pieces.
+fn blank<S: Semiring, T: Semiring>(
+    alloc: Global,
+    count: usize,
+) -> Result<Vec<Stack<S, T>>, AllocError> {
+    let mut stacks = Vec::with_capacity(alloc, count)?;
+    for _ in 0..count {
+        stacks.push_reserved(Stack::new(alloc));
+    }
+    Ok(stacks)
+}
+
+/// Joins the pieces of two texts side by side.
+fn both_of<S: Semiring + Send + Sync, T: Semiring + Send + Sync, R: Threads + Sync>(
+    rt: &R,
+    first: &Cut<'_>,
+    left: Places<S>,
+    second: &Cut<'_>,
+    right: Places<T>,
+) -> (Option<DistributedMatrix<S>>, Option<DistributedMatrix<T>>)
+    requires first_ends { AreCut first.now.pieces.items }
+    requires second_ends { AreCut second.now.pieces.items }
+    requires first_order { AreInOrder S.arithmetic first.now.plan first.now.pieces.items left.items }
+    requires second_order { AreInOrder T.arithmetic second.now.plan second.now.pieces.items right.items }
+    ensures first { IfSome result.0 (IsMatrixOf S.arithmetic first.now.plan first.now.pieces.items) }
+    ensures second { IfSome result.1 (IsMatrixOf T.arithmetic second.now.plan second.now.pieces.items) }
+{
+    let (right, left) = join(
+        rt,
+        || -> Option<DistributedMatrix<T>>
+            requires { IsSync R.row × AreCut second.now.pieces.items × AreInOrder T.arithmetic second.now.plan second.now.pieces.items right.items }
+            ensures { IfSome result (IsMatrixOf T.arithmetic second.entry.now.plan second.entry.now.pieces.items) }
+        { matrix_of::<T, R>(rt, second, right) },
+        || -> Option<DistributedMatrix<S>>
+            requires { IsSync R.row × AreCut first.now.pieces.items × AreInOrder S.arithmetic first.now.plan first.now.pieces.items left.items }
+            ensures { IfSome result (IsMatrixOf S.arithmetic first.entry.now.plan first.entry.now.pieces.items) }
+        { matrix_of::<S, R>(rt, first, left) },
+    );
+    (left, right)
+}
+
+/// Joins the pieces of a text, and returns their matrix if there are as many entries as announced.
+fn matrix_of<S: Semiring + Send + Sync, R: Threads + Sync>(
+    rt: &R,
+    cut: &Cut<'_>,
+    places: Places<S>,
+) -> Option<DistributedMatrix<S>>
+    requires ends { AreCut cut.now.pieces.items }
+    requires order { AreInOrder S.arithmetic cut.now.plan cut.now.pieces.items places.items }
+    ensures { IfSome result (IsMatrixOf S.arithmetic cut.now.plan cut.now.pieces.items) }
+{
+    let whole = join_places(rt, cut, places)?;
+    if whole.lines() != cut.plan.announced() {
         return None;
     }
-    let (back, front) = join(
-        rt,
-        || -> Option<Piece<S>>
-            requires { IsSync R.row × IsTrue (is_shape plan.now.header.symmetry plan.now.size.shape) }
-            ensures { IfSome result (IsRead S.arithmetic plan.entry.now (next.entry.now.items ++ joined last.entry.now)) }
-        { read_parts::<S, R>(rt, plan, pieces, plan.room_for(next, last), next, last) },
-        || -> Option<Piece<S>>
-            requires { IsSync R.row × IsTrue (is_shape plan.now.header.symmetry plan.now.size.shape) }
-            ensures { IfSome result (IsRead S.arithmetic plan.entry.now (first.entry.now ++ joined low.entry.now)) }
-        { read_parts_apart::<S, R>(rt, plan, pieces, room, first, low) },
-    );
-    let front = front?;
-    let back = back?;
-    front.append(rt, plan.alloc, back)
-}
-
-/// The same in a thread of its own, while this one waits.
-#[cycle(parts)]
-fn read_parts_apart<S: Semiring + Send + Sync, R: Threads + Sync>(
-    rt: &R,
-    plan: &Plan,
-    pieces: Pieces,
-    room: usize,
-    first: &[u8],
-    rest: &[Vec<u8>],
-) -> Option<Piece<S>>
-    requires { IsTrue (is_shape plan.now.header.symmetry plan.now.size.shape) }
-    ensures { IfSome result (IsRead S.arithmetic plan.now (first.now ++ joined rest.now)) }
-{
-    let (piece, ()) = join(
-        rt,
-        || -> Option<Piece<S>>
-            requires { IsSync R.row × IsTrue (is_shape plan.now.header.symmetry plan.now.size.shape) }
-            ensures { IfSome result (IsRead S.arithmetic plan.entry.now (first.entry.now ++ joined rest.entry.now)) }
-        { read_parts::<S, R>(rt, plan, pieces, room, first, rest) },
-        || {},
-    );
-    piece
+    whole.into_blocks(cut.plan.alloc).ok()
 }

@@ -1,3 +1,2 @@
--- Rounds: what the sheets of a round have of a text. ItemCalls: functions that are called with items of a list.
+-- Rounds: what the sheets of a round have of a text.
 pub mod Rounds
-pub mod ItemCalls

@@ -5,11 +5,8 @@
 //!   shares on sheets, each the next that nobody has taken. Written in order, the shares are the next part of the text: the
 //!   same bytes as from one thread, however the threads are scheduled.
 //! - `stacks` has the sheets of each thread.
-//! - `apart` does work on the items of a list, each in a thread of its own.
 #![tactic(auto)]
 
-mod apart;
-pub mod gates;
 pub mod output;
 pub mod rounds;
 mod stacks;

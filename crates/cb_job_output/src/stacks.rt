@@ -2,41 +2,12 @@
 ghost use Rattle.std.specs.Prelude.{◌≡◌, ℕ, ◌<◌, [], List, get_or, IfOk, IfSome};
 ghost use Rattle.cb_job_output.specs.Rounds.{AreOf};
 
-use crate::gates::Gate;
 use cb_market_pages::{Share, Sheet};
 use cb_semirings::Semiring;
+use cb_turns::gates::Gate;
+use cb_turns::turns::Turns;
 use std::alloc::{AllocError, Global};
 use std::marker::Model;
-use std::sync::atomic::{AtomicUsize, Ordering};
-
-/// The numbers of shares, which threads take one by one. So they share the work as it comes, and none waits long for another.
-#[derive(Drop)]
-pub(crate) struct Turns<'g, G: Gate> {
-    next: AtomicUsize,
-    gate: &'g G,
-}
-
-impl<'g, G: Gate> Turns<'g, G> {
-    /// Starts from 0. Whoever takes a number passes the gate.
-    pub(crate) fn new(gate: &'g G) -> Turns<'g, G> {
-        Turns {
-            next: AtomicUsize::new(0),
-            gate,
-        }
-    }
-
-    /// Takes the next number. None if it isn't below this one.
-    fn take(&self, end: usize) -> Option<usize>
-        ensures { IfSome result (λ number. number < end) }
-    {
-        let number = self.next.fetch_add(1, Ordering::Relaxed);
-        if number >= end {
-            return None;
-        }
-        self.gate.pass(number);
-        Some(number)
-    }
-}
 
 /// A sheet, and the number of the share that is written on it.
 #[derive(Drop)]

@@ -9,17 +9,19 @@ use cb_market::{Kind, ReadFault, parted, read};
 use cb_market_pages::text;
 use cb_outcomes::texts::Text;
 use cb_semirings::PlusTimes;
+use cb_turns::gates::OpenGate;
 use std::alloc::{AllocError, Global};
 use std::thread::Threads;
 
 /// Into how many pieces each text is cut.
 const COUNTS: [u32; 4] = [2, 3, 7, 64];
 
-/// At most this many pieces, however short.
+/// At most this many pieces, however short, for three threads.
 fn short(most: u32) -> Pieces {
     Pieces {
         most,
         least_bytes: 1,
+        threads: 3,
     }
 }
 
@@ -73,7 +75,14 @@ fn in_pieces<R: Threads + Sync>(
     let Ok(grid) = Grid::new(side) else {
         return None;
     };
-    let Some(matrix) = read_in_pieces::<PlusTimes, R>(rt, alloc, &grid, short(most), &given?) else {
+    let Some(matrix) = read_in_pieces::<PlusTimes, R, OpenGate>(
+        rt,
+        alloc,
+        &grid,
+        short(most),
+        &OpenGate,
+        &given?,
+    ) else {
         return None;
     };
     let bytes = written(alloc, &matrix);

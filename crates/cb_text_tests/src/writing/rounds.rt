@@ -1,7 +1,6 @@
 //! The rounds of a text: together they are the whole text.
 use crate::market::pages::{EMPTY, FAR, GIVEN};
 use cb_dcsc::Block;
-use cb_job_output::gates::Gate;
 use cb_job_output::output::{put_in_rounds, put_text_and_lines};
 use cb_job_output::rounds::Form;
 use cb_layout::{DistributedMatrix, Grid};
@@ -12,6 +11,7 @@ use cb_outcomes::faults::JobFault;
 use cb_outcomes::sinks::WriterSink;
 use cb_samples::are_values;
 use cb_semirings::PlusTimes;
+use cb_turns::gates::Gate;
 use std::alloc::Global;
 use std::sync::atomic::{AtomicUsize, Ordering};
 use std::thread::Threads;

@@ -1,5 +1,4 @@
 //! Shares are written at the same time, by whoever is free.
-use cb_job_output::gates::Gate;
 use cb_job_output::output::put_in_rounds;
 use cb_job_output::rounds::Form;
 use cb_layout::Grid;
@@ -7,6 +6,7 @@ use cb_market::read_distributed;
 use cb_market_pages::TextPages;
 use cb_outcomes::sinks::WriterSink;
 use cb_semirings::PlusTimes;
+use cb_turns::gates::Gate;
 use std::alloc::Global;
 use std::sync::atomic::{AtomicBool, AtomicUsize, Ordering};
 use std::thread::Threads;

@@ -1,0 +1,11 @@
+use Rattle.std.proofs.Common.{◌≡◌, ◌≤◌, Option, None}
+use Rattle.std.specs.Prelude.{All, vec_len, vec_capacity}
+use Rattle.cb_market.specs.Pieces.{Part}
+use Rattle.cb_job_inputs.proofs.joining.no_places.Given as goal
+
+-- the places so far have no piece, and there is room for all
+abbrev pub invariant-loop : goal.invariant-loop
+invariant-loop g l =
+    (vec_len l.places ≡ l.counter)
+    × (l.count ≤ vec_capacity l.places)
+    × All (λ (o : Option Part). o ≡ None) l.places.items

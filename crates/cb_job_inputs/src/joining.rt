@@ -1,0 +1,175 @@
+//! The pieces of a text, joined side by side.
+ghost use Rattle.std.specs.Prelude.{◌≡◌, ◌<◌, ◌≤◌, ℕ, Option, None, All, IfSome, IfOk, OnSome, length, get_or};
+ghost use Rattle.std.specs.Thread.{IsSync};
+ghost use Rattle.cb_market.specs.Pieces.{Part};
+ghost use Rattle.cb_job_inputs.specs.TextPieces.{AreCut, AreInOrder, AreReadOf, IsRead, in_a_row};
+
+use crate::pieces::{Cut, Lines, Plan};
+use crate::stacks::{Stack, put_in_order};
+use cb_market::Piece;
+use cb_semirings::Semiring;
+use std::alloc::{AllocError, Global};
+use std::thread::{Threads, join_mut};
+
+/// What was read of the pieces of a text, in order. A place without a piece is one that wasn't read.
+pub(crate) type Places<S> = Vec<Option<Piece<S>>>;
+
+/// Returns this many places without a piece.
+fn no_places<S: Semiring>(alloc: Global, count: usize) -> Result<Places<S>, AllocError>
+    ensures count { IfOk result (λ v. length v.items ≡ count) }
+    ensures none { IfOk result (λ v. All (λ (o : Option Part). o ≡ None) v.items) }
+{
+    let mut places = Vec::with_capacity(alloc, count)?;
+    for _ in 0..count {
+        places.push_reserved(None);
+    }
+    Ok(places)
+}
+
+/// Puts what threads have read of two texts in order. None if one of them couldn't read a piece, or if memory is refused.
+pub(crate) fn in_order<S: Semiring, T: Semiring>(
+    first: &Cut<'_>,
+    second: &Cut<'_>,
+    stacks: Vec<Stack<S, T>>,
+) -> Option<(Places<S>, Places<T>)>
+    requires first { All (λ x. AreReadOf S.arithmetic first.now.plan first.now.pieces.items x.first.items) stacks.items }
+    requires second { All (λ x. AreReadOf T.arithmetic second.now.plan second.now.pieces.items x.second.items) stacks.items }
+    ensures first { IfSome result (λ p. AreInOrder S.arithmetic first.now.plan first.now.pieces.items p.0.items) }
+    ensures second { IfSome result (λ p. AreInOrder T.arithmetic second.now.plan second.now.pieces.items p.1.items) }
+{
+    let mut first_places = no_places::<S>(first.plan.alloc, first.pieces.len()).ok()?;
+    let mut second_places = no_places::<T>(second.plan.alloc, second.pieces.len()).ok()?;
+    for stack in stacks {
+        if stack.has_failed {
+            return None;
+        }
+        put_in_order(&mut first_places, stack.first);
+        put_in_order(&mut second_places, stack.second);
+    }
+    Some((first_places, second_places))
+}
+
+/// Joins what was read of a text. Pieces that no thread has read are read here.
+pub(crate) fn join_places<S: Semiring + Send + Sync, R: Threads + Sync>(
+    rt: &R,
+    cut: &Cut<'_>,
+    mut places: Places<S>,
+) -> Option<Piece<S>>
+    requires ends { AreCut cut.now.pieces.items }
+    requires order { AreInOrder S.arithmetic cut.now.plan cut.now.pieces.items places.items }
+    ensures { IfSome result (IsRead S.arithmetic cut.now.plan (in_a_row cut.now.pieces.items)) }
+{
+    for number in 0..places.len() {
+        if places[number].is_none() {
+            places[number] = Some(cut.read::<S>(number)?);
+        }
+    }
+    join_all(rt, &cut.plan, &cut.pieces, &mut places)
+}
+
+/// The largest power of two below a number from 2 on.
+fn half_of(count: usize) -> usize
+    requires { 2 ≤ count }
+    ensures some { 0 < result }
+    ensures below { result < count }
+{
+    let mut half = 1;
+    while half < count - half {
+        half *= 2;
+    }
+    half
+}
+
+/// Joins pieces: the first half, the second half, and then both, in which a thread of its own joins each half while this one
+/// waits, if it has several pieces. None if a place has no piece, or if memory is refused.
+#[cycle(pieces)]
+fn join_all<S: Semiring + Send + Sync, R: Threads + Sync>(
+    rt: &R,
+    plan: &Plan,
+    pieces: &[Lines<'_>],
+    places: &mut [Option<Piece<S>>],
+) -> Option<Piece<S>>
+    requires ends { AreCut pieces.now }
+    requires order { AreInOrder S.arithmetic plan.now pieces.now places.old }
+    ensures { IfSome result (IsRead S.arithmetic plan.now (in_a_row pieces.now)) }
+{
+    if pieces.len() < 2 {
+        return only(plan, pieces, places);
+    }
+    let half = half_of(pieces.len());
+    let (front, back) = pieces.split_at(half);
+    let (front_places, back_places) = places.split_at_mut(half);
+    let (front, back) = join_halves(rt, plan, front, front_places, back, back_places);
+    let front = front?;
+    let back = back?;
+    front.append(rt, plan.alloc, back)
+}
+
+/// Joins the pieces of each half.
+#[cycle(pieces)]
+fn join_halves<S: Semiring + Send + Sync, R: Threads + Sync>(
+    rt: &R,
+    plan: &Plan,
+    front: &[Lines<'_>],
+    front_places: &mut [Option<Piece<S>>],
+    back: &[Lines<'_>],
+    back_places: &mut [Option<Piece<S>>],
+) -> (Option<Piece<S>>, Option<Piece<S>>)
+    requires some { 0 < length front.now }
+    requires others { 0 < length back.now }
+    requires front_ends { AreCut front.now }
+    requires front_order { AreInOrder S.arithmetic plan.now front.now front_places.old }
+    requires back_ends { AreCut back.now }
+    requires back_order { AreInOrder S.arithmetic plan.now back.now back_places.old }
+    ensures front { IfSome result.0 (IsRead S.arithmetic plan.now (in_a_row front.now)) }
+    ensures back { IfSome result.1 (IsRead S.arithmetic plan.now (in_a_row back.now)) }
+{
+    if front.len() < 2 {
+        let first = join_all(rt, plan, front, front_places);
+        return (first, join_all(rt, plan, back, back_places));
+    }
+    let mut there = || -> Option<Piece<S>>
+        requires { IsSync R.row × AreCut back.now × AreInOrder S.arithmetic plan.now back.now back_places.now }
+        ensures { IfSome result (IsRead S.arithmetic plan.entry.now (in_a_row back.entry.now)) }
+    { join_all(rt, plan, back, back_places) };
+    let mut here = || -> Option<Piece<S>>
+        requires { IsSync R.row × AreCut front.now × AreInOrder S.arithmetic plan.now front.now front_places.now }
+        ensures { IfSome result (IsRead S.arithmetic plan.entry.now (in_a_row front.entry.now)) }
+    { join_apart(rt, plan, front, front_places) };
+    let (back, front) = join_mut(rt, &mut there, &mut here);
+    (front, back)
+}
+
+/// Joins pieces in a thread of its own, while this one waits.
+#[cycle(pieces)]
+fn join_apart<S: Semiring + Send + Sync, R: Threads + Sync>(
+    rt: &R,
+    plan: &Plan,
+    pieces: &[Lines<'_>],
+    places: &mut [Option<Piece<S>>],
+) -> Option<Piece<S>>
+    requires ends { AreCut pieces.now }
+    requires order { AreInOrder S.arithmetic plan.now pieces.now places.old }
+    ensures { IfSome result (IsRead S.arithmetic plan.now (in_a_row pieces.now)) }
+{
+    let mut there = || -> Option<Piece<S>>
+        requires { IsSync R.row × AreCut pieces.now × AreInOrder S.arithmetic plan.now pieces.now places.now }
+        ensures { IfSome result (IsRead S.arithmetic plan.entry.now (in_a_row pieces.entry.now)) }
+    { join_all(rt, plan, pieces, places) };
+    let (piece, ()) = join_mut(rt, &mut there, &mut || {});
+    piece
+}
+
+/// Takes the only piece. None if there is none.
+fn only<S: Semiring>(
+    plan: &Plan,
+    pieces: &[Lines<'_>],
+    places: &mut [Option<Piece<S>>],
+) -> Option<Piece<S>>
+    requires few { length pieces.now < 2 }
+    requires order { AreInOrder S.arithmetic plan.now pieces.now places.old }
+    ensures { IfSome result (IsRead S.arithmetic plan.now (in_a_row pieces.now)) }
+{
+    let place = places.get_mut(0)?;
+    place.take()
+}

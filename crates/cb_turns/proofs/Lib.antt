@@ -1,0 +1,2 @@
+-- For this crate alone. ChangedItems: items that are changed one by one.
+mod ChangedItems

@@ -1,0 +1,2 @@
+-- ItemCalls: functions that are called with items of a list.
+pub mod ItemCalls
