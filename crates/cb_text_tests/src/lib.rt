@@ -5,6 +5,8 @@
 #[cfg(test)]
 mod market;
 #[cfg(test)]
+mod meetings;
+#[cfg(test)]
 mod reading;
 #[cfg(test)]
 mod writing;

@@ -1,6 +1,7 @@
 //! Texts read in pieces of one line or several, and texts that were loaded in parts.
 ghost use Rattle.std.specs.Prelude.{◌≡◌, IfSome, vec_len};
 
+use crate::meetings::{Delay, Meeting};
 use cb_dcsc::Block;
 use cb_job_inputs::inputs::read_two;
 use cb_job_inputs::reading::{Pieces, read_in_pieces, read_side_by_side};
@@ -9,7 +10,7 @@ use cb_market::{Kind, ReadFault, parted, read};
 use cb_market_pages::text;
 use cb_outcomes::texts::Text;
 use cb_semirings::PlusTimes;
-use cb_turns::gates::OpenGate;
+use cb_turns::gates::{Gate, OpenGate};
 use std::alloc::{AllocError, Global};
 use std::thread::Threads;
 
@@ -204,6 +205,77 @@ fn full_text(alloc: Global) -> Result<Vec<u8>, AllocError> {
         put(&mut text, number / 512 + 1, b'\n')?;
     }
     Ok(text)
+}
+
+/// Whether the first of the texts is read in four pieces by two threads, through a gate.
+fn is_read<R: Threads + Sync, G: Gate>(rt: &R, alloc: Global, gate: &G) -> Option<bool> {
+    let given = TEXTS[0];
+    let pieces = Pieces {
+        most: 4,
+        least_bytes: 1,
+        threads: 2,
+    };
+    let text = whole(alloc, given)?;
+    let matrix = read_in_pieces::<PlusTimes, R, G>(
+        rt,
+        alloc,
+        &Grid::single(),
+        pieces,
+        gate,
+        &text,
+    )?;
+    Some(written(alloc, &matrix)?.as_slice() == on_one_thread(alloc, given)?.as_slice())
+}
+
+/// Whether two threads take pieces at the same time.
+fn meet<R: Threads + Sync>(rt: &R, alloc: Global) -> Option<bool> {
+    let gate = Meeting::new();
+    let is_right = is_read(rt, alloc, &gate)?;
+    Some(is_right && gate.have_met())
+}
+
+#[test]
+fn two_pieces_are_read_at_once(rt: HostRuntime) {
+    assert!(&rt; meet(&rt, rt.alloc()) == Some(true));
+}
+
+/// Whether one thread takes all other pieces while the first is delayed.
+fn takes_the_others<R: Threads + Sync>(rt: &R, alloc: Global) -> Option<bool> {
+    let gate = Delay::new(3);
+    let is_right = is_read(rt, alloc, &gate)?;
+    Some(is_right && gate.were_taken())
+}
+
+/// A thread that is held up doesn't hold up the pieces that it didn't take.
+#[test]
+fn a_free_thread_takes_the_pieces_of_a_slow_one(rt: HostRuntime) {
+    assert!(&rt; takes_the_others(&rt, rt.alloc()) == Some(true));
+}
+
+/// Whether a text is read right if no thread takes a piece.
+fn are_read_by_the_caller<R: Threads + Sync>(rt: &R, alloc: Global) -> Option<bool> {
+    let given = TEXTS[0];
+    let pieces = Pieces {
+        most: 4,
+        least_bytes: 1,
+        threads: 0,
+    };
+    let text = whole(alloc, given)?;
+    let gate = &OpenGate;
+    let matrix = read_in_pieces::<PlusTimes, R, OpenGate>(
+        rt,
+        alloc,
+        &Grid::single(),
+        pieces,
+        gate,
+        &text,
+    )?;
+    Some(written(alloc, &matrix)?.as_slice() == on_one_thread(alloc, given)?.as_slice())
+}
+
+#[test]
+fn pieces_that_nobody_takes_are_read_too(rt: HostRuntime) {
+    assert!(&rt; are_read_by_the_caller(&rt, rt.alloc()) == Some(true));
 }
 
 /// Pieces with so many entries that threads append them, one for each of two blocks. The matrix is freed by threads too.

@@ -1,4 +1,5 @@
 //! Shares are written at the same time, by whoever is free.
+use crate::meetings::{Delay, Meeting};
 use cb_job_output::output::put_in_rounds;
 use cb_job_output::rounds::Form;
 use cb_layout::Grid;
@@ -8,58 +9,7 @@ use cb_outcomes::sinks::WriterSink;
 use cb_semirings::PlusTimes;
 use cb_turns::gates::Gate;
 use std::alloc::Global;
-use std::sync::atomic::{AtomicBool, AtomicUsize, Ordering};
 use std::thread::Threads;
-
-/// How often a thread checks for another one at the gate.
-const LOOKS: usize = 20_000_000;
-
-/// A gate at which each thread waits a while for another.
-#[derive(Drop)]
-struct Meeting {
-    here: AtomicUsize,
-    have_met: AtomicBool,
-}
-
-impl Gate for Meeting {
-    fn pass(&self, _share: usize) {
-        self.here.fetch_add(1, Ordering::SeqCst);
-        for _ in 0..LOOKS {
-            if self.have_met.load(Ordering::SeqCst) {
-                break;
-            }
-            if self.here.load(Ordering::SeqCst) > 1 {
-                self.have_met.store(true, Ordering::SeqCst);
-            }
-        }
-        self.here.fetch_sub(1, Ordering::SeqCst);
-    }
-}
-
-/// A gate at which whoever takes the first share waits a while for the others to be taken.
-#[derive(Drop)]
-struct Delay {
-    others: AtomicUsize,
-    were_taken: AtomicBool,
-}
-
-/// How many shares there are besides the first.
-const OTHERS: usize = 3;
-
-impl Gate for Delay {
-    fn pass(&self, share: usize) {
-        if share > 0 {
-            self.others.fetch_add(1, Ordering::SeqCst);
-            return;
-        }
-        for _ in 0..LOOKS {
-            if self.others.load(Ordering::SeqCst) == OTHERS {
-                self.were_taken.store(true, Ordering::SeqCst);
-                break;
-            }
-        }
-    }
-}
 
 /// The text of a matrix of four entries.
 const FOUR: &[u8] =
@@ -85,12 +35,9 @@ fn is_written<R: Threads + Sync, G: Gate>(
 
 /// Whether the two threads that write two shares are at the gate at the same time.
 fn meet<R: Threads + Sync>(rt: &R, alloc: Global) -> Option<bool> {
-    let gate = Meeting {
-        here: AtomicUsize::new(0),
-        have_met: AtomicBool::new(false),
-    };
+    let gate = Meeting::new();
     let is_text = is_written(rt, alloc, 2, &gate)?;
-    Some(is_text && gate.have_met.load(Ordering::SeqCst))
+    Some(is_text && gate.have_met())
 }
 
 #[test]
@@ -100,12 +47,9 @@ fn two_shares_are_written_at_once(rt: HostRuntime) {
 
 /// Whether one thread takes all other shares while the first is delayed.
 fn takes_the_others<R: Threads + Sync>(rt: &R, alloc: Global) -> Option<bool> {
-    let gate = Delay {
-        others: AtomicUsize::new(0),
-        were_taken: AtomicBool::new(false),
-    };
+    let gate = Delay::new(3);
     let is_text = is_written(rt, alloc, 1, &gate)?;
-    Some(is_text && gate.were_taken.load(Ordering::SeqCst))
+    Some(is_text && gate.were_taken())
 }
 
 /// A thread that is held up doesn't hold up the shares that it didn't take.
