@@ -22,7 +22,7 @@ use cb_layout::{DistributedMatrix, Grid};
 use cb_market::{ReadFault, read_distributed};
 use cb_outcomes::texts::Text;
 use cb_semirings::Semiring;
-use cb_turns::apart::each_apart;
+use cb_turns::apart::each_beside;
 use cb_turns::gates::{Gate, OpenGate};
 use cb_turns::turns::Turns;
 use std::alloc::{AllocError, Global};
@@ -194,7 +194,8 @@ fn read_places<S: Semiring + Send + Sync, T: Semiring + Send + Sync, R: Threads 
     in_order(first, second, stacks)
 }
 
-/// Reads the pieces of two texts by this many threads, which this one starts and then waits for.
+/// Reads the pieces of two texts by this many threads, which this one starts, and by this one. So there is one more than there
+/// are to be at once: a system may start a thread on the processor where another runs.
 fn read_all<S: Semiring + Send + Sync, T: Semiring + Send + Sync, R: Threads + Sync, G: Gate>(
     rt: &R,
     alloc: Global,
@@ -207,9 +208,10 @@ fn read_all<S: Semiring + Send + Sync, T: Semiring + Send + Sync, R: Threads + S
     ensures second { IfSome result (λ v. All (λ x. AreReadOf T.arithmetic second.now.plan second.now.pieces.items x.second.items) v.items) }
 {
     let all = first.pieces.len().saturating_add(second.pieces.len());
-    let mut stacks = blank(alloc, all.min(threads as usize)).ok()?;
+    let workers = (threads as usize).saturating_add(1);
+    let mut stacks = blank(alloc, all.min(workers)).ok()?;
     let turns = Turns::new(gate);
-    each_apart(
+    each_beside(
         rt,
         &|_, stack: &mut Stack<S, T>| stack.make(first, second, &turns),
         &mut stacks,
