@@ -1,21 +1,27 @@
 //! Files that several threads load.
 //!
-//! A long file is cut where lines end, and each part is loaded by its own thread, into memory that this thread is the first to
-//! touch. If anything is unexpected (a line is very long, a read fails, memory is refused, or the file changes its length),
+//! A long file is cut where lines end. Threads take the parts, each the next that nobody has taken, and load it into memory that
+//! this thread is the first to touch. If anything is unexpected (a line is very long, a read fails, memory is refused, or the file changes its length),
 //! nothing is kept of the parts, and the caller loads the file from its start.
 ghost use Rattle.std.specs.Prelude.{◌<◌};
-ghost use Rattle.std.specs.Thread.{IsSync};
 
 use cb_outcomes::texts::Text;
+use cb_turns::apart::each_beside;
+use cb_turns::gates::OpenGate;
+use cb_turns::turns::Turns;
 use std::alloc::Global;
 use std::fs::{File, OpenFile};
 use std::io;
 use std::io::{Read, Seek, SeekFrom};
 use std::rt::Files;
-use std::thread::{Threads, join_mut};
+use std::sync::Mutex;
+use std::thread::Threads;
 
-/// The fewest bytes that get a thread of their own.
+/// The fewest bytes of a part.
 const LEAST_BYTES: u64 = 262_144;
+
+/// How many parts there are for each thread.
+const PARTS_EACH: u64 = 2;
 
 /// How far the end of a line is looked for.
 const REACH: usize = 4_096;
@@ -90,7 +96,7 @@ fn parts_of<R: Files<File = File>>(
     name: &str,
     length: u64,
     count: u64,
-) -> Option<Vec<Part>>
+) -> Option<Vec<Mutex<Part>>>
     requires { 0 < count }
 {
     let mut file = File::open(rt, name).ok()?;
@@ -98,12 +104,12 @@ fn parts_of<R: Files<File = File>>(
     let (mut start, mut least) = (0, length);
     for n in 1..count {
         let end = next_line(alloc, &mut file, (length / count).saturating_mul(n))?;
-        parts.push(blank(rt, alloc, name, start, end, least)?).ok()?;
+        let part = blank(rt, alloc, name, start, end, least)?;
+        parts.push(Mutex::new(part)).ok()?;
         (start, least) = (end, 0);
     }
-    parts
-        .push(blank(rt, alloc, name, start, length, least)?)
-        .ok()?;
+    let part = blank(rt, alloc, name, start, length, least)?;
+    parts.push(Mutex::new(part)).ok()?;
     Some(parts)
 }
 
@@ -112,7 +118,8 @@ fn parts_of<R: Files<File = File>>(
 pub struct OpenText {
     file: File,
     length: u64,
-    parts: Option<Vec<Part>>,
+    threads: u32,
+    parts: Option<Vec<Mutex<Part>>>,
 }
 
 impl OpenText {
@@ -125,8 +132,9 @@ impl OpenText {
     ) -> io::Result<OpenText> {
         let file = File::open(rt, name)?;
         let length = file.metadata().map_or(0, |about| about.len());
-        let count = (length / LEAST_BYTES).min(u64::from(threads));
-        let parts = if count < 2 {
+        let most = u64::from(threads).saturating_mul(PARTS_EACH);
+        let count = (length / LEAST_BYTES).min(most);
+        let parts = if threads < 2 || count < 2 {
             None
         } else {
             parts_of(rt, alloc, name, length, count)
@@ -134,13 +142,14 @@ impl OpenText {
         Ok(OpenText {
             file,
             length,
+            threads,
             parts,
         })
     }
 
-    /// Loads the file: its parts by a thread each, if it was cut, and otherwise all bytes by this thread.
+    /// Loads the file: its parts by several threads, if it was cut, and otherwise all bytes by this thread.
     pub fn load<R: Threads + Sync>(self, rt: &R, alloc: Global) -> io::Result<Text> {
-        if let Some(text) = load_parts(rt, alloc, self.parts) {
+        if let Some(text) = load_parts(rt, alloc, self.threads, self.parts) {
             return Ok(text);
         }
         let mut file = self.file;
@@ -159,10 +168,11 @@ fn bytes_of_file(alloc: Global, file: &mut File, length: u64) -> io::Result<Vec<
 }
 
 /// The text of parts that are loaded. None if one isn't, or if memory is refused.
-fn text_of(alloc: Global, parts: Vec<Part>) -> Option<Text> {
+fn text_of(alloc: Global, parts: Vec<Mutex<Part>>) -> Option<Text> {
     let mut rest = Vec::with_capacity(alloc, parts.len()).ok()?;
     let mut first = None;
-    for part in parts {
+    for shared in parts {
+        let part = shared.into_inner();
         if !part.is_loaded {
             return None;
         }
@@ -183,28 +193,39 @@ fn has_ended(alloc: Global, file: &mut File) -> bool {
     }
 }
 
-/// Loads each part by its own thread, while this one waits.
-///
-/// All are started by the caller's thread: the system may keep a thread on the processor of the one that started it for
-/// a while.
-fn load_each<R: Threads + Sync>(rt: &R, parts: &mut [Part]) {
-    if let Some((last, front)) = parts.split_last_mut() {
-        join_mut(
-            rt,
-            &mut || last.load(),
-            &mut ||
-                requires { IsSync R.row }
-            { load_each(rt, front) },
-        );
+/// Loads parts, as long as there is a turn. Returns how many.
+fn load_some(parts: &[Mutex<Part>], turns: &Turns<'_, OpenGate>) -> usize {
+    for count in 0..parts.len() {
+        let Some(number) = turns.take(parts.len()) else {
+            return count;
+        };
+        // Nobody else has this number, so nobody has the lock.
+        if let Some(mut part) = parts[number].try_lock() {
+            part.load();
+        }
     }
+    parts.len()
 }
 
-/// Loads parts, each by its own thread. None if there are none, or if one can't be loaded.
-fn load_parts<R: Threads + Sync>(rt: &R, alloc: Global, parts: Option<Vec<Part>>) -> Option<Text> {
+/// Loads parts by this many threads and by this one. None if there are none, or if one can't be loaded.
+fn load_parts<R: Threads + Sync>(
+    rt: &R,
+    alloc: Global,
+    threads: u32,
+    parts: Option<Vec<Mutex<Part>>>,
+) -> Option<Text> {
     let mut parts = parts?;
-    load_each(rt, &mut parts);
+    let workers = (threads as usize).saturating_add(1);
+    let mut counts = Vec::new(alloc);
+    counts.resize(workers.min(parts.len()), 0usize).ok()?;
+    let turns = Turns::new(&OpenGate);
+    each_beside(
+        rt,
+        &|_, count| *count = load_some(&parts, &turns),
+        &mut counts,
+    );
     let last = parts.last_mut()?;
-    if !has_ended(alloc, &mut last.file) {
+    if !has_ended(alloc, &mut last.get_mut().file) {
         return None;
     }
     text_of(alloc, parts)
