@@ -1,47 +1,23 @@
 //! Reads the texts of a job. Each text is read in pieces by `threads` threads, in at most two for each, and dropped once it is
-//! read. Two long texts are read at once, each in at most `threads` pieces.
-ghost use Rattle.std.specs.Prelude.{◌≡◌, ℕ, List, ◌≤◌, ◌∷◌, [], drop, vec_len, IfOk, IfErr, OnOk};
-ghost use Rattle.cb_market_lines.specs.Faults.{first_fault, IsAnswer};
+//! read. Two long texts are read at once, each in at most `threads` pieces, so that while one is joined the other's pieces have
+//! the processors.
+ghost use Rattle.std.specs.Prelude.{◌≡◌, ◌≤◌, ◌∷◌, [], drop, vec_len, IfOk, IfErr, OnOk};
+ghost use Rattle.std.specs.Thread.{IsSync};
 ghost use Rattle.cb_market_lines.specs.Reads.{Reads};
 ghost use Rattle.cb_job_inputs.specs.Inputs.{AreMatrices, IsFirstReadFault, IsReadFault, IsTextFault, arithmetic_at};
 ghost use Rattle.cb_outcomes.specs.Texts.{text_at};
 
-use crate::reading::{Pieces, read_both_side_by_side, read_side_by_side};
+use crate::reading::{Pieces, read_side_by_side};
 use cb_dcsc::Block;
 use cb_layout::{DistributedMatrix, Grid};
-use cb_market::ReadFault;
 use cb_outcomes::faults::JobFault;
 use cb_outcomes::texts::Text;
 use cb_semirings::Semiring;
 use std::alloc::Global;
-use std::thread::Threads;
+use std::thread::{Threads, join};
 
-/// The fewest bytes that get a thread of their own.
+/// The fewest bytes of a piece.
 const LEAST_BYTES: usize = 262_144;
-
-/// How a text is cut in at most this many pieces for this many threads.
-fn pieces_for(most: u32, threads: u32) -> Pieces {
-    Pieces {
-        most,
-        least_bytes: LEAST_BYTES,
-        threads,
-    }
-}
-
-/// What was read of the text at position `which`.
-fn at_place<S: Semiring>(
-    which: usize,
-    read: Result<DistributedMatrix<S>, ReadFault>,
-) -> Result<DistributedMatrix<S>, JobFault>
-    ensures ok { (text : List ℕ) → IfOk read (λ m. Reads S.arithmetic text m.matrix) → IfOk result (λ m. Reads S.arithmetic text m.matrix) }
-    ensures side { (side : ℕ) → IfOk read (λ m. m.side ≡ side) → IfOk result (λ m. m.side ≡ side) }
-    ensures fault { (text : List ℕ) → IfErr read (IsAnswer (first_fault S.arithmetic text)) → IfErr result (IsTextFault S.arithmetic which text) }
-{
-    match read {
-        Ok(matrix) => Ok(matrix),
-        Err(fault) => Err(JobFault::Read { which, fault }),
-    }
-}
 
 /// Reads the text at position `which` into the blocks of a grid. It is cut in two pieces for each thread, so that a thread which
 /// gets no processor for a while leaves more to the others.
@@ -62,7 +38,28 @@ pub fn read_text<S: Semiring + Send + Sync, R: Threads + Sync>(
     } else {
         1
     };
-    let pieces = pieces_for(most, threads);
+    read_in_at_most(rt, alloc, grid, most, threads, which, text)
+}
+
+/// The same, in at most this many pieces.
+fn read_in_at_most<S: Semiring + Send + Sync, R: Threads + Sync>(
+    rt: &R,
+    alloc: Global,
+    grid: &Grid,
+    most: u32,
+    threads: u32,
+    which: usize,
+    text: Text,
+) -> Result<DistributedMatrix<S>, JobFault>
+    ensures ok { IfOk result (λ m. Reads S.arithmetic text m.matrix) }
+    ensures side { IfOk result (λ m. m.side ≡ grid.now.side) }
+    ensures fault { IfErr result (IsTextFault S.arithmetic which text) }
+{
+    let pieces = Pieces {
+        most,
+        least_bytes: LEAST_BYTES,
+        threads,
+    };
     match read_side_by_side::<S, R>(rt, alloc, grid, pieces, text) {
         Ok(matrix) => Ok(matrix),
         Err(fault) => Err(JobFault::Read { which, fault }),
@@ -119,7 +116,7 @@ fn is_long(text: &Text) -> bool {
     !rest.is_empty() || first.len() >= 2 * LEAST_BYTES
 }
 
-/// Reads the first two texts of a job, as if one after the other.
+/// Reads the first two texts of a job, the second in a thread of its own. Each is read in pieces, by half of the threads.
 fn read_at_once<S: Semiring + Send + Sync, T: Semiring + Send + Sync, R: Threads + Sync>(
     rt: &R,
     alloc: Global,
@@ -138,9 +135,23 @@ fn read_at_once<S: Semiring + Send + Sync, T: Semiring + Send + Sync, R: Threads
     ensures first_fault { IfErr result.0 (IsTextFault S.arithmetic 0 first) }
     ensures second_fault { IfErr result.1 (IsTextFault T.arithmetic 1 second) }
 {
-    let pieces = pieces_for(threads, threads);
-    let (left, right) = read_both_side_by_side::<S, T, R>(rt, alloc, grid, pieces, first, second);
-    (at_place(0, left), at_place(1, right))
+    let half = threads.div_ceil(2);
+    let (right, left) = join(
+        rt,
+        || -> Result<DistributedMatrix<T>, JobFault>
+            requires { IsSync R.row }
+            ensures ok { IfOk result (λ m. Reads T.arithmetic second m.matrix) }
+            ensures side { IfOk result (λ m. m.side ≡ grid.entry.now.side) }
+            ensures fault { IfErr result (IsTextFault T.arithmetic 1 second) }
+        { read_in_at_most::<T, R>(rt, alloc, grid, threads, half, 1, second) },
+        || -> Result<DistributedMatrix<S>, JobFault>
+            requires { IsSync R.row }
+            ensures ok { IfOk result (λ m. Reads S.arithmetic first m.matrix) }
+            ensures side { IfOk result (λ m. m.side ≡ grid.entry.now.side) }
+            ensures fault { IfErr result (IsTextFault S.arithmetic 0 first) }
+        { read_in_at_most::<S, R>(rt, alloc, grid, threads, half, 0, first) },
+    );
+    (left, right)
 }
 
 /// Reads two texts into the blocks of a grid.

@@ -26,27 +26,19 @@ fn no_places<S: Semiring>(alloc: Global, count: usize) -> Result<Places<S>, Allo
     Ok(places)
 }
 
-/// Puts what threads have read of two texts in order. None if one of them couldn't read a piece, or if memory is refused.
-pub(crate) fn in_order<S: Semiring, T: Semiring>(
-    first: &Cut<'_>,
-    second: &Cut<'_>,
-    stacks: Vec<Stack<S, T>>,
-) -> Option<(Places<S>, Places<T>)>
-    requires first { All (λ x. AreReadOf S.arithmetic first.now.plan first.now.pieces.items x.first.items) stacks.items }
-    requires second { All (λ x. AreReadOf T.arithmetic second.now.plan second.now.pieces.items x.second.items) stacks.items }
-    ensures first { IfSome result (λ p. AreInOrder S.arithmetic first.now.plan first.now.pieces.items p.0.items) }
-    ensures second { IfSome result (λ p. AreInOrder T.arithmetic second.now.plan second.now.pieces.items p.1.items) }
+/// Puts what threads have read of a text in order. None if one of them couldn't read a piece, or if memory is refused.
+pub(crate) fn in_order<S: Semiring>(cut: &Cut<'_>, stacks: Vec<Stack<S>>) -> Option<Places<S>>
+    requires { All (λ x. AreReadOf S.arithmetic cut.now.plan cut.now.pieces.items x.read.items) stacks.items }
+    ensures { IfSome result (λ p. AreInOrder S.arithmetic cut.now.plan cut.now.pieces.items p.items) }
 {
-    let mut first_places = no_places::<S>(first.plan.alloc, first.pieces.len()).ok()?;
-    let mut second_places = no_places::<T>(second.plan.alloc, second.pieces.len()).ok()?;
+    let mut places = no_places::<S>(cut.plan.alloc, cut.pieces.len()).ok()?;
     for stack in stacks {
         if stack.has_failed {
             return None;
         }
-        put_in_order(&mut first_places, stack.first);
-        put_in_order(&mut second_places, stack.second);
+        put_in_order(&mut places, stack.read);
     }
-    Some((first_places, second_places))
+    Some(places)
 }
 
 /// Joins what was read of a text. Pieces that no thread has read are read here.

@@ -62,16 +62,6 @@ impl Model for Plan {
 }
 
 impl Plan {
-    /// Returns the same.
-    fn copied(&self) -> Plan {
-        Plan {
-            alloc: self.alloc,
-            grid: self.grid,
-            header: self.header,
-            size: self.size,
-        }
-    }
-
     /// Returns how many entries are announced.
     pub(crate) fn announced(&self) -> u32
         ensures { result ≡ self.now.size.count }
@@ -145,14 +135,6 @@ impl<'a> Cut<'a> {
             return None;
         }
         Some(Cut { plan, pieces })
-    }
-
-    /// Returns a text without pieces.
-    pub(crate) fn none(plan: &Plan) -> Cut<'a> {
-        Cut {
-            plan: plan.copied(),
-            pieces: Vec::new(plan.alloc),
-        }
     }
 
     /// Reads the piece with a number. It takes room for its entries and for those that will be appended to it.

@@ -16,64 +16,51 @@ pub(crate) struct Numbered<S: Semiring> {
     piece: Piece<S>,
 }
 
-/// What a thread has read of two texts.
+/// What a thread has read of a text.
 #[derive(Drop)]
-pub(crate) struct Stack<S: Semiring, T: Semiring> {
-    pub(crate) first: Vec<Numbered<S>>,
-    pub(crate) second: Vec<Numbered<T>>,
+pub(crate) struct Stack<S: Semiring> {
+    pub(crate) read: Vec<Numbered<S>>,
     /// Whether a piece couldn't be read.
     pub(crate) has_failed: bool,
 }
 
-impl<S: Semiring, T: Semiring> Stack<S, T> {
+impl<S: Semiring> Stack<S> {
     /// Returns a stack without pieces.
     pub(crate) fn new(alloc: Global) -> Self {
         Stack {
-            first: Vec::new(alloc),
-            second: Vec::new(alloc),
+            read: Vec::new(alloc),
             has_failed: false,
         }
     }
 
-    /// Reads pieces of two texts, as long as there is a turn. If a piece can't be read, nobody gets another turn.
-    pub(crate) fn make<G: Gate>(&mut self, first: &Cut<'_>, second: &Cut<'_>, turns: &Turns<'_, G>)
-        ensures first { AreReadOf S.arithmetic first.now.plan first.now.pieces.items self.new.first.items }
-        ensures second { AreReadOf T.arithmetic second.now.plan second.now.pieces.items self.new.second.items }
+    /// Reads pieces of a text, as long as there is a turn. If a piece can't be read, nobody gets another turn.
+    pub(crate) fn make<G: Gate>(&mut self, cut: &Cut<'_>, turns: &Turns<'_, G>)
+        ensures { AreReadOf S.arithmetic cut.now.plan cut.now.pieces.items self.new.read.items }
     {
-        self.first.clear();
-        self.second.clear();
-        self.has_failed = self.read(first, second, turns).is_none();
+        self.read.clear();
+        self.has_failed = read_some(&mut self.read, cut, turns).is_none();
         if self.has_failed {
             turns.stop();
         }
     }
+}
 
-    /// Reads pieces of two texts. None if a piece can't be read.
-    fn read<G: Gate>(
-        &mut self,
-        first: &Cut<'_>,
-        second: &Cut<'_>,
-        turns: &Turns<'_, G>,
-    ) -> Option<()>
-        requires first { AreReadOf S.arithmetic first.now.plan first.now.pieces.items self.old.first.items }
-        requires second { AreReadOf T.arithmetic second.now.plan second.now.pieces.items self.old.second.items }
-        ensures first { AreReadOf S.arithmetic first.now.plan first.now.pieces.items self.new.first.items }
-        ensures second { AreReadOf T.arithmetic second.now.plan second.now.pieces.items self.new.second.items }
-    {
-        let count = first.pieces.len();
-        let all = count.saturating_add(second.pieces.len());
-        for _ in 0..all {
-            let Some(number) = turns.take(all) else {
-                return Some(());
-            };
-            if number < count {
-                push_read(&mut self.first, first, number)?;
-            } else {
-                push_read(&mut self.second, second, number - count)?;
-            }
-        }
-        Some(())
+/// Reads pieces of a text, and appends what was read. None if a piece can't be read.
+fn read_some<S: Semiring, G: Gate>(
+    read: &mut Vec<Numbered<S>>,
+    cut: &Cut<'_>,
+    turns: &Turns<'_, G>,
+) -> Option<()>
+    requires { AreReadOf S.arithmetic cut.now.plan cut.now.pieces.items read.old.items }
+    ensures { AreReadOf S.arithmetic cut.now.plan cut.now.pieces.items read.new.items }
+{
+    for _ in 0..cut.pieces.len() {
+        let Some(number) = turns.take(cut.pieces.len()) else {
+            return Some(());
+        };
+        push_read(read, cut, number)?;
     }
+    Some(())
 }
 
 /// Reads the piece with a number, and appends what was read. None if it can't be read.
