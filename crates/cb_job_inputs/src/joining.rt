@@ -56,7 +56,22 @@ pub(crate) fn join_places<S: Semiring + Send + Sync, R: Threads + Sync>(
             places[number] = Some(cut.read::<S>(number)?);
         }
     }
-    join_all(rt, &cut.plan, &cut.pieces, &mut places)
+    let in_turn = cut.pieces.len().div_ceil(cut.plan.side().max(1));
+    join_all(rt, &cut.plan, in_turn, &cut.pieces, &mut places)
+}
+
+/// How many of this many pieces, at least two, are joined before the others are appended to them: all but the last, if they are
+/// joined in turn, and otherwise half of them, rounded up to a power of two.
+fn first_part(count: usize, in_turn: usize) -> usize
+    requires { 2 ≤ count }
+    ensures some { 0 < result }
+    ensures below { result < count }
+{
+    if count <= in_turn {
+        count - 1
+    } else {
+        half_of(count)
+    }
 }
 
 /// The largest power of two below a number from 2 on.
@@ -72,12 +87,16 @@ fn half_of(count: usize) -> usize
     half
 }
 
-/// Joins pieces: the first half, the second half, and then both, in which a thread of its own joins each half while this one
-/// waits, if it has several pieces. None if a place has no piece, or if memory is refused.
+/// Joins pieces. Up to `in_turn` of them are joined one after the other, so that the entries of each are copied once. More are
+/// joined by halves, each half by a thread of its own while this one waits. None if a place has no piece, or if memory is refused.
+///
+/// Entries that ascend go through a grid column by column. So parts of a text meet in few blocks if there are as many as blocks
+/// side by side, and little is copied to join them.
 #[cycle(pieces)]
 fn join_all<S: Semiring + Send + Sync, R: Threads + Sync>(
     rt: &R,
     plan: &Plan,
+    in_turn: usize,
     pieces: &[Lines<'_>],
     places: &mut [Option<Piece<S>>],
 ) -> Option<Piece<S>>
@@ -88,20 +107,21 @@ fn join_all<S: Semiring + Send + Sync, R: Threads + Sync>(
     if pieces.len() < 2 {
         return only(plan, pieces, places);
     }
-    let half = half_of(pieces.len());
+    let half = first_part(pieces.len(), in_turn);
     let (front, back) = pieces.split_at(half);
     let (front_places, back_places) = places.split_at_mut(half);
-    let (front, back) = join_halves(rt, plan, front, front_places, back, back_places);
+    let (front, back) = join_halves(rt, plan, in_turn, front, front_places, back, back_places);
     let front = front?;
     let back = back?;
     front.append(rt, plan.alloc, back)
 }
 
-/// Joins the pieces of each half.
+/// Joins the first pieces, and the others: each by a thread of its own if these are several.
 #[cycle(pieces)]
 fn join_halves<S: Semiring + Send + Sync, R: Threads + Sync>(
     rt: &R,
     plan: &Plan,
+    in_turn: usize,
     front: &[Lines<'_>],
     front_places: &mut [Option<Piece<S>>],
     back: &[Lines<'_>],
@@ -116,18 +136,18 @@ fn join_halves<S: Semiring + Send + Sync, R: Threads + Sync>(
     ensures front { IfSome result.0 (IsRead S.arithmetic plan.now (in_a_row front.now)) }
     ensures back { IfSome result.1 (IsRead S.arithmetic plan.now (in_a_row back.now)) }
 {
-    if front.len() < 2 {
-        let first = join_all(rt, plan, front, front_places);
-        return (first, join_all(rt, plan, back, back_places));
+    if back.len() < 2 {
+        let first = join_all(rt, plan, in_turn, front, front_places);
+        return (first, join_all(rt, plan, in_turn, back, back_places));
     }
     let mut there = || -> Option<Piece<S>>
         requires { IsSync R.row × AreCut back.now × AreInOrder S.arithmetic plan.now back.now back_places.now }
         ensures { IfSome result (IsRead S.arithmetic plan.entry.now (in_a_row back.entry.now)) }
-    { join_all(rt, plan, back, back_places) };
+    { join_all(rt, plan, in_turn, back, back_places) };
     let mut here = || -> Option<Piece<S>>
         requires { IsSync R.row × AreCut front.now × AreInOrder S.arithmetic plan.now front.now front_places.now }
         ensures { IfSome result (IsRead S.arithmetic plan.entry.now (in_a_row front.entry.now)) }
-    { join_apart(rt, plan, front, front_places) };
+    { join_apart(rt, plan, in_turn, front, front_places) };
     let (back, front) = join_mut(rt, &mut there, &mut here);
     (front, back)
 }
@@ -137,6 +157,7 @@ fn join_halves<S: Semiring + Send + Sync, R: Threads + Sync>(
 fn join_apart<S: Semiring + Send + Sync, R: Threads + Sync>(
     rt: &R,
     plan: &Plan,
+    in_turn: usize,
     pieces: &[Lines<'_>],
     places: &mut [Option<Piece<S>>],
 ) -> Option<Piece<S>>
@@ -147,7 +168,7 @@ fn join_apart<S: Semiring + Send + Sync, R: Threads + Sync>(
     let mut there = || -> Option<Piece<S>>
         requires { IsSync R.row × AreCut pieces.now × AreInOrder S.arithmetic plan.now pieces.now places.now }
         ensures { IfSome result (IsRead S.arithmetic plan.entry.now (in_a_row pieces.entry.now)) }
-    { join_all(rt, plan, pieces, places) };
+    { join_all(rt, plan, in_turn, pieces, places) };
     let (piece, ()) = join_mut(rt, &mut there, &mut || {});
     piece
 }

@@ -62,6 +62,11 @@ impl Model for Plan {
 }
 
 impl Plan {
+    /// Returns how many blocks of the grid are side by side.
+    pub(crate) fn side(&self) -> usize {
+        self.grid.side() as usize
+    }
+
     /// Returns how many entries are announced.
     pub(crate) fn announced(&self) -> u32
         ensures { result ≡ self.now.size.count }
