@@ -1,8 +1,8 @@
 -- What is read of the pieces of a text.
-use Rattle.std.proofs.Common.{◌≡◌, ℕ, ◌+◌, ◌<◌, List, [], ◌∷◌, ◌++◌, length, get_or, arith, sym, ap, subst, ◌∙◌, refl, length-append, Option, None, Some, Bool, true, false, if◌then◌else◌}
+use Rattle.std.proofs.Common.{◌≡◌, ℕ, ◌+◌, ◌<◌, List, [], ◌++◌, length, get_or, arith, sym, ap, subst, ◌∙◌, refl, length-append, Option, None, Some}
 use Rattle.std.specs.Prelude.{All, IfSome}
 use Rattle.std.proofs.lemmas.List.{get_or_append_left, get_or-append_right}
-use Rattle.std.proofs.lemmas.List.Elements.{All-get_or, All-push}
+use Rattle.std.proofs.lemmas.List.Elements.{All-get_or}
 use Rattle.cb_semirings.specs.Arithmetic.{Arithmetic}
 use Rattle.cb_layout.specs.Distributed.{Distributed}
 use Rattle.cb_matrix.specs.Sparse.{Sparse}
@@ -30,11 +30,6 @@ cut_of s whole text header size line entries more side pieces all opening follow
 pub some_side : (s : Arithmetic) (text : List ℕ) (side : ℕ) (plan : Reading) (pieces : List (List ℕ)) (o : Option Distributed) → IsCutOf s text side plan pieces → IfSome o (IsMatrixOf s plan pieces) → IfSome o (λ m. m.side ≡ side)
 some_side s text side plan pieces None cut h = tt
 some_side s text side plan pieces (Some m) cut h = cut.on_grid m h
-
--- a list to which one more was perhaps appended
-pub all_pushed_if : {X : Type 0} (P : X → Type 0) (xs ys : List X) (x : X) (b : Bool) → ys ≡ (if b then xs ++ x ∷ [] else xs) → All P xs → P x → All P ys
-all_pushed_if P xs ys x true e h p = subst (λ zs. All P zs) (sym e) (All-push P xs x h p)
-all_pushed_if P xs ys x false e h p = subst (λ zs. All P zs) (sym e) h
 
 -- places without pieces are in order
 pub none_in_order : (s : Arithmetic) (plan : Reading) (pieces : List (List ℕ)) (places : List (Option Part)) → length places ≡ length pieces → All (λ (o : Option Part). o ≡ None) places → AreInOrder s plan pieces places

@@ -1,5 +1,5 @@
 -- Pieces of a text, and what is read of them.
-use Rattle.std.specs.Prelude.{ℕ, ◌≡◌, ◌+◌, ◌<◌, true, List, length, flat_map, get_or, Option, All, IfSome}
+use Rattle.std.specs.Prelude.{ℕ, ◌≡◌, ◌+◌, ◌<◌, true, List, length, flat_map, get_or, Option, IfSome}
 use Rattle.cb_semirings.specs.Arithmetic.{Arithmetic}
 use Rattle.cb_market_lines.specs.declared.header.Header.{Header}
 use Rattle.cb_market_lines.specs.declared.size.Size.{Size}
@@ -7,7 +7,6 @@ use Rattle.cb_matrix.specs.Values.{collected}
 use Rattle.cb_layout.specs.Distributed.{Distributed}
 use Rattle.cb_market_lines.specs.Reads.{Reads}
 use Rattle.cb_market.specs.Pieces.{Part, IsPart, is_whole}
-use Rattle.cb_job_inputs.specs.declared.stacks.Numbered.{Numbered}
 
 -- How the entries of a text are read: by its header and its size, over a grid of this side.
 pub record Reading : Type 0 where
@@ -37,14 +36,6 @@ pub record IsCutOf (s : Arithmetic) (text : List ℕ) (side : ℕ) (plan : Readi
   pub ends : AreCut pieces
   pub reads : (m : Distributed) → IsMatrixOf s plan pieces m → Reads s text m.matrix
   pub on_grid : (m : Distributed) → IsMatrixOf s plan pieces m → m.side ≡ side
-
--- what was read with a number is what is read of the piece with this number
-abbrev pub IsReadOf : {A : Type 0} → Arithmetic → Reading → List (List ℕ) → Numbered A → Type 0
-IsReadOf s plan pieces read = (read.number < length pieces) × ((d : List ℕ) → IsRead s plan (get_or pieces read.number d) read.piece)
-
--- so is each of these
-abbrev pub AreReadOf : {A : Type 0} → Arithmetic → Reading → List (List ℕ) → List (Numbered A) → Type 0
-AreReadOf s plan pieces read = All (IsReadOf s plan pieces) read
 
 -- in each place is what is read of the piece with the same number, or nothing
 pub record AreInOrder (s : Arithmetic) (plan : Reading) (pieces : List (List ℕ)) (places : List (Option Part)) : Type 0 where

@@ -1,45 +1,13 @@
 //! The pieces of a text, joined side by side.
-ghost use Rattle.std.specs.Prelude.{◌≡◌, ◌<◌, ◌≤◌, ℕ, Option, None, All, IfSome, IfOk, OnSome, length, get_or};
+ghost use Rattle.std.specs.Prelude.{◌<◌, ◌≤◌, IfSome, length};
 ghost use Rattle.std.specs.Thread.{IsSync};
-ghost use Rattle.cb_market.specs.Pieces.{Part};
-ghost use Rattle.cb_job_inputs.specs.TextPieces.{AreCut, AreInOrder, AreReadOf, IsRead, in_a_row};
+ghost use Rattle.cb_job_inputs.specs.TextPieces.{AreCut, AreInOrder, IsRead, in_a_row};
 
 use crate::pieces::{Cut, Lines, Plan};
-use crate::stacks::{Stack, put_in_order};
+use crate::places::Places;
 use cb_market::Piece;
 use cb_semirings::Semiring;
-use std::alloc::{AllocError, Global};
 use std::thread::{Threads, join_mut};
-
-/// What was read of the pieces of a text, in order. A place without a piece is one that wasn't read.
-pub(crate) type Places<S> = Vec<Option<Piece<S>>>;
-
-/// Returns this many places without a piece.
-fn no_places<S: Semiring>(alloc: Global, count: usize) -> Result<Places<S>, AllocError>
-    ensures count { IfOk result (λ v. length v.items ≡ count) }
-    ensures none { IfOk result (λ v. All (λ (o : Option Part). o ≡ None) v.items) }
-{
-    let mut places = Vec::with_capacity(alloc, count)?;
-    for _ in 0..count {
-        places.push_reserved(None);
-    }
-    Ok(places)
-}
-
-/// Puts what threads have read of a text in order. None if one of them couldn't read a piece, or if memory is refused.
-pub(crate) fn in_order<S: Semiring>(cut: &Cut<'_>, stacks: Vec<Stack<S>>) -> Option<Places<S>>
-    requires { All (λ x. AreReadOf S.arithmetic cut.now.plan cut.now.pieces.items x.read.items) stacks.items }
-    ensures { IfSome result (λ p. AreInOrder S.arithmetic cut.now.plan cut.now.pieces.items p.items) }
-{
-    let mut places = no_places::<S>(cut.plan.alloc, cut.pieces.len()).ok()?;
-    for stack in stacks {
-        if stack.has_failed {
-            return None;
-        }
-        put_in_order(&mut places, stack.read);
-    }
-    Some(places)
-}
 
 /// Joins what was read of a text. Pieces that no thread has read are read here.
 pub(crate) fn join_places<S: Semiring + Send + Sync, R: Threads + Sync>(

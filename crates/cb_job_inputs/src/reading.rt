@@ -8,23 +8,22 @@
 //!
 //! If a thread isn't available, the caller's thread does its work. Besides the text, the memory is that of the blocks and,
 //! while two pieces are joined, a second copy of the later one.
-ghost use Rattle.std.specs.Prelude.{◌≡◌, All, IfOk, IfErr, IfSome};
+ghost use Rattle.std.specs.Prelude.{◌≡◌, IfOk, IfErr, IfSome};
 ghost use Rattle.cb_market_lines.specs.Faults.{first_fault, IsAnswer, IsLineOf};
 ghost use Rattle.cb_market_lines.specs.Reads.{Reads, IsFaultOrMatrix};
-ghost use Rattle.cb_job_inputs.specs.TextPieces.{AreCut, AreInOrder, AreReadOf, IsMatrixOf};
+ghost use Rattle.cb_job_inputs.specs.TextPieces.{AreCut, AreInOrder, IsMatrixOf};
 
-use crate::joining::{Places, in_order, join_places};
+use crate::joining::join_places;
 use crate::pieces::Cut;
 pub use crate::pieces::Pieces;
-use crate::stacks::Stack;
+use crate::places::{Places, read_all};
 use cb_layout::{DistributedMatrix, Grid};
 use cb_market::{ReadFault, read_distributed};
 use cb_outcomes::texts::Text;
 use cb_semirings::Semiring;
-use cb_turns::apart::each_beside;
 use cb_turns::gates::{Gate, OpenGate};
 use cb_turns::turns::Turns;
-use std::alloc::{AllocError, Global};
+use std::alloc::Global;
 use std::thread;
 use std::thread::Threads;
 
@@ -89,40 +88,9 @@ pub fn read_in_pieces<S: Semiring + Send + Sync, R: Threads + Sync, G: Gate>(
     let Some(cut) = Cut::of::<S>(alloc, grid, pieces, text) else {
         return None;
     };
-    let stacks = read_all::<S, R, G>(rt, alloc, pieces.threads, gate, &cut)?;
-    let places = in_order(&cut, stacks)?;
-    matrix_of(rt, &cut, places)
-}
-
-/// Reads the pieces of a text by this many threads, which this one starts, and by this one. So there is one more than there
-/// are to be at once: a system may start a thread on the processor where another runs.
-fn read_all<S: Semiring + Send + Sync, R: Threads + Sync, G: Gate>(
-    rt: &R,
-    alloc: Global,
-    threads: u32,
-    gate: &G,
-    cut: &Cut<'_>,
-) -> Option<Vec<Stack<S>>>
-    ensures { IfSome result (λ v. All (λ x. AreReadOf S.arithmetic cut.now.plan cut.now.pieces.items x.read.items) v.items) }
-{
-    let workers = (threads as usize).saturating_add(1);
-    let mut stacks = blank(alloc, cut.pieces.len().min(workers)).ok()?;
     let turns = Turns::new(gate);
-    each_beside(
-        rt,
-        &|_, stack: &mut Stack<S>| stack.make(cut, &turns),
-        &mut stacks,
-    );
-    Some(stacks)
-}
-
-/// Makes this many stacks without pieces.
-fn blank<S: Semiring>(alloc: Global, count: usize) -> Result<Vec<Stack<S>>, AllocError> {
-    let mut stacks = Vec::with_capacity(alloc, count)?;
-    for _ in 0..count {
-        stacks.push_reserved(Stack::new(alloc));
-    }
-    Ok(stacks)
+    let places = read_all::<S, R, G>(rt, pieces.threads, &cut, &turns)?;
+    matrix_of(rt, &cut, places)
 }
 
 /// Joins the pieces of a text, and returns their matrix if there are as many entries as announced.

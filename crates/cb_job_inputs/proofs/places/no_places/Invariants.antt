@@ -1,7 +1,7 @@
 use Rattle.std.proofs.Common.{◌≡◌, ◌≤◌, Option, None}
 use Rattle.std.specs.Prelude.{All, vec_len, vec_capacity}
 use Rattle.cb_market.specs.Pieces.{Part}
-use Rattle.cb_job_inputs.proofs.joining.no_places.Given as goal
+use Rattle.cb_job_inputs.proofs.places.no_places.Given as goal
 
 -- the places so far have no piece, and there is room for all
 abbrev pub invariant-loop : goal.invariant-loop
