@@ -17,8 +17,8 @@ use std::rt::Files;
 use std::sync::Mutex;
 use std::thread::Threads;
 
-/// The fewest bytes of a part.
-const LEAST_BYTES: u64 = 262_144;
+/// The fewest bytes of a part: each is at least one piece of the text, and more pieces take more time.
+const LEAST_BYTES: u64 = 1_048_576;
 
 /// How many parts there are for each thread.
 const PARTS_EACH: u64 = 2;
@@ -207,7 +207,7 @@ fn load_some(parts: &[Mutex<Part>], turns: &Turns<'_, OpenGate>) -> usize {
     parts.len()
 }
 
-/// Loads parts by this many threads and by this one. None if there are none, or if one can't be loaded.
+/// Loads parts by this many threads, of which this is one. None if there are none, or if one can't be loaded.
 fn load_parts<R: Threads + Sync>(
     rt: &R,
     alloc: Global,
@@ -215,9 +215,10 @@ fn load_parts<R: Threads + Sync>(
     parts: Option<Vec<Mutex<Part>>>,
 ) -> Option<Text> {
     let mut parts = parts?;
-    let workers = (threads as usize).saturating_add(1);
     let mut counts = Vec::new(alloc);
-    counts.resize(workers.min(parts.len()), 0usize).ok()?;
+    counts
+        .resize(parts.len().min(threads as usize), 0usize)
+        .ok()?;
     let turns = Turns::new(&OpenGate);
     each_beside(
         rt,

@@ -18,7 +18,7 @@ pub struct Pieces {
     pub most: u32,
     /// The least bytes of a piece. Lines stay whole, so a piece can have fewer.
     pub least_bytes: usize,
-    /// The most threads.
+    /// How many threads read them, with the caller's.
     pub threads: u32,
 }
 

@@ -89,7 +89,8 @@ pub fn read_in_pieces<S: Semiring + Send + Sync, R: Threads + Sync, G: Gate>(
         return None;
     };
     let turns = Turns::new(gate);
-    let places = read_all::<S, R, G>(rt, pieces.threads, &cut, &turns)?;
+    let others = pieces.threads.saturating_sub(1);
+    let places = read_all::<S, R, G>(rt, others, &cut, &turns)?;
     matrix_of(rt, &cut, places)
 }
 
