@@ -6,7 +6,7 @@
 ghost use Rattle.std.specs.Prelude.{◌<◌};
 
 use cb_outcomes::texts::Text;
-use cb_turns::apart::each_beside;
+use cb_turns::apart::each_apart;
 use cb_turns::gates::OpenGate;
 use cb_turns::turns::Turns;
 use std::alloc::Global;
@@ -207,7 +207,7 @@ fn load_some(parts: &[Mutex<Part>], turns: &Turns<'_, OpenGate>) -> usize {
     parts.len()
 }
 
-/// Loads parts by this many threads, of which this is one. None if there are none, or if one can't be loaded.
+/// Loads parts by this many threads, while this one waits. None if there are none, or if one can't be loaded.
 fn load_parts<R: Threads + Sync>(
     rt: &R,
     alloc: Global,
@@ -220,7 +220,7 @@ fn load_parts<R: Threads + Sync>(
         .resize(parts.len().min(threads as usize), 0usize)
         .ok()?;
     let turns = Turns::new(&OpenGate);
-    each_beside(
+    each_apart(
         rt,
         &|_, count| *count = load_some(&parts, &turns),
         &mut counts,

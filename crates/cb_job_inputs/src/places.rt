@@ -59,8 +59,8 @@ fn fill<S: Semiring>(cut: &Cut<'_>, places: &mut Places<S>, mut others: Places<S
     }
 }
 
-/// Reads the pieces of a text by this many threads, which the caller's starts, and by the caller's: each takes the next piece
-/// that nobody has taken. None if a piece can't be read.
+/// Reads the pieces of a text by this many threads, while this one waits. Each takes the next piece that nobody has taken. None
+/// if a piece can't be read.
 #[cycle(reading)]
 pub(crate) fn read_all<S: Semiring + Send + Sync, R: Threads + Sync, G: Gate>(
     rt: &R,
@@ -71,7 +71,7 @@ pub(crate) fn read_all<S: Semiring + Send + Sync, R: Threads + Sync, G: Gate>(
     ensures { IfSome result (λ p. AreInOrder S.arithmetic cut.now.plan cut.now.pieces.items p.items) }
 {
     let Some(others) = threads.checked_sub(1) else {
-        return read_some::<S, G>(cut, turns);
+        return no_places::<S>(cut.plan.alloc, cut.pieces.len()).ok();
     };
     let (there, here) = join(
         rt,

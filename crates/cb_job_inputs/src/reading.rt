@@ -89,8 +89,7 @@ pub fn read_in_pieces<S: Semiring + Send + Sync, R: Threads + Sync, G: Gate>(
         return None;
     };
     let turns = Turns::new(gate);
-    let others = pieces.threads.saturating_sub(1);
-    let places = read_all::<S, R, G>(rt, others, &cut, &turns)?;
+    let places = read_all::<S, R, G>(rt, pieces.threads, &cut, &turns)?;
     matrix_of(rt, &cut, places)
 }
 

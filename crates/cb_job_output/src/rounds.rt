@@ -14,7 +14,7 @@ const SHARES_EACH: usize = 4;
 /// The fewest lines that a share has, unless a text has fewer: fewer aren't worth a thread.
 pub(crate) const FEW: usize = 4_096;
 
-/// The form of a round: how many threads write it, how many shares it has, and how many lines each.
+/// The form of a round: how many threads write it, how many shares it has, and how many lines each has at most. 0 counts as 1.
 #[derive(Clone, Copy, Drop)]
 pub struct Form {
     pub threads: usize,
@@ -23,7 +23,7 @@ pub struct Form {
 }
 
 impl Form {
-    /// The form for a matrix with this many entries and for this many threads: with fewer entries, less lines and threads.
+    /// The form for a matrix with this many entries and for this many threads: with fewer entries, fewer lines and threads.
     pub fn for_entries(entries: usize, threads: usize) -> Form {
         let most = threads.saturating_mul(SHARES_EACH).max(1);
         let lines = entries.div_ceil(most).clamp(FEW, MOST_LINES);

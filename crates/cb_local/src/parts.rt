@@ -13,8 +13,8 @@ use cb_semirings::Semiring;
 use std::alloc::{AllocError, Global};
 use std::thread::{Threads, join};
 
-/// Returns a block plus the products of blocks in these slots. This thread makes one of so many parts of the columns, and others
-/// make the rest; all parts but the first are copied once. If a thread isn't available, this one makes its part too.
+/// Returns a block plus the products of blocks in these slots. Each of so many parts of the columns is made by a thread of its
+/// own, while this one waits; all parts but the first are copied once. If a thread isn't available, this one makes its part.
 pub(crate) fn all_added_apart<S: Semiring + Send + Sync, R: Threads + Sync>(
     rt: &R,
     alloc: Global,
@@ -32,8 +32,8 @@ pub(crate) fn all_added_apart<S: Semiring + Send + Sync, R: Threads + Sync>(
     make_parts::<S, R>(rt, alloc, store, products, sum, &columns, parts, parts)
 }
 
-/// Makes the given columns of the sum in this many parts: one by this thread, and more by halves, the later one in another
-/// thread. The first part takes room for `room` parts, since later ones are appended to it.
+/// Makes the given columns of the sum in this many parts: one by this thread, and more by halves, each half by a thread of its
+/// own, while this one waits. The first part takes room for `room` parts, since later ones are appended to it.
 #[cycle(parts)]
 fn make_parts<S: Semiring + Send + Sync, R: Threads + Sync>(
     rt: &R,
@@ -64,13 +64,40 @@ fn make_parts<S: Semiring + Send + Sync, R: Threads + Sync>(
         || -> Result<Block<S>, AllocError>
             requires { IsSync R.row × AreToBeMade store.now sum.now products.now first.now }
             ensures { IfOk result (HasColumnsOf S.arithmetic store.entry.now sum.entry.now products.entry.now first.entry.now) }
-        { make_parts::<S, R>(rt, alloc, store, products, sum, first, low, room) },
+        { make_apart::<S, R>(rt, alloc, store, products, sum, first, low, room) },
     );
     let mut front = front?;
     let mut back = back?;
     let _shape = sum.shape();
     front.append(&mut back)?;
     Ok(front)
+}
+
+/// The same in a thread of its own, while this one waits: a system may keep the first thread that one starts on its own
+/// processor as long as it works.
+#[cycle(parts)]
+fn make_apart<S: Semiring + Send + Sync, R: Threads + Sync>(
+    rt: &R,
+    alloc: Global,
+    store: &RankStore<S>,
+    products: &[(u16, u16)],
+    sum: &Block<S>,
+    columns: &[u32],
+    parts: u32,
+    room: u32,
+) -> Result<Block<S>, AllocError>
+    requires { AreToBeMade store.now sum.now products.now columns.now }
+    ensures { IfOk result (HasColumnsOf S.arithmetic store.now sum.now products.now columns.now) }
+{
+    let (made, ()) = join(
+        rt,
+        || -> Result<Block<S>, AllocError>
+            requires { IsSync R.row × AreToBeMade store.now sum.now products.now columns.now }
+            ensures { IfOk result (HasColumnsOf S.arithmetic store.entry.now sum.entry.now products.entry.now columns.entry.now) }
+        { make_parts::<S, R>(rt, alloc, store, products, sum, columns, parts, room) },
+        || {},
+    );
+    made
 }
 
 /// Returns how many of these columns make up the first `low` of `count` parts.

@@ -192,8 +192,8 @@ impl<S: Semiring + Send + Sync> Rank<S> {
     /// changes.
     ///
     /// Costs less time and memory than the halves one after the other, since no block is made for a sum in between. If there are
-    /// as many processors as ranks, or more, and enough products, other threads help. Each makes some of the columns, which
-    /// are then copied once.
+    /// enough products, several threads make them where there are two processors for each rank, or one and most products are of
+    /// few pairs of blocks. Each makes some of the columns, and those of all but the first are then copied once.
     pub fn work_all<R: Threads + Sync>(&mut self, rt: &R) -> bool
         ensures done { result ≡ true → WorksOn S.arithmetic self.old self.new }
         ensures none { result ≡ false → self.new ≡ self.old }

@@ -252,7 +252,7 @@ fn a_free_thread_takes_the_pieces_of_a_slow_one(rt: HostRuntime) {
     assert!(&rt; takes_the_others(&rt, rt.alloc()) == Some(true));
 }
 
-/// Whether a text is read right if no thread is started.
+/// Whether a text is read right if no thread takes a piece.
 fn are_read_by_the_caller<R: Threads + Sync>(rt: &R, alloc: Global) -> Option<bool> {
     let given = TEXTS[0];
     let pieces = Pieces {
@@ -274,7 +274,7 @@ fn are_read_by_the_caller<R: Threads + Sync>(rt: &R, alloc: Global) -> Option<bo
 }
 
 #[test]
-fn the_caller_reads_pieces_alone(rt: HostRuntime) {
+fn pieces_that_nobody_takes_are_read_too(rt: HostRuntime) {
     assert!(&rt; are_read_by_the_caller(&rt, rt.alloc()) == Some(true));
 }
 

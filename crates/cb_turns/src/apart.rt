@@ -12,6 +12,7 @@ use std::thread::{Threads, join_mut};
 ///
 /// The kit's calls halve a list, so that threads start others. A system may keep a thread on the processor of the one that
 /// started it for as long as a share takes.
+#[cycle(apart)]
 pub fn each_apart<R: Threads + Sync, T: Send, F: Fn(usize, &mut T) + Sync>(
     rt: &R,
     f: &F,
@@ -20,45 +21,11 @@ pub fn each_apart<R: Threads + Sync, T: Send, F: Fn(usize, &mut T) + Sync>(
     requires { AcceptsAll F.Fn f.now }
     ensures { ChangesItems F.Fn f.now items.old items.new }
 {
-    start_each(rt, f, false, items);
-}
-
-/// Calls a function with each item and its number, from 0: with the first in the caller's thread, and with each other in a
-/// thread of its own, which the caller's has started before.
-///
-/// It suits work that threads share as it comes. If a system starts a thread on a processor where another runs, the caller's
-/// doesn't lie idle meanwhile.
-pub fn each_beside<R: Threads + Sync, T: Send, F: Fn(usize, &mut T) + Sync>(
-    rt: &R,
-    f: &F,
-    items: &mut [T],
-)
-    requires { AcceptsAll F.Fn f.now }
-    ensures { ChangesItems F.Fn f.now items.old items.new }
-{
-    start_each(rt, f, true, items);
-}
-
-/// Calls a function with each item and its number, each in a thread of its own, except for the first if it is to be done here.
-#[cycle(apart)]
-fn start_each<R: Threads + Sync, T: Send, F: Fn(usize, &mut T) + Sync>(
-    rt: &R,
-    f: &F,
-    first_here: bool,
-    items: &mut [T],
-)
-    requires { AcceptsAll F.Fn f.now }
-    ensures { ChangesItems F.Fn f.now items.old items.new }
-{
     let Some(last) = items.len().checked_sub(1) else {
         return;
     };
-    if first_here && last == 0 {
-        only(f, 0, items);
-        return;
-    }
     let (front, back) = items.split_at_mut(last);
-    both_apart(rt, f, first_here, front, last, back);
+    both_apart(rt, f, front, last, back);
 }
 
 /// The same for some items and for the only one after them, which has this number.
@@ -66,7 +33,6 @@ fn start_each<R: Threads + Sync, T: Send, F: Fn(usize, &mut T) + Sync>(
 fn both_apart<R: Threads + Sync, T: Send, F: Fn(usize, &mut T) + Sync>(
     rt: &R,
     f: &F,
-    first_here: bool,
     front: &mut [T],
     number: usize,
     back: &mut [T],
@@ -83,7 +49,7 @@ fn both_apart<R: Threads + Sync, T: Send, F: Fn(usize, &mut T) + Sync>(
     let mut here = ||
         requires { IsSync R.row × IsSync F.row × IsSend T.row × AcceptsAll F.Fn f.now }
         ensures { ChangesItems F.Fn f.entry.now front.entry.now front.exit.now }
-    { start_each(rt, f, first_here, front) };
+    { each_apart(rt, f, front) };
     join_mut(rt, &mut there, &mut here);
 }
 

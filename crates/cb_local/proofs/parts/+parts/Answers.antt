@@ -3,8 +3,8 @@ use Rattle.cb_local.specs.FactorSlots.{HasColumnsOf}
 use Rattle.cb_local.proofs.PartsAppended.{parts_shape, parts_are_matrix, parts_made}
 use Rattle.cb_local.proofs.parts.+parts.Goals as goal
 
-pub append-requires-clause-shape : goal.append-requires-clause-shape
-append-requires-clause-shape g t c =
+pub make_parts-append-requires-clause-shape : goal.make_parts-append-requires-clause-shape
+make_parts-append-requires-clause-shape g t c =
     let s = g.S.Semiring.arithmetic in
     let laws = (g.met.S.Semiring g.world.𝓛 g.world.𝓜 g.world.𝓡 ((λ s x. x), (λ x. x), (λ x. x), λ x. x)).is_semiring in
     let slots = c.args.store.now in
@@ -17,8 +17,8 @@ append-requires-clause-shape g t c =
     let last : HasColumnsOf s slots sum ps ys c.in_ok-back.back = search rules in
     parts_shape s laws slots sum c.shape-shape.ensures.matrix ps c.args.columns.now c.requires xs ys all c.in_ok-front.front c.in_ok-back.back first last
 
-pub append-requires-clause-matrix : goal.append-requires-clause-matrix
-append-requires-clause-matrix g t c =
+pub make_parts-append-requires-clause-matrix : goal.make_parts-append-requires-clause-matrix
+make_parts-append-requires-clause-matrix g t c =
     let s = g.S.Semiring.arithmetic in
     let laws = (g.met.S.Semiring g.world.𝓛 g.world.𝓜 g.world.𝓡 ((λ s x. x), (λ x. x), (λ x. x), λ x. x)).is_semiring in
     let slots = c.args.store.now in
@@ -31,8 +31,8 @@ append-requires-clause-matrix g t c =
     let last : HasColumnsOf s slots sum ps ys c.in_ok-back.back = search rules in
     parts_are_matrix s laws slots sum c.shape-shape.ensures.matrix ps c.args.columns.now c.requires xs ys all c.in_ok-front.front c.in_ok-back.back first last
 
-pub returns : goal.returns
-returns g t c =
+pub make_parts-returns : goal.make_parts-returns
+make_parts-returns g t c =
     let s = g.S.Semiring.arithmetic in
     let laws = (g.met.S.Semiring g.world.𝓛 g.world.𝓜 g.world.𝓡 ((λ s x. x), (λ x. x), (λ x. x), λ x. x)).is_semiring in
     let slots = c.args.store.now in

@@ -7,5 +7,5 @@ decreases-both_apart-here g l = 3 * length l.front.now + 1
 abbrev pub decreases-both_apart : goal.decreases-both_apart
 decreases-both_apart g l = 3 * length l.front.now + 2
 
-abbrev pub decreases-start_each : goal.decreases-start_each
-decreases-start_each g l = 3 * length l.items.now
+abbrev pub decreases-each_apart : goal.decreases-each_apart
+decreases-each_apart g l = 3 * length l.items.now
