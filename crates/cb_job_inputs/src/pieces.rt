@@ -18,7 +18,7 @@ pub struct Pieces {
     pub most: u32,
     /// The least bytes of a piece. Lines stay whole, so a piece can have fewer.
     pub least_bytes: usize,
-    /// How many threads read them, while the caller's waits.
+    /// How many threads read them, while the caller's waits: no more than there are pieces.
     pub threads: u32,
 }
 

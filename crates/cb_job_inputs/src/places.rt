@@ -64,7 +64,7 @@ fn fill<S: Semiring>(cut: &Cut<'_>, places: &mut Places<S>, mut others: Places<S
 #[cycle(reading)]
 pub(crate) fn read_all<S: Semiring + Send + Sync, R: Threads + Sync, G: Gate>(
     rt: &R,
-    threads: u32,
+    threads: usize,
     cut: &Cut<'_>,
     turns: &Turns<'_, G>,
 ) -> Option<Places<S>>

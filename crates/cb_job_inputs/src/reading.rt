@@ -30,8 +30,8 @@ use std::thread::Threads;
 /// Reads a text as a matrix in the blocks of a grid, or returns its first fault, as [`cb_market::read_distributed`] does.
 /// Several threads read its pieces.
 ///
-/// Each piece is read once. Then the entries of all pieces except the first are copied once, to join those before them. A text
-/// with a fault is read twice.
+/// Each piece is read once. Then most entries are copied once, to join those of the pieces before them: more often only where a
+/// text doesn't go through the columns of blocks evenly. A text with a fault is read twice.
 pub fn read_side_by_side<S: Semiring + Send + Sync, R: Threads + Sync>(
     rt: &R,
     alloc: Global,
@@ -89,7 +89,8 @@ pub fn read_in_pieces<S: Semiring + Send + Sync, R: Threads + Sync, G: Gate>(
         return None;
     };
     let turns = Turns::new(gate);
-    let places = read_all::<S, R, G>(rt, pieces.threads, &cut, &turns)?;
+    let threads = cut.pieces.len().min(pieces.threads as usize);
+    let places = read_all::<S, R, G>(rt, threads, &cut, &turns)?;
     matrix_of(rt, &cut, places)
 }
 
