@@ -1,8 +1,8 @@
 //! Files that several threads load.
 //!
 //! A long file is cut where lines end. Threads take the parts, each the next that nobody has taken, and load it into memory that
-//! this thread is the first to touch. If anything is unexpected (a line is very long, a read fails, memory is refused, or the file changes its length),
-//! nothing is kept of the parts, and the caller loads the file from its start.
+//! this thread is the first to touch. If anything is unexpected (a line is very long, a read fails, memory is refused, or the
+//! file changes its length), nothing is kept of the parts, and the caller loads the file from its start.
 ghost use Rattle.std.specs.Prelude.{◌<◌};
 
 use cb_outcomes::texts::Text;

@@ -1,6 +1,6 @@
 //! Reads the texts of a job. Each text is read in pieces by `threads` threads, in at most two for each, and dropped once it is
-//! read. Two long texts are read at once, each in at most `threads` pieces, so that while one is joined the other's pieces have
-//! the processors.
+//! read. Two long texts are read at once, each in at most one piece for each thread, or for each part in which it was loaded. So
+//! while one is joined the other's pieces have the processors.
 ghost use Rattle.std.specs.Prelude.{◌≡◌, ◌≤◌, ◌∷◌, [], drop, vec_len, IfOk, IfErr, OnOk};
 ghost use Rattle.std.specs.Thread.{IsSync};
 ghost use Rattle.cb_market_lines.specs.Reads.{Reads};

@@ -24,8 +24,7 @@ pub(crate) fn join_places<S: Semiring + Send + Sync, R: Threads + Sync>(
             places[number] = Some(cut.read::<S>(number)?);
         }
     }
-    let in_turn = cut.pieces.len().div_ceil(cut.plan.side().max(1));
-    join_all(rt, &cut.plan, in_turn, &cut.pieces, &mut places)
+    join_all(rt, &cut.plan, cut.in_turn(), &cut.pieces, &mut places)
 }
 
 /// How many of this many pieces, at least two, are joined before the others are appended to them: all but the last, if they are

@@ -63,7 +63,7 @@ impl Model for Plan {
 
 impl Plan {
     /// Returns how many blocks of the grid are side by side.
-    pub(crate) fn side(&self) -> usize {
+    fn side(&self) -> usize {
         self.grid.side() as usize
     }
 
@@ -151,13 +151,20 @@ impl<'a> Cut<'a> {
             .read::<S>(self.room(number), self.pieces[number].bytes)
     }
 
-    /// Returns how many entries to take room for in the piece with a number: those of the pieces up to the next number that
-    /// has as many twos as factors, or more, which is how they are joined.
+    /// Returns how many pieces are joined in turn: as many as have the entries of one column of blocks, if these are equal.
+    pub(crate) fn in_turn(&self) -> usize {
+        self.pieces.len().div_ceil(self.plan.side().max(1))
+    }
+
+    /// Returns how many entries to take room for in the piece with a number: its own, or also those of the pieces up to the next
+    /// number that has as many twos as factors, if these are more than are joined in turn. Those are joined to it.
     fn room(&self, number: usize) -> usize {
         let pieces = match number {
             0 => self.pieces.len(),
             _ => 1 << number.trailing_zeros(),
         };
+        let is_joined = number > 0 && pieces <= self.in_turn() / 2;
+        let pieces = if is_joined { 1 } else { pieces };
         let mut bytes = 0usize;
         for piece in self.pieces.iter().skip(number).take(pieces) {
             bytes = bytes.saturating_add(piece.bytes.len());
