@@ -156,15 +156,15 @@ impl<'a> Cut<'a> {
         self.pieces.len().div_ceil(self.plan.side().max(1))
     }
 
-    /// Returns how many entries to take room for in the piece with a number: its own, or also those of the pieces up to the next
-    /// number that has as many twos as factors, if these are more than are joined in turn. Those are joined to it.
+    /// Returns how many entries to take room for in the piece with a number: its own; and if others are joined to it, those of the
+    /// pieces up to the next number that has as many twos as factors. It begins a group if these are more than half of one.
     fn room(&self, number: usize) -> usize {
         let pieces = match number {
             0 => self.pieces.len(),
             _ => 1 << number.trailing_zeros(),
         };
-        let is_joined = number > 0 && pieces <= self.in_turn() / 2;
-        let pieces = if is_joined { 1 } else { pieces };
+        let begins_group = number == 0 || pieces > self.in_turn() / 2;
+        let pieces = if begins_group { pieces } else { 1 };
         let mut bytes = 0usize;
         for piece in self.pieces.iter().skip(number).take(pieces) {
             bytes = bytes.saturating_add(piece.bytes.len());
