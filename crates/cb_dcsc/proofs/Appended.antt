@@ -1,15 +1,15 @@
 -- Entries added after all those of a block: of one column, and of all columns of another block.
-use Rattle.std.proofs.Common.{◌≡◌, ◌≢◌, ℕ, zero, suc, ◌+◌, ◌-◌, ◌<◌, List, [], ◌∷◌, ◌++◌, length, take, drop, get_or, sym, refl, ap, ◌∙◌, subst, arith, length-take, append_assoc}
+use Rattle.std.proofs.Common.{◌≡◌, ◌≢◌, ℕ, zero, suc, ◌+◌, ◌<◌, List, [], ◌∷◌, ◌++◌, length, take, drop, get_or, sym, refl, ap, ◌∙◌, subst, arith, length-take, append_assoc}
 use Rattle.std.specs.Prelude.{All}
-use Rattle.std.proofs.lemmas.List.{nil_from_length, append-nil, take_more, take-append-drop, length-map}
+use Rattle.std.proofs.lemmas.List.{append-nil, take_more, take-append-drop}
 use Rattle.std.proofs.lemmas.List.Elements.{All-append}
 use Rattle.cb_semirings.specs.Arithmetic.{Arithmetic, IsValue}
 use Rattle.cb_matrix.specs.declared.Entry.{Entry}
 use Rattle.cb_matrix.specs.Sparse.{Extent, Sparse, IsMatrix, IsBefore, IsInside}
 use Rattle.cb_matrix.proofs.Pairs.{AllPairs-append, AllPairs-front, AllPairs-last, All-front, All-last}
 use Rattle.cb_dcsc.specs.Compressed.{entries_in, pieces, with_column}
-use Rattle.cb_dcsc.specs.Columns.{in_column, rows_of, values_of, columns_with_entries, with_entries}
-use Rattle.cb_dcsc.proofs.ColumnEntries.{entries_in-push, entries_in-column}
+use Rattle.cb_dcsc.specs.Columns.{with_entries}
+use Rattle.cb_dcsc.proofs.ColumnEntries.{entries_in-push}
 
 -- ---- matrices
 -- entries of two matrices of a shape, of which each of the first comes before each of the second, are one matrix
@@ -45,12 +45,6 @@ last_is_next s m e is = record {
   value = All-last (λ d. IsValue s d.value) m.entries e is.values;
   not_zero = All-last (λ d. d.value ≢ s.zero) m.entries e is.not_zero;
 }
-
--- a matrix without entries becomes the one of its shape whose entries are added
-pub append_to_none : (m n new : Sparse) → length m.entries ≡ 0 → n.shape ≡ m.shape → new ≡ n → new ≡ with_entries m n.entries
-append_to_none m n new none shapes is =
-    let nil : [] ≡ m.entries = sym (nil_from_length m.entries none) in
-    is ∙ (λ t. record { shape = shapes t; entries = nil t ++ n.entries })
 
 -- ---- one column
 -- a column in two parts
@@ -91,27 +85,3 @@ pieces_front f n (suc k) count e =
     let h = pieces_front f n k (k + n) refl in
     let next : count ≡ suc (k + n) = omega arith in
     (h.0 ++ f (k + n), ap (pieces f) next ∙ ap (λ es. es ++ f (k + n)) h.1 ∙ append_assoc (pieces f n) h.0 (f (k + n)))
-
--- column n of other entries makes a matrix with those before it
-pub next_column_is_matrix : (s : Arithmetic) (m now : Sparse) (es : List Entry) (n count c : ℕ) (rs vs : List ℕ) → n < count → pieces (λ k. in_column (get_or (columns_with_entries es) k 0) es) count ≡ es
-    → IsMatrix s (with_entries m es) → now.shape ≡ m.shape → now.entries ≡ m.entries ++ pieces (λ k. in_column (get_or (columns_with_entries es) k 0) es) n
-    → c ≡ get_or (columns_with_entries es) n 0 → rs ≡ rows_of (in_column (get_or (columns_with_entries es) n 0) es) → vs ≡ values_of (in_column (get_or (columns_with_entries es) n 0) es) → IsMatrix s (with_column now c rs vs)
-unfolding pieces
-next_column_is_matrix s m now es n count c rs vs l whole matrix shapes was p q r =
-    let f : ℕ → List Entry = λ k. in_column (get_or (columns_with_entries es) k 0) es in
-    let front = pieces_front f (suc n) (count - suc n) count (omega arith) in
-    let all : es ≡ (pieces f n ++ f n) ++ front.0 = sym whole ∙ front.1 in
-    let column : entries_in c rs vs ≡ f n = (λ t. entries_in (p t) (q t) (r t)) ∙ entries_in-column (get_or (columns_with_entries es) n 0) es in
-    let now_is : now.entries ++ entries_in c rs vs ≡ m.entries ++ (pieces f n ++ f n) = (λ t. was t ++ column t) ∙ append_assoc m.entries (pieces f n) (f n) in
-    let both : m.entries ++ es ≡ (now.entries ++ entries_in c rs vs) ++ front.0 =
-    ap (λ xs. m.entries ++ xs) all ∙ sym (append_assoc m.entries (pieces f n ++ f n) front.0) ∙ ap (λ xs. xs ++ front.0) (sym now_is) in
-    matrix_front s now.shape (now.entries ++ entries_in c rs vs) front.0 (subst (λ (x : Sparse). IsMatrix s x) (λ t. record { shape = sym shapes t; entries = both t }) matrix)
-
--- a column has as many values as rows
-pub same_lengths : (es : List Entry) (rs vs : List ℕ) → rs ≡ rows_of es → vs ≡ values_of es → length vs ≡ length rs
-same_lengths es rs vs q r = ap length r ∙ length-map es (λ e. e.value) ∙ sym (length-map es (λ e. e.row)) ∙ ap length (sym q)
-
--- no column is added yet
-pub columns_none : (es : List Entry) (f : ℕ → List Entry) → es ≡ es ++ pieces f 0
-unfolding pieces
-columns_none es f = sym (append-nil es)

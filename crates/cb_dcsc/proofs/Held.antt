@@ -215,14 +215,20 @@ module _ (columns starts rows values : List ℕ) (es : List Entry) (are : AreCol
   none_in j h = sym (ap (in_column j) (sym view) ∙ no_column columns starts rows values are j h)
 
   -- ---- one entry
-  -- there is a start that is not past an index
-  pub some_start : (index : ℕ) → index < length es → (0 < length starts) × (get_or starts 0 0 ≤ index)
-  some_start index l =
+  -- entries are in columns
+  pub has_columns : 0 < length es → 0 < length columns
+  has_columns l =
       let count = count_is in
       let last = are.last in
       let first = are.first in
-      let some : 0 < length columns = ⊎_elim (λ (z : length columns ≡ 0). let e = ap (λ k. get_or starts k 0) z in absurd (omega arith)) (λ (z : length columns ≡ 0 → ⊥). let n : length columns ≢ 0 = z in omega arith) (cases_eq (length columns) 0) in
+      ⊎_elim (λ (z : length columns ≡ 0). let e = ap (λ k. get_or starts k 0) z in absurd (omega arith)) (λ (z : length columns ≡ 0 → ⊥). let n : length columns ≢ 0 = z in omega arith) (cases_eq (length columns) 0)
+
+  -- there is a start that is not past an index
+  pub some_start : (index : ℕ) → index < length es → (0 < length starts) × (get_or starts 0 0 ≤ index)
+  some_start index l =
+      let some = has_columns (omega arith) in
       let longer = are.one_more_start some in
+      let first = are.first in
       (omega arith, omega arith)
 
   -- a start that is not past an index is that of a column

@@ -27,7 +27,7 @@ pub mod Pushed
 pub mod Faultless
 pub mod Appended
 -- For this crate alone, beside the rest of those above. Csc: compressed columns without the empty ones. NextColumn: what a
--- push of a column requires, from a matrix that ends with the column. LaterColumns: the columns of another block, from one on.
+-- push of a column requires, from a matrix that ends with the column. LaterColumns: the columns of another block behind all others.
 pub mod Csc
 pub mod NextColumn
 mod LaterColumns

@@ -14,11 +14,11 @@ use Rattle.cb_dcsc.proofs.Held.{own_columns, some_entry}
 use Rattle.cb_dcsc.proofs.Pushed.{pushed_same, pushed_new, length-opened, All-back}
 
 -- column j at row i, whatever its value
-abbrev spot : ℕ → ℕ → Entry
+abbrev pub spot : ℕ → ℕ → Entry
 spot j i = record { row = i; column = j; value = 0 }
 
 -- all entries of m come before each of these rows of column j
-abbrev Follow : ℕ → List Entry → List ℕ → Type 0
+abbrev pub Follow : ℕ → List Entry → List ℕ → Type 0
 Follow j es is = All (λ i. All (λ d. IsBefore d (spot j i)) es) is
 
 follow_next : (j i v : ℕ) (es : List Entry) (is : List ℕ) → AllPairs (λ a b. a < b) (i ∷ is) → Follow j es is → Follow j (es ++ record { row = i; column = j; value = v } ∷ []) is

@@ -1,5 +1,5 @@
 -- The columns of a block, in terms of its entries.
-use Rattle.std.specs.Prelude.{◌≢◌, ◌<◌, ℕ, ◌==◌, cond, List, [], ◌∷◌, ◌++◌, filter, map, length, slice_index, All}
+use Rattle.std.specs.Prelude.{ℕ, ◌==◌, cond, List, [], ◌∷◌, ◌++◌, filter, map}
 use Rattle.cb_matrix.specs.declared.Entry.{Entry}
 use Rattle.cb_matrix.specs.Sparse.{Sparse}
 
@@ -36,7 +36,3 @@ with_entry m e = record { shape = m.shape; entries = m.entries ++ e ∷ [] }
 -- a matrix with more entries, after all the others
 abbrev pub with_entries : Sparse → List Entry → Sparse
 with_entries m es = record { shape = m.shape; entries = m.entries ++ es }
-
--- none of these entries is in the nth of the columns in which others are
-abbrev pub AreOutside : List Entry → List Entry → ℕ → Type 0
-AreOutside es others n = n < length (columns_with_entries others) → All (λ (e : Entry). e.column ≢ slice_index (columns_with_entries others) n) es

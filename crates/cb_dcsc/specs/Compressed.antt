@@ -1,9 +1,8 @@
 -- Doubly compressed columns: the columns that have entries, where each starts, and the rows and values of all entries.
-use Rattle.std.specs.Prelude.{◌≡◌, ℕ, zero, suc, ◌+◌, ◌-◌, ◌<◌, ◌≤◌, List, [], ◌∷◌, ◌++◌, length, slice_index, slice_range, All, AllPairs}
+use Rattle.std.specs.Prelude.{◌≡◌, ℕ, zero, suc, ◌+◌, ◌<◌, ◌≤◌, List, [], ◌∷◌, ◌++◌, length, slice_index, slice_range, All, AllPairs}
 use Rattle.cb_semirings.specs.Arithmetic.{Arithmetic}
 use Rattle.cb_matrix.specs.declared.Entry.{Entry}
 use Rattle.cb_matrix.specs.Sparse.{Extent, Sparse, IsMatrix}
-use Rattle.cb_dcsc.specs.Columns.{in_column, columns_with_entries}
 
 -- the entries of one column, by their rows and values
 unfoldable pub entries_in : ℕ → List ℕ → List ℕ → List Entry
@@ -32,15 +31,6 @@ all_entries columns starts rows values = pieces (piece columns starts rows value
 abbrev pub opened : List ℕ → List ℕ
 opened [] = 0 ∷ []
 opened (a ∷ rest) = a ∷ rest
-
--- starts, and the ends of n further parts
-unfoldable pub continued : List ℕ → (ℕ → ℕ) → ℕ → List ℕ
-continued starts end zero = starts
-continued starts end (suc n) = opened (continued starts end n) ++ end n ∷ []
-
--- the entries of the columns that have entries, but for the first n
-abbrev pub later_entries : ℕ → List Entry → List Entry
-later_entries n es = pieces (λ k. in_column (slice_index (columns_with_entries es) (n + k)) es) (length (columns_with_entries es) - n)
 
 -- Each listed column has entries, and the parts follow one another. Without entries all four lists are empty.
 pub record AreColumns (columns starts rows values : List ℕ) : Type 0 where

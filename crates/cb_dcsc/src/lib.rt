@@ -14,9 +14,9 @@
 #![tactic(auto)]
 
 ghost use Rattle.std.specs.Prelude.{◌≡◌, ◌≢◌, ◌↔◌, ℕ, ◌<◌, ◌≤◌, ◌+◌, ◌-◌, ◌^◌, IsTrue, List, [], ◌∷◌, ◌++◌, length, All, AllPairs, Contains};
-ghost use Rattle.std.specs.Prelude.{IfOk, IsErrOf, OnOk, OnErr, Some, vec_len, vec_capacity, slice_index, slice_index_or, slice_range, drop};
+ghost use Rattle.std.specs.Prelude.{IfOk, IsErrOf, OnOk, OnErr, Some, vec_len, vec_capacity, slice_index, slice_index_or, slice_range, take, drop, map};
 ghost use Rattle.cb_semirings.specs.Arithmetic.{IsValue};
-ghost use Rattle.cb_dcsc.specs.Compressed.{opened, continued, later_entries, entries_in, with_column, csc_matrix, AreStarts, AreNonempty};
+ghost use Rattle.cb_dcsc.specs.Compressed.{opened, entries_in, with_column, csc_matrix, AreStarts, AreNonempty};
 
 mod block_faults;
 
@@ -25,7 +25,7 @@ use cb_matrix::{Entry, Shape};
 use cb_semirings::Semiring;
 use std::alloc::{AllocError, Global};
 use std::marker::{Model, PhantomData};
-use std::mem::{replace, swap};
+use std::mem::swap;
 
 /// How many times as many entries make it worth while to move them within their memory, instead of copying them.
 const FAR_MORE: usize = 8;
@@ -61,7 +61,7 @@ impl<S: Semiring> Block<S> {
     ghost use Rattle.cb_matrix.specs.Values.{empty_matrix};
     ghost use Rattle.cb_dcsc.specs.declared.block_faults.BlockFault.TheVariants.{Place, Order, Zero};
     ghost use Rattle.cb_dcsc.specs.BlockFaults.{first_fault};
-    ghost use Rattle.cb_dcsc.specs.Columns.{in_column, rows_of, values_of, columns_with_entries, with_entry, with_entries, AreOutside};
+    ghost use Rattle.cb_dcsc.specs.Columns.{in_column, rows_of, values_of, columns_with_entries, with_entry, with_entries};
 
     /// The block without entries.
     pub fn empty(alloc: Global, shape: Shape) -> Self
@@ -410,7 +410,7 @@ impl<S: Semiring> Block<S> {
     }
 
     /// Stores all entries of another block of the same shape after all the others, and leaves the other without entries. The
-    /// last column of this block may continue in the other. If memory is refused, some of the entries are stored. Costs
+    /// last column of this block may continue in the other. If memory is refused, both blocks stay as they were. Costs
     /// O(entries of the other), or nothing if this block has no entries: then it takes over the other's lists. Where the
     /// other has far more entries, it takes over the lists of its rows and values: these move within their memory to make
     /// room for this block's in front. That is O(entries of the other) too, but touches hardly any new memory for them; the
@@ -418,80 +418,45 @@ impl<S: Semiring> Block<S> {
     pub fn append(&mut self, other: &mut Block<S>) -> Result<(), AllocError>
         requires shape { other.old.shape ≡ self.old.shape }
         requires matrix { IsMatrix S.arithmetic (with_entries self.old other.old.entries) }
-        ensures { OnOk result (self.new ≡ with_entries self.old other.old.entries) }
+        ensures ok { OnOk result (self.new ≡ with_entries self.old other.old.entries) }
+        ensures other_ok { OnOk result (other.new ≡ empty_matrix other.old.shape) }
+        ensures err { OnErr result (self.new ≡ self.old) }
+        ensures other_err { OnErr result (other.new ≡ other.old) }
     {
         if self.len() == 0 {
             swap(self, other);
             return Ok(());
         }
-        let nothing = Block::empty(*self.rows.allocator(), self.shape);
-        self.append_columns(replace(other, nothing))
-    }
-
-    /// Stores all entries of another block after all the others.
-    fn append_columns(&mut self, other: Block<S>) -> Result<(), AllocError>
-        requires { IsMatrix S.arithmetic (with_entries self.old other.entries) }
-        ensures { OnOk result (self.new ≡ with_entries self.old other.entries) }
-    {
-        if other.columns.is_empty() {
+        if other.len() == 0 {
             return Ok(());
         }
-        let first = other.column_number(0);
-        if !ends_with(&self.columns, first) {
-            return self.append_from(other, 0);
-        }
-        let (rows, values) = other.nth_column(0);
-        self.push_rows(first, rows, values)?;
-        self.append_from(other, 1)
+        self.append_some(other)
     }
 
-    /// Stores the entries of another block after all the others, but for those of its first columns. This block's last column
-    /// is none of the other columns. If memory is refused, the block stays as it was.
-    fn append_from(&mut self, other: Block<S>, from: usize) -> Result<(), AllocError>
-        requires some { from ≤ length (columns_with_entries other.entries) }
-        requires matrix { IsMatrix S.arithmetic (with_entries self.old (later_entries from other.entries)) }
-        requires new { AreOutside self.old.entries other.entries from }
-        ensures { OnOk result (self.new ≡ with_entries self.old (later_entries from other.entries)) }
+    /// The same for two blocks that have entries. All memory is taken before anything is stored.
+    fn append_some(&mut self, other: &mut Block<S>) -> Result<(), AllocError>
+        requires shape { other.old.shape ≡ self.old.shape }
+        requires matrix { IsMatrix S.arithmetic (with_entries self.old other.old.entries) }
+        requires some { 0 < length self.old.entries }
+        requires other_some { 0 < length other.old.entries }
+        ensures ok { OnOk result (self.new ≡ with_entries self.old other.old.entries) }
+        ensures other_ok { OnOk result (other.new ≡ empty_matrix other.old.shape) }
+        ensures err { OnErr result (self.new ≡ self.old) }
+        ensures other_err { OnErr result (other.new ≡ other.old) }
     {
-        if from == other.columns() {
-            return Ok(());
-        }
-        let Block {
-            columns,
-            starts,
-            rows,
-            values,
-            ..
-        } = other;
+        let shared = usize::from(ends_with(&self.columns, other.columns[0]));
+        let more = other.columns.len();
+        reserve_both(&mut self.columns, &mut self.starts, more, more)?;
         let len = self.rows.len();
-        let (start, _end) = bounds(&starts, from);
-        let (columns, ends) = (rest(&columns, from), rest(&starts, from + 1));
-        reserve_both(
-            &mut self.columns,
-            &mut self.starts,
-            columns.len(),
-            ends.len() + 1,
+        append_entries(
+            &mut self.rows,
+            &mut self.values,
+            &mut other.rows,
+            &mut other.values,
         )?;
-        append_entries(&mut self.rows, &mut self.values, rows, values, start)?;
-        append_ends(&mut self.starts, ends, start, len);
-        extend_reserved(&mut self.columns, columns);
-        Ok(())
-    }
-
-    /// Stores entries of one column after all the others, by their rows and values. If memory is refused, some are
-    /// stored.
-    fn push_rows(&mut self, column: u32, rows: &[u32], values: &[u64]) -> Result<(), AllocError>
-        requires lengths { length values.now ≡ length rows.now }
-        requires matrix { IsMatrix S.arithmetic (with_column self.old column rows.now values.now) }
-        ensures { OnOk result (self.new ≡ with_column self.old column rows.now values.now) }
-    {
-        for n in 0..rows.len() {
-            self.push(Entry {
-                row: rows[n],
-                column,
-                value: values[n],
-            })?;
-        }
+        extend_reserved(&mut self.columns, rest(&other.columns, shared));
+        append_starts(&mut self.starts, &other.starts, shared, len);
+        *other = Block::empty(*self.rows.allocator(), self.shape);
         Ok(())
     }
 }
@@ -614,27 +579,18 @@ fn rest<T: Copy>(items: &[T], place: usize) -> &[T]
     &items[place..]
 }
 
-/// Appends where parts end, each moved from one place to another.
-fn append_ends(starts: &mut Vec<usize>, ends: &[usize], from: usize, to: usize)
-    requires room { length (opened starts.old.items) + length ends.now ≤ vec_capacity starts.old }
-    requires ends { All (λ e. (from ≤ e) × (e - from + to < 2 ^ 64)) ends.now }
-    ensures { starts.new.items ≡ continued starts.old.items (λ n. slice_index ends.now n - from + to) (length ends.now) }
+/// Appends where the parts of another list end, which lie behind `len` items. The last `shared` parts end with the first of
+/// these instead.
+fn append_starts(starts: &mut Vec<usize>, more: &[usize], shared: usize, len: usize)
+    requires shared { shared ≤ length starts.old.items }
+    requires some { 0 < length more.now }
+    requires room { vec_len starts.old + length more.now ≤ vec_capacity starts.old + 1 }
+    requires ends { All (λ e. e + len < 2 ^ 64) more.now }
+    ensures { starts.new.items ≡ take (length starts.old.items - shared) starts.old.items ++ map (λ e. e + len) (drop 1 more.now) }
 {
-    for n in 0..ends.len() {
-        open(starts);
-        starts.push_reserved(ends[n] - from + to);
-    }
-}
-
-/// Makes starts begin with 0.
-#[inline(always)]
-fn open(starts: &mut Vec<usize>)
-    requires { length (opened starts.old.items) ≤ vec_capacity starts.old }
-    ensures starts { starts.new.items ≡ opened starts.old.items }
-    ensures room { vec_capacity starts.new ≡ vec_capacity starts.old }
-{
-    if starts.is_empty() {
-        starts.push_reserved(0);
+    starts.truncate(starts.len() - shared);
+    for end in rest(more, 1) {
+        starts.push_reserved(*end + len);
     }
 }
 
@@ -650,49 +606,44 @@ fn extend_reserved<T: Copy>(list: &mut Vec<T>, items: &[T])
     }
 }
 
-/// Appends the rows and the values of other entries, from a place on. Where the others are far more, it takes over their
-/// lists, with its own items in front, so that hardly any memory is touched for the first time. If memory is refused, the
-/// lists stay as they were.
+/// Appends the rows and the values of other entries, which may be taken away from the other lists. Where the others are far
+/// more, it takes over their lists, with its own items in front, so that hardly any memory is touched for the first time. If
+/// memory is refused, all lists stay as they were.
 fn append_entries(
     rows: &mut Vec<u32>,
     values: &mut Vec<u64>,
-    mut more_rows: Vec<u32>,
-    mut more_values: Vec<u64>,
-    start: usize,
+    more_rows: &mut Vec<u32>,
+    more_values: &mut Vec<u64>,
 ) -> Result<(), AllocError>
-    requires rows { start ≤ length more_rows.items }
-    requires values { start ≤ length more_values.items }
-    ensures rows { OnOk result (rows.new.items ≡ rows.old.items ++ drop start more_rows.items) }
-    ensures values { OnOk result (values.new.items ≡ values.old.items ++ drop start more_values.items) }
+    ensures rows { OnOk result (rows.new.items ≡ rows.old.items ++ more_rows.old.items) }
+    ensures values { OnOk result (values.new.items ≡ values.old.items ++ more_values.old.items) }
     ensures rows_stay { OnErr result (rows.new.items ≡ rows.old.items) }
     ensures values_stay { OnErr result (values.new.items ≡ values.old.items) }
+    ensures more_rows_stay { OnErr result (more_rows.new.items ≡ more_rows.old.items) }
+    ensures more_values_stay { OnErr result (more_values.new.items ≡ more_values.old.items) }
 {
     if rows.len() < more_rows.len() / FAR_MORE {
-        reserve_both(&mut more_rows, &mut more_values, rows.len(), values.len())?;
-        put_before(&mut more_rows, start, rows);
-        put_before(&mut more_values, start, values);
-        swap(rows, &mut more_rows);
-        swap(values, &mut more_values);
+        reserve_both(more_rows, more_values, rows.len(), values.len())?;
+        put_before(more_rows, rows);
+        put_before(more_values, values);
+        swap(rows, more_rows);
+        swap(values, more_values);
         return Ok(());
     }
-    let (more_rows, more_values) = (rest(&more_rows, start), rest(&more_values, start));
     reserve_both(rows, values, more_rows.len(), more_values.len())?;
     extend_reserved(rows, more_rows);
     extend_reserved(values, more_values);
     Ok(())
 }
 
-/// Puts items in place of the first `start` items of a list that has room for them. The rest of the list moves within its
-/// memory.
-fn put_before<T: Copy>(list: &mut Vec<T>, start: usize, items: &[T])
-    requires place { start ≤ length list.old.items }
-    requires room { vec_len list.old + length items.now ≤ vec_capacity list.old }
-    ensures { list.new.items ≡ items.now ++ drop start list.old.items }
+/// Puts items in front of those of a list that has room for them. These move within its memory.
+fn put_before<T: Copy>(list: &mut Vec<T>, items: &[T])
+    requires { vec_len list.old + length items.now ≤ vec_capacity list.old }
+    ensures { list.new.items ≡ items.now ++ list.old.items }
 {
     let len = list.len();
     extend_reserved(list, items);
-    list.copy_within(start..len, items.len());
-    list.truncate(items.len() + (len - start));
+    list.copy_within(0..len, items.len());
     write_front(list, items);
 }
 

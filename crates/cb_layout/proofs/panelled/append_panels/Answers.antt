@@ -15,9 +15,9 @@ loop-panel-preserved g c =
     let panel = c.in-Some.panel in
     let rest = c.next.new.self.rest.items in
     let next = c.in-Some.ensures.steps.0 in
-    let shape = ap (λ (m : Sparse). m.shape) c.in_ok-append.ensures in
+    let shape = ap (λ (m : Sparse). m.shape) c.in_ok-append.ensures.ok in
     record {
-      whole = joined_more g.S.Semiring.arithmetic block panel _ rest c.loop-panel.panel-iterator.rest.items next c.loop-panel.invariant.whole c.append.new.self c.in_ok-append.ensures;
+      whole = joined_more g.S.Semiring.arithmetic block panel _ rest c.loop-panel.panel-iterator.rest.items next c.loop-panel.invariant.whole c.append.new.self c.in_ok-append.ensures.ok;
       shapes =
           All-weaker (λ (p : Sparse). p.shape ≡ block.shape) (λ p. p.shape ≡ c.append.new.self.shape) (λ p e. e ∙ sym shape) rest
           (All-tail (λ (p : Sparse). p.shape ≡ block.shape) panel rest (subst (All (λ (p : Sparse). p.shape ≡ block.shape)) next c.loop-panel.invariant.shapes));

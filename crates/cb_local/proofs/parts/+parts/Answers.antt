@@ -43,4 +43,4 @@ make_parts-returns g t c =
     let all : c.args.columns.now ≡ xs ++ ys = c.split_at.ensures.by_index.0 in
     let first : HasColumnsOf s slots sum ps xs c.in_ok-front.front = search rules in
     let last : HasColumnsOf s slots sum ps ys c.in_ok-back.back = search rules in
-    subst (HasColumnsOf s slots sum ps c.args.columns.now) (sym c.in_ok-append.ensures) (parts_made s laws slots sum c.shape-shape.ensures.matrix ps c.args.columns.now c.requires xs ys all c.in_ok-front.front c.in_ok-back.back first last)
+    subst (HasColumnsOf s slots sum ps c.args.columns.now) (sym c.in_ok-append.ensures.ok) (parts_made s laws slots sum c.shape-shape.ensures.matrix ps c.args.columns.now c.requires xs ys all c.in_ok-front.front c.in_ok-back.back first last)
