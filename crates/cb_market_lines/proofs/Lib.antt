@@ -12,8 +12,9 @@ pub mod Bodies
 pub mod NextEntries
 pub mod Law
 pub mod OwnEntries
--- For this crate alone. NumberLines: lines of numbers. HeaderWords: the words of the header and of the size line. EntryWords:
--- the words of the line of an entry.
+-- For this crate alone. NumberLines: lines of numbers. ShortNumbers: numbers of at most eight digits. HeaderWords: the words
+-- of the header and of the size line. EntryWords: the words of the line of an entry.
 mod NumberLines
+mod ShortNumbers
 mod HeaderWords
 mod EntryWords

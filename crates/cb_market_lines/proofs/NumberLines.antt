@@ -38,7 +38,7 @@ digits_end : (text rest : List ℕ) → 0 < length rest → is_digit (get_or res
 digits_end text [] some d h = absurd (omega arith)
 digits_end text (c ∷ after) some d h = let k : after_digits (c ∷ after) ≡ c ∷ after = rw d refl in sym h ∙ k
 
-first_and_rest : (rest : List ℕ) (c : ℕ) → 0 < length rest → get_or rest 0 0 ≡ c → rest ≡ c ∷ drop 1 rest
+pub first_and_rest : (rest : List ℕ) (c : ℕ) → 0 < length rest → get_or rest 0 0 ≡ c → rest ≡ c ∷ drop 1 rest
 first_and_rest [] c some e = absurd (omega arith)
 first_and_rest (d ∷ after) c some e = ap (λ x. x ∷ after) e
 
@@ -57,14 +57,15 @@ no_digits_front : (rest : List ℕ) → 0 < length rest → is_digit (get_or res
 no_digits_front [] some d = refl
 no_digits_front (c ∷ rest) some d = rw d refl
 
+-- a word's number, if it is small
+pub small_is : (w : List ℕ) (n : ℕ) → is_number w ≡ true → n < 2 ^ 64 → n ≡ number w → Whole n ≡ number_of w
+small_is w n e small is = let m = number_magnitude w e in rw (m.1, m.0, ← is, if_small_fits n small) refl
+
 -- the number of the word
 pub short_is : (text rest : List ℕ) (n : ℕ) → 0 < length rest → is_digit (get_or rest 0 0) ≡ false → after_digits rest ≡ after_digits text → length rest < length text → n < 2 ^ 64 → number_from n (front_digits rest) ≡ number (front_digits text) → Whole n ≡ number_of (take (length text - length rest) text)
 short_is text rest n some d h less small k =
-    let w = take (length text - length rest) text in
     let s = short_word text rest (get_or rest 0 0) some d refl h less in
-    let m = number_magnitude w s.number in
-    let is : n ≡ number w = sym (ap (number_from n) (no_digits_front rest some d)) ∙ k ∙ ap number s.front in
-    rw (m.1, m.0, ← is, if_small_fits n small) refl
+    small_is (take (length text - length rest) text) n s.number small (sym (ap (number_from n) (no_digits_front rest some d)) ∙ k ∙ ap number s.front)
 
 -- no word ends at a digit
 digits_begin : (text : List ℕ) → is_number (front_digits text) ≡ true → (is_word_end text ≡ false) × (0 < length text)

@@ -1,5 +1,6 @@
 -- A text from a place on: what is left of a line, and the text after it.
-use Rattle.std.specs.Prelude.{◌≡◌, ℕ, ◌+◌, ◌^◌, ◌<◌, Bool, true, cond, ◌&&◌, ◌||◌, ◌==◌, nat_lt, List, [], ◌∷◌, length, Option, Some, None}
+use lib.Lanes.{mask_l}
+use Rattle.std.specs.Prelude.{◌≡◌, ℕ, ◌+◌, ◌^◌, ◌<◌, ◌≤◌, Bool, true, cond, not, ◌&&◌, ◌||◌, ◌==◌, nat_lt, List, [], ◌∷◌, length, map, take, Option, Some, None}
 use Rattle.cb_market_lines.specs.declared.words.Number.{Number}
 use Rattle.cb_market_lines.specs.declared.words.Number.TheVariants.{NotWhole, TooLarge, Whole}
 use Rattle.cb_market_lines.specs.Lines.{is_digit, is_number, is_blank, is_value_word, magnitude, words, kept_from}
@@ -83,6 +84,28 @@ pub record IsNumberBefore (text : List ℕ) (end : ℕ) (word rest : List ℕ) :
   pub number : is_number word ≡ true
   pub front : front_digits text ≡ word
   pub after : after_digits text ≡ end ∷ rest
+
+-- a bit for each of these bytes, the first byte's the lowest, set if the byte isn't a digit
+abbrev pub nondigits_of : List ℕ → ℕ
+nondigits_of bytes = mask_l (map (λ c. not (is_digit c)) bytes)
+
+-- which of the first bytes of a text aren't digits
+pub record IsMask (text : List ℕ) (nondigits : ℕ) : Type 0 where
+  pub masked : ℕ
+  pub few : masked ≤ 64
+  pub bits : nondigits ≡ nondigits_of (take masked text)
+
+-- a number of digits at the front and the byte that follows it, and the rest of the text with its mask
+pub record IsShortNumber (text : List ℕ) (end : ℕ) (word rest : List ℕ) (nondigits : ℕ) : Type 0 where
+  pub before : IsNumberBefore text end word rest
+  pub mask : IsMask rest nondigits
+
+-- a row and a column at the front, each with a space after it, and the rest of the text with its mask
+pub record IsShortPlace (text row column rest : List ℕ) (nondigits : ℕ) : Type 0 where
+  pub second : List ℕ
+  pub row_is : IsNumberBefore text 32 row second
+  pub column_is : IsNumberBefore second 32 column rest
+  pub mask : IsMask rest nondigits
 
 -- a line of three words, of which the first is a number, and the text after it
 pub record IsPlainLine (text row column value rest : List ℕ) : Type 0 where

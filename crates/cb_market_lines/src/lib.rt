@@ -91,6 +91,7 @@ pub mod entry_lines;
 mod header;
 mod plain_lines;
 pub mod scanner;
+mod short_numbers;
 mod size;
 pub mod words;
 

@@ -1,8 +1,9 @@
-//! A fast path for plain lines: three short numbers with single spaces between them. Most lines of most texts are
+//! A fast path for plain lines: three numbers below 10^19 with single spaces between them. Most lines of most texts are
 //! plain.
 ghost use Rattle.std.specs.Prelude.{◌≡◌, ◌+◌, ◌^◌, ◌<◌, ◌≤◌, IfSome};
-ghost use Rattle.cb_market_lines.specs.Cursor.{IsNumberBefore, IsPlainLine};
+ghost use Rattle.cb_market_lines.specs.Cursor.{IsMask, IsNumberBefore, IsShortPlace, IsPlainLine};
 
+use crate::short_numbers::Masked;
 use crate::words::{Number, Word};
 
 /// A number below this one stays below 2^64 with another digit.
@@ -45,14 +46,55 @@ fn number_before<'a>(text: &'a [u8], end: u8) -> Option<(Word<'a>, &'a [u8])>
     None
 }
 
-/// Returns the first line of a text, if it is plain.
+/// Returns the row and the column at the front of a text, if each is a short number before a space, and what comes after
+/// them. None if fewer than 32 bytes are left, or if the two aren't among the first 32.
 #[inline(always)]
-pub fn plain_line<'a>(text: &'a [u8]) -> Option<PlainLine<'a>>
+fn short_place<'a>(text: &'a [u8]) -> Option<(Word<'a>, Word<'a>, Masked<'a>)>
+    ensures { IfSome result (λ p. IsShortPlace text.now p.0.bytes.now p.1.bytes.now p.2.text.now p.2.nondigits) }
+{
+    let (row, rest) = Masked::of(text)?.short_number(b' ')?;
+    let (column, rest) = rest.short_number(b' ')?;
+    Some((row, column, rest))
+}
+
+/// Returns the number at the front of a masked text and the text after it, if a line feed follows.
+#[inline(always)]
+fn last_number<'a>(text: &Masked<'a>) -> Option<(Word<'a>, &'a [u8])>
+    requires { IsMask text.now.text.now text.now.nondigits }
+    ensures { IfSome result (λ p. IsNumberBefore text.now.text.now 10 p.0.bytes.now p.1.now) }
+{
+    if let Some((value, rest)) = text.short_number(b'\n') {
+        return Some((value, rest.text));
+    }
+    let (value, rest) = number_before(text.text, b'\n')?;
+    Some((value, rest))
+}
+
+/// Returns the first line of a text, if it is plain, digit by digit.
+#[inline(never)]
+fn line_by_digits<'a>(text: &'a [u8]) -> Option<PlainLine<'a>>
     ensures { IfSome result (λ p. IsPlainLine text.now p.row.bytes.now p.column.bytes.now p.value.bytes.now p.rest.now) }
 {
     let (row, rest) = number_before(text, b' ')?;
     let (column, rest) = number_before(rest, b' ')?;
     let (value, rest) = number_before(rest, b'\n')?;
+    Some(PlainLine {
+        row,
+        column,
+        value,
+        rest,
+    })
+}
+
+/// Returns the first line of a text, if it is plain.
+#[inline(always)]
+pub fn plain_line<'a>(text: &'a [u8]) -> Option<PlainLine<'a>>
+    ensures { IfSome result (λ p. IsPlainLine text.now p.row.bytes.now p.column.bytes.now p.value.bytes.now p.rest.now) }
+{
+    let Some((row, column, after)) = short_place(text) else {
+        return line_by_digits(text);
+    };
+    let (value, rest) = last_number(&after)?;
     Some(PlainLine {
         row,
         column,

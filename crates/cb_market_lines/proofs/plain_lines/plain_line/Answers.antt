@@ -2,4 +2,6 @@ use Rattle.cb_market_lines.proofs.NumberLines.{plain_is}
 use Rattle.cb_market_lines.proofs.plain_lines.plain_line.Goals as goal
 
 pub returns : goal.returns
-returns c = plain_is c.args.text.now c.in_ok-row.rest.now c.in_ok-column.rest.now c.in_ok-row.row.bytes.now c.in_ok-column.column.bytes.now c.in_ok-value.value.bytes.now c.in_ok-value.rest.now c.in_ok-row.ensures c.in_ok-column.ensures c.in_ok-value.ensures
+returns c =
+    let place = c.in-Some.ensures in
+    plain_is c.args.text.now place.second c.in-Some.after.text.now c.in-Some.row.bytes.now c.in-Some.column.bytes.now c.in_ok-value.value.bytes.now c.in_ok-value.rest.now place.row_is place.column_is c.in_ok-value.ensures
